@@ -1,0 +1,7 @@
+//! `sift`.
+#![tactic(auto)]
+
+mod line;
+mod report;
+
+fn main() {}
