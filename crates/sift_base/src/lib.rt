@@ -1,10 +1,12 @@
-//! The values that every layer shares: words of the computer's memory, and want of memory.
+//! The values that every layer shares: words of the computer's memory, names, and want of memory.
 //!
 //! Word arithmetic has its meaning here and nowhere else.
 #![tactic(auto)]
 
 mod memory;
+mod name;
 mod word;
 
 pub use memory::NoMemory;
+pub use name::{NAME_LIMIT, Name, is_name};
 pub use word::Word;

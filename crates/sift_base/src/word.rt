@@ -1,5 +1,5 @@
 ghost use Rattle.std.specs.Prelude.{◌≡◌, ℕ, ◌^◌, ◌<◌};
-ghost use Rattle.sift_base.specs.Word.{add, mul};
+ghost use Rattle.sift_base.specs.Word.{signed_of, add, sub, mul, div, rem, and, or, xor, shl, shr, lt, eq, mid};
 
 use std::marker::Model;
 
@@ -34,6 +34,13 @@ impl Word {
         self.bits
     }
 
+    /// The word in two's complement, from -32,768 to 32,767.
+    pub fn signed(self) -> i16
+        ensures { result ≡ signed_of self }
+    {
+        self.bits.cast_signed()
+    }
+
     /// The sum. It wraps, as the computer's adder does.
     pub fn add(self, b: Word) -> Word
         ensures { result ≡ add self b }
@@ -41,10 +48,165 @@ impl Word {
         Word::of(self.bits.wrapping_add(b.bits))
     }
 
+    /// The difference. It wraps.
+    pub fn sub(self, b: Word) -> Word
+        ensures { result ≡ sub self b }
+    {
+        Word::of(self.bits.wrapping_sub(b.bits))
+    }
+
     /// The low word of the product.
     pub fn mul(self, b: Word) -> Word
         ensures { result ≡ mul self b }
     {
         Word::of(self.bits.wrapping_mul(b.bits))
+    }
+
+    /// The signed quotient, truncated toward zero. By zero it is 0, and -32,768 by -1 wraps to -32,768.
+    pub fn div(self, b: Word) -> Word
+        ensures { result ≡ div self b }
+    {
+        if b.bits == 0 {
+            return Word::of(0);
+        }
+        Word::of(self.signed().wrapping_div(b.signed()).cast_unsigned())
+    }
+
+    /// The signed remainder, with the sign of `self`. By zero it is 0, and so it is for -32,768 by -1.
+    pub fn rem(self, b: Word) -> Word
+        ensures { result ≡ rem self b }
+    {
+        if b.bits == 0 {
+            return Word::of(0);
+        }
+        Word::of(self.signed().wrapping_rem(b.signed()).cast_unsigned())
+    }
+
+    /// The bits that are set in both.
+    pub fn and(self, b: Word) -> Word
+        ensures { result ≡ and self b }
+    {
+        Word::of(self.bits & b.bits)
+    }
+
+    /// The bits that are set in some of the two.
+    pub fn or(self, b: Word) -> Word
+        ensures { result ≡ or self b }
+    {
+        Word::of(self.bits | b.bits)
+    }
+
+    /// The bits that are set in one of the two alone.
+    pub fn xor(self, b: Word) -> Word
+        ensures { result ≡ xor self b }
+    {
+        Word::of(self.bits ^ b.bits)
+    }
+
+    /// The bits moved up by `b`, unsigned. Zeros come in, so from 16 on it is 0.
+    pub fn shl(self, b: Word) -> Word
+        ensures { result ≡ shl self b }
+    {
+        Word::of(self.bits.checked_shl(u32::from(b.bits)).unwrap_or(0))
+    }
+
+    /// The bits moved down by `b`, unsigned. Zeros come in, so from 16 on it is 0.
+    pub fn shr(self, b: Word) -> Word
+        ensures { result ≡ shr self b }
+    {
+        Word::of(self.bits.checked_shr(u32::from(b.bits)).unwrap_or(0))
+    }
+
+    /// 1 where `self` is below `b` as signed numbers, else 0.
+    pub fn lt(self, b: Word) -> Word
+        ensures { result ≡ lt self b }
+    {
+        Word::of(u16::from(self.signed() < b.signed()))
+    }
+
+    /// 1 where both words are equal, else 0.
+    pub fn eq(self, b: Word) -> Word
+        ensures { result ≡ eq self b }
+    {
+        Word::of(u16::from(self == b))
+    }
+
+    /// The middle of the three, as signed numbers.
+    pub fn mid(a: Word, b: Word, c: Word) -> Word
+        ensures { result ≡ mid a b c }
+    {
+        let (low, high) = if a.signed() <= b.signed() {
+            (a, b)
+        } else {
+            (b, a)
+        };
+        if c.signed() <= low.signed() {
+            low
+        } else if high.signed() <= c.signed() {
+            high
+        } else {
+            c
+        }
+    }
+}
+
+#[cfg(test)]
+mod tests {
+    use super::*;
+
+    #[test]
+    fn operations_answer_as_worked_out_by_hand(rt: HostRuntime) {
+        let (zero, one, two, five) = (Word::of(0), Word::of(1), Word::of(2), Word::of(5));
+        let (seven, minus_seven) = (Word::of(7), Word::of(0xfff9));
+        let (minus_one, lowest, highest) = (Word::of(0xffff), Word::of(0x8000), Word::of(0x7fff));
+        let (bit_15, bit_16) = (Word::of(15), Word::of(16));
+        let cases = [
+            (highest.add(one), 0x8000, "32767 add 1"),
+            (zero.sub(one), 0xffff, "0 sub 1"),
+            (Word::of(300).mul(Word::of(300)), 0x5f90, "300 mul 300"),
+            (lowest.div(minus_one), 0x8000, "-32768 div -1"),
+            (seven.div(zero), 0x0000, "7 div 0"),
+            (minus_seven.div(two), 0xfffd, "-7 div 2"),
+            (minus_seven.rem(two), 0xffff, "-7 rem 2"),
+            (seven.rem(minus_one), 0x0000, "7 rem -1"),
+            (lowest.rem(minus_one), 0x0000, "-32768 rem -1"),
+            (seven.rem(zero), 0x0000, "7 rem 0"),
+            (
+                Word::of(0x0ff0).and(Word::of(0x00ff)),
+                0x00f0,
+                "0ff0 and 00ff",
+            ),
+            (
+                Word::of(0x0ff0).or(Word::of(0x00ff)),
+                0x0fff,
+                "0ff0 or 00ff",
+            ),
+            (
+                Word::of(0x0ff0).xor(Word::of(0x00ff)),
+                0x0f0f,
+                "0ff0 xor 00ff",
+            ),
+            (one.shl(bit_15), 0x8000, "1 shl 15"),
+            (one.shl(bit_16), 0x0000, "1 shl 16"),
+            (minus_one.shr(bit_15), 0x0001, "ffff shr 15"),
+            (minus_one.shr(bit_16), 0x0000, "ffff shr 16"),
+            (minus_one.lt(zero), 0x0001, "ffff lt 0"),
+            (zero.lt(minus_one), 0x0000, "0 lt ffff"),
+            (seven.eq(seven), 0x0001, "7 eq 7"),
+            (seven.eq(minus_seven), 0x0000, "7 eq -7"),
+            (Word::mid(minus_one, five, zero), 0x0000, "mid of -1, 5, 0"),
+            (Word::mid(five, five, minus_one), 0x0005, "mid of 5, 5, -1"),
+        ];
+        for (got, want, row) in cases {
+            assert_eq!(rt; got.get(), want, "{row}");
+        }
+    }
+
+    #[test]
+    fn the_upper_half_is_negative(rt: HostRuntime) {
+        for (bits, want) in [(0, 0), (0x7fff, 32767), (0x8000, -32768), (0xffff, -1)] {
+            let got = Word::of(bits).signed();
+            assert_eq!(rt; got, want, "of {bits}");
+        }
     }
 }
