@@ -2,6 +2,8 @@
 #![tactic(auto)]
 
 mod line;
+mod mission;
 mod report;
+mod value;
 
 fn main() {}
