@@ -1,5 +1,5 @@
 -- Counts of faults: numbers of 64 bits that stay at their last value.
-use Rattle.std.specs.Prelude.{ℕ, ◌+◌, ◌-◌, ◌^◌, ◌≤◌, min}
+use Rattle.std.specs.Prelude.{◌≡◌, ℕ, ◌+◌, ◌-◌, ◌^◌, ◌<◌, ◌≤◌, ◌⊎◌, ◌↔◌, min}
 
 -- the last value of a count
 abbrev pub last_count : ℕ
@@ -12,3 +12,7 @@ next_count count = min (count + 1) last_count
 -- the count is greater now than before, or stands at its last value
 abbrev pub Rose : ℕ → ℕ → Type 0
 Rose before now = next_count before ≤ now
+
+-- a count that rose is greater than before or stands at its last value, and the other way round
+abbrev pub RoseIsGreaterOrLast : Type 0
+RoseIsGreaterOrLast = (before now : ℕ) → now ≤ last_count → Rose before now ↔ (before < now ⊎ now ≡ last_count)

@@ -1,7 +1,8 @@
 -- What a read does to a source, and what a whole read does. Bytes are named where the source tells them.
-use Rattle.std.specs.Prelude.{◌≡◌, ◌≤◌, ◌+◌, ℕ, List, length, take, Option, Result, Ok, Err, ⊤}
+use Rattle.std.specs.Prelude.{◌≡◌, ◌≤◌, ◌+◌, ℕ, min, List, [], length, take, Option, Result, Ok, Err, ⊤}
 use Rattle.std.specs.Io.KnownBytes.{Consumes, Keeps, IsAtEnd}
 use Rattle.std.specs.Global.{Vec}
+use Rattle.sift_io.specs.Fault.{next_count}
 use Rattle.sift_io.specs.declared.reading.Got.{Got}
 use Rattle.sift_io.specs.declared.reading.Got.TheVariants.{Taken, End, Failed}
 use Rattle.sift_io.specs.declared.whole.ReadStop.{ReadStop}
@@ -18,6 +19,24 @@ abbrev pub Reads : Got → Option (List ℕ) → Option (List ℕ) → List ℕ 
 Reads (Taken n) old new buf = Consumes old new (take n buf)
 Reads End old new buf = Keeps old new × IsAtEnd new
 Reads Failed old new buf = Keeps old new
+
+-- a read gives as many of the next bytes as its step and the room allow, and ends where none is left
+abbrev pub GivesMost : Got → ℕ → ℕ → List ℕ → Type 0
+GivesMost (Taken n) step room next = n ≡ min step (min room (length next))
+GivesMost End step room next = next ≡ []
+GivesMost Failed step room next = ⊤
+
+-- how many bytes a read gave
+abbrev pub given_count : Got → ℕ
+given_count (Taken n) = n
+given_count End = 0
+given_count Failed = 0
+
+-- the count of faults after a read
+abbrev pub faults_after_read : Got → ℕ → ℕ
+faults_after_read Failed faults = next_count faults
+faults_after_read (Taken n) faults = faults
+faults_after_read End faults = faults
 
 -- some bytes were taken, exactly so many
 abbrev pub TakesExactly : Option (List ℕ) → Option (List ℕ) → ℕ → Type 0

@@ -1,6 +1,6 @@
 ghost use Rattle.std.specs.Prelude.{◌≡◌, ◌<◌, ◌≤◌, ℕ, List, Option, length};
 ghost use Rattle.sift_io.specs.Fault.{Rose};
-ghost use Rattle.sift_io.specs.Reading.{FitsRoom, Reads};
+ghost use Rattle.sift_io.specs.Reading.{FitsRoom, Reads, given_count};
 
 /// What one read gave.
 #[derive(Clone, Copy, Debug, PartialEq, Eq)]
@@ -11,6 +11,18 @@ pub enum Got {
     End,
     /// Nothing: the source had a fault.
     Failed,
+}
+
+impl Got {
+    /// How many bytes were given.
+    pub fn count(self) -> usize
+        ensures { result ≡ given_count self }
+    {
+        match self {
+            Got::Taken(n) => n,
+            Got::End | Got::Failed => 0,
+        }
+    }
 }
 
 /// A place that bytes come from.
