@@ -1,0 +1,23 @@
+use Rattle.std.proofs.Common.{◌++◌, take, arith}
+use Rattle.std.proofs.KnownBytes.{Appends-trans}
+use Rattle.sift_io.proofs.Stops.{Keeps-take_none, AddsPrefix-sent, append-take_rest}
+use Rattle.sift_io.proofs.whole.write_all.Goals as goal
+
+-- what this write took is sent too
+pub loop-rest-preserved : goal.loop-rest-preserved
+loop-rest-preserved g c =
+    let sent = c.loop-rest.invariant.0 in
+    let more = take c.in-Took.n c.loop-rest.rest.now in
+    ((sent.0 ++ more, Appends-trans _ _ _ sent.0 more sent.1 c.in-Took.ensures.bytes, append-take_rest sent.0 _ _ c.in-Took.n sent.2), omega arith)
+
+-- the sink took nothing
+pub returns-in-Took-eq0-clause-bytes : goal.returns-in-Took-eq0-clause-bytes
+returns-in-Took-eq0-clause-bytes g c =
+    let sent = c.loop-rest.invariant.0 in
+    AddsPrefix-sent _ _ _ sent.0 _ _ sent.1 sent.2 (Keeps-take_none _ _ _ _ (omega arith) c.in-Took-eq0.ensures.bytes)
+
+-- the sink failed
+pub returns-in-Failed-clause-bytes : goal.returns-in-Failed-clause-bytes
+returns-in-Failed-clause-bytes g c =
+    let sent = c.loop-rest.invariant.0 in
+    AddsPrefix-sent _ _ _ sent.0 _ _ sent.1 sent.2 c.in-Failed.ensures.bytes

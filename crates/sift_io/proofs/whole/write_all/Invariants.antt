@@ -1,0 +1,14 @@
+use Rattle.std.proofs.Common.{◌≡◌, ◌++◌, ◌≤◌, List, ℕ, length}
+use Rattle.std.specs.Io.KnownBytes.{Appends}
+use Rattle.sift_io.proofs.whole.write_all.Given as goal
+
+-- what was written so far, and what is left of the bytes
+abbrev pub invariant-loop-rest : goal.invariant-loop-rest
+invariant-loop-rest g l =
+    let written = g.K.Sink.written in
+    let faults = g.K.Sink.write_faults in
+    ((sent : List ℕ) × Appends (written l.initial.sink) (written l.sink) sent × (sent ++ l.rest ≡ l.bytes))
+    × (faults l.initial.sink ≤ faults l.sink)
+
+abbrev pub decreases-loop-rest : goal.decreases-loop-rest
+decreases-loop-rest g l = length l.rest

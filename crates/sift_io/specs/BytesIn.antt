@@ -1,0 +1,24 @@
+-- A source in memory that fails at listed calls.
+use Rattle.std.specs.Prelude.{◌≡◌, ◌+◌, ℕ, List, length, drop, Option, Some, Contains}
+use Rattle.sift_io.specs.Fault.{next_count}
+use Rattle.sift_io.specs.Reading.{GivesMost, given_count, faults_after_read}
+use Rattle.sift_io.specs.declared.bytes_in.BytesIn.{BytesIn}
+use Rattle.sift_io.specs.declared.reading.Got.{Got}
+
+-- the bytes that weren't read yet
+abbrev pub bytes_left : BytesIn → List ℕ
+bytes_left source = drop source.at source.bytes.items
+
+-- the latest call is one of those that fail
+abbrev pub FailsNow : BytesIn → Type 0
+FailsNow source = Contains source.fails.items source.calls
+
+-- one more call: it gives as much as it may, moves past that, counts a failure, and keeps the rest
+pub record IsRead (got : Got) (old new : BytesIn) (room : ℕ) : Type 0 where
+  pub most : GivesMost got old.step room (bytes_left old)
+  pub at : new.at ≡ old.at + given_count got
+  pub calls : new.calls ≡ next_count old.calls
+  pub faults : new.faults ≡ faults_after_read got old.faults
+  pub bytes : new.bytes.items ≡ old.bytes.items
+  pub step : new.step ≡ old.step
+  pub fails : new.fails.items ≡ old.fails.items

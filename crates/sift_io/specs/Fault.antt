@@ -1,0 +1,18 @@
+-- Counts of faults: numbers of 64 bits that stay at their last value.
+use Rattle.std.specs.Prelude.{◌≡◌, ℕ, ◌+◌, ◌-◌, ◌^◌, ◌<◌, ◌≤◌, ◌⊎◌, ◌↔◌, min}
+
+-- the last value of a count
+abbrev pub last_count : ℕ
+last_count = 2 ^ 64 - 1
+
+-- the count after one more: it stays at its last value
+abbrev pub next_count : ℕ → ℕ
+next_count count = min (count + 1) last_count
+
+-- the count is greater now than before, or stands at its last value
+abbrev pub Rose : ℕ → ℕ → Type 0
+Rose before now = next_count before ≤ now
+
+-- a count that rose is greater than before or stands at its last value, and the other way round
+abbrev pub RoseIsGreaterOrLast : Type 0
+RoseIsGreaterOrLast = (before now : ℕ) → now ≤ last_count → Rose before now ↔ (before < now ⊎ now ≡ last_count)

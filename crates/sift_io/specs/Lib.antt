@@ -1,0 +1,6 @@
+pub mod BytesIn
+pub mod BytesOut
+pub mod Fault
+pub mod Reading
+pub mod Sure
+pub mod Writing

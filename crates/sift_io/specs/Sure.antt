@@ -1,0 +1,16 @@
+-- A source in memory that never fails.
+use Rattle.std.specs.Prelude.{◌≡◌, ◌+◌, ℕ, List, drop}
+use Rattle.sift_io.specs.Reading.{GivesMost, given_count}
+use Rattle.sift_io.specs.declared.sure.SureIn.{SureIn}
+use Rattle.sift_io.specs.declared.reading.Got.{Got}
+
+-- the bytes that weren't read yet
+abbrev pub sure_left : SureIn → List ℕ
+sure_left source = drop source.at source.bytes.items
+
+-- one more call: it gives as much as it may, moves past that, and keeps the rest
+pub record IsSureRead (got : Got) (old new : SureIn) (room : ℕ) : Type 0 where
+  pub most : GivesMost got old.step room (sure_left old)
+  pub at : new.at ≡ old.at + given_count got
+  pub bytes : new.bytes.items ≡ old.bytes.items
+  pub step : new.step ≡ old.step

@@ -1,0 +1,41 @@
+-- What a write does to a sink, and what a whole write does. Bytes are named where the sink tells them.
+use Rattle.std.specs.Prelude.{◌≡◌, ◌<◌, ◌≤◌, ℕ, min, List, length, take, Option, Result, Ok, Err, ⊤}
+use Rattle.std.specs.Io.KnownBytes.{Appends, Keeps}
+use Rattle.sift_io.specs.Fault.{next_count}
+use Rattle.sift_io.specs.declared.writing.Put.{Put}
+use Rattle.sift_io.specs.declared.writing.Put.TheVariants.{Took, Failed}
+use Rattle.sift_io.specs.declared.whole.WriteStop.{WriteStop}
+
+-- a write takes no more bytes than there are
+abbrev pub FitsPiece : Put → ℕ → Type 0
+FitsPiece (Took n) count = n ≤ count
+FitsPiece Failed count = ⊤
+
+-- a write adds the first bytes, or fails and adds none
+abbrev pub Writes : Put → Option (List ℕ) → Option (List ℕ) → List ℕ → Type 0
+Writes (Took n) old new piece = Appends old new (take n piece)
+Writes Failed old new piece = Keeps old new
+
+-- nothing of a piece of so many bytes was taken, though there was something to take, or the sink failed
+abbrev pub TakesNothing : Put → ℕ → Type 0
+TakesNothing (Took n) count = (n ≡ 0) × (0 < count)
+TakesNothing Failed count = ⊤
+
+-- a write takes as many of the bytes as its step allows
+abbrev pub TakesMost : Put → ℕ → ℕ → Type 0
+TakesMost (Took n) step count = n ≡ min step count
+TakesMost Failed step count = ⊤
+
+-- the count of faults after a write
+abbrev pub faults_after_write : Put → ℕ → ℕ
+faults_after_write Failed faults = next_count faults
+faults_after_write (Took n) faults = faults
+
+-- a prefix of the bytes was added
+abbrev pub AddsPrefix : Option (List ℕ) → Option (List ℕ) → List ℕ → Type 0
+AddsPrefix old new bytes = (n : ℕ) × (n ≤ length bytes) × Appends old new (take n bytes)
+
+-- a whole write adds all the bytes, or stops after a prefix of them
+abbrev pub WritesAll : Result Unit WriteStop → Option (List ℕ) → Option (List ℕ) → List ℕ → Type 0
+WritesAll (Ok _) old new bytes = Appends old new bytes
+WritesAll (Err _) old new bytes = AddsPrefix old new bytes

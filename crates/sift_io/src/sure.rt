@@ -1,0 +1,83 @@
+ghost use Rattle.std.specs.Prelude.{◌≡◌, ◌≤◌, length};
+
+use crate::pieces::give_next;
+use crate::{Got, Put, Sink, Source};
+
+/// A source in memory that never fails.
+#[derive(Drop)]
+pub struct SureIn {
+    /// All the bytes, those that were read already among them.
+    pub bytes: Vec<u8>,
+    /// How many of the bytes were read already.
+    pub at: usize,
+    /// The most bytes that one call gives.
+    pub step: usize,
+    pub ghost within: { at ≤ length bytes.items },
+    pub ghost moves: { 1 ≤ step },
+}
+
+impl SureIn {
+    /// A source of these bytes that no call has read yet.
+    pub fn new(bytes: Vec<u8>, step: usize) -> SureIn
+        requires { 1 ≤ step }
+        ensures bytes { result.bytes.items ≡ bytes.items }
+        ensures fresh { (result.at ≡ 0) × (result.step ≡ step) }
+    {
+        SureIn { bytes, at: 0, step }
+    }
+}
+
+impl Source for SureIn {
+    ghost use Rattle.std.specs.Prelude.{◌≢◌, ◌<◌, Some};
+    ghost use Rattle.sift_io.specs.Sure.{IsSureRead, sure_left};
+    ghost use Rattle.sift_io.specs.Reading.{FitsRoom, Reads};
+
+    ghost left = { λ source. Some (sure_left source) };
+
+    ghost read_faults = { λ _. 0 };
+
+    fn read(&mut self, buf: &mut [u8]) -> Got
+        requires { 0 < length buf.old }
+        ensures within { FitsRoom result (length buf.old) }
+        ensures bytes { Reads result (Some (sure_left self.old)) (Some (sure_left self.new)) buf.new }
+        ensures sure { result ≢ Got.Failed }
+        ensures exact { IsSureRead result self.old self.new (length buf.old) }
+    {
+        let got = give_next(&self.bytes, self.at, self.step, buf);
+        self.at += got.count();
+        got
+    }
+}
+
+/// A sink that never fails, and keeps nothing of what it takes.
+#[derive(Drop)]
+pub struct SureOut {
+    /// The most bytes that one call takes.
+    pub step: usize,
+    pub ghost moves: { 1 ≤ step },
+}
+
+impl SureOut {
+    /// A sink that takes so many bytes a call.
+    pub fn new(step: usize) -> SureOut
+        requires { 1 ≤ step }
+        ensures { result.step ≡ step }
+    {
+        SureOut { step }
+    }
+}
+
+impl Sink for SureOut {
+    ghost use Rattle.std.specs.Prelude.{None, min};
+
+    ghost written = { λ _. None };
+
+    ghost write_faults = { λ _. 0 };
+
+    fn write(&mut self, bytes: &[u8]) -> Put
+        ensures sure { result ≡ Put.Took (min self.old.step (length bytes.now)) }
+        ensures step { self.new.step ≡ self.old.step }
+    {
+        Put::Took(self.step.min(bytes.len()))
+    }
+}

@@ -1,0 +1,75 @@
+ghost use Rattle.std.specs.Prelude.{◌≡◌, ◌+◌, ◌-◌, ◌^◌, ◌<◌, ◌≤◌, IsErrOf};
+ghost use Rattle.sift_io.specs.Fault.{Rose};
+ghost use Rattle.sift_io.specs.Reading.{ReadsAll};
+ghost use Rattle.sift_io.specs.Writing.{WritesAll};
+ghost use Rattle.sift_io.specs.declared.whole.ReadStop.TheVariants.{NoMemory};
+
+use crate::{Got, Put, Sink, Source};
+use std::alloc::{AllocError, Global};
+
+/// How many bytes a whole read asks for at once.
+const PIECE: usize = 4_096;
+
+/// Why a whole read stopped before the end.
+#[derive(Clone, Copy, Debug, PartialEq, Eq)]
+pub enum ReadStop {
+    /// The source had a fault.
+    Failed,
+    /// The source has more bytes than the limit allows: one more was taken.
+    TooLong,
+    /// There was no memory for the bytes.
+    NoMemory,
+}
+
+impl From<AllocError> for ReadStop {
+    ghost from_gives = { λ _ stop. stop ≡ NoMemory };
+
+    fn from(_: AllocError) -> Self {
+        ReadStop::NoMemory
+    }
+}
+
+/// Why a whole write stopped before the end.
+#[derive(Clone, Copy, Debug, PartialEq, Eq)]
+pub enum WriteStop {
+    /// The sink had a fault, or took nothing.
+    Failed,
+}
+
+/// Reads the source to its end and gives all its bytes, in order. It asks for no more than `limit + 1`
+/// bytes in all, and takes no memory for a byte past the limit.
+pub fn read_all<S: Source>(alloc: Global, source: &mut S, limit: usize) -> Result<Vec<u8>, ReadStop>
+    requires { limit < 2 ^ 64 - 1 }
+    ensures bytes { ReadsAll result (S.left source.old) (S.left source.new) limit }
+    ensures later { S.read_faults source.old ≤ S.read_faults source.new }
+    ensures cause { IsErrOf result ReadStop.Failed → Rose (S.read_faults source.old) (S.read_faults source.new) }
+{
+    let mut all = Vec::new(alloc);
+    let mut piece = [0; PIECE];
+    loop {
+        let room = PIECE.min(limit + 1 - all.len());
+        match source.read(&mut piece[..room]) {
+            Got::Taken(n) if n > limit - all.len() => return Err(ReadStop::TooLong),
+            Got::Taken(n) => all.extend_from_slice(&piece[..n])?,
+            Got::End => return Ok(all),
+            Got::Failed => return Err(ReadStop::Failed),
+        }
+    }
+}
+
+/// Writes all the bytes, in order.
+pub fn write_all<K: Sink>(sink: &mut K, bytes: &[u8]) -> Result<(), WriteStop>
+    ensures bytes { WritesAll result (K.written sink.old) (K.written sink.new) bytes.now }
+    ensures later { K.write_faults sink.old ≤ K.write_faults sink.new }
+    ensures cause { IsErrOf result WriteStop.Failed → Rose (K.write_faults sink.old) (K.write_faults sink.new) }
+{
+    let mut rest = bytes;
+    while !rest.is_empty() {
+        match sink.write(rest) {
+            Put::Took(0) => return Err(WriteStop::Failed),
+            Put::Took(n) => rest = &rest[n..],
+            Put::Failed => return Err(WriteStop::Failed),
+        }
+    }
+    Ok(())
+}
