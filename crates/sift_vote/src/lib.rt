@@ -1,0 +1,8 @@
+//! Votes over the words that several units put out for the same thing.
+//!
+//! A word that stands in more than half of all places is the result, whatever the other places hold.
+#![tactic(auto)]
+
+mod voting;
+
+pub use voting::{agreement_is_unique, majority, majority_is_unique};
