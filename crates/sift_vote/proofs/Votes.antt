@@ -1,38 +1,8 @@
 -- Majorities and agreed words, by induction over the places.
-use Rattle.std.proofs.Common.{
-  ◌≡◌,
-  ◌≢◌,
-  ℕ,
-  ◌+◌,
-  ◌*◌,
-  ◌<◌,
-  ◌≤◌,
-  ◌⊎◌,
-  inl,
-  inr,
-  List,
-  [],
-  ◌∷◌,
-  length,
-  cond,
-  eqb,
-  Bool,
-  Option,
-  None,
-  Some,
-  All,
-  replicate,
-  refl,
-  sym,
-  ap,
-  subst,
-  arith,
-}
+use Rattle.std.proofs.Common.{◌≡◌, ◌≢◌, ℕ, ◌+◌, ◌*◌, ◌≤◌, ◌⊎◌, inl, inr, List, [], ◌∷◌, length, cond, eqb, true, Option, None, Some, All, refl, sym, ap, subst, arith}
 use Rattle.std.proofs.lemmas.Bool.{cases_lt, cases_eq, ne_eqb, eq-eqb}
 use Rattle.std.proofs.lemmas.Bool.Decides.{nat_tests}
 use Rattle.std.proofs.lemmas.List.Elements.{All-nil, All-cons, All-head, All-tail}
-use Rattle.std.proofs.lemmas.List.Folds.{sum_by-replicate}
-use Rattle.std.proofs.lemmas.List.{length-replicate}
 use Rattle.std.proofs.lemmas.List.Sums.{sum_by-cons}
 use Rattle.std.proofs.lemmas.Option.{none-some, same_Some}
 use Rattle.sift_vote.specs.Majority.{
@@ -41,8 +11,11 @@ use Rattle.sift_vote.specs.Majority.{
   IsMajority,
   HasNoMajority,
   IsAgreed,
+  decided,
+  undecided,
   MajorityIsUnique,
   AgreementIsUnique,
+  UnanimityIsAgreed,
 }
 
 -- one place more
@@ -130,37 +103,35 @@ found_or_lost all (Some v ∷ places) =
 -- where there is a majority, the agreed word is that
 pub agreed_is_majority : (places : List (Option ℕ)) (v w : ℕ) → IsMajority places v → IsAgreed places w
     → w ≡ v
-agreed_is_majority places v w most agreed =
-    elim agreed [
-      | inl most_w ↦ majority_is_unique places w v most_w most
-      | inr none ↦ absurd (none.0 v most)
-    ]
+agreed_is_majority places v w most (decided most_w) = majority_is_unique places w v most_w most
+agreed_is_majority places v w most (undecided none zero) = absurd (none v most)
+
+-- where there is none, it is 0
+agreed_is_zero : (places : List (Option ℕ)) (w : ℕ) → HasNoMajority places → IsAgreed places w → w ≡ 0
+agreed_is_zero places w none (decided most) = absurd (none w most)
+agreed_is_zero places w none (undecided _ zero) = zero
 
 pub agreement_is_unique : AgreementIsUnique
 agreement_is_unique places =
     elim (found_or_lost places places) [
-      | inl found ↦ (found.0, inl found.1, λ v agreed. agreed_is_majority places found.0 v found.1 agreed)
-      | inr lose ↦ (
-        0,
-        inr (no_majority places lose, refl),
-        λ v agreed. elim agreed [
-          | inl most ↦ absurd (no_majority places lose v most)
-          | inr none ↦ none.1
-        ],
-      )
+      | inl found ↦ (found.0, decided found.1, λ v. agreed_is_majority places found.0 v found.1)
+      | inr lose ↦ let none : HasNoMajority places = no_majority places lose in
+          (0, undecided none refl, λ v. agreed_is_zero places v none)
     ]
 
--- places that all hold one word, one of them at least, have it as their majority
-replicate-IsMajority : (n w : ℕ) → 0 < n → IsMajority (replicate n (Some w)) w
-replicate-IsMajority n w some =
+-- each place of so many that hold this word is a vote for it
+votes_for-unanimous : (places : List (Option ℕ)) (w : ℕ) → All (λ place. place ≡ Some w) places
+    → votes_for places w ≡ length places
+votes_for-unanimous [] w same = refl
+votes_for-unanimous (place ∷ places) w same =
+    let here : is_vote_for w place ≡ true = rw (All-head (λ p. p ≡ Some w) place places same) (eq-eqb w w refl) in
     omega (
       arith,
-      sum_by-replicate (λ p. cond (is_vote_for w p) 1 0) n (Some w),
-      length-replicate n (Some w),
-      ap {B = ℕ} (λ b. n * cond b 1 0) (eq-eqb w w refl),
+      votes_for-cons place places w,
+      ap {B = ℕ} (λ b. cond b 1 0) here,
+      votes_for-unanimous places w (All-tail (λ p. p ≡ Some w) place places same),
     )
 
--- they agree on it
-pub agreed-replicate : (n v w : ℕ) → 0 < n → IsAgreed (replicate n (Some v)) w → w ≡ v
-agreed-replicate n v w some agreed =
-    agreed_is_majority (replicate n (Some v)) v w (replicate-IsMajority n v some) agreed
+pub unanimity_is_agreed : UnanimityIsAgreed
+unanimity_is_agreed places w some same v =
+    agreed_is_majority places w v (omega (arith, votes_for-unanimous places w same))

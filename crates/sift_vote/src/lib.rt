@@ -3,6 +3,8 @@
 //! A word that stands in more than half of all places is the result, whatever the other places hold.
 #![tactic(auto)]
 
+mod laws;
 mod voting;
 
-pub use voting::{agreement_is_unique, majority, majority_is_unique};
+pub use laws::{agreement_is_unique, majority_is_unique, unanimity_is_agreed};
+pub use voting::majority;

@@ -26,16 +26,6 @@ pub fn majority(places: &[Option<Word>]) -> Option<Word>
     None
 }
 
-/// No two words both stand in more than half of the places.
-pub fn majority_is_unique()
-    ensures { MajorityIsUnique }
-{}
-
-/// Any places have exactly one agreed word.
-pub fn agreement_is_unique()
-    ensures { AgreementIsUnique }
-{}
-
 // How many of the places hold this word.
 fn votes_for(places: &[Option<Word>], word: Word) -> usize
     ensures { result ≡ votes_for places.now word }
