@@ -1,0 +1,7 @@
+//! The flight of a mission: what every unit votes in every frame.
+#![tactic(auto)]
+
+mod flight;
+mod vote;
+
+pub use flight::plain_fly;

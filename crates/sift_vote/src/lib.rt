@@ -1,0 +1,10 @@
+//! Votes over the words that several units put out for the same thing.
+//!
+//! A word that stands in more than half of all places is the result, whatever the other places hold.
+#![tactic(auto)]
+
+mod laws;
+mod voting;
+
+pub use laws::{agreement_is_unique, majority_is_unique, unanimity_is_agreed};
+pub use voting::majority;
