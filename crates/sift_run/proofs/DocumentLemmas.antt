@@ -11,7 +11,7 @@ use lib.Pointwise.{pointwise}
 use Rattle.toml.specs.Data.{Data, string, integer, float, boolean, datetime, array, table, Items, no_items, item, as_array}
 use Rattle.toml.specs.View.{items_view, members_view}
 use Rattle.toml.specs.declared.value.Value.{Value}
-use Rattle.sift_run.specs.Document.{keys_of, single_word, word_pair}
+use Rattle.sift_run.specs.Document.{keys_of, single_table, single_word, word_pair}
 
 -- an array's data, from its items
 pub array_from : (d : Data) (items : Items) → Some items ≡ as_array d → d ≡ array items
@@ -35,6 +35,12 @@ word_pair-other [] other = refl
 word_pair-other (x ∷ []) other = refl
 word_pair-other (x ∷ y ∷ []) other = absurd (other refl)
 word_pair-other (x ∷ y ∷ z ∷ vs) other = refl
+
+-- an array of another length has no single table
+pub single_table-other : (vs : List Value) → length vs ≢ 1 → single_table (array (items_view vs)) ≡ None
+single_table-other [] other = refl
+single_table-other (x ∷ []) other = absurd (other refl)
+single_table-other (x ∷ y ∷ vs) other = refl
 
 -- ---- one text among others
 

@@ -1,7 +1,7 @@
 -- What a mission document says, over the tree that `toml` reads.
 use Rattle.std.specs.Prelude.{codes, ℕ, ◌≡◌, ℤ, pos, negsuc, int_le, nat_le, ◌&&◌, List, [], ◌∷◌, if◌then◌else◌, Option, Some, None, option_and_then}
 use Rattle.std.specs.List.{All, Contains}
-use Rattle.toml.specs.Data.{Data, string, integer, array, table, Items, no_items, item, Members, no_members, member, get_member}
+use Rattle.toml.specs.Data.{Data, string, integer, array, table, Items, no_items, item, Members, no_members, member, get_member, as_table}
 use Rattle.sift_base.specs.Name.{IsName}
 use Rattle.sift_base.specs.Word.{word_of}
 use Rattle.sift_run.specs.declared.mission.LinearTask.{LinearTask}
@@ -44,12 +44,21 @@ abbrev pub word_pair : Data → Option (ℕ × ℕ)
 word_pair (array (item d (item e no_items))) = option_and_then (λ w. option_and_then (λ v. Some (w, v)) (word_value e)) (word_value d)
 word_pair _ = None
 
+-- the table of an array of one table
+abbrev pub single_table : Data → Option Members
+single_table (array (item d no_items)) = as_table d
+single_table _ = None
+
+-- the table's name is a string that may be one
+abbrev pub HasName : Members → Type 0
+HasName members = (text : List ℕ) × (get_member (codes "name") members ≡ Some (string text)) × IsName text
+
 -- ---- the mission
 
 -- the table is a linear task: it has a name, one start word, and the two numbers of its rule
 pub record IsLinearTask (members : Members) (task : LinearTask) : Type 0 where
   pub keys : HasOnlyKeys (codes "name" ∷ codes "start" ∷ codes "linear" ∷ []) members
-  pub name : (text : List ℕ) × (get_member (codes "name") members ≡ Some (string text)) × IsName text
+  pub name : HasName members
   pub start : read_at single_word (codes "start") members ≡ Some task.start
   pub linear : read_at word_pair (codes "linear") members ≡ Some (task.factor, task.addend)
 
@@ -58,5 +67,4 @@ pub record IsMission (document : Members) (mission : Mission) : Type 0 where
   pub keys : HasOnlyKeys (codes "units" ∷ codes "frames" ∷ codes "task" ∷ []) document
   pub units : read_at (integer_between 4 8) (codes "units") document ≡ Some mission.units
   pub frames : read_at (integer_between 1 1000) (codes "frames") document ≡ Some mission.frames
-  pub task : (members : Members) × (get_member (codes "task") document ≡ Some (array (item (table members) no_items)))
-      × IsLinearTask members mission.task
+  pub task : (members : Members) × (read_at single_table (codes "task") document ≡ Some members) × IsLinearTask members mission.task

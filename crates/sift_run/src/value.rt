@@ -4,7 +4,7 @@ ghost use Rattle.std.specs.Prelude.{◌≡◌, ◌↔◌, IsTrue, map, option_ma
 ghost use Rattle.std.specs.List.{Contains};
 ghost use Rattle.toml.specs.Data.{get_member};
 ghost use Rattle.toml.specs.View.{table_view, view};
-ghost use Rattle.sift_run.specs.Document.{HasOnlyKeys, integer_between, single_word, word_pair, word_value};
+ghost use Rattle.sift_run.specs.Document.{HasOnlyKeys, integer_between, single_table, single_word, word_pair, word_value};
 
 use sift_base::Word;
 use toml::{Table, Value};
@@ -79,6 +79,16 @@ pub fn word_pair(value: &Value) -> Option<(Word, Word)>
 {
     match value.as_array()?.as_slice() {
         [first, second] => Some((word_value(first)?, word_value(second)?)),
+        _ => None,
+    }
+}
+
+/// The table of an array of one table.
+pub fn single_table(value: &Value) -> Option<&Table>
+    ensures { option_map (λ members. table_view members.now) result ≡ single_table (view value.now) }
+{
+    match value.as_array()?.as_slice() {
+        [table] => table.as_table(),
         _ => None,
     }
 }
