@@ -1,3 +1,5 @@
+pub mod Answer
 pub mod Document
 pub mod Flight
 pub mod Report
+pub mod Stop
