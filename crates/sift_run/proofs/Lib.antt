@@ -1,3 +1,4 @@
+pub mod Answered
 pub mod AnswerLemmas
 pub mod DocumentLemmas
 pub mod ReportLemmas

@@ -1,5 +1,5 @@
 -- What `sift` answers: when each status comes, and what is written with it.
-use Rattle.std.specs.Prelude.{codes, ℕ, ◌≡◌, ◌≤◌, ◌<◌, ◌+◌, ◌⊎◌, List, [], ◌∷◌, map, length, Option, Some, String, string_bytes, IsUtf8}
+use Rattle.std.specs.Prelude.{codes, ℕ, ◌≡◌, ◌≤◌, ◌<◌, ◌+◌, ◌⊎◌, List, [], ◌∷◌, map, length, Contains, Option, Some, String, string_bytes, IsUtf8}
 use Rattle.std.specs.Io.KnownBytes.{Appends}
 use Rattle.std.specs.declared.alloc.Global.{Global}
 use Rattle.toml.specs.Data.{Members}
@@ -12,6 +12,7 @@ use Rattle.sift_run.specs.Document.{IsMission}
 use Rattle.sift_run.specs.Report.{faultless_report, report_text}
 use Rattle.sift_run.specs.declared.mission.Mission.{Mission}
 use Rattle.sift_run.specs.declared.refusal.Refusal.{Refusal}
+use Rattle.sift_run.specs.declared.top.TheConstants.{REPORTED, SINK_FAULT, NO_MEMORY}
 use Rattle.sift_run.specs.declared.refusal.Refusal.TheVariants.{Usage, ReadFault, TooLong, NotADocument, AnotherForm}
 
 -- ---- the words and the input
@@ -30,6 +31,11 @@ pub record Input : Type 0 where
   pub left_after : Option (List ℕ)
   pub faults_before : ℕ
   pub faults_after : ℕ
+
+-- the same, from its parts
+abbrev pub input : (left left' : Option (List ℕ)) → (faults faults' : ℕ) → Input
+input left left' faults faults' =
+    record { left_before = left; left_after = left'; faults_before = faults; faults_after = faults' }
 
 -- the input is these bytes, which were read to their end
 abbrev pub IsInput : Input → List ℕ → Type 0
@@ -110,6 +116,11 @@ pub record Output : Type 0 where
   pub faults_before : ℕ
   pub faults_after : ℕ
 
+-- the same, from its parts
+abbrev pub output : (written written' : Option (List ℕ)) → (faults faults' : ℕ) → Output
+output written written' faults faults' =
+    record { written_before = written; written_after = written'; faults_before = faults; faults_after = faults' }
+
 -- the text was written
 abbrev pub Writes : Output → List ℕ → Type 0
 Writes output text = Appends output.written_before output.written_after text
@@ -118,3 +129,38 @@ Writes output text = Appends output.written_before output.written_after text
 abbrev pub Cuts : Output → List ℕ → Type 0
 Cuts output text = Rose output.faults_before output.faults_after
     × AddsPrefix output.written_before output.written_after text
+
+-- the text was written and this is its status, or the sink failed within the text
+abbrev pub Says : Output → (text : List ℕ) → (status answered : ℕ) → Type 0
+Says output text status answered =
+    ((answered ≡ status) × Writes output text) ⊎ ((answered ≡ SINK_FAULT) × Cuts output text)
+
+-- ---- the whole answer
+
+-- every status that there is
+abbrev pub statuses : List ℕ
+statuses = REPORTED ∷ 2 ∷ 3 ∷ 4 ∷ 8 ∷ SINK_FAULT ∷ NO_MEMORY ∷ 11 ∷ []
+
+-- a status says all this of the words, the input and the output
+pub record IsAnswered (words : List (String Global)) (input : Input) (output : Output) (status : ℕ) : Type 0 where
+  -- it is one of those that there are
+  pub known : Contains statuses status
+  -- there was a report, and it was written
+  pub reported : status ≡ REPORTED → (text : List ℕ) × IsReported words input text × Writes output text
+  -- the refusal had its cause, and its line was written
+  pub refused : (refusal : Refusal) → status ≡ status_of refusal
+      → IsRefused words input refusal × Writes output (line_of refusal)
+  -- the sink failed within the text that was due
+  pub cut : status ≡ SINK_FAULT → (text : List ℕ) × IsDue words input text × Cuts output text
+  -- memory was wanting, and the words were a command line
+  pub no_memory : status ≡ NO_MEMORY → IsCommandLine words
+  -- no command line gets its refusal, or a fault of the sink
+  pub usage : ¬ IsCommandLine words → Contains (status_of Usage ∷ SINK_FAULT ∷ []) status
+  -- an input that is owed a refusal gets it, or a fault or want of memory comes in between
+  pub owed : (bytes : List ℕ) (refusal : Refusal) → input.left_before ≡ Some bytes → IsOwed words bytes refusal
+      → Contains (status_of refusal ∷ status_of ReadFault ∷ SINK_FAULT ∷ NO_MEMORY ∷ []) status
+  -- an input that states a mission gets its report, where neither side fails and memory is there
+  pub complete : (bytes : List ℕ) (mission : Mission) → input.left_before ≡ Some bytes
+      → IsCommandLine words → length bytes ≤ document_limit → States bytes mission
+      → ¬ Rose input.faults_before input.faults_after → ¬ Rose output.faults_before output.faults_after
+      → Contains (REPORTED ∷ NO_MEMORY ∷ []) status

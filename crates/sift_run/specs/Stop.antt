@@ -1,5 +1,5 @@
 -- Why there is no report: a refusal, or want of memory.
-use Rattle.std.specs.Prelude.{ℕ, ◌≡◌, List, Option, String, ⊤}
+use Rattle.std.specs.Prelude.{ℕ, List, String, ⊤}
 use Rattle.std.specs.declared.alloc.Global.{Global}
 use Rattle.toml.specs.Data.{Members}
 use Rattle.sift_run.specs.Answer.{Input, IsCommandLine, IsDocument, IsRefused}
@@ -23,7 +23,3 @@ StopsAt bytes (Refused AnotherForm) =
 StopsAt bytes (Refused Usage) = ⊥
 StopsAt bytes (Refused ReadFault) = ⊥
 StopsAt bytes (Refused TooLong) = ⊥
-
--- what became of a source: the bytes that it has left, and its count of faults
-abbrev pub input : Option (List ℕ) → Option (List ℕ) → ℕ → ℕ → Input
-input left left' faults faults' = record { left_before = left; left_after = left'; faults_before = faults; faults_after = faults' }

@@ -1,8 +1,8 @@
 //! The report that the words and the input ask for, or why there is none.
 
 ghost use Rattle.std.specs.Prelude.{◌≡◌, ◌↔◌, ◌≤◌, IfErr, IfOk, IsTrue, length, string_bytes};
-ghost use Rattle.sift_run.specs.Answer.{IsCommandLine, IsReported, States, mission_report};
-ghost use Rattle.sift_run.specs.Stop.{IsStopped, StopsAt, input};
+ghost use Rattle.sift_run.specs.Answer.{IsCommandLine, IsReported, States, input, mission_report};
+ghost use Rattle.sift_run.specs.Stop.{IsStopped, StopsAt};
 
 use crate::mission::{Mission, mission_of};
 use crate::refusal::Refusal;

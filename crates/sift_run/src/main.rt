@@ -6,6 +6,7 @@ mod line;
 mod mission;
 mod refusal;
 mod report;
+mod top;
 mod value;
 
 fn main() {}

@@ -1,5 +1,5 @@
 use Rattle.sift_run.proofs.AnswerLemmas.{reported_from, stopped_from}
-use Rattle.sift_run.specs.Stop.{input}
+use Rattle.sift_run.specs.Answer.{input}
 use Rattle.sift_run.proofs.answer.answer.Goals as goal
 
 pub returns-in-Ok-clause-reported : goal.returns-in-Ok-clause-reported

@@ -1,0 +1,51 @@
+//! The top call.
+
+ghost use Rattle.std.specs.Prelude.{◌≡◌};
+ghost use Rattle.sift_run.specs.Answer.{IsAnswered, IsCommandLine, Says, input, output};
+
+use crate::answer::{Stop, answer};
+use sift_io::{Sink, Source, WriteStop, write_all};
+use std::alloc::Global;
+
+/// The status of a report.
+pub const REPORTED: u8 = 0;
+
+/// The status where the sink failed.
+pub const SINK_FAULT: u8 = 9;
+
+/// The status where memory was wanting.
+pub const NO_MEMORY: u8 = 10;
+
+/// Does what the command words ask for, without the program's name: reads the source, writes a text or the line of a
+/// refusal to the sink, and answers the exit status. The whole text is made before any of it is written.
+///
+/// The tests come in the order of the statuses 2, 8 or 11, 3, 4 and 9. Clauses on bytes hold where the source and the
+/// sink tell their bytes.
+pub fn sift<S: Source, K: Sink>(alloc: Global, words: &[String], source: &mut S, sink: &mut K) -> u8
+    ensures answered { IsAnswered words.now
+        (input (S.left source.old) (S.left source.new)
+        (S.read_faults source.old) (S.read_faults source.new))
+        (output (K.written sink.old) (K.written sink.new)
+        (K.write_faults sink.old) (K.write_faults sink.new)) result }
+
+    // No command line reads nothing, and want of memory writes nothing.
+    ensures unread { ¬ IsCommandLine words.now → source.new ≡ source.old }
+    ensures unwritten { result ≡ NO_MEMORY → sink.new ≡ sink.old }
+{
+    match answer(alloc, words, source) {
+        Ok(text) => say(sink, text.as_str(), REPORTED),
+        Err(Stop::Refused(refusal)) => say(sink, refusal.line(), refusal.status()),
+        Err(Stop::NoMemory) => NO_MEMORY,
+    }
+}
+
+/// Writes a text, and answers its status, or that of a sink that failed.
+fn say<K: Sink>(sink: &mut K, text: &str, status: u8) -> u8
+    ensures { Says (output (K.written sink.old) (K.written sink.new)
+        (K.write_faults sink.old) (K.write_faults sink.new)) text.now status result }
+{
+    match write_all(sink, text.as_bytes()) {
+        Ok(()) => status,
+        Err(WriteStop::Failed) => SINK_FAULT,
+    }
+}
