@@ -3,7 +3,12 @@ use Rattle.std.proofs.Common.{◌≡◌, ◌+◌, ◌-◌, ℕ, List, ◌++◌, 
 use Rattle.std.proofs.lemmas.List.{take_at, take_rest, take-append-drop, drop-drop}
 
 -- the bytes from a place on are those that were copied to the front of a buffer, and those behind them
-pub drop-copied : (n at : ℕ) (bytes copy behind : List ℕ) → length copy ≡ n → copy ≡ take n (take (length bytes - at) (drop at bytes)) → drop at bytes ≡ take n (copy ++ behind) ++ drop (at + n) bytes
+pub drop-copied : (n at : ℕ) (bytes copy behind : List ℕ) → length copy ≡ n
+    → copy ≡ take n (take (length bytes - at) (drop at bytes))
+    → drop at bytes ≡ take n (copy ++ behind) ++ drop (at + n) bytes
 drop-copied n at bytes copy behind size e =
-    let front : take n (copy ++ behind) ≡ take n (drop at bytes) = take_at copy behind n size ∙ e ∙ ap (take n) (take_rest bytes at) in
-    sym (take-append-drop n (drop at bytes)) ∙ ap (λ l. l ++ drop n (drop at bytes)) (sym front) ∙ ap (λ l. take n (copy ++ behind) ++ l) (drop-drop n at bytes)
+    let next = drop at bytes in
+    let front : take n (copy ++ behind) ≡ take n next =
+    take_at copy behind n size ∙ e ∙ ap (take n) (take_rest bytes at) in
+    sym (take-append-drop n next) ∙ ap (λ l. l ++ drop n next) (sym front)
+    ∙ ap (λ l. take n (copy ++ behind) ++ l) (drop-drop n at bytes)

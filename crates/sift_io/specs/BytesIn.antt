@@ -1,5 +1,5 @@
 -- A source in memory that fails at listed calls.
-use Rattle.std.specs.Prelude.{◌≡◌, ◌+◌, ℕ, List, length, drop, Option, Some, Contains}
+use Rattle.std.specs.Prelude.{◌≡◌, ◌+◌, ℕ, List, drop, Contains}
 use Rattle.sift_io.specs.Fault.{next_count}
 use Rattle.sift_io.specs.Reading.{GivesMost, given_count, faults_after_read}
 use Rattle.sift_io.specs.declared.bytes_in.BytesIn.{BytesIn}

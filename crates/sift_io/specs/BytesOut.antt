@@ -1,5 +1,5 @@
 -- A sink in memory that fails at listed calls.
-use Rattle.std.specs.Prelude.{◌≡◌, ◌+◌, ◌<◌, ℕ, List, Contains, vec_len, vec_capacity}
+use Rattle.std.specs.Prelude.{◌≡◌, ◌+◌, ◌<◌, ℕ, Contains, vec_len, vec_capacity}
 use Rattle.sift_io.specs.Fault.{next_count}
 use Rattle.sift_io.specs.Writing.{TakesMost, faults_after_write}
 use Rattle.sift_io.specs.declared.bytes_out.BytesOut.{BytesOut}

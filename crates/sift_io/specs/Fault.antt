@@ -1,4 +1,4 @@
--- Counts of faults: numbers of 64 bits that stay at their last value.
+-- Counts of faults and of calls: numbers of 64 bits that stay at their last value.
 use Rattle.std.specs.Prelude.{◌≡◌, ℕ, ◌+◌, ◌-◌, ◌^◌, ◌<◌, ◌≤◌, ◌⊎◌, ◌↔◌, min}
 
 -- the last value of a count
@@ -15,4 +15,5 @@ Rose before now = next_count before ≤ now
 
 -- a count that rose is greater than before or stands at its last value, and the other way round
 abbrev pub RoseIsGreaterOrLast : Type 0
-RoseIsGreaterOrLast = (before now : ℕ) → now ≤ last_count → Rose before now ↔ (before < now ⊎ now ≡ last_count)
+RoseIsGreaterOrLast = (before now : ℕ) → now ≤ last_count
+    → Rose before now ↔ (before < now ⊎ now ≡ last_count)

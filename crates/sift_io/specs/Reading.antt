@@ -1,4 +1,4 @@
--- What a read does to a source, and what a whole read does. Bytes are named where the source tells them.
+-- What one read, or a whole one, does to a source. Bytes are named where the source tells them.
 use Rattle.std.specs.Prelude.{◌≡◌, ◌≤◌, ◌+◌, ℕ, min, List, [], length, take, Option, Result, Ok, Err, ⊤}
 use Rattle.std.specs.Io.KnownBytes.{Consumes, Keeps, IsAtEnd}
 use Rattle.std.specs.Global.{Vec}

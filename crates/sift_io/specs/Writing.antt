@@ -1,4 +1,4 @@
--- What a write does to a sink, and what a whole write does. Bytes are named where the sink tells them.
+-- What one write, or a whole one, does to a sink. Bytes are named where the sink tells them.
 use Rattle.std.specs.Prelude.{◌≡◌, ◌<◌, ◌≤◌, ℕ, min, List, length, take, Option, Result, Ok, Err, ⊤}
 use Rattle.std.specs.Io.KnownBytes.{Appends, Keeps}
 use Rattle.sift_io.specs.Fault.{next_count}
@@ -16,7 +16,7 @@ abbrev pub Writes : Put → Option (List ℕ) → Option (List ℕ) → List ℕ
 Writes (Took n) old new piece = Appends old new (take n piece)
 Writes Failed old new piece = Keeps old new
 
--- nothing of a piece of so many bytes was taken, though there was something to take, or the sink failed
+-- the sink failed, or took none of a piece of so many bytes, though there were some
 abbrev pub TakesNothing : Put → ℕ → Type 0
 TakesNothing (Took n) count = (n ≡ 0) × (0 < count)
 TakesNothing Failed count = ⊤

@@ -4,6 +4,7 @@ use crate::pieces::{give_next, is_listed};
 use crate::{Got, Source};
 
 /// A source in memory that gives little at a time and fails at the calls that it is told to.
+/// Its step is at least 1, and its place within the bytes.
 #[derive(Drop)]
 pub struct BytesIn {
     /// All the bytes, those that were read already among them.

@@ -5,6 +5,7 @@ use crate::{Put, Sink};
 use std::alloc::Global;
 
 /// A sink in memory that takes little at a time and fails at the calls that it is told to.
+/// Beside those it fails only for want of memory. Its step is at least 1.
 #[derive(Drop)]
 pub struct BytesOut {
     /// The bytes that were written.
@@ -49,9 +50,11 @@ impl Sink for BytesOut {
 
     fn write(&mut self, bytes: &[u8]) -> Put
         ensures within { FitsPiece result (length bytes.now) }
-        ensures bytes { Writes result (Some self.old.bytes.items) (Some self.new.bytes.items) bytes.now }
+        ensures bytes { Writes result
+            (Some self.old.bytes.items) (Some self.new.bytes.items) bytes.now }
         ensures later { self.old.faults ≤ self.new.faults }
-        ensures cause { TakesNothing result (length bytes.now) → Rose self.old.faults self.new.faults }
+        ensures cause { TakesNothing result (length bytes.now)
+            → Rose self.old.faults self.new.faults }
         ensures listed { FailsNow self.new → result ≡ Put.Failed }
         // It fails for no other cause than its list and want of memory.
         ensures unlisted { result ≡ Put.Failed

@@ -1,6 +1,6 @@
-//! Where the bytes come from and where they go: sources and sinks, and whole reads and writes over them.
+//! Where bytes come from and where they go: sources, sinks, and whole reads and writes over them.
 //!
-//! A source or a sink counts its faults, and every failure here has a fault of that count as its cause.
+//! A source or a sink counts its faults, and each failure has a fault of that count as its cause.
 #![tactic(auto)]
 
 mod bytes_in;

@@ -4,14 +4,17 @@ ghost use Rattle.sift_io.specs.Reading.{FitsRoom, GivesMost, Reads, given_count}
 
 use crate::Got;
 
-/// Copies the bytes from a place on to the front of the buffer, at most `step` of them.
+/// Gives the bytes from a place on, at most `step` of them, at the front of the buffer.
 pub fn give_next(bytes: &[u8], at: usize, step: usize, buf: &mut [u8]) -> Got
     requires place { at ≤ length bytes.now }
     requires moves { 1 ≤ step }
     requires room { 0 < length buf.old }
     ensures within { FitsRoom result (length buf.old) }
     ensures most { GivesMost result step (length buf.old) (drop at bytes.now) }
-    ensures bytes { Reads result (Some (drop at bytes.now)) (Some (drop (at + given_count result) bytes.now)) buf.new }
+    ensures bytes { Reads result
+        (Some (drop at bytes.now))
+        (Some (drop (at + given_count result) bytes.now))
+        buf.new }
     ensures sure { result ≢ Got.Failed }
 {
     let next = &bytes[at..];

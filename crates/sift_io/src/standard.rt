@@ -86,7 +86,8 @@ impl Sink for StdOut {
     fn write(&mut self, bytes: &[u8]) -> Put
         ensures within { FitsPiece result (length bytes.now) }
         ensures later { self.old.faults ≤ self.new.faults }
-        ensures cause { TakesNothing result (length bytes.now) → Rose self.old.faults self.new.faults }
+        ensures cause { TakesNothing result (length bytes.now)
+            → Rose self.old.faults self.new.faults }
         ensures counted { self.new.faults ≡ faults_after_write result self.old.faults }
     {
         let put = write_some(&mut self.output, bytes);

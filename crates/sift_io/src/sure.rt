@@ -3,7 +3,7 @@ ghost use Rattle.std.specs.Prelude.{◌≡◌, ◌≤◌, length};
 use crate::pieces::give_next;
 use crate::{Got, Put, Sink, Source};
 
-/// A source in memory that never fails.
+/// A source in memory that never fails. Its step is at least 1, and its place within the bytes.
 #[derive(Drop)]
 pub struct SureIn {
     /// All the bytes, those that were read already among them.
@@ -49,7 +49,7 @@ impl Source for SureIn {
     }
 }
 
-/// A sink that never fails, and keeps nothing of what it takes.
+/// A sink that never fails, and keeps nothing of what it takes. Its step is at least 1.
 #[derive(Drop)]
 pub struct SureOut {
     /// The most bytes that one call takes.

@@ -6,17 +6,15 @@ fn a_source_gives_its_step_and_fails_where_listed(rt: HostRuntime) -> Result<(),
     let alloc = rt.alloc();
     let mut source = BytesIn::new(b"abcdefg".to_vec(alloc)?, 3, [2, 6].to_vec(alloc)?);
     let calls = [
-        (4, Got::Taken(3), "abc", 0),
-        (4, Got::Failed, "", 1),
-        (2, Got::Taken(2), "de", 1),
-        (4, Got::Taken(2), "fg", 1),
-        (4, Got::End, "", 1),
-        (4, Got::Failed, "", 2),
-        (4, Got::End, "", 2),
+        (1, 4, Got::Taken(3), "abc", 0),
+        (2, 4, Got::Failed, "", 1),
+        (3, 2, Got::Taken(2), "de", 1),
+        (4, 4, Got::Taken(2), "fg", 1),
+        (5, 4, Got::End, "", 1),
+        (6, 4, Got::Failed, "", 2),
+        (7, 4, Got::End, "", 2),
     ];
-    let mut call = 0;
-    for (room, want, text, faults) in calls {
-        call += 1;
+    for (call, room, want, text, faults) in calls {
         let mut buf = [0; 4];
         let got = source.read(&mut buf[..room]);
         assert_eq!(rt; got, want, "call {call}");
@@ -31,15 +29,13 @@ fn a_sink_takes_its_step_and_fails_where_listed(rt: HostRuntime) -> Result<(), F
     let alloc = rt.alloc();
     let mut sink = BytesOut::new(alloc, 3, [1, 4].to_vec(alloc)?);
     let calls = [
-        ("abcd", Put::Failed, "", 1),
-        ("abcd", Put::Took(3), "abc", 1),
-        ("d", Put::Took(1), "abcd", 1),
-        ("e", Put::Failed, "abcd", 2),
-        ("", Put::Took(0), "abcd", 2),
+        (1, "abcd", Put::Failed, "", 1),
+        (2, "abcd", Put::Took(3), "abc", 1),
+        (3, "d", Put::Took(1), "abcd", 1),
+        (4, "e", Put::Failed, "abcd", 2),
+        (5, "", Put::Took(0), "abcd", 2),
     ];
-    let mut call = 0;
-    for (piece, want, text, faults) in calls {
-        call += 1;
+    for (call, piece, want, text, faults) in calls {
         let put = sink.write(piece.as_bytes());
         assert_eq!(rt; put, want, "call {call}");
         assert_eq!(rt;
@@ -58,13 +54,11 @@ fn sure_ends_move_by_their_step(rt: HostRuntime) -> Result<(), Fail> {
     let mut source = SureIn::new(b"abc".to_vec(alloc)?, 2);
     let mut sink = SureOut::new(1);
     let calls = [
-        (Got::Taken(2), "ab", Put::Took(1)),
-        (Got::Taken(1), "c", Put::Took(1)),
-        (Got::End, "", Put::Took(0)),
+        (1, Got::Taken(2), "ab", Put::Took(1)),
+        (2, Got::Taken(1), "c", Put::Took(1)),
+        (3, Got::End, "", Put::Took(0)),
     ];
-    let mut call = 0;
-    for (given, text, taken) in calls {
-        call += 1;
+    for (call, given, text, taken) in calls {
         let mut buf = [0; 4];
         let got = source.read(&mut buf);
         assert_eq!(rt; got, given, "read {call}");

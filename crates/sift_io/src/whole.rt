@@ -42,7 +42,8 @@ pub fn read_all<S: Source>(alloc: Global, source: &mut S, limit: usize) -> Resul
     requires { limit < 2 ^ 64 - 1 }
     ensures bytes { ReadsAll result (S.left source.old) (S.left source.new) limit }
     ensures later { S.read_faults source.old ≤ S.read_faults source.new }
-    ensures cause { IsErrOf result ReadStop.Failed → Rose (S.read_faults source.old) (S.read_faults source.new) }
+    ensures cause { IsErrOf result ReadStop.Failed
+        → Rose (S.read_faults source.old) (S.read_faults source.new) }
 {
     let mut all = Vec::new(alloc);
     let mut piece = [0; PIECE];
@@ -57,11 +58,12 @@ pub fn read_all<S: Source>(alloc: Global, source: &mut S, limit: usize) -> Resul
     }
 }
 
-/// Writes all the bytes, in order.
+/// Writes all the bytes, in order. It takes no memory.
 pub fn write_all<K: Sink>(sink: &mut K, bytes: &[u8]) -> Result<(), WriteStop>
     ensures bytes { WritesAll result (K.written sink.old) (K.written sink.new) bytes.now }
     ensures later { K.write_faults sink.old ≤ K.write_faults sink.new }
-    ensures cause { IsErrOf result WriteStop.Failed → Rose (K.write_faults sink.old) (K.write_faults sink.new) }
+    ensures cause { IsErrOf result WriteStop.Failed
+        → Rose (K.write_faults sink.old) (K.write_faults sink.new) }
 {
     let mut rest = bytes;
     while !rest.is_empty() {

@@ -24,5 +24,6 @@ pub trait Sink {
         ensures within { FitsPiece result (length bytes.now) }
         ensures bytes { Writes result (written self.old) (written self.new) bytes.now }
         ensures later { write_faults self.old ≤ write_faults self.new }
-        ensures cause { TakesNothing result (length bytes.now) → Rose (write_faults self.old) (write_faults self.new) };
+        ensures cause { TakesNothing result (length bytes.now)
+            → Rose (write_faults self.old) (write_faults self.new) };
 }

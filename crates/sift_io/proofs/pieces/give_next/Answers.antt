@@ -6,4 +6,5 @@ use Rattle.sift_io.proofs.pieces.give_next.Goals as goal
 pub returns-clause-bytes : goal.returns-clause-bytes
 returns-clause-bytes c =
     let n = c.min-n.result in
-    drop-copied n c.args.at c.args.bytes.now _ _ (omega (arith, length-take n c.args.buf.now)) c.copy_from_slice.ensures.after
+    drop-copied n c.args.at c.args.bytes.now _ _ (omega (arith, length-take n c.args.buf.now))
+    c.copy_from_slice.ensures.after

@@ -8,13 +8,15 @@ pub loop-rest-preserved : goal.loop-rest-preserved
 loop-rest-preserved g c =
     let sent = c.loop-rest.invariant.0 in
     let more = take c.in-Took.n c.loop-rest.rest.now in
-    ((sent.0 ++ more, Appends-trans _ _ _ sent.0 more sent.1 c.in-Took.ensures.bytes, append-take_rest sent.0 _ _ c.in-Took.n sent.2), omega arith)
+    let added = Appends-trans _ _ _ sent.0 more sent.1 c.in-Took.ensures.bytes in
+    ((sent.0 ++ more, added, append-take_rest sent.0 _ _ c.in-Took.n sent.2), omega arith)
 
 -- the sink took nothing
 pub returns-in-Took-eq0-clause-bytes : goal.returns-in-Took-eq0-clause-bytes
 returns-in-Took-eq0-clause-bytes g c =
     let sent = c.loop-rest.invariant.0 in
-    AddsPrefix-sent _ _ _ sent.0 _ _ sent.1 sent.2 (Keeps-take_none _ _ _ _ (omega arith) c.in-Took-eq0.ensures.bytes)
+    let kept = Keeps-take_none _ _ _ _ (omega arith) c.in-Took-eq0.ensures.bytes in
+    AddsPrefix-sent _ _ _ sent.0 _ _ sent.1 sent.2 kept
 
 -- the sink failed
 pub returns-in-Failed-clause-bytes : goal.returns-in-Failed-clause-bytes

@@ -7,8 +7,9 @@ abbrev pub invariant-loop-rest : goal.invariant-loop-rest
 invariant-loop-rest g l =
     let written = g.K.Sink.written in
     let faults = g.K.Sink.write_faults in
-    ((sent : List ℕ) × Appends (written l.initial.sink) (written l.sink) sent × (sent ++ l.rest ≡ l.bytes))
-    × (faults l.initial.sink ≤ faults l.sink)
+    let begun = l.initial.sink in
+    ((sent : List ℕ) × Appends (written begun) (written l.sink) sent × (sent ++ l.rest ≡ l.bytes))
+    × (faults begun ≤ faults l.sink)
 
 abbrev pub decreases-loop-rest : goal.decreases-loop-rest
 decreases-loop-rest g l = length l.rest
