@@ -6,10 +6,6 @@ use Rattle.std.proofs.lemmas.Option.{slice_get-map, slice_get_within, slice_get_
 use Rattle.sift_core.specs.Ideal.{ideal_word}
 use Rattle.sift_core.specs.Flight.{IsIdealFlight}
 
--- before the first frame
-pub IsIdealFlight-none : (units start a b : ℕ) → IsIdealFlight units 0 start a b []
-IsIdealFlight-none units start a b = record { complete = omega arith; ideal = λ f u early. absurd (omega arith) }
-
 -- an element of the first list
 slice_get-append : {A : Type 0} (xs ys : List A) (i : ℕ) (x : A) → slice_get xs i ≡ Some x
     → slice_get (xs ++ ys) i ≡ Some x

@@ -17,9 +17,8 @@ agreed-unwrap_or copies None most none = undecided none refl
 pub votes_after : (a b word : ℕ) (last voted : List ℕ) → 0 < length last → All (λ w. w ≡ word) last
     → All (IsAgreed (copies_of a b last)) voted → All (λ w. w ≡ next_word a b word) voted
 votes_after a b word last voted some same =
-    let copies = copies_of a b last in
     let next = next_word a b word in
     let made = λ (w : ℕ). Some (next_word a b w) in
-    All-weaker (IsAgreed copies) (λ w. w ≡ next)
-    (unanimity_is_agreed copies next (rw length-map some)
-    (All-map (λ p. p ≡ Some next) made last (λ k d inside. ap made (same k d inside)))) voted
+    let one_copy = All-map (λ p. p ≡ Some next) made last (λ k d inside. ap made (same k d inside)) in
+    let unanimous = unanimity_is_agreed (copies_of a b last) next (rw length-map some) one_copy in
+    All-weaker (IsAgreed (copies_of a b last)) (λ w. w ≡ next) unanimous voted

@@ -10,7 +10,8 @@ use std::alloc::Global;
 /// of the task's word from the word that it voted last, at first `start`, as `a * word + b`. Then
 /// each unit votes over all copies.
 ///
-/// Entry `f * units + u` is the list of the words that unit `u` voted in frame `f`.
+/// Entry `f * units + u` is the list of the words that unit `u` voted in frame `f`. The only error
+/// is want of memory.
 pub fn plain_fly(
     alloc: Global,
     units: u8,
@@ -66,4 +67,30 @@ fn record_frame(alloc: Global, flight: &mut Vec<Vec<Word>>, voted: &[Word]) -> R
         flight.push(vec![in alloc; word]?)?;
     }
     Ok(())
+}
+
+#[cfg(test)]
+mod tests {
+    use super::*;
+    use std::test::Fail;
+
+    #[test]
+    fn every_unit_flies_the_ideal_words(rt: HostRuntime) -> Result<(), Fail> {
+        let cases = [
+            // 5 * 3 + 1 = 16, and 16 * 3 + 1 = 49
+            (5, 3, 1, 16, 49),
+            // 40,000 * 2 + 3 - 65,536 = 14,467, and 14,467 * 2 + 3 = 28,937
+            (40_000, 2, 3, 14_467, 28_937),
+        ];
+        for (start, a, b, first, second) in cases {
+            let flight = plain_fly(rt.alloc(), 4, 2, Word::of(start), Word::of(a), Word::of(b))?;
+            assert_eq!(rt; flight.len(), 8, "from {start}");
+            let want = [first, first, first, first, second, second, second, second];
+            for (entry, word) in flight.iter().zip(want) {
+                let voted = entry.as_slice();
+                assert_eq!(rt; voted, [Word::of(word)].as_slice(), "from {start}");
+            }
+        }
+        Ok(())
+    }
 }

@@ -27,3 +27,29 @@ pub fn vote_copies(
     }
     Ok(voted)
 }
+
+#[cfg(test)]
+mod tests {
+    use super::*;
+    use std::test::Fail;
+
+    fn word(n: u16) -> Option<Word> {
+        Some(Word::of(n))
+    }
+
+    #[test]
+    fn every_unit_takes_the_majority_or_zero(rt: HostRuntime) -> Result<(), Fail> {
+        let cases: [(&[Option<Word>], u16, &str); 5] = [
+            (&[word(5), word(5), word(9)], 5, "the last differs"),
+            (&[word(9), word(5), word(5)], 5, "the first differs"),
+            (&[word(5), word(9), word(7)], 0, "all differ"),
+            (&[word(5), word(5), word(9), word(9)], 0, "two and two"),
+            (&[word(5), None, None], 0, "most are absent"),
+        ];
+        for (copies, want, case) in cases {
+            let voted = vote_copies(rt.alloc(), copies, 2)?;
+            assert_eq!(rt; voted.as_slice(), [Word::of(want); 2].as_slice(), "{case}");
+        }
+        Ok(())
+    }
+}

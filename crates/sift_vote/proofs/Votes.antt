@@ -1,5 +1,5 @@
 -- Majorities and agreed words, by induction over the places.
-use Rattle.std.proofs.Common.{◌≡◌, ◌≢◌, ℕ, ◌+◌, ◌*◌, ◌≤◌, ◌⊎◌, inl, inr, List, [], ◌∷◌, length, cond, eqb, true, Option, None, Some, All, refl, sym, ap, subst, arith}
+use Rattle.std.proofs.Common.{◌≡◌, ◌≢◌, ℕ, ◌+◌, ◌*◌, ◌≤◌, ◌⊎◌, inl, inr, List, [], ◌∷◌, length, cond, eqb, true, Option, None, Some, All, refl, ap, arith}
 use Rattle.std.proofs.lemmas.Bool.{cases_lt, cases_eq, ne_eqb, eq-eqb}
 use Rattle.std.proofs.lemmas.Bool.Decides.{nat_tests}
 use Rattle.std.proofs.lemmas.List.Elements.{All-nil, All-cons, All-head, All-tail}
@@ -23,6 +23,7 @@ votes_for-cons : (place : Option ℕ) (places : List (Option ℕ)) (w : ℕ)
     → votes_for (place ∷ places) w ≡ cond (is_vote_for w place) 1 0 + votes_for places w
 votes_for-cons place places w = sum_by-cons (λ p. cond (is_vote_for w p) 1 0) place places
 
+-- a word is at most one of two different ones
 one_word : (x v w : ℕ) → v ≢ w → cond (eqb x v) 1 0 + cond (eqb x w) 1 0 ≤ 1
 one_word x v w apart = grind (arith, nat_tests)
 
@@ -95,8 +96,7 @@ found_or_lost all (Some v ∷ places) =
       | inr few ↦ elim (found_or_lost all places) [
         | inl found ↦ inl found
         | inr lose ↦ inr (All-cons (Loses all) (Some v) places
-            (λ w e most. let same : v ≡ w = same_Some v w e in
-            let most_v : IsMajority all v = subst (IsMajority all) (sym same) most in omega arith) lose)
+            (λ w e most. omega (arith, ap (votes_for all) (same_Some v w e))) lose)
       ]
     ]
 
@@ -124,7 +124,8 @@ votes_for-unanimous : (places : List (Option ℕ)) (w : ℕ) → All (λ place. 
     → votes_for places w ≡ length places
 votes_for-unanimous [] w same = refl
 votes_for-unanimous (place ∷ places) w same =
-    let here : is_vote_for w place ≡ true = rw (All-head (λ p. p ≡ Some w) place places same) (eq-eqb w w refl) in
+    let here : is_vote_for w place ≡ true =
+    rw (All-head (λ p. p ≡ Some w) place places same) (eq-eqb w w refl) in
     omega (
       arith,
       votes_for-cons place places w,

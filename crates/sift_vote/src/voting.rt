@@ -1,11 +1,5 @@
 ghost use Rattle.std.specs.Prelude.{◌≡◌, ℕ, IfSome, IfNone};
-ghost use Rattle.sift_vote.specs.Majority.{
-  votes_for,
-  IsMajority,
-  HasNoMajority,
-  MajorityIsUnique,
-  AgreementIsUnique,
-};
+ghost use Rattle.sift_vote.specs.Majority.{votes_for, IsMajority, HasNoMajority};
 
 use sift_base::Word;
 
@@ -47,11 +41,7 @@ mod tests {
             (&[word(5), word(5), word(9)], word(5), "two of three"),
             (&[word(5), word(9), None], None, "one of three"),
             (&[word(5), word(5), None, None], None, "exactly half"),
-            (
-                &[word(0), word(0), word(0)],
-                word(0),
-                "the word 0 is a word",
-            ),
+            (&[word(0), word(0), word(0)], word(0), "0 is a word"),
             (&[], None, "no places"),
         ];
         for (places, want, case) in cases {

@@ -1,4 +1,4 @@
-use Rattle.std.proofs.Common.{◌≡◌, ℕ, ◌<◌, ◌+◌, All, length, add-one, arith}
+use Rattle.std.proofs.Common.{◌≡◌, ℕ, ◌<◌, ◌+◌, ◌∙◌, ap, All, length, add-one, arith}
 use Rattle.sift_core.specs.Ideal.{ideal_word}
 use Rattle.sift_core.proofs.Frames.{IsIdealFlight-more}
 use Rattle.sift_core.proofs.Votes.{votes_after}
@@ -11,10 +11,11 @@ loop-preserved c =
     let voted = c.in_ok-last-2.last.items in
     let ideal : ℕ → ℕ = ideal_word c.args.start c.args.a c.args.b in
     let some : 0 < length last = omega arith in
-    let each_unit : length voted ≡ c.args.units = rw c.in_ok-last-2.ensures.each_unit (rw c.deref.ensures.value c.loop.invariant.each_unit) in
-    let same_word : All (λ w. w ≡ ideal (c.loop.counter + 1)) voted =
-    rw (add-one c.loop.counter) (votes_after c.args.a c.args.b (ideal c.loop.counter) last voted some
-    c.loop.invariant.same_word (rw c.deref.ensures.value at c.in_ok-last-2.ensures.agreed)) in
+    let each_unit : length voted ≡ c.args.units =
+    c.in_ok-last-2.ensures.each_unit ∙ ap length c.deref.ensures.value ∙ c.loop.invariant.each_unit in
+    let agreed = rw c.deref.ensures.value at c.in_ok-last-2.ensures.agreed in
+    let same_word : All (λ w. w ≡ ideal (c.loop.counter + 1)) voted = rw (add-one c.loop.counter)
+    (votes_after c.args.a c.args.b (ideal c.loop.counter) last voted some c.loop.invariant.same_word agreed) in
     record {
       each_unit = each_unit;
       same_word = same_word;

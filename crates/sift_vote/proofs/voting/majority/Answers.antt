@@ -1,6 +1,6 @@
 use Rattle.std.proofs.Common.{◌≡◌, Some, ap, arith, take_all}
 use Rattle.std.proofs.lemmas.List.Elements.{All-more}
-use Rattle.sift_vote.specs.Majority.{votes_for}
+use Rattle.sift_vote.specs.Majority.{votes_for, IsMajority}
 use Rattle.sift_vote.proofs.Votes.{Loses, majority_is_unique, no_majority}
 use Rattle.sift_vote.proofs.voting.majority.Goals as goal
 use Rattle.sift_vote.proofs.voting.majority.Goals.{in-Some+else-votes_for-places, in_default}
@@ -8,7 +8,8 @@ use Rattle.sift_vote.proofs.voting.majority.Goals.{in-Some+else-votes_for-places
 -- the word that was found is the only majority
 pub returns-then-votes_for-places-clause-exact : goal.returns-then-votes_for-places-clause-exact
 returns-then-votes_for-places-clause-exact c =
-    λ w most. ap Some (majority_is_unique c.args.places.now c.in-Some.word w (omega (arith, c.votes_for.ensures)) most)
+    let here : IsMajority c.args.places.now c.in-Some.word = omega (arith, c.votes_for.ensures) in
+    λ w most. ap Some (majority_is_unique c.args.places.now c.in-Some.word w here most)
 
 -- nor does this place hold one
 pub loop-place-preserved : goal.loop-place-preserved
