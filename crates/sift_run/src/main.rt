@@ -1,4 +1,7 @@
-//! `sift`.
+//! `sift`: a simulator of SIFT, the fault-tolerant computer for aircraft control.
+//!
+//! It reads a mission, flies it, and reports what every unit did. The top call is `top::sift`, whose contract says
+//! what each exit status means; `main` hands it the real words, input and output.
 #![tactic(auto)]
 
 mod answer;
@@ -6,7 +9,38 @@ mod line;
 mod mission;
 mod refusal;
 mod report;
+#[cfg(test)]
+mod tests;
 mod top;
 mod value;
 
-fn main() {}
+use sift_base::NoMemory;
+use sift_io::{StdIn, StdOut};
+use std::env;
+use std::io::ErrorKind;
+use std::process::ExitCode;
+use std::rt::Env;
+
+fn main(rt: HostRuntime) -> ExitCode {
+    let Ok(words) = command_words(&rt) else {
+        return ExitCode::from(top::NO_MEMORY);
+    };
+    let mut source = StdIn::new(rt.stdin());
+    let mut sink = StdOut::new(rt.stdout());
+    ExitCode::from(top::sift(rt.alloc(), &words, &mut source, &mut sink))
+}
+
+/// The words after the program's name. Where one of them isn't UTF-8 there are none, and no words are no command line.
+fn command_words<R: Env + AllocGlobal>(rt: &R) -> Result<Vec<String>, NoMemory> {
+    let mut words = Vec::new(rt.alloc());
+    match env::args(rt) {
+        Ok(args) => {
+            for word in args.skip(1) {
+                words.push(word)?;
+            }
+        }
+        Err(error) if error.kind() == ErrorKind::InvalidData => {}
+        Err(_) => return Err(NoMemory),
+    }
+    Ok(words)
+}
