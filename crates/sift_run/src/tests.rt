@@ -15,6 +15,174 @@ const COUNT_REPORT: &str = "f=0 u=0 cfg=0123 clk=0 in=- out=0010 bad=-\n\
     f=0 skew=0 slack=1 margin=ok\n\
     end frames=1 cfg=0123 margin=ok\n";
 
+/// A mission of two frames and five units.
+const COUNT_FIVE: &str =
+    "units = 5\nframes = 2\n[[task]]\nname = \"count\"\nstart = [5]\nlinear = [3, 1]\n";
+
+/// Its report: 3 * 5 + 1, and then 3 * 16 + 1.
+const COUNT_FIVE_REPORT: &str = "f=0 u=0 cfg=01234 clk=0 in=- out=0010 bad=-\n\
+    f=0 u=1 cfg=01234 clk=0 in=- out=0010 bad=-\n\
+    f=0 u=2 cfg=01234 clk=0 in=- out=0010 bad=-\n\
+    f=0 u=3 cfg=01234 clk=0 in=- out=0010 bad=-\n\
+    f=0 u=4 cfg=01234 clk=0 in=- out=0010 bad=-\n\
+    f=0 skew=0 slack=1 margin=ok\n\
+    f=1 u=0 cfg=01234 clk=0 in=- out=0031 bad=-\n\
+    f=1 u=1 cfg=01234 clk=0 in=- out=0031 bad=-\n\
+    f=1 u=2 cfg=01234 clk=0 in=- out=0031 bad=-\n\
+    f=1 u=3 cfg=01234 clk=0 in=- out=0031 bad=-\n\
+    f=1 u=4 cfg=01234 clk=0 in=- out=0031 bad=-\n\
+    f=1 skew=0 slack=1 margin=ok\n\
+    end frames=2 cfg=01234 margin=ok\n";
+
+/// Words that are no command line.
+const NO_COMMAND_LINES: [&[&str]; 6] = [&[], &["fly"], &["run", "run"], &[""], &["run "], &["RUN"]];
+
+/// Documents at the edges of the form, with their statuses.
+const DOCUMENTS: [(&str, u8); 40] = [
+    (
+        "units = 4\nframes = 1\ntask = [{name = \"a\", start = [0], linear = [0, 0]}]\n",
+        0,
+    ),
+    (
+        "units = 8\nframes = 1\ntask = [{name = \"a\", start = [0], linear = [0, 0]}]\n",
+        0,
+    ),
+    (
+        "units = 4\nframes = 2\ntask = [{name = \"a\", start = [0], linear = [0, 0]}]\n",
+        0,
+    ),
+    (
+        "units = 4\nframes = 1\ntask = [{name = \"abcdefghijklmnop\", start = [0], linear = [0, 0]}]\n",
+        0,
+    ),
+    (
+        "units = 4\nframes = 1\ntask = [{name = \"a\", start = [-32768], linear = [65535, -1]}]\n",
+        0,
+    ),
+    ("", 4),
+    ("frames = 1\n", 4),
+    (
+        "units = 3\nframes = 1\ntask = [{name = \"a\", start = [0], linear = [0, 0]}]\n",
+        4,
+    ),
+    (
+        "units = 9\nframes = 1\ntask = [{name = \"a\", start = [0], linear = [0, 0]}]\n",
+        4,
+    ),
+    (
+        "units = -4\nframes = 1\ntask = [{name = \"a\", start = [0], linear = [0, 0]}]\n",
+        4,
+    ),
+    (
+        "units = 4.0\nframes = 1\ntask = [{name = \"a\", start = [0], linear = [0, 0]}]\n",
+        4,
+    ),
+    (
+        "units = \"4\"\nframes = 1\ntask = [{name = \"a\", start = [0], linear = [0, 0]}]\n",
+        4,
+    ),
+    (
+        "units = 4\nframes = 0\ntask = [{name = \"a\", start = [0], linear = [0, 0]}]\n",
+        4,
+    ),
+    (
+        "units = 4\nframes = 1001\ntask = [{name = \"a\", start = [0], linear = [0, 0]}]\n",
+        4,
+    ),
+    (
+        "units = 4\nframes = 1\ntask = [{name = \"abcdefghijklmnopq\", start = [0], linear = [0, 0]}]\n",
+        4,
+    ),
+    (
+        "units = 4\nframes = 1\ntask = [{name = \"let\", start = [0], linear = [0, 0]}]\n",
+        4,
+    ),
+    (
+        "units = 4\nframes = 1\ntask = [{name = \"\", start = [0], linear = [0, 0]}]\n",
+        4,
+    ),
+    (
+        "units = 4\nframes = 1\ntask = [{name = 1, start = [0], linear = [0, 0]}]\n",
+        4,
+    ),
+    (
+        "units = 4\nframes = 1\ntask = [{name = \"a\", start = [-32769], linear = [0, 0]}]\n",
+        4,
+    ),
+    (
+        "units = 4\nframes = 1\ntask = [{name = \"a\", start = [0], linear = [65536, 0]}]\n",
+        4,
+    ),
+    (
+        "units = 4\nframes = 1\ntask = [{name = \"a\", start = [0], linear = [0, 65536]}]\n",
+        4,
+    ),
+    (
+        "units = 4\nframes = 1\ntask = [{name = \"a\", start = [], linear = [0, 0]}]\n",
+        4,
+    ),
+    (
+        "units = 4\nframes = 1\ntask = [{name = \"a\", start = [0, 0], linear = [0, 0]}]\n",
+        4,
+    ),
+    (
+        "units = 4\nframes = 1\ntask = [{name = \"a\", start = 0, linear = [0, 0]}]\n",
+        4,
+    ),
+    (
+        "units = 4\nframes = 1\ntask = [{name = \"a\", start = [0], linear = [0]}]\n",
+        4,
+    ),
+    (
+        "units = 4\nframes = 1\ntask = [{name = \"a\", start = [0], linear = [0, 0, 0]}]\n",
+        4,
+    ),
+    (
+        "units = 4\nframes = 1\ntask = [{name = \"a\", start = [0], linear = [0, 0.5]}]\n",
+        4,
+    ),
+    ("units = 4\nframes = 1\n", 4),
+    ("units = 4\nframes = 1\ntask = []\n", 4),
+    ("units = 4\nframes = 1\ntask = [1]\n", 4),
+    (
+        "units = 4\nframes = 1\ntask = {name = \"a\", start = [0], linear = [0, 0]}\n",
+        4,
+    ),
+    (
+        "version = 1\nunits = 4\nframes = 1\ntask = [{name = \"a\", start = [0], linear = [0, 0]}]\n",
+        4,
+    ),
+    (
+        "frames = 1\ntask = [{name = \"a\", start = [0], linear = [0, 0]}]\n",
+        4,
+    ),
+    (
+        "units = 4\ntask = [{name = \"a\", start = [0], linear = [0, 0]}]\n",
+        4,
+    ),
+    (
+        "units = 4\nframes = 1\ntask = [{start = [0], linear = [0, 0]}]\n",
+        4,
+    ),
+    (
+        "units = 4\nframes = 1\ntask = [{name = \"a\", linear = [0, 0]}]\n",
+        4,
+    ),
+    (
+        "units = 4\nframes = 1\ntask = [{name = \"a\", start = [0]}]\n",
+        4,
+    ),
+    (
+        "units = 4\nframes = 1\ntask = [{name = \"a\", start = [0], linear = [0, 0], text = \"\"}]\n",
+        4,
+    ),
+    (
+        "units = 4\nframes = 1\ntask = [{name = \"a\", start = [0], linear = [0, 0]}, {name = \"b\", start = [0], linear = [0, 0]}]\n",
+        4,
+    ),
+    ("units = 4\nname = \"ab\n", 3),
+];
+
 /// Calls `sift` on words and bytes in memory. The source and the sink move so many bytes a call, and fail at one call
 /// each, where its number isn't 0.
 fn call(
@@ -35,123 +203,48 @@ fn call(
 }
 
 #[test]
-fn words_and_documents_have_their_answers(rt: HostRuntime) -> Result<(), Fail> {
-    let cases: [(&[&str], &str, u8, &str); 10] = [
-        (&["run"], COUNT, 0, COUNT_REPORT),
-        (&[], COUNT, 2, "usage\n"),
-        (&["fly"], COUNT, 2, "usage\n"),
-        (&["run", "run"], COUNT, 2, "usage\n"),
-        (&[""], COUNT, 2, "usage\n"),
-        (&["run "], COUNT, 2, "usage\n"),
-        (&["RUN"], COUNT, 2, "usage\n"),
-        (&["run"], "", 4, "another form\n"),
-        (&["run"], "frames = 1\n", 4, "another form\n"),
-        (&["run"], "units = 4\nname = \"ab\n", 3, "not a document\n"),
-    ];
-    for (words, input, want, text) in cases {
-        let (status, sink) = call(rt.alloc(), words, input.as_bytes(), 0, 0)?;
-        assert_eq!(rt; status, want, "status of {words:?} on {input:?}");
+fn a_mission_is_flown_and_reported(rt: HostRuntime) -> Result<(), Fail> {
+    let (status, sink) = call(rt.alloc(), &["run"], COUNT.as_bytes(), 0, 0)?;
+    assert_eq!(rt; status, 0);
+    assert_eq!(rt; sink.bytes.as_slice(), COUNT_REPORT.as_bytes());
+    let (status, sink) = call(rt.alloc(), &["run"], COUNT_FIVE.as_bytes(), 0, 0)?;
+    assert_eq!(rt; status, 0);
+    assert_eq!(rt; sink.bytes.as_slice(), COUNT_FIVE_REPORT.as_bytes());
+    Ok(())
+}
+
+#[test]
+fn other_words_are_no_command_line(rt: HostRuntime) -> Result<(), Fail> {
+    for words in NO_COMMAND_LINES {
+        let (status, sink) = call(rt.alloc(), words, COUNT.as_bytes(), 0, 0)?;
+        assert_eq!(rt; status, 2, "status of {words:?}");
         assert_eq!(rt;
             sink.bytes.as_slice(),
-            text.as_bytes(),
-            "text of {words:?} on {input:?}"
+            b"usage\n".as_slice(),
+            "text of {words:?}"
         );
     }
-    let (status, sink) = call(rt.alloc(), &["run"], b"units = \"\xff\"\n", 0, 0)?;
-    assert_eq!(rt; status, 3, "bytes that aren't UTF-8");
-    assert_eq!(rt; sink.bytes.as_slice(), b"not a document\n".as_slice());
     Ok(())
 }
 
 #[test]
 fn a_document_is_a_mission_up_to_the_edge_of_its_form(rt: HostRuntime) -> Result<(), Fail> {
-    let form = |alloc: Global, units: &str, frames: &str, name: &str, start: &str, linear: &str| {
-        format!(in alloc;
-            "units = {units}\nframes = {frames}\n[[task]]\nname = {name}\nstart = {start}\nlinear = {linear}\n"
-        )
-    };
-    let cases = [
-        ("4", "1", "\"a\"", "[0]", "[0, 0]", 0),
-        ("8", "1000", "\"a\"", "[0]", "[0, 0]", 0),
-        ("3", "1", "\"a\"", "[0]", "[0, 0]", 4),
-        ("9", "1", "\"a\"", "[0]", "[0, 0]", 4),
-        ("-4", "1", "\"a\"", "[0]", "[0, 0]", 4),
-        ("4.0", "1", "\"a\"", "[0]", "[0, 0]", 4),
-        ("\"4\"", "1", "\"a\"", "[0]", "[0, 0]", 4),
-        ("4", "0", "\"a\"", "[0]", "[0, 0]", 4),
-        ("4", "1001", "\"a\"", "[0]", "[0, 0]", 4),
-        ("4", "1", "\"abcdefghijklmnop\"", "[0]", "[0, 0]", 0),
-        ("4", "1", "\"abcdefghijklmnopq\"", "[0]", "[0, 0]", 4),
-        ("4", "1", "\"let\"", "[0]", "[0, 0]", 4),
-        ("4", "1", "\"\"", "[0]", "[0, 0]", 4),
-        ("4", "1", "1", "[0]", "[0, 0]", 4),
-        ("4", "1", "\"a\"", "[-32768]", "[65535, -1]", 0),
-        ("4", "1", "\"a\"", "[-32769]", "[0, 0]", 4),
-        ("4", "1", "\"a\"", "[0]", "[65536, 0]", 4),
-        ("4", "1", "\"a\"", "[0]", "[0, 65536]", 4),
-        ("4", "1", "\"a\"", "[]", "[0, 0]", 4),
-        ("4", "1", "\"a\"", "[0, 0]", "[0, 0]", 4),
-        ("4", "1", "\"a\"", "0", "[0, 0]", 4),
-        ("4", "1", "\"a\"", "[0]", "[0]", 4),
-        ("4", "1", "\"a\"", "[0]", "[0, 0, 0]", 4),
-        ("4", "1", "\"a\"", "[0]", "[0, 0.5]", 4),
-    ];
-    for (units, frames, name, start, linear, want) in cases {
-        let document = form(rt.alloc(), units, frames, name, start, linear)?;
-        let (status, _) = call(rt.alloc(), &["run"], document.as_bytes(), 0, 0)?;
-        assert_eq!(rt; status, want, "status of {document}");
-    }
-    Ok(())
-}
-
-#[test]
-fn a_document_has_its_keys_and_one_task(rt: HostRuntime) -> Result<(), Fail> {
-    let cases = [
-        "units = 4\nframes = 1\n",
-        "units = 4\nframes = 1\ntask = []\n",
-        "units = 4\nframes = 1\ntask = [1]\n",
-        "units = 4\nframes = 1\ntask = {name = \"a\", start = [0], linear = [0, 0]}\n",
-        "units = 4\nframes = 1\nversion = 1\ntask = [{name = \"a\", start = [0], linear = [0, 0]}]\n",
-        "units = 4\ntask = [{name = \"a\", start = [0], linear = [0, 0]}]\n",
-        "frames = 1\ntask = [{name = \"a\", start = [0], linear = [0, 0]}]\n",
-        "units = 4\nframes = 1\ntask = [{start = [0], linear = [0, 0]}]\n",
-        "units = 4\nframes = 1\ntask = [{name = \"a\", linear = [0, 0]}]\n",
-        "units = 4\nframes = 1\ntask = [{name = \"a\", start = [0]}]\n",
-        "units = 4\nframes = 1\ntask = [{name = \"a\", start = [0], linear = [0, 0], text = \"\"}]\n",
-        "units = 4\nframes = 1\ntask = [{name = \"a\", start = [0], linear = [0, 0]}, {name = \"b\", start = [0], linear = [0, 0]}]\n",
-    ];
-    for document in cases {
+    for (document, want) in DOCUMENTS {
         let (status, sink) = call(rt.alloc(), &["run"], document.as_bytes(), 0, 0)?;
-        assert_eq!(rt; status, 4, "status of {document}");
+        assert_eq!(rt; status, want, "status of {document}");
+        let line = match want {
+            3 => "not a document\n",
+            4 => "another form\n",
+            _ => continue,
+        };
         assert_eq!(rt;
             sink.bytes.as_slice(),
-            b"another form\n".as_slice(),
-            "text of {document}"
+            line.as_bytes(),
+            "line of {document}"
         );
     }
-    Ok(())
-}
-
-#[test]
-fn words_are_flown_from_frame_to_frame(rt: HostRuntime) -> Result<(), Fail> {
-    let document =
-        "units = 5\nframes = 2\n[[task]]\nname = \"count\"\nstart = [5]\nlinear = [3, 1]\n";
-    let report = "f=0 u=0 cfg=01234 clk=0 in=- out=0010 bad=-\n\
-        f=0 u=1 cfg=01234 clk=0 in=- out=0010 bad=-\n\
-        f=0 u=2 cfg=01234 clk=0 in=- out=0010 bad=-\n\
-        f=0 u=3 cfg=01234 clk=0 in=- out=0010 bad=-\n\
-        f=0 u=4 cfg=01234 clk=0 in=- out=0010 bad=-\n\
-        f=0 skew=0 slack=1 margin=ok\n\
-        f=1 u=0 cfg=01234 clk=0 in=- out=0031 bad=-\n\
-        f=1 u=1 cfg=01234 clk=0 in=- out=0031 bad=-\n\
-        f=1 u=2 cfg=01234 clk=0 in=- out=0031 bad=-\n\
-        f=1 u=3 cfg=01234 clk=0 in=- out=0031 bad=-\n\
-        f=1 u=4 cfg=01234 clk=0 in=- out=0031 bad=-\n\
-        f=1 skew=0 slack=1 margin=ok\n\
-        end frames=2 cfg=01234 margin=ok\n";
-    let (status, sink) = call(rt.alloc(), &["run"], document.as_bytes(), 0, 0)?;
-    assert_eq!(rt; status, 0);
-    assert_eq!(rt; sink.bytes.as_slice(), report.as_bytes());
+    let (status, _) = call(rt.alloc(), &["run"], b"units = \"\xff\"\n", 0, 0)?;
+    assert_eq!(rt; status, 3, "status of bytes that aren't UTF-8");
     Ok(())
 }
 
