@@ -1,5 +1,5 @@
 -- From what was read and flown to what is answered.
-use Rattle.std.proofs.Common.{◌≡◌, ◌↔◌, ℕ, ◌+◌, ◌*◌, List, [], ◌∷◌, length, get_or, map, Bool, true, IsTrue, String, Global, string_bytes, codes, Result, Ok, Err, IfOk, IfErr, Vec, ap, ◌∙◌, arith}
+use Rattle.std.proofs.Common.{◌≡◌, ◌↔◌, ℕ, ◌+◌, ◌*◌, List, [], ◌∷◌, length, get_or, Bool, IsTrue, String, Global, string_bytes, codes, Result, Ok, Err, IfOk, IfErr, Vec, ap, arith}
 use Rattle.std.proofs.lemmas.Bool.Decides.{Decides-eqb}
 use Rattle.std.proofs.lemmas.Slice.Eq.{slice_eq-Decides}
 use Rattle.std.proofs.lemmas.Option.{get_or_from_slice_get}
@@ -7,7 +7,7 @@ use Rattle.sift_core.specs.Flight.{IsIdealFlight, words_of}
 use Rattle.sift_run.proofs.ReportLemmas.{faultless_report-same}
 use Rattle.sift_run.specs.Flight.{outputs_of}
 use Rattle.sift_run.specs.Report.{faultless_report, report_text}
-use Rattle.sift_run.specs.Answer.{Input, IsCommandLine, IsInput, IsRefused, IsReported, States, mission_report}
+use Rattle.sift_run.specs.Answer.{Input, IsCommandLine, IsInput, IsReported, States, mission_report}
 use Rattle.sift_run.specs.Stop.{IsStopped, StopsAt}
 use Rattle.sift_run.specs.declared.answer.Stop.{Stop}
 use Rattle.sift_run.specs.declared.answer.Stop.TheVariants.{Refused, NoMemory}

@@ -1,11 +1,11 @@
 -- A whole answer, from what was asked for and what was written.
-use Rattle.std.proofs.Common.{◌≡◌, ◌≢◌, ◌<◌, ◌≤◌, ◌+◌, ◌⊎◌, inl, inr, ℕ, ◌==◌, cond, List, [], ◌∷◌, ◌++◌, length, get_or, lit<, Contains, Option, Some, None, String, Global, refl, sym, ◌∙◌, ap, subst, arith}
+use Rattle.std.proofs.Common.{◌≡◌, ◌≢◌, ◌<◌, ◌≤◌, ◌+◌, ◌⊎◌, inl, inr, ℕ, ◌==◌, cond, List, length, lit<, Contains, Option, Some, None, String, Global, refl, sym, ◌∙◌, ap, subst, arith}
 use Rattle.std.proofs.lemmas.List.{append-nil, length-append}
 use Rattle.std.specs.Io.KnownBytes.{Consumes, IsAtEnd}
 use Rattle.toml.specs.Data.{Members}
 use Rattle.sift_io.specs.Fault.{Rose}
 use Rattle.sift_io.specs.Reading.{TakesExactly}
-use Rattle.sift_run.specs.Answer.{Cuts, Input, IsAnswered, IsCommandLine, IsDocument, IsDue, IsInput, IsOwed, IsRefused, IsReported, Output, Says, States, Writes, document_limit, line_of, status_of, statuses}
+use Rattle.sift_run.specs.Answer.{Input, IsAnswered, IsCommandLine, IsDocument, IsInput, IsOwed, IsRefused, IsReported, Output, Says, States, Writes, document_limit, line_of, status_of, statuses}
 use Rattle.sift_run.specs.Document.{IsMission}
 use Rattle.sift_run.specs.declared.mission.Mission.{Mission}
 use Rattle.sift_run.specs.declared.refusal.Refusal.{Refusal}

@@ -1,7 +1,7 @@
 -- What a mission document says, over the tree that `toml` reads.
-use Rattle.std.specs.Prelude.{codes, ℕ, ◌≡◌, ℤ, pos, negsuc, int_le, nat_le, ◌&&◌, List, [], ◌∷◌, if◌then◌else◌, Option, Some, None, option_and_then}
+use Rattle.std.specs.Prelude.{codes, ℕ, ◌≡◌, pos, negsuc, int_le, nat_le, ◌&&◌, List, [], ◌∷◌, if◌then◌else◌, Option, Some, None, option_and_then}
 use Rattle.std.specs.List.{All, Contains}
-use Rattle.toml.specs.Data.{Data, string, integer, array, table, Items, no_items, item, Members, no_members, member, get_member, as_table}
+use Rattle.toml.specs.Data.{Data, string, integer, array, no_items, item, Members, no_members, member, get_member, as_table}
 use Rattle.sift_base.specs.Name.{IsName}
 use Rattle.sift_base.specs.Word.{word_of}
 use Rattle.sift_run.specs.declared.mission.LinearTask.{LinearTask}

@@ -1,5 +1,5 @@
 -- A report: its lines, and the text that they print as.
-use Rattle.std.specs.Prelude.{codes, ℕ, ◌+◌, ◌/◌, ◌%◌, ℤ, pos, List, [], ◌∷◌, ◌++◌, map, slice_index, Bool, true, false, Option, Some, None}
+use Rattle.std.specs.Prelude.{codes, ℕ, ◌/◌, ◌%◌, ℤ, pos, List, [], ◌∷◌, ◌++◌, map, slice_index, Bool, true, false, Option, Some, None}
 use Rattle.std.specs.Fmt.{decimal, signed_decimal}
 use Rattle.std.specs.List.{flat_map, range_with_len}
 

@@ -1,4 +1,4 @@
-use Rattle.std.proofs.Common.{◌∙◌, rules}
+use Rattle.std.proofs.Common.{◌∙◌}
 use Rattle.std.proofs.lemmas.Result.{IfOk-weaker}
 use Rattle.sift_run.proofs.AnswerLemmas.{ideal_report}
 use Rattle.sift_run.proofs.answer.report_on.Goals as goal

@@ -1,4 +1,4 @@
-use Rattle.std.proofs.Common.{◌∙◌, List, map, ℕ, Bor, String, Global, refl, string_bytes}
+use Rattle.std.proofs.Common.{◌∙◌, List, map, ℕ, String, Global, refl, string_bytes}
 use Rattle.std.specs.List.{Contains}
 use Rattle.std.specs.Map.Iter.{deref}
 use Rattle.std.proofs.lemmas.List.Elements.{All-map, All-push}

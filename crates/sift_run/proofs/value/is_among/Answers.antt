@@ -1,4 +1,4 @@
-use Rattle.std.proofs.Common.{refl, below_more, arith, ◌<◌, ℕ, length}
+use Rattle.std.proofs.Common.{refl, below_more, arith}
 use Rattle.sift_run.proofs.DocumentLemmas.{among-here, among-other, among-none}
 use Rattle.sift_run.proofs.value.is_among.Goals as goal
 
