@@ -43,7 +43,7 @@ pub stopped_from :
     → IsCommandLine words → bytes ≡ all → IsInput input all
     → IfErr result (StopsAt bytes) → IfErr result (IsStopped words input)
 stopped_from words input bytes all (Ok text) command same read stopped = tt
-stopped_from words input bytes all (Err NoMemory) command same read stopped = command
+stopped_from words input bytes all (Err NoMemory) command same read stopped = (command, (all, read.0, read.2))
 stopped_from words input bytes all (Err (Refused NotADocument)) command same read stopped = (command, bytes, rw same read, stopped)
 stopped_from words input bytes all (Err (Refused AnotherForm)) command same read stopped =
     (command, bytes, rw same read, stopped.0, stopped.1, stopped.2)

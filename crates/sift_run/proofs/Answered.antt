@@ -5,7 +5,7 @@ use Rattle.std.specs.Io.KnownBytes.{Consumes, IsAtEnd}
 use Rattle.toml.specs.Data.{Members}
 use Rattle.sift_io.specs.Fault.{Rose}
 use Rattle.sift_io.specs.Reading.{TakesExactly}
-use Rattle.sift_run.specs.Answer.{Input, IsAnswered, IsCommandLine, IsDocument, IsInput, IsOwed, IsRefused, IsReported, Output, Says, States, Writes, document_limit, line_of, status_of, statuses}
+use Rattle.sift_run.specs.Answer.{Input, IsAnswered, IsBegun, IsCommandLine, IsDocument, IsInput, IsOwed, IsRefused, IsReported, Output, Says, States, Writes, document_limit, line_of, status_of, statuses}
 use Rattle.sift_run.specs.Document.{IsMission}
 use Rattle.sift_run.specs.declared.mission.Mission.{Mission}
 use Rattle.sift_run.specs.declared.refusal.Refusal.{Refusal}
@@ -223,14 +223,14 @@ from_refusal words input output came status here (inr cuts) = record {
 -- memory was wanting
 pub from_no_memory :
     (words : List (String Global)) (input : Input) (output : Output)
-    → IsCommandLine words → IsAnswered words input output 10
-from_no_memory words input output command = record {
+    → IsCommandLine words × IsBegun input → IsAnswered words input output 10
+from_no_memory words input output stopped = record {
   known = (6, lit< tt, refl);
   reported = λ e. cc;
   refused = λ refusal e. absurd ((status_of-other refusal).2 (sym e));
   cut = λ e. cc;
-  no_memory = λ _. command;
-  usage = λ other. absurd (other command);
+  no_memory = λ _. stopped;
+  usage = λ other. absurd (other stopped.0);
   owed = λ bytes refusal told due. (3, lit< tt, refl);
   complete = λ bytes mission told command' short states calm_source calm_sink. (1, lit< tt, refl);
 }

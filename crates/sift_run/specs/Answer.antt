@@ -6,7 +6,7 @@ use Rattle.toml.specs.Data.{Members}
 use Rattle.toml.specs.Parse.{parse_document}
 use Rattle.sift_core.specs.Ideal.{ideal_word}
 use Rattle.sift_io.specs.Fault.{Rose}
-use Rattle.sift_io.specs.Reading.{TakesAll, TakesExactly}
+use Rattle.sift_io.specs.Reading.{TakesAll, TakesAtMost, TakesExactly}
 use Rattle.sift_io.specs.Writing.{AddsPrefix}
 use Rattle.sift_run.specs.Document.{IsMission}
 use Rattle.sift_run.specs.Report.{faultless_report, report_text}
@@ -40,6 +40,10 @@ input left left' faults faults' =
 -- the input is these bytes, which were read to their end
 abbrev pub IsInput : Input → List ℕ → Type 0
 IsInput input bytes = TakesAll input.left_before input.left_after bytes document_limit
+
+-- the input was read, but not past what a document may have
+abbrev pub IsBegun : Input → Type 0
+IsBegun input = TakesAtMost input.left_before input.left_after document_limit
 
 -- the bytes are a document, and this is its tree
 abbrev pub IsDocument : List ℕ → Members → Type 0
@@ -84,7 +88,7 @@ line_of TooLong = codes "too long\n"
 -- what stands where a refusal came
 abbrev pub IsRefused : List (String Global) → Input → Refusal → Type 0
 IsRefused words input Usage = ¬ IsCommandLine words
-IsRefused words input ReadFault = IsCommandLine words × Rose input.faults_before input.faults_after
+IsRefused words input ReadFault = IsCommandLine words × Rose input.faults_before input.faults_after × IsBegun input
 IsRefused words input TooLong = IsCommandLine words × TakesExactly input.left_before input.left_after (document_limit + 1)
 IsRefused words input NotADocument = IsCommandLine words
     × (bytes : List ℕ) × IsInput input bytes × ((document : Members) → ¬ IsDocument bytes document)
@@ -153,7 +157,7 @@ pub record IsAnswered (words : List (String Global)) (input : Input) (output : O
   -- the sink failed within the text that was due
   pub cut : status ≡ SINK_FAULT → (text : List ℕ) × IsDue words input text × Cuts output text
   -- memory was wanting, and the words were a command line
-  pub no_memory : status ≡ NO_MEMORY → IsCommandLine words
+  pub no_memory : status ≡ NO_MEMORY → IsCommandLine words × IsBegun input
   -- no command line gets its refusal, or a fault of the sink
   pub usage : ¬ IsCommandLine words → Contains (status_of Usage ∷ SINK_FAULT ∷ []) status
   -- an input that is owed a refusal gets it, or a fault or want of memory comes in between

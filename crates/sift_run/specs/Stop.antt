@@ -2,7 +2,7 @@
 use Rattle.std.specs.Prelude.{ℕ, List, String, ⊤}
 use Rattle.std.specs.declared.alloc.Global.{Global}
 use Rattle.toml.specs.Data.{Members}
-use Rattle.sift_run.specs.Answer.{Input, IsCommandLine, IsDocument, IsRefused}
+use Rattle.sift_run.specs.Answer.{Input, IsBegun, IsCommandLine, IsDocument, IsRefused}
 use Rattle.sift_run.specs.Document.{IsMission}
 use Rattle.sift_run.specs.declared.answer.Stop.{Stop}
 use Rattle.sift_run.specs.declared.answer.Stop.TheVariants.{Refused, NoMemory}
@@ -12,7 +12,7 @@ use Rattle.sift_run.specs.declared.refusal.Refusal.TheVariants.{Usage, ReadFault
 -- what stands where there is no report
 abbrev pub IsStopped : List (String Global) → Input → Stop → Type 0
 IsStopped words input (Refused refusal) = IsRefused words input refusal
-IsStopped words input NoMemory = IsCommandLine words
+IsStopped words input NoMemory = IsCommandLine words × IsBegun input
 
 -- what stands where there is no report on these bytes
 abbrev pub StopsAt : List ℕ → Stop → Type 0
