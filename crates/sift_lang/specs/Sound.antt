@@ -108,3 +108,7 @@ abbrev mutual
   pub EachTerm : (Term → Type 0) → Block → Type 0
   EachTerm P end = Unit {0}
   EachTerm P (step statement rest) = EachTermOf P statement × EachTerm P rest
+
+-- each word that the task reads by `now` is one of the first so many
+abbrev pub AllNowsBelow : ℕ → TaskTree → Type 0
+AllNowsBelow made task = EachTerm (NowsBelow made) task.body

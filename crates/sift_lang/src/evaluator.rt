@@ -1,8 +1,8 @@
-ghost use Rattle.std.specs.Prelude.{◌≡◌, ℕ, ◌<◌, ◌≤◌, length, replicate, [], IsTrue};
+ghost use Rattle.std.specs.Prelude.{◌≡◌, ℕ, ◌≤◌, length, replicate, []};
 ghost use Rattle.arrayvec.specs.ArrayVec.{array_vec_len};
 ghost use Rattle.sift_lang.specs.Tree.{term_of, statement_of, block_of, tree_of};
 ghost use Rattle.sift_lang.specs.Meaning.{operation, value_of, after, after_all, scoped, meaning};
-ghost use Rattle.sift_lang.specs.Sound.{Bounds, NamesWithin, IsSoundStatement, IsSoundBlock, IsSound, NowsBelow, EachTerm, EachTermOf, locals_after};
+ghost use Rattle.sift_lang.specs.Sound.{Bounds, NamesWithin, IsSoundStatement, IsSoundBlock, IsSound, NowsBelow, EachTerm, EachTermOf, AllNowsBelow};
 ghost use Rattle.sift_lang.specs.Frame.{readings_of, state_of, bounds_of};
 
 use crate::tree::{Expr, LOCAL_LIMIT, OUTPUT_LIMIT, Op, Stmt, Task};
@@ -139,8 +139,9 @@ impl Frame {
 /// the frame before.
 pub fn eval(task: &Task, ins: &[Word], made: &[Word], last: &[Word]) -> ArrayVec<Word, OUTPUT_LIMIT>
     requires sound { IsSound (length ins.now) (length last.now) (tree_of task.now) }
-    requires nows { EachTerm (NowsBelow (length made.now)) (block_of task.now.body.items) }
-    ensures { result.items ≡ meaning (tree_of task.now) ins.now made.now last.now }
+    requires nows { AllNowsBelow (length made.now) (tree_of task.now) }
+    ensures means { result.items ≡ meaning (tree_of task.now) ins.now made.now last.now }
+    ensures outputs { array_vec_len result ≡ task.now.outputs }
 {
     let mut frame = Frame::new(task.outputs);
     frame.run_block(&task.body, &Readings { ins, made, last });

@@ -4,6 +4,8 @@
 #![tactic(auto)]
 
 mod evaluator;
+#[cfg(test)]
+mod tests;
 mod tree;
 
 pub use evaluator::eval;
