@@ -125,7 +125,9 @@ impl Frame {
     fn run_block(&mut self, block: &[Stmt], readings: &Readings)
         requires sound { IsSoundBlock (bounds_of readings.now self.old) (array_vec_len self.old.locals) (block_of block.now) }
         requires nows { EachTerm (NowsBelow (length readings.now.made.now)) (block_of block.now) }
-        ensures { state_of self.new ≡ scoped (after_all (block_of block.now) (readings_of readings.now)) (state_of self.old) }
+        ensures means { state_of self.new ≡ scoped (after_all (block_of block.now) (readings_of readings.now)) (state_of self.old) }
+        ensures locals { array_vec_len self.new.locals ≡ array_vec_len self.old.locals }
+        ensures outs { array_vec_len self.new.outs ≡ array_vec_len self.old.outs }
     {
         let depth = self.locals.len();
         for statement in block {
