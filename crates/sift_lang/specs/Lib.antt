@@ -1,0 +1,4 @@
+pub mod Frame
+pub mod Meaning
+pub mod Sound
+pub mod Tree
