@@ -1,0 +1,74 @@
+ghost use Rattle.std.specs.Prelude.{◌≡◌, ℕ, ◌+◌, ◌≤◌, List, length};
+ghost use Rattle.arrayvec.specs.ArrayVec.{array_vec_len};
+ghost use Rattle.sift_lang.specs.Tree.{tree_of};
+ghost use Rattle.sift_lang.specs.Sound.{IsSound, AllNowsBelow};
+ghost use Rattle.sift_program.specs.Program.{program_of};
+ghost use Rattle.sift_program.specs.Sound.{IsSoundProgram};
+ghost use Rattle.sift_program.specs.Ideal.{with_task, ideal_frame, words_before, ideal_words};
+
+use crate::program::{Program, WORD_LIMIT};
+use arrayvec::ArrayVec;
+use sift_base::Word;
+use sift_lang::{Task, eval};
+use std::marker::Model;
+
+/// The ideal machine. A clause sees it as its words, in the order of their numbers.
+#[derive(Drop)]
+pub struct Ideal {
+    words: ArrayVec<Word, WORD_LIMIT>,
+}
+
+impl Model for Ideal {
+    ghost Value = { List ℕ };
+
+    ghost view = { λ ideal. ideal.words.items };
+}
+
+impl Ideal {
+    /// The machine before frame 0.
+    pub fn start(program: &Program) -> Ideal
+        requires { (sensors : ℕ) × IsSoundProgram sensors (program_of program.now) }
+        ensures { result ≡ program.now.starts.items }
+    {
+        let mut words = ArrayVec::new();
+        words.try_extend_from_slice(&program.starts).unwrap();
+        Ideal { words }
+    }
+
+    /// Runs the next frame: each task once, over the agreed words of the sensors in that frame.
+    pub fn frame(&mut self, program: &Program, agreed: &[Word])
+        requires sound { IsSoundProgram (length agreed.now) (program_of program.now) }
+        requires a_start_each { length program.now.starts.items ≡ length self.old }
+        ensures ideal { self.new ≡ ideal_frame (program_of program.now) self.old agreed.now }
+        // Where the frames before f ran over their agreed words, this one is frame f.
+        ensures in_turn { (inputs : ℕ → List ℕ) (f : ℕ)
+            → self.old ≡ words_before (program_of program.now) inputs f
+            → agreed.now ≡ inputs f
+            → self.new ≡ ideal_words (program_of program.now) inputs f }
+        ensures as_many { length self.new ≡ length self.old }
+    {
+        let mut made = ArrayVec::new();
+        for task in &program.tasks {
+            run(task, agreed, &mut made, &self.words);
+        }
+        self.words = made;
+    }
+
+    /// The words of the frame that ran last, or the start words before frame 0.
+    pub fn outs(&self) -> &[Word]
+        ensures { result.now ≡ self.now }
+    {
+        &self.words
+    }
+}
+
+// Adds the words of the task to those that the tasks before it made in this frame.
+fn run(task: &Task, agreed: &[Word], made: &mut ArrayVec<Word, WORD_LIMIT>, last: &[Word])
+    requires sound { IsSound (length agreed.now) (length last.now) (tree_of task.now) }
+    requires nows { AllNowsBelow (array_vec_len made.old) (tree_of task.now) }
+    requires room { array_vec_len made.old + task.now.outputs ≤ WORD_LIMIT }
+    ensures { made.new.items ≡ with_task last.now agreed.now made.old.items (tree_of task.now) }
+{
+    let outs = eval(task, agreed, made, last);
+    made.try_extend_from_slice(&outs).unwrap();
+}

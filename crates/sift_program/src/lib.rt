@@ -1,0 +1,12 @@
+//! Programs of tasks, and the ideal machine, which runs a program with no copies, votes or faults.
+//!
+//! What the ideal machine computes is what a flight must compute.
+#![tactic(auto)]
+
+mod ideal;
+mod program;
+#[cfg(test)]
+mod tests;
+
+pub use ideal::Ideal;
+pub use program::{Program, TASK_LIMIT, WORD_LIMIT};

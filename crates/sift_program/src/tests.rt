@@ -1,0 +1,1 @@
+//! The ideal machine over programs made by hand.
