@@ -69,6 +69,14 @@ mutual
   adds-after_all end r s = record { adds = omega arith; outs_are = refl }
   adds-after_all (step statement rest) r s = adds-step statement s (after statement r s) _ (sizes-after statement r s) (adds-after_all rest r (after statement r s))
 
+-- after one more statement, a block has still only added locals
+pub adds-more : (statement : Statement) (r : Readings) (s t u : State) → OnlyAddsLocals s t → u ≡ after statement r t → OnlyAddsLocals s u
+adds-more statement r s t u only is =
+    let sizes = sizes-after statement r t in
+    let grows = le-locals_after (length t.locals) statement in
+    let more : OnlyAddsLocals s (after statement r t) = record { adds = omega (arith, grows, sizes.locals_are, only.adds); outs_are = sizes.outs_are ∙ only.outs_are } in
+    rw is more
+
 -- a task has as many output words as it says
 pub length-meaning : (task : TaskTree) (ins made last : List ℕ) → length (meaning task ins made last) ≡ task.outputs
 length-meaning task ins made last = (adds-after_all task.body _ _).outs_are ∙ length-replicate task.outputs 0

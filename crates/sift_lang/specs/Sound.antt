@@ -14,8 +14,8 @@ need (minus t) = need t + 1
 need (binary op t u) = max (need t) (need u + 1)
 need (middle t u v) = max (need t) (max (need u + 1) (need v + 2))
 
--- the most `repeat`s that are open at once in a statement, and in a block
 abbrev mutual
+  -- the most `repeat`s that are open at once in a statement
   pub open_repeats : Statement → ℕ
   open_repeats (bind t) = 0
   open_repeats (assign l t) = 0
@@ -24,6 +24,7 @@ abbrev mutual
   open_repeats (choose_else t first second) = max (open_repeats_in first) (open_repeats_in second)
   open_repeats (repeat k body) = open_repeats_in body + 1
 
+  -- the most that are open at once in a block
   pub open_repeats_in : Block → ℕ
   open_repeats_in end = 0
   open_repeats_in (step statement rest) = max (open_repeats statement) (open_repeats_in rest)
@@ -45,8 +46,10 @@ NamesWithin sensors words locals (sense x) = x < sensors
 NamesWithin sensors words locals (this_frame w) = w < words
 NamesWithin sensors words locals (last_frame w) = w < words
 NamesWithin sensors words locals (minus t) = NamesWithin sensors words locals t
-NamesWithin sensors words locals (binary op t u) = NamesWithin sensors words locals t × NamesWithin sensors words locals u
-NamesWithin sensors words locals (middle t u v) = NamesWithin sensors words locals t × NamesWithin sensors words locals u × NamesWithin sensors words locals v
+NamesWithin sensors words locals (binary op t u) =
+    NamesWithin sensors words locals t × NamesWithin sensors words locals u
+NamesWithin sensors words locals (middle t u v) =
+    NamesWithin sensors words locals t × NamesWithin sensors words locals u × NamesWithin sensors words locals v
 
 -- how many sensors, voted words and output words there are
 pub record Bounds : Type 0 where
@@ -66,20 +69,22 @@ abbrev mutual
   IsSoundStatement b locals (assign l t) = IsSoundTerm b locals t × (l < locals)
   IsSoundStatement b locals (output j t) = IsSoundTerm b locals t × (j < b.outputs)
   IsSoundStatement b locals (choose t first) = IsSoundTerm b locals t × IsSoundBlock b locals first
-  IsSoundStatement b locals (choose_else t first second) = IsSoundTerm b locals t × IsSoundBlock b locals first × IsSoundBlock b locals second
+  IsSoundStatement b locals (choose_else t first second) =
+      IsSoundTerm b locals t × IsSoundBlock b locals first × IsSoundBlock b locals second
   IsSoundStatement b locals (repeat k body) = (k ≤ ROUND_LIMIT) × IsSoundBlock b locals body
 
   -- each statement of the block is sound in its place
   pub IsSoundBlock : Bounds → ℕ → Block → Type 0
   IsSoundBlock b locals end = Unit {0}
-  IsSoundBlock b locals (step statement rest) = IsSoundStatement b locals statement × IsSoundBlock b (locals_after locals statement) rest
+  IsSoundBlock b locals (step statement rest) =
+      IsSoundStatement b locals statement × IsSoundBlock b (locals_after locals statement) rest
 
 -- the task is sound for so many sensors and so many voted words
 pub record IsSound (sensors words : ℕ) (task : TaskTree) : Type 0 where
   pub some_output : 0 < task.outputs
   pub few_outputs : task.outputs ≤ OUTPUT_LIMIT
   pub few_repeats : open_repeats_in task.body ≤ REPEAT_LIMIT
-  pub body : IsSoundBlock (record { sensors = sensors; words = words; outputs = task.outputs }) 0 task.body
+  pub sound_body : IsSoundBlock (record { sensors = sensors; words = words; outputs = task.outputs }) 0 task.body
 
 -- ---- words voted in this frame
 

@@ -39,7 +39,9 @@ impl Op {
 }
 
 fn value(e: &Expr, readings: &Readings, locals: &[Word]) -> Word
-    requires names { NamesWithin (length readings.now.ins.now) (length readings.now.last.now) (length locals.now) (term_of e.now) }
+    requires names { let sensors = length readings.now.ins.now in
+        let words = length readings.now.last.now in
+        NamesWithin sensors words (length locals.now) (term_of e.now) }
     requires nows { NowsBelow (length readings.now.made.now) (term_of e.now) }
     ensures { result ≡ value_of (term_of e.now) (readings_of readings.now) locals.now }
 {
@@ -87,9 +89,12 @@ impl Frame {
 
     #[cycle(run)]
     fn run(&mut self, statement: &Stmt, readings: &Readings)
-        requires sound { IsSoundStatement (bounds_of readings.now self.old) (array_vec_len self.old.locals) (statement_of statement.now) }
-        requires nows { EachTermOf (NowsBelow (length readings.now.made.now)) (statement_of statement.now) }
-        ensures { state_of self.new ≡ after (statement_of statement.now) (readings_of readings.now) (state_of self.old) }
+        requires sound { let locals = array_vec_len self.old.locals in
+            IsSoundStatement (bounds_of readings.now self.old) locals (statement_of statement.now) }
+        requires nows { let made = length readings.now.made.now in
+            EachTermOf (NowsBelow made) (statement_of statement.now) }
+        ensures { let readings = readings_of readings.now in
+            state_of self.new ≡ after (statement_of statement.now) readings (state_of self.old) }
     {
         match statement {
             Stmt::Let(e) => {
@@ -123,9 +128,14 @@ impl Frame {
     // Runs the statements in turn. The locals that they add end with the block.
     #[cycle(run)]
     fn run_block(&mut self, block: &[Stmt], readings: &Readings)
-        requires sound { IsSoundBlock (bounds_of readings.now self.old) (array_vec_len self.old.locals) (block_of block.now) }
-        requires nows { EachTerm (NowsBelow (length readings.now.made.now)) (block_of block.now) }
-        ensures { state_of self.new ≡ scoped (after_all (block_of block.now) (readings_of readings.now)) (state_of self.old) }
+        requires sound { let locals = array_vec_len self.old.locals in
+            IsSoundBlock (bounds_of readings.now self.old) locals (block_of block.now) }
+        requires nows { let made = length readings.now.made.now in
+            EachTerm (NowsBelow made) (block_of block.now) }
+        ensures means { let run = after_all (block_of block.now) (readings_of readings.now) in
+            state_of self.new ≡ scoped run (state_of self.old) }
+        ensures locals { array_vec_len self.new.locals ≡ array_vec_len self.old.locals }
+        ensures outs { array_vec_len self.new.outs ≡ array_vec_len self.old.outs }
     {
         let depth = self.locals.len();
         for statement in block {

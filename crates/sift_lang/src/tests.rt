@@ -1,172 +1,16 @@
 //! The meaning and soundness of trees made by hand.
-ghost use Rattle.std.specs.Prelude.{◌≡◌, ℕ, ◌≤◌, ◌↔◌, length, IsTrue, IsSome, IfSome};
-ghost use Rattle.sift_lang.specs.Tree.{term_of, statement_of, block_of, tree_of};
-ghost use Rattle.sift_lang.specs.Meaning.{meaning};
-ghost use Rattle.sift_lang.specs.Sound.{need, open_repeats, open_repeats_in, locals_after, NamesWithin, IsSoundTerm, IsSoundStatement, IsSoundBlock, IsSound, NowsBelow, EachTerm, EachTermOf, AllNowsBelow};
 
-use crate::eval;
-use crate::tree::{
-    Expr, LOCAL_LIMIT, NEED_LIMIT, OUTPUT_LIMIT, Op, REPEAT_LIMIT, ROUND_LIMIT, Stmt, Task,
-};
-use arrayvec::ArrayVec;
+mod decision;
+
+use crate::tree::{Expr, Op, Stmt, Task};
+use decision::evaluated;
 use sift_base::{NoMemory, Word};
 use std::alloc::Global;
 use std::process::Abort;
 use std::test::Fail;
 
-fn names_within(e: &Expr, sensors: usize, words: usize, locals: usize) -> bool
-    ensures { IsTrue result ↔ NamesWithin sensors words locals (term_of e.now) }
-{
-    match e {
-        Expr::Number(_) => true,
-        Expr::Local(l) => (*l as usize) < locals,
-        Expr::Sense(x) => (*x as usize) < sensors,
-        Expr::Now(w) | Expr::Last(w) => (*w as usize) < words,
-        Expr::Minus(e) => names_within(e, sensors, words, locals),
-        Expr::Binary(_, a, b) => {
-            names_within(a, sensors, words, locals) && names_within(b, sensors, words, locals)
-        }
-        Expr::Mid(a, b, c) => {
-            names_within(a, sensors, words, locals)
-                && names_within(b, sensors, words, locals)
-                && names_within(c, sensors, words, locals)
-        }
-    }
-}
-
-fn needs_at_most(e: &Expr, room: usize) -> bool
-    ensures { IsTrue result ↔ (need (term_of e.now) ≤ room) }
-{
-    match e {
-        Expr::Minus(e) => 1 <= room && needs_at_most(e, room - 1),
-        Expr::Binary(_, a, b) => 1 <= room && needs_at_most(a, room) && needs_at_most(b, room - 1),
-        Expr::Mid(a, b, c) => {
-            2 <= room
-                && needs_at_most(a, room)
-                && needs_at_most(b, room - 1)
-                && needs_at_most(c, room - 2)
-        }
-        _ => 1 <= room,
-    }
-}
-
-fn nows_below(e: &Expr, made: usize) -> bool
-    ensures { IsTrue result ↔ NowsBelow made (term_of e.now) }
-{
-    match e {
-        Expr::Now(w) => (*w as usize) < made,
-        Expr::Minus(e) => nows_below(e, made),
-        Expr::Binary(_, a, b) => nows_below(a, made) && nows_below(b, made),
-        Expr::Mid(a, b, c) => nows_below(a, made) && nows_below(b, made) && nows_below(c, made),
-        _ => true,
-    }
-}
-
-/// What a tree may name.
-#[derive(Clone, Copy)]
-struct Bounds {
-    sensors: usize,
-    words: usize,
-    made: usize,
-    outputs: usize,
-}
-
-fn is_sound_term(e: &Expr, b: &Bounds, locals: usize) -> bool
-    ensures { IsTrue result
-        ↔ IsSoundTerm (record { sensors = b.now.sensors; words = b.now.words; outputs = b.now.outputs }) locals (term_of e.now) × NowsBelow b.now.made (term_of e.now) }
-{
-    names_within(e, b.sensors, b.words, locals)
-        && needs_at_most(e, NEED_LIMIT)
-        && nows_below(e, b.made)
-}
-
-#[cycle(sound)]
-fn is_sound_statement(s: &Stmt, b: &Bounds, locals: usize, repeats: usize) -> bool
-    requires { locals ≤ LOCAL_LIMIT }
-    ensures { IsTrue result
-        ↔ IsSoundStatement (record { sensors = b.now.sensors; words = b.now.words; outputs = b.now.outputs }) locals (statement_of s.now)
-        × (open_repeats (statement_of s.now) ≤ repeats)
-        × EachTermOf (NowsBelow b.now.made) (statement_of s.now) }
-{
-    match s {
-        Stmt::Let(e) => locals < LOCAL_LIMIT && is_sound_term(e, b, locals),
-        Stmt::Set(l, e) => (*l as usize) < locals && is_sound_term(e, b, locals),
-        Stmt::Output(j, e) => (*j as usize) < b.outputs && is_sound_term(e, b, locals),
-        Stmt::If(e, first, second) => match second {
-            None => is_sound_term(e, b, locals) && is_sound_block(first, b, locals, repeats),
-            Some(second) => {
-                is_sound_term(e, b, locals)
-                    && (is_sound_block(first, b, locals, repeats)
-                        && is_sound_block(second, b, locals, repeats))
-            }
-        },
-        Stmt::Repeat(rounds, body) => {
-            1 <= repeats && (*rounds <= ROUND_LIMIT && is_sound_block(body, b, locals, repeats - 1))
-        }
-    }
-}
-
-fn locals_after(s: &Stmt, locals: usize) -> usize
-    requires { locals ≤ LOCAL_LIMIT }
-    ensures { result ≡ locals_after locals (statement_of s.now) }
-{
-    match s {
-        Stmt::Let(_) => locals + 1,
-        _ => locals,
-    }
-}
-
-#[cycle(sound)]
-fn is_sound_block(block: &[Stmt], b: &Bounds, mut locals: usize, repeats: usize) -> bool
-    requires { locals ≤ LOCAL_LIMIT }
-    ensures { IsTrue result
-        ↔ IsSoundBlock (record { sensors = b.now.sensors; words = b.now.words; outputs = b.now.outputs }) locals (block_of block.now)
-        × (open_repeats_in (block_of block.now) ≤ repeats)
-        × EachTerm (NowsBelow b.now.made) (block_of block.now) }
-{
-    for s in block {
-        if !is_sound_statement(s, b, locals, repeats) {
-            return false;
-        }
-        locals = locals_after(s, locals);
-    }
-    true
-}
-
-fn is_sound(task: &Task, sensors: usize, words: usize, made: usize) -> bool
-    ensures { IsTrue result
-        ↔ IsSound sensors words (tree_of task.now) × AllNowsBelow made (tree_of task.now) }
-{
-    let outputs = task.outputs as usize;
-    let b = Bounds {
-        sensors,
-        words,
-        made,
-        outputs,
-    };
-    1 <= outputs && (outputs <= OUTPUT_LIMIT && is_sound_block(&task.body, &b, 0, REPEAT_LIMIT))
-}
-
-/// The output words, or None where the task is not sound.
-fn evaluated(
-    task: &Task,
-    ins: &[Word],
-    made: &[Word],
-    last: &[Word],
-) -> Option<ArrayVec<Word, OUTPUT_LIMIT>>
-    ensures sound { IsSome result
-        ↔ IsSound (length ins.now) (length last.now) (tree_of task.now) × AllNowsBelow (length made.now) (tree_of task.now) }
-    ensures means { IfSome result (λ outs. outs.items ≡ meaning (tree_of task.now) ins.now made.now last.now) }
-{
-    if is_sound(task, ins.len(), last.len(), made.len()) {
-        Some(eval(task, ins, made, last))
-    } else {
-        None
-    }
-}
-
-/// Evaluates the task over fixed readings: sensors 10 and -2, 5 as voted in this frame, 7 and 8 as voted before.
-fn expect(rt: &impl Abort, task: &Task, want: Option<&[u16]>, row: &str) {
+/// Evaluates the task where the sensors are 10 and -2, 5 is voted in this frame, and 7 and 8 were voted before.
+fn check(rt: &impl Abort, task: &Task, want: Option<&[u16]>, row: &str) {
     let ins = [Word::of(10), Word::of(0xfffe)];
     let made = [Word::of(5)];
     let last = [Word::of(7), Word::of(8)];
@@ -179,7 +23,7 @@ fn expect(rt: &impl Abort, task: &Task, want: Option<&[u16]>, row: &str) {
                 assert_eq!(rt; out.get(), *want, "{row}");
             }
         }
-        (got, _) => assert!(rt; false, "{row}: sound is {}", got.is_some()),
+        (got, _) => panic!(rt; "{row}: sound is {}", got.is_some()),
     }
 }
 
@@ -212,29 +56,29 @@ fn outputs(alloc: Global, e: Expr) -> Result<Task, NoMemory> {
 #[test]
 fn terms_have_their_values(rt: HostRuntime) -> Result<(), Fail> {
     let alloc = rt.alloc();
-    expect(&rt, &outputs(alloc, number(300))?, Some(&[300]), "300");
-    expect(
+    check(&rt, &outputs(alloc, number(300))?, Some(&[300]), "300");
+    check(
         &rt,
         &outputs(alloc, Expr::Sense(1))?,
         Some(&[0xfffe]),
         "sensor 1",
     );
-    expect(
+    check(
         &rt,
         &outputs(alloc, Expr::Now(0))?,
         Some(&[5]),
         "word 0 of this frame",
     );
-    expect(
+    check(
         &rt,
         &outputs(alloc, Expr::Last(1))?,
         Some(&[8]),
         "word 1 of the last frame",
     );
     let negative = minus(alloc, number(1))?;
-    expect(&rt, &outputs(alloc, negative)?, Some(&[0xffff]), "-1");
+    check(&rt, &outputs(alloc, negative)?, Some(&[0xffff]), "-1");
     let middle = mid(alloc, number(5), number(0xffff), number(0))?;
-    expect(&rt, &outputs(alloc, middle)?, Some(&[0]), "mid(5, -1, 0)");
+    check(&rt, &outputs(alloc, middle)?, Some(&[0]), "mid(5, -1, 0)");
     Ok(())
 }
 
@@ -257,7 +101,7 @@ fn operators_give_their_words(rt: HostRuntime) -> Result<(), Fail> {
     ];
     for (op, want, row) in cases {
         let e = binary(alloc, op, number(0xfff9), number(3))?;
-        expect(&rt, &outputs(alloc, e)?, Some(&[want]), row);
+        check(&rt, &outputs(alloc, e)?, Some(&[want]), row);
     }
     Ok(())
 }
@@ -280,15 +124,15 @@ fn plus(alloc: Global, e: Expr, n: u16) -> Result<Expr, NoMemory> {
 #[test]
 fn outputs_are_zero_until_set_and_the_last_wins(rt: HostRuntime) -> Result<(), Fail> {
     let alloc = rt.alloc();
-    expect(&rt, &task(alloc, 2, [])?, Some(&[0, 0]), "nothing is set");
+    check(&rt, &task(alloc, 2, [])?, Some(&[0, 0]), "nothing is set");
     let second = task(alloc, 2, [Stmt::Output(1, number(3))])?;
-    expect(&rt, &second, Some(&[0, 3]), "out 1 = 3;");
+    check(&rt, &second, Some(&[0, 3]), "out 1 = 3;");
     let twice = task(
         alloc,
         1,
         [Stmt::Output(0, number(1)), Stmt::Output(0, number(2))],
     )?;
-    expect(&rt, &twice, Some(&[2]), "out 0 = 1; out 0 = 2;");
+    check(&rt, &twice, Some(&[2]), "out 0 = 1; out 0 = 2;");
     Ok(())
 }
 
@@ -304,7 +148,7 @@ fn locals_end_with_their_block(rt: HostRuntime) -> Result<(), Fail> {
             Stmt::Output(0, Expr::Local(0)),
         ],
     )?;
-    expect(
+    check(
         &rt,
         &assigned,
         Some(&[4]),
@@ -328,7 +172,7 @@ fn locals_end_with_their_block(rt: HostRuntime) -> Result<(), Fail> {
             Stmt::Output(1, Expr::Local(0)),
         ],
     )?;
-    expect(
+    check(
         &rt,
         &hidden,
         Some(&[7, 1]),
@@ -345,7 +189,7 @@ fn locals_end_with_their_block(rt: HostRuntime) -> Result<(), Fail> {
             Stmt::Output(0, Expr::Local(0)),
         ],
     )?;
-    expect(
+    check(
         &rt,
         &outer,
         Some(&[2]),
@@ -361,7 +205,7 @@ fn locals_end_with_their_block(rt: HostRuntime) -> Result<(), Fail> {
             Stmt::Output(0, Expr::Local(0)),
         ],
     )?;
-    expect(&rt, &ended, None, "if 1 { let x = 2; } out 0 = x;");
+    check(&rt, &ended, None, "if 1 { let x = 2; } out 0 = x;");
     Ok(())
 }
 
@@ -382,7 +226,7 @@ fn an_if_takes_one_block(rt: HostRuntime) -> Result<(), Fail> {
             None
         };
         let choice = task(alloc, 2, [Stmt::If(number(word), first, second)])?;
-        expect(&rt, &choice, Some(&want), row);
+        check(&rt, &choice, Some(&want), row);
     }
     Ok(())
 }
@@ -415,7 +259,7 @@ fn a_repeat_begins_its_locals_anew(rt: HostRuntime) -> Result<(), Fail> {
                 Stmt::Output(0, Expr::Local(0)),
             ],
         )?;
-        expect(
+        check(
             &rt,
             &repeated,
             want.as_ref().map(|want| want.as_slice()),
@@ -435,33 +279,33 @@ fn a_sound_tree_names_what_is_there(rt: HostRuntime) -> Result<(), Fail> {
     ];
     for (count, want, row) in cases {
         let empty = task(alloc, count, [])?;
-        expect(&rt, &empty, want.as_ref().map(|want| want.as_slice()), row);
+        check(&rt, &empty, want.as_ref().map(|want| want.as_slice()), row);
     }
-    expect(&rt, &outputs(alloc, Expr::Sense(2))?, None, "no sensor 2");
-    expect(
+    check(&rt, &outputs(alloc, Expr::Sense(2))?, None, "no sensor 2");
+    check(
         &rt,
         &outputs(alloc, Expr::Now(1))?,
         None,
         "no word 1 of this frame yet",
     );
-    expect(
+    check(
         &rt,
         &outputs(alloc, Expr::Last(2))?,
         None,
         "no word 2 of the last frame",
     );
-    expect(&rt, &outputs(alloc, Expr::Local(0))?, None, "no local");
+    check(&rt, &outputs(alloc, Expr::Local(0))?, None, "no local");
     let negative = minus(alloc, Expr::Local(0))?;
-    expect(
+    check(
         &rt,
         &outputs(alloc, negative)?,
         None,
         "no local under a minus",
     );
     let assigned = task(alloc, 1, [Stmt::Set(0, number(1))])?;
-    expect(&rt, &assigned, None, "no local to set");
+    check(&rt, &assigned, None, "no local to set");
     let output = task(alloc, 1, [Stmt::Output(1, number(1))])?;
-    expect(&rt, &output, None, "no output word 1");
+    check(&rt, &output, None, "no output word 1");
     Ok(())
 }
 
@@ -504,24 +348,24 @@ fn chained_sum(alloc: Global, count: usize) -> Result<Expr, NoMemory> {
 #[test]
 fn a_sound_tree_keeps_its_limits(rt: HostRuntime) -> Result<(), Fail> {
     let alloc = rt.alloc();
-    expect(&rt, &with_locals(alloc, 32)?, Some(&[0]), "the most locals");
-    expect(&rt, &with_locals(alloc, 33)?, None, "too many locals");
-    expect(
+    check(&rt, &with_locals(alloc, 32)?, Some(&[0]), "the most locals");
+    check(&rt, &with_locals(alloc, 33)?, None, "too many locals");
+    check(
         &rt,
         &with_repeats(alloc, 32)?,
         Some(&[1]),
         "the most open repeats",
     );
-    expect(
+    check(
         &rt,
         &with_repeats(alloc, 33)?,
         None,
         "too many open repeats",
     );
     let most = outputs(alloc, nested_sum(alloc, 256)?)?;
-    expect(&rt, &most, Some(&[256]), "the greatest need");
+    check(&rt, &most, Some(&[256]), "the greatest need");
     let more = outputs(alloc, nested_sum(alloc, 257)?)?;
-    expect(&rt, &more, None, "too great a need");
+    check(&rt, &more, None, "too great a need");
     Ok(())
 }
 
@@ -529,6 +373,6 @@ fn a_sound_tree_keeps_its_limits(rt: HostRuntime) -> Result<(), Fail> {
 fn a_long_chain_of_operators_is_evaluated_and_dropped(rt: HostRuntime) -> Result<(), Fail> {
     let alloc = rt.alloc();
     let chain = outputs(alloc, chained_sum(alloc, 2001)?)?;
-    expect(&rt, &chain, Some(&[2001]), "2,000 additions");
+    check(&rt, &chain, Some(&[2001]), "2,000 additions");
     Ok(())
 }

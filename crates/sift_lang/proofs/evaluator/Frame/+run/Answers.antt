@@ -4,19 +4,17 @@ use Rattle.sift_lang.specs.declared.tree.Stmt.{the_lemmas}
 use Rattle.sift_lang.specs.Tree.{statement_of, block_of}
 use Rattle.sift_lang.specs.Meaning.{after_all, scoped}
 use Rattle.sift_lang.specs.Frame.{readings_of, state_of}
-use Rattle.sift_lang.proofs.States.{sizes-round, adds-after_all}
+use Rattle.sift_lang.proofs.States.{adds-more}
 use Rattle.sift_lang.proofs.Rounds.{times-less, block_of-drop, refill-set, IsSoundBlock-rest}
 use Rattle.sift_lang.proofs.evaluator.Frame.+run.Goals as goal
 
 pub run-loop-round-preserved : goal.run-loop-round-preserved
 run-loop-round-preserved t c =
-    let block = block_of c.in-Repeat.body.items in
-    let readings = readings_of c.args.readings.now in
-    let body = after_all block readings in
-    let ran : state_of c.run_block-in-loop-round.new.self ≡ scoped body (state_of c.loop-round.self) = rw c.deref-in-loop-round.ensures.value at c.run_block-in-loop-round.ensures in
+    let round = scoped (after_all (block_of c.in-Repeat.body.items) (readings_of c.args.readings.now)) in
+    let ran : state_of c.run_block-in-loop-round.new.self ≡ round (state_of c.loop-round.self) = rw c.deref-in-loop-round.ensures.value at c.run_block-in-loop-round.ensures.means in
     record {
-      left = times-less c.in-Repeat.rounds c.loop-round._round (scoped body) _ _ c.loop-round-test.true ran ∙ c.loop-round.invariant.left;
-      sizes = rw ran (sizes-round _ _ body _ c.loop-round.invariant.sizes (adds-after_all block readings _));
+      left = times-less _ c.loop-round._round round _ _ c.loop-round-test.true ran ∙ c.loop-round.invariant.left;
+      sizes = record { locals_are = c.run_block-in-loop-round.ensures.locals ∙ c.loop-round.invariant.sizes.locals_are; outs_are = c.run_block-in-loop-round.ensures.outs ∙ c.loop-round.invariant.sizes.outs_are };
     }
 
 pub run-returns-in-Set : goal.run-returns-in-Set
@@ -34,6 +32,7 @@ run_block-loop-statement-preserved t c =
     let front = block_of-drop c.args.block.now i statement c.loop-statement-test.true c.statement-item.is in
     record {
       left = ap (after_all rest readings) c.run.ensures ∙ (rw front at c.loop-statement.invariant.left);
+      sizes = adds-more (statement_of statement) readings _ _ _ c.loop-statement.invariant.sizes c.run.ensures;
       sound = IsSoundBlock-rest _ _ (statement_of statement) rest readings (state_of c.loop-statement.self) (state_of c.run.new.self) c.run.ensures (rw front at c.loop-statement.invariant.sound);
       nows = (rw front at c.loop-statement.invariant.nows).1;
     }

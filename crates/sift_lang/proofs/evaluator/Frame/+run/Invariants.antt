@@ -4,7 +4,7 @@ use Rattle.sift_lang.specs.Tree.{block_of}
 use Rattle.sift_lang.specs.Meaning.{after_all, scoped, times}
 use Rattle.sift_lang.specs.Sound.{IsSoundBlock, NowsBelow, EachTerm}
 use Rattle.sift_lang.specs.Frame.{readings_of, state_of, bounds_of}
-use Rattle.sift_lang.proofs.States.{HasSizes}
+use Rattle.sift_lang.proofs.States.{HasSizes, OnlyAddsLocals}
 use Rattle.sift_lang.proofs.evaluator.Frame.+run.Given as goal
 
 -- the rounds that are left lead where all of them lead from the start
@@ -22,6 +22,7 @@ invariant-run_block-loop-statement l =
     let rest = block_of (drop l.statement-index l.block) in
     record {
       left : after_all rest (readings_of l.readings) (state_of l.self) ≡ after_all (block_of l.block) (readings_of l.readings) (state_of l.initial.self);
+      sizes : OnlyAddsLocals (state_of l.initial.self) (state_of l.self);
       sound : IsSoundBlock (bounds_of l.readings l.self) (array_vec_len l.self.locals) rest;
       nows : EachTerm (NowsBelow (length l.readings.made.now)) rest;
     }

@@ -3,7 +3,7 @@ use Rattle.sift_lang.specs.declared.tree.TheConstants.{LOCAL_LIMIT}
 use Rattle.sift_lang.specs.Tree.{block_of}
 use Rattle.sift_lang.specs.Sound.{Bounds}
 use Rattle.sift_lang.proofs.Fits.{Fits}
-use Rattle.sift_lang.proofs.tests.+sound.Given as goal
+use Rattle.sift_lang.proofs.tests.decision.+sound.Given as goal
 
 -- the statements that are left are sound exactly where all of them are
 abbrev pub invariant-is_sound_block-loop-s : goal.invariant-is_sound_block-loop-s
