@@ -19,7 +19,8 @@ fn binary(alloc: Global, op: Op, a: Expr, b: Expr) -> Result<Expr, NoMemory>
 
 /// `out 0 = e;`, the only output word.
 fn sets(alloc: Global, e: Expr) -> Result<Task, NoMemory>
-    ensures { IfOk result (λ task. tree_of task ≡ record { outputs = 1; body = step (output 0 (term_of e)) end }) }
+    ensures { let body = step (output 0 (term_of e)) end in
+        IfOk result (λ task. tree_of task ≡ record { outputs = 1; body = body }) }
 {
     let body = vec![in alloc; Stmt::Output(0, e)]?;
     Ok(Task { outputs: 1, body })
@@ -27,14 +28,15 @@ fn sets(alloc: Global, e: Expr) -> Result<Task, NoMemory>
 
 /// `out 0 = a; out 1 = b;`
 fn sets_two(alloc: Global, a: Expr, b: Expr) -> Result<Task, NoMemory>
-    ensures { IfOk result (λ task. tree_of task
-        ≡ record { outputs = 2; body = step (output 0 (term_of a)) (step (output 1 (term_of b)) end) }) }
+    ensures { let body = step (output 0 (term_of a)) (step (output 1 (term_of b)) end) in
+        IfOk result (λ task. tree_of task ≡ record { outputs = 2; body = body }) }
 {
     let body = vec![in alloc; Stmt::Output(0, a), Stmt::Output(1, b)]?;
     Ok(Task { outputs: 2, body })
 }
 
-/// `count`, `out 0 = 3 * last count.0 + 1;`, and then `twice`, `out 0 = now count.0 * 2 + last twice.0;`.
+/// `count`: `out 0 = 3 * last count.0 + 1;`
+/// `twice`: `out 0 = now count.0 * 2 + last twice.0;`
 fn count_and_twice(alloc: Global) -> Result<Program, NoMemory>
     ensures { IfOk result (λ program. IsSoundProgram 1 (program_of program)) }
 {
@@ -48,7 +50,9 @@ fn count_and_twice(alloc: Global) -> Result<Program, NoMemory>
     })
 }
 
-/// `pair`, `out 0 = sense x; out 1 = last sum.0;`, then `sum`, `out 0 = now pair.0 + now pair.1;`, and then `delay`, `out 0 = last pair.1;`.
+/// `pair`: `out 0 = sense x; out 1 = last sum.0;`
+/// `sum`: `out 0 = now pair.0 + now pair.1;`
+/// `delay`: `out 0 = last pair.1;`
 fn pair_sum_and_delay(alloc: Global) -> Result<Program, NoMemory>
     ensures { IfOk result (λ program. IsSoundProgram 1 (program_of program)) }
 {
@@ -108,11 +112,19 @@ fn each_frame_follows_the_one_before(rt: HostRuntime) -> Result<(), Fail> {
 /// Programs that are not sound, each for one reason.
 fn unsound_programs()
     ensures no_task { ¬ IsSoundProgram 1 (record { tasks = []; starts = [] }) }
-    ensures too_many_tasks { (task : TaskTree) (starts : List ℕ) → ¬ IsSoundProgram 1 (record { tasks = replicate 25 task; starts = starts }) }
-    ensures start_missing { (body : Block) → ¬ IsSoundProgram 1 (record { tasks = record { outputs = 2; body = body } ∷ []; starts = 5 ∷ [] }) }
-    ensures too_many_words { (tasks : List TaskTree) → ¬ IsSoundProgram 1 (record { tasks = tasks; starts = replicate 65 0 }) }
-    ensures sensor_missing { ¬ IsSoundProgram 1 (record { tasks = record { outputs = 1; body = step (output 0 (sense 1)) end } ∷ []; starts = 5 ∷ [] }) }
-    ensures own_word_by_now { ¬ IsSoundProgram 1 (record { tasks = record { outputs = 1; body = step (output 0 (this_frame 0)) end } ∷ []; starts = 5 ∷ [] }) }
+    ensures too_many_tasks { (task : TaskTree) (starts : List ℕ)
+        → ¬ IsSoundProgram 1 (record { tasks = replicate 25 task; starts = starts }) }
+    ensures start_missing { (body : Block)
+        → let task : TaskTree = record { outputs = 2; body = body } in
+        ¬ IsSoundProgram 1 (record { tasks = task ∷ []; starts = 5 ∷ [] }) }
+    ensures too_many_words { (tasks : List TaskTree)
+        → ¬ IsSoundProgram 1 (record { tasks = tasks; starts = replicate 65 0 }) }
+    ensures sensor_missing { let body = step (output 0 (sense 1)) end in
+        let task : TaskTree = record { outputs = 1; body = body } in
+        ¬ IsSoundProgram 1 (record { tasks = task ∷ []; starts = 5 ∷ [] }) }
+    ensures own_word_by_now { let body = step (output 0 (this_frame 0)) end in
+        let task : TaskTree = record { outputs = 1; body = body } in
+        ¬ IsSoundProgram 1 (record { tasks = task ∷ []; starts = 5 ∷ [] }) }
 {}
 
 #[test]

@@ -5,7 +5,7 @@ use Rattle.sift_program.proofs.tests.unsound_programs.Goals as goal
 pub returns-clause-sensor_missing : goal.returns-clause-sensor_missing
 returns-clause-sensor_missing c =
     let other : TaskTree = record { outputs = 0; body = end } in
-    λ sound. absurd (omega (arith, (sound.tasks_sound 0 other (lit< tt)).body.0.0.names))
+    λ sound. absurd (omega (arith, (sound.tasks_sound 0 other (lit< tt)).sound_body.0.0.names))
 
 pub returns-clause-own_word_by_now : goal.returns-clause-own_word_by_now
 returns-clause-own_word_by_now c = λ sound. absurd (omega (arith, (sound.reads_earlier_words 0 _ refl).0))
