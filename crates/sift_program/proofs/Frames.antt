@@ -1,8 +1,7 @@
 -- What the tasks of a sound program need and make, one after the other.
-use Rattle.std.proofs.Common.{◌≡◌, ℕ, ◌+◌, ◌<◌, ◌≤◌, List, [], length, map, take, get_or, Some, slice_get, refl, sym, ap, ◌∙◌, arith}
+use Rattle.std.proofs.Common.{◌≡◌, ℕ, ◌+◌, ◌<◌, ◌≤◌, List, [], length, take, get_or, Some, slice_get, refl, sym, ap, ◌∙◌, arith}
 use Rattle.std.specs.Option.{option_map}
 use Rattle.std.proofs.lemmas.List.{length-append, take_all}
-use Rattle.std.proofs.lemmas.List.Elements.{All-get_or}
 use Rattle.std.proofs.lemmas.List.Folds.{fold_along}
 use Rattle.std.proofs.lemmas.List.Sums.{fold_more, sum_by_more_le}
 use Rattle.std.proofs.lemmas.Option.{slice_get-map, slice_get_within, slice_get_read, get_or_from_slice_get}
@@ -14,7 +13,7 @@ use Rattle.sift_lang.specs.Meaning.{meaning}
 use Rattle.sift_program.specs.declared.program.TheConstants.{WORD_LIMIT}
 use Rattle.sift_program.specs.declared.program.Program.{Program}
 use Rattle.sift_program.specs.Program.{ProgramTree, program_of}
-use Rattle.sift_program.specs.Sound.{output_count, first_word, IsSoundProgram}
+use Rattle.sift_program.specs.Sound.{output_count, IsSoundProgram}
 use Rattle.sift_program.specs.Ideal.{with_task, words_made}
 
 -- the tree of the task that a loop over the program's tasks has come to

@@ -4,7 +4,7 @@ ghost use Rattle.sift_lang.specs.Tree.{tree_of};
 ghost use Rattle.sift_lang.specs.Sound.{IsSound, AllNowsBelow};
 ghost use Rattle.sift_program.specs.Program.{program_of};
 ghost use Rattle.sift_program.specs.Sound.{IsSoundProgram};
-ghost use Rattle.sift_program.specs.Ideal.{with_task, ideal_frame, words_before, ideal_words};
+ghost use Rattle.sift_program.specs.Ideal.{with_task, ideal_frame, words_before, ideal_words, IdealFrameIsUnique};
 
 use crate::program::{Program, WORD_LIMIT};
 use arrayvec::ArrayVec;
@@ -72,3 +72,9 @@ fn run(task: &Task, agreed: &[Word], made: &mut ArrayVec<Word, WORD_LIMIT>, last
     let outs = eval(task, agreed, made, last);
     made.try_extend_from_slice(&outs).unwrap();
 }
+
+/// The words of a frame are the one list in which the words of each task are its meaning over that very list. So they
+/// can be told without running the tasks in turn.
+pub fn ideal_frame_is_unique()
+    ensures { IdealFrameIsUnique }
+{}

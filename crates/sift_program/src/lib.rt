@@ -8,5 +8,5 @@ mod program;
 #[cfg(test)]
 mod tests;
 
-pub use ideal::Ideal;
+pub use ideal::{Ideal, ideal_frame_is_unique};
 pub use program::{Program, TASK_LIMIT, WORD_LIMIT};

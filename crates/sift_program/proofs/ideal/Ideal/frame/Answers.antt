@@ -1,4 +1,4 @@
-use Rattle.std.proofs.Common.{◌≡◌, ◌≤◌, length, sym, ap, ◌∙◌, arith}
+use Rattle.std.proofs.Common.{◌≤◌, length, sym, ap, ◌∙◌, arith}
 use Rattle.std.proofs.lemmas.List.{length-map}
 use Rattle.sift_lang.specs.Tree.{tree_of}
 use Rattle.sift_program.specs.Program.{program_of}
@@ -25,4 +25,4 @@ loop-task-preserved c =
 pub returns-clause-as_many : goal.returns-clause-as_many
 returns-clause-as_many c =
     let past : length (program_of c.args.program.now).tasks ≤ c.loop-task.task-index = omega (arith, length-map c.args.program.now.tasks.items tree_of, ap length c.deref-task-items.ensures.value) in
-    length-frame _ (program_of c.args.program.now) c.loop-task.task-index _ c.self.inside.words.items c.args.agreed.now c.requires.sound past c.loop-task.invariant ∙ c.requires.a_start_each
+    cc (length-frame _ (program_of c.args.program.now) c.loop-task.task-index _ c.self.inside.words.items c.args.agreed.now c.requires.sound past c.loop-task.invariant, c.self.view_is)
