@@ -10,8 +10,8 @@ use Rattle.sift_pool.proofs.Pieces.{sum-cons}
 abbrev pub place : ℕ → ℕ → ℕ → Place
 place number start len = record { number = number; start = start; len = len }
 
-same_place : (m n s t len : ℕ) → m ≡ n → s ≡ t → place m s len ≡ place n t len
-same_place m n s t len numbers starts = cc
+pub same_place : (m n s t k l : ℕ) → m ≡ n → s ≡ t → k ≡ l → place m s k ≡ place n t l
+same_place m n s t k l numbers starts lens = cc
 
 pub length-places_from : (number start : ℕ) (ns : List ℕ) → length (places_from number start ns) ≡ length ns
 length-places_from number start [] = refl
@@ -25,18 +25,18 @@ take-places_from (suc k) number start (n ∷ ns) =
 
 pub places_from-push : (number start : ℕ) (ns : List ℕ) (n : ℕ) → places_from number start (ns ++ n ∷ []) ≡ places_from number start ns ++ place (number + length ns) (start + sum ns) n ∷ []
 places_from-push number start [] n =
-    ap (λ p. p ∷ []) (same_place _ _ _ _ n (omega arith) (omega arith))
+    ap (λ p. p ∷ []) (same_place _ _ _ _ n n (omega arith) (omega arith) refl)
 places_from-push number start (m ∷ ns) n =
     let rest = places_from-push (number + 1) (start + m) ns n in
     let later : place (number + 1 + length ns) (start + m + sum ns) n ≡ place (number + length (m ∷ ns)) (start + sum (m ∷ ns)) n =
-    same_place _ _ _ _ n (omega arith) (omega (arith, sum-cons m ns)) in
+    same_place _ _ _ _ n n (omega arith) (omega (arith, sum-cons m ns)) refl in
     cc
 
 -- the place of the span with this number
 pub slice_get-places_from : (k number start : ℕ) (ns : List ℕ) → k < length ns → slice_get (places_from number start ns) k ≡ Some (place (number + k) (start + sum (take k ns)) (get_or ns k 0))
 slice_get-places_from k number start [] there = absurd (omega arith)
 slice_get-places_from zero number start (n ∷ ns) there =
-    ap Some (same_place _ _ _ _ n (omega arith) (omega arith))
+    ap Some (same_place _ _ _ _ n n (omega arith) (omega arith) refl)
 slice_get-places_from (suc k) number start (n ∷ ns) there =
     slice_get-places_from k (number + 1) (start + n) ns (omega arith)
-    ∙ ap Some (same_place _ _ _ _ (get_or ns k 0) (omega arith) (omega (arith, sum-cons n (take k ns))))
+    ∙ ap Some (same_place _ _ _ _ _ _ (omega arith) (omega (arith, sum-cons n (take k ns))) refl)

@@ -1,5 +1,5 @@
 -- What a contract sees of a pool, a span and a mark.
-use Rattle.std.specs.Prelude.{◌≡◌, ◌≢◌, ℕ, ◌+◌, ◌-◌, ◌<◌, List, [], ◌∷◌, ◌++◌, length, take, sum_by, replicate, slice_index_or, slice_set}
+use Rattle.std.specs.Prelude.{◌≡◌, ◌≢◌, ℕ, ◌+◌, ◌-◌, ◌<◌, ◌↔◌, List, [], ◌∷◌, ◌++◌, length, take, sum_by, replicate, slice_index_or, slice_set}
 
 -- a pool: how many words fit into it, how many spans it has room for, and the words of each span
 pub record Region : Type 0 where
@@ -50,6 +50,10 @@ pub record IsLive (region : Region) (place : Place) : Type 0 where
 -- each span that was live is live still
 abbrev pub KeepsLive : Region → Region → Type 0
 KeepsLive old new = (place : Place) → IsLive old place → IsLive new place
+
+-- the spans that are live were live, and have a number below this one
+abbrev pub KeepsLiveBelow : ℕ → Region → Region → Type 0
+KeepsLiveBelow count old new = (place : Place) → IsLive new place ↔ (IsLive old place × (place.number < count))
 
 -- the new region has one more span, of zeros, and this is its place
 pub record Carves (old new : Region) (len : ℕ) (place : Place) : Type 0 where
