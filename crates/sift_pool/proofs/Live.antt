@@ -18,15 +18,15 @@ pub record IsAmong (lens : List ℕ) (p : Place) : Type 0 where
 start_of-map : (spans : List (List ℕ)) (n : ℕ) → sum_by length (take n spans) ≡ sum (take n (map length spans))
 start_of-map spans n = sym (sum-map length (take n spans)) ∙ ap sum (sym (take-map length n spans))
 
-pub among : (region : Region) (p : Place) → IsLive region p → IsAmong (map length region.spans) p
-among region p live = record {
+pub IsAmong-from_live : (region : Region) (p : Place) → IsLive region p → IsAmong (map length region.spans) p
+IsAmong-from_live region p live = record {
   present = omega (arith, live.present, length-map region.spans length);
   starts = live.starts ∙ start_of-map region.spans p.number;
   long = live.long ∙ sym (get_or-map length region.spans p.number [] 0 live.present);
 }
 
-pub live : (region : Region) (p : Place) → IsAmong (map length region.spans) p → IsLive region p
-live region p it =
+pub IsLive-from_among : (region : Region) (p : Place) → IsAmong (map length region.spans) p → IsLive region p
+IsLive-from_among region p it =
     let there : p.number < length region.spans = omega (arith, it.present, length-map region.spans length) in
     record {
       present = there;
@@ -38,7 +38,7 @@ live region p it =
 pub KeepsLive-same_lengths : (old new : Region) → map length new.spans ≡ map length old.spans → KeepsLive old new
 KeepsLive-same_lengths old new same p it =
     let M : List ℕ → Type 0 = λ lens. IsAmong lens p in
-    live new p (subst M (sym same) (among old p it))
+    IsLive-from_among new p (subst M (sym same) (IsAmong-from_live old p it))
 
 map-length-set : (spans : List (List ℕ)) (k : ℕ) (ws : List ℕ) → length ws ≡ length (get_or spans k []) → map length (set spans k ws) ≡ map length spans
 map-length-set [] k ws same = refl
@@ -59,8 +59,8 @@ KeepsLive-with_span region ws p it = record {
 }
 
 -- the span that was added is live
-pub live_newest : (region : Region) (ws : List ℕ) → IsLive (with_span region ws) (place (length region.spans) (sum_by length region.spans) (length ws))
-live_newest region ws = record {
+pub IsLive-newest : (region : Region) (ws : List ℕ) → IsLive (with_span region ws) (place (length region.spans) (sum_by length region.spans) (length ws))
+IsLive-newest region ws = record {
   present = omega (arith, length_push region.spans ws);
   starts = ap (sum_by length) (sym (take_at region.spans (ws ∷ []) (length region.spans) refl));
   long = ap length (sym (get_or_at region.spans ws [] [] (length region.spans) refl));
@@ -91,8 +91,8 @@ placed ns p it =
     slice_get-places_from p.number 0 0 ns it.present
     ∙ ap Some (same_place _ p.number _ p.start _ p.len (omega arith) (omega (arith, it.starts)) (sym it.long))
 
-pub among_places : (ns : List ℕ) (p : Place) → slice_get (places_from 0 0 ns) p.number ≡ Some p → IsAmong ns p
-among_places ns p found =
+pub IsAmong-from_placed : (ns : List ℕ) (p : Place) → slice_get (places_from 0 0 ns) p.number ≡ Some p → IsAmong ns p
+IsAmong-from_placed ns p found =
     let there : p.number < length ns =
     omega (arith, slice_get_within (places_from 0 0 ns) p.number p found, length-places_from 0 0 ns) in
     let own = slice_get-places_from p.number 0 0 ns there in

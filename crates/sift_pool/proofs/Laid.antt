@@ -1,0 +1,116 @@
+-- A region whose spans lie one after another in its words.
+use Rattle.std.proofs.Common.{◌≡◌, ℕ, ◌+◌, ◌-◌, ◌<◌, ◌≤◌, ◌↔◌, List, [], ◌∷◌, ◌++◌, length, map, take, drop, sum, sum_by, get_or, set, Option, Some, None, refl, sym, ap, subst, ◌∙◌, arith, rules}
+use Rattle.std.specs.Prelude.{slice_get}
+use Rattle.std.proofs.lemmas.List.{length-map, take-map, map_push, length_push, length-append, length-take-le}
+use Rattle.std.proofs.lemmas.List.Sums.{sum-map, sum_by_more_le, sum_by-take-le, sum_by_push}
+use Rattle.std.proofs.lemmas.Option.{slice_get_within}
+use borrow.Rule.Slice.PartMut.{put_mid}
+use Rattle.sift_pool.specs.Region.{Region, Place, IsLive, with_words, with_span, first_spans, words_at}
+use Rattle.sift_pool.specs.Layout.{lengths, pieces, places_from, IsLaid}
+use Rattle.sift_pool.proofs.Pieces.{map-length-pieces, length-pieces, take-pieces, pieces-take, pieces-append, get_or-pieces, pieces-set, pieces-put_mid}
+use Rattle.sift_pool.proofs.Places.{place, same_place, slice_get-places_from, take-places_from, places_from-push}
+use Rattle.sift_pool.proofs.Live.{IsAmong, IsAmong-from_live, IsLive-from_among, placed, IsAmong-from_placed}
+
+-- the spans of the region are the pieces of these words at these places
+pub record Holds (region : Region) (ps : List Place) (ws : List ℕ) : Type 0 where
+  pub spans_are : region.spans ≡ pieces (lengths ps) ws
+  pub laid : IsLaid ps ws
+
+module _ (region : Region) (ps : List Place) (ws : List ℕ) (holds : Holds region ps ws) where
+  -- the places have the spans' lengths
+  lengths_are : map length region.spans ≡ lengths ps
+  lengths_are =
+      ap (map length) holds.spans_are ∙ map-length-pieces (lengths ps) ws (omega (arith, holds.laid.whole))
+
+  pub count_is : length region.spans ≡ length ps
+  count_is =
+      ap length holds.spans_are ∙ length-pieces (lengths ps) ws ∙ length-map ps (λ p. p.len)
+
+  pub used_is : sum_by length region.spans ≡ length ws
+  used_is =
+      sym (sum-map length region.spans) ∙ ap sum lengths_are ∙ holds.laid.whole
+
+  -- a live span is among the lengths
+  live_among : (p : Place) → IsLive region p → IsAmong (lengths ps) p
+  live_among p it =
+      let M : List ℕ → Type 0 = λ ns. IsAmong ns p in
+      subst M lengths_are (IsAmong-from_live region p it)
+
+  -- a live span is the one that stands at its number
+  pub live_placed : (p : Place) → IsLive region p ↔ (slice_get ps p.number ≡ Some p)
+  live_placed p =
+      let at_number : List Place → Option Place = λ qs. slice_get qs p.number in
+      let M : List ℕ → Type 0 = λ ns. IsAmong ns p in (
+        λ it. ap at_number holds.laid.in_order ∙ placed (lengths ps) p (live_among p it),
+        λ found. IsLive-from_among region p (subst M (sym lengths_are) (IsAmong-from_placed (lengths ps) p (sym (ap at_number holds.laid.in_order) ∙ found))),
+      )
+
+  -- a live span ends within the words
+  pub live_within : (p : Place) → IsLive region p → p.start + p.len ≤ length ws
+  live_within p it =
+      let own = live_among p it in
+      let most = sum_by_more_le (λ n. n) (lengths ps) p.number 0 own.present in
+      omega (arith, most, own.starts, own.long, holds.laid.whole)
+
+  -- a place of a live span holds the word that stands so far from its start
+  pub live_word : (p : Place) (at : ℕ) → IsLive region p → at < p.len → get_or ws (p.start + at) 0 ≡ get_or (words_at region p.number) at 0
+  live_word p at it inside =
+      let own = live_among p it in
+      let here = get_or-pieces p.number (lengths ps) ws at own.present (omega (arith, inside, own.long)) in
+      rw (own.starts, holds.spans_are) (sym here)
+
+  -- a word that is written into a live span
+  pub live_set : (p : Place) (at w : ℕ) → IsLive region p → at < p.len → pieces (lengths ps) (set ws (p.start + at) w) ≡ set region.spans p.number (set (words_at region p.number) at w)
+  live_set p at w it inside =
+      let own = live_among p it in
+      let here = pieces-set p.number (lengths ps) ws at w own.present (omega (arith, inside, own.long)) in
+      rw (own.starts, holds.spans_are) here
+
+  -- words that are written over a live span
+  pub live_put_mid : (p : Place) (ys : List ℕ) → IsLive region p → length ys ≡ p.len → pieces (lengths ps) (put_mid p.start p.len ws ys) ≡ set region.spans p.number ys
+  live_put_mid p ys it same =
+      let own = live_among p it in
+      let here = pieces-put_mid p.number (lengths ps) ws ys own.present (same ∙ own.long) (omega (arith, holds.laid.whole)) in
+      rw (own.starts, own.long, holds.spans_are) here
+
+-- words for one more span, after those that are laid
+pub IsLaid-push : (ps : List Place) (ws zs : List ℕ) → IsLaid ps ws → IsLaid (ps ++ place (length ps) (length ws) (length zs) ∷ []) (ws ++ zs)
+IsLaid-push ps ws zs laid =
+    let lens : lengths (ps ++ place (length ps) (length ws) (length zs) ∷ []) ≡ lengths ps ++ length zs ∷ [] =
+    map_push (λ p. p.len) ps (place (length ps) (length ws) (length zs)) in
+    let more = places_from-push 0 0 (lengths ps) (length zs) in
+    let count : length (lengths ps) ≡ length ps = length-map ps (λ p. p.len) in
+    let last : place (0 + length (lengths ps)) (0 + sum (lengths ps)) (length zs) ≡ place (length ps) (length ws) (length zs) =
+    same_place _ _ _ _ _ _ (omega (arith, count)) (omega (arith, laid.whole)) refl in
+    record {
+      in_order = rw lens (cc);
+      whole = rw lens (omega (arith, laid.whole, sum_by_push (λ n. n) (lengths ps) (length zs), length-append ws zs));
+    }
+
+-- the first places, and the words up to where the next one starts
+pub IsLaid-take : (k : ℕ) (ps : List Place) (ws : List ℕ) → IsLaid ps ws → IsLaid (take k ps) (take (sum (lengths (take k ps))) ws)
+IsLaid-take k ps ws laid =
+    let lens : lengths (take k ps) ≡ take k (lengths ps) = sym (take-map (λ p. p.len) k ps) in
+    let some : sum (take k (lengths ps)) ≤ sum (lengths ps) = sum_by-take-le (λ n. n) (lengths ps) k in
+    record {
+      in_order = ap (take k) laid.in_order ∙ take-places_from k 0 0 (lengths ps) ∙ ap (places_from 0 0) (sym lens);
+      whole = sym (length-take-le (sum (lengths (take k ps))) ws (omega (arith, laid.whole, some, ap sum lens)));
+    }
+
+-- the pieces of the first places
+pub pieces-first : (k : ℕ) (ps : List Place) (ws : List ℕ) → pieces (lengths (take k ps)) (take (sum (lengths (take k ps))) ws) ≡ take k (pieces (lengths ps) ws)
+pieces-first k ps ws =
+    let lens : lengths (take k ps) ≡ take k (lengths ps) = sym (take-map (λ p. p.len) k ps) in
+    pieces-take (lengths (take k ps)) ws (sum (lengths (take k ps))) (omega arith)
+    ∙ ap (λ ns. pieces ns ws) lens ∙ sym (take-pieces k (lengths ps) ws)
+
+-- where the span at a number starts
+pub start_placed : (k : ℕ) (ps : List Place) (ws : List ℕ) (p : Place) → IsLaid ps ws → slice_get ps k ≡ Some p → p.start ≡ sum (lengths (take k ps))
+start_placed k ps ws p laid found =
+    let lens : lengths (take k ps) ≡ take k (lengths ps) = sym (take-map (λ p. p.len) k ps) in
+    let there : k < length (lengths ps) =
+    omega (arith, slice_get_within ps k p found, length-map ps (λ p. p.len)) in
+    let own = slice_get-places_from k 0 0 (lengths ps) there in
+    let here : slice_get (places_from 0 0 (lengths ps)) k ≡ Some p = ap (λ qs. slice_get qs k) (sym laid.in_order) ∙ found in
+    let same : place (0 + k) (0 + sum (take k (lengths ps))) (get_or (lengths ps) k 0) ≡ p = cc in
+    omega (arith, ap (λ q. q.start) same, ap sum lens)
