@@ -6,7 +6,7 @@ use Rattle.std.proofs.lemmas.List.Sums.{sum-map, sum_by_more_le, sum_by-take-le,
 use Rattle.std.proofs.lemmas.Option.{slice_get_within}
 use borrow.Rule.Slice.PartMut.{put_mid}
 use Rattle.sift_pool.specs.Region.{Region, Place, IsLive, with_words, with_span, first_spans, words_at}
-use Rattle.sift_pool.specs.Layout.{lengths, pieces, places_from, IsLaid}
+use Rattle.sift_pool.specs.Layout.{lengths, pieces, places_from, IsLaid, laid_region}
 use Rattle.sift_pool.proofs.Pieces.{map-length-pieces, length-pieces, take-pieces, pieces-take, pieces-append, get_or-pieces, pieces-set, pieces-put_mid}
 use Rattle.sift_pool.proofs.Places.{place, same_place, slice_get-places_from, take-places_from, places_from-push}
 use Rattle.sift_pool.proofs.Live.{IsAmong, IsAmong-from_live, IsLive-from_among, placed, IsAmong-from_placed}
@@ -15,6 +15,18 @@ use Rattle.sift_pool.proofs.Live.{IsAmong, IsAmong-from_live, IsLive-from_among,
 pub record Holds (region : Region) (ps : List Place) (ws : List ℕ) : Type 0 where
   pub spans_are : region.spans ≡ pieces (lengths ps) ws
   pub laid : IsLaid ps ws
+
+-- other spans, and the same capacity and room
+pub laid_region-spans : (capacity room : ℕ) (region : Region) (ps qs : List Place) (ws vs : List ℕ) (spans : List (List ℕ)) → laid_region capacity room ps ws ≡ region → pieces (lengths qs) vs ≡ spans → laid_region capacity room qs vs ≡ record region { spans = spans }
+laid_region-spans capacity room region ps qs ws vs spans seen same =
+    let fits : capacity ≡ region.capacity = ap (λ r. r.capacity) seen in
+    let for_spans : room ≡ region.room = ap (λ r. r.room) seen in
+    cc
+
+-- from what a pool is seen as
+pub Holds-from_view : (capacity room : ℕ) (region : Region) (ps : List Place) (ws : List ℕ) → laid_region capacity room ps ws ≡ region → IsLaid ps ws → Holds region ps ws
+Holds-from_view capacity room region ps ws seen laid =
+    record { spans_are = ap (λ r. r.spans) (sym seen); laid = laid }
 
 module _ (region : Region) (ps : List Place) (ws : List ℕ) (holds : Holds region ps ws) where
   -- the places have the spans' lengths

@@ -1,6 +1,6 @@
 -- How a pool lays out its spans: one after another, from the first word to the last. No public clause cites this module.
 use Rattle.std.specs.Prelude.{◌≡◌, ℕ, ◌+◌, List, [], ◌∷◌, length, map, take, drop, sum}
-use Rattle.sift_pool.specs.Region.{Place}
+use Rattle.sift_pool.specs.Region.{Region, Place}
 
 -- the lengths of the spans at these places
 abbrev pub lengths : List Place → List ℕ
@@ -10,6 +10,11 @@ lengths places = map (λ place. place.len) places
 abbrev pub pieces : List ℕ → List ℕ → List (List ℕ)
 pieces [] words = []
 pieces (n ∷ ns) words = take n words ∷ pieces ns (drop n words)
+
+-- the region that is kept as places and words
+abbrev pub laid_region : ℕ → ℕ → List Place → List ℕ → Region
+laid_region capacity room places words =
+    record { capacity = capacity; room = room; spans = pieces (lengths places) words }
 
 -- the places of spans of these lengths, the first of which has this number and this start
 abbrev pub places_from : ℕ → ℕ → List ℕ → List Place

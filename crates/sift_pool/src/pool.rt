@@ -18,15 +18,11 @@ pub struct Pool {
 impl Model for Pool {
     ghost use Rattle.std.specs.Prelude.{vec_capacity};
     ghost use Rattle.sift_pool.specs.Region.{Region};
-    ghost use Rattle.sift_pool.specs.Layout.{lengths, pieces, IsLaid};
+    ghost use Rattle.sift_pool.specs.Layout.{laid_region, IsLaid};
 
     ghost Value = { Region };
 
-    ghost view = { λ p. record {
-      capacity = vec_capacity p.words;
-      room = vec_capacity p.spans;
-      spans = pieces (lengths p.spans.items) p.words.items;
-    } };
+    ghost view = { λ p. laid_region (vec_capacity p.words) (vec_capacity p.spans) p.spans.items p.words.items };
 
     ghost invariant = { λ p. IsLaid p.spans.items p.words.items };
 }
