@@ -1,5 +1,5 @@
 -- Words that are cut into pieces of given lengths.
-use Rattle.std.proofs.Common.{◌≡◌, ℕ, suc, zero, ◌+◌, ◌-◌, ◌<◌, ◌≤◌, List, [], ◌∷◌, ◌++◌, length, map, take, drop, sum, sum_by, get_or, set, refl, sym, ap, ◌∙◌, arith, rules, add_assoc, zero-add}
+use Rattle.std.proofs.Common.{◌≡◌, ℕ, suc, zero, ◌+◌, ◌-◌, ◌<◌, ◌≤◌, List, [], ◌∷◌, ◌++◌, length, map, take, drop, replicate, sum, sum_by, get_or, set, refl, sym, ap, ◌∙◌, arith, rules, add_assoc, zero-add}
 use Rattle.std.proofs.lemmas.List.{length-take-le, length-drop, length-append, take-take, drop-take, take-append-le, drop-append-le, nil_from_length, take_all, get_or-take, get_or-drop, take-set-le, drop-set-lt, drop-set-add, drop-drop, take_at, drop_at}
 use Rattle.std.proofs.lemmas.Slice.{take-put_mid_below}
 use Rattle.std.proofs.Math.Seq.{take-set-lt}
@@ -106,3 +106,16 @@ pieces-put_mid (suc k) (n ∷ ns) ws ys there long enough =
     let tail = drop-put_mid_add n (sum (take k ns)) (get_or ns k 0) ws ys (omega arith) in
     let rest = pieces-put_mid k ns (drop n ws) ys (omega arith) long (omega (arith, length-drop n ws)) in
     rw before (cc)
+
+-- what a fill of words from start on makes of them
+pub filled : (ws part ys : List ℕ) (from size start len word : ℕ) → part ≡ ws → ys ≡ replicate (length (take (from + size - from) (drop from part))) word → from ≡ start → size ≡ len → start + len ≤ length ws → put_mid from (from + size - from) part ys ≡ put_mid start len ws (replicate len word)
+filled ws part ys from size start len word same fills starts long within =
+    let size_is : from + size - from ≡ len = omega arith in
+    let room : len ≤ length (drop start ws) = omega (arith, length-drop start ws) in
+    let all : length (take len (drop start ws)) ≡ len = length-take-le len (drop start ws) room in
+    cc
+
+pub length-put_mid : (start len : ℕ) (ws ys : List ℕ) → length ys ≡ len → start + len ≤ length ws → length (put_mid start len ws ys) ≡ length ws
+length-put_mid start len ws ys long within =
+    let before : length (take start ws) ≡ start = length-take-le start ws (omega arith) in
+    omega (arith, length-append (take start ws) (ys ++ drop len (drop start ws)), length-append ys (drop len (drop start ws)), length-drop len (drop start ws), length-drop start ws)
