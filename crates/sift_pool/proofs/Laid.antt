@@ -17,8 +17,8 @@ pub record Holds (region : Region) (ps : List Place) (ws : List ℕ) : Type 0 wh
   pub laid : IsLaid ps ws
 
 -- other spans, and the same capacity and room
-pub laid_region-spans : (capacity room : ℕ) (region : Region) (ps qs : List Place) (ws vs : List ℕ) (spans : List (List ℕ)) → laid_region capacity room ps ws ≡ region → pieces (lengths qs) vs ≡ spans → laid_region capacity room qs vs ≡ record region { spans = spans }
-laid_region-spans capacity room region ps qs ws vs spans seen same =
+pub laid_region-spans : (capacity room : ℕ) (region : Region) (ps : List Place) (ws : List ℕ) (capacity' room' : ℕ) (qs : List Place) (vs : List ℕ) (spans : List (List ℕ)) → laid_region capacity room ps ws ≡ region → capacity' ≡ capacity → room' ≡ room → pieces (lengths qs) vs ≡ spans → laid_region capacity' room' qs vs ≡ record region { spans = spans }
+laid_region-spans capacity room region ps ws capacity' room' qs vs spans seen same_capacity same_room same_spans =
     let fits : capacity ≡ region.capacity = ap (λ r. r.capacity) seen in
     let for_spans : room ≡ region.room = ap (λ r. r.room) seen in
     cc
@@ -126,3 +126,10 @@ start_placed k ps ws p laid found =
     let here : slice_get (places_from 0 0 (lengths ps)) k ≡ Some p = ap (λ qs. slice_get qs k) (sym laid.in_order) ∙ found in
     let same : place (0 + k) (0 + sum (take k (lengths ps))) (get_or (lengths ps) k 0) ≡ p = cc in
     omega (arith, ap (λ q. q.start) same, ap sum lens)
+
+-- the first places, and the words before the place that stands next
+pub released : (ps : List Place) (ws : List ℕ) (qs : List Place) (vs : List ℕ) (k start : ℕ) (p : Place) → IsLaid ps ws → slice_get ps k ≡ Some p → start ≡ p.start → qs ≡ take k ps → vs ≡ take start ws → IsLaid qs vs × (pieces (lengths qs) vs ≡ take k (pieces (lengths ps) ws))
+released ps ws qs vs k start p laid found starts first words =
+    let begins : start ≡ sum (lengths (take k ps)) = starts ∙ start_placed k ps ws p laid found in
+    let words_are : vs ≡ take (sum (lengths (take k ps))) ws = words ∙ ap (λ n. take n ws) begins in
+    (rw (first, words_are) (IsLaid-take k ps ws laid), rw (first, words_are) (pieces-first k ps ws))

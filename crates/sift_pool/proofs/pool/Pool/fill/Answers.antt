@@ -1,4 +1,4 @@
-use Rattle.std.proofs.Common.{◌≡◌, ◌≤◌, ◌+◌, length, arith, ap, subst, sym, replicate, ◌∙◌}
+use Rattle.std.proofs.Common.{refl, ◌≡◌, ◌≤◌, ◌+◌, length, arith, ap, subst, sym, replicate, ◌∙◌}
 use Rattle.std.proofs.lemmas.List.{length-replicate, with_items_is}
 use Rattle.sift_pool.specs.Layout.{lengths, pieces}
 use Rattle.sift_pool.specs.Region.{Region, KeepsLive}
@@ -40,7 +40,7 @@ returns-clause-written c =
     let long = length-put_mid c.args.span.now.start c.args.span.now.len c.self.inside.words.items words (length-replicate c.args.span.now.len c.args.word) within in
     let items = with_items_is c.self.inside.words _ (ap length written ∙ long ∙ sym c.self.inside.words.ok.0) in
     let spans = live_put_mid _ _ _ holds c.args.span.now words c.requires (length-replicate c.args.span.now.len c.args.word) in
-    laid_region-spans _ _ _ _ _ _ _ _ c.self.view_is
+    laid_region-spans _ _ _ _ _ _ _ _ _ _ c.self.view_is refl refl
     (ap (pieces (lengths c.self.inside.spans.items)) (items ∙ written) ∙ spans)
 
 pub returns-clause-live : goal.returns-clause-live

@@ -1,4 +1,4 @@
-use Rattle.std.proofs.Common.{◌≡◌, ◌≤◌, ◌+◌, length, arith, ap, subst, sym, set, ◌∙◌}
+use Rattle.std.proofs.Common.{refl, ◌≡◌, ◌≤◌, ◌+◌, length, arith, ap, subst, sym, set, ◌∙◌}
 use Rattle.std.proofs.lemmas.List.{length-set}
 use Rattle.sift_pool.specs.Layout.{lengths, pieces}
 use Rattle.sift_pool.specs.Region.{Region, KeepsLive, words_at}
@@ -25,7 +25,7 @@ returns-clause-written c =
     let holds = Holds-from_view _ _ _ _ _ c.self.view_is c.self.invariant in
     let changed = live_set _ _ _ holds c.args.span.now c.args.at c.args.word c.requires.live c.requires.inside in
     let start = ap (λ p. p.start) c.span.view_is in
-    laid_region-spans _ _ _ _ _ _ _ _ c.self.view_is
+    laid_region-spans _ _ _ _ _ _ _ _ _ _ c.self.view_is refl refl
     (ap (λ n. pieces (lengths c.self.inside.spans.items) (set c.self.inside.words.items (n + c.args.at) c.args.word)) start ∙ changed)
 
 pub returns-clause-live : goal.returns-clause-live
