@@ -1,15 +1,15 @@
 -- A region whose spans lie one after another in its words.
-use Rattle.std.proofs.Common.{◌≡◌, ℕ, ◌+◌, ◌-◌, ◌<◌, ◌≤◌, ◌↔◌, List, [], ◌∷◌, ◌++◌, length, map, take, drop, sum, sum_by, get_or, set, Option, Some, None, refl, sym, ap, subst, ◌∙◌, arith, rules}
+use Rattle.std.proofs.Common.{◌≡◌, ℕ, ◌+◌, ◌-◌, ◌<◌, ◌≤◌, ◌↔◌, List, [], ◌∷◌, ◌++◌, length, map, take, drop, replicate, sum, sum_by, get_or, set, Option, Some, None, refl, sym, ap, subst, ◌∙◌, arith, rules}
 use Rattle.std.specs.Prelude.{slice_get}
-use Rattle.std.proofs.lemmas.List.{length-map, take-map, map_push, length_push, length-append, length-take-le}
+use Rattle.std.proofs.lemmas.List.{length-map, take-map, map_push, length_push, length-append, length-take-le, length-replicate}
 use Rattle.std.proofs.lemmas.List.Sums.{sum-map, sum_by_more_le, sum_by-take-le, sum_by_push}
 use Rattle.std.proofs.lemmas.Option.{slice_get_within}
 use borrow.Rule.Slice.PartMut.{put_mid}
-use Rattle.sift_pool.specs.Region.{Region, Place, IsLive, with_words, with_span, first_spans, words_at}
+use Rattle.sift_pool.specs.Region.{Region, Place, IsLive, Carves, with_span, words_at, left_in}
 use Rattle.sift_pool.specs.Layout.{lengths, pieces, places_from, IsLaid, laid_region}
 use Rattle.sift_pool.proofs.Pieces.{map-length-pieces, length-pieces, take-pieces, pieces-take, pieces-append, get_or-pieces, pieces-set, pieces-put_mid}
 use Rattle.sift_pool.proofs.Places.{place, same_place, slice_get-places_from, take-places_from, places_from-push}
-use Rattle.sift_pool.proofs.Live.{IsAmong, IsAmong-from_live, IsLive-from_among, placed, IsAmong-from_placed}
+use Rattle.sift_pool.proofs.Live.{IsAmong, IsAmong-from_live, IsLive-from_among, placed, IsAmong-from_placed, IsLive-newest}
 
 -- the spans of the region are the pieces of these words at these places
 pub record Holds (region : Region) (ps : List Place) (ws : List ℕ) : Type 0 where
@@ -85,19 +85,29 @@ module _ (region : Region) (ps : List Place) (ws : List ℕ) (holds : Holds regi
       let here = pieces-put_mid p.number (lengths ps) ws ys own.present (same ∙ own.long) (omega (arith, holds.laid.whole)) in
       rw (own.starts, own.long, holds.spans_are) here
 
--- words for one more span, after those that are laid
-pub IsLaid-push : (ps : List Place) (ws zs : List ℕ) → IsLaid ps ws → IsLaid (ps ++ place (length ps) (length ws) (length zs) ∷ []) (ws ++ zs)
-IsLaid-push ps ws zs laid =
-    let lens : lengths (ps ++ place (length ps) (length ws) (length zs) ∷ []) ≡ lengths ps ++ length zs ∷ [] =
-    map_push (λ p. p.len) ps (place (length ps) (length ws) (length zs)) in
-    let more = places_from-push 0 0 (lengths ps) (length zs) in
+-- one more place, and zeros for it after the words that are there
+pub IsLaid-push : (ps : List Place) (ws : List ℕ) (number start len : ℕ) → IsLaid ps ws → number ≡ length ps → start ≡ length ws → IsLaid (ps ++ place number start len ∷ []) (ws ++ replicate len 0)
+IsLaid-push ps ws number start len laid next after =
+    let lens : lengths (ps ++ place number start len ∷ []) ≡ lengths ps ++ len ∷ [] =
+    map_push (λ p. p.len) ps (place number start len) in
+    let more = places_from-push 0 0 (lengths ps) len in
     let count : length (lengths ps) ≡ length ps = length-map ps (λ p. p.len) in
-    let last : place (0 + length (lengths ps)) (0 + sum (lengths ps)) (length zs) ≡ place (length ps) (length ws) (length zs) =
-    same_place _ _ _ _ _ _ (omega (arith, count)) (omega (arith, laid.whole)) refl in
+    let last : place (0 + length (lengths ps)) (0 + sum (lengths ps)) len ≡ place number start len =
+    same_place _ _ _ _ len len (omega (arith, count, next)) (omega (arith, laid.whole, after)) refl in
     record {
       in_order = rw lens (cc);
-      whole = rw lens (omega (arith, laid.whole, sum_by_push (λ n. n) (lengths ps) (length zs), length-append ws zs));
+      whole = rw lens (omega (arith, laid.whole, sum_by_push (λ n. n) (lengths ps) len, length-append ws (replicate len 0), length-replicate {A = ℕ} len 0));
     }
+
+-- the last piece is the zeros
+pieces-push : (ps : List Place) (ws : List ℕ) (number start len : ℕ) → IsLaid ps ws → pieces (lengths (ps ++ place number start len ∷ [])) (ws ++ replicate len 0) ≡ pieces (lengths ps) ws ++ replicate len 0 ∷ []
+pieces-push ps ws number start len laid =
+    let lens : lengths (ps ++ place number start len ∷ []) ≡ lengths ps ++ len ∷ [] =
+    map_push (λ p. p.len) ps (place number start len) in
+    let zeros : List ℕ = replicate len 0 in
+    let long : length zeros ≡ len = length-replicate len 0 in
+    let whole = pieces-append (lengths ps) ws zeros laid.whole in
+    rw lens (cc)
 
 -- the first places, and the words up to where the next one starts
 pub IsLaid-take : (k : ℕ) (ps : List Place) (ws : List ℕ) → IsLaid ps ws → IsLaid (take k ps) (take (sum (lengths (take k ps))) ws)
@@ -133,3 +143,29 @@ released ps ws qs vs k start p laid found starts first words =
     let begins : start ≡ sum (lengths (take k ps)) = starts ∙ start_placed k ps ws p laid found in
     let words_are : vs ≡ take (sum (lengths (take k ps))) ws = words ∙ ap (λ n. take n ws) begins in
     (rw (first, words_are) (IsLaid-take k ps ws laid), rw (first, words_are) (pieces-first k ps ws))
+
+-- how many words are left
+pub left_is : (capacity room : ℕ) (region : Region) (ps : List Place) (ws : List ℕ) → laid_region capacity room ps ws ≡ region → IsLaid ps ws → left_in region ≡ capacity - length ws
+left_is capacity room region ps ws seen laid =
+    let used = used_is region ps ws (Holds-from_view _ _ _ _ _ seen laid) in
+    let fits : capacity ≡ region.capacity = ap (λ r. r.capacity) seen in
+    cc
+
+-- one more place, and zeros for it
+pub carved : (capacity room : ℕ) (region : Region) (ps : List Place) (ws : List ℕ) (capacity' room' : ℕ) (qs : List Place) (vs : List ℕ) (number start len : ℕ) → laid_region capacity room ps ws ≡ region → IsLaid ps ws → capacity' ≡ capacity → room' ≡ room → number ≡ length ps → start ≡ length ws → qs ≡ ps ++ place number start len ∷ [] → vs ≡ ws ++ replicate len 0 → Carves region (laid_region capacity' room' qs vs) len (place number start len)
+carved capacity room region ps ws capacity' room' qs vs number start len seen laid same_capacity same_room next after places words =
+    let holds = Holds-from_view _ _ _ _ _ seen laid in
+    let last : pieces (lengths qs) vs ≡ region.spans ++ replicate len 0 ∷ [] =
+    rw (places, words, holds.spans_are) (pieces-push ps ws number start len laid) in
+    let added : laid_region capacity' room' qs vs ≡ with_span region (replicate len 0) =
+    laid_region-spans _ _ _ _ _ _ _ _ _ _ seen same_capacity same_room last in
+    let number_is : number ≡ length region.spans = next ∙ sym (count_is region ps ws holds) in
+    let start_is : start ≡ sum_by length region.spans = after ∙ sym (used_is region ps ws holds) in
+    let here = same_place _ _ _ _ _ _ number_is start_is (sym (length-replicate len 0)) in
+    let M : Region → Type 0 = λ new. IsLive new (place number start len) in
+    let N : Place → Type 0 = λ p. IsLive (with_span region (replicate len 0)) p in
+    record {
+      zeros = added;
+      newest = number_is;
+      live = subst M (sym added) (subst N (sym here) (IsLive-newest region (replicate len 0)));
+    }
