@@ -1,5 +1,6 @@
 pub mod Pieces
-pub mod Places
+pub mod Extents
 pub mod Live
+pub mod Lookup
 pub mod Laid
-pub mod Tests
+pub mod Changes

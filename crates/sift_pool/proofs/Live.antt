@@ -1,31 +1,33 @@
--- Which spans are live, told by the lengths of the spans alone.
+-- Which spans are live, by the lengths of all spans.
 use Rattle.std.proofs.Common.{◌≡◌, ℕ, suc, zero, ◌+◌, ◌<◌, ◌≤◌, ◌↔◌, List, [], ◌∷◌, ◌++◌, length, map, take, sum, sum_by, get_or, set, Option, Some, None, refl, sym, ap, subst, ◌∙◌, arith, rules}
 use Rattle.std.specs.Prelude.{slice_get}
 use Rattle.std.proofs.lemmas.List.{length-map, take-map, map_push, get_or-map, length_push, take-append-le, take_at, get_or_append_left, get_or_at, take-take, get_or-take, length-take-le}
 use Rattle.std.proofs.lemmas.List.Sums.{sum-map}
 use Rattle.std.proofs.lemmas.Option.{slice_get_within}
-use Rattle.sift_pool.specs.Region.{Region, Place, IsLive, KeepsLive, KeepsLiveBelow, with_words, with_span, first_spans, words_at, start_of}
-use Rattle.sift_pool.specs.Layout.{places_from}
-use Rattle.sift_pool.proofs.Places.{place, same_place, slice_get-places_from, length-places_from}
+use Rattle.sift_pool.specs.Region.{Region, Extent, IsLive, KeepsLive, KeepsLiveBelow, with_words, with_span, first_spans, words_at, start_of}
+use Rattle.sift_pool.specs.Layout.{extents_from}
+use Rattle.sift_pool.proofs.Extents.{extent, same_extent, slice_get-extents_from, length-extents_from}
 
 -- among spans of these lengths there is one with this number, start and length
-pub record IsAmong (lens : List ℕ) (p : Place) : Type 0 where
+pub record IsAmong (lens : List ℕ) (p : Extent) : Type 0 where
   pub present : p.number < length lens
   pub starts : p.start ≡ sum (take p.number lens)
   pub long : p.len ≡ get_or lens p.number 0
 
--- the start of a span by the lengths
+-- a span starts after the lengths before it
 start_of-map : (spans : List (List ℕ)) (n : ℕ) → sum_by length (take n spans) ≡ sum (take n (map length spans))
 start_of-map spans n = sym (sum-map length (take n spans)) ∙ ap sum (sym (take-map length n spans))
 
-pub IsAmong-from_live : (region : Region) (p : Place) → IsLive region p → IsAmong (map length region.spans) p
+-- a live span is among the lengths
+pub IsAmong-from_live : (region : Region) (p : Extent) → IsLive region p → IsAmong (map length region.spans) p
 IsAmong-from_live region p live = record {
   present = omega (arith, live.present, length-map region.spans length);
   starts = live.starts ∙ start_of-map region.spans p.number;
   long = live.long ∙ sym (get_or-map length region.spans p.number [] 0 live.present);
 }
 
-pub IsLive-from_among : (region : Region) (p : Place) → IsAmong (map length region.spans) p → IsLive region p
+-- and a span among the lengths is live
+pub IsLive-from_among : (region : Region) (p : Extent) → IsAmong (map length region.spans) p → IsLive region p
 IsLive-from_among region p it =
     let there : p.number < length region.spans = omega (arith, it.present, length-map region.spans length) in
     record {
@@ -40,6 +42,7 @@ KeepsLive-same_lengths old new same p it =
     let M : List ℕ → Type 0 = λ lens. IsAmong lens p in
     IsLive-from_among new p (subst M (sym same) (IsAmong-from_live old p it))
 
+-- other words of the same number leave the lengths
 map-length-set : (spans : List (List ℕ)) (k : ℕ) (ws : List ℕ) → length ws ≡ length (get_or spans k []) → map length (set spans k ws) ≡ map length spans
 map-length-set [] k ws same = refl
 map-length-set (s ∷ spans) zero ws same = ap (λ n. n ∷ map length spans) same
@@ -59,7 +62,7 @@ KeepsLive-with_span region ws p it = record {
 }
 
 -- the span that was added is live
-pub IsLive-newest : (region : Region) (ws : List ℕ) → IsLive (with_span region ws) (place (length region.spans) (sum_by length region.spans) (length ws))
+pub IsLive-newest : (region : Region) (ws : List ℕ) → IsLive (with_span region ws) (extent (length region.spans) (sum_by length region.spans) (length ws))
 IsLive-newest region ws = record {
   present = omega (arith, length_push region.spans ws);
   starts = ap (sum_by length) (sym (take_at region.spans (ws ∷ []) (length region.spans) refl));
@@ -85,18 +88,19 @@ KeepsLiveBelow-first_spans region count within p = (
   },
 )
 
--- a span is among spans of these lengths exactly where its place is the one of its number
-pub placed : (ns : List ℕ) (p : Place) → IsAmong ns p → slice_get (places_from 0 0 ns) p.number ≡ Some p
-placed ns p it =
-    slice_get-places_from p.number 0 0 ns it.present
-    ∙ ap Some (same_place _ p.number _ p.start _ p.len (omega arith) (omega (arith, it.starts)) (sym it.long))
+-- a span among the lengths is the one at its number
+pub slice_get-among : (ns : List ℕ) (p : Extent) → IsAmong ns p → slice_get (extents_from 0 0 ns) p.number ≡ Some p
+slice_get-among ns p it =
+    slice_get-extents_from p.number 0 0 ns it.present
+    ∙ ap Some (same_extent _ p.number _ p.start _ p.len (omega arith) (omega (arith, it.starts)) (sym it.long))
 
-pub IsAmong-from_placed : (ns : List ℕ) (p : Place) → slice_get (places_from 0 0 ns) p.number ≡ Some p → IsAmong ns p
-IsAmong-from_placed ns p found =
+-- and the one at its number is among the lengths
+pub IsAmong-from_slice_get : (ns : List ℕ) (p : Extent) → slice_get (extents_from 0 0 ns) p.number ≡ Some p → IsAmong ns p
+IsAmong-from_slice_get ns p found =
     let there : p.number < length ns =
-    omega (arith, slice_get_within (places_from 0 0 ns) p.number p found, length-places_from 0 0 ns) in
-    let own = slice_get-places_from p.number 0 0 ns there in
-    let same : place (0 + p.number) (0 + sum (take p.number ns)) (get_or ns p.number 0) ≡ p = cc in
+    omega (arith, slice_get_within (extents_from 0 0 ns) p.number p found, length-extents_from 0 0 ns) in
+    let own = slice_get-extents_from p.number 0 0 ns there in
+    let same : extent (0 + p.number) (0 + sum (take p.number ns)) (get_or ns p.number 0) ≡ p = cc in
     record {
       present = there;
       starts = omega (arith, ap (λ q. q.start) same);

@@ -1,5 +1,5 @@
 -- What a contract sees of a pool, a span and a mark.
-use Rattle.std.specs.Prelude.{◌≡◌, ◌≢◌, ℕ, ◌+◌, ◌-◌, ◌<◌, ◌↔◌, List, [], ◌∷◌, ◌++◌, length, take, sum_by, replicate, slice_index_or, slice_set}
+use Rattle.std.specs.Prelude.{◌≡◌, ℕ, ◌-◌, ◌<◌, ◌↔◌, List, [], ◌∷◌, ◌++◌, length, take, sum_by, replicate, slice_index_or, slice_set}
 
 -- a pool: how many words fit into it, how many spans it has room for, and the words of each span
 pub record Region : Type 0 where
@@ -8,12 +8,12 @@ pub record Region : Type 0 where
   pub spans : List (List ℕ)
 
 -- a span: which one it is, counted from 0, where it starts, and how many words it has
-pub record Place : Type 0 where
+pub record Extent : Type 0 where
   pub number : ℕ
   pub start : ℕ
   pub len : ℕ
 
--- a region without spans
+-- a region of so many words without a span
 abbrev pub empty_region : ℕ → ℕ → Region
 empty_region words room = record { capacity = words; room = room; spans = [] }
 
@@ -25,7 +25,7 @@ words_at region number = slice_index_or region.spans number []
 abbrev pub with_words : Region → ℕ → List ℕ → Region
 with_words region number words = record region { spans = slice_set region.spans number words }
 
--- the region with one more span at the end
+-- the region with one more span, at the end
 abbrev pub with_span : Region → List ℕ → Region
 with_span region words = record region { spans = region.spans ++ words ∷ [] }
 
@@ -33,7 +33,7 @@ with_span region words = record region { spans = region.spans ++ words ∷ [] }
 abbrev pub first_spans : ℕ → Region → Region
 first_spans count region = record region { spans = take count region.spans }
 
--- how many words lie before the span with this number
+-- how many words the spans before this number have
 abbrev pub start_of : Region → ℕ → ℕ
 start_of region number = sum_by length (take number region.spans)
 
@@ -42,21 +42,22 @@ abbrev pub left_in : Region → ℕ
 left_in region = region.capacity - sum_by length region.spans
 
 -- the region has a span with this number, start and length
-pub record IsLive (region : Region) (place : Place) : Type 0 where
-  pub present : place.number < length region.spans
-  pub starts : place.start ≡ start_of region place.number
-  pub long : place.len ≡ length (words_at region place.number)
+pub record IsLive (region : Region) (span : Extent) : Type 0 where
+  pub present : span.number < length region.spans
+  pub starts : span.start ≡ start_of region span.number
+  pub long : span.len ≡ length (words_at region span.number)
 
 -- each span that was live is live still
 abbrev pub KeepsLive : Region → Region → Type 0
-KeepsLive old new = (place : Place) → IsLive old place → IsLive new place
+KeepsLive old new = (span : Extent) → IsLive old span → IsLive new span
 
--- the spans that are live were live, and have a number below this one
+-- those spans are live that were live and have a number below this one
 abbrev pub KeepsLiveBelow : ℕ → Region → Region → Type 0
-KeepsLiveBelow count old new = (place : Place) → IsLive new place ↔ (IsLive old place × (place.number < count))
+KeepsLiveBelow count old new = (span : Extent) → IsLive new span ↔ (IsLive old span × (span.number < count))
 
--- the new region has one more span, of zeros, and this is its place
-pub record Carves (old new : Region) (len : ℕ) (place : Place) : Type 0 where
+-- the new region has one more span, of so many zeros, and it is this one
+pub record Carves (old new : Region) (len : ℕ) (span : Extent) : Type 0 where
   pub zeros : new ≡ with_span old (replicate len 0)
-  pub newest : place.number ≡ length old.spans
-  pub live : IsLive new place
+  pub newest : span.number ≡ length old.spans
+  pub long : span.len ≡ len
+  pub live : IsLive new span

@@ -53,7 +53,7 @@ impl Pool {
         ensures full { IsErr result ↔ (left_in self.old < len) }
         ensures left { IfErr result (λ full. full.left ≡ left_in self.old) }
         ensures unchanged { OnErr result (self.new ≡ self.old) }
-        ensures others { KeepsLive self.old self.new }
+        ensures live { KeepsLive self.old self.new }
     {
         let start = self.words.len();
         let left = self.words.capacity() - start;

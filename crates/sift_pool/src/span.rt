@@ -1,5 +1,5 @@
 ghost use Rattle.std.specs.Prelude.{ℕ};
-ghost use Rattle.sift_pool.specs.Region.{Place};
+ghost use Rattle.sift_pool.specs.Region.{Extent};
 
 use std::marker::Model;
 
@@ -12,7 +12,7 @@ pub struct Span {
 }
 
 impl Model for Span {
-    ghost Value = { Place };
+    ghost Value = { Extent };
 
     ghost view = { λ s. record { number = s.number; start = s.start; len = s.len } };
 
