@@ -1,10 +1,10 @@
 -- What carving and releasing make of a region.
-use Rattle.std.proofs.Common.{◌≡◌, ℕ, ◌+◌, ◌<◌, ◌≤◌, List, [], ◌∷◌, ◌++◌, length, take, replicate, sum, sum_by, get_or, Some, refl, sym, ap, subst, ◌∙◌, arith}
+use Rattle.std.proofs.Common.{◌≡◌, ℕ, ◌+◌, ◌<◌, ◌≤◌, List, [], ◌∷◌, ◌++◌, length, take, replicate, sum, get_or, Some, refl, sym, ap, subst, ◌∙◌, arith}
 use Rattle.std.specs.Prelude.{slice_get}
 use Rattle.std.proofs.lemmas.List.{length-map, take-map, map_push, length-append, length-take-le, length-replicate}
 use Rattle.std.proofs.lemmas.List.Sums.{sum_by-take-le, sum_by_push}
 use Rattle.std.proofs.lemmas.Option.{slice_get_within}
-use Rattle.sift_pool.specs.Region.{Region, Extent, IsLive, Carves, with_span, first_spans}
+use Rattle.sift_pool.specs.Region.{Region, Extent, IsLive, Carves, with_span}
 use Rattle.sift_pool.specs.Layout.{lengths, pieces, extents_from, IsLaid, laid_region}
 use Rattle.sift_pool.proofs.Pieces.{take-pieces, pieces-take, pieces-append}
 use Rattle.sift_pool.proofs.Extents.{extent, same_extent, slice_get-extents_from, take-extents_from, extents_from-push}

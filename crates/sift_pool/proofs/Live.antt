@@ -1,10 +1,10 @@
 -- Which spans are live, by the lengths of all spans.
-use Rattle.std.proofs.Common.{◌≡◌, ℕ, suc, zero, ◌+◌, ◌<◌, ◌≤◌, ◌↔◌, List, [], ◌∷◌, ◌++◌, length, map, take, sum, sum_by, get_or, set, Option, Some, None, refl, sym, ap, subst, ◌∙◌, arith, rules}
+use Rattle.std.proofs.Common.{◌≡◌, ℕ, suc, zero, ◌+◌, ◌<◌, ◌≤◌, List, [], ◌∷◌, length, map, take, sum, sum_by, get_or, set, Some, refl, sym, ap, subst, ◌∙◌, arith}
 use Rattle.std.specs.Prelude.{slice_get}
-use Rattle.std.proofs.lemmas.List.{length-map, take-map, map_push, get_or-map, length_push, take-append-le, take_at, get_or_append_left, get_or_at, take-take, get_or-take, length-take-le}
+use Rattle.std.proofs.lemmas.List.{length-map, take-map, get_or-map, length_push, take-append-le, take_at, get_or_append_left, get_or_at, take-take, get_or-take, length-take-le}
 use Rattle.std.proofs.lemmas.List.Sums.{sum-map}
 use Rattle.std.proofs.lemmas.Option.{slice_get_within}
-use Rattle.sift_pool.specs.Region.{Region, Extent, IsLive, KeepsLive, KeepsLiveBelow, with_words, with_span, first_spans, words_at, start_of}
+use Rattle.sift_pool.specs.Region.{Region, Extent, IsLive, KeepsLive, KeepsLiveBelow, with_words, with_span, first_spans, words_at}
 use Rattle.sift_pool.specs.Layout.{extents_from}
 use Rattle.sift_pool.proofs.Extents.{extent, same_extent, slice_get-extents_from, length-extents_from}
 

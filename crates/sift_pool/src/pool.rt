@@ -1,4 +1,4 @@
-ghost use Rattle.std.specs.Prelude.{◌≡◌, ◌<◌, ◌≤◌, ◌↔◌, length, IsTrue, IsErr, IfOk, IfErr, OnErr};
+ghost use Rattle.std.specs.Prelude.{◌≡◌, ◌<◌, ◌≤◌, ◌↔◌, length, IsTrue, IsOk, IsErr, IfOk, IfErr, OnErr};
 ghost use Rattle.std.specs.Prelude.{slice_index, slice_set, replicate, ◌+◌, ◌++◌, vec_len, vec_capacity};
 ghost use Rattle.sift_pool.specs.Region.{empty_region, words_at, with_words, first_spans, left_in};
 ghost use Rattle.sift_pool.specs.Region.{IsLive, KeepsLive, KeepsLiveBelow, Carves};
@@ -29,8 +29,11 @@ impl Model for Pool {
 
 impl Pool {
     /// A pool of so many words, with room for so many spans. It has no span yet.
+    ///
+    /// A pool without words and without room for a span takes no memory.
     pub fn make(alloc: Global, words: usize, spans: usize) -> Result<Pool, NoMemory>
-        ensures { IfOk result (λ pool. pool ≡ empty_region words spans) }
+        ensures made { IfOk result (λ pool. pool ≡ empty_region words spans) }
+        ensures takes_none { words ≡ 0 → spans ≡ 0 → IsOk result }
     {
         let words = Vec::with_capacity(alloc, words)?;
         let spans = Vec::with_capacity(alloc, spans)?;

@@ -1,4 +1,4 @@
-use Rattle.std.proofs.Common.{◌+◌, arith, refl, subst, sym}
+use Rattle.std.proofs.Common.{arith, refl, subst, sym}
 use Rattle.std.proofs.lemmas.List.{length-set}
 use Rattle.sift_pool.specs.Region.{Region, KeepsLive, words_at}
 use Rattle.sift_pool.proofs.Live.{KeepsLive-with_words}
