@@ -1,6 +1,6 @@
 //! A region of 16-bit words, taken from memory once, and spans that are carved from it.
 //!
-//! Only `Pool::make` takes memory. Spans are carved one after another and released from the last one on.
+//! Only `Pool::make` takes memory. Spans are carved one after another, and the last are released first.
 #![tactic(auto)]
 
 mod memory;

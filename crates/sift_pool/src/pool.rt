@@ -8,7 +8,9 @@ use crate::span::{Full, Mark, Span};
 use std::alloc::Global;
 use std::marker::Model;
 
-/// A region of 16-bit words, and the spans that were carved from it, in order.
+/// A region of 16-bit words, and the spans that were carved from it.
+///
+/// A clause sees its capacity, for how many spans it has room, and the words of each span.
 #[derive(Drop)]
 pub struct Pool {
     words: Vec<u16>,
@@ -22,7 +24,8 @@ impl Model for Pool {
 
     ghost Value = { Region };
 
-    ghost view = { λ p. laid_region (vec_capacity p.words) (vec_capacity p.spans) p.spans.items p.words.items };
+    ghost view = { λ p.
+        laid_region (vec_capacity p.words) (vec_capacity p.spans) p.spans.items p.words.items };
 
     ghost invariant = { λ p. IsLaid p.spans.items p.words.items };
 }
@@ -47,9 +50,9 @@ impl Pool {
         self.spans.len()
     }
 
-    /// Carves a span of so many zeros, after the spans that are there.
+    /// Carves a span of `len` words, all 0, after the spans that are there.
     ///
-    /// It is `Full` where fewer words than `len` are left.
+    /// The pool is `Full` where fewer than `len` words are in no span.
     pub fn carve(&mut self, len: usize) -> Result<Span, Full>
         requires { length self.old.spans < self.old.room }
         ensures carved { IfOk result (Carves self.old self.new len) }
@@ -70,15 +73,16 @@ impl Pool {
         Ok(span)
     }
 
-    /// Whether the pool has this span. A span is live until it is released, and again
-    /// where a later one has the same number, start and length.
+    /// Whether the pool has this span, by its number, start and length alone.
+    ///
+    /// A span is live until it is released, and again while a later one is the same in all three.
     pub fn live(&self, span: &Span) -> bool
         ensures { IsTrue result ↔ IsLive self.now span.now }
     {
         self.spans.get(span.number) == Some(span)
     }
 
-    /// A mark at the spans that are there.
+    /// A mark after the spans that are there.
     pub fn mark(&self) -> Mark
         ensures { result ≡ length self.now.spans }
     {
@@ -87,7 +91,7 @@ impl Pool {
         }
     }
 
-    /// Releases the spans that were carved after the mark.
+    /// Releases the spans past the mark, and leaves those before it as they are.
     pub fn release(&mut self, mark: Mark)
         requires { mark ≤ length self.old.spans }
         ensures first { self.new ≡ first_spans mark self.old }
@@ -130,7 +134,7 @@ impl Pool {
     }
 }
 
-/// Adds so many zeros to words that have room for them.
+/// Adds so many zeros, for which the words have room.
 fn push_zeros(words: &mut Vec<u16>, len: usize)
     requires { vec_len words.old + len ≤ vec_capacity words.old }
     ensures zeros { words.new.items ≡ words.old.items ++ replicate len 0 }

@@ -3,7 +3,9 @@ ghost use Rattle.sift_pool.specs.Region.{Extent};
 
 use std::marker::Model;
 
-/// A span of a pool: words that lie together. It is live until it is released.
+/// A span of a pool: words that lie together.
+///
+/// A clause sees its number, counted from 0, its start and its length.
 #[derive(Clone, Copy, Debug, PartialEq, Eq)]
 pub struct Span {
     pub(crate) number: usize,
@@ -19,7 +21,7 @@ impl Model for Span {
     ghost inverse = { λ p. record { number = p.number; start = p.start; len = p.len } };
 }
 
-/// How many spans a pool had when it was marked. A clause sees it as that number.
+/// How many spans a pool had when it was marked. A clause sees that number.
 #[derive(Clone, Copy, Debug, PartialEq, Eq)]
 pub struct Mark {
     pub(crate) count: usize,
