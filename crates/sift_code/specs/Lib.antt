@@ -1,0 +1,6 @@
+pub mod Machine
+pub mod Enclosing
+pub mod Heights
+pub mod Bound
+pub mod Refusal
+pub mod Ends

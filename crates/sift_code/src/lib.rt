@@ -1,0 +1,12 @@
+//! Stack code: its instructions, the check that it runs whole, and the machine that runs it.
+//!
+//! Checked code comes to its end within its bound of instructions, whatever the words that it reads.
+#![tactic(auto)]
+
+mod bad;
+mod instr;
+mod law;
+
+pub use bad::Bad;
+pub use instr::Instr;
+pub use law::checked_code_ends;
