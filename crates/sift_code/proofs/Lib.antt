@@ -1,2 +1,4 @@
 pub mod Enclosing
 pub mod Costs
+pub mod Heights
+pub mod Sound
