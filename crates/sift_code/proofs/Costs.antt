@@ -103,10 +103,10 @@ module _ (code : List Instr) (braced : IsBraced code) where
       let i = get_or code p End in
       let at : slice_get code p ≡ Some i = slice_get-get_or code p End (omega arith) in
       let go : Falls (down extra (cost_step i (costs (drop (p + 1) code)))) (costs (drop (p + 1 + n) code)) =
-        falls_step i (p + 1) extra base (enclosing code p) (enclosing code (p + 1)) _ _ is (nested_here p i at)
-        (λ e' is'. falls_from n (p + 1) e' base is' (ap (enclosing code) same ∙ end) (λ q a b. stays q (omega arith) (omega arith)) (omega arith))
-        (λ _. stays (p + 1) (omega arith) (omega arith))
-        (λ none open_none e. end_is_open p i at open_none e) in
+      falls_step i (p + 1) extra base (enclosing code p) (enclosing code (p + 1)) _ _ is (nested_here p i at)
+      (λ e' is'. falls_from n (p + 1) e' base is' (ap (enclosing code) same ∙ end) (λ q a b. stays q (omega arith) (omega arith)) (omega arith))
+      (λ _. stays (p + 1) (omega arith) (omega arith))
+      (λ none open_none e. end_is_open p i at open_none e) in
       subst (λ x. Falls (down extra x) (costs (drop (p + suc n) code))) (sym (costs_here code p i at)) (subst (λ q. Falls (down extra (cost_step i (costs (drop (p + 1) code)))) (costs (drop q code))) same go)
 
   between_from : (os : List ℕ) (p t : ℕ) → enclosing code p ≡ os → p ≤ t → t ≤ length code → enclosing code t ≡ os → Falls (costs (drop p code)) (costs (drop t code))

@@ -1,6 +1,7 @@
 -- Loops that enclose a place: where each was opened.
-use Rattle.std.proofs.Common.{◌≡◌, ℕ, zero, suc, ◌+◌, ◌-◌, ◌<◌, ◌≤◌, List, [], ◌∷◌, ◌++◌, length, drop, Option, Some, None, refl, sym, ap, ◌∙◌, subst, arith, add-one}
-use Rattle.std.specs.Prelude.{slice_get}
+use Rattle.std.proofs.Common.{◌≡◌, ℕ, zero, suc, ◌+◌, ◌-◌, ◌<◌, ◌≤◌, List, [], ◌∷◌, ◌++◌, length, drop, Option, Some, None, refl, sym, ap, ◌∙◌, subst, arith, add-one, inl, inr}
+use Rattle.std.specs.Prelude.{slice_get, ◌⊎◌}
+use Rattle.std.proofs.lemmas.Bool.Decides.{eqb_tells}
 use Rattle.sift_code.specs.declared.instr.Instr.{Instr}
 use Rattle.sift_code.specs.declared.instr.Instr.TheVariants.{Begin, End}
 use Rattle.sift_code.specs.Machine.{through_end}
@@ -96,3 +97,14 @@ same_loops code p q (s ∷ ps) (t ∷ qs) is are e =
 -- places with one innermost loop are enclosed by the same loops
 pub enclosing_by_innermost : (code : List Instr) (p q : ℕ) → innermost (enclosing code p) ≡ innermost (enclosing code q) → enclosing code p ≡ enclosing code q
 enclosing_by_innermost code p q e = same_loops code p q (enclosing code p) (enclosing code q) refl refl e
+
+same_option : (a b : Option ℕ) → ((a ≡ b → ⊥) → ⊥) → a ≡ b
+same_option None None h = refl
+same_option None (Some n) h = absurd (h (λ e. cc))
+same_option (Some m) None h = absurd (h (λ e. cc))
+same_option (Some m) (Some n) h = elim (eqb_tells m n) [ inl e ↦ ap Some e.1 | inr d ↦ absurd (h (λ e. d.1 cc)) ]
+
+-- loops that can't differ are the same
+pub same_enclosing : (code : List Instr) (p q : ℕ) → ((enclosing code p ≡ enclosing code q → ⊥) → ⊥) → enclosing code p ≡ enclosing code q
+same_enclosing code p q h =
+    enclosing_by_innermost code p q (same_option (innermost (enclosing code p)) (innermost (enclosing code q)) (λ differ. h (λ same. differ (ap innermost same))))

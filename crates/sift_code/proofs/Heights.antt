@@ -57,14 +57,14 @@ pub carries_there : (code : List Instr) (p to height : ℕ) (i : Instr) → slic
 carries_there code p to height i at brings ahead =
     let e : to - (p + 1) + (p + 1) ≡ to = omega arith in
     subst (λ q. Carries (trail_at code q).brought to height) e
-      (carries_on code (to - (p + 1)) (p + 1) to height (subst (λ (t : Trail). Carries t.brought to height) (sym (trail_here code p i at)) (brings (trail_at code p) refl)))
+    (carries_on code (to - (p + 1)) (p + 1) to height (subst (λ (t : Trail). Carries t.brought to height) (sym (trail_here code p i at)) (brings (trail_at code p) refl)))
 
 pub jumpz_carries : (code : List Instr) (p to : ℕ) → slice_get code p ≡ Some (JumpZ to) → p < to → Carries (trail_at code to).brought to (height_after (JumpZ to) (height_at code p))
 jumpz_carries code p to at ahead =
     carries_there code p to (height_after (JumpZ to) (height_at code p)) (JumpZ to) at
-      (λ trail e. subst (λ (h : ℕ). Carries (brought_by (JumpZ to) trail) to (height_after (JumpZ to) h)) (ap (λ (t : Trail). t.height) e) (carries_new trail.brought to (height_after (JumpZ to) trail.height))) ahead
+    (λ trail e. subst (λ (h : ℕ). Carries (brought_by (JumpZ to) trail) to (height_after (JumpZ to) h)) (ap (λ (t : Trail). t.height) e) (carries_new trail.brought to (height_after (JumpZ to) trail.height))) ahead
 
 pub jump_carries : (code : List Instr) (p to : ℕ) → slice_get code p ≡ Some (Jump to) → p < to → Carries (trail_at code to).brought to (height_at code p)
 jump_carries code p to at ahead =
     carries_there code p to (height_at code p) (Jump to) at
-      (λ trail e. subst (λ (h : ℕ). Carries (brought_by (Jump to) trail) to h) (ap (λ (t : Trail). t.height) e) (carries_new trail.brought to trail.height)) ahead
+    (λ trail e. subst (λ (h : ℕ). Carries (brought_by (Jump to) trail) to h) (ap (λ (t : Trail). t.height) e) (carries_new trail.brought to trail.height)) ahead

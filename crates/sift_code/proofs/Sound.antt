@@ -1,15 +1,15 @@
 -- What is known at each place of sound code.
-use Rattle.std.proofs.Common.{◌≡◌, ℕ, zero, suc, ◌+◌, ◌-◌, ◌<◌, ◌≤◌, List, [], ◌∷◌, length, drop, Option, Some, None, refl, sym, ap, ◌∙◌, subst, arith, inl, inr, ltb-true}
+use Rattle.std.proofs.Common.{◌≡◌, ℕ, zero, suc, ◌+◌, ◌-◌, ◌<◌, ◌≤◌, List, [], ◌∷◌, length, drop, Option, Some, None, refl, sym, ap, ◌∙◌, subst, arith, inl, inr, get_or}
 use Rattle.std.specs.Prelude.{slice_get, ◌≢◌, ◌⊎◌}
 use Rattle.std.specs.List.{All}
-use Rattle.std.proofs.lemmas.Option.{slice_get_within}
+use Rattle.std.proofs.lemmas.Option.{slice_get_within, slice_get-get_or}
 use Rattle.sift_code.specs.declared.instr.Instr.{Instr}
 use Rattle.sift_code.specs.declared.instr.Instr.TheVariants.{JumpZ, Jump, Begin, End}
 use Rattle.sift_code.specs.Machine.{through_end}
 use Rattle.sift_code.specs.Enclosing.{enclosing}
 use Rattle.sift_code.specs.Heights.{trail_at, height_at, heights_brought, height_after, pops}
 use Rattle.sift_code.specs.Refusal.{Limits, Program, IsBadTarget, IsBadJumpAt, IsUnequalEnd, IsUnequalRound, IsUnequal, IsUnderflowAt, IsTallAt, IsCrowdedAt, IsBadOperandAt, IsFree, IsSound, stack_limit, loop_limit}
-use Rattle.sift_code.proofs.Enclosing.{enclosing_here}
+use Rattle.sift_code.proofs.Enclosing.{same_enclosing}
 use Rattle.sift_code.proofs.Costs.{IsBraced, Past, past_end, nested_here}
 use Rattle.sift_code.proofs.Heights.{same_number, Carries, jumpz_carries, jump_carries, height_here}
 
@@ -17,7 +17,7 @@ use Rattle.sift_code.proofs.Heights.{same_number, Carries, jumpz_carries, jump_c
 pub record Lands (code : List Instr) (p to height : ℕ) : Type 0 where
   pub ahead : p < to
   pub within : to ≤ length code
-  pub same_loops : ((enclosing code to ≢ enclosing code p) → ⊥)
+  pub same_loops : enclosing code to ≡ enclosing code p
   pub same_height : height_at code to ≡ height
 
 less_or : (m n : ℕ) → (m ≤ n → ⊥) → n < m
@@ -59,15 +59,15 @@ module _ (program : Program) (sound : IsSound program) where
   -- each Begin and End has its match
   pub braced : IsBraced program.code
   braced = record {
-      begins = λ p k at. some_or (through_end 0 (drop (p + 1) program.code)) (λ none. no_bad_jump p (Begin k) at none);
-      ends = λ p at none. no_bad_jump p End at none;
-    }
+    begins = λ p k at. some_or (through_end 0 (drop (p + 1) program.code)) (λ none. no_bad_jump p (Begin k) at none);
+    ends = λ p at none. no_bad_jump p End at none;
+  }
 
   -- the heights at the start and the end of a round are the same
   pub same_round : (p start : ℕ) (outer : List ℕ) → slice_get program.code p ≡ Some End → enclosing program.code p ≡ start ∷ outer → height_at program.code p ≡ height_at program.code start
   same_round p start outer at inside =
       same_number (height_at program.code p) (height_at program.code start)
-        (λ differ. (free p End at).equal (inr (inl (subst (λ o. IsUnequalEnd program.code p o) (sym at) (subst (λ l. IsUnequalRound program.code p l) (sym inside) differ)))))
+      (λ differ. (free p End at).equal (inr (inl (subst (λ o. IsUnequalEnd program.code p o) (sym at) (subst (λ l. IsUnequalRound program.code p l) (sym inside) differ)))))
 
   brought_same : (to height : ℕ) → to ≤ length program.code → Carries (trail_at program.code to).brought to height → height ≡ height_at program.code to
   brought_same to height within carries =
@@ -77,10 +77,14 @@ module _ (program : Program) (sound : IsSound program) where
   target_lands p to height good carries =
       let ahead = less_or to p (λ back. good (inl back)) in
       let inside : to ≤ length program.code = (let h : (length program.code < to) → ⊥ = λ past. good (inr (inl past)) in omega arith) in
-      record { ahead = ahead; within = inside; same_loops = λ others. good (inr (inr others)); same_height = sym (brought_same to height inside (carries ahead)) }
+      record { ahead = ahead; within = inside; same_loops = same_enclosing program.code to p (λ others. good (inr (inr others))); same_height = sym (brought_same to height inside (carries ahead)) }
 
   pub jumpz_lands : (p to : ℕ) → slice_get program.code p ≡ Some (JumpZ to) → Lands program.code p to (height_after (JumpZ to) (height_at program.code p))
   jumpz_lands p to at = target_lands p to _ (no_bad_jump p (JumpZ to) at) (jumpz_carries program.code p to at)
 
   pub jump_lands : (p to : ℕ) → slice_get program.code p ≡ Some (Jump to) → Lands program.code p to (height_at program.code p)
   jump_lands p to at = target_lands p to _ (no_bad_jump p (Jump to) at) (jump_carries program.code p to at)
+
+-- there is an instruction at a place below the length
+pub at_place : (code : List Instr) (p : ℕ) → p < length code → (i : Instr) × (slice_get code p ≡ Some i)
+at_place code p within = (get_or code p End, slice_get-get_or code p End within)

@@ -1,7 +1,6 @@
-use Rattle.sift_code.proofs.Sound.{jump_lands}
-use Rattle.sift_code.proofs.Costs.{past_end}
-use Rattle.sift_code.proofs.Enclosing.{enclosing_by_innermost}
+use Rattle.sift_code.proofs.Ending.{sound_ends}
 use Rattle.sift_code.proofs.law.checked_code_ends.Goals as goal
 
+-- sound code comes to its end
 pub returns : goal.returns
-returns c = ?
+returns c = sound_ends
