@@ -28,7 +28,7 @@ abbrev pub costs : List Instr → List ℕ
 costs [] = 0 ∷ []
 costs (i ∷ rest) = cost_step i (costs rest)
 
-drop_here : (code : List Instr) (p : ℕ) (i : Instr) → slice_get code p ≡ Some i → drop p code ≡ i ∷ drop (p + 1) code
+pub drop_here : (code : List Instr) (p : ℕ) (i : Instr) → slice_get code p ≡ Some i → drop p code ≡ i ∷ drop (p + 1) code
 drop_here code p i e =
     let within : p < length code = slice_get_within code p i e in
     rw (add-one, drop-cons code p i within) (ap (λ x. x ∷ drop (suc p) code) (get_or_from_slice_get code p i i e))
@@ -77,7 +77,7 @@ append_same : (extra base : List ℕ) → base ≡ extra ++ base → extra ≡ [
 append_same [] base e = refl
 append_same (x ∷ extra) base e = absurd (omega (arith, ap length e, length-append extra base))
 
-one_more_some : (o : Option ℕ) (n : ℕ) → one_more o ≡ Some n → (m : ℕ) × (o ≡ Some m) × (n ≡ suc m)
+pub one_more_some : (o : Option ℕ) (n : ℕ) → one_more o ≡ Some n → (m : ℕ) × (o ≡ Some m) × (n ≡ suc m)
 one_more_some None n e = cc
 one_more_some (Some m) n e = (m, refl, cc)
 

@@ -5,12 +5,7 @@ use Rattle.std.proofs.lemmas.Bool.Decides.{eqb_tells}
 use Rattle.sift_code.specs.declared.instr.Instr.{Instr}
 use Rattle.sift_code.specs.declared.instr.Instr.TheVariants.{Begin, End}
 use Rattle.sift_code.specs.Machine.{through_end}
-use Rattle.sift_code.specs.Enclosing.{opened, opened_by, enclosing}
-
--- the innermost of some loops
-abbrev pub innermost : List ℕ → Option ℕ
-innermost [] = None
-innermost (start ∷ outer) = Some start
+use Rattle.sift_code.specs.Enclosing.{opened, opened_by, enclosing, innermost}
 
 -- one place on
 pub enclosing_next : (code : List Instr) (p : ℕ) → enclosing code (p + 1) ≡ opened (slice_get code p) (p + 1) code (enclosing code p)

@@ -6,3 +6,4 @@ pub mod Remaining
 pub mod Progress
 pub mod Leading
 pub mod Ending
+pub mod Tables

@@ -4,3 +4,4 @@ pub mod Heights
 pub mod Bound
 pub mod Refusal
 pub mod Ends
+pub mod Nest

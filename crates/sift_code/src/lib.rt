@@ -6,6 +6,7 @@
 mod bad;
 mod instr;
 mod law;
+mod nest;
 
 pub use bad::Bad;
 pub use instr::Instr;
