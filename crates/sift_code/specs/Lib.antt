@@ -5,3 +5,4 @@ pub mod Bound
 pub mod Refusal
 pub mod Ends
 pub mod Nest
+pub mod Walk

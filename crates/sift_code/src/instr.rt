@@ -1,3 +1,6 @@
+ghost use Rattle.std.specs.Prelude.{◌≡◌};
+ghost use Rattle.sift_code.specs.Heights.{pops as popped, pushes as pushed};
+
 use sift_base::Word;
 
 /// An instruction of stack code.
@@ -51,4 +54,30 @@ pub enum Instr {
     Begin(u16),
     /// Ends a round: goes to the place after the Begin while rounds are left.
     End,
+}
+
+impl Instr {
+    /// How many words it pops.
+    pub(crate) fn pops(self) -> u16
+        ensures { result ≡ popped self }
+    {
+        match self {
+            Instr::Push(_) | Instr::Load(_) | Instr::Sense(_) | Instr::Now(_) | Instr::Last(_) => 0,
+            Instr::Jump(_) | Instr::Begin(_) | Instr::End => 0,
+            Instr::Store(_) | Instr::Out(_) | Instr::JumpZ(_) => 1,
+            Instr::Mid => 3,
+            _ => 2,
+        }
+    }
+
+    /// How many words it pushes.
+    pub(crate) fn pushes(self) -> u16
+        ensures { result ≡ pushed self }
+    {
+        match self {
+            Instr::Store(_) | Instr::Out(_) | Instr::JumpZ(_) => 0,
+            Instr::Jump(_) | Instr::Begin(_) | Instr::End => 0,
+            _ => 1,
+        }
+    }
 }

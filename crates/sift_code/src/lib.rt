@@ -5,8 +5,10 @@
 
 mod bad;
 mod instr;
+mod limits;
 mod law;
 mod nest;
+mod walk;
 
 pub use bad::Bad;
 pub use instr::Instr;
