@@ -7,3 +7,4 @@ pub mod Progress
 pub mod Leading
 pub mod Ending
 pub mod Tables
+pub mod Walks

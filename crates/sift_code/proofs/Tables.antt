@@ -1,6 +1,8 @@
 -- Entries of the tables of starts and pasts, from the entries beside them.
-use Rattle.std.proofs.Common.{◌≡◌, ℕ, zero, suc, ◌+◌, ◌-◌, ◌<◌, ◌≤◌, List, [], ◌∷◌, ◌++◌, length, drop, Option, Some, None, refl, sym, ap, ◌∙◌, subst, arith, add-one, get_or, inl, inr}
-use Rattle.std.specs.Prelude.{slice_get, slice_index_or, slice_set, ◌≢◌, ◌⊎◌, ◌==◌, true, false}
+use Rattle.std.proofs.Common.{◌≡◌, ℕ, zero, suc, ◌+◌, ◌-◌, ◌<◌, ◌≤◌, List, [], ◌∷◌, ◌++◌, length, drop, Option, Some, None, refl, sym, ap, ◌∙◌, subst, arith, add-one, get_or, inl, inr, eqb}
+use Rattle.std.specs.Prelude.{slice_get, slice_index_or, slice_set, ◌≢◌, ◌⊎◌, ◌==◌, Bool, true, false, IfSome}
+use Rattle.std.specs.Option.{option_eq}
+use Rattle.std.proofs.lemmas.Bool.{eqb-true, eq-eqb}
 use Rattle.std.proofs.lemmas.Bool.Decides.{eqb_tells}
 use Rattle.std.proofs.lemmas.List.{get_or-set_same, get_or-set_other, length-set, drop-drop, length-drop}
 use Rattle.std.proofs.lemmas.Option.{slice_get_within, slice_get-get_or}
@@ -9,7 +11,7 @@ use Rattle.sift_code.specs.declared.instr.Instr.TheVariants.{Begin, End}
 use Rattle.sift_code.specs.Machine.{through_end, one_more}
 use Rattle.sift_code.specs.Enclosing.{opened, opened_by, enclosing, innermost}
 use Rattle.sift_code.specs.Nest.{onward, past_at, start_at}
-use Rattle.sift_code.proofs.Enclosing.{Opened, enclosing_here, opened_before}
+use Rattle.sift_code.proofs.Enclosing.{Opened, enclosing_by_innermost, enclosing_here, opened_before}
 use Rattle.sift_code.proofs.Costs.{drop_here, one_more_some}
 
 -- ---- tables
@@ -230,3 +232,32 @@ start_plain code p _ not_begin not_end = refl
 -- behind another instruction it is that of the place before
 pub start_at-other : (code : List Instr) (p : ℕ) (i : Instr) → slice_get code p ≡ Some i → ((k : ℕ) → i ≡ Begin k → ⊥) → (i ≡ End → ⊥) → start_at code (p + 1) ≡ start_at code p
 start_at-other code p i at not_begin not_end = start_next code p i at ∙ start_plain code p i not_begin not_end
+
+-- ---- what is read of the tables
+
+-- an entry that was read is the entry
+pub read_told : (table : List (Option ℕ)) (k : ℕ) (v w : Option ℕ) → k < length table → v ≡ slice_index_or table k v → slice_index_or table k None ≡ w → v ≡ w
+read_told table k v w within is e = read_entry table k v within is ∙ e
+
+-- a start is not ahead
+pub starts_before : (code : List Instr) (p : ℕ) (o : Option ℕ) → o ≡ start_at code p → IfSome o (λ start. start ≤ p)
+starts_before code p None e = tt
+starts_before code p (Some s) e = (started code p s (sym e)).2.early
+
+option_true : (a b : Option ℕ) → option_eq eqb a b ≡ true → a ≡ b
+option_true None None e = refl
+option_true None (Some n) e = cc
+option_true (Some m) None e = cc
+option_true (Some m) (Some n) e = ap Some (eqb-true m n e)
+
+option_same : (a b : Option ℕ) → a ≡ b → option_eq eqb a b ≡ true
+option_same None None e = refl
+option_same None (Some n) e = cc
+option_same (Some m) None e = cc
+option_same (Some m) (Some n) e = eq-eqb m n cc
+
+-- places are enclosed by the same loops where their starts are the same
+pub same_starts : (code : List Instr) (p q : ℕ) (a b : Option ℕ) (r : Bool) → a ≡ start_at code p → b ≡ start_at code q → r ≡ option_eq eqb a b → (r ≡ true → enclosing code p ≡ enclosing code q) × (enclosing code p ≡ enclosing code q → r ≡ true)
+same_starts code p q a b r a_is b_is r_is =
+    (λ e. enclosing_by_innermost code p q (sym a_is ∙ (option_true a b (sym r_is ∙ e) ∙ b_is)),
+     λ e. r_is ∙ option_same a b (a_is ∙ (ap innermost e ∙ sym b_is)))

@@ -1,6 +1,7 @@
 -- What the check knows on arrival at a place. No public clause cites this module.
 use Rattle.std.specs.Prelude.{◌≡◌, ℕ, ◌+◌, ◌≤◌, ◌==◌, Bool, true, ◌&&◌, List, [], ◌∷◌, length, Option, Some, None, slice_index, slice_index_or}
 use Rattle.sift_code.specs.declared.instr.Instr.{Instr}
+use Rattle.sift_code.specs.declared.instr.Instr.TheVariants.{Jump}
 use Rattle.sift_code.specs.declared.walk.Brought.{Brought}
 use Rattle.sift_code.specs.declared.walk.Walk.{Walk}
 use Rattle.sift_code.specs.Enclosing.{enclosing}
@@ -15,6 +16,11 @@ joined height (Some b) = record { height = height; same = b.same && (b.height ==
 abbrev pub summary : List ℕ → Option Brought
 summary [] = None
 summary (height ∷ rest) = Some (joined height (summary rest))
+
+-- the height behind an instruction, from what was brought there and the height after the instruction
+abbrev pub behind : Instr → Option Brought → ℕ → ℕ
+behind (Jump to) (Some b) after = b.height
+behind i brought after = after
 
 -- the table has a summary of what these arrivals bring to each place
 pub record AreBrought (last : ℕ) (arrivals : List Arrival) (table : List (Option Brought)) : Type 0 where

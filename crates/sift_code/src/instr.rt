@@ -58,8 +58,8 @@ pub enum Instr {
 
 impl Instr {
     /// How many words it pops.
-    pub(crate) fn pops(self) -> u16
-        ensures { result ≡ popped self }
+    pub(crate) fn pops(&self) -> u16
+        ensures { result ≡ popped self.now }
     {
         match self {
             Instr::Push(_) | Instr::Load(_) | Instr::Sense(_) | Instr::Now(_) | Instr::Last(_) => 0,
@@ -71,8 +71,8 @@ impl Instr {
     }
 
     /// How many words it pushes.
-    pub(crate) fn pushes(self) -> u16
-        ensures { result ≡ pushed self }
+    pub(crate) fn pushes(&self) -> u16
+        ensures { result ≡ pushed self.now }
     {
         match self {
             Instr::Store(_) | Instr::Out(_) | Instr::JumpZ(_) => 0,

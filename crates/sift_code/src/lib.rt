@@ -8,6 +8,7 @@ mod instr;
 mod limits;
 mod law;
 mod nest;
+mod refusal;
 mod walk;
 
 pub use bad::Bad;

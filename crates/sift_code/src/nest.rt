@@ -1,4 +1,5 @@
-ghost use Rattle.std.specs.Prelude.{◌≡◌, ◌+◌, ◌<◌, ◌≤◌, ◌^◌, length, slice_get, IfOk};
+ghost use Rattle.std.specs.Prelude.{◌↔◌, IsTrue, IsSome, IfSome, ◌≡◌, ◌+◌, ◌<◌, ◌≤◌, ◌^◌, length, slice_get, IfOk};
+ghost use Rattle.sift_code.specs.Enclosing.{enclosing};
 ghost use Rattle.sift_code.specs.Nest.{AreStarts, ArePasts, start_at, past_at};
 
 use crate::instr::Instr;
@@ -50,7 +51,8 @@ impl Nest {
 
     /// The instruction at a place, and None at the code's length.
     pub fn instr(&self, at: usize) -> Option<Instr>
-        ensures { result ≡ slice_get self.now at }
+        ensures read { result ≡ slice_get self.now at }
+        ensures inside { IsSome result → at < length self.now }
     {
         self.code.get(at).copied()
     }
@@ -58,9 +60,19 @@ impl Nest {
     /// The place after the Begin of the innermost loop that encloses a place.
     pub fn start(&self, at: usize) -> Option<u32>
         requires { at ≤ length self.now }
-        ensures { result ≡ start_at self.now at }
+        ensures found { result ≡ start_at self.now at }
+        ensures before { IfSome result (λ start. start ≤ at) }
     {
         self.starts[at]
+    }
+
+    /// Whether the same loops enclose two places.
+    pub fn same_loops(&self, a: usize, b: usize) -> bool
+        requires a_inside { a ≤ length self.now }
+        requires b_inside { b ≤ length self.now }
+        ensures { IsTrue result ↔ (enclosing self.now a ≡ enclosing self.now b) }
+    {
+        self.start(a) == self.start(b)
     }
 
     /// The place after the End that closes the loop open before this place.
