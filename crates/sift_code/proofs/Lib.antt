@@ -8,3 +8,4 @@ pub mod Leading
 pub mod Ending
 pub mod Tables
 pub mod Walks
+pub mod Passing
