@@ -9,3 +9,5 @@ pub mod Ending
 pub mod Tables
 pub mod Walks
 pub mod Passing
+pub mod Bounds
+pub mod Firsts

@@ -45,17 +45,17 @@ behind-summary _ next trail = refl
 brought_step : (arrival : Arrival) (rest : List Arrival) (p last : ℕ) (table : List (Option Brought)) → length table ≡ last + 1 → arrival.place ≤ last → slice_index_or table p None ≡ summary (brought_to p rest) → ((arrival.place == p) ≡ true) × (arrival.place ≡ p) ⊎ (((arrival.place == p) ≡ false) × (arrival.place ≢ p)) → slice_index_or (slice_set table arrival.place (Some (joined arrival.height (slice_index_or table arrival.place None)))) p None ≡ summary (brought_to p (arrival ∷ rest))
 brought_step arrival rest p last table long within is (inl e) =
     subst (λ (b : Bool). slice_index_or (slice_set table arrival.place (Some (joined arrival.height (slice_index_or table arrival.place None)))) p None ≡ summary (if b then arrival.height ∷ brought_to p rest else brought_to p rest)) (sym e.0)
-      (rw e.1 (get_or-set_same table p (Some (joined arrival.height (slice_index_or table p None))) None (omega (arith, e.1)) ∙ ap (λ o. Some (joined arrival.height o)) is))
+    (rw e.1 (get_or-set_same table p (Some (joined arrival.height (slice_index_or table p None))) None (omega (arith, e.1)) ∙ ap (λ o. Some (joined arrival.height o)) is))
 brought_step arrival rest p last table long within is (inr d) =
     subst (λ (b : Bool). slice_index_or (slice_set table arrival.place (Some (joined arrival.height (slice_index_or table arrival.place None)))) p None ≡ summary (if b then arrival.height ∷ brought_to p rest else brought_to p rest)) (sym d.0)
-      (get_or-set_other table arrival.place p (Some (joined arrival.height (slice_index_or table arrival.place None))) None (λ e. d.1 (sym e)) ∙ is)
+    (get_or-set_other table arrival.place p (Some (joined arrival.height (slice_index_or table arrival.place None))) None (λ e. d.1 (sym e)) ∙ is)
 
 -- one more height is brought
 pub brought_more : (arrival : Arrival) (rest : List Arrival) (last : ℕ) (table : List (Option Brought)) → arrival.place ≤ last → AreBrought last rest table → AreBrought last (arrival ∷ rest) (slice_set table arrival.place (Some (joined arrival.height (slice_index_or table arrival.place None))))
 brought_more arrival rest last table within are = record {
-    long = length-set table arrival.place _ ∙ are.long;
-    entries = λ p to. brought_step arrival rest p last table are.long within (are.entries p to) (eqb_tells arrival.place p);
-  }
+  long = length-set table arrival.place _ ∙ are.long;
+  entries = λ p to. brought_step arrival rest p last table are.long within (are.entries p to) (eqb_tells arrival.place p);
+}
 
 -- a vector whose elements were all written
 pub all_written : (items written : List (Option Brought)) (len : ℕ) → length items ≡ len → length written ≡ length items → take len (written ++ drop (length written) items) ≡ written
@@ -120,11 +120,11 @@ brought_by_jump code p to i w h pop push table written at here brings bad good h
     let high = read_height w.heights.items p h (height_at code p) (omega (arith, here.long)) h_is (here.heights p (omega arith)) in
     let after_is : h - pop + push ≡ height_after i (height_at code p) = cc in
     let wrote : written ≡ slice_set w.brought.items to (Some (joined (height_after i (height_at code p)) (slice_index_or w.brought.items to None))) =
-      is ∙ (ap (λ l. slice_set l to (Some (joined (h - pop + push) (slice_index_or l to None)))) same ∙ ap (λ n. slice_set w.brought.items to (Some (joined n (slice_index_or w.brought.items to None)))) after_is) in
+    is ∙ (ap (λ l. slice_set l to (Some (joined (h - pop + push) (slice_index_or l to None)))) same ∙ ap (λ n. slice_set w.brought.items to (Some (joined n (slice_index_or w.brought.items to None)))) after_is) in
     let all = all_written w.brought.items written w.brought.len (sym w.brought.ok.0) (ap (length {A = Option Brought}) wrote ∙ length-set w.brought.items to _) in
     let more = brought_more (record { place = to; height = height_after i (height_at code p) }) (trail_at code p).brought (length code) w.brought.items (target_within code p to i at bad good) here.brought in
     subst (λ l. AreBrought (length code) l (take w.brought.len (written ++ drop (length written) w.brought.items))) (sym brings)
-      (subst (λ (l : List (Option Brought)). AreBrought (length code) (record { place = to; height = height_after i (height_at code p) } ∷ (trail_at code p).brought) l) (sym (all ∙ wrote)) more)
+    (subst (λ (l : List (Option Brought)). AreBrought (length code) (record { place = to; height = height_after i (height_at code p) } ∷ (trail_at code p).brought) l) (sym (all ∙ wrote)) more)
 
 -- the instruction is one of the two jumps to a place
 abbrev pub IsJump : Instr → ℕ → Type 0

@@ -61,6 +61,9 @@ read_to entry at last table k v tells to within is = read_entry table k v (omega
 pub read_instr : (code : List Instr) (k : ℕ) (i : Instr) → k < length code → i ≡ slice_index_or code k i → slice_get code k ≡ Some i
 read_instr code k i within is = slice_get-get_or code k i within ∙ ap Some (sym is)
 
+pub read_item : (items code : List Instr) (k : ℕ) (i : Instr) → items ≡ code → k < length items → i ≡ slice_index_or items k i → slice_get code k ≡ Some i
+read_item items code k i same within is = subst (λ l. slice_get l k ≡ Some i) same (read_instr items k i within is)
+
 -- ---- pasts
 
 onward_more : (p : ℕ) (o : Option ℕ) → onward p (one_more o) ≡ onward (p + 1) o
@@ -258,6 +261,7 @@ option_same (Some m) (Some n) e = eq-eqb m n cc
 
 -- places are enclosed by the same loops where their starts are the same
 pub same_starts : (code : List Instr) (p q : ℕ) (a b : Option ℕ) (r : Bool) → a ≡ start_at code p → b ≡ start_at code q → r ≡ option_eq eqb a b → (r ≡ true → enclosing code p ≡ enclosing code q) × (enclosing code p ≡ enclosing code q → r ≡ true)
-same_starts code p q a b r a_is b_is r_is =
-    (λ e. enclosing_by_innermost code p q (sym a_is ∙ (option_true a b (sym r_is ∙ e) ∙ b_is)),
-     λ e. r_is ∙ option_same a b (a_is ∙ (ap innermost e ∙ sym b_is)))
+same_starts code p q a b r a_is b_is r_is = (
+  λ e. enclosing_by_innermost code p q (sym a_is ∙ (option_true a b (sym r_is ∙ e) ∙ b_is)),
+  λ e. r_is ∙ option_same a b (a_is ∙ (ap innermost e ∙ sym b_is)),
+)

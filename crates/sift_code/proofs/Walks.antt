@@ -21,22 +21,22 @@ summary_none (h ∷ hs) e = cc
 
 sums_one : (h : ℕ) → Sums (h ∷ []) (record { height = h; same = true })
 sums_one h = record {
-    alike = λ e. All-cons (λ x. x ≡ h) h [] refl (All-nil (λ x. x ≡ h));
-    unlike = λ e x all. cc;
-    latest = λ x all. All-head (λ y. y ≡ x) h [] all;
-  }
+  alike = λ e. All-cons (λ x. x ≡ h) h [] refl (All-nil (λ x. x ≡ h));
+  unlike = λ e x all. cc;
+  latest = λ x all. All-head (λ y. y ≡ x) h [] all;
+}
 
 sums_more : (h : ℕ) (hs : List ℕ) (b : Brought) → Sums hs b → ((b.height == h) ≡ true) × (b.height ≡ h) ⊎ (((b.height == h) ≡ false) × (b.height ≢ h)) → Sums (h ∷ hs) (record { height = h; same = b.same && (b.height == h) })
 sums_more h hs b s (inl e) = record {
-    alike = λ same. All-cons (λ x. x ≡ h) h hs refl (subst (λ (y : ℕ). All (λ x. x ≡ y) hs) e.1 (s.alike (grind (arith, e.0))));
-    unlike = λ same x all. s.unlike (grind (arith, e.0)) x (All-tail (λ y. y ≡ x) h hs all);
-    latest = λ x all. All-head (λ y. y ≡ x) h hs all;
-  }
+  alike = λ same. All-cons (λ x. x ≡ h) h hs refl (subst (λ (y : ℕ). All (λ x. x ≡ y) hs) e.1 (s.alike (grind (arith, e.0))));
+  unlike = λ same x all. s.unlike (grind (arith, e.0)) x (All-tail (λ y. y ≡ x) h hs all);
+  latest = λ x all. All-head (λ y. y ≡ x) h hs all;
+}
 sums_more h hs b s (inr d) = record {
-    alike = λ same. absurd (grind (arith, d.0));
-    unlike = λ same x all. d.1 (s.latest x (All-tail (λ y. y ≡ x) h hs all) ∙ sym (All-head (λ y. y ≡ x) h hs all));
-    latest = λ x all. All-head (λ y. y ≡ x) h hs all;
-  }
+  alike = λ same. absurd (grind (arith, d.0));
+  unlike = λ same x all. d.1 (s.latest x (All-tail (λ y. y ≡ x) h hs all) ∙ sym (All-head (λ y. y ≡ x) h hs all));
+  latest = λ x all. All-head (λ y. y ≡ x) h hs all;
+}
 
 sums_joined : (h : ℕ) (hs : List ℕ) → ((b : Brought) → summary hs ≡ Some b → Sums hs b) → (o : Option Brought) → summary hs ≡ o → Sums (h ∷ hs) (joined h o)
 sums_joined h hs ih None is = subst (λ (l : List ℕ). Sums (h ∷ l) (record { height = h; same = true })) (sym (summary_none hs is)) (sums_one h)

@@ -6,3 +6,4 @@ pub mod Refusal
 pub mod Ends
 pub mod Nest
 pub mod Walk
+pub mod Kept

@@ -1,3 +1,5 @@
+use sift_base::NoMemory;
+
 /// Why code is refused, and at which place: the first that offends.
 ///
 /// At one place the first in this order is answered: BadJump, Unequal, Underflow, TooDeep, BadOperand.
@@ -16,4 +18,15 @@ pub enum Bad {
     BadOperand { at: u32 },
     /// An allocation failed. It says nothing of the code.
     NoMemory,
+}
+
+impl From<NoMemory> for Bad {
+    ghost use Rattle.std.specs.Prelude.{◌≡◌};
+    ghost use Rattle.sift_code.specs.declared.bad.Bad.TheVariants.{NoMemory};
+
+    ghost from_gives = { λ _ bad. bad ≡ NoMemory };
+
+    fn from(_: NoMemory) -> Self {
+        Bad::NoMemory
+    }
 }

@@ -4,13 +4,15 @@
 #![tactic(auto)]
 
 mod bad;
+mod checked;
 mod instr;
-mod limits;
 mod law;
+mod limits;
 mod nest;
 mod refusal;
 mod walk;
 
 pub use bad::Bad;
+pub use checked::{Checked, verify};
 pub use instr::Instr;
 pub use law::checked_code_ends;

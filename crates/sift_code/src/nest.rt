@@ -49,6 +49,13 @@ impl Nest {
         self.code.len()
     }
 
+    /// The instructions.
+    pub fn code(&self) -> &[Instr]
+        ensures { result.now ≡ self.now }
+    {
+        &self.code
+    }
+
     /// The instruction at a place, and None at the code's length.
     pub fn instr(&self, at: usize) -> Option<Instr>
         ensures read { result ≡ slice_get self.now at }
