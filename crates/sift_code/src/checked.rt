@@ -119,3 +119,6 @@ fn bound(nest: &Nest, limits: &Limits) -> u32
     }
     bound
 }
+
+#[cfg(test)]
+mod tests;
