@@ -1,18 +1,18 @@
 -- Sound code comes to its end within its bound.
-use Rattle.std.proofs.Common.{◌≡◌, ℕ, zero, suc, ◌+◌, ◌-◌, ◌*◌, ◌<◌, ◌≤◌, Bool, true, false, List, [], ◌∷◌, length, drop, Option, Some, None, refl, sym, ap, ◌∙◌, subst, arith, replicate, inl, inr}
-use Rattle.std.specs.Prelude.{slice_get, if◌then◌else◌, ◌==◌, ◌⊎◌, ◌≢◌}
+use Rattle.std.proofs.Common.{◌≡◌, ℕ, zero, suc, ◌+◌, ◌*◌, ◌<◌, ◌≤◌, Bool, true, false, List, [], ◌∷◌, length, drop, refl, ap, ◌∙◌, arith, inl, inr}
+use Rattle.std.specs.Prelude.{if◌then◌else◌, ◌==◌, ◌⊎◌, ◌≢◌}
 use Rattle.std.proofs.lemmas.Bool.Decides.{eqb_tells}
 use Rattle.std.proofs.lemmas.List.{length-replicate}
 use Rattle.sift_code.specs.declared.instr.Instr.{Instr}
 use Rattle.sift_code.specs.declared.instr.Instr.TheVariants.{Begin, End}
-use Rattle.sift_code.specs.Machine.{Loop, State, Inputs, local_count, start_state, step, after, exec, Outcome, Done, Unfinished}
+use Rattle.sift_code.specs.Machine.{State, Inputs, local_count, start_state, step, after, exec, Outcome, Done, Unfinished}
 use Rattle.sift_code.specs.Bound.{product, sum_within, bound_of}
-use Rattle.sift_code.specs.Refusal.{Limits, Program, IsSound}
+use Rattle.sift_code.specs.Refusal.{Program, IsSound}
 use Rattle.sift_code.specs.Ends.{Fits, RunsTo, Ends}
 use Rattle.sift_code.proofs.Costs.{head0, tail0, cost_step, costs, costs_here}
 use Rattle.sift_code.proofs.Remaining.{remaining, some_left}
 use Rattle.sift_code.proofs.Sound.{at_place}
-use Rattle.sift_code.proofs.Progress.{Agrees, Leads, left_of}
+use Rattle.sift_code.proofs.Progress.{Agrees, left_of}
 use Rattle.sift_code.proofs.Leading.{step_leads}
 
 -- ---- what is left to do is at most the bound

@@ -1,10 +1,8 @@
 -- The first place that offends.
-use Rattle.std.proofs.Common.{◌≡◌, ◌+◌, ℕ, ◌<◌, ◌≤◌, length, Option, Some, refl, sym, ap, ◌∙◌, subst, arith, get_or, inl, inr}
+use Rattle.std.proofs.Common.{◌≡◌, ℕ, ◌<◌, ◌≤◌, length, sym, subst, arith, inl, inr}
 use Rattle.std.specs.Prelude.{◌≢◌, ◌⊎◌, ◌==◌, true, false}
 use Rattle.std.proofs.lemmas.Bool.Decides.{eqb_tells}
-use Rattle.std.proofs.lemmas.Option.{slice_get-get_or}
 use Rattle.sift_code.specs.declared.bad.Bad.{Bad}
-use Rattle.sift_code.specs.declared.bad.Bad.TheVariants.{NoMemory}
 use Rattle.sift_code.specs.Refusal.{Program, Refuses, place_of, IsFree, IsFirst}
 
 -- a refusal at a place before which nothing offends

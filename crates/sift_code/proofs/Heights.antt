@@ -1,12 +1,12 @@
 -- Heights: what a jump brings is there when its target comes.
-use Rattle.std.proofs.Common.{◌≡◌, ℕ, zero, suc, ◌+◌, ◌-◌, ◌<◌, ◌≤◌, Bool, true, false, List, [], ◌∷◌, Option, Some, None, refl, sym, ap, ◌∙◌, subst, arith, add-one, eq-eqb, inl, inr}
-use Rattle.std.specs.Prelude.{slice_get, ◌≢◌, ◌⊎◌, ◌==◌, if◌then◌else◌}
+use Rattle.std.proofs.Common.{◌≡◌, ℕ, zero, suc, ◌+◌, ◌-◌, ◌<◌, Bool, true, false, List, ◌∷◌, Option, Some, None, refl, sym, ap, subst, arith, add-one, eq-eqb, inl, inr}
+use Rattle.std.specs.Prelude.{slice_get, ◌≢◌, ◌==◌, if◌then◌else◌}
 use Rattle.std.specs.List.{All}
 use Rattle.std.proofs.lemmas.Bool.Decides.{eqb_tells}
 use Rattle.std.proofs.lemmas.List.Elements.{All-head, All-tail}
 use Rattle.sift_code.specs.declared.instr.Instr.{Instr}
 use Rattle.sift_code.specs.declared.instr.Instr.TheVariants.{JumpZ, Jump}
-use Rattle.sift_code.specs.Heights.{Arrival, Trail, trail_at, height_at, heights_brought, brought_to, brought_by, followed, next_height, height_after}
+use Rattle.sift_code.specs.Heights.{Arrival, Trail, trail_at, height_at, brought_to, brought_by, followed, next_height, height_after}
 
 -- one place on
 pub trail_here : (code : List Instr) (p : ℕ) (i : Instr) → slice_get code p ≡ Some i → trail_at code (p + 1) ≡ followed (Some i) (p + 1) (trail_at code p)

@@ -1,19 +1,19 @@
 -- Each instruction of sound code leads on: jumps, loops, and all of them together.
-use Rattle.std.proofs.Common.{◌≡◌, ℕ, zero, suc, ◌+◌, ◌-◌, ◌*◌, ◌<◌, ◌≤◌, Bool, true, false, List, [], ◌∷◌, length, drop, Option, Some, None, refl, sym, ap, ◌∙◌, subst, arith, map, get_or}
+use Rattle.std.proofs.Common.{◌≡◌, ℕ, zero, suc, ◌+◌, ◌-◌, ◌*◌, ◌<◌, ◌≤◌, Bool, true, false, List, [], ◌∷◌, length, drop, Some, refl, sym, ap, ◌∙◌, subst, arith, get_or}
 use Rattle.std.specs.Prelude.{slice_get, if◌then◌else◌, ◌==◌}
 use Rattle.std.proofs.lemmas.Option.{slice_get_within, slice_get-get_or}
-use Rattle.sift_base.specs.Word.{add, sub, mul, div, rem, and, or, xor, shl, shr, lt, eq, mid}
+use Rattle.sift_base.specs.Word.{add, sub, mul, div, rem, and, or, xor, shl, shr, lt, eq}
 use Rattle.sift_code.specs.declared.instr.Instr.{Instr}
 use Rattle.sift_code.specs.declared.instr.Instr.TheVariants.{Push, Load, Store, Sense, Now, Last, Out, Add, Sub, Mul, Div, Rem, And, Or, Xor, Shl, Shr, Lt, Eq, Mid, JumpZ, Jump, Begin, End}
 use Rattle.sift_code.specs.Machine.{Loop, State, Inputs, local_count, effect, step, effect_of, tested, skipped, begun, round_ended, ended, through_end}
 use Rattle.sift_code.specs.Enclosing.{enclosing}
-use Rattle.sift_code.specs.Heights.{Trail, trail_at, height_at, height_after, pops}
-use Rattle.sift_code.specs.Refusal.{Limits, Program, IsSound}
+use Rattle.sift_code.specs.Heights.{height_at}
+use Rattle.sift_code.specs.Refusal.{Program, IsSound}
 use Rattle.sift_code.specs.Ends.{Fits}
 use Rattle.sift_code.proofs.Enclosing.{opened_before}
 use Rattle.sift_code.proofs.Costs.{head0, tail0, cost_step, costs, costs_here, nested_here, between, past_end}
 use Rattle.sift_code.proofs.Heights.{height_here}
-use Rattle.sift_code.proofs.Remaining.{remaining, remaining_more, remaining_none, remaining_begin, another_round}
+use Rattle.sift_code.proofs.Remaining.{remaining, remaining_none, remaining_begin, another_round}
 use Rattle.sift_code.proofs.Sound.{braced, filled, named, same_round, jumpz_lands, jump_lands}
 use Rattle.sift_code.proofs.Progress.{Agrees, AreGoing, Leads, starts_of, left_of, present, on, push, combine, middle, store, put, jump}
 

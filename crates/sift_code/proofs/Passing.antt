@@ -1,5 +1,5 @@
 -- The walk goes on over an instruction.
-use Rattle.std.proofs.Common.{◌≡◌, ℕ, zero, suc, ◌+◌, ◌-◌, ◌<◌, ◌≤◌, Bool, true, false, List, [], ◌∷◌, ◌++◌, length, take, drop, Option, Some, None, refl, sym, ap, ◌∙◌, subst, arith, add-one, get_or, inl, inr, append-nil}
+use Rattle.std.proofs.Common.{◌≡◌, ℕ, ◌+◌, ◌-◌, ◌<◌, ◌≤◌, Bool, true, false, List, [], ◌∷◌, ◌++◌, length, take, drop, Option, Some, None, refl, sym, ap, ◌∙◌, subst, arith, add-one, inl, inr, append-nil}
 use Rattle.std.specs.Prelude.{slice_get, slice_set, slice_index, slice_index_or, ◌≢◌, ◌⊎◌, ◌==◌, if◌then◌else◌, max}
 use Rattle.std.proofs.lemmas.Bool.Decides.{eqb_tells}
 use Rattle.std.proofs.Math.ListN.{drop_of_length-le}
@@ -10,7 +10,7 @@ use Rattle.sift_code.specs.declared.walk.Brought.{Brought}
 use Rattle.sift_code.specs.declared.walk.Walk.{Walk}
 use Rattle.sift_code.specs.Machine.{through_end}
 use Rattle.sift_code.specs.Enclosing.{opened, opened_by, enclosing}
-use Rattle.sift_code.specs.Heights.{Arrival, Trail, trail_at, height_at, height_after, pops, pushes, next_height, height_behind, stack_through, behind_jump, brought_by, brought_to, followed}
+use Rattle.sift_code.specs.Heights.{Arrival, Trail, trail_at, height_at, height_after, pops, pushes, next_height, height_behind, behind_jump, brought_by, brought_to}
 use Rattle.sift_code.specs.Refusal.{IsBadJump, IsBadJumpAt, IsBadTarget}
 use Rattle.sift_code.specs.Walk.{joined, summary, behind, AreBrought, IsAt}
 use Rattle.sift_code.proofs.Enclosing.{enclosing_here}

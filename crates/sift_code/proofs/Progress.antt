@@ -1,22 +1,21 @@
 -- Each instruction of sound code leads on, and leaves less to do.
-use Rattle.std.proofs.Common.{◌≡◌, ℕ, zero, suc, ◌+◌, ◌-◌, ◌*◌, ◌<◌, ◌≤◌, Bool, true, false, List, [], ◌∷◌, length, drop, Option, Some, None, refl, sym, ap, ◌∙◌, subst, arith, map, get_or}
-use Rattle.std.specs.Prelude.{slice_get, slice_set, nat_lt, if◌then◌else◌, ◌==◌}
+use Rattle.std.proofs.Common.{◌≡◌, ℕ, ◌+◌, ◌-◌, ◌<◌, ◌≤◌, Bool, true, List, [], ◌∷◌, length, drop, Option, Some, None, refl, sym, ap, ◌∙◌, subst, arith, map, get_or}
+use Rattle.std.specs.Prelude.{slice_get, slice_set, nat_lt, if◌then◌else◌}
 use Rattle.std.proofs.lemmas.Option.{slice_get_within, slice_get-get_or}
 use Rattle.std.proofs.lemmas.Bool.Decides.{nat_tests}
 use Rattle.std.proofs.lemmas.List.{length-set}
-use Rattle.sift_base.specs.Word.{add, sub, mul, div, rem, and, or, xor, shl, shr, lt, eq, mid}
+use Rattle.sift_base.specs.Word.{mid}
 use Rattle.sift_code.specs.declared.instr.Instr.{Instr}
-use Rattle.sift_code.specs.declared.instr.Instr.TheVariants.{Push, Load, Store, Sense, Now, Last, Out, Add, Sub, Mul, Div, Rem, And, Or, Xor, Shl, Shr, Lt, Eq, Mid, JumpZ, Jump, Begin, End}
-use Rattle.sift_code.specs.Machine.{Loop, State, Inputs, local_count, effect, on_with, pushed, combined, middled, stored, put_out, tested, skipped, begun, round_ended, ended, through_end}
+use Rattle.sift_code.specs.declared.instr.Instr.TheVariants.{Store, Out, Mid}
+use Rattle.sift_code.specs.Machine.{Loop, State, Inputs, local_count, on_with, pushed, combined, middled, stored, put_out}
 use Rattle.sift_code.specs.Enclosing.{enclosing}
-use Rattle.sift_code.specs.Heights.{Trail, trail_at, height_at, height_after, next_height, pops}
-use Rattle.sift_code.specs.Refusal.{Limits, Program, IsSound, IsBadOperandAt}
+use Rattle.sift_code.specs.Heights.{Trail, trail_at, height_at, height_after, next_height}
+use Rattle.sift_code.specs.Refusal.{Program, IsSound}
 use Rattle.sift_code.specs.Ends.{Fits}
-use Rattle.sift_code.proofs.Enclosing.{opened_before}
-use Rattle.sift_code.proofs.Costs.{head0, tail0, cost_step, costs, costs_here, nested, nested_here, between, past_end}
+use Rattle.sift_code.proofs.Costs.{head0, tail0, cost_step, costs, costs_here, nested, nested_here, between}
 use Rattle.sift_code.proofs.Heights.{height_here}
-use Rattle.sift_code.proofs.Remaining.{remaining, remaining_more, remaining_falls, remaining_none, remaining_begin, another_round}
-use Rattle.sift_code.proofs.Sound.{braced, filled, named, same_round, jumpz_lands, jump_lands, Lands}
+use Rattle.sift_code.proofs.Remaining.{remaining, remaining_more, remaining_falls}
+use Rattle.sift_code.proofs.Sound.{braced, filled, named, Lands}
 
 -- an instruction that only goes on to the next place
 pub record IsPlain (i : Instr) : Type 0 where

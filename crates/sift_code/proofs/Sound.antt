@@ -1,17 +1,16 @@
 -- What is known at each place of sound code.
-use Rattle.std.proofs.Common.{◌≡◌, ℕ, zero, suc, ◌+◌, ◌-◌, ◌<◌, ◌≤◌, List, [], ◌∷◌, length, drop, Option, Some, None, refl, sym, ap, ◌∙◌, subst, arith, inl, inr, get_or}
-use Rattle.std.specs.Prelude.{slice_get, ◌≢◌, ◌⊎◌}
-use Rattle.std.specs.List.{All}
+use Rattle.std.proofs.Common.{◌≡◌, ℕ, ◌+◌, ◌<◌, ◌≤◌, List, ◌∷◌, length, drop, Option, Some, None, refl, sym, subst, arith, inl, inr, get_or}
+use Rattle.std.specs.Prelude.{slice_get}
 use Rattle.std.proofs.lemmas.Option.{slice_get_within, slice_get-get_or}
 use Rattle.sift_code.specs.declared.instr.Instr.{Instr}
 use Rattle.sift_code.specs.declared.instr.Instr.TheVariants.{JumpZ, Jump, Begin, End}
 use Rattle.sift_code.specs.Machine.{through_end}
 use Rattle.sift_code.specs.Enclosing.{enclosing}
-use Rattle.sift_code.specs.Heights.{trail_at, height_at, heights_brought, height_after, pops}
-use Rattle.sift_code.specs.Refusal.{Limits, Program, IsBadTarget, IsBadJumpAt, IsUnequalEnd, IsUnequalRound, IsUnequal, IsUnderflowAt, IsTallAt, IsCrowdedAt, IsBadOperandAt, IsFree, IsSound, stack_limit, loop_limit}
+use Rattle.sift_code.specs.Heights.{trail_at, height_at, height_after, pops}
+use Rattle.sift_code.specs.Refusal.{Program, IsBadTarget, IsBadJumpAt, IsUnequalEnd, IsUnequalRound, IsUnderflowAt, IsTallAt, IsCrowdedAt, IsBadOperandAt, IsFree, IsSound, stack_limit, loop_limit}
 use Rattle.sift_code.proofs.Enclosing.{same_enclosing}
-use Rattle.sift_code.proofs.Costs.{IsBraced, Past, past_end, nested_here}
-use Rattle.sift_code.proofs.Heights.{same_number, Carries, jumpz_carries, jump_carries, height_here}
+use Rattle.sift_code.proofs.Costs.{IsBraced}
+use Rattle.sift_code.proofs.Heights.{same_number, Carries, jumpz_carries, jump_carries}
 
 -- a jump may go there, and this is the height there
 pub record Lands (code : List Instr) (p to height : ℕ) : Type 0 where

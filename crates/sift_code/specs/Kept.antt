@@ -1,5 +1,5 @@
 -- What checked code keeps, and how its bound is found. No public clause cites this module.
-use Rattle.std.specs.Prelude.{◌≡◌, ℕ, zero, suc, ◌+◌, List, [], ◌∷◌, ◌++◌, length, Option, Some, None, drop, slice_get}
+use Rattle.std.specs.Prelude.{◌≡◌, ℕ, zero, suc, ◌+◌, List, [], ◌∷◌, ◌++◌, length, Option, Some, drop, slice_get}
 use Rattle.sift_code.specs.declared.instr.Instr.{Instr}
 use Rattle.sift_code.specs.declared.instr.Instr.TheVariants.{Begin, End}
 use Rattle.sift_code.specs.Heights.{stack_through}

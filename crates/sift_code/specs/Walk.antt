@@ -1,11 +1,11 @@
 -- What the check knows on arrival at a place. No public clause cites this module.
-use Rattle.std.specs.Prelude.{◌≡◌, ℕ, ◌+◌, ◌≤◌, ◌==◌, Bool, true, ◌&&◌, List, [], ◌∷◌, length, Option, Some, None, slice_index, slice_index_or}
+use Rattle.std.specs.Prelude.{◌≡◌, ℕ, ◌+◌, ◌≤◌, ◌==◌, true, ◌&&◌, List, [], ◌∷◌, length, Option, Some, None, slice_index, slice_index_or}
 use Rattle.sift_code.specs.declared.instr.Instr.{Instr}
 use Rattle.sift_code.specs.declared.instr.Instr.TheVariants.{Jump}
 use Rattle.sift_code.specs.declared.walk.Brought.{Brought}
 use Rattle.sift_code.specs.declared.walk.Walk.{Walk}
 use Rattle.sift_code.specs.Enclosing.{enclosing}
-use Rattle.sift_code.specs.Heights.{height_at, heights_brought, stack_through, trail_at, brought_to, Arrival}
+use Rattle.sift_code.specs.Heights.{height_at, stack_through, trail_at, brought_to, Arrival}
 
 -- one more height that was brought
 abbrev pub joined : ℕ → Option Brought → Brought

@@ -3,6 +3,7 @@ ghost use Rattle.std.specs.Prelude.{◌≤◌, length};
 use super::*;
 use crate::instr::Instr::*;
 use sift_base::Word;
+use std::alloc::AllocError;
 use std::process::Abort;
 use std::test::Fail;
 
@@ -36,7 +37,6 @@ fn expect_answers(rt: &impl Abort, alloc: Global, rows: &[Row]) -> Result<(), Fa
 
 #[test]
 fn jumps_go_ahead_within_their_loops(rt: HostRuntime) -> Result<(), Fail> {
-    let one = Push(Word::of(1));
     let rows: [Row; 17] = [
         (&[Jump(0)], Err(Bad::BadJump { at: 0 }), "a jump to itself"),
         (&[Jump(1)], Ok((0, 1)), "a jump to the end"),
@@ -45,10 +45,14 @@ fn jumps_go_ahead_within_their_loops(rt: HostRuntime) -> Result<(), Fail> {
             Err(Bad::BadJump { at: 0 }),
             "a jump past the end",
         ),
-        (&[one, JumpZ(0)], Err(Bad::BadJump { at: 1 }), "a jump back"),
-        (&[one, JumpZ(2)], Ok((1, 2)), "a test before the end"),
         (
-            &[one, JumpZ(3)],
+            &[Load(0), JumpZ(0)],
+            Err(Bad::BadJump { at: 1 }),
+            "a jump back",
+        ),
+        (&[Load(0), JumpZ(2)], Ok((1, 2)), "a test before the end"),
+        (
+            &[Load(0), JumpZ(3)],
             Err(Bad::BadJump { at: 1 }),
             "a test that goes past the end",
         ),
@@ -105,7 +109,6 @@ fn jumps_go_ahead_within_their_loops(rt: HostRuntime) -> Result<(), Fail> {
 
 #[test]
 fn loops_are_matched_as_brackets(rt: HostRuntime) -> Result<(), Fail> {
-    let one = Push(Word::of(1));
     let rows: [Row; 13] = [
         (&[Begin(1)], Err(Bad::BadJump { at: 0 }), "a Begin alone"),
         (&[End], Err(Bad::BadJump { at: 0 }), "an End alone"),
@@ -128,7 +131,7 @@ fn loops_are_matched_as_brackets(rt: HostRuntime) -> Result<(), Fail> {
             "loops in a row",
         ),
         (
-            &[Begin(3), one, Out(0), End],
+            &[Begin(3), Load(0), Out(0), End],
             Ok((1, 10)),
             "three rounds of three",
         ),
@@ -158,7 +161,6 @@ fn loops_are_matched_as_brackets(rt: HostRuntime) -> Result<(), Fail> {
 
 #[test]
 fn operands_are_on_the_stack(rt: HostRuntime) -> Result<(), Fail> {
-    let one = Push(Word::of(1));
     let rows: [Row; 8] = [
         (
             &[Out(0)],
@@ -176,18 +178,22 @@ fn operands_are_on_the_stack(rt: HostRuntime) -> Result<(), Fail> {
             "no word to test",
         ),
         (
-            &[one, Add],
+            &[Load(0), Add],
             Err(Bad::Underflow { at: 1 }),
             "one word to add",
         ),
-        (&[one, one, Add, Out(0)], Ok((2, 4)), "two words to add"),
         (
-            &[one, one, Mid],
+            &[Load(0), Load(0), Add, Out(0)],
+            Ok((2, 4)),
+            "two words to add",
+        ),
+        (
+            &[Load(0), Load(0), Mid],
             Err(Bad::Underflow { at: 2 }),
             "two words and a Mid",
         ),
         (
-            &[one, one, one, Mid, Out(0)],
+            &[Load(0), Load(0), Load(0), Mid, Out(0)],
             Ok((3, 5)),
             "three words and a Mid",
         ),
@@ -202,45 +208,44 @@ fn operands_are_on_the_stack(rt: HostRuntime) -> Result<(), Fail> {
 
 #[test]
 fn heights_that_meet_are_the_same(rt: HostRuntime) -> Result<(), Fail> {
-    let one = Push(Word::of(1));
     let rows: [Row; 8] = [
         (
-            &[one],
+            &[Load(0)],
             Err(Bad::Unequal { at: 1 }),
             "a word left at the end",
         ),
         (
-            &[Begin(2), one, End, Out(0)],
+            &[Begin(2), Load(0), End, Out(0)],
             Err(Bad::Unequal { at: 2 }),
             "a word more after each round",
         ),
         (
-            &[one, Begin(2), Store(0), End],
+            &[Load(0), Begin(2), Store(0), End],
             Err(Bad::Unequal { at: 3 }),
             "a word less after each round",
         ),
         (
-            &[one, JumpZ(5), one, Jump(5), Out(0)],
+            &[Load(0), JumpZ(5), Load(0), Jump(5), Out(0)],
             Err(Bad::Unequal { at: 5 }),
             "two jumps with two heights",
         ),
         (
-            &[one, JumpZ(4), one, Jump(5), one, Out(0)],
+            &[Load(0), JumpZ(4), Load(0), Jump(5), Load(0), Out(0)],
             Ok((1, 6)),
             "either of two words",
         ),
         (
-            &[one, JumpZ(4), Jump(5), one, Out(0)],
+            &[Load(0), JumpZ(4), Jump(5), Load(0), Out(0)],
             Err(Bad::Unequal { at: 4 }),
             "a word on one way alone",
         ),
         (
-            &[one, Jump(4), one, one, Out(0)],
+            &[Load(0), Jump(4), Load(0), Load(0), Out(0)],
             Err(Bad::Unequal { at: 4 }),
             "a height kept behind a jump",
         ),
         (
-            &[one, Jump(3), Add, Out(0)],
+            &[Load(0), Jump(3), Add, Out(0)],
             Err(Bad::Underflow { at: 2 }),
             "code that no jump reaches",
         ),
@@ -250,7 +255,6 @@ fn heights_that_meet_are_the_same(rt: HostRuntime) -> Result<(), Fail> {
 
 #[test]
 fn operands_are_there(rt: HostRuntime) -> Result<(), Fail> {
-    let one = Push(Word::of(1));
     let rows: [Row; 11] = [
         (&[Load(31), Out(0)], Ok((1, 2)), "the last local"),
         (
@@ -258,9 +262,9 @@ fn operands_are_there(rt: HostRuntime) -> Result<(), Fail> {
             Err(Bad::BadOperand { at: 0 }),
             "no such local to load",
         ),
-        (&[one, Store(31)], Ok((1, 2)), "the last local stored"),
+        (&[Load(0), Store(31)], Ok((1, 2)), "the last local stored"),
         (
-            &[one, Store(32)],
+            &[Load(0), Store(32)],
             Err(Bad::BadOperand { at: 1 }),
             "no such local to store",
         ),
@@ -287,7 +291,7 @@ fn operands_are_there(rt: HostRuntime) -> Result<(), Fail> {
             "no such word of the frame before",
         ),
         (
-            &[one, Out(1)],
+            &[Load(0), Out(1)],
             Err(Bad::BadOperand { at: 1 }),
             "no such output word",
         ),
@@ -297,7 +301,6 @@ fn operands_are_there(rt: HostRuntime) -> Result<(), Fail> {
 
 #[test]
 fn the_first_reason_at_a_place_is_answered(rt: HostRuntime) -> Result<(), Fail> {
-    let one = Push(Word::of(1));
     let rows: [Row; 6] = [
         (
             &[JumpZ(0)],
@@ -305,17 +308,17 @@ fn the_first_reason_at_a_place_is_answered(rt: HostRuntime) -> Result<(), Fail> 
             "a bad jump before too little",
         ),
         (
-            &[one, JumpZ(3), one, Jump(0)],
+            &[Load(0), JumpZ(3), Load(0), Jump(0)],
             Err(Bad::BadJump { at: 3 }),
             "a bad jump before unequal heights",
         ),
         (
-            &[one, JumpZ(3), one, Mid],
+            &[Load(0), JumpZ(3), Load(0), Mid],
             Err(Bad::Unequal { at: 3 }),
             "unequal heights before too little",
         ),
         (
-            &[one, JumpZ(3), one, Out(9)],
+            &[Load(0), JumpZ(3), Load(0), Out(9)],
             Err(Bad::Unequal { at: 3 }),
             "unequal heights before no output",
         ),
@@ -335,12 +338,11 @@ fn the_first_reason_at_a_place_is_answered(rt: HostRuntime) -> Result<(), Fail> 
 
 #[test]
 fn codes_without_a_sensor(rt: HostRuntime) -> Result<(), Fail> {
-    let one = Push(Word::of(1));
     let rows: [Row; 6] = [
         (&[Add], Err(Bad::Underflow { at: 0 }), "a sum of nothing"),
         (&[Jump(0)], Err(Bad::BadJump { at: 0 }), "a jump to itself"),
         (
-            &[one, JumpZ(3), one, Out(0)],
+            &[Load(0), JumpZ(3), Load(0), Out(0)],
             Err(Bad::Unequal { at: 3 }),
             "two heights at an Out",
         ),
@@ -349,7 +351,7 @@ fn codes_without_a_sensor(rt: HostRuntime) -> Result<(), Fail> {
             Err(Bad::BadOperand { at: 0 }),
             "no sensor",
         ),
-        (&[one, Out(0)], Ok((1, 2)), "one word put out"),
+        (&[Load(0), Out(0)], Ok((1, 2)), "one word put out"),
         (&[], Ok((0, 0)), "empty code"),
     ];
     for (code, want, row) in rows {
@@ -363,58 +365,88 @@ fn codes_without_a_sensor(rt: HostRuntime) -> Result<(), Fail> {
 /// So many of one instruction, then so many of another.
 fn runs_of(
     alloc: Global,
-    (first, count): (Instr, usize),
-    (second, more): (Instr, usize),
-) -> Result<Vec<Instr>, Fail> {
-    let mut code = vec![in alloc; first; count]?;
-    for _ in 0..more {
-        code.push(second)?;
+    first: &Instr,
+    count: usize,
+    second: &Instr,
+    more: usize,
+) -> Result<Vec<Instr>, AllocError> {
+    let mut code = Vec::new(alloc);
+    for at in 0..count.saturating_add(more) {
+        code.push(if at < count { *first } else { *second })?;
     }
     Ok(code)
 }
 
+/// Checks so many of one instruction, then so many of another.
+fn expect_runs(
+    rt: &impl Abort,
+    alloc: Global,
+    (first, count): (Instr, usize),
+    (second, more): (Instr, usize),
+    want: Result<(u16, u32), Bad>,
+) -> Result<(), Fail> {
+    let code = runs_of(alloc, &first, count, &second, more)?;
+    assert!(rt; code.len() < 1000, "{want:?}");
+    let got = answer(alloc, code, 1, 1, 1);
+    assert_eq!(rt; got, want, "{count} and {more}");
+    Ok(())
+}
+
 #[test]
-fn stacks_and_loops_have_limits(rt: HostRuntime) -> Result<(), Fail> {
-    let one = Push(Word::of(1));
-    let cases = [
-        ((one, 256), (Out(0), 256), Ok((256, 512)), "256 words"),
-        (
-            (one, 257),
-            (Out(0), 257),
-            Err(Bad::TooDeep { at: 256 }),
-            "257 words",
-        ),
-        (
-            (one, 256),
-            (Load(40), 1),
-            Err(Bad::TooDeep { at: 256 }),
-            "too high before no local",
-        ),
-        (
-            (one, 256),
-            (Out(9), 1),
-            Err(Bad::BadOperand { at: 256 }),
-            "no output at full height",
-        ),
-        ((Begin(1), 32), (End, 32), Ok((0, 64)), "32 loops"),
-        (
-            (Begin(1), 33),
-            (End, 33),
-            Err(Bad::TooDeep { at: 32 }),
-            "33 loops",
-        ),
-        (
-            (Begin(1), 33),
-            (End, 32),
-            Err(Bad::BadJump { at: 0 }),
-            "33 loops, one not closed",
-        ),
-    ];
-    for (first, second, want, row) in cases {
-        let code = runs_of(rt.alloc(), first, second)?;
-        assert!(rt; code.len() < 1000, "{row}");
-        let got = answer(rt.alloc(), code, 1, 1, 1);
-        assert_eq!(rt; got, want, "{row}");
-    }
+fn stacks_have_limits(rt: HostRuntime) -> Result<(), Fail> {
+    let alloc = rt.alloc();
+    expect_runs(&rt, alloc, (Load(0), 256), (Out(0), 256), Ok((256, 512)))?;
+    expect_runs(
+        &rt,
+        alloc,
+        (Load(0), 257),
+        (Out(0), 257),
+        Err(Bad::TooDeep { at: 256 }),
+    )?;
+    expect_runs(
+        &rt,
+        alloc,
+        (Load(0), 256),
+        (Load(40), 1),
+        Err(Bad::TooDeep { at: 256 }),
+    )?;
+    expect_runs(
+        &rt,
+        alloc,
+        (Load(0), 256),
+        (Out(9), 1),
+        Err(Bad::BadOperand { at: 256 }),
+    )
+}
+
+#[test]
+fn loops_have_limits(rt: HostRuntime) -> Result<(), Fail> {
+    let alloc = rt.alloc();
+    expect_runs(&rt, alloc, (Begin(1), 32), (End, 32), Ok((0, 64)))?;
+    expect_runs(
+        &rt,
+        alloc,
+        (Begin(1), 33),
+        (End, 33),
+        Err(Bad::TooDeep { at: 32 }),
+    )?;
+    expect_runs(
+        &rt,
+        alloc,
+        (Begin(1), 33),
+        (End, 32),
+        Err(Bad::BadJump { at: 0 }),
+    )
+}
+
+#[test]
+fn pushed_words_are_tested_and_put_out(rt: HostRuntime) -> Result<(), Fail> {
+    let alloc = rt.alloc();
+    let put_out = vec![in alloc; Push(Word::of(1)), Out(0)]?;
+    let got = answer(alloc, put_out, 0, 1, 1);
+    assert_eq!(rt; got, Ok((1, 2)), "one word put out");
+    let tested = vec![in alloc; Push(Word::of(1)), JumpZ(3), Push(Word::of(2)), Out(0)]?;
+    let got = answer(alloc, tested, 0, 1, 1);
+    assert_eq!(rt; got, Err(Bad::Unequal { at: 3 }), "two heights at an Out");
     Ok(())
 }

@@ -1,4 +1,4 @@
-use Rattle.std.proofs.Common.{◌≡◌, ◌+◌, ◌∙◌, sym, ap, arith, length, Some, lit<}
+use Rattle.std.proofs.Common.{◌∙◌, sym, ap, arith, length, Some, lit<}
 use Rattle.sift_code.specs.Bound.{kept, product}
 use Rattle.sift_code.specs.Kept.{products_outside, rounds_at}
 use Rattle.sift_code.specs.Refusal.{within}

@@ -1,6 +1,6 @@
-use Rattle.std.proofs.Common.{◌≡◌, ◌+◌, ◌<◌, ◌≤◌, ◌∙◌, ℕ, sym, ap, arith, below_more, length, refl}
+use Rattle.std.proofs.Common.{ap, arith, below_more, length, refl}
 use Rattle.std.proofs.lemmas.Result.{err_from_is_err_and}
-use Rattle.sift_code.specs.Refusal.{within, IsFree, IsFirst}
+use Rattle.sift_code.specs.Refusal.{within}
 use Rattle.sift_code.proofs.Firsts.{first_at, free_through}
 use Rattle.sift_code.proofs.Tables.{read_item}
 use Rattle.sift_code.proofs.checked.follow.Goals as goal

@@ -1,4 +1,4 @@
-use Rattle.std.proofs.Common.{◌≡◌, ◌+◌, ◌-◌, ◌<◌, ◌≤◌, ℕ, length, arith, sym, ◌∙◌, ap, subst}
+use Rattle.std.proofs.Common.{◌≡◌, ◌+◌, ◌-◌, length, arith, sym, ◌∙◌, ap}
 use Rattle.std.specs.Prelude.{Some}
 use Rattle.sift_code.specs.Nest.{past_at}
 use Rattle.sift_code.proofs.Tables.{tells_below, read_from, read_instr, past_within, past_at-End, past_at-Begin, past_at-Begin_alone, past_at-other}

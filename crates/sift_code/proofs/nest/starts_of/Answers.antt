@@ -1,6 +1,6 @@
-use Rattle.std.proofs.Common.{◌≡◌, ◌+◌, ◌-◌, ◌<◌, ◌≤◌, ℕ, length, arith, sym, ◌∙◌, ap, subst}
+use Rattle.std.proofs.Common.{◌≡◌, ◌+◌, ◌-◌, length, arith, sym, ◌∙◌, ap}
 use Rattle.std.specs.Prelude.{Some, None, slice_index_or}
-use Rattle.sift_code.specs.Nest.{past_at, start_at}
+use Rattle.sift_code.specs.Nest.{start_at}
 use Rattle.sift_code.proofs.Tables.{tells_above, read_to, read_instr, started, start_at-Begin, start_at-Begin_alone, start_at-End, start_at-End_alone, start_at-other}
 use Rattle.sift_code.proofs.nest.starts_of.Goals as goal
 use Rattle.sift_code.proofs.nest.starts_of.Goals.{in-Begin+in-Some, in-Begin+in-None, in-End+in-Some-index, in-End+in-None-index, in_default}

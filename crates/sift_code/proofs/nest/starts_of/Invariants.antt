@@ -1,4 +1,4 @@
-use Rattle.std.proofs.Common.{◌≡◌, ◌+◌, ◌<◌, ◌≤◌, length, ℕ}
+use Rattle.std.proofs.Common.{◌≡◌, ◌+◌, ◌≤◌, length, ℕ}
 use Rattle.std.specs.Prelude.{slice_index_or, None}
 use Rattle.sift_code.specs.Nest.{start_at}
 use Rattle.sift_code.proofs.nest.starts_of.Given as goal

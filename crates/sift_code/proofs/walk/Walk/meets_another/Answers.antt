@@ -1,9 +1,7 @@
-use Rattle.std.proofs.Common.{◌≡◌, ◌∙◌, sym, ap, arith, ◌+◌, inl, inr}
-use Rattle.std.proofs.lemmas.Bool.Decides.{nat_tests}
-use Rattle.std.specs.Prelude.{None, Some, slice_index_or, slice_index}
+use Rattle.std.proofs.Common.{◌∙◌, sym, arith}
 use Rattle.sift_code.specs.Heights.{height_at, heights_brought}
 use Rattle.sift_code.specs.Walk.{summary}
-use Rattle.sift_code.proofs.Walks.{read_brought, read_height, differ_from, agree_with, none_agree, differs, agrees}
+use Rattle.sift_code.proofs.Walks.{read_brought, read_height, none_agree, differs, agrees}
 use Rattle.sift_code.proofs.walk.Walk.meets_another.Goals as goal
 
 -- jumps brought different heights

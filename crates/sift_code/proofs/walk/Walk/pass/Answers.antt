@@ -1,6 +1,5 @@
-use Rattle.std.proofs.Common.{◌≡◌, ◌+◌, ◌-◌, ◌∙◌, sym, ap, arith, length, refl, subst, inl, inr}
+use Rattle.std.proofs.Common.{◌+◌, ◌-◌, ◌∙◌, sym, ap, length, refl, subst, inl, inr}
 use Rattle.std.specs.Prelude.{Some}
-use Rattle.sift_code.specs.declared.instr.Instr.TheVariants.{JumpZ, Jump, Begin, End}
 use Rattle.sift_code.specs.Heights.{brought_by, trail_at}
 use Rattle.sift_code.specs.Walk.{AreBrought}
 use Rattle.sift_code.proofs.Passing.{passed, brought_by_jump, deeper, shallower, as_deep, brings_nothing, jump_brings, jump_may_be_bad, jump_depth}
