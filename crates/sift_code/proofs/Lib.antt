@@ -1,0 +1,13 @@
+pub mod Enclosing
+pub mod Costs
+pub mod Heights
+pub mod Sound
+pub mod Remaining
+pub mod Progress
+pub mod Leading
+pub mod Ending
+pub mod Tables
+pub mod Walks
+pub mod Passing
+pub mod Bounds
+pub mod Firsts

@@ -1,0 +1,18 @@
+//! Stack code: its instructions, the check that it runs whole, and the machine that runs it.
+//!
+//! Checked code comes to its end within its bound of instructions, whatever the words that it reads.
+#![tactic(auto)]
+
+mod bad;
+mod checked;
+mod instr;
+mod law;
+mod limits;
+mod nest;
+mod refusal;
+mod walk;
+
+pub use bad::Bad;
+pub use checked::{Checked, verify};
+pub use instr::Instr;
+pub use law::checked_code_ends;

@@ -1,0 +1,142 @@
+ghost use Rattle.std.specs.Prelude.{◌↔◌, IsTrue, IsSome, IfSome, ◌≡◌, ◌+◌, ◌<◌, ◌≤◌, ◌^◌, length, slice_get, IfOk};
+ghost use Rattle.sift_code.specs.Enclosing.{enclosing};
+ghost use Rattle.sift_code.specs.Nest.{AreStarts, ArePasts, start_at, past_at};
+
+use crate::instr::Instr;
+use sift_base::NoMemory;
+use std::alloc::Global;
+use std::marker::Model;
+
+/// Code, with where its loops begin and end. A clause sees the code.
+#[derive(Drop)]
+pub(crate) struct Nest {
+    code: Vec<Instr>,
+    starts: Vec<Option<u32>>,
+    pasts: Vec<Option<u32>>,
+}
+
+impl Model for Nest {
+    ghost use Rattle.std.specs.Prelude.{List};
+    ghost use Rattle.sift_code.specs.declared.instr.Instr.{Instr};
+    ghost use Rattle.sift_code.specs.Nest.{IsNest};
+
+    ghost Value = { List Instr };
+
+    ghost view = { λ n. n.code.items };
+
+    ghost invariant = { λ n. IsNest n.code.items n.starts.items n.pasts.items };
+}
+
+impl Nest {
+    /// Finds the loops of the code.
+    pub fn of(alloc: Global, code: Vec<Instr>) -> Result<Nest, NoMemory>
+        requires { length code.items < 2 ^ 32 }
+        ensures { IfOk result (λ nest. nest ≡ code.items) }
+    {
+        let pasts = pasts_of(alloc, &code)?;
+        let starts = starts_of(alloc, &code, &pasts)?;
+        Ok(Nest {
+            code,
+            starts,
+            pasts,
+        })
+    }
+
+    /// How many instructions there are.
+    pub fn len(&self) -> usize
+        ensures { result ≡ length self.now }
+    {
+        self.code.len()
+    }
+
+    /// The instructions.
+    pub fn code(&self) -> &[Instr]
+        ensures { result.now ≡ self.now }
+    {
+        &self.code
+    }
+
+    /// The instruction at a place, and None at the code's length.
+    pub fn instr(&self, at: usize) -> Option<Instr>
+        ensures read { result ≡ slice_get self.now at }
+        ensures inside { IsSome result → at < length self.now }
+    {
+        self.code.get(at).copied()
+    }
+
+    /// The place after the Begin of the innermost loop that encloses a place.
+    pub fn start(&self, at: usize) -> Option<u32>
+        requires { at ≤ length self.now }
+        ensures found { result ≡ start_at self.now at }
+        ensures before { IfSome result (λ start. start ≤ at) }
+    {
+        self.starts[at]
+    }
+
+    /// Whether the same loops enclose two places.
+    pub fn same_loops(&self, a: usize, b: usize) -> bool
+        requires a_inside { a ≤ length self.now }
+        requires b_inside { b ≤ length self.now }
+        ensures { IsTrue result ↔ (enclosing self.now a ≡ enclosing self.now b) }
+    {
+        self.start(a) == self.start(b)
+    }
+
+    /// The place after the End that closes the loop open before this place.
+    pub fn past(&self, at: usize) -> Option<u32>
+        requires { at ≤ length self.now }
+        ensures { result ≡ past_at self.now at }
+    {
+        self.pasts[at]
+    }
+}
+
+/// For each place, the place after the End that closes the loop open before it.
+fn pasts_of(alloc: Global, code: &[Instr]) -> Result<Vec<Option<u32>>, NoMemory>
+    requires { length code.now < 2 ^ 32 }
+    ensures { IfOk result (λ pasts. ArePasts code.now pasts.items) }
+{
+    let mut pasts = vec![in alloc; None; code.len() + 1]?;
+    for at in (0..code.len()).rev() {
+        let instr = code[at];
+        let entry = match instr {
+            Instr::End => Some(at as u32 + 1),
+            Instr::Begin(_) => match pasts[at + 1] {
+                Some(past) => pasts[past as usize],
+                None => None,
+            },
+            _ => pasts[at + 1],
+        };
+        pasts[at] = entry;
+    }
+    Ok(pasts)
+}
+
+/// For each place, the place after the Begin of the innermost loop that encloses it.
+fn starts_of(
+    alloc: Global,
+    code: &[Instr],
+    pasts: &[Option<u32>],
+) -> Result<Vec<Option<u32>>, NoMemory>
+    requires short { length code.now < 2 ^ 32 }
+    requires tell { ArePasts code.now pasts.now }
+    ensures { IfOk result (λ starts. AreStarts code.now starts.items) }
+{
+    let mut starts = vec![in alloc; None; code.len() + 1]?;
+    for at in 0..code.len() {
+        let instr = code[at];
+        let entry = match instr {
+            Instr::Begin(_) => match pasts[at + 1] {
+                Some(_) => Some(at as u32 + 1),
+                None => starts[at],
+            },
+            Instr::End => match starts[at] {
+                Some(start) => starts[start as usize - 1],
+                None => None,
+            },
+            _ => starts[at],
+        };
+        starts[at + 1] = entry;
+    }
+    Ok(starts)
+}
