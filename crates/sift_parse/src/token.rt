@@ -1,0 +1,48 @@
+use sift_lang::Op;
+
+/// A word that the language keeps for itself.
+#[derive(Clone, Copy, Debug, PartialEq, Eq)]
+pub(crate) enum Keyword {
+    Let,
+    Out,
+    If,
+    Else,
+    Repeat,
+    Mid,
+    Sense,
+    Now,
+    Last,
+}
+
+/// A sign that is no operator.
+#[derive(Clone, Copy, Debug, PartialEq, Eq)]
+pub(crate) enum Sign {
+    /// `=`
+    Assign,
+    /// `(`
+    OpenParen,
+    /// `)`
+    CloseParen,
+    /// `{`
+    OpenBrace,
+    /// `}`
+    CloseBrace,
+    /// `,`
+    Comma,
+    /// `.`
+    Dot,
+    /// `;`
+    Semicolon,
+}
+
+/// A token, with each name taken for the number of what it names in its place.
+#[derive(Clone, Copy, Debug, PartialEq, Eq)]
+pub(crate) enum Token {
+    Keyword(Keyword),
+    /// A local, a sensor or a task.
+    Name(u8),
+    /// A number as it is written. After a task's name and a dot it is that of the voted word.
+    Number(u32),
+    Operator(Op),
+    Sign(Sign),
+}
