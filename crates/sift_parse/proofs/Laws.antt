@@ -49,10 +49,10 @@ pub record Lawful (A : Type 0) (D : Rel A) (R : List Token → Outcome A) : Type
 
 -- ---- readers that take no token
 
-looks : (A : Type 0) (R : List Token → Outcome A) (t : Token) (ts : List Token) (o : Outcome A) → left_of o ≡ t ∷ ts → ((us : List Token) → R (t ∷ us) ≡ with_left o (t ∷ us)) → LocalAt A R (t ∷ ts) o
+pub looks : (A : Type 0) (R : List Token → Outcome A) (t : Token) (ts : List Token) (o : Outcome A) → left_of o ≡ t ∷ ts → ((us : List Token) → R (t ∷ us) ≡ with_left o (t ∷ us)) → LocalAt A R (t ∷ ts) o
 looks A R t ts o is same = record { used = []; split = sym is; again = λ u more others e. (let h : t ≡ u = (let g = sym is ∙ e in cc) in subst (λ v. R (v ∷ others) ≡ with_left o (v ∷ others)) h (same others)) }
 
-ends : (A : Type 0) (R : List Token → Outcome A) (o : Outcome A) → left_of o ≡ [] → LocalAt A R [] o
+pub ends : (A : Type 0) (R : List Token → Outcome A) (o : Outcome A) → left_of o ≡ [] → LocalAt A R [] o
 ends A R o is = record { used = []; split = sym is; again = λ u more others e. (let g = sym is ∙ e in cc) }
 
 -- a reader that answers without a look at the tokens

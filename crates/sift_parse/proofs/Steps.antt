@@ -10,18 +10,18 @@ use Rattle.sift_parse.proofs.Laws.{Rel, Uses, Goes, Viable, left_of, with_left, 
 pub data Then (A B : Type 0) (D : Rel A) (E : A → Rel B) : List Token → B → List Token → Type 0 where
   in_turn : (ts mid rest : List Token) (a : A) (b : B) → D ts a mid → E a mid b rest → Then A B D E ts b rest
 
-data Stepped (A B : Type 0) (o : Outcome A) (f : A → List Token → Outcome B) (b : B) (rest : List Token) : Type 0 where
+pub data Stepped (A B : Type 0) (o : Outcome A) (f : A → List Token → Outcome B) (b : B) (rest : List Token) : Type 0 where
   both : (a : A) (mid : List Token) → o ≡ found a mid → f a mid ≡ found b rest → Stepped A B o f b rest
 
-stepped : (A B : Type 0) (o : Outcome A) (f : A → List Token → Outcome B) (b : B) (rest : List Token) → after o f ≡ found b rest → Stepped A B o f b rest
+pub stepped : (A B : Type 0) (o : Outcome A) (f : A → List Token → Outcome B) (b : B) (rest : List Token) → after o f ≡ found b rest → Stepped A B o f b rest
 stepped A B (found a mid) f b rest h = both a mid refl h
 stepped A B (fault bad) f b rest h = cc
 
-data Failed (A B : Type 0) (o : Outcome A) (f : A → List Token → Outcome B) (bad : List Token) : Type 0 where
+pub data Failed (A B : Type 0) (o : Outcome A) (f : A → List Token → Outcome B) (bad : List Token) : Type 0 where
   first_fails : o ≡ fault bad → Failed A B o f bad
   second_fails : (a : A) (mid : List Token) → o ≡ found a mid → f a mid ≡ fault bad → Failed A B o f bad
 
-failed : (A B : Type 0) (o : Outcome A) (f : A → List Token → Outcome B) (bad : List Token) → after o f ≡ fault bad → Failed A B o f bad
+pub failed : (A B : Type 0) (o : Outcome A) (f : A → List Token → Outcome B) (bad : List Token) → after o f ≡ fault bad → Failed A B o f bad
 failed A B (found a mid) f bad h = second_fails a mid refl h
 failed A B (fault b) f bad h = let e : b ≡ bad = cc in first_fails (ap (λ l. fault l) e)
 
@@ -50,16 +50,16 @@ join A B R S ts mid a r s = record { used = r.used ++ s.used; split = rw append_
     first [] is t more others e = ap (λ o. after o S) (r.again t more others (is ∙ e))
     first (v ∷ u) is t more others e = ap (λ o. after o S) (r.again v (u ++ left_of (S a mid)) (u ++ t ∷ others) is)
 
-then-local : (A B : Type 0) (E : A → Rel B) (R : List Token → Outcome A) (S : A → List Token → Outcome B) → ((a : A) → Lawful B (E a) (S a)) → (ts : List Token) (o : Outcome A) → LocalAt A R ts o → LocalAt B (λ ts. after (R ts) S) ts (after o S)
-then-local A B E R S s ts (found a mid) r = join A B R S ts mid a r ((s a).at_each mid)
-then-local A B E R S s ts (fault bad) r = record { used = r.used; split = r.split; again = λ t more others e. ap (λ o. after o S) (r.again t more others e) }
+pub then-local : (A B : Type 0) (R : List Token → Outcome A) (S : A → List Token → Outcome B) → ((a : A) (ts : List Token) → LocalAt B (S a) ts (S a ts)) → (ts : List Token) (o : Outcome A) → LocalAt A R ts o → LocalAt B (λ ts. after (R ts) S) ts (after o S)
+then-local A B R S s ts (found a mid) r = join A B R S ts mid a r (s a mid)
+then-local A B R S s ts (fault bad) r = record { used = r.used; split = r.split; again = λ t more others e. ap (λ o. after o S) (r.again t more others e) }
 
 -- one reader after another
 pub then_lawful : (A B : Type 0) (D : Rel A) (E : A → Rel B) (R : List Token → Outcome A) (S : A → List Token → Outcome B) → Lawful A D R → ((a : A) → Lawful B (E a) (S a)) → Lawful B (Then A B D E) (λ ts. after (R ts) S)
 then_lawful A B D E R S r s = record {
     sound = λ ts rest b h. then-sound A B D E R S r s ts rest b (stepped A B (R ts) S b rest h);
     viable = λ ts bad h. then-viable A B D E R S r s ts bad (failed A B (R ts) S bad h);
-    at_each = λ ts. then-local A B E R S s ts (R ts) (r.at_each ts);
+    at_each = λ ts. then-local A B R S (λ a. (s a).at_each) ts (R ts) (r.at_each ts);
     fills = then-goes A B D E [] r.fills (s r.fills.made).fills }
 
 -- a reader for one relation is one for a wider relation
