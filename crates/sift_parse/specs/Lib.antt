@@ -1,2 +1,6 @@
+pub mod Force
 pub mod Grammar
+pub mod Lexeme
 pub mod Reading
+pub mod Refusal
+pub mod Written

@@ -3,7 +3,13 @@
 //! The grammar is a relation; a text has at most one tree.
 #![tactic(auto)]
 
+mod lexeme;
+mod names;
+mod stop;
 mod token;
 mod tree;
 
+pub use names::Names;
+pub use stop::{ParseStop, Which};
+pub use token::LEVEL_LIMIT;
 pub use tree::one_tree;

@@ -1,5 +1,8 @@
 use sift_lang::Op;
 
+/// The most blocks, parentheses and minuses that may be open at once.
+pub const LEVEL_LIMIT: usize = 32;
+
 /// A word that the language keeps for itself.
 #[derive(Clone, Copy, Debug, PartialEq, Eq)]
 pub(crate) enum Keyword {
