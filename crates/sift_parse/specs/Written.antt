@@ -1,5 +1,7 @@
 -- What the lexer holds, in the words of lexemes. No public clause cites this module.
-use Rattle.std.specs.Prelude.{◌≡◌, ℕ, List}
+use Rattle.std.specs.Prelude.{◌≡◌, ◌<◌, ◌≤◌, ◌⊎◌, ℕ, List, [], ◌∷◌, length, slice_index}
+use Rattle.std.specs.Char.{IsAsciiAlphabetic}
+use Rattle.std.specs.Str.{byte}
 use Rattle.sift_parse.specs.declared.lexeme.Lexeme as held
 use Rattle.sift_parse.specs.declared.lexeme.Lexeme.TheVariants as variant
 use Rattle.sift_parse.specs.Lexeme.{Lexeme, word, numeral, operator, mark, operator_bytes, sign_bytes}
@@ -21,3 +23,14 @@ SpellsSign (mark s) bytes = bytes ≡ sign_bytes s
 -- these bytes are no operator and no sign
 abbrev pub NoSign : List ℕ → Type 0
 NoSign bytes = (l : Lexeme) → ¬ SpellsSign l bytes
+
+-- P holds of each of the first n bytes, and not of the next
+pub record IsRun (P : ℕ → Type 0) (bytes : List ℕ) (n : ℕ) : Type 0 where
+  pub within : n ≤ length bytes
+  pub each : (k : ℕ) → k < n → P (slice_index bytes k)
+  pub stops : n < length bytes → ¬ P (slice_index bytes n)
+
+-- the bytes begin with what may not follow a number directly: a letter or `_`
+abbrev pub Continues : List ℕ → Type 0
+Continues [] = ⊥
+Continues (b ∷ rest) = IsAsciiAlphabetic b ⊎ (b ≡ byte "_")

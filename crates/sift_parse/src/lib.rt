@@ -5,6 +5,7 @@
 
 mod lexeme;
 mod names;
+mod runs;
 mod stop;
 mod token;
 mod tree;
