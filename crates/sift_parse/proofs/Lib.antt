@@ -2,6 +2,7 @@ pub mod Blocks
 pub mod Complete
 pub mod Exprs
 pub mod Laws
+pub mod Lexing
 pub mod Numbers
 pub mod Offending
 pub mod Signs

@@ -4,7 +4,7 @@ ghost use Rattle.std.specs.Str.{byte};
 ghost use Rattle.std.specs.Str.Parse.{digits_value};
 ghost use Rattle.sift_base.specs.Name.{IsNameByte};
 ghost use Rattle.sift_parse.specs.Lexeme.{kept};
-ghost use Rattle.sift_parse.specs.Written.{IsRun, Continues};
+ghost use Rattle.sift_parse.specs.Written.{IsRun, Continues, BeginsLetter, BeginsDigit};
 
 // What is kept of a number that is greater than a text may hold.
 const TOO_LARGE: u32 = 65_536;
@@ -62,6 +62,26 @@ pub(crate) fn continues_number(bytes: &[u8]) -> bool
 {
     match bytes {
         [b, ..] => b.is_ascii_alphabetic() || *b == b'_',
+        [] => false,
+    }
+}
+
+/// Whether the bytes begin with a lower-case letter, as a word does.
+pub(crate) fn begins_name(bytes: &[u8]) -> bool
+    ensures { IsTrue result ↔ BeginsLetter bytes.now }
+{
+    match bytes {
+        [b, ..] => b.is_ascii_lowercase(),
+        [] => false,
+    }
+}
+
+/// Whether the bytes begin with a digit, as a number does.
+pub(crate) fn begins_number(bytes: &[u8]) -> bool
+    ensures { IsTrue result ↔ BeginsDigit bytes.now }
+{
+    match bytes {
+        [b, ..] => b.is_ascii_digit(),
         [] => false,
     }
 }
