@@ -1,6 +1,7 @@
 pub mod Blocks
 pub mod Complete
 pub mod Exprs
+pub mod Gaps
 pub mod Laws
 pub mod Lexing
 pub mod Numbers

@@ -1,10 +1,11 @@
 -- What the lexer holds, in the words of lexemes. No public clause cites this module.
-use Rattle.std.specs.Prelude.{◌≡◌, ◌<◌, ◌≤◌, ◌⊎◌, ℕ, List, [], ◌∷◌, ◌++◌, length, take, drop, slice_index, codes}
+use Rattle.std.specs.Prelude.{◌≡◌, ◌<◌, ◌≤◌, ◌⊎◌, ℕ, List, [], ◌∷◌, ◌++◌, length, take, drop, map, slice_index, codes}
 use Rattle.std.specs.Char.{IsAsciiAlphabetic, IsAsciiLowercase, IsAsciiDigit, digit_value}
 use Rattle.std.specs.Str.{byte}
 use Rattle.sift_parse.specs.declared.lexeme.Lexeme as held
+use Rattle.sift_parse.specs.declared.lexer.Placed as held_placed
 use Rattle.sift_parse.specs.declared.lexeme.Lexeme.TheVariants as variant
-use Rattle.sift_parse.specs.Lexeme.{Lexeme, word, numeral, operator, mark, operator_bytes, sign_bytes, IsLexeme}
+use Rattle.sift_parse.specs.Lexeme.{Lexeme, word, numeral, operator, mark, operator_bytes, sign_bytes, IsLexeme, Placed, Lexes, after_gap}
 
 -- the lexeme that the code holds
 abbrev pub lexeme_of : held.Lexeme → Lexeme
@@ -84,3 +85,18 @@ pub record IsHexLength (bytes : List ℕ) (n : ℕ) : Type 0 where
 pub data IsNumberAt (bytes : List ℕ) : ℕ → ℕ → ℕ → Type 0 where
   sixteen : (n : ℕ) → 0 < n → IsHexRun bytes n → IsNumberAt bytes 16 2 n
   ten : (n : ℕ) → NoHex bytes → IsRun (λ b. digit_value b < 10) bytes n → IsNumberAt bytes 10 0 n
+
+-- the blanks and comments at the front are n bytes
+pub record IsGap (bytes : List ℕ) (n : ℕ) : Type 0 where
+  pub within : n ≤ length bytes
+  pub after : drop n bytes ≡ after_gap bytes
+
+-- the lexemes that the code holds, with their places
+abbrev pub placed_of : List (held_placed.Placed) → List Placed
+placed_of ps = map (λ p. let q : Placed = record { lexeme = lexeme_of p.lexeme; at = p.at } in q) ps
+
+-- these are the lexemes of the text as far as there are any, and the next would begin at this place
+pub record IsLexed (text : List ℕ) (ps : List Placed) (at : ℕ) : Type 0 where
+  pub within : at ≤ length text
+  pub lexes : Lexes (length text) text ps (drop at text)
+  pub none : NoLexemeAt (drop at text)

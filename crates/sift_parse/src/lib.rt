@@ -4,6 +4,7 @@
 #![tactic(auto)]
 
 mod lexeme;
+mod lexer;
 mod names;
 mod runs;
 mod stop;
