@@ -6,10 +6,10 @@ use Rattle.sift_parse.specs.declared.token.Sign.TheVariants.{Assign, OpenBrace, 
 use Rattle.sift_parse.specs.declared.token.Token.{Token}
 use Rattle.sift_parse.specs.declared.token.Token.TheVariants.{Keyword, Name, Number, Operator, Sign}
 use Rattle.sift_parse.specs.Grammar.{IsLevel, IsExpr, IsStatement, a_let, an_assignment, an_output, an_if, an_if_else, a_repeat, IsBlock, no_statement, a_statement}
-use Rattle.sift_parse.specs.Reading.{Outcome, found, fault, after, read_sign, read_name, read_number, closed_by, read, value_by, braced_by, else_from, else_by, then_by, block_from, block_by, read_block}
+use Rattle.sift_parse.specs.Reading.{Outcome, found, fault, after, read_sign, read_name, read_number, read_index, closed_by, read, value_by, braced_by, else_from, else_by, then_by, block_from, block_by, read_block}
 use Rattle.sift_parse.proofs.Laws.{Rel, Goes, Lawful, nowhere, done, default-fault, default-found}
 use Rattle.sift_parse.proofs.Steps.{Then, in_turn, then_lawful, widened, Picks, takes, leaves, choice, mapped}
-use Rattle.sift_parse.proofs.Signs.{NameHere, is_name, name_lawful, NumberHere, is_number, number_lawful, Closed, closed_lawful, After, after_sign, after_lawful}
+use Rattle.sift_parse.proofs.Signs.{NameHere, is_name, name_lawful, NumberHere, is_number, number_lawful, IndexHere, is_index, index_lawful, Closed, closed_lawful, After, after_sign, after_lawful}
 use Rattle.sift_parse.proofs.Exprs.{level_lawful}
 
 -- ---- statements with an expression
@@ -33,11 +33,11 @@ assign_rule l ts rest s (after_sign us vs c (valued zs qs t d)) = an_assignment 
 assign_lawful : (expr : List Token → Outcome Term) (l : ℕ) → Lawful Term IsExpr expr → Lawful Statement (λ ts s rest. IsStatement (Name l ∷ ts) s rest) (value_by expr (assign l))
 assign_lawful expr l e = widened Statement (After Statement Assign (Valued (assign l))) (λ ts s rest. IsStatement (Name l ∷ ts) s rest) (value_by expr (assign l)) (assign_rule l) (value_lawful expr (assign l) e)
 
-out_rule : (ts rest : List Token) (s : Statement) → Then ℕ Statement NumberHere (λ j. After Statement Assign (Valued (output j))) ts s rest → IsStatement (Keyword Out ∷ ts) s rest
-out_rule ts rest s (in_turn us mid vs a b (is_number n ws) (after_sign xs ys c (valued zs qs t d))) = an_output n zs qs t d
+out_rule : (ts rest : List Token) (s : Statement) → Then ℕ Statement IndexHere (λ j. After Statement Assign (Valued (output j))) ts s rest → IsStatement (Keyword Out ∷ ts) s rest
+out_rule ts rest s (in_turn us mid vs a b (is_index n ws) (after_sign xs ys c (valued zs qs t d))) = an_output n zs qs t d
 
-out_lawful : (expr : List Token → Outcome Term) → Lawful Term IsExpr expr → Lawful Statement (λ ts s rest. IsStatement (Keyword Out ∷ ts) s rest) (λ ts. after (read_number ts) (λ j us. value_by expr (output j) us))
-out_lawful expr e = widened Statement (Then ℕ Statement NumberHere (λ j. After Statement Assign (Valued (output j)))) (λ ts s rest. IsStatement (Keyword Out ∷ ts) s rest) (λ ts. after (read_number ts) (λ j us. value_by expr (output j) us)) out_rule (then_lawful ℕ Statement NumberHere (λ j. After Statement Assign (Valued (output j))) read_number (λ j us. value_by expr (output j) us) number_lawful (λ j. value_lawful expr (output j) e))
+out_lawful : (expr : List Token → Outcome Term) → Lawful Term IsExpr expr → Lawful Statement (λ ts s rest. IsStatement (Keyword Out ∷ ts) s rest) (λ ts. after (read_index ts) (λ j us. value_by expr (output j) us))
+out_lawful expr e = widened Statement (Then ℕ Statement IndexHere (λ j. After Statement Assign (Valued (output j)))) (λ ts s rest. IsStatement (Keyword Out ∷ ts) s rest) (λ ts. after (read_index ts) (λ j us. value_by expr (output j) us)) out_rule (then_lawful ℕ Statement IndexHere (λ j. After Statement Assign (Valued (output j))) read_index (λ j us. value_by expr (output j) us) index_lawful (λ j. value_lawful expr (output j) e))
 
 -- ---- statements with a block
 
@@ -98,7 +98,7 @@ then_by-lawful head statement block s b = widened Block (Then Statement Block (�
 block_picks : (expr : List Token → Outcome Term) (block : List Token → Outcome Block) → Lawful Term IsExpr expr → Lawful Block IsBlock block → (t : Token) → Picks Block IsBlock (λ ts. found end ts) t (λ ts. block_by expr block (t ∷ ts))
 block_picks expr block e b (Keyword Let) = takes (then_by-lawful (Keyword Let) (λ ts. after (read_name ts) (λ _ us. value_by expr bind us)) block (let_lawful expr e) b)
 block_picks expr block e b (Name l) = takes (then_by-lawful (Name l) (value_by expr (assign l)) block (assign_lawful expr l e) b)
-block_picks expr block e b (Keyword Out) = takes (then_by-lawful (Keyword Out) (λ ts. after (read_number ts) (λ j us. value_by expr (output j) us)) block (out_lawful expr e) b)
+block_picks expr block e b (Keyword Out) = takes (then_by-lawful (Keyword Out) (λ ts. after (read_index ts) (λ j us. value_by expr (output j) us)) block (out_lawful expr e) b)
 block_picks expr block e b (Keyword If) = takes (then_by-lawful (Keyword If) (λ ts. after (expr ts) (λ t us. after (braced_by block us) (λ first vs. else_by block t first vs))) block (if_lawful expr block e b) b)
 block_picks expr block e b (Keyword Repeat) = takes (then_by-lawful (Keyword Repeat) (λ ts. after (read_number ts) (λ k us. after (braced_by block us) (λ body rest. found (repeat k body) rest))) block (repeat_lawful block b) b)
 block_picks expr block e b t = leaves (λ ts. refl)

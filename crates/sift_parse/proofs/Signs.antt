@@ -4,8 +4,8 @@ use Rattle.std.proofs.lemmas.Bool.Decides.{nat_tests}
 use Rattle.sift_parse.specs.declared.token.Sign as signs
 use Rattle.sift_parse.specs.declared.token.Sign.TheVariants.{Assign, OpenParen, CloseParen, OpenBrace, CloseBrace, Comma, Dot, Semicolon}
 use Rattle.sift_parse.specs.declared.token.Token.{Token}
-use Rattle.sift_parse.specs.declared.token.Token.TheVariants.{Keyword, Name, Number, Operator, Sign}
-use Rattle.sift_parse.specs.Reading.{Outcome, found, fault, after, number_of, read_sign, read_name, read_number, read_word, closed_by}
+use Rattle.sift_parse.specs.declared.token.Token.TheVariants.{Keyword, Name, Number, Index, Operator, Sign}
+use Rattle.sift_parse.specs.Reading.{Outcome, found, fault, after, number_of, read_sign, read_name, read_number, read_index, read_word, closed_by}
 use Rattle.sift_parse.proofs.Laws.{Rel, Goes, Lawful, Default, done, default-fault}
 use Rattle.sift_parse.proofs.Steps.{Then, in_turn, then_lawful, widened, Picks, takes, leaves, choice, Same, same, mapped}
 
@@ -39,9 +39,13 @@ pub data NameHere : List Token → ℕ → List Token → Type 0 where
 pub data NumberHere : List Token → ℕ → List Token → Type 0 where
   is_number : (n : ℕ) (rest : List Token) → NumberHere (Number n ∷ rest) n rest
 
+-- the number of a word stands here
+pub data IndexHere : List Token → ℕ → List Token → Type 0 where
+  is_index : (n : ℕ) (rest : List Token) → IndexHere (Index n ∷ rest) n rest
+
 -- a task's word stands here
 pub data WordHere : List Token → ℕ → List Token → Type 0 where
-  is_word : (task w : ℕ) (rest : List Token) → WordHere (Name task ∷ Sign Dot ∷ Number w ∷ rest) w rest
+  is_word : (task w : ℕ) (rest : List Token) → WordHere (Name task ∷ Sign Dot ∷ Index w ∷ rest) w rest
 
 sign_pick : (s u : signs.Sign) (b : Bool) → (number_of s == number_of u) ≡ b → Picks (Unit {0}) (SignHere s) (λ ts. fault ts) (Sign u) (λ ts. cond b (found tt ts) (fault (Sign u ∷ ts)))
 sign_pick s u true e = takes (subst (λ v. Lawful (Unit {0}) (λ ts a rest. SignHere s (Sign v ∷ ts) a rest) (λ ts. found tt ts)) (number_of-same s u (grind (arith, nat_tests))) (done (Unit {0}) (λ ts a rest. SignHere s (Sign s ∷ ts) a rest) tt (λ r. is_sign tt r)))
@@ -68,11 +72,18 @@ number_picks t = leaves (λ ts. refl)
 pub number_lawful : Lawful ℕ NumberHere read_number
 number_lawful = choice ℕ NumberHere (λ ts. fault ts) read_number (default-fault ℕ NumberHere (record { back = Number 0 ∷ []; made = 0; rest = is_number 0 })) refl number_picks
 
-word_rule : (ts rest : List Token) (w : ℕ) → Then ℕ ℕ NameHere (λ _. Then (Unit {0}) ℕ (SignHere Dot) (λ _. NumberHere)) ts w rest → WordHere ts w rest
-word_rule ts rest w (in_turn us mid vs a b (is_name task m) (in_turn m1 m2 vs1 c d (is_sign e m3) (is_number n m4))) = is_word task n m4
+index_picks : (t : Token) → Picks ℕ IndexHere (λ ts. fault ts) t (λ ts. read_index (t ∷ ts))
+index_picks (Index n) = takes (done ℕ (λ ts a rest. IndexHere (Index n ∷ ts) a rest) n (is_index n))
+index_picks t = leaves (λ ts. refl)
+
+pub index_lawful : Lawful ℕ IndexHere read_index
+index_lawful = choice ℕ IndexHere (λ ts. fault ts) read_index (default-fault ℕ IndexHere (record { back = Index 0 ∷ []; made = 0; rest = is_index 0 })) refl index_picks
+
+word_rule : (ts rest : List Token) (w : ℕ) → Then ℕ ℕ NameHere (λ _. Then (Unit {0}) ℕ (SignHere Dot) (λ _. IndexHere)) ts w rest → WordHere ts w rest
+word_rule ts rest w (in_turn us mid vs a b (is_name task m) (in_turn m1 m2 vs1 c d (is_sign e m3) (is_index n m4))) = is_word task n m4
 
 pub word_lawful : Lawful ℕ WordHere read_word
-word_lawful = widened ℕ (Then ℕ ℕ NameHere (λ _. Then (Unit {0}) ℕ (SignHere Dot) (λ _. NumberHere))) WordHere read_word word_rule (then_lawful ℕ ℕ NameHere (λ _. Then (Unit {0}) ℕ (SignHere Dot) (λ _. NumberHere)) read_name (λ task us. after (read_sign Dot us) (λ _ vs. read_number vs)) name_lawful (λ task. then_lawful (Unit {0}) ℕ (SignHere Dot) (λ _. NumberHere) (read_sign Dot) (λ _ vs. read_number vs) (sign_lawful Dot) (λ _. number_lawful)))
+word_lawful = widened ℕ (Then ℕ ℕ NameHere (λ _. Then (Unit {0}) ℕ (SignHere Dot) (λ _. IndexHere))) WordHere read_word word_rule (then_lawful ℕ ℕ NameHere (λ _. Then (Unit {0}) ℕ (SignHere Dot) (λ _. IndexHere)) read_name (λ task us. after (read_sign Dot us) (λ _ vs. read_index vs)) name_lawful (λ task. then_lawful (Unit {0}) ℕ (SignHere Dot) (λ _. IndexHere) (read_sign Dot) (λ _ vs. read_index vs) (sign_lawful Dot) (λ _. index_lawful)))
 
 -- what is related, with the sign after it
 abbrev pub Closed : (A : Type 0) → signs.Sign → Rel A → Rel A

@@ -1,5 +1,5 @@
 -- What is in force at a place: the levels that are open, the locals that live, and what a name names. All of it is a fold over the lexemes before the place.
-use Rattle.std.specs.Prelude.{◌≡◌, ℕ, ◌+◌, Bool, true, false, not, if◌then◌else◌, List, [], ◌∷◌, length, take, drop, sum, fold, map, slice_index, Option, Some, None, unwrap_or, is_none, codes}
+use Rattle.std.specs.Prelude.{◌≡◌, ℕ, ◌+◌, Bool, true, false, not, if◌then◌else◌, List, [], ◌∷◌, length, take, drop, sum, fold, map, slice_index, nat_lt, nat_le, Option, Some, None, unwrap_or, is_none, codes}
 use Rattle.std.specs.List.{position}
 use Rattle.std.specs.Str.{bytes_eq}
 use Rattle.sift_lang.specs.declared.tree.Op.TheVariants.{Sub}
@@ -10,7 +10,7 @@ use Rattle.sift_parse.specs.declared.token.Sign as signs
 use Rattle.sift_parse.specs.declared.token.Sign.TheVariants.{Assign, OpenParen, CloseParen, OpenBrace, CloseBrace, Comma, Dot, Semicolon}
 use Rattle.sift_parse.specs.declared.token.Token.{Token}
 use Rattle.sift_parse.specs.declared.token.Token.TheVariants as token
-use Rattle.sift_parse.specs.Lexeme.{Lexeme, word, numeral, operator, mark}
+use Rattle.sift_parse.specs.Lexeme.{Lexeme, word, numeral, operator, mark, number_limit}
 
 -- ---- who is there
 
@@ -186,10 +186,15 @@ task_asked r f (Some (word w)) = task_after r (keyword_of w)
 task_asked r f (Some (mark Dot)) = Some (unwrap_or (number_in r.tasks f.named) 0)
 task_asked r f _ = None
 
--- the number that a numeral stands for here: after a dot it is that of the voted word
-abbrev pub number_meant : Roll → Force → Option Lexeme → ℕ → ℕ
-number_meant r f (Some (mark Dot)) n = words_before r (unwrap_or (number_in r.tasks f.named) 0) + n
-number_meant r f _ n = n
+-- the number of the word that a numeral asks for here: of the voted words after a dot, and of the output words after `out`
+abbrev pub index_meant : Roll → Option Lexeme → ℕ → ℕ → ℕ
+index_meant r (Some (mark Dot)) task n = words_before r task + n
+index_meant r _ task n = n
+
+-- the token that a numeral is, where it asks for a word of this task, or for none; a number that is too large or asks for a word that isn't there is refused, and counts as 0
+abbrev pub number_token : Roll → Option Lexeme → Option ℕ → ℕ → Token
+number_token r before (Some task) n = token.Index (if nat_lt n (slice_index r.sizes task) then index_meant r before task n else 0)
+number_token r before None n = token.Number (if nat_le n number_limit then n else 0)
 
 -- the token that a word is here; a name that isn't there is refused, and counts as 0
 abbrev pub word_token : Roll → Force → List ℕ → Option Keyword → Token
@@ -199,7 +204,7 @@ word_token r f w None = token.Name (unwrap_or (number_named r f w) 0)
 -- the token that a lexeme is here
 abbrev pub token_of : Roll → Force → Lexeme → Token
 token_of r f (word w) = word_token r f w (keyword_of w)
-token_of r f (numeral n) = token.Number (number_meant r f f.before n)
+token_of r f (numeral n) = number_token r f.before (task_asked r f f.before) n
 token_of r f (operator op) = token.Operator op
 token_of r f (mark s) = token.Sign s
 

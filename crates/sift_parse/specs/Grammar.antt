@@ -6,7 +6,7 @@ use Rattle.sift_lang.specs.Tree.{Term, number, local, sense, this_frame, last_fr
 use Rattle.sift_parse.specs.declared.token.Keyword.TheVariants.{Let, Out, If, Else, Repeat, Mid, Sense, Now, Last}
 use Rattle.sift_parse.specs.declared.token.Sign.TheVariants.{Assign, OpenParen, CloseParen, OpenBrace, CloseBrace, Comma, Dot, Semicolon}
 use Rattle.sift_parse.specs.declared.token.Token.{Token}
-use Rattle.sift_parse.specs.declared.token.Token.TheVariants.{Keyword, Name, Number, Operator, Sign}
+use Rattle.sift_parse.specs.declared.token.Token.TheVariants.{Keyword, Name, Number, Index, Operator, Sign}
 
 -- the level of an operator: `expr` is level 0, then come `bits`, `sum`, `term` and `shift`
 abbrev pub level_of : Op → ℕ
@@ -36,8 +36,8 @@ mutual
     a_local : (l : ℕ) (rest : List Token) → IsPrim (Name l ∷ rest) (local l) rest
     a_middle : (ts us vs rest : List Token) (t u v : Term) → IsLevel 0 ts t (Sign Comma ∷ us) → IsLevel 0 us u (Sign Comma ∷ vs) → IsLevel 0 vs v (Sign CloseParen ∷ rest) → IsPrim (Keyword Mid ∷ Sign OpenParen ∷ ts) (middle t u v) rest
     a_sensor : (x : ℕ) (rest : List Token) → IsPrim (Keyword Sense ∷ Name x ∷ rest) (sense x) rest
-    of_this_frame : (task w : ℕ) (rest : List Token) → IsPrim (Keyword Now ∷ Name task ∷ Sign Dot ∷ Number w ∷ rest) (this_frame w) rest
-    of_last_frame : (task w : ℕ) (rest : List Token) → IsPrim (Keyword Last ∷ Name task ∷ Sign Dot ∷ Number w ∷ rest) (last_frame w) rest
+    of_this_frame : (task w : ℕ) (rest : List Token) → IsPrim (Keyword Now ∷ Name task ∷ Sign Dot ∷ Index w ∷ rest) (this_frame w) rest
+    of_last_frame : (task w : ℕ) (rest : List Token) → IsPrim (Keyword Last ∷ Name task ∷ Sign Dot ∷ Index w ∷ rest) (last_frame w) rest
 
   -- a prim, or an operand of the next level with what joins it by operators of this level
   pub data IsLevel : ℕ → List Token → Term → List Token → Type 0 where
@@ -59,7 +59,7 @@ mutual
   pub data IsStatement : List Token → Statement → List Token → Type 0 where
     a_let : (l : ℕ) (ts rest : List Token) (t : Term) → IsExpr ts t (Sign Semicolon ∷ rest) → IsStatement (Keyword Let ∷ Name l ∷ Sign Assign ∷ ts) (bind t) rest
     an_assignment : (l : ℕ) (ts rest : List Token) (t : Term) → IsExpr ts t (Sign Semicolon ∷ rest) → IsStatement (Name l ∷ Sign Assign ∷ ts) (assign l t) rest
-    an_output : (j : ℕ) (ts rest : List Token) (t : Term) → IsExpr ts t (Sign Semicolon ∷ rest) → IsStatement (Keyword Out ∷ Number j ∷ Sign Assign ∷ ts) (output j t) rest
+    an_output : (j : ℕ) (ts rest : List Token) (t : Term) → IsExpr ts t (Sign Semicolon ∷ rest) → IsStatement (Keyword Out ∷ Index j ∷ Sign Assign ∷ ts) (output j t) rest
     an_if : (ts us rest : List Token) (t : Term) (first : Block) → IsExpr ts t (Sign OpenBrace ∷ us) → IsBlock us first (Sign CloseBrace ∷ rest) → IsStatement (Keyword If ∷ ts) (choose t first) rest
     an_if_else : (ts us vs rest : List Token) (t : Term) (first second : Block) → IsExpr ts t (Sign OpenBrace ∷ us) → IsBlock us first (Sign CloseBrace ∷ Keyword Else ∷ Sign OpenBrace ∷ vs) → IsBlock vs second (Sign CloseBrace ∷ rest) → IsStatement (Keyword If ∷ ts) (choose_else t first second) rest
     a_repeat : (k : ℕ) (ts rest : List Token) (body : Block) → IsBlock ts body (Sign CloseBrace ∷ rest) → IsStatement (Keyword Repeat ∷ Number k ∷ Sign OpenBrace ∷ ts) (repeat k body) rest

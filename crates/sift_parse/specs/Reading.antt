@@ -7,7 +7,7 @@ use Rattle.sift_parse.specs.declared.token.Keyword.TheVariants.{Let, Out, If, El
 use Rattle.sift_parse.specs.declared.token.Sign as signs
 use Rattle.sift_parse.specs.declared.token.Sign.TheVariants.{Assign, OpenParen, CloseParen, OpenBrace, CloseBrace, Comma, Dot, Semicolon}
 use Rattle.sift_parse.specs.declared.token.Token.{Token}
-use Rattle.sift_parse.specs.declared.token.Token.TheVariants.{Keyword, Name, Number, Operator, Sign}
+use Rattle.sift_parse.specs.declared.token.Token.TheVariants.{Keyword, Name, Number, Index, Operator, Sign}
 use Rattle.sift_parse.specs.Grammar.{level_of, prim_level}
 
 -- what was read and the tokens after it, or the tokens from the offending one on
@@ -47,9 +47,14 @@ abbrev pub read_number : List Token → Outcome ℕ
 read_number (Number n ∷ ts) = found n ts
 read_number ts = fault ts
 
+-- the number of a word
+abbrev pub read_index : List Token → Outcome ℕ
+read_index (Index n ∷ ts) = found n ts
+read_index ts = fault ts
+
 -- a task's word: a name, a dot and a number
 abbrev pub read_word : List Token → Outcome ℕ
-read_word ts = after (read_name ts) (λ task us. after (read_sign Dot us) (λ _ vs. read_number vs))
+read_word ts = after (read_name ts) (λ task us. after (read_sign Dot us) (λ _ vs. read_index vs))
 
 -- what this reader reads, and the sign after it
 abbrev pub closed_by : {A : Type 0} → signs.Sign → (List Token → Outcome A) → List Token → Outcome A
@@ -128,7 +133,7 @@ then_by statement block ts = after (statement ts) (λ s us. after (block us) (λ
 abbrev pub block_from : (List Token → Outcome Term) → (List Token → Outcome Block) → Token → List Token → Outcome Block
 block_from expr block (Keyword Let) ts = then_by (λ ts. after (read_name ts) (λ _ us. value_by expr bind us)) block ts
 block_from expr block (Name l) ts = then_by (value_by expr (assign l)) block ts
-block_from expr block (Keyword Out) ts = then_by (λ ts. after (read_number ts) (λ j us. value_by expr (output j) us)) block ts
+block_from expr block (Keyword Out) ts = then_by (λ ts. after (read_index ts) (λ j us. value_by expr (output j) us)) block ts
 block_from expr block (Keyword If) ts = then_by (λ ts. after (expr ts) (λ t us. after (braced_by block us) (λ first vs. else_by block t first vs))) block ts
 block_from expr block (Keyword Repeat) ts = then_by (λ ts. after (read_number ts) (λ k us. after (braced_by block us) (λ body rest. found (repeat k body) rest))) block ts
 block_from expr block t ts = found end (t ∷ ts)

@@ -44,8 +44,10 @@ pub(crate) enum Token {
     Keyword(Keyword),
     /// A local, a sensor or a task.
     Name(u8),
-    /// A number as it is written. After a task's name and a dot it is that of the voted word.
-    Number(u32),
+    /// A number as it is written.
+    Number(u16),
+    /// The number of a word: of an output word after `out`, and of a voted word after a task's name and a dot.
+    Index(u8),
     Operator(Op),
     Sign(Sign),
 }
