@@ -9,6 +9,7 @@ mod names;
 mod runs;
 mod stop;
 mod token;
+mod tokens;
 mod tree;
 
 pub use names::Names;
