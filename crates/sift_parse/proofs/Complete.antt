@@ -62,16 +62,16 @@ test-same a b e = grind (arith, nat_tests)
 test-less : (a b : ℕ) → a < b → (a == b) ≡ false
 test-less a b e = grind (arith, nat_tests)
 
-go_on-more : (n : ℕ) (go : Term → List Token → Outcome Term) (x : Term) (ts : List Token) → 0 < n → go_on n go x ts ≡ go x ts
+pub go_on-more : (n : ℕ) (go : Term → List Token → Outcome Term) (x : Term) (ts : List Token) → 0 < n → go_on n go x ts ≡ go x ts
 go_on-more zero go x ts lt = absurd (omega arith)
 go_on-more (suc n) go x ts lt = refl
 
-read-prim : (fuel : ℕ) (ts : List Token) (o : Outcome Term) → 1 ≤ fuel → ((f : ℕ) → fuel ≡ suc f → prim_by (read f prim_level) (read f 0) ts ≡ o) → read fuel prim_level ts ≡ o
+pub read-prim : (fuel : ℕ) (ts : List Token) (o : Outcome Term) → 1 ≤ fuel → ((f : ℕ) → fuel ≡ suc f → prim_by (read f prim_level) (read f 0) ts ≡ o) → read fuel prim_level ts ≡ o
 unfolding read tail
 read-prim zero ts o le h = absurd (omega arith)
 read-prim (suc f) ts o le h = h f refl
 
-read-chain : (fuel n : ℕ) (ts : List Token) (o : Outcome Term) → n < prim_level → 1 ≤ fuel → ((f : ℕ) → fuel ≡ suc f → after (read f (suc n) ts) (tail f n) ≡ o) → read fuel n ts ≡ o
+pub read-chain : (fuel n : ℕ) (ts : List Token) (o : Outcome Term) → n < prim_level → 1 ≤ fuel → ((f : ℕ) → fuel ≡ suc f → after (read f (suc n) ts) (tail f n) ≡ o) → read fuel n ts ≡ o
 unfolding read tail
 read-chain zero n ts o lt le h = absurd (omega arith)
 read-chain (suc f) n ts o lt le h = ap (λ b. cond b (prim_by (read f prim_level) (read f 0) ts) (after (read f (suc n) ts) (tail f n))) (test-less n prim_level lt) ∙ h f refl
@@ -83,7 +83,7 @@ tail-stop n x [] s (suc f) = refl
 tail-stop n x (Operator op ∷ ts) s (suc f) = ap (λ b. cond b (after (read f (suc n) ts) (λ y rest. go_on n (tail f n) (binary op x y) rest)) (found x (Operator op ∷ ts))) (test-less (level_of op) n s)
 tail-stop n x (_ ∷ ts) s (suc f) = refl
 
-tail-more : (fuel n : ℕ) (op : Op) (x : Term) (ts : List Token) (o : Outcome Term) → level_of op ≡ n → 1 ≤ fuel → ((f : ℕ) → fuel ≡ suc f → after (read f (suc n) ts) (λ y rest. go_on n (tail f n) (binary op x y) rest) ≡ o) → tail fuel n x (Operator op ∷ ts) ≡ o
+pub tail-more : (fuel n : ℕ) (op : Op) (x : Term) (ts : List Token) (o : Outcome Term) → level_of op ≡ n → 1 ≤ fuel → ((f : ℕ) → fuel ≡ suc f → after (read f (suc n) ts) (λ y rest. go_on n (tail f n) (binary op x y) rest) ≡ o) → tail fuel n x (Operator op ∷ ts) ≡ o
 unfolding read tail
 tail-more zero n op x ts o at le h = absurd (omega arith)
 tail-more (suc f) n op x ts o at le h = ap (λ b. cond b (after (read f (suc n) ts) (λ y rest. go_on n (tail f n) (binary op x y) rest)) (found x (Operator op ∷ ts))) (test-same (level_of op) n at) ∙ h f refl

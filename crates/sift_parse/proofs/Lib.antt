@@ -1,6 +1,7 @@
-pub mod Blocks
+pub mod BlockLaws
+pub mod Chains
 pub mod Complete
-pub mod Exprs
+pub mod ExprLaws
 pub mod Gaps
 pub mod Laws
 pub mod Lexing

@@ -7,7 +7,7 @@ use Rattle.sift_parse.specs.Grammar.{IsTask, Begins, Offends}
 use Rattle.sift_parse.specs.Reading.{Outcome, found, fault, after, read_block, whole, read_task}
 use Rattle.sift_parse.proofs.Laws.{left_of, with_left, LocalAt, Lawful, looks, ends}
 use Rattle.sift_parse.proofs.Steps.{Stepped, both, stepped, Failed, first_fails, second_fails, failed, then-local}
-use Rattle.sift_parse.proofs.Blocks.{block_lawful}
+use Rattle.sift_parse.proofs.BlockLaws.{block_lawful}
 use Rattle.sift_parse.proofs.Whole.{task_read}
 
 whole-found : (a b : Block) (mid rest : List Token) → whole a mid ≡ found b rest → (a ≡ b) × (mid ≡ [])

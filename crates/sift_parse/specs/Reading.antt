@@ -62,13 +62,17 @@ closed_by s reader ts = after (reader ts) (λ a us. after (read_sign s us) (λ _
 
 -- ---- expressions
 
+-- three expressions in parentheses
+abbrev pub middle_by : (List Token → Outcome Term) → List Token → Outcome Term
+middle_by expr ts = after (read_sign OpenParen ts) (λ _ us. after (closed_by Comma expr us) (λ t vs. after (closed_by Comma expr vs) (λ u ws. after (closed_by CloseParen expr ws) (λ v rest. found (middle t u v) rest))))
+
 -- a prim that begins with this token
 abbrev pub prim_from : (List Token → Outcome Term) → (List Token → Outcome Term) → Token → List Token → Outcome Term
 prim_from prim expr (Number n) ts = found (number n) ts
 prim_from prim expr (Name l) ts = found (local l) ts
 prim_from prim expr (Operator Sub) ts = after (prim ts) (λ t rest. found (minus t) rest)
 prim_from prim expr (Sign OpenParen) ts = closed_by CloseParen expr ts
-prim_from prim expr (Keyword Mid) ts = after (read_sign OpenParen ts) (λ _ us. after (closed_by Comma expr us) (λ t vs. after (closed_by Comma expr vs) (λ u ws. after (closed_by CloseParen expr ws) (λ v rest. found (middle t u v) rest))))
+prim_from prim expr (Keyword Mid) ts = middle_by expr ts
 prim_from prim expr (Keyword Sense) ts = after (read_name ts) (λ x rest. found (sense x) rest)
 prim_from prim expr (Keyword Now) ts = after (read_word ts) (λ w rest. found (this_frame w) rest)
 prim_from prim expr (Keyword Last) ts = after (read_word ts) (λ w rest. found (last_frame w) rest)

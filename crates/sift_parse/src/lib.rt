@@ -3,6 +3,7 @@
 //! The grammar is a relation; a text has at most one tree.
 #![tactic(auto)]
 
+mod exprs;
 mod lexeme;
 mod lexer;
 mod names;

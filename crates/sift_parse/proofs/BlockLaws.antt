@@ -10,7 +10,7 @@ use Rattle.sift_parse.specs.Reading.{Outcome, found, fault, after, read_sign, re
 use Rattle.sift_parse.proofs.Laws.{Rel, Goes, Lawful, nowhere, done, default-fault, default-found}
 use Rattle.sift_parse.proofs.Steps.{Then, in_turn, then_lawful, widened, Picks, takes, leaves, choice, mapped}
 use Rattle.sift_parse.proofs.Signs.{NameHere, is_name, name_lawful, NumberHere, is_number, number_lawful, IndexHere, is_index, index_lawful, Closed, closed_lawful, After, after_sign, after_lawful}
-use Rattle.sift_parse.proofs.Exprs.{level_lawful}
+use Rattle.sift_parse.proofs.ExprLaws.{level_lawful}
 
 -- ---- statements with an expression
 
