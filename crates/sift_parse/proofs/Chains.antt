@@ -1,13 +1,17 @@
 -- How the readers of expressions go step by step, from some number of calls on.
-use Rattle.std.proofs.Common.{◌≡◌, ◌≢◌, ℕ, zero, suc, ◌+◌, ◌-◌, ◌<◌, ◌≤◌, Bool, true, false, ◌==◌, cond, List, [], ◌∷◌, refl, sym, ap, ◌∙◌, subst, arith}
+use Rattle.std.proofs.Common.{◌≡◌, ◌≢◌, ℕ, zero, suc, ◌+◌, ◌-◌, ◌<◌, ◌≤◌, Bool, true, false, ◌==◌, cond, List, [], ◌∷◌, refl, sym, ap, ◌∙◌, subst, arith, add-one, Result, Ok, Err}
 use Rattle.std.proofs.lemmas.Bool.Decides.{nat_tests}
 use Rattle.sift_lang.specs.declared.tree.Op.{Op}
-use Rattle.sift_lang.specs.Tree.{Term, binary}
+use Rattle.sift_lang.specs.declared.tree.Expr.{Expr}
+use Rattle.sift_lang.specs.Tree.{Term, binary, middle, term_of}
+use Rattle.sift_parse.specs.declared.token.Sign.TheVariants.{OpenParen, CloseParen, Comma}
+use Rattle.sift_parse.specs.declared.tokens.Fault.{Fault}
+use Rattle.sift_parse.specs.declared.tokens.Fault.TheVariants.{Syntax, NoMemory}
 use Rattle.sift_parse.specs.declared.token.Token.{Token}
 use Rattle.sift_parse.specs.declared.token.Token.TheVariants.{Keyword, Name, Number, Index, Operator, Sign}
 use Rattle.sift_parse.specs.Grammar.{level_of, prim_level}
-use Rattle.sift_parse.specs.Reading.{Outcome, found, fault, after, prim_by, go_on, tail_by, read, tail}
-use Rattle.sift_parse.specs.Parsing.{Reads, HasOperator}
+use Rattle.sift_parse.specs.Reading.{Outcome, found, fault, after, read_sign, closed_by, middle_by, prim_by, go_on, tail_by, read, tail}
+use Rattle.sift_parse.specs.Parsing.{Reads, Reading, HasOperator}
 use Rattle.sift_parse.proofs.Complete.{read-prim, read-chain, tail-more, go_on-more}
 
 -- reading what follows x leads to reading what follows y
@@ -27,9 +31,13 @@ leads-more n op x y z ts us vs lt at l r = record { more = l.more + 1; least = l
 leads-to : (n : ℕ) (op : Op) (x y : Term) (ts us : List Token) (o p : Outcome Term) → level_of op ≡ n → Leads n x ts y (Operator op ∷ us) → Reads Term (λ fuel. read fuel (suc n)) us o → ((fuel : ℕ) → after o (λ w rest. go_on n (tail fuel n) (binary op y w) rest) ≡ p) → Reads Term (λ fuel. tail fuel n x) ts p
 leads-to n op x y ts us o p at l r ends = record { least = l.more + (l.least + (r.least + 1)); from = λ fuel le. (let e : fuel ≡ l.more + (fuel - l.more) = omega arith in ap (λ f. tail f n x ts) e ∙ (l.from (fuel - l.more) (omega arith) ∙ tail-more (fuel - l.more) n op y us p at (omega arith) (λ f is. ap (λ o. after o (λ w rest. go_on n (tail f n) (binary op y w) rest)) (r.from f (omega arith)) ∙ ends f))) }
 
+go_on-none : (n : ℕ) (go : Term → List Token → Outcome Term) (x : Term) (ts : List Token) → n ≡ 0 → go_on n go x ts ≡ found x ts
+go_on-none zero go x ts e = refl
+go_on-none (suc n) go x ts e = absurd (omega arith)
+
 -- a comparison, after which no other comes
-pub leads-compared : (op : Op) (x y z : Term) (ts us vs : List Token) → level_of op ≡ 0 → Leads 0 x ts y (Operator op ∷ us) → Reads Term (λ fuel. read fuel 1) us (found z vs) → Reads Term (λ fuel. tail fuel 0 x) ts (found (binary op y z) vs)
-leads-compared op x y z ts us vs at l r = leads-to 0 op x y ts us (found z vs) (found (binary op y z) vs) at l r (λ fuel. refl)
+pub leads-compared : (n : ℕ) (op : Op) (x y z : Term) (ts us vs : List Token) → n ≡ 0 → level_of op ≡ n → Leads n x ts y (Operator op ∷ us) → Reads Term (λ fuel. read fuel (suc n)) us (found z vs) → Reads Term (λ fuel. tail fuel n x) ts (found (binary op y z) vs)
+leads-compared n op x y z ts us vs none at l r = leads-to n op x y ts us (found z vs) (found (binary op y z) vs) at l r (λ fuel. go_on-none n (tail fuel n) (binary op y z) vs none)
 
 -- an operand that offends
 pub leads-fault : (n : ℕ) (op : Op) (x y : Term) (ts us bad : List Token) → level_of op ≡ n → Leads n x ts y (Operator op ∷ us) → Reads Term (λ fuel. read fuel (suc n)) us (fault bad) → Reads Term (λ fuel. tail fuel n x) ts (fault bad)
@@ -45,9 +53,12 @@ tail-stopped n x [] h (suc f) = refl
 tail-stopped n x (Operator op ∷ ts) h (suc f) = ap (λ b. cond b (after (read f (suc n) ts) (λ y rest. go_on n (tail f n) (binary op x y) rest)) (found x (Operator op ∷ ts))) (test-other (level_of op) n h)
 tail-stopped n x (_ ∷ ts) h (suc f) = refl
 
+ended : (n : ℕ) (x y : Term) (ts us : List Token) → ¬ HasOperator n us → Leads n x ts y us → Reads Term (λ fuel. tail fuel n x) ts (found y us)
+ended n x y ts us h l = record { least = l.more + l.least; from = λ fuel le. (let e : fuel ≡ l.more + (fuel - l.more) = omega arith in ap (λ f. tail f n x ts) e ∙ (l.from (fuel - l.more) (omega arith) ∙ tail-stopped n y us h (fuel - l.more))) }
+
 -- no operator of the level is left
-pub leads-end : (n : ℕ) (x y : Term) (ts us : List Token) → ¬ HasOperator n us → Leads n x ts y us → Reads Term (λ fuel. tail fuel n x) ts (found y us)
-leads-end n x y ts us h l = record { least = l.more + l.least; from = λ fuel le. (let e : fuel ≡ l.more + (fuel - l.more) = omega arith in ap (λ f. tail f n x ts) e ∙ (l.from (fuel - l.more) (omega arith) ∙ tail-stopped n y us h (fuel - l.more))) }
+pub leads-end : (n : ℕ) (x y : Term) (ts us vs : List Token) → us ≡ vs → ¬ HasOperator n us → Leads n x ts y us → Reads Term (λ fuel. tail fuel n x) ts (found y vs)
+leads-end n x y ts us vs same h l = subst (λ v. Reads Term (λ fuel. tail fuel n x) ts (found y v)) same (ended n x y ts us h l)
 
 -- ---- levels
 
@@ -74,3 +85,41 @@ reads-then_fault A B R S ts bad r = record { least = r.least; from = λ fuel le.
 -- a reader that makes no calls
 pub reads-now : (A : Type 0) (R : List Token → Outcome A) (ts : List Token) (o : Outcome A) → R ts ≡ o → Reads A (λ fuel. R) ts o
 reads-now A R ts o e = record { least = 0; from = λ fuel le. e }
+
+-- the next level, as the code counts it
+pub reads-suc : (n : ℕ) (ts : List Token) (o : Outcome Term) → Reads Term (λ fuel. read fuel (n + 1)) ts o → Reads Term (λ fuel. read fuel (suc n)) ts o
+reads-suc n ts o r = subst (λ m. Reads Term (λ fuel. read fuel m) ts o) (add-one n) r
+
+-- ---- results
+
+-- what is answered by one reader is answered by another
+pub answered : (R S : ℕ → List Token → Outcome Term) (ts us left : List Token) (r : Result Expr Fault) → ((o : Outcome Term) → Reads Term R ts o → Reads Term S us o) → Reading term_of R ts r left → Reading term_of S us r left
+answered R S ts us left (Ok e) f h = f (found (term_of e) left) h
+answered R S ts us left (Err Syntax) f h = f (fault left) h
+answered R S ts us left (Err NoMemory) f h = tt
+
+-- what offends for one reader offends for another
+pub failed : (R S : ℕ → List Token → Outcome Term) (ts us left : List Token) (e : Fault) → ((bad : List Token) → Reads Term R ts (fault bad) → Reads Term S us (fault bad)) → Reading {T = Expr} term_of R ts (Err e) left → Reading {T = Expr} term_of S us (Err e) left
+failed R S ts us left Syntax f h = f left h
+failed R S ts us left NoMemory f h = tt
+
+-- ---- `mid`
+
+-- the reader of the third part, and of the second and third
+abbrev third_by : ℕ → Term → Term → List Token → Outcome Term
+third_by fuel t u ws = after (closed_by CloseParen (read fuel 0) ws) (λ v rest. found (middle t u v) rest)
+
+abbrev second_by : ℕ → Term → List Token → Outcome Term
+second_by fuel t vs = after (closed_by Comma (read fuel 0) vs) (third_by fuel t)
+
+middle-step : (ts us : List Token) (o : Outcome Term) → read_sign OpenParen ts ≡ found tt us → Reads Term (λ fuel us. after (closed_by Comma (read fuel 0) us) (second_by fuel)) us o → Reads Term (λ fuel. middle_by (read fuel 0)) ts o
+middle-step ts us o e r = record { least = r.least; from = λ fuel le. ap (λ o. after o (λ _ us. after (closed_by Comma (read fuel 0) us) (second_by fuel))) e ∙ r.from fuel le }
+
+pub middle-second : (ts us vs bad : List Token) (t : Term) → read_sign OpenParen ts ≡ found tt us → Reads Term (λ fuel. closed_by Comma (read fuel 0)) us (found t vs) → Reads Term (λ fuel. closed_by Comma (read fuel 0)) vs (fault bad) → Reads Term (λ fuel. middle_by (read fuel 0)) ts (fault bad)
+middle-second ts us vs bad t e r s = middle-step ts us (fault bad) e (reads-then Term Term (λ fuel. closed_by Comma (read fuel 0)) second_by us vs t (fault bad) r (reads-then_fault Term Term (λ fuel. closed_by Comma (read fuel 0)) (λ fuel. third_by fuel t) vs bad s))
+
+pub middle-third : (ts us vs ws bad : List Token) (t u : Term) → read_sign OpenParen ts ≡ found tt us → Reads Term (λ fuel. closed_by Comma (read fuel 0)) us (found t vs) → Reads Term (λ fuel. closed_by Comma (read fuel 0)) vs (found u ws) → Reads Term (λ fuel. closed_by CloseParen (read fuel 0)) ws (fault bad) → Reads Term (λ fuel. middle_by (read fuel 0)) ts (fault bad)
+middle-third ts us vs ws bad t u e r s q = middle-step ts us (fault bad) e (reads-then Term Term (λ fuel. closed_by Comma (read fuel 0)) second_by us vs t (fault bad) r (reads-then Term Term (λ fuel. closed_by Comma (read fuel 0)) (λ fuel. third_by fuel t) vs ws u (fault bad) s (reads-then_fault Term Term (λ fuel. closed_by CloseParen (read fuel 0)) (λ fuel v rest. found (middle t u v) rest) ws bad q)))
+
+pub middle-found : (ts us vs ws left : List Token) (t u v : Term) → read_sign OpenParen ts ≡ found tt us → Reads Term (λ fuel. closed_by Comma (read fuel 0)) us (found t vs) → Reads Term (λ fuel. closed_by Comma (read fuel 0)) vs (found u ws) → Reads Term (λ fuel. closed_by CloseParen (read fuel 0)) ws (found v left) → Reads Term (λ fuel. middle_by (read fuel 0)) ts (found (middle t u v) left)
+middle-found ts us vs ws left t u v e r s q = middle-step ts us (found (middle t u v) left) e (reads-then Term Term (λ fuel. closed_by Comma (read fuel 0)) second_by us vs t (found (middle t u v) left) r (reads-then Term Term (λ fuel. closed_by Comma (read fuel 0)) (λ fuel. third_by fuel t) vs ws u (found (middle t u v) left) s (reads-then Term Term (λ fuel. closed_by CloseParen (read fuel 0)) (λ fuel v rest. found (middle t u v) rest) ws left v (found (middle t u v) left) q (record { least = 0; from = λ fuel le. refl }))))
