@@ -1,12 +1,12 @@
 -- The readers of statements and blocks are lawful for the grammar.
-use Rattle.std.proofs.Common.{◌≡◌, ℕ, zero, suc, List, [], ◌∷◌, ◌++◌, refl, sym, ap, ◌∙◌, subst, arith, append_assoc}
+use Rattle.std.proofs.Common.{◌≡◌, ℕ, zero, suc, Option, Some, None, List, [], ◌∷◌, ◌++◌, refl, sym, ap, ◌∙◌, subst, arith, append_assoc}
 use Rattle.sift_lang.specs.Tree.{Term, number, Statement, bind, assign, output, choose, choose_else, repeat, Block, end, step}
 use Rattle.sift_parse.specs.declared.token.Keyword.TheVariants.{Let, Out, If, Else, Repeat}
 use Rattle.sift_parse.specs.declared.token.Sign.TheVariants.{Assign, OpenBrace, CloseBrace, Semicolon}
 use Rattle.sift_parse.specs.declared.token.Token.{Token}
 use Rattle.sift_parse.specs.declared.token.Token.TheVariants.{Keyword, Name, Number, Operator, Sign}
 use Rattle.sift_parse.specs.Grammar.{IsLevel, IsExpr, IsStatement, a_let, an_assignment, an_output, an_if, an_if_else, a_repeat, IsBlock, no_statement, a_statement}
-use Rattle.sift_parse.specs.Reading.{Outcome, found, fault, after, read_sign, read_name, read_number, read_index, closed_by, read, value_by, braced_by, else_from, else_by, then_by, block_from, block_by, read_block}
+use Rattle.sift_parse.specs.Reading.{Outcome, found, fault, after, read_sign, read_name, read_number, read_index, closed_by, read, valued_by, value_by, braced_by, else_from, else_by, if_by, some_by, statement_from, statement_by, block_from, block_by, read_block}
 use Rattle.sift_parse.proofs.Laws.{Rel, Goes, Lawful, nowhere, done, default-fault, default-found}
 use Rattle.sift_parse.proofs.Steps.{Then, in_turn, then_lawful, widened, Picks, takes, leaves, choice, mapped}
 use Rattle.sift_parse.proofs.Signs.{NameHere, is_name, name_lawful, NumberHere, is_number, number_lawful, IndexHere, is_index, index_lawful, Closed, closed_lawful, After, after_sign, after_lawful}
@@ -14,30 +14,33 @@ use Rattle.sift_parse.proofs.ExprLaws.{level_lawful}
 
 -- ---- statements with an expression
 
--- an expression and a semicolon, of which a statement is made
+-- an expression from its `=` to its `;`, of which a statement is made
 data Valued (make : Term → Statement) : List Token → Statement → List Token → Type 0 where
-  valued : (ts rest : List Token) (t : Term) → IsExpr ts t (Sign Semicolon ∷ rest) → Valued make ts (make t) rest
+  valued : (ts rest : List Token) (t : Term) → IsExpr ts t (Sign Semicolon ∷ rest) → Valued make (Sign Assign ∷ ts) (make t) rest
 
-value_lawful : (expr : List Token → Outcome Term) (make : Term → Statement) → Lawful Term IsExpr expr → Lawful Statement (After Statement Assign (Valued make)) (value_by expr make)
-value_lawful expr make e = after_lawful Statement Assign (Valued make) (λ us. after (closed_by Semicolon expr us) (λ t rest. found (make t) rest)) (mapped Term Statement (Closed Term Semicolon IsExpr) (Valued make) (closed_by Semicolon expr) make valued (closed_lawful Term Semicolon IsExpr expr e))
+valued_rule : (make : Term → Statement) (ts rest : List Token) (t : Term) → After Term Assign (Closed Term Semicolon IsExpr) ts t rest → Valued make ts (make t) rest
+valued_rule make ts rest t (after_sign us vs a d) = valued us vs a d
 
-let_rule : (ts rest : List Token) (s : Statement) → Then ℕ Statement NameHere (λ _. After Statement Assign (Valued bind)) ts s rest → IsStatement (Keyword Let ∷ ts) s rest
-let_rule ts rest s (in_turn us mid vs a b (is_name n ws) (after_sign xs ys c (valued zs qs t d))) = a_let n zs qs t d
+value_lawful : (expr : List Token → Outcome Term) (make : Term → Statement) → Lawful Term IsExpr expr → Lawful Statement (Valued make) (value_by expr make)
+value_lawful expr make e = mapped Term Statement (After Term Assign (Closed Term Semicolon IsExpr)) (Valued make) (valued_by expr) make (valued_rule make) (after_lawful Term Assign (Closed Term Semicolon IsExpr) (closed_by Semicolon expr) (closed_lawful Term Semicolon IsExpr expr e))
+
+let_rule : (ts rest : List Token) (s : Statement) → Then ℕ Statement NameHere (λ _. Valued bind) ts s rest → IsStatement (Keyword Let ∷ ts) s rest
+let_rule ts rest s (in_turn us mid vs a b (is_name n ws) (valued zs qs t d)) = a_let n zs qs t d
 
 let_lawful : (expr : List Token → Outcome Term) → Lawful Term IsExpr expr → Lawful Statement (λ ts s rest. IsStatement (Keyword Let ∷ ts) s rest) (λ ts. after (read_name ts) (λ _ us. value_by expr bind us))
-let_lawful expr e = widened Statement (Then ℕ Statement NameHere (λ _. After Statement Assign (Valued bind))) (λ ts s rest. IsStatement (Keyword Let ∷ ts) s rest) (λ ts. after (read_name ts) (λ _ us. value_by expr bind us)) let_rule (then_lawful ℕ Statement NameHere (λ _. After Statement Assign (Valued bind)) read_name (λ _ us. value_by expr bind us) name_lawful (λ _. value_lawful expr bind e))
+let_lawful expr e = widened Statement (Then ℕ Statement NameHere (λ _. Valued bind)) (λ ts s rest. IsStatement (Keyword Let ∷ ts) s rest) (λ ts. after (read_name ts) (λ _ us. value_by expr bind us)) let_rule (then_lawful ℕ Statement NameHere (λ _. Valued bind) read_name (λ _ us. value_by expr bind us) name_lawful (λ _. value_lawful expr bind e))
 
-assign_rule : (l : ℕ) (ts rest : List Token) (s : Statement) → After Statement Assign (Valued (assign l)) ts s rest → IsStatement (Name l ∷ ts) s rest
-assign_rule l ts rest s (after_sign us vs c (valued zs qs t d)) = an_assignment l zs qs t d
+assign_rule : (l : ℕ) (ts rest : List Token) (s : Statement) → Valued (assign l) ts s rest → IsStatement (Name l ∷ ts) s rest
+assign_rule l ts rest s (valued zs qs t d) = an_assignment l zs qs t d
 
 assign_lawful : (expr : List Token → Outcome Term) (l : ℕ) → Lawful Term IsExpr expr → Lawful Statement (λ ts s rest. IsStatement (Name l ∷ ts) s rest) (value_by expr (assign l))
-assign_lawful expr l e = widened Statement (After Statement Assign (Valued (assign l))) (λ ts s rest. IsStatement (Name l ∷ ts) s rest) (value_by expr (assign l)) (assign_rule l) (value_lawful expr (assign l) e)
+assign_lawful expr l e = widened Statement (Valued (assign l)) (λ ts s rest. IsStatement (Name l ∷ ts) s rest) (value_by expr (assign l)) (assign_rule l) (value_lawful expr (assign l) e)
 
-out_rule : (ts rest : List Token) (s : Statement) → Then ℕ Statement IndexHere (λ j. After Statement Assign (Valued (output j))) ts s rest → IsStatement (Keyword Out ∷ ts) s rest
-out_rule ts rest s (in_turn us mid vs a b (is_index n ws) (after_sign xs ys c (valued zs qs t d))) = an_output n zs qs t d
+out_rule : (ts rest : List Token) (s : Statement) → Then ℕ Statement IndexHere (λ j. Valued (output j)) ts s rest → IsStatement (Keyword Out ∷ ts) s rest
+out_rule ts rest s (in_turn us mid vs a b (is_index n ws) (valued zs qs t d)) = an_output n zs qs t d
 
 out_lawful : (expr : List Token → Outcome Term) → Lawful Term IsExpr expr → Lawful Statement (λ ts s rest. IsStatement (Keyword Out ∷ ts) s rest) (λ ts. after (read_index ts) (λ j us. value_by expr (output j) us))
-out_lawful expr e = widened Statement (Then ℕ Statement IndexHere (λ j. After Statement Assign (Valued (output j)))) (λ ts s rest. IsStatement (Keyword Out ∷ ts) s rest) (λ ts. after (read_index ts) (λ j us. value_by expr (output j) us)) out_rule (then_lawful ℕ Statement IndexHere (λ j. After Statement Assign (Valued (output j))) read_index (λ j us. value_by expr (output j) us) index_lawful (λ j. value_lawful expr (output j) e))
+out_lawful expr e = widened Statement (Then ℕ Statement IndexHere (λ j. Valued (output j))) (λ ts s rest. IsStatement (Keyword Out ∷ ts) s rest) (λ ts. after (read_index ts) (λ j us. value_by expr (output j) us)) out_rule (then_lawful ℕ Statement IndexHere (λ j. Valued (output j)) read_index (λ j us. value_by expr (output j) us) index_lawful (λ j. value_lawful expr (output j) e))
 
 -- ---- statements with a block
 
@@ -85,26 +88,40 @@ if_lawful expr block e b = widened Statement (Then Term Statement IsExpr (λ t. 
 
 -- ---- blocks
 
--- the block after a statement
-data Stepping (s : Statement) : List Token → Block → List Token → Type 0 where
-  stepping : (ts rest : List Token) (b : Block) → IsBlock ts b rest → Stepping s ts (step s b) rest
+-- a statement, if one begins here: else nothing is taken
+data Maybe : List Token → Option Statement → List Token → Type 0 where
+  a_next : (ts rest : List Token) (s : Statement) → IsStatement ts s rest → Maybe ts (Some s) rest
+  no_next : (rest : List Token) → Maybe rest None rest
 
-step_rule : (head : Token) (ts rest : List Token) (b : Block) → Then Statement Block (λ ts s rest. IsStatement (head ∷ ts) s rest) (Stepping) ts b rest → IsBlock (head ∷ ts) b rest
-step_rule head ts rest b (in_turn us mid vs s c d (stepping ms ws x e)) = a_statement (head ∷ us) ms ws s x d e
+some_lawful : (head : Token) (statement : List Token → Outcome Statement) → Lawful Statement (λ ts s rest. IsStatement (head ∷ ts) s rest) statement → Lawful (Option Statement) (λ ts o rest. Maybe (head ∷ ts) o rest) (some_by statement)
+some_lawful head statement s = mapped Statement (Option Statement) (λ ts s rest. IsStatement (head ∷ ts) s rest) (λ ts o rest. Maybe (head ∷ ts) o rest) statement (λ s. Some s) (λ ts rest s d. a_next (head ∷ ts) rest s d) s
 
-then_by-lawful : (head : Token) (statement : List Token → Outcome Statement) (block : List Token → Outcome Block) → Lawful Statement (λ ts s rest. IsStatement (head ∷ ts) s rest) statement → Lawful Block IsBlock block → Lawful Block (λ ts b rest. IsBlock (head ∷ ts) b rest) (then_by statement block)
-then_by-lawful head statement block s b = widened Block (Then Statement Block (λ ts s rest. IsStatement (head ∷ ts) s rest) Stepping) (λ ts b rest. IsBlock (head ∷ ts) b rest) (then_by statement block) (step_rule head) (then_lawful Statement Block (λ ts s rest. IsStatement (head ∷ ts) s rest) Stepping statement (λ s us. after (block us) (λ b rest. found (step s b) rest)) s (λ s. mapped Block Block IsBlock (Stepping s) block (step s) stepping b))
+statement_picks : (expr : List Token → Outcome Term) (block : List Token → Outcome Block) → Lawful Term IsExpr expr → Lawful Block IsBlock block → (t : Token) → Picks (Option Statement) Maybe (λ ts. found None ts) t (λ ts. statement_by expr block (t ∷ ts))
+statement_picks expr block e b (Keyword Let) = takes (some_lawful (Keyword Let) (λ ts. after (read_name ts) (λ _ us. value_by expr bind us)) (let_lawful expr e))
+statement_picks expr block e b (Name l) = takes (some_lawful (Name l) (value_by expr (assign l)) (assign_lawful expr l e))
+statement_picks expr block e b (Keyword Out) = takes (some_lawful (Keyword Out) (λ ts. after (read_index ts) (λ j us. value_by expr (output j) us)) (out_lawful expr e))
+statement_picks expr block e b (Keyword If) = takes (some_lawful (Keyword If) (if_by expr block) (if_lawful expr block e b))
+statement_picks expr block e b (Keyword Repeat) = takes (some_lawful (Keyword Repeat) (λ ts. after (read_number ts) (λ k us. after (braced_by block us) (λ body rest. found (repeat k body) rest))) (repeat_lawful block b))
+statement_picks expr block e b t = leaves (λ ts. refl)
 
-block_picks : (expr : List Token → Outcome Term) (block : List Token → Outcome Block) → Lawful Term IsExpr expr → Lawful Block IsBlock block → (t : Token) → Picks Block IsBlock (λ ts. found end ts) t (λ ts. block_by expr block (t ∷ ts))
-block_picks expr block e b (Keyword Let) = takes (then_by-lawful (Keyword Let) (λ ts. after (read_name ts) (λ _ us. value_by expr bind us)) block (let_lawful expr e) b)
-block_picks expr block e b (Name l) = takes (then_by-lawful (Name l) (value_by expr (assign l)) block (assign_lawful expr l e) b)
-block_picks expr block e b (Keyword Out) = takes (then_by-lawful (Keyword Out) (λ ts. after (read_index ts) (λ j us. value_by expr (output j) us)) block (out_lawful expr e) b)
-block_picks expr block e b (Keyword If) = takes (then_by-lawful (Keyword If) (λ ts. after (expr ts) (λ t us. after (braced_by block us) (λ first vs. else_by block t first vs))) block (if_lawful expr block e b) b)
-block_picks expr block e b (Keyword Repeat) = takes (then_by-lawful (Keyword Repeat) (λ ts. after (read_number ts) (λ k us. after (braced_by block us) (λ body rest. found (repeat k body) rest))) block (repeat_lawful block b) b)
-block_picks expr block e b t = leaves (λ ts. refl)
+statement_lawful : (expr : List Token → Outcome Term) (block : List Token → Outcome Block) → Lawful Term IsExpr expr → Lawful Block IsBlock block → Lawful (Option Statement) Maybe (statement_by expr block)
+statement_lawful expr block e b = choice (Option Statement) Maybe (λ ts. found None ts) (statement_by expr block) (default-found (Option Statement) Maybe None no_next) refl (statement_picks expr block e b)
+
+-- the block after a statement, and the end of a block without one
+data Stepping : Option Statement → List Token → Block → List Token → Type 0 where
+  stepping : (s : Statement) (ts rest : List Token) (b : Block) → IsBlock ts b rest → Stepping (Some s) ts (step s b) rest
+  ending : (rest : List Token) → Stepping None rest end rest
+
+step_lawful : (block : List Token → Outcome Block) → Lawful Block IsBlock block → (o : Option Statement) → Lawful Block (Stepping o) (block_from block o)
+step_lawful block b None = done Block (Stepping None) end ending
+step_lawful block b (Some s) = mapped Block Block IsBlock (Stepping (Some s)) block (step s) (stepping s) b
+
+step_rule : (ts rest : List Token) (b : Block) → Then (Option Statement) Block Maybe Stepping ts b rest → IsBlock ts b rest
+step_rule ts rest b (in_turn us mid vs o c (a_next xs ys s d) (stepping q ms ws x e)) = a_statement xs ms ws s x d e
+step_rule ts rest b (in_turn us mid vs o c (no_next xs) (ending ws)) = no_statement ws
 
 block_by-lawful : (expr : List Token → Outcome Term) (block : List Token → Outcome Block) → Lawful Term IsExpr expr → Lawful Block IsBlock block → Lawful Block IsBlock (block_by expr block)
-block_by-lawful expr block e b = choice Block IsBlock (λ ts. found end ts) (block_by expr block) (default-found Block IsBlock end no_statement) refl (block_picks expr block e b)
+block_by-lawful expr block e b = widened Block (Then (Option Statement) Block Maybe Stepping) IsBlock (block_by expr block) step_rule (then_lawful (Option Statement) Block Maybe Stepping (statement_by expr block) (block_from block) (statement_lawful expr block e b) (step_lawful block b))
 
 pub block_lawful : (fuel : ℕ) → Lawful Block IsBlock (read_block fuel)
 unfolding read_block

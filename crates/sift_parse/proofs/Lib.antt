@@ -9,4 +9,5 @@ pub mod Numbers
 pub mod Offending
 pub mod Signs
 pub mod Steps
+pub mod Turns
 pub mod Whole

@@ -1,5 +1,8 @@
 -- What reading refuses offends: what stands before it begins a task, and with the token there it doesn't.
-use Rattle.std.proofs.Common.{◌≡◌, ℕ, ◌+◌, ◌≤◌, List, [], ◌∷◌, ◌++◌, refl, sym, ap, ◌∙◌, subst, arith, append_assoc}
+use Rattle.std.proofs.Common.{◌≡◌, ℕ, ◌+◌, ◌≤◌, List, [], ◌∷◌, ◌++◌, ◌-◌, length, drop, refl, sym, ap, ◌∙◌, subst, arith, append_assoc, length-append}
+use Rattle.std.proofs.Math.Seq.{drop-append_seam}
+use Rattle.sift_parse.specs.Parsed.{OffendsAt}
+use Rattle.sift_parse.specs.Parsing.{Reads}
 use Rattle.std.proofs.lemmas.List.{append_cancel_right, append-nil}
 use Rattle.sift_lang.specs.Tree.{Block}
 use Rattle.sift_parse.specs.declared.token.Token.{Token}
@@ -80,3 +83,28 @@ pub offends : (ts bad : List Token) (least : ℕ) → ((fuel : ℕ) → least �
 offends ts bad least at =
     let f = front-by least ts bad (failed Block Block (read_block least ts) whole bad (at least (omega arith))) in
     record { front = f.front; split = f.split; begins = f.begins; not_with = λ t more is b. not_with ts f.front bad t more least f.split at is b; not_whole = λ is b d. not_whole ts bad least at b d }
+
+-- where reading offends, from some number of calls on, the place is how many tokens stand before
+pub offends-at : (ts bad : List Token) → Reads Block read_task ts (fault bad) → (length bad ≤ length ts) × OffendsAt ts (length ts - length bad)
+offends-at ts bad r =
+    let o = offends ts bad r.least r.from in
+    let long : length ts ≡ length o.front + length bad = ap length o.split ∙ length-append o.front bad in
+    let at : length ts - length bad ≡ length o.front = omega arith in
+    let left : bad ≡ drop (length ts - length bad) ts = sym (ap (λ k. drop k ts) at ∙ (ap (drop (length o.front)) o.split ∙ drop-append_seam o.front bad)) in
+    (omega arith, record { within = omega arith; offends = subst (Offends ts) left o })
+
+-- what is read whole is a task
+pub task-read : (ts rest : List Token) (b : Block) → Reads Block read_task ts (found b rest) → IsTask ts b
+task-read ts rest b r = task-sound r.least ts rest b (r.from r.least (omega arith))
+
+-- a block is the whole, or what is left after it offends
+pub whole-found-reads : (ts left : List Token) (b : Block) → left ≡ [] → Reads Block read_block ts (found b left) → Reads Block read_task ts (found b left)
+whole-found-reads ts [] b e r = record { least = r.least; from = λ fuel le. ap (λ o. after o whole) (r.from fuel le) }
+whole-found-reads ts (t ∷ left) b e r = cc
+
+pub whole-fault-reads : (ts left : List Token) (b : Block) → (left ≡ [] → ⊥) → Reads Block read_block ts (found b left) → Reads Block read_task ts (fault left)
+whole-fault-reads ts [] b e r = absurd (e refl)
+whole-fault-reads ts (t ∷ left) b e r = record { least = r.least; from = λ fuel le. ap (λ o. after o whole) (r.from fuel le) }
+
+pub block-fault-reads : (ts bad : List Token) → Reads Block read_block ts (fault bad) → Reads Block read_task ts (fault bad)
+block-fault-reads ts bad r = record { least = r.least; from = λ fuel le. ap (λ o. after o whole) (r.from fuel le) }

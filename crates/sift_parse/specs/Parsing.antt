@@ -1,10 +1,11 @@
 -- What the parser's functions answer, in the words of the readers. No public clause cites this module.
-use Rattle.std.specs.Prelude.{◌≡◌, ℕ, ◌≤◌, ◌==◌, Bool, true, List, [], ◌∷◌, Option, Some, None, Result, Ok, Err}
+use Rattle.std.specs.Prelude.{◌≡◌, ℕ, ◌≤◌, ◌==◌, Bool, true, false, List, [], ◌∷◌, Option, Some, None, Result, Ok, Err}
 use Rattle.sift_lang.specs.declared.tree.Op.{Op}
 use Rattle.sift_parse.specs.declared.tokens.Fault.{Fault}
 use Rattle.sift_parse.specs.declared.tokens.Fault.TheVariants.{Syntax, NoMemory}
 use Rattle.sift_parse.specs.declared.token.Token.{Token}
-use Rattle.sift_parse.specs.declared.token.Token.TheVariants.{Operator}
+use Rattle.sift_parse.specs.declared.token.Token.TheVariants.{Keyword, Operator}
+use Rattle.sift_parse.specs.declared.token.Keyword.TheVariants.{Else}
 use Rattle.sift_parse.specs.Grammar.{level_of}
 use Rattle.sift_parse.specs.Reading.{Outcome, found, fault}
 
@@ -34,3 +35,13 @@ HasOperator n _ = ⊥
 abbrev pub MatchOperator : ℕ → List Token → Option Op → List Token → Type 0
 MatchOperator n ts (Some op) left = (ts ≡ Operator op ∷ left) × (level_of op ≡ n)
 MatchOperator n ts None left = (ts ≡ left) × ¬ HasOperator n ts
+
+-- no `else` stands here
+abbrev pub NoElse : List Token → Type 0
+NoElse (Keyword Else ∷ ts) = ⊥
+NoElse _ = Unit {0}
+
+-- an `else` was taken, or none stands here and nothing was
+abbrev pub MatchElse : List Token → Bool → List Token → Type 0
+MatchElse ts true left = ts ≡ Keyword Else ∷ left
+MatchElse ts false left = (ts ≡ left) × NoElse ts

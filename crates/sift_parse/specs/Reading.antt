@@ -1,5 +1,5 @@
 -- Reading by recursion, as the parser goes: the tree that begins at the tokens and the tokens after it, or the tokens from the first one on that offends. No public clause cites this module.
-use Rattle.std.specs.Prelude.{◌≡◌, ℕ, zero, suc, ◌+◌, Bool, true, false, ◌==◌, if◌then◌else◌, List, [], ◌∷◌}
+use Rattle.std.specs.Prelude.{◌≡◌, ℕ, zero, suc, ◌+◌, Bool, true, false, ◌==◌, if◌then◌else◌, List, [], ◌∷◌, Option, Some, None}
 use Rattle.sift_lang.specs.declared.tree.Op.{Op}
 use Rattle.sift_lang.specs.declared.tree.Op.TheVariants.{Sub}
 use Rattle.sift_lang.specs.Tree.{Term, number, local, sense, this_frame, last_frame, minus, binary, middle, Statement, bind, assign, output, choose, choose_else, repeat, Block, end, step}
@@ -111,9 +111,13 @@ unfoldable mutual
 
 -- ---- statements
 
--- an expression and the semicolon after it
+-- the expression of a statement, from its `=` to its `;`
+abbrev pub valued_by : (List Token → Outcome Term) → List Token → Outcome Term
+valued_by expr ts = after (read_sign Assign ts) (λ _ us. closed_by Semicolon expr us)
+
+-- a statement that is made of an expression
 abbrev pub value_by : (List Token → Outcome Term) → (Term → Statement) → List Token → Outcome Statement
-value_by expr make ts = after (read_sign Assign ts) (λ _ us. after (closed_by Semicolon expr us) (λ t rest. found (make t) rest))
+value_by expr make ts = after (valued_by expr ts) (λ t rest. found (make t) rest)
 
 -- a block in braces
 abbrev pub braced_by : (List Token → Outcome Block) → List Token → Outcome Block
@@ -129,23 +133,36 @@ abbrev pub else_by : (List Token → Outcome Block) → Term → Block → List 
 else_by block t first [] = found (choose t first) []
 else_by block t first (u ∷ ts) = else_from block t first u ts
 
--- a statement and the block of those after it, or the end of the block, from this token on
-abbrev pub then_by : (List Token → Outcome Statement) → (List Token → Outcome Block) → List Token → Outcome Block
-then_by statement block ts = after (statement ts) (λ s us. after (block us) (λ b rest. found (step s b) rest))
+-- an `if` after its keyword
+abbrev pub if_by : (List Token → Outcome Term) → (List Token → Outcome Block) → List Token → Outcome Statement
+if_by expr block ts = after (expr ts) (λ t us. after (braced_by block us) (λ first vs. else_by block t first vs))
 
--- a block from this token on: a token that begins no statement ends it
-abbrev pub block_from : (List Token → Outcome Term) → (List Token → Outcome Block) → Token → List Token → Outcome Block
-block_from expr block (Keyword Let) ts = then_by (λ ts. after (read_name ts) (λ _ us. value_by expr bind us)) block ts
-block_from expr block (Name l) ts = then_by (value_by expr (assign l)) block ts
-block_from expr block (Keyword Out) ts = then_by (λ ts. after (read_index ts) (λ j us. value_by expr (output j) us)) block ts
-block_from expr block (Keyword If) ts = then_by (λ ts. after (expr ts) (λ t us. after (braced_by block us) (λ first vs. else_by block t first vs))) block ts
-block_from expr block (Keyword Repeat) ts = then_by (λ ts. after (read_number ts) (λ k us. after (braced_by block us) (λ body rest. found (repeat k body) rest))) block ts
-block_from expr block t ts = found end (t ∷ ts)
+-- a statement, that there is one
+abbrev pub some_by : (List Token → Outcome Statement) → List Token → Outcome (Option Statement)
+some_by statement ts = after (statement ts) (λ s rest. found (Some s) rest)
+
+-- a statement that begins with this token; none where the token begins no statement
+abbrev pub statement_from : (List Token → Outcome Term) → (List Token → Outcome Block) → Token → List Token → Outcome (Option Statement)
+statement_from expr block (Keyword Let) ts = some_by (λ ts. after (read_name ts) (λ _ us. value_by expr bind us)) ts
+statement_from expr block (Name l) ts = some_by (value_by expr (assign l)) ts
+statement_from expr block (Keyword Out) ts = some_by (λ ts. after (read_index ts) (λ j us. value_by expr (output j) us)) ts
+statement_from expr block (Keyword If) ts = some_by (if_by expr block) ts
+statement_from expr block (Keyword Repeat) ts = some_by (λ ts. after (read_number ts) (λ k us. after (braced_by block us) (λ body rest. found (repeat k body) rest))) ts
+statement_from expr block t ts = found None (t ∷ ts)
+
+-- a statement, if one begins here, with the readers of an expression and of a block inside it
+abbrev pub statement_by : (List Token → Outcome Term) → (List Token → Outcome Block) → List Token → Outcome (Option Statement)
+statement_by expr block [] = found None []
+statement_by expr block (t ∷ ts) = statement_from expr block t ts
+
+-- the block of a statement and of those after it; without a statement the block ends
+abbrev pub block_from : (List Token → Outcome Block) → Option Statement → List Token → Outcome Block
+block_from block None ts = found end ts
+block_from block (Some s) ts = after (block ts) (λ b rest. found (step s b) rest)
 
 -- a block, with the readers of an expression and of a block inside it
 abbrev pub block_by : (List Token → Outcome Term) → (List Token → Outcome Block) → List Token → Outcome Block
-block_by expr block [] = found end []
-block_by expr block (t ∷ ts) = block_from expr block t ts
+block_by expr block ts = after (statement_by expr block ts) (block_from block)
 
 -- a block; the number bounds the calls
 unfoldable pub read_block : ℕ → List Token → Outcome Block

@@ -3,10 +3,12 @@
 //! The grammar is a relation; a text has at most one tree.
 #![tactic(auto)]
 
+mod blocks;
 mod exprs;
 mod lexeme;
 mod lexer;
 mod names;
+mod parser;
 mod runs;
 mod stop;
 mod token;

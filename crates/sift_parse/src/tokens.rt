@@ -1,9 +1,9 @@
 ghost use Rattle.std.specs.Prelude.{◌≡◌};
 ghost use Rattle.sift_parse.specs.Reading.{read_sign, read_name, read_number, read_index, read_word};
 ghost use Rattle.sift_parse.specs.Grammar as spec;
-ghost use Rattle.sift_parse.specs.Parsing.{Answers, MatchOperator};
+ghost use Rattle.sift_parse.specs.Parsing.{Answers, MatchElse, MatchOperator};
 
-use crate::token::{Sign, Token};
+use crate::token::{Keyword, Sign, Token};
 use sift_lang::Op;
 use std::alloc::{AllocError, AllocFailed};
 
@@ -103,6 +103,19 @@ impl<'a> Tokens<'a> {
         self.name()?;
         self.sign(Sign::Dot)?;
         self.index()
+    }
+
+    /// Whether the next token is `else`. Then it is taken.
+    pub fn otherwise(&mut self) -> bool
+        ensures { MatchElse self.old.rest.now result self.new.rest.now }
+    {
+        match self.rest {
+            [Token::Keyword(Keyword::Else), rest @ ..] => {
+                self.rest = rest;
+                true
+            }
+            _ => false,
+        }
     }
 
     /// The operator of this level, if it is the next token.
