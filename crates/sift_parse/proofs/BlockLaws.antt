@@ -1,13 +1,13 @@
 -- The readers of statements and blocks are lawful for the grammar.
-use Rattle.std.proofs.Common.{◌≡◌, ℕ, zero, suc, Option, Some, None, List, [], ◌∷◌, ◌++◌, refl, sym, ap, ◌∙◌, subst, arith, append_assoc}
-use Rattle.sift_lang.specs.Tree.{Term, number, Statement, bind, assign, output, choose, choose_else, repeat, Block, end, step}
+use Rattle.std.proofs.Common.{ℕ, zero, suc, Option, Some, None, List, [], ◌∷◌, refl, arith}
+use Rattle.sift_lang.specs.Tree.{Term, Statement, bind, assign, output, choose, choose_else, repeat, Block, end, step}
 use Rattle.sift_parse.specs.declared.token.Keyword.TheVariants.{Let, Out, If, Else, Repeat}
 use Rattle.sift_parse.specs.declared.token.Sign.TheVariants.{Assign, OpenBrace, CloseBrace, Semicolon}
 use Rattle.sift_parse.specs.declared.token.Token.{Token}
-use Rattle.sift_parse.specs.declared.token.Token.TheVariants.{Keyword, Name, Number, Operator, Sign}
-use Rattle.sift_parse.specs.Grammar.{IsLevel, IsExpr, IsStatement, a_let, an_assignment, an_output, an_if, an_if_else, a_repeat, IsBlock, no_statement, a_statement}
-use Rattle.sift_parse.specs.Reading.{Outcome, found, fault, after, read_sign, read_name, read_number, read_index, closed_by, read, valued_by, value_by, braced_by, else_from, else_by, if_by, some_by, statement_from, statement_by, block_from, block_by, read_block}
-use Rattle.sift_parse.proofs.Laws.{Rel, Goes, Lawful, nowhere, done, default-fault, default-found}
+use Rattle.sift_parse.specs.declared.token.Token.TheVariants.{Keyword, Name, Sign}
+use Rattle.sift_parse.specs.Grammar.{IsExpr, IsStatement, a_let, an_assignment, an_output, an_if, an_if_else, a_repeat, IsBlock, no_statement, a_statement}
+use Rattle.sift_parse.specs.Reading.{Outcome, found, after, read_name, read_number, read_index, closed_by, read, valued_by, value_by, braced_by, else_by, if_by, some_by, statement_by, block_from, block_by, read_block}
+use Rattle.sift_parse.proofs.Laws.{Rel, Lawful, nowhere, done, default-found}
 use Rattle.sift_parse.proofs.Steps.{Then, in_turn, then_lawful, widened, Picks, takes, leaves, choice, mapped}
 use Rattle.sift_parse.proofs.Signs.{NameHere, is_name, name_lawful, NumberHere, is_number, number_lawful, IndexHere, is_index, index_lawful, Closed, closed_lawful, After, after_sign, after_lawful}
 use Rattle.sift_parse.proofs.ExprLaws.{level_lawful}

@@ -1,5 +1,5 @@
 -- How the readers of expressions go step by step, from some number of calls on.
-use Rattle.std.proofs.Common.{◌≡◌, ◌≢◌, ℕ, zero, suc, ◌+◌, ◌-◌, ◌<◌, ◌≤◌, Bool, true, false, ◌==◌, cond, List, [], ◌∷◌, refl, sym, ap, ◌∙◌, subst, arith, add-one, Result, Ok, Err}
+use Rattle.std.proofs.Common.{◌≡◌, ℕ, zero, suc, ◌+◌, ◌-◌, ◌<◌, ◌≤◌, false, ◌==◌, cond, List, [], ◌∷◌, refl, sym, ap, ◌∙◌, subst, arith, add-one, Result, Ok, Err}
 use Rattle.std.proofs.lemmas.Bool.Decides.{nat_tests}
 use Rattle.sift_lang.specs.declared.tree.Op.{Op}
 use Rattle.sift_lang.specs.declared.tree.Expr.{Expr}
@@ -8,9 +8,9 @@ use Rattle.sift_parse.specs.declared.token.Sign.TheVariants.{OpenParen, ClosePar
 use Rattle.sift_parse.specs.declared.tokens.Fault.{Fault}
 use Rattle.sift_parse.specs.declared.tokens.Fault.TheVariants.{Syntax, NoMemory}
 use Rattle.sift_parse.specs.declared.token.Token.{Token}
-use Rattle.sift_parse.specs.declared.token.Token.TheVariants.{Keyword, Name, Number, Index, Operator, Sign}
+use Rattle.sift_parse.specs.declared.token.Token.TheVariants.{Operator}
 use Rattle.sift_parse.specs.Grammar.{level_of, prim_level}
-use Rattle.sift_parse.specs.Reading.{Outcome, found, fault, after, read_sign, closed_by, middle_by, prim_by, go_on, tail_by, read, tail}
+use Rattle.sift_parse.specs.Reading.{Outcome, found, fault, after, read_sign, closed_by, middle_by, prim_by, go_on, read, tail}
 use Rattle.sift_parse.specs.Parsing.{Reads, Reading, HasOperator}
 use Rattle.sift_parse.proofs.Complete.{read-prim, read-chain, tail-more, go_on-more}
 

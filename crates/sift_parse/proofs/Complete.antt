@@ -1,16 +1,14 @@
 -- What is in the grammar is read, from some number of calls on.
-use Rattle.std.proofs.Common.{◌≡◌, ℕ, zero, suc, ◌+◌, ◌<◌, ◌≤◌, Bool, true, false, ◌==◌, cond, List, [], ◌∷◌, refl, sym, ap, ◌∙◌, subst, arith}
+use Rattle.std.proofs.Common.{◌≡◌, ℕ, zero, suc, ◌+◌, ◌<◌, ◌≤◌, true, false, ◌==◌, cond, List, [], ◌∷◌, refl, ap, ◌∙◌, arith}
 use Rattle.std.proofs.lemmas.Bool.Decides.{nat_tests}
 use Rattle.sift_lang.specs.declared.tree.Op.{Op}
-use Rattle.sift_lang.specs.declared.tree.Op.TheVariants.{Sub}
-use Rattle.sift_lang.specs.Tree.{Term, number, local, sense, this_frame, last_frame, minus, binary, middle}
-use Rattle.sift_parse.specs.declared.token.Keyword.TheVariants.{Mid, Sense, Now, Last}
+use Rattle.sift_lang.specs.Tree.{Term, minus, binary, middle}
 use Rattle.sift_parse.specs.declared.token.Sign as signs
 use Rattle.sift_parse.specs.declared.token.Sign.TheVariants.{Assign, OpenParen, CloseParen, OpenBrace, CloseBrace, Comma, Dot, Semicolon}
 use Rattle.sift_parse.specs.declared.token.Token.{Token}
-use Rattle.sift_parse.specs.declared.token.Token.TheVariants.{Keyword, Name, Number, Operator, Sign}
+use Rattle.sift_parse.specs.declared.token.Token.TheVariants.{Operator, Sign}
 use Rattle.sift_parse.specs.Grammar.{level_of, prim_level, IsPrim, a_number, a_minus, in_parens, a_local, a_middle, a_sensor, of_this_frame, of_last_frame, IsLevel, a_prim, a_chain, IsTail, no_more, compared, more}
-use Rattle.sift_parse.specs.Reading.{Outcome, found, fault, after, read_sign, closed_by, prim_by, go_on, tail_by, read, tail}
+use Rattle.sift_parse.specs.Reading.{Outcome, found, after, read_sign, closed_by, prim_by, go_on, read, tail}
 
 -- the reader reads this, from some number of calls on
 pub record Read (A : Type 0) (R : ℕ → List Token → Outcome A) (ts : List Token) (a : A) (rest : List Token) : Type 0 where

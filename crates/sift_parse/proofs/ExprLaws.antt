@@ -1,15 +1,15 @@
 -- The readers of expressions are lawful for the grammar.
-use Rattle.std.proofs.Common.{◌≡◌, ℕ, zero, suc, ◌+◌, ◌-◌, ◌<◌, ◌≤◌, Bool, true, false, ◌==◌, cond, List, [], ◌∷◌, refl, sym, ap, ◌∙◌, subst, arith}
+use Rattle.std.proofs.Common.{◌≡◌, ℕ, zero, suc, ◌+◌, ◌-◌, ◌<◌, ◌≤◌, Bool, true, false, ◌==◌, cond, List, [], ◌∷◌, refl, sym, subst, arith}
 use Rattle.std.proofs.lemmas.Bool.Decides.{nat_tests}
 use Rattle.sift_lang.specs.declared.tree.Op.{Op}
 use Rattle.sift_lang.specs.declared.tree.Op.TheVariants.{Sub}
 use Rattle.sift_lang.specs.Tree.{Term, number, local, sense, this_frame, last_frame, minus, binary, middle}
 use Rattle.sift_parse.specs.declared.token.Keyword.TheVariants.{Mid, Sense, Now, Last}
-use Rattle.sift_parse.specs.declared.token.Sign.TheVariants.{OpenParen, CloseParen, Comma, Dot}
+use Rattle.sift_parse.specs.declared.token.Sign.TheVariants.{OpenParen, CloseParen, Comma}
 use Rattle.sift_parse.specs.declared.token.Token.{Token}
 use Rattle.sift_parse.specs.declared.token.Token.TheVariants.{Keyword, Name, Number, Operator, Sign}
 use Rattle.sift_parse.specs.Grammar.{level_of, prim_level, IsPrim, a_number, a_minus, in_parens, a_local, a_middle, a_sensor, of_this_frame, of_last_frame, IsLevel, a_prim, a_chain, IsTail, no_more, compared, more}
-use Rattle.sift_parse.specs.Reading.{Outcome, found, fault, after, read_sign, read_name, read_word, closed_by, prim_from, prim_by, go_on, tail_from, tail_by, read, tail}
+use Rattle.sift_parse.specs.Reading.{Outcome, found, fault, after, read_name, read_word, closed_by, prim_from, prim_by, go_on, tail_by, read, tail}
 use Rattle.sift_parse.proofs.Laws.{Rel, Goes, Lawful, nowhere, done, default-fault, default-found}
 use Rattle.sift_parse.proofs.Steps.{Then, in_turn, then_lawful, widened, Picks, takes, leaves, choice, mapped}
 use Rattle.sift_parse.proofs.Signs.{NameHere, is_name, name_lawful, WordHere, is_word, word_lawful, Closed, closed_lawful, After, after_sign, after_lawful}
@@ -119,6 +119,7 @@ chosen_lawful fuel n false is le l t =
 
 mutual
   unfolding read tail
+
   -- an expression of each level
   pub level_lawful : (fuel n : ℕ) → n ≤ prim_level → Lawful Term (IsLevel n) (read fuel n)
   level_lawful zero n le = nowhere Term (IsLevel n) (level-fills n le)

@@ -1,5 +1,5 @@
 -- Gaps between lexemes, and one more lexeme at the end.
-use Rattle.std.proofs.Common.{◌≡◌, ℕ, ◌+◌, ◌-◌, ◌≤◌, ◌<◌, Bool, true, false, List, [], ◌∷◌, ◌++◌, length, drop, refl, sym, ap, ◌∙◌, subst, arith, length-drop}
+use Rattle.std.proofs.Common.{◌≡◌, ℕ, ◌+◌, ◌-◌, ◌≤◌, Bool, true, false, List, [], ◌∷◌, ◌++◌, length, drop, sym, ap, ◌∙◌, subst, arith, length-drop}
 use Rattle.std.proofs.lemmas.List.{drop-drop}
 use Rattle.sift_parse.specs.Written.{IsGap, IsLexemeAt}
 use Rattle.sift_parse.specs.Lexeme.{Lexeme, IsLexeme, Placed, Lexes, no_lexeme, a_lexeme, after_gap, after_comment}

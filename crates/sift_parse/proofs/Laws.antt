@@ -1,7 +1,7 @@
 -- A reader is lawful for a relation: what it reads is related, what stands before a fault can be gone on with, and what it answers depends on the tokens used and on one more.
-use Rattle.std.proofs.Common.{◌≡◌, List, [], ◌∷◌, ◌++◌, refl, sym, ap, ◌∙◌, subst, append_assoc}
+use Rattle.std.proofs.Common.{◌≡◌, List, [], ◌∷◌, ◌++◌, refl, sym, ◌∙◌, subst}
 use Rattle.sift_parse.specs.declared.token.Token.{Token}
-use Rattle.sift_parse.specs.Reading.{Outcome, found, fault, after}
+use Rattle.sift_parse.specs.Reading.{Outcome, found, fault}
 
 -- relations of the tokens from a place on, what begins there, and the tokens after it
 abbrev pub Rel : Type 0 → Type 1

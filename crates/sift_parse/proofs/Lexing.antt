@@ -1,7 +1,6 @@
 -- The longest lexeme at the front: a run of name bytes, a run of digits, or a sign.
-use Rattle.std.proofs.Common.{◌≡◌, ◌≢◌, ℕ, zero, suc, ◌+◌, ◌-◌, ◌*◌, ◌<◌, ◌≤◌, ◌⊎◌, inl, inr, List, [], ◌∷◌, ◌++◌, length, take, drop, get_or, slice_index, codes, refl, sym, ap, ◌∙◌, subst, arith, append_assoc, length-append, length-drop, add-one}
-use Rattle.std.specs.Char.{IsAsciiLowercase, IsAsciiDigit, digit_value, IsAsciiAlphabetic}
-use Rattle.std.specs.Str.{byte}
+use Rattle.std.proofs.Common.{◌≡◌, ℕ, zero, suc, ◌+◌, ◌-◌, ◌<◌, ◌≤◌, ◌⊎◌, inl, inr, List, [], ◌∷◌, ◌++◌, length, take, drop, slice_index, codes, refl, sym, ap, ◌∙◌, subst, arith, append_assoc, length-append, length-drop}
+use Rattle.std.specs.Char.{IsAsciiLowercase, IsAsciiDigit, digit_value}
 use Rattle.std.specs.Str.Parse.{digits_value, AllDigits}
 use Rattle.std.specs.List.{All}
 use Rattle.std.proofs.lemmas.List.{take-append-drop, take_all, length-take-le, get_or_append_left}
@@ -14,7 +13,7 @@ use Rattle.sift_lang.specs.declared.tree.Op.TheVariants.{Add, Sub, Mul, Div, Rem
 use Rattle.sift_parse.specs.declared.token.Sign.{Sign}
 use Rattle.sift_parse.specs.declared.token.Sign.TheVariants.{Assign, OpenParen, CloseParen, OpenBrace, CloseBrace, Comma, Dot, Semicolon}
 use Rattle.sift_parse.specs.Lexeme.{Lexeme, word, numeral, operator, mark, operator_bytes, sign_bytes, kept, IsDecimal, IsHexadecimal, Spells, MayStandBefore, IsLexeme}
-use Rattle.sift_parse.specs.Written.{SpellsSign, NoSign, IsSignAt, NoSignAt, IsLexemeAt, NoLexemeAt, IsRun, Continues, BeginsLetter, BeginsDigit, IsHexRun, NoHex, IsNumberAt, ten, sixteen}
+use Rattle.sift_parse.specs.Written.{SpellsSign, IsSignAt, NoSignAt, IsLexemeAt, NoLexemeAt, IsRun, Continues, BeginsLetter, BeginsDigit, NoHex, IsNumberAt, ten, sixteen}
 
 -- ---- the first byte tells the kind
 
@@ -126,14 +125,16 @@ word-longest b ts n lower run (mark s) front back e h k = absurd (k.0 lower)
 pub word-at : (b : ℕ) (ts : List ℕ) (n : ℕ) → IsAsciiLowercase b → IsRun IsNameByte (b ∷ ts) n → IsLexemeAt (b ∷ ts) (word (take n (b ∷ ts))) n
 word-at b ts zero lower run = absurd (run.stops (omega arith) (inl lower))
 word-at b ts (suc m) lower run = record {
-    some = omega arith;
-    within = run.within;
-    lexeme = record {
-        spelled = b ∷ take m ts;
-        split = sym (take-append-drop (suc m) (b ∷ ts));
-        spells = ((lower, all-bytes IsNameByte (take m ts) (λ k lt. run-take IsNameByte (b ∷ ts) (suc m) run (suc k) (omega arith))), refl);
-        longest = λ other front back e h. (let long : length (take (suc m) (b ∷ ts)) ≡ suc m = length-take-le (suc m) (b ∷ ts) run.within in let w = word-longest b ts (suc m) lower run other front back e h (begun other b ts front back h e) in omega arith);
-        parted = tt } }
+  some = omega arith;
+  within = run.within;
+  lexeme = record {
+    spelled = b ∷ take m ts;
+    split = sym (take-append-drop (suc m) (b ∷ ts));
+    spells = ((lower, all-bytes IsNameByte (take m ts) (λ k lt. run-take IsNameByte (b ∷ ts) (suc m) run (suc k) (omega arith))), refl);
+    longest = λ other front back e h. (let long : length (take (suc m) (b ∷ ts)) ≡ suc m = length-take-le (suc m) (b ∷ ts) run.within in let w = word-longest b ts (suc m) lower run other front back e h (begun other b ts front back h e) in omega arith);
+    parted = tt;
+  };
+}
 
 -- ---- numbers
 
@@ -178,7 +179,8 @@ ten-longest b ts n digit bare run =
       split = sym (take-append-drop n (b ∷ ts));
       spells = inl (record { some = omega arith; digits = all-digits 10 (take n (b ∷ ts)) (run-take (λ b. digit_value b < 10) (b ∷ ts) n run); value = refl });
       some = omega arith;
-      longest = λ other front back e h. (let w = digit-longest b ts n digit (ten-number b ts n bare run) other front back e h (begun other b ts front back h e) in omega arith) }
+      longest = λ other front back e h. (let w = digit-longest b ts n digit (ten-number b ts n bare run) other front back e h (begun other b ts front back h e) in omega arith);
+    }
 
 sixteen-number : (ts : List ℕ) (n : ℕ) → IsRun (λ b. digit_value b < 16) ts n → (m : ℕ) (front back : List ℕ) → 48 ∷ 120 ∷ ts ≡ front ++ back → Spells (numeral m) front → length front ≤ 2 + n
 sixteen-number ts n run m front back e (inl h) =
@@ -199,7 +201,8 @@ sixteen-longest ts n some run =
       split = ap (λ l. 48 ∷ 120 ∷ l) (sym (take-append-drop n ts));
       spells = inr (record { written = take n ts; split = refl; some = omega arith; digits = all-digits 16 (take n ts) (run-take (λ b. digit_value b < 16) ts n run); value = refl });
       some = omega arith;
-      longest = λ other front back e h. (let w = digit-longest 48 (120 ∷ ts) (2 + n) (omega arith, omega arith) (sixteen-number ts n run) other front back e h (begun other 48 (120 ∷ ts) front back h e) in omega arith) }
+      longest = λ other front back e h. (let w = digit-longest 48 (120 ∷ ts) (2 + n) (omega arith, omega arith) (sixteen-number ts n run) other front back e h (begun other 48 (120 ∷ ts) front back h e) in omega arith);
+    }
 
 prefix-split : (text : List ℕ) → take 2 text ≡ codes "0x" → text ≡ 48 ∷ 120 ∷ drop 2 text
 prefix-split text e = sym (take-append-drop 2 text) ∙ ap (λ l. l ++ drop 2 text) e
@@ -222,9 +225,10 @@ rest-drop text front rest e = sym (ap (drop (length front)) e ∙ drop-append_se
 
 lexeme-of-longest : (text : List ℕ) (n size : ℕ) (next : List ℕ) → IsLongest text n size next → ¬ Continues next → IsLexemeAt text (numeral n) size
 lexeme-of-longest text n size next x h = record {
-    some = (let s = x.some in omega (arith, x.long));
-    within = (let w = front-within text x.spelled next x.split in omega (arith, x.long));
-    lexeme = record { spelled = x.spelled; split = x.split ∙ ap (λ l. x.spelled ++ l) (rest-drop text x.spelled next x.split ∙ ap (λ k. drop k text) x.long); spells = x.spells; longest = x.longest; parted = subst (MayStandBefore (numeral n)) (rest-drop text x.spelled next x.split ∙ ap (λ k. drop k text) x.long) (parted-by n next h) } }
+  some = (let s = x.some in omega (arith, x.long));
+  within = (let w = front-within text x.spelled next x.split in omega (arith, x.long));
+  lexeme = record { spelled = x.spelled; split = x.split ∙ ap (λ l. x.spelled ++ l) (rest-drop text x.spelled next x.split ∙ ap (λ k. drop k text) x.long); spells = x.spells; longest = x.longest; parted = subst (MayStandBefore (numeral n)) (rest-drop text x.spelled next x.split ∙ ap (λ k. drop k text) x.long) (parted-by n next h) };
+}
 
 none-of-longest : (b : ℕ) (ts : List ℕ) (n size : ℕ) (next : List ℕ) → IsAsciiDigit b → IsLongest (b ∷ ts) n size next → Continues next → (l : Lexeme) (rest : List ℕ) → (y : IsLexeme (b ∷ ts) l rest) → Begun l b → ⊥
 none-of-longest b ts n size next digit x h (word w) rest y k = omega arith

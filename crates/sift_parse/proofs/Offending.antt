@@ -8,7 +8,7 @@ use Rattle.sift_lang.specs.Tree.{Block}
 use Rattle.sift_parse.specs.declared.token.Token.{Token}
 use Rattle.sift_parse.specs.Grammar.{IsTask, Begins, Offends}
 use Rattle.sift_parse.specs.Reading.{Outcome, found, fault, after, read_block, whole, read_task}
-use Rattle.sift_parse.proofs.Laws.{left_of, with_left, LocalAt, Lawful, looks, ends}
+use Rattle.sift_parse.proofs.Laws.{left_of, with_left, LocalAt, looks, ends}
 use Rattle.sift_parse.proofs.Steps.{Stepped, both, stepped, Failed, first_fails, second_fails, failed, then-local}
 use Rattle.sift_parse.proofs.BlockLaws.{block_lawful}
 use Rattle.sift_parse.proofs.Whole.{task_read}

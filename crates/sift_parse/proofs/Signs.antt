@@ -4,10 +4,10 @@ use Rattle.std.proofs.lemmas.Bool.Decides.{nat_tests}
 use Rattle.sift_parse.specs.declared.token.Sign as signs
 use Rattle.sift_parse.specs.declared.token.Sign.TheVariants.{Assign, OpenParen, CloseParen, OpenBrace, CloseBrace, Comma, Dot, Semicolon}
 use Rattle.sift_parse.specs.declared.token.Token.{Token}
-use Rattle.sift_parse.specs.declared.token.Token.TheVariants.{Keyword, Name, Number, Index, Operator, Sign}
+use Rattle.sift_parse.specs.declared.token.Token.TheVariants.{Name, Number, Index, Sign}
 use Rattle.sift_parse.specs.Reading.{Outcome, found, fault, after, number_of, read_sign, read_name, read_number, read_index, read_word, closed_by}
-use Rattle.sift_parse.proofs.Laws.{Rel, Goes, Lawful, Default, done, default-fault}
-use Rattle.sift_parse.proofs.Steps.{Then, in_turn, then_lawful, widened, Picks, takes, leaves, choice, Same, same, mapped}
+use Rattle.sift_parse.proofs.Laws.{Rel, Lawful, done, default-fault}
+use Rattle.sift_parse.proofs.Steps.{Then, in_turn, then_lawful, widened, Picks, takes, leaves, choice, Same, same}
 
 -- the sign of a number
 abbrev sign_at : ℕ → signs.Sign

@@ -57,18 +57,20 @@ then-local A B R S s ts (fault bad) r = record { used = r.used; split = r.split;
 -- one reader after another
 pub then_lawful : (A B : Type 0) (D : Rel A) (E : A → Rel B) (R : List Token → Outcome A) (S : A → List Token → Outcome B) → Lawful A D R → ((a : A) → Lawful B (E a) (S a)) → Lawful B (Then A B D E) (λ ts. after (R ts) S)
 then_lawful A B D E R S r s = record {
-    sound = λ ts rest b h. then-sound A B D E R S r s ts rest b (stepped A B (R ts) S b rest h);
-    viable = λ ts bad h. then-viable A B D E R S r s ts bad (failed A B (R ts) S bad h);
-    at_each = λ ts. then-local A B R S (λ a. (s a).at_each) ts (R ts) (r.at_each ts);
-    fills = then-goes A B D E [] r.fills (s r.fills.made).fills }
+  sound = λ ts rest b h. then-sound A B D E R S r s ts rest b (stepped A B (R ts) S b rest h);
+  viable = λ ts bad h. then-viable A B D E R S r s ts bad (failed A B (R ts) S bad h);
+  at_each = λ ts. then-local A B R S (λ a. (s a).at_each) ts (R ts) (r.at_each ts);
+  fills = then-goes A B D E [] r.fills (s r.fills.made).fills;
+}
 
 -- a reader for one relation is one for a wider relation
 pub widened : (A : Type 0) (D E : Rel A) (R : List Token → Outcome A) → ((ts rest : List Token) (a : A) → D ts a rest → E ts a rest) → Lawful A D R → Lawful A E R
 widened A D E R wider r = record {
-    sound = λ ts rest a h. (let u = r.sound ts rest a h in record { used = u.used; split = u.split; anywhere = λ q. wider (u.used ++ q) q a (u.anywhere q) });
-    viable = λ ts bad h. (let v = r.viable ts bad h in record { front = v.front; split = v.split; goes = record { back = v.goes.back; made = v.goes.made; rest = λ q. wider (v.front ++ (v.goes.back ++ q)) q v.goes.made (v.goes.rest q) } });
-    at_each = r.at_each;
-    fills = record { back = r.fills.back; made = r.fills.made; rest = λ q. wider (r.fills.back ++ q) q r.fills.made (r.fills.rest q) } }
+  sound = λ ts rest a h. (let u = r.sound ts rest a h in record { used = u.used; split = u.split; anywhere = λ q. wider (u.used ++ q) q a (u.anywhere q) });
+  viable = λ ts bad h. (let v = r.viable ts bad h in record { front = v.front; split = v.split; goes = record { back = v.goes.back; made = v.goes.made; rest = λ q. wider (v.front ++ (v.goes.back ++ q)) q v.goes.made (v.goes.rest q) } });
+  at_each = r.at_each;
+  fills = record { back = r.fills.back; made = r.fills.made; rest = λ q. wider (r.fills.back ++ q) q r.fills.made (r.fills.rest q) };
+}
 
 -- ---- by a look at the next token
 

@@ -1,5 +1,5 @@
 -- How the reader of a block goes, statement by statement, from some number of calls on.
-use Rattle.std.proofs.Common.{◌≡◌, ℕ, zero, suc, ◌+◌, ◌-◌, ◌≤◌, List, [], ◌∷◌, ◌++◌, Option, Some, None, refl, sym, ap, ◌∙◌, subst, arith, Result, Ok, Err}
+use Rattle.std.proofs.Common.{◌≡◌, ℕ, suc, ◌+◌, ◌-◌, ◌≤◌, List, [], ◌∷◌, ◌++◌, Option, Some, None, refl, sym, ap, ◌∙◌, arith, Result, Ok, Err}
 use Rattle.sift_lang.specs.Tree.{Term, Statement, Block, choose, choose_else, end, step}
 use Rattle.sift_lang.specs.Tree as tree
 use Rattle.sift_parse.specs.declared.token.Keyword.TheVariants.{Else}
@@ -7,9 +7,9 @@ use Rattle.sift_parse.specs.declared.token.Token.{Token}
 use Rattle.sift_parse.specs.declared.token.Token.TheVariants.{Keyword}
 use Rattle.sift_parse.specs.declared.tokens.Fault.{Fault}
 use Rattle.sift_parse.specs.declared.tokens.Fault.TheVariants.{Syntax, NoMemory}
-use Rattle.sift_parse.specs.Reading.{Outcome, found, fault, after, read, braced_by, else_by, if_by, statement_by, block_from, block_by, read_block}
+use Rattle.sift_parse.specs.Reading.{Outcome, found, fault, after, read, braced_by, else_by, if_by, statement_by, block_from, read_block}
 use Rattle.sift_parse.specs.Parsing.{Reads, Reading, NoElse}
-use Rattle.sift_parse.proofs.Whole.{read-block, else_by-none}
+use Rattle.sift_parse.proofs.Whole.{else_by-none}
 use Rattle.sift_parse.proofs.Chains.{reads-then, reads-then_fault}
 
 -- a block's outcome, with these statements before it

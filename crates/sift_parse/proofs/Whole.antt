@@ -1,13 +1,12 @@
 -- A task is read whole, so its tokens have one tree; and what reading refuses offends.
-use Rattle.std.proofs.Common.{◌≡◌, ℕ, zero, suc, ◌+◌, ◌<◌, ◌≤◌, Option, Some, None, List, [], ◌∷◌, ◌++◌, refl, sym, ap, ◌∙◌, subst, arith, append_assoc}
-use Rattle.std.proofs.lemmas.List.{append_cancel_right}
+use Rattle.std.proofs.Common.{◌≡◌, ℕ, zero, suc, ◌+◌, ◌≤◌, Option, Some, List, [], ◌∷◌, refl, sym, ap, ◌∙◌, arith}
 use Rattle.sift_lang.specs.Tree.{Term, Statement, bind, assign, output, choose, choose_else, repeat, Block, end, step}
-use Rattle.sift_parse.specs.declared.token.Keyword.TheVariants.{Let, Out, If, Else, Repeat}
+use Rattle.sift_parse.specs.declared.token.Keyword.TheVariants.{Else}
 use Rattle.sift_parse.specs.declared.token.Sign.TheVariants.{Assign, OpenBrace, CloseBrace, Semicolon}
 use Rattle.sift_parse.specs.declared.token.Token.{Token}
-use Rattle.sift_parse.specs.declared.token.Token.TheVariants.{Keyword, Name, Number, Operator, Sign}
-use Rattle.sift_parse.specs.Grammar.{IsExpr, IsStatement, a_let, an_assignment, an_output, an_if, an_if_else, a_repeat, IsBlock, no_statement, a_statement, IsTask, Begins, Offends}
-use Rattle.sift_parse.specs.Reading.{Outcome, found, fault, after, read_number, closed_by, read, valued_by, value_by, braced_by, else_by, if_by, some_by, statement_by, block_from, block_by, read_block, whole, read_task}
+use Rattle.sift_parse.specs.declared.token.Token.TheVariants.{Keyword, Sign}
+use Rattle.sift_parse.specs.Grammar.{IsExpr, IsStatement, a_let, an_assignment, an_output, an_if, an_if_else, a_repeat, IsBlock, no_statement, a_statement, IsTask}
+use Rattle.sift_parse.specs.Reading.{Outcome, found, after, read, valued_by, value_by, braced_by, else_by, if_by, some_by, statement_by, block_from, block_by, read_block, whole, read_task}
 use Rattle.sift_parse.specs.Parsing.{NoElse}
 use Rattle.sift_parse.proofs.Complete.{Read, read-then, read-mapped, read-closed, level_read}
 

@@ -1,13 +1,12 @@
 -- What is in force at a place: the levels that are open, the locals that live, and what a name names. All of it is a fold over the lexemes before the place.
-use Rattle.std.specs.Prelude.{◌≡◌, ℕ, ◌+◌, Bool, true, false, not, if◌then◌else◌, List, [], ◌∷◌, length, take, drop, sum, fold, map, slice_index, nat_lt, nat_le, Option, Some, None, unwrap_or, is_none, codes}
+use Rattle.std.specs.Prelude.{ℕ, ◌+◌, Bool, true, false, not, if◌then◌else◌, List, [], ◌∷◌, length, take, drop, sum, fold, map, slice_index, nat_lt, nat_le, Option, Some, None, unwrap_or, is_none, codes}
 use Rattle.std.specs.List.{position}
 use Rattle.std.specs.Str.{bytes_eq}
 use Rattle.sift_lang.specs.declared.tree.Op.TheVariants.{Sub}
 use Rattle.sift_parse.specs.declared.names.Names.{Names}
 use Rattle.sift_parse.specs.declared.token.Keyword.{Keyword}
 use Rattle.sift_parse.specs.declared.token.Keyword.TheVariants.{Let, Out, If, Else, Repeat, Mid, Sense, Now, Last}
-use Rattle.sift_parse.specs.declared.token.Sign as signs
-use Rattle.sift_parse.specs.declared.token.Sign.TheVariants.{Assign, OpenParen, CloseParen, OpenBrace, CloseBrace, Comma, Dot, Semicolon}
+use Rattle.sift_parse.specs.declared.token.Sign.TheVariants.{OpenParen, CloseParen, OpenBrace, CloseBrace, Dot, Semicolon}
 use Rattle.sift_parse.specs.declared.token.Token.{Token}
 use Rattle.sift_parse.specs.declared.token.Token.TheVariants as token
 use Rattle.sift_parse.specs.Lexeme.{Lexeme, word, numeral, operator, mark, number_limit}

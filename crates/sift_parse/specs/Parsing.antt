@@ -1,5 +1,5 @@
 -- What the parser's functions answer, in the words of the readers. No public clause cites this module.
-use Rattle.std.specs.Prelude.{◌≡◌, ℕ, ◌≤◌, ◌==◌, Bool, true, false, List, [], ◌∷◌, Option, Some, None, Result, Ok, Err}
+use Rattle.std.specs.Prelude.{◌≡◌, ℕ, ◌≤◌, Bool, true, false, List, ◌∷◌, Option, Some, None, Result, Ok, Err}
 use Rattle.sift_lang.specs.declared.tree.Op.{Op}
 use Rattle.sift_parse.specs.declared.tokens.Fault.{Fault}
 use Rattle.sift_parse.specs.declared.tokens.Fault.TheVariants.{Syntax, NoMemory}

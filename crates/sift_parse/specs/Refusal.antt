@@ -1,12 +1,12 @@
 -- Refusals: what stands at a place of a text, which of it is answered, and what a text without any is.
-use Rattle.std.specs.Prelude.{◌≡◌, ◌≢◌, ℕ, ◌-◌, ◌<◌, ◌≤◌, ◌⊎◌, IsTrue, List, [], ◌∷◌, ◌++◌, length, map, slice_index, Option, Some, None, IfSome}
+use Rattle.std.specs.Prelude.{◌≡◌, ◌≢◌, ℕ, ◌-◌, ◌<◌, ◌≤◌, IsTrue, List, [], ◌∷◌, ◌++◌, length, map, slice_index, Some, None, IfSome}
 use Rattle.sift_base.specs.declared.name.TheConstants.{NAME_LIMIT}
 use Rattle.sift_lang.specs.declared.tree.TheConstants.{LOCAL_LIMIT, ROUND_LIMIT}
 use Rattle.sift_lang.specs.Tree.{Block}
 use Rattle.sift_parse.specs.declared.token.Keyword.TheVariants.{Let, Repeat, Now}
 use Rattle.sift_parse.specs.declared.token.TheConstants.{LEVEL_LIMIT}
 use Rattle.sift_parse.specs.Grammar.{IsTask, Begins}
-use Rattle.sift_parse.specs.Lexeme.{Lexeme, word, numeral, operator, mark, number_limit, IsLexeme, Placed, Lexes}
+use Rattle.sift_parse.specs.Lexeme.{Lexeme, word, numeral, number_limit, IsLexeme, Placed, Lexes}
 use Rattle.sift_parse.specs.Force.{Roll, Force, force_after, keyword_of, keyword_before, opens, number_in, number_named, task_asked, tokens_of}
 
 -- the kinds of refusal that a place may have

@@ -2,7 +2,9 @@ ghost use Rattle.std.specs.Prelude.{◌≡◌, ℕ, ◌<◌, ◌∷◌, [], IfSo
 ghost use Rattle.sift_parse.specs.Lexeme.{numeral};
 ghost use Rattle.sift_parse.specs.Written.{SpellsSign, NoSign, IsSignAt, NoSignAt, IsLexemeAt, NoLexemeAt, BeginsLetter, BeginsDigit, IsHexLength, IsNumberAt, lexeme_of};
 
-use crate::runs::{begins_name, begins_number, continues_number, digits_len, name_len, number_kept};
+use crate::runs::{
+    begins_name, begins_number, continues_number, digits_len, name_len, number_kept,
+};
 use crate::token::Sign;
 use sift_lang::Op;
 

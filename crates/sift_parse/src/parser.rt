@@ -13,9 +13,7 @@ use std::alloc::Global;
 #[derive(Clone, Copy, Debug, PartialEq, Eq)]
 pub(crate) enum Offence {
     /// The tokens before this one begin some task, and with it they don't; or the tokens end here and are no task.
-    Syntax {
-        at: usize,
-    },
+    Syntax { at: usize },
     NoMemory,
 }
 

@@ -6,5 +6,4 @@ ghost use Rattle.sift_parse.specs.Grammar.{IsTask};
 /// Tokens have at most one tree.
 pub fn one_tree()
     ensures { (ts : List Token) (a b : Block) → IsTask ts a → IsTask ts b → a ≡ b }
-{
-}
+{}

@@ -1,8 +1,8 @@
-use Rattle.std.proofs.Common.{rules, arith, ◌≡◌, ◌<◌, ◌∷◌, List, ap, length, map, Option, Some, Result, Ok, Err, Vec, Global}
+use Rattle.std.proofs.Common.{rules, arith, ◌≡◌, ◌<◌, length, map, Option, Some, Err, Vec, Global}
 use Rattle.std.specs.Prelude.{option_map}
 use Rattle.std.proofs.lemmas.List.{map-append}
 use Rattle.sift_lang.specs.declared.tree.Stmt.{Stmt, If, the_lemmas}
-use Rattle.sift_lang.specs.Tree.{Term, Statement, Block, choose_else, term_of, statement_of, block_of}
+use Rattle.sift_lang.specs.Tree.{Statement, Block, choose_else, term_of, statement_of, block_of}
 use Rattle.sift_parse.specs.Reading.{read, read_block, braced_by, else_by, if_by, statement_by}
 use Rattle.sift_parse.proofs.Turns.{turns-more, turns-end, turns-fault, else-found, if-fault, if-to, answered, failed}
 use Rattle.sift_parse.proofs.blocks.+blocks.Goals as goal

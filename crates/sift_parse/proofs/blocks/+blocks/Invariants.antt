@@ -21,8 +21,9 @@ decreases-braced l = 4 * length l.tokens.now.rest.now + 3
 -- the statements so far are read, and what is left follows them
 abbrev pub invariant-block-loop-statements : goal.invariant-block-loop-statements
 invariant-block-loop-statements l = record {
-    shorter : length l.tokens.rest.now ≤ length l.initial.tokens.rest.now;
-    turns : Turns l.initial.tokens.rest.now (map statement_of l.statements.items) l.tokens.rest.now }
+  shorter : length l.tokens.rest.now ≤ length l.initial.tokens.rest.now;
+  turns : Turns l.initial.tokens.rest.now (map statement_of l.statements.items) l.tokens.rest.now;
+}
 
 abbrev pub decreases-block-loop-statements : goal.decreases-block-loop-statements
 decreases-block-loop-statements l = length l.tokens.rest.now

@@ -1,7 +1,6 @@
-use Rattle.std.proofs.Common.{rules, arith, ◌≡◌, ◌+◌, ◌∷◌, List, suc, sym, refl, ap, subst, length, Result, Ok, Err}
-use Rattle.sift_lang.specs.Tree.{term_of, binary}
+use Rattle.std.proofs.Common.{rules, arith, ◌≡◌, ◌+◌, ap, length, Err}
+use Rattle.sift_lang.specs.Tree.{term_of}
 use Rattle.sift_parse.specs.declared.token.Sign.TheVariants.{Comma, CloseParen}
-use Rattle.sift_parse.specs.declared.token.Token.TheVariants.{Operator}
 use Rattle.sift_parse.specs.Grammar.{prim_level}
 use Rattle.sift_parse.specs.Reading.{prim_by, closed_by, middle_by, read, tail}
 use Rattle.sift_parse.proofs.Chains.{leads-start, leads-more, leads-compared, leads-fault, leads-end, reads-prim, reads-chain, reads-fault, reads-suc, answered, failed, middle-second, middle-third, middle-found}

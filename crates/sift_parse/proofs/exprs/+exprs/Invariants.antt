@@ -21,8 +21,9 @@ decreases-middle l = 16 * length l.tokens.now.rest.now + 9
 -- what is left to read leads where all of it led
 abbrev pub invariant-chain-loop-op : goal.invariant-chain-loop-op
 invariant-chain-loop-op l = record {
-    shorter : length l.tokens.rest.now ≤ length l.initial.tokens.rest.now;
-    leads : Leads l.n (term_of l.initial.left) l.initial.tokens.rest.now (term_of l.left) l.tokens.rest.now }
+  shorter : length l.tokens.rest.now ≤ length l.initial.tokens.rest.now;
+  leads : Leads l.n (term_of l.initial.left) l.initial.tokens.rest.now (term_of l.left) l.tokens.rest.now;
+}
 
 abbrev pub decreases-chain-loop-op : goal.decreases-chain-loop-op
 decreases-chain-loop-op l = length l.tokens.rest.now

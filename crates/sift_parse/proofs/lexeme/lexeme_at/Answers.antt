@@ -1,4 +1,4 @@
-use Rattle.std.proofs.Common.{◌≡◌, ℕ, List, Option, Some, None, IfSome, IfNone}
+use Rattle.std.proofs.Common.{ℕ, List, Option, Some, None, IfSome, IfNone}
 use Rattle.sift_parse.specs.declared.lexeme.Lexeme as held
 use Rattle.sift_parse.specs.Written.{BeginsLetter, BeginsDigit, IsSignAt, IsLexemeAt, lexeme_of}
 use Rattle.sift_parse.proofs.Lexing.{words-found, signs-found, signs-none}

@@ -1,4 +1,4 @@
-use Rattle.std.proofs.Common.{◌≡◌, length, take, drop, subst, sym, ap, ◌∙◌}
+use Rattle.std.proofs.Common.{◌≡◌, take, drop, subst, sym, ap, ◌∙◌}
 use Rattle.sift_parse.specs.Written.{Continues}
 use Rattle.sift_parse.proofs.Lexing.{number-at, number-none, number-digits, take-rest}
 use Rattle.sift_parse.proofs.lexeme.number_at.Goals as goal

@@ -1,6 +1,5 @@
-use Rattle.std.proofs.Common.{◌≡◌, ◌+◌, ◌++◌, ◌∷◌, [], length, drop, map, refl, sym, ap, ◌∙◌, arith}
+use Rattle.std.proofs.Common.{◌+◌}
 use Rattle.std.proofs.lemmas.List.{map-append}
-use Rattle.sift_parse.specs.Lexeme.{Lexes}
 use Rattle.sift_parse.specs.Written.{placed_of, lexeme_of}
 use Rattle.sift_parse.proofs.Gaps.{Lexes-start, one-more}
 use Rattle.sift_parse.proofs.Lexing.{take-rest}

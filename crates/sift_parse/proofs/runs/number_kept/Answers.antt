@@ -1,7 +1,6 @@
 use Rattle.std.proofs.Common.{◌≡◌, ◌+◌, ◌*◌, ◌<◌, get_or, take, min, refl, rules, arith, sym, ap, ◌∙◌}
 use Rattle.std.specs.Char.{digit_value}
 use Rattle.std.specs.Str.Parse.{digits_value}
-use Rattle.std.proofs.lemmas.Grind.{common_steps}
 use Rattle.std.proofs.lemmas.Int.Digits.{digits_value_more}
 use Rattle.sift_parse.specs.Lexeme.{kept}
 use Rattle.sift_parse.proofs.Numbers.{kept-more, unwrap_or-some}
