@@ -1,6 +1,7 @@
 pub mod Force
 pub mod Grammar
 pub mod Lexeme
+pub mod Outcome
 pub mod Parsed
 pub mod Parsing
 pub mod Reading
