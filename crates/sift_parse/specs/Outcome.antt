@@ -1,5 +1,5 @@
 -- What parsing a text answers, for the names that are there: the promise of the crate in one definition.
-use Rattle.std.specs.Prelude.{◌≡◌, ◌<◌, ◌≤◌, ℕ, List, length, sum, slice_get, slice_index, Option, Some, Result, Ok, Err}
+use Rattle.std.specs.Prelude.{◌≡◌, ◌<◌, ◌≤◌, ℕ, List, length, sum, slice_get, slice_index, Some, Result, Ok, Err}
 use Rattle.std.specs.List.{All}
 use Rattle.sift_lang.specs.declared.tree.Task.{Task}
 use Rattle.sift_lang.specs.Tree.{TaskTree, tree_of}

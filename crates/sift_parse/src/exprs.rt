@@ -13,6 +13,9 @@ use std::alloc::Global;
 /// The level of a prim, which binds tighter than each operator.
 const PRIM_LEVEL: u8 = 5;
 
+/// The level of comparisons, which takes one operator at most.
+const COMPARISON_LEVEL: u8 = 0;
+
 /// An expression.
 pub(crate) fn expr(alloc: Global, tokens: &mut Tokens<'_>) -> Result<Expr, Fault>
     ensures reads { Reading term_of (λ fuel. read fuel 0) tokens.old.rest.now result tokens.new.rest.now }
@@ -46,7 +49,7 @@ fn chain(alloc: Global, tokens: &mut Tokens<'_>, n: u8, first: Expr) -> Result<E
     while let Some(op) = tokens.operator(n) {
         let right = level(alloc, tokens, n + 1)?;
         left = Expr::Binary(op, Box::new(alloc, left)?, Box::new(alloc, right)?);
-        if n == 0 {
+        if n == COMPARISON_LEVEL {
             return Ok(left);
         }
     }

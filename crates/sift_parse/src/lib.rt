@@ -13,9 +13,9 @@ mod runs;
 mod stop;
 mod token;
 mod tokens;
-mod tree;
+mod unique;
 
 pub use names::Names;
 pub use stop::{ParseStop, Which};
 pub use token::LEVEL_LIMIT;
-pub use tree::one_tree;
+pub use unique::one_tree;

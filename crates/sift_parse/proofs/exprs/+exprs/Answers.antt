@@ -17,11 +17,11 @@ chain-returns-in_err-right-clause-reads t c =
     let same : c.from_residual.result ≡ Err c.in_err-right.field-0.0 = search rules in
     rw same (failed (λ fuel. read fuel (n + 1)) (λ fuel. tail fuel n (term_of c.args.first)) us ts c.level.new.tokens.rest.now c.in_err-right.field-0.0 (λ bad r. leads-fault n c.in-Some.op (term_of c.args.first) (term_of c.loop-op.left) ts us bad c.in-Some.ensures.1 (rw c.in-Some.ensures.0 at c.loop-op.invariant.leads) (reads-suc n us _ r)) c.in_err-right.ensures.reads)
 
-pub chain-returns-then-n-eq0-clause-reads : goal.chain-returns-then-n-eq0-clause-reads
-chain-returns-then-n-eq0-clause-reads t c =
+pub chain-returns-then-n-eq-COMPARISON_LEVEL-clause-reads : goal.chain-returns-then-n-eq-COMPARISON_LEVEL-clause-reads
+chain-returns-then-n-eq-COMPARISON_LEVEL-clause-reads t c =
     let n = c.args.n in
     let us = c.operator.new.self.rest.now in
-    rw (c.in_ok-new.ensures.ok, c.in_ok-new-2.ensures.ok) (leads-compared n c.in-Some.op (term_of c.args.first) (term_of c.loop-op.left) (term_of c.in_ok-right.right) c.args.tokens.now.rest.now us c.level.new.tokens.rest.now c.if-n-eq0.true c.in-Some.ensures.1 (rw c.in-Some.ensures.0 at c.loop-op.invariant.leads) (reads-suc n us _ c.in_ok-right.ensures.reads))
+    rw (c.in_ok-new.ensures.ok, c.in_ok-new-2.ensures.ok) (leads-compared n c.in-Some.op (term_of c.args.first) (term_of c.loop-op.left) (term_of c.in_ok-right.right) c.args.tokens.now.rest.now us c.level.new.tokens.rest.now c.if-n-eq-COMPARISON_LEVEL.true c.in-Some.ensures.1 (rw c.in-Some.ensures.0 at c.loop-op.invariant.leads) (reads-suc n us _ c.in_ok-right.ensures.reads))
 
 pub chain-loop-op-preserved : goal.chain-loop-op-preserved
 chain-loop-op-preserved t c =
