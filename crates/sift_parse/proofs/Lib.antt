@@ -1,0 +1,13 @@
+pub mod BlockLaws
+pub mod Chains
+pub mod Complete
+pub mod ExprLaws
+pub mod Gaps
+pub mod Laws
+pub mod Lexing
+pub mod Numbers
+pub mod Offending
+pub mod Signs
+pub mod Steps
+pub mod Turns
+pub mod Whole

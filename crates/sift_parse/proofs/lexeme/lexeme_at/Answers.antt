@@ -1,0 +1,28 @@
+use Rattle.std.proofs.Common.{ℕ, List, Option, Some, None, IfSome, IfNone}
+use Rattle.sift_parse.specs.declared.lexeme.Lexeme as held
+use Rattle.sift_parse.specs.Written.{BeginsLetter, BeginsDigit, IsSignAt, IsLexemeAt, lexeme_of}
+use Rattle.sift_parse.proofs.Lexing.{words-found, signs-found, signs-none}
+use Rattle.sift_parse.proofs.lexeme.lexeme_at.Goals as goal
+
+if_sign : (text : List ℕ) (o : Option (held.Lexeme × ℕ)) → ¬ BeginsLetter text → ¬ BeginsDigit text → IfSome o (λ r. IsSignAt text (lexeme_of r.0) r.1) → IfSome o (λ r. IsLexemeAt text (lexeme_of r.0) r.1)
+if_sign text None l d h = tt
+if_sign text (Some r) l d h = signs-found text (lexeme_of r.0) r.1 l d h
+
+if_none : {A : Type 0} (o : Option A) (P Q : Type 0) → (P → Q) → IfNone o P → IfNone o Q
+if_none None P Q f h = f h
+if_none (Some a) P Q f h = tt
+
+pub returns-then-begins_name-clause-found : goal.returns-then-begins_name-clause-found
+returns-then-begins_name-clause-found c = words-found c.args.bytes.now c.name_len-len.result (c.begins_name.ensures.0 c.if-begins_name.true) c.name_len-len.ensures
+
+pub returns-clause-found : goal.returns-clause-found
+returns-clause-found c =
+    let letter : ¬ BeginsLetter c.args.bytes.now = λ h. (let t = c.begins_name.ensures.1 h in let f = c.if-begins_name.false in cc) in
+    let digit : ¬ BeginsDigit c.args.bytes.now = λ h. (let t = c.begins_number.ensures.1 h in let f = c.if-begins_number.false in cc) in
+    if_sign c.args.bytes.now _ letter digit c.sign_at.ensures.found
+
+pub returns-clause-none : goal.returns-clause-none
+returns-clause-none c =
+    let letter : ¬ BeginsLetter c.args.bytes.now = λ h. (let t = c.begins_name.ensures.1 h in let f = c.if-begins_name.false in cc) in
+    let digit : ¬ BeginsDigit c.args.bytes.now = λ h. (let t = c.begins_number.ensures.1 h in let f = c.if-begins_number.false in cc) in
+    if_none _ _ _ (λ x. signs-none c.args.bytes.now letter digit x) c.sign_at.ensures.none

@@ -1,0 +1,114 @@
+-- The bytes of a text: which of them are a lexeme, and which stand between lexemes and mean nothing.
+use Rattle.std.specs.Prelude.{◌≡◌, ℕ, ◌+◌, ◌-◌, ◌<◌, ◌≤◌, ◌⊎◌, min, ◌==◌, ◌||◌, if◌then◌else◌, Bool, List, [], ◌∷◌, ◌++◌, length, codes}
+use Rattle.std.specs.Char.{IsAsciiAlphabetic}
+use Rattle.std.specs.Str.{byte}
+use Rattle.std.specs.Str.Parse.{digits_value, AllDigits}
+use Rattle.sift_base.specs.Name.{HasNameForm}
+use Rattle.sift_lang.specs.declared.tree.Op.{Op}
+use Rattle.sift_lang.specs.declared.tree.Op.TheVariants.{Add, Sub, Mul, Div, Rem, And, Or, Xor, Shl, Shr, Lt, Eq}
+use Rattle.sift_parse.specs.declared.token.Sign.{Sign}
+use Rattle.sift_parse.specs.declared.token.Sign.TheVariants.{Assign, OpenParen, CloseParen, OpenBrace, CloseBrace, Comma, Dot, Semicolon}
+
+-- a lexeme: a word of the form of a name, keywords among them, a number, an operator, or another sign
+pub data Lexeme : Type 0 where
+  word : List ℕ → Lexeme
+  numeral : ℕ → Lexeme
+  operator : Op → Lexeme
+  mark : Sign → Lexeme
+
+-- the bytes of an operator
+abbrev pub operator_bytes : Op → List ℕ
+operator_bytes Add = codes "+"
+operator_bytes Sub = codes "-"
+operator_bytes Mul = codes "*"
+operator_bytes Div = codes "/"
+operator_bytes Rem = codes "%"
+operator_bytes And = codes "&"
+operator_bytes Or = codes "|"
+operator_bytes Xor = codes "^"
+operator_bytes Shl = codes "<<"
+operator_bytes Shr = codes ">>"
+operator_bytes Lt = codes "<"
+operator_bytes Eq = codes "=="
+
+-- the bytes of a sign
+abbrev pub sign_bytes : Sign → List ℕ
+sign_bytes Assign = codes "="
+sign_bytes OpenParen = codes "("
+sign_bytes CloseParen = codes ")"
+sign_bytes OpenBrace = codes "{"
+sign_bytes CloseBrace = codes "}"
+sign_bytes Comma = codes ","
+sign_bytes Dot = codes "."
+sign_bytes Semicolon = codes ";"
+
+-- the greatest number that a text may hold
+abbrev pub number_limit : ℕ
+number_limit = 65535
+
+-- what is kept of a number: itself, or one more than the greatest of each greater one, which no task may hold
+abbrev pub kept : ℕ → ℕ
+kept n = min n (number_limit + 1)
+
+-- the bytes are decimal digits, and this is kept of the number that they write
+pub record IsDecimal (bytes : List ℕ) (n : ℕ) : Type 0 where
+  pub some : 0 < length bytes
+  pub digits : AllDigits 10 bytes
+  pub value : n ≡ kept (digits_value 10 bytes)
+
+-- the bytes are `0x` and hexadecimal digits of either case, and this is kept of the number that they write
+pub record IsHexadecimal (bytes : List ℕ) (n : ℕ) : Type 0 where
+  pub written : List ℕ
+  pub split : bytes ≡ codes "0x" ++ written
+  pub some : 0 < length written
+  pub digits : AllDigits 16 written
+  pub value : n ≡ kept (digits_value 16 written)
+
+-- these bytes are this lexeme
+abbrev pub Spells : Lexeme → List ℕ → Type 0
+Spells (word w) bytes = HasNameForm bytes × (w ≡ bytes)
+Spells (numeral n) bytes = IsDecimal bytes n ⊎ IsHexadecimal bytes n
+Spells (operator op) bytes = bytes ≡ operator_bytes op
+Spells (mark s) bytes = bytes ≡ sign_bytes s
+
+-- the lexeme may stand before these bytes: no letter and no `_` follows a number directly
+abbrev pub MayStandBefore : Lexeme → List ℕ → Type 0
+MayStandBefore (numeral n) (b ∷ rest) = ¬ (IsAsciiAlphabetic b ⊎ (b ≡ byte "_"))
+MayStandBefore _ _ = Unit {0}
+
+-- the text begins with this lexeme, the longest that fits, and rest follows it
+pub record IsLexeme (text : List ℕ) (l : Lexeme) (rest : List ℕ) : Type 0 where
+  pub spelled : List ℕ
+  pub split : text ≡ spelled ++ rest
+  pub spells : Spells l spelled
+  pub longest : (other : Lexeme) (bytes back : List ℕ) → text ≡ bytes ++ back → Spells other bytes → length bytes ≤ length spelled
+  pub parted : MayStandBefore l rest
+
+-- ---- between lexemes
+
+-- blanks, tabs, line feeds and carriage returns
+abbrev pub is_blank : ℕ → Bool
+is_blank b = (b == byte " ") || (b == byte "\t") || (b == byte "\n") || (b == byte "\r")
+
+abbrev mutual
+  -- what follows the blanks and the comments at the front
+  pub after_gap : List ℕ → List ℕ
+  after_gap [] = []
+  after_gap (b ∷ bs) = if is_blank b then after_gap bs else (if b == byte "#" then after_comment bs else b ∷ bs)
+
+  -- what follows a comment, which ends with its line
+  pub after_comment : List ℕ → List ℕ
+  after_comment [] = []
+  after_comment (b ∷ bs) = if b == byte "\n" then after_gap bs else after_comment bs
+
+-- ---- a text
+
+-- a lexeme and the place of its first byte
+pub record Placed : Type 0 where
+  pub lexeme : Lexeme
+  pub at : ℕ
+
+-- From the text on, these lexemes are read one after another, and rest is where the next would begin. Places count from the start of the whole text of so many bytes.
+pub data Lexes (total : ℕ) : List ℕ → List Placed → List ℕ → Type 0 where
+  no_lexeme : (text : List ℕ) → Lexes total text [] (after_gap text)
+  a_lexeme : (text mid rest : List ℕ) (l : Lexeme) (ls : List Placed) → IsLexeme (after_gap text) l mid → Lexes total mid ls rest → Lexes total text (record { lexeme = l; at = total - length (after_gap text) } ∷ ls) rest

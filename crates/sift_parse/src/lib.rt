@@ -1,0 +1,21 @@
+//! The texts of tasks: what a text's tokens are, which of them are a task, and which task that is.
+//!
+//! The grammar is a relation; a text has at most one tree.
+#![tactic(auto)]
+
+mod blocks;
+mod exprs;
+mod lexeme;
+mod lexer;
+mod names;
+mod parser;
+mod runs;
+mod stop;
+mod token;
+mod tokens;
+mod unique;
+
+pub use names::Names;
+pub use stop::{ParseStop, Which};
+pub use token::LEVEL_LIMIT;
+pub use unique::one_tree;
