@@ -5,6 +5,7 @@ pub mod ExprLaws
 pub mod Gaps
 pub mod Laws
 pub mod Lexing
+pub mod Newest
 pub mod Numbers
 pub mod Offending
 pub mod Signs

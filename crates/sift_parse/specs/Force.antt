@@ -1,6 +1,6 @@
 -- What is in force at a place: the levels that are open, the locals that live, and what a name names. All of it is a fold over the lexemes before the place.
-use Rattle.std.specs.Prelude.{ℕ, ◌+◌, Bool, true, false, not, if◌then◌else◌, List, [], ◌∷◌, length, take, drop, sum, fold, map, slice_index, nat_lt, nat_le, Option, Some, None, unwrap_or, is_none, codes}
-use Rattle.std.specs.List.{position}
+use Rattle.std.specs.Prelude.{ℕ, ◌+◌, ◌-◌, Bool, true, false, not, if◌then◌else◌, List, [], ◌∷◌, length, take, drop, sum, fold, map, slice_index, nat_lt, nat_le, Option, Some, None, unwrap_or, is_none, codes}
+use Rattle.std.specs.List.{position_from}
 use Rattle.std.specs.Str.{bytes_eq}
 use Rattle.sift_lang.specs.declared.tree.Op.TheVariants.{Sub}
 use Rattle.sift_parse.specs.declared.names.Names.{Names}
@@ -26,7 +26,7 @@ roll_of names = record { sensors = map (λ s. s.bytes) names.sensors.items; task
 
 -- the number of the name in the list, where it is there
 abbrev pub number_in : List (List ℕ) → List ℕ → Option ℕ
-number_in names w = position (λ name. bytes_eq name w) names
+number_in names w = position_from (λ name. bytes_eq name w) 0 names
 
 -- how many words the tasks before this one have
 abbrev pub words_before : Roll → ℕ → ℕ
@@ -47,9 +47,9 @@ keyword_of w =
 
 -- ---- the fold
 
--- a level that is open: a block, with the locals that lived at its `{`, a parenthesis, or a minus
+-- a level that is open: a block, with how many locals lived at its `{`, a parenthesis, or a minus
 pub data Level : Type 0 where
-  block : List (List ℕ) → Level
+  block : ℕ → Level
   parenthesis : Level
   negation : Level
 
@@ -93,15 +93,25 @@ opens f (mark OpenParen) = true
 opens f (mark OpenBrace) = true
 opens f _ = false
 
+-- the innermost level is a minus
+abbrev pub is_minus : List Level → Bool
+is_minus (negation ∷ levels) = true
+is_minus _ = false
+
 -- the levels without the minuses of a prim that ends here
 abbrev pub without_minuses : List Level → List Level
 without_minuses (negation ∷ levels) = without_minuses levels
 without_minuses levels = levels
 
+-- the oldest locals, so many of them
+abbrev pub oldest : ℕ → List (List ℕ) → List (List ℕ)
+oldest n locals = drop (length locals - n) locals
+
 -- what is in force after the `}` of the innermost block: its locals are no more
 abbrev pub leave_block : List Level → Force → Force
-leave_block (block locals ∷ levels) f = record f { levels = levels; locals = locals }
-leave_block _ f = f
+leave_block (block lived ∷ levels) f = record f { levels = levels; locals = oldest lived f.locals }
+leave_block (level ∷ levels) f = record f { levels = levels }
+leave_block [] f = f
 
 -- what is in force after a `;`: the local of a `let` is seen from here on
 abbrev pub end_let : Option (List ℕ) → Force → Force
@@ -144,7 +154,7 @@ moved f (numeral n) = record f { levels = without_minuses f.levels }
 moved f (operator op) = if opens f (operator op) then record f { levels = negation ∷ f.levels } else f
 moved f (mark OpenParen) = record f { levels = parenthesis ∷ f.levels }
 moved f (mark CloseParen) = record f { levels = without_minuses (drop 1 f.levels) }
-moved f (mark OpenBrace) = record f { levels = block f.locals ∷ f.levels }
+moved f (mark OpenBrace) = record f { levels = block (length f.locals) ∷ f.levels }
 moved f (mark CloseBrace) = leave_block f.levels f
 moved f (mark Semicolon) = end_let f.pending f
 moved f (mark _) = f

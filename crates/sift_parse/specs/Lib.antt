@@ -1,5 +1,6 @@
 pub mod Force
 pub mod Grammar
+pub mod Held
 pub mod Lexeme
 pub mod Outcome
 pub mod Parsed

@@ -1,5 +1,5 @@
 -- Refusals: what stands at a place of a text, which of it is answered, and what a text without any is.
-use Rattle.std.specs.Prelude.{◌≡◌, ◌≢◌, ℕ, ◌-◌, ◌<◌, ◌≤◌, IsTrue, List, [], ◌∷◌, ◌++◌, length, map, slice_index, Some, None, IfSome}
+use Rattle.std.specs.Prelude.{◌≡◌, ◌≢◌, ℕ, ◌-◌, ◌<◌, ◌≤◌, IsTrue, List, [], ◌∷◌, ◌++◌, length, map, slice_index, Option, Some, None}
 use Rattle.sift_base.specs.declared.name.TheConstants.{NAME_LIMIT}
 use Rattle.sift_lang.specs.declared.tree.TheConstants.{LOCAL_LIMIT, ROUND_LIMIT}
 use Rattle.sift_lang.specs.Tree.{Block}
@@ -59,15 +59,25 @@ IsManyLocals f _ = ⊥
 abbrev pub IsDeepLevel : Force → Lexeme → Type 0
 IsDeepLevel f l = IsTrue (opens f l) × (LEVEL_LIMIT ≤ length f.levels)
 
+-- a word of the task is asked for, and it has none of this number
+abbrev pub LacksWord : Roll → Option ℕ → ℕ → Type 0
+LacksWord r (Some task) n = slice_index r.sizes task ≤ n
+LacksWord r None n = ⊥
+
+-- it is the number of this task, or of one after it
+abbrev pub IsNotBefore : Roll → Option ℕ → Type 0
+IsNotBefore r (Some task) = r.this ≤ task
+IsNotBefore r None = ⊥
+
 -- a name of what isn't there or isn't seen, or the number of a word that the task doesn't have
 abbrev pub IsUnknownName : Roll → Force → Lexeme → Type 0
 IsUnknownName r f (word w) = (keyword_of w ≡ None) × (number_named r f w ≡ None)
-IsUnknownName r f (numeral n) = IfSome (task_asked r f f.before) (λ task. slice_index r.sizes task ≤ n)
+IsUnknownName r f (numeral n) = LacksWord r (task_asked r f f.before) n
 IsUnknownName r f _ = ⊥
 
 -- the name after `now`, of this task or of one after it
 abbrev pub IsLaterTask : Roll → Force → Lexeme → Type 0
-IsLaterTask r f (word w) = (keyword_of w ≡ None) × (keyword_before f ≡ Some Now) × IfSome (number_in r.tasks w) (λ task. r.this ≤ task)
+IsLaterTask r f (word w) = (keyword_of w ≡ None) × (keyword_before f ≡ Some Now) × IsNotBefore r (number_in r.tasks w)
 IsLaterTask r f _ = ⊥
 
 -- ---- at a place

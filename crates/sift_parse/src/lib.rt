@@ -5,6 +5,7 @@
 
 mod blocks;
 mod exprs;
+mod force;
 mod lexeme;
 mod lexer;
 mod names;

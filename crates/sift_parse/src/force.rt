@@ -1,0 +1,440 @@
+ghost use Rattle.std.specs.Prelude.{◌≡◌, ◌↔◌, ◌<◌, ◌≤◌, ◌^◌, IsTrue, IfOk, sum, map, reverse, slice_index};
+ghost use Rattle.std.specs.Option.{ForSome};
+ghost use Rattle.sift_parse.specs.declared.token.Sign.TheVariants.{CloseParen};
+ghost use Rattle.sift_parse.specs.Force as spec;
+ghost use Rattle.sift_parse.specs.Force.{at_start, is_minus, without_minuses, end_let, leave_block, role_after, moved, number_in, roll_of};
+ghost use Rattle.sift_parse.specs.Lexeme as spec_lexeme;
+ghost use Rattle.sift_parse.specs.Refusal.{IsLongName, IsLargeNumber, IsManyRounds, IsManyLocals, IsDeepLevel, IsUnknownName, IsLaterTask, IsNotBefore, LacksWord};
+ghost use Rattle.sift_parse.specs.Held.{force_of, NamesFew};
+ghost use Rattle.sift_parse.specs.Written.{lexeme_of};
+
+use crate::lexeme::Lexeme;
+use crate::names::Names;
+use crate::token::{Keyword, LEVEL_LIMIT, Sign, Token};
+use sift_base::{NAME_LIMIT, NoMemory};
+use sift_lang::{LOCAL_LIMIT, Op, ROUND_LIMIT};
+use std::alloc::Global;
+
+/// A level that is open.
+#[derive(Clone, Copy)]
+pub(crate) enum Level {
+    /// A block, and how many locals lived at its `{`.
+    Block(usize),
+    Parenthesis,
+    /// A `-` before a prim.
+    Minus,
+}
+
+/// What is in force at a place of a text.
+#[derive(Drop)]
+pub(crate) struct Force<'a> {
+    /// The lexeme before the place.
+    pub before: Option<Lexeme<'a>>,
+    /// The levels that are open, the innermost last.
+    pub levels: Vec<Level>,
+    /// The names of the locals that live, the newest last.
+    pub locals: Vec<&'a [u8]>,
+    /// The name of the `let` whose statement isn't over.
+    pub pending: Option<&'a [u8]>,
+    /// The last word before the place.
+    pub named: &'a [u8],
+}
+
+/// The keyword that a word is.
+pub(crate) fn keyword_of(word: &[u8]) -> Option<Keyword>
+    ensures { result ≡ spec.keyword_of word.now }
+{
+    match word {
+        b"let" => Some(Keyword::Let),
+        b"out" => Some(Keyword::Out),
+        b"if" => Some(Keyword::If),
+        b"else" => Some(Keyword::Else),
+        b"repeat" => Some(Keyword::Repeat),
+        b"mid" => Some(Keyword::Mid),
+        b"sense" => Some(Keyword::Sense),
+        b"now" => Some(Keyword::Now),
+        b"last" => Some(Keyword::Last),
+        _ => None,
+    }
+}
+
+// The number of the local that is seen by this name: as many locals live at its `let`.
+fn local_of(locals: &[&[u8]], name: &[u8]) -> Option<usize>
+    ensures { result ≡ spec.local_of (reverse (map (λ w. w.now) locals.now)) name.now }
+{
+    let mut seen = None;
+    for (i, local) in locals.iter().enumerate() {
+        if *local == name {
+            seen = Some(i);
+        }
+    }
+    seen
+}
+
+// The number of the sensor of this name.
+fn sensor_number(names: &Names, name: &[u8]) -> Option<usize>
+    ensures { result ≡ number_in (roll_of names.now).sensors name.now }
+{
+    for (i, sensor) in names.sensors.iter().enumerate() {
+        if sensor.as_bytes() == name {
+            return Some(i);
+        }
+    }
+    None
+}
+
+// The number of the task of this name.
+fn task_number(names: &Names, name: &[u8]) -> Option<usize>
+    ensures { result ≡ number_in (roll_of names.now).tasks name.now }
+{
+    for (i, task) in names.tasks.iter().enumerate() {
+        if task.0.as_bytes() == name {
+            return Some(i);
+        }
+    }
+    None
+}
+
+// Whether the name is of this task or of one after it.
+fn is_this_or_later(names: &Names, name: &[u8]) -> bool
+    ensures { IsTrue result ↔ IsNotBefore (roll_of names.now) (number_in (roll_of names.now).tasks name.now) }
+{
+    match task_number(names, name) {
+        Some(task) => names.this <= task,
+        None => false,
+    }
+}
+
+// How many words the task has.
+fn size_of(names: &Names, task: usize) -> u32
+    ensures { result ≡ slice_index (roll_of names.now).sizes task }
+{
+    match names.tasks.get(task) {
+        Some(named) => u32::from(named.1),
+        None => 0,
+    }
+}
+
+// How many words the tasks before this one have.
+fn words_before(names: &Names, task: usize) -> u32
+    requires few { sum (roll_of names.now).sizes < 2 ^ 8 }
+    ensures { result ≡ spec.words_before (roll_of names.now) task }
+{
+    let mut words = 0;
+    for (i, named) in names.tasks.iter().enumerate() {
+        if i == task {
+            return words;
+        }
+        words += u32::from(named.1);
+    }
+    words
+}
+
+// Whether a word of the task is asked for, and it has none of this number.
+fn lacks_word(names: &Names, asked: Option<usize>, n: u32) -> bool
+    ensures { IsTrue result ↔ LacksWord (roll_of names.now) asked n }
+{
+    match asked {
+        Some(task) => size_of(names, task) <= n,
+        None => false,
+    }
+}
+
+/// Whether it is a word of too many bytes.
+pub(crate) fn is_long_name(lexeme: Lexeme<'_>) -> bool
+    ensures { IsTrue result ↔ IsLongName (lexeme_of lexeme.entry) }
+{
+    match lexeme {
+        Lexeme::Word(word) => word.len() > NAME_LIMIT,
+        _ => false,
+    }
+}
+
+/// Whether it is a number that is too large.
+pub(crate) fn is_large_number(lexeme: Lexeme<'_>) -> bool
+    ensures { IsTrue result ↔ IsLargeNumber (lexeme_of lexeme.entry) }
+{
+    match lexeme {
+        Lexeme::Numeral(n) => n > u32::from(u16::MAX),
+        _ => false,
+    }
+}
+
+impl<'a> Force<'a> {
+    /// Nothing is open, and no local lives.
+    pub fn at_start(alloc: Global) -> Force<'a>
+        ensures { force_of result ≡ at_start }
+    {
+        Force {
+            before: None,
+            levels: Vec::new(alloc),
+            locals: Vec::new(alloc),
+            pending: None,
+            named: &[],
+        }
+    }
+
+    // The keyword before the place.
+    fn keyword_before(&self) -> Option<Keyword>
+        ensures { result ≡ spec.keyword_before (force_of self.now) }
+    {
+        match self.before {
+            Some(Lexeme::Word(word)) => keyword_of(word),
+            _ => None,
+        }
+    }
+
+    // Whether an operand ends at the place, so that a `-` there is no minus before a prim.
+    fn ends_operand(&self) -> bool
+        ensures { result ≡ spec.ends_operand (force_of self.now).before }
+    {
+        match self.before {
+            Some(Lexeme::Word(word)) => keyword_of(word).is_none(),
+            Some(Lexeme::Numeral(_) | Lexeme::Mark(Sign::CloseParen)) => true,
+            _ => false,
+        }
+    }
+
+    // Whether the lexeme opens a level here.
+    fn opens(&self, lexeme: Lexeme<'_>) -> bool
+        ensures { result ≡ spec.opens (force_of self.now) (lexeme_of lexeme.entry) }
+    {
+        match lexeme {
+            Lexeme::Operator(Op::Sub) => !self.ends_operand(),
+            Lexeme::Mark(Sign::OpenParen | Sign::OpenBrace) => true,
+            _ => false,
+        }
+    }
+
+    // Ends the minuses of a prim that ends here.
+    fn end_prim(&mut self)
+        ensures { force_of self.new ≡ record (force_of self.old) { levels = without_minuses (force_of self.old).levels } }
+    {
+        while self.in_minus() {
+            self.levels.pop();
+        }
+    }
+
+    // Whether the innermost level is a minus.
+    fn in_minus(&self) -> bool
+        ensures { result ≡ is_minus (force_of self.now).levels }
+    {
+        matches!(self.levels.last(), Some(Level::Minus))
+    }
+
+    // Ends the innermost block: its locals are no more.
+    fn leave_block(&mut self)
+        ensures { force_of self.new ≡ leave_block (force_of self.old).levels (force_of self.old) }
+    {
+        if let Some(Level::Block(lived)) = self.levels.pop() {
+            self.locals.truncate(lived);
+        }
+    }
+
+    // Ends a statement: the local of a `let` is seen from here on.
+    fn end_let(&mut self) -> Result<(), NoMemory>
+        ensures { IfOk result (λ _. force_of self.new ≡ end_let (force_of self.old).pending (force_of self.old)) }
+    {
+        if let Some(name) = self.pending.take() {
+            self.locals.push(name)?;
+        }
+        Ok(())
+    }
+
+    // A name: a prim ends with it, except with a task's, whose word's number is to come.
+    fn after_name(&mut self, name: &'a [u8])
+        ensures { force_of self.new ≡ spec.after_name (role_after (spec.keyword_before (force_of self.old))) name.now (force_of self.old) }
+    {
+        match self.keyword_before() {
+            Some(Keyword::Let) => self.pending = Some(name),
+            Some(Keyword::Now | Keyword::Last) => {}
+            _ => self.end_prim(),
+        }
+    }
+
+    fn after_word(&mut self, word: &'a [u8])
+        ensures { force_of self.new ≡ moved (force_of self.old) (spec_lexeme.word word.now) }
+    {
+        if keyword_of(word).is_none() {
+            self.after_name(word);
+        }
+        self.named = word;
+    }
+
+    fn after_operator(&mut self, op: Op) -> Result<(), NoMemory>
+        ensures { IfOk result (λ _. force_of self.new ≡ moved (force_of self.old) (spec_lexeme.operator op)) }
+    {
+        if self.opens(Lexeme::Operator(op)) {
+            self.levels.push(Level::Minus)?;
+        }
+        Ok(())
+    }
+
+    fn close_parenthesis(&mut self)
+        ensures { force_of self.new ≡ moved (force_of self.old) (spec_lexeme.mark CloseParen) }
+    {
+        self.levels.pop();
+        self.end_prim();
+    }
+
+    fn after_mark(&mut self, mark: Sign) -> Result<(), NoMemory>
+        ensures { IfOk result (λ _. force_of self.new ≡ moved (force_of self.old) (spec_lexeme.mark mark)) }
+    {
+        match mark {
+            Sign::OpenParen => self.levels.push(Level::Parenthesis)?,
+            Sign::CloseParen => self.close_parenthesis(),
+            Sign::OpenBrace => self.levels.push(Level::Block(self.locals.len()))?,
+            Sign::CloseBrace => self.leave_block(),
+            Sign::Semicolon => self.end_let()?,
+            Sign::Assign | Sign::Comma | Sign::Dot => {}
+        }
+        Ok(())
+    }
+
+    /// Goes past a lexeme.
+    pub fn advance(&mut self, lexeme: Lexeme<'a>) -> Result<(), NoMemory>
+        ensures { IfOk result (λ _. force_of self.new ≡ spec.advance (force_of self.old) (lexeme_of lexeme.entry)) }
+    {
+        match lexeme {
+            Lexeme::Word(word) => self.after_word(word),
+            Lexeme::Numeral(_) => self.end_prim(),
+            Lexeme::Operator(op) => self.after_operator(op)?,
+            Lexeme::Mark(mark) => self.after_mark(mark)?,
+        }
+        self.before = Some(lexeme);
+        Ok(())
+    }
+
+    /// Whether it is the number of a `repeat`, with too many rounds.
+    pub fn has_many_rounds(&self, lexeme: Lexeme<'_>) -> bool
+        ensures { IsTrue result ↔ IsManyRounds (force_of self.now) (lexeme_of lexeme.entry) }
+    {
+        match lexeme {
+            Lexeme::Numeral(n) => {
+                self.keyword_before() == Some(Keyword::Repeat) && n > u32::from(ROUND_LIMIT)
+            }
+            _ => false,
+        }
+    }
+
+    /// Whether it is the name of a `let`, where as many locals live as may.
+    pub fn has_many_locals(&self, lexeme: Lexeme<'_>) -> bool
+        ensures { IsTrue result ↔ IsManyLocals (force_of self.now) (lexeme_of lexeme.entry) }
+    {
+        match lexeme {
+            Lexeme::Word(_) => {
+                self.keyword_before() == Some(Keyword::Let) && self.locals.len() >= LOCAL_LIMIT
+            }
+            _ => false,
+        }
+    }
+
+    /// Whether it opens a level, where as many are open as may.
+    pub fn is_deep(&self, lexeme: Lexeme<'_>) -> bool
+        ensures { IsTrue result ↔ IsDeepLevel (force_of self.now) (lexeme_of lexeme.entry) }
+    {
+        self.opens(lexeme) && self.levels.len() >= LEVEL_LIMIT
+    }
+
+    // The number of what a name names here, where it is there.
+    fn number_named(&self, names: &Names, name: &[u8]) -> Option<usize>
+        ensures { result ≡ spec.number_named (roll_of names.now) (force_of self.now) name.now }
+    {
+        match self.keyword_before() {
+            Some(Keyword::Let) => Some(self.locals.len()),
+            Some(Keyword::Sense) => sensor_number(names, name),
+            Some(Keyword::Now | Keyword::Last) => task_number(names, name),
+            _ => local_of(&self.locals, name),
+        }
+    }
+
+    // The task whose word a number asks for here, where it asks for one.
+    fn task_asked(&self, names: &Names) -> Option<usize>
+        ensures { result ≡ spec.task_asked (roll_of names.now) (force_of self.now) (force_of self.now).before }
+    {
+        match self.before {
+            Some(Lexeme::Word(word)) if keyword_of(word) == Some(Keyword::Out) => Some(names.this),
+            Some(Lexeme::Mark(Sign::Dot)) => Some(task_number(names, self.named).unwrap_or(0)),
+            _ => None,
+        }
+    }
+
+    /// Whether it is a name of what isn't there or isn't seen, or the number of a word that the task doesn't have.
+    pub fn is_unknown(&self, names: &Names, lexeme: Lexeme<'_>) -> bool
+        ensures { IsTrue result ↔ IsUnknownName (roll_of names.now) (force_of self.now) (lexeme_of lexeme.entry) }
+    {
+        match lexeme {
+            Lexeme::Word(word) => {
+                keyword_of(word).is_none() && self.number_named(names, word).is_none()
+            }
+            Lexeme::Numeral(n) => lacks_word(names, self.task_asked(names), n),
+            _ => false,
+        }
+    }
+
+    /// Whether it is the name after `now`, of this task or of one after it.
+    pub fn is_later(&self, names: &Names, lexeme: Lexeme<'_>) -> bool
+        ensures { IsTrue result ↔ IsLaterTask (roll_of names.now) (force_of self.now) (lexeme_of lexeme.entry) }
+    {
+        match lexeme {
+            Lexeme::Word(word) if keyword_of(word).is_none() => {
+                self.keyword_before() == Some(Keyword::Now) && is_this_or_later(names, word)
+            }
+            _ => false,
+        }
+    }
+
+    // The token that a word is here; a name that isn't there counts as 0.
+    fn word_token(&self, names: &Names, word: &[u8]) -> Token
+        requires few { ForSome (spec.number_named (roll_of names.now) (force_of self.now) word.now) (λ n. n < 2 ^ 8) }
+        ensures { result ≡ spec.word_token (roll_of names.now) (force_of self.now) word.now (spec.keyword_of word.now) }
+    {
+        match keyword_of(word) {
+            Some(keyword) => Token::Keyword(keyword),
+            None => match self.number_named(names, word) {
+                Some(number) => Token::Name(number as u8),
+                None => Token::Name(0),
+            },
+        }
+    }
+
+    // The number of the word that a number of a task's asks for here.
+    fn index_meant(&self, names: &Names, task: usize, n: u32) -> u8
+        requires few { sum (roll_of names.now).sizes < 2 ^ 8 }
+        requires there { n < slice_index (roll_of names.now).sizes task }
+        ensures { result ≡ spec.index_meant (roll_of names.now) (force_of self.now).before task n }
+    {
+        match self.before {
+            Some(Lexeme::Mark(Sign::Dot)) => (words_before(names, task) + n) as u8,
+            _ => n as u8,
+        }
+    }
+
+    // The token that a number is here; a number that is too large or asks for a word that isn't there counts as 0.
+    fn number_token(&self, names: &Names, n: u32) -> Token
+        requires few { sum (roll_of names.now).sizes < 2 ^ 8 }
+        ensures { result ≡ spec.number_token (roll_of names.now) (force_of self.now).before (spec.task_asked (roll_of names.now) (force_of self.now) (force_of self.now).before) n }
+    {
+        match self.task_asked(names) {
+            Some(task) if n < size_of(names, task) => {
+                Token::Index(self.index_meant(names, task, n))
+            }
+            Some(_) => Token::Index(0),
+            None => Token::Number(u16::try_from(n).unwrap_or(0)),
+        }
+    }
+
+    /// The token that a lexeme is here.
+    pub fn token_of(&self, names: &Names, lexeme: Lexeme<'_>) -> Token
+        requires few { sum (roll_of names.now).sizes < 2 ^ 8 }
+        requires names { NamesFew (roll_of names.now) (force_of self.now) (lexeme_of lexeme) }
+        ensures { result ≡ spec.token_of (roll_of names.now) (force_of self.now) (lexeme_of lexeme.entry) }
+    {
+        match lexeme {
+            Lexeme::Word(word) => self.word_token(names, word),
+            Lexeme::Numeral(n) => self.number_token(names, n),
+            Lexeme::Operator(op) => Token::Operator(op),
+            Lexeme::Mark(sign) => Token::Sign(sign),
+        }
+    }
+}
