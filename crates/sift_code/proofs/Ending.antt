@@ -12,7 +12,8 @@ use Rattle.sift_code.specs.Ends.{Fits, RunsTo, Ends}
 use Rattle.sift_code.proofs.Costs.{head0, tail0, cost_step, costs, costs_here}
 use Rattle.sift_code.proofs.Remaining.{remaining, some_left}
 use Rattle.sift_code.proofs.Sound.{at_place}
-use Rattle.sift_code.proofs.Progress.{Agrees, left_of}
+use Rattle.sift_code.specs.Work.{Agrees}
+use Rattle.sift_code.proofs.Progress.{left_of}
 use Rattle.sift_code.proofs.Leading.{step_leads}
 
 -- ---- what is left to do is at most the bound

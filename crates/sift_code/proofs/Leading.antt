@@ -15,7 +15,8 @@ use Rattle.sift_code.proofs.Costs.{head0, tail0, cost_step, costs, costs_here, n
 use Rattle.sift_code.proofs.Heights.{height_here}
 use Rattle.sift_code.proofs.Remaining.{remaining, remaining_none, remaining_begin, another_round}
 use Rattle.sift_code.proofs.Sound.{braced, filled, named, same_round, jumpz_lands, jump_lands}
-use Rattle.sift_code.proofs.Progress.{Agrees, AreGoing, Leads, starts_of, left_of, present, on, push, combine, middle, store, put, jump}
+use Rattle.sift_code.specs.Work.{Agrees, AreGoing, starts_of}
+use Rattle.sift_code.proofs.Progress.{Leads, left_of, present, on, push, combine, middle, store, put, jump}
 
 module _ (program : Program) (sound : IsSound program) (inputs : Inputs) (fits : Fits inputs program.limits) where
   test : (to : ℕ) (s : State) → slice_get program.code s.place ≡ Some (JumpZ to) → Agrees program s → Leads program s (tested to s s.stack)

@@ -11,3 +11,8 @@ pub mod Walks
 pub mod Passing
 pub mod Bounds
 pub mod Firsts
+pub mod Places
+pub mod Steps
+pub mod Turns
+pub mod Runs
+pub mod Changing

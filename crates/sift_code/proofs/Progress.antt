@@ -12,6 +12,7 @@ use Rattle.sift_code.specs.Enclosing.{enclosing}
 use Rattle.sift_code.specs.Heights.{Trail, trail_at, height_at, height_after, next_height}
 use Rattle.sift_code.specs.Refusal.{Program, IsSound}
 use Rattle.sift_code.specs.Ends.{Fits}
+use Rattle.sift_code.specs.Work.{Agrees, AreGoing, starts_of}
 use Rattle.sift_code.proofs.Costs.{head0, tail0, cost_step, costs, costs_here, nested, nested_here, between}
 use Rattle.sift_code.proofs.Heights.{height_here}
 use Rattle.sift_code.proofs.Remaining.{remaining, remaining_more, remaining_falls}
@@ -22,24 +23,6 @@ pub record IsPlain (i : Instr) : Type 0 where
   pub nests : (next : ℕ) (loops : List ℕ) → nested i next loops ≡ loops
   pub costs : (cs : List ℕ) → cost_step i cs ≡ (1 + head0 cs) ∷ tail0 cs
   pub heights : (next : ℕ) (trail : Trail) → next_height i next trail ≡ height_after i trail.height
-
--- rounds are left in each loop
-abbrev pub AreGoing : List Loop → Type 0
-AreGoing [] = Unit {0}
-AreGoing (l ∷ ls) = (1 ≤ l.left) × AreGoing ls
-
--- the places after the Begins of open loops
-abbrev pub starts_of : List Loop → List ℕ
-starts_of loops = map (λ (l : Loop). l.start) loops
-
--- a state is as the code says of its place
-pub record Agrees (program : Program) (s : State) : Type 0 where
-  pub within : s.place ≤ length program.code
-  pub height : length s.stack ≡ height_at program.code s.place
-  pub loops : starts_of s.loops ≡ enclosing program.code s.place
-  pub going : AreGoing s.loops
-  pub locals : length s.locals ≡ local_count
-  pub outs : length s.outs ≡ program.limits.outputs
 
 -- what is left to do in a state
 abbrev pub left_of : Program → State → ℕ

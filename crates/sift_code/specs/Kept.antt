@@ -1,5 +1,5 @@
 -- What checked code keeps, and how its bound is found. No public clause cites this module.
-use Rattle.std.specs.Prelude.{◌≡◌, ℕ, zero, suc, ◌+◌, List, [], ◌∷◌, ◌++◌, length, Option, Some, drop, slice_get}
+use Rattle.std.specs.Prelude.{◌≡◌, ◌≤◌, ℕ, zero, suc, ◌+◌, List, [], ◌∷◌, ◌++◌, length, Option, Some, drop, slice_get}
 use Rattle.sift_code.specs.declared.instr.Instr.{Instr}
 use Rattle.sift_code.specs.declared.instr.Instr.TheVariants.{Begin, End}
 use Rattle.sift_code.specs.Heights.{stack_through}
@@ -27,8 +27,9 @@ abbrev pub products_outside : List ℕ → List ℕ
 products_outside [] = []
 products_outside (k ∷ ks) = products_outside ks ++ kept (product ks) ∷ []
 
--- sound code, with its two numbers
+-- sound code of at most 8 output words, with its two numbers
 pub record IsChecked (code : List Instr) (limits : Limits) (stack bound : ℕ) : Type 0 where
   pub sound : IsSound (within code limits)
+  pub few : limits.outputs ≤ 8
   pub stack_is : stack ≡ stack_through code (length code)
   pub bound_is : bound ≡ kept (bound_of code)

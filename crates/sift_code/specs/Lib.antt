@@ -7,3 +7,5 @@ pub mod Ends
 pub mod Nest
 pub mod Walk
 pub mod Kept
+pub mod Changes
+pub mod Work

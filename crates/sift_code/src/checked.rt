@@ -46,6 +46,23 @@ impl Checked {
     {
         self.bound
     }
+
+    /// The code with its loops. It is sound.
+    pub(crate) fn nest(&self) -> &Nest
+        ensures code { result.now ≡ self.now.code }
+        ensures sound { IsSound self.now }
+    {
+        &self.nest
+    }
+
+    /// How many words it may put out.
+    pub(crate) fn outputs(&self) -> u8
+        ensures count { result ≡ self.now.limits.outputs }
+        ensures few { result ≤ 8 }
+        ensures sound { IsSound self.now }
+    {
+        self.limits.outputs
+    }
 }
 
 /// Checks code that may name so many sensors, voted words and output words.

@@ -8,11 +8,15 @@ mod checked;
 mod instr;
 mod law;
 mod limits;
+mod machine;
 mod nest;
 mod refusal;
 mod walk;
+mod work;
 
 pub use bad::Bad;
 pub use checked::{Checked, verify};
 pub use instr::Instr;
 pub use law::checked_code_ends;
+pub use machine::run;
+pub use work::WORK_WORDS;

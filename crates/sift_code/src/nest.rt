@@ -1,4 +1,4 @@
-ghost use Rattle.std.specs.Prelude.{◌↔◌, IsTrue, IsSome, IfSome, ◌≡◌, ◌+◌, ◌<◌, ◌≤◌, ◌^◌, length, slice_get, IfOk};
+ghost use Rattle.std.specs.Prelude.{◌↔◌, Some, IsTrue, IsSome, IfSome, ◌≡◌, ◌+◌, ◌<◌, ◌≤◌, ◌^◌, length, slice_get, IfOk};
 ghost use Rattle.sift_code.specs.Enclosing.{enclosing};
 ghost use Rattle.sift_code.specs.Nest.{AreStarts, ArePasts, start_at, past_at};
 
@@ -62,6 +62,15 @@ impl Nest {
         ensures inside { IsSome result → at < length self.now }
     {
         self.code.get(at).copied()
+    }
+
+    /// The instruction at a place below the length.
+    pub fn fetch(&self, at: usize) -> Instr
+        requires { at < length self.now }
+        ensures read { slice_get self.now at ≡ Some result }
+        ensures short { length self.now < 2 ^ 32 }
+    {
+        self.code[at]
     }
 
     /// The place after the Begin of the innermost loop that encloses a place.
