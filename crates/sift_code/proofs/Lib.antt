@@ -12,6 +12,8 @@ pub mod Passing
 pub mod Bounds
 pub mod Firsts
 pub mod Places
+pub mod Standing
+pub mod Operators
 pub mod Steps
 pub mod Turns
 pub mod Runs

@@ -28,7 +28,8 @@ pub(crate) fn read(pool: &Pool, work: &Span, at: usize) -> Word
 pub(crate) fn write(pool: &mut Pool, work: &Span, at: usize, word: Word)
     requires live { IsLive pool.old work.now }
     requires inside { at < work.now.len }
-    ensures words { words_at pool.new work.now.number ≡ slice_set (words_at pool.old work.now.number) at word }
+    ensures words { let ws = words_at pool.old work.now.number in
+        words_at pool.new work.now.number ≡ slice_set ws at word }
     ensures only { ChangesOnly pool.old pool.new work.now }
     ensures live { KeepsLive pool.old pool.new }
 {
