@@ -10,10 +10,10 @@ use Rattle.sift_code.specs.Enclosing.{enclosing, innermost}
 use Rattle.sift_code.specs.Nest.{start_at, past_at, onward}
 use Rattle.sift_code.specs.Heights.{height_at}
 use Rattle.sift_code.specs.Refusal.{Program, IsSound}
-use Rattle.sift_code.specs.Work.{Steps, Passes, Enters, EndsRound, stack_of, locals_of, loops_of, state_of, lefts_start}
+use Rattle.sift_code.specs.Work.{Steps, at_place, Passes, Enters, EndsRound, stack_of, locals_of, loops_of, state_of, lefts_start}
 use Rattle.sift_code.proofs.Enclosing.{opened_before}
 use Rattle.sift_code.proofs.Costs.{nested, nested_here, past_end}
-use Rattle.sift_code.proofs.Sound.{braced, filled, uncrowded, jumpz_lands, jump_lands, at_place}
+use Rattle.sift_code.proofs.Sound.{braced, filled, uncrowded, jumpz_lands, jump_lands, at_place as instr_at}
 use Rattle.sift_code.proofs.Places.{stack_of-set, stack_of-top, locals_of-above, loops_of-set, loops_of-push}
 use Rattle.sift_code.proofs.Standing.{machine, state, Fetched, heights, stepped_to, plain}
 
@@ -27,7 +27,7 @@ nested_few _ next loops few le = le
 pub enclosing_few : (program : Program) → IsSound program → (p : ℕ) → p ≤ length program.code → length (enclosing program.code p) ≤ 32
 enclosing_few program sound zero le = omega arith
 enclosing_few program sound (suc p) le =
-    let at = at_place program.code p (omega arith) in
+    let at = instr_at program.code p (omega arith) in
     let e : p + 1 ≡ suc p = omega arith in
     subst (λ q. length (enclosing program.code q) ≤ 32) e (subst (λ l. length l ≤ 32) (sym (nested_here program.code (braced program sound) p at.0 at.1))
     (nested_few at.0 (p + 1) (enclosing program.code p) (λ k is. uncrowded program sound p k (at.1 ∙ ap Some is)) (enclosing_few program sound p (omega arith))))
@@ -45,17 +45,21 @@ module _ {program : Program} (inputs : Inputs) {m : Machine} {ws outs : List ℕ
   tests to b f is =
       ap (tested to (state_of program.code m ws outs)) (stack_of-top m.height ws (heights f).0) ∙ ap (λ (b' : Bool). Some (state (if b' then to else m.place + 1) (stack_of (m.height - 1) ws) (loops_of (enclosing program.code m.place) ws) (locals_of ws) outs)) is
 
-  -- where the word is 0
-  pub jumps_at_zero : {to : ℕ} {n : Machine} (w : ℕ) → Fetched program m ws outs (JumpZ to) → w ≡ slice_index ws (m.height - 1) → w ≡ 0 → n ≡ machine to (m.height - 1) m.depth → Steps program inputs m ws outs n ws outs
-  jumps_at_zero {to} {n} w f word none machine_is =
-      let is : (slice_index ws (m.height - 1) == 0) ≡ true = ap (λ x. x == 0) (sym word ∙ none) in
-      lands (JumpZ to) n (stack_of (m.height - 1) ws) to (m.height - 1) f (tests to true f is) (jumpz_lands program f.sound m.place to f.at).same_loops refl machine_is
+  at_zero : {to : ℕ} {n : Machine} → Fetched program m ws outs (JumpZ to) → slice_index ws (m.height - 1) ≡ 0 → n ≡ machine to (m.height - 1) m.depth → Steps program inputs m ws outs n ws outs
+  at_zero {to} {n} f none machine_is =
+      lands (JumpZ to) n (stack_of (m.height - 1) ws) to (m.height - 1) f (tests to true f (ap (λ x. x == 0) none)) (jumpz_lands program f.sound m.place to f.at).same_loops refl machine_is
 
-  -- where it isn't
-  pub goes_on : {to : ℕ} {n : Machine} (w : ℕ) → Fetched program m ws outs (JumpZ to) → w ≡ slice_index ws (m.height - 1) → w ≢ 0 → n ≡ machine (m.place + 1) (m.height - 1) m.depth → Steps program inputs m ws outs n ws outs
-  goes_on {to} {n} w f word other machine_is =
-      let is : (slice_index ws (m.height - 1) == 0) ≡ false = elim (eqb_tells (slice_index ws (m.height - 1)) 0) [ inl e ↦ absurd (other (word ∙ e.1)) | inr d ↦ d.0 ] in
+  at_others : {to : ℕ} {n : Machine} → Fetched program m ws outs (JumpZ to) → (slice_index ws (m.height - 1) == 0) ≡ false → n ≡ machine (m.place + 1) (m.height - 1) m.depth → Steps program inputs m ws outs n ws outs
+  at_others {to} {n} f is machine_is =
       rw machine_is (plain inputs f (machine (m.place + 1) (m.height - 1) m.depth) ws outs (stack_of (m.height - 1) ws) (locals_of ws) outs (record { nests = λ next loops. refl; costs = λ cs. refl; heights = λ next trail. refl }) (tests to false f is) refl refl refl refl refl refl)
+
+  -- a test
+  pub jumps_at_zero : {to : ℕ} {n k : Machine} (w : ℕ) → Fetched program m ws outs (JumpZ to) → w ≡ slice_index ws (m.height - 1) → k ≡ machine (m.place + 1) (m.height - 1) m.depth → (w ≡ 0 → n ≡ at_place to k) → (w ≢ 0 → n ≡ k) → Steps program inputs m ws outs n ws outs
+  jumps_at_zero {to} {n} w f word popped at_none other =
+      elim (eqb_tells (slice_index ws (m.height - 1)) 0) [
+        | inl e ↦ at_zero f e.1 (at_none (word ∙ e.1) ∙ ap (at_place to) popped)
+        | inr d ↦ at_others f d.0 (other (λ none. d.1 (sym word ∙ none)) ∙ popped)
+      ]
 
   -- a loop of no rounds
   skips : (n : Machine) (vs : List ℕ) → Fetched program m ws outs (Begin 0) → Passes program.code (machine (m.place + 1) m.height m.depth) n ws vs → Steps program inputs m ws outs n vs outs

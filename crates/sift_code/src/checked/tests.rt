@@ -440,6 +440,43 @@ fn loops_have_limits(rt: HostRuntime) -> Result<(), Fail> {
 }
 
 #[test]
+fn unequal_heights_go_before_too_many_words(rt: HostRuntime) -> Result<(), Fail> {
+    let alloc = rt.alloc();
+    let mut code = vec![in alloc; Load(0), JumpZ(258)]?;
+    for _ in 0..257 {
+        code.push(Load(0))?;
+    }
+    assert!(rt; code.len() < 1000);
+    let got = answer(alloc, code, 1, 1, 1);
+    assert_eq!(rt;
+        got,
+        Err(Bad::Unequal { at: 258 }),
+        "heights 0 and 256 at a Load"
+    );
+    Ok(())
+}
+
+#[test]
+fn unequal_heights_go_before_too_many_loops(rt: HostRuntime) -> Result<(), Fail> {
+    let alloc = rt.alloc();
+    let mut code = runs_of(alloc, &Begin(1), 32, &Load(0), 1)?;
+    for instr in [JumpZ(35), Load(0), Begin(1)] {
+        code.push(instr)?;
+    }
+    for _ in 0..33 {
+        code.push(End)?;
+    }
+    assert!(rt; code.len() < 1000);
+    let got = answer(alloc, code, 1, 1, 1);
+    assert_eq!(rt;
+        got,
+        Err(Bad::Unequal { at: 35 }),
+        "heights 0 and 1 at the 33rd Begin"
+    );
+    Ok(())
+}
+
+#[test]
 fn pushed_words_are_tested_and_put_out(rt: HostRuntime) -> Result<(), Fail> {
     let alloc = rt.alloc();
     let put_out = vec![in alloc; Push(Word::of(1)), Out(0)]?;

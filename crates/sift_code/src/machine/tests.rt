@@ -38,24 +38,29 @@ fn run_once(
     numbers(outs)
 }
 
-/// Runs each code twice over a span of other words, with other words put out before.
+/// What a code puts out, twice over a span of other words and with another word put out before, and the word below that
+/// span.
+fn run_twice(alloc: Global, code: &Checked) -> Result<([(usize, [u16; 2]); 2], u16), Fail>
+    requires { code.now.limits ≡ limits 2 2 2 }
+{
+    let mut pool = Pool::make(alloc, 400, 2)?;
+    let below = pool.carve(1)?;
+    pool.fill(&below, 77);
+    let work = pool.carve(WORK_WORDS)?;
+    pool.fill(&work, 43981);
+    let mut outs = ArrayVec::new();
+    outs.push(Word::of(9));
+    let first = run_once(code, &mut pool, &work, &mut outs);
+    let again = run_once(code, &mut pool, &work, &mut outs);
+    Ok(([first, again], pool.get(&below, 0)))
+}
+
 fn expect_outputs(rt: &impl Abort, alloc: Global, rows: &[Row]) -> Result<(), Fail> {
     for &(code, want, row) in rows {
         assert!(rt; code.len() < 1000, "{row}");
         let checked = verify(alloc, code.to_vec(alloc)?, 2, 2, 2)?;
-        let mut pool = Pool::make(alloc, 400, 2)?;
-        let below = pool.carve(8)?;
-        pool.fill(&below, 77);
-        let work = pool.carve(WORK_WORDS)?;
-        pool.fill(&work, 43981);
-        let mut outs = ArrayVec::new();
-        outs.push(Word::of(9));
-        for time in ["at first", "again"] {
-            let got = run_once(&checked, &mut pool, &work, &mut outs);
-            assert_eq!(rt; got, (2, want), "{row}, {time}");
-        }
-        let word = pool.get(&below, 7);
-        assert_eq!(rt; word, 77, "below the span: {row}");
+        let got = run_twice(alloc, &checked)?;
+        assert_eq!(rt; got, ([(2, want), (2, want)], 77), "{row}");
     }
     Ok(())
 }
