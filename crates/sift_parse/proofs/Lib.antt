@@ -8,6 +8,8 @@ pub mod Lexing
 pub mod Newest
 pub mod Numbers
 pub mod Offending
+pub mod OneLexing
+pub mod OneReading
 pub mod Signs
 pub mod Steps
 pub mod Turns
