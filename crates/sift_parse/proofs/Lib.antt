@@ -11,6 +11,13 @@ pub mod Offending
 pub mod OneLexing
 pub mod OneReading
 pub mod Signs
+pub mod SoundBlock
+pub mod SoundForce
+pub mod SoundNames
+pub mod SoundNumber
+pub mod SoundPlace
+pub mod SoundPrim
+pub mod SoundTerm
 pub mod Steps
 pub mod Turns
 pub mod Whole
