@@ -17,6 +17,8 @@ pub mod SoundNames
 pub mod SoundNumber
 pub mod SoundPlace
 pub mod SoundPrim
+pub mod SoundStatement
+pub mod SoundTask
 pub mod SoundTerm
 pub mod Steps
 pub mod Turns
