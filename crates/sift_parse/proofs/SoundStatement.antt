@@ -30,7 +30,7 @@ let-done r f l ts rest t d fresh p =
     let h : Force = name_force new_local n.text g in
     let v = valued r h ts (Sign Semicolon ∷ rest) t d fresh.few (name-place r g new_local l (Sign Assign ∷ ts) n (ap role_after k.is)) in
     let room = unless (suc (length f.locals)) 32 (λ lt. n.goes.fits.locals (k.is, omega arith)) in
-    let none = fresh.few in
+    let start = fresh.few in
     record {
       force = end_force (Some n.text) v.force;
       place = end-place r v.force (Some n.text) rest v.pending v.place;
@@ -50,7 +50,7 @@ assign-done r f l ts rest t d fresh p =
     let few : length (without_minuses f.levels) ≤ 32 = (let e : length (without_minuses f.levels) ≡ length f.levels = ap length fresh.bare in let s = fresh.few in omega arith) in
     let v = valued r g ts (Sign Semicolon ∷ rest) t d few (name-place r f old_local l (Sign Assign ∷ ts) n fresh.role) in
     let below = local_of-below f.locals n.text l (name-number r f old_local l (Sign Assign ∷ ts) n fresh.role) in
-    let none = fresh.few in
+    let start = fresh.few in
     value-done r f g rest t (assign l t) v (ap without_minuses fresh.bare ∙ fresh.bare) fresh.pending refl refl (sound-term r g (Sign Semicolon ∷ rest) t 0 v, below) v.nows (omega arith)
 
 output-done : (r : Roll) (f : Force) (j : ℕ) (ts rest : List Token) (t : Term) → IsExpr ts t (Sign Semicolon ∷ rest) → Fresh f → Place r f (Keyword Out ∷ Index j ∷ Sign Assign ∷ ts) → IsDone r f rest (output j t)
@@ -65,7 +65,7 @@ output-done r f j ts rest t d fresh p =
     let same : n.of.task ≡ r.this = cc in
     let is : n.written ≡ j = n.of.is in
     let below : n.written < slice_index r.sizes r.this = subst (λ task. n.written < slice_index r.sizes task) same n.of.within in
-    let none = fresh.few in
+    let start = fresh.few in
     value-done r f h rest t (output j t) v (ap without_minuses fresh.bare ∙ fresh.bare) fresh.pending refl refl (sound-term r h (Sign Semicolon ∷ rest) t 0 v, subst (λ m. m < slice_index r.sizes r.this) is below) v.nows (omega arith)
 
 -- ---- statements with blocks

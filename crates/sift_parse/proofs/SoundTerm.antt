@@ -59,8 +59,8 @@ joined-starts op f = record { before = refl; role = refl }
 after-comma : (r : Roll) (f : Force) (us rest : List Token) (t u : Term) → (i : IsPast r (paren_force f) us t (7 * (length f.levels + 1))) → IsPast r (comma_force i.force) rest u (7 * length (without_minuses i.force.levels) + 0) → IsPast r (paren_force f) rest u (7 * (length f.levels + 1))
 after-comma r f us rest t u i j = carried r (paren_force f) (comma_force i.force) rest u (7 * length (without_minuses i.force.levels) + 0) (7 * (length f.levels + 1)) j (ap without_minuses i.levels) i.locals i.pending (let same : length (without_minuses i.force.levels) ≡ suc (length f.levels) = ap (λ ls. length (without_minuses ls)) i.levels in omega arith)
 
-middle-past : (r : Roll) (f : Force) (us vs rest : List Token) (t u v : Term) → (7 * (length f.levels + 1) ≤ 230) → IsPast r (paren_force f) us t (7 * (length f.levels + 1)) → IsPast r (paren_force f) vs u (7 * (length f.levels + 1)) → IsPast r f rest v (7 * (length f.levels + 1)) → IsPast r f rest (middle t u v) (7 * length f.levels + 5)
-middle-past r f us vs rest t u v few i j k = record { force = k.force; place = k.place; levels = k.levels; locals = k.locals; pending = k.pending; ended = k.ended; names = (i.names, j.names, k.names); nows = (i.nows, j.nows, k.nows); needs = (let a = i.needs in let b = j.needs in let c = k.needs in omega arith) }
+middle-past : (r : Roll) (f : Force) (us vs rest : List Token) (t u v : Term) → IsPast r (paren_force f) us t (7 * (length f.levels + 1)) → IsPast r (paren_force f) vs u (7 * (length f.levels + 1)) → IsPast r f rest v (7 * (length f.levels + 1)) → IsPast r f rest (middle t u v) (7 * length f.levels + 5)
+middle-past r f us vs rest t u v i j k = record { force = k.force; place = k.place; levels = k.levels; locals = k.locals; pending = k.pending; ended = k.ended; names = (i.names, j.names, k.names); nows = (i.nows, j.nows, k.nows); needs = (let a = i.needs in let b = j.needs in let c = k.needs in omega arith) }
 
 few-after : (r : Roll) (f : Force) (us : List Token) (t : Term) (bound : ℕ) → (i : IsPast r f us t bound) → length f.levels ≤ 32 → length i.force.levels ≤ 32
 few-after r f us t bound i few = let h : length i.force.levels ≡ length (without_minuses f.levels) = ap length i.levels in omega (arith, bare-short f.levels)
@@ -101,7 +101,7 @@ mutual
       let n = sign-at r j.force Comma ws j.place in
       let k0 = level-past r (comma_force j.force) 0 ws (Sign CloseParen ∷ rs) z c (few-after r (paren_force g) (Sign Comma ∷ ws) y (7 * (length g.levels + 1)) j (omega arith)) (comma-starts j.force) n.place in
       let l = closed-past r g rs z (7 * (length g.levels + 1)) (after-comma r g (Sign Comma ∷ ws) (Sign CloseParen ∷ rs) y z j k0) in
-      carried r f g rs (middle x y z) (7 * length g.levels + 5) (7 * length f.levels + 5) (middle-past r g (Sign Comma ∷ vs) (Sign Comma ∷ ws) rs x y z (omega arith) i j l) refl refl refl (omega arith)
+      carried r f g rs (middle x y z) (7 * length g.levels + 5) (7 * length f.levels + 5) (middle-past r g (Sign Comma ∷ vs) (Sign Comma ∷ ws) rs x y z i j l) refl refl refl (omega arith)
 
   pub level-past : (r : Roll) (f : Force) (n : ℕ) (ts rest : List Token) (t : Term) → IsLevel n ts t rest → length f.levels ≤ 32 → Starts f → Place r f ts → IsPast r f rest t (7 * length (without_minuses f.levels) + n)
   level-past r f n ts rest t (a_prim us vs x d) few s p = carried r f f vs x (7 * length f.levels + 5) (7 * length (without_minuses f.levels) + 5) (prim-past r f us vs x d few s p) refl refl refl (omega (arith, bare-short f.levels))
