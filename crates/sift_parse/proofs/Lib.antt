@@ -1,3 +1,4 @@
+pub mod Answering
 pub mod BlockLaws
 pub mod Chains
 pub mod Complete
@@ -5,6 +6,7 @@ pub mod ExprLaws
 pub mod Gaps
 pub mod Laws
 pub mod Lexing
+pub mod Living
 pub mod Newest
 pub mod Numbers
 pub mod Offending
@@ -20,6 +22,8 @@ pub mod SoundPrim
 pub mod SoundStatement
 pub mod SoundTask
 pub mod SoundTerm
+pub mod Standing
 pub mod Steps
+pub mod Taking
 pub mod Turns
 pub mod Whole
