@@ -7,4 +7,5 @@ pub mod Parsed
 pub mod Parsing
 pub mod Reading
 pub mod Refusal
+pub mod Scanned
 pub mod Written

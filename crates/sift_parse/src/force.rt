@@ -1,18 +1,18 @@
-ghost use Rattle.std.specs.Prelude.{◌≡◌, ◌↔◌, ◌<◌, ◌≤◌, ◌^◌, IsTrue, IfOk, sum, map, reverse, slice_index};
+ghost use Rattle.std.specs.Prelude.{◌≡◌, ◌<◌, ◌^◌, IfOk, sum, slice_index};
 ghost use Rattle.std.specs.Option.{ForSome};
 ghost use Rattle.sift_parse.specs.declared.token.Sign.TheVariants.{CloseParen};
 ghost use Rattle.sift_parse.specs.Force as spec;
-ghost use Rattle.sift_parse.specs.Force.{at_start, is_minus, without_minuses, end_let, leave_block, role_after, moved, number_in, roll_of};
+ghost use Rattle.sift_parse.specs.Force.{at_start, is_minus, without_minuses, end_let, leave_block, role_after, moved, roll_of};
 ghost use Rattle.sift_parse.specs.Lexeme as spec_lexeme;
-ghost use Rattle.sift_parse.specs.Refusal.{IsLongName, IsLargeNumber, IsManyRounds, IsManyLocals, IsDeepLevel, IsUnknownName, IsLaterTask, IsNotBefore, LacksWord};
 ghost use Rattle.sift_parse.specs.Held.{force_of, NamesFew};
 ghost use Rattle.sift_parse.specs.Written.{lexeme_of};
 
 use crate::lexeme::Lexeme;
+use crate::look_up::{keyword_of, local_of, sensor_number, size_of, task_number, words_before};
 use crate::names::Names;
-use crate::token::{Keyword, LEVEL_LIMIT, Sign, Token};
-use sift_base::{NAME_LIMIT, NoMemory};
-use sift_lang::{LOCAL_LIMIT, Op, ROUND_LIMIT};
+use crate::token::{Keyword, Sign, Token};
+use sift_base::NoMemory;
+use sift_lang::Op;
 use std::alloc::Global;
 
 /// A level that is open.
@@ -40,126 +40,6 @@ pub(crate) struct Force<'a> {
     pub named: &'a [u8],
 }
 
-/// The keyword that a word is.
-pub(crate) fn keyword_of(word: &[u8]) -> Option<Keyword>
-    ensures { result ≡ spec.keyword_of word.now }
-{
-    match word {
-        b"let" => Some(Keyword::Let),
-        b"out" => Some(Keyword::Out),
-        b"if" => Some(Keyword::If),
-        b"else" => Some(Keyword::Else),
-        b"repeat" => Some(Keyword::Repeat),
-        b"mid" => Some(Keyword::Mid),
-        b"sense" => Some(Keyword::Sense),
-        b"now" => Some(Keyword::Now),
-        b"last" => Some(Keyword::Last),
-        _ => None,
-    }
-}
-
-// The number of the local that is seen by this name: as many locals live at its `let`.
-fn local_of(locals: &[&[u8]], name: &[u8]) -> Option<usize>
-    ensures { result ≡ spec.local_of (reverse (map (λ w. w.now) locals.now)) name.now }
-{
-    let mut seen = None;
-    for (i, local) in locals.iter().enumerate() {
-        if *local == name {
-            seen = Some(i);
-        }
-    }
-    seen
-}
-
-// The number of the sensor of this name.
-fn sensor_number(names: &Names, name: &[u8]) -> Option<usize>
-    ensures { result ≡ number_in (roll_of names.now).sensors name.now }
-{
-    for (i, sensor) in names.sensors.iter().enumerate() {
-        if sensor.as_bytes() == name {
-            return Some(i);
-        }
-    }
-    None
-}
-
-// The number of the task of this name.
-fn task_number(names: &Names, name: &[u8]) -> Option<usize>
-    ensures { result ≡ number_in (roll_of names.now).tasks name.now }
-{
-    for (i, task) in names.tasks.iter().enumerate() {
-        if task.0.as_bytes() == name {
-            return Some(i);
-        }
-    }
-    None
-}
-
-// Whether the name is of this task or of one after it.
-fn is_this_or_later(names: &Names, name: &[u8]) -> bool
-    ensures { IsTrue result ↔ IsNotBefore (roll_of names.now) (number_in (roll_of names.now).tasks name.now) }
-{
-    match task_number(names, name) {
-        Some(task) => names.this <= task,
-        None => false,
-    }
-}
-
-// How many words the task has.
-fn size_of(names: &Names, task: usize) -> u32
-    ensures { result ≡ slice_index (roll_of names.now).sizes task }
-{
-    match names.tasks.get(task) {
-        Some(named) => u32::from(named.1),
-        None => 0,
-    }
-}
-
-// How many words the tasks before this one have.
-fn words_before(names: &Names, task: usize) -> u32
-    requires few { sum (roll_of names.now).sizes < 2 ^ 8 }
-    ensures { result ≡ spec.words_before (roll_of names.now) task }
-{
-    let mut words = 0;
-    for (i, named) in names.tasks.iter().enumerate() {
-        if i == task {
-            return words;
-        }
-        words += u32::from(named.1);
-    }
-    words
-}
-
-// Whether a word of the task is asked for, and it has none of this number.
-fn lacks_word(names: &Names, asked: Option<usize>, n: u32) -> bool
-    ensures { IsTrue result ↔ LacksWord (roll_of names.now) asked n }
-{
-    match asked {
-        Some(task) => size_of(names, task) <= n,
-        None => false,
-    }
-}
-
-/// Whether it is a word of too many bytes.
-pub(crate) fn is_long_name(lexeme: Lexeme<'_>) -> bool
-    ensures { IsTrue result ↔ IsLongName (lexeme_of lexeme.entry) }
-{
-    match lexeme {
-        Lexeme::Word(word) => word.len() > NAME_LIMIT,
-        _ => false,
-    }
-}
-
-/// Whether it is a number that is too large.
-pub(crate) fn is_large_number(lexeme: Lexeme<'_>) -> bool
-    ensures { IsTrue result ↔ IsLargeNumber (lexeme_of lexeme.entry) }
-{
-    match lexeme {
-        Lexeme::Numeral(n) => n > u32::from(u16::MAX),
-        _ => false,
-    }
-}
-
 impl<'a> Force<'a> {
     /// Nothing is open, and no local lives.
     pub fn at_start(alloc: Global) -> Force<'a>
@@ -174,8 +54,8 @@ impl<'a> Force<'a> {
         }
     }
 
-    // The keyword before the place.
-    fn keyword_before(&self) -> Option<Keyword>
+    /// The keyword before the place.
+    pub fn keyword_before(&self) -> Option<Keyword>
         ensures { result ≡ spec.keyword_before (force_of self.now) }
     {
         match self.before {
@@ -195,8 +75,8 @@ impl<'a> Force<'a> {
         }
     }
 
-    // Whether the lexeme opens a level here.
-    fn opens(&self, lexeme: Lexeme<'_>) -> bool
+    /// Whether the lexeme opens a level here.
+    pub fn opens(&self, lexeme: Lexeme<'_>) -> bool
         ensures { result ≡ spec.opens (force_of self.now) (lexeme_of lexeme.entry) }
     {
         match lexeme {
@@ -305,39 +185,8 @@ impl<'a> Force<'a> {
         Ok(())
     }
 
-    /// Whether it is the number of a `repeat`, with too many rounds.
-    pub fn has_many_rounds(&self, lexeme: Lexeme<'_>) -> bool
-        ensures { IsTrue result ↔ IsManyRounds (force_of self.now) (lexeme_of lexeme.entry) }
-    {
-        match lexeme {
-            Lexeme::Numeral(n) => {
-                self.keyword_before() == Some(Keyword::Repeat) && n > u32::from(ROUND_LIMIT)
-            }
-            _ => false,
-        }
-    }
-
-    /// Whether it is the name of a `let`, where as many locals live as may.
-    pub fn has_many_locals(&self, lexeme: Lexeme<'_>) -> bool
-        ensures { IsTrue result ↔ IsManyLocals (force_of self.now) (lexeme_of lexeme.entry) }
-    {
-        match lexeme {
-            Lexeme::Word(_) => {
-                self.keyword_before() == Some(Keyword::Let) && self.locals.len() >= LOCAL_LIMIT
-            }
-            _ => false,
-        }
-    }
-
-    /// Whether it opens a level, where as many are open as may.
-    pub fn is_deep(&self, lexeme: Lexeme<'_>) -> bool
-        ensures { IsTrue result ↔ IsDeepLevel (force_of self.now) (lexeme_of lexeme.entry) }
-    {
-        self.opens(lexeme) && self.levels.len() >= LEVEL_LIMIT
-    }
-
-    // The number of what a name names here, where it is there.
-    fn number_named(&self, names: &Names, name: &[u8]) -> Option<usize>
+    /// The number of what a name names here, where it is there.
+    pub fn number_named(&self, names: &Names, name: &[u8]) -> Option<usize>
         ensures { result ≡ spec.number_named (roll_of names.now) (force_of self.now) name.now }
     {
         match self.keyword_before() {
@@ -348,39 +197,14 @@ impl<'a> Force<'a> {
         }
     }
 
-    // The task whose word a number asks for here, where it asks for one.
-    fn task_asked(&self, names: &Names) -> Option<usize>
+    /// The task whose word a number asks for here, where it asks for one.
+    pub fn task_asked(&self, names: &Names) -> Option<usize>
         ensures { result ≡ spec.task_asked (roll_of names.now) (force_of self.now) (force_of self.now).before }
     {
         match self.before {
             Some(Lexeme::Word(word)) if keyword_of(word) == Some(Keyword::Out) => Some(names.this),
             Some(Lexeme::Mark(Sign::Dot)) => Some(task_number(names, self.named).unwrap_or(0)),
             _ => None,
-        }
-    }
-
-    /// Whether it is a name of what isn't there or isn't seen, or the number of a word that the task doesn't have.
-    pub fn is_unknown(&self, names: &Names, lexeme: Lexeme<'_>) -> bool
-        ensures { IsTrue result ↔ IsUnknownName (roll_of names.now) (force_of self.now) (lexeme_of lexeme.entry) }
-    {
-        match lexeme {
-            Lexeme::Word(word) => {
-                keyword_of(word).is_none() && self.number_named(names, word).is_none()
-            }
-            Lexeme::Numeral(n) => lacks_word(names, self.task_asked(names), n),
-            _ => false,
-        }
-    }
-
-    /// Whether it is the name after `now`, of this task or of one after it.
-    pub fn is_later(&self, names: &Names, lexeme: Lexeme<'_>) -> bool
-        ensures { IsTrue result ↔ IsLaterTask (roll_of names.now) (force_of self.now) (lexeme_of lexeme.entry) }
-    {
-        match lexeme {
-            Lexeme::Word(word) if keyword_of(word).is_none() => {
-                self.keyword_before() == Some(Keyword::Now) && is_this_or_later(names, word)
-            }
-            _ => false,
         }
     }
 

@@ -1,8 +1,11 @@
 ghost use Rattle.std.specs.Prelude.{◌≡◌, ◌↔◌, ◌≤◌, IsTrue, IfOk, length, drop};
 ghost use Rattle.sift_parse.specs.Lexeme.{is_blank, after_gap};
+ghost use Rattle.sift_parse.specs.Outcome.{text_limit};
+ghost use Rattle.sift_parse.specs.Scanned.{end_stop};
 ghost use Rattle.sift_parse.specs.Written.{IsGap, IsLexed, placed_of};
 
 use crate::lexeme::{Lexeme, lexeme_at};
+use crate::stop::{ParseStop, place};
 use sift_base::NoMemory;
 use std::alloc::Global;
 
@@ -18,6 +21,22 @@ pub(crate) struct Placed<'a> {
 pub(crate) struct Lexed<'a> {
     pub placed: Vec<Placed<'a>>,
     pub end: usize,
+}
+
+impl Lexed<'_> {
+    /// What is answered to the bytes that begin no lexeme, where a text of this length has any.
+    pub fn stop(&self, len: usize) -> Option<ParseStop>
+        requires { self.now.end ≤ text_limit }
+        ensures { result ≡ end_stop self.now.end len }
+    {
+        if self.end < len {
+            Some(ParseStop::Lex {
+                at: place(self.end),
+            })
+        } else {
+            None
+        }
+    }
 }
 
 fn is_space(byte: u8) -> bool

@@ -1,3 +1,8 @@
+ghost use Rattle.std.specs.Prelude.{◌≡◌, ◌≤◌};
+ghost use Rattle.sift_parse.specs.Outcome.{text_limit};
+
+use sift_base::NoMemory;
+
 /// Why a text is no task. `at` is the byte place in the text.
 #[derive(Clone, Copy, Debug, PartialEq, Eq)]
 pub enum ParseStop {
@@ -30,4 +35,23 @@ pub enum Which {
     Locals,
     /// The blocks, parentheses and minuses that are open at once.
     Depth,
+}
+
+impl From<NoMemory> for ParseStop {
+    ghost use Rattle.std.specs.Prelude.{◌≡◌};
+    ghost use Rattle.sift_parse.specs.declared.stop.ParseStop.TheVariants as stop;
+
+    ghost from_gives = { λ _ e. e ≡ stop.NoMemory };
+
+    fn from(_: NoMemory) -> ParseStop {
+        ParseStop::NoMemory
+    }
+}
+
+/// A place of a text that isn't too long.
+pub(crate) fn place(at: usize) -> u32
+    requires { at ≤ text_limit }
+    ensures { result ≡ at }
+{
+    at as u32
 }

@@ -1,7 +1,7 @@
 use Rattle.std.proofs.Common.{rules, arith}
 use Rattle.std.proofs.lemmas.Grind.{common_steps}
 use Rattle.sift_parse.proofs.Newest.{position_from-dropped}
-use Rattle.sift_parse.proofs.force.sensor_number.Goals as goal
+use Rattle.sift_parse.proofs.look_up.task_number.Goals as goal
 
 pub loop-i-preserved : goal.loop-i-preserved
 loop-i-preserved c = first_of (search (rules, position_from-dropped), grind (arith, common_steps, position_from-dropped))

@@ -1,7 +1,7 @@
 use Rattle.std.proofs.Common.{◌≡◌, take, map}
 use Rattle.std.specs.Prelude.{reverse}
 use Rattle.sift_parse.specs.Force.{local_of}
-use Rattle.sift_parse.proofs.force.local_of.Given as goal
+use Rattle.sift_parse.proofs.look_up.local_of.Given as goal
 
 -- the local that is seen among those so far
 abbrev pub invariant-loop-i : goal.invariant-loop-i

@@ -2,7 +2,7 @@ use Rattle.std.proofs.Common.{◌≡◌, drop, map}
 use Rattle.std.specs.List.{position_from}
 use Rattle.std.specs.Str.{bytes_eq}
 use Rattle.sift_parse.specs.Force.{number_in}
-use Rattle.sift_parse.proofs.force.task_number.Given as goal
+use Rattle.sift_parse.proofs.look_up.task_number.Given as goal
 
 -- the name is none of those so far
 abbrev pub invariant-loop-i : goal.invariant-loop-i
