@@ -1,13 +1,9 @@
 -- Arrays and tables of a document, beside the lists that hold them.
-use Rattle.std.proofs.Common.{◌≡◌, ◌≢◌, ◌<◌, ℕ, List, [], ◌∷◌, length, get_or, map, Bool, true, false, Bor, String, Global, string_bytes, Some, None, refl, ap, subst, sym, ◌∙◌, arith}
-use Rattle.std.proofs.lemmas.Bool.Decides.{Decides-eqb, not_from_Decides}
+use Rattle.std.proofs.Common.{◌≡◌, ◌≢◌, ◌<◌, ℕ, List, [], ◌∷◌, length, get_or, map, String, Global, string_bytes, Some, refl, ap, subst, sym, ◌∙◌, arith}
 use Rattle.std.proofs.lemmas.List.{get_or-map, length-map}
 use Rattle.std.proofs.lemmas.Option.{get_or_from_slice_get, slice_get_within}
-use Rattle.std.proofs.lemmas.Slice.Eq.{slice_eq-Decides}
 use Rattle.std.proofs.lemmas.List.Elements.{All-map}
 use Rattle.std.specs.List.{All, Contains, slice_get}
-use lib.Dec.{eqb}
-use lib.Pointwise.{pointwise}
 use Rattle.toml.specs.Data.{Data, string, integer, float, boolean, datetime, array, table, Items, as_array}
 use Rattle.toml.specs.View.{items_view, members_view, view}
 use Rattle.toml.specs.declared.value.Value.{Value}

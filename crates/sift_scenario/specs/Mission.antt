@@ -42,13 +42,17 @@ AreLinearTrees rules trees =
 abbrev pub all_starts : List Members → List ℕ
 all_starts tasks = flat_map (λ task. unwrap_or (starts_of task) []) tasks
 
+-- the program of the tasks in these tables
+pub record IsProgramOf (tasks : List Members) (program : ProgramTree) : Type 0 where
+  pub starts : program.starts ≡ all_starts tasks
+  pub trees : AreTreesOf tasks program.tasks
+
 -- the document keeps all rules, and states this mission
 pub record IsMission (document : Members) (mission : Stated) : Type 0 where
   pub lawful : IsLawful document
   pub units : units_of document ≡ Some mission.units
   pub frames : frames_of document ≡ Some mission.frames
-  pub starts : mission.program.starts ≡ all_starts (tasks_of document)
-  pub tasks : AreTreesOf (tasks_of document) mission.program.tasks
+  pub program : IsProgramOf (tasks_of document) mission.program
 
 -- the mission is one that can be flown
 pub record CanFly (mission : Stated) : Type 0 where

@@ -1,6 +1,6 @@
 -- The rules of a document, one predicate a rule: the document breaks the rule at a place. The place is the number of an entry, or 0 for a rule that speaks of none.
 use Rattle.std.specs.Prelude.{codes, ℕ, ◌≡◌, ◌+◌, ◌<◌, ◌≤◌, ◌⊎◌, List, [], ◌∷◌, length, map, take, sum, Option, None}
-use Rattle.toml.specs.Data.{Data, Members}
+use Rattle.toml.specs.Data.{Members}
 use Rattle.sift_program.specs.declared.program.TheConstants.{TASK_LIMIT, WORD_LIMIT}
 use Rattle.sift_scenario.specs.Document.{HasOnlyKeys, IsTableOf, integer_between, read_at}
 use Rattle.sift_scenario.specs.Entries.{HoldsOf}
@@ -99,6 +99,10 @@ Breaks starts_stated document place = BreaksStarts (tasks_of document) place
 Breaks few_words document place = BreaksWords (counts_of (tasks_of document)) place
 Breaks forms_stated document place = BreaksForms (tasks_of document) place
 
+-- no rule of a lower number is broken
+abbrev pub KeepsBelow : ℕ → Members → Type 0
+KeepsBelow number document = (rule : Rule) (place : ℕ) → number_of rule < number → ¬ Breaks rule document place
+
 -- no rule is broken
 abbrev pub IsLawful : Members → Type 0
 IsLawful document = (rule : Rule) (place : ℕ) → ¬ Breaks rule document place
@@ -108,5 +112,5 @@ pub record IsFirstBroken (document : Members) (number place : ℕ) : Type 0 wher
   pub rule : Rule
   pub number_is : number ≡ number_of rule
   pub broken : Breaks rule document place
-  pub first_rule : (other : Rule) (at : ℕ) → number_of other < number → ¬ Breaks other document at
+  pub first_rule : KeepsBelow number document
   pub first_place : (at : ℕ) → at < place → ¬ Breaks rule document at

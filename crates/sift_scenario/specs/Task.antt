@@ -1,5 +1,5 @@
 -- What the tables of `task` say, each by itself.
-use Rattle.std.specs.Prelude.{codes, ℕ, ◌≡◌, List, [], ◌∷◌, length, map, Option, Some, None, unwrap_or}
+use Rattle.std.specs.Prelude.{codes, ℕ, ◌≡◌, List, [], ◌∷◌, length, map, Option, Some, unwrap_or}
 use Rattle.std.specs.List.{Contains}
 use Rattle.toml.specs.Data.{Data, Members, get_member, as_str}
 use Rattle.sift_base.specs.Name.{IsName}

@@ -3,13 +3,18 @@ ghost use Rattle.std.specs.List.{flat_map};
 ghost use Rattle.toml.specs.View.{table_view};
 ghost use Rattle.sift_lang.specs.Tree.{tree_of};
 ghost use Rattle.sift_program.specs.declared.program.TheConstants.{TASK_LIMIT};
-ghost use Rattle.sift_scenario.specs.Mission.{AreLinearTrees, CanFly, IsMission, stated};
-ghost use Rattle.sift_scenario.specs.Refusal.{IsRefused};
+ghost use Rattle.sift_program.specs.Program.{program_of};
+ghost use Rattle.sift_program.specs.Sound.{IsSoundProgram};
+ghost use Rattle.sift_scenario.specs.Mission.{AreLinearTrees, CanFly, IsMission, IsProgramOf, stated};
+ghost use Rattle.sift_scenario.specs.Rules.{IsTaskNumber};
+ghost use Rattle.sift_scenario.specs.Refusal.{IsRefused, IsTaskRefused, KeepsTaskRules};
 ghost use Rattle.sift_scenario.specs.Task.{linear_tree};
 
 use crate::refused::Refused;
 use crate::root::{check_keys, frames_of, units_of};
-use crate::task::{Linear, Starts, check_words, linear_rules, task_names, task_starts, task_tables};
+use crate::task::{
+    Linear, Starts, check_words, linear_rules, task_names, task_starts, task_tables,
+};
 use sift_base::{NoMemory, Word};
 use sift_lang::{Expr, Op, Stmt, Task};
 use sift_program::Program;
@@ -39,18 +44,30 @@ pub fn mission_of(alloc: Global, document: &Table) -> Result<Mission, Refused>
     let units = units_of(document)?;
     let frames = frames_of(document)?;
     let tasks = task_tables(alloc, document)?;
-    task_names(alloc, &tasks)?;
-    let starts = task_starts(alloc, &tasks)?;
-    check_words(&starts)?;
-    let rules = linear_rules(alloc, &tasks, &starts)?;
-    let program = Program {
-        tasks: linear_tasks(alloc, &rules)?,
-        starts: all_starts(alloc, &starts)?,
-    };
+    let program = program_of(alloc, &tasks)?;
     Ok(Mission {
         units,
         frames,
         program,
+    })
+}
+
+/// The program of the tasks in these tables, by the rules from that of the names on.
+fn program_of(alloc: Global, tasks: &[&Table]) -> Result<Program, Refused>
+    requires { IsTaskNumber (length tasks.now) }
+    ensures stated { IfOk result (λ program.
+        IsProgramOf (map (λ task. table_view task.now) tasks.now) (program_of program)) }
+    ensures sound { IfOk result (λ program. IsSoundProgram 0 (program_of program)) }
+    ensures kept { IfOk result (λ _. KeepsTaskRules (map (λ task. table_view task.now) tasks.now)) }
+    ensures refused { IfErr result (IsTaskRefused (map (λ task. table_view task.now) tasks.now)) }
+{
+    task_names(alloc, tasks)?;
+    let starts = task_starts(alloc, tasks)?;
+    check_words(&starts)?;
+    let rules = linear_rules(alloc, tasks, &starts)?;
+    Ok(Program {
+        tasks: linear_tasks(alloc, &rules)?,
+        starts: all_starts(alloc, &starts)?,
     })
 }
 

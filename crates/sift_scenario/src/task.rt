@@ -27,10 +27,7 @@ pub(crate) struct Linear {
 pub(crate) type Starts = ArrayVec<Word, 8>;
 
 /// The tables of the tasks.
-pub(crate) fn task_tables<'a>(
-    alloc: Global,
-    document: &'a Table,
-) -> Result<Vec<&'a Table>, Refused>
+pub(crate) fn task_tables<'a>(alloc: Global, document: &'a Table) -> Result<Vec<&'a Table>, Refused>
     ensures tables { IfOk result (λ tables.
         map (λ task. table_view task.now) tables.items ≡ tasks_of (table_view document.now)) }
     ensures few { IfOk result (λ tables. IsTaskNumber (length tables.items)) }

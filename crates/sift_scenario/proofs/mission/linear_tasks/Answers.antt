@@ -11,9 +11,9 @@ pub loop-word-preserved : goal.loop-word-preserved
 loop-word-preserved c = (
   omega (arith, c.in_ok-push.ensures.len, c.loop-word.invariant.0),
   rw (c.in_ok-push.ensures.items, map-append)
-  (matches_more (λ place rule tree. tree ≡ linear_tree place rule.factor rule.addend) c.args.rules.now
-  (map tree_of c.loop-word.tasks.items) c.loop-word.word c.index-rules-word.result _ c.loop-word.invariant.1
-  (sym (length-map c.loop-word.tasks.items tree_of ∙ c.loop-word.invariant.0))
-  (slice_get_read c.args.rules.now _ c.loop-word.word c.index-rules-word.result refl c.loop-word-test.true c.index-rules-word.is)
-  c.in_ok-linear_task.ensures),
+      (matches_more (λ place rule tree. tree ≡ linear_tree place rule.factor rule.addend) c.args.rules.now
+      (map tree_of c.loop-word.tasks.items) c.loop-word.word c.index-rules-word.result _ c.loop-word.invariant.1
+      (sym (length-map c.loop-word.tasks.items tree_of ∙ c.loop-word.invariant.0))
+      (slice_get_read c.args.rules.now _ c.loop-word.word c.index-rules-word.result refl c.loop-word-test.true c.index-rules-word.is)
+      c.in_ok-linear_task.ensures),
 )

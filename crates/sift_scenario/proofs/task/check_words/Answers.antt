@@ -1,4 +1,4 @@
-use Rattle.std.proofs.Common.{◌≡◌, ◌<◌, ◌+◌, ◌≤◌, ℕ, length, map, below_more, refl, arith}
+use Rattle.std.proofs.Common.{length, below_more, arith}
 use Rattle.std.proofs.lemmas.List.{length-map}
 use Rattle.sift_scenario.proofs.Testing.{first_broken}
 use Rattle.sift_scenario.proofs.WordCounts.{words_before-more}
@@ -19,5 +19,5 @@ loop-place-preserved c =
       omega (arith, more, c.loop-place.invariant.0, c.len-words.ensures.value),
       omega (arith, c.if-words-gt-WORD_LIMIT.false),
       below_more _ _ c.loop-place.invariant.2
-      (λ broken. omega (arith, broken.1, more, c.loop-place.invariant.0, c.len-words.ensures.value, c.if-words-gt-WORD_LIMIT.false)),
+          (λ broken. omega (arith, broken.1, more, c.loop-place.invariant.0, c.len-words.ensures.value, c.if-words-gt-WORD_LIMIT.false)),
     )

@@ -17,9 +17,9 @@ linear_rule-requires c =
     let tables = map (λ task. table_view task.now) c.args.tasks.now in
     let low : c.loop-place.place < length tables = rw length-map c.loop-place-test.true in
     let as_many : length c.args.starts.now ≡ length tables =
-        sym (length-map c.args.starts.now (λ words. length words.items)) ∙ ap length c.requires.starts ∙ length-map tables word_count in
+    sym (length-map c.args.starts.now (λ words. length words.items)) ∙ ap length c.requires.starts ∙ length-map tables word_count in
     let here : table_view c.index-tasks-place.result.now ≡ get_or tables c.loop-place.place (table_view c.index-tasks-place.result.now) =
-        sym (get_or-map (λ task. table_view task.now) c.args.tasks.now c.loop-place.place c.index-tasks-place.result _ c.loop-place-test.true ∙ ap (λ task. table_view task.now) (sym c.index-tasks-place.is)) in
+    sym (get_or-map (λ task. table_view task.now) c.args.tasks.now c.loop-place.place c.index-tasks-place.result _ c.loop-place-test.true ∙ ap (λ task. table_view task.now) (sym c.index-tasks-place.is)) in
     c.len.ensures.value
     ∙ same_at (λ words. length words.items) word_count c.args.starts.now tables c.loop-place.place c.index-starts-place.result _
     c.requires.starts (rw as_many low) c.index-starts-place.is low here
@@ -38,12 +38,12 @@ pub loop-place-preserved : goal.loop-place-preserved
 loop-place-preserved c = (
   omega (arith, c.in_ok-push-in-Some.ensures.len, c.loop-place.invariant.0),
   rw c.in_ok-push-in-Some.ensures.items
-  (matches_more (λ place task rule. IsLinear task rule.factor rule.addend) (map (λ task. table_view task.now) c.args.tasks.now)
-  _ _ _ _ c.loop-place.invariant.1 (sym c.loop-place.invariant.0)
-  (taken (λ task. table_view task.now) c.args.tasks.now _ _ c.loop-place-test.true c.index-tasks-place.is) c.in-Some.ensures.found),
+      (matches_more (λ place task rule. IsLinear task rule.factor rule.addend) (map (λ task. table_view task.now) c.args.tasks.now)
+      _ _ _ _ c.loop-place.invariant.1 (sym c.loop-place.invariant.0)
+      (taken (λ task. table_view task.now) c.args.tasks.now _ _ c.loop-place-test.true c.index-tasks-place.is) c.in-Some.ensures.found),
   below_more _ _ c.loop-place.invariant.2
-  (fails_here (λ task. table_view task.now) c.args.tasks.now IsOther _ _
-  c.loop-place-test.true c.index-tasks-place.is (λ other. other _ _ c.in-Some.ensures.found)),
+      (fails_here (λ task. table_view task.now) c.args.tasks.now IsOther _ _
+      c.loop-place-test.true c.index-tasks-place.is (λ other. other _ _ c.in-Some.ensures.found)),
 )
 
 -- all tasks were read

@@ -1,4 +1,4 @@
-use Rattle.std.proofs.Common.{◌≡◌, Some, false, true, map, sym, ◌∙◌}
+use Rattle.std.proofs.Common.{◌≡◌, Some, false, true, sym}
 use Rattle.toml.specs.View.{table_view}
 use Rattle.sift_scenario.specs.Task.{name_of}
 use Rattle.sift_scenario.proofs.NewNames.{found_name, is_new, no_new}

@@ -1,4 +1,4 @@
-use Rattle.std.proofs.Common.{◌≡◌, ℕ, List, Some, below_more, map, take, sym, ◌∙◌, arith}
+use Rattle.std.proofs.Common.{ℕ, List, Some, below_more, map, take, sym, ◌∙◌, arith}
 use Rattle.toml.specs.Data.{Members}
 use Rattle.toml.specs.View.{table_view}
 use Rattle.sift_scenario.proofs.Places.{fails_here, holds_here, in_two_steps, nowhere, read_more}
@@ -25,11 +25,11 @@ pub loop-place-preserved : goal.loop-place-preserved
 loop-place-preserved c =
     let earlier = c.loop-place.invariant.0 ∙ in_two_steps name_of (λ task. table_view task.now) c.loop-place.place c.args.tasks.now in (
       read_more (λ name. Some name.bytes) (λ task. name_of (table_view task.now)) c.args.tasks.now _ _ _ _ _
-      c.loop-place-test.true c.index-tasks-place.is c.loop-place.invariant.0 c.in_ok-push-in-Some.ensures.items
-      (sym c.in-Some.ensures.found.stated),
+          c.loop-place-test.true c.index-tasks-place.is c.loop-place.invariant.0 c.in_ok-push-in-Some.ensures.items
+          (sym c.in-Some.ensures.found.stated),
       below_more _ _ c.loop-place.invariant.1
-      (fails_here (λ task. table_view task.now) c.args.tasks.now (NoNewName (map (λ task. table_view task.now) c.args.tasks.now)) _ _
-      c.loop-place-test.true c.index-tasks-place.is (λ none. none c.in-Some.name.bytes (rw (← earlier) (rw c.deref.ensures.value at c.in-Some.ensures.found)))),
+          (fails_here (λ task. table_view task.now) c.args.tasks.now (NoNewName (map (λ task. table_view task.now) c.args.tasks.now)) _ _
+          c.loop-place-test.true c.index-tasks-place.is (λ none. none c.in-Some.name.bytes (rw (← earlier) (rw c.deref.ensures.value at c.in-Some.ensures.found)))),
     )
 
 -- all tasks were read

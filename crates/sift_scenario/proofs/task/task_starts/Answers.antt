@@ -18,11 +18,11 @@ returns-in-None-clause-tests c =
 pub loop-place-preserved : goal.loop-place-preserved
 loop-place-preserved c = (
   read_more (λ words. Some words.items) (λ task. starts_of (table_view task.now)) c.args.tasks.now _ _ _ _ _
-  c.loop-place-test.true c.index-tasks-place.is c.loop-place.invariant.0 c.in_ok-push-in-Some.ensures.items c.in-Some.ensures,
+      c.loop-place-test.true c.index-tasks-place.is c.loop-place.invariant.0 c.in_ok-push-in-Some.ensures.items c.in-Some.ensures,
   below_more _ _ c.loop-place.invariant.1
-  (fails_here (λ task. table_view task.now) c.args.tasks.now (λ at task. starts_of task ≡ None) _ _
-  c.loop-place-test.true c.index-tasks-place.is
-  (λ none. let wrong : Some _ ≡ None = c.in-Some.ensures ∙ none in cc wrong)),
+      (fails_here (λ task. table_view task.now) c.args.tasks.now (λ at task. starts_of task ≡ None) _ _
+      c.loop-place-test.true c.index-tasks-place.is
+      (λ none. let wrong : Some _ ≡ None = c.in-Some.ensures ∙ none in cc wrong)),
 )
 
 -- all tasks were read

@@ -1,4 +1,4 @@
-use Rattle.std.proofs.Common.{◌≡◌, ◌<◌, ◌≤◌, below_more, inr, length, map, refl, sym, ap, ◌∙◌, arith}
+use Rattle.std.proofs.Common.{below_more, inr, map, ap, ◌∙◌, arith}
 use Rattle.std.proofs.lemmas.List.{length-map, take_all}
 use Rattle.toml.specs.View.{table_view, view}
 use Rattle.sift_scenario.proofs.Places.{fails_here, holds_here, map_map, nowhere, read_more}
@@ -24,10 +24,10 @@ pub loop-place-preserved : goal.loop-place-preserved
 loop-place-preserved c =
     let entries = c.entries_at-entries.result.now in (
       read_more (λ task. table_view task.now) (λ entry. members_of (view entry)) entries _ _ _ _ _
-      c.loop-place-test.true c.index-entries-place.is c.loop-place.invariant.0 c.in_ok-push-in-Some.ensures.items c.in-Some.ensures.found,
+          c.loop-place-test.true c.index-entries-place.is c.loop-place.invariant.0 c.in_ok-push-in-Some.ensures.items c.in-Some.ensures.found,
       below_more _ _ c.loop-place.invariant.1
-      (fails_here (λ entry. view entry) entries (λ at entry. ¬ IsTableOf task_keys entry) _ _
-      c.loop-place-test.true c.index-entries-place.is (λ other. other c.in-Some.ensures.known)),
+          (fails_here (λ entry. view entry) entries (λ at entry. ¬ IsTableOf task_keys entry) _ _
+          c.loop-place-test.true c.index-entries-place.is (λ other. other c.in-Some.ensures.known)),
     )
 
 -- all entries were read

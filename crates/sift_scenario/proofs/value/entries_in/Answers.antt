@@ -1,4 +1,4 @@
-use Rattle.std.proofs.Common.{map, sym}
+use Rattle.std.proofs.Common.{sym}
 use Rattle.sift_scenario.proofs.DocumentLemmas.{array_from, list_of-view}
 use Rattle.sift_scenario.proofs.value.entries_in.Goals as goal
 

@@ -1,4 +1,4 @@
-use Rattle.std.proofs.Common.{◌≡◌, refl, below_more, arith}
+use Rattle.std.proofs.Common.{refl, below_more, arith}
 use Rattle.std.proofs.lemmas.Bool.Decides.{Decides-eqb, not_from_Decides}
 use Rattle.std.proofs.lemmas.Slice.Eq.{slice_eq-Decides}
 use Rattle.sift_scenario.proofs.DocumentLemmas.{among-here, among-other, among-none}

@@ -1,4 +1,4 @@
-use Rattle.std.proofs.Common.{◌≡◌, inl, inr, length, map, sym, take, ap, refl, ◌∙◌, arith}
+use Rattle.std.proofs.Common.{inl, inr, map, sym, take, ap, ◌∙◌, arith}
 use Rattle.std.proofs.lemmas.List.{get_or-map, length-map, take_all}
 use Rattle.toml.specs.View.{view}
 use Rattle.sift_scenario.proofs.DocumentLemmas.{array_from}
@@ -30,7 +30,7 @@ pub loop-entry-preserved : goal.loop-entry-preserved
 loop-entry-preserved c =
     let entries = c.as_slice-entries.result.now in (
       rw (so_far view entries c.loop-entry.entry-index c.entry-item.result c.loop-entry-test.true c.entry-item.is, c.push.ensures.items)
-      (word_values-push (take c.loop-entry.entry-index (map view entries)) (view c.entry-item.result) _ _ c.loop-entry.invariant.0 (sym c.in_ok-word_value.ensures)),
+          (word_values-push (take c.loop-entry.entry-index (map view entries)) (view c.entry-item.result) _ _ c.loop-entry.invariant.0 (sym c.in_ok-word_value.ensures)),
       omega (arith, c.push.ensures.len, c.loop-entry.invariant.1),
     )
 
