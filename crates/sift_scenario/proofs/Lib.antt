@@ -1,0 +1,10 @@
+pub mod DocumentLemmas
+pub mod NewNames
+pub mod Numbers
+pub mod Order
+pub mod Places
+pub mod Programs
+pub mod Starts
+pub mod Testing
+pub mod WordCounts
+pub mod WordValues

@@ -1,0 +1,31 @@
+-- The start words of tasks, as they are read and as the tables state them.
+use Rattle.std.proofs.Common.{◌≡◌, ℕ, List, [], length, map, Some, sym, ap, ◌∙◌}
+use Rattle.std.proofs.lemmas.List.{length-map}
+use Rattle.std.proofs.lemmas.List.Folds.{flat_map-map}
+use Rattle.std.specs.List.{flat_map}
+use Rattle.std.specs.Prelude.{unwrap_or}
+use Rattle.toml.specs.Data.{Members}
+use Rattle.sift_scenario.proofs.Places.{map_map}
+use Rattle.sift_scenario.specs.Mission.{all_starts}
+use Rattle.sift_scenario.specs.Task.{counts_of, starts_of}
+
+module _ {A B : Type 0} (shown : A → Members) (words : B → List ℕ) (tasks : List A) (starts : List B) (read : map (λ ws. Some (words ws)) starts ≡ map (λ task. starts_of (shown task)) tasks) where
+  -- there are as many
+  pub as_many : length starts ≡ length tasks
+  as_many = sym (length-map starts (λ ws. Some (words ws))) ∙ ap length read ∙ length-map tasks (λ task. starts_of (shown task))
+
+  -- each task has as many words as start words
+  pub counts_from : map (λ ws. length (words ws)) starts ≡ counts_of (map shown tasks)
+  counts_from =
+      map_map (λ o. length (unwrap_or o [])) (λ ws. Some (words ws)) starts
+      ∙ ap (map (λ o. length (unwrap_or o []))) read
+      ∙ sym (map_map (λ o. length (unwrap_or o [])) (λ task. starts_of (shown task)) tasks)
+      ∙ map_map (λ task. length (unwrap_or (starts_of task) [])) shown tasks
+
+  -- all of them together are the start words of the tasks
+  pub all_starts_from : flat_map words starts ≡ all_starts (map shown tasks)
+  all_starts_from =
+      sym (flat_map-map (λ o. unwrap_or o []) (λ ws. Some (words ws)) starts)
+      ∙ ap (flat_map (λ o. unwrap_or o [])) read
+      ∙ flat_map-map (λ o. unwrap_or o []) (λ task. starts_of (shown task)) tasks
+      ∙ sym (flat_map-map (λ task. unwrap_or (starts_of task) []) shown tasks)

@@ -1,0 +1,27 @@
+-- What the test of a rule answers.
+use Rattle.std.proofs.Common.{◌≡◌, ◌<◌, ◌==◌, ℕ, List, [], ◌∷◌, length, map, false, inl, inr, refl, arith}
+use Rattle.toml.specs.Data.{Data, Members}
+use Rattle.toml.specs.View.{view}
+use Rattle.toml.specs.declared.value.Value.{Value}
+use Rattle.sift_scenario.specs.Document.{IsTableOf}
+use Rattle.sift_scenario.specs.Entries.{HoldsOf}
+use Rattle.sift_scenario.specs.Refusal.{IsFirst}
+use Rattle.sift_scenario.specs.Rules.{BreaksTasks, IsTaskNumber}
+use Rattle.sift_scenario.specs.Task.{task_entries, task_keys}
+
+-- the rule is broken at a place, and at none before it
+pub first_broken : (number place : ℕ) (Breaks : ℕ → Type 0) → Breaks place → ((at : ℕ) → at < place → ¬ Breaks at) → (number ≡ number) × IsFirst Breaks place
+first_broken number place Breaks broken first = (refl, record { broken = broken; first = first })
+
+-- as many entries as may be, of which the one at a place is a table with known keys
+pub keeps_tasks :
+    (document : Members) (entries : List Data) (at : ℕ)
+    → entries ≡ task_entries document → IsTaskNumber (length entries) → ¬ HoldsOf entries at (λ entry. ¬ IsTableOf task_keys entry)
+    → ¬ BreaksTasks document at
+keeps_tasks document entries at same number known (inl other) = other.1 (rw (← same) number)
+keeps_tasks document entries at same number known (inr entry) = known (rw same entry)
+
+-- a list that isn't empty has an entry
+pub some_entry : (entries : List Value) → false ≡ (length entries == 0) → 0 < length (map (λ entry. view entry) entries)
+some_entry [] is = cc
+some_entry (e ∷ es) is = omega arith

@@ -1,0 +1,13 @@
+-- How many words tasks have, one task after another.
+use Rattle.std.proofs.Common.{◌≡◌, ◌<◌, ◌+◌, ℕ, List, length, get_or, map, sym, ◌∙◌, ap}
+use Rattle.std.proofs.lemmas.List.{get_or-map, length-map}
+use Rattle.std.proofs.lemmas.List.Sums.{sum_by_more}
+use Rattle.sift_scenario.specs.Rules.{words_before}
+
+-- one task more, of which a loop knows the number of words
+pub words_before-more :
+    {A : Type 0} (f : A → ℕ) (xs : List A) (i : ℕ) (x : A) → i < length xs → x ≡ get_or xs i x
+    → words_before (map f xs) (i + 1) ≡ words_before (map f xs) i + f x
+words_before-more f xs i x low is =
+    let here : get_or (map f xs) i (f x) ≡ f x = get_or-map f xs i x (f x) low ∙ ap f (sym is) in
+    rw (← here) (sum_by_more (λ n. n) (map f xs) i (f x) (rw length-map low))

@@ -1,0 +1,6 @@
+pub mod Document
+pub mod Entries
+pub mod Mission
+pub mod Refusal
+pub mod Rules
+pub mod Task

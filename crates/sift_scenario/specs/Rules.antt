@@ -1,0 +1,116 @@
+-- The rules of a document, one predicate a rule: the document breaks the rule at a place. The place is the number of an entry, or 0 for a rule that speaks of none.
+use Rattle.std.specs.Prelude.{codes, ℕ, ◌≡◌, ◌+◌, ◌<◌, ◌≤◌, ◌⊎◌, List, [], ◌∷◌, length, map, take, sum, Option, None}
+use Rattle.toml.specs.Data.{Members}
+use Rattle.sift_program.specs.declared.program.TheConstants.{TASK_LIMIT, WORD_LIMIT}
+use Rattle.sift_scenario.specs.Document.{HasOnlyKeys, IsTableOf, integer_between, read_at}
+use Rattle.sift_scenario.specs.Entries.{HoldsOf}
+use Rattle.sift_scenario.specs.Task.{IsLinear, IsNewName, name_of, starts_of, task_entries, task_keys, tasks_of, counts_of}
+
+-- ---- the root
+
+-- the keys that the root may have
+abbrev pub root_keys : List (List ℕ)
+root_keys = codes "units" ∷ codes "frames" ∷ codes "task" ∷ []
+
+-- the number of units
+abbrev pub units_of : Members → Option ℕ
+units_of document = read_at (integer_between 4 8) (codes "units") document
+
+-- the number of frames
+abbrev pub frames_of : Members → Option ℕ
+frames_of document = read_at (integer_between 1 1000) (codes "frames") document
+
+-- a key of the root is unknown
+abbrev pub BreaksRootKeys : Members → ℕ → Type 0
+BreaksRootKeys document place = (place ≡ 0) × ¬ HasOnlyKeys root_keys document
+
+-- `units` isn't there, or is no integer from 4 to 8
+abbrev pub BreaksUnits : Members → ℕ → Type 0
+BreaksUnits document place = (place ≡ 0) × (units_of document ≡ None)
+
+-- `frames` isn't there, or is no integer from 1 to 1,000
+abbrev pub BreaksFrames : Members → ℕ → Type 0
+BreaksFrames document place = (place ≡ 0) × (frames_of document ≡ None)
+
+-- ---- the tasks
+
+-- there are 1 to 24 entries
+abbrev pub IsTaskNumber : ℕ → Type 0
+IsTaskNumber number = (0 < number) × (number ≤ TASK_LIMIT)
+
+-- `task` isn't there, is no array of 1 to 24 entries, or has an entry that is no table or has an unknown key
+abbrev pub BreaksTasks : Members → ℕ → Type 0
+BreaksTasks document place = ((place ≡ 0) × ¬ IsTaskNumber (length (task_entries document)))
+    ⊎ HoldsOf (task_entries document) place (λ entry. ¬ IsTableOf task_keys entry)
+
+-- a task's name isn't there, is no name, or is an earlier task's
+abbrev pub BreaksNames : List Members → ℕ → Type 0
+BreaksNames tasks place =
+    HoldsOf tasks place (λ task. (name : List ℕ) → ¬ IsNewName (map name_of (take place tasks)) task name)
+
+-- a task's start words aren't there, or are no array of 1 to 8 word values
+abbrev pub BreaksStarts : List Members → ℕ → Type 0
+BreaksStarts tasks place = HoldsOf tasks place (λ task. starts_of task ≡ None)
+
+-- how many output words the tasks before a place have, where each task has so many
+abbrev pub words_before : List ℕ → ℕ → ℕ
+words_before counts place = sum (take place counts)
+
+-- with this task there are more than 64 output words
+abbrev pub BreaksWords : List ℕ → ℕ → Type 0
+BreaksWords counts place = (place < length counts) × (WORD_LIMIT < words_before counts (place + 1))
+
+-- a task isn't linear: its `linear` isn't there or is no array of two word values, or it hasn't one output word
+abbrev pub BreaksForms : List Members → ℕ → Type 0
+BreaksForms tasks place = HoldsOf tasks place (λ task. (factor addend : ℕ) → ¬ IsLinear task factor addend)
+
+-- ---- all of them
+
+-- a rule of a document
+pub data Rule : Type 0 where
+  root_keys_known : Rule
+  units_stated : Rule
+  frames_stated : Rule
+  tasks_stated : Rule
+  names_stated : Rule
+  starts_stated : Rule
+  few_words : Rule
+  forms_stated : Rule
+
+-- the number of a rule, by which the rules are ordered
+abbrev pub number_of : Rule → ℕ
+number_of root_keys_known = 1
+number_of units_stated = 2
+number_of frames_stated = 3
+number_of tasks_stated = 18
+number_of names_stated = 19
+number_of starts_stated = 20
+number_of few_words = 21
+number_of forms_stated = 22
+
+-- the document breaks the rule at a place
+abbrev pub Breaks : Rule → Members → ℕ → Type 0
+Breaks root_keys_known document place = BreaksRootKeys document place
+Breaks units_stated document place = BreaksUnits document place
+Breaks frames_stated document place = BreaksFrames document place
+Breaks tasks_stated document place = BreaksTasks document place
+Breaks names_stated document place = BreaksNames (tasks_of document) place
+Breaks starts_stated document place = BreaksStarts (tasks_of document) place
+Breaks few_words document place = BreaksWords (counts_of (tasks_of document)) place
+Breaks forms_stated document place = BreaksForms (tasks_of document) place
+
+-- no rule of a lower number is broken
+abbrev pub KeepsBelow : ℕ → Members → Type 0
+KeepsBelow number document = (rule : Rule) (place : ℕ) → number_of rule < number → ¬ Breaks rule document place
+
+-- no rule is broken
+abbrev pub IsLawful : Members → Type 0
+IsLawful document = (rule : Rule) (place : ℕ) → ¬ Breaks rule document place
+
+-- this is the number of the first broken rule, and the first place at which it is broken
+pub record IsFirstBroken (document : Members) (number place : ℕ) : Type 0 where
+  pub rule : Rule
+  pub number_is : number ≡ number_of rule
+  pub broken : Breaks rule document place
+  pub first_rule : KeepsBelow number document
+  pub first_place : (at : ℕ) → at < place → ¬ Breaks rule document at

@@ -1,0 +1,13 @@
+//! Scenario documents: the rules that they keep, and the mission that one states.
+//!
+//! A document that breaks a rule is refused with the first broken rule, at its first place.
+#![tactic(auto)]
+
+mod mission;
+mod refused;
+mod root;
+mod task;
+mod value;
+
+pub use mission::{Mission, mission_of};
+pub use refused::Refused;

@@ -1,0 +1,171 @@
+//! The rules of the tasks, each over all of them, and what the tasks' tables say.
+
+ghost use Rattle.std.specs.Prelude.{◌≡◌, ◌↔◌, ◌≤◌, ℕ, List, Contains, IfOk, IfSome, IfNone, IsTrue, Some, length, map, option_map};
+ghost use Rattle.toml.specs.View.{table_view};
+ghost use Rattle.sift_program.specs.declared.program.TheConstants.{TASK_LIMIT};
+ghost use Rattle.sift_scenario.specs.Rules.{BreaksForms, BreaksNames, BreaksStarts, BreaksTasks, BreaksWords, IsTaskNumber};
+ghost use Rattle.sift_scenario.specs.Refusal.{Tests};
+ghost use Rattle.sift_scenario.specs.Task.{AreLinear, IsLinear, IsNewName, counts_of, name_of, starts_of, tasks_of, word_count};
+
+use crate::refused::{Refused, broken};
+use crate::value::{entries_at, member_of, table_of, word_array};
+use arrayvec::ArrayVec;
+use sift_base::{Name, Word, is_name};
+use sift_program::{TASK_LIMIT, WORD_LIMIT};
+use std::alloc::Global;
+use toml::Table;
+
+/// A linear task: in each frame its word is `factor * last + addend`, where `last` is its word of
+/// the frame before.
+#[derive(Clone, Copy, Debug, PartialEq, Eq)]
+pub(crate) struct Linear {
+    pub factor: Word,
+    pub addend: Word,
+}
+
+/// The start words of a task, one for each of its output words.
+pub(crate) type Starts = ArrayVec<Word, 8>;
+
+/// The tables of the tasks.
+pub(crate) fn task_tables<'a>(alloc: Global, document: &'a Table) -> Result<Vec<&'a Table>, Refused>
+    ensures tables { IfOk result (λ tables.
+        map (λ task. table_view task.now) tables.items ≡ tasks_of (table_view document.now)) }
+    ensures few { IfOk result (λ tables. IsTaskNumber (length tables.items)) }
+    ensures tests { Tests 18 (BreaksTasks (table_view document.now)) result }
+{
+    let entries = entries_at(document, "task");
+    if entries.is_empty() || entries.len() > TASK_LIMIT {
+        return Err(broken(18, 0));
+    }
+    let mut tables = Vec::new(alloc);
+    for (place, entry) in entries.iter().enumerate() {
+        match table_of(entry, &["name", "start", "linear"]) {
+            Some(table) => tables.push(table)?,
+            None => return Err(broken(18, place)),
+        }
+    }
+    Ok(tables)
+}
+
+/// The names of the tasks.
+pub(crate) fn task_names(alloc: Global, tasks: &[&Table]) -> Result<Vec<Name>, Refused>
+    requires { length tasks.now ≤ TASK_LIMIT }
+    ensures names { IfOk result (λ names.
+        map (λ name. Some name.bytes) names.items ≡ map (λ task. name_of (table_view task.now)) tasks.now) }
+    ensures tests { Tests 19 (BreaksNames (map (λ task. table_view task.now) tasks.now)) result }
+{
+    let mut names = Vec::new(alloc);
+    for (place, task) in tasks.iter().enumerate() {
+        match new_name(task, &names) {
+            Some(name) => names.push(name)?,
+            None => return Err(broken(19, place)),
+        }
+    }
+    Ok(names)
+}
+
+/// The name of a task that comes after tasks of these names, where it may have it.
+fn new_name(task: &Table, earlier: &[Name]) -> Option<Name>
+    ensures found { IfSome result (λ name.
+        IsNewName (map (λ other. Some other.bytes) earlier.now) (table_view task.now) name.bytes) }
+    ensures none { IfNone result ((name : List ℕ) →
+        ¬ IsNewName (map (λ other. Some other.bytes) earlier.now) (table_view task.now) name) }
+{
+    let text = member_of(task, "name")?.as_str()?;
+    if is_name(text) && !is_among(text, earlier) {
+        Name::from(text).ok()
+    } else {
+        None
+    }
+}
+
+/// Whether one of the names is this text.
+fn is_among(text: &str, names: &[Name]) -> bool
+    ensures { IsTrue result ↔ Contains (map (λ name. name.bytes) names.now) text.now }
+{
+    for name in names {
+        if name.as_str() == text {
+            return true;
+        }
+    }
+    false
+}
+
+/// The start words of each task.
+pub(crate) fn task_starts(alloc: Global, tasks: &[&Table]) -> Result<Vec<Starts>, Refused>
+    requires { length tasks.now ≤ TASK_LIMIT }
+    ensures starts { IfOk result (λ starts.
+        map (λ words. Some words.items) starts.items ≡ map (λ task. starts_of (table_view task.now)) tasks.now) }
+    ensures tests { Tests 20 (BreaksStarts (map (λ task. table_view task.now) tasks.now)) result }
+{
+    let mut starts = Vec::new(alloc);
+    for (place, task) in tasks.iter().enumerate() {
+        match starts_of(task) {
+            Some(words) => starts.push(words)?,
+            None => return Err(broken(20, place)),
+        }
+    }
+    Ok(starts)
+}
+
+/// The start words of a task.
+fn starts_of(task: &Table) -> Option<Starts>
+    ensures { option_map (λ words. words.items) result ≡ starts_of (table_view task.now) }
+{
+    word_array(member_of(task, "start")?, 1, 8)
+}
+
+/// Tests how many output words there are, where these are the start words of the tasks.
+pub(crate) fn check_words(starts: &[Starts]) -> Result<(), Refused>
+    requires { length starts.now ≤ TASK_LIMIT }
+    ensures { Tests 21 (BreaksWords (map (λ words. length words.items) starts.now)) result }
+{
+    let mut words = 0;
+    for (place, task) in starts.iter().enumerate() {
+        words += task.len();
+        if words > WORD_LIMIT {
+            return Err(broken(21, place));
+        }
+    }
+    Ok(())
+}
+
+/// The rule of each task, where these are the start words of the tasks.
+pub(crate) fn linear_rules(
+    alloc: Global,
+    tasks: &[&Table],
+    starts: &[Starts],
+) -> Result<Vec<Linear>, Refused>
+    requires few { length tasks.now ≤ TASK_LIMIT }
+    requires starts { map (λ words. length words.items) starts.now
+        ≡ counts_of (map (λ task. table_view task.now) tasks.now) }
+    ensures linear { IfOk result (λ rules.
+        AreLinear (map (λ task. table_view task.now) tasks.now) rules.items) }
+    ensures tests { Tests 22 (BreaksForms (map (λ task. table_view task.now) tasks.now)) result }
+{
+    let mut rules = Vec::new(alloc);
+    for (place, task) in tasks.iter().enumerate() {
+        match linear_rule(task, starts[place].len()) {
+            Some(rule) => rules.push(rule)?,
+            None => return Err(broken(22, place)),
+        }
+    }
+    Ok(rules)
+}
+
+/// The rule of a task of so many output words, where it is a linear task.
+fn linear_rule(task: &Table, words: usize) -> Option<Linear>
+    requires { words ≡ word_count (table_view task.now) }
+    ensures found { IfSome result (λ rule. IsLinear (table_view task.now) rule.factor rule.addend) }
+    ensures none { IfNone result ((factor addend : ℕ) → ¬ IsLinear (table_view task.now) factor addend) }
+{
+    let pair = word_array(member_of(task, "linear")?, 2, 2)?;
+    if words == 1 {
+        Some(Linear {
+            factor: pair[0],
+            addend: pair[1],
+        })
+    } else {
+        None
+    }
+}
