@@ -1,0 +1,1 @@
+//! Flights of programs made by hand.
