@@ -53,10 +53,34 @@ pub fn vote_copies(
     copies: &[Outputs],
     outputs: u8,
 ) -> Result<(), NoMemory>
-    ensures { OnOk result (Each (Takes (words_in copies.now) outputs) units.old units.new) }
+    ensures agreed { OnOk result (Each (Takes (words_in copies.now) outputs) units.old units.new) }
 {
     for unit in units.iter_mut() {
         vote(alloc, unit, copies, outputs)?;
     }
     Ok(())
+}
+
+#[cfg(test)]
+mod tests {
+    use super::*;
+
+    fn word(n: u16) -> Option<Word> {
+        Some(Word::of(n))
+    }
+
+    #[test]
+    fn a_unit_takes_the_majority_or_zero(rt: HostRuntime) {
+        let cases: [(&[Option<Word>], u16, &str); 5] = [
+            (&[word(5), word(5), word(9)], 5, "the last differs"),
+            (&[word(9), word(5), word(5)], 5, "the first differs"),
+            (&[word(5), word(9), word(7)], 0, "all differ"),
+            (&[word(5), word(5), word(9), word(9)], 0, "two and two"),
+            (&[word(5), None, None], 0, "most are absent"),
+        ];
+        for (copies, want, case) in cases {
+            let got = voted_word(copies);
+            assert_eq!(rt; got, Word::of(want), "{case}");
+        }
+    }
 }
