@@ -1,48 +1,43 @@
--- Flights, frame by frame.
-use Rattle.std.proofs.Common.{◌≡◌, ℕ, ◌+◌, ◌<◌, inl, inr, List, [], ◌∷◌, ◌++◌, length, map, Some, option_map, slice_get, All, refl, ap, ◌∙◌, sym, arith}
-use Rattle.std.proofs.lemmas.Bool.{cases_lt}
-use Rattle.std.proofs.lemmas.List.{length-map, length-append, get_or_append_left, get_or-append-add}
-use Rattle.std.proofs.lemmas.Option.{slice_get-map, slice_get_within, slice_get_read, get_or_from_slice_get}
-use Rattle.sift_core.specs.Ideal.{ideal_word}
-use Rattle.sift_core.specs.Flight.{IsIdealFlight}
+-- What units need before a task, and what they hold behind it.
+use Rattle.std.proofs.Common.{◌≡◌, ℕ, suc, ◌+◌, ◌<◌, List, ◌∷◌, length, take, drop, get_or, Some, slice_get, All, add-one, ap, ◌∙◌, arith}
+use Rattle.std.proofs.Math.Seq.{drop-cons}
+use Rattle.std.proofs.lemmas.List.{length-append}
+use Rattle.std.proofs.lemmas.List.Elements.{All-weaker}
+use Rattle.std.proofs.lemmas.List.Sums.{sum_by_more}
+use Rattle.std.proofs.lemmas.Option.{slice_get_within, get_or_from_slice_get}
+use Rattle.sift_lang.specs.Tree.{TaskTree}
+use Rattle.sift_program.specs.Program.{ProgramTree}
+use Rattle.sift_program.specs.Sound.{output_count, IsSoundProgram}
+use Rattle.sift_core.specs.declared.unit.UnitState.{UnitState}
+use Rattle.sift_core.specs.Frame.{CanRun, Each, Takes}
 
--- an element of the first list
-slice_get-append : {A : Type 0} (xs ys : List A) (i : ℕ) (x : A) → slice_get xs i ≡ Some x
-    → slice_get (xs ++ ys) i ≡ Some x
-slice_get-append xs ys i x at =
-    let inside : i < length xs = slice_get_within xs i x at in
-    slice_get_read (xs ++ ys) (length (xs ++ ys)) i x refl (omega (arith, length-append xs ys))
-    (sym (get_or_append_left xs ys x i inside ∙ get_or_from_slice_get xs i x x at))
+-- the unit holds so many words of the frame before, and so many of this one
+abbrev pub HasSizes : ℕ → ℕ → UnitState → Type 0
+HasSizes words made unit = (length unit.last.items ≡ words) × (length unit.made.items ≡ made)
 
--- an element of the second list
-slice_get-append-add : {A : Type 0} (xs ys : List A) (i : ℕ) (x : A) → slice_get ys i ≡ Some x
-    → slice_get (xs ++ ys) (length xs + i) ≡ Some x
-slice_get-append-add xs ys i x at =
-    let inside : i < length ys = slice_get_within ys i x at in
-    slice_get_read (xs ++ ys) (length (xs ++ ys)) (length xs + i) x refl (omega (arith, length-append xs ys))
-    (sym (get_or-append-add xs ys i x ∙ get_or_from_slice_get ys i x x at))
+-- where a task comes in a sound program, each unit can run it
+pub CanRun-at : (program : ProgramTree) (i : ℕ) (task : TaskTree) (units : List UnitState) → IsSoundProgram 0 program → slice_get program.tasks i ≡ Some task → All (HasSizes (length program.starts) (output_count (take i program.tasks))) units → All (CanRun task) units
+CanRun-at program i task units sound here sizes =
+    let within = slice_get_within program.tasks i task here in
+    let sound_task = rw (get_or_from_slice_get program.tasks i task task here) at (sound.tasks_sound i task within) in
+    let nows = sound.reads_earlier_words i task here in
+    All-weaker (HasSizes (length program.starts) (output_count (take i program.tasks))) (CanRun task)
+    (λ unit has. (rw has.0 sound_task, rw has.1 nows)) units sizes
 
--- where all units voted one word, each entry of the frame is its list
-slice_get-same : (voted : List ℕ) (u word : ℕ) → u < length voted → All (λ w. w ≡ word) voted
-    → slice_get (map (λ w. w ∷ []) voted) u ≡ Some (word ∷ [])
-slice_get-same voted u word unit same =
-    let stands = slice_get_read voted (length voted) u word refl unit (sym (same u word unit)) in
-    slice_get-map (λ w. w ∷ []) voted u ∙ ap (option_map (λ w. w ∷ [])) stands
+-- the tasks from i on are the one at i and then the rest
+pub tasks-drop : (tasks : List TaskTree) (i : ℕ) (task : TaskTree) → slice_get tasks i ≡ Some task → drop i tasks ≡ task ∷ drop (i + 1) tasks
+tasks-drop tasks i task here =
+    let front = drop-cons tasks i task (slice_get_within tasks i task here) in
+    rw (add-one i) (front ∙ ap (λ t. t ∷ drop (suc i) tasks) (get_or_from_slice_get tasks i task task here))
 
--- one frame more, in which all units voted the ideal word
-pub IsIdealFlight-more : (units f start a b : ℕ) (entries : List (List ℕ)) (voted : List ℕ)
-    → IsIdealFlight units f start a b entries → length voted ≡ units
-    → All (λ w. w ≡ ideal_word start a b (f + 1)) voted
-    → IsIdealFlight units (f + 1) start a b (entries ++ map (λ w. w ∷ []) voted)
-IsIdealFlight-more units f start a b entries voted flown each same =
-    let frame = map (λ w. w ∷ []) voted in record {
-      complete = omega (arith, length-append entries frame, length-map voted (λ w. w ∷ []));
-      ideal = λ g u early unit. elim (cases_lt g f) [
-        | inl before ↦ slice_get-append entries frame _ _ (flown.ideal g u before unit)
-        | inr now ↦
-            let this : g ≡ f = omega arith in
-            let inside : u < length voted = omega arith in
-            rw (this, ← flown.complete)
-            (slice_get-append-add entries frame u _ (slice_get-same voted u _ inside same))
-      ];
-    }
+-- a task gives each unit as many words more as it has outputs
+pub HasSizes-more : (words : ℕ) (tasks : List TaskTree) (i : ℕ) (task : TaskTree) (copies : List (List ℕ)) (before after : List UnitState) → slice_get tasks i ≡ Some task → All (HasSizes words (output_count (take i tasks))) before → Each (Takes copies task.outputs) before after
+    → All (HasSizes words (output_count (take (i + 1) tasks))) after
+HasSizes-more words tasks i task copies before after here sizes each = λ u any inside.
+    let in_before : u < length before = omega (arith, each.as_many) in
+    let takes = each.each u any in_before in
+    let has = sizes u any in_before in
+    let more = sum_by_more (λ (t : TaskTree). t.outputs) tasks i task (slice_get_within tasks i task here) in
+    let task_is = ap (λ (t : TaskTree). t.outputs) (get_or_from_slice_get tasks i task task here) in
+    let longer = ap length takes.made ∙ length-append (get_or before u any).made.items takes.voted in
+    (ap length takes.last ∙ has.0, omega (arith, longer, takes.each_word, has.1, more, task_is))

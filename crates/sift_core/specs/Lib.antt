@@ -1,2 +1,2 @@
 pub mod Flight
-pub mod Ideal
+pub mod Frame

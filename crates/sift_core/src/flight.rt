@@ -1,96 +1,116 @@
-ghost use Rattle.std.specs.Prelude.{◌≡◌, ℕ, ◌≤◌, IfOk, OnOk, ◌++◌, ◌∷◌, [], All, length, map};
-ghost use Rattle.sift_vote.specs.Majority.{IsAgreed};
-ghost use Rattle.sift_core.specs.Flight.{copies_of, words_of, IsIdealFlight};
+ghost use Rattle.std.specs.Prelude.{◌≡◌, ℕ, ◌≤◌, IfOk, OnOk, ◌++◌, [], All, length, map};
+ghost use Rattle.sift_lang.specs.Tree.{tree_of};
+ghost use Rattle.sift_program.specs.Program.{program_of};
+ghost use Rattle.sift_program.specs.Sound.{IsSoundProgram};
+ghost use Rattle.sift_core.specs.Frame.{words_in, copy_of, CanRun, Each, Begins, Runs, RunsAll};
+ghost use Rattle.sift_core.specs.Flight.{words_of, IsIdealFlight};
 
-use crate::vote::vote_copies;
+use crate::unit::UnitState;
+use crate::vote::{Outputs, vote_copies};
 use sift_base::{NoMemory, Word};
+use sift_lang::{Task, eval};
+use sift_program::Program;
 use std::alloc::Global;
+use std::mem;
 
-/// Flies one linear task on all units, without faults. In each frame each unit computes its copy
-/// of the task's word from the word that it voted last, at first `start`, as `a * word + b`. Then
-/// each unit votes over all copies.
+/// Flies a program without sensors on all units, without faults. In each frame the tasks are taken in list order.
+/// Each unit computes its copy of a task's words from the words that it voted itself, in this frame and in the one
+/// before, and then votes for each of them over all copies. Before frame 0 stand the start words.
 ///
-/// Entry `f * units + u` is the list of the words that unit `u` voted in frame `f`. The only error
-/// is want of memory.
+/// Entry `f * units + u` is the list of the words that unit `u` voted in frame `f`. The only error is want of memory.
 pub fn plain_fly(
     alloc: Global,
+    program: &Program,
     units: u8,
     frames: u32,
-    start: Word,
-    a: Word,
-    b: Word,
 ) -> Result<Vec<Vec<Word>>, NoMemory>
+    requires sound { IsSoundProgram 0 (program_of program.now) }
     requires units { (4 ≤ units) × (units ≤ 8) }
     requires frames { (1 ≤ frames) × (frames ≤ 1000) }
-    ensures { IfOk result (λ flight. IsIdealFlight units frames start a b (words_of flight)) }
+    ensures { IfOk result
+        (λ flight. IsIdealFlight (program_of program.now) units frames (words_of flight)) }
 {
     let mut flight = Vec::new(alloc);
-    let mut last = vec![in alloc; start; usize::from(units)]?;
+    let mut states = start(alloc, program, units)?;
     for _ in 0..frames {
-        last = fly_frame(alloc, &last, a, b)?;
-        record_frame(alloc, &mut flight, &last)?;
+        begin_frame(alloc, &mut states);
+        fly_frame(alloc, program, &mut states)?;
+        record_frame(alloc, &mut flight, &states)?;
     }
     Ok(flight)
 }
 
-// One frame: each unit makes its copy, and then each votes over all copies.
-fn fly_frame(alloc: Global, last: &[Word], a: Word, b: Word) -> Result<Vec<Word>, NoMemory>
-    ensures each_unit { IfOk result (λ voted. length voted.items ≡ length last.now) }
-    ensures agreed { IfOk result (λ voted. All (IsAgreed (copies_of a b last.now)) voted.items) }
+// The units before frame 0.
+fn start(alloc: Global, program: &Program, units: u8) -> Result<Vec<UnitState>, NoMemory>
+    ensures each_unit { IfOk result (λ states. length states.items ≡ units) }
+    ensures starts { IfOk result
+        (λ states. All (λ unit. unit.made.items ≡ program.now.starts.items) states.items) }
 {
-    let copies = make_copies(alloc, last, a, b)?;
-    vote_copies(alloc, &copies, last.len())
+    let mut states = Vec::new(alloc);
+    for _ in 0..units {
+        states.push(UnitState {
+            last: Vec::new(alloc),
+            made: program.starts.clone()?,
+        })?;
+    }
+    Ok(states)
 }
 
-// Each unit's copy of the next word, which it computes from its own last word.
-fn make_copies(
-    alloc: Global,
-    last: &[Word],
-    a: Word,
-    b: Word,
-) -> Result<Vec<Option<Word>>, NoMemory>
-    ensures { IfOk result (λ copies. copies.items ≡ copies_of a b last.now) }
+// What each unit voted in this frame is from now on that of the frame before.
+fn begin_frame(alloc: Global, units: &mut [UnitState])
+    ensures { Each Begins units.old units.new }
 {
-    let copies = last
-        .iter()
-        .map(|word| Some(a.mul(*word).add(b)))
-        .collect(alloc)?;
-    Ok(copies)
+    for unit in units.iter_mut() {
+        unit.last = mem::replace(&mut unit.made, Vec::new(alloc));
+    }
 }
 
-// Adds an entry for each unit: the list of its voted words.
-fn record_frame(alloc: Global, flight: &mut Vec<Vec<Word>>, voted: &[Word]) -> Result<(), NoMemory>
-    ensures { OnOk result
-        (words_of flight.new ≡ words_of flight.old ++ map (λ w. w ∷ []) voted.now) }
+// The units run each task of the program in turn.
+fn fly_frame(alloc: Global, program: &Program, units: &mut [UnitState]) -> Result<(), NoMemory>
+    requires sound { IsSoundProgram 0 (program_of program.now) }
+    requires begun { let words = length program.now.starts.items in
+        All (λ unit. (length unit.last.items ≡ words) × (unit.made.items ≡ [])) units.old }
+    ensures { OnOk result (RunsAll (program_of program.now).tasks units.old units.new) }
 {
-    for &word in voted {
-        flight.push(vec![in alloc; word]?)?;
+    for task in &program.tasks {
+        run_task(alloc, task, units)?;
     }
     Ok(())
 }
 
-#[cfg(test)]
-mod tests {
-    use super::*;
-    use std::test::Fail;
+// Each unit makes its copy of the task's words, and then each votes over all copies.
+fn run_task(alloc: Global, task: &Task, units: &mut [UnitState]) -> Result<(), NoMemory>
+    requires { All (CanRun (tree_of task.now)) units.old }
+    ensures { OnOk result (Runs (tree_of task.now) units.old units.new) }
+{
+    let copies = make_copies(alloc, task, units)?;
+    vote_copies(alloc, units, &copies, task.outputs)
+}
 
-    #[test]
-    fn every_unit_flies_the_ideal_words(rt: HostRuntime) -> Result<(), Fail> {
-        let cases = [
-            // 5 * 3 + 1 = 16, and 16 * 3 + 1 = 49
-            (5, 3, 1, 16, 49),
-            // 40,000 * 2 + 3 - 65,536 = 14,467, and 14,467 * 2 + 3 = 28,937
-            (40_000, 2, 3, 14_467, 28_937),
-        ];
-        for (start, a, b, first, second) in cases {
-            let flight = plain_fly(rt.alloc(), 4, 2, Word::of(start), Word::of(a), Word::of(b))?;
-            assert_eq!(rt; flight.len(), 8, "from {start}");
-            let want = [first, first, first, first, second, second, second, second];
-            for (entry, word) in flight.iter().zip(want) {
-                let voted = entry.as_slice();
-                assert_eq!(rt; voted, [Word::of(word)].as_slice(), "from {start}");
-            }
-        }
-        Ok(())
+// Each unit's copy of the task's words, which it computes from what it voted itself.
+fn make_copies(alloc: Global, task: &Task, units: &[UnitState]) -> Result<Vec<Outputs>, NoMemory>
+    requires { All (CanRun (tree_of task.now)) units.now }
+    ensures { IfOk result
+        (λ copies. words_in copies.items ≡ map (copy_of (tree_of task.now)) units.now) }
+{
+    let mut copies = Vec::new(alloc);
+    for unit in units {
+        copies.push(eval(task, &[], &unit.made, &unit.last))?;
     }
+    Ok(copies)
+}
+
+// Adds an entry for each unit: the words that it voted in this frame.
+fn record_frame(
+    alloc: Global,
+    flight: &mut Vec<Vec<Word>>,
+    units: &[UnitState],
+) -> Result<(), NoMemory>
+    ensures { OnOk result
+        (words_of flight.new ≡ words_of flight.old ++ map (λ unit. unit.made.items) units.now) }
+{
+    for unit in units {
+        flight.push(unit.made.clone()?)?;
+    }
+    Ok(())
 }

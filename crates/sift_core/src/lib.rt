@@ -2,6 +2,9 @@
 #![tactic(auto)]
 
 mod flight;
+#[cfg(test)]
+mod tests;
+mod unit;
 mod vote;
 
 pub use flight::plain_fly;

@@ -1,25 +1,42 @@
-use Rattle.std.proofs.Common.{◌≡◌, ℕ, ◌<◌, ◌+◌, ◌∙◌, ap, All, length, add-one, arith}
-use Rattle.sift_core.specs.Ideal.{ideal_word}
-use Rattle.sift_core.proofs.Frames.{IsIdealFlight-more}
-use Rattle.sift_core.proofs.Votes.{votes_after}
+use Rattle.std.proofs.Common.{◌≡◌, ◌<◌, length, add-one, ◌∙◌, arith}
+use Rattle.sift_program.specs.Program.{program_of}
+use Rattle.sift_program.specs.Ideal.{words_before}
+use Rattle.sift_core.specs.Flight.{no_sensors}
+use Rattle.sift_core.proofs.Changes.{written-back}
+use Rattle.sift_core.proofs.Flights.{IsIdealFlight-more}
+use Rattle.sift_core.proofs.Ideal.{Begins-holds, begun-sizes, frame-ideal}
 use Rattle.sift_core.proofs.flight.plain_fly.Goals as goal
 
--- all units vote for the next word, and the flight has their entries
+-- each unit begins with the ideal machine's words of the frame before
+pub fly_frame-requires-clause-begun : goal.fly_frame-requires-clause-begun
+fly_frame-requires-clause-begun c =
+    let program = program_of c.args.program.now in
+    let before = c.loop.states.items in
+    let begun = c.begin_frame.new.units in
+    let begins = rw c.deref_mut.ensures.value at c.begin_frame.ensures in
+    let back = written-back c.loop.states.len before begun c.loop.states.ok.0 begins.as_many in
+    rw (c.deref_mut-in-loop.ensures.value, back)
+    (begun-sizes program c.loop.counter begun c.requires.sound (Begins-holds (words_before program no_sensors c.loop.counter) before begun c.loop.invariant.same_words begins))
+
+-- each unit votes the ideal machine's words, and the flight has its entry
 pub loop-preserved : goal.loop-preserved
 loop-preserved c =
-    let last = c.loop.last.items in
-    let voted = c.in_ok-last-2.last.items in
-    let ideal : ℕ → ℕ = ideal_word c.args.start c.args.a c.args.b in
-    let some : 0 < length last = omega arith in
-    let each_unit : length voted ≡ c.args.units =
-    c.in_ok-last-2.ensures.each_unit ∙ ap length c.deref.ensures.value ∙ c.loop.invariant.each_unit in
-    let agreed = rw c.deref.ensures.value at c.in_ok-last-2.ensures.agreed in
-    let same_word : All (λ w. w ≡ ideal (c.loop.counter + 1)) voted = rw (add-one c.loop.counter)
-    (votes_after c.args.a c.args.b (ideal c.loop.counter) last voted some c.loop.invariant.same_word agreed) in
-    record {
+    let program = program_of c.args.program.now in
+    let before = c.loop.states.items in
+    let begun = c.begin_frame.new.units in
+    let voted = c.fly_frame.new.units in
+    let begins = rw c.deref_mut.ensures.value at c.begin_frame.ensures in
+    let back = written-back c.loop.states.len before begun c.loop.states.ok.0 begins.as_many in
+    let ran = rw (c.deref_mut-in-loop.ensures.value, back) at c.in_ok-fly_frame.ensures in
+    let some : 0 < length begun = omega (arith, begins.as_many, c.loop.invariant.each_unit) in
+    let holds = Begins-holds (words_before program no_sensors c.loop.counter) before begun c.loop.invariant.same_words begins in
+    let ideal = frame-ideal program c.loop.counter begun voted some holds ran in
+    let all : c.loop.states.len ≡ length begun = omega (arith, c.loop.states.ok.0, begins.as_many) in
+    let back_again = written-back c.loop.states.len begun voted all ideal.0 in
+    let each_unit : length voted ≡ c.args.units = ideal.0 ∙ begins.as_many ∙ c.loop.invariant.each_unit in
+    rw (back, back_again) (record {
       each_unit = each_unit;
-      same_word = same_word;
-      flown = rw (c.in_ok-record_frame.ensures, c.deref-in-loop.ensures.value)
-          (IsIdealFlight-more c.args.units c.loop.counter c.args.start c.args.a c.args.b _ voted
-          c.loop.invariant.flown each_unit same_word);
-    }
+      same_words = ideal.1;
+      flown = rw (c.in_ok-record_frame.ensures, c.deref.ensures.value, back, back_again)
+          (IsIdealFlight-more program c.args.units c.loop.counter _ voted c.loop.invariant.flown each_unit (rw (add-one c.loop.counter) at ideal.1));
+    })

@@ -1,12 +1,14 @@
 use Rattle.std.proofs.Common.{◌≡◌, All, length}
-use Rattle.sift_core.specs.Ideal.{ideal_word}
-use Rattle.sift_core.specs.Flight.{words_of, IsIdealFlight}
+use Rattle.sift_program.specs.Program.{program_of}
+use Rattle.sift_program.specs.Ideal.{words_before}
+use Rattle.sift_core.specs.Flight.{no_sensors, words_of, IsIdealFlight}
+use Rattle.sift_core.proofs.Ideal.{Voted}
 use Rattle.sift_core.proofs.flight.plain_fly.Given as goal
 
--- the frames so far are flown, and each unit has the ideal word
+-- the frames so far are flown, and each unit voted the ideal machine's words last
 abbrev pub invariant-loop : goal.invariant-loop
 invariant-loop l = record {
-  each_unit : length l.last.items ≡ l.units;
-  same_word : All (λ w. w ≡ ideal_word l.fn.start l.a l.b l.counter) l.last.items;
-  flown : IsIdealFlight l.units l.counter l.fn.start l.a l.b (words_of l.flight);
+  each_unit : length l.states.items ≡ l.units;
+  same_words : All (Voted (words_before (program_of l.program) no_sensors l.counter)) l.states.items;
+  flown : IsIdealFlight (program_of l.program) l.units l.counter (words_of l.flight);
 }
