@@ -1,16 +1,14 @@
 -- Programs of tasks whose trees are theirs.
-use Rattle.std.proofs.Common.{◌≡◌, ◌<◌, ◌≤◌, ◌+◌, ℕ, zero, suc, List, [], ◌∷◌, length, get_or, map, take, Some, refl, sym, ap, subst, ◌∙◌, add-one, arith}
-use Rattle.std.proofs.lemmas.List.{get_or-map, length-map, take-map, take_all}
+use Rattle.std.proofs.Common.{◌≡◌, ◌<◌, ◌≤◌, ℕ, suc, List, [], ◌∷◌, length, get_or, map, take, Some, refl, sym, ap, ◌∙◌, arith}
+use Rattle.std.proofs.lemmas.List.{get_or-map, length-map, take-map}
 use Rattle.std.proofs.lemmas.List.Sums.{sum-map, sum_by_more_le}
 use Rattle.std.proofs.lemmas.Option.{get_or_from_slice_get, slice_get-get_or, slice_get_within}
-use Rattle.std.specs.List.{slice_get, sum, sum_by}
+use Rattle.std.specs.List.{slice_get, sum}
 use Rattle.toml.specs.Data.{Members}
 use Rattle.sift_lang.specs.Tree.{TaskTree, end}
 use Rattle.sift_lang.specs.Sound.{AllNowsBelow, IsSound}
-use Rattle.sift_parse.specs.Force.{Roll, words_before}
 use Rattle.sift_program.specs.Program.{ProgramTree}
-use Rattle.sift_program.specs.Sound.{IsSoundProgram, first_word, output_count}
-use Rattle.sift_scenario.specs.Entries.{AreMatched, HoldsOf}
+use Rattle.sift_program.specs.Sound.{IsSoundProgram, first_word}
 use Rattle.sift_scenario.specs.Mission.{AreTreesOf, IsTreeOf, linear_tree, roll_for, turn_of}
 use Rattle.sift_scenario.specs.Task.{AreForms, Form, linear, text, HasForm, counts_of, word_count}
 

@@ -1,18 +1,17 @@
 -- The names that texts may use, where the rules are kept.
-use Rattle.std.proofs.Common.{◌≡◌, ◌≢◌, ◌<◌, ◌≤◌, ◌+◌, ◌-◌, ◌⊎◌, inl, inr, ℕ, zero, suc, List, [], ◌∷◌, length, get_or, map, take, Option, Some, None, refl, sym, ap, subst, ◌∙◌, arith}
+use Rattle.std.proofs.Common.{◌≡◌, ◌≢◌, ◌<◌, ◌≤◌, ◌+◌, ◌-◌, inl, inr, ℕ, zero, suc, List, [], ◌∷◌, length, get_or, map, take, Option, Some, None, refl, sym, ap, ◌∙◌, arith}
 use Rattle.std.proofs.lemmas.Bool.{cases_lt, cases_order}
 use Rattle.std.proofs.lemmas.List.{get_or-map, get_or-take, length-map, length-take-le, take_all}
-use Rattle.std.proofs.lemmas.Option.{get_or_from_slice_get, slice_get-get_or, slice_get-map, slice_get_within}
-use Rattle.std.specs.List.{All, Contains, slice_get, sum}
+use Rattle.std.proofs.lemmas.Option.{get_or_from_slice_get, slice_get-get_or, slice_get_within}
+use Rattle.std.specs.List.{slice_get, sum}
 use Rattle.std.specs.Prelude.{codes, option_and_then, unwrap_or}
 use Rattle.toml.specs.Data.{Data, Members, get_member, no_members, string, integer, float, boolean, datetime, array, table}
 use Rattle.sift_base.specs.Name.{IsName}
 use Rattle.sift_parse.specs.Outcome.{AreDistinct, AreNames}
 use Rattle.sift_scenario.specs.Document.{list_of, of_length, word_array, word_values}
-use Rattle.sift_scenario.specs.Entries.{HoldsOf}
 use Rattle.sift_scenario.specs.Mission.{roll_for, turn_of}
 use Rattle.sift_scenario.specs.Rules.{BreaksNames, BreaksStarts, BreaksWords}
-use Rattle.sift_scenario.specs.Task.{IsNewName, counts_of, name_of, starts_of, word_count}
+use Rattle.sift_scenario.specs.Task.{counts_of, name_of, starts_of, word_count}
 
 -- within a list the default doesn't matter
 any_default : (xs : List ℕ) (k d e : ℕ) → k < length xs → get_or xs k d ≡ get_or xs k e

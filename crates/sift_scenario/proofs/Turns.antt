@@ -1,13 +1,12 @@
 -- Tasks in their turns.
-use Rattle.std.proofs.Common.{◌≡◌, ◌≢◌, ◌<◌, ℕ, List, length, get_or, Some, Err, refl, sym, ap, subst, ◌∙◌, arith}
+use Rattle.std.proofs.Common.{◌≡◌, ◌≢◌, ℕ, List, length, get_or, Some, refl, ap, ◌∙◌, arith}
 use Rattle.std.proofs.lemmas.Option.{slice_get-get_or}
 use Rattle.std.specs.List.{slice_get}
 use Rattle.sift_lang.specs.Tree.{TaskTree, end}
 use Rattle.sift_parse.specs.Force.{Roll, roll_of}
 use Rattle.sift_parse.specs.declared.names.Names.{Names}
 use Rattle.sift_parse.specs.declared.stop.ParseStop.{ParseStop}
-use Rattle.sift_parse.specs.declared.stop.ParseStop.TheVariants as parse
-use Rattle.sift_scenario.specs.Entries.{EachMatches, HoldsOf}
+use Rattle.sift_scenario.specs.Entries.{EachMatches}
 use Rattle.sift_scenario.specs.Mission.{IsTreeOf, turn_of}
 use Rattle.sift_scenario.specs.Refusal.{IsFirstRefused, refusal_of}
 use Rattle.sift_scenario.specs.Task.{Form}

@@ -1,4 +1,4 @@
-use Rattle.std.proofs.Common.{◌≡◌, Some, Err, rules, refl, map, sym, subst, List}
+use Rattle.std.proofs.Common.{◌≡◌, Err, rules, refl, map, sym, subst, List}
 use Rattle.std.specs.Prelude.{codes}
 use Rattle.toml.specs.Data.{Members, get_member}
 use Rattle.toml.specs.View.{table_view}

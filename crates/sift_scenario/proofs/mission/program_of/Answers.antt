@@ -1,14 +1,13 @@
-use Rattle.std.proofs.Common.{◌≡◌, ◌<◌, ◌≢◌, ℕ, Err, rules, refl, sym, ap, subst, map, length, ◌∙◌, arith}
+use Rattle.std.proofs.Common.{◌≡◌, ℕ, Err, rules, sym, subst, map, length, ◌∙◌, arith}
 use Rattle.std.proofs.lemmas.List.{length-map}
 use Rattle.toml.specs.View.{table_view}
 use Rattle.sift_lang.specs.Tree.{tree_of}
 use Rattle.sift_parse.specs.Force.{Roll, roll_of}
-use Rattle.sift_parse.specs.Outcome.{AreNames}
 use Rattle.sift_scenario.proofs.Order.{forms_refused, names_refused, starts_refused, texts_refused, words_refused}
 use Rattle.sift_scenario.proofs.Programs.{sound_program}
 use Rattle.sift_scenario.proofs.Rolls.{few_words, turns}
-use Rattle.sift_scenario.proofs.Starts.{all_starts_from, as_many, counts_from, roll_from, starts_long}
-use Rattle.sift_scenario.specs.Mission.{AreTreesOf, roll_for, turn_of}
+use Rattle.sift_scenario.proofs.Starts.{all_starts_from, counts_from, roll_from, starts_long}
+use Rattle.sift_scenario.specs.Mission.{AreTreesOf}
 use Rattle.sift_scenario.specs.Refusal.{IsFirstRefused}
 use Rattle.sift_scenario.specs.Rules.{BreaksWords}
 use Rattle.sift_scenario.specs.Task.{counts_of}
