@@ -10,8 +10,10 @@ pub mod Living
 pub mod Newest
 pub mod Numbers
 pub mod Offending
+pub mod OneAnswer
 pub mod OneLexing
 pub mod OneReading
+pub mod OneRefusal
 pub mod Signs
 pub mod SoundBlock
 pub mod SoundForce

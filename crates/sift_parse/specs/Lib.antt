@@ -1,3 +1,4 @@
+pub mod Answer
 pub mod Force
 pub mod Grammar
 pub mod Held
