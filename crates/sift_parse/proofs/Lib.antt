@@ -3,9 +3,14 @@ pub mod BlockLaws
 pub mod Chains
 pub mod Complete
 pub mod ExprLaws
+pub mod Front
 pub mod Gaps
 pub mod Laws
 pub mod Lexing
+pub mod LinearFine
+pub mod LinearLexemes
+pub mod LinearText
+pub mod LinearTokens
 pub mod Living
 pub mod Newest
 pub mod Numbers

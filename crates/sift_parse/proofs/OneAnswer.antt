@@ -10,7 +10,7 @@ use Rattle.sift_parse.specs.Lexeme.{Lexeme, Lexes}
 use Rattle.sift_parse.specs.Force.{Roll, tokens_of}
 use Rattle.sift_parse.specs.Refusal.{Kind, no_lexeme_here, no_syntax, long_name, large_number, many_rounds, many_locals, deep_level, unknown_name, later_task, BeginsWith, Stands, lexemes_of, IsRefused, IsParsed}
 use Rattle.sift_parse.specs.Outcome.{text_limit, IsTaskOf, IsStopped, Tells}
-use Rattle.sift_parse.specs.Answer.{IsSameAnswer, OneAnswer}
+use Rattle.sift_parse.specs.Answer.{IsSameAnswer, OneAnswer, IsAnswerOf, TaskIsAnswered}
 use Rattle.sift_parse.proofs.OneReading.{one_rest}
 use Rattle.sift_parse.proofs.OneRefusal.{Sided, at_one, earlier, later, sided, none_after, same_refusal}
 use Rattle.sift_parse.proofs.Standing.{no_lexeme-of-nothing}
@@ -117,3 +117,11 @@ one_answer-by r text a b (refused k x e h) (refused j y f g) = as_said a b (Err 
 
 pub one_answer : OneAnswer
 one_answer r text a b m n x y = one_answer-by r text a b (told r text a m x) (told r text b n y)
+
+task_is_answered-by : (r : Roll) (text : List ℕ) (tree : TaskTree) (a : Result Task ParseStop) → IsTaskOf r text tree → Told r text a → IsAnswerOf tree a
+task_is_answered-by r text tree a x (a_task t e h) = subst (IsAnswerOf tree) (sym e) (one_task r text (tree_of t) tree h x)
+task_is_answered-by r text tree a x (too_long e h) = absurd (let s = x.short in omega arith)
+task_is_answered-by r text tree a x (refused k at e h) = absurd (not_both r text tree.body k at x.parsed h.refused)
+
+pub task_is_answered : TaskIsAnswered
+task_is_answered r text tree a n x h = task_is_answered-by r text tree a x (told r text a n h)

@@ -3,6 +3,7 @@ pub mod Force
 pub mod Grammar
 pub mod Held
 pub mod Lexeme
+pub mod Linear
 pub mod Outcome
 pub mod Parsed
 pub mod Parsing
