@@ -5,3 +5,9 @@ pub mod Matched
 pub mod Terms
 pub mod Statements
 pub mod Giving
+pub mod Loops
+pub mod Arrivals
+pub mod Free
+pub mod Pushes
+pub mod Passes
+pub mod Sound

@@ -5,4 +5,4 @@
 
 mod law;
 
-pub use law::runs_give_the_meaning;
+pub use law::{compiled_code_is_sound, compiled_code_means_its_task};
