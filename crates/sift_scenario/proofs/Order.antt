@@ -2,7 +2,7 @@
 use Rattle.std.proofs.Common.{◌≡◌, ◌≢◌, ◌<◌, ◌≤◌, ◌⊎◌, ◌==◌, inl, inr, cond, List, ℕ, refl, sym, ap, subst, ◌∙◌, arith}
 use Rattle.std.proofs.lemmas.Bool.{cases_order}
 use Rattle.toml.specs.Data.{Members}
-use Rattle.sift_scenario.specs.Refusal.{IsFirstRefused, IsRefused, IsTextRefused, refusal_of}
+use Rattle.sift_scenario.specs.Refusal.{IsFirstRefused, IsRefused, TasksAreRefused, refusal_of}
 use Rattle.sift_parse.specs.declared.stop.ParseStop.{ParseStop}
 use Rattle.sift_parse.specs.declared.stop.ParseStop.TheVariants as parse
 use Rattle.sift_scenario.specs.Mission.{roll_for}
@@ -133,7 +133,7 @@ refusal_of-other task (parse.Limit w a) n at same = cc
 refusal_of-other task parse.NoMemory n at same = cc
 
 -- a text of a lawful document is refused
-text_refused_by : (d : Members) (e : Refused) → IsLawful d → (e ≢ NoMemory → IsTextRefused (tasks_of d) e) → IsRefused d e
+text_refused_by : (d : Members) (e : Refused) → IsLawful d → (e ≢ NoMemory → TasksAreRefused (tasks_of d) e) → IsRefused d e
 text_refused_by d (Scenario n at) lawful refused = let r = refused (λ same. cc) in absurd (refusal_of-other r.2.task r.2.stop n at r.2.refused_is)
 text_refused_by d (Task t k at) lawful refused = (lawful, refused (λ same. cc))
 text_refused_by d NoMemory lawful refused = tt
@@ -176,4 +176,4 @@ module _ (tasks : List Members) (e : Refused) where
   texts_refused names starts words forms fs stated refused d same below =
       let kept : KeepsTaskRules tasks = record { names = names; starts = starts; words = words; forms = forms } in
       let lawful = lawful_with d tasks (sym same) below kept in
-      text_refused_by d e lawful (λ some. subst (λ (ts : List Members). IsTextRefused ts e) (sym same) (fs, stated, refused some))
+      text_refused_by d e lawful (λ some. subst (λ (ts : List Members). TasksAreRefused ts e) (sym same) (fs, stated, refused some))

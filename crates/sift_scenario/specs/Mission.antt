@@ -1,7 +1,12 @@
 -- The mission that a document states.
-use Rattle.std.specs.Prelude.{ℕ, ◌≡◌, ◌≤◌, List, [], map, Some, unwrap_or}
+use Rattle.std.specs.Prelude.{ℕ, ◌≡◌, ◌≤◌, ◌-◌, List, [], length, map, sum_by, slice_get, take, Some, unwrap_or}
 use Rattle.std.specs.List.{flat_map}
 use Rattle.toml.specs.Data.{Members}
+use Rattle.sift_code.specs.Bound.{bound_of}
+use Rattle.sift_code.specs.Refusal.{Program}
+use Rattle.sift_compile.specs.Code.{task_code, task_program}
+use Rattle.sift_compile.specs.Correct.{Means}
+use Rattle.sift_compile.specs.Stop.{IsAllowed}
 use Rattle.sift_lang.specs.Tree.{TaskTree}
 use Rattle.sift_parse.specs.Force.{Roll, words_before}
 use Rattle.sift_parse.specs.Linear.{linear_tree}
@@ -42,6 +47,29 @@ IsTreeOf roll (text bytes) tree = IsTaskOf roll bytes tree
 abbrev pub AreTreesOf : Roll → List Form → List TaskTree → Type 0
 AreTreesOf roll forms trees = AreMatched (λ task form tree. IsTreeOf (turn_of task roll) form tree) forms trees
 
+-- ---- code
+
+-- the most steps that the tasks of a mission may take in a frame, all together
+abbrev pub step_limit : ℕ
+step_limit = 16384
+
+-- the most steps that these tasks take in a frame
+abbrev pub steps_of : List TaskTree → ℕ
+steps_of trees = sum_by (λ tree. bound_of (task_code tree)) trees
+
+-- the steps that are left after these tasks
+abbrev pub steps_left : List TaskTree → ℕ
+steps_left trees = step_limit - steps_of trees
+
+-- the code of each task is short enough, and takes no more steps than those before it leave
+abbrev pub AreAllowed : List TaskTree → Type 0
+AreAllowed trees = (t : ℕ) (tree : TaskTree) → slice_get trees t ≡ Some tree → IsAllowed (steps_left (take t trees)) (task_code tree)
+
+-- these are the codes of the tasks, which may name so many words
+pub record AreCodesOf (words : ℕ) (trees : List TaskTree) (codes : List Program) : Type 0 where
+  pub codes_are : codes ≡ map (task_program 0 words) trees
+  pub mean : (t : ℕ) (tree : TaskTree) → slice_get trees t ≡ Some tree → Means (task_program 0 words tree) tree
+
 -- ---- the mission
 
 -- the start words of the tasks, in their order
@@ -54,6 +82,7 @@ pub record IsProgramOf (tasks : List Members) (program : ProgramTree) : Type 0 w
   pub forms : List Form
   pub stated : AreForms tasks forms
   pub trees : AreTreesOf (roll_for tasks) forms program.tasks
+  pub allowed : AreAllowed program.tasks
 
 -- the document keeps all rules, and states this mission
 pub record IsMission (document : Members) (mission : Stated) : Type 0 where
@@ -62,8 +91,9 @@ pub record IsMission (document : Members) (mission : Stated) : Type 0 where
   pub frames : frames_of document ≡ Some mission.frames
   pub program : IsProgramOf (tasks_of document) mission.program
 
--- the mission is one that can be flown
-pub record CanFly (mission : Stated) : Type 0 where
+-- the mission is one that can be flown, with this code for its tasks
+pub record CanFly (mission : Stated) (codes : List Program) : Type 0 where
   pub units : (4 ≤ mission.units) × (mission.units ≤ 8)
   pub frames : (1 ≤ mission.frames) × (mission.frames ≤ 1000)
   pub program : IsSoundProgram 0 mission.program
+  pub codes : AreCodesOf (length mission.program.starts) mission.program.tasks codes

@@ -1,6 +1,10 @@
 -- Why a document states no mission.
-use Rattle.std.specs.Prelude.{◌≡◌, ◌≢◌, ◌<◌, ◌⊎◌, ℕ, List, Err, IsErr, IfErr, Result}
+use Rattle.std.specs.Prelude.{◌≡◌, ◌≢◌, ◌<◌, ◌⊎◌, ℕ, List, Err, IsErr, IfErr, Result, length}
 use Rattle.toml.specs.Data.{Members}
+use Rattle.sift_compile.specs.Code.{task_code}
+use Rattle.sift_compile.specs.Stop.{Stops}
+use Rattle.sift_compile.specs.declared.stop.CompileStop.{CompileStop}
+use Rattle.sift_compile.specs.declared.stop.CompileStop.TheVariants as compile
 use Rattle.sift_lang.specs.Tree.{TaskTree}
 use Rattle.sift_parse.specs.declared.stop.ParseStop.{ParseStop}
 use Rattle.sift_parse.specs.declared.stop.ParseStop.TheVariants as parse
@@ -8,8 +12,8 @@ use Rattle.sift_parse.specs.Force.{Roll}
 use Rattle.sift_parse.specs.Outcome.{Tells}
 use Rattle.sift_scenario.specs.declared.refused.Refused.{Refused}
 use Rattle.sift_scenario.specs.declared.refused.Refused.TheVariants.{Scenario, Task, NoMemory}
-use Rattle.sift_scenario.specs.Entries.{HoldsOf}
-use Rattle.sift_scenario.specs.Mission.{IsTreeOf, roll_for, turn_of}
+use Rattle.sift_scenario.specs.Entries.{EachMatches, HoldsOf}
+use Rattle.sift_scenario.specs.Mission.{AreAllowed, IsTreeOf, roll_for, steps_left, turn_of}
 use Rattle.sift_scenario.specs.Rules.{IsFirstBroken, IsLawful}
 use Rattle.sift_scenario.specs.Task.{AreForms, Form, text, tasks_of}
 
@@ -22,25 +26,51 @@ refusal_of task (parse.Later at) = Task task 4 at
 refusal_of task (parse.Limit which at) = Task task 5 at
 refusal_of task parse.NoMemory = NoMemory
 
--- the first of the texts that is no task is that of this task, and it is refused so
-pub record IsFirstRefused (roll : Roll) (forms : List Form) (refused : Refused) : Type 0 where
-  pub task : ℕ
-  pub earlier : (other : ℕ) → other < task → HoldsOf forms other (λ form. (tree : TaskTree) × IsTreeOf (turn_of other roll) form tree)
+-- the refusal of a task whose code is too long, or takes too many steps
+abbrev pub code_refusal_of : ℕ → CompileStop → Refused
+code_refusal_of task (compile.CodeTooLong len) = Task task 6 len
+code_refusal_of task (compile.TooManySteps bound) = Task task 7 bound
+code_refusal_of task compile.NoMemory = NoMemory
+
+-- a text that is no task
+pub record IsNoTask (roll : Roll) (task : ℕ) (form : Form) (refused : Refused) : Type 0 where
   pub bytes : List ℕ
-  pub here : HoldsOf forms task (λ form. form ≡ text bytes)
+  pub form_is : form ≡ text bytes
   pub stop : ParseStop
-  pub told : Tells (turn_of task roll) bytes (Err stop)
   pub some_stop : stop ≢ parse.NoMemory
+  pub told : Tells roll bytes (Err stop)
   pub refused_is : refused ≡ refusal_of task stop
 
--- the tasks in these tables have forms, of which a text is refused
-abbrev pub IsTextRefused : List Members → Refused → Type 0
-IsTextRefused tasks refused = (forms : List Form) × AreForms tasks forms × IsFirstRefused (roll_for tasks) forms refused
+-- a task whose code isn't allowed, where so many steps are left
+pub record IsNotAllowed (roll : Roll) (left task : ℕ) (form : Form) (refused : Refused) : Type 0 where
+  pub tree : TaskTree
+  pub tree_is : IsTreeOf roll form tree
+  pub stop : CompileStop
+  pub some_stop : stop ≢ compile.NoMemory
+  pub stopped : Stops left (task_code tree) stop
+  pub refused_is : refused ≡ code_refusal_of task stop
+
+-- the task is refused for its text, or for its code
+abbrev pub IsFormRefused : Roll → (left task : ℕ) → Form → Refused → Type 0
+IsFormRefused roll left task form refused = IsNoTask roll task form refused ⊎ IsNotAllowed roll left task form refused
+
+-- the first of the tasks of these forms that is refused is this one, after tasks with these trees
+pub record IsFirstRefused (roll : Roll) (forms : List Form) (refused : Refused) : Type 0 where
+  pub task : ℕ
+  pub trees : List TaskTree
+  pub as_many : length trees ≡ task
+  pub earlier : EachMatches (λ other form tree. IsTreeOf (turn_of other roll) form tree) forms trees
+  pub allowed : AreAllowed trees
+  pub here : HoldsOf forms task (λ form. IsFormRefused (turn_of task roll) (steps_left trees) task form refused)
+
+-- the tasks in these tables have forms, of which one is refused
+abbrev pub TasksAreRefused : List Members → Refused → Type 0
+TasksAreRefused tasks refused = (forms : List Form) × AreForms tasks forms × IsFirstRefused (roll_for tasks) forms refused
 
 -- what stands where a document is refused; want of memory says nothing else
 abbrev pub IsRefused : Members → Refused → Type 0
 IsRefused document (Scenario rule place) = IsFirstBroken document rule place
-IsRefused document (Task task kind at) = IsLawful document × IsTextRefused (tasks_of document) (Task task kind at)
+IsRefused document (Task task kind at) = IsLawful document × TasksAreRefused (tasks_of document) (Task task kind at)
 IsRefused document NoMemory = Unit {0}
 
 -- the document is refused so, unless memory was wanting

@@ -6,12 +6,15 @@ use Rattle.sift_scenario.specs.declared.refused.Refused.TheVariants.{Scenario, T
 use Rattle.sift_scenario.specs.declared.task.Form as held
 use Rattle.sift_scenario.specs.declared.task.Form.TheVariants as variant
 use Rattle.sift_parse.specs.Force.{Roll}
-use Rattle.sift_parse.specs.Outcome.{AreNames, Tells}
-use Rattle.sift_parse.specs.declared.stop.ParseStop.{ParseStop}
-use Rattle.sift_parse.specs.declared.stop.ParseStop.TheVariants as parse
+use Rattle.sift_parse.specs.Outcome.{AreNames}
+use Rattle.sift_compile.specs.Code.{task_code}
+use Rattle.sift_compile.specs.Stop.{Stops}
+use Rattle.sift_compile.specs.declared.stop.CompileStop.{CompileStop}
+use Rattle.sift_compile.specs.declared.stop.CompileStop.TheVariants as compile
+use Rattle.sift_lang.specs.Tree.{TaskTree}
 use Rattle.sift_scenario.specs.Document.{word_array}
 use Rattle.sift_scenario.specs.Mission.{turn_of}
-use Rattle.sift_scenario.specs.Refusal.{IsRefused}
+use Rattle.sift_scenario.specs.Refusal.{IsRefused, code_refusal_of}
 use Rattle.sift_scenario.specs.Rules.{BreaksForms, BreaksNames, BreaksStarts, BreaksWords, KeepsBelow}
 use Rattle.sift_scenario.specs.Task.{Form, linear, text, counts_of, tasks_of}
 
@@ -59,6 +62,7 @@ IsTaskRefused tasks refused =
 abbrev pub AreTurns : ℕ → Roll → Type 0
 AreTurns count roll = (task : ℕ) → task < count → AreNames (turn_of task roll)
 
--- parsing stopped for want of memory, or at a text that is no task
-abbrev pub IsStop : Roll → Form → ParseStop → Type 0
-IsStop roll form stop = stop ≢ parse.NoMemory → (bytes : List ℕ) × (form ≡ text bytes) × Tells roll bytes (Err stop)
+-- compiling stopped for want of memory, or at code that isn't allowed
+abbrev pub IsCodeStop : (left task : ℕ) → TaskTree → Refused → Type 0
+IsCodeStop left task tree refused = refused ≢ NoMemory
+    → (stop : CompileStop) × (stop ≢ compile.NoMemory) × Stops left (task_code tree) stop × (refused ≡ code_refusal_of task stop)

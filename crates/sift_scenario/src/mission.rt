@@ -3,7 +3,7 @@ ghost use Rattle.toml.specs.View.{table_view};
 ghost use Rattle.sift_program.specs.Program.{program_of};
 ghost use Rattle.sift_program.specs.Sound.{IsSoundProgram};
 ghost use Rattle.sift_scenario.specs.declared.refused.Refused.{Refused};
-ghost use Rattle.sift_scenario.specs.Mission.{CanFly, IsMission, IsProgramOf, Stated, stated};
+ghost use Rattle.sift_scenario.specs.Mission.{AreCodesOf, CanFly, IsMission, IsProgramOf, Stated, stated};
 ghost use Rattle.sift_scenario.specs.Refusal.{IsRefused, OnlyRefuses};
 ghost use Rattle.sift_scenario.specs.Rules.{IsTaskNumber};
 ghost use Rattle.sift_scenario.specs.Testing.{IsTaskRefused, KeepsTaskRules};
@@ -11,7 +11,8 @@ ghost use Rattle.sift_scenario.specs.Testing.{IsTaskRefused, KeepsTaskRules};
 use crate::refused::Refused;
 use crate::root::root_of;
 use crate::task::{check_words, task_forms, task_names, task_starts, task_tables};
-use crate::tree::{all_starts, names_for, task_trees};
+use crate::tree::{all_starts, compile_tasks, names_for};
+use sift_code::Checked;
 use sift_program::Program;
 use std::alloc::Global;
 use toml::Table;
@@ -25,15 +26,17 @@ pub struct Mission {
     pub frames: u32,
     /// What the units run. The task at place t is entry t of `task`.
     pub program: Program,
+    /// The checked code of each task.
+    pub code: Vec<Checked>,
 }
 
 /// The mission that a document states.
 ///
 /// The rules are tested in the order of their numbers, and each for the entries in their order. Then
-/// the texts of the tasks are parsed in their order.
+/// the tasks are parsed and compiled, one after the other.
 pub fn mission_of(alloc: Global, document: &Table) -> Result<Mission, Refused>
     ensures accepted { IfOk result (λ mission. IsMission (table_view document.now) (stated mission)) }
-    ensures flyable { IfOk result (λ mission. CanFly (stated mission)) }
+    ensures flyable { IfOk result (λ mission. CanFly (stated mission) mission.code.items) }
     ensures refused { IfErr result (IsRefused (table_view document.now)) }
 
     // A document that states a mission, or is owed a refusal, gets it, unless memory is wanting.
@@ -44,20 +47,30 @@ pub fn mission_of(alloc: Global, document: &Table) -> Result<Mission, Refused>
 {
     let root = root_of(document)?;
     let tasks = task_tables(alloc, document)?;
-    let program = program_of(alloc, &tasks)?;
+    let running = program_of(alloc, &tasks)?;
     Ok(Mission {
         units: root.units,
         frames: root.frames,
-        program,
+        program: running.program,
+        code: running.code,
     })
 }
 
+/// A program and the checked code of its tasks.
+#[derive(Drop)]
+struct Running {
+    program: Program,
+    code: Vec<Checked>,
+}
+
 /// The program of the tasks in these tables, by the rules from that of the names on.
-fn program_of(alloc: Global, tasks: &[&Table]) -> Result<Program, Refused>
+fn program_of(alloc: Global, tasks: &[&Table]) -> Result<Running, Refused>
     requires { IsTaskNumber (length tasks.now) }
-    ensures stated { IfOk result (λ program.
-        IsProgramOf (map (λ task. table_view task.now) tasks.now) (program_of program)) }
-    ensures sound { IfOk result (λ program. IsSoundProgram 0 (program_of program)) }
+    ensures stated { IfOk result (λ running.
+        IsProgramOf (map (λ task. table_view task.now) tasks.now) (program_of running.program)) }
+    ensures sound { IfOk result (λ running. IsSoundProgram 0 (program_of running.program)) }
+    ensures codes { IfOk result (λ running.
+        AreCodesOf (length running.program.starts.items) (program_of running.program).tasks running.code.items) }
     ensures kept { IfOk result (λ _. KeepsTaskRules (map (λ task. table_view task.now) tasks.now)) }
     ensures refused { IfErr result (IsTaskRefused (map (λ task. table_view task.now) tasks.now)) }
 {
@@ -66,8 +79,14 @@ fn program_of(alloc: Global, tasks: &[&Table]) -> Result<Program, Refused>
     check_words(&starts)?;
     let forms = task_forms(alloc, tasks, &starts)?;
     let mut names = names_for(alloc, &names, &starts)?;
-    Ok(Program {
-        tasks: task_trees(alloc, &forms, &mut names)?,
-        starts: all_starts(alloc, &starts)?,
+    let starts = all_starts(alloc, &starts)?;
+    let compiled = compile_tasks(alloc, &forms, &mut names, starts.len() as u8)?;
+    let program = Program {
+        tasks: compiled.trees,
+        starts,
+    };
+    Ok(Running {
+        program,
+        code: compiled.codes,
     })
 }

@@ -1,7 +1,8 @@
 ghost use Rattle.std.specs.Prelude.{◌≡◌, ◌<◌, ◌^◌};
-ghost use Rattle.sift_scenario.specs.Refusal.{refusal_of};
+ghost use Rattle.sift_scenario.specs.Refusal.{code_refusal_of, refusal_of};
 
 use sift_base::NoMemory;
+use sift_compile::CompileStop;
 use sift_parse::ParseStop;
 use std::alloc::{AllocError, AllocFailed};
 
@@ -11,9 +12,11 @@ pub enum Refused {
     /// It breaks the scenario rule of this number. `place` is the number of the first entry that
     /// does, and 0 for a rule that speaks of no entry.
     Scenario { rule: u32, place: u32 },
-    /// The text of this task is none of the task language. `kind` is 1 where no token begins at the
-    /// byte place `at`, 2 for the grammar, 3 for a name that isn't there, 4 for the words of a task
-    /// that isn't earlier, and 5 for a limit.
+    /// This task is refused. `kind` is 1 where no token begins at the byte place `at` of its text, 2 for
+    /// the grammar, 3 for a name that isn't there, 4 for the words of a task that isn't earlier, and 5
+    /// for a limit of texts. It is 6 where its code has more than 1,024 instructions, of which `at` is
+    /// the number, and 7 where it may take more steps than the tasks before it leave of 16,384; `at` is
+    /// the bound of its steps.
     Task { task: u32, kind: u32, at: u32 },
     /// An allocation failed.
     NoMemory,
@@ -75,6 +78,23 @@ pub(crate) fn text_refused(task: usize, stop: ParseStop) -> Refused
         ParseStop::Later { at } => (4, at),
         ParseStop::Limit { at, .. } => (5, at),
         ParseStop::NoMemory => return Refused::NoMemory,
+    };
+    Refused::Task {
+        task: task as u32,
+        kind,
+        at,
+    }
+}
+
+/// The refusal of a task's code.
+pub(crate) fn code_refused(task: usize, stop: CompileStop) -> Refused
+    requires { task < 2 ^ 32 }
+    ensures { result ≡ code_refusal_of task stop }
+{
+    let (kind, at) = match stop {
+        CompileStop::CodeTooLong { len } => (6, len),
+        CompileStop::TooManySteps { bound } => (7, bound),
+        CompileStop::NoMemory => return Refused::NoMemory,
     };
     Refused::Task {
         task: task as u32,

@@ -1,21 +1,27 @@
-//! The trees and the start words of the tasks.
+//! The trees, the code and the start words of the tasks.
 
-ghost use Rattle.std.specs.Prelude.{◌≡◌, ◌≢◌, ◌<◌, ◌≤◌, ◌^◌, [], ℕ, IfErr, IfOk, length, map, slice_index};
-ghost use Rattle.std.specs.List.{flat_map};
+ghost use Rattle.std.specs.Prelude.{◌≡◌, ◌≢◌, ◌<◌, ◌≤◌, ◌^◌, [], ℕ, IfErr, IfOk, IsOk, length, map, slice_index};
+ghost use Rattle.std.specs.List.{flat_map, sum};
+ghost use Rattle.sift_compile.specs.Code.{task_code, task_program};
+ghost use Rattle.sift_compile.specs.Correct.{Means};
+ghost use Rattle.sift_compile.specs.Stop.{IsAllowed};
+ghost use Rattle.sift_lang.specs.Sound.{IsSound};
 ghost use Rattle.sift_lang.specs.Tree.{tree_of};
 ghost use Rattle.sift_parse.specs.Force.{Roll, roll_of, words_before};
 ghost use Rattle.sift_parse.specs.Linear.{linear_tree};
 ghost use Rattle.sift_parse.specs.Outcome.{AreNames};
 ghost use Rattle.sift_program.specs.declared.program.TheConstants.{TASK_LIMIT};
-ghost use Rattle.sift_scenario.specs.Mission.{AreTreesOf, IsTreeOf, turn_of};
-ghost use Rattle.sift_scenario.specs.Refusal.{IsFirstRefused};
-ghost use Rattle.sift_scenario.specs.Testing.{AreTurns, IsStop, form_of};
+ghost use Rattle.sift_scenario.specs.Mission.{AreAllowed, AreCodesOf, AreTreesOf, IsTreeOf, step_limit, turn_of};
+ghost use Rattle.sift_scenario.specs.Refusal.{IsFirstRefused, IsNoTask};
+ghost use Rattle.sift_scenario.specs.Testing.{AreTurns, IsCodeStop, form_of};
 
-use crate::refused::{Refused, text_refused};
+use crate::refused::{Refused, code_refused, text_refused};
 use crate::task::{Form, Starts};
 use sift_base::{Name, NoMemory, Word};
+use sift_code::Checked;
+use sift_compile::compile;
 use sift_lang::{Expr, Op, Stmt, Task};
-use sift_parse::{Names, ParseStop, parse_task};
+use sift_parse::{Names, parse_task};
 use std::alloc::Global;
 
 /// The names that the texts of tasks may use, where these are the tasks' names and start words.
@@ -50,42 +56,86 @@ pub(crate) fn all_starts(alloc: Global, starts: &[Starts]) -> Result<Vec<Word>, 
     Ok(all)
 }
 
-/// The trees of the tasks of these forms, each in its turn.
-pub(crate) fn task_trees(
+/// The most steps that the tasks of a mission may take in a frame, all together.
+const STEP_LIMIT: u32 = 16_384;
+
+/// The trees of tasks, and their code.
+#[derive(Drop)]
+pub(crate) struct Compiled {
+    pub trees: Vec<Task>,
+    pub codes: Vec<Checked>,
+}
+
+/// The trees and the code of the tasks of these forms, each in its turn. They have so many output words.
+pub(crate) fn compile_tasks(
     alloc: Global,
     forms: &[Form<'_>],
     names: &mut Names,
-) -> Result<Vec<Task>, Refused>
+    words: u8,
+) -> Result<Compiled, Refused>
     requires few { length forms.now ≤ TASK_LIMIT }
     requires turns { AreTurns (length forms.now) (roll_of names.old) }
-    ensures trees { IfOk result (λ trees.
-        AreTreesOf (roll_of names.old) (map form_of forms.now) (map tree_of trees.items)) }
+    requires words { words ≡ sum (roll_of names.old).sizes }
+    ensures trees { IfOk result (λ compiled.
+        AreTreesOf (roll_of names.old) (map form_of forms.now) (map tree_of compiled.trees.items)) }
+    ensures allowed { IfOk result (λ compiled. AreAllowed (map tree_of compiled.trees.items)) }
+    ensures codes { IfOk result (λ compiled.
+        AreCodesOf words (map tree_of compiled.trees.items) compiled.codes.items) }
     ensures refused { IfErr result (λ refused. refused ≢ Refused.NoMemory →
         IsFirstRefused (roll_of names.old) (map form_of forms.now) refused) }
 {
     let mut trees = Vec::new(alloc);
+    let mut codes = Vec::new(alloc);
+    let mut left = STEP_LIMIT;
     for (task, form) in forms.iter().enumerate() {
         names.this = task;
-        match form_tree(alloc, form, names) {
-            Ok(tree) => trees.push(tree)?,
-            Err(stop) => return Err(text_refused(task, stop)),
-        }
+        let tree = form_tree(alloc, form, names)?;
+        let code = tree_code(alloc, &tree, task, words, left)?;
+        left -= code.bound();
+        trees.push(tree)?;
+        codes.push(code)?;
     }
-    Ok(trees)
+    Ok(Compiled { trees, codes })
+}
+
+/// The code of a tree, which may name so many words and take so many steps.
+fn tree_code(
+    alloc: Global,
+    tree: &Task,
+    task: usize,
+    words: u8,
+    left: u32,
+) -> Result<Checked, Refused>
+    requires task { task < 2 ^ 32 }
+    requires sound { IsSound 0 words (tree_of tree.now) }
+    requires left { left ≤ step_limit }
+    ensures code { IfOk result (λ code. code ≡ task_program 0 words (tree_of tree.now)) }
+    ensures means { IfOk result (λ code. Means code (tree_of tree.now)) }
+    ensures allowed { IsOk result → IsAllowed left (task_code (tree_of tree.now)) }
+    ensures refused { IfErr result (IsCodeStop left task (tree_of tree.now)) }
+{
+    match compile(alloc, tree, 0, words, left) {
+        Ok(code) => Ok(code),
+        Err(stop) => Err(code_refused(task, stop)),
+    }
 }
 
 /// The tree of a task of this form, where it is its turn.
-fn form_tree(alloc: Global, form: &Form<'_>, names: &Names) -> Result<Task, ParseStop>
+fn form_tree(alloc: Global, form: &Form<'_>, names: &Names) -> Result<Task, Refused>
     requires { AreNames (roll_of names.now) }
     ensures tree { IfOk result (λ task. IsTreeOf (roll_of names.now) (form_of form.now) (tree_of task)) }
-    ensures stop { IfErr result (IsStop (roll_of names.now) (form_of form.now)) }
+    ensures refused { IfErr result (λ refused. refused ≢ Refused.NoMemory
+        → IsNoTask (roll_of names.now) (roll_of names.now).this (form_of form.now) refused) }
 {
     match form {
         Form::Linear { factor, addend } => {
             let word = first_word(names);
-            linear_task(alloc, word, *factor, *addend).map_err(|_| ParseStop::NoMemory)
+            Ok(linear_task(alloc, word, *factor, *addend)?)
         }
-        Form::Text(text) => parse_task(alloc, text, names),
+        Form::Text(text) => match parse_task(alloc, text, names) {
+            Ok(task) => Ok(task),
+            Err(stop) => Err(text_refused(names.this, stop)),
+        },
     }
 }
 
