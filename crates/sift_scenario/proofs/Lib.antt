@@ -1,3 +1,4 @@
+pub mod Codes
 pub mod DocumentLemmas
 pub mod NewNames
 pub mod Numbers

@@ -59,7 +59,7 @@ module _ {A B : Type 0} (f : A → B) (xs : List A) (P : ℕ → B → Type 0) w
       none at (rw (← length-map xs f) (slice_get_within (map f xs) at found.entry found.there)) found
 
 -- an entry of a list with one more at the end is one of the list, or that one
-pushed : {A : Type 0} (xs : List A) (y : A) (i : ℕ) (x : A) → slice_get (xs ++ y ∷ []) i ≡ Some x → (slice_get xs i ≡ Some x) ⊎ ((i ≡ length xs) × (y ≡ x))
+pub pushed : {A : Type 0} (xs : List A) (y : A) (i : ℕ) (x : A) → slice_get (xs ++ y ∷ []) i ≡ Some x → (slice_get xs i ≡ Some x) ⊎ ((i ≡ length xs) × (y ≡ x))
 pushed [] y zero x there = inr (refl, cc there)
 pushed [] y (suc i) x there = cc
 pushed (z ∷ zs) y zero x there = inl there

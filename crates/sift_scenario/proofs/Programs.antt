@@ -26,7 +26,7 @@ same_lists (x ∷ xs) (y ∷ ys) long each =
 -- ---- trees of linear tasks
 
 -- such a tree is sound where there is its word
-sound_tree : (word words factor addend : ℕ) → word < words → IsSound 0 words (linear_tree word factor addend)
+pub sound_tree : (word words factor addend : ℕ) → word < words → IsSound 0 words (linear_tree word factor addend)
 sound_tree word words factor addend low = record {
   some_output = omega arith;
   few_outputs = omega arith;

@@ -1,16 +1,14 @@
 -- Tasks in their turns.
-use Rattle.std.proofs.Common.{◌≡◌, ◌≢◌, ℕ, List, length, get_or, Some, refl, ap, ◌∙◌, arith}
-use Rattle.std.proofs.lemmas.Option.{slice_get-get_or}
+use Rattle.std.proofs.Common.{◌≡◌, ◌≢◌, ℕ, List, length, Some, inl, inr, refl, sym, ap, subst, ◌∙◌}
 use Rattle.std.specs.List.{slice_get}
-use Rattle.sift_lang.specs.Tree.{TaskTree, end}
+use Rattle.sift_lang.specs.Tree.{TaskTree}
 use Rattle.sift_parse.specs.Force.{Roll, roll_of}
 use Rattle.sift_parse.specs.declared.names.Names.{Names}
-use Rattle.sift_parse.specs.declared.stop.ParseStop.{ParseStop}
 use Rattle.sift_scenario.specs.Entries.{EachMatches}
-use Rattle.sift_scenario.specs.Mission.{IsTreeOf, turn_of}
-use Rattle.sift_scenario.specs.Refusal.{IsFirstRefused, refusal_of}
+use Rattle.sift_scenario.specs.Mission.{AreAllowed, IsTreeOf, steps_left, turn_of}
+use Rattle.sift_scenario.specs.Refusal.{IsFirstRefused, IsNoTask}
 use Rattle.sift_scenario.specs.Task.{Form}
-use Rattle.sift_scenario.specs.Testing.{IsStop}
+use Rattle.sift_scenario.specs.Testing.{IsCodeStop}
 use Rattle.sift_scenario.specs.declared.refused.Refused.{Refused}
 use Rattle.sift_scenario.specs.declared.refused.Refused.TheVariants.{NoMemory}
 
@@ -20,23 +18,29 @@ pub same_turn :
     → roll_of (let n : Names = record { sensors = one.sensors; tasks = one.tasks; this = task } in n) ≡ turn_of task (roll_of other)
 same_turn one other task sensors tasks = rw (sensors, tasks) refl
 
--- a text that is refused, after tasks that have trees
-pub refused_here :
-    (roll : Roll) (forms : List Form) (trees : List TaskTree) (task : ℕ) (form : Form) (stop : ParseStop) (refused : Refused)
-    → length trees ≡ task → EachMatches (λ place f tree. IsTreeOf (turn_of place roll) f tree) forms trees
-    → slice_get forms task ≡ Some form → IsStop (turn_of task roll) form stop
-    → refused ≡ refusal_of task stop → refused ≢ NoMemory → IsFirstRefused roll forms refused
-refused_here roll forms trees task form stop refused long each there stopped is some =
-    let here = stopped (λ same. some (is ∙ ap (refusal_of task) same)) in record {
-      task = task;
-      earlier = λ other low.
-          let none : TaskTree = record { outputs = 0; body = end } in
-          let found = each other (get_or trees other none) (slice_get-get_or trees other none (omega (arith, low, long))) in
-          record { entry = found.entry; there = found.there; holds = (get_or trees other none, found.holds) };
-      bytes = here.0;
-      here = record { entry = form; there = there; holds = here.1 };
-      stop = stop;
-      told = here.2;
-      some_stop = λ same. some (is ∙ ap (refusal_of task) same);
-      refused_is = is;
-    }
+module _
+    (roll : Roll) (forms : List Form) (trees : List TaskTree) (task : ℕ) (form : Form) (refused : Refused) (long : length trees ≡ task)
+    (each : EachMatches (λ place f tree. IsTreeOf (turn_of place roll) f tree) forms trees) (allowed : AreAllowed trees)
+    (there : slice_get forms task ≡ Some form) where
+  -- a text that is no task, after tasks that have trees and code
+  pub text_first : IsNoTask (turn_of task roll) task form refused → IsFirstRefused roll forms refused
+  text_first here = record {
+    task = task;
+    trees = trees;
+    as_many = long;
+    earlier = each;
+    allowed = allowed;
+    here = record { entry = form; there = there; holds = inl here };
+  }
+
+  -- a task whose code isn't allowed
+  pub code_first : (tree : TaskTree) → IsTreeOf (turn_of task roll) form tree → refused ≢ NoMemory → IsCodeStop (steps_left trees) task tree refused → IsFirstRefused roll forms refused
+  code_first tree is some stops =
+      let stop = stops some in record {
+        task = task;
+        trees = trees;
+        as_many = long;
+        earlier = each;
+        allowed = allowed;
+        here = record { entry = form; there = there; holds = inr (record { tree = tree; tree_is = is; stop = stop.0; some_stop = stop.1; stopped = stop.2; refused_is = stop.3 }) };
+      }

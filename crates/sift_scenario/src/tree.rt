@@ -76,6 +76,7 @@ pub(crate) fn compile_tasks(
     requires few { length forms.now ≤ TASK_LIMIT }
     requires turns { AreTurns (length forms.now) (roll_of names.old) }
     requires words { words ≡ sum (roll_of names.old).sizes }
+    requires no_sensors { (roll_of names.old).sensors ≡ [] }
     ensures trees { IfOk result (λ compiled.
         AreTreesOf (roll_of names.old) (map form_of forms.now) (map tree_of compiled.trees.items)) }
     ensures allowed { IfOk result (λ compiled. AreAllowed (map tree_of compiled.trees.items)) }

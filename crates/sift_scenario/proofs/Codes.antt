@@ -1,0 +1,64 @@
+-- Trees and codes of tasks, one after another.
+use Rattle.std.proofs.Common.{◌≡◌, ◌<◌, ◌≤◌, ◌+◌, ◌-◌, ◌⊎◌, inl, inr, ℕ, List, [], ◌∷◌, ◌++◌, length, get_or, map, take, Some, refl, sym, ap, subst, ◌∙◌, arith}
+use Rattle.std.proofs.lemmas.List.{map-append, take-append-le, take_at}
+use Rattle.std.proofs.lemmas.List.Sums.{sum_by-append, sum_by-cons, sum_by_more_le}
+use Rattle.std.proofs.Math.Nat.{min-eq_left}
+use Rattle.std.proofs.lemmas.Option.{slice_get_within}
+use Rattle.std.specs.List.{slice_get, sum, sum_by}
+use Rattle.sift_code.specs.Bound.{bound_of, kept}
+use Rattle.sift_code.specs.Refusal.{Program}
+use Rattle.sift_compile.specs.Code.{task_code, task_program}
+use Rattle.sift_compile.specs.Correct.{Means}
+use Rattle.sift_compile.specs.Stop.{IsAllowed}
+use Rattle.sift_lang.specs.Sound.{IsSound}
+use Rattle.sift_lang.specs.Tree.{TaskTree}
+use Rattle.sift_parse.proofs.SoundTask.{HasWords}
+use Rattle.sift_parse.specs.Force.{Roll, words_before}
+use Rattle.sift_parse.specs.Outcome.{AreNames}
+use Rattle.sift_scenario.proofs.Places.{pushed}
+use Rattle.sift_scenario.proofs.Programs.{sound_tree}
+use Rattle.sift_scenario.specs.Mission.{AreAllowed, AreCodesOf, IsTreeOf, steps_left, steps_of}
+use Rattle.sift_scenario.specs.Task.{Form, linear, text}
+
+-- a tree of a form is sound
+pub sound_form : (r : Roll) (form : Form) (tree : TaskTree) → AreNames r → HasWords r → r.sensors ≡ [] → IsTreeOf r form tree → IsSound 0 (sum r.sizes) tree
+sound_form r (linear factor addend) tree names here sensors is =
+    let some = names.some_words r.this 0 here in
+    let room = sum_by_more_le (λ n. n) r.sizes r.this 0 here in
+    rw is (sound_tree (words_before r r.this) (sum r.sizes) factor addend (omega (arith, some, room)))
+sound_form r (text bytes) tree names here sensors is =
+    subst (λ (n : ℕ). IsSound n (sum r.sizes) tree) (ap length sensors) is.sound
+
+-- the trees before a place, where there is one more at the end
+take_before : (ts : List TaskTree) (t : TaskTree) (k : ℕ) → k ≤ length ts → take k (ts ++ t ∷ []) ≡ take k ts
+take_before ts t k low = take-append-le k ts (t ∷ []) low
+
+-- one tree more is allowed
+pub allowed_more : (ts : List TaskTree) (t : TaskTree) → AreAllowed ts → IsAllowed (steps_left ts) (task_code t) → AreAllowed (ts ++ t ∷ [])
+allowed_more ts t each more k tree there = elim (pushed ts t k tree there) [
+  | inl before ↦
+      rw (take_before ts t k (let low = slice_get_within ts k tree before in omega (arith, low))) (each k tree before)
+  | inr at_end ↦
+      let whole : take k (ts ++ t ∷ []) ≡ ts = take_at ts (t ∷ []) k (sym at_end.0) in
+      rw whole (subst (λ (u : TaskTree). IsAllowed (steps_left ts) (task_code u)) at_end.1 more)
+]
+
+-- the steps that are left after one tree more
+pub left_more : (ts : List TaskTree) (t : TaskTree) (left bound : ℕ) → left ≡ steps_left ts → bound ≡ kept (bound_of (task_code t)) → IsAllowed left (task_code t) → left - bound ≡ steps_left (ts ++ t ∷ [])
+left_more ts t left bound so is allowed =
+    let whole = sum_by-append (λ (u : TaskTree). bound_of (task_code u)) ts (t ∷ []) in
+    let last = sum_by-cons (λ (u : TaskTree). bound_of (task_code u)) t [] in
+    let quick : kept (bound_of (task_code t)) ≡ bound_of (task_code t) = min-eq_left (omega (arith, allowed.quick, so)) in
+    omega (arith, so, is, quick, whole, last, allowed.quick)
+
+-- the codes with one more
+pub codes_more :
+    (words : ℕ) (ts : List TaskTree) (t : TaskTree) (old new : List Program) (code : Program)
+    → AreCodesOf words ts old → new ≡ old ++ code ∷ [] → code ≡ task_program 0 words t → Means code t → AreCodesOf words (ts ++ t ∷ []) new
+codes_more words ts t old new code so added is means = record {
+  codes_are = added ∙ ap (λ (cs : List Program). cs ++ code ∷ []) so.codes_are ∙ ap (λ (c : Program). map (task_program 0 words) ts ++ c ∷ []) is ∙ sym (map-append (task_program 0 words) ts (t ∷ []));
+  mean = λ k tree there. elim (pushed ts t k tree there) [
+    | inl before ↦ so.mean k tree before
+    | inr at_end ↦ subst (λ (u : TaskTree). Means (task_program 0 words u) u) at_end.1 (subst (λ (p : Program). Means p t) is means)
+  ];
+}
