@@ -2,7 +2,10 @@
 use Rattle.std.proofs.Common.{◌≡◌, ◌≢◌, ◌<◌, ◌≤◌, ◌⊎◌, ◌==◌, inl, inr, cond, List, ℕ, refl, sym, ap, subst, ◌∙◌, arith}
 use Rattle.std.proofs.lemmas.Bool.{cases_order}
 use Rattle.toml.specs.Data.{Members}
-use Rattle.sift_scenario.specs.Refusal.{IsFirstRefused, IsRefused, TasksAreRefused, refusal_of}
+use Rattle.sift_scenario.specs.Refusal.{IsFirstRefused, IsRefused, TasksAreRefused, IsFormRefused, code_refusal_of, refusal_of}
+use Rattle.sift_compile.specs.declared.stop.CompileStop.{CompileStop}
+use Rattle.sift_compile.specs.declared.stop.CompileStop.TheVariants as compile
+use Rattle.sift_parse.specs.Force.{Roll}
 use Rattle.sift_parse.specs.declared.stop.ParseStop.{ParseStop}
 use Rattle.sift_parse.specs.declared.stop.ParseStop.TheVariants as parse
 use Rattle.sift_scenario.specs.Mission.{roll_for}
@@ -123,7 +126,7 @@ lawful_with d tasks same below kept =
     let words = up_to_words d starts here.words in
     all_kept d (up_to_forms d words here.forms)
 
--- a text is refused by no rule
+-- a task is refused by no rule
 refusal_of-other : (task : ℕ) (stop : ParseStop) (n at : ℕ) → Scenario n at ≢ refusal_of task stop
 refusal_of-other task (parse.Lex a) n at same = cc
 refusal_of-other task (parse.Syntax a) n at same = cc
@@ -132,9 +135,18 @@ refusal_of-other task (parse.Later a) n at same = cc
 refusal_of-other task (parse.Limit w a) n at same = cc
 refusal_of-other task parse.NoMemory n at same = cc
 
--- a text of a lawful document is refused
+code_refusal_of-other : (task : ℕ) (stop : CompileStop) (n at : ℕ) → Scenario n at ≢ code_refusal_of task stop
+code_refusal_of-other task (compile.CodeTooLong len) n at same = cc
+code_refusal_of-other task (compile.TooManySteps bound) n at same = cc
+code_refusal_of-other task compile.NoMemory n at same = cc
+
+form_refusal-other : (roll : Roll) (left task : ℕ) (form : Form) (n at : ℕ) → IsFormRefused roll left task form (Scenario n at) → ⊥
+form_refusal-other roll left task form n at (inl fault) = refusal_of-other task fault.stop n at fault.refused_is
+form_refusal-other roll left task form n at (inr over) = code_refusal_of-other task over.stop n at over.refused_is
+
+-- a task of a lawful document is refused
 text_refused_by : (d : Members) (e : Refused) → IsLawful d → (e ≢ NoMemory → TasksAreRefused (tasks_of d) e) → IsRefused d e
-text_refused_by d (Scenario n at) lawful refused = let r = refused (λ same. cc) in absurd (refusal_of-other r.2.task r.2.stop n at r.2.refused_is)
+text_refused_by d (Scenario n at) lawful refused = let r = refused (λ same. cc) in absurd (form_refusal-other _ _ _ _ n at r.2.here.holds)
 text_refused_by d (Task t k at) lawful refused = (lawful, refused (λ same. cc))
 text_refused_by d NoMemory lawful refused = tt
 
@@ -169,7 +181,7 @@ module _ (tasks : List Members) (e : Refused) where
       subst (λ (ts : List Members). ((at : ℕ) → ¬ BreaksNames ts at) → ((at : ℕ) → ¬ BreaksStarts ts at) → ((at : ℕ) → ¬ BreaksWords (counts_of ts) at) → RefusesBy 22 (BreaksForms ts) e → IsRefused d e) same
       (λ n s w. refused_by d forms_stated e (up_to_words d (up_to_starts d (up_to_names d below n) s) w) 22 refl) names starts words refuses
 
-  -- all rules are kept, and a text is the first that is refused
+  -- all rules are kept, and a task is the first that is refused
   pub texts_refused :
       ((at : ℕ) → ¬ BreaksNames tasks at) → ((at : ℕ) → ¬ BreaksStarts tasks at) → ((at : ℕ) → ¬ BreaksWords (counts_of tasks) at) → ((at : ℕ) → ¬ BreaksForms tasks at)
       → (fs : List Form) → AreForms tasks fs → (e ≢ NoMemory → IsFirstRefused (roll_for tasks) fs e) → IsTaskRefused tasks e

@@ -1,5 +1,5 @@
 -- A document that states a mission isn't refused, and one that is refused is refused in one way.
-use Rattle.std.proofs.Common.{◌≡◌, ◌≢◌, ◌<◌, ◌⊎◌, inl, inr, ℕ, List, get_or, Some, Err, refl, sym, ap, subst, ◌∙◌, arith}
+use Rattle.std.proofs.Common.{◌≡◌, ◌≢◌, ◌<◌, ◌≤◌, ◌⊎◌, inl, inr, ℕ, List, length, get_or, take, Some, Err, refl, sym, ap, subst, ◌∙◌, arith}
 use Rattle.std.proofs.lemmas.Bool.{cases_order}
 use Rattle.std.proofs.lemmas.List.{get_or-take, length-take-le, take_all}
 use Rattle.std.proofs.lemmas.Option.{get_or_from_slice_get, slice_get-get_or, slice_get_read, slice_get_within}
@@ -41,8 +41,8 @@ one_entry forms t a b one other = let both : Some a ≡ Some b = sym one ∙ oth
 
 -- what may not be isn't refused for its text, where it has a tree
 tree_unrefused : (roll : Roll) (task : ℕ) (form : Form) (tree : TaskTree) (e : Refused) → IsTreeOf roll form tree → IsNoTask roll task form e → ⊥
-tree_unrefused roll task form tree e is no =
-    task_unrefused roll no.bytes tree no.stop no.some_stop (subst (λ (f : Form). IsTreeOf roll f tree) no.form_is is) no.told
+tree_unrefused roll task form tree e is fault =
+    task_unrefused roll fault.bytes tree fault.stop fault.some_stop (subst (λ (f : Form). IsTreeOf roll f tree) fault.form_is is) fault.told
 
 -- code that is allowed isn't refused
 code_unrefused : (left : ℕ) (code : List Instr) (stop : CompileStop) → stop ≢ compile.NoMemory → IsAllowed left code → Stops left code stop → ⊥
@@ -52,7 +52,7 @@ code_unrefused left code compile.NoMemory some allowed stops = some refl
 
 -- a task that has an allowed tree isn't refused
 form_unrefused : (roll : Roll) (left task : ℕ) (form : Form) (tree : TaskTree) (e : Refused) → IsTreeOf roll form tree → IsAllowed left (task_code tree) → IsFormRefused roll left task form e → ⊥
-form_unrefused roll left task form tree e is allowed (inl no) = tree_unrefused roll task form tree e is no
+form_unrefused roll left task form tree e is allowed (inl fault) = tree_unrefused roll task form tree e is fault
 form_unrefused roll left task form tree e is allowed (inr over) =
     let same = one_tree roll form over.tree tree over.tree_is is in
     code_unrefused left (task_code tree) over.stop over.some_stop allowed (subst (λ (t : TaskTree). Stops left (task_code t) over.stop) same over.stopped)
@@ -124,7 +124,7 @@ one_stop roll task form a b one other =
     let bytes : one.bytes ≡ other.bytes = cc form_is in
     let told : Tells roll other.bytes (Err one.stop) = subst (λ (bs : List ℕ). Tells roll bs (Err one.stop)) bytes one.told in
     let stop : one.stop ≡ other.stop = one_answer roll other.bytes (Err one.stop) (Err other.stop)
-        (λ e. one.some_stop (cc e)) (λ e. other.some_stop (cc e)) told other.told in
+    (λ e. one.some_stop (cc e)) (λ e. other.some_stop (cc e)) told other.told in
     one.refused_is ∙ ap (refusal_of task) stop ∙ sym other.refused_is
 
 -- code is refused in one way
@@ -145,7 +145,7 @@ one_form_refusal roll left task form a b (inr one) (inl other) = absurd (tree_un
 one_form_refusal roll left task form a b (inr one) (inr other) =
     let same = one_tree roll form one.tree other.tree one.tree_is other.tree_is in
     let stop = one_code_stop left (task_code other.tree) one.stop other.stop one.some_stop other.some_stop
-        (subst (λ (t : TaskTree). Stops left (task_code t) one.stop) same one.stopped) other.stopped in
+    (subst (λ (t : TaskTree). Stops left (task_code t) one.stop) same one.stopped) other.stopped in
     one.refused_is ∙ ap (code_refusal_of task) stop ∙ sym other.refused_is
 
 -- the first task that is refused is refused in one way
@@ -157,9 +157,9 @@ same_task roll forms a b one other same =
     let there : slice_get forms other.task ≡ Some one.here.entry = subst (λ (t : ℕ). slice_get forms t ≡ Some one.here.entry) same one.here.there in
     let form = one_entry forms other.task _ _ there other.here.there in
     let here : IsFormRefused (turn_of other.task roll) (steps_left other.trees) other.task other.here.entry a =
-        subst (λ (f : Form). IsFormRefused (turn_of other.task roll) (steps_left other.trees) other.task f a) form
-        (subst (λ (ts : List TaskTree). IsFormRefused (turn_of other.task roll) (steps_left ts) other.task one.here.entry a) trees
-        (subst (λ (t : ℕ). IsFormRefused (turn_of t roll) (steps_left one.trees) t one.here.entry a) same one.here.holds)) in
+    subst (λ (f : Form). IsFormRefused (turn_of other.task roll) (steps_left other.trees) other.task f a) form
+    (subst (λ (ts : List TaskTree). IsFormRefused (turn_of other.task roll) (steps_left ts) other.task one.here.entry a) trees
+    (subst (λ (t : ℕ). IsFormRefused (turn_of t roll) (steps_left one.trees) t one.here.entry a) same one.here.holds)) in
     one_form_refusal (turn_of other.task roll) (steps_left other.trees) other.task other.here.entry a b here other.here.holds
 
 -- the first task that is refused is one

@@ -96,4 +96,4 @@ pub record CanFly (mission : Stated) (codes : List Program) : Type 0 where
   pub units : (4 ≤ mission.units) × (mission.units ≤ 8)
   pub frames : (1 ≤ mission.frames) × (mission.frames ≤ 1000)
   pub program : IsSoundProgram 0 mission.program
-  pub codes : AreCodesOf (length mission.program.starts) mission.program.tasks codes
+  pub compiled : AreCodesOf (length mission.program.starts) mission.program.tasks codes

@@ -44,20 +44,20 @@ returns-in_err-tasks-clause-exact c owed some stands =
     rw same (refl, exact_from (table_view c.args.document.now) _ (refused_by (table_view c.args.document.now) tasks_stated _ c.in_ok-root.ensures.kept 18 refl c.in_err-tasks.ensures.tests) owed some stands)
 
 -- a task is refused
-pub returns-in_err-program-clause-refused : goal.returns-in_err-program-clause-refused
-returns-in_err-program-clause-refused c =
-    let same : c.from_residual-in_err-program.result ≡ Err c.in_err-program.field-0.0 = search rules in
-    rw same (c.in_err-program.ensures.refused (table_view c.args.document.now) (rw c.deref.ensures.value (sym c.in_ok-tasks.ensures.tables)) (up_to_tasks (table_view c.args.document.now) c.in_ok-root.ensures.kept c.in_ok-tasks.ensures.tests))
+pub returns-in_err-running-clause-refused : goal.returns-in_err-running-clause-refused
+returns-in_err-running-clause-refused c =
+    let same : c.from_residual-in_err-running.result ≡ Err c.in_err-running.field-0.0 = search rules in
+    rw same (c.in_err-running.ensures.refused (table_view c.args.document.now) (rw c.deref.ensures.value (sym c.in_ok-tasks.ensures.tables)) (up_to_tasks (table_view c.args.document.now) c.in_ok-root.ensures.kept c.in_ok-tasks.ensures.tests))
 
-pub returns-in_err-program-clause-complete : goal.returns-in_err-program-clause-complete
-returns-in_err-program-clause-complete c =
-    let same : c.from_residual-in_err-program.result ≡ Err c.in_err-program.field-0.0 = search rules in
-    rw same (complete_from (table_view c.args.document.now) _ (c.in_err-program.ensures.refused (table_view c.args.document.now) (rw c.deref.ensures.value (sym c.in_ok-tasks.ensures.tables)) (up_to_tasks (table_view c.args.document.now) c.in_ok-root.ensures.kept c.in_ok-tasks.ensures.tests)))
+pub returns-in_err-running-clause-complete : goal.returns-in_err-running-clause-complete
+returns-in_err-running-clause-complete c =
+    let same : c.from_residual-in_err-running.result ≡ Err c.in_err-running.field-0.0 = search rules in
+    rw same (complete_from (table_view c.args.document.now) _ (c.in_err-running.ensures.refused (table_view c.args.document.now) (rw c.deref.ensures.value (sym c.in_ok-tasks.ensures.tables)) (up_to_tasks (table_view c.args.document.now) c.in_ok-root.ensures.kept c.in_ok-tasks.ensures.tests)))
 
-pub returns-in_err-program-clause-exact : goal.returns-in_err-program-clause-exact
-returns-in_err-program-clause-exact c owed some stands =
-    let same : c.from_residual-in_err-program.result ≡ Err c.in_err-program.field-0.0 = search rules in
-    rw same (refl, exact_from (table_view c.args.document.now) _ (c.in_err-program.ensures.refused (table_view c.args.document.now) (rw c.deref.ensures.value (sym c.in_ok-tasks.ensures.tables)) (up_to_tasks (table_view c.args.document.now) c.in_ok-root.ensures.kept c.in_ok-tasks.ensures.tests)) owed some stands)
+pub returns-in_err-running-clause-exact : goal.returns-in_err-running-clause-exact
+returns-in_err-running-clause-exact c owed some stands =
+    let same : c.from_residual-in_err-running.result ≡ Err c.in_err-running.field-0.0 = search rules in
+    rw same (refl, exact_from (table_view c.args.document.now) _ (c.in_err-running.ensures.refused (table_view c.args.document.now) (rw c.deref.ensures.value (sym c.in_ok-tasks.ensures.tables)) (up_to_tasks (table_view c.args.document.now) c.in_ok-root.ensures.kept c.in_ok-tasks.ensures.tests)) owed some stands)
 
 -- the mission is the document's
 pub returns-clause-accepted : goal.returns-clause-accepted
@@ -65,10 +65,10 @@ returns-clause-accepted c =
     let document = (table_view c.args.document.now) in
     let tables : map (λ task. table_view task.now) c.deref.result.now ≡ tasks_of document = rw c.deref.ensures.value c.in_ok-tasks.ensures.tables in
     let below = up_to_tasks document c.in_ok-root.ensures.kept c.in_ok-tasks.ensures.tests in record {
-      lawful = lawful_with document _ tables below c.in_ok-program.ensures.kept;
+      lawful = lawful_with document _ tables below c.in_ok-running.ensures.kept;
       units = c.in_ok-root.ensures.units;
       frames = c.in_ok-root.ensures.frames;
-      program = subst (λ (tasks : List Members). IsProgramOf tasks (program_of c.in_ok-program.program)) tables c.in_ok-program.ensures.stated;
+      program = subst (λ (tasks : List Members). IsProgramOf tasks (program_of c.in_ok-running.running.program)) tables c.in_ok-running.ensures.stated;
     }
 
 -- its numbers are within the limits
@@ -76,7 +76,8 @@ pub returns-clause-flyable : goal.returns-clause-flyable
 returns-clause-flyable c = record {
   units = between_at 4 8 (get_member (codes "units") (table_view c.args.document.now)) _ c.in_ok-root.ensures.units;
   frames = between_at 1 1000 (get_member (codes "frames") (table_view c.args.document.now)) _ c.in_ok-root.ensures.frames;
-  program = c.in_ok-program.ensures.sound;
+  program = c.in_ok-running.ensures.sound;
+  compiled = c.in_ok-running.ensures.codes;
 }
 
 -- a document that states a mission is owed no refusal

@@ -1,5 +1,6 @@
-use Rattle.std.proofs.Common.{◌≡◌, ℕ, Err, rules, sym, subst, map, length, ◌∙◌, arith}
+use Rattle.std.proofs.Common.{ap, ◌≡◌, ℕ, Err, rules, sym, subst, map, length, ◌∙◌, arith}
 use Rattle.std.proofs.lemmas.List.{length-map}
+use Rattle.std.specs.List.{sum}
 use Rattle.toml.specs.View.{table_view}
 use Rattle.sift_lang.specs.Tree.{tree_of}
 use Rattle.sift_parse.specs.Force.{Roll, roll_of}
@@ -7,7 +8,7 @@ use Rattle.sift_scenario.proofs.Order.{forms_refused, names_refused, starts_refu
 use Rattle.sift_scenario.proofs.Programs.{sound_program}
 use Rattle.sift_scenario.proofs.Rolls.{few_words, turns}
 use Rattle.sift_scenario.proofs.Starts.{all_starts_from, counts_from, roll_from, starts_long}
-use Rattle.sift_scenario.specs.Mission.{AreTreesOf}
+use Rattle.sift_scenario.specs.Mission.{AreCodesOf, AreTreesOf}
 use Rattle.sift_scenario.specs.Refusal.{IsFirstRefused}
 use Rattle.sift_scenario.specs.Rules.{BreaksWords}
 use Rattle.sift_scenario.specs.Task.{counts_of}
@@ -46,22 +47,22 @@ returns-in_err-forms-clause-refused c =
     rw same (forms_refused (map (λ task. table_view task.now) c.args.tasks.now) _ c.in_ok-names.ensures.tests c.in_ok-starts.ensures.tests words c.in_err-forms.ensures.tests)
 
 -- each task takes its turn
-pub task_trees-requires-clause-turns : goal.task_trees-requires-clause-turns
-task_trees-requires-clause-turns c =
+pub compile_tasks-requires-clause-turns : goal.compile_tasks-requires-clause-turns
+compile_tasks-requires-clause-turns c =
     let counts = counts_from (λ task. table_view task.now) (λ words. words.items) c.args.tasks.now c.in_ok-starts.starts.items c.in_ok-starts.ensures.starts in
     let words : (at : ℕ) → ¬ BreaksWords (counts_of (map (λ task. table_view task.now) c.args.tasks.now)) at =
     rw (← counts) (rw c.deref.ensures.value at c.in_ok-check_words.ensures) in
     let roll = roll_from (λ task. table_view task.now) (λ name. name.bytes) (λ words. words.items) c.args.tasks.now c.in_ok-names.names.items c.in_ok-starts.starts.items
     c.in_ok-names.ensures.names c.in_ok-starts.ensures.starts (roll_of c.in_ok-names-2.names) (rw (c.deref-3.ensures.value, c.deref-4.ensures.value) at c.in_ok-names-2.ensures) in
     let long = length-map c.args.tasks.now (λ task. table_view task.now) in
-    subst (λ (r : Roll). AreTurns (length c.deref-5.result.now) r) (sym roll) (λ task low. turns (map (λ task. table_view task.now) c.args.tasks.now) c.in_ok-names.ensures.tests c.in_ok-starts.ensures.tests words
+    subst (λ (r : Roll). AreTurns (length c.deref-6.result.now) r) (sym roll) (λ task low. turns (map (λ task. table_view task.now) c.args.tasks.now) c.in_ok-names.ensures.tests c.in_ok-starts.ensures.tests words
     (omega (arith, long, c.requires.0)) (omega (arith, long, c.requires.1)) task
-    (omega (arith, long, low, c.deref-5.ensures.len, c.in_ok-forms.ensures.forms.as_many, length-map c.in_ok-forms.forms.items form_of)))
+    (omega (arith, long, low, c.deref-6.ensures.len, c.in_ok-forms.ensures.forms.as_many, length-map c.in_ok-forms.forms.items form_of)))
 
 -- the text of a task is refused
-pub returns-in_err-task_trees-clause-refused : goal.returns-in_err-task_trees-clause-refused
-returns-in_err-task_trees-clause-refused c =
-    let same : c.from_residual-in_err-task_trees.result ≡ Err c.in_err-task_trees.field-0.0 = search rules in
+pub returns-in_err-compiled-clause-refused : goal.returns-in_err-compiled-clause-refused
+returns-in_err-compiled-clause-refused c =
+    let same : c.from_residual-in_err-compiled.result ≡ Err c.in_err-compiled.field-0.0 = search rules in
     let counts = counts_from (λ task. table_view task.now) (λ words. words.items) c.args.tasks.now c.in_ok-starts.starts.items c.in_ok-starts.ensures.starts in
     let words : (at : ℕ) → ¬ BreaksWords (counts_of (map (λ task. table_view task.now) c.args.tasks.now)) at =
     rw (← counts) (rw c.deref.ensures.value at c.in_ok-check_words.ensures) in
@@ -69,17 +70,18 @@ returns-in_err-task_trees-clause-refused c =
     c.in_ok-names.ensures.names c.in_ok-starts.ensures.starts (roll_of c.in_ok-names-2.names) (rw (c.deref-3.ensures.value, c.deref-4.ensures.value) at c.in_ok-names-2.ensures) in
     rw same (texts_refused (map (λ task. table_view task.now) c.args.tasks.now) _ c.in_ok-names.ensures.tests c.in_ok-starts.ensures.tests words c.in_ok-forms.ensures.tests (map form_of c.in_ok-forms.forms.items)
     c.in_ok-forms.ensures.forms
-    (λ some. subst (λ (r : Roll). IsFirstRefused r (map form_of c.in_ok-forms.forms.items) c.in_err-task_trees.field-0.0) roll (rw c.deref-5.ensures.value at c.in_err-task_trees.ensures.refused some)))
+    (λ some. subst (λ (r : Roll). IsFirstRefused r (map form_of c.in_ok-forms.forms.items) c.in_err-compiled.field-0.0) roll (rw c.deref-6.ensures.value at c.in_err-compiled.ensures.refused some)))
 
 -- its trees and start words are those of the tasks
 pub returns-clause-stated : goal.returns-clause-stated
 returns-clause-stated c =
     let roll = roll_from (λ task. table_view task.now) (λ name. name.bytes) (λ words. words.items) c.args.tasks.now c.in_ok-names.names.items c.in_ok-starts.starts.items
     c.in_ok-names.ensures.names c.in_ok-starts.ensures.starts (roll_of c.in_ok-names-2.names) (rw (c.deref-3.ensures.value, c.deref-4.ensures.value) at c.in_ok-names-2.ensures) in record {
-      starts = rw c.deref-6.ensures.value at c.in_ok-all_starts.ensures ∙ all_starts_from (λ task. table_view task.now) (λ words. words.items) c.args.tasks.now c.in_ok-starts.starts.items c.in_ok-starts.ensures.starts;
+      starts = rw c.deref-5.ensures.value at c.in_ok-starts-2.ensures ∙ all_starts_from (λ task. table_view task.now) (λ words. words.items) c.args.tasks.now c.in_ok-starts.starts.items c.in_ok-starts.ensures.starts;
       forms = map form_of c.in_ok-forms.forms.items;
       stated = c.in_ok-forms.ensures.forms;
-      trees = subst (λ (r : Roll). AreTreesOf r (map form_of c.in_ok-forms.forms.items) (map tree_of c.in_ok-task_trees.field-0.items)) roll (rw c.deref-5.ensures.value at c.in_ok-task_trees.ensures.trees);
+      trees = subst (λ (r : Roll). AreTreesOf r (map form_of c.in_ok-forms.forms.items) (map tree_of c.in_ok-compiled.compiled.trees.items)) roll (rw c.deref-6.ensures.value at c.in_ok-compiled.ensures.trees);
+      allowed = c.in_ok-compiled.ensures.allowed;
     }
 
 -- it is sound
@@ -91,9 +93,9 @@ returns-clause-sound c =
     let roll = roll_from (λ task. table_view task.now) (λ name. name.bytes) (λ words. words.items) c.args.tasks.now c.in_ok-names.names.items c.in_ok-starts.starts.items
     c.in_ok-names.ensures.names c.in_ok-starts.ensures.starts (roll_of c.in_ok-names-2.names) (rw (c.deref-3.ensures.value, c.deref-4.ensures.value) at c.in_ok-names-2.ensures) in
     let long = length-map c.args.tasks.now (λ task. table_view task.now) in
-    let all = rw c.deref-6.ensures.value at c.in_ok-all_starts.ensures ∙ all_starts_from (λ task. table_view task.now) (λ words. words.items) c.args.tasks.now c.in_ok-starts.starts.items c.in_ok-starts.ensures.starts in
-    sound_program (map (λ task. table_view task.now) c.args.tasks.now) (map form_of c.in_ok-forms.forms.items) (map tree_of c.in_ok-task_trees.field-0.items) c.in_ok-forms.ensures.forms
-    (subst (λ (r : Roll). AreTreesOf r (map form_of c.in_ok-forms.forms.items) (map tree_of c.in_ok-task_trees.field-0.items)) roll (rw c.deref-5.ensures.value at c.in_ok-task_trees.ensures.trees))
+    let all = rw c.deref-5.ensures.value at c.in_ok-starts-2.ensures ∙ all_starts_from (λ task. table_view task.now) (λ words. words.items) c.args.tasks.now c.in_ok-starts.starts.items c.in_ok-starts.ensures.starts in
+    sound_program (map (λ task. table_view task.now) c.args.tasks.now) (map form_of c.in_ok-forms.forms.items) (map tree_of c.in_ok-compiled.compiled.trees.items) c.in_ok-forms.ensures.forms
+    (subst (λ (r : Roll). AreTreesOf r (map form_of c.in_ok-forms.forms.items) (map tree_of c.in_ok-compiled.compiled.trees.items)) roll (rw c.deref-6.ensures.value at c.in_ok-compiled.ensures.trees))
     _ (rw all (starts_long (map (λ task. table_view task.now) c.args.tasks.now))) (few_words (map (λ task. table_view task.now) c.args.tasks.now) (omega (arith, long, c.requires.0)) words) (omega (arith, long, c.requires.0)) (omega (arith, long, c.requires.1))
 
 -- and no rule of the tasks is broken
@@ -107,3 +109,33 @@ returns-clause-kept c =
       words = words;
       forms = c.in_ok-forms.ensures.tests;
     }
+
+-- they have as many words as their start words, which are few
+pub overflow_cast-len : goal.overflow_cast-len
+overflow_cast-len c =
+    let counts = counts_from (λ task. table_view task.now) (λ words. words.items) c.args.tasks.now c.in_ok-starts.starts.items c.in_ok-starts.ensures.starts in
+    let words : (at : ℕ) → ¬ BreaksWords (counts_of (map (λ task. table_view task.now) c.args.tasks.now)) at =
+    rw (← counts) (rw c.deref.ensures.value at c.in_ok-check_words.ensures) in
+    let all = rw c.deref-5.ensures.value at c.in_ok-starts-2.ensures ∙ all_starts_from (λ task. table_view task.now) (λ words. words.items) c.args.tasks.now c.in_ok-starts.starts.items c.in_ok-starts.ensures.starts in
+    let long = length-map c.args.tasks.now (λ task. table_view task.now) in
+    let few = few_words (map (λ task. table_view task.now) c.args.tasks.now) (omega (arith, long, c.requires.0)) words in
+    omega (arith, c.len.ensures, c.in_ok-starts-2.starts.ok.0, ap length all ∙ starts_long (map (λ task. table_view task.now) c.args.tasks.now), few)
+
+pub compile_tasks-requires-clause-words : goal.compile_tasks-requires-clause-words
+compile_tasks-requires-clause-words c =
+    let roll = roll_from (λ task. table_view task.now) (λ name. name.bytes) (λ words. words.items) c.args.tasks.now c.in_ok-names.names.items c.in_ok-starts.starts.items
+    c.in_ok-names.ensures.names c.in_ok-starts.ensures.starts (roll_of c.in_ok-names-2.names) (rw (c.deref-3.ensures.value, c.deref-4.ensures.value) at c.in_ok-names-2.ensures) in
+    let all = rw c.deref-5.ensures.value at c.in_ok-starts-2.ensures ∙ all_starts_from (λ task. table_view task.now) (λ words. words.items) c.args.tasks.now c.in_ok-starts.starts.items c.in_ok-starts.ensures.starts in
+    c.len.ensures ∙ c.in_ok-starts-2.starts.ok.0 ∙ ap length all ∙ starts_long (map (λ task. table_view task.now) c.args.tasks.now) ∙ sym (ap (λ (r : Roll). sum r.sizes) roll)
+
+-- there are no sensors
+pub compile_tasks-requires-clause-no_sensors : goal.compile_tasks-requires-clause-no_sensors
+compile_tasks-requires-clause-no_sensors c =
+    let roll = roll_from (λ task. table_view task.now) (λ name. name.bytes) (λ words. words.items) c.args.tasks.now c.in_ok-names.names.items c.in_ok-starts.starts.items
+    c.in_ok-names.ensures.names c.in_ok-starts.ensures.starts (roll_of c.in_ok-names-2.names) (rw (c.deref-3.ensures.value, c.deref-4.ensures.value) at c.in_ok-names-2.ensures) in
+    ap (λ (r : Roll). r.sensors) roll
+
+-- the codes are theirs
+pub returns-clause-codes : goal.returns-clause-codes
+returns-clause-codes c =
+    subst (λ (n : ℕ). AreCodesOf n (map tree_of c.in_ok-compiled.compiled.trees.items) c.in_ok-compiled.compiled.codes.items) (c.len.ensures ∙ c.in_ok-starts-2.starts.ok.0) c.in_ok-compiled.ensures.codes
