@@ -7,11 +7,14 @@ pub mod Gaps
 pub mod Laws
 pub mod Lexing
 pub mod Living
+pub mod Longest
 pub mod Newest
 pub mod Numbers
+pub mod Offences
 pub mod Offending
 pub mod OneLexing
 pub mod OneReading
+pub mod Refusing
 pub mod Signs
 pub mod SoundBlock
 pub mod SoundForce
@@ -27,3 +30,4 @@ pub mod Steps
 pub mod Taking
 pub mod Turns
 pub mod Whole
+pub mod Words
