@@ -1,19 +1,10 @@
 -- The longest lexeme at the front: a sign, where no word and no number begins.
-use Rattle.std.proofs.Common.{◌≡◌, ℕ, zero, suc, ◌+◌, ◌-◌, ◌<◌, ◌≤◌, ◌⊎◌, inl, inr, List, [], ◌∷◌, ◌++◌, length, take, drop, slice_index, codes, refl, sym, ap, ◌∙◌, subst, arith, append_assoc, length-append, length-drop}
-use Rattle.std.specs.Char.{IsAsciiLowercase, IsAsciiDigit, digit_value}
-use Rattle.std.specs.Str.Parse.{digits_value, AllDigits}
-use Rattle.std.specs.List.{All}
-use Rattle.std.proofs.lemmas.List.{take-append-drop, take_all, length-take-le, get_or_append_left}
-use Rattle.std.proofs.lemmas.Str.Parse.{digit_from_value}
-use Rattle.std.proofs.lemmas.Str.{digit_value_digit}
-use Rattle.std.proofs.Math.Seq.{drop-append_seam}
-use Rattle.sift_base.specs.Name.{HasNameForm, IsNameByte}
-use Rattle.sift_lang.specs.declared.tree.Op.{Op}
-use Rattle.sift_lang.specs.declared.tree.Op.TheVariants.{Add, Sub, Mul, Div, Rem, And, Or, Xor, Shl, Shr, Lt, Eq}
-use Rattle.sift_parse.specs.declared.token.Sign.{Sign}
-use Rattle.sift_parse.specs.declared.token.Sign.TheVariants.{Assign, OpenParen, CloseParen, OpenBrace, CloseBrace, Comma, Dot, Semicolon}
-use Rattle.sift_parse.specs.Lexeme.{Lexeme, word, numeral, operator, mark, operator_bytes, sign_bytes, kept, IsDecimal, IsHexadecimal, Spells, MayStandBefore, IsLexeme}
-use Rattle.sift_parse.specs.Written.{SpellsSign, IsSignAt, NoSignAt, IsLexemeAt, NoLexemeAt, IsRun, Continues, BeginsLetter, BeginsDigit, NoHex, IsNumberAt, ten, sixteen}
+use Rattle.std.proofs.Common.{◌≡◌, ℕ, ◌+◌, ◌-◌, inl, inr, List, [], ◌∷◌, ◌++◌, length, take, drop, codes, sym, ap, ◌∙◌, arith, length-append, length-drop}
+use Rattle.std.specs.Char.{IsAsciiLowercase, IsAsciiDigit}
+use Rattle.std.proofs.lemmas.List.{take-append-drop, take_all, length-take-le}
+use Rattle.sift_base.specs.Name.{IsNameByte}
+use Rattle.sift_parse.specs.Lexeme.{Lexeme, word, numeral, operator, mark, Spells, MayStandBefore}
+use Rattle.sift_parse.specs.Written.{SpellsSign, IsSignAt, NoSignAt, IsLexemeAt, NoLexemeAt, IsRun, BeginsLetter, BeginsDigit}
 use Rattle.sift_parse.proofs.Words.{begun, word-at}
 
 -- ---- signs

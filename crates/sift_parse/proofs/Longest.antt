@@ -1,19 +1,12 @@
 -- A number at the front is the longest run of its digits.
-use Rattle.std.proofs.Common.{◌≡◌, ℕ, zero, suc, ◌+◌, ◌-◌, ◌<◌, ◌≤◌, ◌⊎◌, inl, inr, List, [], ◌∷◌, ◌++◌, length, take, drop, slice_index, codes, refl, sym, ap, ◌∙◌, subst, arith, append_assoc, length-append, length-drop}
-use Rattle.std.specs.Char.{IsAsciiLowercase, IsAsciiDigit, digit_value}
+use Rattle.std.proofs.Common.{◌≡◌, ℕ, ◌+◌, ◌<◌, ◌≤◌, inl, inr, List, [], ◌∷◌, ◌++◌, length, take, drop, slice_index, codes, refl, sym, ap, ◌∙◌, subst, arith, append_assoc, length-append}
+use Rattle.std.specs.Char.{IsAsciiDigit, digit_value}
 use Rattle.std.specs.Str.Parse.{digits_value, AllDigits}
-use Rattle.std.specs.List.{All}
-use Rattle.std.proofs.lemmas.List.{take-append-drop, take_all, length-take-le, get_or_append_left}
-use Rattle.std.proofs.lemmas.Str.Parse.{digit_from_value}
+use Rattle.std.proofs.lemmas.List.{take-append-drop, length-take-le}
 use Rattle.std.proofs.lemmas.Str.{digit_value_digit}
 use Rattle.std.proofs.Math.Seq.{drop-append_seam}
-use Rattle.sift_base.specs.Name.{HasNameForm, IsNameByte}
-use Rattle.sift_lang.specs.declared.tree.Op.{Op}
-use Rattle.sift_lang.specs.declared.tree.Op.TheVariants.{Add, Sub, Mul, Div, Rem, And, Or, Xor, Shl, Shr, Lt, Eq}
-use Rattle.sift_parse.specs.declared.token.Sign.{Sign}
-use Rattle.sift_parse.specs.declared.token.Sign.TheVariants.{Assign, OpenParen, CloseParen, OpenBrace, CloseBrace, Comma, Dot, Semicolon}
-use Rattle.sift_parse.specs.Lexeme.{Lexeme, word, numeral, operator, mark, operator_bytes, sign_bytes, kept, IsDecimal, IsHexadecimal, Spells, MayStandBefore, IsLexeme}
-use Rattle.sift_parse.specs.Written.{SpellsSign, IsSignAt, NoSignAt, IsLexemeAt, NoLexemeAt, IsRun, Continues, BeginsLetter, BeginsDigit, NoHex, IsNumberAt, ten, sixteen}
+use Rattle.sift_parse.specs.Lexeme.{Lexeme, word, numeral, operator, mark, kept, IsHexadecimal, Spells, MayStandBefore, IsLexeme}
+use Rattle.sift_parse.specs.Written.{IsLexemeAt, NoLexemeAt, IsRun, Continues, BeginsDigit, NoHex, IsNumberAt, ten, sixteen}
 use Rattle.sift_parse.proofs.Words.{Begun, begun, unless, front-byte, front-within, within-run, digit-bytes, all-digits, run-take}
 
 -- ---- numbers

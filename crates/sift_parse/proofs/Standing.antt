@@ -1,5 +1,5 @@
 -- What stands at the place of a lexeme, and that nothing stands before lexemes whose tokens begin a task.
-use Rattle.std.proofs.Common.{◌≡◌, ℕ, ◌+◌, ◌-◌, ◌<◌, ◌≤◌, inl, inr, List, [], ◌∷◌, ◌++◌, length, codes, refl, sym, ap, ◌∙◌, subst, arith, append_assoc, length-append}
+use Rattle.std.proofs.Common.{◌≡◌, ℕ, inl, inr, List, [], ◌∷◌, ◌++◌, length, codes, refl, sym, ap, ◌∙◌, subst, arith, append_assoc, length-append}
 use Rattle.std.proofs.lemmas.List.{map-append}
 use Rattle.sift_lang.specs.declared.tree.Op.{Op}
 use Rattle.sift_lang.specs.declared.tree.Op.TheVariants.{Add, Sub, Mul, Div, Rem, And, Or, Xor, Shl, Shr, Lt, Eq}
@@ -11,9 +11,9 @@ use Rattle.sift_parse.specs.declared.token.Token.{Token}
 use Rattle.sift_parse.specs.Grammar.{IsTask, Begins}
 use Rattle.sift_parse.specs.Lexeme.{Lexeme, word, numeral, operator, mark, operator_bytes, sign_bytes, Spells, IsLexeme, Placed, Lexes}
 use Rattle.sift_parse.specs.Force.{Roll, force_after, tokens_from, tokens_of}
-use Rattle.sift_parse.specs.Refusal.{Kind, no_lexeme_here, no_syntax, long_name, large_number, many_rounds, many_locals, deep_level, unknown_name, later_task, order_of, BeginsWith, IsNoSyntax, Stands, lexemes_of, NoneBefore, IsRefused}
-use Rattle.sift_parse.specs.Scanned.{StandsAt, NoneAt, IsFirst, IsFine, kind_of}
-use Rattle.sift_parse.proofs.OneReading.{one_lexeme, Parts, lexes_split, Next, next_lexeme}
+use Rattle.sift_parse.specs.Refusal.{Kind, no_lexeme_here, no_syntax, long_name, large_number, many_rounds, many_locals, deep_level, unknown_name, later_task, BeginsWith, IsNoSyntax, Stands, lexemes_of, NoneBefore}
+use Rattle.sift_parse.specs.Scanned.{StandsAt, IsFine, kind_of}
+use Rattle.sift_parse.proofs.OneReading.{one_lexeme, next_lexeme}
 use Rattle.sift_parse.proofs.Taking.{tokens_of-append}
 
 -- ---- a lexeme has bytes
