@@ -1,4 +1,6 @@
 pub mod Answered
 pub mod AnswerLemmas
-pub mod DocumentLemmas
+pub mod Inputs
+pub mod Owing
 pub mod ReportLemmas
+pub mod Statuses

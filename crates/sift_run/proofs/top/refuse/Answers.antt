@@ -1,0 +1,18 @@
+use Rattle.std.proofs.Common.{inl, ◌∙◌, ap}
+use Rattle.sift_run.proofs.Statuses.{says_numbers}
+use Rattle.sift_run.specs.Refusal.{status_of}
+use Rattle.sift_run.proofs.top.refuse.Goals as goal
+
+pub returns-in-NotADocument-clause-said : goal.returns-in-NotADocument-clause-said
+returns-in-NotADocument-clause-said g c =
+    rw c.in-NotADocument.is (inl (rw (c.status-status.ensures, c.in-NotADocument.is) at c.say-in-NotADocument.ensures))
+
+pub returns-in-Scenario-clause-said : goal.returns-in-Scenario-clause-said
+returns-in-Scenario-clause-said g c =
+    rw c.in-Scenario.is (says_numbers _ _ _ c.in-Scenario.rule c.in-Scenario.place c.scenario_line.result _ _
+    c.scenario_line.ensures (c.status-status.ensures ∙ ap status_of c.in-Scenario.is)
+    c.say_made.ensures.said c.say_made.ensures.no_memory)
+
+pub returns-in-ReadFault-clause-said : goal.returns-in-ReadFault-clause-said
+returns-in-ReadFault-clause-said g c =
+    rw c.in-ReadFault.is (inl (rw (c.status-status.ensures, c.in-ReadFault.is) at c.say-in-ReadFault.ensures))
