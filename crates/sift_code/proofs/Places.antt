@@ -1,12 +1,11 @@
 -- What a write to the words of a span makes of the stack, the locals and the rounds left.
-use Rattle.std.proofs.Common.{◌≡◌, ℕ, zero, suc, ◌+◌, ◌-◌, ◌<◌, ◌≤◌, List, [], ◌∷◌, length, take, drop, get_or, set, Option, Some, refl, sym, ap, ◌∙◌, arith, map}
+use Rattle.std.proofs.Common.{◌≡◌, ℕ, zero, suc, ◌+◌, ◌-◌, ◌<◌, ◌≤◌, List, [], ◌∷◌, length, take, drop, set, Some, refl, ap, ◌∙◌, arith}
 use Rattle.std.specs.Prelude.{slice_get, slice_index, slice_set}
 use Rattle.std.specs.List.{refill}
 use Rattle.std.proofs.lemmas.Option.{slice_get-get_or}
 use Rattle.std.proofs.Math.Seq.{drop-length}
 use Rattle.std.proofs.lemmas.List.{get_or-set_same, get_or-set_other, drop-set-lt, drop-set-add, take-set-le, get_or-take, get_or-drop, length-take-le, length-drop, length-set, take_all, append-nil}
 use Rattle.std.proofs.Math.Seq.{take-set-lt}
-use Rattle.sift_code.specs.Machine.{Loop}
 use Rattle.sift_code.specs.Work.{stack_of, locals_of, loops_of, lefts_start, starts_of}
 
 -- ---- the stack

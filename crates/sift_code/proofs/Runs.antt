@@ -1,9 +1,9 @@
 -- A run of sound code on the words of a span, from its start to its end.
-use Rattle.std.proofs.Common.{◌≡◌, ℕ, zero, suc, ◌+◌, ◌<◌, ◌≤◌, Bool, true, false, List, [], length, replicate, refl, sym, ap, ◌∙◌, subst, arith, inl, inr, Some}
-use Rattle.std.specs.Prelude.{if◌then◌else◌, ◌==◌, ◌≢◌}
+use Rattle.std.proofs.Common.{◌≡◌, ℕ, zero, suc, ◌<◌, Bool, true, false, List, length, replicate, refl, sym, ap, ◌∙◌, subst, arith, inl, inr, Some}
+use Rattle.std.specs.Prelude.{if◌then◌else◌, ◌==◌}
 use Rattle.std.proofs.lemmas.Bool.Decides.{eqb_tells}
 use Rattle.sift_code.specs.declared.machine.Machine.{Machine}
-use Rattle.sift_code.specs.Machine.{State, Inputs, start_state, local_count, step, after, exec, Done, Unfinished}
+use Rattle.sift_code.specs.Machine.{State, Inputs, start_state, step, after, exec, Done, Unfinished}
 use Rattle.sift_code.specs.Bound.{bound_of}
 use Rattle.sift_code.specs.Refusal.{Program, IsSound}
 use Rattle.sift_code.specs.Ends.{Fits, RunsTo}

@@ -1,20 +1,19 @@
 -- Each jump and each end of a loop on the words of a span is a step of the machine.
-use Rattle.std.proofs.Common.{◌≡◌, ℕ, zero, suc, ◌+◌, ◌-◌, ◌<◌, ◌≤◌, Bool, true, false, List, [], ◌∷◌, length, drop, get_or, Option, Some, None, refl, sym, ap, ◌∙◌, subst, arith, inl, inr}
-use Rattle.std.specs.Prelude.{slice_get, slice_index, slice_set, if◌then◌else◌, ◌==◌, ◌≢◌}
+use Rattle.std.proofs.Common.{◌≡◌, ℕ, zero, suc, ◌+◌, ◌-◌, ◌<◌, ◌≤◌, Bool, true, false, List, [], ◌∷◌, length, drop, Some, None, refl, sym, ap, ◌∙◌, subst, arith, inl, inr}
+use Rattle.std.specs.Prelude.{slice_index, slice_set, if◌then◌else◌, ◌==◌, ◌≢◌}
 use Rattle.std.proofs.lemmas.Bool.Decides.{eqb_tells}
 use Rattle.sift_code.specs.declared.instr.Instr.{Instr}
 use Rattle.sift_code.specs.declared.instr.Instr.TheVariants.{JumpZ, Jump, Begin, End}
 use Rattle.sift_code.specs.declared.machine.Machine.{Machine}
-use Rattle.sift_code.specs.Machine.{Loop, State, Inputs, through_end, tested, skipped, begun, ended, round_ended, effect}
+use Rattle.sift_code.specs.Machine.{Inputs, tested, skipped, ended, round_ended, effect}
 use Rattle.sift_code.specs.Enclosing.{enclosing, innermost}
-use Rattle.sift_code.specs.Nest.{start_at, past_at, onward}
-use Rattle.sift_code.specs.Heights.{height_at}
+use Rattle.sift_code.specs.Nest.{start_at, onward}
 use Rattle.sift_code.specs.Refusal.{Program, IsSound}
 use Rattle.sift_code.specs.Work.{Steps, at_place, Passes, Enters, EndsRound, stack_of, locals_of, loops_of, state_of, lefts_start}
 use Rattle.sift_code.proofs.Enclosing.{opened_before}
 use Rattle.sift_code.proofs.Costs.{nested, nested_here, past_end}
-use Rattle.sift_code.proofs.Sound.{braced, filled, uncrowded, jumpz_lands, jump_lands, at_place as instr_at}
-use Rattle.sift_code.proofs.Places.{stack_of-set, stack_of-top, locals_of-above, loops_of-set, loops_of-push}
+use Rattle.sift_code.proofs.Sound.{braced, uncrowded, jumpz_lands, jump_lands, at_place as instr_at}
+use Rattle.sift_code.proofs.Places.{stack_of-set, stack_of-top, locals_of-above, loops_of-push}
 use Rattle.sift_code.proofs.Standing.{machine, state, Fetched, heights, stepped_to, plain}
 
 nested_few : (i : Instr) (next : ℕ) (loops : List ℕ) → ((k : ℕ) → i ≡ Begin k → length loops < 32) → length loops ≤ 32 → length (nested i next loops) ≤ 32

@@ -1,5 +1,5 @@
 -- How the state of a run lies in the words of a span. No public clause cites this module.
-use Rattle.std.specs.Prelude.{◌≡◌, ℕ, zero, suc, ◌+◌, ◌-◌, ◌≤◌, List, [], ◌∷◌, length, map, take, drop, Option, Some, slice_index, slice_set, ⊤}
+use Rattle.std.specs.Prelude.{◌≡◌, ℕ, zero, suc, ◌+◌, ◌-◌, ◌≤◌, List, [], ◌∷◌, length, map, take, drop, Some, slice_index, slice_set, ⊤}
 use Rattle.sift_base.specs.Word.{add, sub, mul, div, rem, and, or, xor, shl, shr, lt, eq}
 use Rattle.sift_code.specs.declared.instr.Instr.{Instr}
 use Rattle.sift_code.specs.declared.instr.Instr.TheVariants.{Add, Sub, Mul, Div, Rem, And, Or, Xor, Shl, Shr, Lt, Eq}

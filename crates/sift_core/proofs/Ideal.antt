@@ -78,9 +78,11 @@ begun-sizes program f units sound holds = λ u any inside.
     let has = holds u any inside in
     (ap length has.0 ∙ length-words_before program f sound, has.1)
 
--- where all units hold the ideal machine's words of the frame before, they vote those of this one
-pub frame-ideal : (program : ProgramTree) (f : ℕ) (before after : List UnitState) → 0 < length before → All (Holds (words_before program no_sensors f) []) before → RunsAll program.tasks before after
+-- where all units voted the ideal machine's words of the frame before, they vote those of this one
+pub frame-ideal : (program : ProgramTree) (f : ℕ) (before begun after : List UnitState) → 0 < length before → All (Voted (words_before program no_sensors f)) before → Each Begins before begun → RunsAll program.tasks begun after
     → (length after ≡ length before) × All (Voted (words_before program no_sensors (f + 1))) after
-frame-ideal program f before after some same ran =
-    let behind = RunsAll-ideal program.tasks (words_before program no_sensors f) [] before after some same ran in
-    (behind.as_many, λ u any inside. rw (add-one f) (behind.hold u any inside).1)
+frame-ideal program f before begun after some voted begins ran =
+    let words = words_before program no_sensors f in
+    let left : 0 < length begun = omega (arith, begins.as_many) in
+    let behind = RunsAll-ideal program.tasks words [] begun after left (Begins-holds words before begun voted begins) ran in
+    (behind.as_many ∙ begins.as_many, λ u any inside. rw (add-one f) (behind.hold u any inside).1)

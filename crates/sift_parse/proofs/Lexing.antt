@@ -79,7 +79,7 @@ begun (mark s) b ts front back h e = sign-begun s b ts back (e ∙ ap (λ l. l +
 unless : (m n : ℕ) → (n < m → ⊥) → m ≤ n
 unless m n h = omega arith
 
-front-byte : (text front back : List ℕ) (k : ℕ) → text ≡ front ++ back → k < length front → slice_index text k ≡ slice_index front k
+pub front-byte : (text front back : List ℕ) (k : ℕ) → text ≡ front ++ back → k < length front → slice_index text k ≡ slice_index front k
 front-byte text front back k e lt = ap (λ l. slice_index l k) e ∙ get_or_append_left front back 0 k lt
 
 front-within : (text front back : List ℕ) → text ≡ front ++ back → length front ≤ length text
@@ -89,12 +89,12 @@ front-within text front back e = let h : length text ≡ length front + length b
 within-run : (P : ℕ → Type 0) (text front back : List ℕ) (n : ℕ) → IsRun P text n → text ≡ front ++ back → ((k : ℕ) → k < length front → P (slice_index front k)) → length front ≤ n
 within-run P text front back n run e each = unless (length front) n (λ lt. run.stops (let w = front-within text front back e in omega arith) (subst P (sym (front-byte text front back n e lt)) (each n lt)))
 
-name-bytes : (front : List ℕ) → HasNameForm front → (k : ℕ) → k < length front → IsNameByte (slice_index front k)
+pub name-bytes : (front : List ℕ) → HasNameForm front → (k : ℕ) → k < length front → IsNameByte (slice_index front k)
 name-bytes [] h k lt = absurd h
 name-bytes (x ∷ xs) h zero lt = inl h.0
 name-bytes (x ∷ xs) h (suc k) lt = h.1 k 0 (omega arith)
 
-digit-bytes : (radix : ℕ) (front : List ℕ) → AllDigits radix front → (k : ℕ) → k < length front → digit_value (slice_index front k) < radix
+pub digit-bytes : (radix : ℕ) (front : List ℕ) → AllDigits radix front → (k : ℕ) → k < length front → digit_value (slice_index front k) < radix
 digit-bytes radix [] h k lt = absurd (omega arith)
 digit-bytes radix (x ∷ xs) h zero lt = h.0
 digit-bytes radix (x ∷ xs) h (suc k) lt = digit-bytes radix xs h.1 k (omega arith)

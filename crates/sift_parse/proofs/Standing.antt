@@ -55,7 +55,7 @@ front-empty [] ys e = refl
 front-empty (x ∷ xs) ys e = cc
 
 -- no lexeme begins a text without bytes
-no_lexeme-of-nothing : (l : Lexeme) (rest : List ℕ) → IsLexeme [] l rest → ⊥
+pub no_lexeme-of-nothing : (l : Lexeme) (rest : List ℕ) → IsLexeme [] l rest → ⊥
 no_lexeme-of-nothing l rest x = spells-some l x.spelled (front-empty x.spelled rest x.split) x.spells
 
 -- ---- at the place of a lexeme

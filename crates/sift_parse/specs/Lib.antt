@@ -1,7 +1,9 @@
+pub mod Answer
 pub mod Force
 pub mod Grammar
 pub mod Held
 pub mod Lexeme
+pub mod Linear
 pub mod Outcome
 pub mod Parsed
 pub mod Parsing

@@ -24,4 +24,4 @@ pub use names::Names;
 pub use stop::{ParseStop, Which};
 pub use task::parse_task;
 pub use token::LEVEL_LIMIT;
-pub use unique::one_tree;
+pub use unique::{linear_text_is_parsed, one_answer, one_tree, task_is_answered};

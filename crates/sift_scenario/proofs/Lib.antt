@@ -4,7 +4,9 @@ pub mod Numbers
 pub mod Order
 pub mod Places
 pub mod Programs
+pub mod Rolls
 pub mod Starts
 pub mod Testing
+pub mod Turns
 pub mod WordCounts
 pub mod WordValues

@@ -1,12 +1,16 @@
 -- Rules one after another, in the order of their numbers.
-use Rattle.std.proofs.Common.{◌≡◌, ◌<◌, ◌≤◌, ◌⊎◌, ◌==◌, inl, inr, cond, List, ℕ, refl, sym, ap, subst, ◌∙◌, arith}
+use Rattle.std.proofs.Common.{◌≡◌, ◌≢◌, ◌<◌, ◌≤◌, ◌⊎◌, ◌==◌, inl, inr, cond, List, ℕ, refl, sym, ap, subst, ◌∙◌, arith}
 use Rattle.std.proofs.lemmas.Bool.{cases_order}
 use Rattle.toml.specs.Data.{Members}
-use Rattle.sift_scenario.specs.Refusal.{IsRefused, IsTaskRefused, KeepsTaskRules, RefusesBy}
+use Rattle.sift_scenario.specs.Refusal.{IsFirstRefused, IsRefused, IsTextRefused, refusal_of}
+use Rattle.sift_parse.specs.declared.stop.ParseStop.{ParseStop}
+use Rattle.sift_parse.specs.declared.stop.ParseStop.TheVariants as parse
+use Rattle.sift_scenario.specs.Mission.{roll_for}
+use Rattle.sift_scenario.specs.Testing.{IsTaskRefused, KeepsTaskRules, RefusesBy}
 use Rattle.sift_scenario.specs.Rules.{Breaks, BreaksForms, BreaksNames, BreaksStarts, BreaksWords, IsLawful, KeepsBelow, Rule, root_keys_known, units_stated, frames_stated, tasks_stated, names_stated, starts_stated, few_words, forms_stated, number_of}
-use Rattle.sift_scenario.specs.Task.{counts_of, tasks_of}
+use Rattle.sift_scenario.specs.Task.{AreForms, Form, counts_of, tasks_of}
 use Rattle.sift_scenario.specs.declared.refused.Refused.{Refused}
-use Rattle.sift_scenario.specs.declared.refused.Refused.TheVariants.{Scenario, NoMemory}
+use Rattle.sift_scenario.specs.declared.refused.Refused.TheVariants.{Scenario, Task, NoMemory}
 
 -- no rule has a number between this rule's and the given one
 abbrev pub IsNext : Rule → ℕ → Type 0
@@ -73,6 +77,7 @@ refused_by document rule (Scenario n place) below number same tests = record {
   first_rule = λ other at low. below other at (omega (arith, low, tests.0, same));
   first_place = tests.1.first;
 }
+refused_by document rule (Task t k at) below number same tests = absurd tests
 refused_by document rule NoMemory below number same tests = tt
 
 -- no rule at all is broken
@@ -118,6 +123,21 @@ lawful_with d tasks same below kept =
     let words = up_to_words d starts here.words in
     all_kept d (up_to_forms d words here.forms)
 
+-- a text is refused by no rule
+refusal_of-other : (task : ℕ) (stop : ParseStop) (n at : ℕ) → Scenario n at ≢ refusal_of task stop
+refusal_of-other task (parse.Lex a) n at same = cc
+refusal_of-other task (parse.Syntax a) n at same = cc
+refusal_of-other task (parse.UnknownName a) n at same = cc
+refusal_of-other task (parse.Later a) n at same = cc
+refusal_of-other task (parse.Limit w a) n at same = cc
+refusal_of-other task parse.NoMemory n at same = cc
+
+-- a text of a lawful document is refused
+text_refused_by : (d : Members) (e : Refused) → IsLawful d → (e ≢ NoMemory → IsTextRefused (tasks_of d) e) → IsRefused d e
+text_refused_by d (Scenario n at) lawful refused = let r = refused (λ same. cc) in absurd (refusal_of-other r.2.task r.2.stop n at r.2.refused_is)
+text_refused_by d (Task t k at) lawful refused = (lawful, refused (λ same. cc))
+text_refused_by d NoMemory lawful refused = tt
+
 -- ---- the rules of the tasks, over their tables
 
 module _ (tasks : List Members) (e : Refused) where
@@ -148,3 +168,12 @@ module _ (tasks : List Members) (e : Refused) where
   forms_refused names starts words refuses d same below =
       subst (λ (ts : List Members). ((at : ℕ) → ¬ BreaksNames ts at) → ((at : ℕ) → ¬ BreaksStarts ts at) → ((at : ℕ) → ¬ BreaksWords (counts_of ts) at) → RefusesBy 22 (BreaksForms ts) e → IsRefused d e) same
       (λ n s w. refused_by d forms_stated e (up_to_words d (up_to_starts d (up_to_names d below n) s) w) 22 refl) names starts words refuses
+
+  -- all rules are kept, and a text is the first that is refused
+  pub texts_refused :
+      ((at : ℕ) → ¬ BreaksNames tasks at) → ((at : ℕ) → ¬ BreaksStarts tasks at) → ((at : ℕ) → ¬ BreaksWords (counts_of tasks) at) → ((at : ℕ) → ¬ BreaksForms tasks at)
+      → (fs : List Form) → AreForms tasks fs → (e ≢ NoMemory → IsFirstRefused (roll_for tasks) fs e) → IsTaskRefused tasks e
+  texts_refused names starts words forms fs stated refused d same below =
+      let kept : KeepsTaskRules tasks = record { names = names; starts = starts; words = words; forms = forms } in
+      let lawful = lawful_with d tasks (sym same) below kept in
+      text_refused_by d e lawful (λ some. subst (λ (ts : List Members). IsTextRefused ts e) (sym same) (fs, stated, refused some))

@@ -1,70 +1,30 @@
--- Programs of linear tasks.
-use Rattle.std.proofs.Common.{◌≡◌, ◌<◌, ◌≤◌, ◌+◌, ℕ, zero, suc, List, [], ◌∷◌, length, get_or, take, Some, refl, ap, ◌∙◌, add-one, arith}
-use Rattle.std.proofs.lemmas.List.{get_or-map, length-map, take_all}
-use Rattle.std.proofs.lemmas.List.Concat.{length-flat_map}
-use Rattle.std.specs.Prelude.{unwrap_or}
-use Rattle.std.proofs.lemmas.List.Sums.{sum-map, sum_by-cons, sum_by_more}
+-- Programs of tasks whose trees are theirs.
+use Rattle.std.proofs.Common.{◌≡◌, ◌<◌, ◌≤◌, ℕ, suc, List, [], ◌∷◌, length, get_or, map, take, Some, refl, sym, ap, ◌∙◌, arith}
+use Rattle.std.proofs.lemmas.List.{get_or-map, length-map, take-map}
+use Rattle.std.proofs.lemmas.List.Sums.{sum-map, sum_by_more_le}
 use Rattle.std.proofs.lemmas.Option.{get_or_from_slice_get, slice_get-get_or, slice_get_within}
 use Rattle.std.specs.List.{slice_get, sum}
 use Rattle.toml.specs.Data.{Members}
-use Rattle.sift_lang.specs.Tree.{TaskTree}
+use Rattle.sift_lang.specs.Tree.{TaskTree, end}
 use Rattle.sift_lang.specs.Sound.{AllNowsBelow, IsSound}
 use Rattle.sift_program.specs.Program.{ProgramTree}
-use Rattle.sift_program.specs.Sound.{IsSoundProgram, first_word, output_count}
-use Rattle.sift_scenario.specs.Mission.{all_starts, AreLinearTrees, AreTreesOf, IsTreeOf}
-use Rattle.sift_scenario.specs.Rules.{words_before}
-use Rattle.sift_scenario.specs.Task.{AreLinear, counts_of, linear_tree, starts_of, word_count}
-use Rattle.sift_scenario.specs.declared.task.Linear.{Linear}
+use Rattle.sift_program.specs.Sound.{IsSoundProgram, first_word}
+use Rattle.sift_scenario.specs.Mission.{AreTreesOf, IsTreeOf, linear_tree, roll_for, turn_of}
+use Rattle.sift_scenario.specs.Task.{AreForms, Form, linear, text, HasForm, counts_of, word_count}
 
--- ones add up to their number
-ones : (xs : List ℕ) (n : ℕ) → n ≤ length xs → ((k : ℕ) → k < n → get_or xs k 0 ≡ 1) → sum (take n xs) ≡ n
-ones xs zero within each = refl
-ones xs (suc n) within each =
-    let before = ones xs n (omega (arith, within)) (λ k low. each k (omega (arith, low))) in
-    let more : sum (take (suc n) xs) ≡ sum (take n xs) + get_or xs n 0 = rw (← add-one n) (sum_by_more (λ x. x) xs n 0 (omega (arith, within))) in
-    let here = each n (omega arith) in
-    omega (arith, before, more, here)
+-- lists of one length with the same entries are the same
+same_lists : (xs ys : List ℕ) → length xs ≡ length ys → ((k : ℕ) → k < length xs → get_or xs k 0 ≡ get_or ys k 0) → xs ≡ ys
+same_lists [] [] long each = refl
+same_lists [] (y ∷ ys) long each = absurd (omega (arith, long))
+same_lists (x ∷ xs) [] long each = absurd (omega (arith, long))
+same_lists (x ∷ xs) (y ∷ ys) long each =
+    let first : x ≡ y = each 0 (omega arith) in
+    let rest = same_lists xs ys (omega (arith, long)) (λ k low. each (suc k) (omega (arith, low))) in
+    rw (first, rest) refl
 
-module _ (tasks : List Members) (rules : List Linear) (linear : AreLinear tasks rules) where
-  -- each linear task has one word
-  one_word : (k : ℕ) → k < length tasks → get_or (counts_of tasks) k 0 ≡ 1
-  one_word k low =
-      let none : Linear = record { factor = 0; addend = 0 } in
-      let found = linear.each k (get_or rules k none) (slice_get-get_or rules k none (omega (arith, low, linear.as_many))) in
-      get_or-map word_count tasks k found.entry 0 low ∙ ap word_count (get_or_from_slice_get tasks k found.entry found.entry found.there) ∙ found.holds.one_word
+-- ---- trees of linear tasks
 
-  -- so a linear task's word has the number of its place
-  pub place_is_word : (k : ℕ) → k ≤ length tasks → words_before (counts_of tasks) k ≡ k
-  place_is_word k within = ones (counts_of tasks) k (omega (arith, length-map tasks word_count, within)) (λ j low. one_word j (omega (arith, low, within)))
-
-  -- and there are as many start words as rules
-  pub starts_long : length (all_starts tasks) ≡ length rules
-  starts_long =
-      let whole = length-flat_map (λ task. unwrap_or (starts_of task) []) tasks in
-      let all = place_is_word (length tasks) (omega arith) in
-      let counted : words_before (counts_of tasks) (length tasks) ≡ sum (counts_of tasks) = ap sum (take_all (length tasks) (counts_of tasks) (rw length-map (omega arith))) in
-      let summed = sum-map word_count tasks in
-      omega (arith, whole, all, counted, summed, linear.as_many)
-
-  -- the trees of the rules are those of the tasks
-  pub trees_of_tasks : (trees : List TaskTree) → AreLinearTrees rules trees → AreTreesOf tasks trees
-  trees_of_tasks trees from_rules = record {
-    as_many = from_rules.as_many ∙ linear.as_many;
-    each = λ place tree is.
-        let rule = from_rules.each place tree is in
-        let task = linear.each place rule.entry rule.there in
-        let low = slice_get_within tasks place task.entry task.there in
-        let word = place_is_word place (omega (arith, low)) in
-        let tree_is : IsTreeOf (words_before (counts_of tasks) place) task.entry tree = record {
-          factor = rule.entry.factor;
-          addend = rule.entry.addend;
-          linear = task.holds;
-          tree_is = rw word rule.holds;
-        } in
-        record { entry = task.entry; there = task.there; holds = tree_is };
-  }
-
--- a linear tree is sound where there is its word
+-- such a tree is sound where there is its word
 sound_tree : (word words factor addend : ℕ) → word < words → IsSound 0 words (linear_tree word factor addend)
 sound_tree word words factor addend low = record {
   some_output = omega arith;
@@ -77,31 +37,72 @@ sound_tree word words factor addend low = record {
 reads_none : (word factor addend made : ℕ) → AllNowsBelow made (linear_tree word factor addend)
 reads_none word factor addend made = (((tt, tt), tt), tt)
 
--- trees with one output each have as many words as there are trees
-outputs_of : (trees : List TaskTree) → ((k : ℕ) (tree : TaskTree) → slice_get trees k ≡ Some tree → tree.outputs ≡ 1) → output_count trees ≡ length trees
-outputs_of [] each = refl
-outputs_of (tree ∷ trees) each =
-    let first = each 0 tree refl in
-    let rest = outputs_of trees (λ k t there. each (suc k) t there) in
-    let whole = sum_by-cons (λ (t : TaskTree). t.outputs) tree trees in
-    omega (arith, first, rest, whole)
+-- ---- one task
 
--- trees of linear tasks are a sound program
-pub sound_program :
-    (rules : List Linear) (trees : List TaskTree) (starts : List ℕ)
-    → AreLinearTrees rules trees → length starts ≡ length rules → 0 < length rules → length rules ≤ 24
-    → IsSoundProgram 0 (let p : ProgramTree = record { tasks = trees; starts = starts } in p)
-sound_program rules trees starts linear long some few =
-    let words = outputs_of trees (λ k tree there. let rule = linear.each k tree there in rw rule.holds refl) in record {
-      some_task = omega (arith, linear.as_many, some);
-      few_tasks = omega (arith, linear.as_many, few);
-      a_start_each = omega (arith, words, long, linear.as_many);
-      few_words = omega (arith, long, few);
-      tasks_sound = λ k d low.
-          let there = slice_get-get_or trees k d low in
-          let rule = linear.each k (get_or trees k d) there in
-          rw rule.holds (sound_tree k (length starts) rule.entry.factor rule.entry.addend (omega (arith, low, long, linear.as_many)));
-      reads_earlier_words = λ k tree there.
-          let rule = linear.each k tree there in
-          rw rule.holds (reads_none k rule.entry.factor rule.entry.addend (first_word trees k));
-    }
+module _ (tasks : List Members) (t : ℕ) (task : Members) (there : slice_get tasks t ≡ Some task) where
+  -- its number of words
+  count_here : get_or (counts_of tasks) t 0 ≡ word_count task
+  count_here =
+      let low = slice_get_within tasks t task there in
+      get_or-map word_count tasks t task 0 low ∙ ap word_count (get_or_from_slice_get tasks t task task there)
+
+  -- its tree has as many outputs
+  outputs_here : (form : Form) (tree : TaskTree) → HasForm task form → IsTreeOf (turn_of t (roll_for tasks)) form tree → tree.outputs ≡ get_or (counts_of tasks) t 0
+  outputs_here (linear factor addend) tree form is = ap (λ (x : TaskTree). x.outputs) is ∙ sym (count_here ∙ form.one_word)
+  outputs_here (text bytes) tree form is = is.outputs
+
+  -- its tree is sound
+  sound_here : (form : Form) (tree : TaskTree) → HasForm task form → IsTreeOf (turn_of t (roll_for tasks)) form tree → IsSound 0 (sum (counts_of tasks)) tree
+  sound_here (linear factor addend) tree form is =
+      let low = slice_get_within tasks t task there in
+      let one : get_or (counts_of tasks) t 0 ≡ 1 = count_here ∙ form.one_word in
+      let room = sum_by_more_le (λ n. n) (counts_of tasks) t 0 (rw length-map low) in
+      rw is (sound_tree _ _ factor addend (omega (arith, one, room)))
+  sound_here (text bytes) tree form is = is.sound
+
+  -- it reads only words of earlier tasks
+  reads_here : (form : Form) (tree : TaskTree) → HasForm task form → IsTreeOf (turn_of t (roll_for tasks)) form tree → AllNowsBelow (sum (take t (counts_of tasks))) tree
+  reads_here (linear factor addend) tree form is = rw is (reads_none (sum (take t (counts_of tasks))) factor addend (sum (take t (counts_of tasks))))
+  reads_here (text bytes) tree form is = is.nows
+
+-- ---- the program
+
+module _ (tasks : List Members) (forms : List Form) (trees : List TaskTree) (stated : AreForms tasks forms) (parsed : AreTreesOf (roll_for tasks) forms trees) where
+  -- what stands at a place of the tasks, the forms and the trees
+  outputs_at : (t : ℕ) (tree : TaskTree) → slice_get trees t ≡ Some tree → tree.outputs ≡ get_or (counts_of tasks) t 0
+  outputs_at t tree there =
+      let form = parsed.each t tree there in
+      let task = stated.each t form.entry form.there in
+      outputs_here tasks t task.entry task.there form.entry tree task.holds form.holds
+
+  -- the trees have as many outputs as the tasks have words
+  outputs_are : map (λ (tree : TaskTree). tree.outputs) trees ≡ counts_of tasks
+  outputs_are =
+      let none : TaskTree = record { outputs = 0; body = end } in
+      let long_trees = length-map trees (λ (tree : TaskTree). tree.outputs) in
+      let long_tasks = length-map tasks word_count in
+      same_lists _ _ (omega (arith, long_trees, long_tasks, parsed.as_many, stated.as_many))
+      (λ k low. let within : k < length trees = omega (arith, low, long_trees) in
+      get_or-map (λ (tree : TaskTree). tree.outputs) trees k none 0 within ∙ outputs_at k (get_or trees k none) (slice_get-get_or trees k none within))
+
+  first_is : (t : ℕ) → first_word trees t ≡ sum (take t (counts_of tasks))
+  first_is t =
+      sym (sum-map (λ (tree : TaskTree). tree.outputs) (take t trees))
+      ∙ ap sum (sym (take-map (λ (tree : TaskTree). tree.outputs) t trees) ∙ ap (take t) outputs_are)
+
+  -- the program is sound
+  pub sound_program : (starts : List ℕ) → length starts ≡ sum (counts_of tasks) → sum (counts_of tasks) ≤ 64 → 0 < length tasks → length tasks ≤ 24 → IsSoundProgram 0 (let p : ProgramTree = record { tasks = trees; starts = starts } in p)
+  sound_program starts long words some few = record {
+    some_task = omega (arith, parsed.as_many, stated.as_many, some);
+    few_tasks = omega (arith, parsed.as_many, stated.as_many, few);
+    a_start_each = long ∙ sym (sym (sum-map (λ (tree : TaskTree). tree.outputs) trees) ∙ ap sum outputs_are);
+    few_words = omega (arith, long, words);
+    tasks_sound = λ k d low.
+        let form = parsed.each k (get_or trees k d) (slice_get-get_or trees k d low) in
+        let task = stated.each k form.entry form.there in
+        rw long (sound_here tasks k task.entry task.there form.entry (get_or trees k d) task.holds form.holds);
+    reads_earlier_words = λ k tree there.
+        let form = parsed.each k tree there in
+        let task = stated.each k form.entry form.there in
+        rw (first_is k) (reads_here tasks k task.entry task.there form.entry tree task.holds form.holds);
+  }

@@ -2,12 +2,15 @@
 use Rattle.std.proofs.Common.{◌≡◌, ℕ, List, [], length, map, Some, sym, ap, ◌∙◌}
 use Rattle.std.proofs.lemmas.List.{length-map}
 use Rattle.std.proofs.lemmas.List.Folds.{flat_map-map}
-use Rattle.std.specs.List.{flat_map}
+use Rattle.std.proofs.lemmas.List.Concat.{length-flat_map}
+use Rattle.std.proofs.lemmas.List.Sums.{sum-map}
+use Rattle.std.specs.List.{flat_map, sum}
 use Rattle.std.specs.Prelude.{unwrap_or}
 use Rattle.toml.specs.Data.{Members}
 use Rattle.sift_scenario.proofs.Places.{map_map}
-use Rattle.sift_scenario.specs.Mission.{all_starts}
-use Rattle.sift_scenario.specs.Task.{counts_of, starts_of}
+use Rattle.sift_parse.specs.Force.{Roll}
+use Rattle.sift_scenario.specs.Mission.{all_starts, roll_for}
+use Rattle.sift_scenario.specs.Task.{counts_of, name_of, starts_of, word_count}
 
 module _ {A B : Type 0} (shown : A → Members) (words : B → List ℕ) (tasks : List A) (starts : List B) (read : map (λ ws. Some (words ws)) starts ≡ map (λ task. starts_of (shown task)) tasks) where
   -- there are as many
@@ -29,3 +32,23 @@ module _ {A B : Type 0} (shown : A → Members) (words : B → List ℕ) (tasks 
       ∙ ap (flat_map (λ o. unwrap_or o [])) read
       ∙ flat_map-map (λ o. unwrap_or o []) (λ task. starts_of (shown task)) tasks
       ∙ sym (flat_map-map (λ task. unwrap_or (starts_of task) []) shown tasks)
+
+-- the roll of names and start words that were read of tasks is theirs
+pub roll_from :
+    {A B C : Type 0} (shown : A → Members) (bytes : C → List ℕ) (words : B → List ℕ) (tasks : List A) (names : List C) (starts : List B)
+    → map (λ name. Some (bytes name)) names ≡ map (λ task. name_of (shown task)) tasks
+    → map (λ ws. Some (words ws)) starts ≡ map (λ task. starts_of (shown task)) tasks
+    → (roll : Roll) → roll ≡ record { sensors = []; tasks = map bytes names; sizes = map (λ ws. length (words ws)) starts; this = 0 }
+    → roll ≡ roll_for (map shown tasks)
+roll_from shown bytes words tasks names starts named read roll is =
+    let counts = counts_from shown words tasks starts read in
+    let named_so : map bytes names ≡ map (λ task. unwrap_or (name_of task) []) (map shown tasks) =
+    map_map (λ o. unwrap_or o []) (λ name. Some (bytes name)) names
+    ∙ ap (map (λ o. unwrap_or o [])) named
+    ∙ sym (map_map (λ o. unwrap_or o []) (λ task. name_of (shown task)) tasks)
+    ∙ map_map (λ task. unwrap_or (name_of task) []) shown tasks in
+    cc (is, named_so, counts)
+
+-- there are as many start words as output words
+pub starts_long : (tasks : List Members) → length (all_starts tasks) ≡ sum (counts_of tasks)
+starts_long tasks = length-flat_map (λ task. unwrap_or (starts_of task) []) tasks ∙ sym (sum-map word_count tasks)

@@ -5,7 +5,7 @@ use Rattle.toml.specs.View.{view}
 use Rattle.toml.specs.declared.value.Value.{Value}
 use Rattle.sift_scenario.specs.Document.{IsTableOf}
 use Rattle.sift_scenario.specs.Entries.{HoldsOf}
-use Rattle.sift_scenario.specs.Refusal.{IsFirst}
+use Rattle.sift_scenario.specs.Testing.{IsFirst}
 use Rattle.sift_scenario.specs.Rules.{BreaksTasks, IsTaskNumber}
 use Rattle.sift_scenario.specs.Task.{task_entries, task_keys}
 

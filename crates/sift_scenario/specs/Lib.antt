@@ -4,3 +4,4 @@ pub mod Mission
 pub mod Refusal
 pub mod Rules
 pub mod Task
+pub mod Testing

@@ -1,15 +1,17 @@
 -- The mission that a document states.
-use Rattle.std.specs.Prelude.{ℕ, ◌≡◌, ◌≤◌, List, [], Some, unwrap_or}
+use Rattle.std.specs.Prelude.{ℕ, ◌≡◌, ◌≤◌, List, [], map, Some, unwrap_or}
 use Rattle.std.specs.List.{flat_map}
 use Rattle.toml.specs.Data.{Members}
-use Rattle.sift_lang.specs.Tree.{TaskTree}
+use Rattle.sift_lang.specs.declared.tree.Op.TheVariants.{Add, Mul}
+use Rattle.sift_lang.specs.Tree.{number, last_frame, binary, output, step, end, TaskTree}
+use Rattle.sift_parse.specs.Force.{Roll, words_before}
+use Rattle.sift_parse.specs.Outcome.{IsTaskOf}
 use Rattle.sift_program.specs.Program.{ProgramTree, program_of}
 use Rattle.sift_program.specs.Sound.{IsSoundProgram}
 use Rattle.sift_scenario.specs.declared.mission.Mission.{Mission}
-use Rattle.sift_scenario.specs.declared.task.Linear.{Linear}
 use Rattle.sift_scenario.specs.Entries.{AreMatched}
-use Rattle.sift_scenario.specs.Rules.{IsLawful, frames_of, units_of, words_before}
-use Rattle.sift_scenario.specs.Task.{IsLinear, counts_of, linear_tree, starts_of, tasks_of}
+use Rattle.sift_scenario.specs.Rules.{IsLawful, frames_of, units_of}
+use Rattle.sift_scenario.specs.Task.{AreForms, Form, linear, text, counts_of, name_of, starts_of, tasks_of}
 
 -- a mission as definitions see it: how many units fly how many frames, and the program that they run
 pub record Stated : Type 0 where
@@ -21,22 +23,32 @@ pub record Stated : Type 0 where
 abbrev pub stated : Mission → Stated
 stated mission = record { units = mission.units; frames = mission.frames; program = program_of mission.program }
 
--- the tree of a linear task, whose word has this number
-pub record IsTreeOf (word : ℕ) (task : Members) (tree : TaskTree) : Type 0 where
-  pub factor : ℕ
-  pub addend : ℕ
-  pub linear : IsLinear task factor addend
-  pub tree_is : tree ≡ linear_tree word factor addend
+-- ---- trees
 
--- the trees of the tasks, in their order: the first word of a task has the number of words before it
-abbrev pub AreTreesOf : List Members → List TaskTree → Type 0
-AreTreesOf tasks trees =
-    AreMatched (λ place task tree. IsTreeOf (words_before (counts_of tasks) place) task tree) tasks trees
+-- the names that the texts of these tasks may use, without sensors; it is the first task's turn
+abbrev pub roll_for : List Members → Roll
+roll_for tasks = record { sensors = []; tasks = map (λ task. unwrap_or (name_of task) []) tasks; sizes = counts_of tasks; this = 0 }
 
--- these are the trees of linear tasks of these rules, each with the word of its place
-abbrev pub AreLinearTrees : List Linear → List TaskTree → Type 0
-AreLinearTrees rules trees =
-    AreMatched (λ place rule tree. tree ≡ linear_tree place rule.factor rule.addend) rules trees
+-- the same, where it is this task's turn
+abbrev pub turn_of : ℕ → Roll → Roll
+turn_of task roll = record roll { this = task }
+
+-- the tree of a linear rule, where the task's word has this number: `out 0 = factor * last + addend;`
+abbrev pub linear_tree : (word factor addend : ℕ) → TaskTree
+linear_tree word factor addend =
+    let value = binary Add (binary Mul (number factor) (last_frame word)) (number addend) in
+    record { outputs = 1; body = step (output 0 value) end }
+
+-- the tree of a task of this form, where it is its turn
+abbrev pub IsTreeOf : Roll → Form → TaskTree → Type 0
+IsTreeOf roll (linear factor addend) tree = tree ≡ linear_tree (words_before roll roll.this) factor addend
+IsTreeOf roll (text bytes) tree = IsTaskOf roll bytes tree
+
+-- the trees of tasks of these forms, in their order
+abbrev pub AreTreesOf : Roll → List Form → List TaskTree → Type 0
+AreTreesOf roll forms trees = AreMatched (λ task form tree. IsTreeOf (turn_of task roll) form tree) forms trees
+
+-- ---- the mission
 
 -- the start words of the tasks, in their order
 abbrev pub all_starts : List Members → List ℕ
@@ -45,7 +57,9 @@ all_starts tasks = flat_map (λ task. unwrap_or (starts_of task) []) tasks
 -- the program of the tasks in these tables
 pub record IsProgramOf (tasks : List Members) (program : ProgramTree) : Type 0 where
   pub starts : program.starts ≡ all_starts tasks
-  pub trees : AreTreesOf tasks program.tasks
+  pub forms : List Form
+  pub stated : AreForms tasks forms
+  pub trees : AreTreesOf (roll_for tasks) forms program.tasks
 
 -- the document keeps all rules, and states this mission
 pub record IsMission (document : Members) (mission : Stated) : Type 0 where

@@ -4,7 +4,7 @@ use Rattle.toml.specs.Data.{Members}
 use Rattle.sift_program.specs.declared.program.TheConstants.{TASK_LIMIT, WORD_LIMIT}
 use Rattle.sift_scenario.specs.Document.{HasOnlyKeys, IsTableOf, integer_between, read_at}
 use Rattle.sift_scenario.specs.Entries.{HoldsOf}
-use Rattle.sift_scenario.specs.Task.{IsLinear, IsNewName, name_of, starts_of, task_entries, task_keys, tasks_of, counts_of}
+use Rattle.sift_scenario.specs.Task.{Form, HasForm, IsNewName, name_of, starts_of, task_entries, task_keys, tasks_of, counts_of}
 
 -- ---- the root
 
@@ -60,9 +60,9 @@ words_before counts place = sum (take place counts)
 abbrev pub BreaksWords : List ℕ → ℕ → Type 0
 BreaksWords counts place = (place < length counts) × (WORD_LIMIT < words_before counts (place + 1))
 
--- a task isn't linear: its `linear` isn't there or is no array of two word values, or it hasn't one output word
+-- a task has neither just a text, which is a string, nor just a linear rule, which is an array of two word values, and one output word
 abbrev pub BreaksForms : List Members → ℕ → Type 0
-BreaksForms tasks place = HoldsOf tasks place (λ task. (factor addend : ℕ) → ¬ IsLinear task factor addend)
+BreaksForms tasks place = HoldsOf tasks place (λ task. (form : Form) → ¬ HasForm task form)
 
 -- ---- all of them
 

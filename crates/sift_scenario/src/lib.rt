@@ -1,12 +1,14 @@
 //! Scenario documents: the rules that they keep, and the mission that one states.
 //!
-//! A document that breaks a rule is refused with the first broken rule, at its first place.
+//! A document that breaks a rule is refused with the first broken rule, at its first place; then the
+//! first task whose text is no task is refused, with its kind and its place.
 #![tactic(auto)]
 
 mod mission;
 mod refused;
 mod root;
 mod task;
+mod tree;
 mod value;
 
 pub use mission::{Mission, mission_of};

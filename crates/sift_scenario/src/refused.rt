@@ -1,6 +1,8 @@
 ghost use Rattle.std.specs.Prelude.{◌≡◌, ◌<◌, ◌^◌};
+ghost use Rattle.sift_scenario.specs.Refusal.{refusal_of};
 
 use sift_base::NoMemory;
+use sift_parse::ParseStop;
 use std::alloc::{AllocError, AllocFailed};
 
 /// Why a document states no mission.
@@ -9,6 +11,10 @@ pub enum Refused {
     /// It breaks the scenario rule of this number. `place` is the number of the first entry that
     /// does, and 0 for a rule that speaks of no entry.
     Scenario { rule: u32, place: u32 },
+    /// The text of this task is none of the task language. `kind` is 1 where no token begins at the
+    /// byte place `at`, 2 for the grammar, 3 for a name that isn't there, 4 for the words of a task
+    /// that isn't earlier, and 5 for a limit.
+    Task { task: u32, kind: u32, at: u32 },
     /// An allocation failed.
     NoMemory,
 }
@@ -54,5 +60,25 @@ pub(crate) fn broken(rule: u32, entry: usize) -> Refused
     Refused::Scenario {
         rule,
         place: entry as u32,
+    }
+}
+
+/// The refusal of a task's text.
+pub(crate) fn text_refused(task: usize, stop: ParseStop) -> Refused
+    requires { task < 2 ^ 32 }
+    ensures { result ≡ refusal_of task stop }
+{
+    let (kind, at) = match stop {
+        ParseStop::Lex { at } => (1, at),
+        ParseStop::Syntax { at } => (2, at),
+        ParseStop::UnknownName { at } => (3, at),
+        ParseStop::Later { at } => (4, at),
+        ParseStop::Limit { at, .. } => (5, at),
+        ParseStop::NoMemory => return Refused::NoMemory,
+    };
+    Refused::Task {
+        task: task as u32,
+        kind,
+        at,
     }
 }

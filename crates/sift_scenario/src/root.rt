@@ -1,17 +1,38 @@
 //! The rules of the root, but for its tasks.
 
-ghost use Rattle.std.specs.Prelude.{◌≡◌, IfOk, Some};
+ghost use Rattle.std.specs.Prelude.{◌≡◌, IfErr, IfOk, Some};
 ghost use Rattle.toml.specs.View.{table_view};
-ghost use Rattle.sift_scenario.specs.Rules.{BreaksFrames, BreaksRootKeys, BreaksUnits, frames_of, units_of};
+ghost use Rattle.sift_scenario.specs.Rules.{BreaksFrames, BreaksRootKeys, BreaksUnits, KeepsBelow, frames_of, units_of};
 ghost use Rattle.sift_scenario.specs.Document.{integer_between, read_at};
-ghost use Rattle.sift_scenario.specs.Refusal.{Tests};
+ghost use Rattle.sift_scenario.specs.Refusal.{IsRefused};
+ghost use Rattle.sift_scenario.specs.Testing.{Tests};
 
 use crate::refused::{Refused, broken};
 use crate::value::{has_only_keys, integer_between, member_of};
 use toml::Table;
 
+/// How many units fly how many frames.
+#[derive(Clone, Copy)]
+pub(crate) struct Root {
+    pub units: u8,
+    pub frames: u32,
+}
+
+/// What the root states beside its tasks.
+pub(crate) fn root_of(document: &Table) -> Result<Root, Refused>
+    ensures units { IfOk result (λ root. units_of (table_view document.now) ≡ Some root.units) }
+    ensures frames { IfOk result (λ root. frames_of (table_view document.now) ≡ Some root.frames) }
+    ensures kept { IfOk result (λ _. KeepsBelow 18 (table_view document.now)) }
+    ensures refused { IfErr result (IsRefused (table_view document.now)) }
+{
+    check_keys(document)?;
+    let units = units_of(document)?;
+    let frames = frames_of(document)?;
+    Ok(Root { units, frames })
+}
+
 /// Tests the keys of the root.
-pub(crate) fn check_keys(document: &Table) -> Result<(), Refused>
+fn check_keys(document: &Table) -> Result<(), Refused>
     ensures { Tests 1 (BreaksRootKeys (table_view document.now)) result }
 {
     if has_only_keys(document, &["units", "frames", "task"]) {
@@ -22,7 +43,7 @@ pub(crate) fn check_keys(document: &Table) -> Result<(), Refused>
 }
 
 /// How many units fly.
-pub(crate) fn units_of(document: &Table) -> Result<u8, Refused>
+fn units_of(document: &Table) -> Result<u8, Refused>
     ensures units { IfOk result (λ units. units_of (table_view document.now) ≡ Some units) }
     ensures tests { Tests 2 (BreaksUnits (table_view document.now)) result }
 {
@@ -33,7 +54,7 @@ pub(crate) fn units_of(document: &Table) -> Result<u8, Refused>
 }
 
 /// How many frames are flown.
-pub(crate) fn frames_of(document: &Table) -> Result<u32, Refused>
+fn frames_of(document: &Table) -> Result<u32, Refused>
     ensures frames { IfOk result (λ frames. frames_of (table_view document.now) ≡ Some frames) }
     ensures tests { Tests 3 (BreaksFrames (table_view document.now)) result }
 {

@@ -1,11 +1,12 @@
 //! The rules of the tasks, each over all of them, and what the tasks' tables say.
 
-ghost use Rattle.std.specs.Prelude.{◌≡◌, ◌↔◌, ◌≤◌, ℕ, List, Contains, IfOk, IfSome, IfNone, IsTrue, Some, length, map, option_map};
-ghost use Rattle.toml.specs.View.{table_view};
+ghost use Rattle.std.specs.Prelude.{◌≡◌, ◌≢◌, ◌↔◌, ◌≤◌, ◌∷◌, [], ℕ, List, Contains, IfOk, IfSome, IfNone, IsTrue, Some, length, map, option_map};
+ghost use Rattle.toml.specs.View.{table_view, view};
+ghost use Rattle.sift_scenario.specs.Document.{word_array};
 ghost use Rattle.sift_program.specs.declared.program.TheConstants.{TASK_LIMIT};
 ghost use Rattle.sift_scenario.specs.Rules.{BreaksForms, BreaksNames, BreaksStarts, BreaksTasks, BreaksWords, IsTaskNumber};
-ghost use Rattle.sift_scenario.specs.Refusal.{Tests};
-ghost use Rattle.sift_scenario.specs.Task.{AreLinear, IsLinear, IsNewName, counts_of, name_of, starts_of, tasks_of, word_count};
+ghost use Rattle.sift_scenario.specs.Testing.{Tests, IsLinearForm, form_of};
+ghost use Rattle.sift_scenario.specs.Task.{AreForms, Form as Stated, HasForm, IsNewName, counts_of, name_of, starts_of, tasks_of, word_count};
 
 use crate::refused::{Refused, broken};
 use crate::value::{entries_at, member_of, table_of, word_array};
@@ -13,14 +14,16 @@ use arrayvec::ArrayVec;
 use sift_base::{Name, Word, is_name};
 use sift_program::{TASK_LIMIT, WORD_LIMIT};
 use std::alloc::Global;
-use toml::Table;
+use toml::{Table, Value};
 
-/// A linear task: in each frame its word is `factor * last + addend`, where `last` is its word of
-/// the frame before.
-#[derive(Clone, Copy, Debug, PartialEq, Eq)]
-pub(crate) struct Linear {
-    pub factor: Word,
-    pub addend: Word,
+/// What a task runs.
+#[derive(Clone, Copy)]
+pub(crate) enum Form<'a> {
+    /// In each frame its word is `factor * last + addend`, where `last` is its word of the frame
+    /// before.
+    Linear { factor: Word, addend: Word },
+    /// A text of the task language.
+    Text(&'a str),
 }
 
 /// The start words of a task, one for each of its output words.
@@ -39,7 +42,7 @@ pub(crate) fn task_tables<'a>(alloc: Global, document: &'a Table) -> Result<Vec<
     }
     let mut tables = Vec::new(alloc);
     for (place, entry) in entries.iter().enumerate() {
-        match table_of(entry, &["name", "start", "linear"]) {
+        match table_of(entry, &["name", "start", "text", "linear"]) {
             Some(table) => tables.push(table)?,
             None => return Err(broken(18, place)),
         }
@@ -130,42 +133,51 @@ pub(crate) fn check_words(starts: &[Starts]) -> Result<(), Refused>
     Ok(())
 }
 
-/// The rule of each task, where these are the start words of the tasks.
-pub(crate) fn linear_rules(
+/// What each task runs, where these are the start words of the tasks.
+pub(crate) fn task_forms<'a>(
     alloc: Global,
-    tasks: &[&Table],
+    tasks: &[&'a Table],
     starts: &[Starts],
-) -> Result<Vec<Linear>, Refused>
+) -> Result<Vec<Form<'a>>, Refused>
     requires few { length tasks.now ≤ TASK_LIMIT }
     requires starts { map (λ words. length words.items) starts.now
         ≡ counts_of (map (λ task. table_view task.now) tasks.now) }
-    ensures linear { IfOk result (λ rules.
-        AreLinear (map (λ task. table_view task.now) tasks.now) rules.items) }
+    ensures forms { IfOk result (λ forms.
+        AreForms (map (λ task. table_view task.now) tasks.now) (map form_of forms.items)) }
     ensures tests { Tests 22 (BreaksForms (map (λ task. table_view task.now) tasks.now)) result }
 {
-    let mut rules = Vec::new(alloc);
+    let mut forms = Vec::with_capacity(alloc, tasks.len())?;
     for (place, task) in tasks.iter().enumerate() {
-        match linear_rule(task, starts[place].len()) {
-            Some(rule) => rules.push(rule)?,
+        match form_of(task, starts[place].len()) {
+            Some(form) => forms.push_reserved(form),
             None => return Err(broken(22, place)),
         }
     }
-    Ok(rules)
+    Ok(forms)
 }
 
-/// The rule of a task of so many output words, where it is a linear task.
-fn linear_rule(task: &Table, words: usize) -> Option<Linear>
+/// What a task of so many output words runs: a text alone, or a linear rule alone.
+fn form_of(task: &Table, words: usize) -> Option<Form<'_>>
     requires { words ≡ word_count (table_view task.now) }
-    ensures found { IfSome result (λ rule. IsLinear (table_view task.now) rule.factor rule.addend) }
-    ensures none { IfNone result ((factor addend : ℕ) → ¬ IsLinear (table_view task.now) factor addend) }
+    ensures found { IfSome result (λ form. HasForm (table_view task.now) (form_of form)) }
+    ensures none { IfNone result ((form : Stated) → ¬ HasForm (table_view task.now) form) }
 {
-    let pair = word_array(member_of(task, "linear")?, 2, 2)?;
-    if words == 1 {
-        Some(Linear {
-            factor: pair[0],
-            addend: pair[1],
-        })
-    } else {
-        None
+    match (member_of(task, "text"), member_of(task, "linear")) {
+        (Some(text), None) => Some(Form::Text(text.as_str()?)),
+        (None, Some(rule)) if words == 1 => linear_form(rule),
+        _ => None,
     }
+}
+
+/// A linear rule.
+fn linear_form(rule: &Value) -> Option<Form<'_>>
+    ensures found { IfSome result (λ form. IsLinearForm (view rule.now) (form_of form)) }
+    ensures none { IfNone result ((factor addend : ℕ) →
+        word_array 2 2 (view rule.now) ≢ Some (factor ∷ addend ∷ [])) }
+{
+    let pair = word_array(rule, 2, 2)?;
+    Some(Form::Linear {
+        factor: pair[0],
+        addend: pair[1],
+    })
 }

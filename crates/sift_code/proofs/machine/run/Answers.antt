@@ -1,4 +1,4 @@
-use Rattle.std.proofs.Common.{◌∙◌, ◌≡◌, ◌<◌, arith, ap, length, replicate, sym}
+use Rattle.std.proofs.Common.{◌∙◌, ◌≡◌, ◌<◌, arith, ap, length, replicate}
 use Rattle.sift_pool.specs.Region.{words_at}
 use Rattle.sift_code.specs.Machine.{inputs}
 use Rattle.sift_code.specs.Work.{state_of}

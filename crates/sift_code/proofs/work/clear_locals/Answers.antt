@@ -1,4 +1,4 @@
-use Rattle.std.proofs.Common.{arith, sym}
+use Rattle.std.proofs.Common.{arith}
 use Rattle.sift_pool.specs.Region.{words_at}
 use Rattle.sift_code.proofs.Changing.{changes_on, live_on, zeros_more, zeros_all}
 use Rattle.sift_code.proofs.work.clear_locals.Goals as goal

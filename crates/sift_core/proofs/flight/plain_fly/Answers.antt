@@ -1,4 +1,4 @@
-use Rattle.std.proofs.Common.{◌≡◌, ◌<◌, length, add-one, ◌∙◌, arith}
+use Rattle.std.proofs.Common.{add-one, ◌∙◌, arith}
 use Rattle.sift_program.specs.Program.{program_of}
 use Rattle.sift_program.specs.Ideal.{words_before}
 use Rattle.sift_core.specs.Flight.{no_sensors}
@@ -21,22 +21,19 @@ fly_frame-requires-clause-begun c =
 -- each unit votes the ideal machine's words, and the flight has its entry
 pub loop-preserved : goal.loop-preserved
 loop-preserved c =
-    let program = program_of c.args.program.now in
+    let f = c.loop.counter in
     let before = c.loop.states.items in
     let begun = c.begin_frame.new.units in
     let voted = c.fly_frame.new.units in
     let begins = rw c.deref_mut.ensures.value at c.begin_frame.ensures in
     let back = written-back c.loop.states.len before begun c.loop.states.ok.0 begins.as_many in
     let ran = rw (c.deref_mut-in-loop.ensures.value, back) at c.in_ok-fly_frame.ensures in
-    let some : 0 < length begun = omega (arith, begins.as_many, c.loop.invariant.each_unit) in
-    let holds = Begins-holds (words_before program no_sensors c.loop.counter) before begun c.loop.invariant.same_words begins in
-    let ideal = frame-ideal program c.loop.counter begun voted some holds ran in
-    let all : c.loop.states.len ≡ length begun = omega (arith, c.loop.states.ok.0, begins.as_many) in
-    let back_again = written-back c.loop.states.len begun voted all ideal.0 in
-    let each_unit : length voted ≡ c.args.units = ideal.0 ∙ begins.as_many ∙ c.loop.invariant.each_unit in
+    let ideal = frame-ideal (program_of c.args.program.now) f before begun voted (omega (arith, c.loop.invariant.each_unit)) c.loop.invariant.same_words begins ran in
+    let back_again = written-back c.loop.states.len begun voted (omega (arith, c.loop.states.ok.0, begins.as_many)) (omega (arith, ideal.0, begins.as_many)) in
+    let each_unit = ideal.0 ∙ c.loop.invariant.each_unit in
+    let entries = IsIdealFlight-more _ c.args.units f _ voted c.loop.invariant.flown each_unit (rw (add-one f) at ideal.1) in
     rw (back, back_again) (record {
       each_unit = each_unit;
       same_words = ideal.1;
-      flown = rw (c.in_ok-record_frame.ensures, c.deref.ensures.value, back, back_again)
-          (IsIdealFlight-more program c.args.units c.loop.counter _ voted c.loop.invariant.flown each_unit (rw (add-one c.loop.counter) at ideal.1));
+      flown = rw (c.in_ok-record_frame.ensures, c.deref.ensures.value, back, back_again) entries;
     })

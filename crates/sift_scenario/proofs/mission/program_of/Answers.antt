@@ -1,24 +1,29 @@
-use Rattle.std.proofs.Common.{◌≡◌, ℕ, Err, rules, map, ◌∙◌, arith}
+use Rattle.std.proofs.Common.{◌≡◌, ℕ, Err, rules, sym, subst, map, length, ◌∙◌, arith}
 use Rattle.std.proofs.lemmas.List.{length-map}
 use Rattle.toml.specs.View.{table_view}
-use Rattle.sift_scenario.proofs.Order.{forms_refused, names_refused, starts_refused, words_refused}
-use Rattle.sift_scenario.proofs.Programs.{sound_program, starts_long, trees_of_tasks}
-use Rattle.sift_scenario.proofs.Starts.{all_starts_from, counts_from}
-use Rattle.sift_scenario.specs.Refusal.{RefusesBy}
+use Rattle.sift_lang.specs.Tree.{tree_of}
+use Rattle.sift_parse.specs.Force.{Roll, roll_of}
+use Rattle.sift_scenario.proofs.Order.{forms_refused, names_refused, starts_refused, texts_refused, words_refused}
+use Rattle.sift_scenario.proofs.Programs.{sound_program}
+use Rattle.sift_scenario.proofs.Rolls.{few_words, turns}
+use Rattle.sift_scenario.proofs.Starts.{all_starts_from, counts_from, roll_from, starts_long}
+use Rattle.sift_scenario.specs.Mission.{AreTreesOf}
+use Rattle.sift_scenario.specs.Refusal.{IsFirstRefused}
 use Rattle.sift_scenario.specs.Rules.{BreaksWords}
 use Rattle.sift_scenario.specs.Task.{counts_of}
+use Rattle.sift_scenario.specs.Testing.{AreTurns, RefusesBy, form_of}
 use Rattle.sift_scenario.proofs.mission.program_of.Goals as goal
 
 -- the first rule that is broken is that of the test that stopped
-pub returns-in_err-task_names-clause-refused : goal.returns-in_err-task_names-clause-refused
-returns-in_err-task_names-clause-refused c =
-    let same : c.from_residual.result ≡ Err c.in_err-task_names.field-0.0 = search rules in
-    rw same (names_refused (map (λ task. table_view task.now) c.args.tasks.now) _ c.in_err-task_names.ensures.tests)
+pub returns-in_err-names-clause-refused : goal.returns-in_err-names-clause-refused
+returns-in_err-names-clause-refused c =
+    let same : c.from_residual.result ≡ Err c.in_err-names.field-0.0 = search rules in
+    rw same (names_refused (map (λ task. table_view task.now) c.args.tasks.now) _ c.in_err-names.ensures.tests)
 
 pub returns-in_err-starts-clause-refused : goal.returns-in_err-starts-clause-refused
 returns-in_err-starts-clause-refused c =
     let same : c.from_residual-in_err-starts.result ≡ Err c.in_err-starts.field-0.0 = search rules in
-    rw same (starts_refused (map (λ task. table_view task.now) c.args.tasks.now) _ c.in_ok-task_names.ensures.tests c.in_err-starts.ensures.tests)
+    rw same (starts_refused (map (λ task. table_view task.now) c.args.tasks.now) _ c.in_ok-names.ensures.tests c.in_err-starts.ensures.tests)
 
 pub returns-in_err-check_words-clause-refused : goal.returns-in_err-check_words-clause-refused
 returns-in_err-check_words-clause-refused c =
@@ -26,38 +31,70 @@ returns-in_err-check_words-clause-refused c =
     let counts = counts_from (λ task. table_view task.now) (λ words. words.items) c.args.tasks.now c.in_ok-starts.starts.items c.in_ok-starts.ensures.starts in
     let refuses : RefusesBy 21 (BreaksWords (counts_of (map (λ task. table_view task.now) c.args.tasks.now))) c.in_err-check_words.field-0.0 =
     rw (← counts) (rw c.deref.ensures.value at c.in_err-check_words.ensures) in
-    rw same (words_refused (map (λ task. table_view task.now) c.args.tasks.now) _ c.in_ok-task_names.ensures.tests c.in_ok-starts.ensures.tests refuses)
+    rw same (words_refused (map (λ task. table_view task.now) c.args.tasks.now) _ c.in_ok-names.ensures.tests c.in_ok-starts.ensures.tests refuses)
 
 -- each task has as many words as start words
-pub linear_rules-requires-clause-starts : goal.linear_rules-requires-clause-starts
-linear_rules-requires-clause-starts c = rw c.deref-2.ensures.value (counts_from (λ task. table_view task.now) (λ words. words.items) c.args.tasks.now c.in_ok-starts.starts.items c.in_ok-starts.ensures.starts)
+pub task_forms-requires-clause-starts : goal.task_forms-requires-clause-starts
+task_forms-requires-clause-starts c = rw c.deref-2.ensures.value (counts_from (λ task. table_view task.now) (λ words. words.items) c.args.tasks.now c.in_ok-starts.starts.items c.in_ok-starts.ensures.starts)
 
-pub returns-in_err-rules-clause-refused : goal.returns-in_err-rules-clause-refused
-returns-in_err-rules-clause-refused c =
-    let same : c.from_residual-in_err-rules.result ≡ Err c.in_err-rules.field-0.0 = search rules in
+pub returns-in_err-forms-clause-refused : goal.returns-in_err-forms-clause-refused
+returns-in_err-forms-clause-refused c =
+    let same : c.from_residual-in_err-forms.result ≡ Err c.in_err-forms.field-0.0 = search rules in
     let counts = counts_from (λ task. table_view task.now) (λ words. words.items) c.args.tasks.now c.in_ok-starts.starts.items c.in_ok-starts.ensures.starts in
     let words : (at : ℕ) → ¬ BreaksWords (counts_of (map (λ task. table_view task.now) c.args.tasks.now)) at =
     rw (← counts) (rw c.deref.ensures.value at c.in_ok-check_words.ensures) in
-    rw same (forms_refused (map (λ task. table_view task.now) c.args.tasks.now) _ c.in_ok-task_names.ensures.tests c.in_ok-starts.ensures.tests words c.in_err-rules.ensures.tests)
+    rw same (forms_refused (map (λ task. table_view task.now) c.args.tasks.now) _ c.in_ok-names.ensures.tests c.in_ok-starts.ensures.tests words c.in_err-forms.ensures.tests)
+
+-- each task takes its turn
+pub task_trees-requires-clause-turns : goal.task_trees-requires-clause-turns
+task_trees-requires-clause-turns c =
+    let counts = counts_from (λ task. table_view task.now) (λ words. words.items) c.args.tasks.now c.in_ok-starts.starts.items c.in_ok-starts.ensures.starts in
+    let words : (at : ℕ) → ¬ BreaksWords (counts_of (map (λ task. table_view task.now) c.args.tasks.now)) at =
+    rw (← counts) (rw c.deref.ensures.value at c.in_ok-check_words.ensures) in
+    let roll = roll_from (λ task. table_view task.now) (λ name. name.bytes) (λ words. words.items) c.args.tasks.now c.in_ok-names.names.items c.in_ok-starts.starts.items
+    c.in_ok-names.ensures.names c.in_ok-starts.ensures.starts (roll_of c.in_ok-names-2.names) (rw (c.deref-3.ensures.value, c.deref-4.ensures.value) at c.in_ok-names-2.ensures) in
+    let long = length-map c.args.tasks.now (λ task. table_view task.now) in
+    subst (λ (r : Roll). AreTurns (length c.deref-5.result.now) r) (sym roll) (λ task low. turns (map (λ task. table_view task.now) c.args.tasks.now) c.in_ok-names.ensures.tests c.in_ok-starts.ensures.tests words
+    (omega (arith, long, c.requires.0)) (omega (arith, long, c.requires.1)) task
+    (omega (arith, long, low, c.deref-5.ensures.len, c.in_ok-forms.ensures.forms.as_many, length-map c.in_ok-forms.forms.items form_of)))
+
+-- the text of a task is refused
+pub returns-in_err-task_trees-clause-refused : goal.returns-in_err-task_trees-clause-refused
+returns-in_err-task_trees-clause-refused c =
+    let same : c.from_residual-in_err-task_trees.result ≡ Err c.in_err-task_trees.field-0.0 = search rules in
+    let counts = counts_from (λ task. table_view task.now) (λ words. words.items) c.args.tasks.now c.in_ok-starts.starts.items c.in_ok-starts.ensures.starts in
+    let words : (at : ℕ) → ¬ BreaksWords (counts_of (map (λ task. table_view task.now) c.args.tasks.now)) at =
+    rw (← counts) (rw c.deref.ensures.value at c.in_ok-check_words.ensures) in
+    let roll = roll_from (λ task. table_view task.now) (λ name. name.bytes) (λ words. words.items) c.args.tasks.now c.in_ok-names.names.items c.in_ok-starts.starts.items
+    c.in_ok-names.ensures.names c.in_ok-starts.ensures.starts (roll_of c.in_ok-names-2.names) (rw (c.deref-3.ensures.value, c.deref-4.ensures.value) at c.in_ok-names-2.ensures) in
+    rw same (texts_refused (map (λ task. table_view task.now) c.args.tasks.now) _ c.in_ok-names.ensures.tests c.in_ok-starts.ensures.tests words c.in_ok-forms.ensures.tests (map form_of c.in_ok-forms.forms.items)
+    c.in_ok-forms.ensures.forms
+    (λ some. subst (λ (r : Roll). IsFirstRefused r (map form_of c.in_ok-forms.forms.items) c.in_err-task_trees.field-0.0) roll (rw c.deref-5.ensures.value at c.in_err-task_trees.ensures.refused some)))
 
 -- its trees and start words are those of the tasks
 pub returns-clause-stated : goal.returns-clause-stated
 returns-clause-stated c =
-    let tasks = map (λ task. table_view task.now) c.args.tasks.now in record {
-      starts = rw c.deref-4.ensures.value at c.in_ok-all_starts.ensures ∙ all_starts_from (λ task. table_view task.now) (λ words. words.items) c.args.tasks.now c.in_ok-starts.starts.items c.in_ok-starts.ensures.starts;
-      trees = trees_of_tasks tasks c.in_ok-rules.rules.items c.in_ok-rules.ensures.linear _ (rw c.deref-3.ensures.value at c.in_ok-linear_tasks.ensures);
+    let roll = roll_from (λ task. table_view task.now) (λ name. name.bytes) (λ words. words.items) c.args.tasks.now c.in_ok-names.names.items c.in_ok-starts.starts.items
+    c.in_ok-names.ensures.names c.in_ok-starts.ensures.starts (roll_of c.in_ok-names-2.names) (rw (c.deref-3.ensures.value, c.deref-4.ensures.value) at c.in_ok-names-2.ensures) in record {
+      starts = rw c.deref-6.ensures.value at c.in_ok-all_starts.ensures ∙ all_starts_from (λ task. table_view task.now) (λ words. words.items) c.args.tasks.now c.in_ok-starts.starts.items c.in_ok-starts.ensures.starts;
+      forms = map form_of c.in_ok-forms.forms.items;
+      stated = c.in_ok-forms.ensures.forms;
+      trees = subst (λ (r : Roll). AreTreesOf r (map form_of c.in_ok-forms.forms.items) (map tree_of c.in_ok-task_trees.field-0.items)) roll (rw c.deref-5.ensures.value at c.in_ok-task_trees.ensures.trees);
     }
 
 -- it is sound
 pub returns-clause-sound : goal.returns-clause-sound
 returns-clause-sound c =
-    let tasks = map (λ task. table_view task.now) c.args.tasks.now in
-    let linear = c.in_ok-rules.ensures.linear in
-    let as_many = length-map c.args.tasks.now (λ task. table_view task.now) in
-    let all = rw c.deref-4.ensures.value at c.in_ok-all_starts.ensures ∙ all_starts_from (λ task. table_view task.now) (λ words. words.items) c.args.tasks.now c.in_ok-starts.starts.items c.in_ok-starts.ensures.starts in
-    sound_program c.in_ok-rules.rules.items _ _ (rw c.deref-3.ensures.value at c.in_ok-linear_tasks.ensures)
-    (rw all (starts_long tasks c.in_ok-rules.rules.items linear))
-    (omega (arith, linear.as_many, as_many, c.requires.0)) (omega (arith, linear.as_many, as_many, c.requires.1))
+    let counts = counts_from (λ task. table_view task.now) (λ words. words.items) c.args.tasks.now c.in_ok-starts.starts.items c.in_ok-starts.ensures.starts in
+    let words : (at : ℕ) → ¬ BreaksWords (counts_of (map (λ task. table_view task.now) c.args.tasks.now)) at =
+    rw (← counts) (rw c.deref.ensures.value at c.in_ok-check_words.ensures) in
+    let roll = roll_from (λ task. table_view task.now) (λ name. name.bytes) (λ words. words.items) c.args.tasks.now c.in_ok-names.names.items c.in_ok-starts.starts.items
+    c.in_ok-names.ensures.names c.in_ok-starts.ensures.starts (roll_of c.in_ok-names-2.names) (rw (c.deref-3.ensures.value, c.deref-4.ensures.value) at c.in_ok-names-2.ensures) in
+    let long = length-map c.args.tasks.now (λ task. table_view task.now) in
+    let all = rw c.deref-6.ensures.value at c.in_ok-all_starts.ensures ∙ all_starts_from (λ task. table_view task.now) (λ words. words.items) c.args.tasks.now c.in_ok-starts.starts.items c.in_ok-starts.ensures.starts in
+    sound_program (map (λ task. table_view task.now) c.args.tasks.now) (map form_of c.in_ok-forms.forms.items) (map tree_of c.in_ok-task_trees.field-0.items) c.in_ok-forms.ensures.forms
+    (subst (λ (r : Roll). AreTreesOf r (map form_of c.in_ok-forms.forms.items) (map tree_of c.in_ok-task_trees.field-0.items)) roll (rw c.deref-5.ensures.value at c.in_ok-task_trees.ensures.trees))
+    _ (rw all (starts_long (map (λ task. table_view task.now) c.args.tasks.now))) (few_words (map (λ task. table_view task.now) c.args.tasks.now) (omega (arith, long, c.requires.0)) words) (omega (arith, long, c.requires.0)) (omega (arith, long, c.requires.1))
 
 -- and no rule of the tasks is broken
 pub returns-clause-kept : goal.returns-clause-kept
@@ -65,8 +102,8 @@ returns-clause-kept c =
     let counts = counts_from (λ task. table_view task.now) (λ words. words.items) c.args.tasks.now c.in_ok-starts.starts.items c.in_ok-starts.ensures.starts in
     let words : (at : ℕ) → ¬ BreaksWords (counts_of (map (λ task. table_view task.now) c.args.tasks.now)) at =
     rw (← counts) (rw c.deref.ensures.value at c.in_ok-check_words.ensures) in record {
-      names = c.in_ok-task_names.ensures.tests;
+      names = c.in_ok-names.ensures.tests;
       starts = c.in_ok-starts.ensures.tests;
       words = words;
-      forms = c.in_ok-rules.ensures.tests;
+      forms = c.in_ok-forms.ensures.tests;
     }

@@ -1,19 +1,20 @@
 use Rattle.std.proofs.Common.{◌≡◌, ◌<◌, ℕ, below_more, get_or, length, map, sym, ap, ◌∙◌, arith}
-use Rattle.std.proofs.lemmas.List.{get_or-map, length-map}
+use Rattle.std.proofs.lemmas.List.{get_or-map, length-map, map-append}
 use Rattle.toml.specs.Data.{Members}
 use Rattle.toml.specs.View.{table_view}
 use Rattle.sift_scenario.proofs.Places.{fails_here, holds_here, matches_more, nowhere, same_at, taken}
 use Rattle.sift_scenario.proofs.Testing.{first_broken}
-use Rattle.sift_scenario.specs.Task.{IsLinear, word_count}
-use Rattle.sift_scenario.proofs.task.linear_rules.Goals as goal
+use Rattle.sift_scenario.specs.Task.{Form, HasForm, word_count}
+use Rattle.sift_scenario.specs.Testing.{form_of}
+use Rattle.sift_scenario.proofs.task.task_forms.Goals as goal
 
--- the task isn't linear
-abbrev IsOther : ℕ → Members → Type 0
-IsOther at task = (factor addend : ℕ) → ¬ IsLinear task factor addend
+-- the task has no form
+abbrev IsFormless : ℕ → Members → Type 0
+IsFormless at task = (form : Form) → ¬ HasForm task form
 
 -- a task has as many words as start words
-pub linear_rule-requires : goal.linear_rule-requires
-linear_rule-requires c =
+pub form_of-requires : goal.form_of-requires
+form_of-requires c =
     let tables = map (λ task. table_view task.now) c.args.tasks.now in
     let low : c.loop-place.place < length tables = rw length-map c.loop-place-test.true in
     let as_many : length c.args.starts.now ≡ length tables =
@@ -24,30 +25,32 @@ linear_rule-requires c =
     ∙ same_at (λ words. length words.items) word_count c.args.starts.now tables c.loop-place.place c.index-starts-place.result _
     c.requires.starts (rw as_many low) c.index-starts-place.is low here
 
--- a task isn't linear
+-- a task has none
 pub returns-in-None-clause-tests : goal.returns-in-None-clause-tests
 returns-in-None-clause-tests c =
     rw c.broken.ensures
     (first_broken 22 _ _
-    (holds_here (λ task. table_view task.now) c.args.tasks.now IsOther _ _
+    (holds_here (λ task. table_view task.now) c.args.tasks.now IsFormless _ _
     c.loop-place-test.true c.index-tasks-place.is c.in-None.ensures.none)
-    c.loop-place.invariant.2)
+    c.loop-place.invariant.3)
 
--- a task more is linear
+-- a task more has one
 pub loop-place-preserved : goal.loop-place-preserved
 loop-place-preserved c = (
-  omega (arith, c.in_ok-push-in-Some.ensures.len, c.loop-place.invariant.0),
-  rw c.in_ok-push-in-Some.ensures.items
-      (matches_more (λ place task rule. IsLinear task rule.factor rule.addend) (map (λ task. table_view task.now) c.args.tasks.now)
-      _ _ _ _ c.loop-place.invariant.1 (sym c.loop-place.invariant.0)
+  omega (arith, c.push_reserved.ensures.len, c.loop-place.invariant.0),
+  omega (arith, c.push_reserved.ensures.capacity, c.loop-place.invariant.1),
+  rw (c.push_reserved.ensures.items, map-append)
+      (matches_more (λ place task form. HasForm task form) (map (λ task. table_view task.now) c.args.tasks.now)
+      (map form_of c.loop-place.forms.items) c.loop-place.place _ _ c.loop-place.invariant.2
+      (sym (length-map c.loop-place.forms.items form_of ∙ c.loop-place.invariant.0))
       (taken (λ task. table_view task.now) c.args.tasks.now _ _ c.loop-place-test.true c.index-tasks-place.is) c.in-Some.ensures.found),
-  below_more _ _ c.loop-place.invariant.2
-      (fails_here (λ task. table_view task.now) c.args.tasks.now IsOther _ _
-      c.loop-place-test.true c.index-tasks-place.is (λ other. other _ _ c.in-Some.ensures.found)),
+  below_more _ _ c.loop-place.invariant.3
+      (fails_here (λ task. table_view task.now) c.args.tasks.now IsFormless _ _
+      c.loop-place-test.true c.index-tasks-place.is (λ none. none _ c.in-Some.ensures.found)),
 )
 
 -- all tasks were read
 pub returns-clause-tests : goal.returns-clause-tests
 returns-clause-tests c =
-    nowhere (λ task. table_view task.now) c.args.tasks.now IsOther
-    (λ at low. c.loop-place.invariant.2 at (omega (arith, low, c.loop-place-test.false)))
+    nowhere (λ task. table_view task.now) c.args.tasks.now IsFormless
+    (λ at low. c.loop-place.invariant.3 at (omega (arith, low, c.loop-place-test.false)))

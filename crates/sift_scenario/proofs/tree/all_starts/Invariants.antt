@@ -1,6 +1,6 @@
 use Rattle.std.proofs.Common.{◌≡◌, take}
 use Rattle.std.specs.List.{flat_map}
-use Rattle.sift_scenario.proofs.mission.all_starts.Given as goal
+use Rattle.sift_scenario.proofs.tree.all_starts.Given as goal
 
 -- the words of the tasks so far
 abbrev pub invariant-loop-words : goal.invariant-loop-words

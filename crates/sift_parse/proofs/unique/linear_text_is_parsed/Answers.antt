@@ -1,0 +1,5 @@
+use Rattle.sift_parse.proofs.LinearText.{linear_text_is_parsed}
+use Rattle.sift_parse.proofs.unique.linear_text_is_parsed.Goals as goal
+
+pub returns : goal.returns
+returns c = linear_text_is_parsed

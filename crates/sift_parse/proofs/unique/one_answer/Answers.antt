@@ -1,0 +1,5 @@
+use Rattle.sift_parse.proofs.OneAnswer.{one_answer}
+use Rattle.sift_parse.proofs.unique.one_answer.Goals as goal
+
+pub returns : goal.returns
+returns c = one_answer

@@ -1,0 +1,5 @@
+use Rattle.sift_parse.proofs.OneAnswer.{task_is_answered}
+use Rattle.sift_parse.proofs.unique.task_is_answered.Goals as goal
+
+pub returns : goal.returns
+returns c = task_is_answered
