@@ -32,7 +32,7 @@ from_report words input output text status report owing (inl written) = record {
   complete = λ bytes mission told command short states calm_source calm_sink. (0, lit< tt, sym written.0);
 }
 from_report words input output text status report owing (inr cuts) = record {
-  known = (5, lit< tt, sym cuts.0);
+  known = (6, lit< tt, sym cuts.0);
   reported = λ e. cc;
   refused = λ refusal e. absurd ((status_of-other refusal).1 (sym e ∙ cuts.0));
   cut = λ _. (string_bytes text, inl report, cuts.1);
@@ -47,7 +47,7 @@ pub from_no_memory :
     (words : List (String Global)) (input : Input) (output : Output) (status : ℕ)
     → status ≡ 10 → IsCommandLine words × IsBegun input → IsAnswered words input output status
 from_no_memory words input output status is stopped = record {
-  known = (6, lit< tt, sym is);
+  known = (7, lit< tt, sym is);
   reported = λ e. cc;
   refused = λ refusal e. absurd ((status_of-other refusal).2 (sym e ∙ is));
   cut = λ e. cc;
@@ -86,7 +86,7 @@ from_refusal words input output came status here as_owed complete (inl (inl writ
       absurd (calm_source (fault_rose words input came here (complete bytes mission told command short states)));
 }
 from_refusal words input output came status here as_owed complete (inl (inr cuts)) = record {
-  known = (5, lit< tt, sym cuts.0);
+  known = (6, lit< tt, sym cuts.0);
   reported = λ e. cc;
   refused = λ refusal e. absurd ((status_of-other refusal).1 (sym e ∙ cuts.0));
   cut = λ _. (line_of came, inr (came, here, refl), cuts.1);

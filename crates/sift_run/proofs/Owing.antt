@@ -9,7 +9,7 @@ use Rattle.sift_run.specs.Stop.{IsFault, StopsFor}
 use Rattle.sift_run.specs.declared.answer.Stop.{Stop}
 use Rattle.sift_run.specs.declared.answer.Stop.TheVariants as stop
 use Rattle.sift_run.specs.declared.refusal.Refusal.{Refusal}
-use Rattle.sift_run.specs.declared.refusal.Refusal.TheVariants.{Usage, ReadFault, TooLong, NotADocument, Scenario}
+use Rattle.sift_run.specs.declared.refusal.Refusal.TheVariants.{Usage, ReadFault, TooLong, NotADocument, Scenario, Task}
 
 -- no command line is owed nothing but its refusal
 pub owed_no_command :
@@ -20,6 +20,7 @@ owed_no_command words bytes ReadFault other due = absurd due
 owed_no_command words bytes TooLong other due = absurd (other due.0)
 owed_no_command words bytes NotADocument other due = absurd (other due.0)
 owed_no_command words bytes (Scenario rule place) other due = absurd (other due.0)
+owed_no_command words bytes (Task task kind at) other due = absurd (other due.0)
 
 -- an input of which one byte too many was taken is owed nothing but its refusal
 pub owed_too_long :
@@ -32,6 +33,8 @@ owed_too_long words input bytes TooLong command taken told due = (refl, inl refl
 owed_too_long words input bytes NotADocument command taken told due =
     let long = long_input input bytes told taken in absurd (omega (arith, long, due.1))
 owed_too_long words input bytes (Scenario rule place) command taken told due =
+    let long = long_input input bytes told taken in absurd (omega (arith, long, due.1))
+owed_too_long words input bytes (Task task kind at) command taken told due =
     let long = long_input input bytes told taken in absurd (omega (arith, long, due.1))
 
 -- an input that was read to its end is owed what its bytes are
@@ -51,6 +54,9 @@ owed_on_input words input bytes all told_bytes result NotADocument command same 
 owed_on_input words input bytes all told_bytes result (Scenario rule place) command same read stops told due =
     stops (Scenario rule place)
     (subst (λ (bs : List ℕ). AreRefused bs (Scenario rule place)) (sym (same ∙ only_input input told_bytes all told read)) due.2)
+owed_on_input words input bytes all told_bytes result (Task task kind at) command same read stops told due =
+    stops (Task task kind at)
+    (subst (λ (bs : List ℕ). AreRefused bs (Task task kind at)) (sym (same ∙ only_input input told_bytes all told read)) due.2)
 
 -- an input that was read to its end states what its bytes state
 pub complete_on_input :

@@ -34,7 +34,7 @@ IsDue words input text = IsReported words input text
 
 -- every status that there is
 abbrev pub statuses : List ℕ
-statuses = REPORTED ∷ 2 ∷ 3 ∷ 4 ∷ 8 ∷ SINK_FAULT ∷ NO_MEMORY ∷ 11 ∷ []
+statuses = REPORTED ∷ 2 ∷ 3 ∷ 4 ∷ 5 ∷ 8 ∷ SINK_FAULT ∷ NO_MEMORY ∷ 11 ∷ []
 
 -- a status says all this of the words, the input and the output
 pub record IsAnswered (words : List (String Global)) (input : Input) (output : Output) (status : ℕ) : Type 0 where

@@ -8,11 +8,12 @@ use Rattle.sift_run.specs.Refusal.{AreRefused, IsRefused}
 use Rattle.sift_run.specs.declared.answer.Stop.{Stop}
 use Rattle.sift_run.specs.declared.answer.Stop.TheVariants as stop
 use Rattle.sift_run.specs.declared.refusal.Refusal.{Refusal}
-use Rattle.sift_run.specs.declared.refusal.Refusal.TheVariants.{ReadFault, Scenario}
+use Rattle.sift_run.specs.declared.refusal.Refusal.TheVariants.{ReadFault, Scenario, Task}
 
 -- what a refused document stops with
 abbrev pub stop_of : Refused → Stop
 stop_of (document.Scenario rule place) = stop.Refused (Scenario rule place)
+stop_of (document.Task task kind at) = stop.Refused (Task task kind at)
 stop_of document.NoMemory = stop.NoMemory
 
 -- what stands where there is no report

@@ -46,6 +46,7 @@ impl From<Refused> for Stop {
     fn from(refused: Refused) -> Self {
         match refused {
             Refused::Scenario { rule, place } => Stop::Refused(Refusal::Scenario { rule, place }),
+            Refused::Task { task, kind, at } => Stop::Refused(Refusal::Task { task, kind, at }),
             Refused::NoMemory => Stop::NoMemory,
         }
     }

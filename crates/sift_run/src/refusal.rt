@@ -2,7 +2,7 @@
 
 ghost use Rattle.std.specs.Prelude.{◌≡◌, IfOk, string_bytes};
 ghost use Rattle.sift_run.specs.Refusal.{line_of};
-ghost use Rattle.sift_run.specs.declared.refusal.Refusal.TheVariants.{Scenario};
+ghost use Rattle.sift_run.specs.declared.refusal.Refusal.TheVariants.{Scenario, Task};
 
 use std::alloc::{AllocError, Global};
 
@@ -20,6 +20,8 @@ pub enum Refusal {
     /// The document breaks the scenario rule of this number. `place` is the number of the first entry that does, and 0
     /// for a rule that speaks of no entry.
     Scenario { rule: u32, place: u32 },
+    /// The text of this task is none of the task language: of this kind, at this byte place of the text.
+    Task { task: u32, kind: u32, at: u32 },
 }
 
 impl Refusal {
@@ -33,6 +35,7 @@ impl Refusal {
             Refusal::Usage => 2,
             Refusal::NotADocument => 3,
             Refusal::Scenario { .. } => 4,
+            Refusal::Task { .. } => 5,
             Refusal::ReadFault => 8,
             Refusal::TooLong => 11,
         }
@@ -45,5 +48,14 @@ pub fn scenario_line(alloc: Global, rule: u32, place: u32) -> Result<String, All
 {
     let mut line = String::new(alloc);
     write!(line, "scenario rule {rule} at {place}\n")?;
+    Ok(line)
+}
+
+/// The line of a task's text, with its line feed.
+pub fn task_line(alloc: Global, task: u32, kind: u32, at: u32) -> Result<String, AllocError>
+    ensures { IfOk result (λ line. string_bytes line ≡ line_of (Task task kind at)) }
+{
+    let mut line = String::new(alloc);
+    write!(line, "task {task} kind {kind} at {at}\n")?;
     Ok(line)
 }

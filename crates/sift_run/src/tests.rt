@@ -91,19 +91,39 @@ const MANY_REPORT: &str = "f=0 u=0 cfg=0123 clk=0 in=- \
     f=0 skew=0 slack=1 margin=ok\n\
     end frames=1 cfg=0123 margin=ok\n";
 
+/// A mission of two tasks with texts: the first has two words, and the second adds those of the same frame.
+const TEXTS: &str = "units = 4\nframes = 2\n\
+    [[task]]\nname = \"pair\"\nstart = [1, 2]\n\
+    text = \"out 0 = last pair.1; out 1 = last pair.0 + last pair.1;\"\n\
+    [[task]]\nname = \"sum\"\nstart = [0]\ntext = \"out 0 = now pair.0 + now pair.1;\"\n";
+
+/// Its report: from 1 and 2 come 2 and 3, with the sum 5; then 3 and 5, with the sum 8.
+const TEXTS_REPORT: &str = "f=0 u=0 cfg=0123 clk=0 in=- out=0002,0003,0005 bad=-\n\
+    f=0 u=1 cfg=0123 clk=0 in=- out=0002,0003,0005 bad=-\n\
+    f=0 u=2 cfg=0123 clk=0 in=- out=0002,0003,0005 bad=-\n\
+    f=0 u=3 cfg=0123 clk=0 in=- out=0002,0003,0005 bad=-\n\
+    f=0 skew=0 slack=1 margin=ok\n\
+    f=1 u=0 cfg=0123 clk=0 in=- out=0003,0005,0008 bad=-\n\
+    f=1 u=1 cfg=0123 clk=0 in=- out=0003,0005,0008 bad=-\n\
+    f=1 u=2 cfg=0123 clk=0 in=- out=0003,0005,0008 bad=-\n\
+    f=1 u=3 cfg=0123 clk=0 in=- out=0003,0005,0008 bad=-\n\
+    f=1 skew=0 slack=1 margin=ok\n\
+    end frames=2 cfg=0123 margin=ok\n";
+
 /// Missions, with their reports.
-const MISSIONS: [(&str, &str); 4] = [
+const MISSIONS: [(&str, &str); 5] = [
     (COUNT, COUNT_REPORT),
     (COUNT_FIVE, COUNT_FIVE_REPORT),
     (TWO, TWO_REPORT),
     (MANY, MANY_REPORT),
+    (TEXTS, TEXTS_REPORT),
 ];
 
 /// Words that are no command line.
 const NO_COMMAND_LINES: [&[&str]; 6] = [&[], &["fly"], &["run", "run"], &[""], &["run "], &["RUN"]];
 
-/// Documents that are refused, at least one for each rule, with their statuses and their lines.
-const REFUSED: [(&str, u8, &str); 13] = [
+/// Documents that are refused, at least one for each rule and for each kind of a text, with their statuses and their lines.
+const REFUSED: [(&str, u8, &str); 21] = [
     ("", 4, "scenario rule 2 at 0\n"),
     ("frames = 1\n", 4, "scenario rule 2 at 0\n"),
     (
@@ -124,7 +144,7 @@ const REFUSED: [(&str, u8, &str); 13] = [
     ("units = 4\nframes = 1\n", 4, "scenario rule 18 at 0\n"),
     (
         "units = 4\nframes = 1\ntask = [{name = \"a\", start = [0], linear = [0, 0]}, \
-        {name = \"b\", start = [0], linear = [0, 0], text = \"\"}]\n",
+        {name = \"b\", start = [0], linear = [0, 0], word = 0}]\n",
         4,
         "scenario rule 18 at 1\n",
     ),
@@ -173,6 +193,48 @@ const REFUSED: [(&str, u8, &str); 13] = [
         {name = \"k\", start = [0]}]\n",
         4,
         "scenario rule 22 at 10\n",
+    ),
+    (
+        "units = 4\nframes = 1\ntask = [{name = \"a\", start = [0], linear = [0, 0]}, \
+        {name = \"b\", start = [0], linear = [0, 0], text = \"\"}]\n",
+        4,
+        "scenario rule 22 at 1\n",
+    ),
+    (
+        "units = 4\nframes = 1\ntask = [{name = \"a\", start = [0], text = \"$\"}, {name = \"b\", start = [0]}]\n",
+        4,
+        "scenario rule 22 at 1\n",
+    ),
+    (
+        "units = 4\nframes = 1\ntask = [{name = \"a\", start = [0], text = \"out 0 = $;\"}]\n",
+        5,
+        "task 0 kind 1 at 8\n",
+    ),
+    (
+        "units = 4\nframes = 1\ntask = [{name = \"a\", start = [0], text = \"out 0 = 1\"}]\n",
+        5,
+        "task 0 kind 2 at 9\n",
+    ),
+    (
+        "units = 4\nframes = 1\ntask = [{name = \"a\", start = [0], text = \"out 0 = x;\"}]\n",
+        5,
+        "task 0 kind 3 at 8\n",
+    ),
+    (
+        "units = 4\nframes = 1\ntask = [{name = \"a\", start = [0], text = \"out 0 = now a.0;\"}]\n",
+        5,
+        "task 0 kind 4 at 12\n",
+    ),
+    (
+        "units = 4\nframes = 1\ntask = [{name = \"a\", start = [0], text = \"out 0 = 65536;\"}]\n",
+        5,
+        "task 0 kind 5 at 8\n",
+    ),
+    (
+        "units = 4\nframes = 1\ntask = [{name = \"a\", start = [0], linear = [0, 0]}, \
+        {name = \"b\", start = [0], text = \"out 1 = 0;\"}]\n",
+        5,
+        "task 1 kind 3 at 4\n",
     ),
     ("units = 4\nname = \"ab\n", 3, "not a document\n"),
 ];
@@ -225,7 +287,7 @@ fn other_words_are_no_command_line(rt: HostRuntime) -> Result<(), Fail> {
 }
 
 #[test]
-fn a_document_is_refused_by_its_first_broken_rule(rt: HostRuntime) -> Result<(), Fail> {
+fn a_document_is_refused_for_its_first_fault(rt: HostRuntime) -> Result<(), Fail> {
     for (document, want, line) in REFUSED {
         let (status, sink) = call(rt.alloc(), &["run"], document.as_bytes(), 0, 0)?;
         assert_eq!(rt; status, want, "status of {document}");

@@ -6,7 +6,7 @@ ghost use Rattle.sift_run.specs.Input.{IsCommandLine, input};
 ghost use Rattle.sift_run.specs.Output.{Says, SaysRefusal, output};
 
 use crate::answer::{Stop, answer};
-use crate::refusal::{Refusal, scenario_line};
+use crate::refusal::{Refusal, scenario_line, task_line};
 use sift_io::{Sink, Source, WriteStop, write_all};
 use std::alloc::{AllocError, Global};
 
@@ -22,7 +22,7 @@ pub const NO_MEMORY: u8 = 10;
 /// Does what the command words ask for, without the program's name: reads the source, writes a text or the line of a
 /// refusal to the sink, and answers the exit status. The whole text is made before any of it is written.
 ///
-/// The tests come in the order of the statuses 2, 8 or 11, 3, 4 and 9. Words that are no command line take no memory.
+/// The tests come in the order of the statuses 2, 8 or 11, 3, 4, 5 and 9. Words that are no command line take no memory.
 /// Clauses on bytes hold where the source and the sink tell their bytes.
 pub fn sift<S: Source, K: Sink>(alloc: Global, words: &[String], source: &mut S, sink: &mut K) -> u8
     ensures answered { IsAnswered words.now
@@ -55,6 +55,9 @@ fn refuse<K: Sink>(alloc: Global, sink: &mut K, refusal: Refusal) -> u8
         Refusal::NotADocument => say(sink, "not a document\n", status),
         Refusal::Scenario { rule, place } => {
             say_made(sink, scenario_line(alloc, rule, place), status)
+        }
+        Refusal::Task { task, kind, at } => {
+            say_made(sink, task_line(alloc, task, kind, at), status)
         }
         Refusal::ReadFault => say(sink, "read fault\n", status),
         Refusal::TooLong => say(sink, "too long\n", status),
