@@ -1,13 +1,14 @@
 -- What a document is owed, and what stops its report.
 use Rattle.std.proofs.Common.{◌≡◌, ◌≢◌, ◌⊎◌, inl, inr, ℕ, List, Result, Ok, Err, refl, subst}
 use Rattle.toml.specs.Data.{Members}
+use Rattle.sift_scenario.specs.Mission.{IsMission, Stated}
 use Rattle.sift_scenario.specs.Refusal.{OnlyRefuses, IsRefused as IsRefusedDocument}
 use Rattle.sift_scenario.specs.declared.refused.Refused.{Refused}
 use Rattle.sift_scenario.specs.declared.refused.Refused.TheVariants as refused
 use Rattle.sift_run.proofs.Inputs.{one_tree}
-use Rattle.sift_run.specs.Input.{IsDocument}
+use Rattle.sift_run.specs.Input.{IsDocument, States}
 use Rattle.sift_run.specs.Refusal.{AreRefused, StatesNone}
-use Rattle.sift_run.specs.Stop.{StopsAt, StopsFor, stop_of}
+use Rattle.sift_run.specs.Stop.{IsFault, StopsAt, StopsFor, stop_of}
 use Rattle.sift_run.specs.declared.answer.Stop.{Stop}
 use Rattle.sift_run.specs.declared.answer.Stop.TheVariants.{Refused as Stopped, NoMemory}
 use Rattle.sift_run.specs.declared.refusal.Refusal.{Refusal}
@@ -42,7 +43,7 @@ same_reason bytes document reason is due =
 -- the reason that is owed comes, or want of memory
 owed_reason :
     (A : Type 0) (owed : Refusal) (reason came : Refused)
-    → stop_of reason ≡ Stopped owed → OnlyRefuses {A} reason (Err came) → StopsFor owed (Err (stop_of came))
+    → stop_of reason ≡ Stopped owed → OnlyRefuses {A = A} reason (Err came) → StopsFor owed (Err (stop_of came))
 owed_reason A owed reason came is only = elim only.1 [
   | inl same ↦ (refl, rw (same, is) (inl refl))
   | inr same ↦ (refl, rw same tt)
@@ -52,7 +53,7 @@ owed_reason A owed reason came is only = elim only.1 [
 pub owed_refused :
     (A : Type 0) (bytes : List ℕ) (document : Members) (owed : Refusal) (came : Refused)
     → IsDocument bytes document
-    → ((due : Refused) → due ≢ refused.NoMemory → IsRefusedDocument document due → OnlyRefuses {A} due (Err came))
+    → ((due : Refused) → due ≢ refused.NoMemory → IsRefusedDocument document due → OnlyRefuses {A = A} due (Err came))
     → AreRefused bytes owed → StopsFor owed (Err (stop_of came))
 owed_refused A bytes document Usage came is exact due = absurd due
 owed_refused A bytes document ReadFault came is exact due = absurd due
@@ -81,3 +82,13 @@ owed_stated A bytes document (Scenario rule place) mission is exact due =
 owed_stated A bytes document (Task task kind at) mission is exact due =
     let reason = refused.Task task kind at in
     let only = (exact reason (λ e. cc) (same_reason bytes document reason is due)).0 in cc
+
+-- a document that states a mission is refused for want of memory alone
+pub stated_refused :
+    (bytes : List ℕ) (document : Members) (mission : Stated) (came : Refused)
+    → IsDocument bytes document → ((other : Stated) → IsMission document other → came ≡ refused.NoMemory)
+    → States bytes mission → IsFault (stop_of came)
+stated_refused bytes document mission came is complete states =
+    let here : IsMission document mission =
+    subst (λ (d : Members). IsMission d mission) (one_tree bytes states.0 document states.1 is) states.2 in
+    rw (complete mission here) tt

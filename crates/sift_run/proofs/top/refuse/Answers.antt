@@ -12,7 +12,7 @@ pub returns-in-Scenario-clause-said : goal.returns-in-Scenario-clause-said
 returns-in-Scenario-clause-said g c =
     rw c.in-Scenario.is (says_numbers _ _ _ (Scenario c.in-Scenario.rule c.in-Scenario.place) c.scenario_line.result _ _ tt
     c.scenario_line.ensures (c.status-status.ensures ∙ ap status_of c.in-Scenario.is)
-    c.say_made-in-Scenario.ensures.said c.say_made-in-Scenario.ensures.no_memory)
+    c.say_made.ensures.said c.say_made.ensures.no_memory)
 
 pub returns-in-Task-clause-said : goal.returns-in-Task-clause-said
 returns-in-Task-clause-said g c =
