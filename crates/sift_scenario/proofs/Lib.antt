@@ -8,5 +8,7 @@ pub mod Rolls
 pub mod Starts
 pub mod Testing
 pub mod Turns
+pub mod UniqueForms
+pub mod UniqueRefusals
 pub mod WordCounts
 pub mod WordValues

@@ -7,9 +7,10 @@ use Rattle.std.specs.List.{slice_get, sum}
 use Rattle.toml.specs.Data.{Members}
 use Rattle.sift_lang.specs.Tree.{TaskTree, end}
 use Rattle.sift_lang.specs.Sound.{AllNowsBelow, IsSound}
+use Rattle.sift_parse.specs.Linear.{linear_tree}
 use Rattle.sift_program.specs.Program.{ProgramTree}
 use Rattle.sift_program.specs.Sound.{IsSoundProgram, first_word}
-use Rattle.sift_scenario.specs.Mission.{AreTreesOf, IsTreeOf, linear_tree, roll_for, turn_of}
+use Rattle.sift_scenario.specs.Mission.{AreTreesOf, IsTreeOf, roll_for, turn_of}
 use Rattle.sift_scenario.specs.Task.{AreForms, Form, linear, text, HasForm, counts_of, word_count}
 
 -- lists of one length with the same entries are the same

@@ -1,5 +1,6 @@
 pub mod Document
 pub mod Entries
+pub mod Laws
 pub mod Mission
 pub mod Refusal
 pub mod Rules

@@ -2,9 +2,9 @@
 use Rattle.std.specs.Prelude.{ℕ, ◌≡◌, ◌≤◌, List, [], map, Some, unwrap_or}
 use Rattle.std.specs.List.{flat_map}
 use Rattle.toml.specs.Data.{Members}
-use Rattle.sift_lang.specs.declared.tree.Op.TheVariants.{Add, Mul}
-use Rattle.sift_lang.specs.Tree.{number, last_frame, binary, output, step, end, TaskTree}
+use Rattle.sift_lang.specs.Tree.{TaskTree}
 use Rattle.sift_parse.specs.Force.{Roll, words_before}
+use Rattle.sift_parse.specs.Linear.{linear_tree}
 use Rattle.sift_parse.specs.Outcome.{IsTaskOf}
 use Rattle.sift_program.specs.Program.{ProgramTree, program_of}
 use Rattle.sift_program.specs.Sound.{IsSoundProgram}
@@ -32,12 +32,6 @@ roll_for tasks = record { sensors = []; tasks = map (λ task. unwrap_or (name_of
 -- the same, where it is this task's turn
 abbrev pub turn_of : ℕ → Roll → Roll
 turn_of task roll = record roll { this = task }
-
--- the tree of a linear rule, where the task's word has this number: `out 0 = factor * last + addend;`
-abbrev pub linear_tree : (word factor addend : ℕ) → TaskTree
-linear_tree word factor addend =
-    let value = binary Add (binary Mul (number factor) (last_frame word)) (number addend) in
-    record { outputs = 1; body = step (output 0 value) end }
 
 -- the tree of a task of this form, where it is its turn
 abbrev pub IsTreeOf : Roll → Form → TaskTree → Type 0

@@ -4,6 +4,7 @@
 //! first task whose text is no task is refused, with its kind and its place.
 #![tactic(auto)]
 
+mod law;
 mod mission;
 mod refused;
 mod root;
@@ -13,5 +14,6 @@ mod tests;
 mod tree;
 mod value;
 
+pub use law::{missions_are_accepted, one_mission, one_refusal};
 pub use mission::{Mission, mission_of};
 pub use refused::Refused;

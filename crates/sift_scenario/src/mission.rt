@@ -35,6 +35,12 @@ pub fn mission_of(alloc: Global, document: &Table) -> Result<Mission, Refused>
     ensures accepted { IfOk result (λ mission. IsMission (table_view document.now) (stated mission)) }
     ensures flyable { IfOk result (λ mission. CanFly (stated mission)) }
     ensures refused { IfErr result (IsRefused (table_view document.now)) }
+
+    // A document that states a mission, or is owed a refusal, gets it, unless memory is wanting.
+    ensures complete { (mission : Stated) → IsMission (table_view document.now) mission
+        → IfErr result (λ e. e ≡ Refused.NoMemory) }
+    ensures exact { (owed : Refused) → owed ≢ Refused.NoMemory → IsRefused (table_view document.now) owed
+        → OnlyRefuses owed result }
 {
     let root = root_of(document)?;
     let tasks = task_tables(alloc, document)?;

@@ -4,9 +4,10 @@ ghost use Rattle.std.specs.Prelude.{◌≡◌, ◌≢◌, ◌<◌, ◌≤◌, �
 ghost use Rattle.std.specs.List.{flat_map};
 ghost use Rattle.sift_lang.specs.Tree.{tree_of};
 ghost use Rattle.sift_parse.specs.Force.{Roll, roll_of, words_before};
+ghost use Rattle.sift_parse.specs.Linear.{linear_tree};
 ghost use Rattle.sift_parse.specs.Outcome.{AreNames};
 ghost use Rattle.sift_program.specs.declared.program.TheConstants.{TASK_LIMIT};
-ghost use Rattle.sift_scenario.specs.Mission.{AreTreesOf, IsTreeOf, linear_tree, turn_of};
+ghost use Rattle.sift_scenario.specs.Mission.{AreTreesOf, IsTreeOf, turn_of};
 ghost use Rattle.sift_scenario.specs.Refusal.{IsFirstRefused};
 ghost use Rattle.sift_scenario.specs.Testing.{AreTurns, IsStop, form_of};
 

@@ -1,0 +1,18 @@
+//! The laws of what a document is answered with.
+
+ghost use Rattle.sift_scenario.specs.Laws.{MissionsAreAccepted, OneMission, OneRefusal};
+
+/// A document that states a mission is refused by no rule, and none of its texts is.
+pub fn missions_are_accepted()
+    ensures { MissionsAreAccepted }
+{}
+
+/// A document is refused in one way: by one rule at one place, or for one text.
+pub fn one_refusal()
+    ensures { OneRefusal }
+{}
+
+/// A document states at most one mission.
+pub fn one_mission()
+    ensures { OneMission }
+{}
