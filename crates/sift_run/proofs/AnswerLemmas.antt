@@ -3,16 +3,18 @@ use Rattle.std.proofs.Common.{◌≡◌, ◌↔◌, ℕ, ◌+◌, ◌*◌, List,
 use Rattle.std.proofs.lemmas.Bool.Decides.{Decides-eqb}
 use Rattle.std.proofs.lemmas.Slice.Eq.{slice_eq-Decides}
 use Rattle.std.proofs.lemmas.Option.{get_or_from_slice_get}
-use Rattle.sift_core.specs.Flight.{IsIdealFlight, words_of}
+use Rattle.sift_core.specs.Flight.{IsIdealFlight, no_sensors, words_of}
+use Rattle.sift_program.specs.Ideal.{ideal_words}
+use Rattle.sift_scenario.specs.Mission.{Stated}
 use Rattle.sift_run.proofs.ReportLemmas.{faultless_report-same}
+use Rattle.sift_run.specs.Answer.{IsReported, mission_report}
 use Rattle.sift_run.specs.Flight.{outputs_of}
+use Rattle.sift_run.specs.Input.{Input, IsCommandLine, IsInput, States}
 use Rattle.sift_run.specs.Report.{faultless_report, report_text}
-use Rattle.sift_run.specs.Answer.{Input, IsCommandLine, IsInput, IsReported, States, mission_report}
 use Rattle.sift_run.specs.Stop.{IsStopped, StopsAt}
 use Rattle.sift_run.specs.declared.answer.Stop.{Stop}
 use Rattle.sift_run.specs.declared.answer.Stop.TheVariants.{Refused, NoMemory}
-use Rattle.sift_run.specs.declared.mission.Mission.{Mission}
-use Rattle.sift_run.specs.declared.refusal.Refusal.TheVariants.{Usage, ReadFault, TooLong, NotADocument, AnotherForm}
+use Rattle.sift_run.specs.declared.refusal.Refusal.TheVariants.{Usage, ReadFault, TooLong, NotADocument, Scenario, Task}
 use lib.Dec.{eqb}
 use lib.Pointwise.{pointwise}
 
@@ -32,7 +34,7 @@ single_word_is_command (w ∷ v ∷ ws) word text same one is bytes test = absur
 pub reported_from :
     (words : List (String Global)) (input : Input) (bytes all : List ℕ) (result : Result (String Global) Stop)
     → IsCommandLine words → bytes ≡ all → IsInput input all
-    → IfOk result (λ text. (mission : Mission) × States bytes mission × (string_bytes text ≡ mission_report mission))
+    → IfOk result (λ text. (mission : Stated) × States bytes mission × (string_bytes text ≡ mission_report mission))
     → IfOk result (λ text. IsReported words input (string_bytes text))
 reported_from words input bytes all (Ok text) command same read reported = (command, bytes, rw same read, reported.0, reported.1, reported.2)
 reported_from words input bytes all (Err stop) command same read reported = tt
@@ -45,17 +47,18 @@ pub stopped_from :
 stopped_from words input bytes all (Ok text) command same read stopped = tt
 stopped_from words input bytes all (Err NoMemory) command same read stopped = (command, (all, read.0, read.2))
 stopped_from words input bytes all (Err (Refused NotADocument)) command same read stopped = (command, bytes, rw same read, stopped)
-stopped_from words input bytes all (Err (Refused AnotherForm)) command same read stopped =
-    (command, bytes, rw same read, stopped.0, stopped.1, stopped.2)
+stopped_from words input bytes all (Err (Refused (Scenario rule place))) command same read stopped = (command, bytes, rw same read, stopped)
+stopped_from words input bytes all (Err (Refused (Task task kind at))) command same read stopped = (command, bytes, rw same read, stopped)
 stopped_from words input bytes all (Err (Refused Usage)) command same read stopped = absurd stopped
 stopped_from words input bytes all (Err (Refused ReadFault)) command same read stopped = absurd stopped
 stopped_from words input bytes all (Err (Refused TooLong)) command same read stopped = absurd stopped
 
--- the report of the flight that the ideal machine flies is the mission's
+-- the report of a flight of the ideal machine's words is the mission's
 pub ideal_report :
-    (mission : Mission) (flight : Vec (Vec ℕ Global) Global)
-    → IsIdealFlight mission.units mission.frames mission.task.start mission.task.factor mission.task.addend (words_of flight)
+    (mission : Stated) (flight : Vec (Vec ℕ Global) Global)
+    → IsIdealFlight mission.program mission.units mission.frames (words_of flight)
     → report_text (faultless_report mission.units mission.frames (outputs_of mission.units flight.items)) ≡ mission_report mission
 ideal_report mission flight flown = ap report_text
-    (faultless_report-same mission.units mission.frames (outputs_of mission.units flight.items) _
+    (faultless_report-same mission.units mission.frames (outputs_of mission.units flight.items)
+    (λ f u. ideal_words mission.program no_sensors f)
     (λ f u low there. get_or_from_slice_get (words_of flight) (f * mission.units + u) _ [] (flown.ideal f u low there)))

@@ -1,4 +1,7 @@
 pub mod Answered
 pub mod AnswerLemmas
-pub mod DocumentLemmas
+pub mod Documents
+pub mod Inputs
+pub mod Owing
 pub mod ReportLemmas
+pub mod Statuses

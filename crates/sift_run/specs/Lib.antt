@@ -1,5 +1,7 @@
 pub mod Answer
-pub mod Document
 pub mod Flight
+pub mod Input
+pub mod Output
+pub mod Refusal
 pub mod Report
 pub mod Stop

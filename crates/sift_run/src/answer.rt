@@ -1,15 +1,19 @@
 //! The report that the words and the input ask for, or why there is none.
 
-ghost use Rattle.std.specs.Prelude.{◌≡◌, ◌↔◌, ◌≤◌, IfErr, IfOk, IsTrue, length, string_bytes};
-ghost use Rattle.sift_run.specs.Answer.{IsCommandLine, IsReported, States, input, mission_report};
-ghost use Rattle.sift_run.specs.Stop.{IsStopped, StopsAt};
+ghost use Rattle.std.specs.Prelude.{◌≡◌, ◌↔◌, ◌≤◌, ℕ, List, IfErr, IfOk, IsTrue, Some, length, string_bytes};
+ghost use Rattle.sift_scenario.specs.Mission.{CanFly, Stated, stated};
+ghost use Rattle.sift_run.specs.Answer.{IsReported, mission_report};
+ghost use Rattle.sift_run.specs.Input.{IsCommandLine, States, document_limit, input};
+ghost use Rattle.sift_run.specs.Refusal.{AreRefused, IsOwed};
+ghost use Rattle.sift_run.specs.Stop.{IsFault, IsStopped, StopsAt, StopsFor};
+ghost use Rattle.sift_run.specs.declared.refusal.Refusal.{Refusal};
 
-use crate::mission::{Mission, mission_of};
 use crate::refusal::Refusal;
 use crate::report::report;
 use sift_base::NoMemory;
 use sift_core::plain_fly;
 use sift_io::{ReadStop, Source, read_all};
+use sift_scenario::{Mission, Refused, mission_of};
 use std::alloc::Global;
 
 /// The most bytes of a document.
@@ -33,6 +37,21 @@ impl From<NoMemory> for Stop {
     }
 }
 
+impl From<Refused> for Stop {
+    ghost use Rattle.std.specs.Prelude.{◌≡◌};
+    ghost use Rattle.sift_run.specs.Stop.{stop_of};
+
+    ghost from_gives = { λ refused stopped. stopped ≡ stop_of refused };
+
+    fn from(refused: Refused) -> Self {
+        match refused {
+            Refused::Scenario { rule, place } => Stop::Refused(Refusal::Scenario { rule, place }),
+            Refused::Task { task, kind, at } => Stop::Refused(Refusal::Task { task, kind, at }),
+            Refused::NoMemory => Stop::NoMemory,
+        }
+    }
+}
+
 /// The report that the words and the input ask for. Where the words are no command line, nothing is read.
 pub fn answer<S: Source>(alloc: Global, words: &[String], source: &mut S) -> Result<String, Stop>
     ensures reported { IfOk result (λ text.
@@ -41,6 +60,11 @@ pub fn answer<S: Source>(alloc: Global, words: &[String], source: &mut S) -> Res
     ensures stopped { IfErr result (λ stop.
         IsStopped words.now (input (S.left source.old) (S.left source.new)
         (S.read_faults source.old) (S.read_faults source.new)) stop) }
+    ensures owed { (bytes : List ℕ) (owed : Refusal)
+        → S.left source.old ≡ Some bytes → IsOwed words.now bytes owed → StopsFor owed result }
+    ensures complete { (bytes : List ℕ) (mission : Stated)
+        → S.left source.old ≡ Some bytes → IsCommandLine words.now → length bytes ≤ document_limit
+        → States bytes mission → IfErr result IsFault }
     ensures unread { ¬ IsCommandLine words.now → source.new ≡ source.old }
 {
     if !is_command_line(words) {
@@ -67,34 +91,25 @@ fn is_command_line(words: &[String]) -> bool
 /// The report on the mission that these bytes state.
 fn answer_to(alloc: Global, bytes: &[u8]) -> Result<String, Stop>
     ensures reported { IfOk result (λ text.
-        (mission : Mission) × States bytes.now mission × (string_bytes text ≡ mission_report mission)) }
+        (mission : Stated) × States bytes.now mission × (string_bytes text ≡ mission_report mission)) }
     ensures stopped { IfErr result (StopsAt bytes.now) }
+    ensures owed { (owed : Refusal) → AreRefused bytes.now owed → StopsFor owed result }
+    ensures complete { (mission : Stated) → States bytes.now mission → IfErr result IsFault }
 {
     let document = match toml::table_from_slice(alloc, bytes) {
         Ok(document) => document,
         Err(error) if error.is_memory() => return Err(Stop::NoMemory),
         Err(_) => return Err(Stop::Refused(Refusal::NotADocument)),
     };
-    let Some(mission) = mission_of(&document) else {
-        return Err(Stop::Refused(Refusal::AnotherForm));
-    };
+    let mission = mission_of(alloc, &document)?;
     Ok(report_on(alloc, &mission)?)
 }
 
 /// Flies a mission and reports on it.
 fn report_on(alloc: Global, mission: &Mission) -> Result<String, NoMemory>
-    requires units { (4 ≤ mission.now.units) × (mission.now.units ≤ 8) }
-    requires frames { (1 ≤ mission.now.frames) × (mission.now.frames ≤ 1000) }
-    ensures { IfOk result (λ text. string_bytes text ≡ mission_report mission.now) }
+    requires { CanFly (stated mission.now) }
+    ensures { IfOk result (λ text. string_bytes text ≡ mission_report (stated mission.now)) }
 {
-    let task = mission.task;
-    let flight = plain_fly(
-        alloc,
-        mission.units,
-        mission.frames,
-        task.start,
-        task.factor,
-        task.addend,
-    )?;
+    let flight = plain_fly(alloc, &mission.program, mission.units, mission.frames)?;
     report(alloc, mission.units, mission.frames, &flight)
 }

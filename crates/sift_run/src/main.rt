@@ -6,13 +6,11 @@
 
 mod answer;
 mod line;
-mod mission;
 mod refusal;
 mod report;
 #[cfg(test)]
 mod tests;
 mod top;
-mod value;
 
 use sift_base::NoMemory;
 use sift_io::{StdIn, StdOut};

@@ -1,6 +1,10 @@
 //! Why there is no report.
 
-ghost use Rattle.std.specs.Prelude.{◌≡◌};
+ghost use Rattle.std.specs.Prelude.{◌≡◌, IfOk, string_bytes};
+ghost use Rattle.sift_run.specs.Refusal.{line_of};
+ghost use Rattle.sift_run.specs.declared.refusal.Refusal.TheVariants.{Scenario, Task};
+
+use std::alloc::{AllocError, Global};
 
 /// Why there is no report, where memory was there.
 #[derive(Clone, Copy, Debug, PartialEq, Eq)]
@@ -13,12 +17,15 @@ pub enum Refusal {
     TooLong,
     /// The input is no TOML document.
     NotADocument,
-    /// The document states no mission.
-    AnotherForm,
+    /// The document breaks the scenario rule of this number. `place` is the number of the first entry that does, and 0
+    /// for a rule that speaks of no entry.
+    Scenario { rule: u32, place: u32 },
+    /// The text of this task is none of the task language: of this kind, at this byte place of the text.
+    Task { task: u32, kind: u32, at: u32 },
 }
 
 impl Refusal {
-    ghost use Rattle.sift_run.specs.Answer.{line_of, status_of};
+    ghost use Rattle.sift_run.specs.Refusal.{status_of};
 
     /// The exit status.
     pub fn status(self) -> u8
@@ -27,22 +34,28 @@ impl Refusal {
         match self {
             Refusal::Usage => 2,
             Refusal::NotADocument => 3,
-            Refusal::AnotherForm => 4,
+            Refusal::Scenario { .. } => 4,
+            Refusal::Task { .. } => 5,
             Refusal::ReadFault => 8,
             Refusal::TooLong => 11,
         }
     }
+}
 
-    /// The line that is written, with its line feed.
-    pub fn line(self) -> &'static str
-        ensures { result.now ≡ line_of self }
-    {
-        match self {
-            Refusal::Usage => "usage\n",
-            Refusal::NotADocument => "not a document\n",
-            Refusal::AnotherForm => "another form\n",
-            Refusal::ReadFault => "read fault\n",
-            Refusal::TooLong => "too long\n",
-        }
-    }
+/// The line of a scenario rule, with its line feed.
+pub fn scenario_line(alloc: Global, rule: u32, place: u32) -> Result<String, AllocError>
+    ensures { IfOk result (λ line. string_bytes line ≡ line_of (Scenario rule place)) }
+{
+    let mut line = String::new(alloc);
+    write!(line, "scenario rule {rule} at {place}\n")?;
+    Ok(line)
+}
+
+/// The line of a task's text, with its line feed.
+pub fn task_line(alloc: Global, task: u32, kind: u32, at: u32) -> Result<String, AllocError>
+    ensures { IfOk result (λ line. string_bytes line ≡ line_of (Task task kind at)) }
+{
+    let mut line = String::new(alloc);
+    write!(line, "task {task} kind {kind} at {at}\n")?;
+    Ok(line)
 }

@@ -34,153 +34,209 @@ const COUNT_FIVE_REPORT: &str = "f=0 u=0 cfg=01234 clk=0 in=- out=0010 bad=-\n\
     f=1 skew=0 slack=1 margin=ok\n\
     end frames=2 cfg=01234 margin=ok\n";
 
+/// A mission of two tasks.
+const TWO: &str = "units = 4\nframes = 2\n\
+    [[task]]\nname = \"count\"\nstart = [5]\nlinear = [3, 1]\n\
+    [[task]]\nname = \"twice\"\nstart = [40000]\nlinear = [2, 3]\n";
+
+/// Its report: 3 * 5 + 1 and 2 * 40,000 + 3, which is 14,467 above 65,536; then 3 * 16 + 1 and 2 * 14,467 + 3.
+const TWO_REPORT: &str = "f=0 u=0 cfg=0123 clk=0 in=- out=0010,3883 bad=-\n\
+    f=0 u=1 cfg=0123 clk=0 in=- out=0010,3883 bad=-\n\
+    f=0 u=2 cfg=0123 clk=0 in=- out=0010,3883 bad=-\n\
+    f=0 u=3 cfg=0123 clk=0 in=- out=0010,3883 bad=-\n\
+    f=0 skew=0 slack=1 margin=ok\n\
+    f=1 u=0 cfg=0123 clk=0 in=- out=0031,7109 bad=-\n\
+    f=1 u=1 cfg=0123 clk=0 in=- out=0031,7109 bad=-\n\
+    f=1 u=2 cfg=0123 clk=0 in=- out=0031,7109 bad=-\n\
+    f=1 u=3 cfg=0123 clk=0 in=- out=0031,7109 bad=-\n\
+    f=1 skew=0 slack=1 margin=ok\n\
+    end frames=2 cfg=0123 margin=ok\n";
+
+/// A mission of 24 tasks, each of which adds 1 to its number.
+const MANY: &str = "units = 4\nframes = 1\ntask = [\
+    {name = \"a\", start = [0], linear = [1, 1]}, \
+    {name = \"b\", start = [1], linear = [1, 1]}, \
+    {name = \"c\", start = [2], linear = [1, 1]}, \
+    {name = \"d\", start = [3], linear = [1, 1]}, \
+    {name = \"e\", start = [4], linear = [1, 1]}, \
+    {name = \"f\", start = [5], linear = [1, 1]}, \
+    {name = \"g\", start = [6], linear = [1, 1]}, \
+    {name = \"h\", start = [7], linear = [1, 1]}, \
+    {name = \"i\", start = [8], linear = [1, 1]}, \
+    {name = \"j\", start = [9], linear = [1, 1]}, \
+    {name = \"k\", start = [10], linear = [1, 1]}, \
+    {name = \"l\", start = [11], linear = [1, 1]}, \
+    {name = \"m\", start = [12], linear = [1, 1]}, \
+    {name = \"n\", start = [13], linear = [1, 1]}, \
+    {name = \"o\", start = [14], linear = [1, 1]}, \
+    {name = \"p\", start = [15], linear = [1, 1]}, \
+    {name = \"q\", start = [16], linear = [1, 1]}, \
+    {name = \"r\", start = [17], linear = [1, 1]}, \
+    {name = \"s\", start = [18], linear = [1, 1]}, \
+    {name = \"t\", start = [19], linear = [1, 1]}, \
+    {name = \"u\", start = [20], linear = [1, 1]}, \
+    {name = \"v\", start = [21], linear = [1, 1]}, \
+    {name = \"w\", start = [22], linear = [1, 1]}, \
+    {name = \"x\", start = [23], linear = [1, 1]}]\n";
+
+/// Its report.
+const MANY_REPORT: &str = "f=0 u=0 cfg=0123 clk=0 in=- \
+    out=0001,0002,0003,0004,0005,0006,0007,0008,0009,000a,000b,000c,000d,000e,000f,0010,0011,0012,0013,0014,0015,0016,0017,0018 bad=-\n\
+    f=0 u=1 cfg=0123 clk=0 in=- \
+    out=0001,0002,0003,0004,0005,0006,0007,0008,0009,000a,000b,000c,000d,000e,000f,0010,0011,0012,0013,0014,0015,0016,0017,0018 bad=-\n\
+    f=0 u=2 cfg=0123 clk=0 in=- \
+    out=0001,0002,0003,0004,0005,0006,0007,0008,0009,000a,000b,000c,000d,000e,000f,0010,0011,0012,0013,0014,0015,0016,0017,0018 bad=-\n\
+    f=0 u=3 cfg=0123 clk=0 in=- \
+    out=0001,0002,0003,0004,0005,0006,0007,0008,0009,000a,000b,000c,000d,000e,000f,0010,0011,0012,0013,0014,0015,0016,0017,0018 bad=-\n\
+    f=0 skew=0 slack=1 margin=ok\n\
+    end frames=1 cfg=0123 margin=ok\n";
+
+/// A mission of two tasks with texts: the first has two words, and the second adds those of the same frame.
+const TEXTS: &str = "units = 4\nframes = 2\n\
+    [[task]]\nname = \"pair\"\nstart = [1, 2]\n\
+    text = \"out 0 = last pair.1; out 1 = last pair.0 + last pair.1;\"\n\
+    [[task]]\nname = \"sum\"\nstart = [0]\ntext = \"out 0 = now pair.0 + now pair.1;\"\n";
+
+/// Its report: from 1 and 2 come 2 and 3, with the sum 5; then 3 and 5, with the sum 8.
+const TEXTS_REPORT: &str = "f=0 u=0 cfg=0123 clk=0 in=- out=0002,0003,0005 bad=-\n\
+    f=0 u=1 cfg=0123 clk=0 in=- out=0002,0003,0005 bad=-\n\
+    f=0 u=2 cfg=0123 clk=0 in=- out=0002,0003,0005 bad=-\n\
+    f=0 u=3 cfg=0123 clk=0 in=- out=0002,0003,0005 bad=-\n\
+    f=0 skew=0 slack=1 margin=ok\n\
+    f=1 u=0 cfg=0123 clk=0 in=- out=0003,0005,0008 bad=-\n\
+    f=1 u=1 cfg=0123 clk=0 in=- out=0003,0005,0008 bad=-\n\
+    f=1 u=2 cfg=0123 clk=0 in=- out=0003,0005,0008 bad=-\n\
+    f=1 u=3 cfg=0123 clk=0 in=- out=0003,0005,0008 bad=-\n\
+    f=1 skew=0 slack=1 margin=ok\n\
+    end frames=2 cfg=0123 margin=ok\n";
+
+/// Missions, with their reports.
+const MISSIONS: [(&str, &str); 5] = [
+    (COUNT, COUNT_REPORT),
+    (COUNT_FIVE, COUNT_FIVE_REPORT),
+    (TWO, TWO_REPORT),
+    (MANY, MANY_REPORT),
+    (TEXTS, TEXTS_REPORT),
+];
+
 /// Words that are no command line.
 const NO_COMMAND_LINES: [&[&str]; 6] = [&[], &["fly"], &["run", "run"], &[""], &["run "], &["RUN"]];
 
-/// Documents at the edges of the form, with their statuses.
-const DOCUMENTS: [(&str, u8); 40] = [
+/// Documents that are refused, at least one for each rule and for each kind of a text, with their statuses and their lines.
+const REFUSED: [(&str, u8, &str); 21] = [
+    ("", 4, "scenario rule 2 at 0\n"),
+    ("frames = 1\n", 4, "scenario rule 2 at 0\n"),
     (
-        "units = 4\nframes = 1\ntask = [{name = \"a\", start = [0], linear = [0, 0]}]\n",
-        0,
-    ),
-    (
-        "units = 8\nframes = 1\ntask = [{name = \"a\", start = [0], linear = [0, 0]}]\n",
-        0,
-    ),
-    (
-        "units = 4\nframes = 2\ntask = [{name = \"a\", start = [0], linear = [0, 0]}]\n",
-        0,
-    ),
-    (
-        "units = 4\nframes = 1\ntask = [{name = \"abcdefghijklmnop\", start = [0], linear = [0, 0]}]\n",
-        0,
-    ),
-    (
-        "units = 4\nframes = 1\ntask = [{name = \"a\", start = [-32768], linear = [65535, -1]}]\n",
-        0,
-    ),
-    ("", 4),
-    ("frames = 1\n", 4),
-    (
-        "units = 3\nframes = 1\ntask = [{name = \"a\", start = [0], linear = [0, 0]}]\n",
+        "version = 1\nunits = 4\nframes = 1\ntask = [{name = \"a\", start = [0], linear = [0, 0]}]\n",
         4,
+        "scenario rule 1 at 0\n",
     ),
     (
         "units = 9\nframes = 1\ntask = [{name = \"a\", start = [0], linear = [0, 0]}]\n",
         4,
-    ),
-    (
-        "units = -4\nframes = 1\ntask = [{name = \"a\", start = [0], linear = [0, 0]}]\n",
-        4,
-    ),
-    (
-        "units = 4.0\nframes = 1\ntask = [{name = \"a\", start = [0], linear = [0, 0]}]\n",
-        4,
-    ),
-    (
-        "units = \"4\"\nframes = 1\ntask = [{name = \"a\", start = [0], linear = [0, 0]}]\n",
-        4,
-    ),
-    (
-        "units = 4\nframes = 0\ntask = [{name = \"a\", start = [0], linear = [0, 0]}]\n",
-        4,
+        "scenario rule 2 at 0\n",
     ),
     (
         "units = 4\nframes = 1001\ntask = [{name = \"a\", start = [0], linear = [0, 0]}]\n",
         4,
+        "scenario rule 3 at 0\n",
+    ),
+    ("units = 4\nframes = 1\n", 4, "scenario rule 18 at 0\n"),
+    (
+        "units = 4\nframes = 1\ntask = [{name = \"a\", start = [0], linear = [0, 0]}, \
+        {name = \"b\", start = [0], linear = [0, 0], word = 0}]\n",
+        4,
+        "scenario rule 18 at 1\n",
     ),
     (
-        "units = 4\nframes = 1\ntask = [{name = \"abcdefghijklmnopq\", start = [0], linear = [0, 0]}]\n",
+        "units = 4\nframes = 1\ntask = [{name = \"a\", start = [0], linear = [0, 0]}, \
+        {name = \"a\", start = [0], linear = [0, 0]}]\n",
         4,
-    ),
-    (
-        "units = 4\nframes = 1\ntask = [{name = \"let\", start = [0], linear = [0, 0]}]\n",
-        4,
-    ),
-    (
-        "units = 4\nframes = 1\ntask = [{name = \"\", start = [0], linear = [0, 0]}]\n",
-        4,
-    ),
-    (
-        "units = 4\nframes = 1\ntask = [{name = 1, start = [0], linear = [0, 0]}]\n",
-        4,
-    ),
-    (
-        "units = 4\nframes = 1\ntask = [{name = \"a\", start = [-32769], linear = [0, 0]}]\n",
-        4,
-    ),
-    (
-        "units = 4\nframes = 1\ntask = [{name = \"a\", start = [0], linear = [65536, 0]}]\n",
-        4,
-    ),
-    (
-        "units = 4\nframes = 1\ntask = [{name = \"a\", start = [0], linear = [0, 65536]}]\n",
-        4,
+        "scenario rule 19 at 1\n",
     ),
     (
         "units = 4\nframes = 1\ntask = [{name = \"a\", start = [], linear = [0, 0]}]\n",
         4,
+        "scenario rule 20 at 0\n",
+    ),
+    (
+        "units = 4\nframes = 1\ntask = [\
+        {name = \"a\", start = [0, 0, 0, 0, 0, 0, 0, 0], linear = [0, 0]}, \
+        {name = \"b\", start = [0, 0, 0, 0, 0, 0, 0, 0], linear = [0, 0]}, \
+        {name = \"c\", start = [0, 0, 0, 0, 0, 0, 0, 0], linear = [0, 0]}, \
+        {name = \"d\", start = [0, 0, 0, 0, 0, 0, 0, 0], linear = [0, 0]}, \
+        {name = \"e\", start = [0, 0, 0, 0, 0, 0, 0, 0], linear = [0, 0]}, \
+        {name = \"f\", start = [0, 0, 0, 0, 0, 0, 0, 0], linear = [0, 0]}, \
+        {name = \"g\", start = [0, 0, 0, 0, 0, 0, 0, 0], linear = [0, 0]}, \
+        {name = \"h\", start = [0, 0, 0, 0, 0, 0, 0, 0], linear = [0, 0]}, \
+        {name = \"i\", start = [0, 0, 0, 0, 0, 0, 0, 0], linear = [0, 0]}]\n",
+        4,
+        "scenario rule 21 at 8\n",
     ),
     (
         "units = 4\nframes = 1\ntask = [{name = \"a\", start = [0, 0], linear = [0, 0]}]\n",
         4,
+        "scenario rule 22 at 0\n",
     ),
     (
-        "units = 4\nframes = 1\ntask = [{name = \"a\", start = 0, linear = [0, 0]}]\n",
+        "units = 4\nframes = 1\ntask = [\
+        {name = \"a\", start = [0], linear = [0, 0]}, \
+        {name = \"b\", start = [0], linear = [0, 0]}, \
+        {name = \"c\", start = [0], linear = [0, 0]}, \
+        {name = \"d\", start = [0], linear = [0, 0]}, \
+        {name = \"e\", start = [0], linear = [0, 0]}, \
+        {name = \"f\", start = [0], linear = [0, 0]}, \
+        {name = \"g\", start = [0], linear = [0, 0]}, \
+        {name = \"h\", start = [0], linear = [0, 0]}, \
+        {name = \"i\", start = [0], linear = [0, 0]}, \
+        {name = \"j\", start = [0], linear = [0, 0]}, \
+        {name = \"k\", start = [0]}]\n",
         4,
+        "scenario rule 22 at 10\n",
     ),
     (
-        "units = 4\nframes = 1\ntask = [{name = \"a\", start = [0], linear = [0]}]\n",
+        "units = 4\nframes = 1\ntask = [{name = \"a\", start = [0], linear = [0, 0]}, \
+        {name = \"b\", start = [0], linear = [0, 0], text = \"\"}]\n",
         4,
+        "scenario rule 22 at 1\n",
     ),
     (
-        "units = 4\nframes = 1\ntask = [{name = \"a\", start = [0], linear = [0, 0, 0]}]\n",
+        "units = 4\nframes = 1\ntask = [{name = \"a\", start = [0], text = \"$\"}, {name = \"b\", start = [0]}]\n",
         4,
+        "scenario rule 22 at 1\n",
     ),
     (
-        "units = 4\nframes = 1\ntask = [{name = \"a\", start = [0], linear = [0, 0.5]}]\n",
-        4,
-    ),
-    ("units = 4\nframes = 1\n", 4),
-    ("units = 4\nframes = 1\ntask = []\n", 4),
-    ("units = 4\nframes = 1\ntask = [1]\n", 4),
-    (
-        "units = 4\nframes = 1\ntask = {name = \"a\", start = [0], linear = [0, 0]}\n",
-        4,
+        "units = 4\nframes = 1\ntask = [{name = \"a\", start = [0], text = \"out 0 = $;\"}]\n",
+        5,
+        "task 0 kind 1 at 8\n",
     ),
     (
-        "version = 1\nunits = 4\nframes = 1\ntask = [{name = \"a\", start = [0], linear = [0, 0]}]\n",
-        4,
+        "units = 4\nframes = 1\ntask = [{name = \"a\", start = [0], text = \"out 0 = 1\"}]\n",
+        5,
+        "task 0 kind 2 at 9\n",
     ),
     (
-        "frames = 1\ntask = [{name = \"a\", start = [0], linear = [0, 0]}]\n",
-        4,
+        "units = 4\nframes = 1\ntask = [{name = \"a\", start = [0], text = \"out 0 = x;\"}]\n",
+        5,
+        "task 0 kind 3 at 8\n",
     ),
     (
-        "units = 4\ntask = [{name = \"a\", start = [0], linear = [0, 0]}]\n",
-        4,
+        "units = 4\nframes = 1\ntask = [{name = \"a\", start = [0], text = \"out 0 = now a.0;\"}]\n",
+        5,
+        "task 0 kind 4 at 12\n",
     ),
     (
-        "units = 4\nframes = 1\ntask = [{start = [0], linear = [0, 0]}]\n",
-        4,
+        "units = 4\nframes = 1\ntask = [{name = \"a\", start = [0], text = \"out 0 = 65536;\"}]\n",
+        5,
+        "task 0 kind 5 at 8\n",
     ),
     (
-        "units = 4\nframes = 1\ntask = [{name = \"a\", linear = [0, 0]}]\n",
-        4,
+        "units = 4\nframes = 1\ntask = [{name = \"a\", start = [0], linear = [0, 0]}, \
+        {name = \"b\", start = [0], text = \"out 1 = 0;\"}]\n",
+        5,
+        "task 1 kind 3 at 4\n",
     ),
-    (
-        "units = 4\nframes = 1\ntask = [{name = \"a\", start = [0]}]\n",
-        4,
-    ),
-    (
-        "units = 4\nframes = 1\ntask = [{name = \"a\", start = [0], linear = [0, 0], text = \"\"}]\n",
-        4,
-    ),
-    (
-        "units = 4\nframes = 1\ntask = [{name = \"a\", start = [0], linear = [0, 0]}, {name = \"b\", start = [0], linear = [0, 0]}]\n",
-        4,
-    ),
-    ("units = 4\nname = \"ab\n", 3),
+    ("units = 4\nname = \"ab\n", 3, "not a document\n"),
 ];
 
 /// Calls `sift` on words and bytes in memory. The source and the sink move so many bytes a call, and fail at one call
@@ -204,12 +260,15 @@ fn call(
 
 #[test]
 fn a_mission_is_flown_and_reported(rt: HostRuntime) -> Result<(), Fail> {
-    let (status, sink) = call(rt.alloc(), &["run"], COUNT.as_bytes(), 0, 0)?;
-    assert_eq!(rt; status, 0);
-    assert_eq!(rt; sink.bytes.as_slice(), COUNT_REPORT.as_bytes());
-    let (status, sink) = call(rt.alloc(), &["run"], COUNT_FIVE.as_bytes(), 0, 0)?;
-    assert_eq!(rt; status, 0);
-    assert_eq!(rt; sink.bytes.as_slice(), COUNT_FIVE_REPORT.as_bytes());
+    for (document, report) in MISSIONS {
+        let (status, sink) = call(rt.alloc(), &["run"], document.as_bytes(), 0, 0)?;
+        assert_eq!(rt; status, 0, "status of {document}");
+        assert_eq!(rt;
+            sink.bytes.as_slice(),
+            report.as_bytes(),
+            "report of {document}"
+        );
+    }
     Ok(())
 }
 
@@ -228,15 +287,10 @@ fn other_words_are_no_command_line(rt: HostRuntime) -> Result<(), Fail> {
 }
 
 #[test]
-fn a_document_is_a_mission_up_to_the_edge_of_its_form(rt: HostRuntime) -> Result<(), Fail> {
-    for (document, want) in DOCUMENTS {
+fn a_document_is_refused_for_its_first_fault(rt: HostRuntime) -> Result<(), Fail> {
+    for (document, want, line) in REFUSED {
         let (status, sink) = call(rt.alloc(), &["run"], document.as_bytes(), 0, 0)?;
         assert_eq!(rt; status, want, "status of {document}");
-        let line = match want {
-            3 => "not a document\n",
-            4 => "another form\n",
-            _ => continue,
-        };
         assert_eq!(rt;
             sink.bytes.as_slice(),
             line.as_bytes(),
@@ -316,5 +370,8 @@ fn a_sink_may_fail_at_any_call(rt: HostRuntime) -> Result<(), Fail> {
         "status where the line of a refusal can't be written"
     );
     assert_eq!(rt; sink.bytes.len(), 0);
+    let (status, sink) = call(rt.alloc(), &["run"], b"", 0, 2)?;
+    assert_eq!(rt; status, 9, "status where the line of a rule is cut");
+    assert_eq!(rt; sink.bytes.as_slice(), b"scenario rule 2 ".as_slice());
     Ok(())
 }
