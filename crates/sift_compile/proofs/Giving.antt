@@ -15,7 +15,8 @@ use Rattle.sift_compile.proofs.Stands.{stands_whole}
 use Rattle.sift_compile.proofs.Sound.{code_is_sound}
 use Rattle.sift_compile.proofs.Comes.{done_there}
 use Rattle.sift_compile.proofs.Terms.{readings_from}
-use Rattle.sift_compile.proofs.Statements.{at, Holds, block_runs}
+use Rattle.sift_compile.proofs.Between.{at, Holds}
+use Rattle.sift_compile.proofs.Statements.{block_runs}
 
 -- the program's run that comes to the end has put out what the task means
 gives_meaning : (sensors words : ℕ) (task : TaskTree) → IsSound sensors words task → (inputs : Inputs) → Fits inputs (task_program sensors words task).limits → (outs : List ℕ) → RunsTo (task_program sensors words task) inputs outs → outs ≡ meaning_of task inputs

@@ -3,12 +3,17 @@ pub mod Locals
 pub mod Comes
 pub mod Matched
 pub mod Terms
+pub mod Between
+pub mod Choosing
+pub mod Repeating
 pub mod Statements
 pub mod Giving
 pub mod Loops
 pub mod Arrivals
 pub mod Free
+pub mod Operators
 pub mod Pushes
+pub mod Jumps
 pub mod Passes
 pub mod Sound
 pub mod Lengths

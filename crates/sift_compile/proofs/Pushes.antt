@@ -6,15 +6,15 @@ use Rattle.std.proofs.lemmas.List.Elements.{All-nil}
 use Rattle.sift_code.specs.declared.instr.Instr.{Instr}
 use Rattle.sift_code.specs.declared.instr.Instr.TheVariants as instr
 use Rattle.sift_code.specs.Machine.{local_count}
-use Rattle.sift_code.specs.Heights.{Arrival, trail_at, brought_to, height_after, pops, pushes}
-use Rattle.sift_code.specs.Refusal.{Program, IsBadOperandAt, Limits, stack_limit}
+use Rattle.sift_code.specs.Heights.{Arrival, trail_at, brought_to, height_after, pushes}
+use Rattle.sift_code.specs.Refusal.{Program, stack_limit}
 use Rattle.sift_lang.specs.declared.tree.Op.{Op}
-use Rattle.sift_lang.specs.declared.tree.Op.TheVariants.{Add, Sub, Mul, Div, Rem, And, Or, Xor, Shl, Shr, Lt, Eq}
 use Rattle.sift_lang.specs.Tree.{Term, number, local, sense, this_frame, last_frame, minus, binary, middle}
 use Rattle.sift_lang.specs.Sound.{NamesWithin, need}
 use Rattle.sift_compile.specs.Code.{operator_code, term_code}
 use Rattle.sift_compile.proofs.Stands.{Stands, stands_front, stands_back, stands_on, stands_here}
-use Rattle.sift_compile.proofs.Free.{trail, IsCalm, AreFree, free_one, free_both, calm_free, calm_trail}
+use Rattle.sift_compile.proofs.Free.{trail, AreFree, free_one, free_both, calm_free, calm_trail}
+use Rattle.sift_compile.proofs.Operators.{IsOperator, operator_of, needs_some, some_code}
 
 -- nothing was brought to the places behind one, up to another
 abbrev pub IsQuiet : ℕ → ℕ → List Arrival → Type 0
@@ -34,50 +34,6 @@ quiet_part p q r s brought a b quiet x from to = quiet x (omega arith) (omega ar
 pub record Pushes (program : Program) (p q height : ℕ) (brought : List Arrival) : Type 0 where
   pub free : AreFree program p q
   pub pushed : trail_at program.code q ≡ trail (height + 1) brought
-
--- an instruction that pops some words and pushes one
-pub record IsOperator (limits : Limits) (i : Instr) (popped : ℕ) : Type 0 where
-  pub calm : IsCalm i
-  pub pops_are : pops i ≡ popped
-  pub pushes_one : pushes i ≡ 1
-  pub named : IsBadOperandAt limits (Some i) → ⊥
-
-pub operator_of : (limits : Limits) (o : Op) → IsOperator limits (operator_code o) 2
-operator_of limits Add = record { calm = tt; pops_are = refl; pushes_one = refl; named = λ bad. bad }
-operator_of limits Sub = record { calm = tt; pops_are = refl; pushes_one = refl; named = λ bad. bad }
-operator_of limits Mul = record { calm = tt; pops_are = refl; pushes_one = refl; named = λ bad. bad }
-operator_of limits Div = record { calm = tt; pops_are = refl; pushes_one = refl; named = λ bad. bad }
-operator_of limits Rem = record { calm = tt; pops_are = refl; pushes_one = refl; named = λ bad. bad }
-operator_of limits And = record { calm = tt; pops_are = refl; pushes_one = refl; named = λ bad. bad }
-operator_of limits Or = record { calm = tt; pops_are = refl; pushes_one = refl; named = λ bad. bad }
-operator_of limits Xor = record { calm = tt; pops_are = refl; pushes_one = refl; named = λ bad. bad }
-operator_of limits Shl = record { calm = tt; pops_are = refl; pushes_one = refl; named = λ bad. bad }
-operator_of limits Shr = record { calm = tt; pops_are = refl; pushes_one = refl; named = λ bad. bad }
-operator_of limits Lt = record { calm = tt; pops_are = refl; pushes_one = refl; named = λ bad. bad }
-operator_of limits Eq = record { calm = tt; pops_are = refl; pushes_one = refl; named = λ bad. bad }
-
-pub needs_some : (t : Term) → 1 ≤ need t
-needs_some (number n) = omega arith
-needs_some (local l) = omega arith
-needs_some (sense x) = omega arith
-needs_some (this_frame w) = omega arith
-needs_some (last_frame w) = omega arith
-needs_some (minus t) = omega arith
-needs_some (binary o t u) = omega (arith, needs_some t)
-needs_some (middle t u v) = omega (arith, needs_some t)
-
--- a term has some code
-pub some_code : (t : Term) → 1 ≤ length (term_code t)
-some_code (number n) = omega arith
-some_code (local l) = omega arith
-some_code (sense x) = omega arith
-some_code (this_frame w) = omega arith
-some_code (last_frame w) = omega arith
-some_code (minus t) = omega arith
-some_code (binary o t u) =
-    omega (arith, some_code t, length-append (term_code t) (term_code u ++ operator_code o ∷ []))
-some_code (middle t u v) =
-    omega (arith, some_code t, length-append (term_code t) (term_code u ++ (term_code v ++ instr.Mid ∷ [])))
 
 module _ (program : Program) where
   -- an operator, where its operands are on the stack

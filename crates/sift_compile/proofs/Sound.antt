@@ -21,7 +21,8 @@ use Rattle.sift_compile.proofs.Loops.{keeps_term, keeps_statement, keeps_block, 
 use Rattle.sift_compile.proofs.Arrivals.{clear_meets, clear_grown}
 use Rattle.sift_compile.proofs.Free.{trail}
 use Rattle.sift_compile.proofs.Pushes.{AllPush, term_pushes}
-use Rattle.sift_compile.proofs.Passes.{Passes, AllPass, Takes, use_passes, choose_passes, choose_else_passes, repeat_passes, none_passes, both_pass}
+use Rattle.sift_compile.proofs.Jumps.{Passes, AllPass}
+use Rattle.sift_compile.proofs.Passes.{Takes, use_passes, choose_passes, choose_else_passes, repeat_passes, none_passes, both_pass}
 
 -- where more locals live, the names are still there
 names_more : (sensors words m n : ℕ) (t : Term) → m ≤ n → NamesWithin sensors words m t → NamesWithin sensors words n t

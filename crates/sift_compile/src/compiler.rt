@@ -70,3 +70,6 @@ fn no_memory(bad: Bad) -> NoMemory
         _ => unreachable!(),
     }
 }
+
+#[cfg(test)]
+mod tests;
