@@ -72,7 +72,7 @@ const BROKEN_ROOTS: [(&str, u32); 18] = [
 const HEAD: &str = "units = 4\nframes = 1\ntask = ";
 
 /// Tasks of missions.
-const ACCEPTED: [&str; 7] = [
+const ACCEPTED: [&str; 9] = [
     "[{name = 'abcdefghijklmnop', start = [0], text = ''}]",
     "[{name = 'lets', start = [0], text = ''}, {name = 'let_', start = [0], text = ''}]",
     "[{name = 'a', start = [-32768, 65535], text = ''}]",
@@ -80,6 +80,9 @@ const ACCEPTED: [&str; 7] = [
     "[{name = 'a', start = [0], linear = [-32768, 65535]}]",
     "[{name = 'a', start = [0], text = 'out 0 = 65535;'}]",
     "[{name = 'a', start = [0], text = ''}, {name = 'b', start = [0], text = 'out 0 = now a.0;'}]",
+    "[{name = 'a', start = [0], text = 'repeat 1000 { repeat 4 { out 0 = 1; } }'}, \
+        {name = 'b', start = [0], text = 'repeat 794 { out 0 = 1; }'}]",
+    "[{name = 'a', start = [0], text = 'repeat 0 { repeat 1024 { repeat 1024 { out 0 = 1; } } }'}]",
 ];
 
 /// Values of `task` that break a rule, with its number and its place. Many break later rules, or the
@@ -182,8 +185,29 @@ const TEXTS: [(&str, u32, u32); 9] = [
     ("out 0 = 65536;", 5, 8),
 ];
 
-/// Tasks of which a text is refused, with the task, the kind and the place in its text.
-const REFUSED: [(&str, u32, u32, u32); 3] = [
+/// Tasks of which one is refused, with the task, the kind and the place in its text, or the bound of
+/// its steps.
+const REFUSED: [(&str, u32, u32, u32); 6] = [
+    (
+        "[{name = 'a', start = [0], text = 'repeat 1000 { repeat 17 { out 0 = 1; } }'}]",
+        0,
+        7,
+        53_001,
+    ),
+    (
+        "[{name = 'a', start = [0], text = 'repeat 1000 { repeat 4 { out 0 = 1; } }'}, \
+            {name = 'b', start = [0], text = 'repeat 800 { out 0 = 1; }'}]",
+        1,
+        7,
+        2_401,
+    ),
+    (
+        "[{name = 'a', start = [0], text = 'repeat 1000 { repeat 17 { out 0 = 1; } }'}, \
+            {name = 'b', start = [0], text = '$'}]",
+        0,
+        7,
+        53_001,
+    ),
     (
         "[{name = 'a', start = [5], text = 'out 0 = 1;'}, \
             {name = 'b', start = [0], text = 'out 0 = now b.0;'}]",
@@ -351,6 +375,24 @@ fn a_text_has_at_most_4096_bytes(rt: HostRuntime) -> Result<(), Fail> {
     text.push('#')?;
     let document = with_text(rt.alloc(), &text)?;
     let (task, kind, at) = (0, 5, 4_096);
+    expect(&rt, rt.alloc(), &document, Err(Task { task, kind, at }))?;
+    Ok(())
+}
+
+#[test]
+fn code_has_at_most_1024_instructions(rt: HostRuntime) -> Result<(), Fail> {
+    // 512 numbers, 511 sums and the output; then one number and one sum more.
+    let mut text = String::from_str(rt.alloc(), "out 0 = 1")?;
+    for _ in 1..512 {
+        text.push_str("+1")?;
+    }
+    let mut longer = text.clone()?;
+    text.push_str(";")?;
+    let document = with_text(rt.alloc(), &text)?;
+    expect(&rt, rt.alloc(), &document, Ok((4, 1)))?;
+    longer.push_str("+1;")?;
+    let document = with_text(rt.alloc(), &longer)?;
+    let (task, kind, at) = (0, 6, 1_026);
     expect(&rt, rt.alloc(), &document, Err(Task { task, kind, at }))?;
     Ok(())
 }
