@@ -1,0 +1,13 @@
+pub mod Stands
+pub mod Locals
+pub mod Comes
+pub mod Matched
+pub mod Terms
+pub mod Statements
+pub mod Giving
+pub mod Loops
+pub mod Arrivals
+pub mod Free
+pub mod Pushes
+pub mod Passes
+pub mod Sound
