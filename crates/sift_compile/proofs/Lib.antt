@@ -11,3 +11,7 @@ pub mod Free
 pub mod Pushes
 pub mod Passes
 pub mod Sound
+pub mod Lengths
+pub mod Emitted
+pub mod Allowed
+pub mod Refused

@@ -1,2 +1,4 @@
 pub mod Code
 pub mod Correct
+pub mod Length
+pub mod Stop

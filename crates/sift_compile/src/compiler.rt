@@ -1,0 +1,72 @@
+ghost use Rattle.std.specs.Prelude.{◌≡◌, ◌<◌, ◌≤◌, length, Err, IsOk, IfOk, IfErr};
+ghost use Rattle.sift_code.specs.Bound.{kept};
+ghost use Rattle.sift_lang.specs.Tree.{tree_of};
+ghost use Rattle.sift_lang.specs.Sound.{IsSound};
+ghost use Rattle.sift_compile.specs.Code.{task_code, task_program};
+ghost use Rattle.sift_compile.specs.Correct.{Means};
+ghost use Rattle.sift_compile.specs.Stop.{IsAllowed, Stops};
+
+use crate::emit::emit_block;
+use crate::length::block_length;
+use crate::stop::{CODE_LIMIT, CompileStop};
+use sift_base::NoMemory;
+use sift_code::{Bad, Checked, verify};
+use sift_lang::Task;
+use std::alloc::Global;
+
+/// Compiles a task, which may name so many sensors and voted words.
+///
+/// Its code may have 1,024 instructions, and a run of it may take as many as the budget. The length is
+/// tested first, before any memory is asked for.
+pub fn compile(
+    alloc: Global,
+    task: &Task,
+    sensors: u8,
+    words: u8,
+    budget: u32,
+) -> Result<Checked, CompileStop>
+    requires sound { IsSound sensors words (tree_of task.now) }
+    requires bounded { budget < 4294967295 }
+    ensures code { IfOk result (λ checked. checked ≡ task_program sensors words (tree_of task.now)) }
+    ensures means { IfOk result (λ checked. Means checked (tree_of task.now)) }
+    ensures allowed { IsOk result → IsAllowed budget (task_code (tree_of task.now)) }
+    ensures stopped { IfErr result (Stops budget (task_code (tree_of task.now))) }
+    // A code that is too long is known without memory.
+    ensures too_long { let len = length (task_code (tree_of task.now)) in
+        CODE_LIMIT < len → result ≡ Err (CompileStop.CodeTooLong (kept len)) }
+{
+    let len = block_length(&task.body);
+    if len > CODE_LIMIT {
+        return Err(CompileStop::CodeTooLong { len });
+    }
+    let checked = check(alloc, task, sensors, words)?;
+    let bound = checked.bound();
+    if bound > budget {
+        return Err(CompileStop::TooManySteps { bound });
+    }
+    Ok(checked)
+}
+
+/// The code of a task, checked.
+fn check(alloc: Global, task: &Task, sensors: u8, words: u8) -> Result<Checked, NoMemory>
+    requires sound { IsSound sensors words (tree_of task.now) }
+    requires short { length (task_code (tree_of task.now)) ≤ CODE_LIMIT }
+    ensures { IfOk result (λ checked. checked ≡ task_program sensors words (tree_of task.now)) }
+{
+    let mut code = Vec::new(alloc);
+    emit_block(&mut code, 0, &task.body)?;
+    match verify(alloc, code, sensors, words, task.outputs) {
+        Ok(checked) => Ok(checked),
+        Err(bad) => Err(no_memory(bad)),
+    }
+}
+
+/// The one refusal of sound code.
+fn no_memory(bad: Bad) -> NoMemory
+    requires { bad ≡ Bad.NoMemory }
+{
+    match bad {
+        Bad::NoMemory => NoMemory,
+        _ => unreachable!(),
+    }
+}
