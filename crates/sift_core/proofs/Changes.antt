@@ -37,7 +37,7 @@ Changed-all Changes i before after changed past = record {
 }
 
 -- a vector whose elements were written as a slice has these elements
-pub written-back : (len : ℕ) (old new : List UnitState) → len ≡ length old → length new ≡ length old → take len (new ++ drop (length new) old) ≡ new
+pub written-back : {A : Type 0} (len : ℕ) (old new : List A) → len ≡ length old → length new ≡ length old → take len (new ++ drop (length new) old) ≡ new
 written-back len old new all same =
     let past : length old ≤ length new = omega arith in
     rw (drop_all (length new) old past, append-nil new) (take_all len new (omega arith))

@@ -3,26 +3,28 @@ use Rattle.std.proofs.Common.{◌≡◌, ℕ, suc, ◌+◌, ◌<◌, List, ◌�
 use Rattle.std.proofs.Math.Seq.{drop-cons}
 use Rattle.std.proofs.lemmas.List.{length-append}
 use Rattle.std.proofs.lemmas.List.Elements.{All-weaker}
-use Rattle.std.proofs.lemmas.List.Sums.{sum_by_more}
+use Rattle.std.proofs.lemmas.List.Sums.{sum_by_more, sum_by_more_le}
 use Rattle.std.proofs.lemmas.Option.{slice_get_within, get_or_from_slice_get}
+use Rattle.sift_code.specs.Refusal.{Program}
 use Rattle.sift_lang.specs.Tree.{TaskTree}
 use Rattle.sift_program.specs.Program.{ProgramTree}
 use Rattle.sift_program.specs.Sound.{output_count, IsSoundProgram}
 use Rattle.sift_core.specs.declared.unit.UnitState.{UnitState}
+use Rattle.sift_core.specs.Code.{AreCompiled}
 use Rattle.sift_core.specs.Frame.{CanRun, Each, Takes}
 
 -- the unit holds so many words of the frame before, and so many of this one
 abbrev pub HasSizes : ℕ → ℕ → UnitState → Type 0
 HasSizes words made unit = (length unit.last.items ≡ words) × (length unit.made.items ≡ made)
 
--- where a task comes in a sound program, each unit can run it
-pub CanRun-at : (program : ProgramTree) (i : ℕ) (task : TaskTree) (units : List UnitState) → IsSoundProgram 0 program → slice_get program.tasks i ≡ Some task → All (HasSizes (length program.starts) (output_count (take i program.tasks))) units → All (CanRun task) units
-CanRun-at program i task units sound here sizes =
-    let within = slice_get_within program.tasks i task here in
-    let sound_task = rw (get_or_from_slice_get program.tasks i task task here) at (sound.tasks_sound i task within) in
+-- where a task comes in a sound program, its code gives each unit the task's words
+pub CanRun-at : (program : ProgramTree) (codes : List Program) (i : ℕ) (task : TaskTree) (code : Program) (units : List UnitState) → IsSoundProgram 0 program → AreCompiled program codes → slice_get program.tasks i ≡ Some task → slice_get codes i ≡ Some code → All (HasSizes (length program.starts) (output_count (take i program.tasks))) units → All (CanRun task code) units
+CanRun-at program codes i task code units sound compiled here there sizes =
     let nows = sound.reads_earlier_words i task here in
-    All-weaker (HasSizes (length program.starts) (output_count (take i program.tasks))) (CanRun task)
-    (λ unit has. (rw has.0 sound_task, rw has.1 nows)) units sizes
+    let code_of = compiled.each i task code here there in
+    let fits = sum_by_more_le (λ (t : TaskTree). t.outputs) program.tasks i task (slice_get_within program.tasks i task here) in
+    All-weaker (HasSizes (length program.starts) (output_count (take i program.tasks))) (CanRun task code)
+    (λ unit has. record { code_of = rw has.0 code_of; nows = rw has.1 nows; few = omega (arith, has.0, has.1, fits, sound.a_start_each) }) units sizes
 
 -- the tasks from i on are the one at i and then the rest
 pub tasks-drop : (tasks : List TaskTree) (i : ℕ) (task : TaskTree) → slice_get tasks i ≡ Some task → drop i tasks ≡ task ∷ drop (i + 1) tasks

@@ -1,5 +1,7 @@
 pub mod Changes
+pub mod Compiled
 pub mod Entries
+pub mod Executors
 pub mod Flights
 pub mod Frames
 pub mod Ideal

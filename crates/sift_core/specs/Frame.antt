@@ -1,10 +1,12 @@
 -- What a frame does to the units, whatever they hold. No clause of the crate's surface cites this module.
-use Rattle.std.specs.Prelude.{◌≡◌, ℕ, ◌<◌, Option, List, [], ◌∷◌, ◌++◌, map, length, slice_get, slice_index, slice_index_or}
+use Rattle.std.specs.Prelude.{◌≡◌, ℕ, ◌<◌, ◌≤◌, Option, List, [], ◌∷◌, ◌++◌, map, length, slice_get, slice_index, slice_index_or}
 use Rattle.arrayvec.specs.ArrayVec.{ArrayVec}
 use Rattle.sift_lang.specs.Tree.{TaskTree}
 use Rattle.sift_lang.specs.Meaning.{meaning}
-use Rattle.sift_lang.specs.Sound.{IsSound, AllNowsBelow}
+use Rattle.sift_code.specs.Refusal.{Program}
+use Rattle.sift_lang.specs.Sound.{AllNowsBelow}
 use Rattle.sift_vote.specs.Majority.{IsAgreed}
+use Rattle.sift_core.specs.Code.{IsCodeOf}
 use Rattle.sift_core.specs.declared.unit.UnitState.{UnitState}
 
 -- the words of copies
@@ -19,9 +21,11 @@ places_of place copies = map (λ copy. slice_get copy place) copies
 abbrev pub copy_of : TaskTree → UnitState → List ℕ
 copy_of task unit = meaning task [] unit.made.items unit.last.items
 
--- the unit can run the task: the task is sound, and names by `now` what the unit voted in this frame
-abbrev pub CanRun : TaskTree → UnitState → Type 0
-CanRun task unit = IsSound 0 (length unit.last.items) task × AllNowsBelow (length unit.made.items) task
+-- the code gives the unit the task's words: it is the task's, which names by `now` what the unit voted in this frame
+pub record CanRun (task : TaskTree) (code : Program) (unit : UnitState) : Type 0 where
+  pub code_of : IsCodeOf (length unit.last.items) task code
+  pub nows : AllNowsBelow (length unit.made.items) task
+  pub few : length unit.made.items ≤ length unit.last.items
 
 -- each unit changed so
 pub record Each (Changes : UnitState → UnitState → Type 0) (before after : List UnitState) : Type 0 where

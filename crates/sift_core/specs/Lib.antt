@@ -1,2 +1,4 @@
+pub mod Code
+pub mod Executor
 pub mod Flight
 pub mod Frame

@@ -1,6 +1,7 @@
 //! The flight of a mission: what every unit votes in every frame.
 #![tactic(auto)]
 
+mod executor;
 mod flight;
 #[cfg(test)]
 mod tests;

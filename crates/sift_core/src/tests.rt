@@ -4,9 +4,12 @@ ghost use Rattle.sift_lang.specs.Tree.{term_of, statement_of, tree_of, bind, ass
 ghost use Rattle.sift_lang.specs.declared.tree.Op.TheVariants.{Add};
 ghost use Rattle.sift_program.specs.Program.{program_of};
 ghost use Rattle.sift_program.specs.Sound.{IsSoundProgram};
+ghost use Rattle.sift_core.specs.Code.{AreCompiled};
 
 use crate::plain_fly;
 use sift_base::{NoMemory, Word};
+use sift_code::Checked;
+use sift_compile::compile;
 use sift_lang::{Expr, Op, Stmt, Task};
 use sift_program::Program;
 use std::alloc::Global;
@@ -117,6 +120,19 @@ fn expect_words(rt: &impl Abort, words: &[Word], want: &[u16], row: &str) {
     }
 }
 
+/// The code of each task of the program.
+fn compiled(alloc: Global, program: &Program) -> Result<Vec<Checked>, Fail>
+    requires { IsSoundProgram 0 (program_of program.now) }
+    ensures { IfOk result (λ code. AreCompiled (program_of program.now) code.items) }
+{
+    let words = program.starts.len() as u8;
+    let mut code = Vec::new(alloc);
+    for task in &program.tasks {
+        code.push(compile(alloc, task, 0, words, 16_384)?)?;
+    }
+    Ok(code)
+}
+
 /// Flies two frames on four units. All of them are to vote the first words in frame 0, and the second in frame 1.
 fn expect(
     rt: &impl Abort,
@@ -125,10 +141,11 @@ fn expect(
     first: &[u16],
     second: &[u16],
     row: &str,
-) -> Result<(), NoMemory>
+) -> Result<(), Fail>
     requires { IsSoundProgram 0 (program_of program.now) }
 {
-    let flight = plain_fly(alloc, program, 4, 2)?;
+    let code = compiled(alloc, program)?;
+    let flight = plain_fly(alloc, program, &code, 4, 2)?;
     assert_eq!(rt; flight.len(), 8, "{row}");
     let wanted = [first, first, first, first, second, second, second, second];
     for (entry, want) in flight.iter().zip(wanted) {
