@@ -107,9 +107,15 @@ fn answer_to(alloc: Global, bytes: &[u8]) -> Result<String, Stop>
 
 /// Flies a mission and reports on it.
 fn report_on(alloc: Global, mission: &Mission) -> Result<String, NoMemory>
-    requires { CanFly (stated mission.now) }
+    requires { CanFly (stated mission.now) mission.now.code.items }
     ensures { IfOk result (λ text. string_bytes text ≡ mission_report (stated mission.now)) }
 {
-    let flight = plain_fly(alloc, &mission.program, mission.units, mission.frames)?;
+    let flight = plain_fly(
+        alloc,
+        &mission.program,
+        &mission.code,
+        mission.units,
+        mission.frames,
+    )?;
     report(alloc, mission.units, mission.frames, &flight)
 }
