@@ -26,8 +26,8 @@ compiled_from program codes made =
       as_many = ap length made.codes_are ∙ length-map program.tasks (task_program 0 words);
       each = λ t task code there_task there_code.
           let here : slice_get codes t ≡ Some (task_program 0 words task) =
-              ap (λ (cs : List Program). slice_get cs t) made.codes_are ∙ slice_get-map (task_program 0 words) program.tasks t
-              ∙ ap (option_map (task_program 0 words)) there_task in
+          ap (λ (cs : List Program). slice_get cs t) made.codes_are ∙ slice_get-map (task_program 0 words) program.tasks t
+          ∙ ap (option_map (task_program 0 words)) there_task in
           let both : Some code ≡ Some (task_program 0 words task) = sym there_code ∙ here in
           code_of words task code (cc both) (made.mean t task there_task);
     }
