@@ -4,16 +4,19 @@ use Rattle.sift_code.specs.declared.instr.Instr.{Instr}
 use Rattle.sift_code.specs.Bound.{bound_of, kept}
 use Rattle.sift_compile.specs.declared.stop.CompileStop.{CompileStop}
 use Rattle.sift_compile.specs.declared.stop.CompileStop.TheVariants.{CodeTooLong, TooManySteps, NoMemory}
-use Rattle.sift_compile.specs.declared.stop.TheConstants.{CODE_LIMIT}
+
+-- the most instructions of a task's code
+abbrev pub code_limit : ℕ
+code_limit = 1024
 
 -- the code is short enough, and its bound is within the budget
 pub record IsAllowed (budget : ℕ) (code : List Instr) : Type 0 where
-  pub short : length code ≤ CODE_LIMIT
+  pub short : length code ≤ code_limit
   pub quick : bound_of code ≤ budget
 
 -- the code isn't compiled for this reason: it is too long, or else its bound is over the budget
 abbrev pub Stops : ℕ → List Instr → CompileStop → Type 0
-Stops budget code (CodeTooLong len) = (CODE_LIMIT < length code) × (len ≡ kept (length code))
+Stops budget code (CodeTooLong len) = (code_limit < length code) × (len ≡ kept (length code))
 Stops budget code (TooManySteps bound) =
-    (length code ≤ CODE_LIMIT) × (budget < bound_of code) × (bound ≡ kept (bound_of code))
+    (length code ≤ code_limit) × (budget < bound_of code) × (bound ≡ kept (bound_of code))
 Stops budget code NoMemory = Unit {0}

@@ -4,7 +4,7 @@ ghost use Rattle.sift_lang.specs.Tree.{tree_of};
 ghost use Rattle.sift_lang.specs.Sound.{IsSound};
 ghost use Rattle.sift_compile.specs.Code.{task_code, task_program};
 ghost use Rattle.sift_compile.specs.Correct.{Means};
-ghost use Rattle.sift_compile.specs.Stop.{IsAllowed, Stops};
+ghost use Rattle.sift_compile.specs.Stop.{code_limit, IsAllowed, Stops};
 
 use crate::emit::emit_block;
 use crate::length::block_length;
@@ -33,7 +33,7 @@ pub fn compile(
     ensures stopped { IfErr result (Stops budget (task_code (tree_of task.now))) }
     // A code that is too long is known without memory.
     ensures too_long { let len = length (task_code (tree_of task.now)) in
-        CODE_LIMIT < len → result ≡ Err (CompileStop.CodeTooLong (kept len)) }
+        code_limit < len → result ≡ Err (CompileStop.CodeTooLong (kept len)) }
 {
     let len = block_length(&task.body);
     if len > CODE_LIMIT {
