@@ -12,13 +12,16 @@ pub mod LinearLexemes
 pub mod LinearText
 pub mod LinearTokens
 pub mod Living
+pub mod Longest
 pub mod Newest
 pub mod Numbers
+pub mod Offences
 pub mod Offending
 pub mod OneAnswer
 pub mod OneLexing
 pub mod OneReading
 pub mod OneRefusal
+pub mod Refusing
 pub mod Signs
 pub mod SoundBlock
 pub mod SoundForce
@@ -34,3 +37,4 @@ pub mod Steps
 pub mod Taking
 pub mod Turns
 pub mod Whole
+pub mod Words

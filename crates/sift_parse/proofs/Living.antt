@@ -1,5 +1,5 @@
 -- As long as no refusal stands, few locals live, so that what a name names has a small number.
-use Rattle.std.proofs.Common.{◌≡◌, ℕ, suc, ◌+◌, ◌-◌, ◌<◌, ◌≤◌, ◌^◌, Bool, true, false, cond, List, [], ◌∷◌, length, drop, Option, Some, None, refl, sym, ap, ◌∙◌, subst, arith, length-drop}
+use Rattle.std.proofs.Common.{◌≡◌, ℕ, ◌+◌, ◌-◌, ◌<◌, ◌≤◌, ◌^◌, Bool, true, false, cond, List, [], ◌∷◌, length, Option, Some, None, refl, ap, arith, length-drop}
 use Rattle.std.specs.Prelude.{if◌then◌else◌}
 use Rattle.std.specs.Option.{ForSome}
 use Rattle.std.specs.List.{position_from}
@@ -8,7 +8,7 @@ use Rattle.sift_parse.specs.declared.token.Keyword.{Keyword}
 use Rattle.sift_parse.specs.declared.token.Keyword.TheVariants.{Let, Out, If, Else, Repeat, Mid, Sense, Now, Last}
 use Rattle.sift_parse.specs.declared.token.Sign.TheVariants.{Assign, OpenParen, CloseParen, OpenBrace, CloseBrace, Comma, Dot, Semicolon}
 use Rattle.sift_parse.specs.Lexeme.{Lexeme, word, numeral, operator, mark}
-use Rattle.sift_parse.specs.Force.{Roll, Level, block, parenthesis, negation, Force, keyword_of, keyword_before, opens, leave_block, oldest, end_let, Role, new_local, a_sensor, a_task, old_local, role_after, after_name, after_word, moved, advance, number_in, local_of, named_by}
+use Rattle.sift_parse.specs.Force.{Roll, Level, block, parenthesis, negation, Force, keyword_of, keyword_before, opens, leave_block, oldest, end_let, Role, new_local, a_sensor, a_task, old_local, role_after, after_name, after_word, moved, advance, local_of, named_by}
 use Rattle.sift_parse.specs.Refusal.{many_locals}
 use Rattle.sift_parse.specs.Scanned.{NoneAt}
 use Rattle.sift_parse.specs.Outcome.{AreNames}

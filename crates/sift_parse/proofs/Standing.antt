@@ -1,5 +1,5 @@
 -- What stands at the place of a lexeme, and that nothing stands before lexemes whose tokens begin a task.
-use Rattle.std.proofs.Common.{◌≡◌, ℕ, ◌+◌, ◌-◌, ◌<◌, ◌≤◌, inl, inr, List, [], ◌∷◌, ◌++◌, length, codes, refl, sym, ap, ◌∙◌, subst, arith, append_assoc, length-append}
+use Rattle.std.proofs.Common.{◌≡◌, ℕ, inl, inr, List, [], ◌∷◌, ◌++◌, length, codes, refl, sym, ap, ◌∙◌, subst, arith, append_assoc, length-append}
 use Rattle.std.proofs.lemmas.List.{map-append}
 use Rattle.sift_lang.specs.declared.tree.Op.{Op}
 use Rattle.sift_lang.specs.declared.tree.Op.TheVariants.{Add, Sub, Mul, Div, Rem, And, Or, Xor, Shl, Shr, Lt, Eq}
@@ -11,9 +11,9 @@ use Rattle.sift_parse.specs.declared.token.Token.{Token}
 use Rattle.sift_parse.specs.Grammar.{IsTask, Begins}
 use Rattle.sift_parse.specs.Lexeme.{Lexeme, word, numeral, operator, mark, operator_bytes, sign_bytes, Spells, IsLexeme, Placed, Lexes}
 use Rattle.sift_parse.specs.Force.{Roll, force_after, tokens_from, tokens_of}
-use Rattle.sift_parse.specs.Refusal.{Kind, no_lexeme_here, no_syntax, long_name, large_number, many_rounds, many_locals, deep_level, unknown_name, later_task, order_of, BeginsWith, IsNoSyntax, Stands, lexemes_of, NoneBefore, IsRefused}
-use Rattle.sift_parse.specs.Scanned.{StandsAt, NoneAt, IsFirst, IsFine, kind_of}
-use Rattle.sift_parse.proofs.OneReading.{one_lexeme, Parts, lexes_split, Next, next_lexeme}
+use Rattle.sift_parse.specs.Refusal.{Kind, no_lexeme_here, no_syntax, long_name, large_number, many_rounds, many_locals, deep_level, unknown_name, later_task, BeginsWith, IsNoSyntax, Stands, lexemes_of, NoneBefore}
+use Rattle.sift_parse.specs.Scanned.{StandsAt, IsFine, kind_of}
+use Rattle.sift_parse.proofs.OneReading.{one_lexeme, next_lexeme}
 use Rattle.sift_parse.proofs.Taking.{tokens_of-append}
 
 -- ---- a lexeme has bytes
@@ -72,7 +72,7 @@ syntax-stands r front [] mid l x h = absurd (no_lexeme-of-nothing l mid x)
 syntax-stands r front (b ∷ bs) mid l x h = begins-with (λ l. ¬ Begins (tokens_of r (front ++ l ∷ []))) (b ∷ bs) mid l x h.1
 
 -- what stands at the place stands at the lexeme, where the tokens to it begin a task
-stands-at : (r : Roll) (front : List Lexeme) (text mid : List ℕ) (l : Lexeme) (kind : Kind) → IsLexeme text l mid → Begins (tokens_of r (front ++ l ∷ [])) → Stands r front text kind → StandsAt r (force_after front) l kind
+pub stands-at : (r : Roll) (front : List Lexeme) (text mid : List ℕ) (l : Lexeme) (kind : Kind) → IsLexeme text l mid → Begins (tokens_of r (front ++ l ∷ [])) → Stands r front text kind → StandsAt r (force_after front) l kind
 stands-at r front text mid l no_lexeme_here x b h = h.1 l mid x
 stands-at r front text mid l no_syntax x b h = syntax-stands r front text mid l x h b
 stands-at r front text mid l long_name x b h = begins-with (λ l. StandsAt r (force_after front) l long_name) text mid l x h
@@ -84,7 +84,7 @@ stands-at r front text mid l unknown_name x b h = begins-with (λ l. StandsAt r 
 stands-at r front text mid l later_task x b h = begins-with (λ l. StandsAt r (force_after front) l later_task) text mid l x h
 
 -- what stands at the lexeme stands at its place
-stands-here : (r : Roll) (front : List Lexeme) (text mid : List ℕ) (l : Lexeme) (k : held.Refusal) → IsLexeme text l mid → StandsAt r (force_after front) l (kind_of k) → Stands r front text (kind_of k)
+pub stands-here : (r : Roll) (front : List Lexeme) (text mid : List ℕ) (l : Lexeme) (k : held.Refusal) → IsLexeme text l mid → StandsAt r (force_after front) l (kind_of k) → Stands r front text (kind_of k)
 stands-here r front text mid l variant.LongName x h = record { lexeme = l; rest = mid; is_lexeme = x; holds = h }
 stands-here r front text mid l variant.LargeNumber x h = record { lexeme = l; rest = mid; is_lexeme = x; holds = h }
 stands-here r front text mid l variant.ManyRounds x h = record { lexeme = l; rest = mid; is_lexeme = x; holds = h }
@@ -93,7 +93,7 @@ stands-here r front text mid l variant.DeepLevel x h = record { lexeme = l; rest
 stands-here r front text mid l variant.UnknownName x h = record { lexeme = l; rest = mid; is_lexeme = x; holds = h }
 stands-here r front text mid l variant.LaterTask x h = record { lexeme = l; rest = mid; is_lexeme = x; holds = h }
 
-syntax-here : (r : Roll) (front : List Lexeme) (text mid : List ℕ) (l : Lexeme) → IsLexeme text l mid → Begins (tokens_of r front) → ¬ Begins (tokens_of r (front ++ l ∷ [])) → IsNoSyntax r front text
+pub syntax-here : (r : Roll) (front : List Lexeme) (text mid : List ℕ) (l : Lexeme) → IsLexeme text l mid → Begins (tokens_of r front) → ¬ Begins (tokens_of r (front ++ l ∷ [])) → IsNoSyntax r front text
 syntax-here r front [] mid l x b h = absurd (no_lexeme-of-nothing l mid x)
 syntax-here r front (c ∷ cs) mid l x b h = (b, record { lexeme = l; rest = mid; is_lexeme = x; holds = h })
 
@@ -103,10 +103,10 @@ syntax-here r front (c ∷ cs) mid l x b h = (b, record { lexeme = l; rest = mid
 pub begins-before : (r : Roll) (ps qs : List Placed) → Begins (tokens_of r (lexemes_of (ps ++ qs))) → Begins (tokens_of r (lexemes_of ps))
 begins-before r ps qs b = begins-front (tokens_of r (lexemes_of ps)) (tokens_from r (force_after (lexemes_of ps)) (lexemes_of qs)) (subst Begins (tokens_of-append r ps qs) b)
 
-lexemes_of-one : (ps : List Placed) (p : Placed) → lexemes_of (ps ++ p ∷ []) ≡ lexemes_of ps ++ p.lexeme ∷ []
+pub lexemes_of-one : (ps : List Placed) (p : Placed) → lexemes_of (ps ++ p ∷ []) ≡ lexemes_of ps ++ p.lexeme ∷ []
 lexemes_of-one ps p = map-append (λ p. p.lexeme) ps (p ∷ [])
 
-begins-one : (r : Roll) (ps qs : List Placed) (p : Placed) → Begins (tokens_of r (lexemes_of (ps ++ p ∷ qs))) → Begins (tokens_of r (lexemes_of ps ++ p.lexeme ∷ []))
+pub begins-one : (r : Roll) (ps qs : List Placed) (p : Placed) → Begins (tokens_of r (lexemes_of (ps ++ p ∷ qs))) → Begins (tokens_of r (lexemes_of ps ++ p.lexeme ∷ []))
 begins-one r ps qs p b = subst (λ l. Begins (tokens_of r l)) (lexemes_of-one ps p) (begins-before r (ps ++ p ∷ []) qs (subst (λ l. Begins (tokens_of r (lexemes_of l))) (sym (append_assoc ps (p ∷ []) qs)) b))
 
 -- nothing stands before lexemes at none of which a refusal stands, and whose tokens begin a task
@@ -115,64 +115,3 @@ none_before r text end front x fine b before [] rest kind e some y h = some refl
 none_before r text end front x fine b before (p ∷ more) rest kind e some y h =
     let n = next_lexeme (length text) text before p more rest end (subst (λ l. Lexes (length text) text l end) e x) y in
     fine before more p e kind (stands-at r (lexemes_of before) rest n.mid p.lexeme kind n.is_lexeme (begins-one r before more p (subst (λ l. Begins (tokens_of r (lexemes_of l))) e b)) h)
-
--- ---- refused at a lexeme
-
--- where the lexemes before one are read
-record Reached (text : List ℕ) (front : List Placed) (p : Placed) : Type 0 where
-  pub rest : List ℕ
-  pub mid : List ℕ
-  pub lexes : Lexes (length text) text front rest
-  pub is_lexeme : IsLexeme rest p.lexeme mid
-  pub place : p.at ≡ length text - length rest
-
-reached : (text end : List ℕ) (ps front more : List Placed) (p : Placed) → Lexes (length text) text ps end → ps ≡ front ++ p ∷ more → Reached text front p
-reached text end ps front more p x e =
-    let y = subst (λ l. Lexes (length text) text l end) e x in
-    let parts = lexes_split (length text) text end front (p ∷ more) y in
-    let n = next_lexeme (length text) text front p more parts.mid end y parts.first in
-    record { rest = parts.mid; mid = n.mid; lexes = parts.first; is_lexeme = n.is_lexeme; place = n.at }
-
--- the place is within the text
-pub place-within : (text end : List ℕ) (ps front more : List Placed) (p : Placed) → Lexes (length text) text ps end → ps ≡ front ++ p ∷ more → p.at ≤ length text
-place-within text end ps front more p x e = let i = reached text end ps front more p x e in let at = i.place in omega arith
-
--- a refusal of the lexeme is answered, where the tokens to it begin a task
-pub refused-lexeme : (r : Roll) (text end : List ℕ) (ps front more : List Placed) (p : Placed) (k : held.Refusal) → Lexes (length text) text ps end → ps ≡ front ++ p ∷ more → IsFine r front → IsFirst r (force_after (lexemes_of front)) p.lexeme (kind_of k) → Begins (tokens_of r (lexemes_of (front ++ p ∷ []))) → IsRefused r text (kind_of k) p.at
-refused-lexeme r text end ps front more p k x e fine first b =
-    let i = reached text end ps front more p x e in
-    let c = begins-one r front [] p b in
-    record {
-      front = front;
-      rest = i.rest;
-      lexes = i.lexes;
-      place = i.place;
-      stands = stands-here r (lexemes_of front) i.rest i.mid p.lexeme k i.is_lexeme first.stands;
-      first_kind = λ other lt h. first.first other lt (stands-at r (lexemes_of front) i.rest i.mid p.lexeme other i.is_lexeme c h);
-      first_place = none_before r text i.rest front i.lexes fine (begins-before r front (p ∷ []) b);
-    }
-
-only_lexeme-before : (r : Roll) (front : List Lexeme) (text mid : List ℕ) (l : Lexeme) (other : Kind) → IsLexeme text l mid → order_of other < 1 → Stands r front text other → ⊥
-only_lexeme-before r front text mid l no_lexeme_here x lt h = h.1 l mid x
-only_lexeme-before r front text mid l no_syntax x lt h = omega arith
-only_lexeme-before r front text mid l long_name x lt h = omega arith
-only_lexeme-before r front text mid l large_number x lt h = omega arith
-only_lexeme-before r front text mid l many_rounds x lt h = omega arith
-only_lexeme-before r front text mid l many_locals x lt h = omega arith
-only_lexeme-before r front text mid l deep_level x lt h = omega arith
-only_lexeme-before r front text mid l unknown_name x lt h = omega arith
-only_lexeme-before r front text mid l later_task x lt h = omega arith
-
--- a lexeme with whose token the tokens begin no task is no syntax
-pub refused-token : (r : Roll) (text end : List ℕ) (ps front more : List Placed) (p : Placed) → Lexes (length text) text ps end → ps ≡ front ++ p ∷ more → IsFine r front → Begins (tokens_of r (lexemes_of front)) → ¬ Begins (tokens_of r (lexemes_of (front ++ p ∷ []))) → IsRefused r text no_syntax p.at
-refused-token r text end ps front more p x e fine b never =
-    let i = reached text end ps front more p x e in
-    record {
-      front = front;
-      rest = i.rest;
-      lexes = i.lexes;
-      place = i.place;
-      stands = syntax-here r (lexemes_of front) i.rest i.mid p.lexeme i.is_lexeme b (λ c. never (subst (λ l. Begins (tokens_of r l)) (sym (lexemes_of-one front p)) c));
-      first_kind = λ other lt h. only_lexeme-before r (lexemes_of front) i.rest i.mid p.lexeme other i.is_lexeme lt h;
-      first_place = none_before r text i.rest front i.lexes fine b;
-    }

@@ -1,5 +1,5 @@
 -- The tokens of lexemes that were taken one by one, and that no refusal stands at any of them.
-use Rattle.std.proofs.Common.{◌≡◌, ℕ, suc, ◌+◌, ◌<◌, List, [], ◌∷◌, ◌++◌, length, take, drop, map, get_or, refl, sym, ap, ◌∙◌, subst, arith, length-append}
+use Rattle.std.proofs.Common.{◌≡◌, ℕ, ◌+◌, ◌<◌, List, [], ◌∷◌, ◌++◌, length, take, drop, get_or, refl, sym, ap, ◌∙◌, subst, arith, length-append}
 use Rattle.std.specs.Prelude.{fold}
 use Rattle.std.proofs.Math.Numerals.{add-one}
 use Rattle.std.proofs.Math.Seq.{take-suc, drop-cons}
@@ -7,7 +7,6 @@ use Rattle.std.proofs.lemmas.List.{map-append, take-append-drop}
 use Rattle.std.proofs.lemmas.List.Sums.{fold-append}
 use Rattle.sift_parse.specs.declared.lexer.Placed as held_placed
 use Rattle.sift_parse.specs.declared.refusal.Refusal as held
-use Rattle.sift_parse.specs.declared.stop.ParseStop.{ParseStop}
 use Rattle.sift_parse.specs.declared.token.Token.{Token}
 use Rattle.sift_parse.specs.Lexeme.{Lexeme, Placed}
 use Rattle.sift_parse.specs.Force.{Roll, Force, at_start, advance, force_after, token_of, tokens_from, tokens_of}

@@ -16,6 +16,8 @@ mod runs;
 mod scan;
 mod stop;
 mod task;
+#[cfg(test)]
+mod tests;
 mod token;
 mod tokens;
 mod unique;

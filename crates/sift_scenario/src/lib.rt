@@ -9,6 +9,8 @@ mod mission;
 mod refused;
 mod root;
 mod task;
+#[cfg(test)]
+mod tests;
 mod tree;
 mod value;
 

@@ -1,6 +1,7 @@
 use Rattle.std.proofs.Common.{◌≡◌, take, drop, subst, sym, ap, ◌∙◌}
 use Rattle.sift_parse.specs.Written.{Continues}
-use Rattle.sift_parse.proofs.Lexing.{number-at, number-none, number-digits, take-rest}
+use Rattle.sift_parse.proofs.Lexing.{take-rest}
+use Rattle.sift_parse.proofs.Longest.{number-at, number-none, number-digits}
 use Rattle.sift_parse.proofs.lexeme.number_at.Goals as goal
 
 pub returns-then-continues_number-clause-none : goal.returns-then-continues_number-clause-none

@@ -7,7 +7,8 @@ use Rattle.sift_parse.specs.Outcome.{text_limit}
 use Rattle.sift_parse.specs.Parsed.{Parses}
 use Rattle.sift_parse.specs.Scanned.{end_stop}
 use Rattle.sift_parse.specs.Written.{placed_of}
-use Rattle.sift_parse.proofs.Answering.{StopsAfter, after-tokens, begins-task, parsed-whole, offence-here, offence-end, place-short, tokens-within}
+use Rattle.sift_parse.proofs.Answering.{StopsAfter, after-tokens, begins-task, parsed-whole, offence-end, place-short}
+use Rattle.sift_parse.proofs.Offences.{offence-here, tokens-within}
 use Rattle.sift_parse.proofs.task.body_of.Goals as goal
 
 -- each place of a lexeme is short
