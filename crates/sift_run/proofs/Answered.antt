@@ -1,9 +1,12 @@
 -- A whole answer, from what was asked for and what was written.
 use Rattle.std.proofs.Common.{◌≡◌, ◌≤◌, ◌⊎◌, inl, inr, ℕ, List, length, lit<, Contains, String, Global, string_bytes, Ok, refl, sym, ◌∙◌, ap, subst}
-use Rattle.sift_scenario.specs.Mission.{Stated}
+use Rattle.toml.specs.Data.{Members}
+use Rattle.sift_scenario.specs.Mission.{IsMission, Stated}
+use Rattle.sift_scenario.proofs.UniqueRefusals.{one_mission}
+use Rattle.sift_run.proofs.Inputs.{one_tree, only_input}
 use Rattle.sift_run.proofs.Statuses.{begun_for_numbers, refused_words, status_of-known, status_of-other}
 use Rattle.sift_io.specs.Fault.{Rose}
-use Rattle.sift_run.specs.Answer.{IsAnswered, IsReported, statuses}
+use Rattle.sift_run.specs.Answer.{IsAnswered, IsReported, mission_report, statuses}
 use Rattle.sift_run.specs.Input.{Input, IsBegun, IsCommandLine, IsTold, States, document_limit}
 use Rattle.sift_run.specs.Output.{Output, Says, SaysRefusal, Writes}
 use Rattle.sift_run.specs.Refusal.{IsOwed, IsRefused, line_of, status_of}
@@ -14,6 +17,17 @@ use Rattle.sift_run.specs.declared.refusal.Refusal.TheVariants.{ReadFault}
 -- a report is no refusal
 never_stops : (owed : Refusal) (text : String Global) → ¬ StopsFor owed (Ok text)
 never_stops owed text stops = let here = stops.0 in cc
+
+-- the report is that of the mission that the input states
+told_report :
+    (words : List (String Global)) (input : Input) (bytes text : List ℕ) (mission : Stated)
+    → IsTold input bytes → States bytes mission → IsReported words input text → text ≡ mission_report mission
+told_report words input bytes text mission told states report =
+    let here : States bytes report.3 =
+    subst (λ (bs : List ℕ). States bs report.3) (only_input input bytes report.1 told report.2) report.4 in
+    let same : IsMission states.0 report.3 =
+    subst (λ (d : Members). IsMission d report.3) (one_tree bytes here.0 states.0 here.1 states.1) here.2 in
+    report.5 ∙ ap mission_report (one_mission states.0 report.3 mission same states.2)
 
 -- a report was due
 pub from_report :
@@ -29,7 +43,10 @@ from_report words input output text status report owing (inl written) = record {
   no_memory = λ e. cc;
   usage = λ other. absurd (other report.0);
   owed = λ bytes owed told due. absurd (never_stops owed text (owing bytes owed told due));
-  complete = λ bytes mission told command short states calm_source calm_sink. (0, lit< tt, sym written.0);
+  complete = λ bytes mission told command short states calm_source calm_sink. inl (
+    written.0,
+    subst (λ (t : List ℕ). Writes output t) (told_report words input bytes (string_bytes text) mission told states report) written.1,
+  );
 }
 from_report words input output text status report owing (inr cuts) = record {
   known = (6, lit< tt, sym cuts.0);
@@ -54,7 +71,7 @@ from_no_memory words input output status is stopped = record {
   no_memory = λ _. stopped;
   usage = λ other. absurd (other stopped.0);
   owed = λ bytes refusal told due. inr (2, lit< tt, sym is);
-  complete = λ bytes mission told command' short states calm_source calm_sink. (1, lit< tt, sym is);
+  complete = λ bytes mission told command' short states calm_source calm_sink. inr is;
 }
 
 -- where a mission is stated only a fault of the source is refused

@@ -54,8 +54,8 @@ pub record IsAnswered (words : List (String Global)) (input : Input) (output : O
   -- an input that is owed a refusal gets exactly it, or a fault or want of memory comes in between
   pub owed : (bytes : List ℕ) (refusal : Refusal) → IsTold input bytes → IsOwed words bytes refusal
       → Refuses output refusal status ⊎ Contains (status_of ReadFault ∷ SINK_FAULT ∷ NO_MEMORY ∷ []) status
-  -- an input that states a mission gets its report, where neither side fails and memory is there
+  -- an input that states a mission gets exactly its report, where neither side fails and memory is there
   pub complete : (bytes : List ℕ) (mission : Stated) → IsTold input bytes
       → IsCommandLine words → length bytes ≤ document_limit → States bytes mission
       → ¬ Rose input.faults_before input.faults_after → ¬ Rose output.faults_before output.faults_after
-      → Contains (REPORTED ∷ NO_MEMORY ∷ []) status
+      → ((status ≡ REPORTED) × Writes output (mission_report mission)) ⊎ (status ≡ NO_MEMORY)

@@ -47,7 +47,7 @@ NamesNumbers TooLong = ⊥
 abbrev pub StatesNone : List ℕ → Refused → Type 0
 StatesNone bytes reason = (document : Members) × IsDocument bytes document × IsRefusedDocument document reason
 
--- the bytes are refused so: they are no document, or a document in which this rule is the first that is broken and this is its first place, or one that keeps the rules and in which this task's text is the first that is refused
+-- the bytes are no document, or one that is refused so: by its first broken rule, or its first refused text
 abbrev pub AreRefused : List ℕ → Refusal → Type 0
 AreRefused bytes NotADocument = (document : Members) → ¬ IsDocument bytes document
 AreRefused bytes (Scenario rule place) = StatesNone bytes (refused.Scenario rule place)

@@ -17,10 +17,10 @@ pub enum Refusal {
     TooLong,
     /// The input is no TOML document.
     NotADocument,
-    /// The document breaks the scenario rule of this number. `place` is the number of the first entry that does, and 0
-    /// for a rule that speaks of no entry.
+    /// The document breaks the scenario rule of this number. `place` is the number of the first
+    /// entry that does, and 0 for a rule that speaks of no entry.
     Scenario { rule: u32, place: u32 },
-    /// The text of this task is none of the task language: of this kind, at this byte place of the text.
+    /// The text of this task is refused: for this kind of fault, at this byte place of the text.
     Task { task: u32, kind: u32, at: u32 },
 }
 

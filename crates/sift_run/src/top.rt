@@ -42,8 +42,8 @@ pub fn sift<S: Source, K: Sink>(alloc: Global, words: &[String], source: &mut S,
     }
 }
 
-/// Writes the line of a refusal, and answers its status, or that of a sink that failed. Memory may be wanting where the
-/// line names numbers.
+/// Writes the line of a refusal, and answers its status, or that of a sink that failed. Memory may
+/// be wanting where the line names numbers.
 fn refuse<K: Sink>(alloc: Global, sink: &mut K, refusal: Refusal) -> u8
     ensures said { SaysRefusal (output (K.written sink.old) (K.written sink.new)
         (K.write_faults sink.old) (K.write_faults sink.new)) refusal result }
