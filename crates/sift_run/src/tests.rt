@@ -91,22 +91,22 @@ const MANY_REPORT: &str = "f=0 u=0 cfg=0123 clk=0 in=- \
     f=0 skew=0 slack=1 margin=ok\n\
     end frames=1 cfg=0123 margin=ok\n";
 
-/// A mission of two tasks with texts: the first has two words, and the second adds those of the same frame.
+/// A mission of a linear task, and of one with a text that reads its word of the same frame.
 const TEXTS: &str = "units = 4\nframes = 2\n\
-    [[task]]\nname = \"pair\"\nstart = [1, 2]\n\
-    text = \"out 0 = last pair.1; out 1 = last pair.0 + last pair.1;\"\n\
-    [[task]]\nname = \"sum\"\nstart = [0]\ntext = \"out 0 = now pair.0 + now pair.1;\"\n";
+    [[task]]\nname = \"count\"\nstart = [5]\nlinear = [3, 1]\n\
+    [[task]]\nname = \"twice\"\nstart = [0]\n\
+    text = \"out 0 = now count.0 * 2 + last twice.0;\"\n";
 
-/// Its report: from 1 and 2 come 2 and 3, with the sum 5; then 3 and 5, with the sum 8.
-const TEXTS_REPORT: &str = "f=0 u=0 cfg=0123 clk=0 in=- out=0002,0003,0005 bad=-\n\
-    f=0 u=1 cfg=0123 clk=0 in=- out=0002,0003,0005 bad=-\n\
-    f=0 u=2 cfg=0123 clk=0 in=- out=0002,0003,0005 bad=-\n\
-    f=0 u=3 cfg=0123 clk=0 in=- out=0002,0003,0005 bad=-\n\
+/// Its report: 16 and 2 * 16 + 0; then 49 and 2 * 49 + 32.
+const TEXTS_REPORT: &str = "f=0 u=0 cfg=0123 clk=0 in=- out=0010,0020 bad=-\n\
+    f=0 u=1 cfg=0123 clk=0 in=- out=0010,0020 bad=-\n\
+    f=0 u=2 cfg=0123 clk=0 in=- out=0010,0020 bad=-\n\
+    f=0 u=3 cfg=0123 clk=0 in=- out=0010,0020 bad=-\n\
     f=0 skew=0 slack=1 margin=ok\n\
-    f=1 u=0 cfg=0123 clk=0 in=- out=0003,0005,0008 bad=-\n\
-    f=1 u=1 cfg=0123 clk=0 in=- out=0003,0005,0008 bad=-\n\
-    f=1 u=2 cfg=0123 clk=0 in=- out=0003,0005,0008 bad=-\n\
-    f=1 u=3 cfg=0123 clk=0 in=- out=0003,0005,0008 bad=-\n\
+    f=1 u=0 cfg=0123 clk=0 in=- out=0031,0082 bad=-\n\
+    f=1 u=1 cfg=0123 clk=0 in=- out=0031,0082 bad=-\n\
+    f=1 u=2 cfg=0123 clk=0 in=- out=0031,0082 bad=-\n\
+    f=1 u=3 cfg=0123 clk=0 in=- out=0031,0082 bad=-\n\
     f=1 skew=0 slack=1 margin=ok\n\
     end frames=2 cfg=0123 margin=ok\n";
 
@@ -123,7 +123,7 @@ const MISSIONS: [(&str, &str); 5] = [
 const NO_COMMAND_LINES: [&[&str]; 6] = [&[], &["fly"], &["run", "run"], &[""], &["run "], &["RUN"]];
 
 /// Documents that are refused, at least one for each rule and for each kind of a text, with their statuses and their lines.
-const REFUSED: [(&str, u8, &str); 21] = [
+const REFUSED: [(&str, u8, &str); 23] = [
     ("", 4, "scenario rule 2 at 0\n"),
     ("frames = 1\n", 4, "scenario rule 2 at 0\n"),
     (
@@ -235,6 +235,19 @@ const REFUSED: [(&str, u8, &str); 21] = [
         {name = \"b\", start = [0], text = \"out 1 = 0;\"}]\n",
         5,
         "task 1 kind 3 at 4\n",
+    ),
+    (
+        "units = 4\nframes = 1\n[[task]]\nname = \"a\"\nstart = [5]\n\
+        text = \"repeat 1000 { repeat 17 { out 0 = 1; } }\"\n",
+        5,
+        "task 0 kind 7 at 53001\n",
+    ),
+    (
+        "units = 4\nframes = 1\n\
+        [[task]]\nname = \"a\"\nstart = [0]\ntext = \"repeat 1000 { repeat 4 { out 0 = 1; } }\"\n\
+        [[task]]\nname = \"b\"\nstart = [0]\ntext = \"repeat 800 { out 0 = 1; }\"\n",
+        5,
+        "task 1 kind 7 at 2401\n",
     ),
     ("units = 4\nname = \"ab\n", 3, "not a document\n"),
 ];
