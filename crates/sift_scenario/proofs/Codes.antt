@@ -1,10 +1,10 @@
 -- Trees and codes of tasks, one after another.
-use Rattle.std.proofs.Common.{◌≡◌, ◌<◌, ◌≤◌, ◌+◌, ◌-◌, ◌⊎◌, inl, inr, ℕ, List, [], ◌∷◌, ◌++◌, length, get_or, map, take, Some, refl, sym, ap, subst, ◌∙◌, arith}
+use Rattle.std.proofs.Common.{◌≡◌, ◌≤◌, ◌-◌, inl, inr, ℕ, List, [], ◌∷◌, ◌++◌, length, map, take, sym, ap, subst, ◌∙◌, arith}
 use Rattle.std.proofs.lemmas.List.{map-append, take-append-le, take_at}
 use Rattle.std.proofs.lemmas.List.Sums.{sum_by-append, sum_by-cons, sum_by_more_le}
 use Rattle.std.proofs.Math.Nat.{min-eq_left}
 use Rattle.std.proofs.lemmas.Option.{slice_get_within}
-use Rattle.std.specs.List.{slice_get, sum, sum_by}
+use Rattle.std.specs.List.{sum}
 use Rattle.sift_code.specs.Bound.{bound_of, kept}
 use Rattle.sift_code.specs.Refusal.{Program}
 use Rattle.sift_compile.specs.Code.{task_code, task_program}
@@ -17,7 +17,7 @@ use Rattle.sift_parse.specs.Force.{Roll, words_before}
 use Rattle.sift_parse.specs.Outcome.{AreNames}
 use Rattle.sift_scenario.proofs.Places.{pushed}
 use Rattle.sift_scenario.proofs.Programs.{sound_tree}
-use Rattle.sift_scenario.specs.Mission.{AreAllowed, AreCodesOf, IsTreeOf, steps_left, steps_of}
+use Rattle.sift_scenario.specs.Mission.{AreAllowed, AreCodesOf, IsTreeOf, steps_left}
 use Rattle.sift_scenario.specs.Task.{Form, linear, text}
 
 -- a tree of a form is sound

@@ -2,14 +2,17 @@ pub mod Codes
 pub mod DocumentLemmas
 pub mod NewNames
 pub mod Numbers
+pub mod OneMission
 pub mod Order
 pub mod Places
 pub mod Programs
 pub mod Rolls
 pub mod Starts
+pub mod TaskRefusals
 pub mod Testing
 pub mod Turns
 pub mod UniqueForms
 pub mod UniqueRefusals
+pub mod Unrefused
 pub mod WordCounts
 pub mod WordValues

@@ -1,5 +1,5 @@
 -- Tasks in their turns.
-use Rattle.std.proofs.Common.{◌≡◌, ◌≢◌, ℕ, List, length, Some, inl, inr, refl, sym, ap, subst, ◌∙◌}
+use Rattle.std.proofs.Common.{◌≡◌, ◌≢◌, ℕ, List, length, Some, inl, inr, refl}
 use Rattle.std.specs.List.{slice_get}
 use Rattle.sift_lang.specs.Tree.{TaskTree}
 use Rattle.sift_parse.specs.Force.{Roll, roll_of}

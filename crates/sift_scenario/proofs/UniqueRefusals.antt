@@ -1,88 +1,29 @@
 -- A document that states a mission isn't refused, and one that is refused is refused in one way.
-use Rattle.std.proofs.Common.{◌≡◌, ◌≢◌, ◌<◌, ◌≤◌, ◌⊎◌, inl, inr, ℕ, List, length, get_or, take, Some, Err, refl, sym, ap, subst, ◌∙◌, arith}
+use Rattle.std.proofs.Common.{◌≡◌, ◌≢◌, ◌<◌, ◌⊎◌, inl, inr, ℕ, List, length, Some, Err, refl, sym, ap, subst, ◌∙◌, arith}
 use Rattle.std.proofs.lemmas.Bool.{cases_order}
-use Rattle.std.proofs.lemmas.List.{get_or-take, length-take-le, take_all}
-use Rattle.std.proofs.lemmas.Option.{get_or_from_slice_get, slice_get-get_or, slice_get_read, slice_get_within}
+use Rattle.std.proofs.lemmas.List.{take_all}
+use Rattle.std.proofs.lemmas.Option.{slice_get_within}
 use Rattle.std.specs.List.{slice_get}
 use Rattle.toml.specs.Data.{Members}
 use Rattle.sift_code.specs.declared.instr.Instr.{Instr}
 use Rattle.sift_compile.specs.Code.{task_code}
-use Rattle.sift_compile.specs.Stop.{IsAllowed, Stops}
+use Rattle.sift_compile.specs.Stop.{Stops}
 use Rattle.sift_compile.specs.declared.stop.CompileStop.{CompileStop}
 use Rattle.sift_compile.specs.declared.stop.CompileStop.TheVariants as compile
-use Rattle.sift_lang.specs.Tree.{TaskTree, end}
-use Rattle.sift_parse.proofs.OneAnswer.{one_answer, task_is_answered}
+use Rattle.sift_lang.specs.Tree.{TaskTree}
+use Rattle.sift_parse.proofs.OneAnswer.{one_answer}
 use Rattle.sift_parse.specs.Force.{Roll}
-use Rattle.sift_parse.specs.Outcome.{IsTaskOf, Tells}
-use Rattle.sift_parse.specs.declared.stop.ParseStop.{ParseStop}
-use Rattle.sift_parse.specs.declared.stop.ParseStop.TheVariants as parse
+use Rattle.sift_parse.specs.Outcome.{Tells}
 use Rattle.sift_scenario.proofs.Order.{number_of-injective}
-use Rattle.sift_scenario.proofs.UniqueForms.{one_forms, one_tree, one_trees, same_entries}
-use Rattle.sift_scenario.specs.Entries.{EachMatches, HoldsOf}
-use Rattle.sift_scenario.specs.Laws.{MissionsAreAccepted, OneMission, OneRefusal}
-use Rattle.sift_scenario.specs.Mission.{AreAllowed, AreTreesOf, IsMission, IsTreeOf, Stated, roll_for, steps_left, turn_of}
+use Rattle.sift_scenario.proofs.UniqueForms.{one_forms, one_tree}
+use Rattle.sift_scenario.specs.Laws.{MissionsAreAccepted, OneRefusal}
+use Rattle.sift_scenario.specs.Mission.{IsMission, Stated, roll_for, steps_left, turn_of}
 use Rattle.sift_scenario.specs.Refusal.{IsFirstRefused, IsFormRefused, IsNoTask, IsRefused, code_refusal_of, refusal_of}
-use Rattle.sift_scenario.specs.Rules.{Breaks, IsFirstBroken, IsLawful, Rule}
+use Rattle.sift_scenario.specs.Rules.{Breaks, IsFirstBroken, Rule}
 use Rattle.sift_scenario.specs.Task.{Form, text, tasks_of}
 use Rattle.sift_scenario.specs.declared.refused.Refused.{Refused}
 use Rattle.sift_scenario.specs.declared.refused.Refused.TheVariants.{Scenario, Task, NoMemory}
-
--- a lawful document breaks no rule
-lawful_unbroken : (d : Members) (n at : ℕ) → IsLawful d → IsFirstBroken d n at → ⊥
-lawful_unbroken d n at lawful broken = lawful broken.rule at broken.broken
-
--- a text that is a task isn't refused
-task_unrefused : (roll : Roll) (bytes : List ℕ) (tree : TaskTree) (stop : ParseStop) → stop ≢ parse.NoMemory → IsTaskOf roll bytes tree → Tells roll bytes (Err stop) → ⊥
-task_unrefused roll bytes tree stop some task told = task_is_answered roll bytes tree (Err stop) (λ same. some (cc same)) task told
-
--- what stands at one place of forms is one form
-one_entry : (forms : List Form) (t : ℕ) (a b : Form) → slice_get forms t ≡ Some a → slice_get forms t ≡ Some b → a ≡ b
-one_entry forms t a b one other = let both : Some a ≡ Some b = sym one ∙ other in cc both
-
--- what may not be isn't refused for its text, where it has a tree
-tree_unrefused : (roll : Roll) (task : ℕ) (form : Form) (tree : TaskTree) (e : Refused) → IsTreeOf roll form tree → IsNoTask roll task form e → ⊥
-tree_unrefused roll task form tree e is fault =
-    task_unrefused roll fault.bytes tree fault.stop fault.some_stop (subst (λ (f : Form). IsTreeOf roll f tree) fault.form_is is) fault.told
-
--- code that is allowed isn't refused
-code_unrefused : (left : ℕ) (code : List Instr) (stop : CompileStop) → stop ≢ compile.NoMemory → IsAllowed left code → Stops left code stop → ⊥
-code_unrefused left code (compile.CodeTooLong len) some allowed stops = omega (arith, stops.0, allowed.short)
-code_unrefused left code (compile.TooManySteps bound) some allowed stops = omega (arith, stops.1, allowed.quick)
-code_unrefused left code compile.NoMemory some allowed stops = some refl
-
--- a task that has an allowed tree isn't refused
-form_unrefused : (roll : Roll) (left task : ℕ) (form : Form) (tree : TaskTree) (e : Refused) → IsTreeOf roll form tree → IsAllowed left (task_code tree) → IsFormRefused roll left task form e → ⊥
-form_unrefused roll left task form tree e is allowed (inl fault) = tree_unrefused roll task form tree e is fault
-form_unrefused roll left task form tree e is allowed (inr over) =
-    let same = one_tree roll form over.tree tree over.tree_is is in
-    code_unrefused left (task_code tree) over.stop over.some_stop allowed (subst (λ (t : TaskTree). Stops left (task_code t) over.stop) same over.stopped)
-
--- trees of the first tasks are the first of the trees
-first_trees : (roll : Roll) (forms : List Form) (some all : List TaskTree) → EachMatches (λ t form tree. IsTreeOf (turn_of t roll) form tree) forms some → EachMatches (λ t form tree. IsTreeOf (turn_of t roll) form tree) forms all → length some ≤ length all → some ≡ take (length some) all
-first_trees roll forms some all one other few = same_entries TaskTree some (take (length some) all) (sym (length-take-le (length some) all few)) (λ k a b there_a there_b.
-    let low = slice_get_within some k a there_a in
-    let here : slice_get all k ≡ Some b = slice_get_read all _ k b refl (omega (arith, low, few)) (sym (sym (get_or-take (length some) all k b low) ∙ get_or_from_slice_get (take (length some) all) k b b there_b)) in
-    let at_a = one k a there_a in
-    let at_b = other k b here in
-    one_tree (turn_of k roll) at_b.entry a b (subst (λ (f : Form). IsTreeOf (turn_of k roll) f a) (one_entry forms k _ _ at_a.there at_b.there) at_a.holds) at_b.holds)
-
--- where as many trees or more are allowed as stand before a refusal, it doesn't stand
-unrefused_among :
-    (roll : Roll) (forms : List Form) (e : Refused) (first : IsFirstRefused roll forms e) (all : List TaskTree)
-    → EachMatches (λ t form tree. IsTreeOf (turn_of t roll) form tree) forms all → AreAllowed all → first.task < length all → ⊥
-unrefused_among roll forms e first all each allowed low =
-    let none : TaskTree = record { outputs = 0; body = end } in
-    let tree = get_or all first.task none in
-    let there = slice_get-get_or all first.task none low in
-    let found = each first.task tree there in
-    let before : first.trees ≡ take (length first.trees) all = first_trees roll forms first.trees all first.earlier each (omega (arith, low, first.as_many)) in
-    let so : take first.task all ≡ first.trees = ap (λ (n : ℕ). take n all) (sym first.as_many) ∙ sym before in
-    let may : IsAllowed (steps_left first.trees) (task_code tree) = subst (λ (ts : List TaskTree). IsAllowed (steps_left ts) (task_code tree)) so (allowed first.task tree there) in
-    let form = one_entry forms first.task _ _ first.here.there found.there in
-    form_unrefused (turn_of first.task roll) (steps_left first.trees) first.task found.entry tree e found.holds may
-    (subst (λ (f : Form). IsFormRefused (turn_of first.task roll) (steps_left first.trees) first.task f e) form first.here.holds)
-
--- ---- the laws
+use Rattle.sift_scenario.proofs.Unrefused.{first_trees, lawful_unbroken, one_entry, tree_unrefused, unrefused_among}
 
 pub missions_are_accepted : MissionsAreAccepted
 missions_are_accepted d mission (Scenario n at) states refused = absurd (lawful_unbroken d n at states.lawful refused)
@@ -182,21 +123,6 @@ one_refusal d (Task t k x) (Task u l y) some some' one two =
 one_refusal d NoMemory other some some' one two = absurd (some refl)
 one_refusal d (Scenario n at) NoMemory some some' one two = absurd (some' refl)
 one_refusal d (Task t k x) NoMemory some some' one two = absurd (some' refl)
-
-pub one_mission : OneMission
-one_mission d one other a b =
-    let units : Some one.units ≡ Some other.units = sym a.units ∙ b.units in
-    let frames : Some one.frames ≡ Some other.frames = sym a.frames ∙ b.frames in
-    let forms = one_forms (tasks_of d) a.program.forms b.program.forms a.program.stated b.program.stated in
-    let trees = one_trees (roll_for (tasks_of d)) b.program.forms one.program.tasks other.program.tasks
-    (subst (λ (fs : List Form). AreTreesOf (roll_for (tasks_of d)) fs one.program.tasks) forms a.program.trees) b.program.trees in
-    let starts = a.program.starts ∙ sym b.program.starts in
-    let same_units : one.units ≡ other.units = cc units in
-    let same_frames : one.frames ≡ other.frames = cc frames in
-    ap (λ (n : ℕ). let m : Stated = record { units = n; frames = one.frames; program = one.program } in m) same_units
-    ∙ ap (λ (n : ℕ). let m : Stated = record { units = other.units; frames = n; program = one.program } in m) same_frames
-    ∙ ap (λ (ts : List TaskTree). let m : Stated = record { units = other.units; frames = other.frames; program = record { tasks = ts; starts = one.program.starts } } in m) trees
-    ∙ ap (λ (ws : List ℕ). let m : Stated = record { units = other.units; frames = other.frames; program = record { tasks = other.program.tasks; starts = ws } } in m) starts
 
 -- ---- what a call answers
 

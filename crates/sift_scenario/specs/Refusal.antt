@@ -1,5 +1,5 @@
 -- Why a document states no mission.
-use Rattle.std.specs.Prelude.{◌≡◌, ◌≢◌, ◌<◌, ◌⊎◌, ℕ, List, Err, IsErr, IfErr, Result, length}
+use Rattle.std.specs.Prelude.{◌≡◌, ◌≢◌, ◌⊎◌, ℕ, List, Err, IsErr, IfErr, Result, length}
 use Rattle.toml.specs.Data.{Members}
 use Rattle.sift_compile.specs.Code.{task_code}
 use Rattle.sift_compile.specs.Stop.{Stops}

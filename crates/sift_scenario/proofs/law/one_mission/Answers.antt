@@ -1,4 +1,4 @@
-use Rattle.sift_scenario.proofs.UniqueRefusals as laws
+use Rattle.sift_scenario.proofs.OneMission as laws
 use Rattle.sift_scenario.proofs.law.one_mission.Goals as goal
 
 pub returns : goal.returns

@@ -4,7 +4,7 @@ use Rattle.std.specs.List.{sum}
 use Rattle.toml.specs.View.{table_view}
 use Rattle.sift_lang.specs.Tree.{tree_of}
 use Rattle.sift_parse.specs.Force.{Roll, roll_of}
-use Rattle.sift_scenario.proofs.Order.{forms_refused, names_refused, starts_refused, texts_refused, words_refused}
+use Rattle.sift_scenario.proofs.TaskRefusals.{forms_refused, names_refused, starts_refused, texts_refused, words_refused}
 use Rattle.sift_scenario.proofs.Programs.{sound_program}
 use Rattle.sift_scenario.proofs.Rolls.{few_words, turns}
 use Rattle.sift_scenario.proofs.Starts.{all_starts_from, counts_from, roll_from, starts_long}

@@ -1,0 +1,79 @@
+-- A task that has an allowed tree isn't refused.
+use Rattle.std.proofs.Common.{◌≡◌, ◌≢◌, ◌<◌, ◌≤◌, inl, inr, ℕ, List, length, get_or, take, Some, Err, refl, sym, ap, subst, ◌∙◌, arith}
+use Rattle.std.proofs.lemmas.List.{get_or-take, length-take-le}
+use Rattle.std.proofs.lemmas.Option.{get_or_from_slice_get, slice_get-get_or, slice_get_read, slice_get_within}
+use Rattle.std.specs.List.{slice_get}
+use Rattle.toml.specs.Data.{Members}
+use Rattle.sift_code.specs.declared.instr.Instr.{Instr}
+use Rattle.sift_compile.specs.Code.{task_code}
+use Rattle.sift_compile.specs.Stop.{IsAllowed, Stops}
+use Rattle.sift_compile.specs.declared.stop.CompileStop.{CompileStop}
+use Rattle.sift_compile.specs.declared.stop.CompileStop.TheVariants as compile
+use Rattle.sift_lang.specs.Tree.{TaskTree, end}
+use Rattle.sift_parse.proofs.OneAnswer.{task_is_answered}
+use Rattle.sift_parse.specs.Force.{Roll}
+use Rattle.sift_parse.specs.Outcome.{IsTaskOf, Tells}
+use Rattle.sift_parse.specs.declared.stop.ParseStop.{ParseStop}
+use Rattle.sift_parse.specs.declared.stop.ParseStop.TheVariants as parse
+use Rattle.sift_scenario.proofs.UniqueForms.{one_tree, same_entries}
+use Rattle.sift_scenario.specs.Entries.{EachMatches}
+use Rattle.sift_scenario.specs.Mission.{AreAllowed, IsTreeOf, steps_left, turn_of}
+use Rattle.sift_scenario.specs.Refusal.{IsFirstRefused, IsFormRefused, IsNoTask}
+use Rattle.sift_scenario.specs.Rules.{IsFirstBroken, IsLawful}
+use Rattle.sift_scenario.specs.Task.{Form}
+use Rattle.sift_scenario.specs.declared.refused.Refused.{Refused}
+
+-- a lawful document breaks no rule
+pub lawful_unbroken : (d : Members) (n at : ℕ) → IsLawful d → IsFirstBroken d n at → ⊥
+lawful_unbroken d n at lawful broken = lawful broken.rule at broken.broken
+
+-- a text that is a task isn't refused
+task_unrefused : (roll : Roll) (bytes : List ℕ) (tree : TaskTree) (stop : ParseStop) → stop ≢ parse.NoMemory → IsTaskOf roll bytes tree → Tells roll bytes (Err stop) → ⊥
+task_unrefused roll bytes tree stop some task told = task_is_answered roll bytes tree (Err stop) (λ same. some (cc same)) task told
+
+-- what stands at one place of forms is one form
+pub one_entry : (forms : List Form) (t : ℕ) (a b : Form) → slice_get forms t ≡ Some a → slice_get forms t ≡ Some b → a ≡ b
+one_entry forms t a b one other = let both : Some a ≡ Some b = sym one ∙ other in cc both
+
+-- what may not be isn't refused for its text, where it has a tree
+pub tree_unrefused : (roll : Roll) (task : ℕ) (form : Form) (tree : TaskTree) (e : Refused) → IsTreeOf roll form tree → IsNoTask roll task form e → ⊥
+tree_unrefused roll task form tree e is fault =
+    task_unrefused roll fault.bytes tree fault.stop fault.some_stop (subst (λ (f : Form). IsTreeOf roll f tree) fault.form_is is) fault.told
+
+-- code that is allowed isn't refused
+code_unrefused : (left : ℕ) (code : List Instr) (stop : CompileStop) → stop ≢ compile.NoMemory → IsAllowed left code → Stops left code stop → ⊥
+code_unrefused left code (compile.CodeTooLong len) some allowed stops = omega (arith, stops.0, allowed.short)
+code_unrefused left code (compile.TooManySteps bound) some allowed stops = omega (arith, stops.1, allowed.quick)
+code_unrefused left code compile.NoMemory some allowed stops = some refl
+
+-- a task that has an allowed tree isn't refused
+form_unrefused : (roll : Roll) (left task : ℕ) (form : Form) (tree : TaskTree) (e : Refused) → IsTreeOf roll form tree → IsAllowed left (task_code tree) → IsFormRefused roll left task form e → ⊥
+form_unrefused roll left task form tree e is allowed (inl fault) = tree_unrefused roll task form tree e is fault
+form_unrefused roll left task form tree e is allowed (inr over) =
+    let same = one_tree roll form over.tree tree over.tree_is is in
+    code_unrefused left (task_code tree) over.stop over.some_stop allowed (subst (λ (t : TaskTree). Stops left (task_code t) over.stop) same over.stopped)
+
+-- trees of the first tasks are the first of the trees
+pub first_trees : (roll : Roll) (forms : List Form) (some all : List TaskTree) → EachMatches (λ t form tree. IsTreeOf (turn_of t roll) form tree) forms some → EachMatches (λ t form tree. IsTreeOf (turn_of t roll) form tree) forms all → length some ≤ length all → some ≡ take (length some) all
+first_trees roll forms some all one other few = same_entries TaskTree some (take (length some) all) (sym (length-take-le (length some) all few)) (λ k a b there_a there_b.
+    let low = slice_get_within some k a there_a in
+    let here : slice_get all k ≡ Some b = slice_get_read all _ k b refl (omega (arith, low, few)) (sym (sym (get_or-take (length some) all k b low) ∙ get_or_from_slice_get (take (length some) all) k b b there_b)) in
+    let at_a = one k a there_a in
+    let at_b = other k b here in
+    one_tree (turn_of k roll) at_b.entry a b (subst (λ (f : Form). IsTreeOf (turn_of k roll) f a) (one_entry forms k _ _ at_a.there at_b.there) at_a.holds) at_b.holds)
+
+-- where as many trees or more are allowed as stand before a refusal, it doesn't stand
+pub unrefused_among :
+    (roll : Roll) (forms : List Form) (e : Refused) (first : IsFirstRefused roll forms e) (all : List TaskTree)
+    → EachMatches (λ t form tree. IsTreeOf (turn_of t roll) form tree) forms all → AreAllowed all → first.task < length all → ⊥
+unrefused_among roll forms e first all each allowed low =
+    let none : TaskTree = record { outputs = 0; body = end } in
+    let tree = get_or all first.task none in
+    let there = slice_get-get_or all first.task none low in
+    let found = each first.task tree there in
+    let before : first.trees ≡ take (length first.trees) all = first_trees roll forms first.trees all first.earlier each (omega (arith, low, first.as_many)) in
+    let so : take first.task all ≡ first.trees = ap (λ (n : ℕ). take n all) (sym first.as_many) ∙ sym before in
+    let may : IsAllowed (steps_left first.trees) (task_code tree) = subst (λ (ts : List TaskTree). IsAllowed (steps_left ts) (task_code tree)) so (allowed first.task tree there) in
+    let form = one_entry forms first.task _ _ first.here.there found.there in
+    form_unrefused (turn_of first.task roll) (steps_left first.trees) first.task found.entry tree e found.holds may
+    (subst (λ (f : Form). IsFormRefused (turn_of first.task roll) (steps_left first.trees) first.task f e) form first.here.holds)
