@@ -1,5 +1,5 @@
 -- What a document is owed, and what stops its report.
-use Rattle.std.proofs.Common.{◌≡◌, ◌≢◌, ◌⊎◌, inl, inr, ℕ, List, Result, Ok, Err, refl, subst}
+use Rattle.std.proofs.Common.{◌≡◌, ◌≢◌, inl, inr, ℕ, List, Ok, Err, refl, subst}
 use Rattle.toml.specs.Data.{Members}
 use Rattle.sift_scenario.specs.Mission.{IsMission, Stated}
 use Rattle.sift_scenario.specs.Refusal.{OnlyRefuses, IsRefused as IsRefusedDocument}
@@ -9,7 +9,6 @@ use Rattle.sift_run.proofs.Inputs.{one_tree}
 use Rattle.sift_run.specs.Input.{IsDocument, States}
 use Rattle.sift_run.specs.Refusal.{AreRefused, StatesNone}
 use Rattle.sift_run.specs.Stop.{IsFault, StopsAt, StopsFor, stop_of}
-use Rattle.sift_run.specs.declared.answer.Stop.{Stop}
 use Rattle.sift_run.specs.declared.answer.Stop.TheVariants.{Refused as Stopped, NoMemory}
 use Rattle.sift_run.specs.declared.refusal.Refusal.{Refusal}
 use Rattle.sift_run.specs.declared.refusal.Refusal.TheVariants.{Usage, ReadFault, TooLong, NotADocument, Scenario, Task}

@@ -1,5 +1,5 @@
 -- What stops a report where a refusal is owed, or where a mission is stated.
-use Rattle.std.proofs.Common.{◌≡◌, ◌+◌, ◌≤◌, ◌⊎◌, inl, inr, ℕ, List, length, String, Global, Result, Ok, Err, IfErr, refl, sym, ◌∙◌, subst, arith}
+use Rattle.std.proofs.Common.{◌≡◌, ◌+◌, ◌≤◌, inl, ℕ, List, length, String, Global, Result, Err, IfErr, refl, sym, ◌∙◌, subst, arith}
 use Rattle.sift_io.specs.Reading.{TakesExactly}
 use Rattle.sift_scenario.specs.Mission.{Stated}
 use Rattle.sift_run.proofs.Inputs.{long_input, only_input, short_input}
