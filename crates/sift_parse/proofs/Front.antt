@@ -11,7 +11,9 @@ use Rattle.sift_lang.specs.declared.tree.Op.TheVariants.{Add, Sub, Mul, Div, Rem
 use Rattle.sift_parse.specs.declared.token.Sign.TheVariants.{Assign, OpenParen, CloseParen, OpenBrace, CloseBrace, Comma, Dot, Semicolon}
 use Rattle.sift_parse.specs.Lexeme.{Lexeme, word, numeral, operator, mark, kept, IsLexeme, is_blank, after_gap}
 use Rattle.sift_parse.specs.Written.{SpellsSign, IsLexemeAt, Continues, BeginsLetter, BeginsDigit, ten}
-use Rattle.sift_parse.proofs.Lexing.{NoWord, front-byte, name-bytes, digit-bytes, words-found, number-at, sign-lexeme}
+use Rattle.sift_parse.proofs.Lexing.{NoWord, words-found, sign-lexeme}
+use Rattle.sift_parse.proofs.Longest.{number-at}
+use Rattle.sift_parse.proofs.Words.{front-byte, name-bytes, digit-bytes}
 
 -- ---- bytes that end a word or a number
 

@@ -87,7 +87,7 @@ front-within text front back e = let h : length text ≡ length front + length b
 pub within-run : (P : ℕ → Type 0) (text front back : List ℕ) (n : ℕ) → IsRun P text n → text ≡ front ++ back → ((k : ℕ) → k < length front → P (slice_index front k)) → length front ≤ n
 within-run P text front back n run e each = unless (length front) n (λ lt. run.stops (let w = front-within text front back e in omega arith) (subst P (sym (front-byte text front back n e lt)) (each n lt)))
 
-name-bytes : (front : List ℕ) → HasNameForm front → (k : ℕ) → k < length front → IsNameByte (slice_index front k)
+pub name-bytes : (front : List ℕ) → HasNameForm front → (k : ℕ) → k < length front → IsNameByte (slice_index front k)
 name-bytes [] h k lt = absurd h
 name-bytes (x ∷ xs) h zero lt = inl h.0
 name-bytes (x ∷ xs) h (suc k) lt = h.1 k 0 (omega arith)

@@ -172,17 +172,27 @@ const BROKEN: [(&str, u32, u32); 42] = [
     ),
 ];
 
-/// Texts of a task `count` of one word that are refused, with the kind and the place in the text.
-const TEXTS: [(&str, u32, u32); 9] = [
+/// The examples of docs/tasks.md that are refused: texts of the task `count`, which has one word, with
+/// the kind and the place.
+const TEXTS: [(&str, u32, u32); 18] = [
     ("out 0 = $;", 1, 8),
+    ("out 0 = 1a;", 1, 8),
     ("out 0 = 1 +;", 2, 11),
     ("out 0 =", 2, 7),
+    ("out 0 = 1 < 2 < 3;", 2, 14),
+    ("let out = 1;", 2, 4),
     ("out 0 = y;", 3, 8),
+    ("x = 1;", 3, 0),
+    ("let x = x;", 3, 8),
+    ("if 1 { let y = 1; } out 0 = y;", 3, 28),
     ("out 1 = 2;", 3, 4),
     ("out 0 = sense s;", 3, 14),
+    ("out 0 = now twice.0;", 3, 12),
     ("out 0 = last twice.0;", 3, 13),
     ("out 0 = now count.0;", 4, 12),
     ("out 0 = 65536;", 5, 8),
+    ("repeat 1025 { }", 5, 7),
+    ("out 0 = abcdefghijklmnopq;", 5, 8),
 ];
 
 /// Tasks of which one is refused, with the task, the kind and the place in its text, or the bound of
@@ -244,6 +254,39 @@ const NUMBERS: [(usize, usize, u32, u32); 10] = [
     (12, 5, 0, 0),
     (13, 5, 21, 12),
     (14, 5, 21, 12),
+];
+
+/// The examples of docs/tasks.md that are tasks: texts of the task `count`, which has one word, and the
+/// word that frame 0 gives it where it was 5.
+const EXAMPLES: [(&str, u16); 22] = [
+    ("out 0 = last count.0 + 1;", 6),
+    ("out 0 = 2 + 3 * 4;", 14),
+    ("out 0 = 9 - 4 - 3;", 2),
+    ("out 0 = 1 << 2 * 2;", 8),
+    ("out 0 = 3 & 1 + 1;", 2),
+    ("out 0 = 0xf0 ^ 0xff & 0x0f;", 15),
+    ("out 0 = 1 + 2 < 4;", 1),
+    ("out 0 = 65535 < 0;", 1),
+    ("out 0 = 6 == 2 * 3;", 1),
+    ("out 0 = -7 / 2;", 65533),
+    ("out 0 = -7 % 2;", 65535),
+    ("out 0 = 7 / 0;", 0),
+    ("out 0 = 1 << 15;", 32768),
+    ("out 0 = 1 << 16;", 0),
+    ("out 0 = mid(7, 2, 5);", 5),
+    ("out 0 = 1; out 0 = 2;", 2),
+    (
+        "let d = last count.0 - 9; if d < 0 { out 0 = 0 - d; } else { out 0 = d; }",
+        4,
+    ),
+    ("let s = 0; repeat 4 { s = s + 3; } out 0 = s;", 12),
+    ("let x = 1; let x = x + 1; out 0 = x;", 2),
+    ("let x = 1; if 1 { let x = 2; } out 0 = x;", 1),
+    ("let x = 1; if 1 { x = 2; } out 0 = x;", 2),
+    (
+        "let x = 3; repeat 2 { let y = x; x = y * 2; } out 0 = x;",
+        12,
+    ),
 ];
 
 /// Tasks, with their start words and then the words of the frames from frame 0 on.
@@ -422,6 +465,17 @@ fn expect_words(rt: &impl Abort, words: &[Word], want: &[u16], row: &str) {
     for (word, want) in words.iter().zip(want) {
         assert_eq!(rt; word.get(), *want, "{row}");
     }
+}
+
+#[test]
+fn the_examples_of_the_page_give_their_words(rt: HostRuntime) -> Result<(), Fail> {
+    for (text, word) in EXAMPLES {
+        let document = with_text(rt.alloc(), text)?;
+        let program = program_in(rt.alloc(), &document)?;
+        let after = [word];
+        expect_frames(&rt, &program, &[&[5], &after], text);
+    }
+    Ok(())
 }
 
 #[test]
