@@ -5,6 +5,8 @@
 #![tactic(auto)]
 
 mod answer;
+#[cfg(test)]
+mod compiled;
 mod line;
 mod refusal;
 mod report;
