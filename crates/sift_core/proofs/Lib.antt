@@ -1,6 +1,5 @@
 pub mod Changes
 pub mod Compiled
-pub mod Entries
 pub mod Executors
 pub mod Flights
 pub mod Frames
