@@ -2,7 +2,7 @@
 use Rattle.std.proofs.Common.{◌≡◌, ◌≤◌, ◌⊎◌, inl, inr, ℕ, List, length, lit<, Contains, String, Global, string_bytes, Ok, refl, sym, ◌∙◌, ap, subst}
 use Rattle.toml.specs.Data.{Members}
 use Rattle.sift_scenario.specs.Mission.{IsMission, Stated}
-use Rattle.sift_scenario.proofs.UniqueRefusals.{one_mission}
+use Rattle.sift_scenario.proofs.OneMission.{one_mission}
 use Rattle.sift_run.proofs.Inputs.{one_tree, only_input}
 use Rattle.sift_run.proofs.Statuses.{begun_for_numbers, refused_words, status_of-known, status_of-other}
 use Rattle.sift_io.specs.Fault.{Rose}
