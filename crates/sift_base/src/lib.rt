@@ -8,5 +8,5 @@ mod name;
 mod word;
 
 pub use memory::NoMemory;
-pub use name::{NAME_LIMIT, Name, is_name};
+pub use name::{NAME_LIMIT, Name, is_name, is_name_byte};
 pub use word::Word;

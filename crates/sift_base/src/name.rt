@@ -26,7 +26,8 @@ fn has_name_form(bytes: &[u8]) -> bool
     }
 }
 
-fn is_name_byte(byte: u8) -> bool
+/// Whether the byte may follow in a name: a lower-case letter, a digit or `_`.
+pub fn is_name_byte(byte: u8) -> bool
     ensures { IsTrue result ↔ IsNameByte byte }
 {
     byte.is_ascii_lowercase() || byte.is_ascii_digit() || byte == b'_'

@@ -50,7 +50,7 @@ fn mid(alloc: Global, a: Expr, b: Expr, c: Expr) -> Result<Expr, NoMemory> {
 /// The task that sets its only output word to the expression.
 fn outputs(alloc: Global, e: Expr) -> Result<Task, NoMemory> {
     let body = vec![in alloc; Stmt::Output(0, e)]?;
-    Ok(Task { outputs: 1, body })
+    Ok(task(1, body))
 }
 
 #[test]
@@ -107,13 +107,8 @@ fn operators_give_their_words(rt: HostRuntime) -> Result<(), Fail> {
 }
 
 /// The task with so many output words and this body.
-fn task<const N: usize>(alloc: Global, outputs: u8, body: [Stmt; N]) -> Result<Task, NoMemory> {
-    let body = Vec::from_array(alloc, body)?;
-    Ok(Task { outputs, body })
-}
-
-fn block<const N: usize>(alloc: Global, statements: [Stmt; N]) -> Result<Vec<Stmt>, NoMemory> {
-    Ok(Vec::from_array(alloc, statements)?)
+fn task(outputs: u8, body: Vec<Stmt>) -> Task {
+    Task { outputs, body }
 }
 
 /// `e + n`
@@ -124,88 +119,69 @@ fn plus(alloc: Global, e: Expr, n: u16) -> Result<Expr, NoMemory> {
 #[test]
 fn outputs_are_zero_until_set_and_the_last_wins(rt: HostRuntime) -> Result<(), Fail> {
     let alloc = rt.alloc();
-    check(&rt, &task(alloc, 2, [])?, Some(&[0, 0]), "nothing is set");
-    let second = task(alloc, 2, [Stmt::Output(1, number(3))])?;
-    check(&rt, &second, Some(&[0, 3]), "out 1 = 3;");
-    let twice = task(
-        alloc,
-        1,
-        [Stmt::Output(0, number(1)), Stmt::Output(0, number(2))],
-    )?;
-    check(&rt, &twice, Some(&[2]), "out 0 = 1; out 0 = 2;");
+    check(
+        &rt,
+        &task(2, Vec::new(alloc)),
+        Some(&[0, 0]),
+        "nothing is set",
+    );
+    let second = vec![in alloc; Stmt::Output(1, number(3))]?;
+    check(&rt, &task(2, second), Some(&[0, 3]), "out 1 = 3;");
+    let twice = vec![in alloc; Stmt::Output(0, number(1)), Stmt::Output(0, number(2))]?;
+    check(&rt, &task(1, twice), Some(&[2]), "out 0 = 1; out 0 = 2;");
     Ok(())
+}
+
+/// `let x = 3; x = x + 1; out 0 = x;`
+fn assigned(alloc: Global) -> Result<Task, NoMemory> {
+    let more = plus(alloc, Expr::Local(0), 1)?;
+    let body = vec![in alloc;
+        Stmt::Let(number(3)),
+        Stmt::Set(0, more),
+        Stmt::Output(0, Expr::Local(0)),
+    ]?;
+    Ok(task(1, body))
+}
+
+/// `let x = 1; if 1 {` the block `} out j = x;`, which puts out the outer local behind the block.
+fn around(alloc: Global, block: Vec<Stmt>, j: u8) -> Result<Task, NoMemory> {
+    let body = vec![in alloc;
+        Stmt::Let(number(1)),
+        Stmt::If(number(1), block, None),
+        Stmt::Output(j, Expr::Local(0)),
+    ]?;
+    Ok(task(2, body))
+}
+
+/// `let x = x + 1; x = x + 5; out 0 = x;`
+fn hiding(alloc: Global) -> Result<Vec<Stmt>, NoMemory> {
+    let first = plus(alloc, Expr::Local(0), 1)?;
+    let then = plus(alloc, Expr::Local(1), 5)?;
+    Ok(vec![in alloc;
+        Stmt::Let(first),
+        Stmt::Set(1, then),
+        Stmt::Output(0, Expr::Local(1)),
+    ]?)
 }
 
 #[test]
 fn locals_end_with_their_block(rt: HostRuntime) -> Result<(), Fail> {
     let alloc = rt.alloc();
-    let assigned = task(
-        alloc,
-        1,
-        [
-            Stmt::Let(number(3)),
-            Stmt::Set(0, plus(alloc, Expr::Local(0), 1)?),
-            Stmt::Output(0, Expr::Local(0)),
-        ],
-    )?;
-    check(
-        &rt,
-        &assigned,
-        Some(&[4]),
-        "let x = 3; x = x + 1; out 0 = x;",
-    );
-
-    let inner = block(
-        alloc,
-        [
-            Stmt::Let(plus(alloc, Expr::Local(0), 1)?),
-            Stmt::Set(1, plus(alloc, Expr::Local(1), 5)?),
-            Stmt::Output(0, Expr::Local(1)),
-        ],
-    )?;
-    let hidden = task(
-        alloc,
-        2,
-        [
-            Stmt::Let(number(1)),
-            Stmt::If(number(1), inner, None),
-            Stmt::Output(1, Expr::Local(0)),
-        ],
-    )?;
-    check(
-        &rt,
-        &hidden,
-        Some(&[7, 1]),
-        "let x = 1; if 1 { let x = x + 1; x = x + 5; out 0 = x; } out 1 = x;",
-    );
-
-    let inner = block(alloc, [Stmt::Set(0, number(2))])?;
-    let outer = task(
-        alloc,
-        1,
-        [
-            Stmt::Let(number(1)),
-            Stmt::If(number(1), inner, None),
-            Stmt::Output(0, Expr::Local(0)),
-        ],
-    )?;
-    check(
-        &rt,
-        &outer,
-        Some(&[2]),
-        "let x = 1; if 1 { x = 2; } out 0 = x;",
-    );
-
-    let inner = block(alloc, [Stmt::Let(number(2))])?;
-    let ended = task(
-        alloc,
-        1,
-        [
-            Stmt::If(number(1), inner, None),
-            Stmt::Output(0, Expr::Local(0)),
-        ],
-    )?;
-    check(&rt, &ended, None, "if 1 { let x = 2; } out 0 = x;");
+    let row = "let x = 3; x = x + 1; out 0 = x;";
+    check(&rt, &assigned(alloc)?, Some(&[4]), row);
+    let hidden = around(alloc, hiding(alloc)?, 1)?;
+    let row = "let x = 1; if 1 { let x = x + 1; x = x + 5; out 0 = x; } out 1 = x;";
+    check(&rt, &hidden, Some(&[7, 1]), row);
+    let outer = around(alloc, vec![in alloc; Stmt::Set(0, number(2))]?, 0)?;
+    let row = "let x = 1; if 1 { x = 2; } out 0 = x;";
+    check(&rt, &outer, Some(&[2, 0]), row);
+    let inner = vec![in alloc; Stmt::Let(number(2))]?;
+    let ended = vec![in alloc;
+        Stmt::If(number(1), inner, None),
+        Stmt::Output(0, Expr::Local(0)),
+    ]?;
+    let row = "if 1 { let x = 2; } out 0 = x;";
+    check(&rt, &task(1, ended), None, row);
     Ok(())
 }
 
@@ -219,16 +195,29 @@ fn an_if_takes_one_block(rt: HostRuntime) -> Result<(), Fail> {
         (7, true, [1, 0], "if 7 { out 0 = 1; } else { out 1 = 2; }"),
     ];
     for (word, otherwise, want, row) in cases {
-        let first = block(alloc, [Stmt::Output(0, number(1))])?;
+        let first = vec![in alloc; Stmt::Output(0, number(1))]?;
         let second = if otherwise {
-            Some(block(alloc, [Stmt::Output(1, number(2))])?)
+            Some(vec![in alloc; Stmt::Output(1, number(2))]?)
         } else {
             None
         };
-        let choice = task(alloc, 2, [Stmt::If(number(word), first, second)])?;
-        check(&rt, &choice, Some(&want), row);
+        let choice = vec![in alloc; Stmt::If(number(word), first, second)]?;
+        check(&rt, &task(2, choice), Some(&want), row);
     }
     Ok(())
+}
+
+/// `let s = 0; repeat rounds { let x = 0; x = x + 1; s = s + x; } out 0 = s;`
+fn counted(alloc: Global, rounds: u16) -> Result<Task, NoMemory> {
+    let more = plus(alloc, Expr::Local(1), 1)?;
+    let sum = binary(alloc, Op::Add, Expr::Local(0), Expr::Local(1))?;
+    let round = vec![in alloc; Stmt::Let(number(0)), Stmt::Set(1, more), Stmt::Set(0, sum)]?;
+    let body = vec![in alloc;
+        Stmt::Let(number(0)),
+        Stmt::Repeat(rounds, round),
+        Stmt::Output(0, Expr::Local(0)),
+    ]?;
+    Ok(task(1, body))
 }
 
 #[test]
@@ -242,29 +231,8 @@ fn a_repeat_begins_its_locals_anew(rt: HostRuntime) -> Result<(), Fail> {
         (1025, None, "too many rounds"),
     ];
     for (rounds, want, row) in cases {
-        let body = block(
-            alloc,
-            [
-                Stmt::Let(number(0)),
-                Stmt::Set(1, plus(alloc, Expr::Local(1), 1)?),
-                Stmt::Set(0, binary(alloc, Op::Add, Expr::Local(0), Expr::Local(1))?),
-            ],
-        )?;
-        let repeated = task(
-            alloc,
-            1,
-            [
-                Stmt::Let(number(0)),
-                Stmt::Repeat(rounds, body),
-                Stmt::Output(0, Expr::Local(0)),
-            ],
-        )?;
-        check(
-            &rt,
-            &repeated,
-            want.as_ref().map(|want| want.as_slice()),
-            row,
-        );
+        let want = want.as_ref().map(|want| want.as_slice());
+        check(&rt, &counted(alloc, rounds)?, want, row);
     }
     Ok(())
 }
@@ -278,8 +246,8 @@ fn a_sound_tree_names_what_is_there(rt: HostRuntime) -> Result<(), Fail> {
         (9, None, "too many output words"),
     ];
     for (count, want, row) in cases {
-        let empty = task(alloc, count, [])?;
-        check(&rt, &empty, want.as_ref().map(|want| want.as_slice()), row);
+        let want = want.as_ref().map(|want| want.as_slice());
+        check(&rt, &task(count, Vec::new(alloc)), want, row);
     }
     check(&rt, &outputs(alloc, Expr::Sense(2))?, None, "no sensor 2");
     check(
@@ -302,10 +270,10 @@ fn a_sound_tree_names_what_is_there(rt: HostRuntime) -> Result<(), Fail> {
         None,
         "no local under a minus",
     );
-    let assigned = task(alloc, 1, [Stmt::Set(0, number(1))])?;
-    check(&rt, &assigned, None, "no local to set");
-    let output = task(alloc, 1, [Stmt::Output(1, number(1))])?;
-    check(&rt, &output, None, "no output word 1");
+    let assigned = vec![in alloc; Stmt::Set(0, number(1))]?;
+    check(&rt, &task(1, assigned), None, "no local to set");
+    let output = vec![in alloc; Stmt::Output(1, number(1))]?;
+    check(&rt, &task(1, output), None, "no output word 1");
     Ok(())
 }
 
@@ -315,16 +283,16 @@ fn with_locals(alloc: Global, count: usize) -> Result<Task, NoMemory> {
     for _local in 0..count {
         body.push(Stmt::Let(number(1)))?;
     }
-    Ok(Task { outputs: 1, body })
+    Ok(task(1, body))
 }
 
 /// A task of so many `repeat`s, each in the one before.
 fn with_repeats(alloc: Global, count: usize) -> Result<Task, NoMemory> {
-    let mut body = block(alloc, [Stmt::Output(0, number(1))])?;
+    let mut body = vec![in alloc; Stmt::Output(0, number(1))]?;
     for _repeat in 0..count {
-        body = block(alloc, [Stmt::Repeat(1, body)])?;
+        body = vec![in alloc; Stmt::Repeat(1, body)]?;
     }
-    Ok(Task { outputs: 1, body })
+    Ok(task(1, body))
 }
 
 /// `1 + (1 + (.. + 1))`, of so many numbers.

@@ -6,14 +6,10 @@ ghost use Rattle.sift_base.specs.Name.{IsNameByte};
 ghost use Rattle.sift_parse.specs.Lexeme.{kept};
 ghost use Rattle.sift_parse.specs.Written.{IsRun, Continues, BeginsLetter, BeginsDigit};
 
+use sift_base::is_name_byte;
+
 // What is kept of a number that is greater than a text may hold.
 const TOO_LARGE: u32 = 65_536;
-
-fn is_name_byte(b: u8) -> bool
-    ensures { IsTrue result ↔ IsNameByte b }
-{
-    b.is_ascii_lowercase() || b.is_ascii_digit() || b == b'_'
-}
 
 /// How many bytes at the front may stand in a name.
 pub(crate) fn name_len(bytes: &[u8]) -> usize

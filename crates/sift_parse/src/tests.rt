@@ -3,9 +3,10 @@
 mod fixture;
 
 use crate::stop::ParseStop::{self, Later, Lex, Limit, Syntax, UnknownName};
-use crate::stop::Which::{Depth, Locals, Name, Number, Repeat, Text};
+use crate::stop::Which::{self, Depth, Locals, Name, Number, Repeat, Text};
 use fixture::answer;
-use sift_base::NoMemory;
+use std::alloc::{AllocError, Global};
+use std::process::Abort;
 use std::test::Fail;
 
 /// Tasks, and their output word where the sensors `gyro` and `height` are 10 and 20, the words of
@@ -106,417 +107,327 @@ const TASKS: [(&str, u16); 82] = [
     ("let x = 2; if x == 2 { out 0 = x; }", 2),
 ];
 
-/// Texts that are no task, and what is answered.
-const STOPS: [(&str, ParseStop); 92] = [
-    ("out 0 = $;", Lex { at: 8 }),
-    ("out 0 = 0x;", Lex { at: 8 }),
-    ("out 0 = 0X1;", Lex { at: 8 }),
-    ("out 0 = 1a;", Lex { at: 8 }),
-    ("out 0 = 1_;", Lex { at: 8 }),
-    ("out 0 = 1A;", Lex { at: 8 }),
-    ("out 0 = 0x1g;", Lex { at: 8 }),
-    ("A", Lex { at: 0 }),
-    ("_x = 1;", Lex { at: 0 }),
-    ("out 0 = 1; !", Lex { at: 11 }),
-    ("out 0 = 1; \u{e4}", Lex { at: 11 }),
-    ("out 0 = 1 +;", Syntax { at: 11 }),
-    ("1", Syntax { at: 0 }),
-    ("out 0 = 1", Syntax { at: 9 }),
-    ("out 0 = 1 ", Syntax { at: 10 }),
-    ("out 0 = 1 # c", Syntax { at: 13 }),
-    ("out = 1;", Syntax { at: 4 }),
-    ("out 0 1;", Syntax { at: 6 }),
-    ("out 0 = ;", Syntax { at: 8 }),
-    ("out 0 = out;", Syntax { at: 8 }),
-    ("out 0 = * 2;", Syntax { at: 8 }),
-    ("out 0 = 1 - ;", Syntax { at: 12 }),
-    ("out 0 = 1 2;", Syntax { at: 10 }),
-    ("out 0 = 1 = 2;", Syntax { at: 10 }),
-    ("out 0 = 1 < 2 < 3;", Syntax { at: 14 }),
-    ("out 0 = 1 == 2 == 3;", Syntax { at: 15 }),
-    ("out 0 = (1;", Syntax { at: 10 }),
-    ("out 0 = mid(1, 2);", Syntax { at: 16 }),
-    ("out 0 = mid 1;", Syntax { at: 12 }),
-    ("out 0 = now first;", Syntax { at: 17 }),
-    ("out 0 = now first.;", Syntax { at: 18 }),
-    ("out 0 = sense 1;", Syntax { at: 14 }),
-    ("now first.0;", Syntax { at: 0 }),
-    ("let 1 = 2;", Syntax { at: 4 }),
-    ("let let = 2;", Syntax { at: 4 }),
-    ("let x = 1; let x 2;", Syntax { at: 17 }),
-    ("if 1 out 0 = 2;", Syntax { at: 5 }),
-    ("if 1 { out 0 = 2;", Syntax { at: 17 }),
-    ("if 1 { } else out 0 = 1;", Syntax { at: 14 }),
-    ("else { }", Syntax { at: 0 }),
-    ("repeat { }", Syntax { at: 7 }),
-    ("let x = 1; repeat x { }", Syntax { at: 18 }),
-    ("}", Syntax { at: 0 }),
-    ("out 0 = 1; }", Syntax { at: 11 }),
-    ("out 0 = 1;;", Syntax { at: 10 }),
-    ("out 0 = y;", UnknownName { at: 8 }),
-    ("y = 1;", UnknownName { at: 0 }),
-    ("out 1 = 2;", UnknownName { at: 4 }),
-    ("out 0 = sense pitch;", UnknownName { at: 14 }),
-    ("out 0 = sense first;", UnknownName { at: 14 }),
-    ("out 0 = now gyro.0;", UnknownName { at: 12 }),
-    ("out 0 = last nobody.0;", UnknownName { at: 13 }),
-    ("out 0 = now first.2;", UnknownName { at: 18 }),
-    ("out 0 = last count.1;", UnknownName { at: 19 }),
-    ("out 0 = last later.3;", UnknownName { at: 19 }),
-    ("let x = x;", UnknownName { at: 8 }),
-    ("if 1 { let x = 1; } out 0 = x;", UnknownName { at: 28 }),
-    (
-        "if 1 { let x = 1; } else { x = 2; }",
-        UnknownName { at: 27 },
-    ),
-    ("repeat 2 { let x = 1; } x = 2;", UnknownName { at: 24 }),
-    ("out 0 = now count.0;", Later { at: 12 }),
-    ("out 0 = now count.5;", Later { at: 12 }),
-    ("out 0 = now later.0;", Later { at: 12 }),
-    ("out 0 = now later.9;", Later { at: 12 }),
-    ("out 0 = now first.0 + now count.0;", Later { at: 26 }),
-    (
-        "out 0 = 65536;",
-        Limit {
-            which: Number,
-            at: 8,
-        },
-    ),
-    (
-        "out 0 = 0x10000;",
-        Limit {
-            which: Number,
-            at: 8,
-        },
-    ),
-    (
-        "repeat 1025 { }",
-        Limit {
-            which: Repeat,
-            at: 7,
-        },
-    ),
-    (
-        "repeat 65535 { }",
-        Limit {
-            which: Repeat,
-            at: 7,
-        },
-    ),
-    ("let abcdefghijklmnopq = 1;", Limit { which: Name, at: 4 }),
+/// Texts, with the place where no token begins.
+const NO_TOKENS: [(&str, u32); 12] = [
+    ("out 0 = $;", 8),
+    ("out 0 = 0x;", 8),
+    ("out 0 = 0X1;", 8),
+    ("out 0 = 1a;", 8),
+    ("out 0 = 1_;", 8),
+    ("out 0 = 1A;", 8),
+    ("out 0 = 0x1g;", 8),
+    ("A", 0),
+    ("_x = 1;", 0),
+    ("out 0 = 1; !", 11),
+    ("out 0 = 1; \u{e4}", 11),
     // two at one place
-    ("out 0 = 1 $", Lex { at: 10 }),
-    ("out abcdefghijklmnopq", Syntax { at: 4 }),
-    ("out 0 = 1 abcdefghijklmnopq", Syntax { at: 10 }),
-    ("70000", Syntax { at: 0 }),
-    ("out 0 = 1 70000;", Syntax { at: 10 }),
-    ("out 0 = 1 y;", Syntax { at: 10 }),
-    ("repeat 1 2000 { }", Syntax { at: 9 }),
-    ("abcdefghijklmnopq = 1;", Limit { which: Name, at: 0 }),
-    (
-        "out 0 = sense abcdefghijklmnopq;",
-        Limit {
-            which: Name,
-            at: 14,
-        },
-    ),
-    (
-        "out 0 = now abcdefghijklmnopq.0;",
-        Limit {
-            which: Name,
-            at: 12,
-        },
-    ),
-    (
-        "out 70000 = 1;",
-        Limit {
-            which: Number,
-            at: 4,
-        },
-    ),
-    (
-        "out 0 = now first.70000;",
-        Limit {
-            which: Number,
-            at: 18,
-        },
-    ),
-    (
-        "repeat 70000 { }",
-        Limit {
-            which: Number,
-            at: 7,
-        },
-    ),
+    ("out 0 = 1 $", 10),
+];
+
+/// Texts, with the place of the token with which those before it begin no task, or of the end.
+const NO_TASKS: [(&str, u32); 42] = [
+    ("out 0 = 1 +;", 11),
+    ("1", 0),
+    ("out 0 = 1", 9),
+    ("out 0 = 1 ", 10),
+    ("out 0 = 1 # c", 13),
+    ("out = 1;", 4),
+    ("out 0 1;", 6),
+    ("out 0 = ;", 8),
+    ("out 0 = out;", 8),
+    ("out 0 = * 2;", 8),
+    ("out 0 = 1 - ;", 12),
+    ("out 0 = 1 2;", 10),
+    ("out 0 = 1 = 2;", 10),
+    ("out 0 = 1 < 2 < 3;", 14),
+    ("out 0 = 1 == 2 == 3;", 15),
+    ("out 0 = (1;", 10),
+    ("out 0 = mid(1, 2);", 16),
+    ("out 0 = mid 1;", 12),
+    ("out 0 = now first;", 17),
+    ("out 0 = now first.;", 18),
+    ("out 0 = sense 1;", 14),
+    ("now first.0;", 0),
+    ("let 1 = 2;", 4),
+    ("let let = 2;", 4),
+    ("let x = 1; let x 2;", 17),
+    ("if 1 out 0 = 2;", 5),
+    ("if 1 { out 0 = 2;", 17),
+    ("if 1 { } else out 0 = 1;", 14),
+    ("else { }", 0),
+    ("repeat { }", 7),
+    ("let x = 1; repeat x { }", 18),
+    ("}", 0),
+    ("out 0 = 1; }", 11),
+    ("out 0 = 1;;", 10),
+    // two at one place
+    ("out abcdefghijklmnopq", 4),
+    ("out 0 = 1 abcdefghijklmnopq", 10),
+    ("70000", 0),
+    ("out 0 = 1 70000;", 10),
+    ("out 0 = 1 y;", 10),
+    ("repeat 1 2000 { }", 9),
     // the first place comes before the kind
-    ("x 1", UnknownName { at: 0 }),
-    ("1 $", Syntax { at: 0 }),
-    ("1 abcdefghijklmnopq", Syntax { at: 0 }),
-    ("out 0 = y $", UnknownName { at: 8 }),
-    ("out 0 = y + 70000;", UnknownName { at: 8 }),
-    (
-        "out 0 = 70000 $",
-        Limit {
-            which: Number,
-            at: 8,
-        },
-    ),
-    ("out 0 = now count.0 $", Later { at: 12 }),
-    ("out 0 = 1; x 1", UnknownName { at: 11 }),
-    ("let x = 1; x = y; out 1 = 2;", UnknownName { at: 15 }),
-    ("out 3 = now later.0;", UnknownName { at: 4 }),
+    ("1 $", 0),
+    ("1 abcdefghijklmnopq", 0),
 ];
 
-type Long = (
-    &'static [u8],
-    &'static [u8],
-    u16,
-    &'static [u8],
-    &'static [u8],
-    &'static [u8],
-    Result<u16, ParseStop>,
-);
+/// Texts, with the place of a name or a number of what isn't there.
+const UNKNOWN_NAMES: [(&str, u32); 20] = [
+    ("out 0 = y;", 8),
+    ("y = 1;", 0),
+    ("out 1 = 2;", 4),
+    ("out 0 = sense pitch;", 14),
+    ("out 0 = sense first;", 14),
+    ("out 0 = now gyro.0;", 12),
+    ("out 0 = last nobody.0;", 13),
+    ("out 0 = now first.2;", 18),
+    ("out 0 = last count.1;", 19),
+    ("out 0 = last later.3;", 19),
+    ("let x = x;", 8),
+    ("if 1 { let x = 1; } out 0 = x;", 28),
+    ("if 1 { let x = 1; } else { x = 2; }", 27),
+    ("repeat 2 { let x = 1; } x = 2;", 24),
+    // the first place comes before the kind
+    ("x 1", 0),
+    ("out 0 = y $", 8),
+    ("out 0 = y + 70000;", 8),
+    ("out 0 = 1; x 1", 11),
+    ("let x = 1; x = y; out 1 = 2;", 15),
+    ("out 3 = now later.0;", 4),
+];
 
-/// Long texts: a head, an opening piece as often as said, a middle, a closing piece as often, and a
-/// tail; and the answer.
-const LONGS: [Long; 30] = [
-    // 32 levels and 33
-    (b"out 0 = ", b"(", 32, b"1", b")", b";", Ok(1)),
-    (
-        b"out 0 = ",
-        b"(",
-        33,
-        b"1",
-        b")",
-        b";",
-        Err(Limit {
-            which: Depth,
-            at: 40,
-        }),
-    ),
-    (b"out 0 = ", b"-", 32, b"1", b"", b";", Ok(1)),
-    (
-        b"out 0 = ",
-        b"-",
-        33,
-        b"1",
-        b"",
-        b";",
-        Err(Limit {
-            which: Depth,
-            at: 40,
-        }),
-    ),
-    (b"out 0 = ", b"-(", 16, b"1", b")", b";", Ok(1)),
-    (
-        b"out 0 = ",
-        b"-(",
-        17,
-        b"1",
-        b")",
-        b";",
-        Err(Limit {
-            which: Depth,
-            at: 40,
-        }),
-    ),
-    (b"out 0 = ", b"mid(", 32, b"1", b",1,1)", b";", Ok(1)),
-    (
-        b"out 0 = ",
-        b"mid(",
-        33,
-        b"1",
-        b",1,1)",
-        b";",
-        Err(Limit {
-            which: Depth,
-            at: 139,
-        }),
-    ),
-    (b"", b"if 1 { ", 32, b"out 0 = 1;", b"}", b"", Ok(1)),
-    (
-        b"",
-        b"if 1 { ",
-        33,
-        b"out 0 = 1;",
-        b"}",
-        b"",
-        Err(Limit {
-            which: Depth,
-            at: 229,
-        }),
-    ),
-    (b"", b"repeat 1 { ", 32, b"out 0 = 1;", b"}", b"", Ok(1)),
-    (
-        b"",
-        b"repeat 1 { ",
-        33,
-        b"out 0 = 1;",
-        b"}",
-        b"",
-        Err(Limit {
-            which: Depth,
-            at: 361,
-        }),
-    ),
-    (b"if 1 { out 0 = ", b"(", 31, b"1", b")", b"; }", Ok(1)),
-    (
-        b"if 1 { out 0 = ",
-        b"(",
-        32,
-        b"1",
-        b")",
-        b"; }",
-        Err(Limit {
-            which: Depth,
-            at: 46,
-        }),
-    ),
+/// Texts, with the place where `now` names this task or a later one.
+const LATER_TASKS: [(&str, u32); 6] = [
+    ("out 0 = now count.0;", 12),
+    ("out 0 = now count.5;", 12),
+    ("out 0 = now later.0;", 12),
+    ("out 0 = now later.9;", 12),
+    ("out 0 = now first.0 + now count.0;", 26),
+    // the first place comes before the kind
+    ("out 0 = now count.0 $", 12),
+];
+
+/// Texts, with the limit that is passed and the place.
+const PASSED_LIMITS: [(&str, Which, u32); 12] = [
+    ("out 0 = 65536;", Number, 8),
+    ("out 0 = 0x10000;", Number, 8),
+    ("repeat 1025 { }", Repeat, 7),
+    ("repeat 65535 { }", Repeat, 7),
+    ("let abcdefghijklmnopq = 1;", Name, 4),
+    // two at one place
+    ("abcdefghijklmnopq = 1;", Name, 0),
+    ("out 0 = sense abcdefghijklmnopq;", Name, 14),
+    ("out 0 = now abcdefghijklmnopq.0;", Name, 12),
+    ("out 70000 = 1;", Number, 4),
+    ("out 0 = now first.70000;", Number, 18),
+    ("repeat 70000 { }", Number, 7),
+    // the first place comes before the kind
+    ("out 0 = 70000 $", Number, 8),
+];
+
+/// Pieces that open levels, how often one may stand in the other in an expression, what closes each,
+/// and the place of the first level too many.
+const NESTS: [(&str, u16, &str, u32); 4] = [
+    ("(", 32, ")", 40),
+    ("-", 32, "", 40),
+    ("-(", 16, ")", 40),
+    ("mid(", 32, ",1,1)", 139),
+];
+
+/// Blocks of which 32 may stand one in the other, with the place of the 33rd `{`.
+const BLOCKS: [(&str, u32); 2] = [("if 1 { ", 229), ("repeat 1 { ", 361)];
+
+/// Long tasks: a head, a piece so many times, and a tail, with the output word.
+const LONG_TASKS: [(&str, &str, u16, &str, u16); 8] = [
     // levels that end
-    (b"out 0 = 0", b" - -1", 40, b";", b"", b"", Ok(40)),
-    (b"out 0 = ", b"(1) + ", 40, b"1;", b"", b"", Ok(41)),
-    (
-        b"",
-        b"if 1 { } else { } ",
-        40,
-        b"out 0 = 1;",
-        b"",
-        b"",
-        Ok(1),
-    ),
-    (
-        b"out 0 = ",
-        b"(",
-        32,
-        b"1 (",
-        b"",
-        b"",
-        Err(Syntax { at: 42 }),
-    ),
-    // 32 locals and 33, hidden ones counted
-    (b"", b"let x = 1; ", 32, b"out 0 = x;", b"", b"", Ok(1)),
-    (
-        b"",
-        b"let x = 1; ",
-        33,
-        b"out 0 = x;",
-        b"",
-        b"",
-        Err(Limit {
-            which: Locals,
-            at: 356,
-        }),
-    ),
-    (
-        b"if 1 { ",
-        b"let x = 1; ",
-        32,
-        b"} let y = 2; out 0 = y;",
-        b"",
-        b"",
-        Ok(2),
-    ),
-    (
-        b"let y = 1; if 1 { ",
-        b"let x = 1; ",
-        32,
-        b"}",
-        b"",
-        b"",
-        Err(Limit {
-            which: Locals,
-            at: 363,
-        }),
-    ),
-    (
-        b"",
-        b"let x = 1; ",
-        32,
-        b"let if",
-        b"",
-        b"",
-        Err(Syntax { at: 356 }),
-    ),
-    (
-        b"",
-        b"let x = 1; ",
-        32,
-        b"let abcdefghijklmnopq = 1;",
-        b"",
-        b"",
-        Err(Limit {
-            which: Name,
-            at: 356,
-        }),
-    ),
-    // 4,096 bytes and 4,097
-    (b"out 0 = 1;", b" ", 4086, b"", b"", b"", Ok(1)),
-    (
-        b"out 0 = 1;",
-        b" ",
-        4087,
-        b"",
-        b"",
-        b"",
-        Err(Limit {
-            which: Text,
-            at: 4096,
-        }),
-    ),
-    (b"$", b" ", 4095, b"", b"", b"", Err(Lex { at: 0 })),
-    (
-        b"$",
-        b" ",
-        4096,
-        b"",
-        b"",
-        b"",
-        Err(Limit {
-            which: Text,
-            at: 4096,
-        }),
-    ),
+    ("out 0 = 0", " - -1", 40, ";", 40),
+    ("out 0 = ", "(1) + ", 40, "1;", 41),
+    ("", "if 1 { } else { } ", 40, "out 0 = 1;", 1),
+    // 32 locals
+    ("", "let x = 1; ", 32, "out 0 = x;", 1),
+    ("if 1 { ", "let x = 1; ", 32, "} let y = 2; out 0 = y;", 2),
+    // 4,096 bytes
+    ("out 0 = 1;", " ", 4086, "", 1),
     // the longest chains of operators, which are read, evaluated and dropped
-    (b"out 0 = 1", b"+1", 2043, b";", b"", b"", Ok(2044)),
-    (b"out 0 = 1", b"<<0", 1362, b";", b"", b"", Ok(1)),
+    ("out 0 = 1", "+1", 2043, ";", 2044),
+    ("out 0 = 1", "<<0", 1362, ";", 1),
 ];
+
+/// Long texts, likewise, with the limit that is passed and the place.
+const LONG_LIMITS: [(&str, &str, u16, &str, Which, u32); 5] = [
+    // a 33rd local, hidden ones counted
+    ("", "let x = 1; ", 33, "out 0 = x;", Locals, 356),
+    ("let y = 1; if 1 { ", "let x = 1; ", 32, "}", Locals, 363),
+    // two at one place
+    ("", "let x = 1; ", 32, "let abcdefghijklmnopq;", Name, 356),
+    // more than 4,096 bytes
+    ("out 0 = 1;", " ", 4087, "", Text, 4096),
+    ("$", " ", 4096, "", Text, 4096),
+];
+
+/// Long texts, likewise, that pass no limit or are refused before they do.
+const LONG_STOPS: [(&str, &str, u16, &str, ParseStop); 3] = [
+    ("$", " ", 4095, "", Lex { at: 0 }),
+    // two at one place
+    ("out 0 = ", "(", 32, "1 (", Syntax { at: 42 }),
+    ("", "let x = 1; ", 32, "let if", Syntax { at: 356 }),
+];
+
+fn expect(
+    rt: &impl Abort,
+    alloc: Global,
+    text: &str,
+    want: Result<u16, ParseStop>,
+) -> Result<(), Fail> {
+    let got = answer(alloc, text)?;
+    assert_eq!(rt; got, want, "{text:?}");
+    Ok(())
+}
 
 #[test]
 fn tasks_have_their_meaning(rt: HostRuntime) -> Result<(), Fail> {
     for (text, want) in TASKS {
-        let got = answer(rt.alloc(), text)?;
-        assert_eq!(rt; got, Ok(want), "{text:?}");
+        expect(&rt, rt.alloc(), text, Ok(want))?;
     }
     Ok(())
 }
 
 #[test]
-fn other_texts_are_refused_at_the_first_place(rt: HostRuntime) -> Result<(), Fail> {
-    for (text, want) in STOPS {
-        let got = answer(rt.alloc(), text)?;
-        assert_eq!(rt; got, Err(want), "{text:?}");
+fn a_text_is_made_of_tokens(rt: HostRuntime) -> Result<(), Fail> {
+    for (text, at) in NO_TOKENS {
+        expect(&rt, rt.alloc(), text, Err(Lex { at }))?;
     }
     Ok(())
 }
 
-fn repeated(text: &mut Vec<u8>, piece: &[u8], count: u16) -> Result<(), NoMemory> {
+#[test]
+fn a_text_is_in_the_grammar(rt: HostRuntime) -> Result<(), Fail> {
+    for (text, at) in NO_TASKS {
+        expect(&rt, rt.alloc(), text, Err(Syntax { at }))?;
+    }
+    Ok(())
+}
+
+#[test]
+fn a_text_names_what_is_there(rt: HostRuntime) -> Result<(), Fail> {
+    for (text, at) in UNKNOWN_NAMES {
+        expect(&rt, rt.alloc(), text, Err(UnknownName { at }))?;
+    }
+    Ok(())
+}
+
+#[test]
+fn now_reads_earlier_tasks(rt: HostRuntime) -> Result<(), Fail> {
+    for (text, at) in LATER_TASKS {
+        expect(&rt, rt.alloc(), text, Err(Later { at }))?;
+    }
+    Ok(())
+}
+
+#[test]
+fn a_text_passes_no_limit(rt: HostRuntime) -> Result<(), Fail> {
+    for (text, which, at) in PASSED_LIMITS {
+        expect(&rt, rt.alloc(), text, Err(Limit { which, at }))?;
+    }
+    Ok(())
+}
+
+/// Adds a piece so many times.
+fn repeat(text: &mut String, piece: &str, count: u16) -> Result<(), AllocError> {
     for _ in 0..count {
-        text.extend_from_slice(piece)?;
+        text.push_str(piece)?;
+    }
+    Ok(())
+}
+
+/// A head, a piece so many times, and a tail.
+fn long(
+    alloc: Global,
+    head: &str,
+    piece: &str,
+    count: u16,
+    tail: &str,
+) -> Result<String, AllocError> {
+    let mut text = String::from_str(alloc, head)?;
+    repeat(&mut text, piece, count)?;
+    text.push_str(tail)?;
+    Ok(text)
+}
+
+#[test]
+fn long_tasks_have_their_meaning(rt: HostRuntime) -> Result<(), Fail> {
+    for (head, piece, count, tail, want) in LONG_TASKS {
+        let text = long(rt.alloc(), head, piece, count, tail)?;
+        expect(&rt, rt.alloc(), &text, Ok(want))?;
     }
     Ok(())
 }
 
 #[test]
-fn limits_hold_to_the_last(rt: HostRuntime) -> Result<(), Fail> {
-    for (head, open, count, middle, close, tail, want) in LONGS {
-        let mut text = Vec::new(rt.alloc());
-        text.extend_from_slice(head)?;
-        repeated(&mut text, open, count)?;
-        text.extend_from_slice(middle)?;
-        repeated(&mut text, close, count)?;
-        text.extend_from_slice(tail)?;
-        let got = answer(rt.alloc(), str::from_utf8(&text)?)?;
-        assert_eq!(rt; got, want, "{open:?} {count} times");
+fn long_texts_pass_no_limit(rt: HostRuntime) -> Result<(), Fail> {
+    for (head, piece, count, tail, which, at) in LONG_LIMITS {
+        let text = long(rt.alloc(), head, piece, count, tail)?;
+        expect(&rt, rt.alloc(), &text, Err(Limit { which, at }))?;
     }
     Ok(())
+}
+
+#[test]
+fn long_texts_are_refused_at_the_first_place(rt: HostRuntime) -> Result<(), Fail> {
+    for (head, piece, count, tail, want) in LONG_STOPS {
+        let text = long(rt.alloc(), head, piece, count, tail)?;
+        expect(&rt, rt.alloc(), &text, Err(want))?;
+    }
+    Ok(())
+}
+
+/// So many pieces round a middle, each closed, between a head and a tail.
+fn nested(
+    alloc: Global,
+    (head, tail): (&str, &str),
+    (piece, close): (&str, &str),
+    count: u16,
+    middle: &str,
+) -> Result<String, AllocError> {
+    let mut text = long(alloc, head, piece, count, middle)?;
+    repeat(&mut text, close, count)?;
+    text.push_str(tail)?;
+    Ok(text)
+}
+
+/// Expects that so many levels are accepted, and that one more is refused at the place.
+fn expect_levels(
+    rt: &impl Abort,
+    alloc: Global,
+    around: (&str, &str),
+    pieces: (&str, &str),
+    most: u16,
+    middle: &str,
+    at: u32,
+) -> Result<(), Fail> {
+    let text = nested(alloc, around, pieces, most, middle)?;
+    expect(rt, alloc, &text, Ok(1))?;
+    let text = nested(alloc, around, pieces, most.saturating_add(1), middle)?;
+    expect(rt, alloc, &text, Err(Limit { which: Depth, at }))
+}
+
+#[test]
+fn at_most_32_levels_are_open(rt: HostRuntime) -> Result<(), Fail> {
+    let alloc = rt.alloc();
+    for (piece, most, close, at) in NESTS {
+        expect_levels(&rt, alloc, ("out 0 = ", ";"), (piece, close), most, "1", at)?;
+    }
+    for (piece, at) in BLOCKS {
+        expect_levels(&rt, alloc, ("", ""), (piece, "}"), 32, "out 0 = 1;", at)?;
+    }
+    expect_levels(
+        &rt,
+        alloc,
+        ("if 1 { out 0 = ", "; }"),
+        ("(", ")"),
+        31,
+        "1",
+        46,
+    )
 }

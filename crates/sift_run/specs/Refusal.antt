@@ -47,7 +47,7 @@ NamesNumbers TooLong = ⊥
 abbrev pub StatesNone : List ℕ → Refused → Type 0
 StatesNone bytes reason = (document : Members) × IsDocument bytes document × IsRefusedDocument document reason
 
--- the bytes are no document, or one that is refused so: by its first broken rule, or its first refused text
+-- the bytes are no document, or one that is refused so: by its first broken rule, or its first refused task
 abbrev pub AreRefused : List ℕ → Refusal → Type 0
 AreRefused bytes NotADocument = (document : Members) → ¬ IsDocument bytes document
 AreRefused bytes (Scenario rule place) = StatesNone bytes (refused.Scenario rule place)

@@ -20,7 +20,8 @@ pub enum Refusal {
     /// The document breaks the scenario rule of this number. `place` is the number of the first
     /// entry that does, and 0 for a rule that speaks of no entry.
     Scenario { rule: u32, place: u32 },
-    /// The text of this task is refused: for this kind of fault, at this byte place of the text.
+    /// This task is refused, for this kind of fault. For the kinds 1 to 5 `at` is the byte place in its
+    /// text, for 6 the length of its code, and for 7 the bound of its steps.
     Task { task: u32, kind: u32, at: u32 },
 }
 
@@ -51,7 +52,7 @@ pub fn scenario_line(alloc: Global, rule: u32, place: u32) -> Result<String, All
     Ok(line)
 }
 
-/// The line of a task's text, with its line feed.
+/// The line of a task that is refused, with its line feed.
 pub fn task_line(alloc: Global, task: u32, kind: u32, at: u32) -> Result<String, AllocError>
     ensures { IfOk result (λ line. string_bytes line ≡ line_of (Task task kind at)) }
 {

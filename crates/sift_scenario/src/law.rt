@@ -2,12 +2,12 @@
 
 ghost use Rattle.sift_scenario.specs.Laws.{MissionsAreAccepted, OneMission, OneRefusal};
 
-/// A document that states a mission is refused by no rule, and none of its texts is.
+/// A document that states a mission is refused by no rule, and none of its tasks is refused.
 pub fn missions_are_accepted()
     ensures { MissionsAreAccepted }
 {}
 
-/// A document is refused in one way: by one rule at one place, or for one text.
+/// A document is refused in one way: by one rule at one place, or for one task, for one kind of fault at one place.
 pub fn one_refusal()
     ensures { OneRefusal }
 {}

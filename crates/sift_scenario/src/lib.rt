@@ -1,7 +1,7 @@
 //! Scenario documents: the rules that they keep, and the mission that one states.
 //!
-//! A document that breaks a rule is refused with the first broken rule, at its first place; then the
-//! first task whose text is no task is refused, with its kind and its place.
+//! A document that breaks a rule is refused with the first broken rule, at its first place. Else the
+//! first task whose text is no task, or whose code is too much, is refused, with its kind and its place or count.
 #![tactic(auto)]
 
 mod law;

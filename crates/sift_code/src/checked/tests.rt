@@ -299,6 +299,8 @@ fn operands_are_there(rt: HostRuntime) -> Result<(), Fail> {
     expect_answers(&rt, rt.alloc(), &rows)
 }
 
+// The pairs of reasons that can stand at one place. Those with a stack or loops that are too deep have rows
+// further down. A bad jump is never too deep and names no operand, and what pops too much leaves a low stack.
 #[test]
 fn the_first_reason_at_a_place_is_answered(rt: HostRuntime) -> Result<(), Fail> {
     let rows: [Row; 6] = [
@@ -485,5 +487,9 @@ fn pushed_words_are_tested_and_put_out(rt: HostRuntime) -> Result<(), Fail> {
     let tested = vec![in alloc; Push(Word::of(1)), JumpZ(3), Push(Word::of(2)), Out(0)]?;
     let got = answer(alloc, tested, 0, 1, 1);
     assert_eq!(rt; got, Err(Bad::Unequal { at: 3 }), "two heights at an Out");
+    let many = runs_of(alloc, &Push(Word::of(1)), 257, &Out(0), 0)?;
+    assert!(rt; many.len() < 1000);
+    let got = answer(alloc, many, 0, 1, 1);
+    assert_eq!(rt; got, Err(Bad::TooDeep { at: 256 }), "257 words");
     Ok(())
 }
