@@ -1,6 +1,7 @@
 pub mod Bytes
 pub mod Draw
 pub mod Layout
+pub mod Margin
 pub mod Name
 pub mod Shapes
 pub mod Units

@@ -5,6 +5,8 @@
 
 mod correcting;
 mod hearing;
+mod laws;
 
 pub use correcting::{advance, correction};
 pub use hearing::{clock_word, reading, too_far};
+pub use laws::correction_is_the_floor;
