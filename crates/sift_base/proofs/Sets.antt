@@ -1,5 +1,5 @@
 -- Sets of units as the bits of a byte: what each operation on the byte makes of the set.
-use Rattle.std.proofs.Common.{◌≡◌, ℕ, ◌+◌, ◌*◌, ◌%◌, ◌^◌, ◌<◌, ◌≤◌, ◌==◌, max, Bool, true, false, not, ◌&&◌, ◌||◌, cond, nat_eq, nat_lt, rules, add_comm, List, [], ◌∷◌, bit_and, bit_or, count_ones, arith, ap, ◌∙◌, sym, refl, ⊎_elim, inl, inr}
+use Rattle.std.proofs.Common.{length, ◌≡◌, ℕ, ◌+◌, ◌*◌, ◌%◌, ◌^◌, ◌<◌, ◌≤◌, ◌==◌, max, Bool, true, false, not, ◌&&◌, ◌||◌, cond, nat_eq, nat_lt, rules, add_comm, List, [], ◌∷◌, bit_and, bit_or, count_ones, arith, ap, ◌∙◌, sym, refl, ⊎_elim, inl, inr}
 use Rattle.std.specs.List.{filter, list_all}
 use Rattle.std.specs.Int.{bit_at, bit_not, w8}
 use Rattle.std.specs.Ordering.{nat_cmp}
@@ -8,9 +8,9 @@ use Rattle.std.specs.FinSet as set
 use Rattle.std.proofs.lemmas.Bool.{cases_lt, cases_eq, cases_Bool, eqb-true, eq-eqb, ne_eqb, agree_below_at, and_parts, ltb-true}
 use Rattle.std.proofs.lemmas.Nat.Bits.{bit_at-zero, bit_at_or, bit_at_set_same, bit_at_set_other, bit_at_clear_same, bit_at_clear_other}
 use lib.Count.{ones}
-use Rattle.sift_base.specs.Units.{Units, unit_numbers, holds, has_bit, units_of, AreUnits, has, IsAscending, IsBelowAll, MembersAreTheSet}
-use Rattle.sift_base.specs.Bytes as bytes
-use Rattle.sift_base.specs.Bytes.{has-filter}
+use Rattle.sift_base.specs.Units.{members, Units, unit_numbers, holds, has_bit, units_of, AreUnits, has, IsAscending, IsBelowAll, MembersAreTheSet}
+use Rattle.sift_base.specs.ReadBack as back
+use Rattle.sift_base.specs.ReadBack.{has-filter, has_low, set-members}
 
 -- ---- the numbers of units
 
@@ -23,9 +23,6 @@ has_none (k ∷ ks) n q low high =
     rw (ne_eqb k q (λ e. omega arith)) (has_none ks n q parts.1 high)
 
 -- they are those below 8
-has_low : (q : ℕ) → q < 8 → has unit_numbers q ≡ true
-has_low q low = agree_below_at (has unit_numbers) (λ _. true) 8 q refl low
-
 has_high : (q : ℕ) → 8 ≤ q → has unit_numbers q ≡ false
 has_high q high = has_none unit_numbers 8 q refl high
 
@@ -40,7 +37,7 @@ are_units bits u there = ⊎_elim (λ low. low) (λ high. absurd (cc (holds_high
 
 -- the set of a byte holds the units whose bits it has, below 8
 pub holds_low : (bits q : ℕ) → q < 8 → holds (units_of bits) q ≡ has_bit bits q
-holds_low bits q low = bytes.holds-units_of bits q (has_low q low)
+holds_low bits q low = back.holds-units_of bits q (has_low q low)
 
 -- two sets of bytes that hold the same units below 8 are equal
 same_below : (bits : ℕ) (other : Units) → ((q : ℕ) → q < 8 → has_bit bits q ≡ holds other q) → ((q : ℕ) → 8 ≤ q → holds other q ≡ false) → units_of bits ≡ other
@@ -140,9 +137,19 @@ passing_ascend : (p : ℕ → Bool) (ks : List ℕ) → IsAscending ks → IsAsc
 passing_ascend p [] up = tt
 passing_ascend p (k ∷ ks) up = elim (cases_Bool (p k)) [ inl t ↦ rw t (below_passing p k ks up.0, passing_ascend p ks up.1) | inr f ↦ rw f (passing_ascend p ks up.1) ]
 
+-- as many pass in a list as stand in what passes
+length_of_passing : (p : ℕ → Bool) (ks : List ℕ) → length (filter p ks) ≡ passing p ks
+length_of_passing p [] = refl
+length_of_passing p (k ∷ ks) = elim (cases_Bool (p k)) [ inl t ↦ rw t (omega (arith, length_of_passing p ks)) | inr f ↦ rw f (omega (arith, length_of_passing p ks)) ]
+
+-- it is as long as the set has members
+len_of_members : (units : Units) → AreUnits units → length (members units) ≡ set.len units
+len_of_members units are = length_of_passing (holds units) unit_numbers ∙ sym (len_of_passing (holds units) unit_numbers units_ascend) ∙ ap set.len (set-members units are)
+
 -- the list of a set's members ascends, and has the units that the set has
 pub members_are : MembersAreTheSet
 members_are units = (
   passing_ascend (holds units) unit_numbers units_ascend,
-  λ u low. has-filter (holds units) unit_numbers u ∙ rw (has_low u low) (bytes.true_last (holds units u)),
+  λ u low. has-filter (holds units) unit_numbers u ∙ rw (has_low u low) (back.true_last (holds units u)),
+  λ are. len_of_members units are,
 )

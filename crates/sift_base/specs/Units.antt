@@ -1,5 +1,5 @@
 -- Units and sets of units. A unit is one processor of the computer, and has a number below 8.
-use Rattle.std.specs.Prelude.{◌≡◌, ℕ, ◌<◌, ◌^◌, ◌==◌, List, [], ◌∷◌, Bool, true, not, nat_eq, if◌then◌else◌, ⊤}
+use Rattle.std.specs.Prelude.{◌≡◌, ℕ, ◌<◌, ◌^◌, ◌==◌, List, [], ◌∷◌, Bool, true, not, nat_eq, if◌then◌else◌, length, ⊤}
 use Rattle.std.specs.List.{filter, list_any, sum_by}
 use Rattle.std.specs.Int.{bit_at}
 use Rattle.std.specs.Ordering.{nat_cmp}
@@ -65,6 +65,8 @@ IsAscending (u ∷ us) = IsBelowAll u us × IsAscending us
 
 -- ---- laws
 
--- the list of a set's members is ascending, and has just the units that the set has
+-- the list of a set's members is ascending, has just the units that the set has, and is as long as the set has members
 abbrev pub MembersAreTheSet : Type 0
-MembersAreTheSet = (units : Units) → IsAscending (members units) × ((u : ℕ) → u < unit_limit → has (members units) u ≡ holds units u)
+MembersAreTheSet = (units : Units) →
+    IsAscending (members units) × ((u : ℕ) → u < unit_limit → has (members units) u ≡ holds units u)
+    × (AreUnits units → length (members units) ≡ set.len units)

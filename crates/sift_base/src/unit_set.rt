@@ -4,7 +4,7 @@ ghost use Rattle.std.specs.Prelude.{◌≡◌, ◌<◌, ◌^◌};
 ghost use Rattle.std.specs.Coded.{coded_ℕ};
 ghost use Rattle.std.specs.FinSet as set;
 ghost use Rattle.sift_base.specs.Units.{Units, holds, units_of, bits_of, AreUnits, MembersAreTheSet};
-ghost use Rattle.sift_base.specs.Bytes.{bits_of-units_of};
+ghost use Rattle.sift_base.specs.ReadBack.{bits_of-units_of};
 
 use crate::unit::UnitId;
 use std::marker::Model;

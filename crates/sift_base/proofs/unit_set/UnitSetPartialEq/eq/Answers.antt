@@ -1,6 +1,6 @@
 use Rattle.std.proofs.Common.{eqb, ap, ◌∙◌, sym}
 use Rattle.sift_base.specs.Units.{bits_of}
-use Rattle.sift_base.specs.Bytes.{bits_of-units_of}
+use Rattle.sift_base.specs.ReadBack.{bits_of-units_of}
 use Rattle.sift_base.proofs.unit_set.UnitSetPartialEq.eq.Goals as goal
 
 pub returns : goal.returns

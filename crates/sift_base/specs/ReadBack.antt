@@ -1,10 +1,12 @@
--- A byte as a set of units: the byte can be read back from its set. No public clause cites this module.
+-- A set of units can be read back from its byte and from the list of its members. No public clause cites this module.
 use Rattle.std.specs.Prelude.{◌≡◌, ℕ, ◌+◌, ◌<◌, ◌^◌, ◌==◌, List, [], ◌∷◌, Bool, true, false, ◌&&◌, ◌||◌, cond, nat_eq, if◌then◌else◌}
 use Rattle.std.specs.List.{filter, sum_by}
 use Rattle.std.specs.FinSet as set
 use Rattle.std.proofs.Common.{refl, ap, ◌∙◌, sym}
 use Rattle.std.proofs.lemmas.Bool.{eqb-true, agree_below_at}
-use Rattle.sift_base.specs.Units.{unit_numbers, holds, has_bit, units_of, bits_of, has}
+use Rattle.std.specs.Ordering.{nat_cmp}
+use Rattle.std.specs.Cmp.{nat_cmp_total}
+use Rattle.sift_base.specs.Units.{Units, unit_numbers, holds, has_bit, units_of, bits_of, has, members, AreUnits}
 
 -- ---- members of filtered lists
 
@@ -64,3 +66,19 @@ bits_of-units_of bits fits = at_each ∙ summed bits fits
         + (if holds-units_of bits 2 refl i then 2 ^ 2 else 0) + (if holds-units_of bits 3 refl i then 2 ^ 3 else 0)
         + (if holds-units_of bits 4 refl i then 2 ^ 4 else 0) + (if holds-units_of bits 5 refl i then 2 ^ 5 else 0)
         + (if holds-units_of bits 6 refl i then 2 ^ 6 else 0) + (if holds-units_of bits 7 refl i then 2 ^ 7 else 0)
+
+-- ---- a set and its members
+
+-- the numbers of units have each number below 8
+pub has_low : (u : ℕ) → u < 8 → has unit_numbers u ≡ true
+has_low u low = agree_below_at (has unit_numbers) (λ _. true) 8 u refl low
+
+-- a test that passes only where another does is both of them
+both : (one other : Bool) → (one ≡ true → other ≡ true) → (one && other) ≡ one
+both true other also = also refl
+both false other also = refl
+
+-- a set of units can be read back from its members
+pub set-members : (units : Units) → AreUnits units → set.from_list {R = nat_cmp} (members units) ≡ units
+set-members units are = set.same_set nat_cmp_total set.nat_cmp-IsAntisymmetric (set.from_list (members units)) units
+    (λ u. set.contains-from_list_nat (members units) u ∙ has-filter (holds units) unit_numbers u ∙ both (holds units u) (has unit_numbers u) (λ there. has_low u (are u there)))
