@@ -1,13 +1,12 @@
 -- What working units take for one unit's word.
-use Rattle.std.proofs.Common.{◌≡◌, ◌≢◌, ℕ, suc, ◌+◌, ◌*◌, ◌<◌, ◌≤◌, inl, inr, List, [], ◌∷◌, length, map, Bool, true, false, not, nat_eq, Option, None, Some, refl, sym, ap, ◌∙◌, subst, arith}
-use Rattle.std.specs.Prelude.{count_by}
+use Rattle.std.proofs.Common.{◌≡◌, ◌≢◌, ℕ, ◌+◌, ◌≤◌, inl, inr, List, [], ◌∷◌, length, map, Bool, true, false, not, nat_eq, Option, Some, refl, sym, ap, ◌∙◌, arith}
 use Rattle.std.proofs.lemmas.Bool.{cases_Bool, eqb-true}
 use Rattle.std.proofs.lemmas.List.{length-map}
 use Rattle.sift_base.specs.Units.{has, others, IsAscending}
 use Rattle.sift_base.specs.Margin.{faulty_count, HasMargin}
 use Rattle.sift_base.proofs.Counts.{count-cons, count-yes, count-no, both_counts, nat_eq-same, apart, has-head, has-tail}
 use Rattle.sift_base.proofs.Others.{times_in, times_in-ascending, times_in-none, not_same, length-others, count-others-≤, count-others-<, has-others, others-has, others_work}
-use Rattle.sift_vote.specs.Majority.{is_vote_for, votes_for, IsMajority, IsAgreed, decided, undecided}
+use Rattle.sift_vote.specs.Majority.{is_vote_for, votes_for, IsAgreed, decided, undecided}
 use Rattle.sift_vote.specs.Agreed.{agreed_of}
 use Rattle.sift_vote.proofs.Found.{agreed_word_is_found}
 use Rattle.sift_agree.specs.Agreement.{taken, RelaysWell, FaultyUnitIsAgreedOn, WorkingUnitIsAgreedOn}
@@ -18,7 +17,7 @@ use Rattle.sift_agree.proofs.Winners.{won-agreed}
 -- as many places with as many votes for each word have the same agreed word
 agreed_same : (xs ys : List (Option ℕ)) → length xs ≡ length ys → ((w : ℕ) → votes_for xs w ≡ votes_for ys w)
     → agreed_of xs ≡ agreed_of ys
-agreed_same xs ys long votes = sym ((agreed_word_is_found ys (agreed_of xs)).1 (moved (agreed_of xs) ((agreed_word_is_found xs (agreed_of xs)).0 refl))) 
+agreed_same xs ys long votes = sym ((agreed_word_is_found ys (agreed_of xs)).1 (moved (agreed_of xs) ((agreed_word_is_found xs (agreed_of xs)).0 refl)))
   where
     moved : (w : ℕ) → IsAgreed xs w → IsAgreed ys w
     moved w (decided most) = decided (omega (arith, votes w))
@@ -33,11 +32,11 @@ votes-working works (u ∷ us) place w says =
     let rest = votes-working works us place w (λ v v_in. says v (has-tail u us v v_in)) in
     elim (cases_Bool (works u)) [
       | inl t ↦
-        let here : is_vote_for w (place u) ≡ true = rw (says u (has-head u us) t) (nat_eq-same w) in
-        rw (count-yes (is_vote_for w) (place u) (map place us) here, count-no (λ v. not (works v)) u us (ap not t)) (omega arith)
+          let here : is_vote_for w (place u) ≡ true = rw (says u (has-head u us) t) (nat_eq-same w) in
+          rw (count-yes (is_vote_for w) (place u) (map place us) here, count-no (λ v. not (works v)) u us (ap not t)) (omega arith)
       | inr f ↦
-        let more = count-cons (is_vote_for w) (place u) (map place us) in
-        rw (count-yes (λ v. not (works v)) u us (ap not f)) (omega arith)
+          let more = count-cons (is_vote_for w) (place u) (map place us) in
+          rw (count-yes (λ v. not (works v)) u us (ap not f)) (omega arith)
     ]
 
 -- places that differ at one unit alone, without it
@@ -57,20 +56,20 @@ votes-first w f g u [] u_in once same = absurd cc
 votes-first w f g u (v ∷ us) u_in once same =
     elim (cases_Bool (nat_eq v u)) [
       | inl t ↦
-        let gone : times_in u us ≡ 0 = omega (arith, count-yes (λ x. nat_eq x u) v us t) in
-        let rest = map-others f g u us (λ r r_in. let differ = times_in-none u us gone r r_in in (differ, same r (has-tail v us r r_in) differ)) in
-        rw (t, rest) (ap (λ x. votes_for (g x ∷ map g us) w) (sym (eqb-true v u t)))
+          let gone : times_in u us ≡ 0 = omega (arith, count-yes (λ x. nat_eq x u) v us t) in
+          let rest = map-others f g u us (λ r r_in. let differ = times_in-none u us gone r r_in in (differ, same r (has-tail v us r r_in) differ)) in
+          rw (t, rest) (ap (λ x. votes_for (g x ∷ map g us) w) (sym (eqb-true v u t)))
       | inr o ↦
-        let fewer : times_in u us ≤ 1 = omega (arith, count-no (λ x. nat_eq x u) v us o) in
-        let rest = votes-first w f g u us (rw o at u_in) fewer (λ r r_in differ. same r (has-tail v us r r_in) differ) in
-        let here = same v (has-head v us) (apart v u o) in
-        rw (o, here) (omega (
-          arith,
-          count-cons (is_vote_for w) (g u) (g v ∷ map f (others u us)),
-          count-cons (is_vote_for w) (g v) (map f (others u us)),
-          count-cons (is_vote_for w) (g u) (map f (others u us)),
-          count-cons (is_vote_for w) (g v) (map g us),
-        ))
+          let fewer : times_in u us ≤ 1 = omega (arith, count-no (λ x. nat_eq x u) v us o) in
+          let rest = votes-first w f g u us (rw o at u_in) fewer (λ r r_in differ. same r (has-tail v us r r_in) differ) in
+          let here = same v (has-head v us) (apart v u o) in
+          rw (o, here) (omega (
+            arith,
+            count-cons (is_vote_for w) (g u) (g v ∷ map f (others u us)),
+            count-cons (is_vote_for w) (g v) (map f (others u us)),
+            count-cons (is_vote_for w) (g u) (map f (others u us)),
+            count-cons (is_vote_for w) (g v) (map g us),
+          ))
     ]
 
 -- ---- a faulty unit
@@ -88,13 +87,13 @@ takes_direct works us s q direct relayed ascending margin relays s_in s_faulty q
     agreed_same (taken us s q direct relayed) (map direct (others s us))
     (omega (arith, length-others q (others s us), length-map (others q (others s us)) (relayed q), length-map (others s us) direct))
     (λ w. votes-first w (relayed q) direct q (others s us) there once (λ r r_in other.
-        let of_us = has-others s us r r_in in
-        relays q r q_in q_works of_us.0 (others_work works us s margin s_in s_faulty r r_in) differ of_us.1 other))
+    let of_us = has-others s us r r_in in
+    relays q r q_in q_works of_us.0 (others_work works us s margin s_in s_faulty r r_in) differ of_us.1 other))
 
 pub faulty_unit_is_agreed_on : FaultyUnitIsAgreedOn
 faulty_unit_is_agreed_on works us s p q direct relayed ascending margin relays s_in s_faulty p_in p_works q_in q_works =
     takes_direct works us s p direct relayed ascending margin relays s_in s_faulty p_in p_works
-        ∙ sym (takes_direct works us s q direct relayed ascending margin relays s_in s_faulty q_in q_works)
+    ∙ sym (takes_direct works us s q direct relayed ascending margin relays s_in s_faulty q_in q_works)
 
 -- ---- a working unit
 
@@ -103,11 +102,11 @@ working_unit_is_agreed_on works us s q word direct relayed ascending margin rela
     let rest : List ℕ = others q (others s us) in
     let heard : direct q ≡ Some word = says q q_in q_works differ in
     let enough = votes-working works rest (relayed q) word (λ r r_in r_works.
-        let of_others = has-others q (others s us) r r_in in
-        let of_us = has-others s us r of_others.0 in
-        relays q r q_in q_works of_us.0 r_works differ of_us.1 of_others.1 ∙ says r of_us.0 r_works of_us.1) in
+    let of_others = has-others q (others s us) r r_in in
+    let of_us = has-others s us r of_others.0 in
+    relays q r q_in q_works of_us.0 r_works differ of_us.1 of_others.1 ∙ says r of_us.0 r_works of_us.1) in
     let few : faulty_count works rest ≤ 1 =
-        omega (arith, count-others-≤ (λ x. not (works x)) q (others s us), count-others-≤ (λ x. not (works x)) s us, margin.few) in
+    omega (arith, count-others-≤ (λ x. not (works x)) q (others s us), count-others-≤ (λ x. not (works x)) s us, margin.few) in
     let many : 2 ≤ length rest = omega (
       arith,
       length-others s us,

@@ -1,10 +1,10 @@
 -- The other units of a list, and where one unit is faulty at most.
-use Rattle.std.proofs.Common.{◌≡◌, ◌≢◌, ℕ, suc, ◌+◌, ◌<◌, ◌≤◌, inl, inr, List, [], ◌∷◌, length, Bool, true, false, not, cond, nat_eq, refl, sym, ap, ◌∙◌, subst, arith}
+use Rattle.std.proofs.Common.{◌≡◌, ◌≢◌, ℕ, ◌+◌, ◌<◌, ◌≤◌, inl, inr, List, [], ◌∷◌, length, Bool, true, false, not, nat_eq, refl, sym, ap, ◌∙◌, subst, arith}
 use Rattle.std.specs.Prelude.{count_by}
 use Rattle.std.proofs.lemmas.Bool.{cases_Bool, eqb-true}
 use Rattle.sift_base.specs.Units.{has, others, IsBelowAll, IsAscending}
 use Rattle.sift_base.specs.Margin.{faulty_count, HasMargin}
-use Rattle.sift_base.proofs.Counts.{count-cons, count-yes, count-no, nat_eq-same, apart, has-head, has-tail}
+use Rattle.sift_base.proofs.Counts.{count-cons, count-yes, count-no, apart, has-tail}
 
 -- how often a unit stands in a list
 abbrev pub times_in : ℕ → List ℕ → ℕ
@@ -26,8 +26,8 @@ times_in-ascending u [] ascending = omega arith
 times_in-ascending u (v ∷ us) ascending =
     elim (cases_Bool (nat_eq v u)) [
       | inl t ↦
-        let rest = subst (λ x. times_in x us ≡ 0) (eqb-true v u t) (times_in-below v us ascending.0) in
-        omega (arith, count-yes (λ x. nat_eq x u) v us t)
+          let rest = subst (λ x. times_in x us ≡ 0) (eqb-true v u t) (times_in-below v us ascending.0) in
+          omega (arith, count-yes (λ x. nat_eq x u) v us t)
       | inr f ↦ omega (arith, count-no (λ x. nat_eq x u) v us f, times_in-ascending u us ascending.1)
     ]
 
@@ -71,8 +71,8 @@ count-others-< p u (v ∷ us) u_in passes =
     elim (cases_Bool (nat_eq v u)) [
       | inl t ↦ rw (t, count-yes p v us (ap p (eqb-true v u t) ∙ passes)) (omega (arith, count-others-≤ p u us))
       | inr f ↦
-        let rest = count-others-< p u us (rw f at u_in) passes in
-        rw f (omega (arith, count-cons p v us, count-cons p v (others u us)))
+          let rest = count-others-< p u us (rw f at u_in) passes in
+          rw f (omega (arith, count-cons p v us, count-cons p v (others u us)))
     ]
 
 -- another unit of a list is a unit of the list, and another

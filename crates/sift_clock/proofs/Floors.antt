@@ -1,5 +1,5 @@
 -- The quotient by a positive number that is rounded down.
-use Rattle.std.proofs.Common.{◌≡◌, ℕ, ◌+◌, ◌*◌, ◌/◌, ◌%◌, ◌<◌, ◌≤◌, ℤ, pos, negsuc, ◌+ℤ◌, ◌*ℤ◌, ◌≤ℤ◌, ◌<ℤ◌, arith}
+use Rattle.std.proofs.Common.{ℕ, ◌<◌, ℤ, pos, negsuc, ◌+ℤ◌, ◌*ℤ◌, ◌≤ℤ◌, ◌<ℤ◌, arith}
 use Rattle.std.specs.Int.{int_div_euclid}
 use Rattle.std.proofs.lemmas.Int.{ints}
 use Rattle.sift_clock.specs.Correction.{CorrectionIsTheFloor, counted_sum}

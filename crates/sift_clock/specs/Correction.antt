@@ -27,4 +27,4 @@ abbrev pub CorrectionIsTheFloor : Type 0
 CorrectionIsTheFloor =
     (limit : ℤ) (clocks : ℕ) (readings : List (Option ℤ)) → 0 < clocks →
     ((pos clocks *ℤ correction_of limit clocks readings) ≤ℤ counted_sum limit readings)
-        × (counted_sum limit readings <ℤ (pos clocks *ℤ correction_of limit clocks readings +ℤ pos clocks))
+    × (counted_sum limit readings <ℤ (pos clocks *ℤ correction_of limit clocks readings +ℤ pos clocks))

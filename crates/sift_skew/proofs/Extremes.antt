@@ -1,12 +1,12 @@
 -- Skew and slack from the highest and the lowest offset.
-use Rattle.std.proofs.Common.{◌≡◌, ℤ, ◌-ℤ◌, ◌≤ℤ◌, List, ◌++◌, All, true, false, refl, ap, arith, ◌⊎◌, inl, inr}
+use Rattle.std.proofs.Common.{ℤ, ◌-ℤ◌, ◌≤ℤ◌, List, ◌++◌, refl, arith, inl, inr}
 use Rattle.std.specs.Prelude.{int_lt}
 use Rattle.std.specs.List.{Contains}
 use Rattle.std.specs.Int.{int_max}
 use Rattle.std.proofs.lemmas.Bool.{cases_Bool}
 use Rattle.std.proofs.lemmas.Int.{ints}
 use Rattle.std.proofs.lemmas.List.Elements.{All-contains, All-append, Contains-append_left, Contains-append_right}
-use Rattle.sift_skew.specs.Figures.{IsHighest, IsLowest, IsSkew, IsSlack, lead_left}
+use Rattle.sift_skew.specs.Figures.{IsHighest, IsLowest, IsSkew, IsSlack}
 
 -- none of the offsets is above the highest
 under_highest : (offsets : List ℤ) (highest p : ℤ) → IsHighest offsets highest → Contains offsets p → p ≤ℤ highest

@@ -1,5 +1,5 @@
 -- The limits under which a correction keeps the skew.
-use Rattle.std.proofs.Common.{◌≡◌, ℕ, zero, suc, ◌+◌, ◌-◌, ◌*◌, ◌<◌, ◌≤◌, List, length, Bool, true, false, nat_eq, ℤ, pos, negsuc, ◌+ℤ◌, ◌-ℤ◌, ◌*ℤ◌, Option, ◌⊎◌, inl, inr, arith, ap, refl}
+use Rattle.std.proofs.Common.{◌≡◌, ℕ, zero, suc, ◌+◌, ◌-◌, ◌*◌, ◌<◌, ◌≤◌, List, length, Bool, nat_eq, ℤ, pos, negsuc, ◌+ℤ◌, ◌-ℤ◌, ◌*ℤ◌, Option, ◌⊎◌, inl, inr, arith, ap, refl}
 use Rattle.std.specs.Prelude.{◌≤ℤ◌}
 use Rattle.std.proofs.lemmas.Int.{ints}
 use Rattle.std.proofs.lemmas.Bool.{cases_Bool, eqb-true}
@@ -13,7 +13,7 @@ use Rattle.sift_skew.proofs.Steps.{step_by_room}
 -- two working clocks have no negative skew, reading error or drift between them, unless they are one
 kept_from : (P : ℤ → ℤ → ℤ → Type 0) (us : List ℕ) (works : ℕ → Bool) (clock drift : ℕ → ℤ) (read : ℕ → ℕ → Option ℤ)
     → ((s e r : ℕ) → P (pos s) (pos e) (pos r) → AreWithin (pos s) (pos e) (pos r) us works clock drift read
-        → AreTogether (pos s) us works (next_offsets (pos (s + e)) us clock drift read))
+    → AreTogether (pos s) us works (next_offsets (pos (s + e)) us clock drift read))
     → (skew error rate : ℤ) → P skew error rate → AreWithin skew error rate us works clock drift read
     → AreTogether skew us works (next_offsets (skew +ℤ error) us clock drift read)
 kept_from P us works clock drift read natural (pos s) (pos e) (pos r) premise within p q p_in p_works q_in q_works =
@@ -50,19 +50,19 @@ pub skew_is_kept : SkewIsKept
 skew_is_kept skew error rate us works clock drift read m within few wide =
     kept_from (λ s e r. (pos (2 * length us) *ℤ (e +ℤ r)) ≤ℤ (s *ℤ (pos (length us) -ℤ pos (3 * m)))) us works clock drift read
     (λ s e r room_in within_in p q p_in p_works q_in q_works.
-        let wide_in = room (length us) m s e r room_in in
-        let drifts = two_drifts (length us) m s e r (length-has p us p_in) wide_in in
-        let parts : s ≡ (s - 2 * r) + 2 * r = omega arith in
-        step_by_room s e r (s - 2 * r) us works clock drift read within_in (omega arith)
-        (two_errors (length us) m (faulty_count works us) s e r (s - 2 * r) parts few wide_in) p q p_in p_works q_in q_works)
+    let wide_in = room (length us) m s e r room_in in
+    let drifts = two_drifts (length us) m s e r (length-has p us p_in) wide_in in
+    let parts : s ≡ (s - 2 * r) + 2 * r = omega arith in
+    step_by_room s e r (s - 2 * r) us works clock drift read within_in (omega arith)
+    (two_errors (length us) m (faulty_count works us) s e r (s - 2 * r) parts few wide_in) p q p_in p_works q_in q_works)
     skew error rate wide within
 
 pub skew_is_kept_without_faults : SkewIsKeptWithoutFaults
 skew_is_kept_without_faults skew error rate us works clock drift read within none wide =
     kept_from (λ s e r. (pos 2 *ℤ (e +ℤ r)) ≤ℤ s) us works clock drift read
     (λ s e r room_in within_in.
-        let least : length us * (2 * e) ≤ length us * (s - 2 * r) = mul-le-mul_left (length us) (omega (arith, ints)) in
-        step_by_room s e r (s - 2 * r) us works clock drift read within_in (omega (arith, ints)) (rw none (omega arith)))
+    let least : length us * (2 * e) ≤ length us * (s - 2 * r) = mul-le-mul_left (length us) (omega (arith, ints)) in
+    step_by_room s e r (s - 2 * r) us works clock drift read within_in (omega (arith, ints)) (rw none (omega arith)))
     skew error rate wide within
 
 -- at most one is none or one
@@ -87,11 +87,11 @@ skew_is_kept_with_margin skew error rate us works clock drift read within margin
     let counts = both_counts works us in
     kept_from (λ s e r. (pos 5 *ℤ (e +ℤ r)) ≤ℤ s) us works clock drift read
     (λ s e r room_in within_in.
-        let five : 5 * (e + r) ≤ s = omega (arith, ints) in
-        let fits : length us * (2 * e) + faulty_count works us * (3 * s) ≤ length us * (s - 2 * r) =
-            elim (none_or_one (faulty_count works us) margin.few) [
-              | inl none ↦ rw none (let least : length us * (2 * e) ≤ length us * (s - 2 * r) = mul-le-mul_left (length us) (omega arith) in omega arith)
-              | inr one ↦ rw one (let least = five_clocks (length us) s e r (omega (arith, margin.enough)) five in omega arith)
-            ] in
-        step_by_room s e r (s - 2 * r) us works clock drift read within_in (omega arith) fits)
+    let five : 5 * (e + r) ≤ s = omega (arith, ints) in
+    let fits : length us * (2 * e) + faulty_count works us * (3 * s) ≤ length us * (s - 2 * r) =
+    elim (none_or_one (faulty_count works us) margin.few) [
+      | inl none ↦ rw none (let least : length us * (2 * e) ≤ length us * (s - 2 * r) = mul-le-mul_left (length us) (omega arith) in omega arith)
+      | inr one ↦ rw one (let least = five_clocks (length us) s e r (omega (arith, margin.enough)) five in omega arith)
+    ] in
+    step_by_room s e r (s - 2 * r) us works clock drift read within_in (omega arith) fits)
     skew error rate wide within

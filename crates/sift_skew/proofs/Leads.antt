@@ -1,13 +1,10 @@
 -- Leads: what the slack says of two clocks.
-use Rattle.std.proofs.Common.{◌≡◌, ℕ, zero, suc, ◌<◌, List, [], ◌∷◌, ◌++◌, length, map, get_or, true, ℤ, pos, ◌+ℤ◌, ◌-ℤ◌, ◌*ℤ◌, ◌≤ℤ◌, ◌<ℤ◌, ◌⊎◌, inl, inr, ⊎_elim, arith, sym}
+use Rattle.std.proofs.Common.{◌≡◌, ℕ, zero, suc, ◌<◌, List, [], ◌∷◌, length, map, get_or, true, ℤ, inl, inr, arith, sym}
 use Rattle.std.specs.List.{Contains}
 use Rattle.std.proofs.lemmas.Int.{ints}
 use Rattle.std.proofs.lemmas.List.Elements.{Contains-append_cases}
 use Rattle.sift_base.specs.Units.{has}
 use Rattle.sift_base.proofs.Counts.{has-head, has-tail}
-use Rattle.sift_clock.specs.Distance.{IsWithin}
-use Rattle.sift_skew.specs.Limits.{IsAdmitted}
-use Rattle.sift_skew.specs.Figures.{IsSkew, IsSlack}
 use Rattle.sift_skew.specs.Leading.{SlackIsPositive, LeadIsAtMostOne, SkewIsUnique, SlackIsUnique}
 
 -- the offset at a place is some unit's

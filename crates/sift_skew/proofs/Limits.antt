@@ -64,10 +64,11 @@ pub last_decides : (skew error rate length : ℤ) → AreNumbers skew error rate
     → (pos 5 *ℤ (error +ℤ rate)) ≤ℤ skew → skew ≤ℤ skew_limit
     → IsTrue (lt_z (twice_and skew error rate) (held length)) ↔ IsAdmitted skew error rate length
 last_decides skew error rate length small kept told =
-    rw (twice_and-is skew error rate length small, held-number length small.3)
-    ( λ passed. record {
+    rw (twice_and-is skew error rate length small, held-number length small.3) (
+      λ passed. record {
         kept = kept;
         told = told;
         long = omega (arith, ints, lt_z-true (pos 2 *ℤ skew +ℤ error +ℤ rate) length passed);
       },
-      λ admitted. lt_z-holds (pos 2 *ℤ skew +ℤ error +ℤ rate) length (omega (arith, ints, admitted.long)) )
+      λ admitted. lt_z-holds (pos 2 *ℤ skew +ℤ error +ℤ rate) length (omega (arith, ints, admitted.long)),
+    )

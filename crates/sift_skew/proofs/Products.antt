@@ -28,7 +28,7 @@ pub scaled-cancel : (n : ℕ) (a b : ℤ) → (pos n *ℤ a) <ℤ (pos n *ℤ b 
 scaled-cancel n a b less =
     by_lt_z b a
     (λ above.
-        let more = scaled-≤ n (b +ℤ pos 1) a (omega (arith, ints)) in
-        let split = scaled-add n b (pos 1) in
-        absurd (omega (arith, ints)))
+    let more = scaled-≤ n (b +ℤ pos 1) a (omega (arith, ints)) in
+    let split = scaled-add n b (pos 1) in
+    absurd (omega (arith, ints)))
     (λ most. most)

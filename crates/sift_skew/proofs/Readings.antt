@@ -1,5 +1,5 @@
 -- Clock words tell offsets apart.
-use Rattle.std.proofs.Common.{◌≡◌, ℕ, zero, suc, ◌<◌, ◌≤◌, true, false, ℤ, pos, negsuc, ◌+ℤ◌, ◌-ℤ◌, ◌*ℤ◌, Some, inl, inr, arith, ap, ◌∙◌, sym}
+use Rattle.std.proofs.Common.{◌≡◌, ℕ, zero, suc, ◌<◌, ◌≤◌, ℤ, pos, negsuc, ◌+ℤ◌, ◌-ℤ◌, ◌*ℤ◌, Some, inl, inr, arith, ap}
 use Rattle.std.specs.Prelude.{nat_lt}
 use Rattle.std.specs.Int.{int_div_euclid}
 use Rattle.std.proofs.lemmas.Int.{ints}
@@ -11,7 +11,7 @@ use Rattle.sift_skew.specs.Keeping.{WordsAreReadRight, HeardClocksAreReadWell}
 -- a word in two's complement, by its half
 by_half : (w : ℕ) (z : ℤ) → (w < 32768 → pos w ≡ z) → (32768 ≤ w → (pos w -ℤ pos 65536) ≡ z) → signed_of w ≡ z
 by_half w z low high =
-    elim (cases_Bool (nat_lt w 32768)) [ | inl t ↦ rw t (low (ltb-true w 32768 t)) | inr f ↦ rw f (high (ltb-false w 32768 f)) ]
+    elim (cases_Bool (nat_lt w 32768)) [ inl t ↦ rw t (low (ltb-true w 32768 t)) | inr f ↦ rw f (high (ltb-false w 32768 f)) ]
 
 -- a number is so many times 2 ^ 16, and a word
 record Splits (z times : ℤ) (word : ℕ) : Type 0 where
@@ -62,7 +62,8 @@ heard_clocks_are_read_well skew error us works clock u heard errors low together
     let word = hears v v_in v_works other in
     let ahead = together v u v_in v_works u_in u_works in
     let behind = together u v u_in u_works v_in v_works in
-    let reading = words_are_read_right (clock v) (clock u) (errors v) (omega (arith, ints), omega (arith, ints)) in
-    ( (clock v -ℤ clock u) +ℤ errors v,
+    let reading = words_are_read_right (clock v) (clock u) (errors v) (omega (arith, ints), omega (arith, ints)) in (
+      (clock v -ℤ clock u) +ℤ errors v,
       rw word.0 reading,
-      (omega (arith, ints, word.1), omega (arith, ints, word.1)) )
+      (omega (arith, ints, word.1), omega (arith, ints, word.1)),
+    )

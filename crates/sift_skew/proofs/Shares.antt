@@ -1,5 +1,5 @@
 -- Sums over the clocks of a configuration, place by place.
-use Rattle.std.proofs.Common.{◌≡◌, ℕ, suc, ◌+◌, ◌*◌, ◌<◌, ◌≤◌, List, [], ◌∷◌, length, map, Bool, true, false, not, cond, nat_eq, ℤ, pos, negsuc, ◌+ℤ◌, ◌*ℤ◌, Option, None, Some, inl, inr, arith, ap}
+use Rattle.std.proofs.Common.{◌≡◌, ℕ, ◌+◌, ◌*◌, List, [], ◌∷◌, length, map, Bool, true, false, not, nat_eq, ℤ, pos, ◌+ℤ◌, ◌*ℤ◌, Option, inl, inr, arith, ap}
 use Rattle.std.specs.Prelude.{◌≤ℤ◌, if◌then◌else◌}
 use Rattle.std.proofs.lemmas.Int.{ints}
 use Rattle.std.proofs.lemmas.Bool.{cases_Bool}
@@ -38,9 +38,9 @@ total-≤ works near far f g (u ∷ us) well ill =
     let rest = total-≤ works near far f g us (λ v h. well v (has-tail u us v h)) (λ v h. ill v (has-tail u us v h)) in
     elim (cases_Bool (works u)) [
       | inl t ↦
-        let here = well u (has-head u us) t in
-        rw (count-no (λ v. not (works v)) u us (ap not t)) (omega (arith, ints))
+          let here = well u (has-head u us) t in
+          rw (count-no (λ v. not (works v)) u us (ap not t)) (omega (arith, ints))
       | inr f ↦
-        let here = ill u (has-head u us) f in
-        rw (count-yes (λ v. not (works v)) u us (ap not f)) (omega (arith, ints))
+          let here = ill u (has-head u us) f in
+          rw (count-yes (λ v. not (works v)) u us (ap not f)) (omega (arith, ints))
     ]

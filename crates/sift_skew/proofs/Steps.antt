@@ -1,19 +1,18 @@
 -- A correction keeps the skew of working clocks.
-use Rattle.std.proofs.Common.{◌≡◌, ◌≢◌, ℕ, zero, suc, ◌+◌, ◌-◌, ◌*◌, ◌<◌, ◌≤◌, List, [], ◌∷◌, length, map, Bool, true, false, nat_eq, ℤ, pos, negsuc, ◌+ℤ◌, ◌-ℤ◌, ◌*ℤ◌, ◌<ℤ◌, Option, None, Some, inl, inr, arith, ap, ◌∙◌, sym}
+use Rattle.std.proofs.Common.{◌≡◌, ℕ, ◌+◌, ◌*◌, ◌<◌, ◌≤◌, List, length, map, Bool, true, nat_eq, ℤ, pos, ◌+ℤ◌, ◌*ℤ◌, ◌<ℤ◌, Option, inl, inr, arith, ap, ◌∙◌}
 use Rattle.std.specs.Prelude.{◌≤ℤ◌}
 use Rattle.std.proofs.lemmas.Int.{ints}
 use Rattle.std.proofs.lemmas.Bool.{cases_Bool, eqb-true}
-use Rattle.std.proofs.Math.Nat.{le_of_mul-le-mul_left, mul-le-mul_left, mul-le-mul_right}
 use Rattle.sift_base.specs.Units.{has, others}
-use Rattle.sift_base.specs.Margin.{faulty_count, HasMargin}
-use Rattle.sift_base.proofs.Counts.{apart, both_counts, length-has}
+use Rattle.sift_base.specs.Margin.{faulty_count}
+use Rattle.sift_base.proofs.Counts.{apart, length-has}
 use Rattle.sift_clock.specs.Distance.{IsWithin}
 use Rattle.sift_clock.specs.Reading.{counted}
 use Rattle.sift_clock.specs.Correction.{counted_sum, correction_of}
 use Rattle.sift_clock.proofs.Floors.{floor_is}
-use Rattle.sift_skew.specs.Keeping.{AreTogether, ReadsWell, AreWithin, next_offsets, SkewIsKept, SkewIsKeptWithoutFaults, SkewIsKeptWithMargin}
+use Rattle.sift_skew.specs.Keeping.{AreTogether, AreWithin, next_offsets}
 use Rattle.sift_skew.proofs.Changes.{counted_within, counted_is}
-use Rattle.sift_skew.proofs.Products.{scaled-add, scaled-cancel, room}
+use Rattle.sift_skew.proofs.Products.{scaled-add, scaled-cancel}
 use Rattle.sift_skew.proofs.Shares.{total, seen, total-seen, total-≤}
 
 -- what u sees of a working clock is within the error of that clock
@@ -29,9 +28,9 @@ seen_near skew error rate us works clock drift read within u u_in u_works v v_in
           let ahead = within.together v u v_in v_works u_in u_works in
           let behind = within.together u v u_in u_works v_in v_works in
           let near : IsWithin (pos (skew + error)) reading.0 (pos 0) =
-              (omega (arith, ints, reading.2), omega (arith, ints, reading.2)) in
+          (omega (arith, ints, reading.2), omega (arith, ints, reading.2)) in
           let counts : counted (pos (skew + error)) (read u v) ≡ reading.0 =
-              ap (counted (pos (skew + error))) reading.1 ∙ counted_is (skew + error) reading.0 near in
+          ap (counted (pos (skew + error))) reading.1 ∙ counted_is (skew + error) reading.0 near in
           rw (f, counts) (omega (arith, ints, reading.2), omega (arith, ints, reading.2))
     ]
 
@@ -64,23 +63,23 @@ step_by_room skew error rate rest us works clock drift read within tight fits p 
     let limit : ℤ = pos (skew + error) in
     let some = length-has p us p_in in
     let sums = total-≤ works (2 * error) (3 * skew) (seen limit (read p) (clock p) p) (seen limit (read q) (clock q) q) us
-        (λ v v_in v_works.
-            let by_p = seen_near skew error rate us works clock drift read within p p_in p_works v v_in v_works in
-            let by_q = seen_near skew error rate us works clock drift read within q q_in q_works v v_in v_works in
-            omega (arith, ints, by_p, by_q))
-        (λ v v_in v_faulty.
-            let by_p = seen_own (skew + error) (clock p) p (read p) v in
-            let by_q = seen_own (skew + error) (clock q) q (read q) v in
-            omega (arith, ints, by_p, by_q, within.together p q p_in p_works q_in q_works)) in
+    (λ v v_in v_works.
+    let by_p = seen_near skew error rate us works clock drift read within p p_in p_works v v_in v_works in
+    let by_q = seen_near skew error rate us works clock drift read within q q_in q_works v v_in v_works in
+    omega (arith, ints, by_p, by_q))
+    (λ v v_in v_faulty.
+    let by_p = seen_own (skew + error) (clock p) p (read p) v in
+    let by_q = seen_own (skew + error) (clock q) q (read q) v in
+    omega (arith, ints, by_p, by_q, within.together p q p_in p_works q_in q_works)) in
     let readings_p = map (read p) (others p us) in
     let readings_q = map (read q) (others q us) in
     let floor_p = floor_is (counted_sum limit readings_p) (length us) some in
     let floor_q = floor_is (counted_sum limit readings_q) (length us) some in
     let close = corrected (length us) rest (length us * (2 * error) + faulty_count works us * (3 * skew))
-        (clock p) (clock q) (counted_sum limit readings_p) (counted_sum limit readings_q)
-        (total (seen limit (read p) (clock p) p) us) (total (seen limit (read q) (clock q) q) us) some
-        (total-seen limit (read p) (clock p) p us) (total-seen limit (read q) (clock q) q us) sums fits
-        (correction_of limit (length us) readings_p) (correction_of limit (length us) readings_q) floor_p.0 floor_q.1 in
+    (clock p) (clock q) (counted_sum limit readings_p) (counted_sum limit readings_q)
+    (total (seen limit (read p) (clock p) p) us) (total (seen limit (read q) (clock q) q) us) some
+    (total-seen limit (read p) (clock p) p us) (total-seen limit (read q) (clock q) q us) sums fits
+    (correction_of limit (length us) readings_p) (correction_of limit (length us) readings_q) floor_p.0 floor_q.1 in
     let drift_p = within.drifts p p_in p_works in
     let drift_q = within.drifts q q_in q_works in
     omega (arith, ints, close, drift_p, drift_q, tight)

@@ -1,5 +1,5 @@
 -- The correction of clocks keeps their skew, whatever is read of the faulty ones.
-use Rattle.std.specs.Prelude.{◌≡◌, ◌≢◌, ℕ, ◌*◌, ◌≤◌, List, length, Bool, true, Option, None, Some, ℤ, pos, ◌+ℤ◌, ◌-ℤ◌, ◌*ℤ◌, ◌≤ℤ◌}
+use Rattle.std.specs.Prelude.{◌≡◌, ◌≢◌, ℕ, ◌*◌, ◌≤◌, List, length, Bool, true, Option, Some, ℤ, pos, ◌+ℤ◌, ◌-ℤ◌, ◌*ℤ◌, ◌≤ℤ◌}
 use Rattle.sift_base.specs.Word.{word_of}
 use Rattle.sift_base.specs.Units.{has}
 use Rattle.sift_base.specs.Margin.{faulty_count, HasMargin}
@@ -66,5 +66,5 @@ HeardClocksAreReadWell =
     (skew error : ℤ) (us : List ℕ) (works : ℕ → Bool) (clock : ℕ → ℤ) (u : ℕ) (heard : ℕ → Option ℕ) (errors : ℕ → ℤ) →
     skew ≤ℤ skew_limit → AreTogether skew us works clock → has us u ≡ true → works u ≡ true →
     ((v : ℕ) → has us v ≡ true → works v ≡ true → v ≢ u →
-        (heard v ≡ Some (word_of (clock v))) × IsWithin error (errors v) (pos 0)) →
+    (heard v ≡ Some (word_of (clock v))) × IsWithin error (errors v) (pos 0)) →
     ReadsWell error us works clock u (λ v. reading_of (heard v) (clock u) (errors v))

@@ -1,5 +1,5 @@
 -- No clock leads another by more than a subframe, and figures are numbers.
-use Rattle.std.specs.Prelude.{◌≡◌, ℕ, suc, ◌<◌, List, ◌++◌, length, map, Bool, true, Option, ℤ, pos, ◌+ℤ◌, ◌-ℤ◌, ◌*ℤ◌, ◌≤ℤ◌, ◌<ℤ◌}
+use Rattle.std.specs.Prelude.{◌≡◌, ℕ, suc, List, ◌++◌, length, map, true, Option, ℤ, pos, ◌+ℤ◌, ◌-ℤ◌, ◌*ℤ◌, ◌≤ℤ◌, ◌<ℤ◌}
 use Rattle.std.specs.List.{Contains}
 use Rattle.sift_base.specs.Units.{has}
 use Rattle.sift_clock.specs.Distance.{IsWithin}

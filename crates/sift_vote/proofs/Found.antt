@@ -1,11 +1,11 @@
 -- The search for a majority finds it.
-use Rattle.std.proofs.Common.{◌≡◌, ◌≢◌, ℕ, suc, ◌+◌, ◌*◌, ◌<◌, ◌≤◌, ◌⊎◌, inl, inr, List, [], ◌∷◌, length, cond, eqb, nat_eq, true, false, Option, None, Some, refl, sym, ap, ◌∙◌, subst, arith}
-use Rattle.std.specs.Prelude.{nat_lt, unwrap_or, count_by}
+use Rattle.std.proofs.Common.{◌≡◌, ◌≢◌, ℕ, ◌*◌, ◌<◌, inl, inr, List, [], ◌∷◌, length, false, Option, None, Some, refl, sym, ap, ◌∙◌, subst, arith}
+use Rattle.std.specs.Prelude.{nat_lt, unwrap_or}
 use Rattle.std.proofs.lemmas.Bool.{cases_Bool, ltb-true, lt-ltb}
 use Rattle.std.proofs.lemmas.Bool.Decides.{eqb_tells}
 use Rattle.std.proofs.lemmas.Option.{none-some, same_Some}
 use Rattle.sift_base.proofs.Counts.{count-no, count-cons}
-use Rattle.sift_vote.specs.Majority.{is_vote_for, votes_for, IsMajority, HasNoMajority, IsAgreed, decided, undecided}
+use Rattle.sift_vote.specs.Majority.{is_vote_for, votes_for, IsMajority, IsAgreed, decided, undecided}
 use Rattle.sift_vote.specs.Agreed.{majority_among, majority_of, agreed_of, MajorityIsFound, AgreedWordIsFound}
 use Rattle.sift_vote.proofs.Votes.{majority_is_unique, agreement_is_unique}
 
@@ -53,6 +53,7 @@ agreed_from places None is =
 pub agreed_word_is_found : AgreedWordIsFound
 agreed_word_is_found places w =
     let found : IsAgreed places (agreed_of places) = agreed_from places (majority_of places) refl in
-    let unique = agreement_is_unique places in
-    ( λ same. subst (IsAgreed places) same found,
-      λ agreed. unique.2 (agreed_of places) found ∙ sym (unique.2 w agreed) )
+    let unique = agreement_is_unique places in (
+      λ same. subst (IsAgreed places) same found,
+      λ agreed. unique.2 (agreed_of places) found ∙ sym (unique.2 w agreed),
+    )

@@ -1,4 +1,4 @@
-use Rattle.std.proofs.Common.{◌≡◌, ◌*◌, ◌^◌, ℕ, pos, take}
+use Rattle.std.proofs.Common.{◌≡◌, ◌*◌, ◌^◌, pos, take}
 use Rattle.sift_clock.specs.Distance.{IsWithin}
 use Rattle.sift_clock.specs.Correction.{counted_sum}
 use Rattle.sift_clock.proofs.correcting.correction.Given as goal

@@ -7,9 +7,9 @@ use Rattle.sift_clock.proofs.hearing.reading.Goals as goal
 pub returns : goal.returns
 returns c =
     let own : c.clock_word.result ≡ word_of c.args.own =
-        c.clock_word.ensures ∙ ap word_of (to_z-of_z w64 c.args.own c.ranges.own) in
+    c.clock_word.ensures ∙ ap word_of (to_z-of_z w64 c.args.own c.ranges.own) in
     let ahead : c.signed.result ≡ signed_of (sub c.in_ok-heard.field-0 (word_of c.args.own)) =
-        c.signed.ensures ∙ ap signed_of (c.sub-ahead.ensures ∙ ap (sub c.in_ok-heard.field-0) own) in
+    c.signed.ensures ∙ ap signed_of (c.sub-ahead.ensures ∙ ap (sub c.in_ok-heard.field-0) own) in
     let fits : to_z w32 (of_z w32 (to_z w32 (of_z w32 c.from.result) +ℤ to_z w32 (of_z w32 c.args.error)))
-            ≡ c.signed.result +ℤ c.args.error = omega (arith, ints) in
+    ≡ c.signed.result +ℤ c.args.error = omega (arith, ints) in
     rw c.in_ok-heard.was (ap Some (fits ∙ ap (λ z. z +ℤ c.args.error) ahead))

@@ -21,6 +21,6 @@ returns c =
     let two : to_z w64 (of_z w64 b) ≡ b = omega (arith, ints, c.in_ok-highest-2.ensures.in_range) in
     let ahead : c.max-ahead.result ≡ int_max a b = c.max-ahead.ensures.value ∙ rw (one, two) in
     let fits : to_z w64 (of_z w64 (to_z w64 (of_z w64 c.from.result) -ℤ to_z w64 (of_z w64 (to_z w64 (of_z w64 c.max-ahead.result) -ℤ to_z w64 (of_z w64 lowest)))))
-        ≡ c.args.length -ℤ (c.max-ahead.result -ℤ lowest) =
-        omega (arith, ints, clamps, c.in_ok-highest.ensures.in_range, c.in_ok-highest-2.ensures.in_range, c.in_ok-lowest.ensures.in_range) in
+    ≡ c.args.length -ℤ (c.max-ahead.result -ℤ lowest) =
+    omega (arith, ints, clamps, c.in_ok-highest.ensures.in_range, c.in_ok-highest-2.ensures.in_range, c.in_ok-lowest.ensures.in_range) in
     rw (fits, ahead) (slack_from c.args.length c.args.now.now c.args.next.now a b lowest c.in_ok-highest.ensures.highest c.in_ok-highest-2.ensures.highest c.in_ok-lowest.ensures.lowest)

@@ -22,8 +22,9 @@ returns-else-skew-le-SKEW_LIMIT c =
     elim c.if-error-rate.branch [
       | then-error-rate w ↦
           (λ t. absurd cc, λ admitted. w.value-is ∙ told-holds a.skew c.requires.0 admitted.told)
-      | else-error-rate w ↦
-          ( λ t. absurd cc,
-            λ admitted. w.value-is
-                ∙ kept-holds a.skew a.error a.rate a.length c.requires admitted.kept )
+      | else-error-rate w ↦ (
+        λ t. absurd cc,
+        λ admitted. w.value-is
+            ∙ kept-holds a.skew a.error a.rate a.length c.requires admitted.kept,
+      )
     ]
