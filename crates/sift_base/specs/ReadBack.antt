@@ -10,7 +10,7 @@ use Rattle.sift_base.specs.Units.{Units, unit_numbers, holds, has_bit, units_of,
 
 -- ---- members of filtered lists
 
-false_last : (t : Bool) → (t && false) ≡ false
+pub false_last : (t : Bool) → (t && false) ≡ false
 false_last true = refl
 false_last false = refl
 

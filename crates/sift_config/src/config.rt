@@ -1,0 +1,94 @@
+//! A configuration, as the set of its units.
+
+ghost use Rattle.std.specs.Prelude.{◌≡◌, ℕ, ◌<◌, ◌≤◌, List, length, false, slice_get, slice_index, Some, IfSome, IfNone};
+ghost use Rattle.sift_base.specs.Units.{Units, unit_limit, has};
+ghost use Rattle.sift_base.specs.Layout.{least_units};
+ghost use Rattle.sift_config.specs.Config.{IsConfig, first_units, reader_of, remaining};
+
+use sift_base::{UnitId, UnitSet};
+use std::marker::Model;
+
+/// The units that work on the tasks at a time. A clause sees their numbers as an ascending list, of four to eight.
+#[derive(Clone, Copy, Debug, PartialEq, Eq)]
+pub struct Config {
+    members: UnitSet,
+}
+
+impl Model for Config {
+    ghost Value = { List ℕ };
+
+    ghost view = { λ config. members config.members };
+
+    ghost invariant = { λ config. AreUnits config.members × IsConfig (members config.members) };
+
+    ghost inverse = { λ us. record { members = set.from_list us } };
+
+    ghost inverse_ok = { λ inside is i. record { members = set-members inside.members is.0 i } };
+}
+
+impl Config {
+    /// All units of a computer that has `n` of them, 4 to 8.
+    pub fn all(n: u8) -> Config
+        requires { (least_units ≤ n) × (n ≤ unit_limit) }
+        ensures { result ≡ first_units n }
+    {
+        Config {
+            members: UnitSet::of_bits(u8::MAX >> (8 - n)),
+        }
+    }
+
+    /// How many units there are, 4 to 8.
+    pub fn len(&self) -> usize
+        ensures length { result ≡ length self.now }
+        ensures config { IsConfig self.now }
+    {
+        usize::from(self.members.len())
+    }
+
+    /// Whether the unit is a member.
+    pub fn has(&self, u: UnitId) -> bool
+        ensures { result ≡ has self.now u }
+    {
+        self.members.has(u)
+    }
+
+    /// The unit at a position, from 0, in the order of the numbers.
+    pub fn unit_at(&self, i: usize) -> UnitId
+        requires { i < length self.now }
+        ensures { slice_get self.now i ≡ Some result }
+    {
+        let mut rest = self.members;
+        for _ in 0..i {
+            rest = rest.without(rest.first());
+        }
+        rest.first()
+    }
+
+    /// The position of a unit, where it is a member.
+    pub fn position_of(&self, u: UnitId) -> Option<usize>
+        ensures found { IfSome result (λ i. slice_get self.now i ≡ Some u) }
+        ensures none { IfNone result (has self.now u ≡ false) }
+    {
+        if !self.has(u) {
+            return None;
+        }
+        let below = UnitSet::of_bits((1 << u.get()) - 1);
+        Some(usize::from(self.members.intersection(below).len()))
+    }
+
+    /// The unit that reads a sensor: the sensors are dealt out to the units in turn.
+    pub fn reader_of(&self, x: u8) -> UnitId
+        ensures { result ≡ reader_of self.now x }
+    {
+        self.unit_at(usize::from(x) % self.len())
+    }
+
+    /// The configuration without some units, where four remain.
+    pub fn without(&self, gone: UnitSet) -> Option<Config>
+        ensures found { IfSome result (λ config. config ≡ remaining self.now gone) }
+        ensures none { IfNone result (length (remaining self.now gone) < least_units) }
+    {
+        let members = self.members.minus(gone);
+        (members.len() >= 4).then_some(Config { members })
+    }
+}
