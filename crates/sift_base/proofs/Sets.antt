@@ -158,11 +158,13 @@ length_of_passing p [] = refl
 length_of_passing p (k ∷ ks) = elim (cases_Bool (p k)) [ inl t ↦ rw t (omega (arith, length_of_passing p ks)) | inr f ↦ rw f (omega (arith, length_of_passing p ks)) ]
 
 -- it is as long as the set has members
-len_of_members : (units : Units) → AreUnits units → length (members units) ≡ set.len units
+pub len_of_members : (units : Units) → AreUnits units → length (members units) ≡ set.len units
+unfolding members
 len_of_members units are = length_of_passing (holds units) unit_numbers ∙ sym (len_of_passing (holds units) unit_numbers units_ascend) ∙ ap set.len (set-members units are)
 
 -- the list of a set's members ascends, and has the units that the set has
 pub members_are : MembersAreTheSet
+unfolding members
 members_are units = (
   passing_ascend (holds units) unit_numbers units_ascend,
   λ u low. has-filter (holds units) unit_numbers u ∙ rw (has_low u low) (back.true_last (holds units u)),
@@ -210,6 +212,7 @@ filter_without p t rest (k ∷ ks) up is = elim (cases_Bool (p k)) [
 
 -- a set without its first member has the others
 pub members_without : (units : Units) (t : ℕ) (rest : List ℕ) → members units ≡ t ∷ rest → members (set.remove units t) ≡ rest
+unfolding members
 members_without units t rest is =
     filter_same (holds (set.remove units t)) (λ u. not (nat_eq u t) && holds units u) unit_numbers (λ u there. holds-remove units t u)
     ∙ filter_without (holds units) t rest unit_numbers units_ascend is
@@ -221,6 +224,7 @@ none_pass p (k ∷ ks) none = rw (none k) (none_pass p ks none)
 
 -- a byte whose set has members isn't 0
 not_zero : (bits : ℕ) → 0 < length (members (units_of bits)) → 0 < bits
+unfolding members
 not_zero bits some = elim (cases_eq bits 0) [
   | inl e ↦ absurd (omega (arith, ap (λ b. length (members (units_of b))) e, ap (λ units. length (members units)) no_bits, ap length (none_pass (holds set.empty) unit_numbers (set.contains-empty nat_cmp))))
   | inr ne ↦ omega arith
@@ -229,6 +233,7 @@ not_zero bits some = elim (cases_eq bits 0) [
 -- the place of a byte's lowest 1 is the first member of its set
 pub lowest_is_first : (bits : ℕ) → bits < 2 ^ 8 → 0 < length (members (units_of bits)) →
     (trailing_zeros w8 bits < 8) × (slice_get (members (units_of bits)) 0 ≡ Some (trailing_zeros w8 bits))
+unfolding members
 lowest_is_first bits fits some =
     let at = bit_at-trailing_zeros w8 bits (not_zero bits some) fits in
     let t = trailing_zeros w8 bits in

@@ -1,8 +1,10 @@
 //! A configuration, as the set of its units.
 
 ghost use Rattle.std.specs.Prelude.{◌≡◌, ℕ, ◌<◌, ◌≤◌, List, length, false, slice_get, slice_index, Some, IfSome, IfNone};
-ghost use Rattle.sift_base.specs.Units.{Units, unit_limit, has};
+ghost use Rattle.std.specs.FinSet as set;
+ghost use Rattle.sift_base.specs.Units.{AreUnits, members, unit_limit, has};
 ghost use Rattle.sift_base.specs.Layout.{least_units};
+ghost use Rattle.sift_base.specs.ReadBack.{set-members};
 ghost use Rattle.sift_config.specs.Config.{IsConfig, first_units, reader_of, remaining};
 
 use sift_base::{UnitId, UnitSet};
@@ -11,19 +13,19 @@ use std::marker::Model;
 /// The units that work on the tasks at a time. A clause sees their numbers as an ascending list, of four to eight.
 #[derive(Clone, Copy, Debug, PartialEq, Eq)]
 pub struct Config {
-    members: UnitSet,
+    units: UnitSet,
 }
 
 impl Model for Config {
     ghost Value = { List ℕ };
 
-    ghost view = { λ config. members config.members };
+    ghost view = { λ config. members config.units };
 
-    ghost invariant = { λ config. AreUnits config.members × IsConfig (members config.members) };
+    ghost invariant = { λ config. AreUnits config.units × IsConfig (members config.units) };
 
-    ghost inverse = { λ us. record { members = set.from_list us } };
+    ghost inverse = { λ us. record { units = set.from_list us } };
 
-    ghost inverse_ok = { λ inside is i. record { members = set-members inside.members is.0 i } };
+    ghost inverse_ok = { λ inside is i. record { units = set-members inside.units is.0 i } };
 }
 
 impl Config {
@@ -33,7 +35,7 @@ impl Config {
         ensures { result ≡ first_units n }
     {
         Config {
-            members: UnitSet::of_bits(u8::MAX >> (8 - n)),
+            units: UnitSet::of_bits(u8::MAX >> (8 - n)),
         }
     }
 
@@ -42,14 +44,14 @@ impl Config {
         ensures length { result ≡ length self.now }
         ensures config { IsConfig self.now }
     {
-        usize::from(self.members.len())
+        usize::from(self.units.len())
     }
 
     /// Whether the unit is a member.
     pub fn has(&self, u: UnitId) -> bool
         ensures { result ≡ has self.now u }
     {
-        self.members.has(u)
+        self.units.has(u)
     }
 
     /// The unit at a position, from 0, in the order of the numbers.
@@ -57,7 +59,7 @@ impl Config {
         requires { i < length self.now }
         ensures { slice_get self.now i ≡ Some result }
     {
-        let mut rest = self.members;
+        let mut rest = self.units;
         for _ in 0..i {
             rest = rest.without(rest.first());
         }
@@ -69,11 +71,15 @@ impl Config {
         ensures found { IfSome result (λ i. slice_get self.now i ≡ Some u) }
         ensures none { IfNone result (has self.now u ≡ false) }
     {
-        if !self.has(u) {
-            return None;
+        let mut rest = self.units;
+        for position in 0..self.len() {
+            let member = rest.first();
+            if member == u {
+                return Some(position);
+            }
+            rest = rest.without(member);
         }
-        let below = UnitSet::of_bits((1 << u.get()) - 1);
-        Some(usize::from(self.members.intersection(below).len()))
+        None
     }
 
     /// The unit that reads a sensor: the sensors are dealt out to the units in turn.
@@ -88,7 +94,10 @@ impl Config {
         ensures found { IfSome result (λ config. config ≡ remaining self.now gone) }
         ensures none { IfNone result (length (remaining self.now gone) < least_units) }
     {
-        let members = self.members.minus(gone);
-        (members.len() >= 4).then_some(Config { members })
+        let units = self.units.minus(gone);
+        if units.len() < 4 {
+            return None;
+        }
+        Some(Config { units })
     }
 }

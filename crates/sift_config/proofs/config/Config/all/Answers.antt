@@ -1,19 +1,13 @@
-use Rattle.std.proofs.Common.{◌≡◌, arith, sym}
-use Rattle.std.proofs.lemmas.List.FromFn.{length-range_with_len}
-use Rattle.sift_config.proofs.Lists.{first_units-more, first_are_config}
+use Rattle.std.proofs.Common.{◌/◌, ◌^◌, ◌-◌, ap, ◌∙◌}
+use Rattle.sift_base.specs.Units.{members}
+use Rattle.sift_base.proofs.Sets.{are_units}
+use Rattle.sift_config.proofs.Lists.{first_bits, first_are_config}
 use Rattle.sift_config.proofs.config.Config.all.Goals as goal
-use Rattle.sift_config.proofs.config.Config.all.Goals.{in-Some, in_default}
-
-pub push-requires : goal.push-requires
-push-requires c = rw c.loop-number.invariant (omega arith, omega (arith, length-range_with_len 0 c.loop-number.number, c.loop-number-test.true, c.requires.1))
-
-pub loop-number-preserved : goal.loop-number-preserved
-loop-number-preserved c = elim c.match-of.branch [
-    | in-Some w ↦ rw (w.units-is, w.push.ensures.items, c.loop-number.invariant, w.in-Some.ensures.found.0) (sym (first_units-more c.loop-number.number))
-    | in_default w ↦ absurd (omega (arith, w.in_default.ensures.none, c.loop-number-test.true, c.requires.1))
-  ]
 
 pub invariant_of-result : goal.invariant_of-result
 invariant_of-result c =
-    let all : c.loop-number.number ≡ c.args.n = omega (arith, c.loop-number-test.false, c.loop-number.auto.number-end) in
-    rw (c.loop-number.invariant, all) (first_are_config c.args.n c.requires.0 c.requires.1)
+    let first = first_bits c.args.n c.requires.0 c.requires.1 in
+    rw c.of_bits.ensures (are_units (255 / 2 ^ (8 - c.args.n)), rw first (first_are_config c.args.n c.requires.0 c.requires.1))
+
+pub returns : goal.returns
+returns c = ap members c.of_bits.ensures ∙ first_bits c.args.n c.requires.0 c.requires.1

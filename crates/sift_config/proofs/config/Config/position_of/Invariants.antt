@@ -1,7 +1,7 @@
-use Rattle.std.proofs.Common.{◌≡◌, take, false}
-use Rattle.sift_base.specs.Units.{has}
+use Rattle.std.proofs.Common.{◌≡◌, drop, take, false}
+use Rattle.sift_base.specs.Units.{members, has}
 use Rattle.sift_config.proofs.config.Config.position_of.Given as goal
 
--- the unit is none of the members seen
+-- the rest are the members from the position on, and the unit is none before it
 abbrev pub invariant-loop-position : goal.invariant-loop-position
-invariant-loop-position l = has (take l.position l.member-items) l.fn.u ≡ false
+invariant-loop-position l = (members l.rest ≡ drop l.position l.fn.self) × (has (take l.position l.fn.self) l.fn.u ≡ false)
