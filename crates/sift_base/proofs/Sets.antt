@@ -48,7 +48,7 @@ same_below bits other low high = set.same_set nat_cmp_total set.nat_cmp-IsAntisy
 -- ---- one unit more, one less, both sets
 
 -- a set with u holds q where q is u, or the set holds it
-holds-insert : (units : Units) (u q : ℕ) → holds (set.insert units u) q ≡ (nat_eq q u || holds units q)
+pub holds-insert : (units : Units) (u q : ℕ) → holds (set.insert units u) q ≡ (nat_eq q u || holds units q)
 holds-insert units u q = set.contains-insert nat_cmp_total units u q ∙ ap (λ t. t || holds units q) (unsigned_tied q u)
 
 holds-remove : (units : Units) (u q : ℕ) → holds (set.remove units u) q ≡ (not (nat_eq q u) && holds units q)
@@ -190,7 +190,7 @@ filter_same p q (k ∷ ks) agree =
     elim (cases_Bool (q k)) [ inl t ↦ rw (t, here ∙ t) (ap (λ us. k ∷ us) rest) | inr f ↦ rw (f, here ∙ f) rest ]
 
 -- what is below a list is below each number of it
-below_has : (k : ℕ) (ks : List ℕ) (u : ℕ) → IsBelowAll k ks → has ks u ≡ true → k < u
+pub below_has : (k : ℕ) (ks : List ℕ) (u : ℕ) → IsBelowAll k ks → has ks u ≡ true → k < u
 below_has k [] u low there = absurd cc
 below_has k (x ∷ ks) u low there = elim (or_cases (nat_eq x u) (has ks u) there) [ inl here ↦ omega (arith, eqb-true x u here, low.0) | inr later ↦ below_has k ks u low.1 later ]
 

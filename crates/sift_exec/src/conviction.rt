@@ -1,6 +1,6 @@
 //! Who is convicted on the units' reports, and the configuration of the next frame.
 
-ghost use Rattle.std.specs.Prelude.{◌≡◌, ℕ, length};
+ghost use Rattle.std.specs.Prelude.{◌≡◌, ℕ, length, not, ◌&&◌, nat_eq};
 ghost use Rattle.sift_base.specs.Units.{holds, has_bit};
 ghost use Rattle.sift_exec.specs.Conviction.{accusers, is_convicted, names_by, next_units, ConvictionIsJust};
 
@@ -31,19 +31,19 @@ fn accusers_of(accused: UnitId, masks: &[Word], config: &Config) -> usize
     ensures { result ≡ accusers (names_by config.now masks.now) config.now accused }
 {
     let mut count = 0;
-    for (position, mask) in masks.iter().enumerate() {
-        if config.unit_at(position) != accused && names(*mask, accused) {
+    for position in 0..config.len() {
+        if accuses(config.unit_at(position), masks[position], accused) {
             count += 1;
         }
     }
     count
 }
 
-/// Whether a report names the unit.
-fn names(mask: Word, unit: UnitId) -> bool
-    ensures { result ≡ has_bit mask unit }
+/// Whether a unit's report names another unit.
+fn accuses(accuser: UnitId, report: Word, accused: UnitId) -> bool
+    ensures { result ≡ (not (nat_eq accuser accused) && has_bit report accused) }
 {
-    (mask.get() >> unit.get()) & 1 == 1
+    accuser != accused && (report.get() >> accused.get()) & 1 == 1
 }
 
 /// The configuration without the convicted units, where at least four remain, else the configuration as it is.
@@ -52,7 +52,7 @@ pub fn next_config(config: &Config, convicted: UnitSet) -> Config
 {
     match config.without(convicted) {
         Some(rest) => rest,
-        None => config.clone(),
+        None => *config,
     }
 }
 
