@@ -4,7 +4,9 @@
 #![tactic(auto)]
 
 mod laws;
+mod search;
 mod voting;
 
 pub use laws::{agreement_is_unique, majority_is_unique, unanimity_is_agreed};
+pub use search::{agreed_word_is_found, majority_is_found};
 pub use voting::majority;
