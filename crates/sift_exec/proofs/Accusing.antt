@@ -1,12 +1,12 @@
 -- Counting accusers: unit by unit, with the report at each position.
-use Rattle.std.proofs.Common.{◌≡◌, ℕ, zero, suc, ◌+◌, ◌<◌, ◌≤◌, Bool, true, false, not, ◌&&◌, ◌||◌, cond, nat_eq, nat_lt, List, [], ◌∷◌, length, take, get_or, slice_get, Some, unwrap_or, count_by, arith, add-one, ap, ◌∙◌, sym, refl, inl, inr}
+use Rattle.std.proofs.Common.{◌≡◌, ℕ, zero, suc, ◌+◌, Bool, true, false, not, ◌&&◌, ◌||◌, cond, nat_eq, List, [], ◌∷◌, length, take, get_or, slice_get, Some, unwrap_or, arith, ap, ◌∙◌, sym, refl, inl, inr}
 use Rattle.std.specs.FinSet as set
 use Rattle.std.proofs.lemmas.Bool.{cases_Bool, eqb-true, eq-eqb, ne_eqb}
-use Rattle.sift_base.specs.Units.{Units, holds, has, has_bit, others, IsBelowAll, IsAscending}
+use Rattle.sift_base.specs.Units.{Units, holds, has, others, IsAscending}
 use Rattle.sift_base.proofs.Counts.{count-cons, has-tail, has-head, apart}
 use Rattle.sift_base.proofs.Sets.{below_has, holds-insert}
 use Rattle.sift_base.specs.ReadBack.{false_last}
-use Rattle.sift_exec.specs.Conviction.{accusers, report_by, names_by}
+use Rattle.sift_exec.specs.Conviction.{accusers, report_by}
 
 -- the unit at a position is in the list
 pub has_at : (us : List ℕ) (i t : ℕ) → slice_get us i ≡ Some t → has us t ≡ true

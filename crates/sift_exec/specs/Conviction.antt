@@ -1,7 +1,7 @@
 -- Conviction: a unit is configured out where at least two other units name it in their reports.
 use Rattle.std.specs.Prelude.{◌≡◌, ℕ, ◌≤◌, List, [], ◌∷◌, length, Bool, true, false, not, ◌&&◌, nat_eq, nat_lt, nat_le, if◌then◌else◌, count_by}
 use Rattle.std.specs.List.{filter}
-use Rattle.sift_base.specs.Units.{Units, holds, has, others, has_bit, IsAscending}
+use Rattle.sift_base.specs.Units.{Units, has, others, has_bit}
 use Rattle.sift_base.specs.Layout.{least_units}
 use Rattle.sift_base.specs.Margin.{HasMargin}
 use Rattle.sift_config.specs.Config.{remaining}
@@ -48,4 +48,4 @@ pub record IsJust (works : ℕ → Bool) (us : List ℕ) (names : ℕ → ℕ �
 -- conviction is just, where no working unit names a working one
 abbrev pub ConvictionIsJust : Type 0
 ConvictionIsJust = (works : ℕ → Bool) (us : List ℕ) (names : ℕ → ℕ → Bool) →
-    IsAscending us → HasMargin works us → NamesNoWorking works names us → IsJust works us names
+    HasMargin works us → NamesNoWorking works names us → IsJust works us names

@@ -1,4 +1,4 @@
-use Rattle.std.proofs.Common.{◌≡◌, ℕ, ◌&&◌, ◌||◌, nat_eq, nat_lt, true, false, take, arith, ap, ◌∙◌, sym, nat_cmp}
+use Rattle.std.proofs.Common.{◌≡◌, ℕ, ◌&&◌, nat_lt, true, false, take, arith, ap, ◌∙◌, sym, nat_cmp}
 use Rattle.std.specs.FinSet as set
 use Rattle.std.proofs.lemmas.Bool.{lt-ltb, le-ltb}
 use Rattle.sift_base.specs.Units.{holds, has}
