@@ -1,0 +1,9 @@
+pub mod Cells
+pub mod Places
+pub mod Puts
+pub mod Sound
+pub mod Keep
+pub mod Heard
+pub mod Moves
+pub mod Acts
+pub mod Events

@@ -1,0 +1,8 @@
+//! What units share: cells and progress numbers, what every order of loads and stores keeps of them, and ports, by which a unit reaches them.
+#![tactic(auto)]
+
+mod cell;
+mod laws;
+
+pub use cell::{pack, take};
+pub use laws::{events_keep_the_core_lawful, fresh_is_lawful, packing_is_taken};
