@@ -1,11 +1,16 @@
 -- Each allowed event keeps the core lawful.
-use Rattle.std.proofs.Common.{List, [], ◌∷◌}
+use Rattle.std.proofs.Common.{arith, List, [], ◌∷◌}
+use Rattle.std.proofs.lemmas.Grind.{common_steps}
 use Rattle.sift_buffer.specs.Ranges.{Ranges}
-use Rattle.sift_buffer.specs.Core.{Core, Event, look, hear, say, enter, turn, stray, after, Allowed, after_all, AllAllowed}
+use Rattle.sift_buffer.specs.Core.{Core, Event, look, hear, say, enter, turn, stray, after, Allowed, fresh_core, after_all, AllAllowed}
 use Rattle.sift_buffer.specs.Lawful.{Lawful}
 use Rattle.sift_buffer.proofs.Sound.{Sound, sound_of, lawful_of}
 use Rattle.sift_buffer.proofs.Moves.{look_keeps, hear_keeps, enter_keeps, turn_keeps}
 use Rattle.sift_buffer.proofs.Acts.{say_keeps, stray_keeps}
+
+-- a core in which nobody has done anything is lawful
+pub fresh_lawful : (r : Ranges) → Lawful r (fresh_core r)
+fresh_lawful r = grind (arith, common_steps)
 
 -- one event keeps the core sound
 event_keeps : (r : Ranges) (c : Core) (e : Event) → Sound r c → Allowed r c e → Sound r (after r c e)

@@ -7,3 +7,4 @@ pub mod Heard
 pub mod Moves
 pub mod Acts
 pub mod Events
+pub mod Samples

@@ -5,3 +5,4 @@ pub mod Conditions
 pub mod Core
 pub mod Lawful
 pub mod Laws
+pub mod Samples

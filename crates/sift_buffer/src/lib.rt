@@ -5,4 +5,6 @@ mod cell;
 mod laws;
 
 pub use cell::{pack, take};
-pub use laws::{events_keep_the_core_lawful, fresh_is_lawful, packing_is_taken};
+pub use laws::{
+    conditions_tell_cores_apart, events_keep_the_core_lawful, fresh_is_lawful, packing_is_taken,
+};
