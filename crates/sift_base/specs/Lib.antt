@@ -1,2 +1,7 @@
+pub mod Draw
+pub mod Layout
 pub mod Name
+pub mod ReadBack
+pub mod Shapes
+pub mod Units
 pub mod Word

@@ -1,12 +1,25 @@
-//! The values that every layer shares: words of the computer's memory, names, and want of memory.
+//! The values that every layer shares: words of the computer's memory, units and sets of them, slots and their
+//! numbers, the shapes of tasks, draws, names, and want of memory.
 //!
 //! Word arithmetic has its meaning here and nowhere else.
 #![tactic(auto)]
 
+mod draw;
+mod layout;
 mod memory;
 mod name;
+mod shapes;
+mod slot;
+mod unit;
+mod unit_set;
 mod word;
 
+pub use draw::Draw;
+pub use layout::{Layout, slot_numbers_are_below, slot_numbers_differ};
 pub use memory::NoMemory;
 pub use name::{NAME_LIMIT, Name, is_name, is_name_byte};
+pub use shapes::{Shapes, TaskShape};
+pub use slot::Slot;
+pub use unit::UnitId;
+pub use unit_set::{UnitSet, members_are_the_set};
 pub use word::Word;
