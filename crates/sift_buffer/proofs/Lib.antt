@@ -8,3 +8,5 @@ pub mod Moves
 pub mod Acts
 pub mod Events
 pub mod Samples
+pub mod Tables
+pub mod Notes

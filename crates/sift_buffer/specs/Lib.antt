@@ -6,3 +6,6 @@ pub mod Core
 pub mod Lawful
 pub mod Laws
 pub mod Samples
+pub mod Tables
+pub mod Journals
+pub mod Sizes

@@ -2,9 +2,12 @@
 #![tactic(auto)]
 
 mod cell;
+mod grid;
+mod journal;
 mod laws;
 
 pub use cell::{pack, take};
+pub use journal::Journal;
 pub use laws::{
     conditions_tell_cores_apart, events_keep_the_core_lawful, fresh_is_lawful, packing_is_taken,
 };
