@@ -10,3 +10,4 @@ pub mod Events
 pub mod Samples
 pub mod Tables
 pub mod Notes
+pub mod Rounds

@@ -20,6 +20,9 @@ module _ {A : Type 0} where
   pub none_some : {x : A} {B : Type 0} → None ≡ Some x → B
   none_some e = absurd (cc)
 
+  pub put_here : (g : ℕ → A) (i : ℕ) (x : A) → put g i x i ≡ x
+  put_here g i x = rw (eq-eqb i i refl) refl
+
   -- elsewhere nothing changes
   pub put_else : (g : ℕ → A) (i : ℕ) (x : A) (j : ℕ) → j ≢ i → put g i x j ≡ g j
   put_else g i x j other = rw (ne_eqb j i other) refl

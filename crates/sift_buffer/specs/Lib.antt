@@ -9,3 +9,4 @@ pub mod Samples
 pub mod Tables
 pub mod Journals
 pub mod Sizes
+pub mod Views

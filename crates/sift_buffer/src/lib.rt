@@ -2,12 +2,16 @@
 #![tactic(auto)]
 
 mod cell;
+mod gate;
 mod grid;
 mod journal;
 mod laws;
+mod port;
 
 pub use cell::{pack, take};
+pub use gate::{Look, find_behind, rounds_decide};
 pub use journal::Journal;
 pub use laws::{
     conditions_tell_cores_apart, events_keep_the_core_lawful, fresh_is_lawful, packing_is_taken,
 };
+pub use port::{Entering, Port};

@@ -1,0 +1,35 @@
+use Rattle.std.proofs.Common.{◌≡◌, ◌≢◌, ◌≤◌, ◌<◌, ◌+◌, ℕ, sym, subst, ◌∙◌, arith}
+use Rattle.sift_buffer.specs.Ranges.{Ranges}
+use Rattle.sift_buffer.specs.Views.{View, LooksRound, view_with_look}
+use Rattle.sift_buffer.proofs.Rounds.{round_skip, round_look, round_keeps, apart_by, same_by}
+use Rattle.sift_buffer.proofs.gate.find_behind.Goals.{in-Some+then-ne+else-seen-progress, in-Some+else-ne, in_default}
+use Rattle.sift_buffer.proofs.gate.find_behind.Goals as goal
+
+pub look-seen-requires : goal.look-seen-requires
+look-seen-requires g c =
+    let k = round_keeps _ _ _ c.loop-number.invariant.round in
+    let here : c.in-Some.other ≡ c.loop-number.number = c.in-Some.ensures.found.0 in
+    let low : c.in-Some.other < c.args.units = let t = c.loop-number-test.true in omega arith in (
+      subst (λ (r : Ranges). c.in-Some.other < r.units) (sym k.ranges) (subst (λ (n : ℕ). c.in-Some.other < n) c.requires.units low),
+      λ e. apart_by c.in-Some.other c.args.own c.if-ne.ensures (e ∙ (k.unit ∙ sym c.requires.own)),
+    )
+
+pub loop-number-preserved : goal.loop-number-preserved
+loop-number-preserved g c =
+    let v : View = g.L.Look.view c.args.port.now in
+    let n : ℕ = c.loop-number.number in
+    let inv = c.loop-number.invariant in
+    let within : n + 1 ≤ c.args.units = let t = c.loop-number-test.true in omega arith in
+    elim c.match-of.branch [
+      | in-Some+then-ne+else-seen-progress w ↦
+          let other : n ≢ v.unit = λ e. apart_by w.in-Some.other c.args.own w.if-ne.ensures (w.in-Some.ensures.found.0 ∙ (e ∙ sym c.requires.own)) in
+          let up : v.conduct.progress ≤ w.look-seen.result = subst (λ (x : ℕ). x ≤ w.look-seen.result) c.requires.progress w.if-seen-progress.false in
+          let round : LooksRound v (n + 1) (g.L.Look.view w.look-seen.new.self) =
+          subst (λ (x : View). LooksRound v (n + 1) x) (sym (w.look-seen.ensures.view ∙ (λ i. view_with_look (g.L.Look.view c.loop-number.port) (w.in-Some.ensures.found.0 i) w.look-seen.result)))
+          (round_look v _ n w.look-seen.result inv.round other up) in
+          rw w.port-is (record { follows = g.met.L.Look.follows_on _ _ _ inv.follows w.look-seen.ensures.follows; within = within; round = round })
+      | in-Some+else-ne w ↦
+          let own : n ≡ v.unit = sym w.in-Some.ensures.found.0 ∙ (same_by w.in-Some.other c.args.own w.if-ne.ensures ∙ c.requires.own) in
+          rw w.port-is (record { follows = inv.follows; within = within; round = round_skip v _ n inv.round own })
+      | in_default w ↦ let high = w.in_default.ensures.none in let few = c.requires.few in absurd (omega arith)
+    ]
