@@ -6,7 +6,7 @@ use Rattle.sift_buffer.specs.Core.{Core, Event, look, hear, say, enter, turn, st
 use Rattle.sift_buffer.specs.Lawful.{Lawful}
 use Rattle.sift_buffer.proofs.Sound.{Sound, sound_of, lawful_of}
 use Rattle.sift_buffer.proofs.Moves.{look_keeps, hear_keeps, enter_keeps, turn_keeps}
-use Rattle.sift_buffer.proofs.Acts.{say_keeps, stray_keeps}
+use Rattle.sift_buffer.proofs.Stores.{say_keeps, stray_keeps}
 
 -- a core in which nobody has done anything is lawful
 pub fresh_lawful : (r : Ranges) → Lawful r (fresh_core r)

@@ -5,9 +5,11 @@ pub mod Sound
 pub mod Keep
 pub mod Heard
 pub mod Moves
-pub mod Acts
+pub mod Stores
 pub mod Events
 pub mod Samples
 pub mod Tables
 pub mod Notes
 pub mod Rounds
+pub mod LedgerLemmas
+pub mod NewLedgers

@@ -5,7 +5,7 @@ use native.Mathlib.Decide.{ℕ_discrete}
 use Rattle.sift_buffer.specs.Ranges.{Ranges}
 use Rattle.sift_buffer.specs.Conduct.{Conduct, with_seen}
 use Rattle.sift_buffer.specs.Conditions.{PassesGate}
-use Rattle.sift_buffer.specs.Views.{View, view_with_look, view_with_looks, AreReached, LooksRound, FindsBehind, KeepsOwn, HasCause, RoundsDecide}
+use Rattle.sift_buffer.specs.Views.{View, view_with_look, view_with_looks, AreReached, LooksRound, FindsBehind, KeepsOwn, FindsNone, HasCause}
 use Rattle.sift_buffer.proofs.Puts.{put_here, put_cases}
 
 -- the own unit is passed over
@@ -51,13 +51,13 @@ seen_reached v (n ∷ ns) p progress t low ne = dite (ℕ_discrete (length ns) v
     (λ _. t.0 d) (λ away. seen_reached v ns p progress t.1 (omega arith) ne)))
 
 -- a round over all units passes the gate
-pub round_passes : (v v' : View) → LooksRound v v.ranges.units v' → PassesGate v'.ranges v'.conduct v'.unit
+round_passes : (v v' : View) → LooksRound v v.ranges.units v' → PassesGate v'.ranges v'.conduct v'.unit
 round_passes v v' r p hp ne = let k = round_keeps v v' v.ranges.units r in
     let low : p < v.ranges.units = subst (λ (x : Ranges). p < x.units) k.ranges hp in
     rw (k.conduct, r.after) (seen_reached v r.found p v.conduct.progress r.reached (let a = r.all in omega arith) (λ e. ne (e ∙ sym k.unit)))
 
 -- a unit that was found behind is the cause
-behind_causes : (v v' : View) (p n : ℕ) → FindsBehind v p n v' → HasCause v p n v'
+pub behind_causes : (v v' : View) (p n : ℕ) → FindsBehind v p n v' → HasCause v p n v'
 behind_causes v v' p n b = let k = round_keeps v b.before p b.round in subst (λ (w : View). HasCause v p n w) (sym b.after) (record {
   other = b.other;
   behind = b.behind;
@@ -66,8 +66,9 @@ behind_causes v v' p n b = let k = round_keeps v b.before p b.round in subst (λ
   looked = (let l = k.looks in omega arith);
 })
 
-pub decide : RoundsDecide
-decide = record { passes = λ v v' r. (round_keeps v v' v.ranges.units r, round_passes v v' r); causes = behind_causes }
+-- a round over all units
+pub round_none : (v v' : View) → LooksRound v v.ranges.units v' → FindsNone v v'
+round_none v v' r = record { round = r; own = round_keeps v v' v.ranges.units r; gate = round_passes v v' r }
 
 -- a test of two numbers, and what it tells
 pub apart_by : (a b : ℕ) → true ≡ not (a == b) → a ≢ b

@@ -8,5 +8,6 @@ pub mod Laws
 pub mod Samples
 pub mod Tables
 pub mod Journals
+pub mod Ledgers
 pub mod Sizes
 pub mod Views

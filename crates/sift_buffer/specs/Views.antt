@@ -1,5 +1,5 @@
 -- What contracts see of a port, and what its calls make of it.
-use Rattle.std.specs.Prelude.{◌≡◌, ◌≢◌, ℕ, ◌+◌, ◌<◌, ◌≤◌, ◌==◌, if◌then◌else◌, min, List, [], ◌∷◌, length, Option, ⊤}
+use Rattle.std.specs.Prelude.{◌≡◌, ◌≢◌, ℕ, ◌+◌, ◌<◌, ◌≤◌, ◌==◌, if◌then◌else◌, min, List, [], ◌∷◌, length, Option, Some, None, ⊤}
 use Rattle.sift_buffer.specs.Ranges.{Ranges}
 use Rattle.sift_buffer.specs.Conduct.{Conduct, with_seen, with_said, with_heard, with_entered}
 use Rattle.sift_buffer.specs.Conditions.{PassesGate}
@@ -78,6 +78,24 @@ pub record FindsBehind (v : View) (p n : ℕ) (v' : View) : Type 0 where
   pub behind : n < v.conduct.progress
   pub after : v' ≡ view_with_look before p n
 
+-- what a round of looks leaves: all but what was seen, and the count of looks, which doesn't fall
+pub record KeepsOwn (v v' : View) : Type 0 where
+  pub ranges : v'.ranges ≡ v.ranges
+  pub unit : v'.unit ≡ v.unit
+  pub conduct : v'.conduct ≡ record v.conduct { seen = v'.conduct.seen }
+  pub looks : min v.looks look_limit ≤ v'.looks
+
+-- the round found all other units at the own progress or more, and so the unit passes the gate
+pub record FindsNone (v v' : View) : Type 0 where
+  pub round : LooksRound v v.ranges.units v'
+  pub own : KeepsOwn v v'
+  pub gate : PassesGate v'.ranges v'.conduct v'.unit
+
+-- what a round of looks found, up to the first unit that is behind
+abbrev pub Decides : View → Option (ℕ × ℕ) → View → Type 0
+Decides v None v' = FindsNone v v'
+Decides v (Some x) v' = FindsBehind v x.0 x.1 v'
+
 -- the round found all other units at the own progress or more, and then the unit entered
 pub record EntersAfterRound (v v' : View) : Type 0 where
   pub before : View
@@ -94,14 +112,7 @@ abbrev pub Finds : Entering → (ℕ → ℕ → Type 0) → Type 0
 Finds Entered P = ⊤
 Finds (NotYet p n) P = P p n
 
--- ---- laws
-
--- what a round of looks leaves: all but what was seen, and the count of looks, which doesn't fall
-pub record KeepsOwn (v v' : View) : Type 0 where
-  pub ranges : v'.ranges ≡ v.ranges
-  pub unit : v'.unit ≡ v.unit
-  pub conduct : v'.conduct ≡ record v.conduct { seen = v'.conduct.seen }
-  pub looks : min v.looks look_limit ≤ v'.looks
+-- ---- a law
 
 -- why an entry was refused: this call loaded the number from the unit, it is below the unit's progress, and the count of looks rose
 pub record HasCause (v : View) (p n : ℕ) (v' : View) : Type 0 where
@@ -111,7 +122,6 @@ pub record HasCause (v : View) (p n : ℕ) (v' : View) : Type 0 where
   pub seen : v'.conduct.seen p ≡ n
   pub looked : HasLooked v.looks v'.looks
 
--- a round over all units leaves the unit at the gate; a refused entry has its cause
-pub record RoundsDecide : Type 0 where
-  pub passes : (v v' : View) → LooksRound v v.ranges.units v' → KeepsOwn v v' × PassesGate v'.ranges v'.conduct v'.unit
-  pub causes : (v v' : View) (p n : ℕ) → FindsBehind v p n v' → HasCause v p n v'
+-- each refused entry has its cause
+abbrev pub RefusalsHaveCauses : Type 0
+RefusalsHaveCauses = (v v' : View) (p n : ℕ) → Tries v (NotYet p n) v' → HasCause v p n v'

@@ -1,7 +1,7 @@
 //! The gate: the round of looks that a unit makes before it goes on.
-ghost use Rattle.std.specs.Prelude.{◌≡◌, ◌≤◌, ℕ, IfSome, IfNone};
+ghost use Rattle.std.specs.Prelude.{◌≡◌, ◌≤◌, ℕ, IfSome};
 ghost use Rattle.sift_base.specs.Units.{unit_limit};
-ghost use Rattle.sift_buffer.specs.Views.{View, IsOther, LooksRound, FindsBehind, view_with_look, RoundsDecide};
+ghost use Rattle.sift_buffer.specs.Views.{View, IsOther, Decides, view_with_look};
 
 use sift_base::UnitId;
 
@@ -41,9 +41,8 @@ pub fn find_behind<L: Look>(
     requires few { units ≤ unit_limit }
     requires own { own ≡ (L.view port.old).unit }
     requires progress { progress ≡ (L.view port.old).conduct.progress }
-    ensures behind { IfSome result (λ x. FindsBehind (L.view port.old) x.0 x.1 (L.view port.new)) }
+    ensures round { Decides (L.view port.old) result (L.view port.new) }
     ensures stands { IfSome result (λ x. L.stands port.new x.0 x.1) }
-    ensures reached { IfNone result (LooksRound (L.view port.old) units (L.view port.new)) }
     ensures follows { L.follows port.old port.new }
 {
     for number in 0..units {
@@ -58,8 +57,3 @@ pub fn find_behind<L: Look>(
     }
     None
 }
-
-/// A round over all units leaves a unit that passes the gate, and a unit that was found behind is the cause.
-pub fn rounds_decide()
-    ensures { RoundsDecide }
-{}

@@ -1,6 +1,7 @@
 //! What units share: cells and progress numbers, what every order of loads and stores keeps of them, and ports, by which a unit reaches them.
 #![tactic(auto)]
 
+mod acts;
 mod cell;
 mod gate;
 mod grid;
@@ -8,10 +9,12 @@ mod journal;
 mod laws;
 mod port;
 
+pub use acts::Acts;
 pub use cell::{pack, take};
-pub use gate::{Look, find_behind, rounds_decide};
+pub use gate::{Look, find_behind};
 pub use journal::Journal;
 pub use laws::{
     conditions_tell_cores_apart, events_keep_the_core_lawful, fresh_is_lawful, packing_is_taken,
+    refusals_have_causes,
 };
 pub use port::{Entering, Port};

@@ -1,7 +1,7 @@
 use Rattle.std.proofs.Common.{◌≡◌, ◌≢◌, ◌≤◌, ◌<◌, ◌+◌, ℕ, sym, subst, ◌∙◌, arith}
 use Rattle.sift_buffer.specs.Ranges.{Ranges}
 use Rattle.sift_buffer.specs.Views.{View, LooksRound, view_with_look}
-use Rattle.sift_buffer.proofs.Rounds.{round_skip, round_look, round_keeps, apart_by, same_by}
+use Rattle.sift_buffer.proofs.Rounds.{round_skip, round_look, round_keeps, round_none, apart_by, same_by}
 use Rattle.sift_buffer.proofs.gate.find_behind.Goals.{in-Some+then-ne+else-seen-progress, in-Some+else-ne, in_default}
 use Rattle.sift_buffer.proofs.gate.find_behind.Goals as goal
 
@@ -33,3 +33,10 @@ loop-number-preserved g c =
           rw w.port-is (record { follows = inv.follows; within = within; round = round_skip v _ n inv.round own })
       | in_default w ↦ let high = w.in_default.ensures.none in let few = c.requires.few in absurd (omega arith)
     ]
+
+pub returns-clause-round : goal.returns-clause-round
+returns-clause-round g c =
+    let v : View = g.L.Look.view c.args.port.now in
+    let inv = c.loop-number.invariant in
+    let all : c.loop-number.number ≡ c.args.units = let t = c.loop-number-test.false in let w = inv.within in omega arith in
+    round_none v _ (subst (λ (n : ℕ). LooksRound v n (g.L.Look.view c.loop-number.port)) (all ∙ c.requires.units) inv.round)
