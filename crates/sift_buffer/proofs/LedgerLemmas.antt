@@ -1,11 +1,11 @@
 -- A ledger with one word more tells one saying or hearing more.
-use Rattle.std.proofs.Common.{◌≡◌, ◌≢◌, ℕ, ◌<◌, ◌≤◌, ◌==◌, ◌&&◌, Bool, true, false, if◌then◌else◌, List, slice_set, Option, Some, None, sym, refl, ap, ◌∙◌, subst, arith, ne_eqb}
+use Rattle.std.proofs.Common.{◌≡◌, ℕ, ◌≤◌, ◌==◌, ◌&&◌, Bool, true, false, if◌then◌else◌, List, slice_set, Option, Some, sym, refl, ◌∙◌, subst, arith, ne_eqb}
 use Rattle.sift_base.specs.declared.layout.Layout.{Layout}
 use Rattle.sift_buffer.specs.Ranges.{Ranges, IsPlace}
-use Rattle.sift_buffer.specs.Conduct.{Saying, Hearing, never, saying, hearing, put_at, with_said, with_heard}
+use Rattle.sift_buffer.specs.Conduct.{never, saying, hearing, put_at, with_said, with_heard}
 use Rattle.sift_buffer.specs.Tables.{ranges_of, IsEntry, entry_number, entry_at}
 use Rattle.sift_buffer.specs.Journals.{Pages, ranges_in, said_in, heard_in, NotesSaid, NotesHeard}
-use Rattle.sift_buffer.specs.Ledgers.{Ledger, saying_of, hearing_of, conduct_in, Tells, Becomes}
+use Rattle.sift_buffer.specs.Ledgers.{Ledger, saying_of, hearing_of, conduct_in, Becomes}
 use Rattle.sift_buffer.specs.Sizes.{IsFull}
 use Rattle.sift_buffer.proofs.Tables.{entry_set}
 

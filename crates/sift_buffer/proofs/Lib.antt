@@ -13,3 +13,4 @@ pub mod Notes
 pub mod Rounds
 pub mod LedgerLemmas
 pub mod NewLedgers
+pub mod LoneEvents

@@ -1,5 +1,5 @@
 -- A ledger of zeros tells that nothing was done.
-use Rattle.std.proofs.Common.{◌≡◌, ℕ, zero, suc, List, [], ◌∷◌, replicate, slice_index, slice_index_or, Option, None, refl, ◌∙◌}
+use Rattle.std.proofs.Common.{◌≡◌, ℕ, zero, suc, [], replicate, slice_index, slice_index_or, refl, ◌∙◌}
 use Rattle.sift_buffer.specs.Conduct.{fresh, never}
 use Rattle.sift_buffer.specs.Tables.{entry_at}
 use Rattle.sift_buffer.specs.Journals.{ranges_in, said_in, heard_in}

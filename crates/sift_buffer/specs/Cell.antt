@@ -1,18 +1,19 @@
 -- A cell: one number that carries a stamp, a mark of presence, and a word.
+use Rattle.sift_base.specs.Word.{word_count}
 use Rattle.std.specs.Prelude.{◌≡◌, ◌≢◌, ℕ, ◌+◌, ◌*◌, ◌/◌, ◌%◌, ◌<◌, ◌==◌, ◌&&◌, Bool, IsTrue, Option, Some, None, if◌then◌else◌}
 
 -- what one stamp counts in a cell
 abbrev pub stamp_weight : ℕ
 stamp_weight = 131072
 
--- what the mark of presence counts in a cell, and the number of words
+-- what the mark of presence counts in a cell, above each word
 abbrev pub presence_weight : ℕ
 presence_weight = 65536
 
 -- a place holds a word or is absent: each word is one of the computer's memory
 abbrev pub IsWord : Option ℕ → Type 0
 IsWord None = Unit {0}
-IsWord (Some word) = word < presence_weight
+IsWord (Some word) = word < word_count
 
 -- the part of a cell that tells presence and word; an absent word is unmarked and 0
 abbrev pub content_of : Option ℕ → ℕ

@@ -1,9 +1,8 @@
 -- What a contract sees of the acts that a unit keeps: its journal with stamps, and what it knows.
-use Rattle.std.specs.Prelude.{◌≡◌, ℕ, ◌+◌, ◌<◌, ◌≤◌, ◌==◌, if◌then◌else◌, List, [], length, slice_index, Option, Some, None}
+use Rattle.std.specs.Prelude.{◌≡◌, ℕ, ◌==◌, if◌then◌else◌, List, [], slice_index, Option, Some, None}
 use Rattle.sift_base.specs.declared.layout.Layout.{Layout}
-use Rattle.sift_buffer.specs.Ranges.{Ranges}
-use Rattle.sift_buffer.specs.Conduct.{Saying, Hearing, Conduct, never, fresh, saying, hearing}
-use Rattle.sift_buffer.specs.Tables.{ranges_of, entry_at}
+use Rattle.sift_buffer.specs.Conduct.{Saying, Hearing, Conduct, never, saying, hearing}
+use Rattle.sift_buffer.specs.Tables.{entry_at}
 use Rattle.sift_buffer.specs.Journals.{Pages, ranges_in, said_in, heard_in, IsJournalOf}
 
 -- a ledger: the journal; the progress; the numbers seen; and for each frame, slot and unit the stamp said, the stamp asked for and

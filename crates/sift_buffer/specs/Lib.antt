@@ -11,3 +11,6 @@ pub mod Journals
 pub mod Ledgers
 pub mod Sizes
 pub mod Views
+pub mod Reaches
+pub mod LonePorts
+pub mod Following

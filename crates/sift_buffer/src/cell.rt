@@ -1,6 +1,6 @@
 //! Cells: a stamp and a word, or its absence, in one number.
 ghost use Rattle.std.specs.Prelude.{◌≡◌, ◌↔◌, IsNone};
-ghost use Rattle.sift_buffer.specs.Cell.{packed, taken, CarriesWord};
+ghost use Rattle.sift_buffer.specs.Cell.{IsWord, packed, taken, CarriesWord};
 
 use sift_base::Word;
 
@@ -12,7 +12,8 @@ const PRESENT: u64 = 1 << 16;
 
 /// The cell that carries this stamp with the word, or with absence.
 pub fn pack(stamp: u32, word: Option<Word>) -> u64
-    ensures { result ≡ packed stamp word }
+    ensures cell { result ≡ packed stamp word }
+    ensures small { IsWord word }
 {
     let content = match word {
         Some(word) => PRESENT + u64::from(word.get()),

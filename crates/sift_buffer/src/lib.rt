@@ -7,6 +7,8 @@ mod gate;
 mod grid;
 mod journal;
 mod laws;
+mod lone;
+mod lone_port;
 mod port;
 
 pub use acts::Acts;
@@ -17,4 +19,5 @@ pub use laws::{
     conditions_tell_cores_apart, events_keep_the_core_lawful, fresh_is_lawful, packing_is_taken,
     refusals_have_causes,
 };
+pub use lone::LonePort;
 pub use port::{Entering, Port};
