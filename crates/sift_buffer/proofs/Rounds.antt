@@ -5,7 +5,7 @@ use native.Mathlib.Decide.{ℕ_discrete}
 use Rattle.sift_buffer.specs.Ranges.{Ranges}
 use Rattle.sift_buffer.specs.Conduct.{Conduct, with_seen}
 use Rattle.sift_buffer.specs.Conditions.{PassesGate}
-use Rattle.sift_buffer.specs.Views.{View, view_with_look, view_with_looks, AreReached, LooksRound, FindsBehind, KeepsOwn, FindsNone, HasCause}
+use Rattle.sift_buffer.specs.Views.{View, view_with_look, view_with_looks, AreReached, LooksRound, FindsBehind, KeepsOwn, FindsNone, IsOther}
 use Rattle.sift_buffer.proofs.Puts.{put_here, put_cases}
 
 -- the own unit is passed over
@@ -56,15 +56,26 @@ round_passes v v' r p hp ne = let k = round_keeps v v' v.ranges.units r in
     let low : p < v.ranges.units = subst (λ (x : Ranges). p < x.units) k.ranges hp in
     rw (k.conduct, r.after) (seen_reached v r.found p v.conduct.progress r.reached (let a = r.all in omega arith) (λ e. ne (e ∙ sym k.unit)))
 
--- a unit that was found behind is the cause
-pub behind_causes : (v v' : View) (p n : ℕ) → FindsBehind v p n v' → HasCause v p n v'
-behind_causes v v' p n b = let k = round_keeps v b.before p b.round in subst (λ (w : View). HasCause v p n w) (sym b.after) (record {
-  other = b.other;
-  behind = b.behind;
-  last = refl;
-  seen = put_here b.before.conduct.seen p n;
-  looked = (let l = k.looks in omega arith);
-})
+-- a round that comes to a unit behind
+pub round_behind : (v before : View) (p n : ℕ) → LooksRound v p before → IsOther v p → n < v.conduct.progress → FindsBehind v p n (view_with_look before p n)
+round_behind v before p n r other behind = let k = round_keeps v before p r in record {
+  before = before;
+  round = r;
+  after = refl;
+  own = record {
+    ranges = k.ranges;
+    unit = k.unit;
+    conduct = ap (λ (d : Conduct). with_seen d p n) k.conduct;
+    looks = (let l = k.looks in omega arith);
+  };
+  cause = record {
+    other = other;
+    behind = behind;
+    last = refl;
+    seen = put_here before.conduct.seen p n;
+    looked = (let l = k.looks in omega arith);
+  };
+}
 
 -- a round over all units
 pub round_none : (v v' : View) → LooksRound v v.ranges.units v' → FindsNone v v'
@@ -76,3 +87,10 @@ apart_by a b t e = absurd (let f : true ≡ false = t ∙ ap not (eq-eqb a b e) 
 
 pub same_by : (a b : ℕ) → false ≡ not (a == b) → a ≡ b
 same_by a b t = dite (ℕ_discrete a b) (λ e. e) (λ ne. absurd (let f : false ≡ true = t ∙ ap not (ne_eqb a b ne) in cc))
+
+-- a unit that isn't the own one is another, and it is one still after a round of looks
+pub is_other : (v : View) (units own p : ℕ) → units ≡ v.ranges.units → own ≡ v.unit → p < units → true ≡ not (p == own) → IsOther v p
+is_other v units own p hu ho low t = (rw (← hu) low, λ e. apart_by p own t (e ∙ sym ho))
+
+pub still_other : (v v' : View) (k p : ℕ) → LooksRound v k v' → IsOther v p → IsOther v' p
+still_other v v' k p r other = let keeps = round_keeps v v' k r in rw (keeps.ranges, keeps.unit) other

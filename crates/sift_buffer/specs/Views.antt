@@ -70,20 +70,28 @@ pub record LooksRound (v : View) (k : ℕ) (v' : View) : Type 0 where
   pub reached : AreReached v.unit v.conduct.progress found
   pub after : v' ≡ view_with_looks v v.unit found
 
--- the round found the other units below p at the own progress or more, and then p behind, at n
-pub record FindsBehind (v : View) (p n : ℕ) (v' : View) : Type 0 where
-  pub before : View
-  pub round : LooksRound v p before
-  pub other : IsOther v p
-  pub behind : n < v.conduct.progress
-  pub after : v' ≡ view_with_look before p n
-
 -- what a round of looks leaves: all but what was seen, and the count of looks, which doesn't fall
 pub record KeepsOwn (v v' : View) : Type 0 where
   pub ranges : v'.ranges ≡ v.ranges
   pub unit : v'.unit ≡ v.unit
   pub conduct : v'.conduct ≡ record v.conduct { seen = v'.conduct.seen }
   pub looks : min v.looks look_limit ≤ v'.looks
+
+-- why a unit that was found behind is: this call loaded the number from it, it is below the own progress, and the count of looks rose
+pub record HasCause (v : View) (p n : ℕ) (v' : View) : Type 0 where
+  pub other : IsOther v p
+  pub behind : n < v.conduct.progress
+  pub last : v'.last ≡ record { unit = p; number = n }
+  pub seen : v'.conduct.seen p ≡ n
+  pub looked : HasLooked v.looks v'.looks
+
+-- the round found the other units below p at the own progress or more, and then p behind, at n
+pub record FindsBehind (v : View) (p n : ℕ) (v' : View) : Type 0 where
+  pub before : View
+  pub round : LooksRound v p before
+  pub after : v' ≡ view_with_look before p n
+  pub own : KeepsOwn v v'
+  pub cause : HasCause v p n v'
 
 -- the round found all other units at the own progress or more, and so the unit passes the gate
 pub record FindsNone (v v' : View) : Type 0 where
@@ -99,7 +107,7 @@ Decides v (Some x) v' = FindsBehind v x.0 x.1 v'
 -- the round found all other units at the own progress or more, and then the unit entered
 pub record EntersAfterRound (v v' : View) : Type 0 where
   pub before : View
-  pub round : LooksRound v v.ranges.units before
+  pub round : FindsNone v before
   pub after : v' ≡ view_with_entered before
 
 -- what a try to enter found and left
@@ -111,17 +119,3 @@ Tries v (NotYet p n) v' = FindsBehind v p n v'
 abbrev pub Finds : Entering → (ℕ → ℕ → Type 0) → Type 0
 Finds Entered P = ⊤
 Finds (NotYet p n) P = P p n
-
--- ---- a law
-
--- why an entry was refused: this call loaded the number from the unit, it is below the unit's progress, and the count of looks rose
-pub record HasCause (v : View) (p n : ℕ) (v' : View) : Type 0 where
-  pub other : IsOther v p
-  pub behind : n < v.conduct.progress
-  pub last : v'.last ≡ record { unit = p; number = n }
-  pub seen : v'.conduct.seen p ≡ n
-  pub looked : HasLooked v.looks v'.looks
-
--- each refused entry has its cause
-abbrev pub RefusalsHaveCauses : Type 0
-RefusalsHaveCauses = (v v' : View) (p n : ℕ) → Tries v (NotYet p n) v' → HasCause v p n v'

@@ -19,7 +19,7 @@ pub trait Look {
     /// Looks at another unit.
     fn look(&mut self, other: UnitId) -> u64
         requires { IsOther (view self.old) other }
-        ensures view { view self.new ≡ view_with_look (view self.old) other result }
+        ensures looked { view self.new ≡ view_with_look (view self.old) other result }
         ensures stands { stands self.new other result }
         ensures follows { follows self.old self.new };
 

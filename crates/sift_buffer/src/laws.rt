@@ -1,7 +1,6 @@
 //! What holds of the shared words whatever the order of events.
 ghost use Rattle.sift_buffer.specs.Cell.{PackingIsTaken};
 ghost use Rattle.sift_buffer.specs.Laws.{FreshIsLawful, EventsKeepLawful};
-ghost use Rattle.sift_buffer.specs.Views.{RefusalsHaveCauses};
 ghost use Rattle.sift_buffer.specs.Samples.{ConditionsTellApart};
 
 /// What was packed is taken by its own stamp, and by no other.
@@ -22,9 +21,4 @@ pub fn events_keep_the_core_lawful()
 /// A core with something done of each kind is lawful, and each of the six conditions refuses a core.
 pub fn conditions_tell_cores_apart()
     ensures { ConditionsTellApart }
-{}
-
-/// A refused entry has its cause: a unit that this call looked at, behind the own progress.
-pub fn refusals_have_causes()
-    ensures { RefusalsHaveCauses }
 {}

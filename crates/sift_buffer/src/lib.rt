@@ -17,7 +17,6 @@ pub use gate::{Look, find_behind};
 pub use journal::Journal;
 pub use laws::{
     conditions_tell_cores_apart, events_keep_the_core_lawful, fresh_is_lawful, packing_is_taken,
-    refusals_have_causes,
 };
 pub use lone::LonePort;
 pub use port::{Entering, Port};

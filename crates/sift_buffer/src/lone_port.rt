@@ -69,11 +69,11 @@ impl LonePort {
         self.words[self.grid.place(self.unit, to, slot)]
     }
 
-    // Stores the progress, raised by one.
+    /// Stores the progress, raised by one.
     fn go_on(&mut self)
         requires may { MayEnter (view_of self.old).conduct }
         requires gate { PassesGate (ranges_for self.old) (view_of self.old).conduct self.old.unit }
-        ensures view { view_of self.new ≡ view_with_entered (view_of self.old) }
+        ensures entered { view_of self.new ≡ view_with_entered (view_of self.old) }
         ensures follows { Follows self.old self.new }
     {
         self.words[usize::from(self.unit.get())] = u64::from(self.acts.progress()) + 1;
