@@ -2,11 +2,12 @@
 use Rattle.std.specs.Prelude.{◌≡◌, ℕ, slice_index, slice_set, replicate}
 use Rattle.sift_base.specs.declared.layout.Layout.{Layout}
 use Rattle.sift_buffer.specs.Ranges.{Ranges, shared_words}
-use Rattle.sift_buffer.specs.Conduct.{Conduct, put, fresh}
+use Rattle.sift_buffer.specs.Conduct.{Conduct, put}
 use Rattle.sift_buffer.specs.Core.{Core}
 use Rattle.sift_buffer.specs.Tables.{ranges_of}
+use Rattle.sift_buffer.specs.Journals.{Pages}
 use Rattle.sift_buffer.specs.Ledgers.{conduct_in}
-use Rattle.sift_buffer.specs.Views.{View}
+use Rattle.sift_buffer.specs.Views.{View, fresh_view}
 use Rattle.sift_buffer.specs.Reaches.{Reaches}
 use Rattle.sift_buffer.specs.declared.lone.LonePort.{LonePort}
 
@@ -17,6 +18,10 @@ ranges_for p = ranges_of p.grid.layout p.grid.frames
 -- what contracts see of the port
 abbrev pub view_of : LonePort → View
 view_of p = record { ranges = ranges_for p; unit = p.unit; conduct = conduct_in p.acts; looks = p.looks; last = record { unit = p.last_unit; number = p.last_number } }
+
+-- the port's journal
+abbrev pub journal_of : LonePort → Pages
+journal_of p = p.acts.pages
 
 -- the core of the port's words, in which the other units conduct themselves like this
 abbrev pub core_beside : LonePort → (ℕ → Conduct) → Core
@@ -34,11 +39,8 @@ Stands p u n = slice_index p.words.items u ≡ n
 
 -- a port of this layout, unit and number of frames on which nothing was done, and whose words are 0
 pub record IsNew (p : LonePort) (layout : Layout) (unit frames : ℕ) : Type 0 where
-  pub ranges : ranges_for p ≡ ranges_of layout frames
-  pub unit_is : p.unit ≡ unit
-  pub conduct : conduct_in p.acts ≡ fresh
+  pub view : view_of p ≡ fresh_view (ranges_of layout frames) unit
   pub words : p.words.items ≡ replicate (shared_words (ranges_of layout frames)) 0
-  pub looks : p.looks ≡ 0
 
 -- the port with another number in one word, as another unit may store it
 pub record Stored (a b : LonePort) (i n : ℕ) : Type 0 where

@@ -1,7 +1,7 @@
 -- What contracts see of a port, and what its calls make of it.
 use Rattle.std.specs.Prelude.{◌≡◌, ◌≢◌, ℕ, ◌+◌, ◌<◌, ◌≤◌, ◌==◌, if◌then◌else◌, min, List, [], ◌∷◌, length, Option, Some, None, ⊤}
 use Rattle.sift_buffer.specs.Ranges.{Ranges}
-use Rattle.sift_buffer.specs.Conduct.{Conduct, with_seen, with_said, with_heard, with_entered}
+use Rattle.sift_buffer.specs.Conduct.{Conduct, fresh, with_seen, with_said, with_heard, with_entered}
 use Rattle.sift_buffer.specs.Conditions.{PassesGate}
 use Rattle.sift_buffer.specs.declared.port.Entering.{Entering}
 use Rattle.sift_buffer.specs.declared.port.Entering.TheVariants.{Entered, NotYet}
@@ -18,6 +18,10 @@ pub record View : Type 0 where
   pub conduct : Conduct
   pub looks : ℕ
   pub last : Sight
+
+-- a port on which nothing was done
+abbrev pub fresh_view : Ranges → ℕ → View
+fresh_view r u = record { ranges = r; unit = u; conduct = fresh; looks = 0; last = record { unit = 0; number = 0 } }
 
 -- at which the count of looks stands still
 abbrev pub look_limit : ℕ

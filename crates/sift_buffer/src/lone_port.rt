@@ -5,13 +5,14 @@ ghost use Rattle.sift_buffer.specs.Ranges.{IsCell, place};
 ghost use Rattle.sift_buffer.specs.Conditions.{MayEnter, PassesGate};
 ghost use Rattle.sift_buffer.specs.Tables.{ranges_of};
 ghost use Rattle.sift_buffer.specs.Views.{View, view_with_entered};
-ghost use Rattle.sift_buffer.specs.LonePorts.{IsNew, Stored, Follows, Stands, view_of, ranges_for};
+ghost use Rattle.sift_buffer.specs.LonePorts.{IsNew, Stored, Follows, Stands, view_of, ranges_for, journal_of};
 ghost use Rattle.sift_buffer.specs.Following.{itself, further};
 
 use crate::acts::Acts;
 use crate::cell::{pack, take};
 use crate::gate::{Look, find_behind};
 use crate::grid::Grid;
+use crate::journal::Journal;
 use crate::lone::LonePort;
 use crate::port::{Entering, Port};
 use sift_base::{Layout, NoMemory, UnitId, Word};
@@ -67,6 +68,13 @@ impl LonePort {
         ensures { result ≡ slice_index self.now.words.items (place (ranges_for self.now) self.now.unit to slot) }
     {
         self.words[self.grid.place(self.unit, to, slot)]
+    }
+
+    /// The journal alone.
+    pub fn end(self) -> Journal
+        ensures { result ≡ journal_of self }
+    {
+        self.acts.end()
     }
 
     /// Stores the progress, raised by one.
