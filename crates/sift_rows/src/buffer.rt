@@ -70,7 +70,11 @@ fn a_journal_gives_what_was_noted_last(rt: HostRuntime) -> Result<(), Fail> {
         (journal.said(0, 8, three), None, "said in the frame before"),
         (journal.said(1, 7, three), None, "said in the slot before"),
         (journal.said(1, 8, one), None, "said to another unit"),
-        (journal.heard(0, 8, three), None, "heard in the frame before"),
+        (
+            journal.heard(0, 8, three),
+            None,
+            "heard in the frame before",
+        ),
         (journal.heard(1, 0, one), None, "heard in the first slot"),
     ];
     for (read, want, row) in reads {
@@ -129,11 +133,19 @@ fn a_unit_enters_where_none_is_behind(rt: HostRuntime) -> Result<(), Fail> {
     let progress = port.progress();
     assert_eq!(rt; progress, 1);
     let alone = port.try_enter();
-    assert_eq!(rt; alone, Entering::NotYet { unit: one, seen: 0 }, "unit 1 is behind");
+    assert_eq!(rt;
+        alone,
+        Entering::NotYet { unit: one, seen: 0 },
+        "unit 1 is behind"
+    );
     port.set_number(one, 1);
     port.set_number(three, 1);
     let still = port.try_enter();
-    assert_eq!(rt; still, Entering::NotYet { unit: two, seen: 0 }, "unit 2 is behind");
+    assert_eq!(rt;
+        still,
+        Entering::NotYet { unit: two, seen: 0 },
+        "unit 2 is behind"
+    );
     Ok(())
 }
 
