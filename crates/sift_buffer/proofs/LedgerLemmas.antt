@@ -18,30 +18,38 @@ put_all {D} F a b c f k q x y z f' k' q' = go (f' == f && k' == k && q' == q)
     go true = refl
     go false = refl
 
+-- a stamp from 1 on is one that was said
 saying_is : (s : ℕ) (w : Option ℕ) → 1 ≤ s → saying_of s w ≡ Some (saying s w)
 saying_is s w one = rw (ne_eqb s 0 (λ e. omega arith)) refl
 
+-- or asked for
 hearing_is : (s h : ℕ) (w : Option ℕ) → 1 ≤ s → hearing_of s h w ≡ Some (hearing s h w)
 hearing_is s h w one = rw (ne_eqb s 0 (λ e. omega arith)) refl
 
 module _ (l : Ledger) (layout : Layout) (frames : ℕ) (full : IsFull l layout frames) (f k q s : ℕ) (w : Option ℕ) (pages : Pages)
     (place : IsPlace (ranges_in l.pages) l.pages.unit q k f) (one : 1 ≤ s) where
+  -- the ranges of the lists
   abbrev r : Ranges
   r = ranges_of layout frames
 
+  -- they are the journal's
   ranges_are : ranges_in l.pages ≡ r
   ranges_are i = ranges_of (full.layout_is i) (full.frames_are i)
 
+  -- the entry is there
   entry : IsEntry r f k q
   entry = subst (λ (x : Ranges). IsEntry x f k q) ranges_are (record { frame = place.frame; slot = place.cell.slot; unit = place.cell.unit })
 
+  -- a list with another number there
   abbrev set : List ℕ → ℕ → List ℕ
   set xs n = slice_set xs (entry_number r f k q) n
 
   module _ (noted : NotesSaid l.pages pages f k q w) where
+    -- the journal has the same ranges after the note
     now_are : ranges_in pages ≡ r
     now_are = (λ i. ranges_of (noted.owner.layout_is i) (noted.owner.frames_are i)) ∙ ranges_are
 
+    -- the sayings after the note
     said_path : (f' k' q' : ℕ) → saying_of (entry_at 0 (ranges_in pages) (set l.said s) f' k' q') (said_in pages f' k' q') ≡ put_at (conduct_in l).said f k q (Some (saying s w)) f' k' q'
     said_path f' k' q' =
         (λ i. saying_of (entry_at 0 (now_are i) (set l.said s) f' k' q') (noted.said i f' k' q'))
@@ -49,6 +57,7 @@ module _ (l : Ledger) (layout : Layout) (frames : ℕ) (full : IsFull l layout f
         ∙ (put_all (λ s _ w. saying_of s w) (entry_at 0 r l.said) (entry_at 0 r l.said) (said_in l.pages) f k q s s w f' k' q'
         ∙ (λ i. put_at (λ f k q. saying_of (entry_at 0 (sym ranges_are i) l.said f k q) (said_in l.pages f k q)) f k q (saying_is s w one i) f' k' q')))
 
+    -- the ledger after a saying
     pub ledger_said : Becomes l (record l { pages = pages; said = set l.said s }) (with_said (conduct_in l) f k q s w)
     ledger_said = record {
       owner = noted.owner;
@@ -63,9 +72,11 @@ module _ (l : Ledger) (layout : Layout) (frames : ℕ) (full : IsFull l layout f
     }
 
   module _ (noted : NotesHeard l.pages pages f k q w) where
+    -- the journal has the same ranges after the note
     now_are' : ranges_in pages ≡ r
     now_are' = (λ i. ranges_of (noted.owner.layout_is i) (noted.owner.frames_are i)) ∙ ranges_are
 
+    -- the hearings after the note
     heard_path : (f' k' q' : ℕ) → hearing_of (entry_at 0 (ranges_in pages) (set l.asked s) f' k' q') (entry_at 0 (ranges_in pages) (set l.heard_at l.progress) f' k' q') (heard_in pages f' k' q')
         ≡ put_at (conduct_in l).heard f k q (Some (hearing s l.progress w)) f' k' q'
     heard_path f' k' q' =
@@ -74,6 +85,7 @@ module _ (l : Ledger) (layout : Layout) (frames : ℕ) (full : IsFull l layout f
         ∙ (put_all hearing_of (entry_at 0 r l.asked) (entry_at 0 r l.heard_at) (heard_in l.pages) f k q s l.progress w f' k' q'
         ∙ (λ i. put_at (λ f k q. hearing_of (entry_at 0 (sym ranges_are i) l.asked f k q) (entry_at 0 (sym ranges_are i) l.heard_at f k q) (heard_in l.pages f k q)) f k q (hearing_is s l.progress w one i) f' k' q')))
 
+    -- the ledger after a hearing
     pub ledger_heard : Becomes l (record l { pages = pages; asked = set l.asked s; heard_at = set l.heard_at l.progress }) (with_heard (conduct_in l) f k q s w)
     ledger_heard = record {
       owner = noted.owner;
