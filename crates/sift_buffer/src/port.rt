@@ -41,7 +41,8 @@ pub trait Port {
         ensures heard { view self.new ≡ view_with_heard (view self.old) f slot from stamp result }
         ensures follows { follows self.old self.new };
 
-    /// Looks at the other units in ascending number, and enters the next subframe where none is behind. It stops at the first that is.
+    /// Looks at the other units in ascending number, and enters the next subframe where none is
+    /// behind. It stops at the first that is.
     fn try_enter(&mut self) -> Entering
         requires { MayEnter (view self.old).conduct }
         ensures tried { Tries (view self.old) result (view self.new) }
