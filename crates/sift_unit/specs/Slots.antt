@@ -1,5 +1,5 @@
 -- Who says which slot to whom under a configuration, and when.
-use Rattle.std.specs.Prelude.{ℕ, ◌+◌, ◌*◌, List, Bool, true, false, not, ◌&&◌, nat_eq, nat_lt, Option, None, Some}
+use Rattle.std.specs.Prelude.{◌≡◌, ℕ, ◌+◌, ◌*◌, List, Bool, true, false, not, ◌&&◌, nat_eq, nat_lt, Option, None, Some}
 use Rattle.std.specs.List.{filter}
 use Rattle.sift_base.specs.Units.{has}
 use Rattle.sift_base.specs.declared.slot.Slot.{Slot}
@@ -50,3 +50,7 @@ turned_by (Some from) f = not (nat_lt f from)
 -- unit u has turned stray by frame f
 abbrev pub has_turned : Mission → ℕ → ℕ → Bool
 has_turned m u f = turned_by (m.storm u) f
+
+-- no unit says a slot to itself
+abbrev pub NothingIsSaidToItself : Type 0
+NothingIsSaidToItself = (m : Mission) (us : List ℕ) (k : Slot) (u : ℕ) → calls m us k u u ≡ false
