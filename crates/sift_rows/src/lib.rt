@@ -1,8 +1,10 @@
-//! Rows of tests that call the crates below as their users do.
+//! Rows of tests that call the crates below as their users do, one module a crate.
 #![tactic(auto)]
 
 #[cfg(test)]
 mod agree;
+#[cfg(test)]
+mod buffer;
 #[cfg(test)]
 mod clock;
 #[cfg(test)]
