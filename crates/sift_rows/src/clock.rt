@@ -8,7 +8,11 @@ fn a_correction_is_the_floor_of_the_mean(rt: HostRuntime) {
     let cases: [([Option<i32>; 3], i64, &str); 9] = [
         ([Some(3), Some(-2), Some(50)], 0, "50 is too far"),
         ([Some(10), Some(0), Some(0)], 2, "10 is just near enough"),
-        ([Some(-10), Some(0), Some(0)], -3, "so is -10, and -10 / 4 is rounded down"),
+        (
+            [Some(-10), Some(0), Some(0)],
+            -3,
+            "so is -10, and -10 / 4 is rounded down",
+        ),
         ([Some(11), Some(0), Some(0)], 0, "11 is too far"),
         ([Some(-11), Some(0), Some(0)], 0, "so is -11"),
         ([Some(-1), Some(0), Some(0)], -1, "-1 / 4 is rounded down"),
@@ -37,7 +41,13 @@ fn more_clocks_divide_further(rt: HostRuntime) {
 #[test]
 fn a_reading_is_the_difference_of_the_words(rt: HostRuntime) {
     let cases = [
-        (Some(0x0003), 65_540, 0, Some(-1), "65540 is told by the word 4"),
+        (
+            Some(0x0003),
+            65_540,
+            0,
+            Some(-1),
+            "65540 is told by the word 4",
+        ),
         (Some(0xffff), 0, 2, Some(1), "-1 and an error of 2"),
         (Some(0x0005), -3, 0, Some(8), "the own offset is below 0"),
         (Some(0xfffd), 5, -1, Some(-9), "the other one is"),

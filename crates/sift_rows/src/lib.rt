@@ -4,8 +4,16 @@
 #[cfg(test)]
 mod agree;
 #[cfg(test)]
+mod base;
+#[cfg(test)]
 mod buffer;
 #[cfg(test)]
 mod clock;
 #[cfg(test)]
+mod config;
+#[cfg(test)]
+mod exec;
+#[cfg(test)]
 mod skew;
+#[cfg(test)]
+mod vote;
