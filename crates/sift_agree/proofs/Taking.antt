@@ -10,14 +10,16 @@ use Rattle.sift_vote.specs.Majority.{is_vote_for, votes_for, IsAgreed, decided, 
 use Rattle.sift_vote.specs.Agreed.{agreed_of}
 use Rattle.sift_vote.proofs.Found.{agreed_word_is_found}
 use Rattle.sift_agree.specs.Agreement.{taken, RelaysWell, FaultyUnitIsAgreedOn, WorkingUnitIsAgreedOn}
-use Rattle.sift_agree.proofs.Winners.{won-agreed}
+use Rattle.sift_agree.proofs.Winners.{agreed-found, won-agreed}
 
 -- ---- lists of places
 
 -- as many places with as many votes for each word have the same agreed word
 agreed_same : (xs ys : List (Option ℕ)) → length xs ≡ length ys → ((w : ℕ) → votes_for xs w ≡ votes_for ys w)
     → agreed_of xs ≡ agreed_of ys
-agreed_same xs ys long votes = sym ((agreed_word_is_found ys (agreed_of xs)).1 (moved (agreed_of xs) ((agreed_word_is_found xs (agreed_of xs)).0 refl)))
+agreed_same xs ys long votes =
+    let agreed : IsAgreed xs (agreed_of xs) = (agreed_word_is_found xs (agreed_of xs)).0 refl in
+    agreed-found ys (agreed_of xs) (moved (agreed_of xs) agreed)
   where
     moved : (w : ℕ) → IsAgreed xs w → IsAgreed ys w
     moved w (decided most) = decided (omega (arith, votes w))
@@ -57,7 +59,8 @@ votes-first w f g u (v ∷ us) u_in once same =
     elim (cases_Bool (nat_eq v u)) [
       | inl t ↦
           let gone : times_in u us ≡ 0 = omega (arith, count-yes (λ x. nat_eq x u) v us t) in
-          let rest = map-others f g u us (λ r r_in. let differ = times_in-none u us gone r r_in in (differ, same r (has-tail v us r r_in) differ)) in
+          let rest = map-others f g u us (λ r r_in.
+          let differ = times_in-none u us gone r r_in in (differ, same r (has-tail v us r r_in) differ)) in
           rw (t, rest) (ap (λ x. votes_for (g x ∷ map g us) w) (sym (eqb-true v u t)))
       | inr o ↦
           let fewer : times_in u us ≤ 1 = omega (arith, count-no (λ x. nat_eq x u) v us o) in

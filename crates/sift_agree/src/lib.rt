@@ -1,4 +1,4 @@
-//! Agreement on what one unit says: each unit takes the word that it heard, and what the others relay of it.
+//! Agreement on what one unit says: each unit takes what it heard, and what the others relay of it.
 //!
 //! With at most one faulty unit, all working units then take the same word.
 #![tactic(auto)]

@@ -7,8 +7,8 @@ ghost use Rattle.sift_clock.specs.Correction.{correction_of};
 
 use crate::hearing::too_far;
 
-/// The correction of a clock among `n` clocks: the floor of the mean of what it reads of all of them,
-/// its own clock read as 0. A reading that is absent or too far counts as 0.
+/// The correction of a clock among `n` clocks: the floor of the mean of what it reads of all of
+/// them, its own clock read as 0. A reading that is absent or too far counts as 0.
 pub fn correction(readings: &[Option<i32>], limit: i32, n: u8) -> i64
     requires four { 4 ≤ n }
     requires eight { n ≤ 8 }

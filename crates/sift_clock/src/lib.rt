@@ -1,6 +1,6 @@
-//! Clocks that correct one another: readings of other units' clocks, and the correction of the own clock.
+//! Clocks that correct one another: readings of other clocks, and the correction of the own one.
 //!
-//! An offset is how far a clock is ahead, in whole ticks. Units tell each other the lowest 16 bits of it.
+//! An offset is how far a clock is ahead, in whole ticks. Units tell each other its lowest 16 bits.
 #![tactic(auto)]
 
 mod correcting;

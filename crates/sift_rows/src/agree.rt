@@ -1,7 +1,7 @@
 //! Rows of agreement.
 
-use sift_agree::agree;
-use sift_base::Word;
+use sift_agree::{agree, relay_catches};
+use sift_base::{UnitId, UnitSet, Word};
 
 fn word(n: u16) -> Option<Word> {
     Some(Word::of(n))
@@ -43,4 +43,37 @@ fn the_majority_of_what_was_heard_is_agreed_on(rt: HostRuntime) {
         let got = agree(direct, relays);
         assert_eq!(rt; got, Word::of(want), "{row}");
     }
+}
+
+#[test]
+fn units_that_relay_another_word_are_caught(rt: HostRuntime) {
+    let unit_1 = UnitId::of(1).expect(&rt, "unit 1");
+    let unit_3 = UnitId::of(3).expect(&rt, "unit 3");
+    let unit_7 = UnitId::of(7).expect(&rt, "unit 7");
+    let units = [unit_1, unit_3, unit_7];
+    let cases = [
+        (
+            [word(9), word(9), word(9)],
+            0b0000_0000,
+            "each relays the word",
+        ),
+        (
+            [word(9), word(8), word(9)],
+            0b0000_1000,
+            "unit 3 relays another word",
+        ),
+        ([word(9), word(9), None], 0b1000_0000, "unit 7 is silent"),
+        (
+            [word(0), None, word(9)],
+            0b0000_1010,
+            "unit 1 relays 0, and unit 3 is silent",
+        ),
+        ([None, None, None], 0b1000_1010, "all are silent"),
+    ];
+    for (relays, want, row) in cases {
+        let got = relay_catches(Word::of(9), &units, &relays);
+        assert_eq!(rt; got, UnitSet::of_bits(want), "{row}");
+    }
+    let none = relay_catches(Word::of(9), &[], &[]);
+    assert_eq!(rt; none, UnitSet::empty(), "there are no units");
 }

@@ -1,5 +1,5 @@
 -- Skew and slack from the highest and the lowest offset.
-use Rattle.std.proofs.Common.{ℤ, ◌-ℤ◌, ◌≤ℤ◌, List, ◌++◌, refl, arith, inl, inr}
+use Rattle.std.proofs.Common.{ℤ, ◌-ℤ◌, ◌≤ℤ◌, List, ◌++◌, refl, arith, inl, inr, w64, to_z, of_z}
 use Rattle.std.specs.Prelude.{int_lt}
 use Rattle.std.specs.List.{Contains}
 use Rattle.std.specs.Int.{int_max}
@@ -7,6 +7,10 @@ use Rattle.std.proofs.lemmas.Bool.{cases_Bool}
 use Rattle.std.proofs.lemmas.Int.{ints}
 use Rattle.std.proofs.lemmas.List.Elements.{All-contains, All-append, Contains-append_left, Contains-append_right}
 use Rattle.sift_skew.specs.Figures.{IsHighest, IsLowest, IsSkew, IsSlack}
+
+-- a number, as a variable of 64 bits holds it
+abbrev pub held : ℤ → ℤ
+held n = to_z w64 (of_z w64 n)
 
 -- none of the offsets is above the highest
 under_highest : (offsets : List ℤ) (highest p : ℤ) → IsHighest offsets highest → Contains offsets p → p ≤ℤ highest
@@ -26,7 +30,7 @@ skew_from offsets highest lowest top bottom = record {
 }
 
 -- the higher of two highest offsets is the highest of both lists
-highest-append : (now next : List ℤ) (a b : ℤ) → IsHighest now a → IsHighest next b
+pub highest-append : (now next : List ℤ) (a b : ℤ) → IsHighest now a → IsHighest next b
     → IsHighest (now ++ next) (int_max a b)
 highest-append now next a b top_now top_next =
     elim (cases_Bool (int_lt b a)) [
@@ -47,14 +51,15 @@ highest-append now next a b top_now top_next =
     ]
 
 -- the lowest offset in force and the highest one leave least of a subframe
-pub slack_from : (length : ℤ) (now next : List ℤ) (a b lowest : ℤ) → IsHighest now a → IsHighest next b
-    → IsLowest now lowest → IsSlack length now next (length -ℤ (int_max a b -ℤ lowest))
-slack_from length now next a b lowest top_now top_next bottom =
-    let top = highest-append now next a b top_now top_next in
-    record {
-      attained = (lowest, int_max a b, bottom.among, top.among, refl);
-      least = λ p q p_in q_in.
-          let above = under_highest (now ++ next) (int_max a b) q top q_in in
-          let below = over_lowest now lowest p bottom p_in in
-          omega (arith, ints);
-    }
+pub slack_from : (length : ℤ) (now next : List ℤ) (highest lowest : ℤ) → IsHighest (now ++ next) highest → IsLowest now lowest
+    → IsSlack length now next (length -ℤ (highest -ℤ lowest))
+slack_from length now next highest lowest top bottom = record {
+  attained = (lowest, highest, bottom.among, top.among, refl);
+  least = λ p q p_in q_in.
+      omega (
+        arith,
+        ints,
+        under_highest (now ++ next) highest q top q_in,
+        over_lowest now lowest p bottom p_in,
+      );
+}

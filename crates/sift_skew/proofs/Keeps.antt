@@ -4,7 +4,7 @@ use Rattle.std.specs.Prelude.{◌≤ℤ◌}
 use Rattle.std.proofs.lemmas.Int.{ints}
 use Rattle.std.proofs.lemmas.Bool.{cases_Bool, eqb-true}
 use Rattle.std.proofs.Math.Nat.{le_of_mul-le-mul_left, mul-le-mul_left, mul-le-mul_right}
-use Rattle.sift_base.specs.Margin.{faulty_count}
+use Rattle.sift_base.specs.Margin.{faulty_count, HasMargin}
 use Rattle.sift_base.proofs.Counts.{apart, both_counts, length-has}
 use Rattle.sift_skew.specs.Keeping.{AreTogether, AreWithin, next_offsets, SkewIsKept, SkewIsKeptWithoutFaults, SkewIsKeptWithMargin}
 use Rattle.sift_skew.proofs.Products.{room}
@@ -57,21 +57,25 @@ skew_is_kept skew error rate us works clock drift read m within few wide =
     (two_errors (length us) m (faulty_count works us) s e r (s - 2 * r) parts few wide_in) p q p_in p_works q_in q_works)
     skew error rate wide within
 
-pub skew_is_kept_without_faults : SkewIsKeptWithoutFaults
-skew_is_kept_without_faults skew error rate us works clock drift read within none wide =
-    kept_from (λ s e r. (pos 2 *ℤ (e +ℤ r)) ≤ℤ s) us works clock drift read
-    (λ s e r room_in within_in.
-    let least : length us * (2 * e) ≤ length us * (s - 2 * r) = mul-le-mul_left (length us) (omega (arith, ints)) in
-    step_by_room s e r (s - 2 * r) us works clock drift read within_in (omega (arith, ints)) (rw none (omega arith)))
-    skew error rate wide within
-
 -- at most one is none or one
 none_or_one : (k : ℕ) → k ≤ 1 → (k ≡ 0) ⊎ (k ≡ 1)
 none_or_one zero few = inl refl
 none_or_one (suc zero) few = inr refl
 none_or_one (suc (suc k)) few = absurd (omega arith)
 
--- with five clocks and more, and one faulty, five times the error and the drift leave room
+-- without a faulty clock, twice the errors and the drifts leave room
+no_fault : (n s e r : ℕ) → 2 * (e + r) ≤ s → n * (2 * e) ≤ n * (s - 2 * r)
+no_fault n s e r wide = mul-le-mul_left n (omega arith)
+
+pub skew_is_kept_without_faults : SkewIsKeptWithoutFaults
+skew_is_kept_without_faults skew error rate us works clock drift read within none wide =
+    kept_from (λ s e r. (pos 2 *ℤ (e +ℤ r)) ≤ℤ s) us works clock drift read
+    (λ s e r room_in within_in.
+    let least = no_fault (length us) s e r (omega (arith, ints)) in
+    step_by_room s e r (s - 2 * r) us works clock drift read within_in (omega (arith, ints)) (rw none (omega arith)))
+    skew error rate wide within
+
+-- with five clocks and more, and one faulty, five times as much does
 five_clocks : (n s e r : ℕ) → 5 ≤ n → 5 * (e + r) ≤ s → n * (2 * e) + 3 * s ≤ n * (s - 2 * r)
 five_clocks n s e r five wide =
     let more : ℕ = n - 5 in
@@ -82,16 +86,21 @@ five_clocks n s e r five wide =
     let least : more * (2 * e) ≤ more * rest = mul-le-mul_left more (omega arith) in
     omega arith
 
+-- with margin there are five clocks and more, or none is faulty
+with_margin : (works : ℕ → Bool) (us : List ℕ) (s e r : ℕ) → HasMargin works us → 5 * (e + r) ≤ s
+    → length us * (2 * e) + faulty_count works us * (3 * s) ≤ length us * (s - 2 * r)
+with_margin works us s e r margin wide =
+    let counts = both_counts works us in
+    elim (none_or_one (faulty_count works us) margin.few) [
+      | inl none ↦ rw none (let least = no_fault (length us) s e r (omega arith) in omega arith)
+      | inr one ↦ rw one (let least = five_clocks (length us) s e r (omega (arith, margin.enough)) wide in omega arith)
+    ]
+
 pub skew_is_kept_with_margin : SkewIsKeptWithMargin
 skew_is_kept_with_margin skew error rate us works clock drift read within margin wide =
-    let counts = both_counts works us in
     kept_from (λ s e r. (pos 5 *ℤ (e +ℤ r)) ≤ℤ s) us works clock drift read
     (λ s e r room_in within_in.
     let five : 5 * (e + r) ≤ s = omega (arith, ints) in
-    let fits : length us * (2 * e) + faulty_count works us * (3 * s) ≤ length us * (s - 2 * r) =
-    elim (none_or_one (faulty_count works us) margin.few) [
-      | inl none ↦ rw none (let least : length us * (2 * e) ≤ length us * (s - 2 * r) = mul-le-mul_left (length us) (omega arith) in omega arith)
-      | inr one ↦ rw one (let least = five_clocks (length us) s e r (omega (arith, margin.enough)) five in omega arith)
-    ] in
-    step_by_room s e r (s - 2 * r) us works clock drift read within_in (omega arith) fits)
+    step_by_room s e r (s - 2 * r) us works clock drift read within_in (omega arith)
+    (with_margin works us s e r margin five))
     skew error rate wide within

@@ -1,6 +1,6 @@
 //! The figures of a frame's clocks.
 
-ghost use Rattle.std.specs.Prelude.{◌≡◌, [], pos, IfSome, MatchOption};
+ghost use Rattle.std.specs.Prelude.{◌≡◌, [], ◌++◌, pos, IfSome, MatchOption};
 ghost use Rattle.sift_clock.specs.Distance.{IsWithin};
 ghost use Rattle.sift_skew.specs.Limits.{offset_limit};
 ghost use Rattle.sift_skew.specs.Figures.{AreInRange, ArePaired, IsHighest, IsLowest, IsSkew, IsSlack};
@@ -22,8 +22,8 @@ pub fn slack(length: i32, now: &[i64], next: &[i64]) -> Option<i64>
     requires paired { ArePaired now.now next.now }
     ensures { MatchOption result (now.now ≡ []) (IsSlack length now.now next.now) }
 {
-    let ahead = highest(now)?.max(highest(next)?);
-    Some(i64::from(length) - (ahead - lowest(now)?))
+    let lead = highest_of_both(now, next)? - lowest(now)?;
+    Some(i64::from(length) - lead)
 }
 
 /// The highest of the offsets.
@@ -33,6 +33,17 @@ fn highest(offsets: &[i64]) -> Option<i64>
     ensures highest { MatchOption result (offsets.now ≡ []) (IsHighest offsets.now) }
 {
     offsets.iter().copied().max()
+}
+
+/// The highest of the offsets in force in the frame or after it.
+fn highest_of_both(now: &[i64], next: &[i64]) -> Option<i64>
+    requires now { AreInRange now.now }
+    requires next { AreInRange next.now }
+    requires paired { ArePaired now.now next.now }
+    ensures in_range { IfSome result (λ offset. IsWithin offset_limit offset (pos 0)) }
+    ensures highest { MatchOption result (now.now ≡ []) (IsHighest (now.now ++ next.now)) }
+{
+    Some(highest(now)?.max(highest(next)?))
 }
 
 /// The lowest of the offsets.

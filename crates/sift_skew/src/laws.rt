@@ -1,4 +1,4 @@
-//! The laws of the clocks: their correction keeps the skew, and no clock leads by more than a subframe.
+//! The laws of the clocks: their correction keeps the skew, and no clock leads by too much.
 
 ghost use Rattle.sift_skew.specs.Keeping.{
   SkewIsKept,
