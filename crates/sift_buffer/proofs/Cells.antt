@@ -29,5 +29,6 @@ taken_other s wanted w h other = rw (div-mul-add s stamp_weight (content_of w) (
 pub taken_zero : (s : ℕ) → 1 ≤ s → taken 0 s ≡ None
 taken_zero s h = taken_other 0 s None tt (λ e. omega arith)
 
+-- the law of packed cells
 pub packing : PackingIsTaken
 packing = record { own = taken_same; other = taken_other }

@@ -36,9 +36,11 @@ module _ (c d : Conduct) (same : d.said ≡ c.said) where
 -- what is loaded, by a stamp s, of the cell of a unit that is near or has turned
 module _ (d : Conduct) (u k s h x : ℕ) (stamps : HasStamps d) (stage : HasStage d) (one : 1 ≤ s) (ahead : s + 1 ≤ h)
     (near : h ≤ d.progress + 1) (back : d.left ≡ never → d.progress ≤ h + 1) (past : d.left < never → d.left ≤ h) where
+  -- the stamp is one that the unit has reached
   reached : s ≤ d.progress
   reached = omega arith
 
+  -- where nothing was said, absence is loaded
   silent_load : ((f : ℕ) → d.said f k u ≡ None) → x ≡ 0 → IsFromSayings d u k s h (taken x s)
   silent_load n z = record {
     source = inl (ap (λ (y : ℕ). taken y s) z ∙ taken_zero s one);
@@ -46,6 +48,7 @@ module _ (d : Conduct) (u k s h x : ℕ) (stamps : HasStamps d) (stage : HasStag
     over = reached;
   }
 
+  -- where something was said, it is loaded, or absence
   last_load : (d.left ≡ never) ⊎ (d.left ≤ h) → (f0 s0 : ℕ) (w0 : Option ℕ) → d.said f0 k u ≡ Some (saying s0 w0) → x ≡ packed s0 w0 →
       ((f s : ℕ) (w : Option ℕ) → d.said f k u ≡ Some (saying s w) → s ≤ s0) → h < d.left → IsFromSayings d u k s h (taken x s)
   last_load stays f0 s0 w0 at0 is top hl = dite (ℕ_discrete s0 s)
@@ -65,15 +68,18 @@ module _ (d : Conduct) (u k s h x : ℕ) (stamps : HasStamps d) (stage : HasStag
         over = reached;
       })
 
+  -- the unit flies, or has left
   stays : (d.left ≡ never) ⊎ (d.left ≤ h)
   stays = flies_or_turned d stage (λ fl. inl fl) (λ gone. inr (past gone))
 
+  -- and of a unit that had left as well
   load_strayed : (f0 s0 : ℕ) (w0 : Option ℕ) → d.said f0 k u ≡ Some (saying s0 w0) → x ≡ packed s0 w0 → IsFromStrays d u k s (taken x s)
   load_strayed f0 s0 w0 at0 is = dite (ℕ_discrete s0 s)
       (λ e. let word : taken x s ≡ w0 = ap (λ (y : ℕ). taken y s) (is ∙ ap (λ (y : ℕ). packed y w0) e) ∙ taken_same s w0 (stamps.reached f0 k u s0 w0 at0).2 in
       said f0 (at0 ∙ (ap (λ (y : ℕ). Some (saying y w0)) e ∙ ap (λ (y : Option ℕ). Some (saying s y)) (sym word))))
       (λ ne. nothing (ap (λ (y : ℕ). taken y s) is ∙ taken_other s0 s w0 (stamps.reached f0 k u s0 w0 at0).2 (λ e. ne (sym e))))
 
+  -- what is loaded is heard lawfully
   pub load_is : CellIs d u k x → HeardIs d u k s h (taken x s)
   load_is (inl (silent n z)) = record { before = λ _. silent_load n z; later = λ _. from_sayings d u k s h (taken x s) (silent_load n z) }
   load_is (inl (last f0 s0 w0 at0 is top)) = record { before = last_load stays f0 s0 w0 at0 is top; later = λ _. load_strayed f0 s0 w0 at0 is }

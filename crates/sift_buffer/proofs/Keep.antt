@@ -86,6 +86,7 @@ said_last c d q k x e (silent n z) = silent (λ f. ap (λ (g : ℕ → ℕ → �
 said_last c d q k x e (last f s w at is top) = last f s w (ap (λ (g : ℕ → ℕ → ℕ → Option Saying). g f k q) e ∙ at) is
     (λ f' s' w' at'. top f' s' w' (sym (ap (λ (g : ℕ → ℕ → ℕ → Option Saying). g f' k q) e) ∙ at'))
 
+-- and its cells
 pub cell_covered : (c d : Conduct) (q k x : ℕ) → Covers c d → CellIs c q k x → CellIs d q k x
 cell_covered c d q k x cover (inl i) = inl (said_last c d q k x cover.said i)
 cell_covered c d q k x cover (inr t) = let more = cover.strays q k x t.0 in inr (more.0, more.1 t.1)

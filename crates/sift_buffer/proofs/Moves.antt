@@ -21,6 +21,7 @@ gate_same c d other seen ep el g = record {
   };
 }
 
+-- and so do they in the eyes of another unit
 pub gate_seen : (c d other : Conduct) (seen : ℕ) → d.progress ≡ c.progress → d.left ≡ c.left → GateIs other c seen → GateIs other d seen
 gate_seen c d other seen ep el g = record {
   low = (let l = g.low in omega arith);
@@ -32,6 +33,7 @@ gate_seen c d other seen ep el g = record {
 }
 
 module _ (r : Ranges) (c : Core) (u : ℕ) (it : Sound r c) where
+  -- a look
   pub look_keeps : (p : ℕ) → Allowed r c (look u p) → Sound r (after r c (look u p))
   look_keeps p may =
       let hu = may.0 in let me : Conduct = c.of u in let n : ℕ = slice_index c.words p in let d : Conduct = with_seen me p n in
@@ -53,6 +55,7 @@ module _ (r : Ranges) (c : Core) (u : ℕ) (it : Sound r c) where
         heard = heard_same me d refl refl (omega arith) (λ x am. am);
       })
 
+  -- a load of a cell
   pub hear_keeps : (p k f s : ℕ) → Allowed r c (hear u p k f s) → Sound r (after r c (hear u p k f s))
   hear_keeps p k f s may =
       let hu = may.0 in let hp = may.1.place.cell.unit in let ne : p ≢ u = may.1.place.cell.other in let hk = may.1.place.cell.slot in
@@ -76,6 +79,7 @@ module _ (r : Ranges) (c : Core) (u : ℕ) (it : Sound r c) where
         heard = heard_same me d refl refl (omega arith) (λ x am. am);
       })
 
+  -- an entry
   pub enter_keeps : Allowed r c (enter u) → Sound r (after r c (enter u))
   enter_keeps may =
       let hu = may.0 in let me : Conduct = c.of u in let fl : me.left ≡ never = may.1.0.flies in let below = may.1.0.below in let d : Conduct = with_entered me in
@@ -111,6 +115,7 @@ module _ (r : Ranges) (c : Core) (u : ℕ) (it : Sound r c) where
             (cases_lt h never);
       }
 
+  -- a turn
   pub turn_keeps : Allowed r c (turn u) → Sound r (after r c (turn u))
   turn_keeps may =
       let hu = may.0 in let me : Conduct = c.of u in let fl : me.left ≡ never = may.1.0 in let d : Conduct = with_turned me in

@@ -6,11 +6,13 @@ use Rattle.sift_buffer.specs.Journals.{ranges_in, said_in, heard_in}
 use Rattle.sift_buffer.specs.Ledgers.{Ledger, saying_of, hearing_of, conduct_in}
 use Rattle.sift_buffer.proofs.Tables.{entry_none}
 
+-- a list of zeros has nothing else
 zeros : (n i : ℕ) → ◌≡◌ {A = ℕ} (slice_index_or (replicate n 0) i 0) 0
 zeros zero i = refl
 zeros (suc n) zero = refl
 zeros (suc n) (suc i) = zeros n i
 
+-- a new ledger
 pub ledger_fresh : (l : Ledger) (m n p : ℕ) → l.progress ≡ 0 → l.seen ≡ replicate p 0 → l.said ≡ replicate m 0 → l.asked ≡ replicate n 0 → conduct_in l ≡ fresh
 ledger_fresh l m n p progress seen said asked i = record {
   progress = progress i;

@@ -11,6 +11,7 @@ pub entry_of : (j : Pages) (f k q : ℕ) → IsPlace (ranges_in j) j.unit q k f 
 entry_of j f k q place = record { frame = place.frame; slot = place.cell.slot; unit = place.cell.unit }
 
 module _ (j : Pages) (f k q : ℕ) (word : Option ℕ) (sized : IsSized j) (place : IsPlace (ranges_in j) j.unit q k f) where
+  -- as said
   pub said_noted : NotesSaid j (record j { said = slice_set j.said (entry_number (ranges_in j) f k q) word }) f k q word
   said_noted = record {
     owner = record { layout_is = refl; unit_is = refl; frames_are = refl };
@@ -18,6 +19,7 @@ module _ (j : Pages) (f k q : ℕ) (word : Option ℕ) (sized : IsSized j) (plac
     heard = refl;
   }
 
+  -- as heard
   pub heard_noted : NotesHeard j (record j { heard = slice_set j.heard (entry_number (ranges_in j) f k q) word }) f k q word
   heard_noted = record {
     owner = record { layout_is = refl; unit_is = refl; frames_are = refl };

@@ -14,12 +14,15 @@ module _ {A : Type 0} where
   got d (Some x) = x
   got d None = d
 
+  -- two values are one where their options are
   pub some_same : {x y : A} → Some x ≡ Some y → x ≡ y
   some_same {x} {y} e = ap (got x) e
 
+  -- no option is both
   pub none_some : {x : A} {B : Type 0} → None ≡ Some x → B
   none_some e = absurd (cc)
 
+  -- the new value stands there
   pub put_here : (g : ℕ → A) (i : ℕ) (x : A) → put g i x i ≡ x
   put_here g i x = rw (eq-eqb i i refl) refl
 
@@ -33,9 +36,11 @@ module _ {A : Type 0} where
       (λ e. subst P (sym (rw (eq-eqb j i e) refl)) (here e))
       (λ ne. subst P (sym (put_else g i x j ne)) (away ne))
 
+  -- and so at three numbers
   pub put_at_here : (g : ℕ → ℕ → ℕ → A) (f k q : ℕ) (x : A) → put_at g f k q x f k q ≡ x
   put_at_here g f k q x = rw (eq-eqb f f refl, eq-eqb k k refl, eq-eqb q q refl) refl
 
+  -- what holds of the new value there, and of the old ones elsewhere
   pub put_at_cases : (P : A → Type 0) (g : ℕ → ℕ → ℕ → A) (f k q : ℕ) (x : A) (f' k' q' : ℕ) →
       (IsAt f k q f' k' q' → P x) → (¬ IsAt f k q f' k' q' → P (g f' k' q')) → P (put_at g f k q x f' k' q')
   put_at_cases P g f k q x f' k' q' here away =

@@ -38,6 +38,7 @@ looks_keep v own (n ∷ ns) = let k = looks_keep v own ns in dite (ℕ_discrete 
       looks = (let l = k.looks in omega arith);
     }))
 
+-- and so does a round
 pub round_keeps : (v v' : View) (k : ℕ) → LooksRound v k v' → KeepsOwn v v'
 round_keeps v v' k r = subst (λ (w : View). KeepsOwn v w) (sym r.after) (looks_keep v v.unit r.found)
 
@@ -85,6 +86,7 @@ round_none v v' r = record { round = r; own = round_keeps v v' v.ranges.units r;
 pub apart_by : (a b : ℕ) → true ≡ not (a == b) → a ≢ b
 apart_by a b t e = absurd (let f : true ≡ false = t ∙ ap not (eq-eqb a b e) in cc)
 
+-- and where it fails
 pub same_by : (a b : ℕ) → false ≡ not (a == b) → a ≡ b
 same_by a b t = dite (ℕ_discrete a b) (λ e. e) (λ ne. absurd (let f : false ≡ true = t ∙ ap not (ne_eqb a b ne) in cc))
 
@@ -92,5 +94,6 @@ same_by a b t = dite (ℕ_discrete a b) (λ e. e) (λ ne. absurd (let f : false 
 pub is_other : (v : View) (units own p : ℕ) → units ≡ v.ranges.units → own ≡ v.unit → p < units → true ≡ not (p == own) → IsOther v p
 is_other v units own p hu ho low t = (rw (← hu) low, λ e. apart_by p own t (e ∙ sym ho))
 
+-- so it is after a round of looks
 pub still_other : (v v' : View) (k p : ℕ) → LooksRound v k v' → IsOther v p → IsOther v' p
 still_other v v' k p r other = let keeps = round_keeps v v' k r in rw (keeps.ranges, keeps.unit) other

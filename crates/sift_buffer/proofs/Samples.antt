@@ -17,18 +17,19 @@ not_silent n (last f s w at is top) = none_some (sym (n f) ∙ at)
 gate : (seen : ℕ → ℕ) (u other n : ℕ) → ((p : ℕ) → p < 2 → p ≢ u → p ≡ other) → (p : ℕ) → p < 2 → p ≢ u → n ≤ put seen other n p
 gate seen u other n only p hp ne = put_cases (λ (z : ℕ). n ≤ z) seen other n p (λ _. omega arith) (λ away. absurd (away (only p hp ne)))
 
-low : (u : ℕ) (seen : ℕ → ℕ) → (p : ℕ) → p < 2 → p ≢ u → 0 ≤ seen p
-low u seen p hp ne = omega arith
+-- the other unit of unit 0
+other_of_zero : (p : ℕ) → p < 2 → p ≢ 0 → p ≡ 1
+other_of_zero p hp ne = omega arith
 
-one : (p : ℕ) → p < 2 → p ≢ 0 → p ≡ 1
-one p hp ne = omega arith
+-- the other unit of unit 1
+other_of_one : (p : ℕ) → p < 2 → p ≢ 1 → p ≡ 0
+other_of_one p hp ne = omega arith
 
-zero_ : (p : ℕ) → p < 2 → p ≢ 1 → p ≡ 0
-zero_ p hp ne = omega arith
-
+-- the one cell of a unit
 place_of : (u q f : ℕ) → q < 2 → q ≢ u → f < 2 → IsPlace pair u q 0 f
 place_of u q f hq ne hf = record { cell = record { unit = hq; other = ne; slot = omega arith }; frame = hf }
 
+-- each event of the story is allowed when it comes
 allowed : AllAllowed pair idle story
 allowed = (
   (omega arith, (record { flies = refl; place = place_of 0 1 0 (omega arith) (omega arith) (omega arith); stamp = refl; frame = refl; fresh = λ f s w at. none_some at }, omega arith)),
@@ -41,15 +42,15 @@ allowed = (
         (
           (omega arith, (omega arith, omega arith)),
           (
-            (omega arith, (record { flies = refl; below = omega arith }, gate _ 0 1 1 one)),
+            (omega arith, (record { flies = refl; below = omega arith }, gate _ 0 1 1 other_of_zero)),
             (
-              (omega arith, (record { flies = refl; below = omega arith }, gate _ 1 0 1 zero_)),
+              (omega arith, (record { flies = refl; below = omega arith }, gate _ 1 0 1 other_of_one)),
               (
                 (omega arith, record { flies = refl; place = place_of 1 0 0 (omega arith) (omega arith) (omega arith); stamp = (omega arith, omega arith); frame = refl }),
                 (
                   (omega arith, (omega arith, omega arith)),
                   (
-                    (omega arith, (refl, λ _. gate _ 0 1 2 one)),
+                    (omega arith, (refl, λ _. gate _ 0 1 2 other_of_zero)),
                     (
                       (omega arith, record { turned = omega arith; cell = (place_of 0 1 0 (omega arith) (omega arith) (omega arith)).cell }),
                       (
@@ -68,6 +69,7 @@ allowed = (
   ),
 )
 
+-- the law of the samples
 pub tell_apart : ConditionsTellApart
 tell_apart = record {
   allowed = allowed;

@@ -32,10 +32,11 @@ pub record Sound (r : Ranges) (c : Core) : Type 0 where
 pub from_sayings : (d : Conduct) (q k s h : ℕ) (w : Option ℕ) → IsFromSayings d q k s h w → IsFromStrays d q k s w
 from_sayings d q k s h w it = ⊎_elim (λ n. nothing n) (λ (t : (f : ℕ) × (d.said f k q ≡ Some (record { stamp = s; word = w }))). said t.0 t.1) it.source
 
--- a unit that flies hasn't turned
+-- a unit flies, or it has turned
 pub flies_or_turned : {B : Type 0} (d : Conduct) → HasStage d → (d.left ≡ never → B) → (d.left < never → B) → B
 flies_or_turned d stage flies turned = ⊎_elim (λ f. flies f.0) (λ t. turned (let l = t.0 in omega arith)) stage
 
+-- a lawful core is sound
 pub sound_of : (r : Ranges) (c : Core) → Lawful r c → Sound r c
 sound_of r c law = record {
   formed = law.formed;
@@ -50,6 +51,7 @@ sound_of r c law = record {
   };
 }
 
+-- and a sound core lawful
 pub lawful_of : (r : Ranges) (c : Core) → Sound r c → Lawful r c
 lawful_of r c it = record {
   formed = it.formed;

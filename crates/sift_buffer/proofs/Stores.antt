@@ -14,6 +14,7 @@ use Rattle.sift_buffer.proofs.Moves.{gate_same, gate_seen}
 
 -- one saying more
 module _ (r : Ranges) (c : Conduct) (u q k f s : ℕ) (w : Option ℕ) (may : MaySay r c u q k f s) (word : IsWord w) where
+  -- the conduct with it
   abbrev d : Conduct
   d = with_said c f k q s w
 
@@ -21,9 +22,11 @@ module _ (r : Ranges) (c : Conduct) (u q k f s : ℕ) (w : Option ℕ) (may : Ma
   stamp_of : {s' : ℕ} {w' : Option ℕ} → Some (saying s w) ≡ Some (saying s' w') → s ≡ s'
   stamp_of e = ap (λ (z : Saying). z.stamp) (some_same e)
 
+  -- so no other saying in this cell has its stamp
   other_stamp : (f1 f2 k' q' s' : ℕ) (w1 w2 : Option ℕ) → (f1 ≡ f) × (k' ≡ k) × (q' ≡ q) → Some (saying s w) ≡ Some (saying s' w1) → c.said f2 k' q' ≡ Some (saying s' w2) → ⊥
   other_stamp f1 f2 k' q' s' w1 w2 t e at = may.fresh f2 s' w2 (moved c.said f2 k q f2 k' q' (refl, t.1, t.2) ∙ at) (sym (stamp_of e))
 
+  -- the stamps ascend
   pub say_stamps : c.progress ≤ c.left → HasStamps c → HasStamps d
   say_stamps low st = record {
     reached = λ f' k' q' s' w'. put_at_cases (λ (o : Option Saying). o ≡ Some (saying s' w') → (s' ≤ c.progress + 1) × (s' ≤ c.left + 1) × IsWord w') c.said f k q (Some (saying s w)) f' k' q'
@@ -45,9 +48,11 @@ module _ (r : Ranges) (c : Conduct) (u q k f s : ℕ) (w : Option ℕ) (may : Ma
       (λ _ e. let e' : s ≡ s' = stamp_of e in omega arith)
       (λ _ at. let l = (st.reached f' k q s' w' at).0 in let m : s ≡ c.progress + 1 = may.stamp in omega arith))
 
+  -- in another cell nothing more was said
   said_else : (q' k' f' : ℕ) → ¬ ((q' ≡ q) × (k' ≡ k)) → d.said f' k' q' ≡ c.said f' k' q'
   said_else q' k' f' away = put_at_cases (λ (o : Option Saying). o ≡ c.said f' k' q') c.said f k q (Some (saying s w)) f' k' q' (λ t. absurd (away (t.2, t.1))) (λ _. refl)
 
+  -- so the last saying there is what it was
   last_else : (q' k' x : ℕ) → ¬ ((q' ≡ q) × (k' ≡ k)) → IsLastSaid c q' k' x → IsLastSaid d q' k' x
   last_else q' k' x away (silent n z) = silent (λ f'. said_else q' k' f' away ∙ n f') z
   last_else q' k' x away (last f0 s0 w0 at is top) = last f0 s0 w0 (said_else q' k' f0 away ∙ at) is (λ f' s' w' at'. top f' s' w' (sym (said_else q' k' f' away) ∙ at'))
@@ -57,6 +62,7 @@ module _ (r : Ranges) (c : Conduct) (u q k f s : ℕ) (w : Option ℕ) (may : Ma
   say_else q' k' x away (inl i) = inl (last_else q' k' x away i)
   say_else q' k' x away (inr t) = inr t
 
+  -- what was heard of a unit that had not left
   say_sayings : (q' k' s' h : ℕ) (w' : Option ℕ) → IsFromSayings c q' k' s' h w' → IsFromSayings d q' k' s' h w'
   say_sayings q' k' s' h w' it = record {
     source = ⊎_elim (λ n. inl n) (λ (t : (f0 : ℕ) × (c.said f0 k' q' ≡ Some (saying s' w'))). inr (t.0, put_at_keeps c.said f k q (saying s w) t.0 k' q' (saying s' w') may.frame t.1)) it.source;
@@ -79,6 +85,7 @@ module _ (r : Ranges) (c : Conduct) (u q k f s : ℕ) (w : Option ℕ) (may : Ma
       go (strayed x am is) = strayed x am is
 
 module _ (r : Ranges) (c : Core) (u : ℕ) (it : Sound r c) where
+  -- a saying
   pub say_keeps : (q k f s : ℕ) (w : Option ℕ) → Allowed r c (say u q k f s w) → Sound r (after r c (say u q k f s w))
   say_keeps q k f s w may =
       let hu = may.0 in let m = may.1.0 in let word = may.1.1 in let me : Conduct = c.of u in let d' : Conduct = with_said me f k q s w in let st = it.stamps u hu in
@@ -97,6 +104,7 @@ module _ (r : Ranges) (c : Core) (u : ℕ) (it : Sound r c) where
         heard = say_heard r me u q k f s w m word;
       })
 
+  -- a stray
   pub stray_keeps : (q k x : ℕ) → Allowed r c (stray u q k x) → Sound r (after r c (stray u q k x))
   stray_keeps q k x may =
       let hu = may.0 in let m = may.1 in let me : Conduct = c.of u in let d' : Conduct = with_stray me q k x in

@@ -16,6 +16,7 @@ entry_low r f k q within =
     let all : (f * r.slots + k) * r.units + q < r.units * (r.slots * r.frames) = mul-add-lt (f * r.slots + k) r.units q (r.slots * r.frames) row within.unit in
     omega (arith, mul_comm r.units (r.slots * r.frames), mul_comm r.slots r.frames)
 
+-- different frames, slots or units have different entries
 entry_apart : (r : Ranges) (f k q f' k' q' : ℕ) → IsEntry r f k q → IsEntry r f' k' q' → entry_number r f k q ≡ entry_number r f' k' q' → IsAt f' k' q' f k q
 entry_apart r f k q f' k' q' w w' e =
     let units = split_row (f * r.slots + k) q (f' * r.slots + k') q' r.units w.unit w'.unit e in
@@ -44,10 +45,6 @@ module _ {A : Type 0} (none : A) (r : Ranges) where
       (λ out. outside (λ t. let a = t.slot in omega arith)))
       (λ out. outside (λ t. let a = t.frame in omega arith))
 
-  -- an entry in range is the list's
-  pub entry_is : (xs : List A) (f k q : ℕ) → IsEntry r f k q → entry_at none r xs f k q ≡ slice_index_or xs (entry_number r f k q) none
-  entry_is xs f k q within = entry_cases (λ (o : A). o ≡ slice_index_or xs (entry_number r f k q) none) xs f k q (λ _. refl) (λ out. absurd (out within))
-
   -- a list of defaults has nothing else
   pub entry_none : (xs : List A) → ((i : ℕ) → slice_index_or xs i none ≡ none) → entry_at none r xs ≡ (λ _ _ _. none)
   entry_none xs all i f k q = entry_cases (λ (o : A). o ≡ none) xs f k q (λ _. all (entry_number r f k q)) (λ _. refl) i
@@ -57,6 +54,7 @@ module _ {A : Type 0} (none : A) (r : Ranges) where
     abbrev new : List A
     new = slice_set xs (entry_number r f k q) x
 
+    -- the others stay
     entry_same : (f' k' q' : ℕ) → ¬ IsAt f k q f' k' q' → entry_at none r new f' k' q' ≡ entry_at none r xs f' k' q'
     entry_same f' k' q' away = entry_cases (λ (o : A). entry_at none r new f' k' q' ≡ o) xs f' k' q'
         (λ within'. entry_cases (λ (o : A). o ≡ slice_index_or xs (entry_number r f' k' q') none) new f' k' q'

@@ -1,6 +1,7 @@
 -- What a contract sees of the acts that a unit keeps: its journal with stamps, and what it knows.
 use Rattle.std.specs.Prelude.{◌≡◌, ℕ, ◌==◌, if◌then◌else◌, List, [], slice_index, Option, Some, None}
 use Rattle.sift_base.specs.declared.layout.Layout.{Layout}
+use Rattle.sift_buffer.specs.Ranges.{Ranges}
 use Rattle.sift_buffer.specs.Conduct.{Saying, Hearing, Conduct, never, saying, hearing}
 use Rattle.sift_buffer.specs.Tables.{entry_at}
 use Rattle.sift_buffer.specs.Journals.{Pages, ranges_in, said_in, heard_in, IsJournalOf}
@@ -23,9 +24,13 @@ saying_of s w = if s == 0 then None else Some (saying s w)
 abbrev pub hearing_of : ℕ → ℕ → Option ℕ → Option Hearing
 hearing_of s h w = if s == 0 then None else Some (hearing s h w)
 
--- the number of a frame, slot and unit in a list of the ledger
-abbrev pub number_at : Ledger → List ℕ → ℕ → ℕ → ℕ → ℕ
-number_at l = entry_at 0 (ranges_in l.pages)
+-- the sayings that a list of stamps and the words tell
+abbrev pub sayings_by : Ranges → List ℕ → (ℕ → ℕ → ℕ → Option ℕ) → ℕ → ℕ → ℕ → Option Saying
+sayings_by r stamps words f k q = saying_of (entry_at 0 r stamps f k q) (words f k q)
+
+-- the hearings that a list of stamps, a list of progress numbers and the words tell
+abbrev pub hearings_by : Ranges → List ℕ → List ℕ → (ℕ → ℕ → ℕ → Option ℕ) → ℕ → ℕ → ℕ → Option Hearing
+hearings_by r asked at words f k p = hearing_of (entry_at 0 r asked f k p) (entry_at 0 r at f k p) (words f k p)
 
 -- the conduct that the ledger tells: a unit that has not turned
 abbrev pub conduct_in : Ledger → Conduct
@@ -33,8 +38,8 @@ conduct_in l = record {
   progress = l.progress;
   left = never;
   seen = slice_index l.seen;
-  said = λ f k q. saying_of (number_at l l.said f k q) (said_in l.pages f k q);
-  heard = λ f k p. hearing_of (number_at l l.asked f k p) (number_at l l.heard_at f k p) (heard_in l.pages f k p);
+  said = sayings_by (ranges_in l.pages) l.said (said_in l.pages);
+  heard = hearings_by (ranges_in l.pages) l.asked l.heard_at (heard_in l.pages);
   strays = [];
 }
 

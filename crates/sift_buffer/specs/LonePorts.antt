@@ -1,7 +1,7 @@
 -- A port in plain memory, as a port and as a part of a core.
 use Rattle.std.specs.Prelude.{◌≡◌, ℕ, slice_index, slice_set, replicate}
 use Rattle.sift_base.specs.declared.layout.Layout.{Layout}
-use Rattle.sift_buffer.specs.Ranges.{Ranges, shared_words}
+use Rattle.sift_buffer.specs.Ranges.{Ranges, shared_words, place}
 use Rattle.sift_buffer.specs.Conduct.{Conduct, put}
 use Rattle.sift_buffer.specs.Core.{Core}
 use Rattle.sift_buffer.specs.Tables.{ranges_of}
@@ -18,6 +18,10 @@ ranges_for p = ranges_of p.grid.layout p.grid.frames
 -- what contracts see of the port
 abbrev pub view_of : LonePort → View
 view_of p = record { ranges = ranges_for p; unit = p.unit; conduct = conduct_in p.acts; looks = p.looks; last = record { unit = p.last_unit; number = p.last_number } }
+
+-- the cell of a unit for another in a slot
+abbrev pub cell_in : LonePort → ℕ → ℕ → ℕ → ℕ
+cell_in p u q k = slice_index p.words.items (place (ranges_for p) u q k)
 
 -- the port's journal
 abbrev pub journal_of : LonePort → Pages

@@ -1,8 +1,9 @@
 -- What contracts see of a port, and what its calls make of it.
 use Rattle.std.specs.Prelude.{◌≡◌, ◌≢◌, ℕ, ◌+◌, ◌<◌, ◌≤◌, ◌==◌, if◌then◌else◌, min, List, [], ◌∷◌, length, Option, Some, None, ⊤}
+use Rattle.sift_base.specs.Units.{unit_limit}
 use Rattle.sift_buffer.specs.Ranges.{Ranges}
 use Rattle.sift_buffer.specs.Conduct.{Conduct, fresh, with_seen, with_said, with_heard, with_entered}
-use Rattle.sift_buffer.specs.Conditions.{PassesGate}
+use Rattle.sift_buffer.specs.Conditions.{MaySay, MayHear, PassesGate}
 use Rattle.sift_buffer.specs.declared.port.Entering.{Entering}
 use Rattle.sift_buffer.specs.declared.port.Entering.TheVariants.{Entered, NotYet}
 
@@ -51,9 +52,24 @@ view_with_heard v f k p s w = record v { conduct = with_heard v.conduct f k p s 
 abbrev pub view_with_entered : View → View
 view_with_entered v = record v { conduct = with_entered v.conduct }
 
+-- the port's unit may say in a slot to a unit, in a frame and with a stamp
+abbrev pub PortMaySay : View → ℕ → ℕ → ℕ → ℕ → Type 0
+PortMaySay v q k f s = MaySay v.ranges v.conduct v.unit q k f s
+
+-- the port's unit may hear in a slot from a unit, in a frame and by a stamp
+abbrev pub PortMayHear : View → ℕ → ℕ → ℕ → ℕ → Type 0
+PortMayHear v p k f s = MayHear v.ranges v.conduct v.unit p k f s
+
 -- it is a unit, and another than the port's
 abbrev pub IsOther : View → ℕ → Type 0
 IsOther v p = (p < v.ranges.units) × (p ≢ v.unit)
+
+-- these are the numbers of the port's units, at most as many as there may be, of its own unit, and of this unit's progress
+pub record AreOwn (v : View) (units own progress : ℕ) : Type 0 where
+  pub units_are : units ≡ v.ranges.units
+  pub few : units ≤ unit_limit
+  pub own_is : own ≡ v.unit
+  pub progress_is : progress ≡ v.conduct.progress
 
 -- ---- a round of looks
 

@@ -1,4 +1,5 @@
-//! Acts: a unit's journal with the stamps of its words, and what the unit knows. A port in plain memory keeps them.
+//! Acts: a unit's journal with the stamps of its words, and what the unit knows. A port in plain
+//! memory keeps them.
 ghost use Rattle.std.specs.Prelude.{◌≡◌, ◌<◌, ◌≤◌, ◌+◌, IfOk};
 ghost use Rattle.sift_base.specs.Layout.{IsLayout};
 ghost use Rattle.sift_base.specs.Units.{unit_limit};

@@ -1,7 +1,6 @@
 //! The gate: the round of looks that a unit makes before it goes on.
 ghost use Rattle.std.specs.Prelude.{◌≡◌, ◌≤◌, ℕ, IfSome};
-ghost use Rattle.sift_base.specs.Units.{unit_limit};
-ghost use Rattle.sift_buffer.specs.Views.{View, IsOther, Decides, view_with_look};
+ghost use Rattle.sift_buffer.specs.Views.{View, IsOther, AreOwn, Decides, view_with_look};
 
 use sift_base::UnitId;
 
@@ -30,17 +29,15 @@ pub trait Look {
     ghost follows_on: { (x y z : Self) → follows x y → follows y z → follows x z };
 }
 
-/// Looks at the other units in ascending number, up to the first that is behind the own progress. It answers that unit and its number.
+/// Looks at the other units in ascending number, up to the first that is behind the own progress.
+/// It answers that unit and its number.
 pub fn find_behind<L: Look>(
     port: &mut L,
     units: u8,
     own: UnitId,
     progress: u64,
 ) -> Option<(UnitId, u64)>
-    requires units { units ≡ (L.view port.old).ranges.units }
-    requires few { units ≤ unit_limit }
-    requires own { own ≡ (L.view port.old).unit }
-    requires progress { progress ≡ (L.view port.old).conduct.progress }
+    requires { AreOwn (L.view port.old) units own progress }
     ensures round { Decides (L.view port.old) result (L.view port.new) }
     ensures stands { IfSome result (λ x. L.stands port.new x.0 x.1) }
     ensures follows { L.follows port.old port.new }

@@ -9,7 +9,8 @@ use sift_base::{Layout, NoMemory, UnitId, Word};
 use std::alloc::Global;
 use std::marker::Model;
 
-/// The words that one unit said to each other unit and heard from it, in each frame and slot. Its memory is taken once, for all frames.
+/// The words that one unit said to each other unit and heard from it, in each frame and slot. Its
+/// memory is taken once, for all frames.
 #[derive(Drop)]
 pub struct Journal {
     grid: Grid,
@@ -50,7 +51,8 @@ impl Journal {
         })
     }
 
-    /// The word that was noted last as said in this frame and slot to this unit. It is absent where absence was noted, or nothing.
+    /// The word that was noted last as said in this frame and slot to this unit. It is absent where
+    /// absence was noted, or nothing.
     pub fn said(&self, f: u32, slot: usize, to: UnitId) -> Option<Word>
         requires { IsPlace (ranges_in self.now) self.now.unit to slot f }
         ensures { result ≡ said_in self.now f slot to }
@@ -58,7 +60,8 @@ impl Journal {
         self.said[self.grid.index(f, slot, to)]
     }
 
-    /// The word that was noted last as heard in this frame and slot from this unit. It is absent where absence was noted, or nothing.
+    /// The word that was noted last as heard in this frame and slot from this unit. It is absent
+    /// where absence was noted, or nothing.
     pub fn heard(&self, f: u32, slot: usize, from: UnitId) -> Option<Word>
         requires { IsPlace (ranges_in self.now) self.now.unit from slot f }
         ensures { result ≡ heard_in self.now f slot from }

@@ -18,7 +18,8 @@ pub fn events_keep_the_core_lawful()
     ensures { EventsKeepLawful }
 {}
 
-/// A core with something done of each kind is lawful, and each of the six conditions refuses a core.
+/// A core with something done of each kind is lawful, and each of the six conditions refuses a
+/// core.
 pub fn conditions_tell_cores_apart()
     ensures { ConditionsTellApart }
 {}

@@ -1,4 +1,5 @@
-//! What units share: cells and progress numbers, what every order of loads and stores keeps of them, and ports, by which a unit reaches them.
+//! What units share: cells and progress numbers, what every order of loads and stores keeps of
+//! them, and ports, by which a unit reaches them.
 #![tactic(auto)]
 
 mod acts;

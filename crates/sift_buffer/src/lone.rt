@@ -8,7 +8,8 @@ use crate::acts::Acts;
 use crate::grid::Grid;
 use sift_base::UnitId;
 
-/// One unit's port in plain memory. What the other units store is stored by hand, so a test says what the unit finds.
+/// One unit's port in plain memory. What the other units store is stored by hand, so a test says
+/// what the unit finds.
 #[derive(Drop)]
 pub struct LonePort {
     pub(crate) grid: Grid,

@@ -1,11 +1,12 @@
 //! A port in plain memory as a port.
-ghost use Rattle.std.specs.Prelude.{◌≡◌, ◌≢◌, ◌<◌, ℕ, IfOk, slice_index};
+ghost use Rattle.std.specs.Prelude.{◌≡◌, ◌≢◌, ◌<◌, ℕ, IfOk};
 ghost use Rattle.sift_base.specs.Layout.{IsLayout};
 ghost use Rattle.sift_buffer.specs.Ranges.{IsCell, place};
 ghost use Rattle.sift_buffer.specs.Conditions.{MayEnter, PassesGate};
 ghost use Rattle.sift_buffer.specs.Tables.{ranges_of};
 ghost use Rattle.sift_buffer.specs.Views.{View, view_with_entered};
-ghost use Rattle.sift_buffer.specs.LonePorts.{IsNew, Stored, Follows, Stands, view_of, ranges_for, journal_of};
+ghost use Rattle.sift_buffer.specs.Ledgers.{conduct_in};
+ghost use Rattle.sift_buffer.specs.LonePorts.{IsNew, Stored, Follows, Stands, view_of, ranges_for, journal_of, cell_in};
 ghost use Rattle.sift_buffer.specs.Following.{itself, further};
 
 use crate::acts::Acts;
@@ -65,7 +66,7 @@ impl LonePort {
     /// The unit's cell for another unit, as it stands.
     pub fn cell(&self, to: UnitId, slot: usize) -> u64
         requires { IsCell (ranges_for self.now) self.now.unit to slot }
-        ensures { result ≡ slice_index self.now.words.items (place (ranges_for self.now) self.now.unit to slot) }
+        ensures { result ≡ cell_in self.now self.now.unit to slot }
     {
         self.words[self.grid.place(self.unit, to, slot)]
     }
@@ -79,8 +80,8 @@ impl LonePort {
 
     /// Stores the progress, raised by one.
     fn go_on(&mut self)
-        requires may { MayEnter (view_of self.old).conduct }
-        requires gate { PassesGate (ranges_for self.old) (view_of self.old).conduct self.old.unit }
+        requires may { MayEnter (conduct_in self.old.acts) }
+        requires gate { PassesGate (ranges_for self.old) (conduct_in self.old.acts) self.old.unit }
         ensures entered { view_of self.new ≡ view_with_entered (view_of self.old) }
         ensures follows { Follows self.old self.new }
     {

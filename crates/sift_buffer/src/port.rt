@@ -1,7 +1,7 @@
 //! Ports: how a unit says, hears and enters the next subframe.
 ghost use Rattle.std.specs.Prelude.{◌≡◌, ℕ};
-ghost use Rattle.sift_buffer.specs.Conditions.{MaySay, MayHear, MayEnter};
-ghost use Rattle.sift_buffer.specs.Views.{View, Tries, Finds, view_with_said, view_with_heard};
+ghost use Rattle.sift_buffer.specs.Conditions.{MayEnter};
+ghost use Rattle.sift_buffer.specs.Views.{View, PortMaySay, PortMayHear, Tries, Finds, view_with_said, view_with_heard};
 
 use sift_base::{UnitId, Word};
 
@@ -31,17 +31,18 @@ pub trait Port {
 
     /// Says a word, or absence, in a frame and slot to another unit, by one store.
     fn say(&mut self, to: UnitId, slot: usize, f: u32, stamp: u32, word: Option<Word>)
-        requires { MaySay (view self.old).ranges (view self.old).conduct (view self.old).unit to slot f stamp }
+        requires { PortMaySay (view self.old) to slot f stamp }
         ensures said { view self.new ≡ view_with_said (view self.old) f slot to stamp word }
         ensures follows { follows self.old self.new };
 
     /// Hears a word, or absence, in a frame and slot from another unit, by one load.
     fn hear(&mut self, from: UnitId, slot: usize, f: u32, stamp: u32) -> Option<Word>
-        requires { MayHear (view self.old).ranges (view self.old).conduct (view self.old).unit from slot f stamp }
+        requires { PortMayHear (view self.old) from slot f stamp }
         ensures heard { view self.new ≡ view_with_heard (view self.old) f slot from stamp result }
         ensures follows { follows self.old self.new };
 
-    /// Looks at the other units in ascending number, and enters the next subframe where none is behind. It stops at the first that is.
+    /// Looks at the other units in ascending number, and enters the next subframe where none is
+    /// behind. It stops at the first that is.
     fn try_enter(&mut self) -> Entering
         requires { MayEnter (view self.old).conduct }
         ensures tried { Tries (view self.old) result (view self.new) }

@@ -8,7 +8,7 @@ pub look-seen-requires : goal.look-seen-requires
 look-seen-requires g c =
     let v : View = g.L.Look.view c.args.port.now in
     let low : c.in-Some.other < c.args.units = let here = c.in-Some.ensures.found.0 in let t = c.loop-number-test.true in omega arith in
-    let other = is_other v c.args.units c.args.own c.in-Some.other c.requires.units c.requires.own low c.if-ne.ensures in
+    let other = is_other v c.args.units c.args.own c.in-Some.other c.requires.units_are c.requires.own_is low c.if-ne.ensures in
     still_other v _ _ c.in-Some.other c.loop-number.invariant.round other
 
 pub loop-number-preserved : goal.loop-number-preserved
@@ -19,14 +19,14 @@ loop-number-preserved g c =
     let within : n + 1 ≤ c.args.units = let t = c.loop-number-test.true in omega arith in
     elim c.match-of.branch [
       | in-Some+then-ne+else-seen-progress w ↦
-          let other : n ≢ v.unit = λ e. apart_by w.in-Some.other c.args.own w.if-ne.ensures (w.in-Some.ensures.found.0 ∙ (e ∙ sym c.requires.own)) in
-          let up : v.conduct.progress ≤ w.look-seen.result = subst (λ (x : ℕ). x ≤ w.look-seen.result) c.requires.progress w.if-seen-progress.false in
+          let other : n ≢ v.unit = λ e. apart_by w.in-Some.other c.args.own w.if-ne.ensures (w.in-Some.ensures.found.0 ∙ (e ∙ sym c.requires.own_is)) in
+          let up : v.conduct.progress ≤ w.look-seen.result = subst (λ (x : ℕ). x ≤ w.look-seen.result) c.requires.progress_is w.if-seen-progress.false in
           let round : LooksRound v (n + 1) (g.L.Look.view w.look-seen.new.self) =
           subst (λ (x : View). LooksRound v (n + 1) x) (sym (w.look-seen.ensures.looked ∙ (λ i. view_with_look (g.L.Look.view c.loop-number.port) (w.in-Some.ensures.found.0 i) w.look-seen.result)))
           (round_look v _ n w.look-seen.result inv.round other up) in
           rw w.port-is (record { follows = g.met.L.Look.follows_on _ _ _ inv.follows w.look-seen.ensures.follows; within = within; round = round })
       | in-Some+else-ne w ↦
-          let own : n ≡ v.unit = sym w.in-Some.ensures.found.0 ∙ (same_by w.in-Some.other c.args.own w.if-ne.ensures ∙ c.requires.own) in
+          let own : n ≡ v.unit = sym w.in-Some.ensures.found.0 ∙ (same_by w.in-Some.other c.args.own w.if-ne.ensures ∙ c.requires.own_is) in
           rw w.port-is (record { follows = inv.follows; within = within; round = round_skip v _ n inv.round own })
       | in_default w ↦ let high = w.in_default.ensures.none in let few = c.requires.few in absurd (omega arith)
     ]
@@ -36,7 +36,7 @@ returns-clause-round g c =
     let v : View = g.L.Look.view c.args.port.now in
     let inv = c.loop-number.invariant in
     let all : c.loop-number.number ≡ c.args.units = let t = c.loop-number-test.false in let w = inv.within in omega arith in
-    round_none v _ (subst (λ (n : ℕ). LooksRound v n (g.L.Look.view c.loop-number.port)) (all ∙ c.requires.units) inv.round)
+    round_none v _ (subst (λ (n : ℕ). LooksRound v n (g.L.Look.view c.loop-number.port)) (all ∙ c.requires.units_are) inv.round)
 
 pub returns-then-seen-progress-clause-round : goal.returns-then-seen-progress-clause-round
 returns-then-seen-progress-clause-round g c =
@@ -44,6 +44,6 @@ returns-then-seen-progress-clause-round g c =
     let p : ℕ = c.in-Some.other in
     let here : p ≡ c.loop-number.number = c.in-Some.ensures.found.0 in
     let low : p < c.args.units = let t = c.loop-number-test.true in omega arith in
-    let other = is_other v c.args.units c.args.own p c.requires.units c.requires.own low c.if-ne.ensures in
+    let other = is_other v c.args.units c.args.own p c.requires.units_are c.requires.own_is low c.if-ne.ensures in
     let round = subst (λ (n : ℕ). LooksRound v n (g.L.Look.view c.loop-number.port)) (sym here) c.loop-number.invariant.round in
-    rw c.look-seen.ensures.looked (round_behind v _ p c.look-seen.result round other (rw (← c.requires.progress) c.if-seen-progress.true))
+    rw c.look-seen.ensures.looked (round_behind v _ p c.look-seen.result round other (rw (← c.requires.progress_is) c.if-seen-progress.true))
