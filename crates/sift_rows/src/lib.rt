@@ -1,5 +1,19 @@
-//! Tests of the other crates' public calls, one module a crate.
+//! Rows of tests that call the crates below as their users do, one module a crate.
 #![tactic(auto)]
 
 #[cfg(test)]
+mod agree;
+#[cfg(test)]
+mod base;
+#[cfg(test)]
 mod buffer;
+#[cfg(test)]
+mod clock;
+#[cfg(test)]
+mod config;
+#[cfg(test)]
+mod exec;
+#[cfg(test)]
+mod skew;
+#[cfg(test)]
+mod vote;
