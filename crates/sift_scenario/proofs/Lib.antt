@@ -16,3 +16,4 @@ pub mod UniqueRefusals
 pub mod Unrefused
 pub mod WordCounts
 pub mod WordValues
+pub mod Limits

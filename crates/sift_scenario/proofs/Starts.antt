@@ -10,7 +10,7 @@ use Rattle.toml.specs.Data.{Members}
 use Rattle.sift_scenario.proofs.Places.{map_map}
 use Rattle.sift_parse.specs.Force.{Roll}
 use Rattle.sift_scenario.specs.Mission.{all_starts, roll_for}
-use Rattle.sift_scenario.specs.Task.{counts_of, name_of, starts_of, word_count}
+use Rattle.sift_scenario.specs.Task.{counts_of, name_of, starts_of, outputs_of}
 
 module _ {A B : Type 0} (shown : A → Members) (words : B → List ℕ) (tasks : List A) (starts : List B) (read : map (λ ws. Some (words ws)) starts ≡ map (λ task. starts_of (shown task)) tasks) where
   -- there are as many
@@ -51,4 +51,4 @@ roll_from shown bytes words tasks names starts named read roll is =
 
 -- there are as many start words as output words
 pub starts_long : (tasks : List Members) → length (all_starts tasks) ≡ sum (counts_of tasks)
-starts_long tasks = length-flat_map (λ task. unwrap_or (starts_of task) []) tasks ∙ sym (sum-map word_count tasks)
+starts_long tasks = length-flat_map (λ task. unwrap_or (starts_of task) []) tasks ∙ sym (sum-map outputs_of tasks)

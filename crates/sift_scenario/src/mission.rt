@@ -1,10 +1,12 @@
+//! A mission, as a document states it.
+
 ghost use Rattle.std.specs.Prelude.{◌≡◌, ◌≢◌, ◌≤◌, IfErr, IfOk, length, map};
 ghost use Rattle.toml.specs.View.{table_view};
 ghost use Rattle.sift_program.specs.Program.{program_of};
 ghost use Rattle.sift_program.specs.Sound.{IsSoundProgram};
 ghost use Rattle.sift_scenario.specs.declared.refused.Refused.{Refused};
 ghost use Rattle.sift_scenario.specs.Mission.{AreCodesOf, CanFly, IsMission, IsProgramOf, Stated, stated};
-ghost use Rattle.sift_scenario.specs.Refusal.{IsRefused, OnlyRefuses};
+ghost use Rattle.sift_scenario.specs.Refusal.{IsRefusedWith, OnlyRefuses};
 ghost use Rattle.sift_scenario.specs.Rules.{IsTaskNumber};
 ghost use Rattle.sift_scenario.specs.Testing.{IsTaskRefused, KeepsTaskRules};
 
@@ -37,12 +39,12 @@ pub struct Mission {
 pub fn mission_of(alloc: Global, document: &Table) -> Result<Mission, Refused>
     ensures accepted { IfOk result (λ mission. IsMission (table_view document.now) (stated mission)) }
     ensures flyable { IfOk result (λ mission. CanFly (stated mission) mission.code.items) }
-    ensures refused { IfErr result (IsRefused (table_view document.now)) }
+    ensures refused { IfErr result (IsRefusedWith (table_view document.now)) }
 
     // A document that states a mission, or is owed a refusal, gets it, unless memory is wanting.
     ensures complete { (mission : Stated) → IsMission (table_view document.now) mission
         → IfErr result (λ e. e ≡ Refused.NoMemory) }
-    ensures exact { (owed : Refused) → owed ≢ Refused.NoMemory → IsRefused (table_view document.now) owed
+    ensures exact { (owed : Refused) → owed ≢ Refused.NoMemory → IsRefusedWith (table_view document.now) owed
         → OnlyRefuses owed result }
 {
     let root = root_of(document)?;

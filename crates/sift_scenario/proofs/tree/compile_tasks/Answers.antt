@@ -70,6 +70,7 @@ loop-task-preserved c =
           (taken form_of c.args.forms.now c.loop-task.task _ c.loop-task-test.true c.index-forms-task.is)
           (subst (λ (roll : Roll). IsTreeOf roll (form_of c.index-forms-task.result) tree) turn c.in_ok-tree.ensures.tree)),
       rw new (allowed_more trees tree c.loop-task.invariant.4 (rw c.loop-task.invariant.5 at allowed)),
-      rw new (left_more trees tree c.loop-task.left c.bound-left.result c.loop-task.invariant.5 (rw c.in_ok-code.ensures.code at c.bound-left.ensures) allowed),
+      rw new (left_more trees tree c.loop-task.left c.bound-left.result _ c.loop-task.invariant.5 c.bound-left.ensures
+          c.in_ok-code.ensures.steps allowed),
       rw new (codes_more c.args.words trees tree _ _ _ c.loop-task.invariant.6 c.in_ok-push-2.ensures.items c.in_ok-code.ensures.code c.in_ok-code.ensures.means),
     )
