@@ -1,7 +1,6 @@
 pub mod AnswerLemmas
 pub mod Answered
 pub mod CodeLemmas
-pub mod Documents
 pub mod Inputs
 pub mod Owing
 pub mod ReportLemmas

@@ -4,7 +4,7 @@ use Rattle.sift_program.specs.Program.{program_of}
 use Rattle.sift_scenario.specs.Mission.{stated}
 use Rattle.sift_run.proofs.AnswerLemmas.{ideal_report}
 use Rattle.sift_run.proofs.CodeLemmas.{compiled_from}
-use Rattle.sift_run.proofs.answer.report_on.Goals as goal
+use Rattle.sift_run.proofs.command.report_on.Goals as goal
 
 -- the code is that of the program's tasks
 pub plain_fly-requires-clause-compiled : goal.plain_fly-requires-clause-compiled
