@@ -9,7 +9,8 @@ use Rattle.sift_lang.specs.Tree.{Term, number, local, sense, this_frame, last_fr
 use Rattle.sift_lang.specs.Sound.{locals_after}
 use Rattle.sift_compile.proofs.Lengths.{length-block_code}
 use Rattle.sift_compile.specs.Code.{operator_code, term_code, behind, statement_code, block_code}
-use Rattle.sift_compile.specs.Length.{IsMeasured, term_length, statement_steps, block_steps}
+use Rattle.sift_compile.specs.Correct.{IsMeasured}
+use Rattle.sift_compile.specs.Length.{term_length, statement_steps, block_steps}
 
 -- an operator is one step
 sum-operator : (rounds : List ℕ) (o : Op) (rest : List Instr)

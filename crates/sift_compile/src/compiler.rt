@@ -3,8 +3,8 @@ ghost use Rattle.sift_code.specs.Bound.{kept};
 ghost use Rattle.sift_lang.specs.Tree.{tree_of};
 ghost use Rattle.sift_lang.specs.Sound.{IsSound};
 ghost use Rattle.sift_compile.specs.Code.{task_code, task_program};
-ghost use Rattle.sift_compile.specs.Correct.{Means};
-ghost use Rattle.sift_compile.specs.Length.{IsMeasured, code_limit};
+ghost use Rattle.sift_compile.specs.Correct.{IsMeasured, Means};
+ghost use Rattle.sift_compile.specs.Length.{code_limit};
 ghost use Rattle.sift_compile.specs.Stop.{IsAllowed, Stops};
 
 use crate::emit::emit_block;

@@ -10,8 +10,6 @@ mod pieces;
 mod reading;
 mod standard;
 mod sure;
-#[cfg(test)]
-mod tests;
 mod whole;
 mod writing;
 

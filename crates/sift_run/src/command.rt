@@ -1,7 +1,8 @@
 //! The commands: what the words of a command line ask for, and what each makes of a mission.
 
 ghost use Rattle.std.specs.Prelude.{◌≡◌, IfOk, IfNone, IfSome, map, string_bytes};
-ghost use Rattle.sift_scenario.specs.Mission.{CanFly, stated};
+ghost use Rattle.sift_scenario.specs.Flight.{CanFly};
+ghost use Rattle.sift_scenario.specs.Mission.{stated};
 ghost use Rattle.sift_run.specs.Command.{Asks, IsCommandLine, text_of};
 ghost use Rattle.sift_run.specs.Report.{mission_report};
 

@@ -11,6 +11,8 @@ mod exit;
 mod line;
 mod refusal;
 mod report;
+#[cfg(test)]
+mod tests;
 mod top;
 
 use sift_base::NoMemory;

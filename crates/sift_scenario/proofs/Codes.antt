@@ -17,7 +17,8 @@ use Rattle.sift_parse.specs.Force.{Roll, words_before}
 use Rattle.sift_parse.specs.Outcome.{AreNames}
 use Rattle.sift_scenario.proofs.Places.{pushed}
 use Rattle.sift_scenario.proofs.Programs.{sound_tree}
-use Rattle.sift_scenario.specs.Mission.{AreAllowed, AreCodesOf, IsTreeOf, IsWithin, steps_left}
+use Rattle.sift_scenario.specs.Flight.{AreCodesOf}
+use Rattle.sift_scenario.specs.Mission.{AreAllowed, IsTreeOf, IsWithin, steps_left}
 use Rattle.sift_scenario.specs.Task.{Form, linear, text}
 
 -- a tree of a form is sound

@@ -1,7 +1,7 @@
 -- What the compiler answers, as the limits of a task's tree.
 use Rattle.std.proofs.Common.{ℕ, inl, inr, refl, ap, ◌∙◌, arith}
 use Rattle.sift_compile.specs.Code.{task_code}
-use Rattle.sift_compile.specs.Length.{IsMeasured}
+use Rattle.sift_compile.specs.Correct.{IsMeasured}
 use Rattle.sift_compile.specs.Stop.{IsAllowed, Stops}
 use Rattle.sift_compile.specs.declared.stop.CompileStop.{CompileStop}
 use Rattle.sift_compile.specs.declared.stop.CompileStop.TheVariants.{CodeTooLong, TooManySteps, NoMemory}

@@ -1,5 +1,6 @@
 pub mod Document
 pub mod Entries
+pub mod Flight
 pub mod Laws
 pub mod Mission
 pub mod Refusal

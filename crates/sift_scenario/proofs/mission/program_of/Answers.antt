@@ -8,7 +8,8 @@ use Rattle.sift_scenario.proofs.TaskRefusals.{forms_refused, names_refused, star
 use Rattle.sift_scenario.proofs.Programs.{sound_program}
 use Rattle.sift_scenario.proofs.Rolls.{few_words, turns}
 use Rattle.sift_scenario.proofs.Starts.{all_starts_from, counts_from, roll_from, starts_long}
-use Rattle.sift_scenario.specs.Mission.{AreCodesOf, AreTreesOf}
+use Rattle.sift_scenario.specs.Flight.{AreCodesOf}
+use Rattle.sift_scenario.specs.Mission.{AreTreesOf}
 use Rattle.sift_scenario.specs.Refusal.{IsFirstRefused}
 use Rattle.sift_scenario.specs.Rules.{BreaksWords}
 use Rattle.sift_scenario.specs.Task.{counts_of}

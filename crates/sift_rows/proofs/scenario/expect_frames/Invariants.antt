@@ -1,5 +1,5 @@
 use Rattle.std.proofs.Common.{◌≡◌, length}
-use Rattle.sift_scenario.proofs.tests.expect_frames.Given as goal
+use Rattle.sift_rows.proofs.scenario.expect_frames.Given as goal
 
 -- the machine has a word for each start
 abbrev pub invariant-loop-want : goal.invariant-loop-want

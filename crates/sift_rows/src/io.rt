@@ -1,4 +1,6 @@
-use crate::*;
+//! Sources and sinks in memory, and whole reads and writes over them.
+
+use sift_io::*;
 use std::test::Fail;
 
 #[test]
