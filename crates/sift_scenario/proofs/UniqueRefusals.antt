@@ -1,5 +1,5 @@
 -- A document that states a mission isn't refused, and one that is refused is refused in one way.
-use Rattle.std.proofs.Common.{◌≡◌, ◌≢◌, ◌<◌, ◌⊎◌, inl, inr, ℕ, List, length, Some, Err, refl, sym, ap, subst, ◌∙◌, arith}
+use Rattle.std.proofs.Common.{◌≡◌, ◌≢◌, ◌<◌, ◌⊎◌, inl, inr, ℕ, List, length, Some, Result, Ok, Err, IfOk, IfErr, refl, sym, ap, subst, ◌∙◌, arith}
 use Rattle.std.proofs.lemmas.Bool.{cases_order}
 use Rattle.std.proofs.lemmas.List.{take_all}
 use Rattle.std.proofs.lemmas.Option.{slice_get_within}
@@ -12,10 +12,11 @@ use Rattle.sift_parse.specs.Outcome.{Tells}
 use Rattle.sift_scenario.proofs.Order.{rule_number-injective}
 use Rattle.sift_scenario.proofs.UniqueForms.{one_forms, one_tree}
 use Rattle.sift_scenario.specs.Laws.{MissionsAreAccepted, OneRefusal}
-use Rattle.sift_scenario.specs.Mission.{IsMission, Stated, roll_for, steps_left, turn_of}
-use Rattle.sift_scenario.specs.Refusal.{IsFirstRefused, IsFormRefused, IsNoTask, IsOver, IsRefusedWith, refusal_of}
+use Rattle.sift_scenario.specs.Mission.{IsMission, Stated, roll_for, stated, steps_left, turn_of}
+use Rattle.sift_scenario.specs.Refusal.{IsFirstRefused, IsFormRefused, IsNoTask, IsOver, IsRefusedWith, OnlyRefuses, refusal_of}
 use Rattle.sift_scenario.specs.Rules.{Breaks, IsFirstBroken, Rule}
 use Rattle.sift_scenario.specs.Task.{Form, text, tasks_of}
+use Rattle.sift_scenario.specs.declared.mission.Mission.{Mission}
 use Rattle.sift_scenario.specs.declared.refused.Refused.{Refused}
 use Rattle.sift_scenario.specs.declared.refused.Refused.TheVariants.{Scenario, Task, NoMemory}
 use Rattle.sift_scenario.proofs.Unrefused.{first_trees, lawful_unbroken, one_entry, tree_unrefused, unrefused_among}
@@ -116,16 +117,23 @@ one_refusal d (Task t k x) NoMemory some some' one two = absurd (some' refl)
 
 -- ---- what a call answers
 
--- a refusal that stands comes only where no mission is stated
-pub complete_from : (d : Members) (e : Refused) → IsRefusedWith d e → (mission : Stated) → IsMission d mission → e ≡ NoMemory
-complete_from d e refused mission states = missions_are_accepted d mission e states refused
+-- where a mission is stated only want of memory refuses it
+pub complete_of :
+    (d : Members) (result : Result Mission Refused) → IfErr result (IsRefusedWith d)
+    → (mission : Stated) → IsMission d mission → IfErr result (λ e. e ≡ NoMemory)
+complete_of d (Ok held) refused mission states = tt
+complete_of d (Err e) refused mission states = missions_are_accepted d mission e states refused
 
 -- a refusal that stands is the one that is owed
-pub exact_from : (d : Members) (e : Refused) → IsRefusedWith d e → (owed : Refused) → owed ≢ NoMemory → IsRefusedWith d owed → (e ≡ owed) ⊎ (e ≡ NoMemory)
-exact_from d (Scenario n at) refused owed some stands = inl (one_refusal d (Scenario n at) owed (λ same. cc) some refused stands)
-exact_from d (Task t k at) refused owed some stands = inl (one_refusal d (Task t k at) owed (λ same. cc) some refused stands)
-exact_from d NoMemory refused owed some stands = inr refl
+one_or_none : (d : Members) (e owed : Refused) → IsRefusedWith d e → owed ≢ NoMemory → IsRefusedWith d owed → (e ≡ owed) ⊎ (e ≡ NoMemory)
+one_or_none d (Scenario n at) owed refused some stands = inl (one_refusal d (Scenario n at) owed (λ same. cc) some refused stands)
+one_or_none d (Task t k at) owed refused some stands = inl (one_refusal d (Task t k at) owed (λ same. cc) some refused stands)
+one_or_none d NoMemory owed refused some stands = inr refl
 
--- a document that states a mission is owed no refusal
-pub unrefused : (d : Members) (mission : Stated) (owed : Refused) → IsMission d mission → owed ≢ NoMemory → IsRefusedWith d owed → ⊥
-unrefused d mission owed states some stands = some (missions_are_accepted d mission owed states stands)
+-- where a refusal is owed it comes, or want of memory
+pub exact_of :
+    (d : Members) (result : Result Mission Refused)
+    → IfOk result (λ mission. IsMission d (stated mission)) → IfErr result (IsRefusedWith d)
+    → (owed : Refused) → owed ≢ NoMemory → IsRefusedWith d owed → OnlyRefuses owed result
+exact_of d (Ok held) accepted refused owed some stands = absurd (some (missions_are_accepted d (stated held) owed accepted stands))
+exact_of d (Err e) accepted refused owed some stands = (refl, one_or_none d e owed refused some stands)

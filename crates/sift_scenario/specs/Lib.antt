@@ -3,6 +3,7 @@ pub mod Entries
 pub mod Flight
 pub mod Laws
 pub mod Mission
+pub mod Reading
 pub mod Refusal
 pub mod Rules
 pub mod Task
