@@ -150,6 +150,7 @@ const READINGS: [Readings; 5] = [
 /// More instructions than a run of any of the texts takes.
 const BUDGET: u32 = 16_384;
 
+/// A name of a test.
 fn name(text: &str) -> Result<Name, Fail>
     ensures { IfOk result (λ n. n.bytes ≡ text.now) }
 {
@@ -189,6 +190,7 @@ fn task_of(alloc: Global, text: &str) -> Result<Task, Fail>
     }
 }
 
+/// The words of these numbers.
 fn words<const N: usize>(numbers: &[u16; N]) -> [Word; N] {
     let mut words = [Word::of(0); N];
     for (word, number) in words.iter_mut().zip(numbers) {

@@ -1,6 +1,7 @@
 -- A whole answer, from what was asked for and what was written.
 use Rattle.std.proofs.Common.{◌≡◌, ◌⊎◌, inl, inr, ℕ, List, [], ◌∷◌, lit<, Contains, refl, sym, ◌∙◌, ap, subst, arith}
-use Rattle.sift_run.proofs.Owing.{IsFault, owed_came, reported_unowed, stated_came, told_text}
+use Rattle.sift_run.proofs.Coming.{IsFault}
+use Rattle.sift_run.proofs.Owing.{owed_came, reported_unowed, stated_came, told_text}
 use Rattle.sift_run.proofs.Statuses.{begun_with_memory, fault_rose, refused_words, status_of-known, status_of-other, wanting_needs}
 use Rattle.sift_run.specs.Answer.{IsAnswered, IsReported, report_status, statuses}
 use Rattle.sift_run.specs.Command.{IsCommandLine}

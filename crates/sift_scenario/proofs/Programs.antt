@@ -92,7 +92,10 @@ module _ (tasks : List Members) (forms : List Form) (trees : List TaskTree) (sta
       ∙ ap sum (sym (take-map (λ (tree : TaskTree). tree.outputs) t trees) ∙ ap (take t) outputs_are)
 
   -- the program is sound
-  pub sound_program : (starts : List ℕ) → length starts ≡ sum (counts_of tasks) → sum (counts_of tasks) ≤ 64 → 0 < length tasks → length tasks ≤ 24 → IsSoundProgram 0 (let p : ProgramTree = record { tasks = trees; starts = starts } in p)
+  pub sound_program :
+      (starts : List ℕ) → length starts ≡ sum (counts_of tasks) → sum (counts_of tasks) ≤ 64
+      → 0 < length tasks → length tasks ≤ 24
+      → IsSoundProgram 0 (let p : ProgramTree = record { tasks = trees; starts = starts } in p)
   sound_program starts long words some few = record {
     some_task = omega (arith, parsed.as_many, stated.as_many, some);
     few_tasks = omega (arith, parsed.as_many, stated.as_many, few);

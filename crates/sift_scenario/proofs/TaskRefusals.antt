@@ -65,7 +65,8 @@ module _ (tasks : List Members) (e : Refused) where
       ((at : ℕ) → ¬ BreaksNames tasks at) → ((at : ℕ) → ¬ BreaksStarts tasks at) → ((at : ℕ) → ¬ BreaksWords (counts_of tasks) at)
       → RefusesBy 22 (BreaksForms tasks) e → IsTaskRefused tasks e
   forms_refused names starts words refuses d same below =
-      subst (λ (ts : List Members). ((at : ℕ) → ¬ BreaksNames ts at) → ((at : ℕ) → ¬ BreaksStarts ts at) → ((at : ℕ) → ¬ BreaksWords (counts_of ts) at) → RefusesBy 22 (BreaksForms ts) e → IsRefusedWith d e) same
+      subst (λ (ts : List Members). ((at : ℕ) → ¬ BreaksNames ts at) → ((at : ℕ) → ¬ BreaksStarts ts at)
+      → ((at : ℕ) → ¬ BreaksWords (counts_of ts) at) → RefusesBy 22 (BreaksForms ts) e → IsRefusedWith d e) same
       (λ n s w. refused_by d forms_stated e (up_to_words d (up_to_starts d (up_to_names d below n) s) w) 22 refl) names starts words refuses
 
   -- all rules are kept, and a task is the first that is refused

@@ -50,10 +50,14 @@ form_unrefused roll left task form tree e is allowed (inr over) =
     within_unrefused left task tree e allowed (subst (λ (t : TaskTree). IsOver left task t e) same over.over)
 
 -- trees of the first tasks are the first of the trees
-pub first_trees : (roll : Roll) (forms : List Form) (some all : List TaskTree) → EachMatches (λ t form tree. IsTreeOf (turn_of t roll) form tree) forms some → EachMatches (λ t form tree. IsTreeOf (turn_of t roll) form tree) forms all → length some ≤ length all → some ≡ take (length some) all
+pub first_trees :
+    (roll : Roll) (forms : List Form) (some all : List TaskTree)
+    → EachMatches (λ t form tree. IsTreeOf (turn_of t roll) form tree) forms some
+    → EachMatches (λ t form tree. IsTreeOf (turn_of t roll) form tree) forms all → length some ≤ length all → some ≡ take (length some) all
 first_trees roll forms some all one other few = same_entries TaskTree some (take (length some) all) (sym (length-take-le (length some) all few)) (λ k a b there_a there_b.
     let low = slice_get_within some k a there_a in
-    let here : slice_get all k ≡ Some b = slice_get_read all _ k b refl (omega (arith, low, few)) (sym (sym (get_or-take (length some) all k b low) ∙ get_or_from_slice_get (take (length some) all) k b b there_b)) in
+    let here : slice_get all k ≡ Some b = slice_get_read all _ k b refl (omega (arith, low, few))
+    (sym (sym (get_or-take (length some) all k b low) ∙ get_or_from_slice_get (take (length some) all) k b b there_b)) in
     let at_a = one k a there_a in
     let at_b = other k b here in
     one_tree (turn_of k roll) at_b.entry a b (subst (λ (f : Form). IsTreeOf (turn_of k roll) f a) (one_entry forms k _ _ at_a.there at_b.there) at_a.holds) at_b.holds)

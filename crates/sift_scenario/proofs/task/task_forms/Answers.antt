@@ -20,7 +20,8 @@ form_of-requires c =
     let as_many : length c.args.starts.now ≡ length tables =
     sym (length-map c.args.starts.now (λ words. length words.items)) ∙ ap length c.requires.starts ∙ length-map tables outputs_of in
     let here : table_view c.index-tasks-place.result.now ≡ get_or tables c.loop-place.place (table_view c.index-tasks-place.result.now) =
-    sym (get_or-map (λ task. table_view task.now) c.args.tasks.now c.loop-place.place c.index-tasks-place.result _ c.loop-place-test.true ∙ ap (λ task. table_view task.now) (sym c.index-tasks-place.is)) in
+    sym (get_or-map (λ task. table_view task.now) c.args.tasks.now c.loop-place.place c.index-tasks-place.result _ c.loop-place-test.true
+    ∙ ap (λ task. table_view task.now) (sym c.index-tasks-place.is)) in
     c.len.ensures.value
     ∙ same_at (λ words. length words.items) outputs_of c.args.starts.now tables c.loop-place.place c.index-starts-place.result _
     c.requires.starts (rw as_many low) c.index-starts-place.is low here

@@ -37,7 +37,9 @@ tree_code-requires-clause-sound c =
     let names = c.requires.turns c.loop-task.task c.loop-task-test.true in
     let tree = subst (λ (roll : Roll). IsTreeOf roll (form_of c.index-forms-task.result) (tree_of c.in_ok-tree.tree)) turn c.in_ok-tree.ensures.tree in
     rw c.requires.words (sound_form (turn_of c.loop-task.task (roll_of c.args.names.now)) (form_of c.index-forms-task.result) _ names
-    (subst (λ (roll : Roll). roll.this < length roll.sizes) turn (has_words (let here : Names = record { sensors = c.loop-task.names.sensors; tasks = c.loop-task.names.tasks; this = c.loop-task.task } in here) (subst AreNames (sym turn) names))) c.requires.no_sensors tree)
+    (subst (λ (roll : Roll). roll.this < length roll.sizes) turn
+    (has_words (let here : Names = record { sensors = c.loop-task.names.sensors; tasks = c.loop-task.names.tasks; this = c.loop-task.task } in here)
+    (subst AreNames (sym turn) names))) c.requires.no_sensors tree)
 
 -- its code isn't allowed
 pub returns-in_err-code-clause-refused : goal.returns-in_err-code-clause-refused
