@@ -100,8 +100,12 @@ mutual
       let cs = statement_code at locals statement in
       let cm = block_code (at + length cs) (locals_after locals statement) more in
       let flat = ap (sum_within rounds) (append_assoc cs cm rest) in
-      omega (arith, flat, sum-statement rounds at locals statement (cm ++ rest),
-        sum-block rounds (at + length cs) (locals_after locals statement) more rest)
+      omega (
+        arith,
+        flat,
+        sum-statement rounds at locals statement (cm ++ rest),
+        sum-block rounds (at + length cs) (locals_after locals statement) more rest,
+      )
 
 -- the length of a task's code and the bound of its steps are those that its tree tells
 pub code_is_measured : (task : TaskTree) → IsMeasured task

@@ -39,9 +39,12 @@ pub AddsPrefix-sent : (old mid new : Outflow) (sent rest bytes : List ℕ) → A
 AddsPrefix-sent old mid new sent rest bytes p e q =
     let front : take (length sent) bytes ≡ sent =
     ap (take (length sent)) (sym e) ∙ take-append_seam sent rest in
-    let size : length sent ≤ length bytes = omega (arith, length-append sent rest, ap length e) in
-    (length sent, size, subst (Appends old.written new.written) (sym front)
-    (Appends-kept old.written mid.written new.written sent p q))
+    let size : length sent ≤ length bytes = omega (arith, length-append sent rest, ap length e) in (
+      length sent,
+      size,
+      subst (Appends old.written new.written) (sym front)
+          (Appends-kept old.written mid.written new.written sent p q),
+    )
 
 -- what a write took moves from what is left to what was sent
 pub append-take_rest : (sent rest bytes : List ℕ) (n : ℕ) → sent ++ rest ≡ bytes

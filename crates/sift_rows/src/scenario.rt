@@ -73,7 +73,11 @@ const REFUSED: [(&str, Refused); 2] = [
     ("units = 3\n", Scenario { rule: 2, place: 0 }),
     (
         "units = 4\nframes = 1\ntask = [{name = 'a', start = [0], text = 'out 0 = $;'}]\n",
-        Task { task: 0, kind: 1, at: 8 },
+        Task {
+            task: 0,
+            kind: 1,
+            at: 8,
+        },
     ),
 ];
 

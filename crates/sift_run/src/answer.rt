@@ -16,11 +16,7 @@ use std::alloc::Global;
 const DOCUMENT_LIMIT: usize = 1_048_576;
 
 /// The text that the words and the input ask for. Where the words are no command line, nothing is read.
-pub fn answer<S: Source>(
-    alloc: Global,
-    words: &[String],
-    source: &mut S,
-) -> Result<String, Refusal>
+pub fn answer<S: Source>(alloc: Global, words: &[String], source: &mut S) -> Result<String, Refusal>
     ensures reported { IfOk result (λ text.
         IsReported (map string_bytes words.now)
         (input (S.inflow source.old) (S.inflow source.new)) (string_bytes text)) }
