@@ -10,9 +10,15 @@ mod buffer;
 #[cfg(test)]
 mod clock;
 #[cfg(test)]
+mod compiled;
+#[cfg(test)]
 mod config;
 #[cfg(test)]
 mod exec;
+#[cfg(test)]
+mod io;
+#[cfg(test)]
+mod scenario;
 #[cfg(test)]
 mod skew;
 #[cfg(test)]
