@@ -28,6 +28,14 @@ names_by us reports r u = has_bit (report_by us reports r) u
 abbrev pub next_units : List ℕ → Units → List ℕ
 next_units us convicted = if nat_le least_units (length (remaining us convicted)) then remaining us convicted else us
 
+-- the units of the configuration that aren't convicted
+abbrev pub kept_by : (ℕ → ℕ → Bool) → List ℕ → List ℕ
+kept_by names us = filter (λ u. not (is_convicted names us u)) us
+
+-- the next configuration on these reports: the units that aren't convicted, where at least four are left, else the configuration
+abbrev pub next_by : (ℕ → ℕ → Bool) → List ℕ → List ℕ
+next_by names us = if nat_le least_units (length (kept_by names us)) then kept_by names us else us
+
 -- ---- the law
 
 -- how many working units name u
@@ -43,7 +51,7 @@ NamesNoWorking works names us =
 pub record IsJust (works : ℕ → Bool) (us : List ℕ) (names : ℕ → ℕ → Bool) : Type 0 where
   pub safe : (u : ℕ) → has us u ≡ true → works u ≡ true → is_convicted names us u ≡ false
   pub exact : (u : ℕ) → has us u ≡ true → is_convicted names us u ≡ nat_lt 1 (working_accusers works names us u)
-  pub enough : least_units ≤ length (filter (λ u. not (is_convicted names us u)) us)
+  pub enough : least_units ≤ length (kept_by names us)
 
 -- conviction is just, where no working unit names a working one
 abbrev pub ConvictionIsJust : Type 0

@@ -7,6 +7,9 @@ ghost use Rattle.sift_exec.specs.Conviction.{accusers, is_convicted, names_by, n
 use sift_base::{UnitId, UnitSet, Word};
 use sift_config::Config;
 
+/// How many other units convict a unit: one alone may be the faulty one.
+const ENOUGH_ACCUSERS: usize = 2;
+
 /// The units of the configuration that at least two other units name.
 ///
 /// Each unit of the configuration has a report in `masks`, in the order of the units: bit u stands for unit u. What a
@@ -18,7 +21,7 @@ pub fn convict(masks: &[Word], config: &Config) -> UnitSet
     let mut convicted = UnitSet::empty();
     for position in 0..config.len() {
         let unit = config.unit_at(position);
-        if accusers_of(unit, masks, config) >= 2 {
+        if accusers_of(unit, masks, config) >= ENOUGH_ACCUSERS {
             convicted = convicted.with(unit);
         }
     }

@@ -1,0 +1,5 @@
+pub mod Bounds
+pub mod Lists
+pub mod Refusals
+pub mod Steady
+pub mod Views

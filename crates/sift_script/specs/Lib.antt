@@ -1,0 +1,6 @@
+pub mod Changes
+pub mod Faults
+pub mod Laws
+pub mod Parts
+pub mod Rules
+pub mod Script

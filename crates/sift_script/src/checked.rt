@@ -1,0 +1,131 @@
+//! Scripts that were checked.
+
+ghost use Rattle.std.specs.Prelude.{◌≡◌, ◌<◌, length, IfOk, IfErr, IfSome, IfNone};
+ghost use Rattle.sift_base.specs.Layout.{IsLayout};
+ghost use Rattle.sift_base.specs.Shapes.{shapes_of, AreShapes};
+ghost use Rattle.sift_script.specs.Script.{script_for};
+ghost use Rattle.sift_script.specs.Changes.{override_of};
+ghost use Rattle.sift_script.specs.Faults.{works, storm_of};
+ghost use Rattle.sift_script.specs.Rules.{IsGood, IsFirstBroken, MeetsEach, BreaksFirst, entry_rules};
+ghost use Rattle.sift_script.specs.Parts.{script_of};
+
+use crate::parts::Parts;
+use crate::rules;
+use crate::script::{Plan, Script, items_of};
+use sift_base::{Layout, Shapes, Slot, UnitId, Word};
+use std::marker::Model;
+
+/// Why a script is refused: the number of the first rule that it breaks, and the first entry at which it does.
+#[derive(Clone, Copy, Debug, PartialEq, Eq)]
+pub struct Broken {
+    /// 1 to 6.
+    pub rule: u8,
+    /// The number of the entry.
+    pub entry: u16,
+}
+
+/// A script that meets all rules. A clause sees it as its faults, with the layout, the numbers of the tasks'
+/// output words and the number of frames for which it was checked.
+#[derive(Drop)]
+pub struct GoodScript {
+    parts: Parts,
+}
+
+impl Model for GoodScript {
+    ghost use Rattle.sift_script.specs.Script.{FaultScript};
+    ghost use Rattle.sift_script.specs.Parts.{script_of};
+    ghost use Rattle.sift_script.specs.Rules.{IsGood};
+
+    ghost Value = { FaultScript };
+
+    ghost view = { λ good. script_of good.parts };
+
+    ghost invariant = { λ good. IsGood (script_of good.parts) };
+}
+
+impl GoodScript {
+    /// Whether a unit works in frame f.
+    pub fn works(&self, u: UnitId, f: u32) -> bool
+        ensures { result ≡ works self.now.faults u f }
+    {
+        !self.parts.is_faulty(u, f)
+    }
+
+    /// What a unit says to another in a slot of frame f in place of its own word, where it says something else.
+    pub fn override_of(&self, u: UnitId, f: u32, slot: Slot, to: UnitId) -> Option<Option<Word>>
+        ensures { result ≡ override_of self.now u f slot to }
+    {
+        let entry = self.parts.entry_of(u)?;
+        if f < entry.from {
+            return None;
+        }
+        self.parts.replacement(items_of(&entry.plan), f, slot, to)
+    }
+
+    /// The storm of a unit, where it has one: the frame before which it turns stray, the number that its strays are
+    /// drawn from, and how many there are.
+    pub fn storm_of(&self, u: UnitId) -> Option<(u32, u64, u32)>
+        ensures { result ≡ storm_of self.now.faults u }
+    {
+        let entry = self.parts.entry_of(u)?;
+        match entry.plan {
+            Plan::Storm { number, strays } => Some((entry.from, number, strays)),
+            Plan::Say(_) => None,
+        }
+    }
+}
+
+/// Checks a script for a mission of this layout, with tasks of these shapes and so many frames. It takes no memory.
+///
+/// It is accepted exactly where it meets all rules. Else the first entry at which it breaks a rule is answered, with
+/// the first rule that it breaks there, and the script is given up.
+pub fn check(
+    script: Script,
+    layout: &Layout,
+    shapes: &Shapes,
+    frames: u32,
+) -> Result<GoodScript, Broken>
+    requires layout { IsLayout layout.now }
+    requires shapes { AreShapes (shapes_of shapes.now) }
+    ensures same { IfOk result (λ good. good ≡ script_for script layout.now (shapes_of shapes.now) frames) }
+    ensures good { IfOk result IsGood }
+    ensures broken { IfErr result (λ broken. IsFirstBroken (script_for script layout.now (shapes_of shapes.now) frames) broken.rule broken.entry) }
+{
+    let parts = Parts::of(script, *layout, shapes, frames);
+    for at in 0..parts.script.entries.len() {
+        if let Some(rule) = broken_rule(&parts, at) {
+            return Err(Broken {
+                rule,
+                entry: at as u16,
+            });
+        }
+    }
+    Ok(GoodScript { parts })
+}
+
+/// The first rule that an entry breaks.
+fn broken_rule(parts: &Parts, at: usize) -> Option<u8>
+    requires { at < length (script_of parts.now).faults }
+    ensures broken { IfSome result (BreaksFirst entry_rules (script_of parts.now) at) }
+    ensures met { IfNone result (MeetsEach entry_rules (script_of parts.now) at) }
+{
+    if !rules::has_unit(parts, at) {
+        return Some(1);
+    }
+    if !rules::has_new_unit(parts, at) {
+        return Some(2);
+    }
+    if !rules::fails_in_mission(parts, at) {
+        return Some(3);
+    }
+    if !rules::leaves_a_unit(parts, at) {
+        return Some(4);
+    }
+    if !rules::has_places(parts, at) {
+        return Some(5);
+    }
+    if !rules::has_receivers(parts, at) {
+        return Some(6);
+    }
+    None
+}

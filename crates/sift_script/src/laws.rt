@@ -1,0 +1,34 @@
+//! What holds of fault scripts.
+
+ghost use Rattle.sift_script.specs.Laws.{OneUnitIsSteady, FaultsAreForGood, WorkingUnitsSayTheirWords};
+ghost use Rattle.sift_script.specs.Laws.{WorkingUnitsHaveNotTurned, StormsComeInTheMission, OneBrokenRule};
+
+/// A good script leaves a unit that never fails.
+pub fn one_unit_is_steady()
+    ensures { OneUnitIsSteady }
+{}
+
+/// A unit that has failed stays faulty.
+pub fn faults_are_for_good()
+    ensures { FaultsAreForGood }
+{}
+
+/// Nothing is replaced of what a working unit says.
+pub fn working_units_say_their_words()
+    ensures { WorkingUnitsSayTheirWords }
+{}
+
+/// Only a faulty unit turns stray.
+pub fn working_units_have_not_turned()
+    ensures { WorkingUnitsHaveNotTurned }
+{}
+
+/// A good script has no storm that comes after the mission's end.
+pub fn storms_come_in_the_mission()
+    ensures { StormsComeInTheMission }
+{}
+
+/// A script is refused in at most one way, and never if it meets all rules.
+pub fn one_broken_rule()
+    ensures { OneBrokenRule }
+{}

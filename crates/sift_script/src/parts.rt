@@ -1,0 +1,129 @@
+//! A script with what it is for: the mission's layout, its tasks' output words and its frames.
+
+ghost use Rattle.std.specs.Prelude.{◌≡◌, ◌<◌, ◌≤◌, ◌+◌, ◌*◌, length, map, sum};
+ghost use Rattle.std.specs.Option.{option_map};
+ghost use Rattle.sift_base.specs.Shapes.{shapes_of, AreShapes};
+ghost use Rattle.sift_script.specs.Script.{script_for, change_of, fault_of, faults_of};
+ghost use Rattle.sift_script.specs.Changes.{slot_of, is_same_slot, fits, first_word_of, replacement_by};
+ghost use Rattle.sift_script.specs.Faults.{fault_of_unit, is_faulty};
+ghost use Rattle.sift_script.specs.Parts.{script_of};
+
+use crate::script::{Entry, Item, Script, SlotKind};
+use arrayvec::ArrayVec;
+use sift_base::{Layout, Shapes, Slot, UnitId, Word};
+
+/// A script with what it is for.
+#[derive(Drop)]
+pub struct Parts {
+    /// The script.
+    pub script: Script,
+    /// How many units, sensors and words the mission has.
+    pub layout: Layout,
+    /// How many output words each task has.
+    pub outputs: ArrayVec<u8, 24>,
+    /// How many frames the mission has.
+    pub frames: u32,
+}
+
+impl Parts {
+    /// A script for a mission of this layout, with tasks of these shapes and so many frames.
+    pub fn of(script: Script, layout: Layout, shapes: &Shapes, frames: u32) -> Parts
+        requires { AreShapes (shapes_of shapes.now) }
+        ensures { script_of result ≡ script_for script layout (shapes_of shapes.now) frames }
+    {
+        let mut outputs = ArrayVec::new();
+        for task in &shapes.tasks {
+            outputs.push(task.outputs);
+        }
+        Parts {
+            script,
+            layout,
+            outputs,
+            frames,
+        }
+    }
+
+    /// Whether a unit is faulty in frame f.
+    pub fn is_faulty(&self, u: UnitId, f: u32) -> bool
+        ensures { result ≡ is_faulty (script_of self.now).faults u f }
+    {
+        let unit = u.get();
+        self.script
+            .entries
+            .iter()
+            .any(|entry| entry.unit == unit && entry.from <= f)
+    }
+
+    /// The entry of a unit, where it has one.
+    pub fn entry_of(&self, u: UnitId) -> Option<&Entry>
+        ensures { option_map (λ entry. fault_of entry.now) result ≡ fault_of_unit (script_of self.now).faults u }
+    {
+        let unit = u.get();
+        self.script.entries.iter().find(|entry| entry.unit == unit)
+    }
+
+    /// Whether an item is about a slot.
+    fn is_about(&self, item: &Item, slot: Slot) -> bool
+        ensures { result ≡ is_same_slot (slot_of (script_of self.now).outputs (change_of item.now)) slot }
+    {
+        match slot {
+            Slot::Clock => item.kind == SlotKind::Clock,
+            Slot::Sense(x) => item.kind == SlotKind::Sense && item.index == x,
+            Slot::RelaySense(x) => item.kind == SlotKind::Relay && item.index == x,
+            Slot::Out(w) => {
+                item.kind == SlotKind::Out
+                    && first_word(&self.outputs, item.index) + usize::from(item.word)
+                        == usize::from(w)
+            }
+            Slot::Report => item.kind == SlotKind::Report,
+            Slot::RelayReport(u) => item.kind == SlotKind::RelayReport && item.index == u.get(),
+        }
+    }
+
+    /// Whether an item is about what is said to a receiver in a slot of frame f.
+    pub fn fits(&self, item: &Item, f: u32, slot: Slot, to: UnitId) -> bool
+        ensures { result ≡ fits (script_of self.now).outputs f slot to (change_of item.now) }
+    {
+        self.is_about(item, slot)
+            && item.to.contains(&to.get())
+            && item.frame.is_none_or(|frame| frame == f)
+    }
+
+    /// What the first of these items that fits says to a receiver in a slot of frame f, if one fits.
+    pub fn replacement(
+        &self,
+        items: &[Item],
+        f: u32,
+        slot: Slot,
+        to: UnitId,
+    ) -> Option<Option<Word>>
+        ensures { result ≡ replacement_by (script_of self.now).outputs f slot to (map change_of items.now) }
+    {
+        items
+            .iter()
+            .find(|item| self.fits(item, f, slot, to))
+            .map(|item| item.value)
+    }
+}
+
+/// How many output words tasks have together, where they have so many each.
+fn words_of(counts: &[u8]) -> usize
+    requires { length counts.now ≤ 24 }
+    ensures words { result ≡ sum counts.now }
+    ensures few { result ≤ 24 * 255 }
+{
+    let mut words = 0;
+    for count in counts {
+        words += usize::from(*count);
+    }
+    words
+}
+
+/// The number of a task's first output word, where the tasks have so many each.
+fn first_word(outputs: &[u8], task: u8) -> usize
+    requires { length outputs.now ≤ 24 }
+    ensures first { result ≡ first_word_of outputs.now task }
+    ensures few { result ≤ 24 * 255 }
+{
+    words_of(&outputs[..usize::from(task).min(outputs.len())])
+}

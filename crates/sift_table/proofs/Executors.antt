@@ -1,0 +1,83 @@
+-- What the rules say of when and where tasks run.
+use Rattle.std.proofs.Common.{◌≡◌, ℕ, zero, suc, ◌+◌, ◌<◌, ◌≤◌, inl, inr, List, [], ◌∷◌, length, Bool, true, false, cond, ap, subst, ◌||◌, arith, eqb, eq-eqb, eqb-true, count_by}
+use Rattle.std.proofs.lemmas.Bool.{cases_eq, cases_Bool}
+use Rattle.std.proofs.lemmas.List.Elements.{recursion_from_All}
+use Rattle.std.proofs.lemmas.List.Sums.{sum_by-cons}
+use Rattle.std.specs.List.{AllByRecursion, range_with_len}
+use Rattle.sift_base.specs.Units.{has, IsAscending, IsBelowAll}
+use Rattle.sift_base.specs.declared.slot.Slot.TheVariants.{Clock, Sense, RelaySense, Out, Report, RelayReport}
+use Rattle.sift_table.proofs.Words.{words_have_their_task}
+use Rattle.sift_table.specs.Laws.{SlotsAreHeardInTime, TasksHaveThreeExecutors}
+use Rattle.sift_table.specs.Schedule.{positions_of}
+use Rattle.sift_table.specs.Timing.{task_of}
+
+pub slots_are_heard_in_time : SlotsAreHeardInTime
+slots_are_heard_in_time table shapes layout Clock good long words there = (omega arith, omega arith)
+slots_are_heard_in_time table shapes layout (Sense x) good long words there = (omega arith, omega arith)
+slots_are_heard_in_time table shapes layout (RelaySense x) good long words there = (omega arith, omega arith)
+slots_are_heard_in_time table shapes layout (Out w) good long words there =
+    let row = good.rows (task_of shapes w) ((words_have_their_task shapes).1 w (omega (arith, there, words))) in
+    (row.1.1.0, omega (arith, row.1.0))
+slots_are_heard_in_time table shapes layout Report good long words there = (omega arith, omega arith)
+slots_are_heard_in_time table shapes layout (RelayReport u) good long words there = (omega arith, omega arith)
+
+-- ---- executors
+
+-- what holds of each number of a list holds of one that the list has
+all_has : (P : ℕ → Type 0) (ps : List ℕ) (p : ℕ) → AllByRecursion P ps → has ps p ≡ true → P p
+all_has P [] p all there = absurd cc
+all_has P (v ∷ ps) p all there = elim (cases_Bool (eqb v p)) [
+  | inl same ↦ subst P (eqb-true v p same) all.0
+  | inr other ↦ all_has P ps p all.1 (rw other at there)
+]
+
+-- one number more to count
+count-cons : (p : ℕ → Bool) (x : ℕ) (xs : List ℕ) → count_by p (x ∷ xs) ≡ cond (p x) 1 0 + count_by p xs
+count-cons p x xs = sum_by-cons (λ y. cond (p y) 1 0) x xs
+
+-- what passes one of two tests passes them together
+cond-or_more : (one other : Bool) → cond other 1 0 ≤ cond (one || other) 1 0
+cond-or_more true true = omega arith
+cond-or_more true false = omega arith
+cond-or_more false other = omega arith
+
+-- a longer list has no fewer of some numbers
+count-has-more : (v : ℕ) (ps xs : List ℕ) → count_by (has ps) xs ≤ count_by (has (v ∷ ps)) xs
+count-has-more v ps [] = omega arith
+count-has-more v ps (x ∷ xs) =
+    omega (arith, count-has-more v ps xs, count-cons (has ps) x xs, count-cons (has (v ∷ ps)) x xs, cond-or_more (eqb v x) (has ps x))
+
+-- what follows a number in an ascending list is above all that the number isn't below
+above : (p a : ℕ) (ps : List ℕ) → a ≤ p → IsBelowAll p ps → AllByRecursion (λ q. a + 1 ≤ q) ps
+above p a [] from below = tt
+above p a (q ∷ ps) from below = (omega (arith, below.0), above p a ps from below.1)
+
+-- the numbers from a to below b are counted whole where an ascending list has only such numbers
+counted_whole : (ps : List ℕ) (a n b : ℕ) → a + n ≡ b → IsAscending ps → AllByRecursion (λ p. a ≤ p) ps → AllByRecursion (λ p. p < b) ps
+    → length ps ≤ count_by (has ps) (range_with_len a n)
+counted_whole [] a n b end up low high = omega arith
+counted_whole (p ∷ ps) a zero b end up low high = absurd (omega (arith, low.0, high.0))
+counted_whole (p ∷ ps) a (suc n) b end up low high =
+    let rest = range_with_len (a + 1) n in
+    let count : count_by (has (p ∷ ps)) (a ∷ rest) ≡ cond (has (p ∷ ps) a) 1 0 + count_by (has (p ∷ ps)) rest = count-cons (has (p ∷ ps)) a rest in
+    elim (cases_eq p a) [
+      | inl same ↦
+          let here : has (p ∷ ps) a ≡ true = ap (λ t. t || has ps a) (eq-eqb p a same) in
+          let one : ◌≡◌ {A = ℕ} (cond (has (p ∷ ps) a) 1 0) 1 = ap (λ t. cond t 1 0) here in
+          omega (arith, count, one, counted_whole ps (a + 1) n b (omega arith) up.1 (above p a ps low.0 up.0) high.1, count-has-more p ps rest)
+      | inr other ↦
+          omega (arith, count, counted_whole (p ∷ ps) (a + 1) n b (omega arith) up (omega (arith, low.0, other), above p a ps low.0 up.0) high)
+    ]
+
+-- every number is 0 or more
+none_below : (ps : List ℕ) → AllByRecursion (λ p. 0 ≤ p) ps
+none_below [] = tt
+none_below (p ∷ ps) = (omega arith, none_below ps)
+
+pub tasks_have_three_executors : TasksHaveThreeExecutors
+tasks_have_three_executors table shapes t good there =
+    let row = good.rows t there in
+    let ps = positions_of table t in
+    let inside : AllByRecursion (λ p. p < table.size) ps = recursion_from_All (λ p. p < table.size) ps row.1.1.1.1.0 in
+    let whole = counted_whole ps 0 table.size table.size (omega arith) row.1.1.1.1.1.0 (none_below ps) inside in
+    (omega (arith, whole, row.1.1.1.0), λ position here. all_has (λ p. p < table.size) ps position inside here)

@@ -1,0 +1,5 @@
+pub mod Apart
+pub mod Executors
+pub mod Plain
+pub mod Refusals
+pub mod Words

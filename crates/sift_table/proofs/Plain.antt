@@ -1,0 +1,81 @@
+-- The plain table meets the rules.
+use Rattle.std.proofs.Common.{◌≡◌, ℕ, zero, suc, ◌+◌, ◌*◌, ◌<◌, ◌≤◌, [], length, get_or, arith}
+use Rattle.std.proofs.lemmas.List.Elements.{All-from_get_or}
+use Rattle.std.proofs.lemmas.List.FromFn.{get_or-map-range_with_len, get_or-range_with_len, length-map-range_with_len, length-range_with_len}
+use Rattle.std.specs.List.{range_with_len}
+use Rattle.sift_base.specs.Shapes.{AllShapes, AreShapes, shape_at}
+use Rattle.sift_base.specs.Units.{IsAscending, IsBelowAll}
+use Rattle.sift_table.specs.Laws.{PlainTablesAreGood}
+use Rattle.sift_table.specs.Rules.{MeetsEach, row_rules}
+use Rattle.sift_table.specs.Schedule.{plain_of, polled_in, positions_of, run_in}
+
+-- consecutive numbers are above what comes before them
+consecutive_above : (p a n : ℕ) → p < a → IsBelowAll p (range_with_len a n)
+consecutive_above p a zero low = tt
+consecutive_above p a (suc n) low = (low, consecutive_above p (a + 1) n (omega arith))
+
+-- consecutive numbers ascend
+consecutive_ascend : (a n : ℕ) → IsAscending (range_with_len a n)
+consecutive_ascend a zero = tt
+consecutive_ascend a (suc n) = (consecutive_above a (a + 1) n (omega arith), consecutive_ascend (a + 1) n)
+
+module _ (size period tasks t : ℕ) (there : t < tasks) where
+  -- when a task of the plain table runs
+  plain_run : run_in (plain_of size period tasks) t ≡ 4 + 2 * t
+  plain_run = get_or-map-range_with_len (λ k. 4 + 2 * k) 0 tasks t t 0 there (omega arith)
+
+  -- when it is polled
+  plain_poll : polled_in (plain_of size period tasks) t ≡ 4 + 2 * t + 2
+  plain_poll = get_or-map-range_with_len (λ k. 4 + 2 * k + 2) 0 tasks t t 0 there (omega arith)
+
+  -- where it runs
+  plain_positions : positions_of (plain_of size period tasks) t ≡ range_with_len 0 size
+  plain_positions = get_or-map-range_with_len (λ k. range_with_len 0 size) 0 tasks t t [] there (omega arith)
+
+-- each row of the plain table meets the rules of a row
+plain_row : (size period : ℕ) (shapes : AllShapes) (t : ℕ) → 3 ≤ size → AreShapes shapes → 4 + 2 * length shapes.tasks + 6 ≤ period → t < length shapes.tasks
+    → MeetsEach row_rules (plain_of size period (length shapes.tasks)) shapes t
+plain_row size period shapes t enough sound long there =
+    let tasks = length shapes.tasks in
+    let run = plain_run size period tasks t there in
+    let poll = plain_poll size period tasks t there in
+    let at = plain_positions size period tasks t there in (
+      omega (arith, run),
+      (
+        omega (arith, poll),
+        (
+          omega (arith, run, poll),
+          (
+            rw at (rw (length-range_with_len 0 size) enough),
+            (
+              rw at (All-from_get_or (λ p. p < size) (range_with_len 0 size) 0 (λ i low. rw (get_or-range_with_len 0 size i 0 (omega (arith, low, length-range_with_len 0 size))) (omega (arith, low, length-range_with_len 0 size)))),
+              (
+                rw at (consecutive_ascend 0 size),
+                (
+                  λ k d low. (
+                      let needed = get_or (shape_at shapes t).needs k d in
+                      let earlier : needed < t = sound.earlier t there k d low in
+                      omega (arith, run, plain_poll size period tasks needed (omega (arith, there, earlier)), earlier)),
+                  (λ earlier before same. absurd (omega (arith, run, same, plain_run size period tasks earlier (omega (arith, there, before)))), tt),
+                ),
+              ),
+            ),
+          ),
+        ),
+      ),
+    )
+
+pub plain_tables_are_good : PlainTablesAreGood
+plain_tables_are_good size period shapes enough sound long =
+    let tasks = length shapes.tasks in
+    record {
+      whole = (
+        (
+          length-map-range_with_len (λ k. 4 + 2 * k) 0 tasks,
+          length-map-range_with_len (λ k. 4 + 2 * k + 2) 0 tasks,
+          length-map-range_with_len (λ k. range_with_len 0 size) 0 tasks,
+        ),
+        tt,
+      );
+      rows = λ t there. plain_row size period shapes t enough sound long there;
+    }

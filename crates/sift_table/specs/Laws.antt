@@ -1,0 +1,57 @@
+-- What holds of every table that meets the rules.
+use Rattle.std.specs.Prelude.{◌≡◌, ◌≢◌, ℕ, ◌+◌, ◌*◌, ◌<◌, ◌≤◌, true, false, length, count_by}
+use Rattle.std.specs.List.{Contains, range_with_len}
+use Rattle.sift_base.specs.Layout.{IsSlot}
+use Rattle.sift_base.specs.Shapes.{AllShapes, AreShapes, first_word, shape_at, words_in}
+use Rattle.sift_base.specs.declared.layout.Layout.{Layout}
+use Rattle.sift_base.specs.declared.slot.Slot.{Slot}
+use Rattle.sift_table.specs.Rules.{IsFirstBroken, IsGood, least_executors, report_lead}
+use Rattle.sift_table.specs.Schedule.{Schedule, agreed_in, hearing_delay, plain_of, polled_in, run_in, runs_at}
+use Rattle.sift_table.specs.Timing.{due_in, heard_in, task_of}
+
+-- the fewest subframes that a frame may have
+abbrev pub shortest_period : ℕ
+shortest_period = 12
+
+-- the word of each slot is heard two subframes after it is said, or later, and two before the frame ends, or earlier
+abbrev pub SlotsAreHeardInTime : Type 0
+SlotsAreHeardInTime =
+    (table : Schedule) (shapes : AllShapes) (layout : Layout) (slot : Slot) → IsGood table shapes → shortest_period ≤ table.period
+    → layout.words ≡ words_in shapes.tasks → IsSlot layout slot
+    → (due_in table shapes slot + 2 ≤ heard_in table shapes slot) × (heard_in table shapes slot + 2 ≤ table.period)
+
+-- a task runs in the subframe in which what it reads of this frame is polled, or later
+abbrev pub TasksRunAfterTheirNeeds : Type 0
+TasksRunAfterTheirNeeds =
+    (table : Schedule) (shapes : AllShapes) (t needed : ℕ) → IsGood table shapes → t < length shapes.tasks
+    → Contains (shape_at shapes t).needs needed → polled_in table needed ≤ run_in table t
+
+-- each task runs at three or more of a configuration's positions, and at no others
+abbrev pub TasksHaveThreeExecutors : Type 0
+TasksHaveThreeExecutors =
+    (table : Schedule) (shapes : AllShapes) (t : ℕ) → IsGood table shapes → t < length shapes.tasks
+    → (least_executors ≤ count_by (runs_at table t) (range_with_len 0 table.size)) × ((position : ℕ) → runs_at table t position ≡ true → position < table.size)
+
+-- at no position two tasks run in one subframe
+abbrev pub PositionsRunOneTaskAtATime : Type 0
+PositionsRunOneTaskAtATime =
+    (table : Schedule) (shapes : AllShapes) (t other position : ℕ) → IsGood table shapes → t < length shapes.tasks → other < length shapes.tasks
+    → t ≢ other → run_in table t ≡ run_in table other → runs_at table t position ≡ true → runs_at table other position ≡ false
+
+-- word j of task t is put out by task t, and each word is put out by a task
+abbrev pub WordsHaveTheirTask : Type 0
+WordsHaveTheirTask =
+    (shapes : AllShapes) → ((t j : ℕ) → t < length shapes.tasks → j < (shape_at shapes t).outputs → task_of shapes (first_word shapes t + j) ≡ t)
+    × ((w : ℕ) → w < words_in shapes.tasks → task_of shapes w < length shapes.tasks)
+
+-- the plain table is good where the last task is polled by the reports
+abbrev pub PlainTablesAreGood : Type 0
+PlainTablesAreGood =
+    (size period : ℕ) (shapes : AllShapes) → least_executors ≤ size → AreShapes shapes
+    → agreed_in + hearing_delay * length shapes.tasks + report_lead ≤ period → IsGood (plain_of size period (length shapes.tasks)) shapes
+
+-- a table that breaks a rule has one first broken rule, in one row, and one that meets all rules has none
+abbrev pub OneBrokenRule : Type 0
+OneBrokenRule =
+    (table : Schedule) (shapes : AllShapes) (number row : ℕ) → IsFirstBroken table shapes number row
+    → (¬ IsGood table shapes) × ((other at : ℕ) → IsFirstBroken table shapes other at → (other ≡ number) × (at ≡ row))

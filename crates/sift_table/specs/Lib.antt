@@ -1,0 +1,4 @@
+pub mod Laws
+pub mod Rules
+pub mod Schedule
+pub mod Timing

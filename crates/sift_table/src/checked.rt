@@ -1,0 +1,125 @@
+//! Tables that were checked.
+
+ghost use Rattle.std.specs.Prelude.{◌≡◌, ◌<◌, ◌≤◌, length, IfOk, IfErr, IfSome, IfNone};
+ghost use Rattle.sift_base.specs.Shapes.{shapes_of, AreShapes};
+ghost use Rattle.sift_table.specs.Schedule.{schedule_of, run_in, polled_in, runs_at};
+ghost use Rattle.sift_table.specs.Rules.{HasAnEntryEach, IsGood, IsFirstBroken, MeetsEach, BreaksFirst, row_rules};
+
+use crate::rules;
+use crate::table::Table;
+use sift_base::Shapes;
+use std::marker::Model;
+
+/// Why a table is refused: the number of the first rule that it breaks, and the first row in which it does.
+#[derive(Clone, Copy, Debug, PartialEq, Eq)]
+pub struct Broken {
+    /// 1 to 9.
+    pub rule: u8,
+    /// The number of a task, and 0 for rule 1, which speaks of the whole table.
+    pub row: u16,
+}
+
+/// A table that meets all rules. A clause sees it as the schedule that it is.
+#[derive(Drop)]
+pub struct GoodTable {
+    table: Table,
+}
+
+impl Model for GoodTable {
+    ghost use Rattle.sift_table.specs.Schedule.{Schedule, schedule_of};
+    ghost use Rattle.sift_table.specs.Rules.{IsChecked};
+
+    ghost Value = { Schedule };
+
+    ghost view = { λ good. schedule_of good.table };
+
+    ghost invariant = { λ good. IsChecked (schedule_of good.table) };
+}
+
+impl GoodTable {
+    /// The subframe in which task t runs.
+    pub fn run_of(&self, t: usize) -> u8
+        requires { t < length self.now.run }
+        ensures { result ≡ run_in self.now t }
+    {
+        self.table.run[t]
+    }
+
+    /// The subframe in which task t is polled.
+    pub fn poll_of(&self, t: usize) -> u8
+        requires { t < length self.now.run }
+        ensures { result ≡ polled_in self.now t }
+    {
+        self.table.poll[t]
+    }
+
+    /// Whether the unit at a position of the configuration runs task t.
+    pub fn runs(&self, t: usize, position: usize) -> bool
+        requires { t < length self.now.run }
+        ensures { result ≡ runs_at self.now t position }
+    {
+        self.table
+            .positions(t)
+            .iter()
+            .any(|at| usize::from(*at) == position)
+    }
+}
+
+/// Checks a table for tasks of these shapes. It takes no memory.
+///
+/// It is accepted exactly where it meets all rules. Else the first rule that it breaks is answered, with the
+/// first row in which it does, and the table is given up.
+pub fn check(table: Table, shapes: &Shapes) -> Result<GoodTable, Broken>
+    requires { AreShapes (shapes_of shapes.now) }
+    ensures same { IfOk result (λ good. good ≡ schedule_of table) }
+    ensures good { IfOk result (λ good. IsGood good (shapes_of shapes.now)) }
+    ensures broken { IfErr result (λ broken. IsFirstBroken (schedule_of table) (shapes_of shapes.now) broken.rule broken.row) }
+{
+    if !rules::has_an_entry_each(&table, shapes) {
+        return Err(Broken { rule: 1, row: 0 });
+    }
+    for row in 0..shapes.tasks.len() {
+        if let Some(rule) = broken_rule(&table, shapes, row) {
+            return Err(Broken {
+                rule,
+                row: row as u16,
+            });
+        }
+    }
+    Ok(GoodTable { table })
+}
+
+/// The first rule that a row breaks.
+fn broken_rule(table: &Table, shapes: &Shapes, row: usize) -> Option<u8>
+    requires shapes { AreShapes (shapes_of shapes.now) }
+    requires entries { HasAnEntryEach (schedule_of table.now) (shapes_of shapes.now) }
+    requires row { row < length (shapes_of shapes.now).tasks }
+    ensures broken { IfSome result (BreaksFirst row_rules (schedule_of table.now) (shapes_of shapes.now) row) }
+    ensures met { IfNone result (MeetsEach row_rules (schedule_of table.now) (shapes_of shapes.now) row) }
+{
+    if !rules::runs_after_agreement(table, row) {
+        return Some(2);
+    }
+    if !rules::is_polled_by_reports(table, row) {
+        return Some(3);
+    }
+    if !rules::is_polled_after_run(table, row) {
+        return Some(4);
+    }
+    if !rules::has_enough_positions(table, row) {
+        return Some(5);
+    }
+    if !rules::has_positions_inside(table, row) {
+        return Some(6);
+    }
+    if !rules::has_ascending_positions(table, row) {
+        return Some(7);
+    }
+    if !rules::reads_polled_words(table, shapes, row) {
+        return Some(8);
+    }
+    if !rules::shares_no_position(table, row) {
+        return Some(9);
+    }
+    None
+}

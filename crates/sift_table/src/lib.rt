@@ -1,0 +1,17 @@
+//! Schedule tables: when each task runs and is polled in a frame, and by which units of a configuration.
+//!
+//! A table is used only once `check` has found that it meets every rule.
+#![tactic(auto)]
+
+mod checked;
+mod laws;
+mod rules;
+mod table;
+
+pub use checked::{Broken, GoodTable, check};
+pub use laws::{
+    one_broken_rule, plain_tables_are_good, positions_run_one_task_at_a_time,
+    slots_are_heard_in_time, tasks_have_three_executors, tasks_run_after_their_needs,
+    words_have_their_task,
+};
+pub use table::{Table, plain_table};

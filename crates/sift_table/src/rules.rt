@@ -1,0 +1,128 @@
+//! The rules of a row, one test a rule.
+
+ghost use Rattle.std.specs.Prelude.{◌≡◌, ◌<◌, ◌≤◌, ◌↔◌, length, IsTrue};
+ghost use Rattle.sift_base.specs.Shapes.{shapes_of, shape_at, AreShapes};
+ghost use Rattle.sift_table.specs.Schedule.{schedule_of};
+ghost use Rattle.sift_table.specs.Rules.{HasAnEntryEach, RunsAfterAgreement, IsPolledByReports, IsPolledAfterRun, HasEnoughPositions};
+ghost use Rattle.sift_table.specs.Rules.{HasPositionsInside, HasAscendingPositions, ReadsPolledWords, SharesNoPosition, AreApart};
+
+use crate::table::Table;
+use sift_base::{Shapes, is_ascending};
+
+/// The subframe in which the sensor words are agreed, before which no task runs.
+const FIRST_RUN: u8 = 4;
+
+/// How many subframes before the frame's end the reports are said, after which no task is polled.
+const REPORT_LEAD: u8 = 6;
+
+/// How many subframes pass at least from a task's run to its poll.
+const POLL_DELAY: u8 = 2;
+
+/// How many units run a task at least.
+const EXECUTORS: usize = 3;
+
+/// Whether each task has an entry in each list.
+pub fn has_an_entry_each(table: &Table, shapes: &Shapes) -> bool
+    ensures { IsTrue result ↔ HasAnEntryEach (schedule_of table.now) (shapes_of shapes.now) }
+{
+    let tasks = shapes.tasks.len();
+    table.run.len() == tasks && table.poll.len() == tasks && table.at.len() == tasks
+}
+
+/// Whether a row's task runs when the sensor words are agreed, or later.
+pub fn runs_after_agreement(table: &Table, row: usize) -> bool
+    requires { row < length (schedule_of table.now).run }
+    ensures { IsTrue result ↔ RunsAfterAgreement (schedule_of table.now) row }
+{
+    table.run[row] >= FIRST_RUN
+}
+
+/// Whether a row's task is polled when the reports are said, or earlier. In a frame that is too short for reports none is.
+pub fn is_polled_by_reports(table: &Table, row: usize) -> bool
+    requires { row < length (schedule_of table.now).poll }
+    ensures { IsTrue result ↔ IsPolledByReports (schedule_of table.now) row }
+{
+    table.period >= REPORT_LEAD && table.poll[row] <= table.period - REPORT_LEAD
+}
+
+/// Whether a row's task is polled once its words can be heard.
+pub fn is_polled_after_run(table: &Table, row: usize) -> bool
+    requires run { row < length (schedule_of table.now).run }
+    requires poll { row < length (schedule_of table.now).poll }
+    ensures { IsTrue result ↔ IsPolledAfterRun (schedule_of table.now) row }
+{
+    table.poll[row] >= POLL_DELAY && table.poll[row] - POLL_DELAY >= table.run[row]
+}
+
+/// Whether enough units run a row's task.
+pub fn has_enough_positions(table: &Table, row: usize) -> bool
+    requires { row < length (schedule_of table.now).at }
+    ensures { IsTrue result ↔ HasEnoughPositions (schedule_of table.now) row }
+{
+    table.positions(row).len() >= EXECUTORS
+}
+
+/// Whether a row's positions are those of a configuration of the table's size.
+pub fn has_positions_inside(table: &Table, row: usize) -> bool
+    requires { row < length (schedule_of table.now).at }
+    ensures { IsTrue result ↔ HasPositionsInside (schedule_of table.now) row }
+{
+    table
+        .positions(row)
+        .iter()
+        .all(|position| *position < table.size)
+}
+
+/// Whether a row's positions ascend strictly.
+pub fn has_ascending_positions(table: &Table, row: usize) -> bool
+    requires { row < length (schedule_of table.now).at }
+    ensures { IsTrue result ↔ HasAscendingPositions (schedule_of table.now) row }
+{
+    is_ascending(table.positions(row))
+}
+
+/// The tasks whose words of the frame task t reads.
+fn needs_of(shapes: &Shapes, t: usize) -> &[u8]
+    requires { t < length (shapes_of shapes.now).tasks }
+    ensures { result.now ≡ (shape_at (shapes_of shapes.now) t).needs }
+{
+    &shapes.tasks[t].needs
+}
+
+/// Whether what a row's task reads of the frame is polled by the time it runs.
+pub fn reads_polled_words(table: &Table, shapes: &Shapes, row: usize) -> bool
+    requires shapes { AreShapes (shapes_of shapes.now) }
+    requires entries { HasAnEntryEach (schedule_of table.now) (shapes_of shapes.now) }
+    requires row { row < length (shapes_of shapes.now).tasks }
+    ensures { IsTrue result ↔ ReadsPolledWords (schedule_of table.now) (shapes_of shapes.now) row }
+{
+    for &needed in needs_of(shapes, row) {
+        if table.poll[usize::from(needed)] > table.run[row] {
+            return false;
+        }
+    }
+    true
+}
+
+/// Whether no position is in both lists.
+fn are_apart(some: &[u8], others: &[u8]) -> bool
+    ensures { IsTrue result ↔ AreApart some.now others.now }
+{
+    some.iter().all(|position| !others.contains(position))
+}
+
+/// Whether no earlier task runs in a row's subframe at one of its positions.
+pub fn shares_no_position(table: &Table, row: usize) -> bool
+    requires run { row < length (schedule_of table.now).run }
+    requires at { row < length (schedule_of table.now).at }
+    ensures { IsTrue result ↔ SharesNoPosition (schedule_of table.now) row }
+{
+    for earlier in 0..row {
+        if table.run[earlier] == table.run[row]
+            && !are_apart(table.positions(earlier), table.positions(row))
+        {
+            return false;
+        }
+    }
+    true
+}

@@ -1,0 +1,71 @@
+//! Schedule tables as they are written, and the plain one.
+
+ghost use Rattle.std.specs.Prelude.{◌≡◌, ◌+◌, ◌*◌, ◌^◌, ◌≤◌, ◌<◌, length, map, IfOk};
+ghost use Rattle.std.specs.List.{range_with_len};
+ghost use Rattle.sift_base.specs.Shapes.{task_limit};
+ghost use Rattle.sift_base.specs.Units.{unit_limit};
+ghost use Rattle.sift_base.specs.Layout.{least_units};
+ghost use Rattle.sift_table.specs.Schedule.{schedule_of, plain_of, positions_of};
+
+use sift_base::NoMemory;
+use std::alloc::{AllocError, Global};
+
+/// A schedule table for the configurations of one size. Entry t of each list belongs to task t.
+#[derive(Drop)]
+pub struct Table {
+    /// How many units the configurations have.
+    pub size: u8,
+    /// How many subframes a frame has.
+    pub period: u8,
+    /// The subframe in which the task runs.
+    pub run: Vec<u8>,
+    /// The subframe in which the task is polled.
+    pub poll: Vec<u8>,
+    /// The positions at which the task runs: position i stands for the configuration's i-th unit.
+    pub at: Vec<Vec<u8>>,
+}
+
+impl Table {
+    /// The positions of a row's task.
+    pub(crate) fn positions(&self, row: usize) -> &[u8]
+        requires { row < length (schedule_of self.now).at }
+        ensures { result.now ≡ positions_of (schedule_of self.now) row }
+    {
+        &self.at[row]
+    }
+}
+
+/// The table of a mission that states none for this size: every unit runs every task, one task after another.
+pub fn plain_table(alloc: Global, size: u8, period: u8, tasks: u8) -> Result<Table, NoMemory>
+    requires enough_units { least_units ≤ size }
+    requires few_units { size ≤ unit_limit }
+    requires few_tasks { tasks ≤ task_limit }
+    ensures { IfOk result (λ table. schedule_of table ≡ plain_of size period tasks) }
+{
+    let mut at = Vec::new(alloc);
+    for _ in 0..tasks {
+        at.push(all_positions(alloc, size)?)?;
+    }
+    Ok(Table {
+        size,
+        period,
+        run: every_second(alloc, 4, tasks)?,
+        poll: every_second(alloc, 6, tasks)?,
+        at,
+    })
+}
+
+/// The positions of a configuration of a size.
+fn all_positions(alloc: Global, size: u8) -> Result<Vec<u8>, AllocError>
+    ensures { IfOk result (λ positions. positions.items ≡ range_with_len 0 size) }
+{
+    (0..size).collect(alloc)
+}
+
+/// Every second subframe from one on, one for each task.
+fn every_second(alloc: Global, from: u8, tasks: u8) -> Result<Vec<u8>, AllocError>
+    requires { from + 2 * tasks < 2 ^ 8 }
+    ensures { IfOk result (λ subframes. subframes.items ≡ map (λ t. from + 2 * t) (range_with_len 0 tasks)) }
+{
+    (0..tasks).map(|t| from + 2 * t).collect(alloc)
+}
