@@ -136,6 +136,3 @@ fn bound(nest: &Nest, limits: &Limits) -> u32
     }
     bound
 }
-
-#[cfg(test)]
-mod tests;

@@ -73,6 +73,3 @@ fn no_memory(bad: Bad) -> NoMemory
         _ => unreachable!(),
     }
 }
-
-#[cfg(test)]
-mod tests;

@@ -144,6 +144,3 @@ fn push_zeros(words: &mut Vec<u16>, len: usize)
         words.push_reserved(0);
     }
 }
-
-#[cfg(test)]
-mod tests;
