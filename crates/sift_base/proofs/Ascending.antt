@@ -28,4 +28,12 @@ neighbours_ascend (x ∷ y ∷ ys) up (suc k) low = neighbours_ascend (y ∷ ys)
 -- a test of all neighbours tells whether the list ascends
 pub ascending_from_answer : (xs : List ℕ) (r : Bool) → IsAllAdjacentAnswer (λ x y b. b ≡ ltb x y) xs r → (IsTrue r → IsAscending xs) × (IsAscending xs → IsTrue r)
 ascending_from_answer xs true answer = (λ _. ascending_from_neighbours xs (λ k low. rw (← add-one k) (ltb-true _ _ (sym (answer k 0 (omega arith))))), λ _. refl)
-ascending_from_answer xs false answer = (λ e. absurd (false≢true e), λ up. absurd (let low : suc answer.0 < length xs = omega (arith, answer.1) in omega (arith, neighbours_ascend xs up answer.0 low, ltb-false (get_or xs answer.0 0) (get_or xs (suc answer.0) 0) (rw (← add-one answer.0) (sym (answer.2 0))))))
+ascending_from_answer xs false answer = (
+  λ e. absurd (false≢true e),
+  λ up. absurd (let low : suc answer.0 < length xs = omega (arith, answer.1) in
+      omega (
+        arith,
+        neighbours_ascend xs up answer.0 low,
+        ltb-false (get_or xs answer.0 0) (get_or xs (suc answer.0) 0) (rw (← add-one answer.0) (sym (answer.2 0))),
+      )),
+)
