@@ -1,3 +1,5 @@
 pub mod Ascending
+pub mod Counts
+pub mod Others
 pub mod Sets
 pub mod Shifts

@@ -1,5 +1,6 @@
 pub mod Draw
 pub mod Layout
+pub mod Margin
 pub mod Name
 pub mod ReadBack
 pub mod Shapes

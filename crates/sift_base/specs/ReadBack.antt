@@ -10,7 +10,7 @@ use Rattle.sift_base.specs.Units.{Units, unit_numbers, holds, has_bit, units_of,
 
 -- ---- members of filtered lists
 
-false_last : (t : Bool) → (t && false) ≡ false
+pub false_last : (t : Bool) → (t && false) ≡ false
 false_last true = refl
 false_last false = refl
 
@@ -58,6 +58,7 @@ summed bits fits = eqb-true (bits_by (has_bit bits)) bits (agree_below_at (λ b.
 
 -- a byte can be read back from its set
 pub bits_of-units_of : (bits : ℕ) → bits < 2 ^ 8 → bits_of (units_of bits) ≡ bits
+unfolding bits_of
 bits_of-units_of bits fits = at_each ∙ summed bits fits
   where
     at_each : bits_of (units_of bits) ≡ bits_by (has_bit bits)
@@ -74,11 +75,12 @@ pub has_low : (u : ℕ) → u < 8 → has unit_numbers u ≡ true
 has_low u low = agree_below_at (has unit_numbers) (λ _. true) 8 u refl low
 
 -- a test that passes only where another does is both of them
-both : (one other : Bool) → (one ≡ true → other ≡ true) → (one && other) ≡ one
+pub both : (one other : Bool) → (one ≡ true → other ≡ true) → (one && other) ≡ one
 both true other also = also refl
 both false other also = refl
 
 -- a set of units can be read back from its members
 pub set-members : (units : Units) → AreUnits units → set.from_list {R = nat_cmp} (members units) ≡ units
+unfolding members
 set-members units are = set.same_set nat_cmp_total set.nat_cmp-IsAntisymmetric (set.from_list (members units)) units
     (λ u. set.contains-from_list_nat (members units) u ∙ has-filter (holds units) unit_numbers u ∙ both (holds units u) (has unit_numbers u) (λ there. has_low u (are u there)))

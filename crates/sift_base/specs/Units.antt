@@ -24,7 +24,7 @@ abbrev pub holds : Units → ℕ → Bool
 holds units u = set.contains units u
 
 -- the members of a set, in ascending order
-abbrev pub members : Units → List ℕ
+unfoldable pub members : Units → List ℕ
 members units = filter (holds units) unit_numbers
 
 -- the number has bit u
@@ -36,7 +36,7 @@ abbrev pub units_of : ℕ → Units
 units_of bits = set.from_list (filter (has_bit bits) unit_numbers)
 
 -- the byte that has just the bits of a set's units
-abbrev pub bits_of : Units → ℕ
+unfoldable pub bits_of : Units → ℕ
 bits_of units = sum_by (λ u. if holds units u then 2 ^ u else 0) unit_numbers
 
 -- each member of the set is a unit's number

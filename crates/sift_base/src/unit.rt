@@ -6,7 +6,7 @@ ghost use Rattle.sift_base.specs.Units.{unit_limit};
 use std::marker::Model;
 
 /// The number of a unit, from 0 to 7.
-#[derive(Clone, Copy, Debug, PartialEq, Eq)]
+#[derive(Clone, Copy, Debug, Default, PartialEq, Eq)]
 pub struct UnitId {
     number: u8,
 }
@@ -32,6 +32,14 @@ impl UnitId {
         } else {
             None
         }
+    }
+
+    /// The unit of a number that is known to be below 8.
+    pub(crate) fn low(n: u8) -> UnitId
+        requires { n < unit_limit }
+        ensures { result ≡ n }
+    {
+        UnitId { number: n }
     }
 
     /// The number of the unit.

@@ -1,9 +1,9 @@
 //! A set of units, as the bits of a byte.
 
-ghost use Rattle.std.specs.Prelude.{◌≡◌, ◌<◌, ◌^◌};
+ghost use Rattle.std.specs.Prelude.{◌≡◌, ◌<◌, ◌^◌, length, slice_get, Some};
 ghost use Rattle.std.specs.Coded.{coded_ℕ};
 ghost use Rattle.std.specs.FinSet as set;
-ghost use Rattle.sift_base.specs.Units.{Units, holds, units_of, bits_of, AreUnits, MembersAreTheSet};
+ghost use Rattle.sift_base.specs.Units.{Units, holds, members, units_of, bits_of, AreUnits, MembersAreTheSet};
 ghost use Rattle.sift_base.specs.ReadBack.{bits_of-units_of};
 
 use crate::unit::UnitId;
@@ -85,6 +85,23 @@ impl UnitSet {
         UnitSet {
             bits: self.bits | b.bits,
         }
+    }
+
+    /// The members that aren't in the other set.
+    pub fn minus(self, b: UnitSet) -> UnitSet
+        ensures { result ≡ set.difference self b }
+    {
+        UnitSet {
+            bits: self.bits & !b.bits,
+        }
+    }
+
+    /// The member with the least number.
+    pub fn first(self) -> UnitId
+        requires { 0 < length (members self) }
+        ensures { slice_get (members self) 0 ≡ Some result }
+    {
+        UnitId::low(self.bits.trailing_zeros() as u8)
     }
 
     /// How many units are members.

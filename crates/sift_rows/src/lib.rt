@@ -1,9 +1,31 @@
-//! Tests of the public calls of the crates below, one file a crate.
+//! Rows of tests that call the crates below as their users do, one module a crate.
 #![tactic(auto)]
 
+#[cfg(test)]
+mod agree;
+#[cfg(test)]
+mod base;
+#[cfg(test)]
+mod buffer;
+#[cfg(test)]
+mod clock;
+#[cfg(test)]
+mod compiled;
+#[cfg(test)]
+mod config;
+#[cfg(test)]
+mod exec;
+#[cfg(test)]
+mod io;
+#[cfg(test)]
+mod scenario;
 #[cfg(test)]
 mod script;
 #[cfg(test)]
 mod shapes;
 #[cfg(test)]
+mod skew;
+#[cfg(test)]
 mod table;
+#[cfg(test)]
+mod vote;

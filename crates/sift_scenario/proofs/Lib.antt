@@ -6,6 +6,7 @@ pub mod OneMission
 pub mod Order
 pub mod Places
 pub mod Programs
+pub mod Read
 pub mod Rolls
 pub mod Starts
 pub mod TaskRefusals
@@ -16,3 +17,4 @@ pub mod UniqueRefusals
 pub mod Unrefused
 pub mod WordCounts
 pub mod WordValues
+pub mod Limits

@@ -4,15 +4,15 @@ use Rattle.toml.specs.Data.{Members}
 use Rattle.sift_scenario.specs.declared.refused.Refused.{Refused}
 use Rattle.sift_scenario.specs.declared.refused.Refused.TheVariants.{NoMemory}
 use Rattle.sift_scenario.specs.Mission.{IsMission, Stated}
-use Rattle.sift_scenario.specs.Refusal.{IsRefused}
+use Rattle.sift_scenario.specs.Refusal.{IsRefusedWith}
 
 -- a document that states a mission isn't refused, where memory is not wanting
 abbrev pub MissionsAreAccepted : Type 0
-MissionsAreAccepted = (document : Members) (mission : Stated) (refused : Refused) → IsMission document mission → IsRefused document refused → refused ≡ NoMemory
+MissionsAreAccepted = (document : Members) (mission : Stated) (refused : Refused) → IsMission document mission → IsRefusedWith document refused → refused ≡ NoMemory
 
 -- a document is refused in one way, where memory is not wanting
 abbrev pub OneRefusal : Type 0
-OneRefusal = (document : Members) (one other : Refused) → one ≢ NoMemory → other ≢ NoMemory → IsRefused document one → IsRefused document other → one ≡ other
+OneRefusal = (document : Members) (one other : Refused) → one ≢ NoMemory → other ≢ NoMemory → IsRefusedWith document one → IsRefusedWith document other → one ≡ other
 
 -- a document states at most one mission
 abbrev pub OneMission : Type 0

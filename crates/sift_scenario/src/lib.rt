@@ -9,8 +9,6 @@ mod mission;
 mod refused;
 mod root;
 mod task;
-#[cfg(test)]
-mod tests;
 mod tree;
 mod value;
 

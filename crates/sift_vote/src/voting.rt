@@ -26,27 +26,3 @@ fn votes_for(places: &[Option<Word>], word: Word) -> usize
 {
     places.iter().filter(|place| **place == Some(word)).count()
 }
-
-#[cfg(test)]
-mod tests {
-    use super::*;
-
-    fn word(n: u16) -> Option<Word> {
-        Some(Word::of(n))
-    }
-
-    #[test]
-    fn more_than_half_of_all_places_decide(rt: HostRuntime) {
-        let cases: [(&[Option<Word>], Option<Word>, &str); 5] = [
-            (&[word(5), word(5), word(9)], word(5), "two of three"),
-            (&[word(5), word(9), None], None, "one of three"),
-            (&[word(5), word(5), None, None], None, "exactly half"),
-            (&[word(0), word(0), word(0)], word(0), "0 is a word"),
-            (&[], None, "no places"),
-        ];
-        for (places, want, case) in cases {
-            let found = majority(places);
-            assert_eq!(rt; found, want, "{case}");
-        }
-    }
-}

@@ -1,0 +1,16 @@
+pub mod Cells
+pub mod Places
+pub mod Puts
+pub mod Sound
+pub mod Keep
+pub mod Heard
+pub mod Moves
+pub mod Stores
+pub mod Events
+pub mod Samples
+pub mod Tables
+pub mod Notes
+pub mod Rounds
+pub mod LedgerLemmas
+pub mod NewLedgers
+pub mod LoneEvents

@@ -1,0 +1,13 @@
+use Rattle.std.proofs.Common.{sym, subst}
+use Rattle.sift_buffer.specs.Ranges.{IsPlace}
+use Rattle.sift_buffer.specs.Journals.{ranges_in}
+use Rattle.sift_buffer.specs.Ledgers.{Ledger}
+use Rattle.sift_buffer.proofs.LedgerLemmas.{ledger_said}
+use Rattle.sift_buffer.proofs.acts.Acts.note_said.Goals as goal
+
+pub returns : goal.returns
+returns c =
+    let a = c.args in
+    let place = subst (λ (l : Ledger). IsPlace (ranges_in l.pages) l.pages.unit a.to a.slot a.f) (sym c.self.view_is) c.requires.place in
+    rw (← c.self.view_is, c.index-place.ensures.number)
+    (ledger_said _ _ _ c.self.invariant a.f a.slot a.to a.stamp a.word c.note_said.new.self place c.requires.stamp c.note_said.ensures)

@@ -1,0 +1,16 @@
+pub mod Cell
+pub mod Ranges
+pub mod Conduct
+pub mod Conditions
+pub mod Core
+pub mod Lawful
+pub mod Laws
+pub mod Samples
+pub mod Tables
+pub mod Journals
+pub mod Ledgers
+pub mod Sizes
+pub mod Views
+pub mod Reaches
+pub mod LonePorts
+pub mod Following

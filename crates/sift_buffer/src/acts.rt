@@ -1,0 +1,111 @@
+//! Acts: a unit's journal with the stamps of its words, and what the unit knows. A port in plain
+//! memory keeps them.
+ghost use Rattle.std.specs.Prelude.{◌≡◌, ◌<◌, ◌≤◌, ◌+◌, IfOk};
+ghost use Rattle.sift_base.specs.Layout.{IsLayout};
+ghost use Rattle.sift_base.specs.Units.{unit_limit};
+ghost use Rattle.sift_buffer.specs.Ranges.{IsPlace};
+ghost use Rattle.sift_buffer.specs.Conduct.{fresh, last_progress, with_seen, with_said, with_heard, with_entered};
+ghost use Rattle.sift_buffer.specs.Journals.{ranges_in};
+ghost use Rattle.sift_buffer.specs.Ledgers.{Tells, Becomes, conduct_in};
+
+use crate::grid::Grid;
+use crate::journal::Journal;
+use sift_base::{Layout, NoMemory, UnitId, Word};
+use std::alloc::Global;
+use std::marker::Model;
+
+/// What one unit did and knows. Its memory is taken once, for all frames.
+#[derive(Drop)]
+pub struct Acts {
+    grid: Grid,
+    journal: Journal,
+    progress: u32,
+    seen: [u64; 8],
+    said: Vec<u32>,
+    asked: Vec<u32>,
+    heard_at: Vec<u32>,
+}
+
+impl Model for Acts {
+    ghost use Rattle.sift_buffer.specs.Ledgers.{Ledger};
+    ghost use Rattle.sift_buffer.specs.Sizes.{IsFull};
+
+    ghost Value = { Ledger };
+
+    ghost view = { λ a. record { pages = a.journal; progress = a.progress; seen = a.seen; said = a.said.items; asked = a.asked.items; heard_at = a.heard_at.items } };
+
+    ghost invariant = { λ a. IsFull (record { pages = a.journal; progress = a.progress; seen = a.seen; said = a.said.items; asked = a.asked.items; heard_at = a.heard_at.items }) a.grid.layout a.grid.frames };
+}
+
+impl Acts {
+    /// No acts yet.
+    pub fn make(alloc: Global, layout: Layout, unit: UnitId, frames: u32) -> Result<Acts, NoMemory>
+        requires layout { IsLayout layout }
+        requires unit { unit < layout.units }
+        ensures { IfOk result (λ acts. Tells acts layout unit frames fresh) }
+    {
+        let grid = Grid { layout, frames };
+        Ok(Acts {
+            grid,
+            journal: Journal::make(alloc, layout, unit, frames)?,
+            progress: 0,
+            seen: [0; 8],
+            said: vec![in alloc; 0; grid.len()]?,
+            asked: vec![in alloc; 0; grid.len()]?,
+            heard_at: vec![in alloc; 0; grid.len()]?,
+        })
+    }
+
+    /// The progress of the unit.
+    pub fn progress(&self) -> u32
+        ensures progress { result ≡ self.now.progress }
+        ensures low { result ≤ last_progress }
+    {
+        self.progress
+    }
+
+    /// Notes a unit as seen at a progress number.
+    pub fn note_seen(&mut self, unit: UnitId, number: u64)
+        ensures { Becomes self.old self.new (with_seen (conduct_in self.old) unit number) }
+    {
+        self.seen[usize::from(unit.get())] = number;
+    }
+
+    /// Notes a word, or absence, as said with a stamp.
+    pub fn note_said(&mut self, f: u32, slot: usize, to: UnitId, stamp: u32, word: Option<Word>)
+        requires place { IsPlace (ranges_in self.old.pages) self.old.pages.unit to slot f }
+        requires stamp { 1 ≤ stamp }
+        ensures { Becomes self.old self.new (with_said (conduct_in self.old) f slot to stamp word) }
+    {
+        let place = self.grid.index(f, slot, to);
+        self.said[place] = stamp;
+        self.journal.note_said(f, slot, to, word);
+    }
+
+    /// Notes a word, or absence, as heard with a stamp at the present progress.
+    pub fn note_heard(&mut self, f: u32, slot: usize, from: UnitId, stamp: u32, word: Option<Word>)
+        requires place { IsPlace (ranges_in self.old.pages) self.old.pages.unit from slot f }
+        requires stamp { 1 ≤ stamp }
+        ensures { Becomes self.old self.new (with_heard (conduct_in self.old) f slot from stamp word) }
+    {
+        let place = self.grid.index(f, slot, from);
+        self.asked[place] = stamp;
+        self.heard_at[place] = self.progress;
+        self.journal.note_heard(f, slot, from, word);
+    }
+
+    /// Notes that the unit entered the next subframe.
+    pub fn note_entered(&mut self)
+        requires { self.old.progress < last_progress }
+        ensures { Becomes self.old self.new (with_entered (conduct_in self.old)) }
+    {
+        self.progress += 1;
+    }
+
+    /// The journal alone.
+    pub fn end(self) -> Journal
+        ensures { result ≡ self.pages }
+    {
+        self.journal
+    }
+}

@@ -1,0 +1,23 @@
+//! What units share: cells and progress numbers, what every order of loads and stores keeps of
+//! them, and ports, by which a unit reaches them.
+#![tactic(auto)]
+
+mod acts;
+mod cell;
+mod gate;
+mod grid;
+mod journal;
+mod laws;
+mod lone;
+mod lone_port;
+mod port;
+
+pub use acts::Acts;
+pub use cell::{pack, take};
+pub use gate::{Look, find_behind};
+pub use journal::Journal;
+pub use laws::{
+    conditions_tell_cores_apart, events_keep_the_core_lawful, fresh_is_lawful, packing_is_taken,
+};
+pub use lone::LonePort;
+pub use port::{Entering, Port};

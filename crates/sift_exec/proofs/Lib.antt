@@ -1,0 +1,2 @@
+pub mod Accusing
+pub mod Justice

@@ -1,0 +1,5 @@
+use Rattle.sift_exec.proofs.Justice.{conviction_holds}
+use Rattle.sift_exec.proofs.conviction.conviction_is_just.Goals as goal
+
+pub returns : goal.returns
+returns c = conviction_holds

@@ -1,0 +1,2 @@
+pub mod Conviction
+pub mod Record

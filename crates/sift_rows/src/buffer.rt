@@ -1,0 +1,169 @@
+//! Cells, journals, and a port among units that the test moves.
+ghost use Rattle.std.specs.Prelude.{◌≡◌, IfOk, Some};
+ghost use Rattle.sift_buffer.specs.Conditions.{MayEnter};
+ghost use Rattle.sift_buffer.specs.Views.{PortMaySay, view_with_said};
+ghost use Rattle.sift_rows.specs.Ports.{KeepsActs};
+
+use sift_base::{Layout, UnitId, Word};
+use sift_buffer::{Entering, Journal, LonePort, Port, pack, take};
+use std::mem::size_of;
+use std::test::Fail;
+
+/// Four units, a sensor and an output word: nine slots.
+const LAYOUT: Layout = Layout {
+    units: 4,
+    sensors: 1,
+    words: 1,
+};
+
+#[test]
+fn cells_pack_as_worked_out_by_hand(rt: HostRuntime) {
+    let cases = [
+        (0, None, 0, "nothing with stamp 0"),
+        (1, None, 131_072, "absence with stamp 1"),
+        (1, Some(0), 196_608, "word 0 with stamp 1"),
+        (3, Some(0xffff), 524_287, "the greatest word with stamp 3"),
+        (64_000, Some(7), 8_388_673_543, "the last stamp"),
+    ];
+    for (stamp, word, want, row) in cases {
+        let cell = pack(stamp, word.map(Word::of));
+        assert_eq!(rt; cell, want, "{row}");
+    }
+}
+
+#[test]
+fn cells_give_their_word_to_their_own_stamp(rt: HostRuntime) {
+    let cases = [
+        (0, 0, None, "an empty cell"),
+        (131_072, 1, None, "absence isn't word 0"),
+        (196_608, 1, Some(0), "word 0"),
+        (196_608, 2, None, "a cell of an earlier frame"),
+        (524_287, 3, Some(0xffff), "the greatest word"),
+        (524_287, 7, None, "a stamp that the word's bits would make"),
+        (8_388_673_543, 64_000, Some(7), "the last stamp"),
+        (u64::MAX, u32::MAX, None, "a stray of all bits"),
+    ];
+    for (cell, stamp, want, row) in cases {
+        let word = take(cell, stamp);
+        assert_eq!(rt; word, want.map(Word::of), "{row}");
+    }
+}
+
+// The unit with this number.
+fn unit(n: u8) -> Result<UnitId, Fail>
+    ensures { IfOk result (λ unit. unit ≡ n) }
+{
+    Ok(UnitId::of(n).ok_or("no such unit")?)
+}
+
+#[test]
+fn a_journal_gives_what_was_noted_last(rt: HostRuntime) -> Result<(), Fail> {
+    let (own, one, three) = (unit(0)?, unit(1)?, unit(3)?);
+    let mut journal = Journal::make(rt.alloc(), LAYOUT, own, 2)?;
+    let blank = journal.said(1, 8, three);
+    assert_eq!(rt; blank, None, "nothing was noted");
+    journal.note_said(1, 8, three, Some(Word::of(7)));
+    journal.note_heard(1, 8, three, Some(Word::of(9)));
+    let reads = [
+        (journal.said(1, 8, three), Some(7), "said"),
+        (journal.heard(1, 8, three), Some(9), "heard"),
+        (journal.said(0, 8, three), None, "said in the frame before"),
+        (journal.said(1, 7, three), None, "said in the slot before"),
+        (journal.said(1, 8, one), None, "said to another unit"),
+        (
+            journal.heard(0, 8, three),
+            None,
+            "heard in the frame before",
+        ),
+        (journal.heard(1, 0, one), None, "heard in the first slot"),
+    ];
+    for (read, want, row) in reads {
+        assert_eq!(rt; read, want.map(Word::of), "{row}");
+    }
+    journal.note_said(1, 8, three, None);
+    let again = journal.said(1, 8, three);
+    assert_eq!(rt; again, None, "absence was noted last");
+    Ok(())
+}
+
+/// What a place of a journal takes of memory.
+const PLACE: usize = size_of::<Option<Word>>();
+
+#[test]
+fn a_place_of_a_journal_takes_four_bytes(rt: HostRuntime) {
+    assert!(rt; PLACE <= 4, "{PLACE}");
+}
+
+// Says the word 5 in the first slot of frame 0 to a unit, in subframe 0. It is generic, so it sees of the port only what every port promises.
+fn say_five<T: Port>(port: &mut T, to: UnitId)
+    requires { PortMaySay (T.view port.old) to 0 0 1 }
+    ensures { T.view port.new ≡ view_with_said (T.view port.old) 0 0 to 1 (Some 5) }
+{
+    port.say(to, 0, 0, 1, Some(Word::of(5)));
+}
+
+// Tries to enter. Whatever comes of it, the unit has said and heard what it had.
+fn try_once<T: Port>(port: &mut T) -> Entering
+    requires { MayEnter (T.view port.old).conduct }
+    ensures { KeepsActs (T.view port.old) (T.view port.new) }
+{
+    port.try_enter()
+}
+
+#[test]
+fn a_unit_says_by_one_store(rt: HostRuntime) -> Result<(), Fail> {
+    let (own, one, two) = (unit(0)?, unit(1)?, unit(2)?);
+    let mut port = LonePort::make(rt.alloc(), LAYOUT, own, 1)?;
+    say_five(&mut port, one);
+    let (cell, other_cell) = (port.cell(one, 0), port.cell(two, 0));
+    assert_eq!(rt; cell, pack(1, Some(Word::of(5))), "the receiver's cell");
+    assert_eq!(rt; other_cell, 0, "another unit's cell");
+    let journal = port.end();
+    let said = journal.said(0, 0, one);
+    assert_eq!(rt; said, Some(Word::of(5)), "in the journal");
+    Ok(())
+}
+
+#[test]
+fn a_unit_enters_where_none_is_behind(rt: HostRuntime) -> Result<(), Fail> {
+    let (own, one, two, three) = (unit(0)?, unit(1)?, unit(2)?, unit(3)?);
+    let mut port = LonePort::make(rt.alloc(), LAYOUT, own, 1)?;
+    let first = port.try_enter();
+    assert_eq!(rt; first, Entering::Entered, "nobody is behind 0");
+    let progress = port.progress();
+    assert_eq!(rt; progress, 1);
+    let alone = port.try_enter();
+    assert_eq!(rt;
+        alone,
+        Entering::NotYet { unit: one, seen: 0 },
+        "unit 1 is behind"
+    );
+    port.set_number(one, 1);
+    port.set_number(three, 1);
+    let still = port.try_enter();
+    assert_eq!(rt;
+        still,
+        Entering::NotYet { unit: two, seen: 0 },
+        "unit 2 is behind"
+    );
+    Ok(())
+}
+
+#[test]
+fn a_unit_hears_the_word_with_its_stamp(rt: HostRuntime) -> Result<(), Fail> {
+    let (own, one, two) = (unit(3)?, unit(1)?, unit(2)?);
+    let mut port = LonePort::make(rt.alloc(), LAYOUT, own, 1)?;
+    port.set_number(unit(0)?, 1);
+    port.set_number(one, 1);
+    port.set_number(two, 4);
+    port.set_cell(one, 8, pack(1, Some(Word::of(9))));
+    let first = try_once(&mut port);
+    assert_eq!(rt; first, Entering::Entered, "nobody is behind 0");
+    assert_eq!(rt; port.progress(), 1);
+    let second = try_once(&mut port);
+    assert_eq!(rt; second, Entering::Entered, "nobody is behind 1");
+    assert_eq!(rt; port.progress(), 2);
+    let heard = port.hear(one, 8, 0, 1);
+    assert_eq!(rt; heard, Some(Word::of(9)), "the word with this stamp");
+    Ok(())
+}

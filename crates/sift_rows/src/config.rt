@@ -1,0 +1,49 @@
+//! Rows of configurations.
+
+use sift_base::{UnitId, UnitSet};
+use sift_config::Config;
+
+fn unit(n: u8) -> UnitId {
+    UnitId::of(n).unwrap_or_default()
+}
+
+#[test]
+fn units_have_positions_in_their_order(rt: HostRuntime) {
+    let all = Config::all(7);
+    assert_eq!(rt; all.len(), 7);
+    let some = all.without(UnitSet::of_bits(0b001_0010)).unwrap_or(all);
+    assert_eq!(rt; some.len(), 5);
+    for (position, n) in [0, 2, 3, 5, 6].into_iter().enumerate() {
+        assert_eq!(rt; some.unit_at(position), unit(n), "position {position}");
+        assert_eq!(rt; some.position_of(unit(n)), Some(position), "unit {n}");
+        assert_eq!(rt; some.has(unit(n)), true, "unit {n}");
+    }
+    for n in [1, 4, 7] {
+        assert_eq!(rt; some.position_of(unit(n)), None, "unit {n}");
+        assert_eq!(rt; some.has(unit(n)), false, "unit {n}");
+    }
+    for (x, n) in [(0, 0), (1, 2), (4, 6), (5, 0), (7, 3)] {
+        assert_eq!(rt; some.reader_of(x), unit(n), "sensor {x}");
+    }
+}
+
+#[test]
+fn four_units_remain(rt: HostRuntime) {
+    let all = Config::all(6);
+    let cases = [
+        (0, Some(6), "nobody is gone"),
+        (0b11, Some(4), "two are gone"),
+        (0b111, None, "three are gone"),
+        (
+            0b1100_0011,
+            Some(4),
+            "two are gone, and two that weren't there",
+        ),
+    ];
+    for (gone, want, case) in cases {
+        let rest = all
+            .without(UnitSet::of_bits(gone))
+            .map(|config| config.len());
+        assert_eq!(rt; rest, want, "{case}");
+    }
+}

@@ -1,0 +1,9 @@
+pub mod Changes
+pub mod Extremes
+pub mod Keeps
+pub mod Leads
+pub mod Limits
+pub mod Products
+pub mod Readings
+pub mod Shares
+pub mod Steps

@@ -1,0 +1,70 @@
+-- The correction of clocks keeps their skew, whatever is read of the faulty ones.
+use Rattle.std.specs.Prelude.{◌≡◌, ◌≢◌, ℕ, ◌*◌, ◌≤◌, List, length, Bool, true, Option, Some, ℤ, pos, ◌+ℤ◌, ◌-ℤ◌, ◌*ℤ◌, ◌≤ℤ◌}
+use Rattle.sift_base.specs.Word.{word_of}
+use Rattle.sift_base.specs.Units.{has}
+use Rattle.sift_base.specs.Margin.{faulty_count, HasMargin}
+use Rattle.sift_clock.specs.Distance.{IsWithin}
+use Rattle.sift_clock.specs.Reading.{reading_of}
+use Rattle.sift_clock.specs.Correction.{next_offset}
+use Rattle.sift_skew.specs.Limits.{skew_limit}
+
+-- the working clocks of a configuration differ by at most the skew
+abbrev pub AreTogether : ℤ → List ℕ → (ℕ → Bool) → (ℕ → ℤ) → Type 0
+AreTogether skew us works clock =
+    (p q : ℕ) → has us p ≡ true → works p ≡ true → has us q ≡ true → works q ≡ true → clock p ≤ℤ (clock q +ℤ skew)
+
+-- unit u reads each other working clock of a configuration, wrong by at most the error
+abbrev pub ReadsWell : ℤ → List ℕ → (ℕ → Bool) → (ℕ → ℤ) → ℕ → (ℕ → Option ℤ) → Type 0
+ReadsWell error us works clock u read =
+    (v : ℕ) → has us v ≡ true → works v ≡ true → v ≢ u →
+    (ticks : ℤ) × (read v ≡ Some ticks) × IsWithin error ticks (clock v -ℤ clock u)
+
+-- the working clocks of a frame are within these limits: they are together, read one another well, and drift little
+pub record AreWithin (skew error rate : ℤ) (us : List ℕ) (works : ℕ → Bool) (clock drift : ℕ → ℤ) (read : ℕ → ℕ → Option ℤ) : Type 0 where
+  pub together : AreTogether skew us works clock
+  pub readings : (u : ℕ) → has us u ≡ true → works u ≡ true → ReadsWell error us works clock u (read u)
+  pub drifts : (u : ℕ) → has us u ≡ true → works u ≡ true → IsWithin rate (drift u) (pos 0)
+
+-- each unit's offset in the next frame
+abbrev pub next_offsets : ℤ → List ℕ → (ℕ → ℤ) → (ℕ → ℤ) → (ℕ → ℕ → Option ℤ) → ℕ → ℤ
+next_offsets limit us clock drift read u = next_offset limit us (read u) (clock u) u (drift u)
+
+-- among n clocks, at most m of them faulty, S * (n - 3m) >= 2n * (E + R) keeps the skew S, with the reading error E and the
+-- drift R
+abbrev pub SkewIsKept : Type 0
+SkewIsKept =
+    (skew error rate : ℤ) (us : List ℕ) (works : ℕ → Bool) (clock drift : ℕ → ℤ) (read : ℕ → ℕ → Option ℤ) (m : ℕ) →
+    AreWithin skew error rate us works clock drift read → faulty_count works us ≤ m →
+    (pos (2 * length us) *ℤ (error +ℤ rate)) ≤ℤ (skew *ℤ (pos (length us) -ℤ pos (3 * m))) →
+    AreTogether skew us works (next_offsets (skew +ℤ error) us clock drift read)
+
+-- where no clock is faulty, S >= 2 * (E + R) keeps it
+abbrev pub SkewIsKeptWithoutFaults : Type 0
+SkewIsKeptWithoutFaults =
+    (skew error rate : ℤ) (us : List ℕ) (works : ℕ → Bool) (clock drift : ℕ → ℤ) (read : ℕ → ℕ → Option ℤ) →
+    AreWithin skew error rate us works clock drift read → faulty_count works us ≡ 0 →
+    (pos 2 *ℤ (error +ℤ rate)) ≤ℤ skew →
+    AreTogether skew us works (next_offsets (skew +ℤ error) us clock drift read)
+
+-- in a configuration with margin, S >= 5 * (E + R) keeps it
+abbrev pub SkewIsKeptWithMargin : Type 0
+SkewIsKeptWithMargin =
+    (skew error rate : ℤ) (us : List ℕ) (works : ℕ → Bool) (clock drift : ℕ → ℤ) (read : ℕ → ℕ → Option ℤ) →
+    AreWithin skew error rate us works clock drift read → HasMargin works us →
+    (pos 5 *ℤ (error +ℤ rate)) ≤ℤ skew →
+    AreTogether skew us works (next_offsets (skew +ℤ error) us clock drift read)
+
+-- clock words tell offsets apart that are no farther apart than the largest skew
+abbrev pub WordsAreReadRight : Type 0
+WordsAreReadRight =
+    (theirs own error : ℤ) → IsWithin skew_limit theirs own →
+    reading_of (Some (word_of theirs)) own error ≡ Some ((theirs -ℤ own) +ℤ error)
+
+-- so a unit that hears the clock words of the other working units, and misreads them by at most the error, reads them well
+abbrev pub HeardClocksAreReadWell : Type 0
+HeardClocksAreReadWell =
+    (skew error : ℤ) (us : List ℕ) (works : ℕ → Bool) (clock : ℕ → ℤ) (u : ℕ) (heard : ℕ → Option ℕ) (errors : ℕ → ℤ) →
+    skew ≤ℤ skew_limit → AreTogether skew us works clock → has us u ≡ true → works u ≡ true →
+    ((v : ℕ) → has us v ≡ true → works v ≡ true → v ≢ u →
+    (heard v ≡ Some (word_of (clock v))) × IsWithin error (errors v) (pos 0)) →
+    ReadsWell error us works clock u (λ v. reading_of (heard v) (clock u) (errors v))

@@ -1,0 +1,6 @@
+//! Missions, and the boards that fly them: what one unit says, hears and does in each frame.
+#![tactic(auto)]
+
+mod laws;
+
+pub use laws::a_unit_says_nothing_to_itself;
