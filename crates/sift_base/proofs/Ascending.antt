@@ -29,7 +29,7 @@ neighbours_ascend (x ∷ y ∷ ys) up (suc k) low = neighbours_ascend (y ∷ ys)
 pub ascending_from_answer : (xs : List ℕ) (r : Bool) → IsAllAdjacentAnswer (λ x y b. b ≡ ltb x y) xs r → (IsTrue r → IsAscending xs) × (IsAscending xs → IsTrue r)
 ascending_from_answer xs true answer =
     let near : (k : ℕ) → suc k < length xs → get_or xs k 0 < get_or xs (suc k) 0 =
-        λ k low. rw (← add-one k) (ltb-true _ _ (sym (answer k 0 (omega arith)))) in
+    λ k low. rw (← add-one k) (ltb-true _ _ (sym (answer k 0 (omega arith)))) in
     (λ _. ascending_from_neighbours xs near, λ _. refl)
 ascending_from_answer xs false answer =
     let k = answer.0 in

@@ -52,11 +52,11 @@ plain_row size period shapes t enough sound long there =
     let inside : All (λ p. p < size) (positions_of table t) = rw at (consecutive_below size) in
     let ascend : IsAscending (positions_of table t) = rw at (consecutive_ascend 0 size) in
     let reads : ReadsPolledWords table shapes t = λ k d low.
-        let needed = get_or (shape_at shapes t).needs k d in
-        let earlier : needed < t = sound.earlier t there k d low in
-        omega (arith, run, plain_poll size period tasks needed (omega (arith, there, earlier)), earlier) in
+    let needed = get_or (shape_at shapes t).needs k d in
+    let earlier : needed < t = sound.earlier t there k d low in
+    omega (arith, run, plain_poll size period tasks needed (omega (arith, there, earlier)), earlier) in
     let apart : SharesNoPosition table t = λ earlier before same.
-        absurd (omega (arith, run, same, plain_run size period tasks earlier (omega (arith, there, before)))) in
+    absurd (omega (arith, run, same, plain_run size period tasks earlier (omega (arith, there, before)))) in
     (omega (arith, run), (omega (arith, poll), (omega (arith, run, poll), (few, (inside, (ascend, (reads, (apart, tt))))))))
 
 pub plain_tables_are_good : PlainTablesAreGood

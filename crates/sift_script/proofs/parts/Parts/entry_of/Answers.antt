@@ -14,5 +14,5 @@ returns c =
     let entries = c.args.self.now.script.entries.items in
     let here = λ (entry : Entry). test (fault_of entry) in
     let found : option_map (λ entry. entry.now) c.find.result ≡ find here entries =
-        find_from_yields_List here _ _ c.find.result c.find.ensures.ran (YieldsList-from_slice entries cc) (λ x b q k. search (rules, tests)) in
+    find_from_yields_List here _ _ c.find.result c.find.ensures.ran (YieldsList-from_slice entries cc) (λ x b q k. search (rules, tests)) in
     sym (option_map-twice _ fault_of c.find.result) ∙ ap (option_map fault_of) found ∙ sym (find-map fault_of test entries)

@@ -16,7 +16,7 @@ returns c =
     let items = c.args.items.now in
     let here = λ (item : Item). test (change_of item) in
     let found : option_map (λ item. item.now) c.find.result ≡ find here items =
-        find_from_yields_List here _ _ c.find.result c.find.ensures.ran (YieldsList-from_slice items cc) (λ x b q k. search (rules, tests)) in
+    find_from_yields_List here _ _ c.find.result c.find.ensures.ran (YieldsList-from_slice items cc) (λ x b q k. search (rules, tests)) in
     let mapped : c.map.result ≡ option_map (λ item. value (change_of item.now)) c.find.result = search rules in
     mapped ∙ sym (option_map-twice _ (λ (item : Item). value (change_of item)) c.find.result) ∙ ap (option_map (λ (item : Item). value (change_of item))) found
     ∙ sym (option_map-twice change_of value _) ∙ ap (option_map value) (sym (find-map change_of test items))
