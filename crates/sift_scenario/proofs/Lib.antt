@@ -1,5 +1,7 @@
 pub mod Codes
+pub mod Decided
 pub mod DocumentLemmas
+pub mod FirstBroken
 pub mod NewNames
 pub mod Numbers
 pub mod OneMission

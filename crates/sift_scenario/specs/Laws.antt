@@ -1,10 +1,11 @@
 -- The laws of what a document is answered with.
-use Rattle.std.specs.Prelude.{◌≡◌, ◌≢◌}
+use Rattle.std.specs.Prelude.{◌≡◌, ◌≢◌, ◌⊎◌, ℕ}
 use Rattle.toml.specs.Data.{Members}
 use Rattle.sift_scenario.specs.declared.refused.Refused.{Refused}
 use Rattle.sift_scenario.specs.declared.refused.Refused.TheVariants.{NoMemory}
 use Rattle.sift_scenario.specs.Mission.{IsMission, Stated}
 use Rattle.sift_scenario.specs.Refusal.{IsRefusedWith}
+use Rattle.sift_scenario.specs.Rules.{IsFirstBroken, IsLawful}
 
 -- a document that states a mission isn't refused, where memory is not wanting
 abbrev pub MissionsAreAccepted : Type 0
@@ -17,3 +18,7 @@ OneRefusal = (document : Members) (one other : Refused) → one ≢ NoMemory →
 -- a document states at most one mission
 abbrev pub OneMission : Type 0
 OneMission = (document : Members) (one other : Stated) → IsMission document one → IsMission document other → one ≡ other
+
+-- a document keeps all rules, or one is the first that it breaks, at a first place
+abbrev pub RulesAreKeptOrBroken : Type 0
+RulesAreKeptOrBroken = (document : Members) → IsLawful document ⊎ ((number place : ℕ) × IsFirstBroken document number place)

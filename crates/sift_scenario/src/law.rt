@@ -1,6 +1,6 @@
 //! The laws of what a document is answered with.
 
-ghost use Rattle.sift_scenario.specs.Laws.{MissionsAreAccepted, OneMission, OneRefusal};
+ghost use Rattle.sift_scenario.specs.Laws.{MissionsAreAccepted, OneMission, OneRefusal, RulesAreKeptOrBroken};
 
 /// A document that states a mission is refused by no rule, and none of its tasks is refused.
 pub fn missions_are_accepted()
@@ -15,4 +15,9 @@ pub fn one_refusal()
 /// A document states at most one mission.
 pub fn one_mission()
     ensures { OneMission }
+{}
+
+/// A document keeps all rules, or one is the first that it breaks, at a first place.
+pub fn rules_are_kept_or_broken()
+    ensures { RulesAreKeptOrBroken }
 {}

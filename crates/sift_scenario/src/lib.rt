@@ -12,6 +12,6 @@ mod task;
 mod tree;
 mod value;
 
-pub use law::{missions_are_accepted, one_mission, one_refusal};
+pub use law::{missions_are_accepted, one_mission, one_refusal, rules_are_kept_or_broken};
 pub use mission::{Mission, mission_of};
 pub use refused::Refused;
