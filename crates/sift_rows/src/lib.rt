@@ -28,6 +28,12 @@ mod pool;
 #[cfg(test)]
 mod scenario;
 #[cfg(test)]
+mod script;
+#[cfg(test)]
+mod shapes;
+#[cfg(test)]
 mod skew;
+#[cfg(test)]
+mod table;
 #[cfg(test)]
 mod vote;
