@@ -1,5 +1,5 @@
 -- Slots, and their numbers in a mission's layout. A slot is a place for one word, from one unit to another in one frame.
-use Rattle.std.specs.Prelude.{◌≡◌, ℕ, ◌+◌, ◌*◌, ◌<◌, ◌≤◌, ⊤}
+use Rattle.std.specs.Prelude.{◌≡◌, ℕ, ◌+◌, ◌-◌, ◌*◌, ◌<◌, ◌≤◌, nat_eq, nat_lt, if◌then◌else◌, ⊤}
 use Rattle.sift_base.specs.Units.{unit_limit}
 use Rattle.sift_base.specs.declared.layout.Layout.{Layout}
 use Rattle.sift_base.specs.declared.slot.Slot.{Slot}
@@ -46,6 +46,22 @@ slot_number layout (Out w) = 1 + 2 * layout.sensors + w
 slot_number layout Report = 1 + 2 * layout.sensors + layout.words
 slot_number layout (RelayReport u) = 2 + 2 * layout.sensors + layout.words + u
 
+-- the slot of a number behind those of the clock, the sensors and their relays: a word, the report, or a unit's report
+abbrev pub kind_behind_sensors : Layout → ℕ → Slot
+kind_behind_sensors layout i =
+    let first = 1 + 2 * layout.sensors in
+    if nat_lt i (first + layout.words) then Out (i - first)
+    else if nat_eq i (first + layout.words) then Report
+    else RelayReport (i - (first + layout.words + 1))
+
+-- the slot of a number
+abbrev pub slot_kind : Layout → ℕ → Slot
+slot_kind layout i =
+    if nat_eq i 0 then Clock
+    else if nat_lt i (1 + layout.sensors) then Sense (i - 1)
+    else if nat_lt i (1 + 2 * layout.sensors) then RelaySense (i - (1 + layout.sensors))
+    else kind_behind_sensors layout i
+
 -- ---- laws
 
 -- the number of each slot of a layout is below the count of its slots
@@ -55,3 +71,9 @@ SlotNumbersAreBelow = (layout : Layout) (slot : Slot) → IsSlot layout slot →
 -- two slots of a layout with one number are one slot
 abbrev pub SlotNumbersDiffer : Type 0
 SlotNumbersDiffer = (layout : Layout) (one other : Slot) → IsSlot layout one → IsSlot layout other → slot_number layout one ≡ slot_number layout other → one ≡ other
+
+-- the slot of a slot's number is the slot, and each number below the count is that of its slot
+abbrev pub NumbersHaveTheirSlots : Type 0
+NumbersHaveTheirSlots = (layout : Layout) →
+    ((slot : Slot) → IsSlot layout slot → slot_kind layout (slot_number layout slot) ≡ slot)
+    × ((i : ℕ) → i < slot_count layout → IsSlot layout (slot_kind layout i) × (slot_number layout (slot_kind layout i) ≡ i))

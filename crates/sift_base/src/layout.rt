@@ -1,7 +1,7 @@
 //! The layout of a mission's slots: which there are, and their numbers.
 
 ghost use Rattle.std.specs.Prelude.{◌≡◌, ◌<◌};
-ghost use Rattle.sift_base.specs.Layout.{IsLayout, IsSlot, slot_count, slot_number, SlotNumbersAreBelow, SlotNumbersDiffer};
+ghost use Rattle.sift_base.specs.Layout.{IsLayout, IsSlot, slot_count, slot_number, NumbersHaveTheirSlots, SlotNumbersAreBelow, SlotNumbersDiffer};
 
 use crate::slot::Slot;
 
@@ -53,4 +53,9 @@ pub fn slot_numbers_are_below()
 /// Different slots of a layout have different numbers.
 pub fn slot_numbers_differ()
     ensures { SlotNumbersDiffer }
+{}
+
+/// Each number below the count has its slot.
+pub fn numbers_have_their_slots()
+    ensures { NumbersHaveTheirSlots }
 {}

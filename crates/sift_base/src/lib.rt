@@ -16,7 +16,7 @@ mod unit_set;
 mod word;
 
 pub use draw::Draw;
-pub use layout::{Layout, slot_numbers_are_below, slot_numbers_differ};
+pub use layout::{Layout, numbers_have_their_slots, slot_numbers_are_below, slot_numbers_differ};
 pub use memory::NoMemory;
 pub use name::{NAME_LIMIT, Name, is_name, is_name_byte};
 pub use order::is_ascending;
