@@ -3,4 +3,6 @@
 
 mod laws;
 
-pub use laws::a_unit_says_nothing_to_itself;
+pub use laws::{
+    a_unit_says_nothing_to_itself, fitting_parts_make_a_flight, fitting_parts_make_a_mission,
+};

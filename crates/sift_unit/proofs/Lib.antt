@@ -1,0 +1,9 @@
+pub mod FitSlots
+pub mod FitTables
+pub mod FitTasks
+pub mod Fitting
+pub mod Flying
+pub mod Meanings
+pub mod Numbers
+pub mod Positions
+pub mod Tasks
