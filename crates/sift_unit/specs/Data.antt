@@ -3,11 +3,12 @@ use Rattle.std.specs.Prelude.{ℕ, List, ℤ, map}
 use Rattle.sift_base.specs.Shapes.{AllShapes}
 use Rattle.sift_base.specs.declared.layout.Layout.{Layout}
 use Rattle.sift_code.specs.Refusal.{Program}
-use Rattle.sift_program.specs.Program.{ProgramTree}
+use Rattle.sift_program.specs.Program.{ProgramTree, program_of}
 use Rattle.sift_script.specs.Script.{FaultScript}
 use Rattle.sift_skew.specs.declared.plan.ClockPlan.{ClockPlan}
 use Rattle.sift_table.specs.Schedule.{Schedule}
 use Rattle.sift_unit.specs.Needs.{program_shapes}
+use Rattle.sift_unit.specs.declared.parts.MissionParts.{MissionParts}
 
 -- the clocks of a mission, in ticks: the skew, the reading error, the drift in a frame and the length of a subframe that it states, and by
 -- unit the offset at the start, the drift in a frame, and the error of its reading of each unit
@@ -50,3 +51,19 @@ pub record MissionData : Type 0 where
 -- the shapes of the mission's tasks
 abbrev pub shapes_in : MissionData → AllShapes
 shapes_in d = program_shapes d.layout.sensors d.program
+
+-- the data that the parts of a mission stand for
+abbrev pub data_of : MissionParts → MissionData
+data_of parts = record {
+  units = parts.units;
+  frames = parts.frames;
+  period = parts.period;
+  layout = parts.layout;
+  names = map (λ name. name.bytes) parts.names.items;
+  program = program_of parts.program;
+  code = parts.code.items;
+  tables = parts.tables.items;
+  sensors = map (λ words. words.items) parts.sensors.items;
+  clock = clocks_of parts.clock;
+  script = parts.script;
+}

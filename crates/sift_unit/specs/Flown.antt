@@ -14,7 +14,8 @@ use Rattle.sift_table.specs.Schedule as schedule
 use Rattle.sift_table.specs.Schedule.{Schedule}
 use Rattle.sift_table.specs.Timing as timing
 use Rattle.sift_table.specs.Timing.{task_of}
-use Rattle.sift_unit.specs.Data.{MissionData, shapes_in}
+use Rattle.sift_unit.specs.Data.{MissionData, data_of, shapes_in}
+use Rattle.sift_unit.specs.declared.parts.MissionParts.{MissionParts}
 use Rattle.sift_unit.specs.Mission.{Mission}
 use Rattle.sift_unit.specs.Needs.{task_at}
 use Rattle.sift_unit.specs.PartsFit.{table_at}
@@ -116,3 +117,7 @@ flown d = record {
   drift = ticks_of d.clock.drift;
   errors = error_of d;
 }
+
+-- the mission that parts of the code stand for
+abbrev pub mission_of : MissionParts → Mission
+mission_of parts = flown (data_of parts)

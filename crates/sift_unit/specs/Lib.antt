@@ -1,5 +1,6 @@
 pub mod Account
 pub mod Acts
+pub mod ByWord
 pub mod Conduct
 pub mod Data
 pub mod Fits
