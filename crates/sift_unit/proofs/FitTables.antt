@@ -18,7 +18,7 @@ use Rattle.sift_unit.specs.Slots.{is_slot}
 use Rattle.sift_unit.proofs.FitSlots.{is-slot}
 use Rattle.sift_unit.proofs.Numbers.{range-has}
 use Rattle.sift_unit.proofs.Positions.{length-ascending, positions-filtered}
-use Rattle.sift_unit.proofs.Tasks.{among-below, words-shapes}
+use Rattle.sift_unit.proofs.Tasks.{among-below, length-shapes, words-shapes}
 
 module _ (d : MissionData) (fit : PartsFit d) where
   -- a configuration of the mission has no more units than the mission
@@ -26,13 +26,21 @@ module _ (d : MissionData) (fit : PartsFit d) where
   size-low us config =
       omega (arith, length-ascending us 0 d.units config.ascending (omega arith) (λ u there. (omega arith, omega (arith, (range-has 0 d.units u (config.inside u there)).1))))
 
+  -- there is a table for its size
+  pub table-low : (us : List ℕ) → IsConfigOf (flown d) us → length us - least_units < length d.tables
+  table-low us config =
+      let count = fit.tables.count in let enough = config.enough in let few = size-low us config in omega arith
+
   -- its table is one for its size
   pub table-is : (us : List ℕ) → IsConfigOf (flown d) us → IsTableFor d (length us) (table_for d us)
   table-is us config =
-      let count = fit.tables.count in let enough = config.enough in let few = size-low us config in
-      let low : length us - least_units < length d.tables = omega arith in
+      let enough = config.enough in
       let size : least_units + (length us - least_units) ≡ length us = omega arith in
-      subst (λ n. IsTableFor d n (table_for d us)) size (fit.tables.each (length us - least_units) low)
+      subst (λ n. IsTableFor d n (table_for d us)) size (fit.tables.each (length us - least_units) (table-low us config))
+
+  -- it has a row for each task
+  pub table-rows : (us : List ℕ) → IsConfigOf (flown d) us → length (table_for d us).run ≡ length d.program.tasks
+  table-rows us config = (table-is us config).good.whole.0.0 ∙ length-shapes d.program.tasks 0 d.program.tasks
 
   -- the shapes have the mission's words
   pub words-are : d.layout.words ≡ words_in (shapes_in d).tasks

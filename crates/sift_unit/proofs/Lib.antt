@@ -8,4 +8,5 @@ pub mod Held
 pub mod Meanings
 pub mod Numbers
 pub mod Positions
+pub mod Rows
 pub mod Tasks

@@ -1,5 +1,5 @@
 -- Positions of units in a configuration, and how many of them pass a test.
-use Rattle.std.proofs.Common.{◌≡◌, ℕ, ◌+◌, ◌<◌, ◌≤◌, List, [], ◌∷◌, length, Bool, true, false, ◌&&◌, cond, inl, inr, refl, sym, ap, ◌∙◌, arith, nat_eq, count_by, zero-add}
+use Rattle.std.proofs.Common.{◌≡◌, ℕ, zero, suc, ◌+◌, ◌<◌, ◌≤◌, List, [], ◌∷◌, length, Bool, true, false, ◌&&◌, cond, inl, inr, refl, sym, ap, ◌∙◌, arith, nat_eq, count_by, zero-add, Some, slice_get}
 use Rattle.std.specs.List.{filter, range_with_len}
 use Rattle.std.proofs.lemmas.Bool.{cases_Bool, eq-eqb, eqb-true, ne_eqb}
 use Rattle.std.proofs.lemmas.List.Sums.{length-filter, sum_by-cons}
@@ -78,3 +78,13 @@ length-ascending (v ∷ us) a b up room within =
       | inl same ↦ omega (arith, eqb-true w y same, below.0)
       | inr other ↦ above x y ws below.1 (rw other at there)
     ]
+
+-- the unit at a place of an ascending list is in it, and has that position
+pub position-found : (us : List ℕ) (i u : ℕ) → IsAscending us → slice_get us i ≡ Some u → (has us u ≡ true) × (position_in us u ≡ i)
+position-found [] i u up at = absurd cc
+position-found (v ∷ us) zero u up at =
+    let same : v ≡ u = cc in
+    rw (eq-eqb v u same) (refl, refl)
+position-found (v ∷ us) (suc i) u up at =
+    let rest = position-found us i u up.1 at in
+    rw (not-below v u us up.0 rest.0) (rest.0, ap suc rest.1)

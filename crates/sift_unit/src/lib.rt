@@ -1,9 +1,13 @@
 //! Missions, and the boards that fly them: what one unit says, hears and does in each frame.
 #![tactic(auto)]
 
+mod clocks;
+mod faults;
 mod laws;
 mod mission;
 mod parts;
+mod schedule;
+mod words;
 
 pub use laws::{
     a_unit_says_nothing_to_itself, fitting_parts_make_a_flight, fitting_parts_make_a_mission,
