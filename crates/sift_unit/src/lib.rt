@@ -5,6 +5,7 @@ mod clocks;
 mod faults;
 mod laws;
 mod mission;
+mod next;
 mod parts;
 mod schedule;
 mod words;

@@ -13,13 +13,6 @@ use sift_config::Config;
 use sift_table::GoodTable;
 
 impl Mission {
-    /// How many units fly, 4 to 8.
-    pub fn units(&self) -> u8
-        ensures { result ≡ self.now.units }
-    {
-        self.parts().units
-    }
-
     /// How many frames are flown, 1 to 1,000.
     pub fn frames(&self) -> u32
         ensures { result ≡ (mission_of self.now).frames }
@@ -48,8 +41,29 @@ impl Mission {
         self.parts().program.tasks.len()
     }
 
+    /// How many sensors there are.
+    pub fn sensors(&self) -> usize
+        ensures { result ≡ (mission_of self.now).sensors }
+    {
+        usize::from(self.parts().layout.sensors)
+    }
+
+    /// How many output words there are.
+    pub fn words(&self) -> usize
+        ensures { result ≡ (mission_of self.now).words }
+    {
+        usize::from(self.parts().layout.words)
+    }
+
+    /// All units, which are the first configuration.
+    pub fn everyone(&self) -> Config
+        ensures { result ≡ (mission_of self.now).units }
+    {
+        Config::all(self.parts().units)
+    }
+
     /// The slot of a number.
-    pub fn slot_at(&self, i: usize) -> Slot
+    pub fn kind(&self, i: usize) -> Slot
         requires { i < (mission_of self.now).slots }
         ensures { result ≡ (mission_of self.now).kind i }
     {
@@ -89,7 +103,7 @@ impl Mission {
         requires slot { i < (mission_of self.now).slots }
         ensures { result ≡ (mission_of self.now).due config.now ((mission_of self.now).kind i) }
     {
-        match self.slot_at(i) {
+        match self.kind(i) {
             Slot::Clock | Slot::Sense(_) => 0,
             Slot::RelaySense(_) => 2,
             Slot::Out(w) => self.run_in(config, self.task_of(w)),
@@ -104,7 +118,7 @@ impl Mission {
         requires slot { i < (mission_of self.now).slots }
         ensures { result ≡ (mission_of self.now).heard_in config.now ((mission_of self.now).kind i) }
     {
-        match self.slot_at(i) {
+        match self.kind(i) {
             Slot::Clock | Slot::Sense(_) => 2,
             Slot::RelaySense(_) => 4,
             Slot::Out(w) => u32::from(self.table(config).poll_of(self.task_of(w))),
@@ -131,7 +145,7 @@ impl Mission {
         requires slot { i < (mission_of self.now).slots }
         ensures { result ≡ is_senders (mission_of self.now) config.now ((mission_of self.now).kind i) from to }
     {
-        match self.slot_at(i) {
+        match self.kind(i) {
             Slot::Clock | Slot::Report => true,
             Slot::Sense(x) => from == config.reader_of(x),
             Slot::RelaySense(x) => from != config.reader_of(x),

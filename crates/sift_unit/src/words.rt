@@ -1,6 +1,7 @@
 //! The words of a mission: those of its sensors, and those that its tasks make.
 
-ghost use Rattle.std.specs.Prelude.{◌≡◌, ◌<◌};
+ghost use Rattle.std.specs.Prelude.{◌≡◌, ◌<◌, ◌≤◌, length};
+ghost use Rattle.sift_base.specs.Layout.{word_limit};
 ghost use Rattle.sift_compile.specs.Tasks.{IsCodeOf};
 ghost use Rattle.sift_unit.specs.Data.{data_of};
 ghost use Rattle.sift_unit.specs.Flown.{mission_of};
@@ -23,7 +24,8 @@ impl Mission {
 
     /// The words that stand for the tasks' words before frame 0.
     pub fn starts(&self) -> &[Word]
-        ensures { result.now ≡ (mission_of self.now).starts }
+        ensures words { result.now ≡ (mission_of self.now).starts }
+        ensures few { length result.now ≤ word_limit }
     {
         &self.parts().program.starts
     }
