@@ -6,7 +6,7 @@ use Rattle.sift_run.proofs.Statuses.{begun_with_memory, fault_rose, refused_word
 use Rattle.sift_run.specs.Answer.{IsAnswered, IsReported, report_status, statuses}
 use Rattle.sift_run.specs.Command.{IsCommandLine}
 use Rattle.sift_run.specs.Input.{Input, IsBegun}
-use Rattle.sift_run.specs.Output.{IsCut, IsWritten, Output, Refuses, Says, SaysRefusal, sink_fault_status}
+use Rattle.sift_run.specs.Output.{IsCut, IsWritten, Output, AnswersWith, Says, SaysRefusal, sink_fault_status}
 use Rattle.sift_run.specs.Refusal.{IsCause, line_of, no_memory_status, status_of}
 use Rattle.sift_run.specs.declared.refusal.Refusal.{Refusal}
 use Rattle.sift_run.specs.declared.refusal.Refusal.TheVariants.{NoMemory}
@@ -71,15 +71,15 @@ module _ (words : List (List ℕ)) (input : Input) (output : Output) where
 
   -- the refusal that is owed was said, or a fault came in between
   owed_said :
-      (came owed : Refusal) (status : ℕ) → Refuses output came status → (came ≡ owed) ⊎ IsFault came
-      → Refuses output owed status ⊎ Contains (8 ∷ sink_fault_status ∷ no_memory_status ∷ []) status
-  owed_said came owed status written (inl same) = inl (subst (λ (r : Refusal). Refuses output r status) same written)
+      (came owed : Refusal) (status : ℕ) → AnswersWith output came status → (came ≡ owed) ⊎ IsFault came
+      → AnswersWith output owed status ⊎ Contains (8 ∷ sink_fault_status ∷ no_memory_status ∷ []) status
+  owed_said came owed status written (inl same) = inl (subst (λ (r : Refusal). AnswersWith output r status) same written)
   owed_said came owed status written (inr (inl read)) = inr (0, lit< tt, sym (written.0 ∙ read))
   owed_said came owed status written (inr (inr wanting)) = inr (2, lit< tt, sym (written.0 ∙ wanting))
 
   -- a refusal was due, and its line was written
   refusal_written :
-      (came : Refusal) (status : ℕ) → IsCause words input came → Refuses output came status
+      (came : Refusal) (status : ℕ) → IsCause words input came → AnswersWith output came status
       → IsAnswered words input output status
   refusal_written came status here written = record {
     known = subst (λ (n : ℕ). Contains statuses n) (sym written.0) (status_of-known came);

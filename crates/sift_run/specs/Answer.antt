@@ -3,7 +3,7 @@ use Rattle.std.specs.Prelude.{ℕ, ◌≡◌, ◌≤◌, ◌⊎◌, List, [], �
 use Rattle.sift_io.specs.Fault.{Rose}
 use Rattle.sift_run.specs.Command.{Asks, IsCommandLine, Makes}
 use Rattle.sift_run.specs.Input.{Input, IsBegun, IsInput, IsTold, document_limit}
-use Rattle.sift_run.specs.Output.{IsCut, IsWritten, Output, Refuses, sink_fault_status}
+use Rattle.sift_run.specs.Output.{IsCut, IsWritten, Output, AnswersWith, sink_fault_status}
 use Rattle.sift_run.specs.Refusal.{IsCause, IsOwed, line_of, no_memory_status, status_of}
 use Rattle.sift_run.specs.declared.command.Command.{Command}
 use Rattle.sift_run.specs.declared.refusal.Refusal.{Refusal}
@@ -39,7 +39,7 @@ pub record IsAnswered (words : List (List ℕ)) (input : Input) (output : Output
   pub reported : status ≡ report_status → (text : List ℕ) × IsReported words input text × IsWritten output text
   -- at the status of a refusal, a refusal of this status had its cause, and its line was written
   pub refused : (one : Refusal) → status ≡ status_of one
-      → (refusal : Refusal) × IsCause words input refusal × Refuses output refusal status
+      → (refusal : Refusal) × IsCause words input refusal × AnswersWith output refusal status
   -- the sink failed within the text that was due
   pub cut : status ≡ sink_fault_status → (text : List ℕ) × IsDue words input text × IsCut output text
   -- memory was wanting, and the words were a command line
@@ -48,7 +48,7 @@ pub record IsAnswered (words : List (List ℕ)) (input : Input) (output : Output
   pub usage : ¬ IsCommandLine words → Contains (status_of Usage ∷ sink_fault_status ∷ []) status
   -- an input that is owed a refusal gets exactly it, or a fault or want of memory comes in between
   pub owed : (bytes : List ℕ) (refusal : Refusal) → IsTold input bytes → IsOwed words bytes refusal
-      → Refuses output refusal status ⊎ Contains (status_of ReadFault ∷ sink_fault_status ∷ no_memory_status ∷ []) status
+      → AnswersWith output refusal status ⊎ Contains (status_of ReadFault ∷ sink_fault_status ∷ no_memory_status ∷ []) status
   -- an input that states a mission gets exactly its report, where neither side fails and memory is there
   pub complete : (bytes text : List ℕ) (command : Command) → IsTold input bytes
       → Asks words command → length bytes ≤ document_limit → Makes command bytes text

@@ -7,12 +7,12 @@ use Rattle.sift_run.specs.declared.command.Command.{Command}
 use Rattle.sift_run.specs.declared.command.Command.TheVariants.{Run}
 
 -- the words of a command
-abbrev pub words_of : Command → List (List ℕ)
-words_of Run = codes "run" ∷ []
+abbrev pub spelling_of : Command → List (List ℕ)
+spelling_of Run = codes "run" ∷ []
 
 -- the words ask for this command
 abbrev pub Asks : List (List ℕ) → Command → Type 0
-Asks words command = words ≡ words_of command
+Asks words command = words ≡ spelling_of command
 
 -- the words are a command line
 abbrev pub IsCommandLine : List (List ℕ) → Type 0

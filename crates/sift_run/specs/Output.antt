@@ -34,8 +34,8 @@ Says output text status answered =
     ((answered ≡ status) × IsWritten output text) ⊎ ((answered ≡ sink_fault_status) × IsCut output text)
 
 -- the status is the refusal's, and its line was written
-abbrev pub Refuses : Output → Refusal → (status : ℕ) → Type 0
-Refuses output refusal status = (status ≡ status_of refusal) × IsWritten output (line_of refusal)
+abbrev pub AnswersWith : Output → Refusal → (status : ℕ) → Type 0
+AnswersWith output refusal status = (status ≡ status_of refusal) × IsWritten output (line_of refusal)
 
 -- the refusal was said, or memory was wanting for it, and nothing was written
 abbrev pub SaysRefusal : Output → Refusal → (answered : ℕ) → Type 0

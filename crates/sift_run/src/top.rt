@@ -21,7 +21,7 @@ const SINK_FAULT: u8 = 9;
 /// Does what the command words ask for, without the program's name: reads the source, writes a text or the line of a
 /// refusal to the sink, and answers the exit status. The whole text is made before any of it is written.
 ///
-/// The tests come in the order of the statuses 2, 8 or 11, 3, 4, 5 and 9. Words that are no command line take no memory.
+/// The tests come in the order of the statuses 2, 8 or 11, 3, 4, 5 and 9. Words that are no command line never get 10.
 /// Clauses on bytes hold where the source and the sink tell their bytes.
 pub fn sift<S: Source, K: Sink>(alloc: Global, words: &[String], source: &mut S, sink: &mut K) -> u8
     ensures answered { IsAnswered (map string_bytes words.now)

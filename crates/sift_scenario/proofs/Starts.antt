@@ -9,30 +9,30 @@ use Rattle.std.specs.Prelude.{unwrap_or}
 use Rattle.toml.specs.Data.{Members}
 use Rattle.sift_scenario.proofs.Places.{map_map}
 use Rattle.sift_scenario.specs.Mission.{all_starts}
-use Rattle.sift_scenario.specs.Task.{counts_of, name_of, starts_of, outputs_of}
+use Rattle.sift_scenario.specs.Task.{counts_of, name_of, start_words, task_outputs}
 
 -- what reads the tables of a document reads their values
 pub read_values : {A B : Type 0} (shown : A → Members) (read : Members → B) (tasks : List A) → map (λ task. read (shown task)) tasks ≡ map read (map shown tasks)
 read_values shown read tasks = map_map read shown tasks
 
-module _ {B : Type 0} (words : B → List ℕ) (tasks : List Members) (starts : List B) (read : map (λ ws. Some (words ws)) starts ≡ map starts_of tasks) where
+module _ {B : Type 0} (words : B → List ℕ) (tasks : List Members) (starts : List B) (read : map (λ ws. Some (words ws)) starts ≡ map start_words tasks) where
   -- there are as many
   pub as_many : length starts ≡ length tasks
-  as_many = sym (length-map starts (λ ws. Some (words ws))) ∙ ap length read ∙ length-map tasks starts_of
+  as_many = sym (length-map starts (λ ws. Some (words ws))) ∙ ap length read ∙ length-map tasks start_words
 
   -- each task has as many words as start words
   pub counts_from : map (λ ws. length (words ws)) starts ≡ counts_of tasks
   counts_from =
       map_map (λ o. length (unwrap_or o [])) (λ ws. Some (words ws)) starts
       ∙ ap (map (λ o. length (unwrap_or o []))) read
-      ∙ sym (map_map (λ o. length (unwrap_or o [])) starts_of tasks)
+      ∙ sym (map_map (λ o. length (unwrap_or o [])) start_words tasks)
 
   -- all of them together are the start words of the tasks
   pub all_starts_from : flat_map words starts ≡ all_starts tasks
   all_starts_from =
       sym (flat_map-map (λ o. unwrap_or o []) (λ ws. Some (words ws)) starts)
       ∙ ap (flat_map (λ o. unwrap_or o [])) read
-      ∙ flat_map-map (λ o. unwrap_or o []) starts_of tasks
+      ∙ flat_map-map (λ o. unwrap_or o []) start_words tasks
 
 -- the names that were read of tasks are theirs
 pub names_from :
@@ -46,4 +46,4 @@ names_from bytes tasks names named =
 
 -- there are as many start words as output words
 pub starts_long : (tasks : List Members) → length (all_starts tasks) ≡ sum (counts_of tasks)
-starts_long tasks = length-flat_map (λ task. unwrap_or (starts_of task) []) tasks ∙ sym (sum-map outputs_of tasks)
+starts_long tasks = length-flat_map (λ task. unwrap_or (start_words task) []) tasks ∙ sym (sum-map task_outputs tasks)

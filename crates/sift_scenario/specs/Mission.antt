@@ -11,7 +11,7 @@ use Rattle.sift_program.specs.Program.{ProgramTree, program_of}
 use Rattle.sift_scenario.specs.declared.mission.Mission.{Mission}
 use Rattle.sift_scenario.specs.Entries.{AreMatched}
 use Rattle.sift_scenario.specs.Rules.{IsLawful, frames_of, units_of}
-use Rattle.sift_scenario.specs.Task.{AreForms, Form, linear, text, counts_of, name_of, starts_of, tasks_of}
+use Rattle.sift_scenario.specs.Task.{AreForms, Form, linear, text, counts_of, name_of, start_words, tasks_of}
 
 -- a mission as definitions see it: how many units fly how many frames, and the program that they run
 pub record Stated : Type 0 where
@@ -69,7 +69,7 @@ AreAllowed trees = (t : ℕ) (tree : TaskTree) → slice_get trees t ≡ Some tr
 
 -- the start words of the tasks, in their order
 abbrev pub all_starts : List Members → List ℕ
-all_starts tasks = flat_map (λ task. unwrap_or (starts_of task) []) tasks
+all_starts tasks = flat_map (λ task. unwrap_or (start_words task) []) tasks
 
 -- the program of the tasks in these tables
 pub record IsProgramOf (tasks : List Members) (program : ProgramTree) : Type 0 where

@@ -8,14 +8,14 @@ use Rattle.sift_scenario.specs.declared.mission.Running.{Running}
 use Rattle.sift_scenario.specs.Flight.{AreCodesOf}
 use Rattle.sift_scenario.specs.Mission.{IsProgramOf}
 use Rattle.sift_scenario.specs.Rules.{IsTaskNumber}
-use Rattle.sift_scenario.specs.Task.{AreForms, name_of, starts_of}
+use Rattle.sift_scenario.specs.Task.{AreForms, name_of, start_words}
 use Rattle.sift_scenario.specs.Testing.{KeepsTaskRules, form_of}
 
 -- these are the names, the start words and the forms of the tasks in these tables, which keep the rules
 pub record IsReadOf (tasks : List Members) (entries : Entries) : Type 0 where
   pub few : IsTaskNumber (length tasks)
   pub names : map (λ name. Some name.bytes) entries.names.items ≡ map name_of tasks
-  pub starts : map (λ words. Some words.items) entries.starts.items ≡ map starts_of tasks
+  pub starts : map (λ words. Some words.items) entries.starts.items ≡ map start_words tasks
   pub forms : AreForms tasks (map form_of entries.forms.items)
   pub kept : KeepsTaskRules tasks
 

@@ -3,7 +3,7 @@ use Rattle.std.specs.Prelude.{codes, ℕ, ◌≡◌, ◌+◌, ◌<◌, ◌≤◌
 use Rattle.toml.specs.Data.{Members}
 use Rattle.sift_scenario.specs.Document.{HasOnlyKeys, IsTableOf, integer_between, read_at}
 use Rattle.sift_scenario.specs.Entries.{HoldsOf}
-use Rattle.sift_scenario.specs.Task.{Form, HasForm, IsNewName, name_of, starts_of, task_entries, task_keys, tasks_of, counts_of}
+use Rattle.sift_scenario.specs.Task.{Form, HasForm, IsNewName, name_of, start_words, task_entries, task_keys, tasks_of, counts_of}
 
 -- ---- the numbers of the rules
 
@@ -70,7 +70,7 @@ BreaksNames tasks place =
 
 -- a task's start words aren't there, or are no array of 1 to 8 word values
 abbrev pub BreaksStarts : List Members → ℕ → Type 0
-BreaksStarts tasks place = HoldsOf tasks place (λ task. starts_of task ≡ None)
+BreaksStarts tasks place = HoldsOf tasks place (λ task. start_words task ≡ None)
 
 -- with this task there are more than 64 output words, where each task has so many
 abbrev pub BreaksWords : List ℕ → ℕ → Type 0

@@ -5,7 +5,7 @@ ghost use Rattle.toml.specs.View.{table_view, view};
 ghost use Rattle.sift_scenario.specs.Document.{word_array};
 ghost use Rattle.sift_scenario.specs.Rules.{BreaksForms, BreaksNames, BreaksStarts, BreaksTasks, BreaksWords, IsTaskNumber, task_limit};
 ghost use Rattle.sift_scenario.specs.Testing.{Tests, IsLinearForm, form_of};
-ghost use Rattle.sift_scenario.specs.Task.{AreForms, Form as Stated, HasForm, IsNewName, counts_of, name_of, starts_of, tasks_of, outputs_of};
+ghost use Rattle.sift_scenario.specs.Task.{AreForms, Form as Stated, HasForm, IsNewName, counts_of, name_of, start_words, tasks_of, task_outputs};
 
 use crate::refused::{Refused, broken};
 use crate::value::{entries_at, member_of, table_of, word_array};
@@ -97,12 +97,12 @@ fn is_among(text: &str, names: &[Name]) -> bool
 pub(crate) fn task_starts(alloc: Global, tasks: &[&Table]) -> Result<Vec<Starts>, Refused>
     requires { length tasks.now ≤ task_limit }
     ensures starts { IfOk result (λ starts.
-        map (λ words. Some words.items) starts.items ≡ map (λ task. starts_of (table_view task.now)) tasks.now) }
+        map (λ words. Some words.items) starts.items ≡ map (λ task. start_words (table_view task.now)) tasks.now) }
     ensures tests { Tests 20 (BreaksStarts (map (λ task. table_view task.now) tasks.now)) result }
 {
     let mut starts = Vec::new(alloc);
     for (place, task) in tasks.iter().enumerate() {
-        match starts_of(task) {
+        match start_words(task) {
             Some(words) => starts.push(words)?,
             None => return Err(broken(20, place)),
         }
@@ -111,8 +111,8 @@ pub(crate) fn task_starts(alloc: Global, tasks: &[&Table]) -> Result<Vec<Starts>
 }
 
 /// The start words of a task.
-fn starts_of(task: &Table) -> Option<Starts>
-    ensures { option_map (λ words. words.items) result ≡ starts_of (table_view task.now) }
+fn start_words(task: &Table) -> Option<Starts>
+    ensures { option_map (λ words. words.items) result ≡ start_words (table_view task.now) }
 {
     word_array(member_of(task, "start")?, 1, 8)
 }
@@ -157,7 +157,7 @@ pub(crate) fn task_forms<'a>(
 
 /// What a task of so many output words runs: a text alone, or a linear rule alone.
 fn form_of(task: &Table, words: usize) -> Option<Form<'_>>
-    requires { words ≡ outputs_of (table_view task.now) }
+    requires { words ≡ task_outputs (table_view task.now) }
     ensures found { IfSome result (λ form. HasForm (table_view task.now) (form_of form)) }
     ensures none { IfNone result ((form : Stated) → ¬ HasForm (table_view task.now) form) }
 {
