@@ -1,7 +1,13 @@
 pub mod Account
 pub mod Acts
+pub mod ByWord
 pub mod Conduct
+pub mod Data
 pub mod Fits
+pub mod Flown
 pub mod Frames
 pub mod Mission
+pub mod Needs
+pub mod PartsFit
+pub mod Premises
 pub mod Slots

@@ -1,0 +1,32 @@
+-- What fits makes a mission that boards and flights can stand on.
+use Rattle.std.proofs.Common.{arith}
+use Rattle.std.proofs.lemmas.List.FromFn.{length-range_with_len}
+use Rattle.sift_table.specs.Laws.{SlotsAreHeardInTime, TasksRunAfterTheirNeeds, TasksHaveThreeExecutors}
+use Rattle.sift_unit.specs.Acts.{IsConfigOf}
+use Rattle.sift_unit.specs.Data.{MissionData}
+use Rattle.sift_unit.specs.Flown.{flown}
+use Rattle.sift_unit.specs.PartsFit.{PartsFit}
+use Rattle.sift_unit.specs.Premises.{PartsMakeItFit}
+use Rattle.sift_unit.proofs.FitSlots.{numbered}
+use Rattle.sift_unit.proofs.FitTables.{executors, timed}
+use Rattle.sift_unit.proofs.FitTasks.{counted, read}
+use Rattle.sift_unit.proofs.Numbers.{range-ascends}
+
+-- all units are a configuration
+all_units : (d : MissionData) → PartsFit d → IsConfigOf (flown d) (flown d).units
+all_units d fit = record {
+  enough = (let enough = fit.limits.enough_units in omega (arith, length-range_with_len 0 d.units));
+  ascending = range-ascends 0 d.units;
+  inside = λ u there. there;
+}
+
+-- the laws of tables make it fit
+pub fits : SlotsAreHeardInTime → TasksRunAfterTheirNeeds → TasksHaveThreeExecutors → PartsMakeItFit
+fits in_time after three d fit = record {
+  numbered = numbered d fit;
+  timed = timed d fit in_time;
+  read = read d fit after;
+  counted = counted d fit;
+  executors = executors d fit three;
+  config = all_units d fit;
+}

@@ -1,0 +1,61 @@
+-- What fits makes a mission that flights can stand on: its script and its clocks beside its tables.
+use Rattle.std.proofs.Common.{◌≡◌, ℕ, ◌<◌, [], length, get_or, true, Option, None, Some, option_map, inl, inr, refl, ap, ◌∙◌, arith, pos}
+use Rattle.std.proofs.lemmas.Bool.{cases_lt, le-leb, le-ltb, lt-leb, lt-ltb}
+use Rattle.sift_base.specs.Units.{has}
+use Rattle.sift_config.specs.Config.{first_units}
+use Rattle.sift_script.specs.Faults as faults
+use Rattle.sift_script.specs.Laws.{FaultsAreForGood, OneUnitIsSteady, WorkingUnitsHaveNotTurned, WorkingUnitsSayTheirWords}
+use Rattle.sift_table.specs.Laws.{WordsHaveTheirTask}
+use Rattle.sift_unit.specs.Data.{MissionData}
+use Rattle.sift_unit.specs.Flown.{flown}
+use Rattle.sift_unit.specs.PartsFit.{PartsFit}
+use Rattle.sift_unit.specs.Premises.{AreClocksSound, IsScriptSound, PartsMakeItFit, PartsMakeItFlyable}
+use Rattle.sift_unit.specs.Slots.{turned_by}
+use Rattle.sift_unit.proofs.FitTasks.{program-is}
+use Rattle.sift_unit.proofs.Numbers.{has-range, range-has}
+
+-- a storm has come where its first frame has
+turned-is : (storm : Option (ℕ × ℕ × ℕ)) (f : ℕ) → turned_by (option_map (λ s. s.0) storm) f ≡ faults.has_come storm f
+turned-is None f = refl
+turned-is (Some storm) f = elim (cases_lt f storm.0) [
+  | inl before ↦ rw (lt-ltb f storm.0 before, lt-leb storm.0 f before) refl
+  | inr from ↦ rw (le-ltb f storm.0 from, le-leb storm.0 f from) refl
+]
+
+module _ (d : MissionData) (fit : PartsFit d) where
+  -- the units are those below their count
+  unit-below : (u : ℕ) → has (first_units d.units) u ≡ true → u < d.units
+  unit-below u there = omega (arith, (range-has 0 d.units u there).1)
+
+  scripted : OneUnitIsSteady → FaultsAreForGood → WorkingUnitsSayTheirWords → WorkingUnitsHaveNotTurned → IsScriptSound (flown d)
+  scripted steady for_good own whole = record {
+    steady = (
+        let enough = fit.limits.enough_units in
+        let units : d.script.layout.units ≡ d.units = ap (λ layout. layout.units) fit.script.layout ∙ fit.layout.units in
+        let one = steady d.script fit.script.good (omega arith) in
+        (one.0, has-range 0 d.units one.0 (omega arith) (omega (arith, one.1)), one.2));
+    for_good = for_good d.script.faults;
+    own_words = own d.script;
+    whole = λ u f works. turned-is (faults.storm_of d.script.faults u) f ∙ whole d.script.faults u f works;
+  }
+
+  clocked : AreClocksSound (flown d)
+  clocked = record {
+    admitted = fit.clock.admitted;
+    together = λ u v u_there v_there. fit.clock.together u (pos 0) (started u u_there) v (pos 0) (started v v_there);
+    drifts = λ u there. (let low = unit-below u there in let many = fit.clock.drifts in fit.clock.drifts_within u (pos 0) (omega arith));
+    errors = λ u v u_there v_there. (
+        let low = unit-below u u_there in let rows = fit.clock.rows in
+        let below : u < length d.clock.errors = omega arith in
+        let columns : length (get_or d.clock.errors u []) ≡ d.units = fit.clock.columns u [] below in
+        let inside = unit-below v v_there in
+        fit.clock.errors_within u [] below v (pos 0) (omega arith));
+  }
+    where
+      started : (u : ℕ) → has (first_units d.units) u ≡ true → u < length d.clock.start
+      started u there = let low = unit-below u there in let many = fit.clock.starts in omega arith
+
+-- the laws of scripts and words make it flyable
+pub flyable : PartsMakeItFit → OneUnitIsSteady → FaultsAreForGood → WorkingUnitsSayTheirWords → WorkingUnitsHaveNotTurned → WordsHaveTheirTask → PartsMakeItFlyable
+flyable fits steady for_good own whole theirs d fit =
+    (record { fits = fits d fit; script = scripted d fit steady for_good own whole; clocks = clocked d fit }, program-is d fit theirs)

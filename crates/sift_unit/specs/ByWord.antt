@@ -1,0 +1,16 @@
+-- The task of each word, as a list.
+use Rattle.std.specs.Prelude.{◌≡◌, ℕ, suc, List, [], ◌∷◌, ◌++◌, replicate}
+use Rattle.sift_lang.specs.Tree.{TaskTree}
+use Rattle.sift_unit.specs.Data.{data_of}
+use Rattle.sift_unit.specs.PartsFit.{PartsFit}
+use Rattle.sift_unit.specs.declared.parts.MissionParts.{MissionParts}
+
+-- the task of each word of these tasks, the first of which has this number
+abbrev pub by_word : ℕ → List TaskTree → List ℕ
+by_word t [] = []
+by_word t (task ∷ rest) = replicate task.outputs t ++ by_word (suc t) rest
+
+-- what a mission holds: parts that fit, and the task of each word
+pub record IsHeld (parts : MissionParts) (tasks : List ℕ) : Type 0 where
+  pub fit : PartsFit (data_of parts)
+  pub tasks_are : tasks ≡ by_word 0 (data_of parts).program.tasks

@@ -1,0 +1,87 @@
+//! A mission, whose parts fit.
+
+ghost use Rattle.std.specs.Prelude.{◌≡◌, ℕ, ◌+◌, ◌<◌, ◌≤◌, ◌++◌, length, map, replicate};
+ghost use Rattle.sift_lang.specs.Tree.{tree_of};
+ghost use Rattle.sift_program.specs.Sound.{output_count};
+ghost use Rattle.sift_unit.specs.ByWord.{by_word};
+ghost use Rattle.sift_unit.specs.Data.{data_of};
+ghost use Rattle.sift_unit.specs.Flown.{mission_of};
+ghost use Rattle.sift_unit.specs.PartsFit.{PartsFit};
+
+use crate::parts::MissionParts;
+use arrayvec::ArrayVec;
+use sift_lang::Task;
+use std::marker::Model;
+
+/// A mission. A clause sees it as its parts, and they fit.
+#[derive(Drop)]
+pub struct Mission {
+    parts: MissionParts,
+    /// The task of each word.
+    tasks: ArrayVec<u8, 64>,
+}
+
+impl Model for Mission {
+    ghost use Rattle.sift_unit.specs.contracts.parts.MissionParts.{the_row};
+    ghost use Rattle.sift_unit.specs.declared.parts.MissionParts.{MissionParts};
+    ghost use Rattle.sift_unit.specs.ByWord.{IsHeld};
+
+    ghost Value = { MissionParts };
+
+    ghost coded = { the_row.coded };
+
+    ghost view = { λ mission. mission.parts };
+
+    ghost invariant = { λ mission. IsHeld mission.parts mission.tasks.items };
+}
+
+impl Mission {
+    /// The mission of parts that fit. It takes no memory.
+    pub fn of(parts: MissionParts) -> Mission
+        requires { PartsFit (data_of parts) }
+        ensures { result ≡ parts }
+    {
+        let tasks = tasks_by_word(&parts.program.tasks);
+        Mission { parts, tasks }
+    }
+
+    /// The parts, for reading. They fit.
+    pub fn parts(&self) -> &MissionParts
+        ensures same { result.now ≡ self.now }
+        ensures fit { PartsFit (data_of self.now) }
+    {
+        &self.parts
+    }
+
+    /// The task that puts out a word.
+    pub fn task_of(&self, w: u8) -> usize
+        requires { w < (mission_of self.now).words }
+        ensures task { result ≡ (mission_of self.now).task w }
+        ensures there { result < (mission_of self.now).tasks }
+    {
+        usize::from(self.tasks[usize::from(w)])
+    }
+}
+
+/// The task of each word of these tasks, in the order of the words.
+fn tasks_by_word(tasks: &[Task]) -> ArrayVec<u8, 64>
+    requires few { length tasks.now ≤ 64 }
+    requires room { output_count (map tree_of tasks.now) ≤ 64 }
+    ensures { result.items ≡ by_word 0 (map tree_of tasks.now) }
+{
+    let mut by_word = ArrayVec::new();
+    for (t, task) in tasks.iter().enumerate() {
+        push_copies(&mut by_word, t as u8, task.outputs);
+    }
+    by_word
+}
+
+/// Adds so many copies of a number.
+fn push_copies(list: &mut ArrayVec<u8, 64>, number: u8, count: u8)
+    requires { length list.old.items + count ≤ 64 }
+    ensures { list.new.items ≡ list.old.items ++ replicate count number }
+{
+    for _ in 0..count {
+        list.push(number);
+    }
+}

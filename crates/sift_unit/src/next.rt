@@ -1,0 +1,61 @@
+//! What comes next in a subframe under a configuration. What isn't due is passed over.
+
+ghost use Rattle.std.specs.Prelude.{◌≡◌, ◌≢◌, ℕ, ◌<◌, ◌≤◌};
+ghost use Rattle.sift_unit.specs.Acts.{IsConfigOf};
+ghost use Rattle.sift_unit.specs.Flown.{mission_of};
+
+use crate::mission::Mission;
+use sift_config::Config;
+
+impl Mission {
+    /// The next slot, from one on, that is heard in a subframe, and the count of the slots where there is none.
+    pub fn next_heard(&self, config: &Config, subframe: u32, from: usize) -> usize
+        requires config { IsConfigOf (mission_of self.now) config.now }
+        requires from { from ≤ (mission_of self.now).slots }
+        ensures after { from ≤ result }
+        ensures within { result ≤ (mission_of self.now).slots }
+        ensures passed { (i : ℕ) → from ≤ i → i < result → (mission_of self.now).heard_in config.now ((mission_of self.now).kind i) ≢ subframe }
+    {
+        let slots = self.slots();
+        for i in from..slots {
+            if self.heard_in(config, i) == subframe {
+                return i;
+            }
+        }
+        slots
+    }
+
+    /// The next slot, from one on, that is said in a subframe, and the count of the slots where there is none.
+    pub fn next_said(&self, config: &Config, subframe: u32, from: usize) -> usize
+        requires config { IsConfigOf (mission_of self.now) config.now }
+        requires from { from ≤ (mission_of self.now).slots }
+        ensures after { from ≤ result }
+        ensures within { result ≤ (mission_of self.now).slots }
+        ensures passed { (i : ℕ) → from ≤ i → i < result → (mission_of self.now).due config.now ((mission_of self.now).kind i) ≢ subframe }
+    {
+        let slots = self.slots();
+        for i in from..slots {
+            if self.due(config, i) == subframe {
+                return i;
+            }
+        }
+        slots
+    }
+
+    /// The next task, from one on, that is run in a subframe, and the count of the tasks where there is none.
+    pub fn next_run(&self, config: &Config, subframe: u32, from: usize) -> usize
+        requires config { IsConfigOf (mission_of self.now) config.now }
+        requires from { from ≤ (mission_of self.now).tasks }
+        ensures after { from ≤ result }
+        ensures within { result ≤ (mission_of self.now).tasks }
+        ensures passed { (t : ℕ) → from ≤ t → t < result → (mission_of self.now).run_in config.now t ≢ subframe }
+    {
+        let tasks = self.tasks();
+        for t in from..tasks {
+            if self.run_in(config, t) == subframe {
+                return t;
+            }
+        }
+        tasks
+    }
+}

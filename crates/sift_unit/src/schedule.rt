@@ -1,0 +1,189 @@
+//! When each slot of a mission is said and heard under a configuration, and by whom.
+
+ghost use Rattle.std.specs.Prelude.{◌≡◌, ◌-◌, ◌<◌, ◌≤◌, length};
+ghost use Rattle.sift_base.specs.Layout.{IsLayout, slot_count};
+ghost use Rattle.sift_unit.specs.Acts.{IsConfigOf};
+ghost use Rattle.sift_unit.specs.Data.{data_of};
+ghost use Rattle.sift_unit.specs.Flown.{mission_of, slot_kind, table_for};
+ghost use Rattle.sift_unit.specs.Slots.{calls, is_senders};
+
+use crate::mission::Mission;
+use sift_base::{Layout, Slot, UnitId};
+use sift_config::Config;
+use sift_table::GoodTable;
+
+impl Mission {
+    /// How many frames are flown, 1 to 1,000.
+    pub fn frames(&self) -> u32
+        ensures { result ≡ (mission_of self.now).frames }
+    {
+        self.parts().frames
+    }
+
+    /// How many subframes a frame has, 12 to 64.
+    pub fn period(&self) -> u32
+        ensures { result ≡ (mission_of self.now).period }
+    {
+        u32::from(self.parts().period)
+    }
+
+    /// How many slots there are, at most 90.
+    pub fn slots(&self) -> usize
+        ensures { result ≡ (mission_of self.now).slots }
+    {
+        self.parts().layout.count()
+    }
+
+    /// How many tasks there are.
+    pub fn tasks(&self) -> usize
+        ensures { result ≡ (mission_of self.now).tasks }
+    {
+        self.parts().program.tasks.len()
+    }
+
+    /// How many sensors there are.
+    pub fn sensors(&self) -> usize
+        ensures { result ≡ (mission_of self.now).sensors }
+    {
+        usize::from(self.parts().layout.sensors)
+    }
+
+    /// How many output words there are.
+    pub fn words(&self) -> usize
+        ensures { result ≡ (mission_of self.now).words }
+    {
+        usize::from(self.parts().layout.words)
+    }
+
+    /// All units, which are the first configuration.
+    pub fn everyone(&self) -> Config
+        ensures { result ≡ (mission_of self.now).units }
+    {
+        Config::all(self.parts().units)
+    }
+
+    /// The slot of a number.
+    pub fn kind(&self, i: usize) -> Slot
+        requires { i < (mission_of self.now).slots }
+        ensures { result ≡ (mission_of self.now).kind i }
+    {
+        slot_of(&self.parts().layout, i)
+    }
+
+    /// The table of a configuration's size.
+    fn table(&self, config: &Config) -> &GoodTable
+        requires { IsConfigOf (mission_of self.now) config.now }
+        ensures same { result.now ≡ table_for (data_of self.now) config.now }
+        ensures rows { length result.now.run ≡ (mission_of self.now).tasks }
+    {
+        &self.parts().tables[config.len() - 4]
+    }
+
+    /// The subframe that stands so many before a frame's end.
+    fn before_end(&self, config: &Config, lead: u32) -> u32
+        requires config { IsConfigOf (mission_of self.now) config.now }
+        requires lead { lead ≤ 12 }
+        ensures { result ≡ (table_for (data_of self.now) config.now).period - lead }
+    {
+        u32::from(self.parts().period) - lead
+    }
+
+    /// The subframe in which a task is run.
+    pub fn run_in(&self, config: &Config, t: usize) -> u32
+        requires config { IsConfigOf (mission_of self.now) config.now }
+        requires task { t < (mission_of self.now).tasks }
+        ensures { result ≡ (mission_of self.now).run_in config.now t }
+    {
+        u32::from(self.table(config).run_of(t))
+    }
+
+    /// The subframe in which the slot of a number is said.
+    pub fn due(&self, config: &Config, i: usize) -> u32
+        requires config { IsConfigOf (mission_of self.now) config.now }
+        requires slot { i < (mission_of self.now).slots }
+        ensures { result ≡ (mission_of self.now).due config.now ((mission_of self.now).kind i) }
+    {
+        match self.kind(i) {
+            Slot::Clock | Slot::Sense(_) => 0,
+            Slot::RelaySense(_) => 2,
+            Slot::Out(w) => self.run_in(config, self.task_of(w)),
+            Slot::Report => self.before_end(config, 6),
+            Slot::RelayReport(_) => self.before_end(config, 4),
+        }
+    }
+
+    /// The subframe in which the slot of a number is heard.
+    pub fn heard_in(&self, config: &Config, i: usize) -> u32
+        requires config { IsConfigOf (mission_of self.now) config.now }
+        requires slot { i < (mission_of self.now).slots }
+        ensures { result ≡ (mission_of self.now).heard_in config.now ((mission_of self.now).kind i) }
+    {
+        match self.kind(i) {
+            Slot::Clock | Slot::Sense(_) => 2,
+            Slot::RelaySense(_) => 4,
+            Slot::Out(w) => u32::from(self.table(config).poll_of(self.task_of(w))),
+            Slot::Report => self.before_end(config, 4),
+            Slot::RelayReport(_) => self.before_end(config, 2),
+        }
+    }
+
+    /// Whether a unit runs the task of a word: it is at one of the task's positions of the configuration.
+    pub fn executes(&self, config: &Config, w: u8, u: UnitId) -> bool
+        requires config { IsConfigOf (mission_of self.now) config.now }
+        requires word { w < (mission_of self.now).words }
+        ensures { result ≡ (mission_of self.now).executes config.now w u }
+    {
+        match config.position_of(u) {
+            Some(position) => self.table(config).runs(self.task_of(w), position),
+            None => false,
+        }
+    }
+
+    /// Whether it is for one unit to say the slot of a number to another, where both are in the configuration.
+    fn is_sender(&self, config: &Config, i: usize, from: UnitId, to: UnitId) -> bool
+        requires config { IsConfigOf (mission_of self.now) config.now }
+        requires slot { i < (mission_of self.now).slots }
+        ensures { result ≡ is_senders (mission_of self.now) config.now ((mission_of self.now).kind i) from to }
+    {
+        match self.kind(i) {
+            Slot::Clock | Slot::Report => true,
+            Slot::Sense(x) => from == config.reader_of(x),
+            Slot::RelaySense(x) => from != config.reader_of(x),
+            Slot::Out(w) => self.executes(config, w, from),
+            Slot::RelayReport(s) => config.has(s) && from != s && to != s,
+        }
+    }
+
+    /// Whether a unit says the slot of a number to another, which then hears it.
+    pub fn is_called(&self, config: &Config, i: usize, from: UnitId, to: UnitId) -> bool
+        requires config { IsConfigOf (mission_of self.now) config.now }
+        requires slot { i < (mission_of self.now).slots }
+        ensures { result ≡ calls (mission_of self.now) config.now ((mission_of self.now).kind i) from to }
+    {
+        config.has(from) && config.has(to) && from != to && self.is_sender(config, i, from, to)
+    }
+}
+
+/// The slot of a number in a layout.
+fn slot_of(layout: &Layout, i: usize) -> Slot
+    requires layout { IsLayout layout.now }
+    requires there { i < slot_count layout.now }
+    ensures { result ≡ slot_kind layout.now i }
+{
+    let sensors = usize::from(layout.sensors);
+    let first = 1 + 2 * sensors;
+    let report = first + usize::from(layout.words);
+    if i == 0 {
+        Slot::Clock
+    } else if i < 1 + sensors {
+        Slot::Sense((i - 1) as u8)
+    } else if i < first {
+        Slot::RelaySense((i - (1 + sensors)) as u8)
+    } else if i < report {
+        Slot::Out((i - first) as u8)
+    } else if i == report {
+        Slot::Report
+    } else {
+        Slot::RelayReport(UnitId::of((i - (report + 1)) as u8).unwrap())
+    }
+}
