@@ -50,11 +50,12 @@ pub record IsRead (m : Mission) : Type 0 where
   pub earlier : (w v : ℕ) → w < m.words → v < m.words → m.needs w v ≡ true → v < w
   pub polled : (us : List ℕ) (w v : ℕ) → IsConfigOf m us → w < m.words → v < m.words → m.needs w v ≡ true → m.heard_in us (Out v) ≤ m.due us (Out w)
 
--- tasks and words are counted within the limits
+-- units, tasks, words and frames are counted within the limits
 pub record IsCounted (m : Mission) : Type 0 where
   pub units : (u : ℕ) → has m.units u ≡ true → u < unit_limit
   pub task : (w : ℕ) → w < m.words → m.task w < m.tasks
   pub tasks : m.tasks ≤ m.words
+  pub words : m.words ≤ m.slots
   pub period : 12 ≤ m.period
   pub short : m.period ≤ 64
   pub frames : m.frames ≤ 1000

@@ -1,7 +1,15 @@
 pub mod Account
 pub mod Acts
+pub mod BoardLaws
 pub mod Conduct
+pub mod Desk
 pub mod Fits
 pub mod Frames
+pub mod Going
+pub mod Keeping
+pub mod Memory
 pub mod Mission
+pub mod Remembered
 pub mod Slots
+pub mod Stops
+pub mod Tidings

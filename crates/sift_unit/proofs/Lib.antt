@@ -1,0 +1,3 @@
+pub mod Calls
+pub mod Sets
+pub mod Tests
