@@ -1,8 +1,11 @@
+pub mod Acting
 pub mod Calls
 pub mod Conducts
 pub mod HeardNew
 pub mod Kept
 pub mod Made
+pub mod Moving
 pub mod Past
 pub mod Sets
+pub mod Standing
 pub mod Tests
