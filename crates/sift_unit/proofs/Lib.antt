@@ -2,10 +2,12 @@ pub mod Acting
 pub mod Calls
 pub mod Conducts
 pub mod HeardNew
+pub mod Hearing
 pub mod Kept
 pub mod Made
 pub mod Moving
 pub mod Past
+pub mod Saying
 pub mod Sets
 pub mod Standing
 pub mod Tests
