@@ -3,11 +3,13 @@ pub mod Calls
 pub mod Conducts
 pub mod HeardNew
 pub mod Hearing
+pub mod Jumping
 pub mod Kept
 pub mod Made
 pub mod Moving
 pub mod Past
 pub mod Saying
 pub mod Sets
+pub mod Skipping
 pub mod Standing
 pub mod Tests
