@@ -1,12 +1,14 @@
 pub mod Acting
 pub mod Calls
 pub mod Conducts
+pub mod Ending
 pub mod HeardNew
 pub mod Hearing
 pub mod Jumping
 pub mod Kept
 pub mod Made
 pub mod Moving
+pub mod Noting
 pub mod Past
 pub mod Saying
 pub mod Sets
