@@ -2,6 +2,7 @@ pub mod Acting
 pub mod Calls
 pub mod Conducts
 pub mod Ending
+pub mod Exporting
 pub mod HeardNew
 pub mod Hearing
 pub mod Jumping
@@ -14,4 +15,6 @@ pub mod Saying
 pub mod Sets
 pub mod Skipping
 pub mod Standing
+pub mod Starting
 pub mod Tests
+pub mod Turning

@@ -1,8 +1,34 @@
-//! Laws about who speaks to whom.
+//! Laws about who speaks to whom, and about what boards do.
 
 ghost use Rattle.sift_unit.specs.Slots.{NothingIsSaidToItself};
+ghost use Rattle.sift_unit.specs.BoardLaws.{KeepLaw, StartLaw, TurnLaw, TurnFirstLaw, JumpLaw};
 
 /// No unit says anything to itself.
 pub fn a_unit_says_nothing_to_itself()
     ensures { NothingIsSaidToItself }
+{}
+
+/// A board, flying or turned, guarantees its acts and its accounts of all frames that it has ended.
+pub fn boards_keep_to_their_conduct()
+    ensures { KeepLaw }
+{}
+
+/// A new board does so on a port on which nothing was done.
+pub fn new_boards_keep_to_it()
+    ensures { StartLaw }
+{}
+
+/// A board that turns at a frame's end does so.
+pub fn boards_that_turn_keep_to_it()
+    ensures { TurnLaw }
+{}
+
+/// A board that turns before anything else does so.
+pub fn boards_that_turn_at_once_keep_to_it()
+    ensures { TurnFirstLaw }
+{}
+
+/// A board may jump to where there is no stop before.
+pub fn boards_may_jump()
+    ensures { JumpLaw }
 {}

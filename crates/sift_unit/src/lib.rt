@@ -3,4 +3,7 @@
 
 mod laws;
 
-pub use laws::a_unit_says_nothing_to_itself;
+pub use laws::{
+    a_unit_says_nothing_to_itself, boards_keep_to_their_conduct, boards_may_jump,
+    boards_that_turn_at_once_keep_to_it, boards_that_turn_keep_to_it, new_boards_keep_to_it,
+};
