@@ -1,5 +1,5 @@
 -- The account of a frame meets the equations of conduct, once all was heard.
-use Rattle.std.proofs.Common.{◌≡◌, inl, inr, ℕ, List, Bool, true, false, not, nat_eq, refl, sym, ap, ◌∙◌, lt-ltb}
+use Rattle.std.proofs.Common.{◌≡◌, inl, inr, ℕ, List, true, not, nat_eq, refl, sym, ap, ◌∙◌, lt-ltb}
 use Rattle.std.specs.Prelude.{ℤ, length, slice_index, ◌+ℤ◌}
 use Rattle.std.proofs.lemmas.Bool.{cases_Bool}
 use Rattle.sift_base.specs.Units.{has, has_bit, holds}
@@ -36,7 +36,7 @@ module _ (m : Mission) (us : List ℕ) (u f : ℕ) (clk : ℤ) (a : Account) (h 
           ∙ and_in (has us v) _ _ (λ t. any-same m.words _ _ (λ w low. (heard (Out w) (lt-ltb w m.words low)).1 v ∙ rw t refl));
       relays = λ v. ap (λ (z : Account). holds z.bad.relay v) e ∙ holds-gathered _ us v
           ∙ and_in (has us v) _ _ (λ t. any-same m.sensors _ _ (λ x low. (heard (RelaySense x) (lt-ltb x m.sensors low)).1 v ∙ rw t refl)
-            ∙ any-and m.sensors (not (nat_eq v u)) _);
+          ∙ any-and m.sensors (not (nat_eq v u)) _);
       clocks = λ v. ap (λ (z : Account). holds z.bad.clock v) e ∙ (heard Clock refl).0 v ∙ rw ck refl;
     };
     reports = record { next = ap (λ (z : Account). z.next_cfg) e ∙ next-same (names_now m us u b) (λ r v. has_bit (report_of us u a h r) v) us named };

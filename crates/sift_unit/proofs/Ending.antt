@@ -1,5 +1,5 @@
 -- A board ends a frame and begins the next.
-use Rattle.std.proofs.Common.{◌≡◌, inl, inr, ℕ, ◌+◌, ◌*◌, ◌<◌, ◌≤◌, ◌++◌, List, [], ◌∷◌, length, Bool, true, false, refl, sym, ap, ◌∙◌, subst, arith, length-append}
+use Rattle.std.proofs.Common.{◌≡◌, inl, inr, ℕ, ◌+◌, ◌<◌, ◌≤◌, ◌++◌, List, [], ◌∷◌, length, true, false, refl, sym, ap, ◌∙◌, subst, arith, length-append}
 use Rattle.std.specs.Prelude.{slice_index_or}
 use Rattle.std.proofs.lemmas.Bool.{cases_Bool}
 use Rattle.std.proofs.lemmas.List.{get_or_append_left}
@@ -113,11 +113,11 @@ module _ (m : Mission) (fit : Fits m) where
               let fate = ended_fate c (with_entered c) a h r refl fate' in
               let mt = g.meets a h fate in
               let acts = acts_next m fit b.unit a h b.frame b.cfg r.config fate.cfg c (cursor b)
-                    (λ k' q t. let sm = small_of m b.cfg k' b.unit q fit r.config t in let s1 = sm.number in let s2 = sm.to in
-                      let w = fit.timed.within b.cfg k' r.config sm.slot in let ap' = fit.timed.apart b.cfg k' r.config sm.slot in omega arith)
-                    (λ k' q t. let sm = small_of m b.cfg k' q b.unit fit r.config t in let s1 = sm.number in let s2 = sm.from in
-                      let w = fit.timed.within b.cfg k' r.config sm.slot in omega arith)
-                    mt.acts in
+              (λ k' q t. let sm = small_of m b.cfg k' b.unit q fit r.config t in let s1 = sm.number in let s2 = sm.to in
+              let w = fit.timed.within b.cfg k' r.config sm.slot in let ap' = fit.timed.apart b.cfg k' r.config sm.slot in omega arith)
+              (λ k' q t. let sm = small_of m b.cfg k' q b.unit fit r.config t in let s1 = sm.number in let s2 = sm.from in
+              let w = fit.timed.within b.cfg k' r.config sm.slot in omega arith)
+              mt.acts in
               record {
                 acts = record { said = acts.said; heard = acts.heard };
                 ended = λ f lf. dite (ℕ_discrete f b.frame) (λ e. rw e (ended_is c a h r at fate is mt)) (λ ne. mt.ended f (omega arith));

@@ -1,22 +1,21 @@
 -- From what holds of a board to what it guarantees.
-use Rattle.std.proofs.Common.{◌≡◌, ◌⊎◌, inl, inr, ℕ, ◌+◌, ◌*◌, ◌-◌, ◌<◌, ◌≤◌, ◌&&◌, Bool, true, false, Option, Some, None, nat_lt, refl, sym, ap, ◌∙◌, subst, arith, ltb-true, option_map}
+use Rattle.std.proofs.Common.{◌≡◌, ◌⊎◌, inl, inr, ℕ, ◌<◌, ◌≤◌, ◌&&◌, Bool, true, false, Option, Some, None, refl, sym, ap, ◌∙◌, subst, arith, option_map}
 use Rattle.std.specs.Prelude.{if◌then◌else◌}
 use Rattle.std.proofs.lemmas.Bool.{cases_Bool, cases_lt}
 use Rattle.sift_base.specs.declared.slot.Slot.{Slot}
-use Rattle.sift_buffer.specs.Conduct.{Saying, Hearing, saying, never}
+use Rattle.sift_buffer.specs.Conduct.{Saying, Hearing, saying}
 use Rattle.sift_buffer.specs.Conduct.{Conduct as Acts}
 use Rattle.sift_unit.specs.Mission.{Mission}
-use Rattle.sift_unit.specs.Slots.{is_slot, calls, stamp_of, heard_at, turned_by}
+use Rattle.sift_unit.specs.Slots.{is_slot, calls, stamp_of, heard_at}
 use Rattle.sift_unit.specs.Frames.{FrameConduct, Flies}
-use Rattle.sift_unit.specs.Acts.{IsConfigOf, word_in_saying, word_in_hearing, said_places, heard_places, StampsAreOfTheirFrames, Turns, TurnsAt, stamp_and_moment, ActsAre, BoardKeeps}
+use Rattle.sift_unit.specs.Acts.{word_in_saying, word_in_hearing, said_places, heard_places, StampsAreOfTheirFrames, Turns, stamp_and_moment, ActsAre, BoardKeeps}
 use Rattle.sift_unit.specs.Fits.{Fits}
 use Rattle.sift_unit.specs.Desk.{Desk, cursor, hear_spot, say_spot, is_past, accounts_of}
 use Rattle.sift_unit.specs.Going.{word_in_frame, Meets, Going}
-use Rattle.sift_unit.specs.Keeping.{Turned, Flying, Keeps, HasFlown, as_flying}
 use Rattle.sift_unit.proofs.Tests.{some_none, choice_past, choice_none, not_both}
 use Rattle.sift_unit.proofs.Calls.{call_of}
 use Rattle.sift_unit.proofs.Past.{past_before, not_past_after, not_past_yet}
-use Rattle.sift_unit.proofs.Standing.{stands, config_at, frame_low}
+use Rattle.sift_unit.proofs.Standing.{stands, config_at}
 
 -- a word that was said by two tests has the stamp of the choice, and both tests pass
 pub record Chosen (t p : Bool) (s s' : ℕ) : Type 0 where
@@ -97,8 +96,8 @@ module _ (m : Mission) (fit : Fits m) (b : Desk) (c : Acts) (g : Going m b c) wh
         | inr t ↦ t
       ])
       (λ t. meets.acts.said f k q t
-        ∙ choice_past {A = Saying} (calls m (accounts_of m b f).cfg k b.unit q) (is_past b.frame (cursor b) f (say_spot m (accounts_of m b f).cfg k q))
-        (Some (saying st w)) (past_before b.frame (cursor b) f (say_spot m (accounts_of m b f).cfg k q) low))
+      ∙ choice_past {A = Saying} (calls m (accounts_of m b f).cfg k b.unit q) (is_past b.frame (cursor b) f (say_spot m (accounts_of m b f).cfg k q))
+      (Some (saying st w)) (past_before b.frame (cursor b) f (say_spot m (accounts_of m b f).cfg k q) low))
 
   -- a frame to which it has not come
   abbrev pub IsToCome : ℕ → Type 0

@@ -1,5 +1,5 @@
 -- What the memory holds of a slot, once all of it was heard.
-use Rattle.std.proofs.Common.{◌≡◌, ◌≢◌, inl, inr, ℕ, ◌+◌, ◌<◌, ◌≤◌, List, ◌∷◌, length, map, Bool, true, false, not, ◌&&◌, nat_eq, Option, None, Some, refl, sym, ap, ◌∙◌, subst, arith, ne_eqb, eqb-true, ltb-true, lt-ltb, get_or-set_same}
+use Rattle.std.proofs.Common.{◌≡◌, ◌≢◌, inl, inr, ℕ, ◌<◌, List, ◌∷◌, length, true, not, nat_eq, Option, None, Some, refl, sym, ap, ◌∙◌, subst, arith, ne_eqb, eqb-true, ltb-true, lt-ltb, get_or-set_same}
 use Rattle.std.specs.Prelude.{ℤ, ◌+ℤ◌}
 use Rattle.std.specs.FinSet as set
 use Rattle.std.proofs.lemmas.Bool.{cases_Bool}
@@ -84,13 +84,13 @@ module _ (m : Mission) (us : List ℕ) (u f : ℕ) (clk : ℤ) (a : Account) (h 
         get_or-set_same b.ins x _ 0 low ∙ elim (cases_Bool (nat_eq (reader_of us x) u)) [
           | inl t ↦ rw t refl
           | inr t ↦ rw t (taken-same r (place_at b.direct x) (h (Sense x) r) (place_at heard) (h (RelaySense x)) (sense t)
-            (λ v from ne other. places v (calling (RelaySense x) v slot from other (ap not (ne_eqb v r ne)))))
+              (λ v from ne other. places v (calling (RelaySense x) v slot from other (ap not (ne_eqb v r ne)))))
         ],
         λ v. ap (λ s. holds s v) (get_or-set_same b.relay x _ set.empty low') ∙ holds-gathered _ us v
-          ∙ and_in (has us v) _ _ (λ t. and_in (not (nat_eq v u)) _ _ (λ o. and_in (nat_eq r u) _ _ (λ is.
+            ∙ and_in (has us v) _ _ (λ t. and_in (not (nat_eq v u)) _ _ (λ o. and_in (nat_eq r u) _ _ (λ is.
             let other = apart v u (not_true _ o) in
             ap (λ w. differs w (Some (m.sensed x f)))
-            (places v (calling (RelaySense x) v slot t other (ap not (ne_eqb v r (λ e. other (e ∙ eqb-true r u is)))))))))
+            (places v (calling (RelaySense x) v slot t other (ap not (ne_eqb v r (λ e. other (e ∙ eqb-true r u is))))))))),
       )
   heard_new (Out w) heard b slot shape places before ran =
       let few : w < m.words = ltb-true w m.words slot in
@@ -101,7 +101,7 @@ module _ (m : Mission) (us : List ℕ) (u f : ℕ) (clk : ℤ) (a : Account) (h 
       let same = poll-same w heard b places few made in (
         get_or-set_same b.outs w _ 0 low ∙ ap agreed_of same,
         λ v. ap (λ s. holds s v) (get_or-set_same b.poll w _ set.empty low') ∙ holds-gathered _ us v
-          ∙ and_in (has us v) _ _ (λ t. and_in (m.executes us w v) _ _ (λ e. λ i. differs (polled-same w heard b places few made v t e i) (majority_of (same i)))),
+            ∙ and_in (has us v) _ _ (λ t. and_in (m.executes us w v) _ _ (λ e. λ i. differs (polled-same w heard b places few made v t e i) (majority_of (same i)))),
       )
   heard_new Report heard b slot shape places before ran = λ s from other. places s (calling Report s slot from other refl)
   heard_new (RelayReport s) heard b slot shape places before ran = λ from other.
@@ -109,6 +109,6 @@ module _ (m : Mission) (us : List ℕ) (u f : ℕ) (clk : ℤ) (a : Account) (h 
       let early = fit.timed.reported us s config slot in
       let later = fit.timed.apart us (RelayReport s) config slot in
       get_or-set_same b.agreed s _ 0 low
-        ∙ taken-same s (place_at b.reports s) (h Report s) (place_at heard) (h (RelayReport s)) (before Report refl (omega arith) s from other)
-        (λ v from' ne other'. places v (calling (RelayReport s) v slot from' other'
-        (both _ _ from (both _ _ (ap not (ne_eqb v s ne)) (ap not (ne_eqb u s (λ z. other (sym z))))))))
+      ∙ taken-same s (place_at b.reports s) (h Report s) (place_at heard) (h (RelayReport s)) (before Report refl (omega arith) s from other)
+      (λ v from' ne other'. places v (calling (RelayReport s) v slot from' other'
+      (both _ _ from (both _ _ (ap not (ne_eqb v s ne)) (ap not (ne_eqb u s (λ z. other (sym z))))))))

@@ -1,5 +1,5 @@
 -- A board hears a word.
-use Rattle.std.proofs.Common.{◌≡◌, ℕ, ◌+◌, ◌*◌, ◌<◌, length, Bool, true, Option, Some, None, refl, sym, ap, ◌∙◌, subst, arith, eqb-true, ltb-true, lt-ltb, eq-eqb, option_map, length-set, get_or-set_same, get_or-set_other}
+use Rattle.std.proofs.Common.{◌≡◌, ℕ, ◌+◌, ◌<◌, length, true, Option, Some, None, refl, sym, ◌∙◌, subst, arith, eqb-true, ltb-true, lt-ltb, eq-eqb, option_map, length-set, get_or-set_same, get_or-set_other}
 use Rattle.std.specs.Prelude.{slice_set}
 use Rattle.std.proofs.lemmas.Bool.{and_parts}
 use mathlib.Core.Logic.{dite}
@@ -69,9 +69,9 @@ module _ (m : Mission) (fit : Fits m) where
   grows b c s w g at = λ f k' p x slot e.
       put_cases (λ (y : Option Hearing). y ≡ Some x) c.heard b.frame b.slot b.other (hearing s c.progress w) f (m.number k') p
       (λ t. absurd (
-        let none = hear_none b c g at in
-        let had : c.heard b.frame b.slot b.other ≡ Some x = rw (← t.0, ← t.1, ← t.2) e in
-        some_none (sym had ∙ none)))
+      let none = hear_none b c g at in
+      let had : c.heard b.frame b.slot b.other ≡ Some x = rw (← t.0, ← t.1, ← t.2) e in
+      some_none (sym had ∙ none)))
       (λ away. e)
 
   -- the acts with the word heard
@@ -81,7 +81,7 @@ module _ (m : Mission) (fit : Fits m) where
   acts_here b c s w a h g at es mine acts =
       let k = m.kind b.slot in
       let past = acts_heard m fit b.unit a h b.frame b.cfg g.range.config mine c k b.other s w at.call es
-            (let p = g.progress in let e = at.subframe in omega arith) (subst (λ z. ActsTo m b.unit c a h b.frame z) (here b at) acts) in
+      (let p = g.progress in let e = at.subframe in omega arith) (subst (λ z. ActsTo m b.unit c a h b.frame z) (here b at) acts) in
       subst (λ z. ActsTo m b.unit (with_heard c b.frame b.slot b.other s w) a h b.frame z) (sym (next b at))
       (subst (λ z. ActsTo m b.unit (with_heard c b.frame z b.other s w) a h b.frame (hear_spot m b.cfg (m.kind b.slot) (b.other + 1)))
       (fit.numbered.there b.slot at.slot) past)
@@ -107,7 +107,7 @@ module _ (m : Mission) (fit : Fits m) where
             meets_on m fit b b.subframe b.part b.slot (b.other + 1) ps c c' a h free mt (acts_here b c s w a h g at es fate.cfg mt.acts)
             (λ part few sub p below call. dite (ℕ_discrete p b.other)
             (λ e. rw e (get_or-set_same b.places b.other w None low
-              ∙ sym (fate'.heard b.frame (m.kind b.slot) b.other (hearing s c.progress w) (fit.numbered.slot b.slot at.slot)
-                (rw n (put_here c.heard b.frame b.slot b.other (hearing s c.progress w))))))
+            ∙ sym (fate'.heard b.frame (m.kind b.slot) b.other (hearing s c.progress w) (fit.numbered.slot b.slot at.slot)
+            (rw n (put_here c.heard b.frame b.slot b.other (hearing s c.progress w))))))
             (λ ne. get_or-set_other b.places b.other p w None ne ∙ mt.places part few sub p (omega arith) call));
       }

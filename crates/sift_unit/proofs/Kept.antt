@@ -1,5 +1,5 @@
 -- What a slot that was heard, and a task that was run, leave of all else in the memory.
-use Rattle.std.proofs.Common.{◌≡◌, ◌≢◌, ℕ, List, Bool, false, ◌&&◌, nat_eq, Option, refl, sym, ap, ◌∙◌, ne_eqb, arith, get_or-set_other, length-set}
+use Rattle.std.proofs.Common.{◌≡◌, ◌≢◌, ℕ, List, false, Option, refl, sym, ap, ◌∙◌, ne_eqb, arith, get_or-set_other, length-set}
 use Rattle.std.specs.Prelude.{ℤ}
 use Rattle.std.specs.FinSet as set
 use Rattle.sift_base.specs.Units.{holds}
@@ -93,21 +93,52 @@ module _ (m : Mission) where
   shape_noted us u f clk Clock heard b s =
       record { direct = s.direct; ins = s.ins; relay = s.relay; made = s.made; outs = s.outs; poll = s.poll; agreed = s.agreed }
   shape_noted us u f clk (Sense x) heard b s = record {
-    direct = length-set b.direct x _ ∙ s.direct; ins = s.ins; relay = s.relay; made = s.made; outs = s.outs; poll = s.poll; agreed = s.agreed }
+    direct = length-set b.direct x _ ∙ s.direct;
+    ins = s.ins;
+    relay = s.relay;
+    made = s.made;
+    outs = s.outs;
+    poll = s.poll;
+    agreed = s.agreed;
+  }
   shape_noted us u f clk (RelaySense x) heard b s = record {
-    direct = s.direct; ins = length-set b.ins x _ ∙ s.ins; relay = length-set b.relay x _ ∙ s.relay; made = s.made;
-    outs = s.outs; poll = s.poll; agreed = s.agreed }
+    direct = s.direct;
+    ins = length-set b.ins x _ ∙ s.ins;
+    relay = length-set b.relay x _ ∙ s.relay;
+    made = s.made;
+    outs = s.outs;
+    poll = s.poll;
+    agreed = s.agreed;
+  }
   shape_noted us u f clk (Out w) heard b s = record {
-    direct = s.direct; ins = s.ins; relay = s.relay; made = s.made; outs = length-set b.outs w _ ∙ s.outs;
-    poll = length-set b.poll w _ ∙ s.poll; agreed = s.agreed }
+    direct = s.direct;
+    ins = s.ins;
+    relay = s.relay;
+    made = s.made;
+    outs = length-set b.outs w _ ∙ s.outs;
+    poll = length-set b.poll w _ ∙ s.poll;
+    agreed = s.agreed;
+  }
   shape_noted us u f clk Report heard b s =
       record { direct = s.direct; ins = s.ins; relay = s.relay; made = s.made; outs = s.outs; poll = s.poll; agreed = s.agreed }
   shape_noted us u f clk (RelayReport v) heard b s = record {
-    direct = s.direct; ins = s.ins; relay = s.relay; made = s.made; outs = s.outs; poll = s.poll; agreed = length-set b.agreed v _ ∙ s.agreed }
+    direct = s.direct;
+    ins = s.ins;
+    relay = s.relay;
+    made = s.made;
+    outs = s.outs;
+    poll = s.poll;
+    agreed = length-set b.agreed v _ ∙ s.agreed;
+  }
 
   -- and so does a task that is run
   pub shape_run : (us : List ℕ) (u : ℕ) (last : List ℕ) (t : ℕ) (b : Memory) → IsShaped m b → IsShaped m (run m us u last t b)
   shape_run us u last t b s = record {
-    direct = s.direct; ins = s.ins; relay = s.relay;
+    direct = s.direct;
+    ins = s.ins;
+    relay = s.relay;
     made = length-renewed (is_made_by m us u t) (λ w. m.word w b.ins b.outs last) b.made 0 ∙ s.made;
-    outs = s.outs; poll = s.poll; agreed = s.agreed }
+    outs = s.outs;
+    poll = s.poll;
+    agreed = s.agreed;
+  }

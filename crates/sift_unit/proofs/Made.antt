@@ -1,8 +1,8 @@
 -- The words that a board makes and says are those of the equations.
-use Rattle.std.proofs.Common.{◌≡◌, ℕ, ◌+◌, ◌<◌, ◌≤◌, List, length, Bool, true, refl, sym, ap, ◌∙◌, arith, eq-eqb, ne_eqb, ltb-true, lt-ltb}
-use Rattle.std.specs.Prelude.{ℤ, Some, slice_index}
+use Rattle.std.proofs.Common.{◌≡◌, ℕ, ◌<◌, ◌≤◌, List, length, true, refl, sym, ap, ◌∙◌, arith, eq-eqb, ne_eqb, ltb-true, lt-ltb}
+use Rattle.std.specs.Prelude.{ℤ, Some}
 use Rattle.std.proofs.lemmas.Bool.{and_parts}
-use Rattle.sift_base.specs.Units.{has, bits_of}
+use Rattle.sift_base.specs.Units.{bits_of}
 use Rattle.sift_base.specs.declared.slot.Slot.{Slot}
 use Rattle.sift_base.specs.declared.slot.Slot.TheVariants.{Clock, Sense, RelaySense, Out, Report, RelayReport}
 use Rattle.sift_exec.specs.Record.{everyone_in}
@@ -29,9 +29,9 @@ module _ (m : Mission) (us : List ℕ) (u f : ℕ) (clk : ℤ) (a : Account) (h 
       let low : w < length b.made = rw shape.made few in
       let at : m.due us (Out w) ≡ m.run_in us t = fit.timed.run us w config few ∙ ap (λ z. m.run_in us z) is in
       renewed-here (is_made_by m us u t) (λ v. m.word v b.ins b.outs last) b.made w 0 w (omega arith) low (rw (eq-eqb (m.task w) t is, e) refl)
-        ∙ fit.read.reads w b.ins a.ins b.outs a.outs last few
-        (λ x lx any. matches (RelaySense x) (lt-ltb x m.sensors lx) (let z = fit.timed.agreed us x w config lx few in omega arith))
-        (λ v lv needed. matches (Out v) (lt-ltb v m.words lv) (let z = fit.read.polled us w v config few lv needed in omega arith))
+      ∙ fit.read.reads w b.ins a.ins b.outs a.outs last few
+      (λ x lx any. matches (RelaySense x) (lt-ltb x m.sensors lx) (let z = fit.timed.agreed us x w config lx few in omega arith))
+      (λ v lv needed. matches (Out v) (lt-ltb v m.words lv) (let z = fit.read.polled us w v config few lv needed in omega arith))
 
   -- the own word of a slot, where all was heard and made that goes into it
   pub word_is : (k : Slot) (q : ℕ) (b : Memory) → calls m us k u q ≡ true → a.clk ≡ clk

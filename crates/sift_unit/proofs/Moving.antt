@@ -1,5 +1,5 @@
 -- A board moves on within its frame, with its memory as it is.
-use Rattle.std.proofs.Common.{◌≡◌, ◌⊎◌, inl, inr, ℕ, ◌+◌, ◌*◌, ◌<◌, ◌≤◌, List, length, Bool, true, false, Option, Some, None, refl, sym, ap, ◌∙◌, subst, arith}
+use Rattle.std.proofs.Common.{◌≡◌, ◌⊎◌, inl, inr, ℕ, ◌+◌, ◌*◌, ◌<◌, ◌≤◌, List, length, true, false, Option, Some, sym, ap, ◌∙◌, subst, arith}
 use mathlib.Core.Logic.{dite}
 use native.Mathlib.Decide.{ℕ_discrete}
 use Rattle.sift_base.specs.Units.{has, unit_limit}
@@ -9,7 +9,6 @@ use Rattle.sift_buffer.specs.Conduct.{Conduct as Acts}
 use Rattle.sift_unit.specs.Mission.{Mission}
 use Rattle.sift_unit.specs.Slots.{is_slot, calls}
 use Rattle.sift_unit.specs.Fits.{Fits}
-use Rattle.sift_unit.specs.Memory.{place_at}
 use Rattle.sift_unit.specs.Desk.{Desk, spot, cursor, hear_spot, say_spot, heard_mark, run_mark, moved}
 use Rattle.sift_unit.specs.Going.{Accounts, Words, ActsTo, Fate, Meets, InRange, Going, HasHeard}
 use Rattle.sift_unit.proofs.Acting.{acts_on}
@@ -67,8 +66,18 @@ module _ (m : Mission) (fit : Fits m) where
   pub range_place : (b : Desk) (ps : List (Option ℕ)) → InRange m b → b.other < unit_limit → length ps ≡ unit_limit →
       InRange m (moved b b.subframe b.part b.slot (b.other + 1) ps)
   range_place b ps r here wide = record {
-    unit = r.unit; frame = r.frame; subframe = r.subframe; part = r.part; slot = r.slot; other = omega arith; count = r.count;
-    config = r.config; configs = r.configs; places = wide; shape = r.shape }
+    unit = r.unit;
+    frame = r.frame;
+    subframe = r.subframe;
+    part = r.part;
+    slot = r.slot;
+    other = omega arith;
+    count = r.count;
+    config = r.config;
+    configs = r.configs;
+    places = wide;
+    shape = r.shape;
+  }
 
   -- ---- places at which nothing is to be said or heard
 
@@ -85,8 +94,18 @@ module _ (m : Mission) (fit : Fits m) where
   -- it stays in range
   pub skip_range : (b : Desk) (i t k o : ℕ) → InRange m b → Skips b i t k o → InRange m (moved b i t k o b.places)
   skip_range b i t k o r s = record {
-    unit = r.unit; frame = r.frame; subframe = s.subframe; part = s.part; slot = s.slot; other = s.other; count = r.count;
-    config = r.config; configs = r.configs; places = r.places; shape = r.shape }
+    unit = r.unit;
+    frame = r.frame;
+    subframe = s.subframe;
+    part = s.part;
+    slot = s.slot;
+    other = s.other;
+    count = r.count;
+    config = r.config;
+    configs = r.configs;
+    places = r.places;
+    shape = r.shape;
+  }
 
   -- a move within a slot is to the next unit, past one from which nothing is to be heard
   pub record NextPlace (b : Desk) (i t k o : ℕ) : Type 0 where
@@ -108,15 +127,15 @@ module _ (m : Mission) (fit : Fits m) where
         let fate = fate_back b i t k o b.places c c' a h s.free.up (λ f k p x slot e. e) fate' in
         let mt = g.meets a h fate in
         let acts : ActsTo m b.unit c a h b.frame (spot i t k o)
-            = acts_on m fit b.unit a h b.frame b.cfg r.config fate.cfg c (cursor b) (spot i t k o) s.free.up s.says s.hears mt.acts in
+        = acts_on m fit b.unit a h b.frame b.cfg r.config fate.cfg c (cursor b) (spot i t k o) s.free.up s.says s.hears mt.acts in
         meets_on b i t k o b.places c c' a h s.free mt (record { said = acts.said; heard = acts.heard }) (λ zero few sub p below call. elim stay [
           | inl e ↦ absurd (omega arith)
           | inr e ↦
               let sub' : b.subframe ≡ m.heard_in b.cfg (m.kind b.slot) = sym e.subframe ∙ (sub ∙ ap (λ z. m.heard_in b.cfg (m.kind z)) e.slot) in
               let call' : calls m b.cfg (m.kind b.slot) p b.unit ≡ true = subst (λ z. calls m b.cfg (m.kind z) p b.unit ≡ true) e.slot call in
               let before : p < b.other = dite (ℕ_discrete p b.other)
-                    (λ z. absurd (let no' = e.quiet zero (e.subframe ∙ sub') in let yes' : calls m b.cfg (m.kind b.slot) b.other b.unit ≡ true = rw (← z) call' in let w : ⊥ = cc in w))
-                    (λ z. let o' = e.other in omega arith) in
+              (λ z. absurd (let no' = e.quiet zero (e.subframe ∙ sub') in let yes' : calls m b.cfg (m.kind b.slot) b.other b.unit ≡ true = rw (← z) call' in let w : ⊥ = cc in w))
+              (λ z. let o' = e.other in omega arith) in
               rw e.slot (mt.places (sym e.part ∙ zero) (subst (λ z. z < m.slots) e.slot few) sub' p before call')
         ]);
   }

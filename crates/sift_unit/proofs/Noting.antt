@@ -1,5 +1,5 @@
 -- A board concludes a slot that it has heard, and runs a task.
-use Rattle.std.proofs.Common.{◌≡◌, ◌≢◌, inl, inr, ℕ, ◌+◌, ◌*◌, ◌<◌, ◌≤◌, Bool, true, false, refl, sym, ap, ◌∙◌, subst, arith}
+use Rattle.std.proofs.Common.{◌≡◌, ◌≢◌, inl, inr, ℕ, ◌+◌, ◌<◌, ◌≤◌, true, false, sym, ap, ◌∙◌, subst, arith}
 use Rattle.std.proofs.lemmas.Bool.{cases_Bool}
 use mathlib.Core.Logic.{dite}
 use native.Mathlib.Decide.{ℕ_discrete}
@@ -7,13 +7,12 @@ use Rattle.sift_base.specs.Units.{unit_limit}
 use Rattle.sift_base.specs.declared.slot.Slot.{Slot}
 use Rattle.sift_buffer.specs.Conduct.{Conduct as Acts}
 use Rattle.sift_unit.specs.Mission.{Mission}
-use Rattle.sift_unit.specs.Slots.{is_slot, calls}
-use Rattle.sift_unit.specs.Acts.{IsConfigOf}
+use Rattle.sift_unit.specs.Slots.{is_slot}
 use Rattle.sift_unit.specs.Fits.{Fits, is_caught_in}
 use Rattle.sift_unit.specs.Memory.{Memory, note, run}
 use Rattle.sift_unit.specs.Remembered.{Heard, IsShaped}
 use Rattle.sift_unit.specs.Desk.{Desk, spot, cursor, heard_mark, run_mark}
-use Rattle.sift_unit.specs.Going.{Accounts, Words, ActsTo, Fate, Remembers, InRange, Going}
+use Rattle.sift_unit.specs.Going.{Accounts, Words, ActsTo, Fate, InRange, Going}
 use Rattle.sift_unit.proofs.Kept.{heard_kept, ran_heard, heard_run, ran_kept, matches_back, matches_run, settled_back, settled_run, shape_noted, shape_run}
 use Rattle.sift_unit.proofs.HeardNew.{heard_new}
 use Rattle.sift_unit.proofs.Made.{ran_new}
@@ -37,8 +36,18 @@ module _ (m : Mission) (fit : Fits m) where
   -- the board stays in range
   range_onto : (b : Desk) (memory : Memory) → InRange m b → b.slot < m.slots → IsShaped m memory → InRange m (onto b memory)
   range_onto b memory r low shape = record {
-    unit = r.unit; frame = r.frame; subframe = r.subframe; part = r.part; slot = omega arith; other = omega arith; count = r.count;
-    config = r.config; configs = r.configs; places = r.places; shape = shape }
+    unit = r.unit;
+    frame = r.frame;
+    subframe = r.subframe;
+    part = r.part;
+    slot = omega arith;
+    other = omega arith;
+    count = r.count;
+    config = r.config;
+    configs = r.configs;
+    places = r.places;
+    shape = shape;
+  }
 
   pub note_range : (b : Desk) → InRange m b → b.slot < m.slots → InRange m (onto b (noted b))
   note_range b r low = range_onto b (noted b) r low (shape_noted m b.cfg b.unit b.frame b.clk (m.kind b.slot) b.places b.memory r.shape)
@@ -54,7 +63,7 @@ module _ (m : Mission) (fit : Fits m) where
       acts_on m fit b.unit a h b.frame b.cfg r.config mine c (cursor b) (spot b.subframe b.part (b.slot + 1) 0) (omega arith)
       (λ k' q t up. let sm = small_of m b.cfg k' b.unit q fit r.config t in let s1 = sm.number in let s2 = sm.to in omega arith)
       (λ k' q t up. let sm = small_of m b.cfg k' q b.unit fit r.config t in let s1 = sm.number in let s2 = sm.from in
-        dite (ℕ_discrete b.part 0) (λ z. let e = end z in omega arith) (λ z. omega arith))
+      dite (ℕ_discrete b.part 0) (λ z. let e = end z in omega arith) (λ z. omega arith))
       acts
 
   -- a slot's mark that lies before the slot's end lies before the cursor, but for this slot's own
@@ -98,15 +107,15 @@ module _ (m : Mission) (fit : Fits m) where
           matches = λ k sk past.
               let nk = fit.numbered.low k sk in
               let ne : k ≢ m.kind b.slot = λ e.
-                    let ek : m.number k ≡ b.slot = ap m.number e ∙ fit.numbered.there b.slot low in
-                    let es : m.heard_in b.cfg k ≡ b.subframe = ap (λ x. m.heard_in b.cfg x) e ∙ sym sub in
-                    omega arith in
+              let ek : m.number k ≡ b.slot = ap m.number e ∙ fit.numbered.there b.slot low in
+              let es : m.heard_in b.cfg k ≡ b.subframe = ap (λ x. m.heard_in b.cfg x) e ∙ sym sub in
+              omega arith in
               matches_back m b.cfg b.unit b.frame b.clk (a b.frame) (h b.frame) b.last k k0 b.places b.memory ne (ag.matches k sk (omega arith));
           settled = λ past.
               let none : is_caught_in (m.kind b.slot) ≡ false = elim (cases_Bool (is_caught_in (m.kind b.slot))) [
-                    | inl t ↦ absurd (let early = fit.timed.caught b.cfg (m.kind b.slot) r.config (fit.numbered.slot b.slot low) t in omega arith)
-                    | inr t ↦ t
-                  ] in
+                | inl t ↦ absurd (let early = fit.timed.caught b.cfg (m.kind b.slot) r.config (fit.numbered.slot b.slot low) t in omega arith)
+                | inr t ↦ t
+              ] in
               settled_back m b.cfg b.unit b.frame b.clk (a b.frame) (h b.frame) b.last k0 b.places b.memory none (ag.settled (omega arith));
         };
       }
@@ -132,17 +141,17 @@ module _ (m : Mission) (fit : Fits m) where
               remembers = λ member.
                   let rm = mt.remembers member in
                   let new : Heard m b.cfg b.unit b.frame b.clk (a b.frame) (h b.frame) b.last (noted b) (m.kind b.slot)
-                        = heard_new m b.cfg b.unit b.frame b.clk (a b.frame) (h b.frame) b.last fit r.config member k0 b.places b.memory
-                        (fit.numbered.slot b.slot low) r.shape
-                        (λ p call. mt.places part low sub p (let sm = small_of m b.cfg (m.kind b.slot) p b.unit fit r.config call in let s2 = sm.from in omega arith) call)
-                        (λ k' sk' early. rm.heard k' sk' (let nk' = fit.numbered.low k' sk' in omega arith))
-                        (λ w few' early. rm.ran w few'
-                        (let nk' = fit.counted.task w few' in let nt = few_tasks m fit in let e = fit.timed.run b.cfg w r.config few' in omega arith)) in
+                  = heard_new m b.cfg b.unit b.frame b.clk (a b.frame) (h b.frame) b.last fit r.config member k0 b.places b.memory
+                  (fit.numbered.slot b.slot low) r.shape
+                  (λ p call. mt.places part low sub p (let sm = small_of m b.cfg (m.kind b.slot) p b.unit fit r.config call in let s2 = sm.from in omega arith) call)
+                  (λ k' sk' early. rm.heard k' sk' (let nk' = fit.numbered.low k' sk' in omega arith))
+                  (λ w few' early. rm.ran w few'
+                  (let nk' = fit.counted.task w few' in let nt = few_tasks m fit in let e = fit.timed.run b.cfg w r.config few' in omega arith)) in
                   record {
                     heard = λ k sk past. let nk = fit.numbered.low k sk in dite (ℕ_discrete (m.number k) b.slot)
                         (λ e. subst (λ z. Heard m b.cfg b.unit b.frame b.clk (a b.frame) (h b.frame) b.last (noted b) z) (kind_is m fit b k sk e) new)
                         (λ ne. heard_kept m b.cfg b.unit b.frame b.clk (a b.frame) (h b.frame) b.last k0 k b.places b.memory (not_kind b k low ne)
-                          (rm.heard k sk (heard_below b k r low sk (λ z. ne) past)));
+                        (rm.heard k sk (heard_below b k r low sk (λ z. ne) past)));
                     ran = λ w few' past. ran_heard m b.cfg b.unit b.frame b.clk (a b.frame) (h b.frame) b.last w k0 b.places b.memory
                         (rm.ran w few' (ran_below b (m.task w) r low (fit.counted.task w few') (λ z e. absurd (omega arith)) past));
                   };
@@ -194,9 +203,9 @@ module _ (m : Mission) (fit : Fits m) where
                     (rm.heard k sk (heard_below b k r low sk (λ z e. absurd (omega arith)) past));
                 ran = λ w few' past. let nk = fit.counted.task w few' in dite (ℕ_discrete (m.task w) b.slot)
                     (λ e. ran_new m b.cfg b.unit b.frame b.clk (a b.frame) (h b.frame) b.last fit r.config b.slot b.memory r.shape
-                      (λ k' sk' early. ag.matches k' sk' (let nk' = fit.numbered.low k' sk' in omega arith)) w few' e)
+                    (λ k' sk' early. ag.matches k' sk' (let nk' = fit.numbered.low k' sk' in omega arith)) w few' e)
                     (λ ne. ran_kept m b.cfg b.unit b.frame b.clk (a b.frame) (h b.frame) b.last b.slot w b.memory ne
-                      (rm.ran w few' (ran_below b (m.task w) r low nk (λ z. ne) past)));
+                    (rm.ran w few' (ran_below b (m.task w) r low nk (λ z. ne) past)));
               };
             };
       }

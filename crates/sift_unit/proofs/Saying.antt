@@ -1,5 +1,5 @@
 -- A board says a word.
-use Rattle.std.proofs.Common.{◌≡◌, ℕ, ◌+◌, ◌*◌, ◌<◌, ◌≤◌, Bool, true, Option, Some, None, refl, sym, ap, ◌∙◌, subst, arith, eqb-true, ltb-true, lt-ltb, eq-eqb}
+use Rattle.std.proofs.Common.{◌≡◌, ℕ, ◌+◌, ◌<◌, true, Option, None, sym, ap, ◌∙◌, subst, arith, eqb-true, ltb-true, lt-ltb, eq-eqb}
 use Rattle.std.specs.Prelude.{unwrap_or}
 use Rattle.std.proofs.lemmas.Bool.{and_parts}
 use Rattle.sift_base.specs.Units.{has}
@@ -72,10 +72,10 @@ module _ (m : Mission) (fit : Fits m) where
       let member : has b.cfg b.unit ≡ true = (call_of m b.cfg (m.kind b.slot) b.unit b.other at.call).from in
       let rm = mt.remembers member in
       let word : word_now m b.cfg b.frame b.clk b.memory (m.kind b.slot) ≡ own_word m b.cfg b.frame (a b.frame) (h b.frame) b.last (m.kind b.slot)
-            = word_is m b.cfg b.unit b.frame b.clk (a b.frame) (h b.frame) b.last fit config k b.other b.memory at.call fate.clk
-            (λ k' slot low. rm.heard k' slot (let nk = fit.numbered.low k' slot in omega arith))
-            (λ w few' low. rm.ran w few' (let nk = fit.counted.task w few' in let nt = few_tasks m fit in let e = fit.timed.run b.cfg w config few' in omega arith))
-            (λ low. (fate.agrees member).settled (omega arith)) in
+      = word_is m b.cfg b.unit b.frame b.clk (a b.frame) (h b.frame) b.last fit config k b.other b.memory at.call fate.clk
+      (λ k' slot low. rm.heard k' slot (let nk = fit.numbered.low k' slot in omega arith))
+      (λ w few' low. rm.ran w few' (let nk = fit.counted.task w few' in let nt = few_tasks m fit in let e = fit.timed.run b.cfg w config few' in omega arith))
+      (λ low. (fate.agrees member).settled (omega arith)) in
       let back : b.cfg ≡ (a b.frame).cfg = sym fate.cfg in
       ap (λ z. unwrap_or (m.override b.unit b.frame (m.kind b.slot) b.other) z)
       (word ∙ (λ i. own_word m (back i) b.frame (a b.frame) (h b.frame) (mt.last i) (m.kind b.slot)))
@@ -90,7 +90,7 @@ module _ (m : Mission) (fit : Fits m) where
       ActsTo m b.unit (with_said c b.frame b.slot b.other s w) a h b.frame (spot b.subframe b.part b.slot (b.other + 1))
   acts_here b c s w a h g at es ew mine acts =
       let past = acts_said m fit b.unit a h b.frame b.cfg g.range.config mine c (m.kind b.slot) b.other s w at.call es ew
-            (subst (λ z. ActsTo m b.unit c a h b.frame z) (here b at) acts) in
+      (subst (λ z. ActsTo m b.unit c a h b.frame z) (here b at) acts) in
       subst (λ z. ActsTo m b.unit (with_said c b.frame b.slot b.other s w) a h b.frame z) (sym (next b at))
       (subst (λ z. ActsTo m b.unit (with_said c b.frame z b.other s w) a h b.frame (say_spot m b.cfg (m.kind b.slot) (b.other + 1)))
       (fit.numbered.there b.slot at.slot) past)

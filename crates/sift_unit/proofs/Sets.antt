@@ -1,17 +1,16 @@
 -- Units that pass a test: as a set, as a list, and place by place.
-use Rattle.std.proofs.Common.{◌≡◌, inl, inr, ℕ, zero, suc, ◌+◌, ◌<◌, List, [], ◌∷◌, length, map, Bool, true, false, not, ◌&&◌, ◌||◌, cond, nat_eq, nat_lt, refl, sym, ap, ◌∙◌, subst, arith}
+use Rattle.std.proofs.Common.{◌≡◌, ℕ, zero, suc, ◌+◌, ◌<◌, List, [], ◌∷◌, length, map, Bool, true, false, not, ◌&&◌, cond, nat_lt, refl, sym, ap, ◌∙◌, subst, arith}
 use Rattle.std.specs.Prelude.{slice_index_or, count_by, nat_le, if◌then◌else◌}
 use Rattle.std.specs.List.{filter}
 use Rattle.std.specs.FinSet as set
-use Rattle.std.proofs.lemmas.Bool.{cases_Bool, and_parts}
+use Rattle.std.proofs.lemmas.Bool.{and_parts}
 use Rattle.sift_base.specs.Units.{has, others, holds}
 use Rattle.sift_base.specs.ReadBack.{has-filter}
 use Rattle.sift_base.proofs.Counts.{has-head, has-tail, count-cons}
 use Rattle.sift_base.proofs.Others.{has-others}
 use Rattle.sift_base.proofs.Sets.{filter_same}
-use Rattle.sift_exec.specs.Conviction.{is_convicted, accusers, kept_by, next_by}
+use Rattle.sift_exec.specs.Conviction.{is_convicted, kept_by, next_by}
 use Rattle.sift_unit.specs.Memory.{gathered, renewed}
-use Rattle.sift_unit.proofs.Tests.{and_in}
 
 swapped : (a b : Bool) → (a && b) ≡ (b && a)
 swapped true true = refl
@@ -47,9 +46,9 @@ count-same p q (u ∷ us) same =
 pub next-same : (n n' : ℕ → ℕ → Bool) (us : List ℕ) → ((r v : ℕ) → has us r ≡ true → n r v ≡ n' r v) → next_by n us ≡ next_by n' us
 next-same n n' us same =
     let convicts : (v : ℕ) → is_convicted n us v ≡ is_convicted n' us v
-        = λ v. ap (λ k. has us v && nat_lt 1 k) (count-same (λ r. n r v) (λ r. n' r v) (others v us) (λ r h. same r v (has-others v us r h).0)) in
+    = λ v. ap (λ k. has us v && nat_lt 1 k) (count-same (λ r. n r v) (λ r. n' r v) (others v us) (λ r h. same r v (has-others v us r h).0)) in
     let kept : kept_by n us ≡ kept_by n' us
-        = filter_same (λ v. not (is_convicted n us v)) (λ v. not (is_convicted n' us v)) us (λ v h. ap not (convicts v)) in
+    = filter_same (λ v. not (is_convicted n us v)) (λ v. not (is_convicted n' us v)) us (λ v h. ap not (convicts v)) in
     ap (λ vs. if nat_le 4 (length vs) then vs else us) kept
 
 -- ---- lists made anew in part

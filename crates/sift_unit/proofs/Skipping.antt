@@ -1,21 +1,20 @@
 -- A board passes places, slots, parts and subframes at which it has nothing to do.
-use Rattle.std.proofs.Common.{◌≡◌, ◌≢◌, ◌⊎◌, inl, inr, ℕ, ◌+◌, ◌*◌, ◌<◌, ◌≤◌, Bool, true, false, refl, sym, ap, ◌∙◌, arith}
-use Rattle.std.proofs.lemmas.Bool.{cases_Bool, cases_lt}
+use Rattle.std.proofs.Common.{◌≡◌, ◌≢◌, ◌⊎◌, inl, inr, ◌+◌, ◌<◌, ◌≤◌, true, false, refl, sym, ap, ◌∙◌, arith}
+use Rattle.std.proofs.lemmas.Bool.{cases_Bool}
 use mathlib.Core.Logic.{dite}
 use native.Mathlib.Decide.{ℕ_discrete}
-use Rattle.sift_base.specs.Units.{has, unit_limit}
+use Rattle.sift_base.specs.Units.{unit_limit}
 use Rattle.sift_base.specs.declared.slot.Slot.{Slot}
 use Rattle.sift_buffer.specs.Conduct.{Conduct as Acts}
 use Rattle.sift_unit.specs.Mission.{Mission}
 use Rattle.sift_unit.specs.Slots.{is_slot, calls}
 use Rattle.sift_unit.specs.Fits.{Fits}
-use Rattle.sift_unit.specs.Desk.{Desk, spot, cursor, hear_spot, say_spot, heard_mark, run_mark, is_hearing, is_saying, moved}
-use Rattle.sift_unit.specs.Going.{InRange, Going}
+use Rattle.sift_unit.specs.Desk.{Desk, cursor, hear_spot, say_spot, is_hearing, is_saying, moved}
+use Rattle.sift_unit.specs.Going.{Going}
 use Rattle.sift_unit.proofs.Tests.{not_both}
-use Rattle.sift_unit.proofs.Calls.{call_of}
 use Rattle.sift_unit.proofs.Past.{spot_same}
 use Rattle.sift_unit.proofs.Acting.{small_of}
-use Rattle.sift_unit.proofs.Moving.{Skips, NextPlace, few_tasks, free_place, skip_going}
+use Rattle.sift_unit.proofs.Moving.{few_tasks, free_place, skip_going}
 use Rattle.sift_unit.proofs.Hearing.{hearing_at}
 use Rattle.sift_unit.proofs.Saying.{said_on, saying_at}
 
@@ -35,23 +34,26 @@ module _ (m : Mission) (fit : Fits m) where
         says = λ k' q call up.
             let sm = small_of m b.cfg k' b.unit q fit r.config call in let s1 = sm.number in let s2 = sm.to in
             let ne : say_spot m b.cfg k' q ≢ cursor b = λ z.
-                  let s = spot_same (m.due b.cfg k') 2 (m.number k') q i t k o (omega arith) (omega arith) (omega arith) (omega arith) (omega arith) (omega arith) z in
-                  let ke = kind_is b k' sm.slot s.slot in
-                  not_both _ nos (saying_at m fit b (sym s.part) low (sym s.subframe ∙ ap (λ x. m.due b.cfg x) (sym ke)) (rw (ke, ← s.other) call)) in
+            let s = spot_same (m.due b.cfg k') 2 (m.number k') q i t k o (omega arith) (omega arith) (omega arith) (omega arith) (omega arith) (omega arith) z in
+            let ke = kind_is b k' sm.slot s.slot in
+            not_both _ nos (saying_at m fit b (sym s.part) low (sym s.subframe ∙ ap (λ x. m.due b.cfg x) (sym ke)) (rw (ke, ← s.other) call)) in
             omega arith;
         hears = λ k' q call up.
             let sm = small_of m b.cfg k' q b.unit fit r.config call in let s1 = sm.number in let s2 = sm.from in
             let ne : hear_spot m b.cfg k' q ≢ cursor b = λ z.
-                  let s = spot_same (m.heard_in b.cfg k') 0 (m.number k') q i t k o (omega arith) (omega arith) (omega arith) (omega arith) (omega arith) (omega arith) z in
-                  let ke = kind_is b k' sm.slot s.slot in
-                  not_both _ noh (hearing_at m fit b (sym s.part) low (sym s.subframe ∙ ap (λ x. m.heard_in b.cfg x) (sym ke)) (rw (ke, ← s.other) call)) in
+            let s = spot_same (m.heard_in b.cfg k') 0 (m.number k') q i t k o (omega arith) (omega arith) (omega arith) (omega arith) (omega arith) (omega arith) z in
+            let ke = kind_is b k' sm.slot s.slot in
+            not_both _ noh (hearing_at m fit b (sym s.part) low (sym s.subframe ∙ ap (λ x. m.heard_in b.cfg x) (sym ke)) (rw (ke, ← s.other) call)) in
             omega arith;
         subframe = r.subframe;
         part = r.part;
         slot = r.slot;
         other = omega arith;
       }) (inr (record {
-        subframe = refl; part = refl; slot = refl; other = refl;
+        subframe = refl;
+        part = refl;
+        slot = refl;
+        other = refl;
         quiet = λ zero sub. elim (cases_Bool (calls m b.cfg (m.kind b.slot) b.other b.unit)) [
           | inl call ↦ absurd (not_both _ noh (hearing_at m fit b zero low sub call))
           | inr none ↦ none
@@ -84,19 +86,19 @@ module _ (m : Mission) (fit : Fits m) where
         };
         says = λ k' q call up.
             let sm = small_of m b.cfg k' b.unit q fit r.config call in let s1 = sm.number in let s2 = sm.to in dite (ℕ_discrete b.part 2)
-              (λ z. dite (ℕ_discrete (m.number k') b.slot)
-              (λ e. elim (idle.says z) [
-                | inl o ↦ omega arith
-                | inr n ↦ let ne : b.subframe ≢ m.due b.cfg k' = λ s. n (s ∙ ap (λ x. m.due b.cfg x) (sym (kind_is b k' sm.slot e))) in omega arith
-              ])
-              (λ e. omega arith))
-              (λ z. omega arith);
+            (λ z. dite (ℕ_discrete (m.number k') b.slot)
+            (λ e. elim (idle.says z) [
+              | inl o ↦ omega arith
+              | inr n ↦ let ne : b.subframe ≢ m.due b.cfg k' = λ s. n (s ∙ ap (λ x. m.due b.cfg x) (sym (kind_is b k' sm.slot e))) in omega arith
+            ])
+            (λ e. omega arith))
+            (λ z. omega arith);
         hears = λ k' q call up.
             let sm = small_of m b.cfg k' q b.unit fit r.config call in let s1 = sm.number in let s2 = sm.from in dite (ℕ_discrete b.part 0)
-              (λ z. dite (ℕ_discrete (m.number k') b.slot)
-              (λ e. let ne : b.subframe ≢ m.heard_in b.cfg k' = λ s. idle.hears z (s ∙ ap (λ x. m.heard_in b.cfg x) (sym (kind_is b k' sm.slot e))) in omega arith)
-              (λ e. omega arith))
-              (λ z. omega arith);
+            (λ z. dite (ℕ_discrete (m.number k') b.slot)
+            (λ e. let ne : b.subframe ≢ m.heard_in b.cfg k' = λ s. idle.hears z (s ∙ ap (λ x. m.heard_in b.cfg x) (sym (kind_is b k' sm.slot e))) in omega arith)
+            (λ e. omega arith))
+            (λ z. omega arith);
         subframe = r.subframe;
         part = r.part;
         slot = omega arith;

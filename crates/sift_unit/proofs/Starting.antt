@@ -1,15 +1,13 @@
 -- How a board starts, and how it turns.
-use Rattle.std.proofs.Common.{◌≡◌, inl, inr, ℕ, ◌+◌, ◌*◌, ◌-◌, Bool, true, Some, None, option_map, refl, sym, ap, ◌∙◌, subst, arith, eqb-true}
+use Rattle.std.proofs.Common.{◌≡◌, inl, inr, ℕ, ◌+◌, ◌*◌, ◌-◌, true, Some, option_map, refl, sym, ap, ◌∙◌, subst, arith, eqb-true}
 use Rattle.std.proofs.lemmas.Bool.{and_parts, cases_lt}
-use Rattle.sift_buffer.specs.Conduct.{Saying, with_turned, with_entered, never}
-use Rattle.sift_buffer.specs.Conduct.{Conduct as Acts}
+use Rattle.sift_buffer.specs.Conduct.{Saying}
 use Rattle.sift_unit.specs.Mission.{Mission}
 use Rattle.sift_unit.specs.Slots.{calls}
 use Rattle.sift_unit.specs.Acts.{stamp_and_moment}
-use Rattle.sift_unit.specs.Fits.{Fits}
 use Rattle.sift_unit.specs.Desk.{Desk, say_spot, hear_spot, is_end, ended_desk}
 use Rattle.sift_unit.specs.Going.{Going}
-use Rattle.sift_unit.specs.Keeping.{Turned, as_flying}
+use Rattle.sift_unit.specs.Keeping.{as_flying}
 use Rattle.sift_unit.specs.BoardLaws.{StartLaw, TurnLaw, TurnFirstLaw}
 use Rattle.sift_unit.proofs.Tests.{choice_none}
 use Rattle.sift_unit.proofs.Past.{not_past_yet}
@@ -22,8 +20,18 @@ start_law m u places memory c fit unit wide shape fresh = inl (record {
   before = λ from s. elim (cases_lt 0 from) [ inl low ↦ inl low | inr low ↦ inr (omega arith, refl, refl) ];
   going = record {
     range = record {
-      unit = unit; frame = omega arith; subframe = (let long = fit.counted.period in omega arith); part = omega arith; slot = omega arith;
-      other = omega arith; count = refl; config = fit.config; configs = λ f d low. absurd (omega arith); places = wide; shape = shape };
+      unit = unit;
+      frame = omega arith;
+      subframe = (let long = fit.counted.period in omega arith);
+      part = omega arith;
+      slot = omega arith;
+      other = omega arith;
+      count = refl;
+      config = fit.config;
+      configs = λ f d low. absurd (omega arith);
+      places = wide;
+      shape = shape;
+    };
     progress = fresh.progress ∙ (let z : 0 ≡ 0 * m.period + 0 = omega arith in z);
     left = fresh.left;
     meets = λ a h fate. record {

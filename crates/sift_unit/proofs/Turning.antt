@@ -1,8 +1,6 @@
 -- What a board guarantees, where its unit may turn.
-use Rattle.std.proofs.Common.{◌≡◌, ◌⊎◌, inl, inr, ℕ, ◌+◌, ◌*◌, ◌-◌, ◌<◌, ◌≤◌, Bool, true, false, Option, Some, None, nat_lt, refl, sym, ap, ◌∙◌, subst, arith, ltb-true}
+use Rattle.std.proofs.Common.{◌≡◌, ◌⊎◌, inl, inr, ℕ, ◌+◌, ◌*◌, ◌-◌, ◌<◌, ◌≤◌, false, Option, Some, None, nat_lt, refl, sym, ap, ◌∙◌, subst, arith, ltb-true}
 use Rattle.std.proofs.lemmas.Bool.{cases_Bool}
-use Rattle.sift_base.specs.declared.slot.Slot.{Slot}
-use Rattle.sift_buffer.specs.Conduct.{never}
 use Rattle.sift_buffer.specs.Conduct.{Conduct as Acts}
 use Rattle.sift_unit.specs.Mission.{Mission}
 use Rattle.sift_unit.specs.Slots.{turned_by}
@@ -10,11 +8,11 @@ use Rattle.sift_unit.specs.Frames.{Flies}
 use Rattle.sift_unit.specs.Acts.{Turns}
 use Rattle.sift_unit.specs.Fits.{Fits}
 use Rattle.sift_unit.specs.Desk.{Desk, cursor}
-use Rattle.sift_unit.specs.Keeping.{Turned, Flying, Keeps, HasFlown, as_flying}
+use Rattle.sift_unit.specs.Keeping.{Flying, Keeps, HasFlown, as_flying}
 use Rattle.sift_unit.specs.BoardLaws.{KeepLaw}
 use Rattle.sift_unit.proofs.Tests.{some_none}
-use Rattle.sift_unit.proofs.Standing.{frame_low, next_mul}
-use Rattle.sift_unit.proofs.Exporting.{IsToCome, unsaid, unheard, kept}
+use Rattle.sift_unit.proofs.Standing.{frame_low}
+use Rattle.sift_unit.proofs.Exporting.{unsaid, unheard, kept}
 
 some_same : {A : Type 0} {x y : A} → Some x ≡ Some y → x ≡ y
 some_same e = cc

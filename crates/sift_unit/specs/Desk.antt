@@ -1,5 +1,5 @@
 -- A board as a plain record: where its unit stands in the flight, and what it remembers.
-use Rattle.std.specs.Prelude.{◌≡◌, ℕ, ◌+◌, ◌*◌, ◌&&◌, ◌||◌, nat_lt, nat_eq, Bool, List, [], Option, if◌then◌else◌, slice_index_or, ℤ}
+use Rattle.std.specs.Prelude.{ℕ, ◌+◌, ◌*◌, ◌&&◌, ◌||◌, nat_lt, nat_eq, Bool, List, [], Option, if◌then◌else◌, slice_index_or, ℤ}
 use Rattle.sift_base.specs.declared.slot.Slot.{Slot}
 use Rattle.sift_base.specs.declared.slot.Slot.TheVariants.{Report}
 use Rattle.sift_unit.specs.Mission.{Mission}

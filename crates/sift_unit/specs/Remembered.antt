@@ -1,5 +1,5 @@
 -- What the memory of a board holds, over what it heard in the frame, h, the account of the frame, a, and the words voted before, last.
-use Rattle.std.specs.Prelude.{◌≡◌, ◌≢◌, ℕ, List, length, map, slice_index, Bool, true, false, not, ◌&&◌, nat_eq, Option, Some, ℤ, ◌+ℤ◌}
+use Rattle.std.specs.Prelude.{◌≡◌, ◌≢◌, ℕ, List, length, map, slice_index, true, false, not, ◌&&◌, nat_eq, Option, Some, ℤ, ◌+ℤ◌}
 use Rattle.sift_base.specs.Units.{has, holds, unit_limit}
 use Rattle.sift_base.specs.declared.slot.Slot.{Slot}
 use Rattle.sift_base.specs.declared.slot.Slot.TheVariants.{Clock, Sense, RelaySense, Out, Report, RelayReport}
@@ -29,11 +29,11 @@ Heard m us u f clk a h last b (Sense x) =
 Heard m us u f clk a h last b (RelaySense x) =
     (slice_index b.ins x ≡ input_of m us u f h x)
     × ((v : ℕ) → holds (units_at b.relay x) v ≡
-      (has us v && (not (nat_eq v u) && (nat_eq (reader_of us x) u && differs (h (RelaySense x) v) (Some (m.sensed x f))))))
+    (has us v && (not (nat_eq v u) && (nat_eq (reader_of us x) u && differs (h (RelaySense x) v) (Some (m.sensed x f))))))
 Heard m us u f clk a h last b (Out w) =
     (slice_index b.outs w ≡ agreed_of (polled_words m us u a h last w))
     × ((v : ℕ) → holds (units_at b.poll w) v ≡
-      (has us v && (m.executes us w v && differs (polled m u a h last w v) (majority_of (polled_words m us u a h last w)))))
+    (has us v && (m.executes us w v && differs (polled m u a h last w v) (majority_of (polled_words m us u a h last w)))))
 Heard m us u f clk a h last b Report = (s : ℕ) → has us s ≡ true → s ≢ u → place_at b.reports s ≡ h Report s
 Heard m us u f clk a h last b (RelayReport s) =
     has us s ≡ true → s ≢ u → slice_index b.agreed s ≡ agreed_of (taken us s u (λ q. h Report s) (λ q p. h (RelayReport s) p))
