@@ -70,13 +70,14 @@ module _ (m : Mission) (us : List ℕ) (u f : ℕ) (clk : ℤ) (a : Account) (h 
         (λ v t. let o = has-others u us v t in ap (λ w. reading_of w clk (m.errors u v)) (places v (calling Clock v slot o.0 o.1 refl)))),
   )
   heard_new (Sense x) heard b slot shape places before ran = λ other.
-      let low : x < length b.direct = rw shape.direct (ltb-true x m.sensors slot) in
+      let few : x < m.sensors = ltb-true x m.sensors slot in
+      let long = shape.direct in let low : x < length b.direct = omega arith in
       let r = reader_of us x in
       get_or-set_same b.direct x _ None low ∙ places r (calling (Sense x) r slot (has-reader m us x config) (apart r u other) (nat_eq-same r))
   heard_new (RelaySense x) heard b slot shape places before ran =
       let few : x < m.sensors = ltb-true x m.sensors slot in
       let low : x < length b.ins = rw shape.ins few in
-      let low' : x < length b.relay = rw shape.relay few in
+      let long = shape.relay in let low' : x < length b.relay = omega arith in
       let early = fit.timed.relayed us x config few in
       let later = fit.timed.apart us (RelaySense x) config slot in
       let r = reader_of us x in
@@ -95,7 +96,7 @@ module _ (m : Mission) (us : List ℕ) (u f : ℕ) (clk : ℤ) (a : Account) (h 
   heard_new (Out w) heard b slot shape places before ran =
       let few : w < m.words = ltb-true w m.words slot in
       let low : w < length b.outs = rw shape.outs few in
-      let low' : w < length b.poll = rw shape.poll few in
+      let long = shape.poll in let low' : w < length b.poll = omega arith in
       let later = fit.timed.apart us (Out w) config slot in
       let made : Ran m us u a last b w = ran w few (omega arith) in
       let same = poll-same w heard b places few made in (
@@ -105,7 +106,7 @@ module _ (m : Mission) (us : List ℕ) (u f : ℕ) (clk : ℤ) (a : Account) (h 
       )
   heard_new Report heard b slot shape places before ran = λ s from other. places s (calling Report s slot from other refl)
   heard_new (RelayReport s) heard b slot shape places before ran = λ from other.
-      let low : s < length b.agreed = rw shape.agreed (fit.counted.units s (config.inside s from)) in
+      let long = shape.agreed in let unit = fit.counted.units s (config.inside s from) in let low : s < length b.agreed = omega arith in
       let early = fit.timed.reported us s config slot in
       let later = fit.timed.apart us (RelayReport s) config slot in
       get_or-set_same b.agreed s _ 0 low

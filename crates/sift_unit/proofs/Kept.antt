@@ -93,7 +93,7 @@ module _ (m : Mission) where
   shape_noted us u f clk Clock heard b s =
       record { direct = s.direct; ins = s.ins; relay = s.relay; made = s.made; outs = s.outs; poll = s.poll; agreed = s.agreed }
   shape_noted us u f clk (Sense x) heard b s = record {
-    direct = length-set b.direct x _ ∙ s.direct;
+    direct = rw (length-set b.direct x _) s.direct;
     ins = s.ins;
     relay = s.relay;
     made = s.made;
@@ -104,7 +104,7 @@ module _ (m : Mission) where
   shape_noted us u f clk (RelaySense x) heard b s = record {
     direct = s.direct;
     ins = length-set b.ins x _ ∙ s.ins;
-    relay = length-set b.relay x _ ∙ s.relay;
+    relay = rw (length-set b.relay x _) s.relay;
     made = s.made;
     outs = s.outs;
     poll = s.poll;
@@ -116,7 +116,7 @@ module _ (m : Mission) where
     relay = s.relay;
     made = s.made;
     outs = length-set b.outs w _ ∙ s.outs;
-    poll = length-set b.poll w _ ∙ s.poll;
+    poll = rw (length-set b.poll w _) s.poll;
     agreed = s.agreed;
   }
   shape_noted us u f clk Report heard b s =
@@ -128,7 +128,7 @@ module _ (m : Mission) where
     made = s.made;
     outs = s.outs;
     poll = s.poll;
-    agreed = length-set b.agreed v _ ∙ s.agreed;
+    agreed = rw (length-set b.agreed v _) s.agreed;
   }
 
   -- and so does a task that is run
@@ -137,7 +137,7 @@ module _ (m : Mission) where
     direct = s.direct;
     ins = s.ins;
     relay = s.relay;
-    made = length-renewed (is_made_by m us u t) (λ w. m.word w b.ins b.outs last) b.made 0 ∙ s.made;
+    made = rw (length-renewed (is_made_by m us u t) (λ w. m.word w b.ins b.outs last) b.made 0) s.made;
     outs = s.outs;
     poll = s.poll;
     agreed = s.agreed;

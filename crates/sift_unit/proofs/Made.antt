@@ -26,7 +26,7 @@ module _ (m : Mission) (us : List ℕ) (u f : ℕ) (clk : ℤ) (a : Account) (h 
       → ((k' : Slot) → is_slot m k' ≡ true → m.heard_in us k' ≤ m.run_in us t → Matches b a k')
       → (w : ℕ) → w < m.words → m.task w ≡ t → Ran m us u a last (run m us u last t b) w
   ran_new t b shape matches w few is = λ e.
-      let low : w < length b.made = rw shape.made few in
+      let long = shape.made in let low : w < length b.made = omega arith in
       let at : m.due us (Out w) ≡ m.run_in us t = fit.timed.run us w config few ∙ ap (λ z. m.run_in us z) is in
       renewed-here (is_made_by m us u t) (λ v. m.word v b.ins b.outs last) b.made w 0 w (omega arith) low (rw (eq-eqb (m.task w) t is, e) refl)
       ∙ fit.read.reads w b.ins a.ins b.outs a.outs last few

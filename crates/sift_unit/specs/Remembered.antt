@@ -1,5 +1,5 @@
 -- What the memory of a board holds, over what it heard in the frame, h, the account of the frame, a, and the words voted before, last.
-use Rattle.std.specs.Prelude.{◌≡◌, ◌≢◌, ℕ, List, length, map, slice_index, true, false, not, ◌&&◌, nat_eq, Option, Some, ℤ, ◌+ℤ◌}
+use Rattle.std.specs.Prelude.{◌≡◌, ◌≢◌, ℕ, ◌≤◌, List, length, map, slice_index, true, false, not, ◌&&◌, nat_eq, Option, Some, ℤ, ◌+ℤ◌}
 use Rattle.sift_base.specs.Units.{has, holds, unit_limit}
 use Rattle.sift_base.specs.declared.slot.Slot.{Slot}
 use Rattle.sift_base.specs.declared.slot.Slot.TheVariants.{Clock, Sense, RelaySense, Out, Report, RelayReport}
@@ -55,12 +55,12 @@ Matches b a (RelayReport s) = Unit {0}
 abbrev pub Settled : Mission → List ℕ → Memory → Account → Type 0
 Settled m us b a = bad_now m us b ≡ a.bad
 
--- the lists of the memory are as long as they are to be
+-- the lists of the memory have a place for each sensor, word and unit; those that the account takes have no more
 pub record IsShaped (m : Mission) (b : Memory) : Type 0 where
-  pub direct : length b.direct ≡ m.sensors
+  pub direct : m.sensors ≤ length b.direct
   pub ins : length b.ins ≡ m.sensors
-  pub relay : length b.relay ≡ m.sensors
-  pub made : length b.made ≡ m.words
+  pub relay : m.sensors ≤ length b.relay
+  pub made : m.words ≤ length b.made
   pub outs : length b.outs ≡ m.words
-  pub poll : length b.poll ≡ m.words
-  pub agreed : length b.agreed ≡ unit_limit
+  pub poll : m.words ≤ length b.poll
+  pub agreed : unit_limit ≤ length b.agreed
