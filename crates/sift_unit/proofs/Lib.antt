@@ -1,6 +1,9 @@
 pub mod Acting
+pub mod Asking
 pub mod Calls
 pub mod Conducts
+pub mod Continuing
+pub mod Driving
 pub mod Ending
 pub mod Exporting
 pub mod HeardNew
@@ -10,7 +13,9 @@ pub mod Kept
 pub mod Made
 pub mod Moving
 pub mod Noting
+pub mod Passing
 pub mod Past
+pub mod Running
 pub mod Saying
 pub mod Sets
 pub mod Skipping

@@ -9,13 +9,12 @@ use Rattle.sift_buffer.specs.Conduct.{Conduct as Acts}
 use Rattle.sift_unit.specs.Mission.{Mission}
 use Rattle.sift_unit.specs.Slots.{is_slot}
 use Rattle.sift_unit.specs.Fits.{Fits, is_caught_in}
-use Rattle.sift_unit.specs.Memory.{Memory, note, run}
+use Rattle.sift_unit.specs.Memory.{Memory, note}
 use Rattle.sift_unit.specs.Remembered.{Heard, IsShaped}
 use Rattle.sift_unit.specs.Desk.{Desk, spot, cursor, heard_mark, run_mark}
 use Rattle.sift_unit.specs.Going.{Accounts, Words, ActsTo, Fate, InRange, Going}
-use Rattle.sift_unit.proofs.Kept.{heard_kept, ran_heard, heard_run, ran_kept, matches_back, matches_run, settled_back, settled_run, shape_noted, shape_run}
+use Rattle.sift_unit.proofs.Kept.{heard_kept, ran_heard, matches_back, settled_back, shape_noted}
 use Rattle.sift_unit.proofs.HeardNew.{heard_new}
-use Rattle.sift_unit.proofs.Made.{ran_new}
 use Rattle.sift_unit.proofs.Acting.{small_of, acts_on}
 use Rattle.sift_unit.proofs.Moving.{few_tasks}
 use Rattle.sift_unit.proofs.Skipping.{kind_is}
@@ -29,12 +28,8 @@ module _ (m : Mission) (fit : Fits m) where
   abbrev pub noted : Desk → Memory
   noted b = note m b.cfg b.unit b.frame b.clk (m.kind b.slot) b.places b.memory
 
-  -- and after the task was run at whose number it stands
-  abbrev pub ran_on : Desk → Memory
-  ran_on b = run m b.cfg b.unit b.last b.slot b.memory
-
   -- the board stays in range
-  range_onto : (b : Desk) (memory : Memory) → InRange m b → b.slot < m.slots → IsShaped m memory → InRange m (onto b memory)
+  pub range_onto : (b : Desk) (memory : Memory) → InRange m b → b.slot < m.slots → IsShaped m memory → InRange m (onto b memory)
   range_onto b memory r low shape = record {
     unit = r.unit;
     frame = r.frame;
@@ -52,11 +47,8 @@ module _ (m : Mission) (fit : Fits m) where
   pub note_range : (b : Desk) → InRange m b → b.slot < m.slots → InRange m (onto b (noted b))
   note_range b r low = range_onto b (noted b) r low (shape_noted m b.cfg b.unit b.frame b.clk (m.kind b.slot) b.places b.memory r.shape)
 
-  pub run_range : (b : Desk) → InRange m b → b.slot < m.tasks → InRange m (onto b (ran_on b))
-  run_range b r low = let few = few_tasks m fit in range_onto b (ran_on b) r (omega arith) (shape_run m b.cfg b.unit b.last b.slot b.memory r.shape)
-
   -- the acts at a slot's end
-  slot_acts : (b : Desk) (c : Acts) (a : Accounts) (h : Words) → InRange m b → (a b.frame).cfg ≡ b.cfg → b.slot < m.slots → b.part ≤ 1 →
+  pub slot_acts : (b : Desk) (c : Acts) (a : Accounts) (h : Words) → InRange m b → (a b.frame).cfg ≡ b.cfg → b.slot < m.slots → b.part ≤ 1 →
       (b.part ≡ 0 → b.other ≡ unit_limit) → ActsTo m b.unit c a h b.frame (cursor b) → ActsTo m b.unit c a h b.frame (spot b.subframe b.part (b.slot + 1) 0)
   slot_acts b c a h r mine low part end acts =
       let few = fit.numbered.few in let other = r.other in
@@ -67,14 +59,14 @@ module _ (m : Mission) (fit : Fits m) where
       acts
 
   -- a slot's mark that lies before the slot's end lies before the cursor, but for this slot's own
-  heard_below : (b : Desk) (k : Slot) → InRange m b → b.slot < m.slots → is_slot m k ≡ true → (b.part ≡ 0 → m.number k ≢ b.slot) →
+  pub heard_below : (b : Desk) (k : Slot) → InRange m b → b.slot < m.slots → is_slot m k ≡ true → (b.part ≡ 0 → m.number k ≢ b.slot) →
       heard_mark m b.cfg k ≤ spot b.subframe b.part (b.slot + 1) 0 → heard_mark m b.cfg k ≤ cursor b
   heard_below b k r low slot ne up =
       let nk = fit.numbered.low k slot in let few = fit.numbered.few in
       dite (ℕ_discrete b.part 0) (λ z. let ne' = ne z in omega arith) (λ z. omega arith)
 
   -- and so does a task's
-  ran_below : (b : Desk) (t : ℕ) → InRange m b → b.slot < m.slots → t < m.tasks → (b.part ≡ 1 → t ≢ b.slot) →
+  pub ran_below : (b : Desk) (t : ℕ) → InRange m b → b.slot < m.slots → t < m.tasks → (b.part ≡ 1 → t ≢ b.slot) →
       run_mark m b.cfg t ≤ spot b.subframe b.part (b.slot + 1) 0 → run_mark m b.cfg t ≤ cursor b
   ran_below b t r low tl ne up =
       let nt = few_tasks m fit in let few = fit.numbered.few in
@@ -155,57 +147,5 @@ module _ (m : Mission) (fit : Fits m) where
                     ran = λ w few' past. ran_heard m b.cfg b.unit b.frame b.clk (a b.frame) (h b.frame) b.last w k0 b.places b.memory
                         (rm.ran w few' (ran_below b (m.task w) r low (fit.counted.task w few') (λ z e. absurd (omega arith)) past));
                   };
-            };
-      }
-
-  -- ---- a task was run
-
-  -- where a board stands that runs a task
-  pub record AtRun (b : Desk) : Type 0 where
-    pub part : b.part ≡ 1
-    pub slot : b.slot < m.tasks
-    pub subframe : b.subframe ≡ m.run_in b.cfg b.slot
-
-  -- a fate of the board afterwards is one of the board before
-  run_fate : (b : Desk) (c : Acts) (a : Accounts) (h : Words) → InRange m b → AtRun b → Fate m (onto b (ran_on b)) c a h → Fate m b c a h
-  run_fate b c a h r at fate = let part = at.part in let low = at.slot in let nt = few_tasks m fit in let few = fit.numbered.few in let other = r.other in record {
-    heard = fate.heard;
-    accounts = fate.accounts;
-    cfg = fate.cfg;
-    clk = fate.clk;
-    agrees = λ member. let ag = fate.agrees member in record {
-      matches = λ k sk past. matches_run m b.cfg b.unit b.frame b.clk (a b.frame) (h b.frame) b.last b.slot k b.memory (ag.matches k sk (omega arith));
-      settled = λ past. settled_run m b.cfg b.unit b.frame b.clk (a b.frame) (h b.frame) b.last b.slot b.memory (ag.settled (omega arith));
-    };
-  }
-
-  -- a board that runs a task keeps what holds of it
-  pub run_going : (b : Desk) (c : Acts) → Going m b c → AtRun b → Going m (onto b (ran_on b)) c
-  run_going b c g at =
-      let r = g.range in let few = fit.numbered.few in let nt = few_tasks m fit in let part = at.part in let low' = at.slot in let sub = at.subframe in
-      let low : b.slot < m.slots = omega arith in
-      record {
-        range = run_range b r low';
-        progress = g.progress;
-        left = g.left;
-        meets = λ a h fate'.
-            let other = r.other in
-            let fate = run_fate b c a h r at fate' in
-            let mt = g.meets a h fate in
-            record {
-              acts = slot_acts b c a h r fate.cfg low (omega arith) (λ z. absurd (omega arith)) mt.acts;
-              ended = mt.ended;
-              begins = mt.begins;
-              last = mt.last;
-              places = λ zero few' sub' p below call. absurd (omega arith);
-              remembers = λ member. let rm = mt.remembers member in let ag = fate.agrees member in record {
-                heard = λ k sk past. heard_run m b.cfg b.unit b.frame b.clk (a b.frame) (h b.frame) b.last b.slot k b.memory
-                    (rm.heard k sk (heard_below b k r low sk (λ z e. absurd (omega arith)) past));
-                ran = λ w few' past. let nk = fit.counted.task w few' in dite (ℕ_discrete (m.task w) b.slot)
-                    (λ e. ran_new m b.cfg b.unit b.frame b.clk (a b.frame) (h b.frame) b.last fit r.config b.slot b.memory r.shape
-                    (λ k' sk' early. ag.matches k' sk' (let nk' = fit.numbered.low k' sk' in omega arith)) w few' e)
-                    (λ ne. ran_kept m b.cfg b.unit b.frame b.clk (a b.frame) (h b.frame) b.last b.slot w b.memory ne
-                    (rm.ran w few' (ran_below b (m.task w) r low nk (λ z. ne) past)));
-              };
             };
       }

@@ -1,6 +1,7 @@
 pub mod Account
 pub mod Acts
 pub mod BoardLaws
+pub mod Boards
 pub mod Conduct
 pub mod Desk
 pub mod Fits
@@ -9,7 +10,9 @@ pub mod Going
 pub mod Keeping
 pub mod Memory
 pub mod Mission
+pub mod Passing
 pub mod Remembered
 pub mod Slots
+pub mod Stepping
 pub mod Stops
 pub mod Tidings
