@@ -6,6 +6,7 @@ pub mod Continuing
 pub mod Driving
 pub mod Ending
 pub mod Exporting
+pub mod Flown
 pub mod HeardNew
 pub mod Hearing
 pub mod Jumping

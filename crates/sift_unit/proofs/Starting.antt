@@ -1,24 +1,28 @@
 -- How a board starts, and how it turns.
-use Rattle.std.proofs.Common.{◌≡◌, inl, inr, ℕ, ◌+◌, ◌*◌, ◌-◌, true, Some, option_map, refl, sym, ap, ◌∙◌, subst, arith, eqb-true}
+use Rattle.std.proofs.Common.{◌≡◌, inl, inr, ℕ, ◌+◌, ◌*◌, ◌-◌, List, length, true, Option, Some, option_map, refl, sym, ap, ◌∙◌, subst, arith, eqb-true}
 use Rattle.std.proofs.lemmas.Bool.{and_parts, cases_lt}
+use Rattle.sift_base.specs.Units.{has, unit_limit}
 use Rattle.sift_buffer.specs.Conduct.{Saying}
+use Rattle.sift_buffer.specs.Conduct.{Conduct as Acts}
 use Rattle.sift_unit.specs.Mission.{Mission}
 use Rattle.sift_unit.specs.Slots.{calls}
 use Rattle.sift_unit.specs.Acts.{stamp_and_moment}
-use Rattle.sift_unit.specs.Desk.{Desk, say_spot, hear_spot, is_end, ended_desk}
+use Rattle.sift_unit.specs.Fits.{Fits}
+use Rattle.sift_unit.specs.Memory.{Memory}
+use Rattle.sift_unit.specs.Remembered.{IsShaped}
+use Rattle.sift_unit.specs.Desk.{Desk, say_spot, hear_spot, is_end, first_desk, ended_desk}
 use Rattle.sift_unit.specs.Going.{Going}
-use Rattle.sift_unit.specs.Keeping.{as_flying}
+use Rattle.sift_unit.specs.Keeping.{IsFresh, as_flying}
 use Rattle.sift_unit.specs.BoardLaws.{StartLaw, TurnLaw, TurnFirstLaw}
 use Rattle.sift_unit.proofs.Tests.{choice_none}
 use Rattle.sift_unit.proofs.Past.{not_past_yet}
 use Rattle.sift_unit.proofs.Standing.{next_mul}
 use Rattle.sift_unit.proofs.Ending.{frame_going}
 
--- a new board keeps to its conduct
-pub start_law : StartLaw
-start_law m u places memory c fit unit wide shape fresh = inl (record {
-  before = λ from s. elim (cases_lt 0 from) [ inl low ↦ inl low | inr low ↦ inr (omega arith, refl, refl) ];
-  going = record {
+-- what holds of a new board
+pub start_going : (m : Mission) (u : ℕ) (places : List (Option ℕ)) (memory : Memory) (c : Acts) → Fits m → has m.units u ≡ true →
+    length places ≡ unit_limit → IsShaped m memory → IsFresh c → Going m (first_desk m u places memory) c
+start_going m u places memory c fit unit wide shape fresh = record {
     range = record {
       unit = unit;
       frame = omega arith;
@@ -47,7 +51,13 @@ start_law m u places memory c fit unit wide shape fresh = inl (record {
       places = λ zero few sub p below call. absurd (omega arith);
       remembers = λ member. record { heard = λ k slot past. absurd (omega arith); ran = λ k slot past. absurd (omega arith) };
     };
-  };
+  }
+
+-- a new board keeps to its conduct
+pub start_law : StartLaw
+start_law m u places memory c fit unit wide shape fresh = inl (record {
+  before = λ from s. elim (cases_lt 0 from) [ inl low ↦ inl low | inr low ↦ inr (omega arith, refl, refl) ];
+  going = start_going m u places memory c fit unit wide shape fresh;
 })
 
 -- the end of a subframe is where its last slot was said

@@ -1,7 +1,7 @@
 -- A board, an account and a memory of the code, as the plain records of the definitions.
-use Rattle.std.specs.Prelude.{◌≡◌, ℕ, ◌+◌, ◌*◌, ◌<◌, ◌≤◌, map, true, None}
+use Rattle.std.specs.Prelude.{◌≡◌, ℕ, ◌+◌, ◌*◌, ◌<◌, ◌≤◌, map, length, true, None}
 use Rattle.std.specs.Vec.{vec_capacity}
-use Rattle.sift_base.specs.Units.{has}
+use Rattle.sift_base.specs.Units.{has, unit_limit}
 use Rattle.sift_buffer.specs.Conduct.{with_entered}
 use Rattle.sift_buffer.specs.Conduct.{Conduct as Acts}
 use Rattle.sift_buffer.specs.Ranges.{Ranges}
@@ -9,7 +9,11 @@ use Rattle.sift_buffer.specs.Views.{View}
 use Rattle.sift_unit.specs.Mission.{Mission}
 use Rattle.sift_unit.specs.Account.{Account}
 use Rattle.sift_unit.specs.Memory.{Memory}
-use Rattle.sift_unit.specs.Desk.{Desk}
+use Rattle.sift_unit.specs.Acts.{BoardKeeps}
+use Rattle.sift_unit.specs.Fits.{Fits}
+use Rattle.sift_unit.specs.Remembered.{IsShaped}
+use Rattle.sift_unit.specs.Keeping.{IsFresh}
+use Rattle.sift_unit.specs.Desk.{Desk, first_desk, accounts_of}
 use Rattle.sift_unit.specs.Going.{Going}
 use Rattle.sift_unit.specs.declared.account.Account.{Account as TheAccount}
 use Rattle.sift_unit.specs.declared.memory.Memory.{Memory as TheMemory}
@@ -88,3 +92,19 @@ pub record GoesOn (m : Mission) (b b' : TheBoard) : Type 0 where
   pub unit : b'.unit ≡ b.unit
   pub room : m.frames ≤ vec_capacity b'.accounts
   pub frame : b'.frame * m.period + b'.subframe ≡ b.frame * m.period + b.subframe + 1
+
+-- the board of unit u before the flight: in shape, and with room for all its accounts
+pub record IsNewBoard (m : Mission) (u : ℕ) (b : TheBoard) : Type 0 where
+  pub desk : desk_of b ≡ first_desk m u b.places (memory_of b.memory)
+  pub places : length b.places ≡ unit_limit
+  pub shape : IsShaped m (memory_of b.memory)
+  pub room : m.frames ≤ vec_capacity b.accounts
+
+-- a new board drives on a port of its unit on which nothing was done, where the unit is never stray
+abbrev pub NewBoardLaw : Type 0
+NewBoardLaw = (m : Mission) (u : ℕ) (b : TheBoard) (v : View) → Fits m → has m.units u ≡ true → m.storm u ≡ None → IsNewBoard m u b →
+    v.unit ≡ u → IsPortOf m v.ranges → IsFresh v.conduct → Drives m b v
+
+-- a board that has driven, whatever words its port gave, guarantees its acts and accounts in all frames that it has ended
+abbrev pub DriveLaw : Type 0
+DriveLaw = (m : Mission) (b : TheBoard) (v : View) → Fits m → Drives m b v → BoardKeeps m b.unit v.conduct (accounts_of m (desk_of b)) b.frame

@@ -1,7 +1,8 @@
 //! What a unit has to do, by its mission.
 
-ghost use Rattle.std.specs.Prelude.{◌≡◌, ◌<◌, ◌≤◌, ℕ, true};
+ghost use Rattle.std.specs.Prelude.{◌≡◌, ◌<◌, ◌≤◌, ℕ, true, length};
 ghost use Rattle.sift_base.specs.Units.{has};
+ghost use Rattle.sift_base.specs.Layout.{word_limit};
 ghost use Rattle.sift_unit.specs.Mission.{Mission};
 ghost use Rattle.sift_unit.specs.Slots.{calls};
 ghost use Rattle.sift_unit.specs.Acts.{IsConfigOf};
@@ -40,6 +41,28 @@ pub trait Duty {
     /// How many tasks there are.
     fn tasks(&self) -> usize
         ensures { result ≡ (mission self.now).tasks };
+
+    /// How many sensors there are.
+    fn sensors(&self) -> usize
+        ensures { result ≡ (mission self.now).sensors };
+
+    /// How many output words there are.
+    fn words(&self) -> usize
+        ensures { result ≡ (mission self.now).words };
+
+    /// All units, which are the first configuration.
+    fn everyone(&self) -> Config
+        ensures { result ≡ (mission self.now).units };
+
+    /// The offset of a unit's clock at the start.
+    fn offset(&self, unit: UnitId) -> i64
+        requires { has (mission self.now).units unit ≡ true }
+        ensures { result ≡ (mission self.now).offset unit };
+
+    /// The words before frame 0.
+    fn starts(&self) -> &[Word]
+        ensures words { result.now ≡ (mission self.now).starts }
+        ensures few { length result.now ≤ word_limit };
 
     /// The subframe in which a slot is said.
     fn due(&self, config: &Config, slot: usize) -> u32

@@ -2,6 +2,7 @@
 
 ghost use Rattle.sift_unit.specs.Slots.{NothingIsSaidToItself};
 ghost use Rattle.sift_unit.specs.BoardLaws.{KeepLaw, StartLaw, TurnLaw, TurnFirstLaw, JumpLaw};
+ghost use Rattle.sift_unit.specs.Boards.{NewBoardLaw, DriveLaw};
 
 /// No unit says anything to itself.
 pub fn a_unit_says_nothing_to_itself()
@@ -31,4 +32,15 @@ pub fn boards_that_turn_at_once_keep_to_it()
 /// A board may jump to where there is no stop before.
 pub fn boards_may_jump()
     ensures { JumpLaw }
+{}
+
+/// A new board may step on a port of its unit on which nothing was done.
+pub fn new_boards_may_step()
+    ensures { NewBoardLaw }
+{}
+
+/// A board that has stepped, on whatever port, guarantees its acts and its accounts of all frames
+/// that it has ended.
+pub fn boards_that_step_keep_to_their_conduct()
+    ensures { DriveLaw }
 {}

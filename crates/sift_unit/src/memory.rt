@@ -1,5 +1,10 @@
 //! What a board remembers in a frame.
 
+ghost use Rattle.sift_unit.specs.Remembered.{IsShaped};
+ghost use Rattle.sift_unit.specs.Boards.{memory_of};
+
+use crate::duty::Duty;
+use crate::words::zeros;
 use arrayvec::ArrayVec;
 use sift_base::{UnitSet, Word};
 
@@ -26,4 +31,24 @@ pub struct Memory {
     pub reports: [Option<Word>; 8],
     /// Each unit's report, as it was agreed.
     pub agreed: [Word; 8],
+}
+
+impl Memory {
+    /// A memory with room for all that is to be remembered of a mission's frames.
+    pub(crate) fn blank<M: Duty>(mission: &M) -> Memory
+        ensures { IsShaped (M.mission mission.now) (memory_of result) }
+    {
+        Memory {
+            clock: UnitSet::empty(),
+            next_clk: 0,
+            direct: [None; 8],
+            ins: zeros(mission.sensors()),
+            relay: [UnitSet::empty(); 8],
+            made: [Word::of(0); 64],
+            outs: zeros(mission.words()),
+            poll: [UnitSet::empty(); 64],
+            reports: [None; 8],
+            agreed: [Word::of(0); 8],
+        }
+    }
 }

@@ -12,8 +12,8 @@ use crate::board::Board;
 use crate::duty::Duty;
 use crate::part::Part;
 use crate::stepped::Stepped;
-use arrayvec::ArrayVec;
-use sift_base::{UnitId, Word};
+use crate::words::copy_of;
+use sift_base::UnitId;
 use sift_buffer::{Entering, Port};
 
 impl Board {
@@ -160,15 +160,4 @@ fn copied(clk: &i64) -> i64
     ensures { result ≡ clk.now }
 {
     *clk
-}
-
-/// A list of the same words.
-fn copy_of(words: &ArrayVec<Word, 64>) -> ArrayVec<Word, 64>
-    ensures { result.items ≡ words.now.items }
-{
-    let mut copy = ArrayVec::new();
-    for i in 0..words.len() {
-        copy.push(words[i]);
-    }
-    copy
 }
