@@ -8,7 +8,7 @@ use crate::account::Account;
 use crate::duty::Duty;
 use crate::memory::Memory;
 use crate::part::Part;
-use crate::words::copy_of;
+use crate::lists::copy_of;
 use arrayvec::ArrayVec;
 use sift_base::{NoMemory, UnitId, Word};
 use sift_config::Config;

@@ -10,7 +10,7 @@ mod part;
 mod stepped;
 mod stepping;
 mod walk;
-mod words;
+mod lists;
 
 pub use account::Account;
 pub use board::Board;

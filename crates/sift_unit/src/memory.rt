@@ -4,7 +4,7 @@ ghost use Rattle.sift_unit.specs.Remembered.{IsShaped};
 ghost use Rattle.sift_unit.specs.Boards.{memory_of};
 
 use crate::duty::Duty;
-use crate::words::zeros;
+use crate::lists::zeros;
 use arrayvec::ArrayVec;
 use sift_base::{UnitSet, Word};
 

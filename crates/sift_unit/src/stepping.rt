@@ -12,7 +12,7 @@ use crate::board::Board;
 use crate::duty::Duty;
 use crate::part::Part;
 use crate::stepped::Stepped;
-use crate::words::copy_of;
+use crate::lists::copy_of;
 use sift_base::UnitId;
 use sift_buffer::{Entering, Port};
 

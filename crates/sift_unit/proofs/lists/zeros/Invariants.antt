@@ -1,5 +1,5 @@
 use Rattle.std.proofs.Common.{◌≡◌, length}
-use Rattle.sift_unit.proofs.words.zeros.Given as goal
+use Rattle.sift_unit.proofs.lists.zeros.Given as goal
 
 -- so many zeros are there
 abbrev pub invariant-loop : goal.invariant-loop

@@ -1,5 +1,5 @@
 use Rattle.std.proofs.Common.{◌≡◌, take}
-use Rattle.sift_unit.proofs.words.copy_of.Given as goal
+use Rattle.sift_unit.proofs.lists.copy_of.Given as goal
 
 -- the first words are copied
 abbrev pub invariant-loop-i : goal.invariant-loop-i
