@@ -1,7 +1,9 @@
-//! Laws about missions, and about who speaks to whom.
+//! Laws about missions, about who speaks to whom, and about what boards do.
 
 ghost use Rattle.sift_unit.specs.Premises.{PartsMakeItFit, PartsMakeItFlyable};
 ghost use Rattle.sift_unit.specs.Slots.{NothingIsSaidToItself};
+ghost use Rattle.sift_unit.specs.BoardLaws.{KeepLaw, StartLaw, TurnLaw, TurnFirstLaw, JumpLaw};
+ghost use Rattle.sift_unit.specs.Boards.{NewBoardLaw, DriveLaw};
 
 use sift_script::{
     faults_are_for_good, one_unit_is_steady, working_units_have_not_turned,
@@ -37,3 +39,39 @@ pub fn fitting_parts_make_a_flight()
     working_units_have_not_turned();
     words_have_their_task();
 }
+
+/// A board, flying or turned, guarantees its acts and its accounts of all frames that it has ended.
+pub fn boards_keep_to_their_conduct()
+    ensures { KeepLaw }
+{}
+
+/// A new board does so on a port on which nothing was done.
+pub fn new_boards_keep_to_it()
+    ensures { StartLaw }
+{}
+
+/// A board that turns at a frame's end does so.
+pub fn boards_that_turn_keep_to_it()
+    ensures { TurnLaw }
+{}
+
+/// A board that turns before anything else does so.
+pub fn boards_that_turn_at_once_keep_to_it()
+    ensures { TurnFirstLaw }
+{}
+
+/// A board may jump to where there is no stop before.
+pub fn boards_may_jump()
+    ensures { JumpLaw }
+{}
+
+/// A new board may step on a port of its unit on which nothing was done.
+pub fn new_boards_may_step()
+    ensures { NewBoardLaw }
+{}
+
+/// A board that has stepped, on whatever port, guarantees its acts and its accounts of all frames
+/// that it has ended.
+pub fn boards_that_step_keep_to_their_conduct()
+    ensures { DriveLaw }
+{}

@@ -1,0 +1,75 @@
+-- The account of a frame meets the equations of conduct, once all was heard.
+use Rattle.std.proofs.Common.{◌≡◌, inl, inr, ℕ, List, true, not, nat_eq, refl, sym, ap, ◌∙◌, lt-ltb}
+use Rattle.std.specs.Prelude.{ℤ, length, slice_index, ◌+ℤ◌}
+use Rattle.std.proofs.lemmas.Bool.{cases_Bool}
+use Rattle.sift_base.specs.Units.{has, has_bit, holds}
+use Rattle.sift_base.specs.declared.slot.Slot.{Slot}
+use Rattle.sift_base.specs.declared.slot.Slot.TheVariants.{Clock, RelaySense, Out, RelayReport}
+use Rattle.sift_clock.specs.Correction.{next_offset}
+use Rattle.sift_unit.specs.Mission.{Mission}
+use Rattle.sift_unit.specs.Slots.{is_slot}
+use Rattle.sift_unit.specs.Account.{Account, Places}
+use Rattle.sift_unit.specs.Conduct.{Conduct, report_in, report_of, reading_by}
+use Rattle.sift_unit.specs.Frames.{BusyConduct, IdleConduct}
+use Rattle.sift_unit.specs.Acts.{IsConfigOf}
+use Rattle.sift_unit.specs.Memory.{Memory}
+use Rattle.sift_unit.specs.Tidings.{busy_account, idle_account, names_now}
+use Rattle.sift_unit.specs.Remembered.{Heard, IsShaped}
+use Rattle.sift_unit.proofs.Tests.{apart, and_in, any-same, any-and}
+use Rattle.sift_unit.proofs.Sets.{holds-gathered, next-same}
+
+module _ (m : Mission) (us : List ℕ) (u f : ℕ) (clk : ℤ) (a : Account) (h : Places) (last : List ℕ) (config : IsConfigOf m us) where
+  -- the conduct of the frame
+  conducts : (b : Memory) → IsShaped m b → a ≡ busy_account m us u clk b →
+      ((k : Slot) → is_slot m k ≡ true → Heard m us u f clk a h last b k) → Conduct m us u f a h last
+  conducts b shape e heard = record {
+    sensors = record {
+      count = ap (λ (z : Account). length z.ins) e ∙ shape.ins;
+      agrees = λ x low. ap (λ (z : Account). slice_index z.ins x) e ∙ (heard (RelaySense x) (lt-ltb x m.sensors low)).0;
+    };
+    tasks = record {
+      count = ap (λ (z : Account). length z.outs) e ∙ shape.outs;
+      votes = λ w low. ap (λ (z : Account). slice_index z.outs w) e ∙ (heard (Out w) (lt-ltb w m.words low)).0;
+    };
+    catches = record {
+      polls = λ v. ap (λ (z : Account). holds z.bad.poll v) e ∙ holds-gathered _ us v
+          ∙ and_in (has us v) _ _ (λ t. any-same m.words _ _ (λ w low. (heard (Out w) (lt-ltb w m.words low)).1 v ∙ rw t refl));
+      relays = λ v. ap (λ (z : Account). holds z.bad.relay v) e ∙ holds-gathered _ us v
+          ∙ and_in (has us v) _ _ (λ t. any-same m.sensors _ _ (λ x low. (heard (RelaySense x) (lt-ltb x m.sensors low)).1 v ∙ rw t refl)
+          ∙ any-and m.sensors (not (nat_eq v u)) _);
+      clocks = λ v. ap (λ (z : Account). holds z.bad.clock v) e ∙ (heard Clock refl).0 v ∙ rw ck refl;
+    };
+    reports = record { next = ap (λ (z : Account). z.next_cfg) e ∙ next-same (names_now m us u b) (λ r v. has_bit (report_of us u a h r) v) us named };
+    clocks = record { next = ap (λ (z : Account). z.next_clk) e ∙ (heard Clock refl).1 ∙ (λ i. next_offset (m.skew +ℤ m.error) us (reading_by m u (back i) h) (back i) u (m.drift u)) };
+  }
+    where
+      ck : a.clk ≡ clk
+      ck = ap (λ (z : Account). z.clk) e
+
+      back : clk ≡ a.clk
+      back = sym ck
+
+      mine : busy_account m us u clk b ≡ a
+      mine = sym e
+
+      named : (r v : ℕ) → has us r ≡ true → names_now m us u b r v ≡ has_bit (report_of us u a h r) v
+      named r v from = ap (λ w. has_bit w v) (elim (cases_Bool (nat_eq r u)) [
+        | inl t ↦ rw t (λ i. report_in (mine i))
+        | inr t ↦ rw t (heard (RelayReport r) (config.inside r from) from (apart r u t))
+      ])
+
+  -- the conduct of a unit that is in its configuration
+  pub busy_is : (b : Memory) → IsShaped m b → a ≡ busy_account m us u clk b →
+      ((k : Slot) → is_slot m k ≡ true → Heard m us u f clk a h last b k) → BusyConduct m us u f a h last
+  busy_is b shape e heard = record { busy = ap (λ (z : Account). z.idle) e; conduct = conducts b shape e heard }
+
+-- the account of a unit that isn't
+pub idle_is : (us : List ℕ) (clk : ℤ) (a : Account) → a ≡ idle_account us clk → IdleConduct a
+idle_is us clk a e = record {
+  idle = ap (λ (z : Account). z.idle) e;
+  ins = ap (λ (z : Account). z.ins) e;
+  outs = ap (λ (z : Account). z.outs) e;
+  bad = ap (λ (z : Account). z.bad) e;
+  next_cfg = ap (λ (z : Account). z.next_cfg) e ∙ sym (ap (λ (z : Account). z.cfg) e);
+  next_clk = ap (λ (z : Account). z.next_clk) e ∙ sym (ap (λ (z : Account). z.clk) e);
+}

@@ -1,0 +1,98 @@
+-- A board goes on after it has entered, and what its step then came to.
+use Rattle.std.proofs.Common.{◌≡◌, inl, inr, ℕ, ◌+◌, ◌*◌, ◌<◌, ◌≤◌, ◌++◌, List, [], ◌∷◌, true, sym, ap, ◌∙◌, subst, arith}
+use Rattle.std.specs.Prelude.{ℤ}
+use Rattle.sift_buffer.specs.Conduct.{with_entered}
+use Rattle.sift_buffer.specs.Conduct.{Conduct as Acts}
+use Rattle.sift_buffer.specs.Views.{View, view_with_said, view_with_heard, EntersAfterRound}
+use Rattle.sift_unit.specs.Mission.{Mission}
+use Rattle.sift_unit.specs.Account.{Account}
+use Rattle.sift_unit.specs.Fits.{Fits}
+use Rattle.sift_unit.specs.Desk.{Desk, is_end, account_now, moved}
+use Rattle.sift_unit.specs.Going.{InRange, Going}
+use Rattle.sift_unit.specs.Passing.{Passes, distance, left}
+use Rattle.sift_unit.specs.Stepping.{OneCall, HasMoved, HasLanded, Steps, said, heard, entered}
+use Rattle.sift_unit.specs.declared.stepped.Stepped.{Stepped}
+use Rattle.sift_unit.specs.declared.stepped.Stepped.TheVariants.{Moved, NotYet, Landed}
+use Rattle.sift_unit.proofs.Skipping.{subframe_going}
+use Rattle.sift_unit.proofs.Starting.{end_is}
+use Rattle.sift_unit.proofs.Ending.{AtFrameEnd, frame_going}
+use Rattle.sift_unit.proofs.Standing.{next_mul, frame_low}
+
+module _ (m : Mission) (fit : Fits m) (b : Desk) (end : is_end m b ≡ true) where
+  -- to the next subframe
+  pub subframe_on : b.subframe + 1 < m.period → (c : Acts) → Going m b c → Going m (moved b (b.subframe + 1) 0 0 0 b.places) (with_entered c)
+  subframe_on low c g = let t = end_is m b end in subframe_going m fit b c g t.1 t.0 low
+
+  -- the board at the next frame's start, with these lists
+  abbrev pub next_desk : List ℕ → ℤ → List ℕ → List Account → Desk
+  next_desk cfg clk last accounts =
+      record b { frame = b.frame + 1; subframe = 0; part = 0; slot = 0; other = 0; cfg = cfg; clk = clk; last = last; accounts = accounts }
+
+  -- to the next frame, with what the account says
+  pub frame_on : b.subframe + 1 ≡ m.period → b.frame < m.frames → (account : Account) (cfg : List ℕ) (clk : ℤ) (last : List ℕ) (accounts : List Account) →
+      account ≡ account_now m b → cfg ≡ account.next_cfg → clk ≡ account.next_clk → last ≡ account.outs → accounts ≡ b.accounts ++ account ∷ [] →
+      (c : Acts) → Going m b c → Going m (next_desk cfg clk last accounts) (with_entered c)
+  frame_on high room account cfg clk last accounts is ec ek el pushed c g =
+      let t = end_is m b end in
+      let at : AtFrameEnd m fit b = record { slot = t.1; part = t.0; subframe = high; frame = room } in
+      let done = frame_going m fit b b.memory accounts g.range.shape (pushed ∙ ap (λ z. b.accounts ++ z ∷ []) is) c g at in
+      subst (λ z. Going m (next_desk z clk last accounts) (with_entered c)) (sym (ec ∙ ap (λ (z : Account). z.next_cfg) is))
+      (subst (λ z. Going m (next_desk (account_now m b).next_cfg z last accounts) (with_entered c)) (sym (ek ∙ ap (λ (z : Account). z.next_clk) is))
+      (subst (λ z. Going m (next_desk (account_now m b).next_cfg (account_now m b).next_clk z accounts) (with_entered c)) (sym (el ∙ ap (λ (z : Account). z.outs) is))
+      done))
+
+  -- how far it has come then
+  pub next_place : b.subframe + 1 ≡ m.period → (b.frame + 1) * m.period + 0 ≡ b.frame * m.period + b.subframe + 1
+  next_place high = let q = next_mul b.frame m.period in omega arith
+
+  module _ (r : InRange m b) (room : b.frame < m.frames) (b' : Desk) (r' : InRange m b') (on : b'.frame * m.period + b'.subframe ≡ b.frame * m.period + b.subframe + 1) where
+    -- it is nearer to the flight's end
+    nearer : distance m b' < distance m b
+    nearer =
+        let t = end_is m b end in let t0 = t.0 in let t1 = t.1 in let few = fit.numbered.few in let other = r.other in let inside = r.subframe in
+        let up = frame_low m.period b.frame m.frames room in omega arith
+
+    -- it has moved, where frames are left
+    pub enter_moves : (v v' : View) → EntersAfterRound v v' → (b'.frame ≡ m.frames → ⊥) → HasMoved m b v b' v'
+    enter_moves v v' e more = record { call = entered e; unfinished = (let most = r'.frame in let ne = more in omega arith); nearer = nearer }
+
+    -- and landed, where none is
+    pub enter_lands : (v v' : View) → EntersAfterRound v v' → b'.frame ≡ m.frames → HasLanded m b v b' v'
+    enter_lands v v' e done = record { ended = done; cause = inr (room, e) }
+
+-- ---- a step from a place before
+
+module _ (m : Mission) (b b1 b' : Desk) (v v' : View) (p : Passes m b b1) (near : left b1 ≤ left b) where
+  -- it is no farther from the flight's end
+  no_farther : distance m b1 ≤ distance m b
+  no_farther = let f = p.frame in let s = p.subframe in let same : b1.frame * m.period ≡ b.frame * m.period = ap (λ n. n * m.period) f in omega arith
+
+  -- one call is the same call
+  call_from : OneCall b1 v b' v' → OneCall b v b' v'
+  call_from (said k q s w ev es ef) = said k q s w (subst (λ f. v' ≡ view_with_said v f k q s w) p.frame ev) (es ∙ p.subframe) (ef ∙ p.frame)
+  call_from (heard k q s w ev es ef) = heard k q s w (subst (λ f. v' ≡ view_with_heard v f k q s w) p.frame ev) (es ∙ p.subframe) (ef ∙ p.frame)
+  call_from (entered e) = entered e
+
+  pub moves_from : HasMoved m b1 v b' v' → HasMoved m b v b' v'
+  moves_from h = record { call = call_from h.call; unfinished = h.unfinished; nearer = (let n = no_farther in let x = h.nearer in omega arith) }
+
+  -- what it came to is the same
+  pub steps_from : (st : Stepped) (S : ℕ → ℕ → Type 0) → b1.frame < m.frames → Steps m b1 v st b' v' S → Steps m b v st b' v' S
+  steps_from Moved S room h = moves_from h
+  steps_from (NotYet u n) S room h = (
+    record {
+      behind = h.0.behind;
+      frame = h.0.frame ∙ p.frame;
+      subframe = h.0.subframe ∙ p.subframe;
+      unfinished = (let f = p.frame in omega arith);
+      no_farther = (let n = no_farther in let x = h.0.no_farther in omega arith);
+    },
+    h.1,
+  )
+  steps_from Landed S room h = record {
+    ended = h.ended;
+    cause = elim h.cause [
+      | inl same ↦ absurd (let e = ap (λ (z : Desk). z.frame) same.0 in let done = h.ended in omega arith)
+      | inr e ↦ inr ((let f = p.frame in let low = e.0 in omega arith), e.1)
+    ];
+  }

@@ -1,0 +1,71 @@
+-- A board jumps within its subframe, past places at which it has nothing to do.
+use Rattle.std.proofs.Common.{◌≡◌, inl, inr, ℕ, ◌≤◌, false, refl, arith}
+use Rattle.std.proofs.lemmas.Bool.{cases_lt}
+use Rattle.sift_base.specs.Units.{has}
+use Rattle.sift_buffer.specs.Conduct.{Conduct as Acts}
+use Rattle.sift_unit.specs.Mission.{Mission}
+use Rattle.sift_unit.specs.Fits.{Fits}
+use Rattle.sift_unit.specs.Desk.{Desk, spot, cursor, hear_spot, say_spot, heard_mark, run_mark, moved}
+use Rattle.sift_unit.specs.Going.{InRange, Going}
+use Rattle.sift_unit.specs.Stops.{IsNothingBetween, hearing, running, saying}
+use Rattle.sift_unit.specs.BoardLaws.{JumpLaw}
+use Rattle.sift_unit.proofs.Tests.{not_both}
+use Rattle.sift_unit.proofs.Calls.{call_of}
+use Rattle.sift_unit.proofs.Acting.{small_of}
+use Rattle.sift_unit.proofs.Moving.{Skips, few_tasks, skip_going}
+
+module _ (m : Mission) (fit : Fits m) where
+  -- from the start of a slot to the next stop, or the subframe's end
+  pub jump_skips : (b : Desk) (t k : ℕ) → InRange m b → b.other ≡ 0 → t ≤ 2 → k ≤ m.slots → cursor b ≤ spot b.subframe t k 0 →
+      IsNothingBetween m b.cfg (cursor b) (spot b.subframe t k 0) → Skips m fit b b.subframe t k 0
+  jump_skips b t k r at ht hk up none = let few = fit.numbered.few in record {
+    free = record {
+      up = up;
+      heard = λ member j slot low. let nj = fit.numbered.low j slot in elim (cases_lt (cursor b) (heard_mark m b.cfg j)) [
+        | inl over ↦ absurd (none _ (hearing j slot refl) (omega arith) (omega arith))
+        | inr z ↦ z
+      ];
+      ran = λ member t' tl low. let nt = few_tasks m fit in elim (cases_lt (cursor b) (run_mark m b.cfg t')) [
+        | inl over ↦ absurd (none _ (running t' tl refl) (omega arith) (omega arith))
+        | inr z ↦ z
+      ];
+    };
+    says = λ j q call low.
+        let sm = small_of m b.cfg j b.unit q fit r.config call in let s1 = sm.number in let s2 = sm.to in
+        elim (cases_lt (say_spot m b.cfg j q) (cursor b)) [
+          | inl z ↦ z
+          | inr over ↦ absurd (none _ (saying j sm.slot refl) (omega arith) (omega arith))
+        ];
+    hears = λ j q call low.
+        let sm = small_of m b.cfg j q b.unit fit r.config call in let s1 = sm.number in let s2 = sm.from in
+        elim (cases_lt (hear_spot m b.cfg j q) (cursor b)) [
+          | inl z ↦ z
+          | inr over ↦ absurd (none _ (hearing j sm.slot refl) (omega arith) (omega arith))
+        ];
+    subframe = r.subframe;
+    part = ht;
+    slot = hk;
+    other = omega arith;
+  }
+
+  -- a unit outside its configuration has nothing to do in a subframe
+  pub idle_skips : (b : Desk) → InRange m b → has b.cfg b.unit ≡ false → cursor b ≤ spot b.subframe 2 m.slots 0 → Skips m fit b b.subframe 2 m.slots 0
+  idle_skips b r out up = record {
+    free = record { up = up; heard = λ member. absurd (not_both _ out member); ran = λ member. absurd (not_both _ out member) };
+    says = λ k q call low. absurd (not_both _ out (call_of m b.cfg k b.unit q call).from);
+    hears = λ k p call low. absurd (not_both _ out (call_of m b.cfg k p b.unit call).to);
+    subframe = r.subframe;
+    part = omega arith;
+    slot = omega arith;
+    other = omega arith;
+  }
+
+  -- so it goes to the subframe's end
+  pub idle_going : (b : Desk) (c : Acts) → Going m b c → has b.cfg b.unit ≡ false → cursor b ≤ spot b.subframe 2 m.slots 0 →
+      Going m (moved b b.subframe 2 m.slots 0 b.places) c
+  idle_going b c g out up = skip_going m fit b b.subframe 2 m.slots 0 c c.progress g (idle_skips b g.range out up) (inl refl) g.progress
+
+-- a board may jump to where there is no stop before
+pub jump_law : JumpLaw
+jump_law m b c t k fit g at ht hk up none =
+    skip_going m fit b b.subframe t k 0 c c.progress g (jump_skips m fit b t k g.range at ht hk up none) (inl refl) g.progress

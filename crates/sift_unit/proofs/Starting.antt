@@ -1,0 +1,92 @@
+-- How a board starts, and how it turns.
+use Rattle.std.proofs.Common.{◌≡◌, inl, inr, ℕ, ◌+◌, ◌*◌, ◌-◌, List, length, true, Option, Some, option_map, refl, sym, ap, ◌∙◌, subst, arith, eqb-true}
+use Rattle.std.proofs.lemmas.Bool.{and_parts, cases_lt}
+use Rattle.sift_base.specs.Units.{has, unit_limit}
+use Rattle.sift_buffer.specs.Conduct.{Saying}
+use Rattle.sift_buffer.specs.Conduct.{Conduct as Acts}
+use Rattle.sift_unit.specs.Mission.{Mission}
+use Rattle.sift_unit.specs.Slots.{calls}
+use Rattle.sift_unit.specs.Acts.{stamp_and_moment}
+use Rattle.sift_unit.specs.Fits.{Fits}
+use Rattle.sift_unit.specs.Memory.{Memory}
+use Rattle.sift_unit.specs.Remembered.{IsShaped}
+use Rattle.sift_unit.specs.Desk.{Desk, say_spot, hear_spot, is_end, first_desk, ended_desk}
+use Rattle.sift_unit.specs.Going.{Going}
+use Rattle.sift_unit.specs.Keeping.{IsFresh, as_flying}
+use Rattle.sift_unit.specs.BoardLaws.{StartLaw, TurnLaw, TurnFirstLaw}
+use Rattle.sift_unit.proofs.Tests.{choice_none}
+use Rattle.sift_unit.proofs.Past.{not_past_yet}
+use Rattle.sift_unit.proofs.Standing.{next_mul}
+use Rattle.sift_unit.proofs.Ending.{frame_going}
+
+-- what holds of a new board
+pub start_going : (m : Mission) (u : ℕ) (places : List (Option ℕ)) (memory : Memory) (c : Acts) → Fits m → has m.units u ≡ true →
+    length places ≡ unit_limit → IsShaped m memory → IsFresh c → Going m (first_desk m u places memory) c
+start_going m u places memory c fit unit wide shape fresh = record {
+    range = record {
+      unit = unit;
+      frame = omega arith;
+      subframe = (let long = fit.counted.period in omega arith);
+      part = omega arith;
+      slot = omega arith;
+      other = omega arith;
+      count = refl;
+      config = fit.config;
+      configs = λ f d low. absurd (omega arith);
+      places = wide;
+      shape = shape;
+    };
+    progress = fresh.progress ∙ (let z : 0 ≡ 0 * m.period + 0 = omega arith in z);
+    left = fresh.left;
+    meets = λ a h fate. record {
+      acts = record {
+        said = λ f k q slot. fresh.said f (m.number k) q
+            ∙ sym (choice_none {A = Saying} (calls m (a f).cfg k u q) _ _ (not_past_yet 0 0 f (say_spot m (a f).cfg k q) (omega arith) refl));
+        heard = λ f k p slot. ap (λ x. option_map stamp_and_moment x) (fresh.heard f (m.number k) p)
+            ∙ sym (choice_none {A = ℕ × ℕ} (calls m (a f).cfg k p u) _ _ (not_past_yet 0 0 f (hear_spot m (a f).cfg k p) (omega arith) refl));
+      };
+      ended = λ f low. absurd (omega arith);
+      begins = record { cfg = fate.cfg; clk = fate.clk };
+      last = refl;
+      places = λ zero few sub p below call. absurd (omega arith);
+      remembers = λ member. record { heard = λ k slot past. absurd (omega arith); ran = λ k slot past. absurd (omega arith) };
+    };
+  }
+
+-- a new board keeps to its conduct
+pub start_law : StartLaw
+start_law m u places memory c fit unit wide shape fresh = inl (record {
+  before = λ from s. elim (cases_lt 0 from) [ inl low ↦ inl low | inr low ↦ inr (omega arith, refl, refl) ];
+  going = start_going m u places memory c fit unit wide shape fresh;
+})
+
+-- the end of a subframe is where its last slot was said
+pub end_is : (m : Mission) (b : Desk) → is_end m b ≡ true → (b.part ≡ 2) × (b.slot ≡ m.slots)
+end_is m b e = let t = and_parts _ _ e in (eqb-true b.part 2 t.0, eqb-true b.slot m.slots t.1)
+
+-- a board turns at a frame's end
+pub turn_law : TurnLaw
+turn_law m b c memory accounts fit g storm end high room shape pushed =
+    let t = end_is m b end in let p = g.progress in let q = next_mul b.frame m.period in let long = fit.counted.period in
+    let next = frame_going m fit b memory accounts shape pushed c g (record { slot = t.1; part = t.0; subframe = high; frame = room }) in
+    record {
+      storm = storm;
+      at = refl;
+      left = p ∙ (let z : b.frame * m.period + b.subframe ≡ (b.frame + 1) * m.period - 1 = omega arith in z);
+      progress = refl;
+      going = subst (λ n. Going m (ended_desk m b memory accounts) (as_flying c n)) (let z : c.progress + 1 ≡ (b.frame + 1) * m.period + 0 = omega arith in z)
+          (subst (λ n. Going m (ended_desk m b memory accounts) (record c { progress = c.progress + 1; left = n })) g.left next);
+    }
+
+-- a board turns before anything else
+pub turn_first_law : TurnFirstLaw
+turn_first_law m b c g storm z1 z2 =
+    let p = g.progress in
+    let zm : b.frame * m.period ≡ 0 = rw z1 (omega arith) in
+    record {
+      storm = storm ∙ ap Some (sym z1);
+      at = z2;
+      left = p ∙ (let w : b.frame * m.period + b.subframe ≡ b.frame * m.period - 1 = omega arith in w);
+      progress = refl;
+      going = subst (λ n. Going m b (as_flying c n)) p (subst (λ n. Going m b (record c { left = n })) g.left g);
+    }

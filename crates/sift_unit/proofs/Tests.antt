@@ -1,0 +1,66 @@
+-- Tests of numbers, joined.
+use Rattle.std.proofs.Common.{◌≡◌, ◌≢◌, ℕ, zero, suc, ◌<◌, Bool, true, false, not, ◌&&◌, ◌||◌, nat_eq, Option, Some, None, refl, sym, ◌∙◌, arith, eq-eqb}
+use Rattle.std.specs.Prelude.{if◌then◌else◌}
+use Rattle.sift_unit.specs.Conduct.{any_below}
+
+-- two tests that pass
+pub both : (a b : Bool) → a ≡ true → b ≡ true → a && b ≡ true
+both a b e d = rw (e, d) refl
+
+-- neither of two tests passes
+pub neither : (a b : Bool) → (a || b) ≡ false → (a ≡ false) × (b ≡ false)
+neither false false e = (refl, refl)
+neither false true e = (refl, e)
+neither true b e = absurd (let z : ⊥ = cc in z)
+
+-- a test whose opposite passes
+pub not_true : (b : Bool) → not b ≡ true → b ≡ false
+not_true true e = absurd (let h : ⊥ = cc in h)
+not_true false e = refl
+
+-- no test both passes and fails
+pub not_both : (t : Bool) → t ≡ false → t ≡ true → ⊥
+not_both t fails passes = let w : false ≡ true = sym fails ∙ passes in cc
+
+-- what is there isn't absent
+pub some_none : {A : Type 0} {x : A} → Some x ≡ None → ⊥
+some_none e = cc
+
+-- two numbers that a test tells apart
+pub apart : (v u : ℕ) → nat_eq v u ≡ false → v ≢ u
+apart v u t e = let w = rw (eq-eqb v u e) at t in let z : ⊥ = cc in z
+
+-- the second of two tests may be another where the first passes
+pub and_in : (x y y' : Bool) → (x ≡ true → y ≡ y') → (x && y) ≡ (x && y')
+and_in true y y' e = e refl
+and_in false y y' e = refl
+
+-- a choice by two tests is the same where the second is, once the first passes
+pub choice_same : {A : Type 0} (b p p' : Bool) (x : Option A) → (b ≡ true → p ≡ p') → (if b && p then x else None) ≡ (if b && p' then x else None)
+choice_same true p p' x e = rw (e refl) refl
+choice_same false p p' x e = refl
+
+-- a choice whose second test passes is one by the first
+pub choice_past : {A : Type 0} (t p : Bool) (x : Option A) → p ≡ true → (if t && p then x else None) ≡ (if t then x else None)
+choice_past true p x e = rw e refl
+choice_past false p x e = refl
+
+-- a choice whose second test fails is absent
+pub choice_none : {A : Type 0} (t p : Bool) (x : Option A) → p ≡ false → (if t && p then x else None) ≡ None
+choice_none true p x e = rw e refl
+choice_none false p x e = refl
+
+-- a test that is the same at each number finds a number below n where the other does
+pub any-same : (n : ℕ) (p q : ℕ → Bool) → ((w : ℕ) → w < n → p w ≡ q w) → any_below n p ≡ any_below n q
+any-same zero p q same = refl
+any-same (suc n) p q same = rw (any-same n p q (λ w low. same w (omega arith)), same n (omega arith)) refl
+
+-- a condition beside each test stands beside all
+pub any-and : (n : ℕ) (c : Bool) (p : ℕ → Bool) → any_below n (λ x. c && p x) ≡ (c && any_below n p)
+any-and zero true p = refl
+any-and zero false p = refl
+any-and (suc n) c p = rw (any-and n c p) (spread c (any_below n p) (p n))
+  where
+    spread : (c x y : Bool) → ((c && x) || (c && y)) ≡ (c && (x || y))
+    spread true x y = refl
+    spread false x y = refl

@@ -1,0 +1,20 @@
+use Rattle.std.proofs.Common.{◌∙◌, sym, arith}
+use Rattle.sift_unit.specs.Boards.{desk_of, memory_of}
+use Rattle.sift_unit.proofs.Passing.{slot_onward, run_onward}
+use Rattle.sift_unit.proofs.board.Board.pass_running.Goals as goal
+
+-- past a task that isn't run now
+pub returns-then-self-run_in-clause-onward : goal.returns-then-self-run_in-clause-onward
+returns-then-self-run_in-clause-onward g c =
+    let part = c.requires.part in
+    slot_onward _ (g.met.M.Duty.fits c.args.mission.now) (desk_of c.args.self.now) c.requires.range c.requires.slot
+    (record { hears = λ p. absurd (omega arith); runs = λ p low s. c.if-self-run_in.true (s ∙ sym c.run_in.ensures); says = λ p. absurd (omega arith) })
+
+-- past a task that was run
+pub returns-clause-onward : goal.returns-clause-onward
+returns-clause-onward g c = run_onward _ (g.met.M.Duty.fits c.args.mission.now) (desk_of c.args.self.now) c.requires.range (memory_of c.run.new.memory)
+    (record {
+      part = c.requires.part;
+      slot = (let few = c.if-self-tasks.false in let tasks = c.tasks.ensures in omega arith);
+      subframe = c.if-self-run_in.false ∙ c.run_in.ensures;
+    }) (rw c.deref.ensures.0 at c.run.ensures)

@@ -1,0 +1,110 @@
+-- A board, an account and a memory of the code, as the plain records of the definitions.
+use Rattle.std.specs.Prelude.{◌≡◌, ℕ, ◌+◌, ◌*◌, ◌<◌, ◌≤◌, map, length, true, None}
+use Rattle.std.specs.Vec.{vec_capacity}
+use Rattle.sift_base.specs.Units.{has, unit_limit}
+use Rattle.sift_buffer.specs.Conduct.{with_entered}
+use Rattle.sift_buffer.specs.Conduct.{Conduct as Acts}
+use Rattle.sift_buffer.specs.Ranges.{Ranges}
+use Rattle.sift_buffer.specs.Views.{View}
+use Rattle.sift_unit.specs.Mission.{Mission}
+use Rattle.sift_unit.specs.Account.{Account}
+use Rattle.sift_unit.specs.Memory.{Memory}
+use Rattle.sift_unit.specs.Acts.{BoardKeeps}
+use Rattle.sift_unit.specs.Fits.{Fits}
+use Rattle.sift_unit.specs.Remembered.{IsShaped}
+use Rattle.sift_unit.specs.Keeping.{IsFresh}
+use Rattle.sift_unit.specs.Desk.{Desk, first_desk, accounts_of}
+use Rattle.sift_unit.specs.Going.{Going}
+use Rattle.sift_unit.specs.declared.account.Account.{Account as TheAccount}
+use Rattle.sift_unit.specs.declared.memory.Memory.{Memory as TheMemory}
+use Rattle.sift_unit.specs.declared.board.Board.{Board as TheBoard}
+use Rattle.sift_unit.specs.declared.part.Part.{Part}
+use Rattle.sift_unit.specs.declared.part.Part.TheVariants.{Hearing, Running, Saying}
+
+-- the number of a part of a subframe
+abbrev pub part_of : Part → ℕ
+part_of Hearing = 0
+part_of Running = 1
+part_of Saying = 2
+
+-- an account
+abbrev pub account_of : TheAccount → Account
+account_of a = record {
+  cfg = a.cfg;
+  idle = a.idle;
+  clk = a.clk;
+  ins = a.ins.items;
+  outs = a.outs.items;
+  bad = a.bad;
+  next_cfg = a.next_cfg;
+  next_clk = a.next_clk;
+}
+
+-- a memory
+abbrev pub memory_of : TheMemory → Memory
+memory_of b = record {
+  clock = b.clock;
+  next_clk = b.next_clk;
+  direct = b.direct;
+  ins = b.ins.items;
+  relay = b.relay;
+  made = b.made;
+  outs = b.outs.items;
+  poll = b.poll;
+  reports = b.reports;
+  agreed = b.agreed;
+}
+
+-- a board
+abbrev pub desk_of : TheBoard → Desk
+desk_of b = record {
+  unit = b.unit;
+  frame = b.frame;
+  subframe = b.subframe;
+  part = part_of b.part;
+  slot = b.slot;
+  other = b.other;
+  cfg = b.cfg;
+  clk = b.clk;
+  last = b.last.items;
+  places = b.places;
+  memory = memory_of b.memory;
+  accounts = map account_of b.accounts.items;
+}
+
+-- the port has the units, slots and frames of the mission
+pub record IsPortOf (m : Mission) (r : Ranges) : Type 0 where
+  pub units : (u : ℕ) → has m.units u ≡ true → u < r.units
+  pub slots : m.slots ≤ r.slots
+  pub frames : m.frames ≤ r.frames
+
+-- a board steps on its own port: all that a step wants and keeps
+pub record Drives (m : Mission) (b : TheBoard) (v : View) : Type 0 where
+  pub unit : v.unit ≡ b.unit
+  pub ranges : IsPortOf m v.ranges
+  pub still : m.storm b.unit ≡ None
+  pub room : m.frames ≤ vec_capacity b.accounts
+  pub going : Going m (desk_of b) v.conduct
+
+-- the board has begun the next subframe, or the next frame, with all that holds of it, whatever its unit did
+pub record GoesOn (m : Mission) (b b' : TheBoard) : Type 0 where
+  pub going : (c : Acts) → Going m (desk_of b) c → Going m (desk_of b') (with_entered c)
+  pub unit : b'.unit ≡ b.unit
+  pub room : m.frames ≤ vec_capacity b'.accounts
+  pub frame : b'.frame * m.period + b'.subframe ≡ b.frame * m.period + b.subframe + 1
+
+-- the board of unit u before the flight: in shape, and with room for all its accounts
+pub record IsNewBoard (m : Mission) (u : ℕ) (b : TheBoard) : Type 0 where
+  pub desk : desk_of b ≡ first_desk m u b.places (memory_of b.memory)
+  pub places : length b.places ≡ unit_limit
+  pub shape : IsShaped m (memory_of b.memory)
+  pub room : m.frames ≤ vec_capacity b.accounts
+
+-- a new board drives on a port of its unit on which nothing was done, where the unit is never stray
+abbrev pub NewBoardLaw : Type 0
+NewBoardLaw = (m : Mission) (u : ℕ) (b : TheBoard) (v : View) → Fits m → has m.units u ≡ true → m.storm u ≡ None → IsNewBoard m u b →
+    v.unit ≡ u → IsPortOf m v.ranges → IsFresh v.conduct → Drives m b v
+
+-- a board that has driven, whatever words its port gave, guarantees its acts and accounts in all frames that it has ended
+abbrev pub DriveLaw : Type 0
+DriveLaw = (m : Mission) (b : TheBoard) (v : View) → Fits m → Drives m b v → BoardKeeps m b.unit v.conduct (accounts_of m (desk_of b)) b.frame

@@ -1,0 +1,96 @@
+-- What a board remembers in a frame, and what each slot that was heard and each task that was run adds to it.
+use Rattle.std.specs.Prelude.{ℕ, suc, List, [], ◌∷◌, map, slice_index, slice_index_or, slice_set, Bool, not, ◌&&◌, nat_eq, if◌then◌else◌, Option, None, Some, ℤ, ◌+ℤ◌}
+use Rattle.std.specs.List.{filter}
+use Rattle.std.specs.FinSet as set
+use Rattle.sift_base.specs.Units.{Units}
+use Rattle.sift_base.specs.declared.slot.Slot.{Slot}
+use Rattle.sift_base.specs.declared.slot.Slot.TheVariants.{Clock, Sense, RelaySense, Out, Report, RelayReport}
+use Rattle.sift_vote.specs.Agreed.{majority_of, agreed_of}
+use Rattle.sift_vote.specs.Differing.{differs}
+use Rattle.sift_agree.specs.Agreement.{taken}
+use Rattle.sift_config.specs.Config.{reader_of}
+use Rattle.sift_clock.specs.Reading.{reading_of, is_too_far}
+use Rattle.sift_clock.specs.Correction.{next_offset}
+use Rattle.sift_unit.specs.Mission.{Mission}
+use Rattle.sift_unit.specs.Slots.{executors}
+
+-- what a board remembers: whom it caught by their clocks, and its next offset; by sensor, the word that its reader said, the agreed word,
+-- and whom it caught by their relays; by word, the word that it made, the voted word, and whom it caught in the poll; by unit, the report
+-- that the unit said, and the agreed one
+pub record Memory : Type 0 where
+  pub clock : Units
+  pub next_clk : ℤ
+  pub direct : List (Option ℕ)
+  pub ins : List ℕ
+  pub relay : List Units
+  pub made : List ℕ
+  pub outs : List ℕ
+  pub poll : List Units
+  pub reports : List (Option ℕ)
+  pub agreed : List ℕ
+
+-- the place of a unit, or of a sensor, and absence past the list's end
+abbrev pub place_at : List (Option ℕ) → ℕ → Option ℕ
+place_at places i = slice_index_or places i None
+
+-- the set at a number, and nobody past the list's end
+abbrev pub units_at : List Units → ℕ → Units
+units_at sets i = slice_index_or sets i set.empty
+
+-- the units of a list that pass a test
+unfoldable pub gathered : (ℕ → Bool) → List ℕ → Units
+gathered test us = set.from_list (filter test us)
+
+-- ---- what was heard of a slot
+
+-- u's reading of p's clock, where these words were heard of the clocks
+abbrev pub reading_at : Mission → ℕ → ℤ → List (Option ℕ) → ℕ → Option ℤ
+reading_at m u clk heard p = reading_of (place_at heard p) clk (m.errors u p)
+
+-- the word of executor v in a poll: u's own as it made it, each other as it was heard
+abbrev pub polled_at : ℕ → Memory → List (Option ℕ) → ℕ → ℕ → Option ℕ
+polled_at u b heard w v = if nat_eq v u then Some (slice_index b.made w) else place_at heard v
+
+-- all words of the poll
+abbrev pub poll_of : Mission → List ℕ → ℕ → Memory → List (Option ℕ) → ℕ → List (Option ℕ)
+poll_of m us u b heard w = map (polled_at u b heard w) (executors m us w)
+
+-- the word that u has for sensor x, where these relays were heard
+abbrev pub input_at : Mission → List ℕ → ℕ → ℕ → Memory → List (Option ℕ) → ℕ → ℕ
+input_at m us u f b heard x =
+    if nat_eq (reader_of us x) u then m.sensed x f
+    else agreed_of (taken us (reader_of us x) u (λ q. place_at b.direct x) (λ q p. place_at heard p))
+
+-- the memory after all that is to be heard of a slot was heard
+abbrev pub note : Mission → List ℕ → ℕ → ℕ → ℤ → Slot → List (Option ℕ) → Memory → Memory
+note m us u f clk Clock heard b = record b {
+  clock = gathered (λ v. not (nat_eq v u) && is_too_far (m.skew +ℤ m.error) (reading_at m u clk heard v)) us;
+  next_clk = next_offset (m.skew +ℤ m.error) us (reading_at m u clk heard) clk u (m.drift u);
+}
+note m us u f clk (Sense x) heard b = record b { direct = slice_set b.direct x (place_at heard (reader_of us x)) }
+note m us u f clk (RelaySense x) heard b = record b {
+  ins = slice_set b.ins x (input_at m us u f b heard x);
+  relay = slice_set b.relay x (gathered (λ v. not (nat_eq v u) && (nat_eq (reader_of us x) u && differs (place_at heard v) (Some (m.sensed x f)))) us);
+}
+note m us u f clk (Out w) heard b = record b {
+  outs = slice_set b.outs w (agreed_of (poll_of m us u b heard w));
+  poll = slice_set b.poll w (gathered (λ v. m.executes us w v && differs (polled_at u b heard w v) (majority_of (poll_of m us u b heard w))) us);
+}
+note m us u f clk Report heard b = record b { reports = heard }
+note m us u f clk (RelayReport s) heard b =
+    record b { agreed = slice_set b.agreed s (agreed_of (taken us s u (λ q. place_at b.reports s) (λ q p. place_at heard p))) }
+
+-- ---- what was made
+
+-- a list with those of its places made anew that pass a test, where its first place has number i
+abbrev pub renewed : (ℕ → Bool) → (ℕ → ℕ) → List ℕ → ℕ → List ℕ
+renewed test value [] i = []
+renewed test value (x ∷ xs) i = (if test i then value i else x) ∷ renewed test value xs (suc i)
+
+-- a word is one of task t, and u executes it
+abbrev pub is_made_by : Mission → List ℕ → ℕ → ℕ → ℕ → Bool
+is_made_by m us u t w = nat_eq (m.task w) t && m.executes us w u
+
+-- the memory after task t was run
+abbrev pub run : Mission → List ℕ → ℕ → List ℕ → ℕ → Memory → Memory
+run m us u last t b = record b { made = renewed (is_made_by m us u t) (λ w. m.word w b.ins b.outs last) b.made 0 }

@@ -1,0 +1,38 @@
+-- What a board does of itself, without its port.
+use Rattle.std.specs.Prelude.{◌≡◌, ℕ, ◌+◌, ◌-◌, ◌*◌, ◌<◌, List}
+use Rattle.sift_buffer.specs.Conduct.{Conduct as Acts}
+use Rattle.sift_unit.specs.Mission.{Mission}
+use Rattle.sift_unit.specs.Acts.{IsConfigOf}
+use Rattle.sift_unit.specs.Desk.{Desk}
+use Rattle.sift_unit.specs.Going.{InRange, Going}
+
+-- a move within a frame, which keeps what holds of the board, whatever its unit did
+pub record Passes (m : Mission) (b b' : Desk) : Type 0 where
+  pub range : InRange m b'
+  pub going : (c : Acts) → Going m b c → Going m b' c
+  pub unit : b'.unit ≡ b.unit
+  pub frame : b'.frame ≡ b.frame
+  pub subframe : b'.subframe ≡ b.subframe
+
+-- how many places are left in the subframe, at most
+abbrev pub left : Desk → ℕ
+left b = 8192 - (b.part * 2048 + b.slot * 16 + b.other)
+
+-- such a move that comes nearer to the subframe's end
+pub record Onward (m : Mission) (b b' : Desk) : Type 0 where
+  pub passes : Passes m b b'
+  pub less : left b' < left b
+
+-- how far a board is from the flight's end: by subframes that are left, and by places that are left in its own
+abbrev pub distance : Mission → Desk → ℕ
+distance m b = (m.frames * m.period - (b.frame * m.period + b.subframe)) * 8192 + left b
+
+-- a configuration of the mission and the number of a slot
+pub record IsSlotOf (m : Mission) (us : List ℕ) (i : ℕ) : Type 0 where
+  pub config : IsConfigOf m us
+  pub slot : i < m.slots
+
+-- a configuration of the mission and a task
+pub record IsTaskOf (m : Mission) (us : List ℕ) (t : ℕ) : Type 0 where
+  pub config : IsConfigOf m us
+  pub task : t < m.tasks

@@ -1,0 +1,31 @@
+//! Lists of words of a fixed capacity.
+
+ghost use Rattle.std.specs.Prelude.{◌≡◌, ◌≤◌, length};
+ghost use Rattle.sift_base.specs.Layout.{word_limit};
+
+use arrayvec::ArrayVec;
+use sift_base::Word;
+
+/// A list of the same words.
+pub(crate) fn copy_of(words: &[Word]) -> ArrayVec<Word, 64>
+    requires { length words.now ≤ word_limit }
+    ensures { result.items ≡ words.now }
+{
+    let mut copy = ArrayVec::new();
+    for i in 0..words.len() {
+        copy.push(words[i]);
+    }
+    copy
+}
+
+/// A list of so many zeros.
+pub(crate) fn zeros<const N: usize>(count: usize) -> ArrayVec<Word, N>
+    requires { count ≤ N }
+    ensures { length result.items ≡ count }
+{
+    let mut words = ArrayVec::new();
+    for _ in 0..count {
+        words.push(Word::of(0));
+    }
+    words
+}

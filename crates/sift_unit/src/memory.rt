@@ -1,0 +1,54 @@
+//! What a board remembers in a frame.
+
+ghost use Rattle.sift_unit.specs.Remembered.{IsShaped};
+ghost use Rattle.sift_unit.specs.Boards.{memory_of};
+
+use crate::duty::Duty;
+use crate::lists::zeros;
+use arrayvec::ArrayVec;
+use sift_base::{UnitSet, Word};
+
+/// What a board remembers of a frame: by sensor, by word and by unit.
+#[derive(Drop)]
+pub struct Memory {
+    /// The units caught by their clocks.
+    pub clock: UnitSet,
+    /// The next offset.
+    pub next_clk: i64,
+    /// Each sensor's word, as its reader said it.
+    pub direct: [Option<Word>; 8],
+    /// The agreed word of each sensor.
+    pub ins: ArrayVec<Word, 8>,
+    /// By sensor, the units caught by their relays.
+    pub relay: [UnitSet; 8],
+    /// The words made by the unit itself.
+    pub made: [Word; 64],
+    /// The voted words.
+    pub outs: ArrayVec<Word, 64>,
+    /// By word, the units caught in its poll.
+    pub poll: [UnitSet; 64],
+    /// Each unit's report, as it said it.
+    pub reports: [Option<Word>; 8],
+    /// Each unit's report, as it was agreed.
+    pub agreed: [Word; 8],
+}
+
+impl Memory {
+    /// A memory with room for all that is to be remembered of a mission's frames.
+    pub(crate) fn blank<M: Duty>(mission: &M) -> Memory
+        ensures { IsShaped (M.mission mission.now) (memory_of result) }
+    {
+        Memory {
+            clock: UnitSet::empty(),
+            next_clk: 0,
+            direct: [None; 8],
+            ins: zeros(mission.sensors()),
+            relay: [UnitSet::empty(); 8],
+            made: [Word::of(0); 64],
+            outs: zeros(mission.words()),
+            poll: [UnitSet::empty(); 64],
+            reports: [None; 8],
+            agreed: [Word::of(0); 8],
+        }
+    }
+}

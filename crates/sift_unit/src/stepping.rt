@@ -1,0 +1,163 @@
+//! The calls of a board on its port.
+
+ghost use Rattle.std.specs.Prelude.{◌≡◌, ◌<◌, ◌≤◌, ◌+◌, ◌*◌, ℕ, true};
+ghost use Rattle.std.specs.Vec.{vec_capacity};
+ghost use Rattle.sift_unit.specs.Desk.{is_hearing as at_hearing, is_saying as at_saying, is_end as at_end};
+ghost use Rattle.sift_unit.specs.Going.{InRange};
+ghost use Rattle.sift_unit.specs.Passing.{IsSlotOf};
+ghost use Rattle.sift_unit.specs.Stepping.{Steps, HasMoved};
+ghost use Rattle.sift_unit.specs.Boards.{desk_of, Drives, GoesOn};
+
+use crate::board::Board;
+use crate::duty::Duty;
+use crate::part::Part;
+use crate::stepped::Stepped;
+use crate::lists::copy_of;
+use sift_base::UnitId;
+use sift_buffer::{Entering, Port};
+
+impl Board {
+    /// Does the work up to the board's next call on the port, and makes that one call.
+    pub fn step<M: Duty, T: Port>(&mut self, mission: &M, port: &mut T) -> Stepped
+        requires { Drives (M.mission mission.now) self.old (T.view port.old) }
+        ensures drives { Drives (M.mission mission.now) self.new (T.view port.new) }
+        ensures steps { Steps (M.mission mission.now) (desk_of self.old) (T.view port.old) result (desk_of self.new) (T.view port.new) (T.stands port.new) }
+        ensures follows { T.follows port.old port.new }
+    {
+        if self.frame == mission.frames() {
+            return Stepped::Landed;
+        }
+        self.find_call(mission);
+        if self.is_end(mission) {
+            return self.enter(mission, port);
+        }
+        if self.is_saying(mission) {
+            self.say(mission, port);
+            return Stepped::Moved;
+        }
+        self.hear(mission, port);
+        Stepped::Moved
+    }
+
+    /// The stamp of the slot at which the board stands.
+    fn stamp<M: Duty>(&self, mission: &M) -> u32
+        requires slot { IsSlotOf (M.mission mission.now) self.now.cfg self.now.slot }
+        requires frame { self.now.frame < (M.mission mission.now).frames }
+        ensures { result ≡ self.now.frame * (M.mission mission.now).period + (M.mission mission.now).due self.now.cfg ((M.mission mission.now).kind self.now.slot) + 1 }
+    {
+        self.frame * mission.period() + mission.due(&self.cfg, self.slot) + 1
+    }
+
+    /// Hears the word at which the board stands.
+    fn hear<M: Duty, T: Port>(&mut self, mission: &M, port: &mut T)
+        requires drives { Drives (M.mission mission.now) self.old (T.view port.old) }
+        requires frame { self.old.frame < (M.mission mission.now).frames }
+        requires here { at_hearing (M.mission mission.now) (desk_of self.old) ≡ true }
+        ensures drives { Drives (M.mission mission.now) self.new (T.view port.new) }
+        ensures moved { HasMoved (M.mission mission.now) (desk_of self.old) (T.view port.old) (desk_of self.new) (T.view port.new) }
+        ensures follows { T.follows port.old port.new }
+    {
+        let stamp = self.stamp(mission);
+        if let Some(other) = UnitId::of(self.other) {
+            let word = port.hear(other, self.slot, self.frame, stamp);
+            self.places[usize::from(self.other)] = word;
+            self.other += 1;
+            return;
+        }
+        unreachable!()
+    }
+
+    /// Says the word at which the board stands.
+    fn say<M: Duty, T: Port>(&mut self, mission: &M, port: &mut T)
+        requires drives { Drives (M.mission mission.now) self.old (T.view port.old) }
+        requires frame { self.old.frame < (M.mission mission.now).frames }
+        requires here { at_saying (M.mission mission.now) (desk_of self.old) ≡ true }
+        ensures drives { Drives (M.mission mission.now) self.new (T.view port.new) }
+        ensures moved { HasMoved (M.mission mission.now) (desk_of self.old) (T.view port.old) (desk_of self.new) (T.view port.new) }
+        ensures follows { T.follows port.old port.new }
+    {
+        let stamp = self.stamp(mission);
+        if let Some(other) = UnitId::of(self.other) {
+            let word = mission.word(
+                &self.memory,
+                &self.cfg,
+                self.unit,
+                self.frame,
+                &self.clk,
+                self.slot,
+                other,
+            );
+            port.say(other, self.slot, self.frame, stamp, word);
+            self.other += 1;
+            return;
+        }
+        unreachable!()
+    }
+
+    /// Tries to enter the next subframe.
+    fn enter<M: Duty, T: Port>(&mut self, mission: &M, port: &mut T) -> Stepped
+        requires drives { Drives (M.mission mission.now) self.old (T.view port.old) }
+        requires frame { self.old.frame < (M.mission mission.now).frames }
+        requires end { at_end (M.mission mission.now) (desk_of self.old) ≡ true }
+        ensures drives { Drives (M.mission mission.now) self.new (T.view port.new) }
+        ensures steps { Steps (M.mission mission.now) (desk_of self.old) (T.view port.old) result (desk_of self.new) (T.view port.new) (T.stands port.new) }
+        ensures follows { T.follows port.old port.new }
+    {
+        match port.try_enter() {
+            Entering::Entered => {
+                self.go_on(mission);
+                if self.frame == mission.frames() {
+                    return Stepped::Landed;
+                }
+                Stepped::Moved
+            }
+            Entering::NotYet { unit, seen } => Stepped::NotYet { unit, seen },
+        }
+    }
+
+    /// Begins the next subframe, and the next frame after the last subframe.
+    fn go_on<M: Duty>(&mut self, mission: &M)
+        requires range { InRange (M.mission mission.now) (desk_of self.old) }
+        requires frame { self.old.frame < (M.mission mission.now).frames }
+        requires room { (M.mission mission.now).frames ≤ vec_capacity self.old.accounts }
+        requires end { at_end (M.mission mission.now) (desk_of self.old) ≡ true }
+        ensures { GoesOn (M.mission mission.now) self.old self.new }
+    {
+        if self.subframe + 1 < mission.period() {
+            self.subframe += 1;
+            self.part = Part::Hearing;
+            self.slot = 0;
+            self.other = 0;
+            return;
+        }
+        self.end_frame(mission);
+    }
+
+    /// Accounts for the frame, and begins the next.
+    fn end_frame<M: Duty>(&mut self, mission: &M)
+        requires range { InRange (M.mission mission.now) (desk_of self.old) }
+        requires frame { self.old.frame < (M.mission mission.now).frames }
+        requires room { (M.mission mission.now).frames ≤ vec_capacity self.old.accounts }
+        requires end { at_end (M.mission mission.now) (desk_of self.old) ≡ true }
+        requires last { self.old.subframe + 1 ≡ (M.mission mission.now).period }
+        ensures { GoesOn (M.mission mission.now) self.old self.new }
+    {
+        let account = mission.account(&self.memory, &self.cfg, self.unit, &self.clk);
+        self.cfg = account.next_cfg;
+        self.clk = copied(&account.next_clk);
+        self.last = copy_of(&account.outs);
+        self.accounts.push_reserved(account);
+        self.frame += 1;
+        self.subframe = 0;
+        self.part = Part::Hearing;
+        self.slot = 0;
+        self.other = 0;
+    }
+}
+
+/// The same number.
+fn copied(clk: &i64) -> i64
+    ensures { result ≡ clk.now }
+{
+    *clk
+}
