@@ -1,0 +1,5 @@
+pub mod Calls
+pub mod Configs
+pub mod Hears
+pub mod Landed
+pub mod Same

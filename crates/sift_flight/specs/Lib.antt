@@ -1,0 +1,4 @@
+pub mod Flight
+pub mod Hearing
+pub mod Round
+pub mod Landing

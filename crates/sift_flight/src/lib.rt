@@ -1,0 +1,7 @@
+//! Flights as equations: what units hear of one another, and what follows of the flights in which
+//! all units do as they ought to.
+#![tactic(auto)]
+
+mod laws;
+
+pub use laws::{landed_frames_are_round, units_hear_by_the_equations};
