@@ -1,22 +1,22 @@
 -- From a lawful core and what its boards kept to the hearing equations, frame by frame.
-use Rattle.std.proofs.Common.{◌≡◌, ◌≢◌, ◌⊎◌, inl, inr, ⊎_elim, ℕ, suc, ◌+◌, ◌*◌, ◌-◌, ◌<◌, ◌≤◌, List, Bool, true, false, nat_lt, Option, Some, None, option_map, sym, refl, ap, ◌∙◌, subst, arith, ltb-true, ltb-false}
+use Rattle.std.proofs.Common.{◌≡◌, ◌≢◌, ◌⊎◌, inl, inr, ⊎_elim, ℕ, suc, ◌+◌, ◌*◌, ◌-◌, ◌<◌, ◌≤◌, List, true, false, nat_lt, Option, Some, None, option_map, sym, refl, ap, ◌∙◌, subst, arith, ltb-true, ltb-false}
 use Rattle.std.proofs.lemmas.Bool.{cases_Bool, cases_lt}
 use Rattle.std.proofs.lemmas.Option.{none-some, same_Some}
 use Rattle.std.proofs.Math.Nat.{mul-le-mul_left, mul-le-mul_right}
 use Rattle.sift_base.specs.Units.{has}
 use Rattle.sift_base.specs.declared.slot.Slot.{Slot}
 use Rattle.sift_buffer.specs.Ranges.{Ranges}
-use Rattle.sift_buffer.specs.Conduct.{Saying, Hearing, Stray, saying, hearing, never}
+use Rattle.sift_buffer.specs.Conduct.{Saying, Hearing, saying, hearing, never}
 use Rattle.sift_buffer.specs.Conduct.{Conduct as Acts}
 use Rattle.sift_buffer.specs.Core.{Core}
-use Rattle.sift_buffer.specs.Lawful.{Lawful, IsFromSayings, IsFromStrays, nothing, said, strayed}
+use Rattle.sift_buffer.specs.Lawful.{IsFromSayings, IsFromStrays, nothing, said, strayed}
 use Rattle.sift_unit.specs.Mission.{Mission}
 use Rattle.sift_unit.specs.Slots.{is_slot, calls, stamp_of, heard_at, turned_by, has_turned}
 use Rattle.sift_unit.specs.Account.{Account}
 use Rattle.sift_unit.specs.Frames.{Flies}
 use Rattle.sift_unit.specs.Acts.{IsConfigOf, ActsAre, BoardKeeps, Turns, word_in_saying, word_in_hearing, stamp_and_moment}
 use Rattle.sift_unit.specs.Fits.{Fits}
-use Rattle.sift_flight.specs.Hearing.{IsOfStray, absent, stray, CalledHearing}
+use Rattle.sift_flight.specs.Hearing.{IsOfStray, absent, stray}
 use Rattle.sift_flight.specs.Landing.{HaveLanded, UnitsHearByTheEquations}
 use Rattle.sift_flight.proofs.Calls.{call_of}
 

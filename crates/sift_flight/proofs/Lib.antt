@@ -3,3 +3,6 @@ pub mod Configs
 pub mod Hears
 pub mod Landed
 pub mod Same
+pub mod SameWords
+pub mod SameFrame
+pub mod Unique

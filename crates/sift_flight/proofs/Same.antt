@@ -7,7 +7,7 @@ use Rattle.sift_base.specs.Units.{has}
 use Rattle.sift_base.specs.declared.slot.Slot.{Slot}
 use Rattle.sift_unit.specs.Mission.{Mission}
 use Rattle.sift_unit.specs.Slots.{calls, has_turned}
-use Rattle.sift_unit.specs.Conduct.{own_word, said_of, Conduct}
+use Rattle.sift_unit.specs.Conduct.{own_word, said_of}
 use Rattle.sift_unit.specs.Frames.{last_of, FrameConduct, IdleConduct, BusyConduct, Flies}
 use Rattle.sift_unit.specs.Fits.{Fits}
 use Rattle.sift_flight.specs.Flight.{Flight, config_of}
@@ -33,16 +33,17 @@ whole_unit m calm u f hu = rw (calm u hu) refl
 pub flies_always : (m : Mission) → HasNoStorms m → (u f : ℕ) → has m.units u ≡ true → Flies m u f
 flies_always m calm u f hu = record { unit = hu; whole = whole_unit m calm u f hu }
 
+-- in a frame of two flights each unit says a slot alike
+abbrev pub SayAlike : Mission → Flight → Flight → ℕ → Slot → Type 0
+SayAlike m fl gl f k = (u q : ℕ) → has m.units u ≡ true → fl.said u f k q ≡ gl.said u f k q
+
+-- and hears it alike
+abbrev pub HearAlike : Mission → Flight → Flight → ℕ → Slot → Type 0
+HearAlike m fl gl f k = (u : ℕ) → has m.units u ≡ true → fl.heard u f k ≡ gl.heard u f k
+
 module _ (m : Mission) (strays strays' : Strays) (fl gl : Flight) (f : ℕ) (b : AreBothRound m strays strays' fl gl f) where
   abbrev us : ℕ → List ℕ
   us u = config_of gl u f
-
-  -- one slot is said alike, and heard alike, by each unit
-  pub SameSaid : Slot → Type 0
-  SameSaid k = (u q : ℕ) → has m.units u ≡ true → fl.said u f k q ≡ gl.said u f k q
-
-  pub SameHeard : Slot → Type 0
-  SameHeard k = (u : ℕ) → has m.units u ≡ true → fl.heard u f k ≡ gl.heard u f k
 
   -- the conduct of both
   pub conduct_one : (u : ℕ) → has m.units u ≡ true → FrameConduct m u (fl.account u) (fl.heard u) (fl.said u) f
@@ -78,8 +79,7 @@ module _ (m : Mission) (strays strays' : Strays) (fl gl : Flight) (f : ℕ) (b :
   said_other u k q = said_of m (us u) u f (gl.account u f) (gl.heard u f) (last_of m (gl.account u) f) k q
 
   -- where the own words are the same, the same is said
-  pub say : (k : Slot) → ((u q : ℕ) → has m.units u ≡ true → calls m (us u) k u q ≡ true → word_one u k ≡ word_other u k) → SameSaid k
-  unfolding SameSaid
+  pub say : (k : Slot) → ((u q : ℕ) → has m.units u ≡ true → calls m (us u) k u q ≡ true → word_one u k ≡ word_other u k) → SayAlike m fl gl f k
   say k same u q hu = (conduct_one u hu).said k q ∙ (ap (λ c. said_one u c k q) (b.cfg u hu) ∙ (here ∙ sym ((conduct_other u hu).said k q)))
     where
       here : said_one u (us u) k q ≡ said_other u k q
@@ -89,8 +89,7 @@ module _ (m : Mission) (strays strays' : Strays) (fl gl : Flight) (f : ℕ) (b :
       ]
 
   -- and heard
-  pub hear : (k : Slot) → SameSaid k → SameHeard k
-  unfolding SameSaid SameHeard
+  pub hear : (k : Slot) → SayAlike m fl gl f k → HearAlike m fl gl f k
   hear k same u hu = λ i p. at p i
     where
       at : (p : ℕ) → fl.heard u f k p ≡ gl.heard u f k p

@@ -1,6 +1,7 @@
 //! The laws of flights: where round flights come from, and that there is at most one.
 
 ghost use Rattle.sift_flight.specs.Landing.{UnitsHearByTheEquations, LandedFramesAreRound};
+ghost use Rattle.sift_flight.specs.Round.{AtMostOneIsRound};
 
 /// What units hear in a lawful core whose boards have kept their conduct, they hear by the hearing
 /// equations, strays included.
@@ -13,3 +14,8 @@ pub fn landed_frames_are_round()
     ensures { LandedFramesAreRound }
 {}
 
+/// A mission without storms has at most one round flight: two of them are the same in each account
+/// and each place.
+pub fn at_most_one_flight_is_round()
+    ensures { AtMostOneIsRound }
+{}
