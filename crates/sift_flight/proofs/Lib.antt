@@ -6,3 +6,4 @@ pub mod Same
 pub mod SameWords
 pub mod SameFrame
 pub mod Unique
+pub mod Bits
