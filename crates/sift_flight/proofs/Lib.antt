@@ -7,3 +7,6 @@ pub mod SameWords
 pub mod SameFrame
 pub mod Unique
 pub mod Bits
+pub mod Working
+pub mod Agreeing
+pub mod Timing
