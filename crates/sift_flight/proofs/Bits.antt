@@ -28,8 +28,17 @@ all_low p = (digit_low (p 0), digit_low (p 1), digit_low (p 2), digit_low (p 3),
 
 bits_are : (units : Units) → bits_of units ≡ byte (holds units)
 unfolding bits_of
-bits_are units = omega (arith, weighed (holds units 0) 1, weighed (holds units 1) 2, weighed (holds units 2) 4, weighed (holds units 3) 8,
-    weighed (holds units 4) 16, weighed (holds units 5) 32, weighed (holds units 6) 64, weighed (holds units 7) 128)
+bits_are units = omega (
+  arith,
+  weighed (holds units 0) 1,
+  weighed (holds units 1) 2,
+  weighed (holds units 2) 4,
+  weighed (holds units 3) 8,
+  weighed (holds units 4) 16,
+  weighed (holds units 5) 32,
+  weighed (holds units 6) 64,
+  weighed (holds units 7) 128,
+)
 
 bit_of : (p : ℕ → Bool) (u : ℕ) → u < 8 → bit_at (byte p) u ≡ digit (p u)
 bit_of p zero h = omega (arith, all_low p)

@@ -10,3 +10,8 @@ pub mod Bits
 pub mod Working
 pub mod Agreeing
 pub mod Timing
+pub mod Ideal
+pub mod Voting
+pub mod Naming
+pub mod Removing
+pub mod Induction

@@ -1,5 +1,6 @@
 //! The laws of flights: where round flights come from, and that there is at most one.
 
+ghost use Rattle.sift_flight.specs.Headline.{HeadlineHolds};
 ghost use Rattle.sift_flight.specs.Landing.{UnitsHearByTheEquations, LandedFramesAreRound};
 ghost use Rattle.sift_flight.specs.Round.{AtMostOneIsRound};
 
@@ -18,4 +19,10 @@ pub fn landed_frames_are_round()
 /// and each place.
 pub fn at_most_one_flight_is_round()
     ensures { AtMostOneIsRound }
+{}
+
+/// In each frame with margin of a round flight: one configuration, the same inputs and reports, the
+/// ideal machine's outputs, no false accusation, exact removal, and clocks within the skew.
+pub fn headline_holds()
+    ensures { HeadlineHolds }
 {}

@@ -4,4 +4,7 @@
 
 mod laws;
 
-pub use laws::{at_most_one_flight_is_round, landed_frames_are_round, units_hear_by_the_equations};
+pub use laws::{
+    at_most_one_flight_is_round, headline_holds, landed_frames_are_round,
+    units_hear_by_the_equations,
+};
