@@ -15,3 +15,4 @@ pub mod Voting
 pub mod Naming
 pub mod Removing
 pub mod Induction
+pub mod CalmActs

@@ -5,3 +5,5 @@ pub mod Landing
 pub mod Configuration
 pub mod Premises
 pub mod Headline
+pub mod Calm
+pub mod Calms
