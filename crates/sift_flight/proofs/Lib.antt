@@ -16,3 +16,4 @@ pub mod Naming
 pub mod Removing
 pub mod Induction
 pub mod CalmActs
+pub mod CalmBoards
