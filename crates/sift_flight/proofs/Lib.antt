@@ -17,3 +17,6 @@ pub mod Removing
 pub mod Induction
 pub mod CalmActs
 pub mod CalmBoards
+pub mod CalmConduct
+pub mod CalmFits
+pub mod CalmCount
