@@ -20,3 +20,4 @@ pub mod CalmBoards
 pub mod CalmConduct
 pub mod CalmFits
 pub mod CalmCount
+pub mod CalmGauge

@@ -1,5 +1,6 @@
 //! The laws of flights: where round flights come from, and that there is at most one.
 
+ghost use Rattle.sift_flight.specs.Calms.{CalmMissionsFly};
 ghost use Rattle.sift_flight.specs.Headline.{HeadlineHolds};
 ghost use Rattle.sift_flight.specs.Landing.{UnitsHearByTheEquations, LandedFramesAreRound};
 ghost use Rattle.sift_flight.specs.Round.{AtMostOneIsRound};
@@ -25,4 +26,10 @@ pub fn at_most_one_flight_is_round()
 /// ideal machine's outputs, no false accusation, exact removal, and clocks within the skew.
 pub fn headline_holds()
     ensures { HeadlineHolds }
+{}
+
+/// Two small missions meet all premises of these laws: they can be flown, their core and boards have
+/// landed, and their frame has margin.
+pub fn calm_missions_fly()
+    ensures { CalmMissionsFly }
 {}

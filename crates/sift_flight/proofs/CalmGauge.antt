@@ -1,0 +1,184 @@
+-- The calm mission `gauge` flies.
+use Rattle.std.proofs.Common.{sym, ◌&&◌, ap, ◌≡◌, ℕ, zero, suc, ◌+◌, ◌<◌, ◌≤◌, List, [], ◌∷◌, slice_get, slice_index, map, true, nat_eq, Some, refl, subst, arith, ltb-true, eqb-true}
+use Rattle.std.proofs.lemmas.Bool.{agree_below_at}
+use Rattle.std.proofs.lemmas.List.Elements.{All-nil, All-cons}
+use Rattle.std.proofs.lemmas.Option.{same_Some}
+use Rattle.sift_base.specs.Units.{has}
+use Rattle.sift_base.specs.Word.{word_count, add, mul}
+use Rattle.sift_base.specs.declared.slot.Slot.{Slot}
+use Rattle.sift_base.specs.declared.slot.Slot.TheVariants.{Clock, Sense, RelaySense, Out, Report, RelayReport}
+use Rattle.sift_lang.specs.Tree.{TaskTree}
+use Rattle.sift_lang.specs.Sound.{IsSound, AllNowsBelow}
+use Rattle.sift_lang.specs.Meaning.{meaning}
+use Rattle.sift_program.specs.Sound.{first_word}
+use Rattle.sift_vote.specs.Agreed.{agreed_of}
+use Rattle.sift_unit.specs.Slots.{is_slot, executors}
+use Rattle.sift_unit.specs.Conduct.{made}
+use Rattle.sift_unit.specs.Fits.{Fits, IsNumbered}
+use Rattle.sift_flight.specs.Premises.{RunsProgram}
+use Rattle.sift_flight.specs.Calm.{four_units, due_in, heard_in, mission_of, program_of, word_in, account_of, FliesCalmly}
+use Rattle.sift_flight.proofs.CalmActs.{IsPlain}
+use Rattle.sift_flight.proofs.CalmBoards.{IsCalm, calm_landed}
+use Rattle.sift_flight.proofs.CalmConduct.{four, nobody_passes, place, HasFigures, conduct_by, own_words}
+use Rattle.sift_flight.proofs.CalmFits.{four_are_below, fits_by, flyable_by, has_margin}
+use Rattle.sift_flight.specs.Calms.{reading_task, adding_task, gauge_kind, gauge}
+use Rattle.sift_unit.specs.Conduct.{input_of}
+use Rattle.sift_unit.specs.Fits.{SameAt}
+use Rattle.sift_flight.proofs.Calls.{and_both}
+use Rattle.sift_flight.proofs.CalmBoards.{heard_by}
+
+-- what holds of the first holds of each of one, and what holds of both of each of two
+one : (P : ℕ → Type 0) → P 0 → (x : ℕ) → x < 1 → P x
+one P p x low = let e : 0 ≡ x = omega arith in subst P e p
+
+two : (P : ℕ → Type 0) → P 0 → P 1 → (w : ℕ) → w < 2 → P w
+two P p q zero low = p
+two P p q (suc zero) low = q
+two P p q (suc (suc w)) low = absurd (omega arith)
+
+-- ---- the layout
+
+abbrev number_of : Slot → ℕ
+number_of k = (mission_of gauge).number k
+
+numbered : IsNumbered (mission_of gauge)
+numbered = record {
+  few = omega arith;
+  low = low;
+  back = back;
+  slot = λ i h. agree_below_at (λ i. is_slot (mission_of gauge) (gauge_kind i)) (λ i. true) 10 i refl h;
+  there = λ i h. eqb-true _ i (agree_below_at (λ i. nat_eq (number_of (gauge_kind i)) i) (λ i. true) 10 i refl h);
+}
+  where
+    low : (k : Slot) → is_slot (mission_of gauge) k ≡ true → number_of k < 10
+    low Clock e = omega arith
+    low (Sense x) e = one (λ x. number_of (Sense x) < 10) (omega arith) x (ltb-true x 1 e)
+    low (RelaySense x) e = one (λ x. number_of (RelaySense x) < 10) (omega arith) x (ltb-true x 1 e)
+    low (Out w) e = two (λ w. number_of (Out w) < 10) (omega arith) (omega arith) w (ltb-true w 2 e)
+    low Report e = omega arith
+    low (RelayReport s) e = four (λ s. number_of (RelayReport s) < 10) (omega arith) (omega arith) (omega arith) (omega arith) s e
+
+    back : (k : Slot) → is_slot (mission_of gauge) k ≡ true → gauge_kind (number_of k) ≡ k
+    back Clock e = refl
+    back (Sense x) e = one (λ x. gauge_kind (number_of (Sense x)) ≡ Sense x) refl x (ltb-true x 1 e)
+    back (RelaySense x) e = one (λ x. gauge_kind (number_of (RelaySense x)) ≡ RelaySense x) refl x (ltb-true x 1 e)
+    back (Out w) e = two (λ w. gauge_kind (number_of (Out w)) ≡ Out w) refl refl w (ltb-true w 2 e)
+    back Report e = refl
+    back (RelayReport s) e = four (λ s. gauge_kind (number_of (RelayReport s)) ≡ RelayReport s) refl refl refl refl s e
+
+plain : IsPlain gauge
+plain = record { long = omega arith; short = omega arith; words = words; timed = timed }
+  where
+    words : (n : ℕ) → word_in gauge (gauge_kind n) < word_count
+    words zero = omega arith
+    words (suc zero) = omega arith
+    words (suc (suc zero)) = omega arith
+    words (suc (suc (suc zero))) = omega arith
+    words (suc (suc (suc (suc zero)))) = omega arith
+    words (suc (suc (suc (suc (suc zero))))) = omega arith
+    words (suc (suc (suc (suc (suc (suc s)))))) = omega arith
+
+    timed : (n : ℕ) → (due_in gauge (gauge_kind n) + 2 ≤ heard_in gauge (gauge_kind n)) × (heard_in gauge (gauge_kind n) + 2 ≤ 14)
+    timed zero = (omega arith, omega arith)
+    timed (suc zero) = (omega arith, omega arith)
+    timed (suc (suc zero)) = (omega arith, omega arith)
+    timed (suc (suc (suc zero))) = (omega arith, omega arith)
+    timed (suc (suc (suc (suc zero)))) = (omega arith, omega arith)
+    timed (suc (suc (suc (suc (suc zero))))) = (omega arith, omega arith)
+    timed (suc (suc (suc (suc (suc (suc s)))))) = (omega arith, omega arith)
+
+-- the second task needs the first one's word
+needed : (w v : ℕ) → nat_eq w 1 && nat_eq v 0 ≡ true → (w ≡ 1) × (v ≡ 0)
+needed w v t = let b = and_both (nat_eq w 1) (nat_eq v 0) t in (eqb-true w 1 b.0, eqb-true v 0 b.1)
+
+abbrev runs_at : ℕ → ℕ
+runs_at w = slice_index (4 ∷ 6 ∷ []) w
+
+fits : Fits (mission_of gauge)
+fits = fits_by gauge plain numbered
+    (record { late = λ w low. two (λ w. 4 ≤ runs_at w) (omega arith) (omega arith) w low; early = λ w low. two (λ w. runs_at w + 8 ≤ 14) (omega arith) (omega arith) w low })
+    (record {
+      reads = reads;
+      earlier = λ w v low v_low t. let e = needed w v t in omega (arith, e);
+      polled = λ us w v config low v_low t. let e = needed w v t in subst (λ w. runs_at v + 2 ≤ runs_at w) (sym e.0) (subst (λ v. runs_at v + 2 ≤ 6) (sym e.1) (omega arith));
+    })
+  where
+    reads : (w : ℕ) (ins ins' now now' last : List ℕ) → w < 2 → SameAt (λ x. true) 1 ins ins' → SameAt (gauge.needs w) 2 now now'
+        → (mission_of gauge).word w ins now last ≡ (mission_of gauge).word w ins' now' last
+    reads zero ins ins' now now' last low same_ins same_now = ap (λ (n : ℕ). add n 1) (same_ins 0 (omega arith) refl)
+    reads (suc zero) ins ins' now now' last low same_ins same_now = ap (λ (n : ℕ). add (mul 2 n) (slice_index last 1)) (same_now 0 (omega arith) refl)
+    reads (suc (suc w)) ins ins' now now' last low same_ins same_now = absurd (omega arith)
+
+-- ---- the program
+
+abbrev tasks : List TaskTree
+tasks = reading_task ∷ adding_task ∷ []
+
+sound_reading : IsSound 1 2 reading_task
+sound_reading = record { some_output = omega arith; few_outputs = omega arith; few_repeats = omega arith; sound_body = ((record { names = (omega arith, tt); needs = omega arith }, omega arith), tt) }
+
+sound_adding : IsSound 1 2 adding_task
+sound_adding = record { some_output = omega arith; few_outputs = omega arith; few_repeats = omega arith; sound_body = ((record { names = ((tt, omega arith), omega arith); needs = omega arith }, omega arith), tt) }
+
+-- a task makes a word of the mission
+abbrev Makes : ℕ → ℕ → List ℕ → List ℕ → List ℕ → TaskTree → Type 0
+Makes first i ins now last task = i < task.outputs → (mission_of gauge).word (first + i) ins now last ≡ slice_index (meaning task ins now last) i
+
+runs : RunsProgram (mission_of gauge) (program_of gauge)
+runs = record {
+  sound = record {
+    some_task = omega arith;
+    few_tasks = omega arith;
+    a_start_each = refl;
+    few_words = omega arith;
+    tasks_sound = All-cons (IsSound 1 2) reading_task (adding_task ∷ []) sound_reading (All-cons (IsSound 1 2) adding_task [] sound_adding (All-nil (IsSound 1 2)));
+    reads_earlier_words = λ t task at. earlier t task at;
+  };
+  words = refl;
+  starts = refl;
+  word = λ t i task ins now last at low. word t i task ins now last at low;
+}
+  where
+    earlier : (t : ℕ) (task : TaskTree) → slice_get tasks t ≡ Some task → AllNowsBelow (first_word tasks t) task
+    earlier zero task at = subst (AllNowsBelow 0) (same_Some reading_task task at) ((tt, tt), tt)
+    earlier (suc zero) task at = subst (AllNowsBelow 1) (same_Some adding_task task at) (((tt, omega arith), tt), tt)
+    earlier (suc (suc t)) task at = absurd cc
+
+    word : (t i : ℕ) (task : TaskTree) (ins now last : List ℕ) → slice_get tasks t ≡ Some task → i < task.outputs
+        → (mission_of gauge).word (first_word tasks t + i) ins now last ≡ slice_index (meaning task ins now last) i
+    word zero i task ins now last at low = subst (Makes 0 i ins now last) (same_Some reading_task task at)
+        (λ low. one (λ i. (mission_of gauge).word (0 + i) ins now last ≡ slice_index (meaning reading_task ins now last) i) refl i low) low
+    word (suc zero) i task ins now last at low = subst (Makes 1 i ins now last) (same_Some adding_task task at)
+        (λ low. one (λ i. (mission_of gauge).word (1 + i) ins now last ≡ slice_index (meaning adding_task ins now last) i) refl i low) low
+    word (suc (suc t)) i task ins now last at low = absurd cc
+
+-- ---- the frame
+
+abbrev outs : List ℕ
+outs = 8 ∷ 25 ∷ []
+
+made_is : (w : ℕ) → w < 2 → made (mission_of gauge) (account_of gauge) (5 ∷ 9 ∷ []) w ≡ slice_index outs w
+made_is w low = two (λ w. made (mission_of gauge) (account_of gauge) (5 ∷ 9 ∷ []) w ≡ slice_index outs w) refl refl w low
+
+abbrev voted : ℕ → ℕ → ℕ
+voted u w = agreed_of (map (place gauge u w) (executors (mission_of gauge) four_units w))
+
+figures : (u : ℕ) → has four_units u ≡ true → HasFigures gauge u
+figures u hu = four (λ u. HasFigures gauge u)
+    (record { ins = λ x low. one (λ x. slice_index (7 ∷ []) x ≡ input_of (mission_of gauge) four_units 0 0 (heard_by gauge 0) x) refl x low; votes = λ w low. two (λ w. slice_index outs w ≡ voted 0 w) refl refl w low; polls = nobody_passes _ refl refl refl refl; relays = nobody_passes _ refl refl refl refl; clocks = nobody_passes _ refl refl refl refl; cfg = refl; clk = refl })
+    (record { ins = λ x low. one (λ x. slice_index (7 ∷ []) x ≡ input_of (mission_of gauge) four_units 1 0 (heard_by gauge 1) x) refl x low; votes = λ w low. two (λ w. slice_index outs w ≡ voted 1 w) refl refl w low; polls = nobody_passes _ refl refl refl refl; relays = nobody_passes _ refl refl refl refl; clocks = nobody_passes _ refl refl refl refl; cfg = refl; clk = refl })
+    (record { ins = λ x low. one (λ x. slice_index (7 ∷ []) x ≡ input_of (mission_of gauge) four_units 2 0 (heard_by gauge 2) x) refl x low; votes = λ w low. two (λ w. slice_index outs w ≡ voted 2 w) refl refl w low; polls = nobody_passes _ refl refl refl refl; relays = nobody_passes _ refl refl refl refl; clocks = nobody_passes _ refl refl refl refl; cfg = refl; clk = refl })
+    (record { ins = λ x low. one (λ x. slice_index (7 ∷ []) x ≡ input_of (mission_of gauge) four_units 3 0 (heard_by gauge 3) x) refl x low; votes = λ w low. two (λ w. slice_index outs w ≡ voted 3 w) refl refl w low; polls = nobody_passes _ refl refl refl refl; relays = nobody_passes _ refl refl refl refl; clocks = nobody_passes _ refl refl refl refl; cfg = refl; clk = refl })
+    u hu
+
+calm : IsCalm gauge
+calm = record {
+  plain = plain;
+  fits = fits;
+  below = four_are_below gauge 4 (omega arith);
+  conduct = λ u hu. conduct_by gauge refl u (figures u hu);
+  own = own_words gauge made_is;
+}
+
+pub gauge_flies : FliesCalmly gauge
+gauge_flies = record { flyable = flyable_by gauge fits; runs = runs; landed = calm_landed gauge calm; margin = has_margin gauge }
