@@ -16,7 +16,7 @@ use Rattle.sift_buffer.specs.Lawful.{Lawful, IsLastSaid, silent, last}
 use Rattle.sift_unit.specs.Slots.{calls, stamp_of, heard_at}
 use Rattle.sift_flight.specs.Calm.{Calm, four_units, layout_of, due_in, heard_in, mission_of, word_in, acts_of, ranges_of, cell_of, shared_word, core_of}
 use Rattle.sift_flight.proofs.Calls.{and_both}
-use Rattle.sift_flight.proofs.Hears.{frame_low}
+use Rattle.sift_flight.proofs.FrameActs.{frame_low}
 
 -- what is asked of a calm mission: its frame is of a length that may be, its words are words, and its slots are heard in time
 pub record IsPlain (c : Calm) : Type 0 where

@@ -1,40 +1,25 @@
 -- The calm mission `gauge` flies.
-use Rattle.std.proofs.Common.{sym, ◌&&◌, ap, ◌≡◌, ℕ, zero, suc, ◌+◌, ◌<◌, ◌≤◌, List, [], ◌∷◌, slice_get, slice_index, map, true, nat_eq, Some, refl, subst, arith, ltb-true, eqb-true}
+use Rattle.std.proofs.Common.{sym, ◌&&◌, ap, ◌≡◌, ℕ, zero, suc, ◌+◌, ◌<◌, ◌≤◌, List, [], ◌∷◌, slice_index, map, true, nat_eq, refl, subst, arith, ltb-true, eqb-true}
 use Rattle.std.proofs.lemmas.Bool.{agree_below_at}
-use Rattle.std.proofs.lemmas.List.Elements.{All-nil, All-cons}
-use Rattle.std.proofs.lemmas.Option.{same_Some}
 use Rattle.sift_base.specs.Units.{has}
 use Rattle.sift_base.specs.Word.{word_count, add, mul}
 use Rattle.sift_base.specs.declared.slot.Slot.{Slot}
 use Rattle.sift_base.specs.declared.slot.Slot.TheVariants.{Clock, Sense, RelaySense, Out, Report, RelayReport}
-use Rattle.sift_lang.specs.Tree.{TaskTree}
-use Rattle.sift_lang.specs.Sound.{IsSound, AllNowsBelow}
-use Rattle.sift_lang.specs.Meaning.{meaning}
-use Rattle.sift_program.specs.Sound.{first_word}
 use Rattle.sift_vote.specs.Agreed.{agreed_of}
 use Rattle.sift_unit.specs.Slots.{is_slot, executors}
 use Rattle.sift_unit.specs.Conduct.{made}
 use Rattle.sift_unit.specs.Fits.{Fits, IsNumbered}
-use Rattle.sift_flight.specs.Premises.{RunsProgram}
-use Rattle.sift_flight.specs.Calm.{four_units, due_in, heard_in, mission_of, program_of, word_in, account_of, FliesCalmly}
+use Rattle.sift_flight.specs.Calm.{four_units, due_in, heard_in, mission_of, word_in, account_of, FliesCalmly}
 use Rattle.sift_flight.proofs.CalmActs.{IsPlain}
 use Rattle.sift_flight.proofs.CalmBoards.{IsCalm, calm_landed}
 use Rattle.sift_flight.proofs.CalmConduct.{four, nobody_passes, place, HasFigures, conduct_by, own_words}
 use Rattle.sift_flight.proofs.CalmFits.{four_are_below, fits_by, flyable_by, has_margin}
-use Rattle.sift_flight.specs.Calms.{reading_task, adding_task, gauge_kind, gauge}
+use Rattle.sift_flight.specs.Calms.{gauge_kind, gauge}
 use Rattle.sift_unit.specs.Conduct.{input_of}
 use Rattle.sift_unit.specs.Fits.{SameAt}
 use Rattle.sift_flight.proofs.Calls.{and_both}
 use Rattle.sift_flight.proofs.CalmBoards.{heard_by}
-
--- what holds of the first holds of each of one, and what holds of both of each of two
-one : (P : ℕ → Type 0) → P 0 → (x : ℕ) → x < 1 → P x
-one P p x low = let e : 0 ≡ x = omega arith in subst P e p
-
-two : (P : ℕ → Type 0) → P 0 → P 1 → (w : ℕ) → w < 2 → P w
-two P p q zero low = p
-two P p q (suc zero) low = q
-two P p q (suc (suc w)) low = absurd (omega arith)
+use Rattle.sift_flight.proofs.GaugeProgram.{one, two, runs}
 
 -- ---- the layout
 
@@ -108,49 +93,6 @@ fits = fits_by gauge plain numbered
     reads zero ins ins' now now' last low same_ins same_now = ap (λ (n : ℕ). add n 1) (same_ins 0 (omega arith) refl)
     reads (suc zero) ins ins' now now' last low same_ins same_now = ap (λ (n : ℕ). add (mul 2 n) (slice_index last 1)) (same_now 0 (omega arith) refl)
     reads (suc (suc w)) ins ins' now now' last low same_ins same_now = absurd (omega arith)
-
--- ---- the program
-
-abbrev tasks : List TaskTree
-tasks = reading_task ∷ adding_task ∷ []
-
-sound_reading : IsSound 1 2 reading_task
-sound_reading = record { some_output = omega arith; few_outputs = omega arith; few_repeats = omega arith; sound_body = ((record { names = (omega arith, tt); needs = omega arith }, omega arith), tt) }
-
-sound_adding : IsSound 1 2 adding_task
-sound_adding = record { some_output = omega arith; few_outputs = omega arith; few_repeats = omega arith; sound_body = ((record { names = ((tt, omega arith), omega arith); needs = omega arith }, omega arith), tt) }
-
--- a task makes a word of the mission
-abbrev Makes : ℕ → ℕ → List ℕ → List ℕ → List ℕ → TaskTree → Type 0
-Makes first i ins now last task = i < task.outputs → (mission_of gauge).word (first + i) ins now last ≡ slice_index (meaning task ins now last) i
-
-runs : RunsProgram (mission_of gauge) (program_of gauge)
-runs = record {
-  sound = record {
-    some_task = omega arith;
-    few_tasks = omega arith;
-    a_start_each = refl;
-    few_words = omega arith;
-    tasks_sound = All-cons (IsSound 1 2) reading_task (adding_task ∷ []) sound_reading (All-cons (IsSound 1 2) adding_task [] sound_adding (All-nil (IsSound 1 2)));
-    reads_earlier_words = λ t task at. earlier t task at;
-  };
-  words = refl;
-  starts = refl;
-  word = λ t i task ins now last at low. word t i task ins now last at low;
-}
-  where
-    earlier : (t : ℕ) (task : TaskTree) → slice_get tasks t ≡ Some task → AllNowsBelow (first_word tasks t) task
-    earlier zero task at = subst (AllNowsBelow 0) (same_Some reading_task task at) ((tt, tt), tt)
-    earlier (suc zero) task at = subst (AllNowsBelow 1) (same_Some adding_task task at) (((tt, omega arith), tt), tt)
-    earlier (suc (suc t)) task at = absurd cc
-
-    word : (t i : ℕ) (task : TaskTree) (ins now last : List ℕ) → slice_get tasks t ≡ Some task → i < task.outputs
-        → (mission_of gauge).word (first_word tasks t + i) ins now last ≡ slice_index (meaning task ins now last) i
-    word zero i task ins now last at low = subst (Makes 0 i ins now last) (same_Some reading_task task at)
-        (λ low. one (λ i. (mission_of gauge).word (0 + i) ins now last ≡ slice_index (meaning reading_task ins now last) i) refl i low) low
-    word (suc zero) i task ins now last at low = subst (Makes 1 i ins now last) (same_Some adding_task task at)
-        (λ low. one (λ i. (mission_of gauge).word (1 + i) ins now last ≡ slice_index (meaning adding_task ins now last) i) refl i low) low
-    word (suc (suc t)) i task ins now last at low = absurd cc
 
 -- ---- the frame
 

@@ -1,16 +1,10 @@
 -- The headline, by induction over the frames with margin.
-use Rattle.std.proofs.Common.{◌≡◌, ⊎_elim, inl, inr, ℕ, zero, suc, ◌-◌, ◌<◌, ◌≤◌, List, [], ◌∷◌, Bool, true, false, nat_eq, unwrap_or, refl, sym, ap, ◌∙◌, subst, arith, lt-ltb}
-use Rattle.std.specs.List.{find}
-use Rattle.std.proofs.lemmas.Bool.{cases_Bool, cases_lt, le-ltb}
-use Rattle.std.proofs.lemmas.Grind.{same_number_lists}
+use Rattle.std.proofs.Common.{◌≡◌, ⊎_elim, ℕ, zero, suc, ◌-◌, ◌<◌, ◌≤◌, List, true, sym, ◌∙◌, subst, arith}
+use Rattle.std.proofs.lemmas.Bool.{cases_lt, le-ltb}
 use Rattle.sift_base.specs.Units.{has}
-use Rattle.sift_base.proofs.Counts.{has-head, has-tail}
-use Rattle.sift_base.proofs.Others.{not_same}
-use Rattle.sift_exec.specs.Conviction.{next_by}
 use Rattle.sift_program.specs.Program.{ProgramTree}
-use Rattle.sift_program.specs.Ideal.{ideal_words, words_before}
+use Rattle.sift_program.specs.Ideal.{words_before}
 use Rattle.sift_unit.specs.Mission.{Mission}
-use Rattle.sift_unit.specs.Account.{caught}
 use Rattle.sift_unit.specs.Acts.{IsConfigOf}
 use Rattle.sift_unit.specs.Frames.{last_of, FrameConduct}
 use Rattle.sift_flight.specs.Flight.{Flight, config_of}
@@ -18,41 +12,11 @@ use Rattle.sift_flight.specs.Hearing.{Strays}
 use Rattle.sift_flight.specs.Round.{IsRound}
 use Rattle.sift_flight.specs.Configuration.{Works, lead_of, config_at, HasMarginAt}
 use Rattle.sift_flight.specs.Premises.{IsFlyable, RunsProgram}
-use Rattle.sift_flight.specs.Headline.{agreed_at, Headline, HeadlineHolds}
-use Rattle.sift_flight.proofs.Configs.{reader_in}
-use Rattle.sift_flight.proofs.Ideal.{IsStep, ideal_step}
-use Rattle.sift_flight.proofs.Working.{InFrame, Member, works_in, member_of, conduct_here}
-use Rattle.sift_flight.proofs.Agreeing.{sensor_own, sensor_same, report_own, report_same}
-use Rattle.sift_flight.proofs.Timing.{next_together, skew_within, slack_positive}
-use Rattle.sift_flight.proofs.Voting.{output_is}
-use Rattle.sift_flight.proofs.Naming.{none_named}
-use Rattle.sift_flight.proofs.Removing.{names, next_one, next_exact, stays, next_is_config}
-
--- where some unit of a list passes a test, the first that does is in the list, and passes
-first_passes : (p : ℕ → Bool) (us : List ℕ) (v : ℕ) → has us v ≡ true → p v ≡ true → (has us (unwrap_or (find p us) 0) ≡ true) × (p (unwrap_or (find p us) 0) ≡ true)
-first_passes p [] v h t = absurd cc
-first_passes p (u ∷ us) v h t =
-    elim (cases_Bool (p u)) [
-      | inl pu ↦
-          let e : unwrap_or (find p (u ∷ us)) 0 ≡ u = rw pu refl in
-          subst (λ x. (has (u ∷ us) x ≡ true) × (p x ≡ true)) (sym e) (has-head u us, pu)
-      | inr npu ↦
-          let other : nat_eq u v ≡ false = not_same u v (λ e. let x = ap p e in cc) in
-          let rest = first_passes p us v (rw other at h) t in
-          let e : unwrap_or (find p (u ∷ us)) 0 ≡ unwrap_or (find p us) 0 = rw npu refl in
-          subst (λ x. (has (u ∷ us) x ≡ true) × (p x ≡ true)) (sym e) (has-tail u us (unwrap_or (find p us) 0) rest.0, rest.1)
-    ]
-
--- the lead unit works
-pub lead_works : (m : Mission) → IsFlyable m → (f : ℕ) → Works m (lead_of m f) f
-lead_works m flyable f =
-    let s = flyable.script.steady in
-    let t = first_passes (λ u. m.works u f) m.units s.0 s.1 (s.2 f) in
-    record { unit = t.0; works = t.1 }
-
--- in the mission's frames the configuration is the lead unit's, and after them what the last lead unit found
-config_within : (m : Mission) (fl : Flight) (f : ℕ) → f < m.frames → config_at m fl f ≡ config_of fl (lead_of m f) f
-config_within m fl f low = rw (lt-ltb f m.frames low) refl
+use Rattle.sift_flight.specs.Headline.{agreed_at, HeadlineHolds}
+use Rattle.sift_flight.proofs.Working.{InFrame, Member, member_of}
+use Rattle.sift_flight.proofs.Timing.{next_together}
+use Rattle.sift_flight.proofs.Leading.{lead_works, config_within}
+use Rattle.sift_flight.proofs.OneFrame.{outputs, next, next_is, next_good, stays_in, headline_by}
 
 -- the induction's state: the configuration of all working units, and the words before
 record Stands (m : Mission) (program : ProgramTree) (strays : Strays) (fl : Flight) (f : ℕ) : Type 0 where
@@ -87,82 +51,42 @@ module _ (m : Mission) (program : ProgramTree) (strays : Strays) (fl : Flight) (
     abbrev us : List ℕ
     us = config_at m fl f
 
-    here : InFrame m strays fl f us
+    abbrev here : InFrame m strays fl f us
     here = stands.frame
 
-    lead_here : Member m f us (lead_of m f)
-    lead_here = member_of m strays fl f us here (lead_of m f) (lead_works m flyable f)
+    abbrev following : List ℕ
+    following = next m program strays fl f runs here stands.last
 
-    step : IsStep m (agreed_at m fl f) (words_before program (agreed_at m fl) f) (ideal_words program (agreed_at m fl) f)
-    step = ideal_step m program (agreed_at m fl f) (words_before program (agreed_at m fl) f) runs
-
-    inputs : (u : ℕ) → Member m f us u → (fl.account u f).ins ≡ agreed_at m fl f
-    inputs u w =
-        let c = (conduct_here m strays fl f us here u w).sensors.count in
-        let d = (conduct_here m strays fl f us here (lead_of m f) lead_here).sensors.count in
-        same_number_lists (fl.account u f).ins (agreed_at m fl f) (c ∙ sym d) (λ x x_low.
-        let within : x < m.sensors = omega (arith, c) in sensor_same m strays fl f us here x within (reader_in us x (omega (arith, here.config.enough))) u (lead_of m f) w lead_here)
-
-    lasts : (u : ℕ) → Member m f us u → last_of m (fl.account u) f ≡ words_before program (agreed_at m fl) f
-    lasts u w = stands.last u (works_in m strays fl f us here u w)
-
-    outputs : (u : ℕ) → Member m f us u → (fl.account u f).outs ≡ ideal_words program (agreed_at m fl) f
-    outputs u w = output_is m strays fl f us here (agreed_at m fl f) _ _ step inputs lasts u w
-
-    none : (u v : ℕ) → Member m f us u → Member m f us v → caught (fl.account u f) v ≡ false
-    none = none_named m strays fl f us here (agreed_at m fl f) _ _ step inputs lasts
-
-    abbrev next : List ℕ
-    next = next_by (names m strays fl f us here (lead_of m f)) us
-
-    next_is : (u : ℕ) → Member m f us u → (fl.account u f).next_cfg ≡ next
-    next_is u w = next_one m strays fl f us here u (lead_of m f) w lead_here
-
-    -- a unit that works in the next frame works in this one
-    worked : (u : ℕ) → Works m u (suc f) → Works m u f
-    worked u w = record { unit = w.unit; works = flyable.script.for_good u f (suc f) (omega arith) w.works }
-
+    -- a unit that works in the next frame is a member in this one
     was_member : (u : ℕ) → Works m u (suc f) → Member m f us u
-    was_member u w = member_of m strays fl f us here u (worked u w)
+    was_member u w = member_of m strays fl f us here u (record { unit = w.unit; works = flyable.script.for_good u f (suc f) (omega arith) w.works })
 
-    config_next : suc f < m.frames → (u : ℕ) → Works m u (suc f) → config_of fl u (suc f) ≡ next
-    config_next low' u w = (conduct_of (suc f) low' u w).begins.cfg ∙ next_is u (was_member u w)
+    config_next : suc f < m.frames → (u : ℕ) → Works m u (suc f) → config_of fl u (suc f) ≡ following
+    config_next low' u w = (conduct_of (suc f) low' u w).begins.cfg ∙ next_is m program strays fl f runs here stands.last u (was_member u w)
 
-    at_next : config_at m fl (suc f) ≡ next
+    -- the configuration at the next frame, or after the last one
+    at_next : config_at m fl (suc f) ≡ following
     at_next = ⊎_elim
         (λ (z : suc f < m.frames). config_within m fl (suc f) z ∙ config_next z (lead_of m (suc f)) (lead_works m flyable (suc f)))
-        (λ (z : m.frames ≤ suc f). let e : f ≡ suc f - 1 = omega arith in
-        rw (le-ltb (suc f) m.frames z) (subst (λ g. (fl.account (lead_of m g) g).next_cfg ≡ next) e (next_is (lead_of m f) lead_here)))
+        (λ (z : m.frames ≤ suc f).
+        let e : f ≡ suc f - 1 = omega arith in
+        let found = next_is m program strays fl f runs here stands.last (lead_of m f) (member_of m strays fl f us here (lead_of m f) (lead_works m flyable f)) in
+        rw (le-ltb (suc f) m.frames z) (subst (λ g. (fl.account (lead_of m g) g).next_cfg ≡ following) e found))
         (cases_lt (suc f) m.frames)
 
-    headline_here : Headline m program fl f
-    headline_here = record {
-      same_configuration = here.share;
-      same_inputs = record {
-        same = λ u w. inputs u (member_of m strays fl f us here u w);
-        sensed = λ x x_low w. sensor_own m strays fl f us here x x_low (record { member = reader_in us x (omega (arith, here.config.enough)); works = w }) (lead_of m f) lead_here;
-      };
-      same_reports = record {
-        same = λ u v r wu wv hr. report_same m strays fl f us here u v r (member_of m strays fl f us here u wu) (member_of m strays fl f us here v wv) hr;
-        own = λ u r wu wr. report_own m strays fl f us here u r (member_of m strays fl f us here u wu) (member_of m strays fl f us here r wr);
-      };
-      ideal_outputs = λ u w. outputs u (member_of m strays fl f us here u w);
-      no_false_accusation = λ u v wu wv. none u v (member_of m strays fl f us here u wu) (member_of m strays fl f us here v wv);
-      exact_removal = record {
-        exact = at_next ∙ next_exact m strays fl f us here none (lead_of m f) lead_here;
-        found = λ u w. next_is u (member_of m strays fl f us here u w) ∙ sym at_next;
-        config = subst (IsConfigOf m) (sym at_next) (next_is_config m strays fl f us here none (lead_of m f) lead_here);
-      };
-      clock_skew = record { together = here.together; skew = skew_within m strays fl f us here; slack = slack_positive m strays fl f us here };
-    }
+    good_next : IsConfigOf m (config_at m fl (suc f))
+    good_next = subst (IsConfigOf m) (sym at_next) (next_good m program strays fl f runs here stands.last)
+
+    works_next : (u : ℕ) → has (config_at m fl (suc f)) u ≡ true → m.works u (suc f) ≡ true → Works m u (suc f)
+    works_next u hu wu = record { unit = good_next.inside u hu; works = wu }
 
     next_stands : suc f < m.frames → HasMarginAt m fl (suc f) → Stands m program strays fl (suc f)
     next_stands low' margin = record {
       frame = record {
         flyable = flyable;
         round = round (suc f) low';
-        share = λ u w. (config_next low' u w ∙ sym at_next, subst (λ c. has c u ≡ true) (sym at_next) (stays m strays fl f us here none (lead_of m f) lead_here u (was_member u w)));
-        config = subst (IsConfigOf m) (sym at_next) (next_is_config m strays fl f us here none (lead_of m f) lead_here);
+        share = λ u w. (config_next low' u w ∙ sym at_next, subst (λ c. has c u ≡ true) (sym at_next) (stays_in m program strays fl f runs here stands.last u (was_member u w)));
+        config = good_next;
         margin = margin (suc f) (omega arith);
         together = λ p q hp wp hq wq.
             let p' = works_next p hp wp in
@@ -172,14 +96,8 @@ module _ (m : Mission) (program : ProgramTree) (strays : Strays) (fl : Flight) (
             rw ((conduct_of (suc f) low' p p').begins.clk, (conduct_of (suc f) low' q q').begins.clk)
             (next_together m strays fl f us here p q p''.member p''.works q''.member q''.works);
       };
-      last = λ u w. outputs u (was_member u w);
+      last = λ u w. outputs m program strays fl f runs here stands.last u (was_member u w);
     }
-      where
-        works_next : (u : ℕ) → has (config_at m fl (suc f)) u ≡ true → m.works u (suc f) ≡ true → Works m u (suc f)
-        works_next u hu wu = record {
-          unit = (subst (IsConfigOf m) (sym at_next) (next_is_config m strays fl f us here none (lead_of m f) lead_here)).inside u hu;
-          works = wu;
-        }
 
   stands : (f : ℕ) → f < m.frames → HasMarginAt m fl f → Stands m program strays fl f
   stands zero low margin = first_stands low margin
@@ -187,4 +105,5 @@ module _ (m : Mission) (program : ProgramTree) (strays : Strays) (fl : Flight) (
 
 pub headline_holds : HeadlineHolds
 headline_holds m program strays fl flyable runs round f low margin =
-    headline_here m program strays fl flyable runs round f low (stands m program strays fl flyable runs round f low margin)
+    let s = stands m program strays fl flyable runs round f low margin in
+    headline_by m program strays fl f runs s.frame s.last (at_next m program strays fl flyable runs round f low s)

@@ -1,5 +1,6 @@
 pub mod Calls
 pub mod Configs
+pub mod FrameActs
 pub mod Hears
 pub mod Landed
 pub mod Same
@@ -14,10 +15,13 @@ pub mod Ideal
 pub mod Voting
 pub mod Naming
 pub mod Removing
+pub mod Leading
+pub mod OneFrame
 pub mod Induction
 pub mod CalmActs
 pub mod CalmBoards
 pub mod CalmConduct
 pub mod CalmFits
 pub mod CalmCount
+pub mod GaugeProgram
 pub mod CalmGauge

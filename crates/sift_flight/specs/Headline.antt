@@ -55,10 +55,12 @@ NoFalseAccusation m fl f = (u v : ℕ) → Works m u f → Works m v f → caugh
 abbrev pub two_caught : Mission → Flight → ℕ → ℕ → Bool
 two_caught m fl f v = nat_lt 1 (working_accusers (λ u. m.works u f) (λ u. caught (fl.account u f)) (config_at m fl f) v)
 
--- exact removal: the next configuration is this one less exactly the units that two working units caught; each working unit finds it
+-- exact removal: the next configuration is this one less exactly the units that two working units caught; each working unit finds it and
+-- stays in it
 pub record ExactRemoval (m : Mission) (fl : Flight) (f : ℕ) : Type 0 where
   pub exact : config_at m fl (suc f) ≡ filter (λ v. not (two_caught m fl f v)) (config_at m fl f)
   pub found : (u : ℕ) → Works m u f → (fl.account u f).next_cfg ≡ config_at m fl (suc f)
+  pub stays : (u : ℕ) → Works m u f → has (config_at m fl (suc f)) u ≡ true
   pub config : IsConfigOf m (config_at m fl (suc f))
 
 -- ---- clocks
