@@ -6,16 +6,14 @@ use Rattle.std.proofs.lemmas.Bool.{cases_Bool}
 use Rattle.sift_base.specs.Units.{has, holds, has_bit, bits_of}
 use Rattle.sift_base.specs.declared.slot.Slot.{Slot}
 use Rattle.sift_base.specs.declared.slot.Slot.TheVariants.{Clock, Sense, RelaySense, Out, Report, RelayReport}
-use Rattle.sift_vote.specs.Agreed.{agreed_of, majority_of}
-use Rattle.sift_vote.specs.Differing.{differs}
+use Rattle.sift_vote.specs.Agreed.{agreed_of}
 use Rattle.sift_agree.specs.Agreement.{taken}
 use Rattle.sift_exec.specs.Record.{nobody, everyone_in}
 use Rattle.sift_exec.specs.Conviction.{next_by}
 use Rattle.sift_config.specs.Config.{reader_of}
-use Rattle.sift_clock.specs.Reading.{is_too_far}
 use Rattle.sift_clock.specs.Correction.{next_offset}
 use Rattle.sift_unit.specs.Slots.{executors, calls}
-use Rattle.sift_unit.specs.Conduct.{input_of, made, polled, any_below, reading_by, own_word, Conduct}
+use Rattle.sift_unit.specs.Conduct.{input_of, made, polled, poll_catches, relay_catches, clock_catches, reading_by, own_word, Conduct}
 use Rattle.sift_flight.specs.Calm.{Calm, four_units, mission_of, word_in, account_of}
 use Rattle.sift_flight.proofs.Calls.{Call, call_of, call_is, and_both, told_apart}
 use Rattle.sift_flight.proofs.Configs.{reader_in}
@@ -45,23 +43,38 @@ no_report i =
     0 + (if none_caught 0 i then 2 ^ 0 else 0) + (if none_caught 1 i then 2 ^ 1 else 0) + (if none_caught 2 i then 2 ^ 2 else 0) + (if none_caught 3 i then 2 ^ 3 else 0)
     + (if none_caught 4 i then 2 ^ 4 else 0) + (if none_caught 5 i then 2 ^ 5 else 0) + (if none_caught 6 i then 2 ^ 6 else 0) + (if none_caught 7 i then 2 ^ 7 else 0)
 
--- a test that fails at each of the four passes for no unit
-pub nobody_passes : (g : ℕ → Bool) → g 0 ≡ false → g 1 ≡ false → g 2 ≡ false → g 3 ≡ false → (v : ℕ) → has four_units v && g v ≡ false
-nobody_passes g a b c d v = elim (cases_Bool (has four_units v)) [ inl t ↦ rw t (four (λ v. g v ≡ false) a b c d v t) | inr t ↦ rw t refl ]
+-- a test passes for some of the four
+abbrev pub some_of_four : (ℕ → Bool) → Bool
+some_of_four g = g 0 || (g 1 || (g 2 || g 3))
+
+-- a test that passes for no other and for none of them passes for no unit
+none_pass : (g : ℕ → Bool) → ((v : ℕ) → has four_units v ≡ false → g v ≡ false) → some_of_four g ≡ false → (v : ℕ) → g v ≡ false
+none_pass g outside none v = elim (cases_Bool (has four_units v)) [ inl t ↦ four (λ v. g v ≡ false) n.0 n.1 n.2 n.3 v t | inr t ↦ outside v t ]
+  where
+    neither : (a b : Bool) → a || b ≡ false → (a ≡ false) × (b ≡ false)
+    neither true b e = absurd cc
+    neither false b e = (refl, e)
+
+    n : (g 0 ≡ false) × (g 1 ≡ false) × (g 2 ≡ false) × (g 3 ≡ false)
+    n = let a = neither (g 0) _ none in let b = neither (g 1) _ a.1 in let d = neither (g 2) (g 3) b.1 in (a.0, b.0, d.0, d.1)
 
 module _ (c : Calm) where
   -- the places that a unit polls of a word
   abbrev pub place : ℕ → ℕ → ℕ → Option ℕ
   place u = polled (mission_of c) u (account_of c) (heard_by c u) c.starts
 
+  -- whom unit u takes each report to name, where its own is this one
+  abbrev names_with : ℕ → ℕ → ℕ → ℕ → Bool
+  names_with u own r v = has_bit (if nat_eq r u then own else agreed_of (taken four_units r u (λ q. heard_by c u Report r) (λ q p. heard_by c u (RelayReport r) p))) v
+
   -- the figures of a unit's conduct
   pub record HasFigures (u : ℕ) : Type 0 where
     pub ins : (x : ℕ) → x < length c.sensed → slice_index c.sensed x ≡ input_of (mission_of c) four_units u 0 (heard_by c u) x
     pub votes : (w : ℕ) → w < length c.tasks → slice_index c.outs w ≡ agreed_of (map (place u w) (executors (mission_of c) four_units w))
-    pub polls : (v : ℕ) → has four_units v && any_below (length c.tasks) (λ w. true && differs (place u w v) (majority_of (map (place u w) (executors (mission_of c) four_units w)))) ≡ false
-    pub relays : (v : ℕ) → has four_units v && (not (nat_eq v u) && any_below (length c.sensed) (λ x. nat_eq (reader_of four_units x) u && differs (heard_by c u (RelaySense x) v) (Some (slice_index c.sensed x)))) ≡ false
-    pub clocks : (v : ℕ) → has four_units v && (not (nat_eq v u) && is_too_far (pos 0) (reading_by (mission_of c) u (pos 0) (heard_by c u) v)) ≡ false
-    pub cfg : four_units ≡ next_by (λ r v. has_bit (if nat_eq r u then 0 else agreed_of (taken four_units r u (λ q. heard_by c u Report r) (λ q p. heard_by c u (RelayReport r) p))) v) four_units
+    pub polls : some_of_four (poll_catches (mission_of c) four_units (place u)) ≡ false
+    pub relays : some_of_four (relay_catches (mission_of c) four_units u 0 (heard_by c u)) ≡ false
+    pub clocks : some_of_four (clock_catches (mission_of c) four_units u (pos 0) (heard_by c u)) ≡ false
+    pub cfg : four_units ≡ next_by (names_with u 0) four_units
     pub clk : pos 0 ≡ next_offset (pos 0) four_units (reading_by (mission_of c) u (pos 0) (heard_by c u)) (pos 0) u (pos 0)
 
   pub conduct_by : length c.outs ≡ length c.tasks → (u : ℕ) → HasFigures u → Conduct (mission_of c) four_units u 0 (account_of c) (heard_by c u) c.starts
@@ -69,13 +82,11 @@ module _ (c : Calm) where
     sensors = record { count = refl; agrees = g.ins };
     tasks = record { count = count; votes = g.votes };
     catches = record {
-      polls = λ v. set.contains-empty nat_cmp v ∙ sym (g.polls v);
-      relays = λ v. set.contains-empty nat_cmp v ∙ sym (g.relays v);
-      clocks = λ v. set.contains-empty nat_cmp v ∙ sym (g.clocks v);
+      polls = λ v. set.contains-empty nat_cmp v ∙ sym (none_pass (poll_catches (mission_of c) four_units (place u)) (λ v e. rw e refl) g.polls v);
+      relays = λ v. set.contains-empty nat_cmp v ∙ sym (none_pass (relay_catches (mission_of c) four_units u 0 (heard_by c u)) (λ v e. rw e refl) g.relays v);
+      clocks = λ v. set.contains-empty nat_cmp v ∙ sym (none_pass (clock_catches (mission_of c) four_units u (pos 0) (heard_by c u)) (λ v e. rw e refl) g.clocks v);
     };
-    reports = record {
-      next = g.cfg ∙ ap (λ (report : ℕ). next_by (λ r v. has_bit (if nat_eq r u then report else agreed_of (taken four_units r u (λ q. heard_by c u Report r) (λ q p. heard_by c u (RelayReport r) p))) v) four_units) (sym no_report);
-    };
+    reports = record { next = g.cfg ∙ ap (λ (own : ℕ). next_by (names_with u own) four_units) (sym no_report) };
     clocks = record { next = g.clk };
   }
 

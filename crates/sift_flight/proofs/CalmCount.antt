@@ -19,7 +19,7 @@ use Rattle.sift_flight.specs.Premises.{RunsProgram}
 use Rattle.sift_flight.specs.Calm.{four_units, due_in, heard_in, mission_of, program_of, word_in, account_of, FliesCalmly}
 use Rattle.sift_flight.proofs.CalmActs.{IsPlain}
 use Rattle.sift_flight.proofs.CalmBoards.{IsCalm, calm_landed}
-use Rattle.sift_flight.proofs.CalmConduct.{four, nobody_passes, place, HasFigures, conduct_by, own_words}
+use Rattle.sift_flight.proofs.CalmConduct.{four, place, HasFigures, conduct_by, own_words}
 use Rattle.sift_flight.proofs.CalmFits.{four_are_below, fits_by, flyable_by, has_margin}
 use Rattle.sift_flight.specs.Calms.{count_task, count_kind, count}
 
@@ -120,15 +120,19 @@ runs = record {
 made_is : (w : ℕ) → w < 1 → made (mission_of count) (account_of count) (5 ∷ []) w ≡ slice_index (16 ∷ []) w
 made_is w low = one_word (λ w. made (mission_of count) (account_of count) (5 ∷ []) w ≡ slice_index (16 ∷ []) w) refl w low
 
-abbrev Figures : ℕ → Type 0
-Figures u = HasFigures count u
+-- the word that a unit votes
+abbrev voted : ℕ → ℕ → ℕ
+voted u w = agreed_of (map (place count u w) (executors (mission_of count) four_units w))
 
-figures : (u : ℕ) → has four_units u ≡ true → Figures u
-figures u hu = four Figures
-    (record { ins = λ x low. no_sensor x low; votes = λ w low. one_word (λ w. slice_index (16 ∷ []) w ≡ agreed_of (map (place count 0 w) (executors (mission_of count) four_units w))) refl w low; polls = nobody_passes _ refl refl refl refl; relays = nobody_passes _ refl refl refl refl; clocks = nobody_passes _ refl refl refl refl; cfg = refl; clk = refl })
-    (record { ins = λ x low. no_sensor x low; votes = λ w low. one_word (λ w. slice_index (16 ∷ []) w ≡ agreed_of (map (place count 1 w) (executors (mission_of count) four_units w))) refl w low; polls = nobody_passes _ refl refl refl refl; relays = nobody_passes _ refl refl refl refl; clocks = nobody_passes _ refl refl refl refl; cfg = refl; clk = refl })
-    (record { ins = λ x low. no_sensor x low; votes = λ w low. one_word (λ w. slice_index (16 ∷ []) w ≡ agreed_of (map (place count 2 w) (executors (mission_of count) four_units w))) refl w low; polls = nobody_passes _ refl refl refl refl; relays = nobody_passes _ refl refl refl refl; clocks = nobody_passes _ refl refl refl refl; cfg = refl; clk = refl })
-    (record { ins = λ x low. no_sensor x low; votes = λ w low. one_word (λ w. slice_index (16 ∷ []) w ≡ agreed_of (map (place count 3 w) (executors (mission_of count) four_units w))) refl w low; polls = nobody_passes _ refl refl refl refl; relays = nobody_passes _ refl refl refl refl; clocks = nobody_passes _ refl refl refl refl; cfg = refl; clk = refl })
+votes : (u : ℕ) → 16 ≡ voted u 0 → (w : ℕ) → w < 1 → slice_index (16 ∷ []) w ≡ voted u w
+votes u e w low = one_word (λ w. slice_index (16 ∷ []) w ≡ voted u w) e w low
+
+figures : (u : ℕ) → has four_units u ≡ true → HasFigures count u
+figures u hu = four (λ u. HasFigures count u)
+    (record { ins = λ x low. no_sensor x low; votes = votes 0 refl; polls = refl; relays = refl; clocks = refl; cfg = refl; clk = refl })
+    (record { ins = λ x low. no_sensor x low; votes = votes 1 refl; polls = refl; relays = refl; clocks = refl; cfg = refl; clk = refl })
+    (record { ins = λ x low. no_sensor x low; votes = votes 2 refl; polls = refl; relays = refl; clocks = refl; cfg = refl; clk = refl })
+    (record { ins = λ x low. no_sensor x low; votes = votes 3 refl; polls = refl; relays = refl; clocks = refl; cfg = refl; clk = refl })
     u hu
 
 calm : IsCalm count

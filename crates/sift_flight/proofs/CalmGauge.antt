@@ -12,7 +12,7 @@ use Rattle.sift_unit.specs.Fits.{Fits, IsNumbered}
 use Rattle.sift_flight.specs.Calm.{four_units, due_in, heard_in, mission_of, word_in, account_of, FliesCalmly}
 use Rattle.sift_flight.proofs.CalmActs.{IsPlain}
 use Rattle.sift_flight.proofs.CalmBoards.{IsCalm, calm_landed}
-use Rattle.sift_flight.proofs.CalmConduct.{four, nobody_passes, place, HasFigures, conduct_by, own_words}
+use Rattle.sift_flight.proofs.CalmConduct.{four, place, HasFigures, conduct_by, own_words}
 use Rattle.sift_flight.proofs.CalmFits.{four_are_below, fits_by, flyable_by, has_margin}
 use Rattle.sift_flight.specs.Calms.{gauge_kind, gauge}
 use Rattle.sift_unit.specs.Conduct.{input_of}
@@ -105,12 +105,22 @@ made_is w low = two (λ w. made (mission_of gauge) (account_of gauge) (5 ∷ 9 �
 abbrev voted : ℕ → ℕ → ℕ
 voted u w = agreed_of (map (place gauge u w) (executors (mission_of gauge) four_units w))
 
+-- the word that a unit takes for the sensor's
+abbrev read : ℕ → ℕ → ℕ
+read u x = input_of (mission_of gauge) four_units u 0 (heard_by gauge u) x
+
+inputs : (u : ℕ) → 7 ≡ read u 0 → (x : ℕ) → x < 1 → slice_index (7 ∷ []) x ≡ read u x
+inputs u e x low = one (λ x. slice_index (7 ∷ []) x ≡ read u x) e x low
+
+votes : (u : ℕ) → 8 ≡ voted u 0 → 25 ≡ voted u 1 → (w : ℕ) → w < 2 → slice_index outs w ≡ voted u w
+votes u e d w low = two (λ w. slice_index outs w ≡ voted u w) e d w low
+
 figures : (u : ℕ) → has four_units u ≡ true → HasFigures gauge u
 figures u hu = four (λ u. HasFigures gauge u)
-    (record { ins = λ x low. one (λ x. slice_index (7 ∷ []) x ≡ input_of (mission_of gauge) four_units 0 0 (heard_by gauge 0) x) refl x low; votes = λ w low. two (λ w. slice_index outs w ≡ voted 0 w) refl refl w low; polls = nobody_passes _ refl refl refl refl; relays = nobody_passes _ refl refl refl refl; clocks = nobody_passes _ refl refl refl refl; cfg = refl; clk = refl })
-    (record { ins = λ x low. one (λ x. slice_index (7 ∷ []) x ≡ input_of (mission_of gauge) four_units 1 0 (heard_by gauge 1) x) refl x low; votes = λ w low. two (λ w. slice_index outs w ≡ voted 1 w) refl refl w low; polls = nobody_passes _ refl refl refl refl; relays = nobody_passes _ refl refl refl refl; clocks = nobody_passes _ refl refl refl refl; cfg = refl; clk = refl })
-    (record { ins = λ x low. one (λ x. slice_index (7 ∷ []) x ≡ input_of (mission_of gauge) four_units 2 0 (heard_by gauge 2) x) refl x low; votes = λ w low. two (λ w. slice_index outs w ≡ voted 2 w) refl refl w low; polls = nobody_passes _ refl refl refl refl; relays = nobody_passes _ refl refl refl refl; clocks = nobody_passes _ refl refl refl refl; cfg = refl; clk = refl })
-    (record { ins = λ x low. one (λ x. slice_index (7 ∷ []) x ≡ input_of (mission_of gauge) four_units 3 0 (heard_by gauge 3) x) refl x low; votes = λ w low. two (λ w. slice_index outs w ≡ voted 3 w) refl refl w low; polls = nobody_passes _ refl refl refl refl; relays = nobody_passes _ refl refl refl refl; clocks = nobody_passes _ refl refl refl refl; cfg = refl; clk = refl })
+    (record { ins = inputs 0 refl; votes = votes 0 refl refl; polls = refl; relays = refl; clocks = refl; cfg = refl; clk = refl })
+    (record { ins = inputs 1 refl; votes = votes 1 refl refl; polls = refl; relays = refl; clocks = refl; cfg = refl; clk = refl })
+    (record { ins = inputs 2 refl; votes = votes 2 refl refl; polls = refl; relays = refl; clocks = refl; cfg = refl; clk = refl })
+    (record { ins = inputs 3 refl; votes = votes 3 refl refl; polls = refl; relays = refl; clocks = refl; cfg = refl; clk = refl })
     u hu
 
 calm : IsCalm gauge
