@@ -25,3 +25,4 @@ pub mod CalmFits
 pub mod CalmCount
 pub mod GaugeProgram
 pub mod CalmGauge
+pub mod Rows

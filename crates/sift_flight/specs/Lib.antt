@@ -7,3 +7,4 @@ pub mod Premises
 pub mod Headline
 pub mod Calm
 pub mod Calms
+pub mod Rows

@@ -4,6 +4,7 @@ ghost use Rattle.sift_flight.specs.Calms.{CalmMissionsFly};
 ghost use Rattle.sift_flight.specs.Headline.{HeadlineHolds};
 ghost use Rattle.sift_flight.specs.Landing.{UnitsHearByTheEquations, LandedFramesAreRound};
 ghost use Rattle.sift_flight.specs.Round.{AtMostOneIsRound};
+ghost use Rattle.sift_flight.specs.Rows.{RowsHold};
 
 /// What units hear in a lawful core whose boards have kept their conduct, they hear by the hearing
 /// equations, strays included.
@@ -32,4 +33,9 @@ pub fn headline_holds()
 /// landed, and their frame has margin.
 pub fn calm_missions_fly()
     ensures { CalmMissionsFly }
+{}
+
+/// Each definition of flights accepts one row and refuses another.
+pub fn rows_hold()
+    ensures { RowsHold }
 {}
