@@ -1,5 +1,6 @@
 // Loaded before the C library by tools/try-refusals: the allocation with the number in REFUSED gets no memory, counted
-// from 1 over calls of malloc and realloc; with REFUSED_ON set, so do all behind it.
+// from 1 over calls of malloc and realloc; with REFUSED_ON set, so do all behind it. The program asks for memory in these
+// two ways alone: its heap has two calls that give memory, one over malloc and one over realloc.
 #define _GNU_SOURCE
 #include <dlfcn.h>
 #include <stdlib.h>

@@ -13,7 +13,8 @@ module _ (c d : Conduct) (same : d.said ≡ c.said) where
   -- the same sayings are the same source, at a progress that is no less
   pub sayings_same : c.progress ≤ d.progress → (q k s h : ℕ) (w : Option ℕ) → IsFromSayings c q k s h w → IsFromSayings d q k s h w
   sayings_same up q k s h w it = record {
-    source = ⊎_elim (λ n. inl n) (λ (t : (f : ℕ) × (c.said f k q ≡ Some (saying s w))). inr (t.0, ap (λ (g : ℕ → ℕ → ℕ → Option Saying). g t.0 k q) same ∙ t.1)) it.source;
+    source = ⊎_elim (λ n. inl n) (λ (t : (f : ℕ) × (c.said f k q ≡ Some (saying s w))).
+        inr (t.0, ap (λ (g : ℕ → ℕ → ℕ → Option Saying). g t.0 k q) same ∙ t.1)) it.source;
     same = λ f w' at between. it.same f w' (sym (ap (λ (g : ℕ → ℕ → ℕ → Option Saying). g f k q) same) ∙ at)
         (λ f' s' w'' at'. between f' s' w'' (ap (λ (g : ℕ → ℕ → ℕ → Option Saying). g f' k q) same ∙ at'));
     over = (let o = it.over in omega arith);
@@ -55,7 +56,8 @@ module _ (d : Conduct) (u k s h x : ℕ) (stamps : HasStamps d) (stage : HasStag
       (λ e. let word : taken x s ≡ w0 = ap (λ (y : ℕ). taken y s) (is ∙ ap (λ (y : ℕ). packed y w0) e) ∙ taken_same s w0 (stamps.reached f0 k u s0 w0 at0).2 in
       let at : d.said f0 k u ≡ Some (saying s w0) = at0 ∙ ap (λ (y : ℕ). Some (saying y w0)) e in record {
         source = inr (f0, at ∙ ap (λ (y : Option ℕ). Some (saying s y)) (sym word));
-        same = λ f w at' between. word ∙ ap (λ (z : Saying). z.word) (some_same (sym at ∙ (ap (λ (z : ℕ). d.said z k u) (stamps.apart f0 f k u s w0 w at at') ∙ at')));
+        same = λ f w at' between. word ∙ ap (λ (z : Saying). z.word) (some_same (sym at
+            ∙ (ap (λ (z : ℕ). d.said z k u) (stamps.apart f0 f k u s w0 w at at') ∙ at')));
         over = reached;
       })
       (λ ne. let none : taken x s ≡ None = ap (λ (y : ℕ). taken y s) is ∙ taken_other s0 s w0 (stamps.reached f0 k u s0 w0 at0).2 (λ e. ne (sym e)) in record {

@@ -39,7 +39,11 @@ module _ (r : Ranges) (c : Core) (u : ℕ) (d : Conduct) (ws : List ℕ) (hu : u
   -- such a change keeps the core sound
   pub keep : Change r c u d ws → Sound r (record { words = ws; of = put c.of u d })
   keep ch = record {
-    formed = record { wide = ch.wide ∙ it.formed.wide; number = ch.shows; stage = λ p hp. put_cases HasStage c.of u d p (λ _. ch.stage) (λ _. it.formed.stage p hp) };
+    formed = record {
+      wide = ch.wide ∙ it.formed.wide;
+      number = ch.shows;
+      stage = λ p hp. put_cases HasStage c.of u d p (λ _. ch.stage) (λ _. it.formed.stage p hp);
+    };
     cell = ch.holds;
     stamps = λ p hp. put_cases HasStamps c.of u d p (λ _. ch.stamps) (λ _. it.stamps p hp);
     gate = λ q p hq hp ne.
@@ -117,7 +121,8 @@ module _ (r : Ranges) (c : Core) (u : ℕ) (d : Conduct) (hu : u < r.units) (it 
       subst (λ (z : ℕ). CellIs (c.of z) q' k' (slice_index c.words (place r p q' k'))) e (it.cell p q' k' hp hq' hk') in
       dite (ℕ_discrete q' q)
       (λ eq. dite (ℕ_discrete k' k)
-      (λ ek. subst (λ (z : ℕ × ℕ × ℕ). CellIs d z.1 z.2 (slice_index ws (place r z.0 z.1 z.2))) (λ i. (sym e i, sym eq i, sym ek i)) (rw (get_or-set_same c.words i n 0 low) here))
+      (λ ek. subst (λ (z : ℕ × ℕ × ℕ). CellIs d z.1 z.2 (slice_index ws (place r z.0 z.1 z.2))) (λ i. (sym e i, sym eq i, sym ek i))
+      (rw (get_or-set_same c.words i n 0 low) here))
       (λ nk. rw (other (λ t. nk t.2)) (there q' k' _ (λ t. nk t.1) old)))
       (λ nq. rw (other (λ t. nq t.1)) (there q' k' _ (λ t. nq t.0) old)))
       (λ np. rw (other (λ t. np t.0)) (it.cell p q' k' hp hq' hk'))

@@ -74,7 +74,8 @@ module _ (l : Ledger) (layout : Layout) (frames : ℕ) (full : IsFull l layout f
   pub ledger_said : NotesSaid l.pages pages f k q w → Becomes l (record l { pages = pages; said = set l.said s }) (with_said (conduct_in l) f k q s w)
   ledger_said noted =
       let same = now_are noted.owner in
-      let stamped : sayings_by (ranges_in pages) (set l.said s) (said_in pages) ≡ put_at (sayings_by (ranges_in l.pages) l.said (said_in l.pages)) f k q (Some (saying s w)) =
+      let stamped : sayings_by (ranges_in pages) (set l.said s) (said_in pages)
+      ≡ put_at (sayings_by (ranges_in l.pages) l.said (said_in l.pages)) f k q (Some (saying s w)) =
       (λ i. sayings_by ((same ∙ ranges_are) i) (set l.said s) (noted.said i))
       ∙ (sayings_put r l.said (said_in l.pages) f k q s w entry full.said one
       ∙ (λ i. put_at (sayings_by (sym ranges_are i) l.said (said_in l.pages)) f k q (Some (saying s w)))) in record {
@@ -89,7 +90,8 @@ module _ (l : Ledger) (layout : Layout) (frames : ℕ) (full : IsFull l layout f
       let same = now_are noted.owner in
       let h : ℕ = l.progress in
       let words = heard_in l.pages in
-      let stamped : hearings_by (ranges_in pages) (set l.asked s) (set l.heard_at h) (heard_in pages) ≡ put_at (hearings_by (ranges_in l.pages) l.asked l.heard_at words) f k q (Some (hearing s h w)) =
+      let stamped : hearings_by (ranges_in pages) (set l.asked s) (set l.heard_at h) (heard_in pages)
+      ≡ put_at (hearings_by (ranges_in l.pages) l.asked l.heard_at words) f k q (Some (hearing s h w)) =
       (λ i. hearings_by ((same ∙ ranges_are) i) (set l.asked s) (set l.heard_at h) (noted.heard i))
       ∙ (hearings_put r l.asked l.heard_at words f k q s h w entry full.asked full.heard_at one
       ∙ (λ i. put_at (hearings_by (sym ranges_are i) l.asked l.heard_at words) f k q (Some (hearing s h w)))) in record {

@@ -26,7 +26,8 @@ pub record IsEvent (a b : LonePort) (d : Conduct) (e : Event) : Type 0 where
   pub words : (others : ℕ → Conduct) → (after (ranges_for a) (core_beside a others) e).words ≡ b.words.items
 
 -- a port whose acts and words changed by an event follows
-pub follows_by : (a b : LonePort) (d : Conduct) (e : Event) → ranges_for b ≡ ranges_for a → b.unit ≡ a.unit → conduct_in b.acts ≡ d → IsEvent a b d e → Follows a b
+pub follows_by : (a b : LonePort) (d : Conduct) (e : Event) →
+    ranges_for b ≡ ranges_for a → b.unit ≡ a.unit → conduct_in b.acts ≡ d → IsEvent a b d e → Follows a b
 follows_by a b d e ranges unit conduct event = record {
   ranges = ranges;
   unit = unit;

@@ -47,7 +47,11 @@ module _ (r : Ranges) (c : Core) (u : ℕ) (it : Sound r c) where
             (λ e. let old = it.gate u p' hu hp' ne in
             let now : n ≡ (c.of p').progress = subst (λ (z : ℕ). slice_index c.words z ≡ (c.of p').progress) e (it.formed.number p' hp') in record {
               low = omega arith;
-              near = λ fl. let o = old.near fl in record { sight = (let m : me.progress ≤ (c.of p').progress + 1 = o.number in omega arith); number = o.number; left = o.left };
+              near = λ fl. let o = old.near fl in record {
+                sight = (let m : me.progress ≤ (c.of p').progress + 1 = o.number in omega arith);
+                number = o.number;
+                left = o.left;
+              };
             })
             (λ _. gate_same me d (c.of p') (me.seen p') refl refl (it.gate u p' hu hp' ne));
         looked = λ q hq ne g. gate_seen me d (c.of q) ((c.of q).seen u) refl refl g;
@@ -72,7 +76,8 @@ module _ (r : Ranges) (c : Core) (u : ℕ) (it : Sound r c) where
         looks = λ p' hp' ne'. gate_same me d (c.of p') (me.seen p') refl refl (it.gate u p' hu hp' ne');
         looked = λ q hq nq g. gate_seen me d (c.of q) ((c.of q).seen u) refl refl g;
         hears = λ p' f' k' s' h' w' hp' ne' hk'.
-            put_at_cases (λ (o : Option Hearing). o ≡ Some (hearing s' h' w') → HeardIs (c.of p') u k' s' h' w') me.heard f k p (Some (hearing s me.progress w)) f' k' p'
+            put_at_cases (λ (o : Option Hearing). o ≡ Some (hearing s' h' w') → HeardIs (c.of p') u k' s' h' w')
+            me.heard f k p (Some (hearing s me.progress w)) f' k' p'
             (λ t e. subst (λ (z : ℕ). HeardIs (c.of z) u k' s' h' w') (sym t.2) (subst (λ (z : ℕ). HeardIs (c.of p) u z s' h' w') (sym t.1)
             (subst (λ (z : Hearing). HeardIs (c.of p) u k z.stamp z.at z.word) (some_same e) new)))
             (λ _ at. it.heard u p' f' k' s' h' w' hu hp' ne' hk' at);
@@ -92,20 +97,30 @@ module _ (r : Ranges) (c : Core) (u : ℕ) (it : Sound r c) where
           reached = λ f k q s w at. let l = (it.stamps u hu).reached f k q s w at in (let l' = l.0 in omega arith, l.1, l.2);
           apart = (it.stamps u hu).apart;
         };
-        looks = λ p hp ne. let old = it.gate u p hu hp ne in let g : me.progress ≤ me.seen p = may.1.1 p hp ne in let low : me.seen p ≤ (c.of p).progress = old.low in record {
-          low = low;
-          near = λ _. record { sight = omega arith; number = omega arith; left = λ gone. let o : (c.of p).left ≤ me.progress = (old.near fl).left gone in omega arith };
-        };
+        looks = λ p hp ne. let old = it.gate u p hu hp ne in
+            let g : me.progress ≤ me.seen p = may.1.1 p hp ne in let low : me.seen p ≤ (c.of p).progress = old.low in record {
+              low = low;
+              near = λ _. record {
+                sight = omega arith;
+                number = omega arith;
+                left = λ gone. let o : (c.of p).left ≤ me.progress = (old.near fl).left gone in omega arith;
+              };
+            };
         looked = λ q hq ne g. record {
           low = (let l : (c.of q).seen u ≤ me.progress = g.low in omega arith);
-          near = λ flq. let n = g.near flq in record { sight = n.sight; number = (let m : (c.of q).progress ≤ me.progress + 1 = n.number in omega arith); left = n.left };
+          near = λ flq. let n = g.near flq in record {
+            sight = n.sight;
+            number = (let m : (c.of q).progress ≤ me.progress + 1 = n.number in omega arith);
+            left = n.left;
+          };
         };
         hears = λ p f k s h w hp ne hk at. it.heard u p f k s h w hu hp ne hk at;
         heard = heard_same me d refl refl (omega arith) (λ x am. am);
       })
 
   -- what was heard of a unit before it turns stays true after
-  turn_heard : (c.of u).left ≡ never → (c.of u).progress ≤ last_progress → (q k s h : ℕ) (w : Option ℕ) → HeardIs (c.of u) q k s h w → HeardIs (with_turned (c.of u)) q k s h w
+  turn_heard : (c.of u).left ≡ never → (c.of u).progress ≤ last_progress → (q k s h : ℕ) (w : Option ℕ) →
+      HeardIs (c.of u) q k s h w → HeardIs (with_turned (c.of u)) q k s h w
   turn_heard fl low q k s h w old =
       let me : Conduct = c.of u in let d : Conduct = with_turned me in record {
         before = λ l. sayings_same me d refl (omega arith) q k s h w (old.before (omega arith));
@@ -137,7 +152,8 @@ module _ (r : Ranges) (c : Core) (u : ℕ) (it : Sound r c) where
             sight = n.sight;
             number = (let m : (c.of q).progress ≤ me.progress + 1 = n.number in omega arith);
             left = λ _. ⊎_elim
-                (λ (z : 0 < me.progress). let a : me.progress ≤ me.seen q = may.1.1 z q hq ne in let b : me.seen q ≤ (c.of q).progress = (it.gate u q hu hq ne).low in omega arith)
+                (λ (z : 0 < me.progress). let a : me.progress ≤ me.seen q = may.1.1 z q hq ne in
+                let b : me.seen q ≤ (c.of q).progress = (it.gate u q hu hq ne).low in omega arith)
                 (λ (z : me.progress ≤ 0). omega arith)
                 (cases_lt 0 me.progress);
           };

@@ -13,7 +13,8 @@ zeros (suc n) zero = refl
 zeros (suc n) (suc i) = zeros n i
 
 -- a new ledger
-pub ledger_fresh : (l : Ledger) (m n p : ℕ) → l.progress ≡ 0 → l.seen ≡ replicate p 0 → l.said ≡ replicate m 0 → l.asked ≡ replicate n 0 → conduct_in l ≡ fresh
+pub ledger_fresh : (l : Ledger) (m n p : ℕ) →
+    l.progress ≡ 0 → l.seen ≡ replicate p 0 → l.said ≡ replicate m 0 → l.asked ≡ replicate n 0 → conduct_in l ≡ fresh
 ledger_fresh l m n p progress seen said asked i = record {
   progress = progress i;
   left = never;
@@ -21,6 +22,7 @@ ledger_fresh l m n p progress seen said asked i = record {
   said = λ f k q. ((λ j. saying_of (entry_at 0 (ranges_in l.pages) (said j) f k q) (said_in l.pages f k q))
       ∙ (λ j. saying_of (entry_none 0 (ranges_in l.pages) (replicate m 0) (zeros m) j f k q) (said_in l.pages f k q))) i;
   heard = λ f k q. ((λ j. hearing_of (entry_at 0 (ranges_in l.pages) (asked j) f k q) (entry_at 0 (ranges_in l.pages) l.heard_at f k q) (heard_in l.pages f k q))
-      ∙ (λ j. hearing_of (entry_none 0 (ranges_in l.pages) (replicate n 0) (zeros n) j f k q) (entry_at 0 (ranges_in l.pages) l.heard_at f k q) (heard_in l.pages f k q))) i;
+      ∙ (λ j. hearing_of (entry_none 0 (ranges_in l.pages) (replicate n 0) (zeros n) j f k q)
+      (entry_at 0 (ranges_in l.pages) l.heard_at f k q) (heard_in l.pages f k q))) i;
   strays = [];
 }

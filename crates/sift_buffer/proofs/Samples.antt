@@ -25,14 +25,18 @@ other_of_zero p hp ne = omega arith
 other_of_one : (p : ℕ) → p < 2 → p ≢ 1 → p ≡ 0
 other_of_one p hp ne = omega arith
 
--- the one cell of a unit
-place_of : (u q f : ℕ) → q < 2 → q ≢ u → f < 2 → IsPlace pair u q 0 f
-place_of u q f hq ne hf = record { cell = record { unit = hq; other = ne; slot = omega arith }; frame = hf }
+-- the cell of unit 0 for unit 1, in frame 0
+to_one : IsPlace pair 0 1 0 0
+to_one = record { cell = record { unit = omega arith; other = omega arith; slot = omega arith }; frame = omega arith }
+
+-- and to unit 1 from unit 0
+from_zero : (f : ℕ) → f < 2 → IsPlace pair 1 0 0 f
+from_zero f hf = record { cell = record { unit = omega arith; other = omega arith; slot = omega arith }; frame = hf }
 
 -- each event of the story is allowed when it comes
 allowed : AllAllowed pair idle story
 allowed = (
-  (omega arith, (record { flies = refl; place = place_of 0 1 0 (omega arith) (omega arith) (omega arith); stamp = refl; frame = refl; fresh = λ f s w at. none_some at }, omega arith)),
+  (omega arith, (record { flies = refl; place = to_one; stamp = refl; frame = refl; fresh = λ f s w at. none_some at }, omega arith)),
   (
     (omega arith, (record { flies = refl; below = omega arith }, λ p hp ne. omega arith)),
     (
@@ -46,15 +50,15 @@ allowed = (
             (
               (omega arith, (record { flies = refl; below = omega arith }, gate _ 1 0 1 other_of_one)),
               (
-                (omega arith, record { flies = refl; place = place_of 1 0 0 (omega arith) (omega arith) (omega arith); stamp = (omega arith, omega arith); frame = refl }),
+                (omega arith, record { flies = refl; place = from_zero 0 (omega arith); stamp = (omega arith, omega arith); frame = refl }),
                 (
                   (omega arith, (omega arith, omega arith)),
                   (
                     (omega arith, (refl, λ _. gate _ 0 1 2 other_of_zero)),
                     (
-                      (omega arith, record { turned = omega arith; cell = (place_of 0 1 0 (omega arith) (omega arith) (omega arith)).cell }),
+                      (omega arith, record { turned = omega arith; cell = to_one.cell }),
                       (
-                        (omega arith, record { flies = refl; place = place_of 1 0 1 (omega arith) (omega arith) (omega arith); stamp = (omega arith, omega arith); frame = refl }),
+                        (omega arith, record { flies = refl; place = from_zero 1 (omega arith); stamp = (omega arith, omega arith); frame = refl }),
                         tt,
                       ),
                     ),

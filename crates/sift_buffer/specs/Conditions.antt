@@ -3,7 +3,8 @@ use Rattle.std.specs.Prelude.{◌≡◌, ◌≢◌, ℕ, ◌+◌, ◌<◌, ◌�
 use Rattle.sift_buffer.specs.Ranges.{Ranges, IsCell, IsPlace}
 use Rattle.sift_buffer.specs.Conduct.{Conduct, saying, never, last_progress}
 
--- u may say in slot k to q, in frame f and with stamp s: it has not turned, the stamp is its progress plus one, and neither frame nor stamp was used for this cell
+-- u may say in slot k to q, in frame f and with stamp s: it has not turned, the stamp is its progress plus one,
+-- and neither frame nor stamp was used for this cell
 pub record MaySay (r : Ranges) (d : Conduct) (u q k f s : ℕ) : Type 0 where
   pub flies : d.left ≡ never
   pub place : IsPlace r u q k f
@@ -11,7 +12,8 @@ pub record MaySay (r : Ranges) (d : Conduct) (u q k f s : ℕ) : Type 0 where
   pub frame : d.said f k q ≡ None
   pub fresh : (f' s' : ℕ) (w : Option ℕ) → d.said f' k q ≡ Some (saying s' w) → s' ≢ s
 
--- u may hear in slot k from p, in frame f and by stamp s: it has not turned, the stamp is 1 or more and below its progress, and the frame was not used for this cell
+-- u may hear in slot k from p, in frame f and by stamp s: it has not turned, the stamp is 1 or more and below its progress,
+-- and the frame was not used for this cell
 pub record MayHear (r : Ranges) (d : Conduct) (u p k f s : ℕ) : Type 0 where
   pub flies : d.left ≡ never
   pub place : IsPlace r u p k f

@@ -22,12 +22,14 @@ abbrev pub IsAmong : Stray → List Stray → Type 0
 IsAmong x [] = ⊥
 IsAmong x (y ∷ ys) = (x ≡ y) ⊎ IsAmong x ys
 
--- each stamp said is at most the progress plus one, and where the unit has turned, the progress at which it left plus one; the stamps of one cell are different ones
+-- each stamp said is at most the progress plus one, and where the unit has turned, the progress at which it left plus one;
+-- the stamps of one cell are different ones
 pub record HasStamps (d : Conduct) : Type 0 where
   pub reached : (f k q s : ℕ) (w : Option ℕ) → d.said f k q ≡ Some (saying s w) → (s ≤ d.progress + 1) × (s ≤ d.left + 1) × IsWord w
   pub apart : (f f' k q s : ℕ) (w w' : Option ℕ) → d.said f k q ≡ Some (saying s w) → d.said f' k q ≡ Some (saying s w') → f ≡ f'
 
--- a unit that flies has seen another at its own progress less one or more; it is at most one ahead of its number, and it has come to where the other left
+-- a unit that flies has seen another at its own progress less one or more; it is at most one ahead of its number,
+-- and it has come to where the other left
 pub record IsNear (d other : Conduct) (seen : ℕ) : Type 0 where
   pub sight : d.progress ≤ seen + 1
   pub number : d.progress ≤ other.progress + 1
@@ -78,7 +80,8 @@ abbrev pub HearsSayings : Ranges → Core → Type 0
 HearsSayings r c = (q p f k s h : ℕ) (w : Option ℕ) → q < r.units → p < r.units → p ≢ q → k < r.slots →
     (c.of q).heard f k p ≡ Some (hearing s h w) → h < (c.of p).left → IsFromSayings (c.of p) q k s h w
 
--- each cell of a unit that has turned is what it said last there, or one of its strays to that place; and what a unit heard of it after it left is from its sayings or strays
+-- each cell of a unit that has turned is what it said last there, or one of its strays to that place;
+-- and what a unit heard of it after it left is from its sayings or strays
 pub record StraysAreOwn (r : Ranges) (c : Core) : Type 0 where
   pub cells : (p q k : ℕ) → p < r.units → q < r.units → k < r.slots → (c.of p).left < never →
       let x = slice_index c.words (place r p q k) in IsLastSaid (c.of p) q k x ⊎ IsAmong (stray_to q k x) (c.of p).strays

@@ -17,7 +17,13 @@ ranges_for p = ranges_of p.grid.layout p.grid.frames
 
 -- what contracts see of the port
 abbrev pub view_of : LonePort → View
-view_of p = record { ranges = ranges_for p; unit = p.unit; conduct = conduct_in p.acts; looks = p.looks; last = record { unit = p.last_unit; number = p.last_number } }
+view_of p = record {
+  ranges = ranges_for p;
+  unit = p.unit;
+  conduct = conduct_in p.acts;
+  looks = p.looks;
+  last = record { unit = p.last_unit; number = p.last_number };
+}
 
 -- the cell of a unit for another in a slot
 abbrev pub cell_in : LonePort → ℕ → ℕ → ℕ → ℕ

@@ -20,3 +20,4 @@ pub mod Lengths
 pub mod Emitted
 pub mod Allowed
 pub mod Refused
+pub mod Steps

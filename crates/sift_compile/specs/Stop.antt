@@ -2,12 +2,9 @@
 use Rattle.std.specs.Prelude.{◌≡◌, ℕ, ◌<◌, ◌≤◌, List, length}
 use Rattle.sift_code.specs.declared.instr.Instr.{Instr}
 use Rattle.sift_code.specs.Bound.{bound_of, kept}
+use Rattle.sift_compile.specs.Length.{code_limit}
 use Rattle.sift_compile.specs.declared.stop.CompileStop.{CompileStop}
 use Rattle.sift_compile.specs.declared.stop.CompileStop.TheVariants.{CodeTooLong, TooManySteps, NoMemory}
-
--- the most instructions of a task's code
-abbrev pub code_limit : ℕ
-code_limit = 1024
 
 -- the code is short enough, and its bound is within the budget
 pub record IsAllowed (budget : ℕ) (code : List Instr) : Type 0 where

@@ -3,8 +3,9 @@ ghost use Rattle.sift_code.specs.Bound.{kept};
 ghost use Rattle.sift_lang.specs.Tree.{tree_of};
 ghost use Rattle.sift_lang.specs.Sound.{IsSound};
 ghost use Rattle.sift_compile.specs.Code.{task_code, task_program};
-ghost use Rattle.sift_compile.specs.Correct.{Means};
-ghost use Rattle.sift_compile.specs.Stop.{code_limit, IsAllowed, Stops};
+ghost use Rattle.sift_compile.specs.Correct.{IsMeasured, Means};
+ghost use Rattle.sift_compile.specs.Length.{code_limit};
+ghost use Rattle.sift_compile.specs.Stop.{IsAllowed, Stops};
 
 use crate::emit::emit_block;
 use crate::length::block_length;
@@ -31,6 +32,8 @@ pub fn compile(
     ensures means { IfOk result (λ checked. Means checked (tree_of task.now)) }
     ensures allowed { IsOk result → IsAllowed budget (task_code (tree_of task.now)) }
     ensures stopped { IfErr result (Stops budget (task_code (tree_of task.now))) }
+    // The length of the code, and the bound of its steps, can be read off the task's tree.
+    ensures measured { IsMeasured (tree_of task.now) }
     // A code that is too long is known without memory.
     ensures too_long { let len = length (task_code (tree_of task.now)) in
         code_limit < len → result ≡ Err (CompileStop.CodeTooLong (kept len)) }

@@ -1,6 +1,7 @@
 -- A source in memory that fails at listed calls.
-use Rattle.std.specs.Prelude.{◌≡◌, ◌+◌, ℕ, List, drop, Contains}
+use Rattle.std.specs.Prelude.{◌≡◌, ◌+◌, ℕ, List, Some, drop, Contains}
 use Rattle.sift_io.specs.Fault.{next_count}
+use Rattle.sift_io.specs.Flow.{Inflow}
 use Rattle.sift_io.specs.Reading.{GivesMost, given_count, faults_after_read}
 use Rattle.sift_io.specs.declared.bytes_in.BytesIn.{BytesIn}
 use Rattle.sift_io.specs.declared.reading.Got.{Got}
@@ -9,9 +10,13 @@ use Rattle.sift_io.specs.declared.reading.Got.{Got}
 abbrev pub bytes_left : BytesIn → List ℕ
 bytes_left source = drop source.at source.bytes.items
 
+-- it tells its bytes, and counts its faults
+abbrev pub inflow_of : BytesIn → Inflow
+inflow_of source = record { left = Some (bytes_left source); faults = source.faults }
+
 -- the latest call is one of those that fail
-abbrev pub FailsNow : BytesIn → Type 0
-FailsNow source = Contains source.fails.items source.calls
+abbrev pub ReadFailsNow : BytesIn → Type 0
+ReadFailsNow source = Contains source.fails.items source.calls
 
 -- one more call: it gives as much as it may, moves past that, counts a failure, and keeps the rest
 pub record IsRead (got : Got) (old new : BytesIn) (room : ℕ) : Type 0 where

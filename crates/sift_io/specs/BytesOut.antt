@@ -1,17 +1,18 @@
 -- A sink in memory that fails at listed calls.
-use Rattle.std.specs.Prelude.{◌≡◌, ◌+◌, ◌<◌, ℕ, Contains, vec_len, vec_capacity}
+use Rattle.std.specs.Prelude.{◌≡◌, ℕ, Some, Contains}
 use Rattle.sift_io.specs.Fault.{next_count}
+use Rattle.sift_io.specs.Flow.{Outflow}
 use Rattle.sift_io.specs.Writing.{TakesMost, faults_after_write}
 use Rattle.sift_io.specs.declared.bytes_out.BytesOut.{BytesOut}
 use Rattle.sift_io.specs.declared.writing.Put.{Put}
 
--- the latest call is one of those that fail
-abbrev pub FailsNow : BytesOut → Type 0
-FailsNow sink = Contains sink.fails.items sink.calls
+-- it tells its bytes, and counts its faults
+abbrev pub outflow_of : BytesOut → Outflow
+outflow_of sink = record { written = Some sink.bytes.items; faults = sink.faults }
 
--- so many bytes more don't fit the memory that the sink has already
-abbrev pub NeedsMemory : BytesOut → ℕ → Type 0
-NeedsMemory sink count = vec_capacity sink.bytes < vec_len sink.bytes + count
+-- the latest call is one of those that fail
+abbrev pub WriteFailsNow : BytesOut → Type 0
+WriteFailsNow sink = Contains sink.fails.items sink.calls
 
 -- one more call: it takes as much as it may, counts a failure, and keeps the rest
 pub record IsWrite (put : Put) (old new : BytesOut) (count : ℕ) : Type 0 where

@@ -11,9 +11,8 @@ next_count count = min (count + 1) last_count
 
 -- the count is greater now than before, or stands at its last value
 abbrev pub Rose : ℕ → ℕ → Type 0
-Rose before now = next_count before ≤ now
+Rose before now = before < now ⊎ now ≡ last_count
 
--- a count that rose is greater than before or stands at its last value, and the other way round
-abbrev pub RoseIsGreaterOrLast : Type 0
-RoseIsGreaterOrLast = (before now : ℕ) → now ≤ last_count
-    → Rose before now ↔ (before < now ⊎ now ≡ last_count)
+-- a count within its type rose just where it is at least the one after the count before
+abbrev pub RoseIsOneMoreAtLeast : Type 0
+RoseIsOneMoreAtLeast = (before now : ℕ) → now ≤ last_count → Rose before now ↔ (next_count before ≤ now)

@@ -1,6 +1,7 @@
 pub mod BytesIn
 pub mod BytesOut
 pub mod Fault
+pub mod Flow
 pub mod Reading
 pub mod Sure
 pub mod Writing

@@ -1,5 +1,6 @@
 -- A source in memory that never fails.
-use Rattle.std.specs.Prelude.{◌≡◌, ◌+◌, ℕ, List, drop}
+use Rattle.std.specs.Prelude.{◌≡◌, ◌+◌, ℕ, List, Some, drop}
+use Rattle.sift_io.specs.Flow.{Inflow}
 use Rattle.sift_io.specs.Reading.{GivesMost, given_count}
 use Rattle.sift_io.specs.declared.sure.SureIn.{SureIn}
 use Rattle.sift_io.specs.declared.reading.Got.{Got}
@@ -7,6 +8,10 @@ use Rattle.sift_io.specs.declared.reading.Got.{Got}
 -- the bytes that weren't read yet
 abbrev pub sure_left : SureIn → List ℕ
 sure_left source = drop source.at source.bytes.items
+
+-- it tells its bytes, and has no faults
+abbrev pub sure_inflow : SureIn → Inflow
+sure_inflow source = record { left = Some (sure_left source); faults = 0 }
 
 -- one more call: it gives as much as it may, moves past that, and keeps the rest
 pub record IsSureRead (got : Got) (old new : SureIn) (room : ℕ) : Type 0 where

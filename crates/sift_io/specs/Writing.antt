@@ -2,6 +2,7 @@
 use Rattle.std.specs.Prelude.{◌≡◌, ◌<◌, ◌≤◌, ℕ, min, List, length, take, Option, Result, Ok, Err, ⊤}
 use Rattle.std.specs.Io.KnownBytes.{Appends, Keeps}
 use Rattle.sift_io.specs.Fault.{next_count}
+use Rattle.sift_io.specs.Flow.{Outflow}
 use Rattle.sift_io.specs.declared.writing.Put.{Put}
 use Rattle.sift_io.specs.declared.writing.Put.TheVariants.{Took, Failed}
 use Rattle.sift_io.specs.declared.whole.WriteStop.{WriteStop}
@@ -12,9 +13,9 @@ FitsPiece (Took n) count = n ≤ count
 FitsPiece Failed count = ⊤
 
 -- a write adds the first bytes, or fails and adds none
-abbrev pub Writes : Put → Option (List ℕ) → Option (List ℕ) → List ℕ → Type 0
-Writes (Took n) old new piece = Appends old new (take n piece)
-Writes Failed old new piece = Keeps old new
+abbrev pub AddsFront : Put → Option (List ℕ) → Option (List ℕ) → List ℕ → Type 0
+AddsFront (Took n) old new piece = Appends old new (take n piece)
+AddsFront Failed old new piece = Keeps old new
 
 -- the sink failed, or took none of a piece of so many bytes, though there were some
 abbrev pub TakesNothing : Put → ℕ → Type 0
@@ -32,10 +33,10 @@ faults_after_write Failed faults = next_count faults
 faults_after_write (Took n) faults = faults
 
 -- a prefix of the bytes was added
-abbrev pub AddsPrefix : Option (List ℕ) → Option (List ℕ) → List ℕ → Type 0
-AddsPrefix old new bytes = (n : ℕ) × (n ≤ length bytes) × Appends old new (take n bytes)
+abbrev pub AddsPrefix : Outflow → Outflow → List ℕ → Type 0
+AddsPrefix old new bytes = (n : ℕ) × (n ≤ length bytes) × Appends old.written new.written (take n bytes)
 
 -- a whole write adds all the bytes, or stops after a prefix of them
-abbrev pub WritesAll : Result Unit WriteStop → Option (List ℕ) → Option (List ℕ) → List ℕ → Type 0
-WritesAll (Ok _) old new bytes = Appends old new bytes
+abbrev pub WritesAll : Result Unit WriteStop → Outflow → Outflow → List ℕ → Type 0
+WritesAll (Ok _) old new bytes = Appends old.written new.written bytes
 WritesAll (Err _) old new bytes = AddsPrefix old new bytes

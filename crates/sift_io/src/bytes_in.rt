@@ -1,3 +1,5 @@
+//! A source in memory that fails at listed calls.
+
 ghost use Rattle.std.specs.Prelude.{◌≡◌, ◌≤◌, length};
 
 use crate::pieces::{give_next, is_listed};
@@ -43,22 +45,20 @@ impl BytesIn {
 }
 
 impl Source for BytesIn {
-    ghost use Rattle.std.specs.Prelude.{◌<◌, ◌↔◌, Some};
-    ghost use Rattle.sift_io.specs.BytesIn.{IsRead, FailsNow, bytes_left};
+    ghost use Rattle.std.specs.Prelude.{◌<◌, ◌↔◌};
+    ghost use Rattle.sift_io.specs.BytesIn.{IsRead, ReadFailsNow, inflow_of};
     ghost use Rattle.sift_io.specs.Fault.{Rose};
-    ghost use Rattle.sift_io.specs.Reading.{FitsRoom, Reads};
+    ghost use Rattle.sift_io.specs.Reading.{FitsRoom, GivesNext};
 
-    ghost left = { λ source. Some (bytes_left source) };
-
-    ghost read_faults = { λ source. source.faults };
+    ghost inflow = { inflow_of };
 
     fn read(&mut self, buf: &mut [u8]) -> Got
         requires { 0 < length buf.old }
         ensures within { FitsRoom result (length buf.old) }
-        ensures bytes { Reads result (Some (bytes_left self.old)) (Some (bytes_left self.new)) buf.new }
+        ensures bytes { GivesNext result (inflow_of self.old).left (inflow_of self.new).left buf.new }
         ensures later { self.old.faults ≤ self.new.faults }
         ensures cause { result ≡ Got.Failed → Rose self.old.faults self.new.faults }
-        ensures listed { result ≡ Got.Failed ↔ FailsNow self.new }
+        ensures listed { result ≡ Got.Failed ↔ ReadFailsNow self.new }
         ensures exact { IsRead result self.old self.new (length buf.old) }
     {
         self.calls = self.calls.saturating_add(1);

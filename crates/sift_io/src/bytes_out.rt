@@ -1,3 +1,5 @@
+//! A sink in memory that fails at listed calls.
+
 ghost use Rattle.std.specs.Prelude.{◌≡◌, ◌≤◌, []};
 
 use crate::pieces::is_listed;
@@ -39,26 +41,24 @@ impl BytesOut {
 }
 
 impl Sink for BytesOut {
-    ghost use Rattle.std.specs.Prelude.{◌⊎◌, Some, length, min};
-    ghost use Rattle.sift_io.specs.BytesOut.{IsWrite, FailsNow, NeedsMemory};
+    ghost use Rattle.std.specs.Prelude.{◌⊎◌, ◌<◌, length, min};
+    ghost use Rattle.sift_io.specs.BytesOut.{IsWrite, WriteFailsNow, outflow_of};
     ghost use Rattle.sift_io.specs.Fault.{Rose};
-    ghost use Rattle.sift_io.specs.Writing.{FitsPiece, Writes, TakesNothing};
+    ghost use Rattle.sift_io.specs.Writing.{AddsFront, FitsPiece, TakesNothing};
 
-    ghost written = { λ sink. Some sink.bytes.items };
-
-    ghost write_faults = { λ sink. sink.faults };
+    ghost outflow = { outflow_of };
 
     fn write(&mut self, bytes: &[u8]) -> Put
         ensures within { FitsPiece result (length bytes.now) }
-        ensures bytes { Writes result
-            (Some self.old.bytes.items) (Some self.new.bytes.items) bytes.now }
+        ensures bytes { AddsFront result
+            (outflow_of self.old).written (outflow_of self.new).written bytes.now }
         ensures later { self.old.faults ≤ self.new.faults }
         ensures cause { TakesNothing result (length bytes.now)
             → Rose self.old.faults self.new.faults }
-        ensures listed { FailsNow self.new → result ≡ Put.Failed }
-        // It fails for no other cause than its list and want of memory.
+        ensures listed { WriteFailsNow self.new → result ≡ Put.Failed }
+        // At other calls it fails only where it is to take a byte: there may be no memory for it.
         ensures unlisted { result ≡ Put.Failed
-            → FailsNow self.new ⊎ NeedsMemory self.old (min self.old.step (length bytes.now)) }
+            → WriteFailsNow self.new ⊎ 0 < min self.old.step (length bytes.now) }
         ensures exact { IsWrite result self.old self.new (length bytes.now) }
     {
         self.calls = self.calls.saturating_add(1);

@@ -1,6 +1,8 @@
-ghost use Rattle.sift_io.specs.Fault.{RoseIsGreaterOrLast};
+//! The law of counts of faults.
 
-/// What it means that a count of faults rose: it is greater than before, or it can't be greater.
-pub fn rose_is_greater_or_last()
-    ensures { RoseIsGreaterOrLast }
+ghost use Rattle.sift_io.specs.Fault.{RoseIsOneMoreAtLeast};
+
+/// A count within its type rose just where it is at least one more than before, or at its last value.
+pub fn rose_is_one_more_at_least()
+    ensures { RoseIsOneMoreAtLeast }
 {}

@@ -10,14 +10,12 @@ mod pieces;
 mod reading;
 mod standard;
 mod sure;
-#[cfg(test)]
-mod tests;
 mod whole;
 mod writing;
 
 pub use bytes_in::BytesIn;
 pub use bytes_out::BytesOut;
-pub use fault::rose_is_greater_or_last;
+pub use fault::rose_is_one_more_at_least;
 pub use reading::{Got, Source};
 pub use standard::{StdIn, StdOut};
 pub use sure::{SureIn, SureOut};

@@ -1,6 +1,7 @@
-// What the sources and sinks in memory share.
+//! What the sources and sinks in memory share.
+
 ghost use Rattle.std.specs.Prelude.{◌≡◌, ◌≢◌, ◌+◌, ◌<◌, ◌≤◌, ◌↔◌, Some, drop, length, IsTrue, Contains};
-ghost use Rattle.sift_io.specs.Reading.{FitsRoom, GivesMost, Reads, given_count};
+ghost use Rattle.sift_io.specs.Reading.{FitsRoom, GivesMost, GivesNext, given_count};
 
 use crate::Got;
 
@@ -11,7 +12,7 @@ pub fn give_next(bytes: &[u8], at: usize, step: usize, buf: &mut [u8]) -> Got
     requires room { 0 < length buf.old }
     ensures within { FitsRoom result (length buf.old) }
     ensures most { GivesMost result step (length buf.old) (drop at bytes.now) }
-    ensures bytes { Reads result
+    ensures bytes { GivesNext result
         (Some (drop at bytes.now))
         (Some (drop (at + given_count result) bytes.now))
         buf.new }

@@ -1,6 +1,9 @@
-ghost use Rattle.std.specs.Prelude.{◌≡◌, ◌<◌, ◌≤◌, ℕ, List, Option, length};
+//! Sources: what a read gives, and the trait of what bytes come from.
+
+ghost use Rattle.std.specs.Prelude.{◌≡◌, ◌<◌, ◌≤◌, length};
 ghost use Rattle.sift_io.specs.Fault.{Rose};
-ghost use Rattle.sift_io.specs.Reading.{FitsRoom, Reads, given_count};
+ghost use Rattle.sift_io.specs.Flow.{Inflow};
+ghost use Rattle.sift_io.specs.Reading.{FitsRoom, GivesNext, given_count};
 
 /// What one read gave.
 #[derive(Clone, Copy, Debug, PartialEq, Eq)]
@@ -27,17 +30,16 @@ impl Got {
 
 /// A place that bytes come from.
 pub trait Source {
-    /// The bytes that are left, where the source tells them.
-    ghost left: { Self → Option (List ℕ) };
-
-    /// How often reading has failed. The count stays at its last value, 2 ^ 64 - 1.
-    ghost read_faults: { Self → ℕ };
+    /// The bytes that are left, where the source tells them, and how often reading has failed. That
+    /// count stays at its last value, 2 ^ 64 - 1.
+    ghost inflow: { Self → Inflow };
 
     /// Reads the next bytes to the front of the buffer, as many as are at hand and have room.
     fn read(&mut self, buf: &mut [u8]) -> Got
         requires { 0 < length buf.old }
         ensures within { FitsRoom result (length buf.old) }
-        ensures bytes { Reads result (left self.old) (left self.new) buf.new }
-        ensures later { read_faults self.old ≤ read_faults self.new }
-        ensures cause { result ≡ Got.Failed → Rose (read_faults self.old) (read_faults self.new) };
+        ensures bytes { GivesNext result (inflow self.old).left (inflow self.new).left buf.new }
+        ensures later { (inflow self.old).faults ≤ (inflow self.new).faults }
+        ensures cause { result ≡ Got.Failed
+            → Rose (inflow self.old).faults (inflow self.new).faults };
 }

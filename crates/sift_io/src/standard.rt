@@ -1,4 +1,5 @@
-// The real input and output: no clause names their bytes, and what the system does is trusted.
+//! The real input and output: no clause names their bytes, and what the system does is trusted.
+
 ghost use Rattle.std.specs.Prelude.{◌≡◌, ◌≢◌, ◌<◌, ◌≤◌, None, length};
 ghost use Rattle.sift_io.specs.Fault.{Rose};
 ghost use Rattle.sift_io.specs.Reading.{FitsRoom, faults_after_read};
@@ -28,9 +29,7 @@ impl StdIn {
 }
 
 impl Source for StdIn {
-    ghost left = { λ _. None };
-
-    ghost read_faults = { λ source. source.faults };
+    ghost inflow = { λ source. record { left = None; faults = source.faults } };
 
     fn read(&mut self, buf: &mut [u8]) -> Got
         requires { 0 < length buf.old }
@@ -47,6 +46,7 @@ impl Source for StdIn {
     }
 }
 
+/// Reads what is at hand, again where a signal interrupts it.
 fn read_some(input: &mut Stdin, buf: &mut [u8]) -> Got
     ensures { FitsRoom result (length buf.old) }
 {
@@ -79,9 +79,7 @@ impl StdOut {
 }
 
 impl Sink for StdOut {
-    ghost written = { λ _. None };
-
-    ghost write_faults = { λ sink. sink.faults };
+    ghost outflow = { λ sink. record { written = None; faults = sink.faults } };
 
     fn write(&mut self, bytes: &[u8]) -> Put
         ensures within { FitsPiece result (length bytes.now) }
@@ -98,6 +96,7 @@ impl Sink for StdOut {
     }
 }
 
+/// Writes what the system takes, again where a signal interrupts it.
 fn write_some(output: &mut Stdout, bytes: &[u8]) -> Put
     ensures within { FitsPiece result (length bytes.now) }
     ensures some { 0 < length bytes.now → result ≢ Put.Took 0 }

@@ -1,3 +1,5 @@
+//! A source and a sink in memory that never fail.
+
 ghost use Rattle.std.specs.Prelude.{◌≡◌, ◌≤◌, length};
 
 use crate::pieces::give_next;
@@ -28,18 +30,16 @@ impl SureIn {
 }
 
 impl Source for SureIn {
-    ghost use Rattle.std.specs.Prelude.{◌≢◌, ◌<◌, Some};
-    ghost use Rattle.sift_io.specs.Sure.{IsSureRead, sure_left};
-    ghost use Rattle.sift_io.specs.Reading.{FitsRoom, Reads};
+    ghost use Rattle.std.specs.Prelude.{◌≢◌, ◌<◌};
+    ghost use Rattle.sift_io.specs.Sure.{IsSureRead, sure_inflow};
+    ghost use Rattle.sift_io.specs.Reading.{FitsRoom, GivesNext};
 
-    ghost left = { λ source. Some (sure_left source) };
-
-    ghost read_faults = { λ _. 0 };
+    ghost inflow = { sure_inflow };
 
     fn read(&mut self, buf: &mut [u8]) -> Got
         requires { 0 < length buf.old }
         ensures within { FitsRoom result (length buf.old) }
-        ensures bytes { Reads result (Some (sure_left self.old)) (Some (sure_left self.new)) buf.new }
+        ensures bytes { GivesNext result (sure_inflow self.old).left (sure_inflow self.new).left buf.new }
         ensures sure { result ≢ Got.Failed }
         ensures exact { IsSureRead result self.old self.new (length buf.old) }
     {
@@ -70,9 +70,7 @@ impl SureOut {
 impl Sink for SureOut {
     ghost use Rattle.std.specs.Prelude.{None, min};
 
-    ghost written = { λ _. None };
-
-    ghost write_faults = { λ _. 0 };
+    ghost outflow = { λ _. record { written = None; faults = 0 } };
 
     fn write(&mut self, bytes: &[u8]) -> Put
         ensures sure { result ≡ Put.Took (min self.old.step (length bytes.now)) }

@@ -1,6 +1,8 @@
-ghost use Rattle.std.specs.Prelude.{◌≡◌, ◌+◌, ◌-◌, ◌^◌, ◌<◌, ◌≤◌, IsErrOf};
+//! Whole reads and whole writes.
+
+ghost use Rattle.std.specs.Prelude.{◌≡◌, ◌+◌, ◌-◌, ◌^◌, ◌<◌, ◌≤◌, IfErr, IfOk, IsErrOf};
 ghost use Rattle.sift_io.specs.Fault.{Rose};
-ghost use Rattle.sift_io.specs.Reading.{ReadsAll};
+ghost use Rattle.sift_io.specs.Reading.{StopsReading, TakesAll};
 ghost use Rattle.sift_io.specs.Writing.{WritesAll};
 ghost use Rattle.sift_io.specs.declared.whole.ReadStop.TheVariants.{NoMemory};
 
@@ -40,10 +42,11 @@ pub enum WriteStop {
 /// bytes in all, and takes no memory for a byte past the limit.
 pub fn read_all<S: Source>(alloc: Global, source: &mut S, limit: usize) -> Result<Vec<u8>, ReadStop>
     requires { limit < 2 ^ 64 - 1 }
-    ensures bytes { ReadsAll result (S.left source.old) (S.left source.new) limit }
-    ensures later { S.read_faults source.old ≤ S.read_faults source.new }
-    ensures cause { IsErrOf result ReadStop.Failed
-        → Rose (S.read_faults source.old) (S.read_faults source.new) }
+    ensures all { IfOk result (λ all.
+        TakesAll (S.inflow source.old) (S.inflow source.new) all.items limit) }
+    ensures stopped { IfErr result (λ stop.
+        StopsReading stop (S.inflow source.old) (S.inflow source.new) limit) }
+    ensures later { (S.inflow source.old).faults ≤ (S.inflow source.new).faults }
 {
     let mut all = Vec::new(alloc);
     let mut piece = [0; PIECE];
@@ -60,10 +63,10 @@ pub fn read_all<S: Source>(alloc: Global, source: &mut S, limit: usize) -> Resul
 
 /// Writes all the bytes, in order. It takes no memory.
 pub fn write_all<K: Sink>(sink: &mut K, bytes: &[u8]) -> Result<(), WriteStop>
-    ensures bytes { WritesAll result (K.written sink.old) (K.written sink.new) bytes.now }
-    ensures later { K.write_faults sink.old ≤ K.write_faults sink.new }
+    ensures bytes { WritesAll result (K.outflow sink.old) (K.outflow sink.new) bytes.now }
+    ensures later { (K.outflow sink.old).faults ≤ (K.outflow sink.new).faults }
     ensures cause { IsErrOf result WriteStop.Failed
-        → Rose (K.write_faults sink.old) (K.write_faults sink.new) }
+        → Rose (K.outflow sink.old).faults (K.outflow sink.new).faults }
 {
     let mut rest = bytes;
     while !rest.is_empty() {

@@ -1,6 +1,9 @@
-ghost use Rattle.std.specs.Prelude.{◌≤◌, ℕ, List, Option, length};
+//! Sinks: what a write does, and the trait of what bytes go to.
+
+ghost use Rattle.std.specs.Prelude.{◌≤◌, length};
 ghost use Rattle.sift_io.specs.Fault.{Rose};
-ghost use Rattle.sift_io.specs.Writing.{FitsPiece, Writes, TakesNothing};
+ghost use Rattle.sift_io.specs.Flow.{Outflow};
+ghost use Rattle.sift_io.specs.Writing.{AddsFront, FitsPiece, TakesNothing};
 
 /// What one write did.
 #[derive(Clone, Copy, Debug, PartialEq, Eq)]
@@ -13,17 +16,16 @@ pub enum Put {
 
 /// A place that bytes go to.
 pub trait Sink {
-    /// The bytes that were written, where the sink tells them.
-    ghost written: { Self → Option (List ℕ) };
-
-    /// How often writing has failed. The count stays at its last value, 2 ^ 64 - 1.
-    ghost write_faults: { Self → ℕ };
+    /// The bytes that were written, where the sink tells them, and how often writing has failed. That
+    /// count stays at its last value, 2 ^ 64 - 1.
+    ghost outflow: { Self → Outflow };
 
     /// Writes bytes from the front of the piece, as many as the sink takes now.
     fn write(&mut self, bytes: &[u8]) -> Put
         ensures within { FitsPiece result (length bytes.now) }
-        ensures bytes { Writes result (written self.old) (written self.new) bytes.now }
-        ensures later { write_faults self.old ≤ write_faults self.new }
+        ensures bytes { AddsFront result
+            (outflow self.old).written (outflow self.new).written bytes.now }
+        ensures later { (outflow self.old).faults ≤ (outflow self.new).faults }
         ensures cause { TakesNothing result (length bytes.now)
-            → Rose (write_faults self.old) (write_faults self.new) };
+            → Rose (outflow self.old).faults (outflow self.new).faults };
 }

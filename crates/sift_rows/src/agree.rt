@@ -53,24 +53,35 @@ fn units_that_relay_another_word_are_caught(rt: HostRuntime) {
     let units = [unit_1, unit_3, unit_7];
     let cases = [
         (
-            [word(9), word(9), word(9)],
+            Some(9),
+            Some(9),
+            Some(9),
             0b0000_0000,
             "each relays the word",
         ),
         (
-            [word(9), word(8), word(9)],
+            Some(9),
+            Some(8),
+            Some(9),
             0b0000_1000,
             "unit 3 relays another word",
         ),
-        ([word(9), word(9), None], 0b1000_0000, "unit 7 is silent"),
+        (Some(9), Some(9), None, 0b1000_0000, "unit 7 is silent"),
         (
-            [word(0), None, word(9)],
+            Some(0),
+            None,
+            Some(9),
             0b0000_1010,
             "unit 1 relays 0, and unit 3 is silent",
         ),
-        ([None, None, None], 0b1000_1010, "all are silent"),
+        (None, None, None, 0b1000_1010, "all are silent"),
     ];
-    for (relays, want, row) in cases {
+    for (first, second, third, want, row) in cases {
+        let relays = [
+            first.map(Word::of),
+            second.map(Word::of),
+            third.map(Word::of),
+        ];
         let got = relay_catches(Word::of(9), &units, &relays);
         assert_eq!(rt; got, UnitSet::of_bits(want), "{row}");
     }

@@ -1,7 +1,7 @@
 //! Cells, journals, and a port among units that the test moves.
 ghost use Rattle.std.specs.Prelude.{◌≡◌, IfOk, Some};
-ghost use Rattle.sift_buffer.specs.Conditions.{MaySay, MayEnter};
-ghost use Rattle.sift_buffer.specs.Views.{view_with_said};
+ghost use Rattle.sift_buffer.specs.Conditions.{MayEnter};
+ghost use Rattle.sift_buffer.specs.Views.{PortMaySay, view_with_said};
 ghost use Rattle.sift_rows.specs.Ports.{KeepsActs};
 
 use sift_base::{Layout, UnitId, Word};
@@ -96,7 +96,7 @@ fn a_place_of_a_journal_takes_four_bytes(rt: HostRuntime) {
 
 // Says the word 5 in the first slot of frame 0 to a unit, in subframe 0. It is generic, so it sees of the port only what every port promises.
 fn say_five<T: Port>(port: &mut T, to: UnitId)
-    requires { MaySay (T.view port.old).ranges (T.view port.old).conduct (T.view port.old).unit to 0 0 1 }
+    requires { PortMaySay (T.view port.old) to 0 0 1 }
     ensures { T.view port.new ≡ view_with_said (T.view port.old) 0 0 to 1 (Some 5) }
 {
     port.say(to, 0, 0, 1, Some(Word::of(5)));

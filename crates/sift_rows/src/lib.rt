@@ -10,10 +10,22 @@ mod buffer;
 #[cfg(test)]
 mod clock;
 #[cfg(test)]
+mod compiled;
+#[cfg(test)]
 mod config;
 #[cfg(test)]
 mod exec;
 #[cfg(test)]
+mod io;
+#[cfg(test)]
+mod scenario;
+#[cfg(test)]
+mod script;
+#[cfg(test)]
+mod shapes;
+#[cfg(test)]
 mod skew;
+#[cfg(test)]
+mod table;
 #[cfg(test)]
 mod vote;

@@ -1,116 +1,122 @@
 -- A whole answer, from what was asked for and what was written.
-use Rattle.std.proofs.Common.{◌≡◌, ◌≤◌, ◌⊎◌, inl, inr, ℕ, List, length, lit<, Contains, String, Global, string_bytes, Ok, refl, sym, ◌∙◌, ap, subst}
-use Rattle.toml.specs.Data.{Members}
-use Rattle.sift_scenario.specs.Mission.{IsMission, Stated}
-use Rattle.sift_scenario.proofs.OneMission.{one_mission}
-use Rattle.sift_run.proofs.Inputs.{one_tree, only_input}
-use Rattle.sift_run.proofs.Statuses.{begun_for_numbers, refused_words, status_of-known, status_of-other}
-use Rattle.sift_io.specs.Fault.{Rose}
-use Rattle.sift_run.specs.Answer.{IsAnswered, IsReported, mission_report, statuses}
-use Rattle.sift_run.specs.Input.{Input, IsBegun, IsCommandLine, IsTold, States, document_limit}
-use Rattle.sift_run.specs.Output.{Output, Says, SaysRefusal, Writes}
-use Rattle.sift_run.specs.Refusal.{IsOwed, IsRefused, line_of, status_of}
-use Rattle.sift_run.specs.Stop.{StopsFor}
+use Rattle.std.proofs.Common.{◌≡◌, ◌⊎◌, inl, inr, ℕ, List, [], ◌∷◌, lit<, Contains, refl, sym, ◌∙◌, ap, subst, arith}
+use Rattle.sift_run.proofs.Coming.{IsFault}
+use Rattle.sift_run.proofs.Owing.{owed_came, reported_unowed, stated_came, told_text}
+use Rattle.sift_run.proofs.Statuses.{begun_with_memory, fault_rose, refused_words, status_of-known, status_of-other, wanting_needs}
+use Rattle.sift_run.specs.Answer.{IsAnswered, IsReported, report_status, statuses}
+use Rattle.sift_run.specs.Command.{IsCommandLine}
+use Rattle.sift_run.specs.Input.{Input, IsBegun}
+use Rattle.sift_run.specs.Output.{IsCut, IsWritten, Output, AnswersWith, Says, SaysRefusal, sink_fault_status}
+use Rattle.sift_run.specs.Refusal.{IsCause, line_of, no_memory_status, status_of}
 use Rattle.sift_run.specs.declared.refusal.Refusal.{Refusal}
-use Rattle.sift_run.specs.declared.refusal.Refusal.TheVariants.{ReadFault}
+use Rattle.sift_run.specs.declared.refusal.Refusal.TheVariants.{NoMemory}
 
--- a report is no refusal
-never_stops : (owed : Refusal) (text : String Global) → ¬ StopsFor owed (Ok text)
-never_stops owed text stops = let here = stops.0 in cc
+module _ (words : List (List ℕ)) (input : Input) (output : Output) where
+  -- a report was due, and it was written
+  report_written :
+      (text : List ℕ) (status : ℕ) → IsReported words input text → status ≡ report_status → IsWritten output text
+      → IsAnswered words input output status
+  report_written text status report is written = record {
+    known = (0, lit< tt, sym is);
+    reported = λ _. (text, report, written);
+    refused = λ refusal e. absurd ((status_of-other refusal).0 (sym e ∙ is));
+    cut = λ e. absurd (omega (arith, is, e));
+    no_memory = λ e. absurd (omega (arith, is, e));
+    usage = λ other. absurd (other (report.0, report.1));
+    owed = λ bytes owed told due. absurd (reported_unowed words input bytes told owed text report due);
+    complete = λ bytes wanted command told asks short makes calm_source calm_sink. inl (
+      is,
+      subst (λ (t : List ℕ). IsWritten output t) (told_text words input bytes told wanted text command asks makes report) written,
+    );
+  }
 
--- the report is that of the mission that the input states
-told_report :
-    (words : List (String Global)) (input : Input) (bytes text : List ℕ) (mission : Stated)
-    → IsTold input bytes → States bytes mission → IsReported words input text → text ≡ mission_report mission
-told_report words input bytes text mission told states report =
-    let here : States bytes report.3 =
-    subst (λ (bs : List ℕ). States bs report.3) (only_input input bytes report.1 told report.2) report.4 in
-    let same : IsMission states.0 report.3 =
-    subst (λ (d : Members). IsMission d report.3) (one_tree bytes here.0 states.0 here.1 states.1) here.2 in
-    report.5 ∙ ap mission_report (one_mission states.0 report.3 mission same states.2)
+  -- a report was due, and the sink failed within it
+  report_cut :
+      (text : List ℕ) (status : ℕ) → IsReported words input text → status ≡ sink_fault_status → IsCut output text
+      → IsAnswered words input output status
+  report_cut text status report is cuts = record {
+    known = (6, lit< tt, sym is);
+    reported = λ e. absurd (omega (arith, is, e));
+    refused = λ refusal e. absurd ((status_of-other refusal).1 (sym e ∙ is));
+    cut = λ _. (text, inl report, cuts);
+    no_memory = λ e. absurd (omega (arith, is, e));
+    usage = λ other. absurd (other (report.0, report.1));
+    owed = λ bytes owed told due. absurd (reported_unowed words input bytes told owed text report due);
+    complete = λ bytes wanted command told asks short makes calm_source calm_sink. absurd (calm_sink cuts.0);
+  }
 
--- a report was due
-pub from_report :
-    (words : List (String Global)) (input : Input) (output : Output) (text : String Global) (status : ℕ)
-    → IsReported words input (string_bytes text)
-    → ((bytes : List ℕ) (owed : Refusal) → IsTold input bytes → IsOwed words bytes owed → StopsFor owed (Ok text))
-    → Says output (string_bytes text) 0 status → IsAnswered words input output status
-from_report words input output text status report owing (inl written) = record {
-  known = (0, lit< tt, sym written.0);
-  reported = λ _. (string_bytes text, report, written.1);
-  refused = λ refusal e. absurd ((status_of-other refusal).0 (sym e ∙ written.0));
-  cut = λ e. cc;
-  no_memory = λ e. cc;
-  usage = λ other. absurd (other report.0);
-  owed = λ bytes owed told due. absurd (never_stops owed text (owing bytes owed told due));
-  complete = λ bytes mission told command short states calm_source calm_sink. inl (
-    written.0,
-    subst (λ (t : List ℕ). Writes output t) (told_report words input bytes (string_bytes text) mission told states report) written.1,
-  );
-}
-from_report words input output text status report owing (inr cuts) = record {
-  known = (6, lit< tt, sym cuts.0);
-  reported = λ e. cc;
-  refused = λ refusal e. absurd ((status_of-other refusal).1 (sym e ∙ cuts.0));
-  cut = λ _. (string_bytes text, inl report, cuts.1);
-  no_memory = λ e. cc;
-  usage = λ other. absurd (other report.0);
-  owed = λ bytes owed told due. absurd (never_stops owed text (owing bytes owed told due));
-  complete = λ bytes mission told command short states calm_source calm_sink. absurd (calm_sink cuts.1.0);
-}
+  -- a report was due
+  pub from_report :
+      (text : List ℕ) (status : ℕ) → IsReported words input text → Says output text report_status status
+      → IsAnswered words input output status
+  from_report text status report says = elim says [
+    | inl written ↦ report_written text status report written.0 written.1
+    | inr cuts ↦ report_cut text status report cuts.0 cuts.1
+  ]
 
--- memory was wanting
-pub from_no_memory :
-    (words : List (String Global)) (input : Input) (output : Output) (status : ℕ)
-    → status ≡ 10 → IsCommandLine words × IsBegun input → IsAnswered words input output status
-from_no_memory words input output status is stopped = record {
-  known = (7, lit< tt, sym is);
-  reported = λ e. cc;
-  refused = λ refusal e. absurd ((status_of-other refusal).2 (sym e ∙ is));
-  cut = λ e. cc;
-  no_memory = λ _. stopped;
-  usage = λ other. absurd (other stopped.0);
-  owed = λ bytes refusal told due. inr (2, lit< tt, sym is);
-  complete = λ bytes mission told command' short states calm_source calm_sink. inr is;
-}
+  -- memory was wanting
+  pub from_no_memory :
+      (status : ℕ) → status ≡ no_memory_status → IsWritten output [] → IsCommandLine words × IsBegun input
+      → IsAnswered words input output status
+  from_no_memory status is kept stopped = record {
+    known = (7, lit< tt, sym is);
+    reported = λ e. absurd (omega (arith, is, e));
+    refused = λ refusal e. (NoMemory, stopped, (is, kept));
+    cut = λ e. absurd (omega (arith, is, e));
+    no_memory = λ _. stopped;
+    usage = λ other. absurd (other stopped.0);
+    owed = λ bytes refusal told due. inr (2, lit< tt, sym is);
+    complete = λ bytes wanted command told asks short makes calm_source calm_sink. inr is;
+  }
 
--- where a mission is stated only a fault of the source is refused
-fault_rose :
-    (words : List (String Global)) (input : Input) (came : Refusal)
-    → IsRefused words input came → came ≡ ReadFault → Rose input.faults_before input.faults_after
-fault_rose words input came here is = (rw is at here).1
+  -- the refusal that is owed was said, or a fault came in between
+  owed_said :
+      (came owed : Refusal) (status : ℕ) → AnswersWith output came status → (came ≡ owed) ⊎ IsFault came
+      → AnswersWith output owed status ⊎ Contains (8 ∷ sink_fault_status ∷ no_memory_status ∷ []) status
+  owed_said came owed status written (inl same) = inl (subst (λ (r : Refusal). AnswersWith output r status) same written)
+  owed_said came owed status written (inr (inl read)) = inr (0, lit< tt, sym (written.0 ∙ read))
+  owed_said came owed status written (inr (inr wanting)) = inr (2, lit< tt, sym (written.0 ∙ wanting))
 
--- a refusal was due
-pub from_refusal :
-    (words : List (String Global)) (input : Input) (output : Output) (came : Refusal) (status : ℕ)
-    → IsRefused words input came
-    → ((bytes : List ℕ) (owed : Refusal) → IsTold input bytes → IsOwed words bytes owed → (came ≡ owed) ⊎ (came ≡ ReadFault))
-    → ((bytes : List ℕ) (mission : Stated) → IsTold input bytes → IsCommandLine words → length bytes ≤ document_limit
-    → States bytes mission → came ≡ ReadFault)
-    → SaysRefusal output came status → IsAnswered words input output status
-from_refusal words input output came status here as_owed complete (inl (inl written)) = record {
-  known = subst (λ (n : ℕ). Contains statuses n) (sym written.0) (status_of-known came);
-  reported = λ e. absurd ((status_of-other came).0 (sym written.0 ∙ e));
-  refused = λ one e. (came, here, written);
-  cut = λ e. absurd ((status_of-other came).1 (sym written.0 ∙ e));
-  no_memory = λ e. absurd ((status_of-other came).2 (sym written.0 ∙ e));
-  usage = λ other. (0, lit< tt, sym (written.0 ∙ ap status_of (refused_words words input came here other)));
-  owed = λ bytes owed told due. elim (as_owed bytes owed told due) [
-    | inl same ↦ inl (subst (λ (r : Refusal). (status ≡ status_of r) × Writes output (line_of r)) same written)
-    | inr same ↦ inr (0, lit< tt, sym (written.0 ∙ ap status_of same))
-  ];
-  complete = λ bytes mission told command short states calm_source calm_sink.
-      absurd (calm_source (fault_rose words input came here (complete bytes mission told command short states)));
-}
-from_refusal words input output came status here as_owed complete (inl (inr cuts)) = record {
-  known = (6, lit< tt, sym cuts.0);
-  reported = λ e. cc;
-  refused = λ refusal e. absurd ((status_of-other refusal).1 (sym e ∙ cuts.0));
-  cut = λ _. (line_of came, inr (came, here, refl), cuts.1);
-  no_memory = λ e. cc;
-  usage = λ other. (1, lit< tt, sym cuts.0);
-  owed = λ bytes owed told due. inr (1, lit< tt, sym cuts.0);
-  complete = λ bytes mission told command short states calm_source calm_sink. absurd (calm_sink cuts.1.0);
-}
-from_refusal words input output came status here as_owed complete (inr wanting) =
-    from_no_memory words input output status wanting.0 (begun_for_numbers words input came here wanting.1)
+  -- a refusal was due, and its line was written
+  refusal_written :
+      (came : Refusal) (status : ℕ) → IsCause words input came → AnswersWith output came status
+      → IsAnswered words input output status
+  refusal_written came status here written = record {
+    known = subst (λ (n : ℕ). Contains statuses n) (sym written.0) (status_of-known came);
+    reported = λ e. absurd ((status_of-other came).0 (sym written.0 ∙ e));
+    refused = λ one e. (came, here, written);
+    cut = λ e. absurd ((status_of-other came).1 (sym written.0 ∙ e));
+    no_memory = λ e. begun_with_memory words input came here (wanting_needs words input came (sym written.0 ∙ e));
+    usage = λ other. (0, lit< tt, sym (written.0 ∙ ap status_of (refused_words words input came here other)));
+    owed = λ bytes owed told due. owed_said came owed status written (owed_came words input bytes told owed came due here);
+    complete = λ bytes wanted command told asks short makes calm_source calm_sink.
+        elim (stated_came words input bytes told wanted command came asks short makes here) [
+          | inl read ↦ absurd (calm_source (fault_rose words input came here read))
+          | inr wanting ↦ inr (written.0 ∙ wanting)
+        ];
+  }
+
+  -- a refusal was due, and the sink failed within its line
+  refusal_cut :
+      (came : Refusal) (status : ℕ) → IsCause words input came → status ≡ sink_fault_status → IsCut output (line_of came)
+      → IsAnswered words input output status
+  refusal_cut came status here is cuts = record {
+    known = (6, lit< tt, sym is);
+    reported = λ e. absurd (omega (arith, is, e));
+    refused = λ refusal e. absurd ((status_of-other refusal).1 (sym e ∙ is));
+    cut = λ _. (line_of came, inr (came, here, refl), cuts);
+    no_memory = λ e. absurd (omega (arith, is, e));
+    usage = λ other. (1, lit< tt, sym is);
+    owed = λ bytes owed told due. inr (1, lit< tt, sym is);
+    complete = λ bytes wanted command told asks short makes calm_source calm_sink. absurd (calm_sink cuts.0);
+  }
+
+  -- a refusal was due
+  pub from_refusal :
+      (came : Refusal) (status : ℕ) → IsCause words input came → SaysRefusal output came status
+      → IsAnswered words input output status
+  from_refusal came status here says = elim says [
+    | inl (inl written) ↦ refusal_written came status here written
+    | inl (inr cuts) ↦ refusal_cut came status here cuts.0 cuts.1
+    | inr wanting ↦ from_no_memory status wanting.0 wanting.2 (begun_with_memory words input came here wanting.1)
+  ]

@@ -1,5 +1,5 @@
 -- The code that a document's tasks are compiled to is the code that is flown.
-use Rattle.std.proofs.Common.{◌≡◌, ℕ, List, length, map, Some, sym, ap, subst, ◌∙◌}
+use Rattle.std.proofs.Common.{◌≡◌, ℕ, List, length, Some, sym, ap, subst, ◌∙◌}
 use Rattle.std.proofs.lemmas.List.{length-map}
 use Rattle.std.proofs.lemmas.Option.{slice_get-map}
 use Rattle.std.specs.List.{slice_get}
@@ -10,7 +10,7 @@ use Rattle.sift_compile.specs.Correct.{Means}
 use Rattle.sift_core.specs.Code.{AreCompiled, IsCodeOf}
 use Rattle.sift_lang.specs.Tree.{TaskTree}
 use Rattle.sift_program.specs.Program.{ProgramTree}
-use Rattle.sift_scenario.specs.Mission.{AreCodesOf}
+use Rattle.sift_scenario.specs.Flight.{AreCodesOf}
 
 -- the code of a tree is the code of the task
 code_of : (words : ℕ) (task : TaskTree) (code : Program) → code ≡ task_program 0 words task → Means (task_program 0 words task) task → IsCodeOf words task code

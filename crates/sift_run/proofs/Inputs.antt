@@ -7,7 +7,9 @@ use Rattle.sift_io.specs.Reading.{TakesExactly}
 use Rattle.sift_run.specs.Input.{Input, IsDocument, IsInput, IsTold, document_limit}
 
 -- what was taken to the end of known bytes is these bytes
-all_taken : (old new : Option (List ℕ)) (bytes all : List ℕ) → old ≡ Some bytes → Consumes old new all → IsAtEnd new → all ≡ bytes
+all_taken :
+    (old new : Option (List ℕ)) (bytes all : List ℕ)
+    → old ≡ Some bytes → Consumes old new all → IsAtEnd new → all ≡ bytes
 all_taken None new bytes all told taken end = cc
 all_taken (Some xs) None bytes all told taken end = absurd taken
 all_taken (Some xs) (Some ys) bytes all told taken end =
@@ -15,7 +17,9 @@ all_taken (Some xs) (Some ys) bytes all told taken end =
     cc
 
 -- no more is taken than there is
-taken_within : (old new : Option (List ℕ)) (bytes some : List ℕ) → old ≡ Some bytes → Consumes old new some → length some ≤ length bytes
+taken_within :
+    (old new : Option (List ℕ)) (bytes some : List ℕ)
+    → old ≡ Some bytes → Consumes old new some → length some ≤ length bytes
 taken_within None new bytes some told taken = cc
 taken_within (Some xs) None bytes some told taken = absurd taken
 taken_within (Some xs) (Some ys) bytes some told taken =
@@ -25,18 +29,20 @@ taken_within (Some xs) (Some ys) bytes some told taken =
 
 -- an input that was read to its end is the bytes that were told
 pub only_input : (input : Input) (bytes all : List ℕ) → IsTold input bytes → IsInput input all → all ≡ bytes
-only_input input bytes all told read = all_taken input.left_before input.left_after bytes all told read.0 read.1
+only_input input bytes all told read = all_taken input.before.left input.after.left bytes all told read.0 read.1
 
 -- an input that was read to its end has no more bytes than a document
-pub short_input : (input : Input) (bytes all : List ℕ) → IsTold input bytes → IsInput input all → length bytes ≤ document_limit
-short_input input bytes all told read = subst (λ (bs : List ℕ). length bs ≤ document_limit) (only_input input bytes all told read) read.2
+pub short_input :
+    (input : Input) (bytes all : List ℕ) → IsTold input bytes → IsInput input all → length bytes ≤ document_limit
+short_input input bytes all told read =
+    subst (λ (bs : List ℕ). length bs ≤ document_limit) (only_input input bytes all told read) read.2
 
 -- an input of which one byte too many was taken is too long
 pub long_input :
     (input : Input) (bytes : List ℕ) → IsTold input bytes
-    → TakesExactly input.left_before input.left_after (document_limit + 1) → document_limit < length bytes
+    → TakesExactly input.before input.after (document_limit + 1) → document_limit < length bytes
 long_input input bytes told taken =
-    let within = taken_within input.left_before input.left_after bytes taken.0 told taken.1 in
+    let within = taken_within input.before.left input.after.left bytes taken.0 told taken.1 in
     omega (arith, taken.2, within)
 
 -- a document has one tree

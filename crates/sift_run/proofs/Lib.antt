@@ -1,7 +1,7 @@
 pub mod AnswerLemmas
 pub mod Answered
 pub mod CodeLemmas
-pub mod Documents
+pub mod Coming
 pub mod Inputs
 pub mod Owing
 pub mod ReportLemmas

@@ -1,75 +1,86 @@
--- What stops a report where a refusal is owed, or where a mission is stated.
-use Rattle.std.proofs.Common.{◌≡◌, ◌+◌, ◌≤◌, inl, ℕ, List, length, String, Global, Result, Err, IfErr, refl, sym, ◌∙◌, subst, arith}
-use Rattle.sift_io.specs.Reading.{TakesExactly}
-use Rattle.sift_scenario.specs.Mission.{Stated}
-use Rattle.sift_run.proofs.Inputs.{long_input, only_input, short_input}
-use Rattle.sift_run.specs.Input.{Input, IsCommandLine, IsInput, IsTold, States, document_limit}
-use Rattle.sift_run.specs.Refusal.{AreRefused, IsOwed}
-use Rattle.sift_run.specs.Stop.{IsFault, StopsFor}
-use Rattle.sift_run.specs.declared.answer.Stop.{Stop}
-use Rattle.sift_run.specs.declared.answer.Stop.TheVariants as stop
+-- What may come of an input that is owed a refusal, and of one that states a mission.
+use Rattle.std.proofs.Common.{◌≡◌, ◌<◌, ◌≤◌, ◌⊎◌, inl, inr, ℕ, List, length, refl, sym, ap, ◌∙◌, subst, arith}
+use Rattle.toml.specs.Data.{Members}
+use Rattle.sift_scenario.proofs.OneMission.{one_mission}
+use Rattle.sift_scenario.specs.Mission.{IsMission}
+use Rattle.sift_scenario.specs.declared.refused.Refused.{Refused}
+use Rattle.sift_run.proofs.Coming.{IsFault, document_came, made_unowed, no_document_came, stated_alone}
+use Rattle.sift_run.proofs.Inputs.{long_input, one_tree, only_input, short_input}
+use Rattle.sift_run.specs.Answer.{IsReported}
+use Rattle.sift_run.specs.Command.{Asks, IsCommandLine, Makes, text_of}
+use Rattle.sift_run.specs.Input.{Input, IsTold, States, StatesNone, document_limit}
+use Rattle.sift_run.specs.Refusal.{AreRefused, IsCause, IsOwed, status_of}
+use Rattle.sift_run.specs.declared.command.Command.{Command}
+use Rattle.sift_run.specs.declared.command.Command.TheVariants.{Run}
 use Rattle.sift_run.specs.declared.refusal.Refusal.{Refusal}
-use Rattle.sift_run.specs.declared.refusal.Refusal.TheVariants.{Usage, ReadFault, TooLong, NotADocument, Scenario, Task}
+use Rattle.sift_run.specs.declared.refusal.Refusal.TheVariants.{Usage, NotADocument, Document, ReadFault, NoMemory, TooLong}
 
 -- no command line is owed nothing but its refusal
-pub owed_no_command :
-    (words : List (String Global)) (bytes : List ℕ) (owed : Refusal)
-    → ¬ IsCommandLine words → IsOwed words bytes owed → StopsFor owed (Err (stop.Refused Usage))
-owed_no_command words bytes Usage other due = (refl, inl refl)
-owed_no_command words bytes ReadFault other due = absurd due
-owed_no_command words bytes TooLong other due = absurd (other due.0)
-owed_no_command words bytes NotADocument other due = absurd (other due.0)
-owed_no_command words bytes (Scenario rule place) other due = absurd (other due.0)
-owed_no_command words bytes (Task task kind at) other due = absurd (other due.0)
+usage_came : (words : List (List ℕ)) (bytes : List ℕ) (owed : Refusal) → ¬ IsCommandLine words → IsOwed words bytes owed → Usage ≡ owed
+usage_came words bytes Usage other due = refl
+usage_came words bytes ReadFault other due = absurd (other due.0)
+usage_came words bytes NoMemory other due = absurd (other due.0)
+usage_came words bytes TooLong other due = absurd (other due.0)
+usage_came words bytes NotADocument other due = absurd (other due.0)
+usage_came words bytes (Document why) other due = absurd (other due.0)
 
--- an input of which one byte too many was taken is owed nothing but its refusal
-pub owed_too_long :
-    (words : List (String Global)) (input : Input) (bytes : List ℕ) (owed : Refusal)
-    → IsCommandLine words → TakesExactly input.left_before input.left_after (document_limit + 1)
-    → IsTold input bytes → IsOwed words bytes owed → StopsFor owed (Err (stop.Refused TooLong))
-owed_too_long words input bytes Usage command taken told due = absurd (due command)
-owed_too_long words input bytes ReadFault command taken told due = absurd due
-owed_too_long words input bytes TooLong command taken told due = (refl, inl refl)
-owed_too_long words input bytes NotADocument command taken told due =
-    let long = long_input input bytes told taken in absurd (omega (arith, long, due.1))
-owed_too_long words input bytes (Scenario rule place) command taken told due =
-    let long = long_input input bytes told taken in absurd (omega (arith, long, due.1))
-owed_too_long words input bytes (Task task kind at) command taken told due =
-    let long = long_input input bytes told taken in absurd (omega (arith, long, due.1))
+-- an input that is too long is owed nothing but its refusal
+too_long_came :
+    (words : List (List ℕ)) (bytes : List ℕ) (owed : Refusal)
+    → IsCommandLine words → document_limit < length bytes → IsOwed words bytes owed → TooLong ≡ owed
+too_long_came words bytes Usage command long due = absurd (due command)
+too_long_came words bytes ReadFault command long due = absurd due.2
+too_long_came words bytes NoMemory command long due = absurd (due.3 refl)
+too_long_came words bytes TooLong command long due = refl
+too_long_came words bytes NotADocument command long due = absurd (omega (arith, long, due.1))
+too_long_came words bytes (Document why) command long due = absurd (omega (arith, long, due.1))
 
--- an input that was read to its end is owed what its bytes are
-pub owed_on_input :
-    (words : List (String Global)) (input : Input) (bytes all told_bytes : List ℕ)
-    (result : Result (String Global) Stop) (owed : Refusal)
-    → IsCommandLine words → bytes ≡ all → IsInput input all
-    → ((due : Refusal) → AreRefused bytes due → StopsFor due result)
-    → IsTold input told_bytes → IsOwed words told_bytes owed → StopsFor owed result
-owed_on_input words input bytes all told_bytes result Usage command same read stops told due = absurd (due command)
-owed_on_input words input bytes all told_bytes result ReadFault command same read stops told due = absurd due
-owed_on_input words input bytes all told_bytes result TooLong command same read stops told due =
-    let short = short_input input told_bytes all told read in absurd (omega (arith, short, due.1))
-owed_on_input words input bytes all told_bytes result NotADocument command same read stops told due =
-    stops NotADocument
-    (subst (λ (bs : List ℕ). AreRefused bs NotADocument) (sym (same ∙ only_input input told_bytes all told read)) due.2)
-owed_on_input words input bytes all told_bytes result (Scenario rule place) command same read stops told due =
-    stops (Scenario rule place)
-    (subst (λ (bs : List ℕ). AreRefused bs (Scenario rule place)) (sym (same ∙ only_input input told_bytes all told read)) due.2)
-owed_on_input words input bytes all told_bytes result (Task task kind at) command same read stops told due =
-    stops (Task task kind at)
-    (subst (λ (bs : List ℕ). AreRefused bs (Task task kind at)) (sym (same ∙ only_input input told_bytes all told read)) due.2)
+module _ (words : List (List ℕ)) (input : Input) (bytes : List ℕ) (told : IsTold input bytes) where
+  -- the refusal that is owed came, or a fault
+  pub owed_came : (owed came : Refusal) → IsOwed words bytes owed → IsCause words input came → (came ≡ owed) ⊎ IsFault came
+  owed_came owed Usage due here = inl (usage_came words bytes owed here due)
+  owed_came owed ReadFault due here = inr (inl refl)
+  owed_came owed NoMemory due here = inr (inr refl)
+  owed_came owed TooLong due here = inl (too_long_came words bytes owed here.0 (long_input input bytes told here.1) due)
+  owed_came owed NotADocument due here =
+      let same = only_input input bytes here.1 told here.2 in
+      no_document_came words bytes owed here.0 (short_input input bytes here.1 told here.2)
+      (subst (λ (bs : List ℕ). AreRefused bs NotADocument) same here.3) due
+  owed_came owed (Document why) due here =
+      let same = only_input input bytes here.1 told here.2 in
+      document_came words bytes owed why here.0 (short_input input bytes here.1 told here.2)
+      (subst (λ (bs : List ℕ). StatesNone bs why) same here.3) due
 
--- an input that was read to its end states what its bytes state
-pub complete_on_input :
-    (input : Input) (bytes all told_bytes : List ℕ) (mission : Stated) (result : Result (String Global) Stop)
-    → bytes ≡ all → IsInput input all → ((mission : Stated) → States bytes mission → IfErr result IsFault)
-    → IsTold input told_bytes → States told_bytes mission → IfErr result IsFault
-complete_on_input input bytes all told_bytes mission result same read flies told states =
-    flies mission (subst (λ (bs : List ℕ). States bs mission) (sym (same ∙ only_input input told_bytes all told read)) states)
+  -- where a text was made none is owed
+  pub reported_unowed : (owed : Refusal) (text : List ℕ) → IsReported words input text → ¬ IsOwed words bytes owed
+  reported_unowed owed text report due =
+      let same = only_input input bytes report.2 told report.3 in
+      let makes = subst (λ (bs : List ℕ). Makes report.0 bs text) same report.4 in
+      made_unowed words bytes owed makes.0 (report.0, report.1) (short_input input bytes report.2 told report.3) makes.1 due
 
--- an input of which one byte too many was taken is no document
-pub complete_too_long :
-    (input : Input) (bytes : List ℕ)
-    → TakesExactly input.left_before input.left_after (document_limit + 1)
-    → IsTold input bytes → length bytes ≤ document_limit → ⊥
-complete_too_long input bytes taken told short =
-    let long = long_input input bytes told taken in omega (arith, long, short)
+  -- where the input states a mission only a fault came
+  pub stated_came :
+      (text : List ℕ) (command : Command) (came : Refusal)
+      → Asks words command → length bytes ≤ document_limit → Makes command bytes text → IsCause words input came → IsFault came
+  stated_came text command Usage asks short makes here = absurd (here (command, asks))
+  stated_came text command ReadFault asks short makes here = inl refl
+  stated_came text command NoMemory asks short makes here = inr refl
+  stated_came text command TooLong asks short makes here =
+      let long = long_input input bytes told here.1 in absurd (omega (arith, long, short))
+  stated_came text command NotADocument asks short makes here =
+      let same = only_input input bytes here.1 told here.2 in
+      absurd (subst (λ (bs : List ℕ). AreRefused bs NotADocument) same here.3 makes.1.0 makes.1.1)
+  stated_came text command (Document why) asks short makes here =
+      let same = only_input input bytes here.1 told here.2 in
+      let none = subst (λ (bs : List ℕ). StatesNone bs why) same here.3 in
+      inr (ap (λ (w : Refused). status_of (Document w)) (stated_alone bytes makes.0 why makes.1 none))
+
+  -- the text that was made is that of the mission that the input states
+  pub told_text :
+      (text made : List ℕ) (command : Command) → Asks words command → Makes command bytes text → IsReported words input made → made ≡ text
+  told_text text made Run asks makes (Run, asks', all, read, (mission, states, is)) =
+      let same = only_input input bytes all told read in
+      let here : States bytes mission = subst (λ (bs : List ℕ). States bs mission) same states in
+      let mine : IsMission makes.1.0 mission =
+      subst (λ (d : Members). IsMission d mission) (one_tree bytes here.0 makes.1.0 here.1 makes.1.1) here.2 in
+      is ∙ ap (text_of Run) (one_mission makes.1.0 mission makes.0 mine makes.1.2) ∙ sym makes.2

@@ -1,7 +1,10 @@
 -- A report: its lines, and the text that they print as.
 use Rattle.std.specs.Prelude.{codes, ℕ, ◌/◌, ◌%◌, ℤ, pos, List, [], ◌∷◌, ◌++◌, map, slice_index, Bool, true, false, Option, Some, None}
 use Rattle.std.specs.Fmt.{decimal, signed_decimal}
-use Rattle.std.specs.List.{flat_map, range_with_len}
+use Rattle.std.specs.List.{concat, flat_map, range_with_len}
+use Rattle.sift_core.specs.Flight.{no_sensors}
+use Rattle.sift_program.specs.Ideal.{ideal_words}
+use Rattle.sift_scenario.specs.Mission.{Stated}
 
 -- A line is what a working unit prints of a frame, what is said of a whole frame, or the end of the mission.
 pub data Line : Type 0 where
@@ -39,16 +42,16 @@ margin_text false = codes "lost"
 
 -- a line as it is printed, with its line feed
 abbrev pub line_text : Line → List ℕ
-line_text (working frame unit config clock inputs outputs caught) =
-    codes "f=" ++ (decimal frame ++ (codes " u=" ++ (decimal unit ++ (codes " cfg=" ++ (units_text config
-    ++ (codes " clk=" ++ (signed_decimal clock ++ (codes " in=" ++ (words_text inputs ++ (codes " out=" ++ (words_text outputs
-    ++ (codes " bad=" ++ (units_text caught ++ codes "\n")))))))))))))
-line_text (frame_end frame skew slack margin) =
-    codes "f=" ++ (decimal frame ++ (codes " skew=" ++ (ticks_text skew ++ (codes " slack=" ++ (ticks_text slack
-    ++ (codes " margin=" ++ (margin_text margin ++ codes "\n")))))))
-line_text (mission_end frames config margin) =
-    codes "end frames=" ++ (decimal frames ++ (codes " cfg=" ++ (units_text config
-    ++ (codes " margin=" ++ (margin_text margin ++ codes "\n")))))
+line_text (working frame unit config clock inputs outputs caught) = concat (
+    codes "f=" ∷ decimal frame ∷ codes " u=" ∷ decimal unit ∷ codes " cfg=" ∷ units_text config
+    ∷ codes " clk=" ∷ signed_decimal clock ∷ codes " in=" ∷ words_text inputs ∷ codes " out=" ∷ words_text outputs
+    ∷ codes " bad=" ∷ units_text caught ∷ codes "\n" ∷ [])
+line_text (frame_end frame skew slack margin) = concat (
+    codes "f=" ∷ decimal frame ∷ codes " skew=" ∷ ticks_text skew ∷ codes " slack=" ∷ ticks_text slack
+    ∷ codes " margin=" ∷ margin_text margin ∷ codes "\n" ∷ [])
+line_text (mission_end frames config margin) = concat (
+    codes "end frames=" ∷ decimal frames ∷ codes " cfg=" ∷ units_text config
+    ∷ codes " margin=" ∷ margin_text margin ∷ codes "\n" ∷ [])
 
 -- a report is the text of its lines, in order
 abbrev pub report_text : List Line → List ℕ
@@ -73,3 +76,8 @@ abbrev pub faultless_report : (units frames : ℕ) → (ℕ → ℕ → List ℕ
 faultless_report units frames outputs =
     flat_map (faultless_frame units outputs) (range_with_len 0 frames)
     ++ (mission_end frames (all_units units) true ∷ [])
+
+-- a mission's report: in each frame each unit prints the words of the ideal machine in that frame
+abbrev pub mission_report : Stated → List ℕ
+mission_report mission = report_text
+    (faultless_report mission.units mission.frames (λ frame unit. ideal_words mission.program no_sensors frame))

@@ -1,3 +1,5 @@
+//! The lines of a report, as they are printed.
+
 ghost use Rattle.std.specs.Prelude.{◌≡◌, ◌<◌, ◌++◌, codes, OnOk, pos, Some, slice_index, string_bytes};
 ghost use Rattle.sift_run.specs.Report.{working, frame_end, mission_end, hex_digit, line_text, margin_text, ticks_text, units_text, word_text, words_text};
 

@@ -1,12 +1,13 @@
 //! `sift`: a simulator of SIFT, the fault-tolerant computer for aircraft control.
 //!
 //! It reads a mission, flies it, and reports what every unit did. The top call is `top::sift`, whose contract says
-//! what each exit status means; `main` hands it the real words, input and output.
+//! what each exit status means; `exit::exit_code` ends the program with it, and `main` hands on the real words, input
+//! and output.
 #![tactic(auto)]
 
 mod answer;
-#[cfg(test)]
-mod compiled;
+mod command;
+mod exit;
 mod line;
 mod refusal;
 mod report;
@@ -21,13 +22,12 @@ use std::io::ErrorKind;
 use std::process::ExitCode;
 use std::rt::Env;
 
+/// Hands the real words, input and output to `exit::exit_code`, whose contract says how the program ends.
 fn main(rt: HostRuntime) -> ExitCode {
-    let Ok(words) = command_words(&rt) else {
-        return ExitCode::from(top::NO_MEMORY);
-    };
+    let words = command_words(&rt);
     let mut source = StdIn::new(rt.stdin());
     let mut sink = StdOut::new(rt.stdout());
-    ExitCode::from(top::sift(rt.alloc(), &words, &mut source, &mut sink))
+    exit::exit_code(rt.alloc(), words, &mut source, &mut sink)
 }
 
 /// The words after the program's name. Where one of them isn't UTF-8 there are none, and no words are no command line.

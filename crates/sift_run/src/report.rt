@@ -2,7 +2,7 @@
 
 ghost use Rattle.std.specs.Prelude.{◌≡◌, ◌+◌, ◌*◌, ◌<◌, ◌≤◌, ◌++◌, IfOk, OnOk, length, string_bytes};
 ghost use Rattle.sift_run.specs.Report.{all_units, faultless_frame, faultless_report, report_text};
-ghost use Rattle.sift_run.specs.Flight.{outputs_of, words_at};
+ghost use Rattle.sift_run.specs.Flight.{outputs_of, entry_words};
 
 use crate::line::{UnitLine, push_frame_line, push_last_line, push_unit_line};
 use sift_base::{NoMemory, Word};
@@ -32,9 +32,9 @@ pub fn report(
 }
 
 /// The words of an entry of a flight.
-fn words_at(flight: &[Vec<Word>], entry: usize) -> &[Word]
+fn entry_words(flight: &[Vec<Word>], entry: usize) -> &[Word]
     requires { entry < length flight.now }
-    ensures { result.now ≡ words_at flight.now entry }
+    ensures { result.now ≡ entry_words flight.now entry }
 {
     flight[entry].as_slice()
 }
@@ -67,7 +67,7 @@ fn push_frame(
             config: all_units(units),
             clock: 0,
             inputs: &[],
-            outputs: words_at(flight, first + unit as usize),
+            outputs: entry_words(flight, first + unit as usize),
             caught: &[],
         };
         push_unit_line(text, &line)?;

@@ -5,11 +5,11 @@ use Rattle.std.proofs.lemmas.List.Sums.{sum_by-append, sum_by-cons, sum_by_more_
 use Rattle.std.proofs.Math.Nat.{min-eq_left}
 use Rattle.std.proofs.lemmas.Option.{slice_get_within}
 use Rattle.std.specs.List.{sum}
-use Rattle.sift_code.specs.Bound.{bound_of, kept}
+use Rattle.sift_code.specs.Bound.{kept}
 use Rattle.sift_code.specs.Refusal.{Program}
-use Rattle.sift_compile.specs.Code.{task_code, task_program}
+use Rattle.sift_compile.specs.Code.{task_program}
 use Rattle.sift_compile.specs.Correct.{Means}
-use Rattle.sift_compile.specs.Stop.{IsAllowed}
+use Rattle.sift_compile.specs.Length.{task_steps}
 use Rattle.sift_lang.specs.Sound.{IsSound}
 use Rattle.sift_lang.specs.Tree.{TaskTree}
 use Rattle.sift_parse.proofs.SoundTask.{HasWords}
@@ -17,7 +17,8 @@ use Rattle.sift_parse.specs.Force.{Roll, words_before}
 use Rattle.sift_parse.specs.Outcome.{AreNames}
 use Rattle.sift_scenario.proofs.Places.{pushed}
 use Rattle.sift_scenario.proofs.Programs.{sound_tree}
-use Rattle.sift_scenario.specs.Mission.{AreAllowed, AreCodesOf, IsTreeOf, steps_left}
+use Rattle.sift_scenario.specs.Flight.{AreCodesOf}
+use Rattle.sift_scenario.specs.Mission.{AreAllowed, IsTreeOf, IsWithin, steps_left}
 use Rattle.sift_scenario.specs.Task.{Form, linear, text}
 
 -- a tree of a form is sound
@@ -34,22 +35,25 @@ take_before : (ts : List TaskTree) (t : TaskTree) (k : ℕ) → k ≤ length ts 
 take_before ts t k low = take-append-le k ts (t ∷ []) low
 
 -- one tree more is allowed
-pub allowed_more : (ts : List TaskTree) (t : TaskTree) → AreAllowed ts → IsAllowed (steps_left ts) (task_code t) → AreAllowed (ts ++ t ∷ [])
+pub allowed_more : (ts : List TaskTree) (t : TaskTree) → AreAllowed ts → IsWithin (steps_left ts) t → AreAllowed (ts ++ t ∷ [])
 allowed_more ts t each more k tree there = elim (pushed ts t k tree there) [
   | inl before ↦
       rw (take_before ts t k (let low = slice_get_within ts k tree before in omega (arith, low))) (each k tree before)
   | inr at_end ↦
       let whole : take k (ts ++ t ∷ []) ≡ ts = take_at ts (t ∷ []) k (sym at_end.0) in
-      rw whole (subst (λ (u : TaskTree). IsAllowed (steps_left ts) (task_code u)) at_end.1 more)
+      rw whole (subst (λ (u : TaskTree). IsWithin (steps_left ts) u) at_end.1 more)
 ]
 
 -- the steps that are left after one tree more
-pub left_more : (ts : List TaskTree) (t : TaskTree) (left bound : ℕ) → left ≡ steps_left ts → bound ≡ kept (bound_of (task_code t)) → IsAllowed left (task_code t) → left - bound ≡ steps_left (ts ++ t ∷ [])
-left_more ts t left bound so is allowed =
-    let whole = sum_by-append (λ (u : TaskTree). bound_of (task_code u)) ts (t ∷ []) in
-    let last = sum_by-cons (λ (u : TaskTree). bound_of (task_code u)) t [] in
-    let quick : kept (bound_of (task_code t)) ≡ bound_of (task_code t) = min-eq_left (omega (arith, allowed.quick, so)) in
-    omega (arith, so, is, quick, whole, last, allowed.quick)
+pub left_more :
+    (ts : List TaskTree) (t : TaskTree) (left bound steps : ℕ)
+    → left ≡ steps_left ts → bound ≡ kept steps → steps ≡ task_steps t → IsWithin left t
+    → left - bound ≡ steps_left (ts ++ t ∷ [])
+left_more ts t left bound steps so is same allowed =
+    let whole = sum_by-append task_steps ts (t ∷ []) in
+    let last = sum_by-cons task_steps t [] in
+    let quick : kept (task_steps t) ≡ task_steps t = min-eq_left (omega (arith, allowed.quick, so)) in
+    omega (arith, so, is, ap kept same, quick, whole, last, allowed.quick)
 
 -- the codes with one more
 pub codes_more :

@@ -1,11 +1,17 @@
 pub mod Codes
+pub mod Decided
 pub mod DocumentLemmas
+pub mod EachAnswered
+pub mod FirstBroken
+pub mod Known
+pub mod Limits
 pub mod NewNames
 pub mod Numbers
 pub mod OneMission
 pub mod Order
 pub mod Places
 pub mod Programs
+pub mod Read
 pub mod Rolls
 pub mod Starts
 pub mod TaskRefusals

@@ -45,6 +45,9 @@ module _ {A : Type 0} (bytes : A → List ℕ) (earlier : List A) (task : Member
       new.new (rw (← same) (contains_some bytes earlier text there))
 
   -- the name that holds the text
-  pub found_name : {E : Type 0} (r : Result A E) (found : Option A) → found ≡ result_ok r → IfOk r (λ name. bytes name ≡ text) → IsNewName (map (λ name. Some (bytes name)) earlier) task text → IfSome found (λ name. IsNewName (map (λ name. Some (bytes name)) earlier) task (bytes name))
+  pub found_name :
+      {E : Type 0} (r : Result A E) (found : Option A) → found ≡ result_ok r → IfOk r (λ name. bytes name ≡ text)
+      → IsNewName (map (λ name. Some (bytes name)) earlier) task text
+      → IfSome found (λ name. IsNewName (map (λ name. Some (bytes name)) earlier) task (bytes name))
   found_name (Ok name) found is held new = rw (is, held) new
   found_name (Err e) found is held new = rw is tt

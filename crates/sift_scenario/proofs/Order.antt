@@ -2,23 +2,23 @@
 use Rattle.std.proofs.Common.{◌≡◌, ◌<◌, ◌≤◌, ◌⊎◌, ◌==◌, inl, inr, cond, List, ℕ, refl, sym, ap, subst, ◌∙◌, arith}
 use Rattle.std.proofs.lemmas.Bool.{cases_order}
 use Rattle.toml.specs.Data.{Members}
-use Rattle.sift_scenario.specs.Refusal.{IsRefused}
+use Rattle.sift_scenario.specs.Refusal.{IsRefusedWith}
 use Rattle.sift_scenario.specs.Testing.{KeepsTaskRules, RefusesBy}
-use Rattle.sift_scenario.specs.Rules.{Breaks, IsLawful, KeepsBelow, Rule, root_keys_known, units_stated, frames_stated, tasks_stated, names_stated, starts_stated, few_words, forms_stated, number_of}
+use Rattle.sift_scenario.specs.Rules.{Breaks, IsLawful, KeepsBelow, Rule, root_keys_known, units_stated, frames_stated, tasks_stated, names_stated, starts_stated, few_words, forms_stated, rule_number}
 use Rattle.sift_scenario.specs.Task.{tasks_of}
 use Rattle.sift_scenario.specs.declared.refused.Refused.{Refused}
 use Rattle.sift_scenario.specs.declared.refused.Refused.TheVariants.{Scenario, Task, NoMemory}
 
 -- no rule has a number between this rule's and the given one
 abbrev pub IsNext : Rule → ℕ → Type 0
-IsNext rule number = (other : Rule) → number_of rule < number_of other → number ≤ number_of other
+IsNext rule number = (other : Rule) → rule_number rule < rule_number other → number ≤ rule_number other
 
 -- n is the number of a rule
 abbrev IsNumber : ℕ → Type 0
 IsNumber n = (n ≡ 1) ⊎ ((n ≡ 2) ⊎ ((n ≡ 3) ⊎ ((n ≡ 18) ⊎ ((n ≡ 19) ⊎ ((n ≡ 20) ⊎ ((n ≡ 21) ⊎ (n ≡ 22)))))))
 
 -- the numbers that rules have
-numbers : (rule : Rule) → IsNumber (number_of rule)
+numbers : (rule : Rule) → IsNumber (rule_number rule)
 numbers root_keys_known = inl refl
 numbers units_stated = inr (inl refl)
 numbers frames_stated = inr (inr (inl refl))
@@ -29,7 +29,7 @@ numbers few_words = inr (inr (inr (inr (inr (inr (inl refl))))))
 numbers forms_stated = inr (inr (inr (inr (inr (inr (inr refl))))))
 
 -- no rule has a lower number than the first
-pub none_below : (rule : Rule) → ¬ (number_of rule < 1)
+pub none_below : (rule : Rule) → ¬ (rule_number rule < 1)
 none_below rule low = omega (arith, numbers rule, low)
 
 -- the rule of a number
@@ -38,35 +38,35 @@ rule_at n =
     cond (n == 1) root_keys_known (cond (n == 2) units_stated (cond (n == 3) frames_stated (cond (n == 18) tasks_stated
     (cond (n == 19) names_stated (cond (n == 20) starts_stated (cond (n == 21) few_words forms_stated))))))
 
-rule_at-number_of : (rule : Rule) → rule_at (number_of rule) ≡ rule
+rule_at-rule_number : (rule : Rule) → rule_at (rule_number rule) ≡ rule
 unfolding rule_at
-rule_at-number_of root_keys_known = refl
-rule_at-number_of units_stated = refl
-rule_at-number_of frames_stated = refl
-rule_at-number_of tasks_stated = refl
-rule_at-number_of names_stated = refl
-rule_at-number_of starts_stated = refl
-rule_at-number_of few_words = refl
-rule_at-number_of forms_stated = refl
+rule_at-rule_number root_keys_known = refl
+rule_at-rule_number units_stated = refl
+rule_at-rule_number frames_stated = refl
+rule_at-rule_number tasks_stated = refl
+rule_at-rule_number names_stated = refl
+rule_at-rule_number starts_stated = refl
+rule_at-rule_number few_words = refl
+rule_at-rule_number forms_stated = refl
 
 -- no two rules have one number
-pub number_of-injective : (one other : Rule) → number_of one ≡ number_of other → one ≡ other
-number_of-injective one other same = sym (rule_at-number_of one) ∙ ap rule_at same ∙ rule_at-number_of other
+pub rule_number-injective : (one other : Rule) → rule_number one ≡ rule_number other → one ≡ other
+rule_number-injective one other same = sym (rule_at-rule_number one) ∙ ap rule_at same ∙ rule_at-rule_number other
 
 -- this rule isn't broken either, and so none up to the next
 pub keeps_next :
     (document : Members) (rule : Rule) (number : ℕ) → IsNext rule number
-    → KeepsBelow (number_of rule) document → ((at : ℕ) → ¬ Breaks rule document at) → KeepsBelow number document
-keeps_next document rule number next below none other at low broken = elim (cases_order (number_of other) (number_of rule)) [
-  | inl same ↦ none at (subst (λ (r : Rule). Breaks r document at) (number_of-injective other rule same) broken)
+    → KeepsBelow (rule_number rule) document → ((at : ℕ) → ¬ Breaks rule document at) → KeepsBelow number document
+keeps_next document rule number next below none other at low broken = elim (cases_order (rule_number other) (rule_number rule)) [
+  | inl same ↦ none at (subst (λ (r : Rule). Breaks r document at) (rule_number-injective other rule same) broken)
   | inr (inl before) ↦ below other at before broken
   | inr (inr behind) ↦ let most = next other behind in absurd (omega (arith, low, most))
 ]
 
 -- the rule is the first that is broken, at the place that its test answers
 pub refused_by :
-    (document : Members) (rule : Rule) (e : Refused) → KeepsBelow (number_of rule) document
-    → (number : ℕ) → number ≡ number_of rule → RefusesBy number (Breaks rule document) e → IsRefused document e
+    (document : Members) (rule : Rule) (e : Refused) → KeepsBelow (rule_number rule) document
+    → (number : ℕ) → number ≡ rule_number rule → RefusesBy number (Breaks rule document) e → IsRefusedWith document e
 refused_by document rule (Scenario n place) below number same tests = record {
   rule = rule;
   number_is = tests.0 ∙ same;

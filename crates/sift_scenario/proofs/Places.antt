@@ -70,7 +70,10 @@ pushed (z ∷ zs) y (suc i) x there = elim (pushed zs y i x there) [
 
 module _ {A B : Type 0} (R : ℕ → A → B → Type 0) (others : List A) where
   -- one more entry that matches
-  pub matches_more : (entries : List B) (i : ℕ) (other : A) (entry : B) → EachMatches R others entries → i ≡ length entries → slice_get others i ≡ Some other → R i other entry → EachMatches R others (entries ++ entry ∷ [])
+  pub matches_more :
+      (entries : List B) (i : ℕ) (other : A) (entry : B)
+      → EachMatches R others entries → i ≡ length entries → slice_get others i ≡ Some other → R i other entry
+      → EachMatches R others (entries ++ entry ∷ [])
   matches_more entries i other entry each end there matches place found is = elim (pushed entries entry place found is) [
     | inl before ↦ each place found before
     | inr at_end ↦

@@ -11,7 +11,7 @@ use Rattle.sift_parse.specs.Linear.{linear_tree}
 use Rattle.sift_program.specs.Program.{ProgramTree}
 use Rattle.sift_program.specs.Sound.{IsSoundProgram, first_word}
 use Rattle.sift_scenario.specs.Mission.{AreTreesOf, IsTreeOf, roll_for, turn_of}
-use Rattle.sift_scenario.specs.Task.{AreForms, Form, linear, text, HasForm, counts_of, word_count}
+use Rattle.sift_scenario.specs.Task.{AreForms, Form, linear, text, HasForm, counts_of, task_outputs}
 
 -- lists of one length with the same entries are the same
 same_lists : (xs ys : List ℕ) → length xs ≡ length ys → ((k : ℕ) → k < length xs → get_or xs k 0 ≡ get_or ys k 0) → xs ≡ ys
@@ -42,10 +42,10 @@ reads_none word factor addend made = (((tt, tt), tt), tt)
 
 module _ (tasks : List Members) (t : ℕ) (task : Members) (there : slice_get tasks t ≡ Some task) where
   -- its number of words
-  count_here : get_or (counts_of tasks) t 0 ≡ word_count task
+  count_here : get_or (counts_of tasks) t 0 ≡ task_outputs task
   count_here =
       let low = slice_get_within tasks t task there in
-      get_or-map word_count tasks t task 0 low ∙ ap word_count (get_or_from_slice_get tasks t task task there)
+      get_or-map task_outputs tasks t task 0 low ∙ ap task_outputs (get_or_from_slice_get tasks t task task there)
 
   -- its tree has as many outputs
   outputs_here : (form : Form) (tree : TaskTree) → HasForm task form → IsTreeOf (turn_of t (roll_for tasks)) form tree → tree.outputs ≡ get_or (counts_of tasks) t 0
@@ -81,7 +81,7 @@ module _ (tasks : List Members) (forms : List Form) (trees : List TaskTree) (sta
   outputs_are =
       let none : TaskTree = record { outputs = 0; body = end } in
       let long_trees = length-map trees (λ (tree : TaskTree). tree.outputs) in
-      let long_tasks = length-map tasks word_count in
+      let long_tasks = length-map tasks task_outputs in
       same_lists _ _ (omega (arith, long_trees, long_tasks, parsed.as_many, stated.as_many))
       (λ k low. let within : k < length trees = omega (arith, low, long_trees) in
       get_or-map (λ (tree : TaskTree). tree.outputs) trees k none 0 within ∙ outputs_at k (get_or trees k none) (slice_get-get_or trees k none within))
@@ -92,7 +92,10 @@ module _ (tasks : List Members) (forms : List Form) (trees : List TaskTree) (sta
       ∙ ap sum (sym (take-map (λ (tree : TaskTree). tree.outputs) t trees) ∙ ap (take t) outputs_are)
 
   -- the program is sound
-  pub sound_program : (starts : List ℕ) → length starts ≡ sum (counts_of tasks) → sum (counts_of tasks) ≤ 64 → 0 < length tasks → length tasks ≤ 24 → IsSoundProgram 0 (let p : ProgramTree = record { tasks = trees; starts = starts } in p)
+  pub sound_program :
+      (starts : List ℕ) → length starts ≡ sum (counts_of tasks) → sum (counts_of tasks) ≤ 64
+      → 0 < length tasks → length tasks ≤ 24
+      → IsSoundProgram 0 (let p : ProgramTree = record { tasks = trees; starts = starts } in p)
   sound_program starts long words some few = record {
     some_task = omega (arith, parsed.as_many, stated.as_many, some);
     few_tasks = omega (arith, parsed.as_many, stated.as_many, few);

@@ -11,7 +11,7 @@ use Rattle.sift_parse.specs.Outcome.{AreDistinct, AreNames}
 use Rattle.sift_scenario.specs.Document.{list_of, of_length, word_array, word_values}
 use Rattle.sift_scenario.specs.Mission.{roll_for, turn_of}
 use Rattle.sift_scenario.specs.Rules.{BreaksNames, BreaksStarts, BreaksWords}
-use Rattle.sift_scenario.specs.Task.{counts_of, name_of, starts_of, word_count}
+use Rattle.sift_scenario.specs.Task.{counts_of, name_of, start_words, task_outputs}
 
 -- within a list the default doesn't matter
 any_default : (xs : List ℕ) (k d e : ℕ) → k < length xs → get_or xs k d ≡ get_or xs k e
@@ -30,7 +30,7 @@ long_words : (low high : ℕ) (words : Option (List ℕ)) (ws : List ℕ) → op
 long_words low high None ws is = cc
 long_words low high (Some words) ws is = of_length-long low high words ws is
 
-word_array-long : (low high : ℕ) (d : Data) (ws : List ℕ) → word_array low high d ≡ Some ws → (low ≤ length ws) × (length ws ≤ high)
+pub word_array-long : (low high : ℕ) (d : Data) (ws : List ℕ) → word_array low high d ≡ Some ws → (low ≤ length ws) × (length ws ≤ high)
 word_array-long low high (array items) ws is = long_words low high (word_values (list_of items)) ws is
 word_array-long low high (integer z) ws is = cc
 word_array-long low high (string s) ws is = cc
@@ -54,14 +54,14 @@ module _ (tasks : List Members) where
   count_at kept k low =
       let task = get_or tasks k no_members in
       let there = slice_get-get_or tasks k no_members low in
-      let some : starts_of task ≢ None = λ none. kept k (record { entry = task; there = there; holds = none }) in
-      rw (get_or-map word_count tasks k no_members 0 low) (count_of (starts_of task) some (λ ws is. read-long (get_member (codes "start") task) ws is))
+      let some : start_words task ≢ None = λ none. kept k (record { entry = task; there = there; holds = none }) in
+      rw (get_or-map task_outputs tasks k no_members 0 low) (count_of (start_words task) some (λ ws is. read-long (get_member (codes "start") task) ws is))
 
   -- where the rule of the output words is kept, they are few
   pub few_words : 0 < length tasks → ((at : ℕ) → ¬ BreaksWords (counts_of tasks) at) → sum (counts_of tasks) ≤ 64
   few_words some kept = elim (cases_lt 64 (sum (counts_of tasks))) [
     | inl many ↦
-        let long = length-map tasks word_count in
+        let long = length-map tasks task_outputs in
         let whole : take (length tasks) (counts_of tasks) ≡ counts_of tasks = take_all (length tasks) (counts_of tasks) (omega (arith, long)) in
         let at : length tasks - 1 + 1 ≡ length tasks = omega (arith, some) in
         absurd (kept (length tasks - 1) (omega (arith, long, some), rw (at, whole) many))
@@ -119,8 +119,8 @@ turns tasks names starts words some few task low = record {
   tasks_differ = distinct tasks names;
   few_sensors = omega arith;
   few_tasks = omega (arith, length-map tasks (λ t. unwrap_or (name_of t) []), few);
-  some_words = λ k d at. rw (any_default (counts_of tasks) k d 0 at) (count_at tasks starts k (omega (arith, at, length-map tasks word_count))).0;
-  few_words = λ k d at. rw (any_default (counts_of tasks) k d 0 at) (count_at tasks starts k (omega (arith, at, length-map tasks word_count))).1;
+  some_words = λ k d at. rw (any_default (counts_of tasks) k d 0 at) (count_at tasks starts k (omega (arith, at, length-map tasks task_outputs))).0;
+  few_words = λ k d at. rw (any_default (counts_of tasks) k d 0 at) (count_at tasks starts k (omega (arith, at, length-map tasks task_outputs))).1;
   words = few_words tasks some words;
   one_of_them = omega (arith, length-map tasks (λ t. unwrap_or (name_of t) []), low);
 }

@@ -5,12 +5,12 @@ use Rattle.toml.specs.View.{view}
 use Rattle.toml.specs.declared.value.Value.{Value}
 use Rattle.sift_scenario.specs.Document.{IsTableOf}
 use Rattle.sift_scenario.specs.Entries.{HoldsOf}
-use Rattle.sift_scenario.specs.Testing.{IsFirst}
+use Rattle.sift_scenario.specs.Testing.{IsFirstPlace}
 use Rattle.sift_scenario.specs.Rules.{BreaksTasks, IsTaskNumber}
 use Rattle.sift_scenario.specs.Task.{task_entries, task_keys}
 
 -- the rule is broken at a place, and at none before it
-pub first_broken : (number place : ℕ) (Breaks : ℕ → Type 0) → Breaks place → ((at : ℕ) → at < place → ¬ Breaks at) → (number ≡ number) × IsFirst Breaks place
+pub first_broken : (number place : ℕ) (Breaks : ℕ → Type 0) → Breaks place → ((at : ℕ) → at < place → ¬ Breaks at) → (number ≡ number) × IsFirstPlace Breaks place
 first_broken number place Breaks broken first = (refl, record { broken = broken; first = first })
 
 -- as many entries as may be, of which the one at a place is a table with known keys

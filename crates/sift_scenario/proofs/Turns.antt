@@ -34,13 +34,14 @@ module _
   }
 
   -- a task whose code isn't allowed
-  pub code_first : (tree : TaskTree) → IsTreeOf (turn_of task roll) form tree → refused ≢ NoMemory → IsCodeStop (steps_left trees) task tree refused → IsFirstRefused roll forms refused
-  code_first tree is some stops =
-      let stop = stops some in record {
-        task = task;
-        trees = trees;
-        as_many = long;
-        earlier = each;
-        allowed = allowed;
-        here = record { entry = form; there = there; holds = inr (record { tree = tree; tree_is = is; stop = stop.0; some_stop = stop.1; stopped = stop.2; refused_is = stop.3 }) };
-      }
+  pub code_first :
+      (tree : TaskTree) → IsTreeOf (turn_of task roll) form tree → refused ≢ NoMemory
+      → IsCodeStop (steps_left trees) task tree refused → IsFirstRefused roll forms refused
+  code_first tree is some stops = record {
+    task = task;
+    trees = trees;
+    as_many = long;
+    earlier = each;
+    allowed = allowed;
+    here = record { entry = form; there = there; holds = inr (record { tree = tree; tree_is = is; over = stops some }) };
+  }

@@ -1,26 +1,22 @@
 -- A document that states a mission isn't refused, and one that is refused is refused in one way.
-use Rattle.std.proofs.Common.{◌≡◌, ◌≢◌, ◌<◌, ◌⊎◌, inl, inr, ℕ, List, length, Some, Err, refl, sym, ap, subst, ◌∙◌, arith}
+use Rattle.std.proofs.Common.{◌≡◌, ◌≢◌, ◌<◌, ◌⊎◌, inl, inr, ℕ, List, length, Some, Result, Ok, Err, IfOk, IfErr, refl, sym, ap, subst, ◌∙◌, arith}
 use Rattle.std.proofs.lemmas.Bool.{cases_order}
 use Rattle.std.proofs.lemmas.List.{take_all}
 use Rattle.std.proofs.lemmas.Option.{slice_get_within}
 use Rattle.std.specs.List.{slice_get}
 use Rattle.toml.specs.Data.{Members}
-use Rattle.sift_code.specs.declared.instr.Instr.{Instr}
-use Rattle.sift_compile.specs.Code.{task_code}
-use Rattle.sift_compile.specs.Stop.{Stops}
-use Rattle.sift_compile.specs.declared.stop.CompileStop.{CompileStop}
-use Rattle.sift_compile.specs.declared.stop.CompileStop.TheVariants as compile
 use Rattle.sift_lang.specs.Tree.{TaskTree}
 use Rattle.sift_parse.proofs.OneAnswer.{one_answer}
 use Rattle.sift_parse.specs.Force.{Roll}
 use Rattle.sift_parse.specs.Outcome.{Tells}
-use Rattle.sift_scenario.proofs.Order.{number_of-injective}
+use Rattle.sift_scenario.proofs.Order.{rule_number-injective}
 use Rattle.sift_scenario.proofs.UniqueForms.{one_forms, one_tree}
 use Rattle.sift_scenario.specs.Laws.{MissionsAreAccepted, OneRefusal}
-use Rattle.sift_scenario.specs.Mission.{IsMission, Stated, roll_for, steps_left, turn_of}
-use Rattle.sift_scenario.specs.Refusal.{IsFirstRefused, IsFormRefused, IsNoTask, IsRefused, code_refusal_of, refusal_of}
+use Rattle.sift_scenario.specs.Mission.{IsMission, Stated, roll_for, stated, steps_left, turn_of}
+use Rattle.sift_scenario.specs.Refusal.{IsFirstRefused, IsFormRefused, IsNoTask, IsOver, IsRefusedWith, OnlyRefuses, refusal_of}
 use Rattle.sift_scenario.specs.Rules.{Breaks, IsFirstBroken, Rule}
 use Rattle.sift_scenario.specs.Task.{Form, text, tasks_of}
+use Rattle.sift_scenario.specs.declared.mission.Mission.{Mission}
 use Rattle.sift_scenario.specs.declared.refused.Refused.{Refused}
 use Rattle.sift_scenario.specs.declared.refused.Refused.TheVariants.{Scenario, Task, NoMemory}
 use Rattle.sift_scenario.proofs.Unrefused.{first_trees, lawful_unbroken, one_entry, tree_unrefused, unrefused_among}
@@ -48,7 +44,7 @@ one_place P at other here there first second = elim (cases_order at other) [
 one_broken : (d : Members) (n m at other : ℕ) → IsFirstBroken d n at → IsFirstBroken d m other → (n ≡ m) × (at ≡ other)
 one_broken d n m at other a b = elim (cases_order n m) [
   | inl same ↦
-      let rules : a.rule ≡ b.rule = number_of-injective a.rule b.rule (sym a.number_is ∙ same ∙ b.number_is) in (
+      let rules : a.rule ≡ b.rule = rule_number-injective a.rule b.rule (sym a.number_is ∙ same ∙ b.number_is) in (
         same,
         one_place (Breaks b.rule d) at other
             (subst (λ (r : Rule). Breaks r d at) rules a.broken) b.broken
@@ -68,15 +64,12 @@ one_stop roll task form a b one other =
     (λ e. one.some_stop (cc e)) (λ e. other.some_stop (cc e)) told other.told in
     one.refused_is ∙ ap (refusal_of task) stop ∙ sym other.refused_is
 
--- code is refused in one way
-one_code_stop : (left : ℕ) (code : List Instr) (a b : CompileStop) → a ≢ compile.NoMemory → b ≢ compile.NoMemory → Stops left code a → Stops left code b → a ≡ b
-one_code_stop left code (compile.CodeTooLong m) (compile.CodeTooLong n) some some' one other = ap compile.CodeTooLong (one.1 ∙ sym other.1)
-one_code_stop left code (compile.TooManySteps m) (compile.TooManySteps n) some some' one other = ap compile.TooManySteps (one.2 ∙ sym other.2)
-one_code_stop left code (compile.CodeTooLong m) (compile.TooManySteps n) some some' one other = absurd (omega (arith, one.0, other.0))
-one_code_stop left code (compile.TooManySteps m) (compile.CodeTooLong n) some some' one other = absurd (omega (arith, one.0, other.0))
-one_code_stop left code compile.NoMemory b some some' one other = absurd (some refl)
-one_code_stop left code (compile.CodeTooLong m) compile.NoMemory some some' one other = absurd (some' refl)
-one_code_stop left code (compile.TooManySteps m) compile.NoMemory some some' one other = absurd (some' refl)
+-- a task is over a limit in one way
+one_over : (left task : ℕ) (tree : TaskTree) (a b : Refused) → IsOver left task tree a → IsOver left task tree b → a ≡ b
+one_over left task tree a b (inl one) (inl other) = one.refused_is ∙ sym other.refused_is
+one_over left task tree a b (inl one) (inr other) = absurd (omega (arith, one.long, other.short))
+one_over left task tree a b (inr one) (inl other) = absurd (omega (arith, one.short, other.long))
+one_over left task tree a b (inr one) (inr other) = one.refused_is ∙ sym other.refused_is
 
 -- a task is refused in one way
 one_form_refusal : (roll : Roll) (left task : ℕ) (form : Form) (a b : Refused) → IsFormRefused roll left task form a → IsFormRefused roll left task form b → a ≡ b
@@ -85,9 +78,7 @@ one_form_refusal roll left task form a b (inl one) (inr other) = absurd (tree_un
 one_form_refusal roll left task form a b (inr one) (inl other) = absurd (tree_unrefused roll task form one.tree b one.tree_is other)
 one_form_refusal roll left task form a b (inr one) (inr other) =
     let same = one_tree roll form one.tree other.tree one.tree_is other.tree_is in
-    let stop = one_code_stop left (task_code other.tree) one.stop other.stop one.some_stop other.some_stop
-    (subst (λ (t : TaskTree). Stops left (task_code t) one.stop) same one.stopped) other.stopped in
-    one.refused_is ∙ ap (code_refusal_of task) stop ∙ sym other.refused_is
+    one_over left task other.tree a b (subst (λ (t : TaskTree). IsOver left task t a) same one.over) other.over
 
 -- the first task that is refused is refused in one way
 same_task : (roll : Roll) (forms : List Form) (a b : Refused) (one : IsFirstRefused roll forms a) (other : IsFirstRefused roll forms b) → one.task ≡ other.task → a ≡ b
@@ -126,16 +117,23 @@ one_refusal d (Task t k x) NoMemory some some' one two = absurd (some' refl)
 
 -- ---- what a call answers
 
--- a refusal that stands comes only where no mission is stated
-pub complete_from : (d : Members) (e : Refused) → IsRefused d e → (mission : Stated) → IsMission d mission → e ≡ NoMemory
-complete_from d e refused mission states = missions_are_accepted d mission e states refused
+-- where a mission is stated only want of memory refuses it
+pub complete_of :
+    (d : Members) (result : Result Mission Refused) → IfErr result (IsRefusedWith d)
+    → (mission : Stated) → IsMission d mission → IfErr result (λ e. e ≡ NoMemory)
+complete_of d (Ok held) refused mission states = tt
+complete_of d (Err e) refused mission states = missions_are_accepted d mission e states refused
 
 -- a refusal that stands is the one that is owed
-pub exact_from : (d : Members) (e : Refused) → IsRefused d e → (owed : Refused) → owed ≢ NoMemory → IsRefused d owed → (e ≡ owed) ⊎ (e ≡ NoMemory)
-exact_from d (Scenario n at) refused owed some stands = inl (one_refusal d (Scenario n at) owed (λ same. cc) some refused stands)
-exact_from d (Task t k at) refused owed some stands = inl (one_refusal d (Task t k at) owed (λ same. cc) some refused stands)
-exact_from d NoMemory refused owed some stands = inr refl
+one_or_none : (d : Members) (e owed : Refused) → IsRefusedWith d e → owed ≢ NoMemory → IsRefusedWith d owed → (e ≡ owed) ⊎ (e ≡ NoMemory)
+one_or_none d (Scenario n at) owed refused some stands = inl (one_refusal d (Scenario n at) owed (λ same. cc) some refused stands)
+one_or_none d (Task t k at) owed refused some stands = inl (one_refusal d (Task t k at) owed (λ same. cc) some refused stands)
+one_or_none d NoMemory owed refused some stands = inr refl
 
--- a document that states a mission is owed no refusal
-pub unrefused : (d : Members) (mission : Stated) (owed : Refused) → IsMission d mission → owed ≢ NoMemory → IsRefused d owed → ⊥
-unrefused d mission owed states some stands = some (missions_are_accepted d mission owed states stands)
+-- where a refusal is owed it comes, or want of memory
+pub exact_of :
+    (d : Members) (result : Result Mission Refused)
+    → IfOk result (λ mission. IsMission d (stated mission)) → IfErr result (IsRefusedWith d)
+    → (owed : Refused) → owed ≢ NoMemory → IsRefusedWith d owed → OnlyRefuses owed result
+exact_of d (Ok held) accepted refused owed some stands = absurd (some (missions_are_accepted d (stated held) owed accepted stands))
+exact_of d (Err e) accepted refused owed some stands = (refl, one_or_none d e owed refused some stands)

@@ -4,11 +4,6 @@ use Rattle.std.proofs.lemmas.List.{get_or-take, length-take-le}
 use Rattle.std.proofs.lemmas.Option.{get_or_from_slice_get, slice_get-get_or, slice_get_read, slice_get_within}
 use Rattle.std.specs.List.{slice_get}
 use Rattle.toml.specs.Data.{Members}
-use Rattle.sift_code.specs.declared.instr.Instr.{Instr}
-use Rattle.sift_compile.specs.Code.{task_code}
-use Rattle.sift_compile.specs.Stop.{IsAllowed, Stops}
-use Rattle.sift_compile.specs.declared.stop.CompileStop.{CompileStop}
-use Rattle.sift_compile.specs.declared.stop.CompileStop.TheVariants as compile
 use Rattle.sift_lang.specs.Tree.{TaskTree, end}
 use Rattle.sift_parse.proofs.OneAnswer.{task_is_answered}
 use Rattle.sift_parse.specs.Force.{Roll}
@@ -17,8 +12,8 @@ use Rattle.sift_parse.specs.declared.stop.ParseStop.{ParseStop}
 use Rattle.sift_parse.specs.declared.stop.ParseStop.TheVariants as parse
 use Rattle.sift_scenario.proofs.UniqueForms.{one_tree, same_entries}
 use Rattle.sift_scenario.specs.Entries.{EachMatches}
-use Rattle.sift_scenario.specs.Mission.{AreAllowed, IsTreeOf, steps_left, turn_of}
-use Rattle.sift_scenario.specs.Refusal.{IsFirstRefused, IsFormRefused, IsNoTask}
+use Rattle.sift_scenario.specs.Mission.{AreAllowed, IsTreeOf, IsWithin, steps_left, turn_of}
+use Rattle.sift_scenario.specs.Refusal.{IsFirstRefused, IsFormRefused, IsNoTask, IsOver}
 use Rattle.sift_scenario.specs.Rules.{IsFirstBroken, IsLawful}
 use Rattle.sift_scenario.specs.Task.{Form}
 use Rattle.sift_scenario.specs.declared.refused.Refused.{Refused}
@@ -40,24 +35,29 @@ pub tree_unrefused : (roll : Roll) (task : ℕ) (form : Form) (tree : TaskTree) 
 tree_unrefused roll task form tree e is fault =
     task_unrefused roll fault.bytes tree fault.stop fault.some_stop (subst (λ (f : Form). IsTreeOf roll f tree) fault.form_is is) fault.told
 
--- code that is allowed isn't refused
-code_unrefused : (left : ℕ) (code : List Instr) (stop : CompileStop) → stop ≢ compile.NoMemory → IsAllowed left code → Stops left code stop → ⊥
-code_unrefused left code (compile.CodeTooLong len) some allowed stops = omega (arith, stops.0, allowed.short)
-code_unrefused left code (compile.TooManySteps bound) some allowed stops = omega (arith, stops.1, allowed.quick)
-code_unrefused left code compile.NoMemory some allowed stops = some refl
+-- what is within the limits isn't over one
+within_unrefused : (left task : ℕ) (tree : TaskTree) (e : Refused) → IsWithin left tree → IsOver left task tree e → ⊥
+within_unrefused left task tree e within (inl long) = omega (arith, long.long, within.short)
+within_unrefused left task tree e within (inr slow) = omega (arith, slow.slow, within.quick)
 
 -- a task that has an allowed tree isn't refused
-form_unrefused : (roll : Roll) (left task : ℕ) (form : Form) (tree : TaskTree) (e : Refused) → IsTreeOf roll form tree → IsAllowed left (task_code tree) → IsFormRefused roll left task form e → ⊥
+form_unrefused :
+    (roll : Roll) (left task : ℕ) (form : Form) (tree : TaskTree) (e : Refused)
+    → IsTreeOf roll form tree → IsWithin left tree → IsFormRefused roll left task form e → ⊥
 form_unrefused roll left task form tree e is allowed (inl fault) = tree_unrefused roll task form tree e is fault
 form_unrefused roll left task form tree e is allowed (inr over) =
     let same = one_tree roll form over.tree tree over.tree_is is in
-    code_unrefused left (task_code tree) over.stop over.some_stop allowed (subst (λ (t : TaskTree). Stops left (task_code t) over.stop) same over.stopped)
+    within_unrefused left task tree e allowed (subst (λ (t : TaskTree). IsOver left task t e) same over.over)
 
 -- trees of the first tasks are the first of the trees
-pub first_trees : (roll : Roll) (forms : List Form) (some all : List TaskTree) → EachMatches (λ t form tree. IsTreeOf (turn_of t roll) form tree) forms some → EachMatches (λ t form tree. IsTreeOf (turn_of t roll) form tree) forms all → length some ≤ length all → some ≡ take (length some) all
+pub first_trees :
+    (roll : Roll) (forms : List Form) (some all : List TaskTree)
+    → EachMatches (λ t form tree. IsTreeOf (turn_of t roll) form tree) forms some
+    → EachMatches (λ t form tree. IsTreeOf (turn_of t roll) form tree) forms all → length some ≤ length all → some ≡ take (length some) all
 first_trees roll forms some all one other few = same_entries TaskTree some (take (length some) all) (sym (length-take-le (length some) all few)) (λ k a b there_a there_b.
     let low = slice_get_within some k a there_a in
-    let here : slice_get all k ≡ Some b = slice_get_read all _ k b refl (omega (arith, low, few)) (sym (sym (get_or-take (length some) all k b low) ∙ get_or_from_slice_get (take (length some) all) k b b there_b)) in
+    let here : slice_get all k ≡ Some b = slice_get_read all _ k b refl (omega (arith, low, few))
+    (sym (sym (get_or-take (length some) all k b low) ∙ get_or_from_slice_get (take (length some) all) k b b there_b)) in
     let at_a = one k a there_a in
     let at_b = other k b here in
     one_tree (turn_of k roll) at_b.entry a b (subst (λ (f : Form). IsTreeOf (turn_of k roll) f a) (one_entry forms k _ _ at_a.there at_b.there) at_a.holds) at_b.holds)
@@ -73,7 +73,7 @@ unrefused_among roll forms e first all each allowed low =
     let found = each first.task tree there in
     let before : first.trees ≡ take (length first.trees) all = first_trees roll forms first.trees all first.earlier each (omega (arith, low, first.as_many)) in
     let so : take first.task all ≡ first.trees = ap (λ (n : ℕ). take n all) (sym first.as_many) ∙ sym before in
-    let may : IsAllowed (steps_left first.trees) (task_code tree) = subst (λ (ts : List TaskTree). IsAllowed (steps_left ts) (task_code tree)) so (allowed first.task tree there) in
+    let may : IsWithin (steps_left first.trees) tree = subst (λ (ts : List TaskTree). IsWithin (steps_left ts) tree) so (allowed first.task tree there) in
     let form = one_entry forms first.task _ _ first.here.there found.there in
     form_unrefused (turn_of first.task roll) (steps_left first.trees) first.task found.entry tree e found.holds may
     (subst (λ (f : Form). IsFormRefused (turn_of first.task roll) (steps_left first.trees) first.task f e) form first.here.holds)

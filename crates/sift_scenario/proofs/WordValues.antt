@@ -65,7 +65,9 @@ word_array-other low high vs outside = rw (list_of-view vs) (lengthless low high
     (λ words is. length-word_values (map view vs) words is ∙ length-map vs view))
 
 -- an array whose values are read as words is read as these
-pub word_array-words : (low high : ℕ) (vs : List Value) (words : List ℕ) → low ≤ length vs → length vs ≤ high → word_values (map view vs) ≡ Some words → word_array low high (array (items_view vs)) ≡ Some words
+pub word_array-words :
+    (low high : ℕ) (vs : List Value) (words : List ℕ) → low ≤ length vs → length vs ≤ high
+    → word_values (map view vs) ≡ Some words → word_array low high (array (items_view vs)) ≡ Some words
 word_array-words low high vs words from to is =
     let same : length words ≡ length vs = length-word_values (map view vs) words is ∙ length-map vs view in
     rw (list_of-view vs, is) (of_length-within low high words (omega (arith, same, from)) (omega (arith, same, to)))

@@ -1,7 +1,9 @@
 pub mod Document
 pub mod Entries
+pub mod Flight
 pub mod Laws
 pub mod Mission
+pub mod Reading
 pub mod Refusal
 pub mod Rules
 pub mod Task

@@ -1,22 +1,17 @@
 -- The mission that a document states.
-use Rattle.std.specs.Prelude.{ℕ, ◌≡◌, ◌≤◌, ◌-◌, List, [], length, map, sum_by, slice_get, take, Some, unwrap_or}
+use Rattle.std.specs.Prelude.{ℕ, ◌≡◌, ◌≤◌, ◌-◌, List, [], map, sum_by, slice_get, take, Some, unwrap_or}
 use Rattle.std.specs.List.{flat_map}
 use Rattle.toml.specs.Data.{Members}
-use Rattle.sift_code.specs.Bound.{bound_of}
-use Rattle.sift_code.specs.Refusal.{Program}
-use Rattle.sift_compile.specs.Code.{task_code, task_program}
-use Rattle.sift_compile.specs.Correct.{Means}
-use Rattle.sift_compile.specs.Stop.{IsAllowed}
+use Rattle.sift_compile.specs.Length.{code_limit, task_length, task_steps}
 use Rattle.sift_lang.specs.Tree.{TaskTree}
 use Rattle.sift_parse.specs.Force.{Roll, words_before}
 use Rattle.sift_parse.specs.Linear.{linear_tree}
 use Rattle.sift_parse.specs.Outcome.{IsTaskOf}
 use Rattle.sift_program.specs.Program.{ProgramTree, program_of}
-use Rattle.sift_program.specs.Sound.{IsSoundProgram}
 use Rattle.sift_scenario.specs.declared.mission.Mission.{Mission}
 use Rattle.sift_scenario.specs.Entries.{AreMatched}
 use Rattle.sift_scenario.specs.Rules.{IsLawful, frames_of, units_of}
-use Rattle.sift_scenario.specs.Task.{AreForms, Form, linear, text, counts_of, name_of, starts_of, tasks_of}
+use Rattle.sift_scenario.specs.Task.{AreForms, Form, linear, text, counts_of, name_of, start_words, tasks_of}
 
 -- a mission as definitions see it: how many units fly how many frames, and the program that they run
 pub record Stated : Type 0 where
@@ -47,7 +42,7 @@ IsTreeOf roll (text bytes) tree = IsTaskOf roll bytes tree
 abbrev pub AreTreesOf : Roll → List Form → List TaskTree → Type 0
 AreTreesOf roll forms trees = AreMatched (λ task form tree. IsTreeOf (turn_of task roll) form tree) forms trees
 
--- ---- code
+-- ---- length and steps
 
 -- the most steps that the tasks of a mission may take in a frame, all together
 abbrev pub step_limit : ℕ
@@ -55,26 +50,26 @@ step_limit = 16384
 
 -- the most steps that these tasks take in a frame
 abbrev pub steps_of : List TaskTree → ℕ
-steps_of trees = sum_by (λ tree. bound_of (task_code tree)) trees
+steps_of trees = sum_by task_steps trees
 
 -- the steps that are left after these tasks
 abbrev pub steps_left : List TaskTree → ℕ
 steps_left trees = step_limit - steps_of trees
 
--- the code of each task is short enough, and takes no more steps than those before it leave
-abbrev pub AreAllowed : List TaskTree → Type 0
-AreAllowed trees = (t : ℕ) (tree : TaskTree) → slice_get trees t ≡ Some tree → IsAllowed (steps_left (take t trees)) (task_code tree)
+-- the code of a task is short enough, and takes no more steps than are left
+pub record IsWithin (left : ℕ) (tree : TaskTree) : Type 0 where
+  pub short : task_length tree ≤ code_limit
+  pub quick : task_steps tree ≤ left
 
--- these are the codes of the tasks, which may name so many words
-pub record AreCodesOf (words : ℕ) (trees : List TaskTree) (codes : List Program) : Type 0 where
-  pub codes_are : codes ≡ map (task_program 0 words) trees
-  pub mean : (t : ℕ) (tree : TaskTree) → slice_get trees t ≡ Some tree → Means (task_program 0 words tree) tree
+-- each task is within what those before it leave
+abbrev pub AreAllowed : List TaskTree → Type 0
+AreAllowed trees = (t : ℕ) (tree : TaskTree) → slice_get trees t ≡ Some tree → IsWithin (steps_left (take t trees)) tree
 
 -- ---- the mission
 
 -- the start words of the tasks, in their order
 abbrev pub all_starts : List Members → List ℕ
-all_starts tasks = flat_map (λ task. unwrap_or (starts_of task) []) tasks
+all_starts tasks = flat_map (λ task. unwrap_or (start_words task) []) tasks
 
 -- the program of the tasks in these tables
 pub record IsProgramOf (tasks : List Members) (program : ProgramTree) : Type 0 where
@@ -90,10 +85,3 @@ pub record IsMission (document : Members) (mission : Stated) : Type 0 where
   pub units : units_of document ≡ Some mission.units
   pub frames : frames_of document ≡ Some mission.frames
   pub program : IsProgramOf (tasks_of document) mission.program
-
--- the mission is one that can be flown, with this code for its tasks
-pub record CanFly (mission : Stated) (codes : List Program) : Type 0 where
-  pub units : (4 ≤ mission.units) × (mission.units ≤ 8)
-  pub frames : (1 ≤ mission.frames) × (mission.frames ≤ 1000)
-  pub program : IsSoundProgram 0 mission.program
-  pub compiled : AreCodesOf (length mission.program.starts) mission.program.tasks codes

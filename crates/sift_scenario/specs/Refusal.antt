@@ -1,10 +1,7 @@
 -- Why a document states no mission.
-use Rattle.std.specs.Prelude.{◌≡◌, ◌≢◌, ◌⊎◌, ℕ, List, Err, IsErr, IfErr, Result, length}
+use Rattle.std.specs.Prelude.{◌≡◌, ◌≢◌, ◌<◌, ◌≤◌, ◌⊎◌, ℕ, min, List, Err, IsErr, IfErr, Result, length}
 use Rattle.toml.specs.Data.{Members}
-use Rattle.sift_compile.specs.Code.{task_code}
-use Rattle.sift_compile.specs.Stop.{Stops}
-use Rattle.sift_compile.specs.declared.stop.CompileStop.{CompileStop}
-use Rattle.sift_compile.specs.declared.stop.CompileStop.TheVariants as compile
+use Rattle.sift_compile.specs.Length.{code_limit, task_length, task_steps}
 use Rattle.sift_lang.specs.Tree.{TaskTree}
 use Rattle.sift_parse.specs.declared.stop.ParseStop.{ParseStop}
 use Rattle.sift_parse.specs.declared.stop.ParseStop.TheVariants as parse
@@ -26,12 +23,6 @@ refusal_of task (parse.Later at) = Task task 4 at
 refusal_of task (parse.Limit which at) = Task task 5 at
 refusal_of task parse.NoMemory = NoMemory
 
--- the refusal of a task whose code is too long, or takes too many steps
-abbrev pub code_refusal_of : ℕ → CompileStop → Refused
-code_refusal_of task (compile.CodeTooLong len) = Task task 6 len
-code_refusal_of task (compile.TooManySteps bound) = Task task 7 bound
-code_refusal_of task compile.NoMemory = NoMemory
-
 -- a text that is no task
 pub record IsNoTask (roll : Roll) (task : ℕ) (form : Form) (refused : Refused) : Type 0 where
   pub bytes : List ℕ
@@ -41,14 +32,30 @@ pub record IsNoTask (roll : Roll) (task : ℕ) (form : Form) (refused : Refused)
   pub told : Tells roll bytes (Err stop)
   pub refused_is : refused ≡ refusal_of task stop
 
--- a task whose code isn't allowed, where so many steps are left
+-- a number as it is told: one above the last of 32 bits is told as that
+abbrev pub told_number : ℕ → ℕ
+told_number n = min n 4294967295
+
+-- a task whose code is too long: kind 6, with its length
+pub record IsTooLong (task : ℕ) (tree : TaskTree) (refused : Refused) : Type 0 where
+  pub long : code_limit < task_length tree
+  pub refused_is : refused ≡ Task task 6 (told_number (task_length tree))
+
+-- a task whose code isn't, but takes more steps than are left: kind 7, with their number
+pub record IsTooSlow (left task : ℕ) (tree : TaskTree) (refused : Refused) : Type 0 where
+  pub short : task_length tree ≤ code_limit
+  pub slow : left < task_steps tree
+  pub refused_is : refused ≡ Task task 7 (told_number (task_steps tree))
+
+-- a task that is over one of the two limits
+abbrev pub IsOver : (left task : ℕ) → TaskTree → Refused → Type 0
+IsOver left task tree refused = IsTooLong task tree refused ⊎ IsTooSlow left task tree refused
+
+-- a task that has a tree, and is over a limit
 pub record IsNotAllowed (roll : Roll) (left task : ℕ) (form : Form) (refused : Refused) : Type 0 where
   pub tree : TaskTree
   pub tree_is : IsTreeOf roll form tree
-  pub stop : CompileStop
-  pub some_stop : stop ≢ compile.NoMemory
-  pub stopped : Stops left (task_code tree) stop
-  pub refused_is : refused ≡ code_refusal_of task stop
+  pub over : IsOver left task tree refused
 
 -- the task is refused for its text, or for its code
 abbrev pub IsFormRefused : Roll → (left task : ℕ) → Form → Refused → Type 0
@@ -68,10 +75,10 @@ abbrev pub TasksAreRefused : List Members → Refused → Type 0
 TasksAreRefused tasks refused = (forms : List Form) × AreForms tasks forms × IsFirstRefused (roll_for tasks) forms refused
 
 -- what stands where a document is refused; want of memory says nothing else
-abbrev pub IsRefused : Members → Refused → Type 0
-IsRefused document (Scenario rule place) = IsFirstBroken document rule place
-IsRefused document (Task task kind at) = IsLawful document × TasksAreRefused (tasks_of document) (Task task kind at)
-IsRefused document NoMemory = Unit {0}
+abbrev pub IsRefusedWith : Members → Refused → Type 0
+IsRefusedWith document (Scenario rule place) = IsFirstBroken document rule place
+IsRefusedWith document (Task task kind at) = IsLawful document × TasksAreRefused (tasks_of document) (Task task kind at)
+IsRefusedWith document NoMemory = Unit {0}
 
 -- the document is refused so, unless memory was wanting
 abbrev pub OnlyRefuses : {A : Type 0} → Refused → Result A Refused → Type 0

@@ -1,10 +1,30 @@
 -- The rules of a document, one predicate a rule: the document breaks the rule at a place. The place is the number of an entry, or 0 for a rule that speaks of none.
 use Rattle.std.specs.Prelude.{codes, ℕ, ◌≡◌, ◌+◌, ◌<◌, ◌≤◌, ◌⊎◌, List, [], ◌∷◌, length, map, take, sum, Option, None}
 use Rattle.toml.specs.Data.{Members}
-use Rattle.sift_program.specs.declared.program.TheConstants.{TASK_LIMIT, WORD_LIMIT}
 use Rattle.sift_scenario.specs.Document.{HasOnlyKeys, IsTableOf, integer_between, read_at}
 use Rattle.sift_scenario.specs.Entries.{HoldsOf}
-use Rattle.sift_scenario.specs.Task.{Form, HasForm, IsNewName, name_of, starts_of, task_entries, task_keys, tasks_of, counts_of}
+use Rattle.sift_scenario.specs.Task.{Form, HasForm, IsNewName, name_of, start_words, task_entries, task_keys, tasks_of, counts_of}
+
+-- ---- the numbers of the rules
+
+-- the fewest and the most units
+abbrev pub least_units : ℕ
+least_units = 4
+
+abbrev pub most_units : ℕ
+most_units = 8
+
+-- the most frames
+abbrev pub frame_limit : ℕ
+frame_limit = 1000
+
+-- the most tasks
+abbrev pub task_limit : ℕ
+task_limit = 24
+
+-- the most output words of all tasks together
+abbrev pub word_limit : ℕ
+word_limit = 64
 
 -- ---- the root
 
@@ -14,11 +34,11 @@ root_keys = codes "units" ∷ codes "frames" ∷ codes "task" ∷ []
 
 -- the number of units
 abbrev pub units_of : Members → Option ℕ
-units_of document = read_at (integer_between 4 8) (codes "units") document
+units_of document = read_at (integer_between least_units most_units) (codes "units") document
 
 -- the number of frames
 abbrev pub frames_of : Members → Option ℕ
-frames_of document = read_at (integer_between 1 1000) (codes "frames") document
+frames_of document = read_at (integer_between 1 frame_limit) (codes "frames") document
 
 -- a key of the root is unknown
 abbrev pub BreaksRootKeys : Members → ℕ → Type 0
@@ -36,7 +56,7 @@ BreaksFrames document place = (place ≡ 0) × (frames_of document ≡ None)
 
 -- there are 1 to 24 entries
 abbrev pub IsTaskNumber : ℕ → Type 0
-IsTaskNumber number = (0 < number) × (number ≤ TASK_LIMIT)
+IsTaskNumber number = (0 < number) × (number ≤ task_limit)
 
 -- `task` isn't there, is no array of 1 to 24 entries, or has an entry that is no table or has an unknown key
 abbrev pub BreaksTasks : Members → ℕ → Type 0
@@ -50,15 +70,11 @@ BreaksNames tasks place =
 
 -- a task's start words aren't there, or are no array of 1 to 8 word values
 abbrev pub BreaksStarts : List Members → ℕ → Type 0
-BreaksStarts tasks place = HoldsOf tasks place (λ task. starts_of task ≡ None)
+BreaksStarts tasks place = HoldsOf tasks place (λ task. start_words task ≡ None)
 
--- how many output words the tasks before a place have, where each task has so many
-abbrev pub words_before : List ℕ → ℕ → ℕ
-words_before counts place = sum (take place counts)
-
--- with this task there are more than 64 output words
+-- with this task there are more than 64 output words, where each task has so many
 abbrev pub BreaksWords : List ℕ → ℕ → Type 0
-BreaksWords counts place = (place < length counts) × (WORD_LIMIT < words_before counts (place + 1))
+BreaksWords counts place = (place < length counts) × (word_limit < sum (take (place + 1) counts))
 
 -- a task has neither just a text, which is a string, nor just a linear rule, which is an array of two word values, and one output word
 abbrev pub BreaksForms : List Members → ℕ → Type 0
@@ -78,15 +94,15 @@ pub data Rule : Type 0 where
   forms_stated : Rule
 
 -- the number of a rule, by which the rules are ordered
-abbrev pub number_of : Rule → ℕ
-number_of root_keys_known = 1
-number_of units_stated = 2
-number_of frames_stated = 3
-number_of tasks_stated = 18
-number_of names_stated = 19
-number_of starts_stated = 20
-number_of few_words = 21
-number_of forms_stated = 22
+abbrev pub rule_number : Rule → ℕ
+rule_number root_keys_known = 1
+rule_number units_stated = 2
+rule_number frames_stated = 3
+rule_number tasks_stated = 18
+rule_number names_stated = 19
+rule_number starts_stated = 20
+rule_number few_words = 21
+rule_number forms_stated = 22
 
 -- the document breaks the rule at a place
 abbrev pub Breaks : Rule → Members → ℕ → Type 0
@@ -101,7 +117,7 @@ Breaks forms_stated document place = BreaksForms (tasks_of document) place
 
 -- no rule of a lower number is broken
 abbrev pub KeepsBelow : ℕ → Members → Type 0
-KeepsBelow number document = (rule : Rule) (place : ℕ) → number_of rule < number → ¬ Breaks rule document place
+KeepsBelow number document = (rule : Rule) (place : ℕ) → rule_number rule < number → ¬ Breaks rule document place
 
 -- no rule is broken
 abbrev pub IsLawful : Members → Type 0
@@ -110,7 +126,7 @@ IsLawful document = (rule : Rule) (place : ℕ) → ¬ Breaks rule document plac
 -- this is the number of the first broken rule, and the first place at which it is broken
 pub record IsFirstBroken (document : Members) (number place : ℕ) : Type 0 where
   pub rule : Rule
-  pub number_is : number ≡ number_of rule
+  pub number_is : number ≡ rule_number rule
   pub broken : Breaks rule document place
   pub first_rule : KeepsBelow number document
   pub first_place : (at : ℕ) → at < place → ¬ Breaks rule document at

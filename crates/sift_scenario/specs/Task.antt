@@ -32,17 +32,21 @@ pub record IsNewName (earlier : List (Option (List ℕ))) (task : Members) (name
 
 -- ---- start words
 
+-- the most output words of a task
+abbrev pub output_limit : ℕ
+output_limit = 8
+
 -- a task's start words, one for each of its output words: an array of 1 to 8 word values
-abbrev pub starts_of : Members → Option (List ℕ)
-starts_of task = read_at (word_array 1 8) (codes "start") task
+abbrev pub start_words : Members → Option (List ℕ)
+start_words task = read_at (word_array 1 output_limit) (codes "start") task
 
 -- how many output words a task has
-abbrev pub word_count : Members → ℕ
-word_count task = length (unwrap_or (starts_of task) [])
+abbrev pub task_outputs : Members → ℕ
+task_outputs task = length (unwrap_or (start_words task) [])
 
 -- how many output words each task has
 abbrev pub counts_of : List Members → List ℕ
-counts_of tasks = map word_count tasks
+counts_of tasks = map task_outputs tasks
 
 -- ---- what a task runs
 
@@ -54,7 +58,7 @@ pub data Form : Type 0 where
 -- the task has a linear rule and no text, and one output word
 pub record IsLinear (task : Members) (factor addend : ℕ) : Type 0 where
   pub stated : read_at (word_array 2 2) (codes "linear") task ≡ Some (factor ∷ addend ∷ [])
-  pub one_word : word_count task ≡ 1
+  pub one_word : task_outputs task ≡ 1
   pub alone : get_member (codes "text") task ≡ None
 
 -- the task has a text and no linear rule

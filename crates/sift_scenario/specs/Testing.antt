@@ -7,14 +7,12 @@ use Rattle.sift_scenario.specs.declared.task.Form as held
 use Rattle.sift_scenario.specs.declared.task.Form.TheVariants as variant
 use Rattle.sift_parse.specs.Force.{Roll}
 use Rattle.sift_parse.specs.Outcome.{AreNames}
-use Rattle.sift_compile.specs.Code.{task_code}
-use Rattle.sift_compile.specs.Stop.{Stops}
 use Rattle.sift_compile.specs.declared.stop.CompileStop.{CompileStop}
 use Rattle.sift_compile.specs.declared.stop.CompileStop.TheVariants as compile
 use Rattle.sift_lang.specs.Tree.{TaskTree}
 use Rattle.sift_scenario.specs.Document.{word_array}
 use Rattle.sift_scenario.specs.Mission.{turn_of}
-use Rattle.sift_scenario.specs.Refusal.{IsRefused, code_refusal_of}
+use Rattle.sift_scenario.specs.Refusal.{IsOver, IsRefusedWith}
 use Rattle.sift_scenario.specs.Rules.{BreaksForms, BreaksNames, BreaksStarts, BreaksWords, KeepsBelow}
 use Rattle.sift_scenario.specs.Task.{Form, linear, text, counts_of, tasks_of}
 
@@ -29,13 +27,13 @@ IsLinearForm value (linear factor addend) = word_array 2 2 value ≡ Some (facto
 IsLinearForm value (text bytes) = ⊥
 
 -- the first place at which a rule is broken
-pub record IsFirst (Breaks : ℕ → Type 0) (place : ℕ) : Type 0 where
+pub record IsFirstPlace (Breaks : ℕ → Type 0) (place : ℕ) : Type 0 where
   pub broken : Breaks place
   pub first : (at : ℕ) → at < place → ¬ Breaks at
 
 -- the rule of this number is refused, at the first place at which it is broken
 abbrev pub RefusesBy : ℕ → (ℕ → Type 0) → Refused → Type 0
-RefusesBy number Breaks (Scenario rule place) = (rule ≡ number) × IsFirst Breaks place
+RefusesBy number Breaks (Scenario rule place) = (rule ≡ number) × IsFirstPlace Breaks place
 RefusesBy number Breaks (Task task kind at) = ⊥
 RefusesBy number Breaks NoMemory = Unit {0}
 
@@ -54,7 +52,7 @@ pub record KeepsTaskRules (tasks : List Members) : Type 0 where
 -- each document that has these tasks and keeps the rules before that of their names is refused so
 abbrev pub IsTaskRefused : List Members → Refused → Type 0
 IsTaskRefused tasks refused =
-    (document : Members) → tasks_of document ≡ tasks → KeepsBelow 19 document → IsRefused document refused
+    (document : Members) → tasks_of document ≡ tasks → KeepsBelow 19 document → IsRefusedWith document refused
 
 -- ---- trees
 
@@ -62,7 +60,12 @@ IsTaskRefused tasks refused =
 abbrev pub AreTurns : ℕ → Roll → Type 0
 AreTurns count roll = (task : ℕ) → task < count → AreNames (turn_of task roll)
 
--- compiling stopped for want of memory, or at code that isn't allowed
+-- compiling stopped for want of memory, or over a limit
 abbrev pub IsCodeStop : (left task : ℕ) → TaskTree → Refused → Type 0
-IsCodeStop left task tree refused = refused ≢ NoMemory
-    → (stop : CompileStop) × (stop ≢ compile.NoMemory) × Stops left (task_code tree) stop × (refused ≡ code_refusal_of task stop)
+IsCodeStop left task tree refused = refused ≢ NoMemory → IsOver left task tree refused
+
+-- the refusal of a task whose code is too long, or takes too many steps
+abbrev pub code_refusal_of : ℕ → CompileStop → Refused
+code_refusal_of task (compile.CodeTooLong len) = Task task 6 len
+code_refusal_of task (compile.TooManySteps bound) = Task task 7 bound
+code_refusal_of task compile.NoMemory = NoMemory

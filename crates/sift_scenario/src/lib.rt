@@ -9,11 +9,12 @@ mod mission;
 mod refused;
 mod root;
 mod task;
-#[cfg(test)]
-mod tests;
 mod tree;
 mod value;
 
-pub use law::{missions_are_accepted, one_mission, one_refusal};
+pub use law::{
+    documents_are_answered, missions_are_accepted, one_mission, one_refusal,
+    rules_are_kept_or_broken,
+};
 pub use mission::{Mission, mission_of};
 pub use refused::Refused;

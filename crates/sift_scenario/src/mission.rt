@@ -1,17 +1,21 @@
-ghost use Rattle.std.specs.Prelude.{◌≡◌, ◌≢◌, ◌≤◌, IfErr, IfOk, length, map};
+//! A mission, as a document states it.
+
+ghost use Rattle.std.specs.Prelude.{◌≡◌, ◌≢◌, List, IfErr, IfOk, length, map};
+ghost use Rattle.toml.specs.Data.{Members};
 ghost use Rattle.toml.specs.View.{table_view};
-ghost use Rattle.sift_program.specs.Program.{program_of};
-ghost use Rattle.sift_program.specs.Sound.{IsSoundProgram};
 ghost use Rattle.sift_scenario.specs.declared.refused.Refused.{Refused};
-ghost use Rattle.sift_scenario.specs.Mission.{AreCodesOf, CanFly, IsMission, IsProgramOf, Stated, stated};
-ghost use Rattle.sift_scenario.specs.Refusal.{IsRefused, OnlyRefuses};
+ghost use Rattle.sift_scenario.specs.Flight.{CanFly};
+ghost use Rattle.sift_scenario.specs.Mission.{IsMission, Stated, stated};
+ghost use Rattle.sift_scenario.specs.Reading.{IsReadOf, IsRunningOf};
+ghost use Rattle.sift_scenario.specs.Refusal.{IsRefusedWith, OnlyRefuses};
 ghost use Rattle.sift_scenario.specs.Rules.{IsTaskNumber};
-ghost use Rattle.sift_scenario.specs.Testing.{IsTaskRefused, KeepsTaskRules};
+ghost use Rattle.sift_scenario.specs.Testing.{IsTaskRefused};
 
 use crate::refused::Refused;
 use crate::root::root_of;
-use crate::task::{check_words, task_forms, task_names, task_starts, task_tables};
+use crate::task::{Form, Starts, check_words, task_forms, task_names, task_starts, task_tables};
 use crate::tree::{all_starts, compile_tasks, names_for};
+use sift_base::Name;
 use sift_code::Checked;
 use sift_program::Program;
 use std::alloc::Global;
@@ -37,23 +41,40 @@ pub struct Mission {
 pub fn mission_of(alloc: Global, document: &Table) -> Result<Mission, Refused>
     ensures accepted { IfOk result (λ mission. IsMission (table_view document.now) (stated mission)) }
     ensures flyable { IfOk result (λ mission. CanFly (stated mission) mission.code.items) }
-    ensures refused { IfErr result (IsRefused (table_view document.now)) }
+    ensures refused { IfErr result (IsRefusedWith (table_view document.now)) }
 
     // A document that states a mission, or is owed a refusal, gets it, unless memory is wanting.
     ensures complete { (mission : Stated) → IsMission (table_view document.now) mission
         → IfErr result (λ e. e ≡ Refused.NoMemory) }
-    ensures exact { (owed : Refused) → owed ≢ Refused.NoMemory → IsRefused (table_view document.now) owed
+    ensures exact { (owed : Refused) → owed ≢ Refused.NoMemory → IsRefusedWith (table_view document.now) owed
         → OnlyRefuses owed result }
+{
+    read_mission(alloc, document)
+}
+
+/// The mission that a document states, or what refuses it.
+fn read_mission(alloc: Global, document: &Table) -> Result<Mission, Refused>
+    ensures accepted { IfOk result (λ mission. IsMission (table_view document.now) (stated mission)) }
+    ensures flyable { IfOk result (λ mission. CanFly (stated mission) mission.code.items) }
+    ensures refused { IfErr result (IsRefusedWith (table_view document.now)) }
 {
     let root = root_of(document)?;
     let tasks = task_tables(alloc, document)?;
-    let running = program_of(alloc, &tasks)?;
+    let running = running_of(alloc, &tasks)?;
     Ok(Mission {
         units: root.units,
         frames: root.frames,
         program: running.program,
         code: running.code,
     })
+}
+
+/// What the tables of the tasks state, each in the order of the tasks.
+#[derive(Drop)]
+struct Entries<'a> {
+    names: Vec<Name>,
+    starts: Vec<Starts>,
+    forms: Vec<Form<'a>>,
 }
 
 /// A program and the checked code of its tasks.
@@ -64,23 +85,43 @@ struct Running {
 }
 
 /// The program of the tasks in these tables, by the rules from that of the names on.
-fn program_of(alloc: Global, tasks: &[&Table]) -> Result<Running, Refused>
+fn running_of(alloc: Global, tasks: &[&Table]) -> Result<Running, Refused>
     requires { IsTaskNumber (length tasks.now) }
-    ensures stated { IfOk result (λ running.
-        IsProgramOf (map (λ task. table_view task.now) tasks.now) (program_of running.program)) }
-    ensures sound { IfOk result (λ running. IsSoundProgram 0 (program_of running.program)) }
-    ensures codes { IfOk result (λ running.
-        AreCodesOf (length running.program.starts.items) (program_of running.program).tasks running.code.items) }
-    ensures kept { IfOk result (λ _. KeepsTaskRules (map (λ task. table_view task.now) tasks.now)) }
+    ensures running { IfOk result (IsRunningOf (map (λ task. table_view task.now) tasks.now)) }
+    ensures refused { IfErr result (IsTaskRefused (map (λ task. table_view task.now) tasks.now)) }
+{
+    let entries = read_tasks(alloc, tasks)?;
+    run_entries(alloc, &entries)
+}
+
+/// What these tables state, where no rule of the tasks is broken.
+fn read_tasks<'a>(alloc: Global, tasks: &[&'a Table]) -> Result<Entries<'a>, Refused>
+    requires { IsTaskNumber (length tasks.now) }
+    ensures read { IfOk result (IsReadOf (map (λ task. table_view task.now) tasks.now)) }
     ensures refused { IfErr result (IsTaskRefused (map (λ task. table_view task.now) tasks.now)) }
 {
     let names = task_names(alloc, tasks)?;
     let starts = task_starts(alloc, tasks)?;
     check_words(&starts)?;
     let forms = task_forms(alloc, tasks, &starts)?;
-    let mut names = names_for(alloc, &names, &starts)?;
-    let starts = all_starts(alloc, &starts)?;
-    let compiled = compile_tasks(alloc, &forms, &mut names, starts.len() as u8)?;
+    Ok(Entries {
+        names,
+        starts,
+        forms,
+    })
+}
+
+/// The program of tasks that were read, with the code of each.
+fn run_entries(alloc: Global, entries: &Entries<'_>) -> Result<Running, Refused>
+    requires { (tasks : List Members) × IsReadOf tasks entries.now }
+    ensures running { IfOk result (λ running. (tasks : List Members)
+        → IsReadOf tasks entries.now → IsRunningOf tasks running) }
+    ensures refused { IfErr result (λ refused. (tasks : List Members)
+        → IsReadOf tasks entries.now → IsTaskRefused tasks refused) }
+{
+    let mut names = names_for(alloc, &entries.names, &entries.starts)?;
+    let starts = all_starts(alloc, &entries.starts)?;
+    let compiled = compile_tasks(alloc, &entries.forms, &mut names, starts.len() as u8)?;
     let program = Program {
         tasks: compiled.trees,
         starts,

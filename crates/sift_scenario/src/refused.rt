@@ -1,5 +1,8 @@
+//! Why a document states no mission.
+
 ghost use Rattle.std.specs.Prelude.{◌≡◌, ◌<◌, ◌^◌};
-ghost use Rattle.sift_scenario.specs.Refusal.{code_refusal_of, refusal_of};
+ghost use Rattle.sift_scenario.specs.Refusal.{refusal_of};
+ghost use Rattle.sift_scenario.specs.Testing.{code_refusal_of};
 
 use sift_base::NoMemory;
 use sift_compile::CompileStop;

@@ -4,7 +4,7 @@ ghost use Rattle.std.specs.Prelude.{◌≡◌, IfErr, IfOk, Some};
 ghost use Rattle.toml.specs.View.{table_view};
 ghost use Rattle.sift_scenario.specs.Rules.{BreaksFrames, BreaksRootKeys, BreaksUnits, KeepsBelow, frames_of, units_of};
 ghost use Rattle.sift_scenario.specs.Document.{integer_between, read_at};
-ghost use Rattle.sift_scenario.specs.Refusal.{IsRefused};
+ghost use Rattle.sift_scenario.specs.Refusal.{IsRefusedWith};
 ghost use Rattle.sift_scenario.specs.Testing.{Tests};
 
 use crate::refused::{Refused, broken};
@@ -23,7 +23,7 @@ pub(crate) fn root_of(document: &Table) -> Result<Root, Refused>
     ensures units { IfOk result (λ root. units_of (table_view document.now) ≡ Some root.units) }
     ensures frames { IfOk result (λ root. frames_of (table_view document.now) ≡ Some root.frames) }
     ensures kept { IfOk result (λ _. KeepsBelow 18 (table_view document.now)) }
-    ensures refused { IfErr result (IsRefused (table_view document.now)) }
+    ensures refused { IfErr result (IsRefusedWith (table_view document.now)) }
 {
     check_keys(document)?;
     let units = units_of(document)?;

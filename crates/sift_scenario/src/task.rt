@@ -3,10 +3,9 @@
 ghost use Rattle.std.specs.Prelude.{◌≡◌, ◌≢◌, ◌↔◌, ◌≤◌, ◌∷◌, [], ℕ, List, Contains, IfOk, IfSome, IfNone, IsTrue, Some, length, map, option_map};
 ghost use Rattle.toml.specs.View.{table_view, view};
 ghost use Rattle.sift_scenario.specs.Document.{word_array};
-ghost use Rattle.sift_program.specs.declared.program.TheConstants.{TASK_LIMIT};
-ghost use Rattle.sift_scenario.specs.Rules.{BreaksForms, BreaksNames, BreaksStarts, BreaksTasks, BreaksWords, IsTaskNumber};
+ghost use Rattle.sift_scenario.specs.Rules.{BreaksForms, BreaksNames, BreaksStarts, BreaksTasks, BreaksWords, IsTaskNumber, task_limit};
 ghost use Rattle.sift_scenario.specs.Testing.{Tests, IsLinearForm, form_of};
-ghost use Rattle.sift_scenario.specs.Task.{AreForms, Form as Stated, HasForm, IsNewName, counts_of, name_of, starts_of, tasks_of, word_count};
+ghost use Rattle.sift_scenario.specs.Task.{AreForms, Form as Stated, HasForm, IsNewName, counts_of, name_of, start_words, tasks_of, task_outputs};
 
 use crate::refused::{Refused, broken};
 use crate::value::{entries_at, member_of, table_of, word_array};
@@ -52,7 +51,7 @@ pub(crate) fn task_tables<'a>(alloc: Global, document: &'a Table) -> Result<Vec<
 
 /// The names of the tasks.
 pub(crate) fn task_names(alloc: Global, tasks: &[&Table]) -> Result<Vec<Name>, Refused>
-    requires { length tasks.now ≤ TASK_LIMIT }
+    requires { length tasks.now ≤ task_limit }
     ensures names { IfOk result (λ names.
         map (λ name. Some name.bytes) names.items ≡ map (λ task. name_of (table_view task.now)) tasks.now) }
     ensures tests { Tests 19 (BreaksNames (map (λ task. table_view task.now) tasks.now)) result }
@@ -96,14 +95,14 @@ fn is_among(text: &str, names: &[Name]) -> bool
 
 /// The start words of each task.
 pub(crate) fn task_starts(alloc: Global, tasks: &[&Table]) -> Result<Vec<Starts>, Refused>
-    requires { length tasks.now ≤ TASK_LIMIT }
+    requires { length tasks.now ≤ task_limit }
     ensures starts { IfOk result (λ starts.
-        map (λ words. Some words.items) starts.items ≡ map (λ task. starts_of (table_view task.now)) tasks.now) }
+        map (λ words. Some words.items) starts.items ≡ map (λ task. start_words (table_view task.now)) tasks.now) }
     ensures tests { Tests 20 (BreaksStarts (map (λ task. table_view task.now) tasks.now)) result }
 {
     let mut starts = Vec::new(alloc);
     for (place, task) in tasks.iter().enumerate() {
-        match starts_of(task) {
+        match start_words(task) {
             Some(words) => starts.push(words)?,
             None => return Err(broken(20, place)),
         }
@@ -112,15 +111,15 @@ pub(crate) fn task_starts(alloc: Global, tasks: &[&Table]) -> Result<Vec<Starts>
 }
 
 /// The start words of a task.
-fn starts_of(task: &Table) -> Option<Starts>
-    ensures { option_map (λ words. words.items) result ≡ starts_of (table_view task.now) }
+fn start_words(task: &Table) -> Option<Starts>
+    ensures { option_map (λ words. words.items) result ≡ start_words (table_view task.now) }
 {
     word_array(member_of(task, "start")?, 1, 8)
 }
 
 /// Tests how many output words there are, where these are the start words of the tasks.
 pub(crate) fn check_words(starts: &[Starts]) -> Result<(), Refused>
-    requires { length starts.now ≤ TASK_LIMIT }
+    requires { length starts.now ≤ task_limit }
     ensures { Tests 21 (BreaksWords (map (λ words. length words.items) starts.now)) result }
 {
     let mut words = 0;
@@ -139,7 +138,7 @@ pub(crate) fn task_forms<'a>(
     tasks: &[&'a Table],
     starts: &[Starts],
 ) -> Result<Vec<Form<'a>>, Refused>
-    requires few { length tasks.now ≤ TASK_LIMIT }
+    requires few { length tasks.now ≤ task_limit }
     requires starts { map (λ words. length words.items) starts.now
         ≡ counts_of (map (λ task. table_view task.now) tasks.now) }
     ensures forms { IfOk result (λ forms.
@@ -158,7 +157,7 @@ pub(crate) fn task_forms<'a>(
 
 /// What a task of so many output words runs: a text alone, or a linear rule alone.
 fn form_of(task: &Table, words: usize) -> Option<Form<'_>>
-    requires { words ≡ word_count (table_view task.now) }
+    requires { words ≡ task_outputs (table_view task.now) }
     ensures found { IfSome result (λ form. HasForm (table_view task.now) (form_of form)) }
     ensures none { IfNone result ((form : Stated) → ¬ HasForm (table_view task.now) form) }
 {

@@ -2,17 +2,19 @@
 
 ghost use Rattle.std.specs.Prelude.{◌≡◌, ◌≢◌, ◌<◌, ◌≤◌, ◌^◌, [], ℕ, IfErr, IfOk, IsOk, length, map, slice_index};
 ghost use Rattle.std.specs.List.{flat_map, sum};
-ghost use Rattle.sift_compile.specs.Code.{task_code, task_program};
+ghost use Rattle.sift_code.specs.Bound.{bound_of};
+ghost use Rattle.sift_compile.specs.Code.{task_program};
 ghost use Rattle.sift_compile.specs.Correct.{Means};
-ghost use Rattle.sift_compile.specs.Stop.{IsAllowed};
+ghost use Rattle.sift_compile.specs.Length.{task_steps};
 ghost use Rattle.sift_lang.specs.Sound.{IsSound};
 ghost use Rattle.sift_lang.specs.Tree.{tree_of};
 ghost use Rattle.sift_parse.specs.Force.{Roll, roll_of, words_before};
 ghost use Rattle.sift_parse.specs.Linear.{linear_tree};
 ghost use Rattle.sift_parse.specs.Outcome.{AreNames};
-ghost use Rattle.sift_program.specs.declared.program.TheConstants.{TASK_LIMIT};
-ghost use Rattle.sift_scenario.specs.Mission.{AreAllowed, AreCodesOf, AreTreesOf, IsTreeOf, step_limit, turn_of};
+ghost use Rattle.sift_scenario.specs.Flight.{AreCodesOf};
+ghost use Rattle.sift_scenario.specs.Mission.{AreAllowed, AreTreesOf, IsTreeOf, IsWithin, step_limit, turn_of};
 ghost use Rattle.sift_scenario.specs.Refusal.{IsFirstRefused, IsNoTask};
+ghost use Rattle.sift_scenario.specs.Rules.{task_limit};
 ghost use Rattle.sift_scenario.specs.Testing.{AreTurns, IsCodeStop, form_of};
 
 use crate::refused::{Refused, code_refused, text_refused};
@@ -73,7 +75,7 @@ pub(crate) fn compile_tasks(
     names: &mut Names,
     words: u8,
 ) -> Result<Compiled, Refused>
-    requires few { length forms.now ≤ TASK_LIMIT }
+    requires few { length forms.now ≤ task_limit }
     requires turns { AreTurns (length forms.now) (roll_of names.old) }
     requires words { words ≡ sum (roll_of names.old).sizes }
     requires no_sensors { (roll_of names.old).sensors ≡ [] }
@@ -112,7 +114,8 @@ fn tree_code(
     requires left { left ≤ step_limit }
     ensures code { IfOk result (λ code. code ≡ task_program 0 words (tree_of tree.now)) }
     ensures means { IfOk result (λ code. Means code (tree_of tree.now)) }
-    ensures allowed { IsOk result → IsAllowed left (task_code (tree_of tree.now)) }
+    ensures allowed { IsOk result → IsWithin left (tree_of tree.now) }
+    ensures steps { IfOk result (λ code. bound_of code.code ≡ task_steps (tree_of tree.now)) }
     ensures refused { IfErr result (IsCodeStop left task (tree_of tree.now)) }
 {
     match compile(alloc, tree, 0, words, left) {

@@ -22,7 +22,8 @@ loop-number-preserved g c =
           let other : n ≢ v.unit = λ e. apart_by w.in-Some.other c.args.own w.if-ne.ensures (w.in-Some.ensures.found.0 ∙ (e ∙ sym c.requires.own_is)) in
           let up : v.conduct.progress ≤ w.look-seen.result = subst (λ (x : ℕ). x ≤ w.look-seen.result) c.requires.progress_is w.if-seen-progress.false in
           let round : LooksRound v (n + 1) (g.L.Look.view w.look-seen.new.self) =
-          subst (λ (x : View). LooksRound v (n + 1) x) (sym (w.look-seen.ensures.looked ∙ (λ i. view_with_look (g.L.Look.view c.loop-number.port) (w.in-Some.ensures.found.0 i) w.look-seen.result)))
+          subst (λ (x : View). LooksRound v (n + 1) x) (sym (w.look-seen.ensures.looked
+          ∙ (λ i. view_with_look (g.L.Look.view c.loop-number.port) (w.in-Some.ensures.found.0 i) w.look-seen.result)))
           (round_look v _ n w.look-seen.result inv.round other up) in
           rw w.port-is (record { follows = g.met.L.Look.follows_on _ _ _ inv.follows w.look-seen.ensures.follows; within = within; round = round })
       | in-Some+else-ne w ↦

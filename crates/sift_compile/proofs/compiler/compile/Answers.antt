@@ -7,7 +7,24 @@ use Rattle.sift_compile.specs.Code.{task_code}
 use Rattle.sift_compile.specs.Correct.{Means}
 use Rattle.sift_compile.proofs.Giving.{means_its_task}
 use Rattle.sift_compile.proofs.Allowed.{counted, kept_over, kept_within}
+use Rattle.sift_compile.proofs.Steps.{code_is_measured}
 use Rattle.sift_compile.proofs.compiler.compile.Goals as goal
+
+-- ---- the length and the steps, at each answer
+
+pub returns-then-len-gt-CODE_LIMIT-clause-measured : goal.returns-then-len-gt-CODE_LIMIT-clause-measured
+returns-then-len-gt-CODE_LIMIT-clause-measured c = code_is_measured (tree_of c.args.task.now)
+
+pub returns-in_err-checked-clause-measured : goal.returns-in_err-checked-clause-measured
+returns-in_err-checked-clause-measured c = code_is_measured (tree_of c.args.task.now)
+
+pub returns-then-bound-budget-clause-measured : goal.returns-then-bound-budget-clause-measured
+returns-then-bound-budget-clause-measured c = code_is_measured (tree_of c.args.task.now)
+
+pub returns-clause-measured : goal.returns-clause-measured
+returns-clause-measured c = code_is_measured (tree_of c.args.task.now)
+
+-- ---- the other clauses
 
 pub returns-then-len-gt-CODE_LIMIT-clause-stopped : goal.returns-then-len-gt-CODE_LIMIT-clause-stopped
 returns-then-len-gt-CODE_LIMIT-clause-stopped c =

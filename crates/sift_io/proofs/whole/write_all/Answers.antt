@@ -16,10 +16,12 @@ pub returns-in-Took-eq0-clause-bytes : goal.returns-in-Took-eq0-clause-bytes
 returns-in-Took-eq0-clause-bytes g c =
     let sent = c.loop-rest.invariant.0 in
     let kept = Keeps-take_none _ _ _ _ (omega arith) c.in-Took-eq0.ensures.bytes in
-    AddsPrefix-sent _ _ _ sent.0 _ _ sent.1 sent.2 kept
+    let outflow = g.K.Sink.outflow in
+    AddsPrefix-sent (outflow c.args.sink.now) (outflow c.loop-rest.sink) (outflow c.write.new.self) sent.0 _ _ sent.1 sent.2 kept
 
 -- the sink failed
 pub returns-in-Failed-clause-bytes : goal.returns-in-Failed-clause-bytes
 returns-in-Failed-clause-bytes g c =
     let sent = c.loop-rest.invariant.0 in
-    AddsPrefix-sent _ _ _ sent.0 _ _ sent.1 sent.2 c.in-Failed.ensures.bytes
+    let outflow = g.K.Sink.outflow in
+    AddsPrefix-sent (outflow c.args.sink.now) (outflow c.loop-rest.sink) (outflow c.write.new.self) sent.0 _ _ sent.1 sent.2 c.in-Failed.ensures.bytes

@@ -5,11 +5,10 @@ use Rattle.sift_io.proofs.whole.write_all.Given as goal
 -- what was written so far, and what is left of the bytes
 abbrev pub invariant-loop-rest : goal.invariant-loop-rest
 invariant-loop-rest g l =
-    let written = g.K.Sink.written in
-    let faults = g.K.Sink.write_faults in
+    let outflow = g.K.Sink.outflow in
     let begun = l.initial.sink in
-    ((sent : List ℕ) × Appends (written begun) (written l.sink) sent × (sent ++ l.rest ≡ l.bytes))
-    × (faults begun ≤ faults l.sink)
+    ((sent : List ℕ) × Appends (outflow begun).written (outflow l.sink).written sent × (sent ++ l.rest ≡ l.bytes))
+    × ((outflow begun).faults ≤ (outflow l.sink).faults)
 
 abbrev pub decreases-loop-rest : goal.decreases-loop-rest
 decreases-loop-rest g l = length l.rest

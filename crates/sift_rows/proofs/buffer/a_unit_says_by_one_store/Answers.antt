@@ -1,14 +1,12 @@
-use Rattle.std.proofs.Common.{◌≡◌, ◌≢◌, ◌<◌, ◌≤◌, ℕ, Option, Some, None, sym, refl, subst, ◌∙◌, arith}
-use Rattle.sift_buffer.specs.Ranges.{Ranges, IsPlace}
-use Rattle.sift_buffer.specs.Conditions.{MaySay, MayHear}
-use Rattle.sift_buffer.specs.Views.{View, fresh_view}
+use Rattle.std.proofs.Common.{◌≡◌, sym, refl, subst, arith}
+use Rattle.sift_buffer.specs.Views.{View, PortMaySay}
 use Rattle.sift_rows.proofs.buffer.a_unit_says_by_one_store.Goals as goal
 
 pub say_five-requires : goal.say_five-requires
 say_five-requires g c =
     let own : c.in_ok-own.own ≡ 0 = c.in_ok-own.ensures in
     let one : c.in_ok-one.one ≡ 1 = c.in_ok-one.ensures in
-    subst (λ (v : View). MaySay v.ranges v.conduct v.unit c.in_ok-one.one 0 0 1) (sym c.in_ok-port.ensures.view) (record {
+    subst (λ (v : View). PortMaySay v c.in_ok-one.one 0 0 1) (sym c.in_ok-port.ensures.view) (record {
       flies = refl;
       place = record { cell = record { unit = omega arith; other = omega arith; slot = omega arith }; frame = omega arith };
       stamp = refl;

@@ -18,7 +18,8 @@ returns-in_err-units-clause-refused c =
 pub returns-in_err-frames-clause-refused : goal.returns-in_err-frames-clause-refused
 returns-in_err-frames-clause-refused c =
     let same : c.from_residual-in_err-frames.result ≡ Err c.in_err-frames.field-0.0 = search rules in
-    rw same (refused_by (table_view c.args.document.now) frames_stated _ (up_to_units (table_view c.args.document.now) c.in_ok-check_keys.ensures c.in_ok-units.ensures.tests) 3 refl c.in_err-frames.ensures.tests)
+    rw same (refused_by (table_view c.args.document.now) frames_stated _
+    (up_to_units (table_view c.args.document.now) c.in_ok-check_keys.ensures c.in_ok-units.ensures.tests) 3 refl c.in_err-frames.ensures.tests)
 
 -- none of the three is broken
 pub returns-clause-kept : goal.returns-clause-kept

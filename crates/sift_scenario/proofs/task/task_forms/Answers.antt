@@ -4,7 +4,7 @@ use Rattle.toml.specs.Data.{Members}
 use Rattle.toml.specs.View.{table_view}
 use Rattle.sift_scenario.proofs.Places.{fails_here, holds_here, matches_more, nowhere, same_at, taken}
 use Rattle.sift_scenario.proofs.Testing.{first_broken}
-use Rattle.sift_scenario.specs.Task.{Form, HasForm, word_count}
+use Rattle.sift_scenario.specs.Task.{Form, HasForm, task_outputs}
 use Rattle.sift_scenario.specs.Testing.{form_of}
 use Rattle.sift_scenario.proofs.task.task_forms.Goals as goal
 
@@ -18,11 +18,12 @@ form_of-requires c =
     let tables = map (λ task. table_view task.now) c.args.tasks.now in
     let low : c.loop-place.place < length tables = rw length-map c.loop-place-test.true in
     let as_many : length c.args.starts.now ≡ length tables =
-    sym (length-map c.args.starts.now (λ words. length words.items)) ∙ ap length c.requires.starts ∙ length-map tables word_count in
+    sym (length-map c.args.starts.now (λ words. length words.items)) ∙ ap length c.requires.starts ∙ length-map tables task_outputs in
     let here : table_view c.index-tasks-place.result.now ≡ get_or tables c.loop-place.place (table_view c.index-tasks-place.result.now) =
-    sym (get_or-map (λ task. table_view task.now) c.args.tasks.now c.loop-place.place c.index-tasks-place.result _ c.loop-place-test.true ∙ ap (λ task. table_view task.now) (sym c.index-tasks-place.is)) in
+    sym (get_or-map (λ task. table_view task.now) c.args.tasks.now c.loop-place.place c.index-tasks-place.result _ c.loop-place-test.true
+    ∙ ap (λ task. table_view task.now) (sym c.index-tasks-place.is)) in
     c.len.ensures.value
-    ∙ same_at (λ words. length words.items) word_count c.args.starts.now tables c.loop-place.place c.index-starts-place.result _
+    ∙ same_at (λ words. length words.items) task_outputs c.args.starts.now tables c.loop-place.place c.index-starts-place.result _
     c.requires.starts (rw as_many low) c.index-starts-place.is low here
 
 -- a task has none

@@ -37,7 +37,9 @@ tree_code-requires-clause-sound c =
     let names = c.requires.turns c.loop-task.task c.loop-task-test.true in
     let tree = subst (λ (roll : Roll). IsTreeOf roll (form_of c.index-forms-task.result) (tree_of c.in_ok-tree.tree)) turn c.in_ok-tree.ensures.tree in
     rw c.requires.words (sound_form (turn_of c.loop-task.task (roll_of c.args.names.now)) (form_of c.index-forms-task.result) _ names
-    (subst (λ (roll : Roll). roll.this < length roll.sizes) turn (has_words (let here : Names = record { sensors = c.loop-task.names.sensors; tasks = c.loop-task.names.tasks; this = c.loop-task.task } in here) (subst AreNames (sym turn) names))) c.requires.no_sensors tree)
+    (subst (λ (roll : Roll). roll.this < length roll.sizes) turn
+    (has_words (let here : Names = record { sensors = c.loop-task.names.sensors; tasks = c.loop-task.names.tasks; this = c.loop-task.task } in here)
+    (subst AreNames (sym turn) names))) c.requires.no_sensors tree)
 
 -- its code isn't allowed
 pub returns-in_err-code-clause-refused : goal.returns-in_err-code-clause-refused
@@ -70,6 +72,7 @@ loop-task-preserved c =
           (taken form_of c.args.forms.now c.loop-task.task _ c.loop-task-test.true c.index-forms-task.is)
           (subst (λ (roll : Roll). IsTreeOf roll (form_of c.index-forms-task.result) tree) turn c.in_ok-tree.ensures.tree)),
       rw new (allowed_more trees tree c.loop-task.invariant.4 (rw c.loop-task.invariant.5 at allowed)),
-      rw new (left_more trees tree c.loop-task.left c.bound-left.result c.loop-task.invariant.5 (rw c.in_ok-code.ensures.code at c.bound-left.ensures) allowed),
+      rw new (left_more trees tree c.loop-task.left c.bound-left.result _ c.loop-task.invariant.5 c.bound-left.ensures
+          c.in_ok-code.ensures.steps allowed),
       rw new (codes_more c.args.words trees tree _ _ _ c.loop-task.invariant.6 c.in_ok-push-2.ensures.items c.in_ok-code.ensures.code c.in_ok-code.ensures.means),
     )

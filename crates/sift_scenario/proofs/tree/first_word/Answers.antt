@@ -1,6 +1,6 @@
 use Rattle.std.proofs.Common.{◌+◌, map, take, refl, sym, ap, ◌∙◌, arith}
 use Rattle.std.proofs.lemmas.List.{length-map, take-map, take_all}
-use Rattle.sift_scenario.proofs.WordCounts.{within_all, words_before-more}
+use Rattle.sift_scenario.proofs.WordCounts.{within_all, sum_take-more}
 use Rattle.std.specs.List.{sum}
 use Rattle.sift_scenario.proofs.tree.first_word.Goals as goal
 
@@ -12,7 +12,7 @@ loop-task-init c = (refl, ap (take c.args.names.now.this) c.deref.ensures.value)
 pub overflow_add-words : goal.overflow_add-words
 overflow_add-words c =
     let items = take c.args.names.now.this c.deref.result.now in
-    let more = words_before-more (λ task. task.1) items c.loop-task.task-index c.task-item.result c.loop-task-test.true c.task-item.is in
+    let more = sum_take-more (λ task. task.1) items c.loop-task.task-index c.task-item.result c.loop-task-test.true c.task-item.is in
     let most = within_all (λ task. task.1) c.args.names.now.tasks.items c.args.names.now.this (c.loop-task.task-index + 1) in
     let some = rw c.loop-task.invariant.1 at more in
     let so = rw c.loop-task.invariant.1 at c.loop-task.invariant.0 in
@@ -22,7 +22,7 @@ overflow_add-words c =
 pub loop-task-preserved : goal.loop-task-preserved
 loop-task-preserved c =
     let items = take c.args.names.now.this c.deref.result.now in
-    let more = words_before-more (λ task. task.1) items c.loop-task.task-index c.task-item.result c.loop-task-test.true c.task-item.is in
+    let more = sum_take-more (λ task. task.1) items c.loop-task.task-index c.task-item.result c.loop-task-test.true c.task-item.is in
     (omega (arith, more, c.loop-task.invariant.0), c.loop-task.invariant.1)
 
 -- all tasks before this one were counted

@@ -16,5 +16,6 @@ returns-clause-follows c =
       doer_is = refl;
       may = λ others. (p.here, subst (λ (d : Conduct). MayEnter d × PassesGate (ranges_for p) d p.unit) (sym (here p others)) (c.requires.may, c.requires.gate));
       of = λ others i. put (core_beside p others).of p.unit (with_entered (here p others i));
-      words = λ others. (λ i. slice_set p.words.items p.unit ((here p others i).progress + 1)) ∙ (λ i. slice_set p.words.items (sym (c.from-2.ensures ∙ c.get.ensures.number) i) (sym number i));
+      words = λ others. (λ i. slice_set p.words.items p.unit ((here p others i).progress + 1))
+          ∙ (λ i. slice_set p.words.items (sym (c.from-2.ensures ∙ c.get.ensures.number) i) (sym number i));
     })

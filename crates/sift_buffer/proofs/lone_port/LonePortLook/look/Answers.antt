@@ -11,7 +11,8 @@ pub returns-clause-follows : goal.returns-clause-follows
 returns-clause-follows c =
     let p : LonePort = c.args.self.now in let other : ℕ = c.args.other in let n : ℕ = c.index-number.result.now in
     let low : other < length p.words.items = rw p.wide (let h = c.requires.0 in omega arith) in
-    let found : n ≡ slice_index p.words.items other = loaded p.words.items other c.from.result n (c.from.ensures ∙ c.get.ensures.number) low c.index-number.ensures in
+    let found : n ≡ slice_index p.words.items other =
+    loaded p.words.items other c.from.result n (c.from.ensures ∙ c.get.ensures.number) low c.index-number.ensures in
     follows_by p _ (with_seen (conduct_in p.acts) other n) (look p.unit other) refl refl c.note_seen.ensures.conduct (record {
       doer_is = refl;
       may = λ others. (p.here, c.requires);

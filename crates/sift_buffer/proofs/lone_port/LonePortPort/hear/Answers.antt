@@ -17,7 +17,8 @@ returns-clause-follows c =
     let low : at < length p.words.items = rw p.wide (subst (λ (n : ℕ). n < shared_words (ranges_for p)) c.place-place.ensures.place c.place-place.ensures.below) in
     let cell = loaded p.words.items at c.place-place.result c.index.result.now c.place-place.ensures.place low c.index.ensures in
     let found : w ≡ taken (slice_index p.words.items at) a.stamp = c.take-word.ensures.word ∙ ap (λ (n : ℕ). taken n a.stamp) cell in
-    follows_by p _ (with_heard (conduct_in p.acts) a.f a.slot a.from a.stamp w) (hear p.unit a.from a.slot a.f a.stamp) refl refl c.note_heard.ensures.conduct (record {
+    follows_by p _ (with_heard (conduct_in p.acts) a.f a.slot a.from a.stamp w) (hear p.unit a.from a.slot a.f a.stamp)
+    refl refl c.note_heard.ensures.conduct (record {
       doer_is = refl;
       may = λ others. (p.here, subst (λ (d : Conduct). MayHear (ranges_for p) d p.unit a.from a.slot a.f a.stamp) (sym (here p others)) c.requires);
       of = λ others i. put (core_beside p others).of p.unit (with_heard (here p others i) a.f a.slot a.from a.stamp (sym found i));

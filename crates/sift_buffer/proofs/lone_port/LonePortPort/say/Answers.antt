@@ -11,9 +11,16 @@ use Rattle.sift_buffer.proofs.lone_port.LonePortPort.say.Goals as goal
 pub returns-clause-follows : goal.returns-clause-follows
 returns-clause-follows c =
     let p : LonePort = c.args.self.now in let a = c.args in
-    follows_by p _ (with_said (conduct_in p.acts) a.f a.slot a.to a.stamp a.word) (say p.unit a.to a.slot a.f a.stamp a.word) refl refl c.note_said.ensures.conduct (record {
+    follows_by p _ (with_said (conduct_in p.acts) a.f a.slot a.to a.stamp a.word) (say p.unit a.to a.slot a.f a.stamp a.word)
+    refl refl c.note_said.ensures.conduct (record {
       doer_is = refl;
-      may = λ others. (p.here, (subst (λ (d : Conduct). MaySay (ranges_for p) d p.unit a.to a.slot a.f a.stamp) (sym (here p others)) c.requires, c.pack.ensures.small));
+      may = λ others. (
+        p.here,
+        (
+          subst (λ (d : Conduct). MaySay (ranges_for p) d p.unit a.to a.slot a.f a.stamp) (sym (here p others)) c.requires,
+          c.pack.ensures.small,
+        ),
+      );
       of = λ others i. put (core_beside p others).of p.unit (with_said (here p others i) a.f a.slot a.to a.stamp a.word);
       words = λ others i. slice_set p.words.items (sym c.place-place.ensures.place i) (sym c.pack.ensures.cell i);
     })
