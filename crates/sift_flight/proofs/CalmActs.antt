@@ -1,5 +1,5 @@
 -- What the boards of a calm mission said and heard, and that their core is lawful.
-use Rattle.std.proofs.Common.{◌≡◌, inl, inr, ℕ, ◌+◌, ◌-◌, ◌*◌, ◌/◌, ◌%◌, ◌<◌, ◌≤◌, slice_index, Bool, true, false, ◌&&◌, nat_eq, Option, None, Some, refl, sym, ap, ◌∙◌, subst, arith, lt-ltb, le-ltb, eqb-true}
+use Rattle.std.proofs.Common.{length, ◌≡◌, inl, inr, ℕ, ◌+◌, ◌-◌, ◌*◌, ◌/◌, ◌%◌, ◌<◌, ◌≤◌, slice_index, Bool, true, false, ◌&&◌, nat_eq, Option, None, Some, refl, sym, ap, ◌∙◌, subst, arith, lt-ltb, le-ltb, eqb-true}
 use Rattle.std.specs.List.{range_with_len}
 use Rattle.std.proofs.lemmas.Bool.{cases_Bool}
 use Rattle.std.proofs.lemmas.Nat.{div-mul-add}
@@ -7,7 +7,7 @@ use Rattle.std.proofs.Math.Nat.{mod-eq-sub-div-mul}
 use Rattle.std.proofs.lemmas.List.{length-map, get_or-map}
 use Rattle.std.proofs.lemmas.List.FromFn.{length-range_with_len, get_or-range_with_len}
 use Rattle.std.proofs.lemmas.Option.{cond_some}
-use Rattle.sift_base.specs.Layout.{slot_count}
+use Rattle.sift_base.specs.Layout.{slot_count, sensor_limit, word_limit}
 use Rattle.sift_base.specs.Word.{word_count}
 use Rattle.sift_buffer.specs.Cell.{IsWord}
 use Rattle.sift_buffer.specs.Ranges.{shared_words, place}
@@ -18,10 +18,12 @@ use Rattle.sift_flight.specs.Calm.{Calm, four_units, layout_of, due_in, heard_in
 use Rattle.sift_flight.proofs.Calls.{and_both}
 use Rattle.sift_flight.proofs.FrameActs.{frame_low}
 
--- what is asked of a calm mission: its frame is of a length that may be, its words are words, and its slots are heard in time
+-- what is asked of a calm mission: its frame is of a length that may be, its sensors and tasks are few, its words are words, and its slots are heard in time
 pub record IsPlain (c : Calm) : Type 0 where
   pub long : 12 ≤ c.period
   pub short : c.period ≤ 64
+  pub sensors : length c.sensed ≤ sensor_limit
+  pub tasks : length c.tasks ≤ word_limit
   pub words : (n : ℕ) → word_in c (c.kind n) < word_count
   pub timed : (n : ℕ) → (due_in c (c.kind n) + 2 ≤ heard_in c (c.kind n)) × (heard_in c (c.kind n) + 2 ≤ c.period)
 

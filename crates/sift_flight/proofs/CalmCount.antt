@@ -58,7 +58,7 @@ numbered = record {
     back (RelayReport s) e = four (λ s. count_kind ((mission_of count).number (RelayReport s)) ≡ RelayReport s) refl refl refl refl s e
 
 plain : IsPlain count
-plain = record { long = omega arith; short = omega arith; words = words; timed = timed }
+plain = record { long = omega arith; short = omega arith; sensors = omega arith; tasks = omega arith; words = words; timed = timed }
   where
     words : (n : ℕ) → word_in count (count_kind n) < word_count
     words zero = omega arith

@@ -70,7 +70,17 @@ module _ (c : Calm) where
       reported = λ us s config hs. omega arith;
     };
     read = read;
-    counted = record { units = four_are_below 8 (omega arith); task = λ w low. low; tasks = omega arith; period = plain.long; short = plain.short; frames = omega arith };
+    counted = record {
+      units = four_are_below 8 (omega arith);
+      task = λ w low. low;
+      tasks = omega arith;
+      words = omega arith;
+      few_words = plain.tasks;
+      sensors = plain.sensors;
+      period = plain.long;
+      short = plain.short;
+      frames = omega arith;
+    };
     executors = executors_run;
     config = four_are_config;
   }

@@ -52,7 +52,7 @@ numbered = record {
     back (RelayReport s) e = four (λ s. gauge_kind (number_of (RelayReport s)) ≡ RelayReport s) refl refl refl refl s e
 
 plain : IsPlain gauge
-plain = record { long = omega arith; short = omega arith; words = words; timed = timed }
+plain = record { long = omega arith; short = omega arith; sensors = omega arith; tasks = omega arith; words = words; timed = timed }
   where
     words : (n : ℕ) → word_in gauge (gauge_kind n) < word_count
     words zero = omega arith

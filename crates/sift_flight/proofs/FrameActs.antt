@@ -62,3 +62,8 @@ left_above m (Some from) d f h t e low short =
 pub hushed : (m : Mission) (storm : Option ℕ) (d : Acts) (f : ℕ) (k : Slot) (q : ℕ) → is_slot m k ≡ true → Turns m storm d → turned_by storm f ≡ true → d.said f (m.number k) q ≡ None
 hushed m None d f k q slot t e = absurd cc
 hushed m (Some from) d f k q slot t e = t.says_nothing f k q slot (late f from e)
+
+-- and hears nothing
+pub deafened : (m : Mission) (storm : Option ℕ) (d : Acts) (f : ℕ) (k : Slot) (p : ℕ) → is_slot m k ≡ true → Turns m storm d → turned_by storm f ≡ true → d.heard f (m.number k) p ≡ None
+deafened m None d f k p slot t e = absurd cc
+deafened m (Some from) d f k p slot t e = t.hears_nothing f k p slot (late f from e)

@@ -16,7 +16,7 @@ use Rattle.sift_flight.specs.Premises.{RunsProgram}
 use Rattle.sift_flight.specs.Headline.{agreed_at, Headline}
 use Rattle.sift_flight.proofs.Configs.{reader_in}
 use Rattle.sift_flight.proofs.Ideal.{IsStep, ideal_step}
-use Rattle.sift_flight.proofs.Working.{InFrame, Member, works_in, member_of, conduct_here}
+use Rattle.sift_flight.proofs.Working.{InFrame, Member, works_in, member_of, busy_here, conduct_here}
 use Rattle.sift_flight.proofs.Agreeing.{sensor_own, sensor_same, report_own, report_same}
 use Rattle.sift_flight.proofs.Timing.{skew_within, slack_positive}
 use Rattle.sift_flight.proofs.Voting.{output_is}
@@ -72,7 +72,11 @@ module _ (m : Mission) (program : ProgramTree) (strays : Strays) (fl : Flight) (
   headline_by at_next =
       let member : (u : ℕ) → Works m u f → Member m f us u = λ u w. member_of m strays fl f us here u w in
       record {
-        same_configuration = here.share;
+        same_configuration = record {
+          same = λ u w. (here.share u w).0;
+          member = λ u w. (here.share u w).1;
+          busy = λ u w. busy_here m strays fl f us here u (member u w);
+        };
         same_inputs = record {
           same = λ u w. inputs u (member u w);
           sensed = λ x low w. sensor_own m strays fl f us here x low (record { member = reader_in us x (omega (arith, here.config.enough)); works = w }) (lead_of m f) lead_here;

@@ -2,6 +2,7 @@
 use Rattle.std.proofs.Common.{◌≡◌, inl, inr, ℕ, [], ◌++◌, map, length, slice_index, true, Some, ℤ, pos, refl, sym, ap, ◌∙◌, arith}
 use Rattle.std.proofs.lemmas.Int.{ints}
 use Rattle.std.proofs.lemmas.Option.{same_Some, none-some}
+use Rattle.sift_base.specs.declared.slot.Slot.TheVariants.{Report}
 use Rattle.std.specs.FinSet as set
 use Rattle.sift_base.specs.Units.{has}
 use Rattle.sift_buffer.specs.Cell.{taken, packed}
@@ -48,6 +49,7 @@ hearing_rows = record {
   no_stray = none;
   round = calm_round count count_flies 0 (omega arith);
   not_round = λ r. let e : 17 ≡ 16 = ((r.conduct 2 (fly 2 refl)).busy refl).conduct.tasks.votes 0 (omega arith) in omega (arith, e);
+  not_silent = λ r. none-some 0 (sym ((r.turned 3 refl refl).said Report 0));
 }
   where
     taken_is : Some 7 ≡ taken (packed 5 (Some 7)) 5
@@ -107,7 +109,7 @@ headline_rows : HeadlineRows
 headline_rows = record {
   count_stands = calm_headline count count_flies;
   gauge_stands = calm_headline gauge gauge_flies;
-  configuration = λ h. let e = ap length (h 2 (work count 2 refl)).0 in omega (arith, e);
+  configuration = λ h. let e = ap length (h.same 2 (work count 2 refl)) in omega (arith, e);
   inputs = λ h. let e = ap (λ ws. slice_index ws 0) (h.same 2 (work gauge 2 refl)) in omega (arith, e);
   reports = λ h. let e : 4 ≡ 0 = h.own 1 0 (work count 1 refl) (work count 0 refl) ∙ no_report in omega (arith, e);
   outputs = λ h. let e = ap (λ ws. slice_index ws 0) (h 2 (work count 2 refl)) in omega (arith, e);

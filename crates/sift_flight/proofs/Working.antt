@@ -1,5 +1,5 @@
 -- One frame of a round flight whose working units share a configuration with margin: what they say to each other they hear.
-use Rattle.std.proofs.Common.{◌≡◌, ◌≢◌, ℕ, ◌<◌, List, true, not, ◌&&◌, nat_eq, Option, refl, sym, ap, ◌∙◌, subst, lt-ltb, eq-eqb, ne_eqb}
+use Rattle.std.proofs.Common.{false, ◌≡◌, ◌≢◌, ℕ, ◌<◌, List, true, not, ◌&&◌, nat_eq, Option, refl, sym, ap, ◌∙◌, subst, lt-ltb, eq-eqb, ne_eqb}
 use Rattle.sift_base.specs.Units.{has}
 use Rattle.sift_base.specs.Margin.{HasMargin}
 use Rattle.sift_base.specs.declared.slot.Slot.{Slot}
@@ -9,7 +9,7 @@ use Rattle.sift_skew.specs.Keeping.{AreTogether}
 use Rattle.sift_unit.specs.Mission.{Mission}
 use Rattle.sift_unit.specs.Slots.{calls}
 use Rattle.sift_unit.specs.Conduct.{own_word, said_of, Conduct}
-use Rattle.sift_unit.specs.Frames.{last_of, Flies}
+use Rattle.sift_unit.specs.Frames.{last_of, BusyConduct, Flies}
 use Rattle.sift_unit.specs.Acts.{IsConfigOf}
 use Rattle.sift_flight.specs.Flight.{Flight, config_of}
 use Rattle.sift_flight.specs.Hearing.{Strays}
@@ -46,12 +46,18 @@ module _ (m : Mission) (strays : Strays) (fl : Flight) (f : ℕ) (us : List ℕ)
   config_here : (u : ℕ) → Member m f us u → config_of fl u f ≡ us
   config_here u w = (here.share u (works_in u w)).0
 
-  -- what it does
-  pub conduct_here : (u : ℕ) → Member m f us u → Conduct m us u f (fl.account u f) (fl.heard u f) (last_of m (fl.account u) f)
-  conduct_here u w =
+  -- what it does, and that it isn't idle
+  busy_conduct : (u : ℕ) → Member m f us u → BusyConduct m us u f (fl.account u f) (fl.heard u f) (last_of m (fl.account u) f)
+  busy_conduct u w =
       let e = config_here u w in
-      subst (λ c. Conduct m c u f (fl.account u f) (fl.heard u f) (last_of m (fl.account u) f)) e
-      ((here.round.conduct u (flies u w)).busy (subst (λ c. has c u ≡ true) (sym e) w.member)).conduct
+      subst (λ c. BusyConduct m c u f (fl.account u f) (fl.heard u f) (last_of m (fl.account u) f)) e
+      ((here.round.conduct u (flies u w)).busy (subst (λ c. has c u ≡ true) (sym e) w.member))
+
+  pub conduct_here : (u : ℕ) → Member m f us u → Conduct m us u f (fl.account u f) (fl.heard u f) (last_of m (fl.account u) f)
+  conduct_here u w = (busy_conduct u w).conduct
+
+  pub busy_here : (u : ℕ) → Member m f us u → (fl.account u f).idle ≡ false
+  busy_here u w = (busy_conduct u w).busy
 
   abbrev pub word : ℕ → Slot → Option ℕ
   word u k = own_word m us f (fl.account u f) (fl.heard u f) (last_of m (fl.account u) f) k

@@ -23,9 +23,11 @@ use Rattle.sift_flight.specs.Premises.{IsFlyable, RunsProgram}
 abbrev pub agreed_at : Mission → Flight → ℕ → List ℕ
 agreed_at m fl f = (fl.account (lead_of m f) f).ins
 
--- same configuration: each working unit has the configuration at the frame, and is in it
-abbrev pub SameConfiguration : Mission → Flight → ℕ → Type 0
-SameConfiguration m fl f = (u : ℕ) → Works m u f → (config_of fl u f ≡ config_at m fl f) × (has (config_at m fl f) u ≡ true)
+-- same configuration: each working unit has the configuration at the frame, is in it, and so isn't idle
+pub record SameConfiguration (m : Mission) (fl : Flight) (f : ℕ) : Type 0 where
+  pub same : (u : ℕ) → Works m u f → config_of fl u f ≡ config_at m fl f
+  pub member : (u : ℕ) → Works m u f → has (config_at m fl f) u ≡ true
+  pub busy : (u : ℕ) → Works m u f → (fl.account u f).idle ≡ false
 
 -- same inputs: all working units have the same agreed words, and the word of a sensor that a working unit reads is the mission's
 pub record SameInputs (m : Mission) (fl : Flight) (f : ℕ) : Type 0 where

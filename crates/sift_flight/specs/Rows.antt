@@ -1,5 +1,5 @@
 -- Rows of the definitions of flights: for each of them, one that it accepts and one that it refuses.
-use Rattle.std.specs.Prelude.{◌≡◌, ℕ, List, [], ◌∷◌, Bool, true, not, ◌&&◌, nat_eq, nat_lt, if◌then◌else◌, Some, pos}
+use Rattle.std.specs.Prelude.{None, ◌≡◌, ℕ, List, [], ◌∷◌, Bool, true, not, ◌&&◌, nat_eq, nat_lt, if◌then◌else◌, Some, pos}
 use Rattle.std.specs.FinSet as set
 use Rattle.sift_base.specs.Units.{has}
 use Rattle.sift_base.specs.Margin.{HasMargin}
@@ -65,6 +65,8 @@ pub record HearingRows : Type 0 where
   pub round : RoundAt (mission_of count) no_strays (calm_flight count) 0
   -- unit 2 votes 17
   pub not_round : ¬ RoundAt (mission_of count) no_strays (with_account (calm_flight count) 2 (record (account_of count) { outs = 17 ∷ [] })) 0
+  -- unit 3 has turned, and yet says its words
+  pub not_silent : ¬ RoundAt (record (mission_of count) { storm = λ u. if nat_eq u 3 then Some 0 else None }) no_strays (calm_flight count) 0
 
 pub record ConfigurationRows : Type 0 where
   -- all name unit 0 of five; and units 0 and 1, without which three would be left

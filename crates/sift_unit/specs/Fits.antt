@@ -1,6 +1,7 @@
 -- What tables, layout, program and limits give of a mission: premises that hold of every mission that the code makes.
 use Rattle.std.specs.Prelude.{◌≡◌, ℕ, ◌+◌, ◌<◌, ◌≤◌, List, length, slice_index, Bool, true, false}
 use Rattle.sift_base.specs.Units.{has, unit_limit}
+use Rattle.sift_base.specs.Layout.{sensor_limit, word_limit}
 use Rattle.sift_base.specs.declared.slot.Slot.{Slot}
 use Rattle.sift_base.specs.declared.slot.Slot.TheVariants.{Clock, Sense, RelaySense, Out, Report, RelayReport}
 use Rattle.sift_unit.specs.Mission.{Mission}
@@ -50,11 +51,14 @@ pub record IsRead (m : Mission) : Type 0 where
   pub earlier : (w v : ℕ) → w < m.words → v < m.words → m.needs w v ≡ true → v < w
   pub polled : (us : List ℕ) (w v : ℕ) → IsConfigOf m us → w < m.words → v < m.words → m.needs w v ≡ true → m.heard_in us (Out v) ≤ m.due us (Out w)
 
--- tasks and words are counted within the limits
+-- units, tasks, words, sensors and frames are counted within the limits
 pub record IsCounted (m : Mission) : Type 0 where
   pub units : (u : ℕ) → has m.units u ≡ true → u < unit_limit
   pub task : (w : ℕ) → w < m.words → m.task w < m.tasks
   pub tasks : m.tasks ≤ m.words
+  pub words : m.words ≤ m.slots
+  pub few_words : m.words ≤ word_limit
+  pub sensors : m.sensors ≤ sensor_limit
   pub period : 12 ≤ m.period
   pub short : m.period ≤ 64
   pub frames : m.frames ≤ 1000
