@@ -7,14 +7,17 @@ use Rattle.sift_base.specs.Units.{Units, holds, has_bit, bits_of}
 abbrev digit : Bool → ℕ
 digit b = cond b 1 0
 
+-- it is at most 1
 digit_low : (b : Bool) → digit b ≤ 1
 digit_low true = omega arith
 digit_low false = omega arith
 
+-- and tells the test
 digit_is : (b : Bool) → (digit b == 1) ≡ b
 digit_is true = refl
 digit_is false = refl
 
+-- a power of two where a test passes is so many times the digit
 weighed : (b : Bool) (n : ℕ) → (if b then n else 0) ≡ n * digit b
 weighed true n = omega arith
 weighed false n = omega arith
@@ -23,9 +26,11 @@ weighed false n = omega arith
 abbrev byte : (ℕ → Bool) → ℕ
 byte p = digit (p 0) + 2 * digit (p 1) + 4 * digit (p 2) + 8 * digit (p 3) + 16 * digit (p 4) + 32 * digit (p 5) + 64 * digit (p 6) + 128 * digit (p 7)
 
+-- each of eight digits is at most 1
 all_low : (p : ℕ → Bool) → (digit (p 0) ≤ 1) × (digit (p 1) ≤ 1) × (digit (p 2) ≤ 1) × (digit (p 3) ≤ 1) × (digit (p 4) ≤ 1) × (digit (p 5) ≤ 1) × (digit (p 6) ≤ 1) × (digit (p 7) ≤ 1)
 all_low p = (digit_low (p 0), digit_low (p 1), digit_low (p 2), digit_low (p 3), digit_low (p 4), digit_low (p 5), digit_low (p 6), digit_low (p 7))
 
+-- the byte of a set is made of its tests
 bits_are : (units : Units) → bits_of units ≡ byte (holds units)
 unfolding bits_of
 bits_are units = omega (
@@ -40,6 +45,7 @@ bits_are units = omega (
   weighed (holds units 7) 128,
 )
 
+-- a bit of the byte is the digit at its place
 bit_of : (p : ℕ → Bool) (u : ℕ) → u < 8 → bit_at (byte p) u ≡ digit (p u)
 bit_of p zero h = omega (arith, all_low p)
 bit_of p (suc zero) h = omega (arith, all_low p)

@@ -26,6 +26,7 @@ pub record Call (m : Mission) (us : List ℕ) (k : Slot) (p q : ℕ) : Type 0 wh
   pub other : p ≢ q
   pub sender : is_senders m us k p q ≡ true
 
+-- what the test of a call says
 pub call_of : (m : Mission) (us : List ℕ) (k : Slot) (p q : ℕ) → calls m us k p q ≡ true → Call m us k p q
 call_of m us k p q t =
     let s = and_both (is_slot m k) (has us p && (has us q && (not (nat_eq p q) && is_senders m us k p q))) t in
@@ -34,5 +35,6 @@ call_of m us k p q t =
     let c = and_both (not (nat_eq p q)) (is_senders m us k p q) b.1 in
     record { slot = s.0; from = a.0; to = b.0; other = told_apart p q c.0; sender = c.1 }
 
+-- and what makes it pass
 pub call_is : (m : Mission) (us : List ℕ) (k : Slot) (p q : ℕ) → Call m us k p q → calls m us k p q ≡ true
 call_is m us k p q c = both _ _ c.slot (both _ _ c.from (both _ _ c.to (both _ _ (ap not (ne_eqb p q c.other)) c.sender)))

@@ -27,11 +27,13 @@ use Rattle.sift_flight.specs.Calms.{count_task, count_kind, count}
 one_word : (P : ℕ → Type 0) → P 0 → (w : ℕ) → w < 1 → P w
 one_word P p w low = let e : 0 ≡ w = omega arith in subst P e p
 
+-- there is no sensor
 no_sensor : {X : Type 0} (x : ℕ) → x < 0 → X
 no_sensor x low = absurd (omega arith)
 
 -- ---- the layout
 
+-- each of the seven slots has its number
 numbered : IsNumbered (mission_of count)
 numbered = record {
   few = omega arith;
@@ -57,6 +59,7 @@ numbered = record {
     back Report e = refl
     back (RelayReport s) e = four (λ s. count_kind ((mission_of count).number (RelayReport s)) ≡ RelayReport s) refl refl refl refl s e
 
+-- its figures are those of a small mission
 plain : IsPlain count
 plain = record { long = omega arith; short = omega arith; sensors = omega arith; tasks = omega arith; words = words; timed = timed }
   where
@@ -72,6 +75,7 @@ plain = record { long = omega arith; short = omega arith; sensors = omega arith;
     timed (suc (suc zero)) = (omega arith, omega arith)
     timed (suc (suc (suc s))) = (omega arith, omega arith)
 
+-- its tables fit
 fits : Fits (mission_of count)
 fits = fits_by count plain numbered
     (record {
@@ -86,9 +90,16 @@ fits = fits_by count plain numbered
 
 -- ---- the program
 
+-- the task is sound
 sound_task : IsSound 0 1 count_task
-sound_task = record { some_output = omega arith; few_outputs = omega arith; few_repeats = omega arith; sound_body = ((record { names = ((tt, omega arith), tt); needs = omega arith }, omega arith), tt) }
+sound_task = record {
+  some_output = omega arith;
+  few_outputs = omega arith;
+  few_repeats = omega arith;
+  sound_body = ((record { names = ((tt, omega arith), tt); needs = omega arith }, omega arith), tt);
+}
 
+-- the mission runs the program
 runs : RunsProgram (mission_of count) (program_of count)
 runs = record {
   sound = record {
@@ -117,6 +128,7 @@ runs = record {
 
 -- ---- the frame
 
+-- each unit makes 16
 made_is : (w : ℕ) → w < 1 → made (mission_of count) (account_of count) (5 ∷ []) w ≡ slice_index (16 ∷ []) w
 made_is w low = one_word (λ w. made (mission_of count) (account_of count) (5 ∷ []) w ≡ slice_index (16 ∷ []) w) refl w low
 
@@ -124,9 +136,11 @@ made_is w low = one_word (λ w. made (mission_of count) (account_of count) (5 �
 abbrev voted : ℕ → ℕ → ℕ
 voted u w = agreed_of (map (place count u w) (executors (mission_of count) four_units w))
 
+-- what a unit votes, where it votes 16
 votes : (u : ℕ) → 16 ≡ voted u 0 → (w : ℕ) → w < 1 → slice_index (16 ∷ []) w ≡ voted u w
 votes u e w low = one_word (λ w. slice_index (16 ∷ []) w ≡ voted u w) e w low
 
+-- the figures of each unit
 figures : (u : ℕ) → has four_units u ≡ true → HasFigures count u
 figures u hu = four (λ u. HasFigures count u)
     (record { ins = λ x low. no_sensor x low; votes = votes 0 refl; polls = refl; relays = refl; clocks = refl; cfg = refl; clk = refl })
@@ -135,6 +149,7 @@ figures u hu = four (λ u. HasFigures count u)
     (record { ins = λ x low. no_sensor x low; votes = votes 3 refl; polls = refl; relays = refl; clocks = refl; cfg = refl; clk = refl })
     u hu
 
+-- so each unit does what it ought to
 calm : IsCalm count
 calm = record {
   plain = plain;
@@ -144,5 +159,6 @@ calm = record {
   own = own_words count made_is;
 }
 
+-- and the mission flies
 pub count_flies : FliesCalmly count
 count_flies = record { flyable = flyable_by count fits; runs = runs; landed = calm_landed count calm; margin = has_margin count }

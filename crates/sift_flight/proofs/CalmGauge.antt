@@ -26,6 +26,7 @@ use Rattle.sift_flight.proofs.GaugeProgram.{one, two, runs}
 abbrev number_of : Slot → ℕ
 number_of k = (mission_of gauge).number k
 
+-- each of the ten slots has its number
 numbered : IsNumbered (mission_of gauge)
 numbered = record {
   few = omega arith;
@@ -51,6 +52,7 @@ numbered = record {
     back Report e = refl
     back (RelayReport s) e = four (λ s. gauge_kind (number_of (RelayReport s)) ≡ RelayReport s) refl refl refl refl s e
 
+-- its figures are those of a small mission
 plain : IsPlain gauge
 plain = record { long = omega arith; short = omega arith; sensors = omega arith; tasks = omega arith; words = words; timed = timed }
   where
@@ -79,6 +81,7 @@ needed w v t = let b = and_both (nat_eq w 1) (nat_eq v 0) t in (eqb-true w 1 b.0
 abbrev runs_at : ℕ → ℕ
 runs_at w = slice_index (4 ∷ 6 ∷ []) w
 
+-- its tables fit
 fits : Fits (mission_of gauge)
 fits = fits_by gauge plain numbered
     (record { late = λ w low. two (λ w. 4 ≤ runs_at w) (omega arith) (omega arith) w low; early = λ w low. two (λ w. runs_at w + 8 ≤ 14) (omega arith) (omega arith) w low })
@@ -99,6 +102,7 @@ fits = fits_by gauge plain numbered
 abbrev outs : List ℕ
 outs = 8 ∷ 25 ∷ []
 
+-- each unit makes 8 and 25
 made_is : (w : ℕ) → w < 2 → made (mission_of gauge) (account_of gauge) (5 ∷ 9 ∷ []) w ≡ slice_index outs w
 made_is w low = two (λ w. made (mission_of gauge) (account_of gauge) (5 ∷ 9 ∷ []) w ≡ slice_index outs w) refl refl w low
 
@@ -109,12 +113,15 @@ voted u w = agreed_of (map (place gauge u w) (executors (mission_of gauge) four_
 abbrev read : ℕ → ℕ → ℕ
 read u x = input_of (mission_of gauge) four_units u 0 (heard_by gauge u) x
 
+-- what a unit takes for the sensor, where it takes 7
 inputs : (u : ℕ) → 7 ≡ read u 0 → (x : ℕ) → x < 1 → slice_index (7 ∷ []) x ≡ read u x
 inputs u e x low = one (λ x. slice_index (7 ∷ []) x ≡ read u x) e x low
 
+-- what a unit votes, where it votes 8 and 25
 votes : (u : ℕ) → 8 ≡ voted u 0 → 25 ≡ voted u 1 → (w : ℕ) → w < 2 → slice_index outs w ≡ voted u w
 votes u e d w low = two (λ w. slice_index outs w ≡ voted u w) e d w low
 
+-- the figures of each unit
 figures : (u : ℕ) → has four_units u ≡ true → HasFigures gauge u
 figures u hu = four (λ u. HasFigures gauge u)
     (record { ins = inputs 0 refl; votes = votes 0 refl refl; polls = refl; relays = refl; clocks = refl; cfg = refl; clk = refl })
@@ -123,6 +130,7 @@ figures u hu = four (λ u. HasFigures gauge u)
     (record { ins = inputs 3 refl; votes = votes 3 refl refl; polls = refl; relays = refl; clocks = refl; cfg = refl; clk = refl })
     u hu
 
+-- so each unit does what it ought to
 calm : IsCalm gauge
 calm = record {
   plain = plain;
@@ -132,5 +140,6 @@ calm = record {
   own = own_words gauge made_is;
 }
 
+-- and the mission flies
 pub gauge_flies : FliesCalmly gauge
 gauge_flies = record { flyable = flyable_by gauge fits; runs = runs; landed = calm_landed gauge calm; margin = has_margin gauge }

@@ -16,6 +16,7 @@ use Rattle.sift_unit.specs.Acts.{Turns, word_in_hearing, stamp_and_moment}
 frame_after : (f d n : ℕ) → f * n + n ≤ (f + suc d) * n
 frame_after f d n = grind (arith)
 
+-- the same, for any later frame
 pub frame_low : (n f g : ℕ) → f < g → f * n + n ≤ g * n
 frame_low n f g low = let e : f + suc (g - suc f) ≡ g = omega arith in subst (λ (z : ℕ). f * n + n ≤ z * n) e (frame_after f (g - suc f) n)
 
@@ -39,6 +40,7 @@ pub heard_is : (x : Option Hearing) (s h : ℕ) → option_map stamp_and_moment 
 heard_is None s h e = absurd (none-some (s, h) e)
 heard_is (Some x) s h e = ap (λ (t : ℕ × ℕ). Some (hearing t.0 t.1 x.word)) (same_Some (x.stamp, x.at) (s, h) e)
 
+-- no act has no word
 pub heard_none : (x : Option Hearing) → option_map stamp_and_moment x ≡ None → word_in_hearing x ≡ None
 heard_none None e = refl
 heard_none (Some x) e = absurd (none-some (x.stamp, x.at) (sym e))
@@ -47,6 +49,7 @@ heard_none (Some x) e = absurd (none-some (x.stamp, x.at) (sym e))
 early : (f from : ℕ) → turned_by (Some from) f ≡ false → f < from
 early f from e = elim (cases_Bool (nat_lt f from)) [ inl z ↦ ltb-true f from z | inr z ↦ absurd (let w = rw z at e in cc) ]
 
+-- and one that has turned by a frame turns then or before
 late : (f from : ℕ) → turned_by (Some from) f ≡ true → from ≤ f
 late f from e = elim (cases_Bool (nat_lt f from)) [ inl z ↦ absurd (let w = rw z at e in cc) | inr z ↦ ltb-false f from z ]
 
@@ -59,11 +62,13 @@ left_above m (Some from) d f h t e low short =
     ⊎_elim (λ z. omega (arith, z.0)) (λ (z : d.left ≡ from * m.period - 1). omega arith) t.left
 
 -- a unit that has turned by a frame says nothing in it
-pub hushed : (m : Mission) (storm : Option ℕ) (d : Acts) (f : ℕ) (k : Slot) (q : ℕ) → is_slot m k ≡ true → Turns m storm d → turned_by storm f ≡ true → d.said f (m.number k) q ≡ None
+pub hushed : (m : Mission) (storm : Option ℕ) (d : Acts) (f : ℕ) (k : Slot) (q : ℕ)
+    → is_slot m k ≡ true → Turns m storm d → turned_by storm f ≡ true → d.said f (m.number k) q ≡ None
 hushed m None d f k q slot t e = absurd cc
 hushed m (Some from) d f k q slot t e = t.says_nothing f k q slot (late f from e)
 
 -- and hears nothing
-pub deafened : (m : Mission) (storm : Option ℕ) (d : Acts) (f : ℕ) (k : Slot) (p : ℕ) → is_slot m k ≡ true → Turns m storm d → turned_by storm f ≡ true → d.heard f (m.number k) p ≡ None
+pub deafened : (m : Mission) (storm : Option ℕ) (d : Acts) (f : ℕ) (k : Slot) (p : ℕ)
+    → is_slot m k ≡ true → Turns m storm d → turned_by storm f ≡ true → d.heard f (m.number k) p ≡ None
 deafened m None d f k p slot t e = absurd cc
 deafened m (Some from) d f k p slot t e = t.hears_nothing f k p slot (late f from e)

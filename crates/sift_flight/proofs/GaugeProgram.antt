@@ -22,16 +22,29 @@ two P p q (suc (suc w)) low = absurd (omega arith)
 abbrev tasks : List TaskTree
 tasks = reading_task ∷ adding_task ∷ []
 
+-- the tasks are sound
 sound_reading : IsSound 1 2 reading_task
-sound_reading = record { some_output = omega arith; few_outputs = omega arith; few_repeats = omega arith; sound_body = ((record { names = (omega arith, tt); needs = omega arith }, omega arith), tt) }
+sound_reading = record {
+  some_output = omega arith;
+  few_outputs = omega arith;
+  few_repeats = omega arith;
+  sound_body = ((record { names = (omega arith, tt); needs = omega arith }, omega arith), tt);
+}
 
+-- the second reads a word of the first
 sound_adding : IsSound 1 2 adding_task
-sound_adding = record { some_output = omega arith; few_outputs = omega arith; few_repeats = omega arith; sound_body = ((record { names = ((tt, omega arith), omega arith); needs = omega arith }, omega arith), tt) }
+sound_adding = record {
+  some_output = omega arith;
+  few_outputs = omega arith;
+  few_repeats = omega arith;
+  sound_body = ((record { names = ((tt, omega arith), omega arith); needs = omega arith }, omega arith), tt);
+}
 
 -- a task makes a word of the mission
 abbrev Makes : ℕ → ℕ → List ℕ → List ℕ → List ℕ → TaskTree → Type 0
 Makes first i ins now last task = i < task.outputs → (mission_of gauge).word (first + i) ins now last ≡ slice_index (meaning task ins now last) i
 
+-- the mission runs the program
 pub runs : RunsProgram (mission_of gauge) (program_of gauge)
 runs = record {
   sound = record {

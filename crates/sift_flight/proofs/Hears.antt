@@ -138,6 +138,7 @@ module _ (m : Mission) (r : Ranges) (c : Core) (accounts : ℕ → ℕ → Accou
               let o' : x.stamp ≡ stamp = omega arith in
               (from_sayings before).same f x.word (e ∙ ap (λ (z : ℕ). Some (saying z x.word)) o') (between due)
 
+-- both cases together
 pub units_hear_by_the_equations : UnitsHearByTheEquations
 units_hear_by_the_equations m r c accounts n f fits landed low q k p flies = record {
   called = λ t. record {

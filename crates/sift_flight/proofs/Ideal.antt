@@ -25,6 +25,7 @@ record Place (tasks : List TaskTree) (w : ℕ) : Type 0 where
   low : i < task.outputs
   is : first_word tasks t + i ≡ w
 
+-- each word has its place
 place_of : (tasks : List TaskTree) (w : ℕ) → w < output_count tasks → Place tasks w
 place_of [] w below = absurd (omega arith)
 place_of (task ∷ tasks) w below =
@@ -38,6 +39,7 @@ place_of (task ∷ tasks) w below =
     record { t = suc p.t; i = p.i; task = p.task; at = p.at; low = p.low; is = omega arith })
     (cases_lt w task.outputs)
 
+-- so a frame of the ideal machine is a step
 pub ideal_step : (m : Mission) (program : ProgramTree) (ins last : List ℕ) → RunsProgram m program → IsStep m ins last (ideal_frame program last ins)
 ideal_step m program ins last runs =
     let outs : List ℕ = ideal_frame program last ins in

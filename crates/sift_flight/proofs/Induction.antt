@@ -103,6 +103,7 @@ module _ (m : Mission) (program : ProgramTree) (strays : Strays) (fl : Flight) (
   stands zero low margin = first_stands low margin
   stands (suc f) low margin = next_stands f (omega arith) (stands f (omega arith) (λ g h. margin g (omega arith))) low margin
 
+-- so it holds of each frame with margin
 pub headline_holds : HeadlineHolds
 headline_holds m program strays fl flyable runs round f low margin =
     let s = stands m program strays fl flyable runs round f low margin in

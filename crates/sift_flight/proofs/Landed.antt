@@ -7,6 +7,7 @@ use Rattle.sift_flight.specs.Landing.{LandedFramesAreRound}
 use Rattle.sift_flight.proofs.FrameActs.{hushed, deafened}
 use Rattle.sift_flight.proofs.Hears.{units_hear_by_the_equations}
 
+-- boards give the conduct, the law of hearing the rest; and who has turned has no acts
 pub landed_frames_are_round : LandedFramesAreRound
 landed_frames_are_round m r c accounts n f fits landed low = record {
   hearing = λ q k p flies. units_hear_by_the_equations m r c accounts n f fits landed low q k p flies;

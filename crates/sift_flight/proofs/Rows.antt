@@ -31,15 +31,19 @@ use Rattle.sift_flight.proofs.Landed.{landed_frames_are_round}
 calm_round : (c : Calm) → FliesCalmly c → IsRound (mission_of c) no_strays (calm_flight c)
 calm_round c flies f low = landed_frames_are_round (mission_of c) (ranges_of c) (core_of c) (λ u f. account_of c) 1 f flies.flyable.fits flies.landed low
 
+-- so their frame has all that the headline says
 calm_headline : (c : Calm) → FliesCalmly c → Headline (mission_of c) (program_of c) (calm_flight c) 0
 calm_headline c flies = headline_holds (mission_of c) (program_of c) no_strays (calm_flight c) flies.flyable flies.runs (calm_round c flies) 0 (omega arith) flies.margin
 
+-- the four fly
 fly : (u : ℕ) → has four_units u ≡ true → Flies (mission_of count) u 0
 fly u hu = record { unit = hu; whole = refl }
 
+-- and work
 work : (c : Calm) (u : ℕ) → has four_units u ≡ true → Works (mission_of c) u 0
 work c u hu = record { unit = hu; works = refl }
 
+-- computed at the literals of each row
 hearing_rows : HearingRows
 unfolding taken
 hearing_rows = record {
@@ -65,27 +69,33 @@ hearing_rows = record {
 abbrev clk : ℕ → ℤ
 clk u = ((calm_flight count).account u 0).clk
 
+-- an offset that stands there is 0
 offset_is : (z : ℤ) → Contains (map clk four_units) z → z ≡ pos 0
 offset_is z among = (Contains-map clk four_units z among).2
 
+-- and so of this frame and the next
 either_is : (z : ℤ) → Contains (map clk four_units ++ map clk four_units) z → z ≡ pos 0
 either_is z among = elim (Contains-append_cases (map clk four_units) (map clk four_units) z among) [ inl a ↦ offset_is z a | inr a ↦ offset_is z a ]
 
+-- and 0 stands there
 first_offset : Contains (map clk four_units) (pos 0)
 first_offset = (0, omega arith, refl)
 
+-- so the skew is 0
 skew_is : IsSkewAt (mission_of count) (calm_flight count) 0 (pos 0)
 skew_is = record {
   attained = (pos 0, pos 0, first_offset, first_offset, refl);
   largest = λ p q hp hq. let a = offset_is p hp in let b = offset_is q hq in omega (arith, ints, a, b);
 }
 
+-- and the slack is 1
 slack_is : IsSlackAt (mission_of count) (calm_flight count) 0 (pos 1)
 slack_is = record {
   attained = (pos 0, pos 0, first_offset, (0, omega arith, refl), refl);
   least = λ p q hp hq. let a = offset_is p hp in let b = either_is q hq in omega (arith, ints, a, b);
 }
 
+-- again by computing
 configuration_rows : ConfigurationRows
 configuration_rows = record {
   four_left = refl;

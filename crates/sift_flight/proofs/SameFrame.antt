@@ -90,7 +90,8 @@ module _ (m : Mission) (strays strays' : Strays) (fl gl : Flight) (f : ℕ) (b :
   heard_report = hear m strays strays' fl gl f b Report (say m strays strays' fl gl f b Report (λ u q hu t. ap (λ (c : Catches). Some (bits_of (everyone_in c))) (bad_same u hu)))
 
   heard_relayed : (s : ℕ) → HearAlike m fl gl f (RelayReport s)
-  heard_relayed s = hear m strays strays' fl gl f b (RelayReport s) (say m strays strays' fl gl f b (RelayReport s) (λ u q hu t. ap (λ (h : ℕ → Option ℕ). h s) (alike Report heard_report u hu)))
+  heard_relayed s = hear m strays strays' fl gl f b (RelayReport s)
+      (say m strays strays' fl gl f b (RelayReport s) (λ u q hu t. ap (λ (h : ℕ → Option ℕ). h s) (alike Report heard_report u hu)))
 
   report_same : (u : ℕ) → has m.units u ≡ true → (r : ℕ) → report_of (us u) u (fl.account u f) (fl.heard u f) r ≡ report_of (us u) u (gl.account u f) (gl.heard u f) r
   report_same u hu r = λ i. if nat_eq r u then bits_of (everyone_in (bad_same u hu i)) else agreed_of (taken (us u) r u

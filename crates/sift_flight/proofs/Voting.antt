@@ -67,7 +67,8 @@ module _ (m : Mission) (strays : Strays) (fl : Flight) (f : ℕ) (us : List ℕ)
       ∙ ((λ i. m.word w (same_ins u wu i) outs (same_last u wu i)) ∙ sym (step.makes w low))
 
   -- and each working executor's place has it
-  place_is : (w : ℕ) → w < m.words → Earlier w → (u : ℕ) → Member m f us u → (v : ℕ) → has (executors m us w) v ≡ true → m.works v f ≡ true → place u w v ≡ Some (slice_index outs w)
+  place_is : (w : ℕ) → w < m.words → Earlier w → (u : ℕ) → Member m f us u → (v : ℕ)
+      → has (executors m us w) v ≡ true → m.works v f ≡ true → place u w v ≡ Some (slice_index outs w)
   place_is w low earlier u wu v hv wv =
       let t = filter_has (m.executes us w) us v hv in
       let v' : Member m f us v = record { member = t.1; works = wv } in

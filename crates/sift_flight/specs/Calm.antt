@@ -38,6 +38,7 @@ pub record Calm : Type 0 where
 abbrev pub four_units : List ℕ
 four_units = 0 ∷ 1 ∷ 2 ∷ 3 ∷ []
 
+-- its layout of slots
 abbrev pub layout_of : Calm → Layout
 layout_of c = record { units = 4; sensors = length c.sensed; words = length c.tasks }
 
@@ -50,6 +51,7 @@ due_in c (Out w) = slice_index c.runs w
 due_in c Report = c.period - 6
 due_in c (RelayReport s) = c.period - 4
 
+-- and heard
 abbrev pub heard_in : Calm → Slot → ℕ
 heard_in c Clock = 2
 heard_in c (Sense x) = 2
@@ -95,6 +97,7 @@ mission_of c = record {
   errors = λ q p. pos 0;
 }
 
+-- the program that it runs
 abbrev pub program_of : Calm → ProgramTree
 program_of c = record { tasks = c.tasks; starts = c.starts }
 
@@ -126,6 +129,7 @@ acts_of c u = record {
   strays = [];
 }
 
+-- the numbers of its units, slots and frames
 abbrev pub ranges_of : Calm → Ranges
 ranges_of c = record { units = 4; slots = slot_count (layout_of c); frames = 1 }
 
@@ -140,6 +144,7 @@ shared_word c i =
     let cells = slot_count (layout_of c) in
     if nat_lt i 4 then c.period else cell_of c (((i - 4) / cells) / 4) (((i - 4) / cells) % 4) ((i - 4) % cells)
 
+-- the core after the frame
 abbrev pub core_of : Calm → Core
 core_of c = record { words = map (shared_word c) (range_with_len 0 (shared_words (ranges_of c))); of = acts_of c }
 

@@ -12,6 +12,7 @@ use Rattle.sift_flight.specs.Calm.{Calm, FliesCalmly}
 abbrev pub count_task : TaskTree
 count_task = record { outputs = 1; body = step (output 0 (binary Add (binary Mul (number 3) (last_frame 0)) (number 1))) end }
 
+-- the slots by number: the clock, the word, the report, and the relays of reports
 abbrev pub count_kind : ℕ → Slot
 count_kind zero = Clock
 count_kind (suc zero) = Out 0
@@ -41,6 +42,7 @@ reading_task = record { outputs = 1; body = step (output 0 (binary Add (sense 0)
 abbrev pub adding_task : TaskTree
 adding_task = record { outputs = 1; body = step (output 0 (binary Add (binary Mul (number 2) (this_frame 0)) (last_frame 1))) end }
 
+-- the slots by number: the clock, the sensor, its relay, two words, the report, and the relays of reports
 abbrev pub gauge_kind : ℕ → Slot
 gauge_kind zero = Clock
 gauge_kind (suc zero) = Sense 0

@@ -30,10 +30,11 @@ HasMarginAt m fl f = (g : ℕ) → g ≤ f → HasMargin (λ u. m.works u g) (co
 abbrev pub working_at : Mission → Flight → ℕ → List ℕ
 working_at m fl f = filter (λ u. m.works u f) (config_at m fl f)
 
--- their offsets in the frame, and those in force after it
+-- their offsets in the frame
 abbrev pub offsets_at : Mission → Flight → ℕ → List ℤ
 offsets_at m fl f = map (λ u. (fl.account u f).clk) (working_at m fl f)
 
+-- and those in force after it
 abbrev pub next_offsets_at : Mission → Flight → ℕ → List ℤ
 next_offsets_at m fl f = map (λ u. (fl.account u f).next_clk) (working_at m fl f)
 

@@ -75,6 +75,7 @@ pub record ClockSkew (m : Mission) (fl : Flight) (f : ℕ) : Type 0 where
 
 -- ---- all of it
 
+-- what holds of a frame with margin
 pub record Headline (m : Mission) (program : ProgramTree) (fl : Flight) (f : ℕ) : Type 0 where
   pub same_configuration : SameConfiguration m fl f
   pub same_inputs : SameInputs m fl f

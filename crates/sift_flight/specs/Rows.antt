@@ -36,11 +36,12 @@ with_account fl u a = record fl { account = λ v f. if nat_eq v u then a else fl
 abbrev pub with_heard : Flight → ℕ → (Slot → ℕ → Bool) → ℕ → Flight
 with_heard fl q at w = record fl { heard = λ v f k p. if nat_eq v q && at k p then Some w else fl.heard v f k p }
 
--- word 0 of unit 0; and the report of unit 0 with its relays
+-- word 0 of unit 0
 abbrev pub first_word : Slot → ℕ → Bool
 first_word (Out w) p = nat_eq p 0
 first_word k p = nat_eq 0 1
 
+-- the report of unit 0, with its relays
 abbrev pub first_report : Slot → ℕ → Bool
 first_report Report p = nat_eq p 0
 first_report (RelayReport s) p = nat_eq s 0
@@ -50,11 +51,13 @@ first_report k p = nat_eq 0 1
 abbrev pub with_failing : Mission → ℕ → ℕ → Mission
 with_failing m u below = record m { works = λ v f. not (nat_eq v u && nat_lt f below) }
 
+-- five units
 abbrev pub five_units : List ℕ
 five_units = 0 ∷ 1 ∷ 2 ∷ 3 ∷ 4 ∷ []
 
 -- ---- hearing, rounds, configurations
 
+-- what is heard, and what is no round flight
 pub record HearingRows : Type 0 where
   pub hears : (q : ℕ) (k : Slot) (p : ℕ) → has four_units q ≡ true → Hears (mission_of count) no_strays (calm_flight count) q 0 k p
   -- unit 1 hears 17 where unit 0 said 16
@@ -68,6 +71,7 @@ pub record HearingRows : Type 0 where
   -- unit 3 has turned, and yet says its words
   pub not_silent : ¬ RoundAt (record (mission_of count) { storm = λ u. if nat_eq u 3 then Some 0 else None }) no_strays (calm_flight count) 0
 
+-- configurations, margin and clocks
 pub record ConfigurationRows : Type 0 where
   -- all name unit 0 of five; and units 0 and 1, without which three would be left
   pub four_left : next_by (λ r v. nat_eq v 0) five_units ≡ 1 ∷ 2 ∷ 3 ∷ 4 ∷ []
@@ -95,6 +99,7 @@ pub record ConfigurationRows : Type 0 where
 abbrev pub other_count : Account → Flight
 other_count a = with_account (calm_flight count) 2 a
 
+-- the headline holds of both calm missions, and each of its items refuses a flight
 pub record HeadlineRows : Type 0 where
   pub count_stands : Headline (mission_of count) (program_of count) (calm_flight count) 0
   pub gauge_stands : Headline (mission_of gauge) (program_of gauge) (calm_flight gauge) 0
