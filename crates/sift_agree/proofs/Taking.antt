@@ -26,7 +26,7 @@ agreed_same xs ys long votes =
     moved w (undecided none zero) = undecided (λ v most. none v (omega (arith, votes v))) zero
 
 -- each unit's place is a vote for the word, or the unit is faulty
-votes-working : (works : ℕ → Bool) (us : List ℕ) (place : ℕ → Option ℕ) (w : ℕ)
+pub votes-working : (works : ℕ → Bool) (us : List ℕ) (place : ℕ → Option ℕ) (w : ℕ)
     → ((u : ℕ) → has us u ≡ true → works u ≡ true → place u ≡ Some w)
     → length us ≤ votes_for (map place us) w + faulty_count works us
 votes-working works [] place w says = omega arith

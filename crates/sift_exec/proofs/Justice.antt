@@ -36,7 +36,7 @@ count_of_more p q (v ∷ us) more =
     ]
 
 -- tests that agree on a list count alike
-count_of_same : (p q : ℕ → Bool) (us : List ℕ) → ((r : ℕ) → has us r ≡ true → p r ≡ q r) → count_by p us ≡ count_by q us
+pub count_of_same : (p q : ℕ → Bool) (us : List ℕ) → ((r : ℕ) → has us r ≡ true → p r ≡ q r) → count_by p us ≡ count_by q us
 count_of_same p q [] same = refl
 count_of_same p q (v ∷ us) same =
     let rest = count_of_same p q us (λ r there. same r (has-tail v us r there)) in

@@ -17,7 +17,7 @@ offset_at f (u ∷ us) z (suc k) below at =
     (rest.0, has-tail u us rest.0 rest.1, rest.2)
 
 -- an offset of a list is some unit's
-Contains-map : (f : ℕ → ℤ) (us : List ℕ) (z : ℤ) → Contains (map f us) z → (u : ℕ) × (has us u ≡ true) × (z ≡ f u)
+pub Contains-map : (f : ℕ → ℤ) (us : List ℕ) (z : ℤ) → Contains (map f us) z → (u : ℕ) × (has us u ≡ true) × (z ≡ f u)
 Contains-map f us z among = offset_at f us z among.0 among.1 among.2
 
 pub slack_is_positive : SlackIsPositive

@@ -1,0 +1,94 @@
+-- The boards of a calm mission have kept what boards keep.
+use Rattle.std.proofs.Common.{◌≡◌, inl, inr, ℕ, ◌*◌, ◌<◌, true, None, Some, if◌then◌else◌, option_map, refl, sym, ap, ◌∙◌, subst, arith}
+use Rattle.std.proofs.lemmas.Bool.{cases_Bool}
+use Rattle.sift_base.specs.Units.{has}
+use Rattle.sift_base.specs.declared.slot.Slot.{Slot}
+use Rattle.sift_buffer.specs.Conduct.{hearing}
+use Rattle.sift_unit.specs.Slots.{is_slot, calls, stamp_of, heard_at}
+use Rattle.sift_unit.specs.Account.{Places}
+use Rattle.sift_unit.specs.Conduct.{own_word, said_of, Conduct}
+use Rattle.sift_unit.specs.Frames.{FrameConduct}
+use Rattle.sift_unit.specs.Acts.{ActsAre, BoardKeeps, said_places, heard_places, stamp_and_moment}
+use Rattle.sift_unit.specs.Fits.{Fits}
+use Rattle.sift_flight.specs.Landing.{HaveLanded}
+use Rattle.sift_flight.specs.Calm.{Calm, four_units, mission_of, word_in, account_of, acts_of, ranges_of, core_of}
+use Rattle.sift_flight.proofs.Calls.{call_of}
+use Rattle.sift_flight.proofs.CalmActs.{IsPlain, said_act, lawful}
+
+-- the words that a unit hears in the one frame
+abbrev pub heard_by : Calm → ℕ → Places
+heard_by c u k p = if calls (mission_of c) four_units k p u then Some (word_in c k) else None
+
+-- each unit does what it ought to on these words, and says the words of its slots
+pub record IsCalm (c : Calm) : Type 0 where
+  pub plain : IsPlain c
+  pub fits : Fits (mission_of c)
+  pub below : (u : ℕ) → has four_units u ≡ true → u < 4
+  pub conduct : (u : ℕ) → has four_units u ≡ true → Conduct (mission_of c) four_units u 0 (account_of c) (heard_by c u) c.starts
+  pub own : (u : ℕ) (k : Slot) (q : ℕ) → calls (mission_of c) four_units k u q ≡ true → own_word (mission_of c) four_units 0 (account_of c) (heard_by c u) c.starts k ≡ Some (word_in c k)
+
+module _ (c : Calm) (calm : IsCalm c) where
+  back : (k : Slot) → is_slot (mission_of c) k ≡ true → c.kind ((mission_of c).number k) ≡ k
+  back k slot = calm.fits.numbered.back k slot
+
+  heard_is : (u : ℕ) → heard_places (mission_of c) (acts_of c u) 0 ≡ heard_by c u
+  heard_is u = λ i k p. at k p i
+    where
+      at : (k : Slot) (p : ℕ) → heard_places (mission_of c) (acts_of c u) 0 k p ≡ heard_by c u k p
+      at k p = elim (cases_Bool (calls (mission_of c) four_units k p u)) [
+        | inl t ↦ let slot = (call_of (mission_of c) four_units k p u t).slot in rw (back k slot, t, slot) refl
+        | inr t ↦ elim (cases_Bool (is_slot (mission_of c) k)) [ inl slot ↦ rw (back k slot, t, slot) refl | inr n ↦ rw (t, n) refl ]
+      ]
+
+  said_is : (u : ℕ) (k : Slot) (q : ℕ) → said_places (mission_of c) (acts_of c u) 0 k q ≡ said_of (mission_of c) four_units u 0 (account_of c) (heard_by c u) c.starts k q
+  said_is u k q = elim (cases_Bool (calls (mission_of c) four_units k u q)) [
+    | inl t ↦ let slot = (call_of (mission_of c) four_units k u q t).slot in rw (back k slot, t, slot) (sym (calm.own u k q t))
+    | inr t ↦ elim (cases_Bool (is_slot (mission_of c) k)) [ inl slot ↦ rw (back k slot, t, slot) refl | inr n ↦ rw (t, n) refl ]
+  ]
+
+  frame : (u : ℕ) → has four_units u ≡ true
+      → FrameConduct (mission_of c) u (λ f. account_of c) (heard_places (mission_of c) (acts_of c u)) (said_places (mission_of c) (acts_of c u)) 0
+  frame u hu = record {
+    begins = record { cfg = refl; clk = refl };
+    said = λ k q. said_is u k q ∙ ap (λ (h : Places). said_of (mission_of c) four_units u 0 (account_of c) h c.starts k q) (sym (heard_is u));
+    busy = λ t. record {
+      busy = refl;
+      conduct = subst (λ (h : Places). Conduct (mission_of c) four_units u 0 (account_of c) h c.starts) (sym (heard_is u)) (calm.conduct u hu);
+    };
+    idle = λ e. absurd (let t = hu in cc);
+  }
+
+  acts : (u : ℕ) → ActsAre (mission_of c) (acts_of c u) four_units u 0
+  acts u = record {
+    said = λ k q s w slot e. let a = (said_act c calm.plain u 0 ((mission_of c).number k) q s w e).stamped in rw (back k slot) at (sym a);
+    heard = λ k p slot. rw (back k slot) (by_calls k p);
+  }
+    where
+      by_calls : (k : Slot) (p : ℕ)
+          → option_map stamp_and_moment (if calls (mission_of c) four_units k p u
+          then Some (hearing (stamp_of (mission_of c) four_units 0 k) (heard_at (mission_of c) four_units 0 k) (Some (word_in c k))) else None)
+          ≡ (if calls (mission_of c) four_units k p u then Some (stamp_of (mission_of c) four_units 0 k, heard_at (mission_of c) four_units 0 k) else None)
+      by_calls k p = elim (cases_Bool (calls (mission_of c) four_units k p u)) [ inl t ↦ rw t refl | inr t ↦ rw t refl ]
+
+  board : (u : ℕ) → has four_units u ≡ true → BoardKeeps (mission_of c) u (acts_of c u) (λ f. account_of c) 1
+  board u hu = record {
+    stamps = λ f k q s w slot e.
+        let a = said_act c calm.plain u f ((mission_of c).number k) q s w e in
+        let z = a.frame in
+        let y = a.stamped in
+        let t = calm.plain.timed ((mission_of c).number k) in
+        (omega (arith, ap {B = ℕ} (λ x. x * c.period) z), omega (arith, ap {B = ℕ} (λ x. x * c.period) z));
+    turns = refl;
+    config = λ f low flies. calm.fits.config;
+    acts = λ f low flies. let z : 0 ≡ f = omega arith in subst (ActsAre (mission_of c) (acts_of c u) four_units u) z (acts u);
+    conduct = λ f low flies. let z : 0 ≡ f = omega arith in
+        subst (FrameConduct (mission_of c) u (λ f. account_of c) (heard_places (mission_of c) (acts_of c u)) (said_places (mission_of c) (acts_of c u))) z (frame u hu);
+  }
+
+  pub calm_landed : HaveLanded (mission_of c) (ranges_of c) (core_of c) (λ u f. account_of c) 1
+  calm_landed = record {
+    places = record { units = calm.below; slots = omega arith };
+    lawful = lawful c calm.plain;
+    boards = board;
+    within = omega arith;
+  }

@@ -1,0 +1,97 @@
+-- Premises that all calm missions meet.
+use Rattle.std.proofs.Common.{◌≡◌, ℕ, ◌+◌, ◌<◌, ◌≤◌, List, [], ◌∷◌, length, true, refl, ap, arith, ltb-true, slice_index, subst}
+use Rattle.std.specs.List.{filter}
+use Rattle.std.proofs.lemmas.Int.{ints}
+use Rattle.sift_base.specs.Units.{has}
+use Rattle.sift_base.specs.Margin.{HasMargin}
+use Rattle.sift_base.specs.declared.slot.Slot.{Slot}
+use Rattle.sift_base.specs.declared.slot.Slot.TheVariants.{Clock, Sense, RelaySense, Out, Report, RelayReport}
+use Rattle.sift_unit.specs.Slots.{is_slot}
+use Rattle.sift_unit.specs.Acts.{IsConfigOf}
+use Rattle.sift_unit.specs.Fits.{Fits, IsNumbered, IsRead, is_caught_in, HasExecutors}
+use Rattle.sift_flight.specs.Configuration.{config_at, HasMarginAt}
+use Rattle.sift_flight.specs.Flight.{flight_of}
+use Rattle.sift_flight.specs.Premises.{IsFlyable}
+use Rattle.sift_flight.specs.Calm.{Calm, four_units, due_in, heard_in, mission_of, account_of, core_of}
+use Rattle.sift_flight.proofs.CalmActs.{IsPlain}
+use Rattle.sift_flight.proofs.CalmConduct.{four}
+
+-- all pass
+all_pass : (us : List ℕ) → filter (λ u. true) us ≡ us
+all_pass [] = refl
+all_pass (u ∷ us) = ap (λ vs. u ∷ vs) (all_pass us)
+
+module _ (c : Calm) where
+  -- each unit of a configuration runs each task
+  pub executors_run : HasExecutors (mission_of c)
+  executors_run us w config low = omega (arith, config.enough, ap length (all_pass us))
+
+  pub four_are_config : IsConfigOf (mission_of c) four_units
+  four_are_config = record {
+    enough = omega arith;
+    ascending = ((omega arith, (omega arith, (omega arith, tt))), ((omega arith, (omega arith, tt)), ((omega arith, tt), (tt, tt))));
+    inside = λ u h. h;
+  }
+
+  pub four_are_below : (n : ℕ) → 4 ≤ n → (u : ℕ) → has four_units u ≡ true → u < n
+  four_are_below n long u hu = four (λ u. u < n) (omega arith) (omega arith) (omega arith) (omega arith) u hu
+
+  pub flyable_by : Fits (mission_of c) → IsFlyable (mission_of c)
+  flyable_by fits = record {
+    fits = fits;
+    script = record { steady = (0, refl, λ f. refl); for_good = λ u f later le t. refl; own_words = λ u f k q t. refl; whole = λ u f t. refl };
+    clocks = record {
+      admitted = record { kept = omega (arith, ints); told = omega (arith, ints); long = omega (arith, ints) };
+      together = λ u v hu hv. omega (arith, ints);
+      drifts = λ u hu. (omega (arith, ints), omega (arith, ints));
+      errors = λ u v hu hv. (omega (arith, ints), omega (arith, ints));
+    };
+  }
+
+  pub has_margin : HasMarginAt (mission_of c) (flight_of (mission_of c) (core_of c) (λ u f. account_of c)) 0
+  has_margin g low = let z : 0 ≡ g = omega arith in
+      subst (λ g. HasMargin (λ u. true) (config_at (mission_of c) (flight_of (mission_of c) (core_of c) (λ u f. account_of c)) g)) z (record { few = omega arith; enough = omega arith })
+
+  -- each task runs when the sensors are agreed on, and is polled before reports are said
+  pub record RunsInTime : Type 0 where
+    pub late : (w : ℕ) → w < length c.tasks → 4 ≤ slice_index c.runs w
+    pub early : (w : ℕ) → w < length c.tasks → slice_index c.runs w + 8 ≤ c.period
+
+  pub fits_by : IsPlain c → IsNumbered (mission_of c) → RunsInTime → IsRead (mission_of c) → Fits (mission_of c)
+  fits_by plain numbered times read = record {
+    numbered = numbered;
+    timed = record {
+      run = λ us w config low. refl;
+      apart = λ us k config slot. (in_time k slot).0;
+      within = λ us k config slot. (in_time k slot).1;
+      relayed = λ us x config low. omega arith;
+      agreed = λ us x w config x_low low. times.late w low;
+      caught = λ us k config slot t. caught k slot t;
+      reported = λ us s config hs. omega arith;
+    };
+    read = read;
+    counted = record {
+      units = four_are_below 8 (omega arith);
+      task = λ w low. low;
+      tasks = omega arith;
+      words = omega arith;
+      few_words = plain.tasks;
+      sensors = plain.sensors;
+      period = plain.long;
+      short = plain.short;
+      frames = omega arith;
+    };
+    executors = executors_run;
+    config = four_are_config;
+  }
+    where
+      in_time : (k : Slot) → is_slot (mission_of c) k ≡ true → (due_in c k + 2 ≤ heard_in c k) × (heard_in c k + 2 ≤ c.period)
+      in_time k slot = subst (λ k. (due_in c k + 2 ≤ heard_in c k) × (heard_in c k + 2 ≤ c.period)) (numbered.back k slot) (plain.timed ((mission_of c).number k))
+
+      caught : (k : Slot) → is_slot (mission_of c) k ≡ true → is_caught_in k ≡ true → heard_in c k ≤ due_in c Report
+      caught Clock slot t = omega (arith, plain.long)
+      caught (Sense x) slot t = absurd cc
+      caught (RelaySense x) slot t = omega (arith, plain.long)
+      caught (Out w) slot t = omega (arith, times.early w (ltb-true w (length c.tasks) slot))
+      caught Report slot t = absurd cc
+      caught (RelayReport s) slot t = absurd cc

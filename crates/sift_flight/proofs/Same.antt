@@ -1,0 +1,112 @@
+-- Two flights of which one frame is that of a round flight, and which begin it alike: what is said and heard alike in it.
+use Rattle.std.proofs.Common.{◌≡◌, ⊎_elim, inl, inr, ℕ, List, true, false, Option, unwrap_or, if◌then◌else◌, None, refl, sym, ap, ◌∙◌, subst}
+use Rattle.std.proofs.lemmas.Bool.{cases_Bool}
+use mathlib.Core.Logic.{dite}
+use native.Mathlib.Decide.{ℕ_discrete}
+use Rattle.sift_base.specs.Units.{has}
+use Rattle.sift_base.specs.declared.slot.Slot.{Slot}
+use Rattle.sift_unit.specs.Mission.{Mission}
+use Rattle.sift_unit.specs.Slots.{calls, has_turned}
+use Rattle.sift_unit.specs.Conduct.{own_word, said_of}
+use Rattle.sift_unit.specs.Frames.{last_of, FrameConduct, IdleConduct, BusyConduct, Flies}
+use Rattle.sift_unit.specs.Fits.{Fits}
+use Rattle.sift_flight.specs.Flight.{Flight, config_of}
+use Rattle.sift_flight.specs.Hearing.{Strays}
+use Rattle.sift_flight.specs.Round.{RoundAt, HasNoStorms}
+use Rattle.sift_flight.proofs.Calls.{call_of}
+
+-- a frame of two round flights, without storms, that both begin alike
+pub record AreBothRound (m : Mission) (strays strays' : Strays) (fl gl : Flight) (f : ℕ) : Type 0 where
+  pub fits : Fits m
+  pub calm : HasNoStorms m
+  pub one : RoundAt m strays fl f
+  pub other : RoundAt m strays' gl f
+  pub cfg : (u : ℕ) → has m.units u ≡ true → config_of fl u f ≡ config_of gl u f
+  pub clk : (u : ℕ) → has m.units u ≡ true → (fl.account u f).clk ≡ (gl.account u f).clk
+  pub last : (u : ℕ) → has m.units u ≡ true → last_of m (fl.account u) f ≡ last_of m (gl.account u) f
+  pub inside : (u p : ℕ) → has m.units u ≡ true → has (config_of gl u f) p ≡ true → has m.units p ≡ true
+
+-- a mission without storms has no unit that has turned
+pub whole_unit : (m : Mission) → HasNoStorms m → (u f : ℕ) → has m.units u ≡ true → has_turned m u f ≡ false
+whole_unit m calm u f hu = rw (calm u hu) refl
+
+pub flies_always : (m : Mission) → HasNoStorms m → (u f : ℕ) → has m.units u ≡ true → Flies m u f
+flies_always m calm u f hu = record { unit = hu; whole = whole_unit m calm u f hu }
+
+-- in a frame of two flights each unit says a slot alike
+abbrev pub SayAlike : Mission → Flight → Flight → ℕ → Slot → Type 0
+SayAlike m fl gl f k = (u q : ℕ) → has m.units u ≡ true → fl.said u f k q ≡ gl.said u f k q
+
+-- and hears it alike
+abbrev pub HearAlike : Mission → Flight → Flight → ℕ → Slot → Type 0
+HearAlike m fl gl f k = (u : ℕ) → has m.units u ≡ true → fl.heard u f k ≡ gl.heard u f k
+
+module _ (m : Mission) (strays strays' : Strays) (fl gl : Flight) (f : ℕ) (b : AreBothRound m strays strays' fl gl f) where
+  abbrev us : ℕ → List ℕ
+  us u = config_of gl u f
+
+  -- the conduct of both
+  pub conduct_one : (u : ℕ) → has m.units u ≡ true → FrameConduct m u (fl.account u) (fl.heard u) (fl.said u) f
+  conduct_one u hu = b.one.conduct u (flies_always m b.calm u f hu)
+
+  pub conduct_other : (u : ℕ) → has m.units u ≡ true → FrameConduct m u (gl.account u) (gl.heard u) (gl.said u) f
+  conduct_other u hu = b.other.conduct u (flies_always m b.calm u f hu)
+
+  -- that of the first under the second's configuration, where the unit is in it and where it is not
+  pub busy_one : (u : ℕ) → has m.units u ≡ true → has (us u) u ≡ true → BusyConduct m (us u) u f (fl.account u f) (fl.heard u f) (last_of m (fl.account u) f)
+  busy_one u hu t =
+      let e = b.cfg u hu in
+      subst (λ c. BusyConduct m c u f (fl.account u f) (fl.heard u f) (last_of m (fl.account u) f)) e
+      ((conduct_one u hu).busy (subst (λ c. has c u ≡ true) (sym e) t))
+
+  pub idle_one : (u : ℕ) → has m.units u ≡ true → has (us u) u ≡ false → IdleConduct (fl.account u f)
+  idle_one u hu t = (conduct_one u hu).idle (subst (λ c. has c u ≡ false) (sym (b.cfg u hu)) t)
+
+  -- by the two cases of a unit
+  pub by_place : (P : ℕ → Type 0) (u : ℕ) → (has (us u) u ≡ true → P u) → (has (us u) u ≡ false → P u) → P u
+  by_place P u t e = ⊎_elim t e (cases_Bool (has (us u) u))
+
+  abbrev word_one : ℕ → Slot → Option ℕ
+  word_one u k = own_word m (us u) f (fl.account u f) (fl.heard u f) (last_of m (fl.account u) f) k
+
+  abbrev word_other : ℕ → Slot → Option ℕ
+  word_other u k = own_word m (us u) f (gl.account u f) (gl.heard u f) (last_of m (gl.account u) f) k
+
+  abbrev said_one : ℕ → List ℕ → Slot → ℕ → Option ℕ
+  said_one u c k q = said_of m c u f (fl.account u f) (fl.heard u f) (last_of m (fl.account u) f) k q
+
+  abbrev said_other : ℕ → Slot → ℕ → Option ℕ
+  said_other u k q = said_of m (us u) u f (gl.account u f) (gl.heard u f) (last_of m (gl.account u) f) k q
+
+  -- where the own words are the same, the same is said
+  pub say : (k : Slot) → ((u q : ℕ) → has m.units u ≡ true → calls m (us u) k u q ≡ true → word_one u k ≡ word_other u k) → SayAlike m fl gl f k
+  say k same u q hu = (conduct_one u hu).said k q ∙ (ap (λ c. said_one u c k q) (b.cfg u hu) ∙ (here ∙ sym ((conduct_other u hu).said k q)))
+    where
+      here : said_one u (us u) k q ≡ said_other u k q
+      here = elim (cases_Bool (calls m (us u) k u q)) [
+        | inl t ↦ ap (λ w. if calls m (us u) k u q then unwrap_or (m.override u f k q) w else None) (same u q hu t)
+        | inr t ↦ rw t refl
+      ]
+
+  -- and heard
+  pub hear : (k : Slot) → SayAlike m fl gl f k → HearAlike m fl gl f k
+  hear k same u hu = λ i p. at p i
+    where
+      at : (p : ℕ) → fl.heard u f k p ≡ gl.heard u f k p
+      at p =
+          let e = b.cfg u hu in
+          let hf = b.one.hearing u k p (flies_always m b.calm u f hu) in
+          let hg = b.other.hearing u k p (flies_always m b.calm u f hu) in
+          elim (cases_Bool (calls m (us u) k p u)) [
+            | inl t ↦
+                let cf = hf.called (subst (λ c. calls m c k p u ≡ true) (sym e) t) in
+                let cg = hg.called t in
+                let hp = b.inside u p hu (call_of m (us u) k p u t).from in
+                let whole = whole_unit m b.calm p f hp in
+                let due_p : m.due (config_of fl p f) k ≡ m.due (us p) k = ap (λ c. m.due c k) (b.cfg p hp) in
+                let due_u : m.due (config_of fl u f) k ≡ m.due (us u) k = ap (λ c. m.due c k) e in
+                dite (ℕ_discrete (m.due (us p) k) (m.due (us u) k))
+                (λ d. cf.as_said whole (due_p ∙ (d ∙ sym due_u)) ∙ (same p u hp ∙ sym (cg.as_said whole d)))
+                (λ n. cf.apart whole (λ d. n (sym due_p ∙ (d ∙ due_u))) ∙ sym (cg.apart whole n))
+            | inr t ↦ hf.silent (subst (λ c. calls m c k p u ≡ false) (sym e) t) ∙ sym (hg.silent t)
+          ]

@@ -1,0 +1,103 @@
+-- Two flights of which one frame is that of a round flight, and which begin it alike, have the same inputs and outputs in it.
+use Rattle.std.proofs.Common.{◌≡◌, ⊎_elim, ℕ, zero, suc, ◌<◌, ◌≤◌, List, map, slice_index, true, false, nat_eq, if◌then◌else◌, Some, refl, sym, ap, ◌∙◌, subst, arith, ltb-true}
+use Rattle.std.proofs.lemmas.Bool.{cases_lt}
+use Rattle.std.proofs.lemmas.Grind.{same_number_lists}
+use Rattle.sift_base.specs.Word.{word_of}
+use Rattle.sift_base.specs.Units.{has}
+use Rattle.sift_base.specs.declared.slot.Slot.TheVariants.{Clock, Sense, RelaySense, Out}
+use Rattle.sift_vote.specs.Agreed.{agreed_of}
+use Rattle.sift_agree.specs.Agreement.{taken}
+use Rattle.sift_config.specs.Config.{reader_of}
+use Rattle.sift_unit.specs.Mission.{Mission}
+use Rattle.sift_unit.specs.Slots.{executors}
+use Rattle.sift_unit.specs.Conduct.{input_of, made, polled}
+use Rattle.sift_unit.specs.Frames.{last_of, BusyConduct, IdleConduct}
+use Rattle.sift_flight.specs.Flight.{Flight, config_of}
+use Rattle.sift_flight.specs.Hearing.{Strays}
+use Rattle.sift_flight.proofs.Calls.{call_of}
+use Rattle.sift_flight.proofs.Same.{AreBothRound, HearAlike, conduct_other, busy_one, idle_one, by_place, say, hear}
+
+module _ (m : Mission) (strays strays' : Strays) (fl gl : Flight) (f : ℕ) (b : AreBothRound m strays strays' fl gl f) where
+  abbrev us : ℕ → List ℕ
+  us u = config_of gl u f
+
+  abbrev last_one : ℕ → List ℕ
+  last_one u = last_of m (fl.account u) f
+
+  abbrev last_other : ℕ → List ℕ
+  last_other u = last_of m (gl.account u) f
+
+  pub heard_clock : HearAlike m fl gl f Clock
+  heard_clock = hear m strays strays' fl gl f b Clock (say m strays strays' fl gl f b Clock (λ u q hu t. ap (λ c. Some (word_of c)) (b.clk u hu)))
+
+  pub heard_sense : (x : ℕ) → HearAlike m fl gl f (Sense x)
+  heard_sense x = hear m strays strays' fl gl f b (Sense x) (say m strays strays' fl gl f b (Sense x) (λ u q hu t. refl))
+
+  pub heard_relay : (x : ℕ) → HearAlike m fl gl f (RelaySense x)
+  heard_relay x = hear m strays strays' fl gl f b (RelaySense x) (say m strays strays' fl gl f b (RelaySense x) (λ u q hu t. ap (λ h. h (reader_of (us u) x)) (heard_sense x u hu)))
+
+  -- the busy conduct of both
+  abbrev one : (u : ℕ) → has m.units u ≡ true → has (us u) u ≡ true → BusyConduct m (us u) u f (fl.account u f) (fl.heard u f) (last_one u)
+  one u hu t = busy_one m strays strays' fl gl f b u hu t
+
+  abbrev other : (u : ℕ) → has m.units u ≡ true → has (us u) u ≡ true → BusyConduct m (us u) u f (gl.account u f) (gl.heard u f) (last_other u)
+  other u hu t = (conduct_other m strays strays' fl gl f b u hu).busy t
+
+  abbrev idle : (u : ℕ) → has m.units u ≡ true → has (us u) u ≡ false → IdleConduct (fl.account u f) × IdleConduct (gl.account u f)
+  idle u hu t = (idle_one m strays strays' fl gl f b u hu t, (conduct_other m strays strays' fl gl f b u hu).idle t)
+
+  -- the inputs are the same
+  pub ins_same : (u : ℕ) → has m.units u ≡ true → (fl.account u f).ins ≡ (gl.account u f).ins
+  ins_same u hu = by_place m strays strays' fl gl f b (λ u. (fl.account u f).ins ≡ (gl.account u f).ins) u
+      (λ t.
+      let cf = (one u hu t).conduct.sensors in
+      let cg = (other u hu t).conduct.sensors in
+      same_number_lists (fl.account u f).ins (gl.account u f).ins (cf.count ∙ sym cg.count)
+      (λ x x_low. let within : x < m.sensors = omega (arith, cf.count) in cf.agrees x within ∙ (same x ∙ sym (cg.agrees x within))))
+      (λ t. let i = idle u hu t in i.0.ins ∙ sym i.1.ins)
+    where
+      same : (x : ℕ) → input_of m (us u) u f (fl.heard u f) x ≡ input_of m (us u) u f (gl.heard u f) x
+      same x = λ i. if nat_eq (reader_of (us u) x) u then m.sensed x f else agreed_of (taken (us u) (reader_of (us u) x) u
+          (λ q. heard_sense x u hu i (reader_of (us u) x)) (λ q p. heard_relay x u hu i p))
+
+  -- words below a number are voted alike
+  pub SameOuts : ℕ → Type 0
+  SameOuts n = (w u : ℕ) → w < n → has m.units u ≡ true → slice_index (fl.account u f).outs w ≡ slice_index (gl.account u f).outs w
+
+  pub made_same : (w : ℕ) → w < m.words → SameOuts w → (u : ℕ) → has m.units u ≡ true → made m (fl.account u f) (last_one u) w ≡ made m (gl.account u f) (last_other u) w
+  unfolding SameOuts
+  made_same w low outs u hu =
+      b.fits.read.reads w (fl.account u f).ins (fl.account u f).ins (fl.account u f).outs (gl.account u f).outs (last_one u) low (λ x x_low t. refl)
+      (λ v v_low t. outs v u (b.fits.read.earlier w v low v_low t) hu)
+      ∙ (λ i. m.word w (ins_same u hu i) (gl.account u f).outs (b.last u hu i))
+
+  pub heard_out : (w : ℕ) → (w < m.words → SameOuts w) → HearAlike m fl gl f (Out w)
+  heard_out w outs = hear m strays strays' fl gl f b (Out w) (say m strays strays' fl gl f b (Out w) (λ u q hu t.
+      let low = ltb-true w m.words (call_of m (us u) (Out w) u q t).slot in ap (λ n. Some n) (made_same w low (outs low) u hu)))
+
+  pub polled_same : (w : ℕ) → w < m.words → SameOuts w → (u : ℕ) → has m.units u ≡ true
+      → polled m u (fl.account u f) (fl.heard u f) (last_one u) w ≡ polled m u (gl.account u f) (gl.heard u f) (last_other u) w
+  polled_same w low outs u hu = λ i v. if nat_eq v u then Some (made_same w low outs u hu i) else heard_out w (λ z. outs) u hu i v
+
+  vote_same : (w : ℕ) → w < m.words → SameOuts w → (u : ℕ) → has m.units u ≡ true → slice_index (fl.account u f).outs w ≡ slice_index (gl.account u f).outs w
+  vote_same w low outs u hu = by_place m strays strays' fl gl f b (λ u. slice_index (fl.account u f).outs w ≡ slice_index (gl.account u f).outs w) u
+      (λ t. (one u hu t).conduct.tasks.votes w low ∙ ((λ i. agreed_of (map (polled_same w low outs u hu i) (executors m (us u) w))) ∙ sym ((other u hu t).conduct.tasks.votes w low)))
+      (λ t. let i = idle u hu t in ap (λ l. slice_index l w) (i.0.outs ∙ sym i.1.outs))
+
+  pub outs_same : (n : ℕ) → n ≤ m.words → SameOuts n
+  unfolding SameOuts
+  outs_same zero few w u w_low hu = absurd (omega arith)
+  outs_same (suc n) few w u w_low hu = ⊎_elim (λ (z : w < n). outs_same n (omega arith) w u z hu)
+      (λ (z : n ≤ w). let e : n ≡ w = omega arith in
+      subst (λ v. slice_index (fl.account u f).outs v ≡ slice_index (gl.account u f).outs v) e (vote_same n few (outs_same n (omega arith)) u hu)) (cases_lt w n)
+
+  -- all outputs
+  pub all_outs : (u : ℕ) → has m.units u ≡ true → (fl.account u f).outs ≡ (gl.account u f).outs
+  unfolding SameOuts
+  all_outs u hu = by_place m strays strays' fl gl f b (λ u. (fl.account u f).outs ≡ (gl.account u f).outs) u
+      (λ t.
+      let cf = (one u hu t).conduct.tasks in
+      let cg = (other u hu t).conduct.tasks in
+      same_number_lists (fl.account u f).outs (gl.account u f).outs (cf.count ∙ sym cg.count)
+      (λ w w_low. outs_same m.words (omega arith) w u (omega (arith, cf.count)) hu))
+      (λ t. let i = idle u hu t in i.0.outs ∙ sym i.1.outs)

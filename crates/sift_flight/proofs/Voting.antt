@@ -1,0 +1,121 @@
+-- Working units vote the words that the tasks make, and catch no working unit for its words.
+use Rattle.std.proofs.Common.{◌≡◌, inl, inr, ℕ, zero, suc, ◌<◌, ◌≤◌, List, [], ◌∷◌, map, slice_index, Bool, true, false, not, Option, Some, refl, sym, ap, ◌∙◌, arith}
+use Rattle.std.specs.Prelude.{count_by}
+use Rattle.std.specs.List.{filter}
+use Rattle.std.proofs.lemmas.Bool.{cases_Bool}
+use Rattle.std.proofs.lemmas.Bool.Decides.{eqb_tells}
+use Rattle.std.proofs.lemmas.List.{length-map}
+use Rattle.std.proofs.lemmas.Grind.{same_number_lists}
+use Rattle.sift_base.specs.Units.{has}
+use Rattle.sift_base.specs.declared.slot.Slot.TheVariants.{Out}
+use Rattle.sift_base.proofs.Counts.{count-cons, nat_eq-same}
+use Rattle.sift_vote.specs.Majority.{IsMajority}
+use Rattle.sift_vote.specs.Differing.{differs}
+use Rattle.sift_vote.proofs.Found.{majority_is_found}
+use Rattle.sift_agree.proofs.Taking.{votes-working}
+use Rattle.sift_agree.proofs.Winners.{won-agreed}
+use Rattle.sift_unit.specs.Mission.{Mission}
+use Rattle.sift_unit.specs.Slots.{executors}
+use Rattle.sift_unit.specs.Conduct.{made, polled, any_below, poll_catches}
+use Rattle.sift_unit.specs.Frames.{last_of}
+use Rattle.sift_flight.specs.Flight.{Flight}
+use Rattle.sift_flight.specs.Hearing.{Strays}
+use Rattle.sift_flight.proofs.Calls.{and_both}
+use Rattle.sift_flight.proofs.Configs.{filter_has, has_filter}
+use Rattle.sift_flight.proofs.Ideal.{IsStep}
+use Rattle.sift_flight.proofs.Working.{InFrame, Member, conduct_here, hears, out_call}
+
+-- no more of a filtered list pass a test
+count-filter-≤ : (p q : ℕ → Bool) (us : List ℕ) → count_by p (filter q us) ≤ count_by p us
+count-filter-≤ p q [] = omega arith
+count-filter-≤ p q (u ∷ us) =
+    let rest = count-filter-≤ p q us in
+    elim (cases_Bool (q u)) [
+      | inl t ↦ rw t (omega (arith, rest, count-cons p u us, count-cons p u (filter q us)))
+      | inr f ↦ rw f (omega (arith, rest, count-cons p u us))
+    ]
+
+-- some number below n passes
+pub any_found : (n : ℕ) (p : ℕ → Bool) → any_below n p ≡ true → (x : ℕ) × (x < n) × (p x ≡ true)
+any_found zero p e = absurd cc
+any_found (suc n) p e = elim (cases_Bool (any_below n p)) [
+  | inl t ↦ let r = any_found n p t in let low : r.0 < n = r.1 in (r.0, omega arith, r.2)
+  | inr t ↦ (n, omega arith, rw t at e)
+]
+
+-- a word doesn't differ from itself
+pub same_not_differs : (w : ℕ) → differs (Some w) (Some w) ≡ true → ⊥
+same_not_differs w e = let z = rw (nat_eq-same w) at e in cc
+
+module _ (m : Mission) (strays : Strays) (fl : Flight) (f : ℕ) (us : List ℕ) (here : InFrame m strays fl f us)
+    (ins before outs : List ℕ) (step : IsStep m ins before outs)
+    (same_ins : (u : ℕ) → Member m f us u → (fl.account u f).ins ≡ ins)
+    (same_last : (u : ℕ) → Member m f us u → last_of m (fl.account u) f ≡ before) where
+  abbrev place : ℕ → ℕ → ℕ → Option ℕ
+  place u w = polled m u (fl.account u f) (fl.heard u f) (last_of m (fl.account u) f) w
+
+  -- the words below a number are the ideal ones
+  Earlier : ℕ → Type 0
+  Earlier w = (v u : ℕ) → v < w → Member m f us u → slice_index (fl.account u f).outs v ≡ slice_index outs v
+
+  -- then so is the next word, as each member makes it
+  makes : (w : ℕ) → w < m.words → Earlier w → (u : ℕ) → Member m f us u → made m (fl.account u f) (last_of m (fl.account u) f) w ≡ slice_index outs w
+  unfolding Earlier
+  makes w low earlier u wu =
+      here.flyable.fits.read.reads w (fl.account u f).ins (fl.account u f).ins (fl.account u f).outs outs (last_of m (fl.account u) f) low (λ x x_low t. refl)
+      (λ v v_low t. earlier v u (here.flyable.fits.read.earlier w v low v_low t) wu)
+      ∙ ((λ i. m.word w (same_ins u wu i) outs (same_last u wu i)) ∙ sym (step.makes w low))
+
+  -- and each working executor's place has it
+  place_is : (w : ℕ) → w < m.words → Earlier w → (u : ℕ) → Member m f us u → (v : ℕ)
+      → has (executors m us w) v ≡ true → m.works v f ≡ true → place u w v ≡ Some (slice_index outs w)
+  place_is w low earlier u wu v hv wv =
+      let t = filter_has (m.executes us w) us v hv in
+      let v' : Member m f us v = record { member = t.1; works = wv } in
+      elim (eqb_tells v u) [
+        | inl e ↦ rw e.0 (ap (λ x. Some x) (makes w low earlier u wu))
+        | inr e ↦ rw e.0 (hears m strays fl f us here u v (Out w) wu v' (out_call m strays fl f us here w v u low t.0 v' wu e.1) ∙ ap (λ x. Some x) (makes w low earlier v v'))
+      ]
+
+  -- so it is the majority
+  vote_is : (w : ℕ) → w < m.words → Earlier w → (u : ℕ) → Member m f us u → IsMajority (map (place u w) (executors m us w)) (slice_index outs w)
+  vote_is w low earlier u wu =
+      let votes = votes-working (λ v. m.works v f) (executors m us w) (place u w) (slice_index outs w) (place_is w low earlier u wu) in
+      omega (
+        arith,
+        votes,
+        length-map (executors m us w) (place u w),
+        here.flyable.fits.executors us w here.config low,
+        count-filter-≤ (λ v. not (m.works v f)) (m.executes us w) us,
+        here.margin.few,
+      )
+
+  below : (n : ℕ) → n ≤ m.words → Earlier n
+  unfolding Earlier
+  below zero few v u h wu = absurd (omega arith)
+  below (suc n) few v u h wu =
+      elim (eqb_tells v n) [
+        | inl e ↦ rw e.1 ((conduct_here m strays fl f us here u wu).tasks.votes n few ∙ sym (won-agreed _ (slice_index outs n) (vote_is n few (below n (omega arith)) u wu)))
+        | inr e ↦ below n (omega arith) v u (omega (arith, e.1)) wu
+      ]
+
+  -- each member's outputs are the ideal ones
+  pub output_is : (u : ℕ) → Member m f us u → (fl.account u f).outs ≡ outs
+  unfolding Earlier
+  output_is u wu =
+      let c = (conduct_here m strays fl f us here u wu).tasks.count in
+      same_number_lists (fl.account u f).outs outs (c ∙ sym step.count) (λ w low. below m.words (omega arith) w u (omega (arith, c)) wu)
+
+  -- no member catches a member for a word
+  pub none_polled : (u v : ℕ) → Member m f us u → Member m f us v → poll_catches m us (place u) v ≡ false
+  none_polled u v wu wv = elim (cases_Bool (poll_catches m us (place u) v)) [
+    | inr e ↦ e
+    | inl t ↦
+        let found = any_found m.words _ (and_both (has us v) _ t).1 in
+        let w : ℕ = found.0 in
+        let both = and_both (m.executes us w v) _ found.2 in
+        let low = below w (omega (arith, found.1)) in
+        let at_place = place_is w found.1 low u wu v (has_filter (m.executes us w) us v wv.member both.0) wv.works in
+        let vote = (majority_is_found (map (place u w) (executors m us w)) (slice_index outs w)).1 (vote_is w found.1 low u wu) in
+        absurd (same_not_differs (slice_index outs w) (rw (at_place, vote) at both.1))
+  ]

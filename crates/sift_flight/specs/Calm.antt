@@ -1,0 +1,158 @@
+-- Small missions of one frame in which nothing goes wrong, and how they fly: by them the premises of the laws are seen to be met.
+use Rattle.std.specs.Prelude.{ℕ, ◌+◌, ◌-◌, ◌/◌, ◌%◌, List, [], ◌∷◌, length, map, get_or, slice_index, Bool, true, false, ◌&&◌, nat_eq, nat_lt, if◌then◌else◌, None, Some, pos}
+use Rattle.std.specs.List.{range_with_len}
+use Rattle.sift_base.specs.Layout.{slot_number, slot_count}
+use Rattle.sift_base.specs.declared.layout.Layout.{Layout}
+use Rattle.sift_base.specs.declared.slot.Slot.{Slot}
+use Rattle.sift_base.specs.declared.slot.Slot.TheVariants.{Clock, Sense, RelaySense, Out, Report, RelayReport}
+use Rattle.sift_buffer.specs.Cell.{packed}
+use Rattle.sift_buffer.specs.Ranges.{Ranges, shared_words}
+use Rattle.sift_buffer.specs.Conduct.{saying, hearing, never}
+use Rattle.sift_buffer.specs.Conduct.{Conduct as Acts}
+use Rattle.sift_buffer.specs.Core.{Core}
+use Rattle.sift_exec.specs.Record.{nobody}
+use Rattle.sift_lang.specs.Tree.{TaskTree, end}
+use Rattle.sift_lang.specs.Meaning.{meaning}
+use Rattle.sift_program.specs.Program.{ProgramTree}
+use Rattle.sift_unit.specs.Mission.{Mission}
+use Rattle.sift_unit.specs.Slots.{calls, stamp_of, heard_at}
+use Rattle.sift_unit.specs.Account.{Account}
+use Rattle.sift_flight.specs.Configuration.{HasMarginAt}
+use Rattle.sift_flight.specs.Flight.{flight_of}
+use Rattle.sift_flight.specs.Landing.{HaveLanded}
+use Rattle.sift_flight.specs.Premises.{IsFlyable, RunsProgram}
+
+-- a calm mission: the length of its frame; its sensors' words; its tasks, each with one word, with the subframes in which they run, the
+-- words of this frame that they need, and their words before the frame and in it; and the slot of each number
+pub record Calm : Type 0 where
+  pub period : ℕ
+  pub sensed : List ℕ
+  pub tasks : List TaskTree
+  pub runs : List ℕ
+  pub needs : ℕ → ℕ → Bool
+  pub starts : List ℕ
+  pub outs : List ℕ
+  pub kind : ℕ → Slot
+
+-- four units fly it
+abbrev pub four_units : List ℕ
+four_units = 0 ∷ 1 ∷ 2 ∷ 3 ∷ []
+
+-- its layout of slots
+abbrev pub layout_of : Calm → Layout
+layout_of c = record { units = 4; sensors = length c.sensed; words = length c.tasks }
+
+-- in which subframes a slot is said, and heard: a task's word two subframes after the task runs
+abbrev pub due_in : Calm → Slot → ℕ
+due_in c Clock = 0
+due_in c (Sense x) = 0
+due_in c (RelaySense x) = 2
+due_in c (Out w) = slice_index c.runs w
+due_in c Report = c.period - 6
+due_in c (RelayReport s) = c.period - 4
+
+-- and heard
+abbrev pub heard_in : Calm → Slot → ℕ
+heard_in c Clock = 2
+heard_in c (Sense x) = 2
+heard_in c (RelaySense x) = 4
+heard_in c (Out w) = slice_index c.runs w + 2
+heard_in c Report = c.period - 4
+heard_in c (RelayReport s) = c.period - 2
+
+-- the task of a word
+abbrev pub task_at : Calm → ℕ → TaskTree
+task_at c w = get_or c.tasks w (record { outputs = 1; body = end })
+
+-- the mission: each unit runs each task, no fault comes, and all clocks are right
+abbrev pub mission_of : Calm → Mission
+mission_of c = record {
+  units = four_units;
+  frames = 1;
+  period = c.period;
+  sensors = length c.sensed;
+  words = length c.tasks;
+  tasks = length c.tasks;
+  slots = slot_count (layout_of c);
+  number = slot_number (layout_of c);
+  kind = c.kind;
+  due = λ us k. due_in c k;
+  heard_in = λ us k. heard_in c k;
+  task = λ w. w;
+  run_in = λ us t. slice_index c.runs t;
+  executes = λ us w u. true;
+  needs = c.needs;
+  word = λ w ins now last. slice_index (meaning (task_at c w) ins now last) 0;
+  starts = c.starts;
+  sensed = λ x f. slice_index c.sensed x;
+  works = λ u f. true;
+  override = λ u f k q. None;
+  storm = λ u. None;
+  skew = pos 0;
+  error = pos 0;
+  rate = pos 0;
+  length = pos 1;
+  offset = λ u. pos 0;
+  drift = λ u. pos 0;
+  errors = λ q p. pos 0;
+}
+
+-- the program that it runs
+abbrev pub program_of : Calm → ProgramTree
+program_of c = record { tasks = c.tasks; starts = c.starts }
+
+-- ---- its flight
+
+-- the word that each unit says in a slot
+abbrev pub word_in : Calm → Slot → ℕ
+word_in c Clock = 0
+word_in c (Sense x) = slice_index c.sensed x
+word_in c (RelaySense x) = slice_index c.sensed x
+word_in c (Out w) = slice_index c.outs w
+word_in c Report = 0
+word_in c (RelayReport s) = 0
+
+-- each unit's account
+abbrev pub account_of : Calm → Account
+account_of c = record { cfg = four_units; idle = false; clk = pos 0; ins = c.sensed; outs = c.outs; bad = nobody; next_cfg = four_units; next_clk = pos 0 }
+
+-- what a unit said and heard in the slots of the one frame
+abbrev pub acts_of : Calm → ℕ → Acts
+acts_of c u = record {
+  progress = c.period;
+  left = never;
+  seen = λ p. c.period;
+  said = λ f n q. if nat_eq f 0 && calls (mission_of c) four_units (c.kind n) u q
+      then Some (saying (stamp_of (mission_of c) four_units 0 (c.kind n)) (Some (word_in c (c.kind n)))) else None;
+  heard = λ f n p. if nat_eq f 0 && calls (mission_of c) four_units (c.kind n) p u
+      then Some (hearing (stamp_of (mission_of c) four_units 0 (c.kind n)) (heard_at (mission_of c) four_units 0 (c.kind n)) (Some (word_in c (c.kind n)))) else None;
+  strays = [];
+}
+
+-- the numbers of its units, slots and frames
+abbrev pub ranges_of : Calm → Ranges
+ranges_of c = record { units = 4; slots = slot_count (layout_of c); frames = 1 }
+
+-- the cell of p for q in slot number n: what p said last there
+abbrev pub cell_of : Calm → ℕ → ℕ → ℕ → ℕ
+cell_of c p q n = if calls (mission_of c) four_units (c.kind n) p q
+    then packed (stamp_of (mission_of c) four_units 0 (c.kind n)) (Some (word_in c (c.kind n))) else 0
+
+-- the shared words: four progress numbers, and then the cells by sender, receiver and slot
+abbrev pub shared_word : Calm → ℕ → ℕ
+shared_word c i =
+    let cells = slot_count (layout_of c) in
+    if nat_lt i 4 then c.period else cell_of c (((i - 4) / cells) / 4) (((i - 4) / cells) % 4) ((i - 4) % cells)
+
+-- the core after the frame
+abbrev pub core_of : Calm → Core
+core_of c = record { words = map (shared_word c) (range_with_len 0 (shared_words (ranges_of c))); of = acts_of c }
+
+-- ---- what it shows
+
+-- the mission can be flown, its program is run, its core and its boards' accounts have landed, and its frame has margin
+pub record FliesCalmly (c : Calm) : Type 0 where
+  pub flyable : IsFlyable (mission_of c)
+  pub runs : RunsProgram (mission_of c) (program_of c)
+  pub landed : HaveLanded (mission_of c) (ranges_of c) (core_of c) (λ u f. account_of c) 1
+  pub margin : HasMarginAt (mission_of c) (flight_of (mission_of c) (core_of c) (λ u f. account_of c)) 0

@@ -1,0 +1,10 @@
+pub mod Flight
+pub mod Hearing
+pub mod Round
+pub mod Landing
+pub mod Configuration
+pub mod Premises
+pub mod Headline
+pub mod Calm
+pub mod Calms
+pub mod Rows

@@ -1,0 +1,41 @@
+//! The laws of flights: where round flights come from, and that there is at most one.
+
+ghost use Rattle.sift_flight.specs.Calms.{CalmMissionsFly};
+ghost use Rattle.sift_flight.specs.Headline.{HeadlineHolds};
+ghost use Rattle.sift_flight.specs.Landing.{UnitsHearByTheEquations, LandedFramesAreRound};
+ghost use Rattle.sift_flight.specs.Round.{AtMostOneIsRound};
+ghost use Rattle.sift_flight.specs.Rows.{RowsHold};
+
+/// What units hear in a lawful core whose boards have kept their conduct, they hear by the hearing
+/// equations, strays included.
+pub fn units_hear_by_the_equations()
+    ensures { UnitsHearByTheEquations }
+{}
+
+/// The frames that each board has ended, or turned before, are frames of a round flight.
+pub fn landed_frames_are_round()
+    ensures { LandedFramesAreRound }
+{}
+
+/// A mission without storms has at most one round flight: two of them are the same in each account
+/// and each place.
+pub fn at_most_one_flight_is_round()
+    ensures { AtMostOneIsRound }
+{}
+
+/// In each frame with margin of a round flight: one configuration, the same inputs and reports, the
+/// ideal machine's outputs, no false accusation, exact removal, and clocks within the skew.
+pub fn headline_holds()
+    ensures { HeadlineHolds }
+{}
+
+/// Two small missions meet all premises of these laws: they can be flown, their core and boards have
+/// landed, and their frame has margin.
+pub fn calm_missions_fly()
+    ensures { CalmMissionsFly }
+{}
+
+/// Each definition of flights accepts one row and refuses another.
+pub fn rows_hold()
+    ensures { RowsHold }
+{}
