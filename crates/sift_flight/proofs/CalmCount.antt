@@ -15,7 +15,7 @@ use Rattle.sift_vote.specs.Agreed.{agreed_of}
 use Rattle.sift_unit.specs.Slots.{is_slot, executors}
 use Rattle.sift_unit.specs.Conduct.{made}
 use Rattle.sift_unit.specs.Fits.{Fits, IsNumbered}
-use Rattle.sift_flight.specs.Premises.{RunsProgram}
+use Rattle.sift_unit.specs.Premises.{RunsProgram}
 use Rattle.sift_flight.specs.Calm.{four_units, due_in, heard_in, mission_of, program_of, word_in, account_of, FliesCalmly}
 use Rattle.sift_flight.proofs.CalmActs.{IsPlain}
 use Rattle.sift_flight.proofs.CalmBoards.{IsCalm, calm_landed}

@@ -9,7 +9,7 @@ use Rattle.sift_program.specs.Sound.{output_count, first_word}
 use Rattle.sift_program.specs.Ideal.{ideal_frame}
 use Rattle.sift_program.proofs.Unique.{ideal_frame-unique}
 use Rattle.sift_unit.specs.Mission.{Mission}
-use Rattle.sift_flight.specs.Premises.{RunsProgram}
+use Rattle.sift_unit.specs.Premises.{RunsProgram}
 
 -- each word of a frame is the one that its task makes of the agreed words, the frame's own and those of the frame before
 pub record IsStep (m : Mission) (ins last outs : List ℕ) : Type 0 where

@@ -11,7 +11,7 @@ use Rattle.sift_flight.specs.Flight.{Flight, config_of}
 use Rattle.sift_flight.specs.Hearing.{Strays}
 use Rattle.sift_flight.specs.Round.{IsRound}
 use Rattle.sift_flight.specs.Configuration.{Works, lead_of, config_at, HasMarginAt}
-use Rattle.sift_flight.specs.Premises.{IsFlyable, RunsProgram}
+use Rattle.sift_unit.specs.Premises.{IsFlyable, RunsProgram}
 use Rattle.sift_flight.specs.Headline.{agreed_at, HeadlineHolds}
 use Rattle.sift_flight.proofs.Working.{InFrame, Member, member_of}
 use Rattle.sift_flight.proofs.Timing.{next_together}

@@ -8,7 +8,7 @@ use Rattle.sift_base.proofs.Others.{not_same}
 use Rattle.sift_unit.specs.Mission.{Mission}
 use Rattle.sift_flight.specs.Flight.{Flight, config_of}
 use Rattle.sift_flight.specs.Configuration.{Works, lead_of, config_at}
-use Rattle.sift_flight.specs.Premises.{IsFlyable}
+use Rattle.sift_unit.specs.Premises.{IsFlyable}
 
 -- where some unit of a list passes a test, the first that does is in the list, and passes
 first_passes : (p : ℕ → Bool) (us : List ℕ) (v : ℕ) → has us v ≡ true → p v ≡ true → (has us (unwrap_or (find p us) 0) ≡ true) × (p (unwrap_or (find p us) 0) ≡ true)

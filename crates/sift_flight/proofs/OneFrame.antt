@@ -12,7 +12,7 @@ use Rattle.sift_unit.specs.Frames.{last_of}
 use Rattle.sift_flight.specs.Flight.{Flight}
 use Rattle.sift_flight.specs.Hearing.{Strays}
 use Rattle.sift_flight.specs.Configuration.{Works, lead_of, config_at}
-use Rattle.sift_flight.specs.Premises.{RunsProgram}
+use Rattle.sift_unit.specs.Premises.{RunsProgram}
 use Rattle.sift_flight.specs.Headline.{agreed_at, Headline}
 use Rattle.sift_flight.proofs.Configs.{reader_in}
 use Rattle.sift_flight.proofs.Ideal.{IsStep, ideal_step}

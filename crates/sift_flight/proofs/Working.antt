@@ -15,7 +15,7 @@ use Rattle.sift_flight.specs.Flight.{Flight, config_of}
 use Rattle.sift_flight.specs.Hearing.{Strays}
 use Rattle.sift_flight.specs.Round.{RoundAt}
 use Rattle.sift_flight.specs.Configuration.{Works}
-use Rattle.sift_flight.specs.Premises.{IsFlyable}
+use Rattle.sift_unit.specs.Premises.{IsFlyable}
 use Rattle.sift_flight.proofs.Calls.{Call, call_is, both}
 
 -- frame f is one of a round flight, and us is the configuration of all units that work in it

@@ -20,7 +20,7 @@ use Rattle.sift_unit.specs.Account.{Account}
 use Rattle.sift_flight.specs.Configuration.{HasMarginAt}
 use Rattle.sift_flight.specs.Flight.{flight_of}
 use Rattle.sift_flight.specs.Landing.{HaveLanded}
-use Rattle.sift_flight.specs.Premises.{IsFlyable, RunsProgram}
+use Rattle.sift_unit.specs.Premises.{IsFlyable, RunsProgram}
 
 -- a calm mission: the length of its frame; its sensors' words; its tasks, each with one word, with the subframes in which they run, the
 -- words of this frame that they need, and their words before the frame and in it; and the slot of each number

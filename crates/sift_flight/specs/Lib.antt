@@ -3,7 +3,6 @@ pub mod Hearing
 pub mod Round
 pub mod Landing
 pub mod Configuration
-pub mod Premises
 pub mod Headline
 pub mod Calm
 pub mod Calms

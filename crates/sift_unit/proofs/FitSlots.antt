@@ -6,10 +6,12 @@ use Rattle.sift_base.specs.declared.slot.Slot.{Slot}
 use Rattle.sift_base.specs.declared.slot.Slot.TheVariants.{Clock, Sense, RelaySense, Out, Report, RelayReport}
 use Rattle.sift_unit.specs.Data.{MissionData}
 use Rattle.sift_unit.specs.Fits.{IsNumbered}
-use Rattle.sift_unit.specs.Flown.{flown, slot_kind}
+use Rattle.sift_base.specs.Layout.{slot_kind}
+use Rattle.sift_unit.specs.Flown.{flown}
 use Rattle.sift_unit.specs.PartsFit.{PartsFit}
 use Rattle.sift_unit.specs.Slots.{is_slot}
-use Rattle.sift_unit.proofs.Numbers.{has-range, kind-of-number, number-of-kind, range-has}
+use Rattle.sift_base.proofs.Numbers.{kind-of-number, number-of-kind}
+use Rattle.sift_unit.proofs.Numbers.{has-range, range-has}
 
 module _ (d : MissionData) (fit : PartsFit d) where
   -- the mission's slots are those of its layout

@@ -1,6 +1,6 @@
 -- The mission as flights see it, from its data.
 use Rattle.std.specs.Prelude.{ℕ, suc, ◌+◌, ◌-◌, ◌*◌, ◌%◌, List, [], ◌∷◌, length, slice_index, slice_index_or, Bool, ◌&&◌, nat_eq, nat_lt, if◌then◌else◌, option_map, ℤ, pos}
-use Rattle.sift_base.specs.Layout.{least_units, slot_count, slot_number}
+use Rattle.sift_base.specs.Layout.{least_units, slot_count, slot_kind, slot_number}
 use Rattle.sift_base.specs.Shapes.{first_word, shape_at}
 use Rattle.sift_base.specs.Units.{has}
 use Rattle.sift_base.specs.declared.layout.Layout.{Layout}
@@ -19,24 +19,6 @@ use Rattle.sift_unit.specs.declared.parts.MissionParts.{MissionParts}
 use Rattle.sift_unit.specs.Mission.{Mission}
 use Rattle.sift_unit.specs.Needs.{task_at}
 use Rattle.sift_unit.specs.PartsFit.{table_at}
-
--- ---- slots
-
--- the slot of a number behind those of the clock, the sensors and their relays: a word, the report, or a unit's report
-abbrev pub kind_behind_sensors : Layout → ℕ → Slot
-kind_behind_sensors layout i =
-    let first = 1 + 2 * layout.sensors in
-    if nat_lt i (first + layout.words) then Out (i - first)
-    else if nat_eq i (first + layout.words) then Report
-    else RelayReport (i - (first + layout.words + 1))
-
--- the slot of a number
-abbrev pub slot_kind : Layout → ℕ → Slot
-slot_kind layout i =
-    if nat_eq i 0 then Clock
-    else if nat_lt i (1 + layout.sensors) then Sense (i - 1)
-    else if nat_lt i (1 + 2 * layout.sensors) then RelaySense (i - (1 + layout.sensors))
-    else kind_behind_sensors layout i
 
 -- ---- tables
 

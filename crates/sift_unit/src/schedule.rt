@@ -4,7 +4,8 @@ ghost use Rattle.std.specs.Prelude.{◌≡◌, ◌-◌, ◌<◌, ◌≤◌, leng
 ghost use Rattle.sift_base.specs.Layout.{IsLayout, slot_count};
 ghost use Rattle.sift_unit.specs.Acts.{IsConfigOf};
 ghost use Rattle.sift_unit.specs.Data.{data_of};
-ghost use Rattle.sift_unit.specs.Flown.{mission_of, slot_kind, table_for};
+ghost use Rattle.sift_base.specs.Layout.{slot_kind};
+ghost use Rattle.sift_unit.specs.Flown.{mission_of, table_for};
 ghost use Rattle.sift_unit.specs.Slots.{calls, is_senders};
 
 use crate::mission::Mission;
