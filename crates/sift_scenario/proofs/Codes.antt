@@ -13,8 +13,8 @@ use Rattle.sift_compile.specs.Length.{task_steps}
 use Rattle.sift_lang.specs.Sound.{IsSound}
 use Rattle.sift_lang.specs.Tree.{TaskTree}
 use Rattle.sift_parse.proofs.SoundTask.{HasWords}
-use Rattle.sift_parse.specs.Force.{Roll, words_before}
 use Rattle.sift_parse.specs.Outcome.{AreNames}
+use Rattle.sift_parse.specs.Roll.{first_word, Roll}
 use Rattle.sift_scenario.proofs.Places.{pushed}
 use Rattle.sift_scenario.proofs.Programs.{sound_tree}
 use Rattle.sift_scenario.specs.Flight.{AreCodesOf}
@@ -26,7 +26,7 @@ pub sound_form : (r : Roll) (form : Form) (tree : TaskTree) → AreNames r → H
 sound_form r (linear factor addend) tree names here sensors is =
     let some = names.some_words r.this 0 here in
     let room = sum_by_more_le (λ n. n) r.sizes r.this 0 here in
-    rw is (sound_tree (words_before r r.this) (sum r.sizes) factor addend (omega (arith, some, room)))
+    rw is (sound_tree (first_word r r.this) (sum r.sizes) factor addend (omega (arith, some, room)))
 sound_form r (text bytes) tree names here sensors is =
     subst (λ (n : ℕ). IsSound n (sum r.sizes) tree) (ap length sensors) is.sound
 
