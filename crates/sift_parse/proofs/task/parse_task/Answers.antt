@@ -3,7 +3,7 @@ use Rattle.std.proofs.lemmas.List.{get_or-map, length-map}
 use Rattle.sift_lang.specs.Tree.{block_of}
 use Rattle.sift_parse.specs.Refusal.{IsParsed}
 use Rattle.sift_parse.specs.Roll.{roll_of}
-use Rattle.sift_parse.proofs.SoundTask.{has_size, task_is_sound}
+use Rattle.sift_parse.proofs.SoundTask.{has_size, has_words, task_is_sound}
 use Rattle.sift_parse.proofs.task.parse_task.Goals as goal
 
 -- the body is that of the text, with as many output words as the task has
@@ -17,4 +17,4 @@ returns-clause-answer c =
 
 -- that task is sound
 pub returns-clause-sound : goal.returns-clause-sound
-returns-clause-sound c = task_is_sound (roll_of c.args.names.now) c.args.text.now _ (has_size c.args.names.now c.requires) (returns-clause-answer c)
+returns-clause-sound c = task_is_sound (roll_of c.args.names.now) c.args.text.now _ (has_size _ c.requires (has_words c.args.names.now c.requires)) (returns-clause-answer c)
