@@ -3,7 +3,10 @@ use Rattle.std.specs.Prelude.{ℕ, ◌≡◌, ◌≤◌, ◌⊎◌, List, [], �
 use Rattle.std.specs.Char.{IsAsciiLowercase, IsAsciiDigit}
 use Rattle.std.specs.List.{All, Contains}
 use Rattle.std.specs.Str.{byte}
-use Rattle.sift_base.specs.declared.name.TheConstants.{NAME_LIMIT}
+
+-- the most bytes of a name
+abbrev pub name_limit : ℕ
+name_limit = 16
 
 -- the words that the language of tasks keeps for itself
 abbrev pub keywords : List (List ℕ)
@@ -21,5 +24,5 @@ HasNameForm (first ∷ rest) = IsAsciiLowercase first × All IsNameByte rest
 -- the bytes are a name: they have its form, are no more than may be, and are no keyword
 pub record IsName (bytes : List ℕ) : Type 0 where
   pub formed : HasNameForm bytes
-  pub short : length bytes ≤ NAME_LIMIT
+  pub short : length bytes ≤ name_limit
   pub free : ¬ Contains keywords bytes

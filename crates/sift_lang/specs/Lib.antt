@@ -1,4 +1,5 @@
 pub mod Frame
+pub mod Limits
 pub mod Meaning
 pub mod Sound
 pub mod Tree

@@ -1,6 +1,7 @@
 -- Which tasks are sound: what they name is there, and what they need stays within the limits.
 use Rattle.std.specs.Prelude.{ℕ, ◌+◌, ◌<◌, ◌≤◌, max}
-use Rattle.sift_lang.specs.declared.tree.TheConstants.{LOCAL_LIMIT, REPEAT_LIMIT, ROUND_LIMIT, OUTPUT_LIMIT, NEED_LIMIT}
+use Rattle.sift_base.specs.Shapes.{output_limit}
+use Rattle.sift_lang.specs.Limits.{local_limit, repeat_limit, round_limit, need_limit}
 use Rattle.sift_lang.specs.Tree.{Term, number, local, sense, this_frame, last_frame, minus, binary, middle, Statement, bind, assign, output, choose, choose_else, repeat, Block, end, step, TaskTree}
 
 -- how many words a term needs at once, where its parts are computed from the left
@@ -60,18 +61,18 @@ pub record Bounds : Type 0 where
 -- the term names what is there, where so many locals live, and needs no more than may be
 pub record IsSoundTerm (b : Bounds) (locals : ℕ) (t : Term) : Type 0 where
   pub names : NamesWithin b.sensors b.words locals t
-  pub needs : need t ≤ NEED_LIMIT
+  pub needs : need t ≤ need_limit
 
 abbrev mutual
   -- the statement is sound, where so many locals live
   pub IsSoundStatement : Bounds → ℕ → Statement → Type 0
-  IsSoundStatement b locals (bind t) = IsSoundTerm b locals t × (locals < LOCAL_LIMIT)
+  IsSoundStatement b locals (bind t) = IsSoundTerm b locals t × (locals < local_limit)
   IsSoundStatement b locals (assign l t) = IsSoundTerm b locals t × (l < locals)
   IsSoundStatement b locals (output j t) = IsSoundTerm b locals t × (j < b.outputs)
   IsSoundStatement b locals (choose t first) = IsSoundTerm b locals t × IsSoundBlock b locals first
   IsSoundStatement b locals (choose_else t first second) =
       IsSoundTerm b locals t × IsSoundBlock b locals first × IsSoundBlock b locals second
-  IsSoundStatement b locals (repeat k body) = (k ≤ ROUND_LIMIT) × IsSoundBlock b locals body
+  IsSoundStatement b locals (repeat k body) = (k ≤ round_limit) × IsSoundBlock b locals body
 
   -- each statement of the block is sound in its place
   pub IsSoundBlock : Bounds → ℕ → Block → Type 0
@@ -82,8 +83,8 @@ abbrev mutual
 -- the task is sound for so many sensors and so many voted words
 pub record IsSound (sensors words : ℕ) (task : TaskTree) : Type 0 where
   pub some_output : 0 < task.outputs
-  pub few_outputs : task.outputs ≤ OUTPUT_LIMIT
-  pub few_repeats : open_repeats_in task.body ≤ REPEAT_LIMIT
+  pub few_outputs : task.outputs ≤ output_limit
+  pub few_repeats : open_repeats_in task.body ≤ repeat_limit
   pub sound_body : IsSoundBlock (record { sensors = sensors; words = words; outputs = task.outputs }) 0 task.body
 
 -- ---- words voted in this frame

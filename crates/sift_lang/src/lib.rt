@@ -11,4 +11,5 @@ mod tree;
 pub use evaluator::eval;
 pub use tree::{
     Expr, LOCAL_LIMIT, NEED_LIMIT, OUTPUT_LIMIT, Op, REPEAT_LIMIT, ROUND_LIMIT, Stmt, Task,
+    limits_are_the_languages,
 };

@@ -1,3 +1,8 @@
+//! The trees of tasks, and the limits of the language.
+ghost use Rattle.std.specs.Prelude.{◌≡◌};
+ghost use Rattle.sift_base.specs.Shapes.{output_limit};
+ghost use Rattle.sift_lang.specs.Limits.{local_limit, repeat_limit, round_limit, need_limit};
+
 use sift_base::Word;
 
 /// The most locals that may live at once, hidden ones counted.
@@ -14,6 +19,15 @@ pub const OUTPUT_LIMIT: usize = 8;
 
 /// The most that an expression may need.
 pub const NEED_LIMIT: usize = 256;
+
+/// The limits that the code holds are those of the language.
+pub fn limits_are_the_languages()
+    ensures locals { LOCAL_LIMIT ≡ local_limit }
+    ensures repeats { REPEAT_LIMIT ≡ repeat_limit }
+    ensures rounds { ROUND_LIMIT ≡ round_limit }
+    ensures outputs { OUTPUT_LIMIT ≡ output_limit }
+    ensures needs { NEED_LIMIT ≡ need_limit }
+{}
 
 /// An operator of two words.
 #[derive(Clone, Copy, Debug, PartialEq, Eq)]

@@ -7,10 +7,12 @@ use Rattle.sift_parse.specs.declared.token.Keyword.{Keyword}
 use Rattle.sift_parse.specs.declared.token.Keyword.TheVariants.{Let, Out, Repeat, Now, Last}
 use Rattle.sift_parse.specs.declared.token.Sign.{Sign}
 use Rattle.sift_parse.specs.declared.token.Sign.TheVariants.{Assign, Dot, Semicolon}
+use Rattle.sift_parse.specs.Force.{Force, at_start, advance, opens, keyword_before, number_named, task_asked}
+use Rattle.sift_parse.specs.Keywords.{keyword_of}
 use Rattle.sift_parse.specs.Lexeme.{Lexeme, word, numeral, operator, mark, Placed}
-use Rattle.sift_parse.specs.Force.{Roll, Force, at_start, advance, opens, keyword_of, keyword_before, number_named, task_asked}
-use Rattle.sift_parse.specs.Linear.{HasOneWord}
 use Rattle.sift_parse.specs.Outcome.{AreNames}
+use Rattle.sift_parse.specs.Roll.{Roll}
+use Rattle.sift_parse.specs.Linear.{HasOneWord}
 use Rattle.sift_parse.specs.Refusal.{no_lexeme_here, no_syntax, long_name, large_number, many_rounds, many_locals, deep_level, unknown_name, later_task, LacksWord, lexemes_of}
 use Rattle.sift_parse.specs.Scanned.{NoneAt, IsFine}
 use Rattle.sift_parse.proofs.LinearLexemes.{linear_lexemes}

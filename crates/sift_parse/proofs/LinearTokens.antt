@@ -12,10 +12,12 @@ use Rattle.sift_parse.specs.declared.token.Keyword.TheVariants.{Out, Last}
 use Rattle.sift_parse.specs.declared.token.Sign.TheVariants.{Assign, Dot, Semicolon}
 use Rattle.sift_parse.specs.declared.token.Token.{Token}
 use Rattle.sift_parse.specs.declared.token.Token.TheVariants.{Keyword, Name, Number, Index, Operator, Sign}
-use Rattle.sift_parse.specs.Force.{Roll, number_in, keyword_of, words_before, tokens_of}
+use Rattle.sift_parse.specs.Force.{tokens_of}
+use Rattle.sift_parse.specs.Keywords.{keyword_of}
+use Rattle.sift_parse.specs.Outcome.{AreDistinct, AreNames}
+use Rattle.sift_parse.specs.Roll.{first_word, Roll, number_in}
 use Rattle.sift_parse.specs.Grammar.{IsPrim, a_number, of_last_frame, IsLevel, a_prim, a_chain, no_more, more, an_output, IsTask, no_statement, a_statement}
 use Rattle.sift_parse.specs.Linear.{linear_tree, HasOneWord}
-use Rattle.sift_parse.specs.Outcome.{AreDistinct, AreNames}
 use Rattle.sift_parse.proofs.LinearLexemes.{linear_lexemes}
 
 -- ---- the name
@@ -74,9 +76,9 @@ linear_tokens task word factor addend = Keyword Out ∷ Index 0 ∷ Sign Assign 
 fits : (n : ℕ) → n < 2 ^ 16 → nat_le n 65535 ≡ true
 fits n lt = grind (arith, nat_tests)
 
-pub linear_tokens_of : (r : Roll) (name : List ℕ) (factor addend : ℕ) → AreNames r → HasOneWord r name → factor < 2 ^ 16 → addend < 2 ^ 16 → tokens_of r (linear_lexemes name factor addend) ≡ linear_tokens r.this (words_before r r.this) factor addend
+pub linear_tokens_of : (r : Roll) (name : List ℕ) (factor addend : ℕ) → AreNames r → HasOneWord r name → factor < 2 ^ 16 → addend < 2 ^ 16 → tokens_of r (linear_lexemes name factor addend) ≡ linear_tokens r.this (first_word r r.this) factor addend
 linear_tokens_of r name factor addend names own small lt =
-    let sum : words_before r r.this + 0 ≡ words_before r r.this = omega arith in
+    let sum : first_word r r.this + 0 ≡ first_word r r.this = omega arith in
     rw (no_keyword name own.is_name.free, own_number r name names own, own.one_word, fits factor small, fits addend lt, sum) refl
 
 -- ---- the tree

@@ -7,7 +7,8 @@ use Rattle.std.proofs.Math.Numerals.{add-one}
 use Rattle.std.proofs.lemmas.List.{reverse-append, reverse-reverse, length-reverse, length-map, length-take-le, get_or-map, map-append, take-append-drop, take-map}
 use Rattle.std.proofs.lemmas.List.Sums.{sum_by_more}
 use Rattle.std.proofs.Math.Seq.{drop-append_seam, drop-cons, take-suc}
-use Rattle.sift_parse.specs.Force.{oldest, local_of}
+use Rattle.sift_parse.specs.Force.{oldest}
+use Rattle.sift_parse.specs.Tokens.{local_of}
 
 -- the last comes first
 pub reverse-map-pushed : {A B : Type 0} (f : A → B) (xs : List A) (y : A) → reverse (map f (xs ++ y ∷ [])) ≡ f y ∷ reverse (map f xs)

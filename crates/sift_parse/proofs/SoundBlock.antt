@@ -5,9 +5,11 @@ use Rattle.sift_lang.specs.Sound.{open_repeats, open_repeats_in, locals_after, B
 use Rattle.sift_parse.specs.declared.token.Sign.TheVariants.{Assign, OpenBrace, CloseBrace, Semicolon}
 use Rattle.sift_parse.specs.declared.token.Token.{Token}
 use Rattle.sift_parse.specs.declared.token.Token.TheVariants.{Sign}
+use Rattle.sift_parse.specs.Force.{Force, Level, block, advance, keyword_before, without_minuses, leave_block, end_let, oldest}
 use Rattle.sift_parse.specs.Lexeme.{mark}
+use Rattle.sift_parse.specs.Roll.{first_word, Roll}
+use Rattle.sift_parse.specs.Tokens.{role_after, old_local}
 use Rattle.sift_parse.specs.Grammar.{IsExpr}
-use Rattle.sift_parse.specs.Force.{Roll, Force, Level, block, advance, keyword_before, without_minuses, leave_block, end_let, oldest, role_after, old_local, words_before}
 use Rattle.sift_parse.proofs.SoundPlace.{Place, sign-at}
 use Rattle.sift_parse.proofs.SoundForce.{deeper}
 use Rattle.sift_parse.proofs.SoundPrim.{IsPast, carried}
@@ -33,7 +35,7 @@ pub record IsDone (r : Roll) (f : Force) (rest : List Token) (s : Statement) : T
   pub role : role_after (keyword_before force) ≡ old_local
   pub locals : length force.locals ≡ locals_after (length f.locals) s
   pub sound : IsSoundStatement (bounds r) (length f.locals) s
-  pub nows : EachTermOf (NowsBelow (words_before r r.this)) s
+  pub nows : EachTermOf (NowsBelow (first_word r r.this)) s
   pub repeats : open_repeats s + length f.levels ≤ 32
 
 -- the block was read: the levels are as they were, and no local is gone
@@ -43,7 +45,7 @@ pub record IsThrough (r : Roll) (f : Force) (rest : List Token) (b : Block) : Ty
   pub levels : force.levels ≡ f.levels
   pub locals : length f.locals ≤ length force.locals
   pub sound : IsSoundBlock (bounds r) (length f.locals) b
-  pub nows : EachTerm (NowsBelow (words_before r r.this)) b
+  pub nows : EachTerm (NowsBelow (first_word r r.this)) b
   pub repeats : open_repeats_in b + length f.levels ≤ 32
   pub pending : force.pending ≡ None
 
@@ -56,7 +58,7 @@ pub record IsBraced (r : Roll) (f : Force) (rest : List Token) (b : Block) : Typ
   pub role : role_after (keyword_before force) ≡ old_local
   pub locals : length force.locals ≡ length f.locals
   pub sound : IsSoundBlock (bounds r) (length f.locals) b
-  pub nows : EachTerm (NowsBelow (words_before r r.this)) b
+  pub nows : EachTerm (NowsBelow (first_word r r.this)) b
   pub repeats : open_repeats_in b + (length f.levels + 1) ≤ 32
 
 -- ---- values
@@ -79,7 +81,7 @@ pub end-place : (r : Roll) (f : Force) (o : Option (List ℕ)) (rest : List Toke
 end-place r f o rest e p = subst (λ o. Place r (end_force o f) rest) e (sign-at r f Semicolon rest p).place
 
 -- a statement that makes no local ends with its value
-pub value-done : (r : Roll) (f g : Force) (rest : List Token) (t : Term) (s : Statement) → IsPast r g (Sign Semicolon ∷ rest) t 0 → without_minuses g.levels ≡ f.levels → g.pending ≡ None → length g.locals ≡ length f.locals → locals_after (length f.locals) s ≡ length f.locals → IsSoundStatement (bounds r) (length f.locals) s → EachTermOf (NowsBelow (words_before r r.this)) s → open_repeats s + length f.levels ≤ 32 → IsDone r f rest s
+pub value-done : (r : Roll) (f g : Force) (rest : List Token) (t : Term) (s : Statement) → IsPast r g (Sign Semicolon ∷ rest) t 0 → without_minuses g.levels ≡ f.levels → g.pending ≡ None → length g.locals ≡ length f.locals → locals_after (length f.locals) s ≡ length f.locals → IsSoundStatement (bounds r) (length f.locals) s → EachTermOf (NowsBelow (first_word r r.this)) s → open_repeats s + length f.levels ≤ 32 → IsDone r f rest s
 value-done r f g rest t s i levels pending locals same sound nows repeats =
     let none : i.force.pending ≡ None = i.pending ∙ pending in
     record {

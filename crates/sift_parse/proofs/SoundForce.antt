@@ -4,8 +4,11 @@ use Rattle.sift_lang.specs.declared.tree.Op.{Op}
 use Rattle.sift_lang.specs.declared.tree.Op.TheVariants.{Add, Sub, Mul, Div, Rem, And, Or, Xor, Shl, Shr, Lt, Eq}
 use Rattle.sift_parse.specs.declared.token.Keyword.{Keyword}
 use Rattle.sift_parse.specs.declared.token.Token.{Token}
+use Rattle.sift_parse.specs.Force.{Force, Level, block, parenthesis, negation, keyword_before, opens, without_minuses, after_name, after_word, named_by}
 use Rattle.sift_parse.specs.Lexeme.{Lexeme, word, operator}
-use Rattle.sift_parse.specs.Force.{Roll, Force, Level, block, parenthesis, negation, keyword_before, ends_operand, opens, without_minuses, Role, role_after, old_local, after_name, after_word, named_by}
+use Rattle.sift_parse.specs.Roll.{Roll}
+use Rattle.sift_parse.specs.Tokens.{Role, role_after, old_local}
+use Rattle.sift_parse.specs.Levels.{ends_operand}
 use Rattle.sift_parse.proofs.SoundPlace.{Fits, Place, Goes, IsKeyword, IsNamed}
 
 -- an expression may start here: a `-` is a minus, and a name is a local's

@@ -3,7 +3,8 @@ use Rattle.std.proofs.Common.{◌≡◌, ℕ, zero, suc, ◌+◌, ◌<◌, Bool,
 use Rattle.std.specs.List.{position_from}
 use Rattle.std.specs.Str.{bytes_eq}
 use Rattle.std.proofs.lemmas.List.Sums.{sum_by-cons, sum_by-take-le}
-use Rattle.sift_parse.specs.Force.{Roll, number_in, words_before, local_of}
+use Rattle.sift_parse.specs.Roll.{first_word, Roll, number_in}
+use Rattle.sift_parse.specs.Tokens.{local_of}
 
 -- ---- names
 
@@ -37,9 +38,9 @@ before-below (x ∷ xs) zero (suc j) m lt h = omega (arith, sum_by-cons (λ x. x
 before-below (x ∷ xs) (suc i) (suc j) m lt h = let s = before-below xs i j m (omega arith) h in omega (arith, sum_by-cons (λ x. x) x (take j xs), sum_by-cons (λ x. x) x (take i xs))
 
 -- a word of an earlier task stands before those of this one
-pub word-before : (r : Roll) (task this m : ℕ) → task < this → m < slice_index r.sizes task → words_before r task + m < words_before r this
+pub word-before : (r : Roll) (task this m : ℕ) → task < this → m < slice_index r.sizes task → first_word r task + m < first_word r this
 word-before r task this m lt h = before-below r.sizes task this m lt h
 
 -- a word of a task is one of all
-pub word-below : (r : Roll) (task m : ℕ) → m < slice_index r.sizes task → words_before r task + m < sum r.sizes
+pub word-below : (r : Roll) (task m : ℕ) → m < slice_index r.sizes task → first_word r task + m < sum r.sizes
 word-below r task m h = let s = before-below r.sizes task (suc task) m (omega arith) h in omega (arith, sum_by-take-le (λ x. x) r.sizes (suc task))

@@ -7,8 +7,11 @@ use Rattle.sift_parse.specs.declared.token.Keyword.TheVariants.{Sense, Now}
 use Rattle.sift_parse.specs.declared.token.Sign.TheVariants.{Dot}
 use Rattle.sift_parse.specs.declared.token.Token.{Token}
 use Rattle.sift_parse.specs.declared.token.Token.TheVariants.{Keyword, Name, Index, Sign}
+use Rattle.sift_parse.specs.Force.{Force, advance, keyword_before, without_minuses}
 use Rattle.sift_parse.specs.Lexeme.{numeral, mark}
-use Rattle.sift_parse.specs.Force.{Roll, Force, advance, keyword_before, ends_operand, without_minuses, role_after, a_sensor, a_task, old_local, number_in, words_before}
+use Rattle.sift_parse.specs.Roll.{first_word, Roll, number_in}
+use Rattle.sift_parse.specs.Tokens.{role_after, a_sensor, a_task, old_local}
+use Rattle.sift_parse.specs.Levels.{ends_operand}
 use Rattle.sift_parse.specs.Refusal.{IsNotBefore}
 use Rattle.sift_parse.proofs.SoundPlace.{Place, sign-at, keyword-at, name-at}
 use Rattle.sift_parse.proofs.SoundNumber.{index-at}
@@ -24,7 +27,7 @@ pub record IsPast (r : Roll) (f : Force) (rest : List Token) (t : Term) (bound :
   pub pending : force.pending ≡ f.pending
   pub ended : ends_operand force.before ≡ true
   pub names : NamesWithin (length r.sensors) (sum r.sizes) (length f.locals) t
-  pub nows : NowsBelow (words_before r r.this) t
+  pub nows : NowsBelow (first_word r r.this) t
   pub needs : need t + bound ≤ 230
 
 -- the same, for what was in force at an earlier place with the same levels, but for minuses, and the same locals
@@ -87,7 +90,7 @@ pub record IsPastWord (r : Roll) (f : Force) (k : keywords.Keyword) (w : ℕ) (r
   pub pending : force.pending ≡ f.pending
   pub ended : ends_operand force.before ≡ true
   pub within : w < sum r.sizes
-  pub earlier : k ≡ Now → w < words_before r r.this
+  pub earlier : k ≡ Now → w < first_word r r.this
 
 unless : (r : Roll) (o : Option ℕ) (task : ℕ) → o ≡ Some task → ¬ IsNotBefore r o → task < r.this
 unless r o task e h = below task r.this (λ le. h (subst (IsNotBefore r) (sym e) le))

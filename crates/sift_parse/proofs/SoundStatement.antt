@@ -6,9 +6,11 @@ use Rattle.sift_parse.specs.declared.token.Keyword.TheVariants.{Let, Out, If, El
 use Rattle.sift_parse.specs.declared.token.Sign.TheVariants.{Assign, OpenBrace, CloseBrace, Semicolon}
 use Rattle.sift_parse.specs.declared.token.Token.{Token}
 use Rattle.sift_parse.specs.declared.token.Token.TheVariants.{Keyword, Name, Number, Index, Sign}
+use Rattle.sift_parse.specs.Force.{Force, advance, without_minuses}
 use Rattle.sift_parse.specs.Lexeme.{numeral}
+use Rattle.sift_parse.specs.Roll.{Roll}
+use Rattle.sift_parse.specs.Tokens.{role_after, new_local, old_local, task_after}
 use Rattle.sift_parse.specs.Grammar.{IsExpr, IsStatement, a_let, an_assignment, an_output, an_if, an_if_else, a_repeat, IsBlock, no_statement, a_statement}
-use Rattle.sift_parse.specs.Force.{Roll, Force, advance, without_minuses, role_after, new_local, old_local, task_after}
 use Rattle.sift_parse.proofs.SoundPlace.{Place, keyword-at, name-at}
 use Rattle.sift_parse.proofs.SoundNumber.{number-at, index-at}
 use Rattle.sift_parse.proofs.SoundNames.{local_of-below}

@@ -8,9 +8,11 @@ use Rattle.sift_parse.specs.declared.token.Keyword.TheVariants.{Mid, Now, Last}
 use Rattle.sift_parse.specs.declared.token.Sign.TheVariants.{OpenParen, CloseParen, Comma}
 use Rattle.sift_parse.specs.declared.token.Token.{Token}
 use Rattle.sift_parse.specs.declared.token.Token.TheVariants.{Number, Sign}
+use Rattle.sift_parse.specs.Force.{Force, advance, without_minuses}
 use Rattle.sift_parse.specs.Lexeme.{numeral, mark, operator}
+use Rattle.sift_parse.specs.Roll.{first_word, Roll}
+use Rattle.sift_parse.specs.Levels.{ends_operand}
 use Rattle.sift_parse.specs.Grammar.{IsPrim, a_number, a_minus, in_parens, a_local, a_middle, a_sensor, of_this_frame, of_last_frame, IsLevel, a_prim, a_chain, IsTail, no_more, compared, more}
-use Rattle.sift_parse.specs.Force.{Roll, Force, advance, ends_operand, without_minuses, words_before}
 use Rattle.sift_parse.proofs.SoundPlace.{Place, sign-at, operator-at, keyword-at}
 use Rattle.sift_parse.proofs.SoundNumber.{number-at}
 use Rattle.sift_parse.proofs.SoundForce.{Starts, word_force, minus_force, joined_force, keyword-place, minus-opens, minus-place, joined-place, deeper, bare-twice, bare-short}
@@ -66,7 +68,7 @@ few-after : (r : Roll) (f : Force) (us : List Token) (t : Term) (bound : ℕ) �
 few-after r f us t bound i few = let h : length i.force.levels ≡ length (without_minuses f.levels) = ap length i.levels in omega (arith, bare-short f.levels)
 
 -- an operand joins
-binary-past : (r : Roll) (f : Force) (n : ℕ) (op : Op) (x y : Term) (rest : List Token) → without_minuses f.levels ≡ f.levels → NamesWithin (length r.sensors) (sum r.sizes) (length f.locals) x → NowsBelow (words_before r r.this) x → need x + (7 * length f.levels + n) ≤ 230 → IsPast r (joined_force op f) rest y (7 * length (without_minuses f.levels) + suc n) → IsPast r f rest (binary op x y) (7 * length f.levels + n)
+binary-past : (r : Roll) (f : Force) (n : ℕ) (op : Op) (x y : Term) (rest : List Token) → without_minuses f.levels ≡ f.levels → NamesWithin (length r.sensors) (sum r.sizes) (length f.locals) x → NowsBelow (first_word r r.this) x → need x + (7 * length f.levels + n) ≤ 230 → IsPast r (joined_force op f) rest y (7 * length (without_minuses f.levels) + suc n) → IsPast r f rest (binary op x y) (7 * length f.levels + n)
 binary-past r f n op x y rest bare names nows needs i = record { force = i.force; place = i.place; levels = i.levels; locals = i.locals; pending = i.pending; ended = i.ended; names = (names, i.names); nows = (nows, i.nows); needs = (let a = i.needs in let same : length (without_minuses f.levels) ≡ length f.levels = ap length bare in omega arith) }
 
 -- ---- all rules
@@ -113,7 +115,7 @@ mutual
       let j = tail-past r i.force m x mid vs y q i.ended bare (few-after r f mid x (7 * length (without_minuses f.levels) + suc m) i few) names i.nows (let a = i.needs in omega arith) i.place in
       carried r f i.force vs y (7 * length i.force.levels + m) (7 * length (without_minuses f.levels) + m) j (bare ∙ i.levels) i.locals i.pending (omega arith)
 
-  tail-past : (r : Roll) (f : Force) (n : ℕ) (x : Term) (ts rest : List Token) (t : Term) → IsTail n x ts t rest → ends_operand f.before ≡ true → without_minuses f.levels ≡ f.levels → length f.levels ≤ 32 → NamesWithin (length r.sensors) (sum r.sizes) (length f.locals) x → NowsBelow (words_before r r.this) x → need x + (7 * length f.levels + n) ≤ 230 → Place r f ts → IsPast r f rest t (7 * length f.levels + n)
+  tail-past : (r : Roll) (f : Force) (n : ℕ) (x : Term) (ts rest : List Token) (t : Term) → IsTail n x ts t rest → ends_operand f.before ≡ true → without_minuses f.levels ≡ f.levels → length f.levels ≤ 32 → NamesWithin (length r.sensors) (sum r.sizes) (length f.locals) x → NowsBelow (first_word r r.this) x → need x + (7 * length f.levels + n) ≤ 230 → Place r f ts → IsPast r f rest t (7 * length f.levels + n)
   tail-past r f n x ts rest t (no_more m y vs) e bare few names nows needs p = record { force = f; place = p; levels = sym bare; locals = refl; pending = refl; ended = e; names = names; nows = nows; needs = needs }
   tail-past r f n x ts rest t (compared op y z us vs at d) e bare few names nows needs p =
       let h = operator-at r f op us p in

@@ -8,8 +8,9 @@ use Rattle.std.proofs.lemmas.List.Sums.{fold-append}
 use Rattle.sift_parse.specs.declared.lexer.Placed as held_placed
 use Rattle.sift_parse.specs.declared.refusal.Refusal as held
 use Rattle.sift_parse.specs.declared.token.Token.{Token}
+use Rattle.sift_parse.specs.Force.{Force, at_start, advance, force_after, token_of, tokens_from, tokens_of}
 use Rattle.sift_parse.specs.Lexeme.{Lexeme, Placed}
-use Rattle.sift_parse.specs.Force.{Roll, Force, at_start, advance, force_after, token_of, tokens_from, tokens_of}
+use Rattle.sift_parse.specs.Roll.{Roll}
 use Rattle.sift_parse.specs.Refusal.{lexemes_of}
 use Rattle.sift_parse.specs.Scanned.{NoneAt, IsFirst, IsFine, IsRefusedIn, kind_of, stop_of}
 use Rattle.sift_parse.specs.Written.{placed_of, lexeme_of}

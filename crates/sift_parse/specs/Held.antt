@@ -4,8 +4,9 @@ use Rattle.std.specs.Option.{ForSome}
 use Rattle.sift_parse.specs.declared.force.Force as held
 use Rattle.sift_parse.specs.declared.force.Level as held_level
 use Rattle.sift_parse.specs.declared.force.Level.TheVariants as variant
-use Rattle.sift_parse.specs.Force.{Level, block, parenthesis, negation, Force, Roll, number_named}
+use Rattle.sift_parse.specs.Force.{Level, block, parenthesis, negation, Force, number_named}
 use Rattle.sift_parse.specs.Lexeme.{Lexeme, word}
+use Rattle.sift_parse.specs.Roll.{Roll}
 use Rattle.sift_parse.specs.Written.{lexeme_of}
 
 -- the level that the code holds

@@ -8,6 +8,7 @@ use Rattle.sift_lang.specs.declared.tree.Op.{Op}
 use Rattle.sift_lang.specs.declared.tree.Op.TheVariants.{Add, Sub, Mul, Div, Rem, And, Or, Xor, Shl, Shr, Lt, Eq}
 use Rattle.sift_parse.specs.declared.token.Sign.{Sign}
 use Rattle.sift_parse.specs.declared.token.Sign.TheVariants.{Assign, OpenParen, CloseParen, OpenBrace, CloseBrace, Comma, Dot, Semicolon}
+use Rattle.sift_parse.specs.Limits.{number_limit}
 
 -- a lexeme: a word of the form of a name, keywords among them, a number, an operator, or another sign
 pub data Lexeme : Type 0 where
@@ -41,10 +42,6 @@ sign_bytes CloseBrace = codes "}"
 sign_bytes Comma = codes ","
 sign_bytes Dot = codes "."
 sign_bytes Semicolon = codes ";"
-
--- the greatest number that a text may hold
-abbrev pub number_limit : ℕ
-number_limit = 65535
 
 -- what is kept of a number: itself, or one more than the greatest of each greater one, which no task may hold
 abbrev pub kept : ℕ → ℕ

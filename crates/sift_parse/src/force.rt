@@ -2,13 +2,18 @@ ghost use Rattle.std.specs.Prelude.{◌≡◌, ◌<◌, ◌^◌, IfOk, sum, slic
 ghost use Rattle.std.specs.Option.{ForSome};
 ghost use Rattle.sift_parse.specs.declared.token.Sign.TheVariants.{CloseParen};
 ghost use Rattle.sift_parse.specs.Force as spec;
-ghost use Rattle.sift_parse.specs.Force.{at_start, is_minus, without_minuses, end_let, leave_block, role_after, moved, roll_of};
+ghost use Rattle.sift_parse.specs.Keywords as keywords;
+ghost use Rattle.sift_parse.specs.Levels as levels;
+ghost use Rattle.sift_parse.specs.Tokens as told;
+ghost use Rattle.sift_parse.specs.Force.{at_start, is_minus, without_minuses, end_let, leave_block, moved};
+ghost use Rattle.sift_parse.specs.Roll.{roll_of};
+ghost use Rattle.sift_parse.specs.Tokens.{role_after};
 ghost use Rattle.sift_parse.specs.Lexeme as spec_lexeme;
 ghost use Rattle.sift_parse.specs.Held.{force_of, NamesFew};
 ghost use Rattle.sift_parse.specs.Written.{lexeme_of};
 
 use crate::lexeme::Lexeme;
-use crate::look_up::{keyword_of, local_of, sensor_number, size_of, task_number, words_before};
+use crate::look_up::{keyword_of, local_of, sensor_number, size_of, task_number, first_word};
 use crate::names::Names;
 use crate::token::{Keyword, Sign, Token};
 use sift_base::NoMemory;
@@ -66,7 +71,7 @@ impl<'a> Force<'a> {
 
     // Whether an operand ends at the place, so that a `-` there is no minus before a prim.
     fn ends_operand(&self) -> bool
-        ensures { result ≡ spec.ends_operand (force_of self.now).before }
+        ensures { result ≡ levels.ends_operand (force_of self.now).before }
     {
         match self.before {
             Some(Lexeme::Word(word)) => keyword_of(word).is_none(),
@@ -211,7 +216,7 @@ impl<'a> Force<'a> {
     // The token that a word is here; a name that isn't there counts as 0.
     fn word_token(&self, names: &Names, word: &[u8]) -> Token
         requires few { ForSome (spec.number_named (roll_of names.now) (force_of self.now) word.now) (λ n. n < 2 ^ 8) }
-        ensures { result ≡ spec.word_token (roll_of names.now) (force_of self.now) word.now (spec.keyword_of word.now) }
+        ensures { result ≡ spec.word_token (roll_of names.now) (force_of self.now) word.now (keywords.keyword_of word.now) }
     {
         match keyword_of(word) {
             Some(keyword) => Token::Keyword(keyword),
@@ -226,10 +231,10 @@ impl<'a> Force<'a> {
     fn index_meant(&self, names: &Names, task: usize, n: u32) -> u8
         requires few { sum (roll_of names.now).sizes < 2 ^ 8 }
         requires there { n < slice_index (roll_of names.now).sizes task }
-        ensures { result ≡ spec.index_meant (roll_of names.now) (force_of self.now).before task n }
+        ensures { result ≡ told.index_meant (roll_of names.now) (force_of self.now).before task n }
     {
         match self.before {
-            Some(Lexeme::Mark(Sign::Dot)) => (words_before(names, task) + n) as u8,
+            Some(Lexeme::Mark(Sign::Dot)) => (first_word(names, task) + n) as u8,
             _ => n as u8,
         }
     }
@@ -237,7 +242,7 @@ impl<'a> Force<'a> {
     // The token that a number is here; a number that is too large or asks for a word that isn't there counts as 0.
     fn number_token(&self, names: &Names, n: u32) -> Token
         requires few { sum (roll_of names.now).sizes < 2 ^ 8 }
-        ensures { result ≡ spec.number_token (roll_of names.now) (force_of self.now).before (spec.task_asked (roll_of names.now) (force_of self.now) (force_of self.now).before) n }
+        ensures { result ≡ told.number_token (roll_of names.now) (force_of self.now).before (spec.task_asked (roll_of names.now) (force_of self.now) (force_of self.now).before) n }
     {
         match self.task_asked(names) {
             Some(task) if n < size_of(names, task) => {

@@ -26,4 +26,7 @@ pub use names::Names;
 pub use stop::{ParseStop, Which};
 pub use task::parse_task;
 pub use token::LEVEL_LIMIT;
-pub use unique::{linear_text_is_parsed, one_answer, one_tree, task_is_answered};
+pub use unique::{
+    linear_text_is_parsed, minus_ends_with_prim, one_answer, one_tree, task_is_answered,
+    task_is_sound, texts_are_answered, what_ends_nothing,
+};

@@ -1,5 +1,5 @@
 ghost use Rattle.std.specs.Prelude.{◌≡◌, ◌≤◌};
-ghost use Rattle.sift_parse.specs.Outcome.{text_limit};
+ghost use Rattle.sift_parse.specs.Limits.{text_limit};
 
 use sift_base::NoMemory;
 

@@ -9,4 +9,4 @@ mod program;
 mod tests;
 
 pub use ideal::{Ideal, ideal_frame_is_unique};
-pub use program::{Program, TASK_LIMIT, WORD_LIMIT};
+pub use program::{Program, TASK_LIMIT, WORD_LIMIT, limits_are_the_missions};

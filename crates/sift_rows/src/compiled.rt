@@ -5,8 +5,8 @@ ghost use Rattle.sift_code.specs.Ends.{Fits};
 ghost use Rattle.sift_code.specs.Machine.{inputs};
 ghost use Rattle.sift_lang.specs.Sound.{AllNowsBelow, IsSound};
 ghost use Rattle.sift_lang.specs.Tree.{tree_of};
-ghost use Rattle.sift_parse.specs.Force.{roll_of, words_before};
 ghost use Rattle.sift_parse.specs.Outcome.{AreNames};
+ghost use Rattle.sift_parse.specs.Roll.{first_word, roll_of};
 
 use arrayvec::ArrayVec;
 use sift_base::{Name, Word};
@@ -165,7 +165,7 @@ fn names(alloc: Global) -> Result<Names, Fail>
     ensures names { IfOk result (λ n. AreNames (roll_of n)) }
     ensures sensors { IfOk result (λ n. length (roll_of n).sensors ≡ 2) }
     ensures words { IfOk result (λ n. sum (roll_of n).sizes ≡ 11) }
-    ensures made { IfOk result (λ n. words_before (roll_of n) (roll_of n).this ≡ 2) }
+    ensures made { IfOk result (λ n. first_word (roll_of n) (roll_of n).this ≡ 2) }
 {
     Ok(Names {
         sensors: vec![in alloc; name("a")?, name("b")?]?,

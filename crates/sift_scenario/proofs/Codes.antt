@@ -1,5 +1,5 @@
 -- Trees and codes of tasks, one after another.
-use Rattle.std.proofs.Common.{◌≡◌, ◌≤◌, ◌-◌, inl, inr, ℕ, List, [], ◌∷◌, ◌++◌, length, map, take, sym, ap, subst, ◌∙◌, arith}
+use Rattle.std.proofs.Common.{◌≡◌, ◌<◌, ◌≤◌, ◌-◌, inl, inr, ℕ, List, [], ◌∷◌, ◌++◌, length, map, take, sym, ap, subst, ◌∙◌, arith}
 use Rattle.std.proofs.lemmas.List.{map-append, take-append-le, take_at}
 use Rattle.std.proofs.lemmas.List.Sums.{sum_by-append, sum_by-cons, sum_by_more_le}
 use Rattle.std.proofs.Math.Nat.{min-eq_left}
@@ -12,9 +12,9 @@ use Rattle.sift_compile.specs.Correct.{Means}
 use Rattle.sift_compile.specs.Length.{task_steps}
 use Rattle.sift_lang.specs.Sound.{IsSound}
 use Rattle.sift_lang.specs.Tree.{TaskTree}
-use Rattle.sift_parse.proofs.SoundTask.{HasWords}
-use Rattle.sift_parse.specs.Force.{Roll, words_before}
+use Rattle.sift_parse.proofs.SoundTask.{has_size, task_is_sound}
 use Rattle.sift_parse.specs.Outcome.{AreNames}
+use Rattle.sift_parse.specs.Roll.{first_word, Roll}
 use Rattle.sift_scenario.proofs.Places.{pushed}
 use Rattle.sift_scenario.proofs.Programs.{sound_tree}
 use Rattle.sift_scenario.specs.Flight.{AreCodesOf}
@@ -22,13 +22,13 @@ use Rattle.sift_scenario.specs.Mission.{AreAllowed, IsTreeOf, IsWithin, steps_le
 use Rattle.sift_scenario.specs.Task.{Form, linear, text}
 
 -- a tree of a form is sound
-pub sound_form : (r : Roll) (form : Form) (tree : TaskTree) → AreNames r → HasWords r → r.sensors ≡ [] → IsTreeOf r form tree → IsSound 0 (sum r.sizes) tree
+pub sound_form : (r : Roll) (form : Form) (tree : TaskTree) → AreNames r → r.this < length r.sizes → r.sensors ≡ [] → IsTreeOf r form tree → IsSound 0 (sum r.sizes) tree
 sound_form r (linear factor addend) tree names here sensors is =
     let some = names.some_words r.this 0 here in
     let room = sum_by_more_le (λ n. n) r.sizes r.this 0 here in
-    rw is (sound_tree (words_before r r.this) (sum r.sizes) factor addend (omega (arith, some, room)))
+    rw is (sound_tree (first_word r r.this) (sum r.sizes) factor addend (omega (arith, some, room)))
 sound_form r (text bytes) tree names here sensors is =
-    subst (λ (n : ℕ). IsSound n (sum r.sizes) tree) (ap length sensors) is.sound
+    subst (λ (n : ℕ). IsSound n (sum r.sizes) tree) (ap length sensors) (task_is_sound r bytes tree (has_size r names here) is).sound
 
 -- the trees before a place, where there is one more at the end
 take_before : (ts : List TaskTree) (t : TaskTree) (k : ℕ) → k ≤ length ts → take k (ts ++ t ∷ []) ≡ take k ts

@@ -7,6 +7,8 @@ use Rattle.std.specs.List.{slice_get, sum}
 use Rattle.toml.specs.Data.{Members}
 use Rattle.sift_lang.specs.Tree.{TaskTree, end}
 use Rattle.sift_lang.specs.Sound.{AllNowsBelow, IsSound}
+use Rattle.sift_parse.proofs.SoundTask.{task_is_sound}
+use Rattle.sift_parse.specs.Answer.{HasSize}
 use Rattle.sift_parse.specs.Linear.{linear_tree}
 use Rattle.sift_program.specs.Program.{ProgramTree}
 use Rattle.sift_program.specs.Sound.{IsSoundProgram, first_word}
@@ -40,7 +42,7 @@ reads_none word factor addend made = (((tt, tt), tt), tt)
 
 -- ---- one task
 
-module _ (tasks : List Members) (t : ℕ) (task : Members) (there : slice_get tasks t ≡ Some task) where
+module _ (tasks : List Members) (sizes : (t : ℕ) → t < length tasks → HasSize (turn_of t (roll_for tasks))) (t : ℕ) (task : Members) (there : slice_get tasks t ≡ Some task) where
   -- its number of words
   count_here : get_or (counts_of tasks) t 0 ≡ task_outputs task
   count_here =
@@ -59,22 +61,22 @@ module _ (tasks : List Members) (t : ℕ) (task : Members) (there : slice_get ta
       let one : get_or (counts_of tasks) t 0 ≡ 1 = count_here ∙ form.one_word in
       let room = sum_by_more_le (λ n. n) (counts_of tasks) t 0 (rw length-map low) in
       rw is (sound_tree _ _ factor addend (omega (arith, one, room)))
-  sound_here (text bytes) tree form is = is.sound
+  sound_here (text bytes) tree form is = (task_is_sound _ bytes tree (sizes t (slice_get_within tasks t task there)) is).sound
 
   -- it reads only words of earlier tasks
   reads_here : (form : Form) (tree : TaskTree) → HasForm task form → IsTreeOf (turn_of t (roll_for tasks)) form tree → AllNowsBelow (sum (take t (counts_of tasks))) tree
   reads_here (linear factor addend) tree form is = rw is (reads_none (sum (take t (counts_of tasks))) factor addend (sum (take t (counts_of tasks))))
-  reads_here (text bytes) tree form is = is.nows
+  reads_here (text bytes) tree form is = (task_is_sound _ bytes tree (sizes t (slice_get_within tasks t task there)) is).nows
 
 -- ---- the program
 
-module _ (tasks : List Members) (forms : List Form) (trees : List TaskTree) (stated : AreForms tasks forms) (parsed : AreTreesOf (roll_for tasks) forms trees) where
+module _ (tasks : List Members) (sizes : (t : ℕ) → t < length tasks → HasSize (turn_of t (roll_for tasks))) (forms : List Form) (trees : List TaskTree) (stated : AreForms tasks forms) (parsed : AreTreesOf (roll_for tasks) forms trees) where
   -- what stands at a place of the tasks, the forms and the trees
   outputs_at : (t : ℕ) (tree : TaskTree) → slice_get trees t ≡ Some tree → tree.outputs ≡ get_or (counts_of tasks) t 0
   outputs_at t tree there =
       let form = parsed.each t tree there in
       let task = stated.each t form.entry form.there in
-      outputs_here tasks t task.entry task.there form.entry tree task.holds form.holds
+      outputs_here tasks sizes t task.entry task.there form.entry tree task.holds form.holds
 
   -- the trees have as many outputs as the tasks have words
   outputs_are : map (λ (tree : TaskTree). tree.outputs) trees ≡ counts_of tasks
@@ -104,9 +106,9 @@ module _ (tasks : List Members) (forms : List Form) (trees : List TaskTree) (sta
     tasks_sound = λ k d low.
         let form = parsed.each k (get_or trees k d) (slice_get-get_or trees k d low) in
         let task = stated.each k form.entry form.there in
-        rw long (sound_here tasks k task.entry task.there form.entry (get_or trees k d) task.holds form.holds);
+        rw long (sound_here tasks sizes k task.entry task.there form.entry (get_or trees k d) task.holds form.holds);
     reads_earlier_words = λ k tree there.
         let form = parsed.each k tree there in
         let task = stated.each k form.entry form.there in
-        rw (first_is k) (reads_here tasks k task.entry task.there form.entry tree task.holds form.holds);
+        rw (first_is k) (reads_here tasks sizes k task.entry task.there form.entry tree task.holds form.holds);
   }

@@ -4,9 +4,9 @@ use Rattle.std.proofs.lemmas.List.{length-map}
 use Rattle.std.specs.List.{flat_map, sum}
 use Rattle.toml.specs.Data.{Members}
 use Rattle.sift_lang.specs.Tree.{tree_of}
-use Rattle.sift_parse.specs.Force.{Roll}
+use Rattle.sift_parse.specs.Roll.{Roll}
 use Rattle.sift_scenario.proofs.Programs.{sound_program}
-use Rattle.sift_scenario.proofs.Rolls.{few_words, turns}
+use Rattle.sift_scenario.proofs.Rolls.{few_words, sized, turns}
 use Rattle.sift_scenario.proofs.Starts.{all_starts_from, counts_from, names_from, starts_long}
 use Rattle.sift_scenario.proofs.TaskRefusals.{texts_refused}
 use Rattle.sift_scenario.specs.Flight.{AreCodesOf}
@@ -71,7 +71,7 @@ module _ (tasks : List Members) (entries : Entries) (read : IsReadOf tasks entri
       subst (λ (r : Roll). AreTreesOf r forms (map tree_of running.program.tasks.items)) roll_is trees in
       record {
         stated = record { starts = starts_are _ starts; forms = forms; stated = read.forms; trees = theirs; allowed = allowed };
-        sound = sound_program tasks forms _ read.forms theirs running.program.starts.items (length_is _ starts) words_few read.few.0 read.few.1;
+        sound = sound_program tasks (sized tasks read.kept.starts) forms _ read.forms theirs running.program.starts.items (length_is _ starts) words_few read.few.0 read.few.1;
         codes = codes;
         kept = read.kept;
       }

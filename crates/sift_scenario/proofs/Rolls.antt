@@ -7,6 +7,7 @@ use Rattle.std.specs.List.{slice_get, sum}
 use Rattle.std.specs.Prelude.{codes, option_and_then, unwrap_or}
 use Rattle.toml.specs.Data.{Data, Members, get_member, no_members, string, integer, float, boolean, datetime, array, table}
 use Rattle.sift_base.specs.Name.{IsName}
+use Rattle.sift_parse.specs.Answer.{HasSize}
 use Rattle.sift_parse.specs.Outcome.{AreDistinct, AreNames}
 use Rattle.sift_scenario.specs.Document.{list_of, of_length, word_array, word_values}
 use Rattle.sift_scenario.specs.Mission.{roll_for, turn_of}
@@ -56,6 +57,10 @@ module _ (tasks : List Members) where
       let there = slice_get-get_or tasks k no_members low in
       let some : start_words task ≢ None = λ none. kept k (record { entry = task; there = there; holds = none }) in
       rw (get_or-map task_outputs tasks k no_members 0 low) (count_of (start_words task) some (λ ws is. read-long (get_member (codes "start") task) ws is))
+
+  -- so each task has as many words as a task may have
+  pub sized : ((at : ℕ) → ¬ BreaksStarts tasks at) → (t : ℕ) → t < length tasks → HasSize (turn_of t (roll_for tasks))
+  sized kept t low = let count = count_at kept t low in record { some = omega (arith, count.0); few = omega (arith, count.1) }
 
   -- where the rule of the output words is kept, they are few
   pub few_words : 0 < length tasks → ((at : ℕ) → ¬ BreaksWords (counts_of tasks) at) → sum (counts_of tasks) ≤ 64

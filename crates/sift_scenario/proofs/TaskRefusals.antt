@@ -3,7 +3,7 @@ use Rattle.std.proofs.Common.{◌≢◌, inl, inr, List, ℕ, refl, sym, subst}
 use Rattle.toml.specs.Data.{Members}
 use Rattle.sift_scenario.specs.Refusal.{IsFirstRefused, IsRefusedWith, TasksAreRefused, IsFormRefused, IsOver, refusal_of}
 use Rattle.sift_lang.specs.Tree.{TaskTree}
-use Rattle.sift_parse.specs.Force.{Roll}
+use Rattle.sift_parse.specs.Roll.{Roll}
 use Rattle.sift_parse.specs.declared.stop.ParseStop.{ParseStop}
 use Rattle.sift_parse.specs.declared.stop.ParseStop.TheVariants as parse
 use Rattle.sift_scenario.specs.Mission.{roll_for}

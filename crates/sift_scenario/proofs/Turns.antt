@@ -2,7 +2,7 @@
 use Rattle.std.proofs.Common.{◌≡◌, ◌≢◌, ℕ, List, length, Some, inl, inr, refl}
 use Rattle.std.specs.List.{slice_get}
 use Rattle.sift_lang.specs.Tree.{TaskTree}
-use Rattle.sift_parse.specs.Force.{Roll, roll_of}
+use Rattle.sift_parse.specs.Roll.{Roll, roll_of}
 use Rattle.sift_parse.specs.declared.names.Names.{Names}
 use Rattle.sift_scenario.specs.Entries.{EachMatches}
 use Rattle.sift_scenario.specs.Mission.{AreAllowed, IsTreeOf, steps_left, turn_of}

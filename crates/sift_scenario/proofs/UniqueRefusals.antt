@@ -7,8 +7,8 @@ use Rattle.std.specs.List.{slice_get}
 use Rattle.toml.specs.Data.{Members}
 use Rattle.sift_lang.specs.Tree.{TaskTree}
 use Rattle.sift_parse.proofs.OneAnswer.{one_answer}
-use Rattle.sift_parse.specs.Force.{Roll}
 use Rattle.sift_parse.specs.Outcome.{Tells}
+use Rattle.sift_parse.specs.Roll.{Roll}
 use Rattle.sift_scenario.proofs.Order.{rule_number-injective}
 use Rattle.sift_scenario.proofs.UniqueForms.{one_forms, one_tree}
 use Rattle.sift_scenario.specs.Laws.{MissionsAreAccepted, OneRefusal}

@@ -6,8 +6,8 @@ use Rattle.std.specs.List.{slice_get}
 use Rattle.toml.specs.Data.{Members}
 use Rattle.sift_lang.specs.Tree.{TaskTree, end}
 use Rattle.sift_parse.proofs.OneAnswer.{task_is_answered}
-use Rattle.sift_parse.specs.Force.{Roll}
 use Rattle.sift_parse.specs.Outcome.{IsTaskOf, Tells}
+use Rattle.sift_parse.specs.Roll.{Roll}
 use Rattle.sift_parse.specs.declared.stop.ParseStop.{ParseStop}
 use Rattle.sift_parse.specs.declared.stop.ParseStop.TheVariants as parse
 use Rattle.sift_scenario.proofs.UniqueForms.{one_tree, same_entries}

@@ -4,9 +4,9 @@ use Rattle.std.specs.List.{flat_map}
 use Rattle.toml.specs.Data.{Members}
 use Rattle.sift_compile.specs.Length.{code_limit, task_length, task_steps}
 use Rattle.sift_lang.specs.Tree.{TaskTree}
-use Rattle.sift_parse.specs.Force.{Roll, words_before}
-use Rattle.sift_parse.specs.Linear.{linear_tree}
 use Rattle.sift_parse.specs.Outcome.{IsTaskOf}
+use Rattle.sift_parse.specs.Roll.{first_word, Roll}
+use Rattle.sift_parse.specs.Linear.{linear_tree}
 use Rattle.sift_program.specs.Program.{ProgramTree, program_of}
 use Rattle.sift_scenario.specs.declared.mission.Mission.{Mission}
 use Rattle.sift_scenario.specs.Entries.{AreMatched}
@@ -35,7 +35,7 @@ turn_of task roll = record roll { this = task }
 
 -- the tree of a task of this form, where it is its turn
 abbrev pub IsTreeOf : Roll → Form → TaskTree → Type 0
-IsTreeOf roll (linear factor addend) tree = tree ≡ linear_tree (words_before roll roll.this) factor addend
+IsTreeOf roll (linear factor addend) tree = tree ≡ linear_tree (first_word roll roll.this) factor addend
 IsTreeOf roll (text bytes) tree = IsTaskOf roll bytes tree
 
 -- the trees of tasks of these forms, in their order

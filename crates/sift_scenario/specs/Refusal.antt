@@ -5,8 +5,8 @@ use Rattle.sift_compile.specs.Length.{code_limit, task_length, task_steps}
 use Rattle.sift_lang.specs.Tree.{TaskTree}
 use Rattle.sift_parse.specs.declared.stop.ParseStop.{ParseStop}
 use Rattle.sift_parse.specs.declared.stop.ParseStop.TheVariants as parse
-use Rattle.sift_parse.specs.Force.{Roll}
 use Rattle.sift_parse.specs.Outcome.{Tells}
+use Rattle.sift_parse.specs.Roll.{Roll}
 use Rattle.sift_scenario.specs.declared.refused.Refused.{Refused}
 use Rattle.sift_scenario.specs.declared.refused.Refused.TheVariants.{Scenario, Task, NoMemory}
 use Rattle.sift_scenario.specs.Entries.{EachMatches, HoldsOf}

@@ -8,9 +8,9 @@ ghost use Rattle.sift_compile.specs.Correct.{Means};
 ghost use Rattle.sift_compile.specs.Length.{task_steps};
 ghost use Rattle.sift_lang.specs.Sound.{IsSound};
 ghost use Rattle.sift_lang.specs.Tree.{tree_of};
-ghost use Rattle.sift_parse.specs.Force.{Roll, roll_of, words_before};
-ghost use Rattle.sift_parse.specs.Linear.{linear_tree};
 ghost use Rattle.sift_parse.specs.Outcome.{AreNames};
+ghost use Rattle.sift_parse.specs.Roll.{first_word, Roll, roll_of};
+ghost use Rattle.sift_parse.specs.Linear.{linear_tree};
 ghost use Rattle.sift_scenario.specs.Flight.{AreCodesOf};
 ghost use Rattle.sift_scenario.specs.Mission.{AreAllowed, AreTreesOf, IsTreeOf, IsWithin, step_limit, turn_of};
 ghost use Rattle.sift_scenario.specs.Refusal.{IsFirstRefused, IsNoTask};
@@ -146,7 +146,7 @@ fn form_tree(alloc: Global, form: &Form<'_>, names: &Names) -> Result<Task, Refu
 /// How many words the tasks before the one whose turn it is have, which is the number of its first.
 fn first_word(names: &Names) -> u8
     requires { AreNames (roll_of names.now) }
-    ensures { result ≡ words_before (roll_of names.now) (roll_of names.now).this }
+    ensures { result ≡ first_word (roll_of names.now) (roll_of names.now).this }
 {
     let mut words = 0;
     for task in &names.tasks[..names.this] {

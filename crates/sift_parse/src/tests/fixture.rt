@@ -1,6 +1,6 @@
 ghost use Rattle.std.specs.Prelude.{◌≡◌, IfOk, length, sum};
-ghost use Rattle.sift_parse.specs.Force.{roll_of, words_before};
 ghost use Rattle.sift_parse.specs.Outcome.{AreNames};
+ghost use Rattle.sift_parse.specs.Roll.{first_word, roll_of};
 
 use crate::names::Names;
 use crate::stop::ParseStop;
@@ -16,7 +16,7 @@ pub fn names(alloc: Global) -> Result<Names, Fail>
     ensures names { IfOk result (λ n. AreNames (roll_of n)) }
     ensures sensors { IfOk result (λ n. length (roll_of n).sensors ≡ 2) }
     ensures words { IfOk result (λ n. sum (roll_of n).sizes ≡ 6) }
-    ensures made { IfOk result (λ n. words_before (roll_of n) (roll_of n).this ≡ 2) }
+    ensures made { IfOk result (λ n. first_word (roll_of n) (roll_of n).this ≡ 2) }
 {
     Ok(Names {
         sensors: vec![in alloc; name("gyro")?, name("height")?]?,

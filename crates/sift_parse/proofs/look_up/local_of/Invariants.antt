@@ -1,6 +1,6 @@
 use Rattle.std.proofs.Common.{◌≡◌, take, map}
 use Rattle.std.specs.Prelude.{reverse}
-use Rattle.sift_parse.specs.Force.{local_of}
+use Rattle.sift_parse.specs.Tokens.{local_of}
 use Rattle.sift_parse.proofs.look_up.local_of.Given as goal
 
 -- the local that is seen among those so far

@@ -1,7 +1,7 @@
 use Rattle.std.proofs.Common.{◌≡◌, drop, map}
 use Rattle.std.specs.List.{position_from}
 use Rattle.std.specs.Str.{bytes_eq}
-use Rattle.sift_parse.specs.Force.{number_in}
+use Rattle.sift_parse.specs.Roll.{number_in}
 use Rattle.sift_parse.proofs.look_up.task_number.Given as goal
 
 -- the name is none of those so far

@@ -1,5 +1,5 @@
 use Rattle.std.proofs.Common.{take}
-use Rattle.sift_parse.specs.Force.{roll_of}
+use Rattle.sift_parse.specs.Roll.{roll_of}
 use Rattle.sift_parse.specs.Held.{force_of}
 use Rattle.sift_parse.specs.Written.{placed_of}
 use Rattle.sift_parse.proofs.Taking.{Scanning}

@@ -1,6 +1,6 @@
 use Rattle.std.proofs.Common.{◌≡◌, Err, rules, map, length, sym, subst, ◌∙◌, ap, arith}
 use Rattle.sift_lang.specs.Tree.{tree_of}
-use Rattle.sift_parse.specs.Force.{Roll, roll_of}
+use Rattle.sift_parse.specs.Roll.{Roll, roll_of}
 use Rattle.sift_scenario.proofs.Read.{length_is, refused_from, roll_read, running_from, turns_are, words_are, words_few}
 use Rattle.sift_scenario.specs.Mission.{AreTreesOf}
 use Rattle.sift_scenario.specs.Refusal.{IsFirstRefused}

@@ -2,9 +2,9 @@ use Rattle.std.proofs.Common.{◌≡◌, ◌<◌, [], ◌∷◌, ◌++◌, lengt
 use Rattle.std.proofs.lemmas.List.{length-map, map-append}
 use Rattle.sift_lang.specs.Tree.{tree_of}
 use Rattle.sift_parse.proofs.SoundTask.{has_words}
-use Rattle.sift_parse.specs.Force.{Roll, roll_of}
-use Rattle.sift_parse.specs.declared.names.Names.{Names}
 use Rattle.sift_parse.specs.Outcome.{AreNames}
+use Rattle.sift_parse.specs.Roll.{Roll, roll_of}
+use Rattle.sift_parse.specs.declared.names.Names.{Names}
 use Rattle.sift_scenario.proofs.Codes.{allowed_more, codes_more, left_more, sound_form}
 use Rattle.sift_scenario.proofs.Places.{matches_more, taken}
 use Rattle.sift_scenario.proofs.Turns.{code_first, same_turn, text_first}

@@ -1,6 +1,6 @@
 use Rattle.std.proofs.Common.{◌≡◌, length, map}
 use Rattle.sift_lang.specs.Tree.{tree_of}
-use Rattle.sift_parse.specs.Force.{roll_of}
+use Rattle.sift_parse.specs.Roll.{roll_of}
 use Rattle.sift_scenario.specs.Entries.{EachMatches}
 use Rattle.sift_scenario.specs.Flight.{AreCodesOf}
 use Rattle.sift_scenario.specs.Mission.{AreAllowed, IsTreeOf, steps_left, turn_of}

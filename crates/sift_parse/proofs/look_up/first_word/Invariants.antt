@@ -1,5 +1,5 @@
 use Rattle.std.proofs.Common.{◌≡◌, ◌≤◌, take, map, sum}
-use Rattle.sift_parse.proofs.look_up.words_before.Given as goal
+use Rattle.sift_parse.proofs.look_up.first_word.Given as goal
 
 -- the words of the tasks so far, none of which is the one asked for
 abbrev pub invariant-loop-i : goal.invariant-loop-i

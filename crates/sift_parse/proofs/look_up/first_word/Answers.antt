@@ -1,7 +1,7 @@
 use Rattle.std.proofs.Common.{rules, arith}
 use Rattle.std.proofs.lemmas.Grind.{common_steps}
 use Rattle.sift_parse.proofs.Newest.{sum-taken}
-use Rattle.sift_parse.proofs.look_up.words_before.Goals as goal
+use Rattle.sift_parse.proofs.look_up.first_word.Goals as goal
 
 pub loop-i-preserved : goal.loop-i-preserved
 loop-i-preserved c = (omega (arith, c.if-i-task.false), first_of (grind (arith, common_steps, sum-taken), search (rules, sum-taken)))

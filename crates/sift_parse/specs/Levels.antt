@@ -1,0 +1,69 @@
+-- The levels that are open after lexemes: a block to its `}`, a parenthesis to its `)`, and a minus to the end of its prim.
+use Rattle.std.specs.Prelude.{ℕ, zero, suc, ◌+◌, Bool, true, false, not, ◌&&◌, ◌||◌, if◌then◌else◌, List, [], ◌∷◌, Option, Some, None, is_none}
+use Rattle.sift_lang.specs.declared.tree.Op.TheVariants.{Sub}
+use Rattle.sift_parse.specs.declared.token.Keyword.{Keyword}
+use Rattle.sift_parse.specs.declared.token.Keyword.TheVariants.{Now, Last}
+use Rattle.sift_parse.specs.declared.token.Sign.TheVariants.{OpenParen, CloseParen, OpenBrace}
+use Rattle.sift_parse.specs.Keywords.{keyword_of, keyword_in}
+use Rattle.sift_parse.specs.Lexeme.{Lexeme, word, numeral, operator, mark}
+use Rattle.sift_parse.specs.Locals.{leaves}
+
+-- a `)` among the lexemes closes none of the parentheses that they open, nor of n others that are open before them
+abbrev pub leaves_paren : ℕ → List Lexeme → Bool
+leaves_paren n [] = false
+leaves_paren n (mark OpenParen ∷ ls) = leaves_paren (suc n) ls
+leaves_paren zero (mark CloseParen ∷ ls) = true
+leaves_paren (suc n) (mark CloseParen ∷ ls) = leaves_paren n ls
+leaves_paren n (l ∷ ls) = leaves_paren n ls
+
+-- a task's name follows the keyword, and a dot and a number follow the name
+abbrev pub reads_task : Option Keyword → Bool
+reads_task (Some Now) = true
+reads_task (Some Last) = true
+reads_task _ = false
+
+-- a prim may end with the lexeme after this one: a number, or a name but a task's
+abbrev pub ends_prim : Option Lexeme → Lexeme → Bool
+ends_prim before (word w) = is_none (keyword_of w) && not (reads_task (keyword_in before))
+ends_prim before (numeral n) = true
+ends_prim before l = false
+
+-- The prim that begins these lexemes is over. It ends outside the parentheses that are open: n of them, and those that they open. Before them stands this lexeme.
+abbrev pub passes_prim : ℕ → Option Lexeme → List Lexeme → Bool
+passes_prim n before [] = false
+passes_prim n before (mark OpenParen ∷ ls) = passes_prim (suc n) (Some (mark OpenParen)) ls
+passes_prim zero before (mark CloseParen ∷ ls) = true
+passes_prim (suc zero) before (mark CloseParen ∷ ls) = true
+passes_prim (suc (suc n)) before (mark CloseParen ∷ ls) = passes_prim (suc n) (Some (mark CloseParen)) ls
+passes_prim zero before (l ∷ ls) = ends_prim before l || passes_prim zero (Some l) ls
+passes_prim (suc n) before (l ∷ ls) = passes_prim (suc n) (Some l) ls
+
+-- an operand ends with this lexeme, so that a `-` after it is no minus before a prim
+abbrev pub ends_operand : Option Lexeme → Bool
+ends_operand (Some (word w)) = is_none (keyword_of w)
+ends_operand (Some (numeral n)) = true
+ends_operand (Some (mark CloseParen)) = true
+ends_operand _ = false
+
+-- the lexeme opens a level after this one: a `{`, a `(`, or a `-` before a prim
+abbrev pub opens_after : Option Lexeme → Lexeme → Bool
+opens_after before (operator Sub) = not (ends_operand before)
+opens_after before (mark OpenParen) = true
+opens_after before (mark OpenBrace) = true
+opens_after before l = false
+
+-- the level that the lexeme opens is still open after those that follow it: a block is open to its `}`, a parenthesis to its `)`, and a minus to the end of its prim
+abbrev pub stays_open : Lexeme → List Lexeme → Bool
+stays_open (mark OpenBrace) ls = not (leaves 0 ls)
+stays_open (mark OpenParen) ls = not (leaves_paren 0 ls)
+stays_open (operator Sub) ls = not (passes_prim 0 (Some (operator Sub)) ls)
+stays_open l ls = false
+
+-- how many levels the lexemes after this one leave open
+abbrev pub opened : Option Lexeme → List Lexeme → ℕ
+opened before [] = 0
+opened before (l ∷ ls) = (if opens_after before l && stays_open l ls then 1 else 0) + opened (Some l) ls
+
+-- how many levels are open after the lexemes
+abbrev pub levels_open : List Lexeme → ℕ
+levels_open ls = opened None ls

@@ -1,0 +1,93 @@
+-- Which tokens lexemes stand for, at their places.
+use Rattle.std.specs.Prelude.{ℕ, ◌+◌, if◌then◌else◌, List, [], ◌∷◌, ◌++◌, length, slice_index, nat_lt, nat_le, Option, Some, None, unwrap_or}
+use Rattle.std.specs.Str.{bytes_eq}
+use Rattle.sift_parse.specs.declared.token.Keyword.{Keyword}
+use Rattle.sift_parse.specs.declared.token.Keyword.TheVariants.{Let, Out, Sense, Now, Last}
+use Rattle.sift_parse.specs.declared.token.Sign.TheVariants.{Dot}
+use Rattle.sift_parse.specs.declared.token.Token.{Token}
+use Rattle.sift_parse.specs.declared.token.Token.TheVariants as token
+use Rattle.sift_parse.specs.Keywords.{keyword_of}
+use Rattle.sift_parse.specs.Lexeme.{Lexeme, word, numeral, operator, mark}
+use Rattle.sift_parse.specs.Place.{Place, place_after, keyword_before}
+use Rattle.sift_parse.specs.Roll.{Roll, number_in, first_word}
+use Rattle.sift_parse.specs.Limits.{number_limit}
+
+-- ---- names
+
+-- what a name names, by the keyword before it
+pub data Role : Type 0 where
+  -- the local of a `let`
+  new_local : Role
+  a_sensor : Role
+  -- a task, of which a word of this frame or of the last one is read
+  a_task : Role
+  -- a local that is seen
+  old_local : Role
+
+abbrev pub role_after : Option Keyword → Role
+role_after (Some Let) = new_local
+role_after (Some Sense) = a_sensor
+role_after (Some Now) = a_task
+role_after (Some Last) = a_task
+role_after _ = old_local
+
+-- the number of the local that is seen by this name: as many locals live at its `let`
+abbrev pub local_of : List (List ℕ) → List ℕ → Option ℕ
+local_of [] w = None
+local_of (name ∷ older) w = if bytes_eq name w then Some (length older) else local_of older w
+
+-- the number of what a name names here, where it is there
+abbrev pub named_by : Roll → Place → Role → List ℕ → Option ℕ
+named_by r p new_local w = Some (length p.locals)
+named_by r p a_sensor w = number_in r.sensors w
+named_by r p a_task w = number_in r.tasks w
+named_by r p old_local w = local_of p.locals w
+
+abbrev pub number_named : Roll → Place → List ℕ → Option ℕ
+number_named r p w = named_by r p (role_after (keyword_before p)) w
+
+-- ---- numbers of words
+
+-- the task whose word the number after a keyword asks for
+abbrev pub task_after : Roll → Option Keyword → Option ℕ
+task_after r (Some Out) = Some r.this
+task_after r _ = None
+
+-- the task whose word a number asks for here, where it asks for one: this one after `out`, and the one named before a dot
+abbrev pub task_asked : Roll → Place → Option Lexeme → Option ℕ
+task_asked r p (Some (word w)) = task_after r (keyword_of w)
+task_asked r p (Some (mark Dot)) = Some (unwrap_or (number_in r.tasks p.named) 0)
+task_asked r p _ = None
+
+-- the number of the word that a numeral asks for here: of the voted words after a dot, and of the output words after `out`
+abbrev pub index_meant : Roll → Option Lexeme → ℕ → ℕ → ℕ
+index_meant r (Some (mark Dot)) task n = first_word r task + n
+index_meant r _ task n = n
+
+-- the token that a numeral is, where it asks for a word of this task, or for none; a number that is too large or asks for a word that isn't there is refused, and counts as 0
+abbrev pub number_token : Roll → Option Lexeme → Option ℕ → ℕ → Token
+number_token r before (Some task) n = token.Index (if nat_lt n (slice_index r.sizes task) then index_meant r before task n else 0)
+number_token r before None n = token.Number (if nat_le n number_limit then n else 0)
+
+-- ---- tokens
+
+-- the token that a word is here; a name that isn't there is refused, and counts as 0
+abbrev pub word_token : Roll → Place → List ℕ → Option Keyword → Token
+word_token r p w (Some k) = token.Keyword k
+word_token r p w None = token.Name (unwrap_or (number_named r p w) 0)
+
+-- the token that a lexeme is here
+abbrev pub token_of : Roll → Place → Lexeme → Token
+token_of r p (word w) = word_token r p w (keyword_of w)
+token_of r p (numeral n) = number_token r p.before (task_asked r p p.before) n
+token_of r p (operator op) = token.Operator op
+token_of r p (mark s) = token.Sign s
+
+-- the tokens that lexemes are, after others
+abbrev pub tokens_after : Roll → List Lexeme → List Lexeme → List Token
+tokens_after r front [] = []
+tokens_after r front (l ∷ ls) = token_of r (place_after front) l ∷ tokens_after r (front ++ l ∷ []) ls
+
+-- the tokens of a text's lexemes
+abbrev pub tokens_of : Roll → List Lexeme → List Token
+tokens_of r ls = tokens_after r [] ls
