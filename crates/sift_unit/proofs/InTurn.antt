@@ -41,11 +41,6 @@ few_units n k (u ∷ us) low up inside =
 
 -- ---- words made anew
 
--- lists made anew by the same test are the same
-pub renewed-same : (test test' : ℕ → Bool) (value : ℕ → ℕ) (xs : List ℕ) (i : ℕ) → ((w : ℕ) → test w ≡ test' w) → renewed test value xs i ≡ renewed test' value xs i
-renewed-same test test' value [] i same = refl
-renewed-same test test' value (x ∷ xs) i same = rw (same i) (ap (λ ys. (if test' i then value i else x) ∷ ys) (renewed-same test test' value xs (suc i) same))
-
 -- where no place passes, the list is as it was
 pub renewed-none : (test : ℕ → Bool) (value : ℕ → ℕ) (xs : List ℕ) (i : ℕ) → ((w : ℕ) → test w ≡ false) → renewed test value xs i ≡ xs
 renewed-none test value [] i none = refl
@@ -56,14 +51,7 @@ module _ (m : Mission) (us : List ℕ) (u t : ℕ) (runs : Bool) (tells : (w : �
   made_where : (w : ℕ) → is_made_by m us u t w ≡ (nat_lt w m.words && (nat_eq (m.task w) t && runs))
   made_where w = and_in (nat_lt w m.words) _ _ (λ few. and_in (nat_eq (m.task w) t) _ _ (λ is. tells w (ltb-true w m.words few) (eqb-true (m.task w) t is)))
 
-  pub made_if : runs ≡ true → (w : ℕ) → is_word_of m t w ≡ is_made_by m us u t w
-  made_if r w = sym (made_where w ∙ rw r (last (nat_lt w m.words) (nat_eq (m.task w) t)))
-    where
-      last : (a b : Bool) → (a && (b && true)) ≡ (a && b)
-      last true true = refl
-      last true false = refl
-      last false b = refl
-
+  -- and none where it doesn't
   pub made_not : runs ≡ false → (w : ℕ) → is_made_by m us u t w ≡ false
   made_not r w = made_where w ∙ rw r (none (nat_lt w m.words) (nat_eq (m.task w) t))
     where
