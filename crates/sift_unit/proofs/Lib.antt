@@ -9,9 +9,11 @@ pub mod Exporting
 pub mod Flown
 pub mod HeardNew
 pub mod Hearing
+pub mod InTurn
 pub mod Jumping
 pub mod Kept
 pub mod Made
+pub mod Memories
 pub mod Moving
 pub mod Noting
 pub mod Passing

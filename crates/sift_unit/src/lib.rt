@@ -2,6 +2,7 @@
 #![tactic(auto)]
 
 mod account;
+mod accounting;
 mod board;
 mod duty;
 mod laws;
@@ -9,6 +10,7 @@ mod memory;
 mod part;
 mod stepped;
 mod stepping;
+mod tidings;
 mod walk;
 mod lists;
 
