@@ -1,10 +1,7 @@
 -- Boards from their first step on.
-use Rattle.std.proofs.Common.{◌≡◌, inl, Option, Some, None, sym, ap, ◌∙◌, subst, ℕ}
-use Rattle.sift_buffer.specs.Views.{View}
-use Rattle.sift_unit.specs.Mission.{Mission}
-use Rattle.sift_unit.specs.Desk.{Desk, first_desk}
+use Rattle.std.proofs.Common.{inl, sym, ap, ◌∙◌, subst}
+use Rattle.sift_unit.specs.Desk.{Desk}
 use Rattle.sift_unit.specs.Going.{Going}
-use Rattle.sift_unit.specs.Keeping.{Flying, Keeps}
 use Rattle.sift_unit.specs.Boards.{desk_of, memory_of, NewBoardLaw, DriveLaw}
 use Rattle.sift_unit.proofs.Tests.{some_none}
 use Rattle.sift_unit.proofs.Starting.{start_going}

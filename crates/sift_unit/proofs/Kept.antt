@@ -1,8 +1,9 @@
 -- What a slot that was heard, and a task that was run, leave of all else in the memory.
 use Rattle.std.proofs.Common.{◌≡◌, ◌≢◌, ℕ, List, false, Option, refl, sym, ap, ◌∙◌, ne_eqb, arith, get_or-set_other, length-set}
-use Rattle.std.specs.Prelude.{ℤ}
+use Rattle.std.specs.Prelude.{ℤ, nat_lt}
 use Rattle.std.specs.FinSet as set
 use Rattle.sift_base.specs.Units.{holds}
+use Rattle.sift_base.specs.ReadBack.{false_last}
 use Rattle.sift_base.specs.declared.slot.Slot.{Slot}
 use Rattle.sift_base.specs.declared.slot.Slot.TheVariants.{Clock, Sense, RelaySense, Out, Report, RelayReport}
 use Rattle.sift_unit.specs.Mission.{Mission}
@@ -46,7 +47,7 @@ module _ (m : Mission) (us : List ℕ) (u f : ℕ) (clk : ℤ) (a : Account) (h 
   -- the words of another task stay
   pub ran_kept : (t w : ℕ) (b : Memory) → m.task w ≢ t → Ran m us u a last b w → Ran m us u a last (run m us u last t b) w
   ran_kept t w b ne z = λ e.
-      renewed-other (is_made_by m us u t) (λ v. m.word v b.ins b.outs last) b.made w 0 w (omega arith) (rw (ne_eqb (m.task w) t ne) refl) ∙ z e
+      renewed-other (is_made_by m us u t) (λ v. m.word v b.ins b.outs last) b.made w 0 w (omega arith) (rw (ne_eqb (m.task w) t ne) (false_last (nat_lt w m.words))) ∙ z e
 
   -- an account that matches afterwards matched in what another slot settled
   pub matches_back : (k' k : Slot) (heard : List (Option ℕ)) (b : Memory) → k' ≢ k → Matches (note m us u f clk k heard b) a k' → Matches b a k'

@@ -16,10 +16,12 @@ pub mod Flying
 pub mod HeardNew
 pub mod Hearing
 pub mod Held
+pub mod InTurn
 pub mod Jumping
 pub mod Kept
 pub mod Made
 pub mod Meanings
+pub mod Memories
 pub mod Moving
 pub mod Noting
 pub mod Numbers

@@ -28,7 +28,7 @@ module _ (m : Mission) (us : List ℕ) (u f : ℕ) (clk : ℤ) (a : Account) (h 
   ran_new t b shape matches w few is = λ e.
       let long = shape.made in let low : w < length b.made = omega arith in
       let at : m.due us (Out w) ≡ m.run_in us t = fit.timed.run us w config few ∙ ap (λ z. m.run_in us z) is in
-      renewed-here (is_made_by m us u t) (λ v. m.word v b.ins b.outs last) b.made w 0 w (omega arith) low (rw (eq-eqb (m.task w) t is, e) refl)
+      renewed-here (is_made_by m us u t) (λ v. m.word v b.ins b.outs last) b.made w 0 w (omega arith) low (rw (lt-ltb w m.words few, eq-eqb (m.task w) t is, e) refl)
       ∙ fit.read.reads w b.ins a.ins b.outs a.outs last few
       (λ x lx any. matches (RelaySense x) (lt-ltb x m.sensors lx) (let z = fit.timed.agreed us x w config lx few in omega arith))
       (λ v lv needed. matches (Out v) (lt-ltb v m.words lv) (let z = fit.read.polled us w v config few lv needed in omega arith))

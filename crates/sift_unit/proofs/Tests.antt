@@ -1,5 +1,5 @@
 -- Tests of numbers, joined.
-use Rattle.std.proofs.Common.{◌≡◌, ◌≢◌, ℕ, zero, suc, ◌<◌, Bool, true, false, not, ◌&&◌, ◌||◌, nat_eq, Option, Some, None, refl, sym, ◌∙◌, arith, eq-eqb}
+use Rattle.std.proofs.Common.{◌≡◌, ◌≢◌, ℕ, zero, suc, ◌+◌, ◌<◌, ap, Bool, true, false, not, ◌&&◌, ◌||◌, nat_eq, Option, Some, None, refl, sym, ◌∙◌, arith, eq-eqb}
 use Rattle.std.specs.Prelude.{if◌then◌else◌}
 use Rattle.sift_unit.specs.Conduct.{any_below}
 
@@ -64,3 +64,7 @@ any-and (suc n) c p = rw (any-and n c p) (spread c (any_below n p) (p n))
     spread : (c x y : Bool) → ((c && x) || (c && y)) ≡ (c && (x || y))
     spread true x y = refl
     spread false x y = refl
+
+-- one test more
+pub any-more : (n : ℕ) (p : ℕ → Bool) → (any_below n p || p n) ≡ any_below (n + 1) p
+any-more n p = let e : suc n ≡ n + 1 = omega arith in ap (λ k. any_below k p) e

@@ -1,5 +1,5 @@
 -- What a board remembers in a frame, and what each slot that was heard and each task that was run adds to it.
-use Rattle.std.specs.Prelude.{ℕ, suc, List, [], ◌∷◌, map, slice_index, slice_index_or, slice_set, Bool, not, ◌&&◌, nat_eq, if◌then◌else◌, Option, None, Some, ℤ, ◌+ℤ◌}
+use Rattle.std.specs.Prelude.{ℕ, suc, List, [], ◌∷◌, map, slice_index, slice_index_or, slice_set, Bool, not, ◌&&◌, nat_eq, nat_lt, if◌then◌else◌, Option, None, Some, ℤ, ◌+ℤ◌}
 use Rattle.std.specs.List.{filter}
 use Rattle.std.specs.FinSet as set
 use Rattle.sift_base.specs.Units.{Units}
@@ -87,9 +87,13 @@ abbrev pub renewed : (ℕ → Bool) → (ℕ → ℕ) → List ℕ → ℕ → L
 renewed test value [] i = []
 renewed test value (x ∷ xs) i = (if test i then value i else x) ∷ renewed test value xs (suc i)
 
--- a word is one of task t, and u executes it
+-- the mission has the word, as one of task t
+abbrev pub is_word_of : Mission → ℕ → ℕ → Bool
+is_word_of m t w = nat_lt w m.words && nat_eq (m.task w) t
+
+-- a word of the mission is one of task t, and u executes it
 abbrev pub is_made_by : Mission → List ℕ → ℕ → ℕ → ℕ → Bool
-is_made_by m us u t w = nat_eq (m.task w) t && m.executes us w u
+is_made_by m us u t w = nat_lt w m.words && (nat_eq (m.task w) t && m.executes us w u)
 
 -- the memory after task t was run
 abbrev pub run : Mission → List ℕ → ℕ → List ℕ → ℕ → Memory → Memory

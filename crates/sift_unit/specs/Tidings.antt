@@ -47,9 +47,13 @@ word_to m us u f clk b k q = unwrap_or (m.override u f k q) (word_now m us f clk
 
 -- ---- the account
 
--- r's report, as u takes it, names v
+-- r's report, as u takes it: its own, or the agreed one
+abbrev pub report_taken : Mission → List ℕ → ℕ → Memory → ℕ → ℕ
+report_taken m us u b r = if nat_eq r u then report_now m us b else slice_index b.agreed r
+
+-- this report names v
 abbrev pub names_now : Mission → List ℕ → ℕ → Memory → ℕ → ℕ → Bool
-names_now m us u b r v = has_bit (if nat_eq r u then report_now m us b else slice_index b.agreed r) v
+names_now m us u b r v = has_bit (report_taken m us u b r) v
 
 -- the account of a unit that is in its configuration us
 abbrev pub busy_account : Mission → List ℕ → ℕ → ℤ → Memory → Account

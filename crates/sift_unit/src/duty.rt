@@ -7,18 +7,16 @@ ghost use Rattle.sift_unit.specs.Mission.{Mission};
 ghost use Rattle.sift_unit.specs.Slots.{calls};
 ghost use Rattle.sift_unit.specs.Acts.{IsConfigOf};
 ghost use Rattle.sift_unit.specs.Fits.{Fits};
-ghost use Rattle.sift_unit.specs.Memory.{note as note_of, run as run_of};
-ghost use Rattle.sift_unit.specs.Tidings.{word_to as word_of, frame_account};
+ghost use Rattle.sift_unit.specs.Memory.{note as note_of, renewed, is_word_of};
 ghost use Rattle.sift_unit.specs.Remembered.{IsShaped};
 ghost use Rattle.sift_unit.specs.Desk.{spot};
 ghost use Rattle.sift_unit.specs.Stops.{IsNothingBetween};
 ghost use Rattle.sift_unit.specs.Passing.{IsSlotOf, IsTaskOf};
-ghost use Rattle.sift_unit.specs.Boards.{part_of, memory_of, account_of};
+ghost use Rattle.sift_unit.specs.Boards.{part_of, memory_of};
 
-use crate::account::Account;
 use crate::memory::Memory;
 use crate::part::Part;
-use sift_base::{UnitId, Word};
+use sift_base::{Slot, UnitId, Word};
 use sift_config::Config;
 
 /// A mission, as far as a board asks it.
@@ -63,6 +61,28 @@ pub trait Duty {
     fn starts(&self) -> &[Word]
         ensures words { result.now ≡ (mission self.now).starts }
         ensures few { length result.now ≤ word_limit };
+
+    /// The slot of a number.
+    fn kind(&self, slot: usize) -> Slot
+        requires { slot < (mission self.now).slots }
+        ensures { result ≡ (mission self.now).kind slot };
+
+    /// The word of a sensor in a frame.
+    fn sensed(&self, sensor: u8, frame: u32) -> Word
+        requires sensor { sensor < (mission self.now).sensors }
+        requires frame { frame < (mission self.now).frames }
+        ensures { result ≡ (mission self.now).sensed sensor frame };
+
+    /// What the script of faults puts in the place of a unit's word.
+    fn override_of(
+        &self,
+        unit: UnitId,
+        frame: u32,
+        slot: usize,
+        to: UnitId,
+    ) -> Option<Option<Word>>
+        requires { slot < (mission self.now).slots }
+        ensures { result ≡ (mission self.now).override unit frame ((mission self.now).kind slot) to };
 
     /// The subframe in which a slot is said.
     fn due(&self, config: &Config, slot: usize) -> u32
@@ -109,32 +129,22 @@ pub trait Duty {
         requires member { has config.now unit ≡ true }
         ensures { memory_of memory.new ≡ note_of (mission self.now) config.now unit frame clk.now ((mission self.now).kind slot) places.now (memory_of memory.old) };
 
-    /// Runs a task.
-    fn run(&self, memory: &mut Memory, config: &Config, unit: UnitId, last: &[Word], task: usize)
-        requires task { IsTaskOf (mission self.now) config.now task }
-        requires shape { IsShaped (mission self.now) (memory_of memory.old) }
-        ensures { memory_of memory.new ≡ run_of (mission self.now) config.now unit last.now task (memory_of memory.old) };
+    /// Whether a unit runs a task.
+    fn runs(&self, config: &Config, task: usize, unit: UnitId) -> bool
+        requires { IsTaskOf (mission self.now) config.now task }
+        ensures { (w : ℕ) → w < (mission self.now).words → (mission self.now).task w ≡ task → (mission self.now).executes config.now w unit ≡ result };
 
-    /// The word to say in a slot to a unit.
-    fn word(
+    /// Makes the words of a task of the agreed words, this frame's words and those before.
+    fn make_words(
         &self,
-        memory: &Memory,
-        config: &Config,
-        unit: UnitId,
-        frame: u32,
-        clk: &i64,
-        slot: usize,
-        to: UnitId,
-    ) -> Option<Word>
-        requires slot { IsSlotOf (mission self.now) config.now slot }
-        requires shape { IsShaped (mission self.now) (memory_of memory.now) }
-        ensures { result ≡ word_of (mission self.now) config.now unit frame clk.now (memory_of memory.now) ((mission self.now).kind slot) to };
-
-    /// The account of a frame.
-    fn account(&self, memory: &Memory, config: &Config, unit: UnitId, clk: &i64) -> Account
-        requires config { IsConfigOf (mission self.now) config.now }
-        requires shape { IsShaped (mission self.now) (memory_of memory.now) }
-        ensures { account_of result ≡ frame_account (mission self.now) config.now unit clk.now (memory_of memory.now) };
+        task: usize,
+        ins: &[Word],
+        now: &[Word],
+        last: &[Word],
+        made: &mut [Word; 64],
+    )
+        requires { task < (mission self.now).tasks }
+        ensures { made.new ≡ renewed (is_word_of (mission self.now) task) (λ w. (mission self.now).word w ins.now now.now last.now) made.old 0 };
 
     /// What the parts of a mission give.
     ghost fits: { (x : Self) → Fits (mission x) };

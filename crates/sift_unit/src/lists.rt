@@ -1,14 +1,13 @@
 //! Lists of words of a fixed capacity.
 
 ghost use Rattle.std.specs.Prelude.{◌≡◌, ◌≤◌, length};
-ghost use Rattle.sift_base.specs.Layout.{word_limit};
 
 use arrayvec::ArrayVec;
 use sift_base::Word;
 
 /// A list of the same words.
-pub(crate) fn copy_of(words: &[Word]) -> ArrayVec<Word, 64>
-    requires { length words.now ≤ word_limit }
+pub(crate) fn copy_of<const N: usize>(words: &[Word]) -> ArrayVec<Word, N>
+    requires { length words.now ≤ N }
     ensures { result.items ≡ words.now }
 {
     let mut copy = ArrayVec::new();

@@ -1,12 +1,16 @@
 //! What a board remembers in a frame.
 
+ghost use Rattle.std.specs.Prelude.{◌≡◌};
+ghost use Rattle.sift_unit.specs.Memory.{run as run_of};
 ghost use Rattle.sift_unit.specs.Remembered.{IsShaped};
+ghost use Rattle.sift_unit.specs.Passing.{IsTaskOf};
 ghost use Rattle.sift_unit.specs.Boards.{memory_of};
 
 use crate::duty::Duty;
 use crate::lists::zeros;
 use arrayvec::ArrayVec;
-use sift_base::{UnitSet, Word};
+use sift_base::{UnitId, UnitSet, Word};
+use sift_config::Config;
 
 /// What a board remembers of a frame: by sensor, by word and by unit.
 #[derive(Drop)]
@@ -49,6 +53,23 @@ impl Memory {
             poll: [UnitSet::empty(); 64],
             reports: [None; 8],
             agreed: [Word::of(0); 8],
+        }
+    }
+
+    /// Runs a task, where the unit is to run it.
+    pub(crate) fn run<M: Duty>(
+        &mut self,
+        mission: &M,
+        config: &Config,
+        unit: UnitId,
+        last: &[Word],
+        task: usize,
+    )
+        requires { IsTaskOf (M.mission mission.now) config.now task }
+        ensures { memory_of self.new ≡ run_of (M.mission mission.now) config.now unit last.now task (memory_of self.old) }
+    {
+        if mission.runs(config, task, unit) {
+            mission.make_words(task, &self.ins, &self.outs, last, &mut self.made);
         }
     }
 }

@@ -78,8 +78,8 @@ impl Board {
     {
         let stamp = self.stamp(mission);
         if let Some(other) = UnitId::of(self.other) {
-            let word = mission.word(
-                &self.memory,
+            let word = self.memory.word_to(
+                mission,
                 &self.cfg,
                 self.unit,
                 self.frame,
@@ -142,7 +142,7 @@ impl Board {
         requires last { self.old.subframe + 1 ≡ (M.mission mission.now).period }
         ensures { GoesOn (M.mission mission.now) self.old self.new }
     {
-        let account = mission.account(&self.memory, &self.cfg, self.unit, &self.clk);
+        let account = self.memory.account(mission, &self.cfg, self.unit, &self.clk);
         self.cfg = account.next_cfg;
         self.clk = copied(&account.next_clk);
         self.last = copy_of(&account.outs);

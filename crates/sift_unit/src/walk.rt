@@ -194,13 +194,8 @@ impl Board {
             self.other = 0;
             return;
         }
-        mission.run(
-            &mut self.memory,
-            &self.cfg,
-            self.unit,
-            &self.last,
-            self.slot,
-        );
+        self.memory
+            .run(mission, &self.cfg, self.unit, &self.last, self.slot);
         self.slot += 1;
         self.other = 0;
     }

@@ -12,7 +12,7 @@ returns-then-self-run_in-clause-onward g c =
 
 -- past a task that was run
 pub returns-clause-onward : goal.returns-clause-onward
-returns-clause-onward g c = run_onward _ (g.met.M.Duty.fits c.args.mission.now) (desk_of c.args.self.now) c.requires.range (memory_of c.run.new.memory)
+returns-clause-onward g c = run_onward _ (g.met.M.Duty.fits c.args.mission.now) (desk_of c.args.self.now) c.requires.range (memory_of c.run.new.self)
     (record {
       part = c.requires.part;
       slot = (let few = c.if-self-tasks.false in let tasks = c.tasks.ensures in omega arith);

@@ -9,7 +9,7 @@ say-requires g c =
 pub returns-in-Some-clause-drives : goal.returns-in-Some-clause-drives
 returns-in-Some-clause-drives g c =
     say_drives _ (g.met.M.Duty.fits c.args.mission.now) c.args.self.now (g.T.Port.view c.args.port.now) c.requires.drives c.requires.frame c.requires.here
-    _ _ _ _ c.in-Some.ensures.found.0 c.stamp-stamp.ensures c.word-word.ensures c.say.ensures.said
+    _ _ _ _ c.in-Some.ensures.found.0 c.stamp-stamp.ensures c.word_to-word.ensures c.say.ensures.said
 
 pub returns-in-Some-clause-moved : goal.returns-in-Some-clause-moved
 returns-in-Some-clause-moved g c =

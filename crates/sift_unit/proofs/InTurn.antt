@@ -1,0 +1,61 @@
+-- The units of a configuration in turn, and words made anew in part.
+use Rattle.std.proofs.Common.{◌≡◌, ℕ, zero, suc, ◌+◌, ◌<◌, ◌≤◌, ◌++◌, Bool, true, false, ◌&&◌, nat_eq, List, [], ◌∷◌, length, map, take, slice_get, Some, unwrap_or, inl, inr, refl, sym, ap, ◌∙◌, arith, add-one, eqb-true, ltb-true}
+use Rattle.std.specs.Prelude.{nat_lt, if◌then◌else◌}
+use Rattle.std.proofs.lemmas.Bool.{cases_Bool}
+use Rattle.sift_base.specs.Units.{has, IsAscending, IsBelowAll}
+use Rattle.sift_base.proofs.Counts.{has-head, has-tail}
+use Rattle.sift_unit.specs.Mission.{Mission}
+use Rattle.sift_unit.specs.Memory.{renewed, is_word_of, is_made_by}
+use Rattle.sift_unit.proofs.Tests.{and_in}
+
+-- values in turn, one unit more
+pub map_more : {A : Type 0} (f : ℕ → A) (us : List ℕ) (i t : ℕ) → slice_get us i ≡ Some t → map f (take (i + 1) us) ≡ map f (take i us) ++ f t ∷ []
+map_more {A = A} f us i t at = rw (add-one i) (more us i at)
+  where
+    more : (us : List ℕ) (i : ℕ) → slice_get us i ≡ Some t → map f (take (suc i) us) ≡ map f (take i us) ++ f t ∷ []
+    more [] i at = absurd cc
+    more (u ∷ us) zero at = let e : u ≡ t = ap (λ o. unwrap_or o t) at in ap (λ v. f v ∷ []) e
+    more (u ∷ us) (suc i) at = ap (λ xs. f u ∷ xs) (more us i at)
+
+-- the first units are no more than so many
+pub length-in_turn : {A : Type 0} (f : ℕ → A) (us : List ℕ) (i : ℕ) → length (map f (take i us)) ≤ i
+length-in_turn f [] zero = omega arith
+length-in_turn f [] (suc i) = omega arith
+length-in_turn f (u ∷ us) zero = omega arith
+length-in_turn f (u ∷ us) (suc i) = let rest = length-in_turn f us i in omega arith
+
+-- an ascending list of numbers below n has at most n
+pub few_units : (n k : ℕ) (us : List ℕ) → k ≤ n → IsAscending us → ((u : ℕ) → has us u ≡ true → (k ≤ u) × (u < n)) → length us + k ≤ n
+few_units n k [] low up inside = omega arith
+few_units n k (u ∷ us) low up inside =
+    let here = inside u (has-head u us) in
+    let rest = few_units n (u + 1) us (omega (arith, here.1)) up.1 (λ v there. (above us u v up.0 there, (inside v (has-tail u us v there)).1)) in
+    omega (arith, here.0)
+  where
+    above : (us : List ℕ) (u v : ℕ) → IsBelowAll u us → has us v ≡ true → u + 1 ≤ v
+    above [] u v below there = absurd cc
+    above (w ∷ ws) u v below there = elim (cases_Bool (nat_eq w v)) [
+      | inl t ↦ let e = eqb-true w v t in omega (arith, below.0)
+      | inr f ↦ above ws u v below.1 (rw f at there)
+    ]
+
+-- ---- words made anew
+
+-- where no place passes, the list is as it was
+pub renewed-none : (test : ℕ → Bool) (value : ℕ → ℕ) (xs : List ℕ) (i : ℕ) → ((w : ℕ) → test w ≡ false) → renewed test value xs i ≡ xs
+renewed-none test value [] i none = refl
+renewed-none test value (x ∷ xs) i none = rw (none i) (ap (λ ys. x ∷ ys) (renewed-none test value xs (suc i) none))
+
+module _ (m : Mission) (us : List ℕ) (u t : ℕ) (runs : Bool) (tells : (w : ℕ) → w < m.words → m.task w ≡ t → m.executes us w u ≡ runs) where
+  -- a word of the task is made where the unit runs it
+  made_where : (w : ℕ) → is_made_by m us u t w ≡ (nat_lt w m.words && (nat_eq (m.task w) t && runs))
+  made_where w = and_in (nat_lt w m.words) _ _ (λ few. and_in (nat_eq (m.task w) t) _ _ (λ is. tells w (ltb-true w m.words few) (eqb-true (m.task w) t is)))
+
+  -- and none where it doesn't
+  pub made_not : runs ≡ false → (w : ℕ) → is_made_by m us u t w ≡ false
+  made_not r w = made_where w ∙ rw r (none (nat_lt w m.words) (nat_eq (m.task w) t))
+    where
+      none : (a b : Bool) → (a && (b && false)) ≡ false
+      none true true = refl
+      none true false = refl
+      none false b = refl
