@@ -15,8 +15,8 @@ use Rattle.sift_exec.specs.Record.{nobody, everyone_in}
 use Rattle.sift_skew.proofs.Leads.{Contains-map, skew_is_unique, slack_is_unique}
 use Rattle.sift_flight.proofs.Naming.{holds-everyone}
 use Rattle.sift_flight.proofs.CalmConduct.{no_report}
-use Rattle.sift_flight.specs.Calm.{Calm, four_units, mission_of, program_of, account_of, core_of, ranges_of, FliesCalmly}
-use Rattle.sift_flight.specs.Calms.{count, gauge}
+use Rattle.sift_flight.specs.Calm.{Calm, four_units, mission_of, program_of, account_of, core_of, ranges_of}
+use Rattle.sift_flight.specs.Calms.{FliesCalmly, count, gauge}
 use Rattle.sift_flight.specs.Configuration.{Works, IsSkewAt, IsSlackAt}
 use Rattle.sift_flight.specs.Headline.{Headline}
 use Rattle.sift_flight.specs.Hearing.{IsOfStray, absent, stray}

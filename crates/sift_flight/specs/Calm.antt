@@ -17,10 +17,6 @@ use Rattle.sift_program.specs.Program.{ProgramTree}
 use Rattle.sift_unit.specs.Mission.{Mission}
 use Rattle.sift_unit.specs.Slots.{calls, stamp_of, heard_at}
 use Rattle.sift_unit.specs.Account.{Account}
-use Rattle.sift_flight.specs.Configuration.{HasMarginAt}
-use Rattle.sift_flight.specs.Flight.{flight_of}
-use Rattle.sift_flight.specs.Landing.{HaveLanded}
-use Rattle.sift_flight.specs.Premises.{IsFlyable, RunsProgram}
 
 -- a calm mission: the length of its frame; its sensors' words; its tasks, each with one word, with the subframes in which they run, the
 -- words of this frame that they need, and their words before the frame and in it; and the slot of each number
@@ -147,12 +143,3 @@ shared_word c i =
 -- the core after the frame
 abbrev pub core_of : Calm → Core
 core_of c = record { words = map (shared_word c) (range_with_len 0 (shared_words (ranges_of c))); of = acts_of c }
-
--- ---- what it shows
-
--- the mission can be flown, its program is run, its core and its boards' accounts have landed, and its frame has margin
-pub record FliesCalmly (c : Calm) : Type 0 where
-  pub flyable : IsFlyable (mission_of c)
-  pub runs : RunsProgram (mission_of c) (program_of c)
-  pub landed : HaveLanded (mission_of c) (ranges_of c) (core_of c) (λ u f. account_of c) 1
-  pub margin : HasMarginAt (mission_of c) (flight_of (mission_of c) (core_of c) (λ u f. account_of c)) 0

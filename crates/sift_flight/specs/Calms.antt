@@ -4,7 +4,11 @@ use Rattle.sift_base.specs.declared.slot.Slot.{Slot}
 use Rattle.sift_base.specs.declared.slot.Slot.TheVariants.{Clock, Sense, RelaySense, Out, Report, RelayReport}
 use Rattle.sift_lang.specs.declared.tree.Op.TheVariants.{Add, Mul}
 use Rattle.sift_lang.specs.Tree.{number, sense, this_frame, last_frame, binary, output, end, step, TaskTree}
-use Rattle.sift_flight.specs.Calm.{Calm, FliesCalmly}
+use Rattle.sift_flight.specs.Configuration.{HasMarginAt}
+use Rattle.sift_flight.specs.Flight.{flight_of}
+use Rattle.sift_flight.specs.Landing.{HaveLanded}
+use Rattle.sift_flight.specs.Premises.{IsFlyable, RunsProgram}
+use Rattle.sift_flight.specs.Calm.{Calm, mission_of, program_of, account_of, ranges_of, core_of}
 
 -- ---- one task and no sensor
 
@@ -64,6 +68,15 @@ gauge = record {
   outs = 8 ∷ 25 ∷ [];
   kind = gauge_kind;
 }
+
+-- ---- what they show
+
+-- the mission can be flown, its program is run, its core and its boards' accounts have landed, and its frame has margin
+pub record FliesCalmly (c : Calm) : Type 0 where
+  pub flyable : IsFlyable (mission_of c)
+  pub runs : RunsProgram (mission_of c) (program_of c)
+  pub landed : HaveLanded (mission_of c) (ranges_of c) (core_of c) (λ u f. account_of c) 1
+  pub margin : HasMarginAt (mission_of c) (flight_of (mission_of c) (core_of c) (λ u f. account_of c)) 0
 
 -- both fly
 pub record CalmMissionsFly : Type 0 where
