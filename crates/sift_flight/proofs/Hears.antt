@@ -80,8 +80,7 @@ module _ (m : Mission) (r : Ranges) (c : Core) (accounts : ℕ → ℕ → Accou
     from_strays after = landed.lawful.turned.heard q p f (m.number k) stamp at word
         (landed.places.units q flies.unit) (landed.places.units p unit) (call_of m mine k p q called).other below heard_act after
 
-    -- ---- where p has turned
-
+    -- where p has turned
     module _ (gone : has_turned m p f ≡ true) where
       no_word : (g : ℕ) → (c.of p).said g (m.number k) q ≡ Some (saying stamp word) → ⊥
       no_word g e = none-some (saying stamp word) (sym (hushed m (m.storm p) (c.of p) f k q slot kept.turns gone) ∙ (here g word e).1)
@@ -96,8 +95,7 @@ module _ (m : Mission) (r : Ranges) (c : Core) (accounts : ℕ → ℕ → Accou
           go (said g e) = absurd (no_word g e)
           go (strayed x among is) = stray x among is
 
-    -- ---- where it has not
-
+    -- where it has not
     module _ (there : has_turned m p f ≡ false) where
       acts : ActsAre m (c.of p) theirs p f
       acts = kept.acts f low (record { unit = unit; whole = there })

@@ -22,6 +22,7 @@ pub mod CalmActs
 pub mod CalmBoards
 pub mod CalmConduct
 pub mod CalmFits
+pub mod CountProgram
 pub mod CalmCount
 pub mod GaugeProgram
 pub mod CalmGauge
