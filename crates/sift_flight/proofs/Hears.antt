@@ -66,8 +66,7 @@ module _ (m : Mission) (r : Ranges) (c : Core) (accounts : ℕ → ℕ → Accou
     here : (g : ℕ) (w : Option ℕ) → (c.of p).said g (m.number k) q ≡ Some (saying stamp w) → (g ≡ f) × ((c.of p).said f (m.number k) q ≡ Some (saying stamp w))
     here g w e =
         let a = kept.stamps g k q stamp w slot e in
-        let t = fits.timed.apart mine k config slot in
-        let t' = fits.timed.within mine k config slot in
+        let t = fits.timed.apart mine k config slot in let t' = fits.timed.within mine k config slot in
         let same = same_frame m.period g f stamp a.0 a.1 (omega arith) (omega arith) in
         (same, sym (ap (λ (z : ℕ). (c.of p).said z (m.number k) q) same) ∙ e)
 
