@@ -51,7 +51,7 @@ numbered = record {
 
 -- its figures are those of a small mission
 plain : IsPlain count
-plain = record { long = omega arith; short = omega arith; sensors = omega arith; tasks = omega arith; words = words; timed = timed }
+plain = record { long = omega arith; short = omega arith; sensors = omega arith; tasks = omega arith; steady = refl; words = words; timed = timed }
   where
     words : (n : ℕ) → word_in count (count_kind n) < word_count
     words zero = omega arith
@@ -113,4 +113,4 @@ calm = record {
 
 -- and the mission flies
 pub count_flies : FliesCalmly count
-count_flies = record { flyable = flyable_by count fits; runs = runs; landed = calm_landed count calm; margin = has_margin count }
+count_flies = record { flyable = flyable_by count plain fits; runs = runs; landed = calm_landed count calm; margin = has_margin count }

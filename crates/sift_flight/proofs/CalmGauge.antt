@@ -54,7 +54,7 @@ numbered = record {
 
 -- its figures are those of a small mission
 plain : IsPlain gauge
-plain = record { long = omega arith; short = omega arith; sensors = omega arith; tasks = omega arith; words = words; timed = timed }
+plain = record { long = omega arith; short = omega arith; sensors = omega arith; tasks = omega arith; steady = refl; words = words; timed = timed }
   where
     words : (n : ℕ) → word_in gauge (gauge_kind n) < word_count
     words zero = omega arith
@@ -142,4 +142,4 @@ calm = record {
 
 -- and the mission flies
 pub gauge_flies : FliesCalmly gauge
-gauge_flies = record { flyable = flyable_by gauge fits; runs = runs; landed = calm_landed gauge calm; margin = has_margin gauge }
+gauge_flies = record { flyable = flyable_by gauge plain fits; runs = runs; landed = calm_landed gauge calm; margin = has_margin gauge }

@@ -1,5 +1,5 @@
 -- Small missions of one frame in which nothing goes wrong, and how they fly: by them the premises of the laws are seen to be met.
-use Rattle.std.specs.Prelude.{ℕ, ◌+◌, ◌-◌, ◌/◌, ◌%◌, List, [], ◌∷◌, length, map, get_or, slice_index, Bool, true, false, ◌&&◌, nat_eq, nat_lt, if◌then◌else◌, None, Some, pos}
+use Rattle.std.specs.Prelude.{ℕ, ◌+◌, ◌-◌, ◌/◌, ◌%◌, List, [], ◌∷◌, length, map, get_or, slice_index, Bool, true, false, ◌&&◌, nat_eq, nat_lt, if◌then◌else◌, None, Some, pos, not}
 use Rattle.std.specs.List.{range_with_len}
 use Rattle.sift_base.specs.Layout.{slot_number, slot_count}
 use Rattle.sift_base.specs.declared.layout.Layout.{Layout}
@@ -19,7 +19,7 @@ use Rattle.sift_unit.specs.Slots.{calls, stamp_of, heard_at}
 use Rattle.sift_unit.specs.Account.{Account}
 
 -- a calm mission: the length of its frame; its sensors' words; its tasks, each with one word, with the subframes in which they run, the
--- words of this frame that they need, and their words before the frame and in it; and the slot of each number
+-- words of this frame that they need, and their words before the frame and in it; the slot of each number; and which units turn after the frame
 pub record Calm : Type 0 where
   pub period : ℕ
   pub sensed : List ℕ
@@ -29,6 +29,7 @@ pub record Calm : Type 0 where
   pub starts : List ℕ
   pub outs : List ℕ
   pub kind : ℕ → Slot
+  pub turns : ℕ → Bool
 
 -- four units fly it
 abbrev pub four_units : List ℕ
@@ -60,7 +61,7 @@ heard_in c (RelayReport s) = c.period - 2
 abbrev pub task_at : Calm → ℕ → TaskTree
 task_at c w = get_or c.tasks w (record { outputs = 1; body = end })
 
--- the mission: each unit runs each task, no fault comes, and all clocks are right
+-- the mission: each unit runs each task, no fault comes in the frame, and all clocks are right
 abbrev pub mission_of : Calm → Mission
 mission_of c = record {
   units = four_units;
@@ -81,9 +82,9 @@ mission_of c = record {
   word = λ w ins now last. slice_index (meaning (task_at c w) ins now last) 0;
   starts = c.starts;
   sensed = λ x f. slice_index c.sensed x;
-  works = λ u f. true;
+  works = λ u f. not (nat_lt 0 f && c.turns u);
   override = λ u f k q. None;
-  storm = λ u. None;
+  storm = λ u. if c.turns u then Some 1 else None;
   skew = pos 0;
   error = pos 0;
   rate = pos 0;
@@ -112,11 +113,18 @@ word_in c (RelayReport s) = 0
 abbrev pub account_of : Calm → Account
 account_of c = record { cfg = four_units; idle = false; clk = pos 0; ins = c.sensed; outs = c.outs; bad = nobody; next_cfg = four_units; next_clk = pos 0 }
 
+-- the progress number of a unit, and the progress at which it left, if it did: in the last subframe
+abbrev pub progress_of : Calm → ℕ → ℕ
+progress_of c u = if c.turns u then never else c.period
+
+abbrev pub left_of : Calm → ℕ → ℕ
+left_of c u = if c.turns u then c.period - 1 else never
+
 -- what a unit said and heard in the slots of the one frame
 abbrev pub acts_of : Calm → ℕ → Acts
 acts_of c u = record {
-  progress = c.period;
-  left = never;
+  progress = progress_of c u;
+  left = left_of c u;
   seen = λ p. c.period;
   said = λ f n q. if nat_eq f 0 && calls (mission_of c) four_units (c.kind n) u q
       then Some (saying (stamp_of (mission_of c) four_units 0 (c.kind n)) (Some (word_in c (c.kind n)))) else None;
@@ -138,7 +146,7 @@ cell_of c p q n = if calls (mission_of c) four_units (c.kind n) p q
 abbrev pub shared_word : Calm → ℕ → ℕ
 shared_word c i =
     let cells = slot_count (layout_of c) in
-    if nat_lt i 4 then c.period else cell_of c (((i - 4) / cells) / 4) (((i - 4) / cells) % 4) ((i - 4) % cells)
+    if nat_lt i 4 then progress_of c i else cell_of c (((i - 4) / cells) / 4) (((i - 4) / cells) % 4) ((i - 4) % cells)
 
 -- the core after the frame
 abbrev pub core_of : Calm → Core

@@ -34,6 +34,7 @@ count = record {
   starts = 5 ∷ [];
   outs = 16 ∷ [];
   kind = count_kind;
+  turns = λ u. false;
 }
 
 -- ---- a sensor, and two tasks that run in different subframes, of which the second reads the first's word
@@ -56,7 +57,7 @@ gauge_kind (suc (suc (suc (suc zero)))) = Out 1
 gauge_kind (suc (suc (suc (suc (suc zero))))) = Report
 gauge_kind (suc (suc (suc (suc (suc (suc s)))))) = RelayReport s
 
--- the sensor says 7; 7 + 1 is 8, and 2 * 8 + 9 is 25
+-- the sensor says 7; 7 + 1 is 8, and 2 * 8 + 9 is 25; unit 3 turns when the frame has ended
 abbrev pub gauge : Calm
 gauge = record {
   period = 14;
@@ -67,6 +68,7 @@ gauge = record {
   starts = 5 ∷ 9 ∷ [];
   outs = 8 ∷ 25 ∷ [];
   kind = gauge_kind;
+  turns = λ u. nat_eq u 3;
 }
 
 -- ---- what they show
