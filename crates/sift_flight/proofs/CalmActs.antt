@@ -1,5 +1,5 @@
 -- What the boards of a calm mission said and heard, and that their core is lawful.
-use Rattle.std.proofs.Common.{◌⊎◌, length, ◌≡◌, inl, inr, ℕ, ◌+◌, ◌-◌, ◌*◌, ◌/◌, ◌%◌, ◌<◌, ◌≤◌, slice_index, Bool, true, false, ◌&&◌, nat_eq, Option, None, Some, refl, sym, ap, ◌∙◌, subst, arith, lt-ltb, le-ltb, eqb-true}
+use Rattle.std.proofs.Common.{◌≡◌, inl, inr, ℕ, ◌+◌, ◌-◌, ◌*◌, ◌/◌, ◌%◌, ◌<◌, ◌≤◌, slice_index, Bool, true, false, ◌&&◌, nat_eq, Option, None, Some, refl, sym, ap, ◌∙◌, subst, arith, lt-ltb, le-ltb, eqb-true}
 use Rattle.std.specs.List.{range_with_len}
 use Rattle.std.proofs.lemmas.Bool.{cases_Bool}
 use Rattle.std.proofs.lemmas.Nat.{div-mul-add}
@@ -7,55 +7,19 @@ use Rattle.std.proofs.Math.Nat.{mod-eq-sub-div-mul}
 use Rattle.std.proofs.lemmas.List.{length-map, get_or-map}
 use Rattle.std.proofs.lemmas.List.FromFn.{length-range_with_len, get_or-range_with_len}
 use Rattle.std.proofs.lemmas.Option.{cond_some}
-use Rattle.sift_base.specs.Layout.{slot_count, sensor_limit, word_limit}
-use Rattle.sift_base.specs.Word.{word_count}
+use Rattle.sift_base.specs.Layout.{slot_count}
 use Rattle.sift_buffer.specs.Cell.{IsWord}
 use Rattle.sift_buffer.specs.Ranges.{shared_words, place}
-use Rattle.sift_buffer.specs.Conduct.{never, Saying, Hearing, saying, hearing}
-use Rattle.sift_buffer.specs.Lawful.{Lawful, HasStage, IsLastSaid, silent, last}
+use Rattle.sift_buffer.specs.Conduct.{Saying, Hearing, saying, hearing}
+use Rattle.sift_buffer.specs.Lawful.{Lawful, IsLastSaid, silent, last}
 use Rattle.sift_unit.specs.Slots.{calls, stamp_of, heard_at}
-use Rattle.sift_flight.specs.Calm.{Calm, progress_of, left_of, four_units, layout_of, due_in, heard_in, mission_of, word_in, acts_of, ranges_of, cell_of, shared_word, core_of}
+use Rattle.sift_flight.specs.Calm.{Calm, four_units, layout_of, mission_of}
+use Rattle.sift_flight.specs.CalmFlight.{word_in, acts_of, ranges_of, cell_of, shared_word, core_of}
 use Rattle.sift_flight.proofs.Calls.{and_both}
 use Rattle.sift_flight.proofs.FrameActs.{frame_low}
-
--- what is asked of a calm mission: its frame is of a length that may be, its sensors and tasks are few, its words are words, and its slots are heard in time
-pub record IsPlain (c : Calm) : Type 0 where
-  pub long : 12 ≤ c.period
-  pub short : c.period ≤ 64
-  pub sensors : length c.sensed ≤ sensor_limit
-  pub tasks : length c.tasks ≤ word_limit
-  pub steady : c.turns 0 ≡ false
-  pub words : (n : ℕ) → word_in c (c.kind n) < word_count
-  pub timed : (n : ℕ) → (due_in c (c.kind n) + 2 ≤ heard_in c (c.kind n)) × (heard_in c (c.kind n) + 2 ≤ c.period)
-
--- a unit flies on, or it has left
-stage_of : (c : Calm) (u : ℕ) → ((left_of c u ≡ never) × (progress_of c u ≡ c.period)) ⊎ ((left_of c u ≡ c.period - 1) × (progress_of c u ≡ never))
-stage_of c u = elim (cases_Bool (c.turns u)) [ inl t ↦ inr (rw t refl, rw t refl) | inr t ↦ inl (rw t refl, rw t refl) ]
+use Rattle.sift_flight.proofs.CalmStages.{IsPlain, in_range, flies_on}
 
 module _ (c : Calm) (plain : IsPlain c) where
-  -- its numbers, with the length of the frame
-  record InRange (u : ℕ) : Type 0 where
-    progress : (c.period ≤ progress_of c u) × (progress_of c u ≤ never)
-    left : (c.period ≤ left_of c u + 1) × (left_of c u ≤ never)
-    stage : HasStage (acts_of c u)
-    gone : left_of c u < never → left_of c u ≤ c.period
-
-  in_range : (u : ℕ) → InRange u
-  in_range u = elim (stage_of c u) [
-    | inl s ↦ record {
-      progress = (omega (arith, s), omega (arith, s, plain.short));
-      left = (omega (arith, s, plain.short), omega (arith, s));
-      stage = inl (s.0, omega (arith, s, plain.short));
-      gone = λ z. absurd (omega (arith, s));
-    }
-    | inr s ↦ record {
-      progress = (omega (arith, s, plain.short), omega (arith, s));
-      left = (omega (arith, s), omega (arith, s, plain.short));
-      stage = inr (omega (arith, s, plain.short), s.1);
-      gone = λ z. omega (arith, s);
-    }
-  ]
-
   abbrev stamp : ℕ → ℕ
   stamp n = stamp_of (mission_of c) four_units 0 (c.kind n)
 
@@ -130,16 +94,12 @@ module _ (c : Calm) (plain : IsPlain c) where
       none : (f : ℕ) → calls_in n p q ≡ false → (acts_of c p).said f n q ≡ None
       none f t = elim (cases_Bool (nat_eq f 0)) [ inl z ↦ rw (z, t) refl | inr z ↦ rw z refl ]
 
-  -- a unit that has not left has come to the frame's end
-  flies_on : (u : ℕ) → left_of c u ≡ never → progress_of c u ≡ c.period
-  flies_on u stays = elim (stage_of c u) [ inl s ↦ s.1 | inr s ↦ absurd (omega (arith, s, plain.short)) ]
-
   pub lawful : Lawful (ranges_of c) (core_of c)
   lawful = record {
     formed = record {
       wide = length-map (range_with_len 0 (shared_words (ranges_of c))) (shared_word c) ∙ length-range_with_len 0 (shared_words (ranges_of c));
       number = λ p hp. word_at p (omega arith) ∙ rw (lt-ltb p 4 hp) refl;
-      stage = λ p hp. (in_range p).stage;
+      stage = λ p hp. (in_range c plain p).stage;
     };
     cells = λ p q k hp hq hk stays. cell_is p q k _ (cell_at p q k hp hq hk);
     stamps = λ p hp. record {
@@ -147,14 +107,14 @@ module _ (c : Calm) (plain : IsPlain c) where
           let a = said_act p f k q s w e in
           let is = a.stamped in
           let t = plain.timed k in
-          let r = in_range p in
+          let r = in_range c plain p in
           (omega (arith, r.progress), omega (arith, r.left), subst (λ (o : Option ℕ). IsWord o) a.worded (plain.words k));
       apart = λ f f' k q s w w' e e'. (said_act p f k q s w e).frame ∙ sym (said_act p f' k q s w' e').frame;
     };
-    sights = λ q p hq hp ne. omega (arith, (in_range p).progress);
+    sights = λ q p hq hp ne. omega (arith, (in_range c plain p).progress);
     pace = λ q p hq hp ne stays.
-        let own = flies_on q stays in
-        record { sight = omega (arith, own); number = omega (arith, own, (in_range p).progress); left = λ z. omega (arith, own, (in_range p).gone z) };
+        let own = flies_on c plain q stays in
+        record { sight = omega (arith, own); number = omega (arith, own, (in_range c plain p).progress); left = λ z. omega (arith, own, (in_range c plain p).gone z) };
     heard = λ q p f k s h w hq hp ne hk e before.
         let a = heard_act q f k p s h w e in
         let o = a.stamped in
@@ -162,7 +122,7 @@ module _ (c : Calm) (plain : IsPlain c) where
         record {
           source = inr (0, say_act p k q a.called ∙ (λ i. Some (saying (a.stamped i) (a.worded i))));
           same = λ g w' e' between. sym a.worded ∙ (said_act p g k q s w' e').worded;
-          over = omega (arith, (in_range p).progress);
+          over = omega (arith, (in_range c plain p).progress);
         };
     turned = record {
       cells = λ p q k hp hq hk gone. inl (cell_is p q k _ (cell_at p q k hp hq hk));
@@ -170,6 +130,6 @@ module _ (c : Calm) (plain : IsPlain c) where
           let a = heard_act q f k p s h w e in
           let o = a.moment in
           let t = plain.timed k in
-          absurd (omega (arith, (in_range p).left));
+          absurd (omega (arith, (in_range c plain p).left));
     };
   }

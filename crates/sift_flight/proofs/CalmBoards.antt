@@ -11,9 +11,11 @@ use Rattle.sift_unit.specs.Frames.{FrameConduct}
 use Rattle.sift_unit.specs.Acts.{Turns, ActsAre, BoardKeeps, said_places, heard_places, stamp_and_moment}
 use Rattle.sift_unit.specs.Fits.{Fits}
 use Rattle.sift_flight.specs.Landing.{HaveLanded}
-use Rattle.sift_flight.specs.Calm.{Calm, four_units, mission_of, word_in, account_of, acts_of, ranges_of, core_of}
+use Rattle.sift_flight.specs.Calm.{Calm, four_units, mission_of}
+use Rattle.sift_flight.specs.CalmFlight.{word_in, account_of, acts_of, ranges_of, core_of}
 use Rattle.sift_flight.proofs.Calls.{call_of}
-use Rattle.sift_flight.proofs.CalmActs.{IsPlain, said_act, lawful}
+use Rattle.sift_flight.proofs.CalmStages.{IsPlain}
+use Rattle.sift_flight.proofs.CalmActs.{said_act, lawful}
 
 -- the words that a unit hears in the one frame
 abbrev pub heard_by : Calm → ℕ → Places

@@ -9,8 +9,9 @@ use Rattle.sift_vote.specs.Agreed.{agreed_of}
 use Rattle.sift_unit.specs.Slots.{is_slot, executors}
 use Rattle.sift_unit.specs.Conduct.{made}
 use Rattle.sift_unit.specs.Fits.{Fits, IsNumbered}
-use Rattle.sift_flight.specs.Calm.{four_units, due_in, heard_in, mission_of, word_in, account_of}
-use Rattle.sift_flight.proofs.CalmActs.{IsPlain}
+use Rattle.sift_flight.specs.Calm.{four_units, due_in, heard_in, mission_of}
+use Rattle.sift_flight.specs.CalmFlight.{word_in, account_of}
+use Rattle.sift_flight.proofs.CalmStages.{IsPlain}
 use Rattle.sift_flight.proofs.CalmBoards.{IsCalm, calm_landed}
 use Rattle.sift_flight.proofs.CalmConduct.{four, place, HasFigures, conduct_by, own_words}
 use Rattle.sift_flight.proofs.CalmFits.{four_are_below, fits_by, flyable_by, has_margin}

@@ -18,6 +18,7 @@ pub mod Removing
 pub mod Leading
 pub mod OneFrame
 pub mod Induction
+pub mod CalmStages
 pub mod CalmActs
 pub mod CalmBoards
 pub mod CalmConduct

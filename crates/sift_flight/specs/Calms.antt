@@ -8,7 +8,8 @@ use Rattle.sift_flight.specs.Configuration.{HasMarginAt}
 use Rattle.sift_flight.specs.Flight.{flight_of}
 use Rattle.sift_flight.specs.Landing.{HaveLanded}
 use Rattle.sift_flight.specs.Premises.{IsFlyable, RunsProgram}
-use Rattle.sift_flight.specs.Calm.{Calm, mission_of, program_of, account_of, ranges_of, core_of}
+use Rattle.sift_flight.specs.Calm.{Calm, mission_of, program_of}
+use Rattle.sift_flight.specs.CalmFlight.{account_of, ranges_of, core_of}
 
 -- ---- one task and no sensor
 

@@ -6,5 +6,6 @@ pub mod Configuration
 pub mod Premises
 pub mod Headline
 pub mod Calm
+pub mod CalmFlight
 pub mod Calms
 pub mod Rows
