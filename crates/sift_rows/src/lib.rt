@@ -10,6 +10,10 @@ mod buffer;
 #[cfg(test)]
 mod clock;
 #[cfg(test)]
+mod code;
+#[cfg(test)]
+mod compile;
+#[cfg(test)]
 mod compiled;
 #[cfg(test)]
 mod config;
@@ -17,6 +21,10 @@ mod config;
 mod exec;
 #[cfg(test)]
 mod io;
+#[cfg(test)]
+mod machine;
+#[cfg(test)]
+mod pool;
 #[cfg(test)]
 mod scenario;
 #[cfg(test)]

@@ -1,10 +1,14 @@
+//! Rows of the machine that runs stack code.
+
 ghost use Rattle.std.specs.Prelude.{◌≡◌, ◌≤◌};
 ghost use Rattle.sift_pool.specs.Region.{IsLive, KeepsLive};
 ghost use Rattle.sift_code.specs.Refusal.{limits};
 
-use super::*;
-use crate::checked::verify;
-use crate::instr::Instr::*;
+use arrayvec::ArrayVec;
+use sift_base::Word;
+use sift_code::Instr::*;
+use sift_code::{Checked, Instr, WORK_WORDS, run, verify};
+use sift_pool::{Pool, Span};
 use std::alloc::Global;
 use std::process::Abort;
 use std::test::Fail;

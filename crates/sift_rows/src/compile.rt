@@ -4,9 +4,10 @@ ghost use Rattle.std.specs.Prelude.{◌<◌};
 ghost use Rattle.sift_lang.specs.Tree.{tree_of};
 ghost use Rattle.sift_lang.specs.Sound.{IsSound};
 
-use super::*;
 use sift_base::Word;
-use sift_lang::{Expr, Stmt};
+use sift_compile::{CompileStop, compile};
+use sift_lang::{Expr, Op, Stmt, Task};
+use std::alloc::Global;
 use std::process::Abort;
 use std::test::Fail;
 

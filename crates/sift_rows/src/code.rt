@@ -1,9 +1,11 @@
+//! Rows of the verifier of stack code.
+
 ghost use Rattle.std.specs.Prelude.{◌≤◌, length};
 
-use super::*;
-use crate::instr::Instr::*;
 use sift_base::Word;
-use std::alloc::AllocError;
+use sift_code::Instr::*;
+use sift_code::{Bad, Instr, verify};
+use std::alloc::{AllocError, Global};
 use std::process::Abort;
 use std::test::Fail;
 

@@ -1,36 +1,24 @@
+//! Rows of the region of words.
+
 ghost use Rattle.std.specs.Prelude.{◌≡◌};
 ghost use Rattle.sift_pool.specs.Region.{IsLive};
 
-use super::Pool;
-use crate::memory::NoMemory;
-use crate::span::{Full, Span};
+use sift_pool::{Full, NoMemory, Pool, Span};
 use std::test::Fail;
 
 #[test]
 fn what_is_released_is_carved_again(rt: HostRuntime) -> Result<(), Fail> {
     let mut pool = Pool::make(rt.alloc(), 10, 2)?;
     let mark = pool.mark();
-    let first = pool.carve(6);
-    assert_eq!(rt;
-        first,
-        Ok(Span {
-            number: 0,
-            start: 0,
-            len: 6
-        })
-    );
+    let first = pool.carve(6)?;
+    assert_eq!(rt; pool.live(&first), true, "six words");
     let too_long = pool.carve(5);
     assert_eq!(rt; too_long, Err(Full { left: 4 }));
     pool.release(mark);
-    let all = pool.carve(10);
-    assert_eq!(rt;
-        all,
-        Ok(Span {
-            number: 0,
-            start: 0,
-            len: 10
-        })
-    );
+    assert_eq!(rt; pool.live(&first), false, "what was released");
+    let all = pool.carve(10)?;
+    assert_eq!(rt; pool.live(&all), true, "ten words");
+    assert_eq!(rt; pool.count(), 1);
     Ok(())
 }
 
