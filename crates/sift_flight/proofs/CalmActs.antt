@@ -1,5 +1,5 @@
 -- What the boards of a calm mission said and heard, and that their core is lawful.
-use Rattle.std.proofs.Common.{length, ◌≡◌, inl, inr, ℕ, ◌+◌, ◌-◌, ◌*◌, ◌/◌, ◌%◌, ◌<◌, ◌≤◌, slice_index, Bool, true, false, ◌&&◌, nat_eq, Option, None, Some, refl, sym, ap, ◌∙◌, subst, arith, lt-ltb, le-ltb, eqb-true}
+use Rattle.std.proofs.Common.{◌≡◌, inl, inr, ℕ, ◌+◌, ◌-◌, ◌*◌, ◌/◌, ◌%◌, ◌<◌, ◌≤◌, slice_index, Bool, true, false, ◌&&◌, nat_eq, Option, None, Some, refl, sym, ap, ◌∙◌, subst, arith, lt-ltb, le-ltb, eqb-true}
 use Rattle.std.specs.List.{range_with_len}
 use Rattle.std.proofs.lemmas.Bool.{cases_Bool}
 use Rattle.std.proofs.lemmas.Nat.{div-mul-add}
@@ -7,25 +7,17 @@ use Rattle.std.proofs.Math.Nat.{mod-eq-sub-div-mul}
 use Rattle.std.proofs.lemmas.List.{length-map, get_or-map}
 use Rattle.std.proofs.lemmas.List.FromFn.{length-range_with_len, get_or-range_with_len}
 use Rattle.std.proofs.lemmas.Option.{cond_some}
-use Rattle.sift_base.specs.Layout.{slot_count, sensor_limit, word_limit}
-use Rattle.sift_base.specs.Word.{word_count}
+use Rattle.sift_base.specs.Layout.{slot_count}
 use Rattle.sift_buffer.specs.Cell.{IsWord}
 use Rattle.sift_buffer.specs.Ranges.{shared_words, place}
 use Rattle.sift_buffer.specs.Conduct.{Saying, Hearing, saying, hearing}
 use Rattle.sift_buffer.specs.Lawful.{Lawful, IsLastSaid, silent, last}
 use Rattle.sift_unit.specs.Slots.{calls, stamp_of, heard_at}
-use Rattle.sift_flight.specs.Calm.{Calm, four_units, layout_of, due_in, heard_in, mission_of, word_in, acts_of, ranges_of, cell_of, shared_word, core_of}
+use Rattle.sift_flight.specs.Calm.{Calm, four_units, layout_of, mission_of}
+use Rattle.sift_flight.specs.CalmFlight.{word_in, acts_of, ranges_of, cell_of, shared_word, core_of}
 use Rattle.sift_flight.proofs.Calls.{and_both}
 use Rattle.sift_flight.proofs.FrameActs.{frame_low}
-
--- what is asked of a calm mission: its frame is of a length that may be, its sensors and tasks are few, its words are words, and its slots are heard in time
-pub record IsPlain (c : Calm) : Type 0 where
-  pub long : 12 ≤ c.period
-  pub short : c.period ≤ 64
-  pub sensors : length c.sensed ≤ sensor_limit
-  pub tasks : length c.tasks ≤ word_limit
-  pub words : (n : ℕ) → word_in c (c.kind n) < word_count
-  pub timed : (n : ℕ) → (due_in c (c.kind n) + 2 ≤ heard_in c (c.kind n)) × (heard_in c (c.kind n) + 2 ≤ c.period)
+use Rattle.sift_flight.proofs.CalmStages.{IsPlain, in_range, flies_on}
 
 module _ (c : Calm) (plain : IsPlain c) where
   abbrev stamp : ℕ → ℕ
@@ -107,7 +99,7 @@ module _ (c : Calm) (plain : IsPlain c) where
     formed = record {
       wide = length-map (range_with_len 0 (shared_words (ranges_of c))) (shared_word c) ∙ length-range_with_len 0 (shared_words (ranges_of c));
       number = λ p hp. word_at p (omega arith) ∙ rw (lt-ltb p 4 hp) refl;
-      stage = λ p hp. inl (refl, omega (arith, plain.short));
+      stage = λ p hp. (in_range c plain p).stage;
     };
     cells = λ p q k hp hq hk stays. cell_is p q k _ (cell_at p q k hp hq hk);
     stamps = λ p hp. record {
@@ -115,11 +107,14 @@ module _ (c : Calm) (plain : IsPlain c) where
           let a = said_act p f k q s w e in
           let is = a.stamped in
           let t = plain.timed k in
-          (omega arith, omega (arith, plain.short), subst (λ (o : Option ℕ). IsWord o) a.worded (plain.words k));
+          let r = in_range c plain p in
+          (omega (arith, r.progress), omega (arith, r.left), subst (λ (o : Option ℕ). IsWord o) a.worded (plain.words k));
       apart = λ f f' k q s w w' e e'. (said_act p f k q s w e).frame ∙ sym (said_act p f' k q s w' e').frame;
     };
-    sights = λ q p hq hp ne. omega arith;
-    pace = λ q p hq hp ne stays. record { sight = omega arith; number = omega arith; left = λ z. absurd (omega arith) };
+    sights = λ q p hq hp ne. omega (arith, (in_range c plain p).progress);
+    pace = λ q p hq hp ne stays.
+        let own = flies_on c plain q stays in
+        record { sight = omega (arith, own); number = omega (arith, own, (in_range c plain p).progress); left = λ z. omega (arith, own, (in_range c plain p).gone z) };
     heard = λ q p f k s h w hq hp ne hk e before.
         let a = heard_act q f k p s h w e in
         let o = a.stamped in
@@ -127,14 +122,14 @@ module _ (c : Calm) (plain : IsPlain c) where
         record {
           source = inr (0, say_act p k q a.called ∙ (λ i. Some (saying (a.stamped i) (a.worded i))));
           same = λ g w' e' between. sym a.worded ∙ (said_act p g k q s w' e').worded;
-          over = omega arith;
+          over = omega (arith, (in_range c plain p).progress);
         };
     turned = record {
-      cells = λ p q k hp hq hk gone. absurd (omega arith);
+      cells = λ p q k hp hq hk gone. inl (cell_is p q k _ (cell_at p q k hp hq hk));
       heard = λ q p f k s h w hq hp ne hk e after.
           let a = heard_act q f k p s h w e in
           let o = a.moment in
           let t = plain.timed k in
-          absurd (omega (arith, plain.short));
+          absurd (omega (arith, (in_range c plain p).left));
     };
   }

@@ -1,5 +1,5 @@
 -- The boards of a calm mission have kept what boards keep.
-use Rattle.std.proofs.Common.{◌≡◌, inl, inr, ℕ, ◌*◌, ◌<◌, true, None, Some, if◌then◌else◌, option_map, refl, sym, ap, ◌∙◌, subst, arith}
+use Rattle.std.proofs.Common.{ne_eqb, ◌≡◌, inl, inr, ℕ, ◌*◌, ◌<◌, true, None, Some, if◌then◌else◌, option_map, refl, sym, ap, ◌∙◌, subst, arith}
 use Rattle.std.proofs.lemmas.Bool.{cases_Bool}
 use Rattle.sift_base.specs.Units.{has}
 use Rattle.sift_base.specs.declared.slot.Slot.{Slot}
@@ -8,12 +8,14 @@ use Rattle.sift_unit.specs.Slots.{is_slot, calls, stamp_of, heard_at}
 use Rattle.sift_unit.specs.Account.{Places}
 use Rattle.sift_unit.specs.Conduct.{own_word, said_of, Conduct}
 use Rattle.sift_unit.specs.Frames.{FrameConduct}
-use Rattle.sift_unit.specs.Acts.{ActsAre, BoardKeeps, said_places, heard_places, stamp_and_moment}
+use Rattle.sift_unit.specs.Acts.{Turns, ActsAre, BoardKeeps, said_places, heard_places, stamp_and_moment}
 use Rattle.sift_unit.specs.Fits.{Fits}
 use Rattle.sift_flight.specs.Landing.{HaveLanded}
-use Rattle.sift_flight.specs.Calm.{Calm, four_units, mission_of, word_in, account_of, acts_of, ranges_of, core_of}
+use Rattle.sift_flight.specs.Calm.{Calm, four_units, mission_of}
+use Rattle.sift_flight.specs.CalmFlight.{word_in, account_of, acts_of, ranges_of, core_of}
 use Rattle.sift_flight.proofs.Calls.{call_of}
-use Rattle.sift_flight.proofs.CalmActs.{IsPlain, said_act, lawful}
+use Rattle.sift_flight.proofs.CalmStages.{IsPlain}
+use Rattle.sift_flight.proofs.CalmActs.{said_act, lawful}
 
 -- the words that a unit hears in the one frame
 abbrev pub heard_by : Calm → ℕ → Places
@@ -70,6 +72,17 @@ module _ (c : Calm) (calm : IsCalm c) where
           ≡ (if calls (mission_of c) four_units k p u then Some (stamp_of (mission_of c) four_units 0 k, heard_at (mission_of c) four_units 0 k) else None)
       by_calls k p = elim (cases_Bool (calls (mission_of c) four_units k p u)) [ inl t ↦ rw t refl | inr t ↦ rw t refl ]
 
+  -- a unit that turns does so after the frame, and has no acts from then on
+  turns : (u : ℕ) → Turns (mission_of c) ((mission_of c).storm u) (acts_of c u)
+  turns u = elim (cases_Bool (c.turns u)) [
+    | inl t ↦ rw t (record {
+      left = inr (omega arith);
+      says_nothing = λ f k q slot later. rw (ne_eqb f 0 (λ z. omega arith)) refl;
+      hears_nothing = λ f k p slot later. rw (ne_eqb f 0 (λ z. omega arith)) refl;
+    })
+    | inr t ↦ rw t refl
+  ]
+
   board : (u : ℕ) → has four_units u ≡ true → BoardKeeps (mission_of c) u (acts_of c u) (λ f. account_of c) 1
   board u hu = record {
     stamps = λ f k q s w slot e.
@@ -78,7 +91,7 @@ module _ (c : Calm) (calm : IsCalm c) where
         let y = a.stamped in
         let t = calm.plain.timed ((mission_of c).number k) in
         (omega (arith, ap {B = ℕ} (λ x. x * c.period) z), omega (arith, ap {B = ℕ} (λ x. x * c.period) z));
-    turns = refl;
+    turns = turns u;
     config = λ f low flies. calm.fits.config;
     acts = λ f low flies. let z : 0 ≡ f = omega arith in subst (ActsAre (mission_of c) (acts_of c u) four_units u) z (acts u);
     conduct = λ f low flies. let z : 0 ≡ f = omega arith in

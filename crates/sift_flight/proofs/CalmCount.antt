@@ -1,31 +1,28 @@
 -- The calm mission `count` flies.
-use Rattle.std.proofs.Common.{◌≡◌, ℕ, zero, suc, ◌+◌, ◌<◌, ◌≤◌, List, [], ◌∷◌, slice_get, slice_index, map, true, nat_eq, Some, refl, subst, arith, ltb-true, eqb-true}
+use Rattle.std.proofs.Common.{◌≡◌, ℕ, zero, suc, ◌+◌, ◌<◌, ◌≤◌, [], ◌∷◌, slice_index, map, true, nat_eq, refl, arith, ltb-true, eqb-true}
 use Rattle.std.proofs.lemmas.Bool.{agree_below_at}
-use Rattle.std.proofs.lemmas.List.Elements.{All-nil, All-cons}
-use Rattle.std.proofs.lemmas.Option.{same_Some}
 use Rattle.sift_base.specs.Units.{has}
 use Rattle.sift_base.specs.Word.{word_count}
 use Rattle.sift_base.specs.declared.slot.Slot.{Slot}
 use Rattle.sift_base.specs.declared.slot.Slot.TheVariants.{Clock, Sense, RelaySense, Out, Report, RelayReport}
-use Rattle.sift_lang.specs.Tree.{TaskTree}
-use Rattle.sift_lang.specs.Sound.{IsSound, AllNowsBelow}
-use Rattle.sift_lang.specs.Meaning.{meaning}
-use Rattle.sift_program.specs.Sound.{first_word}
 use Rattle.sift_vote.specs.Agreed.{agreed_of}
 use Rattle.sift_unit.specs.Slots.{is_slot, executors}
 use Rattle.sift_unit.specs.Conduct.{made}
 use Rattle.sift_unit.specs.Fits.{Fits, IsNumbered}
+<<<<<<< HEAD
 use Rattle.sift_unit.specs.Premises.{RunsProgram}
 use Rattle.sift_flight.specs.Calm.{four_units, due_in, heard_in, mission_of, program_of, word_in, account_of, FliesCalmly}
 use Rattle.sift_flight.proofs.CalmActs.{IsPlain}
+=======
+use Rattle.sift_flight.specs.Calm.{four_units, due_in, heard_in, mission_of}
+use Rattle.sift_flight.specs.CalmFlight.{word_in, account_of}
+use Rattle.sift_flight.proofs.CalmStages.{IsPlain}
+>>>>>>> 1c6a6eefe08eaf0ded3f0f2211b0d7609eb496d1
 use Rattle.sift_flight.proofs.CalmBoards.{IsCalm, calm_landed}
 use Rattle.sift_flight.proofs.CalmConduct.{four, place, HasFigures, conduct_by, own_words}
 use Rattle.sift_flight.proofs.CalmFits.{four_are_below, fits_by, flyable_by, has_margin}
-use Rattle.sift_flight.specs.Calms.{count_task, count_kind, count}
-
--- what holds of word 0 holds of each word
-one_word : (P : ℕ → Type 0) → P 0 → (w : ℕ) → w < 1 → P w
-one_word P p w low = let e : 0 ≡ w = omega arith in subst P e p
+use Rattle.sift_flight.specs.Calms.{FliesCalmly, count_kind, count}
+use Rattle.sift_flight.proofs.CountProgram.{one_word, runs}
 
 -- there is no sensor
 no_sensor : {X : Type 0} (x : ℕ) → x < 0 → X
@@ -61,7 +58,7 @@ numbered = record {
 
 -- its figures are those of a small mission
 plain : IsPlain count
-plain = record { long = omega arith; short = omega arith; sensors = omega arith; tasks = omega arith; words = words; timed = timed }
+plain = record { long = omega arith; short = omega arith; sensors = omega arith; tasks = omega arith; steady = refl; words = words; timed = timed }
   where
     words : (n : ℕ) → word_in count (count_kind n) < word_count
     words zero = omega arith
@@ -87,44 +84,6 @@ fits = fits_by count plain numbered
       earlier = λ w v low v_low t. absurd cc;
       polled = λ us w v config low v_low t. absurd cc;
     })
-
--- ---- the program
-
--- the task is sound
-sound_task : IsSound 0 1 count_task
-sound_task = record {
-  some_output = omega arith;
-  few_outputs = omega arith;
-  few_repeats = omega arith;
-  sound_body = ((record { names = ((tt, omega arith), tt); needs = omega arith }, omega arith), tt);
-}
-
--- the mission runs the program
-runs : RunsProgram (mission_of count) (program_of count)
-runs = record {
-  sound = record {
-    some_task = omega arith;
-    few_tasks = omega arith;
-    a_start_each = refl;
-    few_words = omega arith;
-    tasks_sound = All-cons (IsSound 0 1) count_task [] sound_task (All-nil (IsSound 0 1));
-    reads_earlier_words = λ t task at. earlier t task at;
-  };
-  words = refl;
-  starts = refl;
-  word = λ t i task ins now last at low. word t i task ins now last at low;
-}
-  where
-    earlier : (t : ℕ) (task : TaskTree) → slice_get (count_task ∷ []) t ≡ Some task → AllNowsBelow (first_word (count_task ∷ []) t) task
-    earlier zero task at = subst (AllNowsBelow 0) (same_Some count_task task at) (((tt, tt), tt), tt)
-    earlier (suc t) task at = absurd cc
-
-    word : (t i : ℕ) (task : TaskTree) (ins now last : List ℕ) → slice_get (count_task ∷ []) t ≡ Some task → i < task.outputs
-        → (mission_of count).word (first_word (count_task ∷ []) t + i) ins now last ≡ slice_index (meaning task ins now last) i
-    word zero i task ins now last at low =
-        subst (λ task. i < task.outputs → (mission_of count).word (0 + i) ins now last ≡ slice_index (meaning task ins now last) i) (same_Some count_task task at)
-        (λ low. one_word (λ i. (mission_of count).word (0 + i) ins now last ≡ slice_index (meaning count_task ins now last) i) refl i low) low
-    word (suc t) i task ins now last at low = absurd cc
 
 -- ---- the frame
 
@@ -161,4 +120,4 @@ calm = record {
 
 -- and the mission flies
 pub count_flies : FliesCalmly count
-count_flies = record { flyable = flyable_by count fits; runs = runs; landed = calm_landed count calm; margin = has_margin count }
+count_flies = record { flyable = flyable_by count plain fits; runs = runs; landed = calm_landed count calm; margin = has_margin count }

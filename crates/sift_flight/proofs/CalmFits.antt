@@ -1,19 +1,29 @@
 -- Premises that all calm missions meet.
-use Rattle.std.proofs.Common.{◌≡◌, ℕ, ◌+◌, ◌<◌, ◌≤◌, List, [], ◌∷◌, length, true, refl, ap, arith, ltb-true, slice_index, subst}
+use Rattle.std.proofs.Common.{false, zero, suc, inl, inr, ◌≡◌, ℕ, ◌+◌, ◌<◌, ◌≤◌, List, [], ◌∷◌, length, true, refl, ap, arith, ltb-true, slice_index, subst}
 use Rattle.std.specs.List.{filter}
 use Rattle.std.proofs.lemmas.Int.{ints}
 use Rattle.sift_base.specs.Units.{has}
 use Rattle.sift_base.specs.Margin.{HasMargin}
 use Rattle.sift_base.specs.declared.slot.Slot.{Slot}
 use Rattle.sift_base.specs.declared.slot.Slot.TheVariants.{Clock, Sense, RelaySense, Out, Report, RelayReport}
-use Rattle.sift_unit.specs.Slots.{is_slot}
+use Rattle.sift_base.specs.ReadBack.{false_last}
+use Rattle.std.specs.Prelude.{not, nat_lt, ◌&&◌, Some, None, if◌then◌else◌}
+use Rattle.std.proofs.lemmas.Bool.{cases_Bool, lt-ltb}
+use Rattle.sift_unit.specs.Slots.{turned_by, is_slot}
 use Rattle.sift_unit.specs.Acts.{IsConfigOf}
 use Rattle.sift_unit.specs.Fits.{Fits, IsNumbered, IsRead, is_caught_in, HasExecutors}
 use Rattle.sift_flight.specs.Configuration.{config_at, HasMarginAt}
 use Rattle.sift_flight.specs.Flight.{flight_of}
+<<<<<<< HEAD
 use Rattle.sift_unit.specs.Premises.{IsFlyable}
 use Rattle.sift_flight.specs.Calm.{Calm, four_units, due_in, heard_in, mission_of, account_of, core_of}
 use Rattle.sift_flight.proofs.CalmActs.{IsPlain}
+=======
+use Rattle.sift_flight.specs.Premises.{IsFlyable}
+use Rattle.sift_flight.specs.Calm.{Calm, four_units, due_in, heard_in, mission_of}
+use Rattle.sift_flight.specs.CalmFlight.{account_of, core_of}
+use Rattle.sift_flight.proofs.CalmStages.{IsPlain}
+>>>>>>> 1c6a6eefe08eaf0ded3f0f2211b0d7609eb496d1
 use Rattle.sift_flight.proofs.CalmConduct.{four}
 
 -- all pass
@@ -36,10 +46,25 @@ module _ (c : Calm) where
   pub four_are_below : (n : ℕ) → 4 ≤ n → (u : ℕ) → has four_units u ≡ true → u < n
   four_are_below n long u hu = four (λ u. u < n) (omega arith) (omega arith) (omega arith) (omega arith) u hu
 
-  pub flyable_by : Fits (mission_of c) → IsFlyable (mission_of c)
-  flyable_by fits = record {
+  -- who works after the frame doesn't turn
+  stays_whole : (u f : ℕ) → not (nat_lt 0 f && c.turns u) ≡ true → turned_by (if c.turns u then Some 1 else None) f ≡ false
+  stays_whole u zero works = elim (cases_Bool (c.turns u)) [ inl t ↦ rw t refl | inr t ↦ rw t refl ]
+  stays_whole u (suc f) works = elim (cases_Bool (c.turns u)) [
+    | inl t ↦ absurd (let w = rw (lt-ltb 0 (suc f) (omega arith), t) at works in cc)
+    | inr t ↦ rw t refl
+  ]
+
+  worked : (u f later : ℕ) → f ≤ later → not (nat_lt 0 later && c.turns u) ≡ true → not (nat_lt 0 f && c.turns u) ≡ true
+  worked u zero later le works = refl
+  worked u (suc f) later le works = rw (lt-ltb 0 (suc f) (omega arith)) (rw (lt-ltb 0 later (omega arith)) at works)
+
+  always : IsPlain c → (f : ℕ) → not (nat_lt 0 f && c.turns 0) ≡ true
+  always plain f = rw (plain.steady, false_last (nat_lt 0 f)) refl
+
+  pub flyable_by : IsPlain c → Fits (mission_of c) → IsFlyable (mission_of c)
+  flyable_by plain fits = record {
     fits = fits;
-    script = record { steady = (0, refl, λ f. refl); for_good = λ u f later le t. refl; own_words = λ u f k q t. refl; whole = λ u f t. refl };
+    script = record { steady = (0, refl, always plain); for_good = worked; own_words = λ u f k q t. refl; whole = stays_whole };
     clocks = record {
       admitted = record { kept = omega (arith, ints); told = omega (arith, ints); long = omega (arith, ints) };
       together = λ u v hu hv. omega (arith, ints);
@@ -50,7 +75,7 @@ module _ (c : Calm) where
 
   pub has_margin : HasMarginAt (mission_of c) (flight_of (mission_of c) (core_of c) (λ u f. account_of c)) 0
   has_margin g low = let z : 0 ≡ g = omega arith in
-      subst (λ g. HasMargin (λ u. true) (config_at (mission_of c) (flight_of (mission_of c) (core_of c) (λ u f. account_of c)) g)) z (record { few = omega arith; enough = omega arith })
+      subst (λ g. HasMargin (λ u. (mission_of c).works u g) (config_at (mission_of c) (flight_of (mission_of c) (core_of c) (λ u f. account_of c)) g)) z (record { few = omega arith; enough = omega arith })
 
   -- each task runs when the sensors are agreed on, and is polled before reports are said
   pub record RunsInTime : Type 0 where

@@ -9,12 +9,13 @@ use Rattle.sift_vote.specs.Agreed.{agreed_of}
 use Rattle.sift_unit.specs.Slots.{is_slot, executors}
 use Rattle.sift_unit.specs.Conduct.{made}
 use Rattle.sift_unit.specs.Fits.{Fits, IsNumbered}
-use Rattle.sift_flight.specs.Calm.{four_units, due_in, heard_in, mission_of, word_in, account_of, FliesCalmly}
-use Rattle.sift_flight.proofs.CalmActs.{IsPlain}
+use Rattle.sift_flight.specs.Calm.{four_units, due_in, heard_in, mission_of}
+use Rattle.sift_flight.specs.CalmFlight.{word_in, account_of}
+use Rattle.sift_flight.proofs.CalmStages.{IsPlain}
 use Rattle.sift_flight.proofs.CalmBoards.{IsCalm, calm_landed}
 use Rattle.sift_flight.proofs.CalmConduct.{four, place, HasFigures, conduct_by, own_words}
 use Rattle.sift_flight.proofs.CalmFits.{four_are_below, fits_by, flyable_by, has_margin}
-use Rattle.sift_flight.specs.Calms.{gauge_kind, gauge}
+use Rattle.sift_flight.specs.Calms.{FliesCalmly, gauge_kind, gauge}
 use Rattle.sift_unit.specs.Conduct.{input_of}
 use Rattle.sift_unit.specs.Fits.{SameAt}
 use Rattle.sift_flight.proofs.Calls.{and_both}
@@ -54,7 +55,7 @@ numbered = record {
 
 -- its figures are those of a small mission
 plain : IsPlain gauge
-plain = record { long = omega arith; short = omega arith; sensors = omega arith; tasks = omega arith; words = words; timed = timed }
+plain = record { long = omega arith; short = omega arith; sensors = omega arith; tasks = omega arith; steady = refl; words = words; timed = timed }
   where
     words : (n : ℕ) → word_in gauge (gauge_kind n) < word_count
     words zero = omega arith
@@ -142,4 +143,4 @@ calm = record {
 
 -- and the mission flies
 pub gauge_flies : FliesCalmly gauge
-gauge_flies = record { flyable = flyable_by gauge fits; runs = runs; landed = calm_landed gauge calm; margin = has_margin gauge }
+gauge_flies = record { flyable = flyable_by gauge plain fits; runs = runs; landed = calm_landed gauge calm; margin = has_margin gauge }

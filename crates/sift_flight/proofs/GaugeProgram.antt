@@ -14,6 +14,7 @@ use Rattle.sift_flight.specs.Calms.{reading_task, adding_task, gauge}
 pub one : (P : ℕ → Type 0) → P 0 → (x : ℕ) → x < 1 → P x
 one P p x low = let e : 0 ≡ x = omega arith in subst P e p
 
+-- and of both of each of two
 pub two : (P : ℕ → Type 0) → P 0 → P 1 → (w : ℕ) → w < 2 → P w
 two P p q zero low = p
 two P p q (suc zero) low = q

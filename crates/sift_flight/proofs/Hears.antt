@@ -66,8 +66,7 @@ module _ (m : Mission) (r : Ranges) (c : Core) (accounts : ℕ → ℕ → Accou
     here : (g : ℕ) (w : Option ℕ) → (c.of p).said g (m.number k) q ≡ Some (saying stamp w) → (g ≡ f) × ((c.of p).said f (m.number k) q ≡ Some (saying stamp w))
     here g w e =
         let a = kept.stamps g k q stamp w slot e in
-        let t = fits.timed.apart mine k config slot in
-        let t' = fits.timed.within mine k config slot in
+        let t = fits.timed.apart mine k config slot in let t' = fits.timed.within mine k config slot in
         let same = same_frame m.period g f stamp a.0 a.1 (omega arith) (omega arith) in
         (same, sym (ap (λ (z : ℕ). (c.of p).said z (m.number k) q) same) ∙ e)
 
@@ -80,8 +79,7 @@ module _ (m : Mission) (r : Ranges) (c : Core) (accounts : ℕ → ℕ → Accou
     from_strays after = landed.lawful.turned.heard q p f (m.number k) stamp at word
         (landed.places.units q flies.unit) (landed.places.units p unit) (call_of m mine k p q called).other below heard_act after
 
-    -- ---- where p has turned
-
+    -- where p has turned
     module _ (gone : has_turned m p f ≡ true) where
       no_word : (g : ℕ) → (c.of p).said g (m.number k) q ≡ Some (saying stamp word) → ⊥
       no_word g e = none-some (saying stamp word) (sym (hushed m (m.storm p) (c.of p) f k q slot kept.turns gone) ∙ (here g word e).1)
@@ -96,8 +94,7 @@ module _ (m : Mission) (r : Ranges) (c : Core) (accounts : ℕ → ℕ → Accou
           go (said g e) = absurd (no_word g e)
           go (strayed x among is) = stray x among is
 
-    -- ---- where it has not
-
+    -- where it has not
     module _ (there : has_turned m p f ≡ false) where
       acts : ActsAre m (c.of p) theirs p f
       acts = kept.acts f low (record { unit = unit; whole = there })

@@ -18,10 +18,12 @@ pub mod Removing
 pub mod Leading
 pub mod OneFrame
 pub mod Induction
+pub mod CalmStages
 pub mod CalmActs
 pub mod CalmBoards
 pub mod CalmConduct
 pub mod CalmFits
+pub mod CountProgram
 pub mod CalmCount
 pub mod GaugeProgram
 pub mod CalmGauge

@@ -18,7 +18,7 @@ use Rattle.sift_flight.proofs.Configs.{reader_in}
 use Rattle.sift_flight.proofs.Ideal.{IsStep, ideal_step}
 use Rattle.sift_flight.proofs.Working.{InFrame, Member, works_in, member_of, busy_here, conduct_here}
 use Rattle.sift_flight.proofs.Agreeing.{sensor_own, sensor_same, report_own, report_same}
-use Rattle.sift_flight.proofs.Timing.{skew_within, slack_positive}
+use Rattle.sift_flight.proofs.Timing.{leads, skew_within, slack_positive}
 use Rattle.sift_flight.proofs.Voting.{output_is}
 use Rattle.sift_flight.proofs.Naming.{none_named}
 use Rattle.sift_flight.proofs.Removing.{names, next_one, next_exact, stays, next_is_config}
@@ -93,5 +93,10 @@ module _ (m : Mission) (program : ProgramTree) (strays : Strays) (fl : Flight) (
           stays = λ u w. subst (λ c. has c u ≡ true) (sym at_next) (stays_in u (member u w));
           config = subst (IsConfigOf m) (sym at_next) next_good;
         };
-        clock_skew = record { together = here.together; skew = skew_within m strays fl f us here; slack = slack_positive m strays fl f us here };
+        clock_skew = record {
+          together = here.together;
+          skew = skew_within m strays fl f us here;
+          lead = λ p q wp wq. leads m strays fl f us here p q (member p wp) (member q wq);
+          slack = slack_positive m strays fl f us here;
+        };
       }

@@ -15,8 +15,9 @@ use Rattle.sift_exec.specs.Record.{nobody, everyone_in}
 use Rattle.sift_skew.proofs.Leads.{Contains-map, skew_is_unique, slack_is_unique}
 use Rattle.sift_flight.proofs.Naming.{holds-everyone}
 use Rattle.sift_flight.proofs.CalmConduct.{no_report}
-use Rattle.sift_flight.specs.Calm.{Calm, four_units, mission_of, program_of, account_of, core_of, ranges_of, FliesCalmly}
-use Rattle.sift_flight.specs.Calms.{count, gauge}
+use Rattle.sift_flight.specs.Calm.{Calm, four_units, mission_of, program_of}
+use Rattle.sift_flight.specs.CalmFlight.{account_of, core_of, ranges_of}
+use Rattle.sift_flight.specs.Calms.{FliesCalmly, count, gauge}
 use Rattle.sift_flight.specs.Configuration.{Works, IsSkewAt, IsSlackAt}
 use Rattle.sift_flight.specs.Headline.{Headline}
 use Rattle.sift_flight.specs.Hearing.{IsOfStray, absent, stray}
@@ -115,6 +116,7 @@ configuration_rows = record {
 
 -- ---- the headline
 
+-- the calm flights have it, and each changed flight lacks an item
 headline_rows : HeadlineRows
 headline_rows = record {
   count_stands = calm_headline count count_flies;
@@ -131,5 +133,6 @@ headline_rows = record {
     caught_one : holds (everyone_in (record nobody { poll = set.insert set.empty 1 })) 1 ≡ true
     caught_one = holds-everyone (record nobody { poll = set.insert set.empty 1 }) 1 ∙ rw (holds-insert set.empty 1 1) refl
 
+-- all rows
 pub rows_hold : RowsHold
 rows_hold = record { hearing = hearing_rows; configuration = configuration_rows; headline = headline_rows }

@@ -30,6 +30,7 @@ pub record AreBothRound (m : Mission) (strays strays' : Strays) (fl gl : Flight)
 pub whole_unit : (m : Mission) → HasNoStorms m → (u f : ℕ) → has m.units u ≡ true → has_turned m u f ≡ false
 whole_unit m calm u f hu = rw (calm u hu) refl
 
+-- so each of its units flies in each frame
 pub flies_always : (m : Mission) → HasNoStorms m → (u f : ℕ) → has m.units u ≡ true → Flies m u f
 flies_always m calm u f hu = record { unit = hu; whole = whole_unit m calm u f hu }
 

@@ -25,6 +25,7 @@ use Rattle.sift_flight.specs.Round.{AreSameAt}
 use Rattle.sift_flight.proofs.Same.{AreBothRound, HearAlike, conduct_one, conduct_other, busy_one, idle_one, by_place, say, hear}
 use Rattle.sift_flight.proofs.SameWords.{heard_clock, heard_sense, heard_relay, heard_out, ins_same, polled_same, outs_same, all_outs}
 
+-- sets that hold the same units are the same
 same_units : (s t : Units) → ((u : ℕ) → holds s u ≡ holds t u) → s ≡ t
 same_units s t same = set.same_set nat_cmp_total set.nat_cmp-IsAntisymmetric s t same
 

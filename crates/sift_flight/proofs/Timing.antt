@@ -16,6 +16,7 @@ use Rattle.sift_skew.proofs.Leads.{Contains-map, slack_is_positive}
 use Rattle.sift_unit.specs.Mission.{Mission}
 use Rattle.sift_unit.specs.Conduct.{reading_by}
 use Rattle.sift_flight.specs.Flight.{Flight}
+use Rattle.sift_flight.specs.Headline.{HasLead}
 use Rattle.sift_flight.specs.Hearing.{Strays}
 use Rattle.sift_flight.proofs.Configs.{filter_has}
 use Rattle.sift_flight.proofs.Working.{InFrame, Member, conduct_here, hears, clock_call}
@@ -86,6 +87,17 @@ module _ (m : Mission) (strays : Strays) (fl : Flight) (f : ℕ) (us : List ℕ)
       let p' = working p.0 p.1 in
       let q' = working q.0 q.1 in
       omega (arith, ints, p.2, q.2, here.together p.0 q.0 p'.member p'.works q'.member q'.works, figure.attained.4)
+
+  -- something is left of a subframe between any two members
+  pub leads : (p q : ℕ) → Member m f us p → Member m f us q → HasLead m fl f p q
+  leads p q wp wq =
+      let near = here.together q p wq.member wq.works wp.member wp.works in
+      let self = here.together p p wp.member wp.works wp.member wp.works in
+      let hp = here.config.inside p wp.member in
+      let error = here.flyable.clocks.errors p p hp hp in
+      let drift = here.flyable.clocks.drifts p hp in
+      let long = here.flyable.clocks.admitted.long in
+      record { now = omega (arith, ints, near, self, error, drift, long); next = omega (arith, ints, near, change q wq, long) }
 
   -- the slack is at least 1
   pub slack_positive : (s : ℤ) → IsSlack m.length (map clk (filter (λ v. m.works v f) us)) (map (λ u. (fl.account u f).next_clk) (filter (λ v. m.works v f) us)) s → pos 1 ≤ℤ s

@@ -56,6 +56,7 @@ module _ (m : Mission) (strays strays' : Strays) (fl gl : Flight) (fits : Fits m
         inside = λ u p hu hp. b.inside u p hu (stays f before u p hu (subst (λ us. has us p ≡ true) (conduct_other (suc f) low u hu).begins.cfg hp));
       }
 
+-- so all frames are the same
 pub at_most_one_flight_is_round : AtMostOneIsRound
 at_most_one_flight_is_round m strays strays' fl gl fits calm R S u f hu low =
     same_here m strays strays' fl gl f (both_round m strays strays' fl gl fits calm R S f low) u hu

@@ -1,29 +1,25 @@
--- Small missions of one frame in which nothing goes wrong, and how they fly: by them the premises of the laws are seen to be met.
-use Rattle.std.specs.Prelude.{ℕ, ◌+◌, ◌-◌, ◌/◌, ◌%◌, List, [], ◌∷◌, length, map, get_or, slice_index, Bool, true, false, ◌&&◌, nat_eq, nat_lt, if◌then◌else◌, None, Some, pos}
-use Rattle.std.specs.List.{range_with_len}
+-- Small missions of one frame in which nothing goes wrong: by them the premises of the laws are seen to be met.
+use Rattle.std.specs.Prelude.{ℕ, ◌+◌, ◌-◌, List, [], ◌∷◌, length, get_or, slice_index, Bool, true, ◌&&◌, nat_lt, if◌then◌else◌, None, Some, pos, not}
 use Rattle.sift_base.specs.Layout.{slot_number, slot_count}
 use Rattle.sift_base.specs.declared.layout.Layout.{Layout}
 use Rattle.sift_base.specs.declared.slot.Slot.{Slot}
 use Rattle.sift_base.specs.declared.slot.Slot.TheVariants.{Clock, Sense, RelaySense, Out, Report, RelayReport}
-use Rattle.sift_buffer.specs.Cell.{packed}
-use Rattle.sift_buffer.specs.Ranges.{Ranges, shared_words}
-use Rattle.sift_buffer.specs.Conduct.{saying, hearing, never}
-use Rattle.sift_buffer.specs.Conduct.{Conduct as Acts}
-use Rattle.sift_buffer.specs.Core.{Core}
-use Rattle.sift_exec.specs.Record.{nobody}
 use Rattle.sift_lang.specs.Tree.{TaskTree, end}
 use Rattle.sift_lang.specs.Meaning.{meaning}
 use Rattle.sift_program.specs.Program.{ProgramTree}
 use Rattle.sift_unit.specs.Mission.{Mission}
+<<<<<<< HEAD
 use Rattle.sift_unit.specs.Slots.{calls, stamp_of, heard_at}
 use Rattle.sift_unit.specs.Account.{Account}
 use Rattle.sift_flight.specs.Configuration.{HasMarginAt}
 use Rattle.sift_flight.specs.Flight.{flight_of}
 use Rattle.sift_flight.specs.Landing.{HaveLanded}
 use Rattle.sift_unit.specs.Premises.{IsFlyable, RunsProgram}
+=======
+>>>>>>> 1c6a6eefe08eaf0ded3f0f2211b0d7609eb496d1
 
 -- a calm mission: the length of its frame; its sensors' words; its tasks, each with one word, with the subframes in which they run, the
--- words of this frame that they need, and their words before the frame and in it; and the slot of each number
+-- words of this frame that they need, and their words before the frame and in it; the slot of each number; and which units turn after the frame
 pub record Calm : Type 0 where
   pub period : ℕ
   pub sensed : List ℕ
@@ -33,6 +29,7 @@ pub record Calm : Type 0 where
   pub starts : List ℕ
   pub outs : List ℕ
   pub kind : ℕ → Slot
+  pub turns : ℕ → Bool
 
 -- four units fly it
 abbrev pub four_units : List ℕ
@@ -64,7 +61,7 @@ heard_in c (RelayReport s) = c.period - 2
 abbrev pub task_at : Calm → ℕ → TaskTree
 task_at c w = get_or c.tasks w (record { outputs = 1; body = end })
 
--- the mission: each unit runs each task, no fault comes, and all clocks are right
+-- the mission: each unit runs each task, no fault comes in the frame, and all clocks are right
 abbrev pub mission_of : Calm → Mission
 mission_of c = record {
   units = four_units;
@@ -85,9 +82,9 @@ mission_of c = record {
   word = λ w ins now last. slice_index (meaning (task_at c w) ins now last) 0;
   starts = c.starts;
   sensed = λ x f. slice_index c.sensed x;
-  works = λ u f. true;
+  works = λ u f. not (nat_lt 0 f && c.turns u);
   override = λ u f k q. None;
-  storm = λ u. None;
+  storm = λ u. if c.turns u then Some 1 else None;
   skew = pos 0;
   error = pos 0;
   rate = pos 0;
@@ -100,59 +97,3 @@ mission_of c = record {
 -- the program that it runs
 abbrev pub program_of : Calm → ProgramTree
 program_of c = record { tasks = c.tasks; starts = c.starts }
-
--- ---- its flight
-
--- the word that each unit says in a slot
-abbrev pub word_in : Calm → Slot → ℕ
-word_in c Clock = 0
-word_in c (Sense x) = slice_index c.sensed x
-word_in c (RelaySense x) = slice_index c.sensed x
-word_in c (Out w) = slice_index c.outs w
-word_in c Report = 0
-word_in c (RelayReport s) = 0
-
--- each unit's account
-abbrev pub account_of : Calm → Account
-account_of c = record { cfg = four_units; idle = false; clk = pos 0; ins = c.sensed; outs = c.outs; bad = nobody; next_cfg = four_units; next_clk = pos 0 }
-
--- what a unit said and heard in the slots of the one frame
-abbrev pub acts_of : Calm → ℕ → Acts
-acts_of c u = record {
-  progress = c.period;
-  left = never;
-  seen = λ p. c.period;
-  said = λ f n q. if nat_eq f 0 && calls (mission_of c) four_units (c.kind n) u q
-      then Some (saying (stamp_of (mission_of c) four_units 0 (c.kind n)) (Some (word_in c (c.kind n)))) else None;
-  heard = λ f n p. if nat_eq f 0 && calls (mission_of c) four_units (c.kind n) p u
-      then Some (hearing (stamp_of (mission_of c) four_units 0 (c.kind n)) (heard_at (mission_of c) four_units 0 (c.kind n)) (Some (word_in c (c.kind n)))) else None;
-  strays = [];
-}
-
--- the numbers of its units, slots and frames
-abbrev pub ranges_of : Calm → Ranges
-ranges_of c = record { units = 4; slots = slot_count (layout_of c); frames = 1 }
-
--- the cell of p for q in slot number n: what p said last there
-abbrev pub cell_of : Calm → ℕ → ℕ → ℕ → ℕ
-cell_of c p q n = if calls (mission_of c) four_units (c.kind n) p q
-    then packed (stamp_of (mission_of c) four_units 0 (c.kind n)) (Some (word_in c (c.kind n))) else 0
-
--- the shared words: four progress numbers, and then the cells by sender, receiver and slot
-abbrev pub shared_word : Calm → ℕ → ℕ
-shared_word c i =
-    let cells = slot_count (layout_of c) in
-    if nat_lt i 4 then c.period else cell_of c (((i - 4) / cells) / 4) (((i - 4) / cells) % 4) ((i - 4) % cells)
-
--- the core after the frame
-abbrev pub core_of : Calm → Core
-core_of c = record { words = map (shared_word c) (range_with_len 0 (shared_words (ranges_of c))); of = acts_of c }
-
--- ---- what it shows
-
--- the mission can be flown, its program is run, its core and its boards' accounts have landed, and its frame has margin
-pub record FliesCalmly (c : Calm) : Type 0 where
-  pub flyable : IsFlyable (mission_of c)
-  pub runs : RunsProgram (mission_of c) (program_of c)
-  pub landed : HaveLanded (mission_of c) (ranges_of c) (core_of c) (λ u f. account_of c) 1
-  pub margin : HasMarginAt (mission_of c) (flight_of (mission_of c) (core_of c) (λ u f. account_of c)) 0

@@ -4,7 +4,12 @@ use Rattle.sift_base.specs.declared.slot.Slot.{Slot}
 use Rattle.sift_base.specs.declared.slot.Slot.TheVariants.{Clock, Sense, RelaySense, Out, Report, RelayReport}
 use Rattle.sift_lang.specs.declared.tree.Op.TheVariants.{Add, Mul}
 use Rattle.sift_lang.specs.Tree.{number, sense, this_frame, last_frame, binary, output, end, step, TaskTree}
-use Rattle.sift_flight.specs.Calm.{Calm, FliesCalmly}
+use Rattle.sift_flight.specs.Configuration.{HasMarginAt}
+use Rattle.sift_flight.specs.Flight.{flight_of}
+use Rattle.sift_flight.specs.Landing.{HaveLanded}
+use Rattle.sift_flight.specs.Premises.{IsFlyable, RunsProgram}
+use Rattle.sift_flight.specs.Calm.{Calm, mission_of, program_of}
+use Rattle.sift_flight.specs.CalmFlight.{account_of, ranges_of, core_of}
 
 -- ---- one task and no sensor
 
@@ -30,6 +35,7 @@ count = record {
   starts = 5 ∷ [];
   outs = 16 ∷ [];
   kind = count_kind;
+  turns = λ u. false;
 }
 
 -- ---- a sensor, and two tasks that run in different subframes, of which the second reads the first's word
@@ -52,7 +58,7 @@ gauge_kind (suc (suc (suc (suc zero)))) = Out 1
 gauge_kind (suc (suc (suc (suc (suc zero))))) = Report
 gauge_kind (suc (suc (suc (suc (suc (suc s)))))) = RelayReport s
 
--- the sensor says 7; 7 + 1 is 8, and 2 * 8 + 9 is 25
+-- the sensor says 7; 7 + 1 is 8, and 2 * 8 + 9 is 25; unit 3 turns when the frame has ended
 abbrev pub gauge : Calm
 gauge = record {
   period = 14;
@@ -63,7 +69,17 @@ gauge = record {
   starts = 5 ∷ 9 ∷ [];
   outs = 8 ∷ 25 ∷ [];
   kind = gauge_kind;
+  turns = λ u. nat_eq u 3;
 }
+
+-- ---- what they show
+
+-- the mission can be flown, its program is run, its core and its boards' accounts have landed, and its frame has margin
+pub record FliesCalmly (c : Calm) : Type 0 where
+  pub flyable : IsFlyable (mission_of c)
+  pub runs : RunsProgram (mission_of c) (program_of c)
+  pub landed : HaveLanded (mission_of c) (ranges_of c) (core_of c) (λ u f. account_of c) 1
+  pub margin : HasMarginAt (mission_of c) (flight_of (mission_of c) (core_of c) (λ u f. account_of c)) 0
 
 -- both fly
 pub record CalmMissionsFly : Type 0 where

@@ -4,6 +4,7 @@ use Rattle.std.specs.List.{filter}
 use Rattle.sift_base.specs.Units.{has}
 use Rattle.sift_exec.specs.Conviction.{working_accusers}
 use Rattle.sift_config.specs.Config.{reader_of}
+use Rattle.sift_skew.specs.Figures.{lead_left}
 use Rattle.sift_skew.specs.Keeping.{AreTogether}
 use Rattle.sift_program.specs.Program.{ProgramTree}
 use Rattle.sift_program.specs.Ideal.{ideal_words}
@@ -67,10 +68,17 @@ pub record ExactRemoval (m : Mission) (fl : Flight) (f : ℕ) : Type 0 where
 
 -- ---- clocks
 
--- clock skew: working clocks differ by at most the skew, and so does the frame's figure; and the slack is at least 1
+-- something is left of a subframe between the clocks of p and q, with q's offset of this frame and with that in force after it
+pub record HasLead (m : Mission) (fl : Flight) (f p q : ℕ) : Type 0 where
+  pub now : pos 1 ≤ℤ lead_left m.length (fl.account p f).clk (fl.account q f).clk
+  pub next : pos 1 ≤ℤ lead_left m.length (fl.account p f).clk (fl.account q f).next_clk
+
+-- clock skew: working clocks differ by at most the skew, and so does the frame's figure; something is left of a subframe between any two
+-- of them, and the slack is at least 1
 pub record ClockSkew (m : Mission) (fl : Flight) (f : ℕ) : Type 0 where
   pub together : AreTogether m.skew (config_at m fl f) (λ u. m.works u f) (λ u. (fl.account u f).clk)
   pub skew : (s : ℤ) → IsSkewAt m fl f s → s ≤ℤ m.skew
+  pub lead : (p q : ℕ) → Works m p f → Works m q f → HasLead m fl f p q
   pub slack : (s : ℤ) → IsSlackAt m fl f s → pos 1 ≤ℤ s
 
 -- ---- all of it

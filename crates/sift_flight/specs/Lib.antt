@@ -5,5 +5,6 @@ pub mod Landing
 pub mod Configuration
 pub mod Headline
 pub mod Calm
+pub mod CalmFlight
 pub mod Calms
 pub mod Rows

@@ -12,7 +12,8 @@ use Rattle.sift_exec.specs.Conviction.{next_by}
 use Rattle.sift_clock.specs.Correction.{next_offset}
 use Rattle.sift_unit.specs.Mission.{Mission}
 use Rattle.sift_unit.specs.Account.{Account}
-use Rattle.sift_flight.specs.Calm.{Calm, four_units, mission_of, program_of, account_of, core_of}
+use Rattle.sift_flight.specs.Calm.{Calm, four_units, mission_of, program_of}
+use Rattle.sift_flight.specs.CalmFlight.{account_of, core_of}
 use Rattle.sift_flight.specs.Calms.{count, gauge}
 use Rattle.sift_flight.specs.Configuration.{lead_of, config_at, HasMarginAt, IsSkewAt, IsSlackAt}
 use Rattle.sift_flight.specs.Flight.{Flight, flight_of}

@@ -1,4 +1,4 @@
-//! The laws of flights: where round flights come from, and that there is at most one.
+//! The laws of flights: where round flights come from, that there is at most one, and the headline.
 
 ghost use Rattle.sift_flight.specs.Calms.{CalmMissionsFly};
 ghost use Rattle.sift_flight.specs.Headline.{HeadlineHolds};
