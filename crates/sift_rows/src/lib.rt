@@ -18,6 +18,12 @@ mod exec;
 #[cfg(test)]
 mod io;
 #[cfg(test)]
+mod lang;
+#[cfg(test)]
+mod parse;
+#[cfg(test)]
+mod program;
+#[cfg(test)]
 mod scenario;
 #[cfg(test)]
 mod skew;
