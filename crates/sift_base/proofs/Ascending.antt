@@ -1,5 +1,5 @@
 -- Ascending lists: each number is below its neighbour, and so below all that follow.
-use Rattle.std.proofs.Common.{◌≡◌, ℕ, zero, suc, ◌<◌, List, [], ◌∷◌, length, get_or, Bool, true, false, IsTrue, arith, ltb, ltb-true, ltb-false, sym, add-one, refl}
+use Rattle.std.proofs.Common.{◌≡◌, ℕ, zero, suc, ◌<◌, ◌≤◌, List, [], ◌∷◌, length, get_or, Bool, true, false, IsTrue, arith, ltb, ltb-true, ltb-false, sym, add-one, refl}
 use Rattle.std.specs.List.{IsAllAdjacentAnswer}
 use Rattle.std.proofs.lemmas.Bool.{false≢true}
 use Rattle.sift_base.specs.Units.{IsAscending, IsBelowAll}
@@ -27,5 +27,11 @@ neighbours_ascend (x ∷ y ∷ ys) up (suc k) low = neighbours_ascend (y ∷ ys)
 
 -- a test of all neighbours tells whether the list ascends
 pub ascending_from_answer : (xs : List ℕ) (r : Bool) → IsAllAdjacentAnswer (λ x y b. b ≡ ltb x y) xs r → (IsTrue r → IsAscending xs) × (IsAscending xs → IsTrue r)
-ascending_from_answer xs true answer = (λ _. ascending_from_neighbours xs (λ k low. rw (← add-one k) (ltb-true _ _ (sym (answer k 0 (omega arith))))), λ _. refl)
-ascending_from_answer xs false answer = (λ e. absurd (false≢true e), λ up. absurd (let low : suc answer.0 < length xs = omega (arith, answer.1) in omega (arith, neighbours_ascend xs up answer.0 low, ltb-false (get_or xs answer.0 0) (get_or xs (suc answer.0) 0) (rw (← add-one answer.0) (sym (answer.2 0))))))
+ascending_from_answer xs true answer =
+    let near : (k : ℕ) → suc k < length xs → get_or xs k 0 < get_or xs (suc k) 0 =
+    λ k low. rw (← add-one k) (ltb-true _ _ (sym (answer k 0 (omega arith)))) in
+    (λ _. ascending_from_neighbours xs near, λ _. refl)
+ascending_from_answer xs false answer =
+    let k = answer.0 in
+    let apart : get_or xs (suc k) 0 ≤ get_or xs k 0 = ltb-false (get_or xs k 0) (get_or xs (suc k) 0) (rw (← add-one k) (sym (answer.2 0))) in
+    (λ e. absurd (false≢true e), λ up. absurd (omega (arith, apart, neighbours_ascend xs up k (omega (arith, answer.1)))))

@@ -30,7 +30,8 @@ has_high q high = has_none unit_numbers 8 q refl high
 -- a set made of unit numbers holds no other number
 holds_high : (bits q : ℕ) → 8 ≤ q → holds (units_of bits) q ≡ false
 holds_high bits q high =
-    set.contains-from_list_nat (filter (has_bit bits) unit_numbers) q ∙ has-filter (has_bit bits) unit_numbers q ∙ rw (has_high q high) (elim (cases_Bool (has_bit bits q)) [ inl t ↦ rw t refl | inr f ↦ rw f refl ])
+    set.contains-from_list_nat (filter (has_bit bits) unit_numbers) q ∙ has-filter (has_bit bits) unit_numbers q
+    ∙ rw (has_high q high) (elim (cases_Bool (has_bit bits q)) [ inl t ↦ rw t refl | inr f ↦ rw f refl ])
 
 -- so its members are units
 pub are_units : (bits : ℕ) → AreUnits (units_of bits)
@@ -96,7 +97,8 @@ bit_of_one x y low small = elim (cases_eq x 0) [
 -- the bits of a byte that another hasn't
 pub difference_bits : (bits less : ℕ) → less < 2 ^ 8 → units_of (bit_and bits (bit_not w8 less)) ≡ set.difference (units_of bits) (units_of less)
 difference_bits bits less fits = same_below (bit_and bits (bit_not w8 less)) (set.difference (units_of bits) (units_of less))
-    (λ q low. ap (λ n. n == 1) (bit_at_and bits (bit_not w8 less) q ∙ ap (λ n. min (bit_at bits q) n) (bit_at_not w8 less q fits low)) ∙ bit_of_one (bit_at bits q) (bit_at less q) (omega arith) (omega arith)
+    (λ q low. ap (λ n. n == 1) (bit_at_and bits (bit_not w8 less) q ∙ ap (λ n. min (bit_at bits q) n) (bit_at_not w8 less q fits low))
+    ∙ bit_of_one (bit_at bits q) (bit_at less q) (omega arith) (omega arith)
     ∙ sym (set.contains-difference nat_cmp_total (units_of bits) (units_of less) q ∙ (λ i. holds_low bits q low i && not (holds_low less q low i))))
     (λ q high. set.contains-difference nat_cmp_total (units_of bits) (units_of less) q ∙ rw (holds_high bits q high) refl)
 
@@ -123,7 +125,9 @@ below_each p k (x ∷ ks) low = elim (cases_Bool (p x)) [ inl t ↦ rw (t, ne_eq
 len_of_passing : (p : ℕ → Bool) (ks : List ℕ) → IsAscending ks → set.len (set.from_list {R = nat_cmp} (filter p ks)) ≡ passing p ks
 len_of_passing p [] up = set.len-empty nat_cmp
 len_of_passing p (k ∷ ks) up = elim (cases_Bool (p k)) [
-  | inl t ↦ rw t (set.len-insert nat_cmp_total (set.from_list (filter p ks)) k ∙ rw (set.contains-from_list_nat (filter p ks) k ∙ below_each p k ks up.0) (ap (λ n. n + 1) (len_of_passing p ks up.1) ∙ add_comm (passing p ks) 1))
+  | inl t ↦ rw t (set.len-insert nat_cmp_total (set.from_list (filter p ks)) k
+      ∙ rw (set.contains-from_list_nat (filter p ks) k ∙ below_each p k ks up.0) (ap (λ n. n + 1) (len_of_passing p ks up.1)
+      ∙ add_comm (passing p ks) 1))
   | inr f ↦ rw f (len_of_passing p ks up.1 ∙ omega arith)
 ]
 
@@ -226,7 +230,12 @@ none_pass p (k ∷ ks) none = rw (none k) (none_pass p ks none)
 not_zero : (bits : ℕ) → 0 < length (members (units_of bits)) → 0 < bits
 unfolding members
 not_zero bits some = elim (cases_eq bits 0) [
-  | inl e ↦ absurd (omega (arith, ap (λ b. length (members (units_of b))) e, ap (λ units. length (members units)) no_bits, ap length (none_pass (holds set.empty) unit_numbers (set.contains-empty nat_cmp))))
+  | inl e ↦ absurd (omega (
+    arith,
+    ap (λ b. length (members (units_of b))) e,
+    ap (λ units. length (members units)) no_bits,
+    ap length (none_pass (holds set.empty) unit_numbers (set.contains-empty nat_cmp)),
+  ))
   | inr ne ↦ omega arith
 ]
 

@@ -1,3 +1,5 @@
+//! Names of sensors, tasks and locals.
+
 ghost use Rattle.std.specs.Prelude.{◌↔◌, ℕ, IsTrue};
 ghost use Rattle.std.specs.List.{Contains};
 ghost use Rattle.sift_base.specs.Name.{IsName, HasNameForm, IsNameByte, keywords};

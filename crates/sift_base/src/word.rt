@@ -1,3 +1,5 @@
+//! Words of the computer's memory, and their arithmetic.
+
 ghost use Rattle.std.specs.Prelude.{◌≡◌, ℕ, ◌^◌, ◌<◌};
 ghost use Rattle.sift_base.specs.Word.{signed_of, add, sub, mul, div, rem, and, or, xor, shl, shr, lt, eq, mid};
 

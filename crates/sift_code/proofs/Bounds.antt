@@ -107,7 +107,9 @@ sum_more code p bound prod b e = rw (b, e) (kept-add (bound_before code p) (prod
 pub product_in : (code : List Instr) (p k prod : ℕ) → slice_get code p ≡ Some (Begin k) → prod ≡ kept (product (rounds_at code p)) → min (prod * k) kept_limit ≡ kept (product (rounds_at code (p + 1)))
 product_in code p k prod at e = rw e (kept-mul (product (rounds_at code p)) k ∙ ap (λ rs. kept (product rs)) (sym (rounds_here code p (Begin k) at)))
 
-pub outside_in : (code : List Instr) (p k prod : ℕ) (outside : List ℕ) → slice_get code p ≡ Some (Begin k) → prod ≡ kept (product (rounds_at code p)) → outside ≡ products_outside (rounds_at code p) → outside ++ prod ∷ [] ≡ products_outside (rounds_at code (p + 1))
+pub outside_in : (code : List Instr) (p k prod : ℕ) (outside : List ℕ) → slice_get code p ≡ Some (Begin k)
+    → prod ≡ kept (product (rounds_at code p)) → outside ≡ products_outside (rounds_at code p)
+    → outside ++ prod ∷ [] ≡ products_outside (rounds_at code (p + 1))
 outside_in code p k prod outside at e o = rw (e, o) (ap products_outside (sym (rounds_here code p (Begin k) at)))
 
 -- the products behind an End
@@ -136,7 +138,8 @@ pub rounds_other : (code : List Instr) (p : ℕ) (i : Instr) → slice_get code 
 rounds_other code p i at not_begin not_end = rounds_here code p i at ∙ rounds_plain i (rounds_at code p) not_begin not_end
 
 -- the loop has room for one more product
-pub outside_room : (program : Program) → IsSound program → (p k : ℕ) (outside : List ℕ) → slice_get program.code p ≡ Some (Begin k) → outside ≡ products_outside (rounds_at program.code p) → length outside < 32
+pub outside_room : (program : Program) → IsSound program → (p k : ℕ) (outside : List ℕ) → slice_get program.code p ≡ Some (Begin k)
+    → outside ≡ products_outside (rounds_at program.code p) → length outside < 32
 outside_room program sound p k outside at e =
     let within : p < length program.code = slice_get_within program.code p (Begin k) at in
     omega (arith, ap (length {A = ℕ}) e, outside_long (rounds_at program.code p), rounds_long program.code (braced program sound) p (omega arith), uncrowded program sound p k at)

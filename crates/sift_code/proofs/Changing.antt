@@ -24,7 +24,8 @@ pub live_on : (a b c : Region) → KeepsLive a b → KeepsLive b c → KeepsLive
 live_on a b c first second = λ span live. second span (first span live)
 
 -- one more local is 0
-pub zeros_more : (ws vs : List ℕ) (i w : ℕ) → i < 32 → 288 ≤ length ws → vs ≡ slice_set ws (256 + i) w → w ≡ 0 → take i (locals_of ws) ≡ replicate i 0 → take (i + 1) (locals_of vs) ≡ replicate (i + 1) 0
+pub zeros_more : (ws vs : List ℕ) (i w : ℕ) → i < 32 → 288 ≤ length ws → vs ≡ slice_set ws (256 + i) w → w ≡ 0
+    → take i (locals_of ws) ≡ replicate i 0 → take (i + 1) (locals_of vs) ≡ replicate (i + 1) 0
 zeros_more ws vs i w there room words none zeros =
     let here : locals_of vs ≡ slice_set (locals_of ws) i 0 = ap locals_of words ∙ (locals_of-set ws i w there ∙ ap (slice_set (locals_of ws) i) none) in
     ap (take (i + 1)) here ∙ (take_more_set (locals_of ws) i 0 (omega (arith, length-locals_of ws room)) ∙ (ap (λ l. l ++ 0 ∷ []) zeros ∙ replicate_more i 0))

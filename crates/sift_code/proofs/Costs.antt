@@ -57,7 +57,9 @@ pub record IsBraced (code : List Instr) : Type 0 where
   pub begins : (p k : ℕ) → slice_get code p ≡ Some (Begin k) → (n : ℕ) × (through_end 0 (drop (p + 1) code) ≡ Some n)
   pub ends : (p : ℕ) → slice_get code p ≡ Some End → enclosing code p ≡ [] → ⊥
 
-falls_step : (i : Instr) (k : ℕ) (extra base os next_os cs ds : List ℕ) → os ≡ extra ++ base → next_os ≡ nested i k os → ((e' : List ℕ) → next_os ≡ e' ++ base → Falls (down e' cs) ds) → (End ≡ i → (pre : List ℕ) × (next_os ≡ pre ++ base)) → (base ≡ [] → os ≡ [] → End ≡ i → ⊥) → Falls (down extra (cost_step i cs)) ds
+falls_step : (i : Instr) (k : ℕ) (extra base os next_os cs ds : List ℕ) → os ≡ extra ++ base → next_os ≡ nested i k os
+    → ((e' : List ℕ) → next_os ≡ e' ++ base → Falls (down e' cs) ds) → (End ≡ i → (pre : List ℕ) × (next_os ≡ pre ++ base))
+    → (base ≡ [] → os ≡ [] → End ≡ i → ⊥) → Falls (down extra (cost_step i cs)) ds
 falls_step (Begin n) k [] base os next_os cs ds is next ih still never =
     let r = ih (k ∷ []) (next ∙ ap (λ l. k ∷ l) is) in
     record { outer = r.outer; less = omega (arith, r.less) }
@@ -93,7 +95,9 @@ module _ (code : List Instr) (braced : IsBraced code) where
   end_is_open : (p : ℕ) (i : Instr) → slice_get code p ≡ Some i → enclosing code p ≡ [] → End ≡ i → ⊥
   end_is_open p i at none e = braced.ends p (at ∙ ap Some (sym e)) none
 
-  falls_from : (n p : ℕ) (extra base : List ℕ) → enclosing code p ≡ extra ++ base → enclosing code (p + n) ≡ base → ((q : ℕ) → p ≤ q → q ≤ p + n → AreOpen code q base) → p + n ≤ length code → Falls (down extra (costs (drop p code))) (costs (drop (p + n) code))
+  falls_from : (n p : ℕ) (extra base : List ℕ) → enclosing code p ≡ extra ++ base → enclosing code (p + n) ≡ base
+      → ((q : ℕ) → p ≤ q → q ≤ p + n → AreOpen code q base) → p + n ≤ length code
+      → Falls (down extra (costs (drop p code))) (costs (drop (p + n) code))
   falls_from zero p extra base is end stays le =
       let same : p + 0 ≡ p = omega arith in
       let none : extra ≡ [] = append_same extra base (sym end ∙ (ap (enclosing code) same ∙ is)) in
@@ -107,16 +111,21 @@ module _ (code : List Instr) (braced : IsBraced code) where
       (λ e' is'. falls_from n (p + 1) e' base is' (ap (enclosing code) same ∙ end) (λ q a b. stays q (omega arith) (omega arith)) (omega arith))
       (λ _. stays (p + 1) (omega arith) (omega arith))
       (λ none open_none e. end_is_open p i at open_none e) in
-      subst (λ x. Falls (down extra x) (costs (drop (p + suc n) code))) (sym (costs_here code p i at)) (subst (λ q. Falls (down extra (cost_step i (costs (drop (p + 1) code)))) (costs (drop q code))) same go)
+      subst (λ x. Falls (down extra x) (costs (drop (p + suc n) code))) (sym (costs_here code p i at))
+      (subst (λ q. Falls (down extra (cost_step i (costs (drop (p + 1) code)))) (costs (drop q code))) same go)
 
   between_from : (os : List ℕ) (p t : ℕ) → enclosing code p ≡ os → p ≤ t → t ≤ length code → enclosing code t ≡ os → Falls (costs (drop p code)) (costs (drop t code))
   between_from [] p t is le within end =
       let same : p + (t - p) ≡ t = omega arith in
-      subst (λ q. Falls (costs (drop p code)) (costs (drop q code))) same (falls_from (t - p) p [] [] is (ap (enclosing code) same ∙ end) (λ q a b. (enclosing code q, sym (append-nil (enclosing code q)))) (omega arith))
+      subst (λ q. Falls (costs (drop p code)) (costs (drop q code))) same
+      (falls_from (t - p) p [] [] is (ap (enclosing code) same ∙ end) (λ q a b. (enclosing code q, sym (append-nil (enclosing code q))))
+      (omega arith))
   between_from (b ∷ outer) p t is le within end =
       let same : p + (t - p) ≡ t = omega arith in
       let early : b ≤ p = (opened_before code p b outer [] is).early in
-      let stays : (q : ℕ) → p ≤ q → q ≤ p + (t - p) → AreOpen code q (b ∷ outer) = λ q a c. (let there : q + (t - q) ≡ t = omega arith in open_between code (t - q) q b outer (omega arith) ([], ap (enclosing code) there ∙ end)) in
+      let stays : (q : ℕ) → p ≤ q → q ≤ p + (t - p) → AreOpen code q (b ∷ outer) =
+      λ q a c. (let there : q + (t - q) ≡ t = omega arith in
+      open_between code (t - q) q b outer (omega arith) ([], ap (enclosing code) there ∙ end)) in
       subst (λ q. Falls (costs (drop p code)) (costs (drop q code))) same (falls_from (t - p) p [] (b ∷ outer) is (ap (enclosing code) same ∙ end) stays (omega arith))
 
   -- a place ahead inside the same loops leaves no more to do
@@ -136,7 +145,11 @@ module _ (code : List Instr) (braced : IsBraced code) where
   moved t u start outer cs e past = subst (λ q. Past q start outer cs) e past
 
   -- the place behind an instruction, inside extra loops
-  past_step : (i : Instr) (q b n : ℕ) (extra base cs : List ℕ) (rest : List Instr) → slice_get code q ≡ Some i → costs (drop (q + 1) code) ≡ cs → enclosing code q ≡ extra ++ b ∷ base → enclosing code (q + 1) ≡ nested i (q + 1) (enclosing code q) → through_end (length extra) (i ∷ rest) ≡ Some n → ((e' : List ℕ) (m : ℕ) → enclosing code (q + 1) ≡ e' ++ b ∷ base → through_end (length e') rest ≡ Some m → Past (q + 1 + m) b base (tail0 (down e' cs))) → Past (q + n) b base (tail0 (down extra (cost_step i cs)))
+  past_step : (i : Instr) (q b n : ℕ) (extra base cs : List ℕ) (rest : List Instr) → slice_get code q ≡ Some i
+      → costs (drop (q + 1) code) ≡ cs → enclosing code q ≡ extra ++ b ∷ base → enclosing code (q + 1) ≡ nested i (q + 1) (enclosing code q)
+      → through_end (length extra) (i ∷ rest) ≡ Some n
+      → ((e' : List ℕ) (m : ℕ) → enclosing code (q + 1) ≡ e' ++ b ∷ base → through_end (length e') rest ≡ Some m
+      → Past (q + 1 + m) b base (tail0 (down e' cs))) → Past (q + n) b base (tail0 (down extra (cost_step i cs)))
   past_step End q b n [] base cs rest at same is next through ih =
       let one : n ≡ 1 = cc in
       moved (q + 1) (q + n) b base cs (omega arith) (record { last = q; next = refl; ends = at; inside = is; outside = next ∙ ap (drop 1) is; costs_are = same })
@@ -160,14 +173,17 @@ module _ (code : List Instr) (braced : IsBraced code) where
   nothing_through [] n h = cc
   nothing_through (x ∷ e) n h = cc
 
-  past_from : (m q b n : ℕ) (extra base : List ℕ) → q + m ≡ length code → enclosing code q ≡ extra ++ b ∷ base → through_end (length extra) (drop q code) ≡ Some n → Past (q + n) b base (tail0 (down extra (costs (drop q code))))
+  past_from : (m q b n : ℕ) (extra base : List ℕ) → q + m ≡ length code → enclosing code q ≡ extra ++ b ∷ base
+      → through_end (length extra) (drop q code) ≡ Some n → Past (q + n) b base (tail0 (down extra (costs (drop q code))))
   past_from zero q b n extra base at is through =
       let none : drop q code ≡ [] = drop_of_length-le code (omega arith) in
       absurd (nothing_through extra n (sym (ap (through_end (length extra)) none) ∙ through))
   past_from (suc m) q b n extra base at is through =
       let i = get_or code q End in
       let here : slice_get code q ≡ Some i = slice_get-get_or code q End (omega arith) in
-      let go = past_step i q b n extra base (costs (drop (q + 1) code)) (drop (q + 1) code) here refl is (nested_here q i here) (sym (ap (through_end (length extra)) (drop_here code q i here)) ∙ through) (λ e' k is' t. past_from m (q + 1) b k e' base (omega arith) is' t) in
+      let go = past_step i q b n extra base (costs (drop (q + 1) code)) (drop (q + 1) code) here refl is (nested_here q i here)
+      (sym (ap (through_end (length extra)) (drop_here code q i here))
+      ∙ through) (λ e' k is' t. past_from m (q + 1) b k e' base (omega arith) is' t) in
       subst (λ d. Past (q + n) b base (tail0 (down extra (costs d)))) (sym (drop_here code q i here)) go
 
   -- so many instructions on from the start of a loop, its End is behind

@@ -30,16 +30,32 @@ later : (code : List Instr) (p start : ℕ) (outer : List ℕ) → Opened code p
 later code p start outer o =
     record { begin = o.begin; rounds = o.rounds; long = o.long; next = o.next; begins = o.begins; matched = o.matched; outside = o.outside; inside = o.inside; early = omega (arith, o.early) }
 
-begin_opened : (code : List Instr) (p start k : ℕ) (outer loops : List ℕ) → enclosing code p ≡ loops → ((pre : List ℕ) → loops ≡ pre ++ start ∷ outer → Opened code p start outer) → slice_get code p ≡ Some (Begin k) → (m : Option ℕ) → through_end 0 (drop (suc p) code) ≡ m → (pre : List ℕ) → opened_by m (suc p) loops ≡ pre ++ start ∷ outer → Opened code (suc p) start outer
+begin_opened : (code : List Instr) (p start k : ℕ) (outer loops : List ℕ) → enclosing code p ≡ loops
+    → ((pre : List ℕ) → loops ≡ pre ++ start ∷ outer → Opened code p start outer) → slice_get code p ≡ Some (Begin k) → (m : Option ℕ)
+    → through_end 0 (drop (suc p) code) ≡ m → (pre : List ℕ) → opened_by m (suc p) loops ≡ pre ++ start ∷ outer
+    → Opened code (suc p) start outer
 begin_opened code p start k outer loops is ih at None none pre e = later code p start outer (ih pre e)
 begin_opened code p start k outer loops is ih at (Some n) some [] e =
     let same : suc p ≡ start = cc in
     let out : loops ≡ outer = cc in
     let now : enclosing code (suc p) ≡ start ∷ outer = ap (λ o. opened o (suc p) code (enclosing code p)) at ∙ (ap (λ m. opened_by m (suc p) (enclosing code p)) some ∙ (ap (λ x. suc p ∷ x) is ∙ e)) in
-    record { begin = p; rounds = k; long = n; next = omega arith; begins = at; matched = subst (λ q. through_end 0 (drop q code) ≡ Some n) same some; outside = is ∙ out; inside = subst (λ q. enclosing code q ≡ start ∷ outer) same now; early = omega arith }
+    record {
+      begin = p;
+      rounds = k;
+      long = n;
+      next = omega arith;
+      begins = at;
+      matched = subst (λ q. through_end 0 (drop q code) ≡ Some n) same some;
+      outside = is
+          ∙ out;
+      inside = subst (λ q. enclosing code q ≡ start ∷ outer) same now;
+      early = omega arith;
+    }
 begin_opened code p start k outer loops is ih at (Some n) some (x ∷ pre) e = later code p start outer (ih pre cc)
 
-opened_step : (code : List Instr) (p start : ℕ) (outer loops : List ℕ) → enclosing code p ≡ loops → ((pre : List ℕ) → loops ≡ pre ++ start ∷ outer → Opened code p start outer) → (o : Option Instr) → slice_get code p ≡ o → (pre : List ℕ) → opened o (suc p) code loops ≡ pre ++ start ∷ outer → Opened code (suc p) start outer
+opened_step : (code : List Instr) (p start : ℕ) (outer loops : List ℕ) → enclosing code p ≡ loops
+    → ((pre : List ℕ) → loops ≡ pre ++ start ∷ outer → Opened code p start outer) → (o : Option Instr) → slice_get code p ≡ o
+    → (pre : List ℕ) → opened o (suc p) code loops ≡ pre ++ start ∷ outer → Opened code (suc p) start outer
 opened_step code p start outer loops is ih (Some (Begin k)) at pre e =
     begin_opened code p start k outer loops is ih at (through_end 0 (drop (suc p) code)) refl pre e
 opened_step code p start outer [] is ih (Some End) at pre e = later code p start outer (ih pre e)
@@ -62,7 +78,8 @@ begin_between p start outer loops le None pre e = (pre, e)
 begin_between p start outer loops le (Some n) [] e = let same : suc p ≡ start = cc in absurd (omega arith)
 begin_between p start outer loops le (Some n) (x ∷ pre) e = (pre, cc)
 
-between_step : (code : List Instr) (p start : ℕ) (outer loops : List ℕ) → start ≤ p → (o : Option Instr) → (pre : List ℕ) → opened o (suc p) code loops ≡ pre ++ start ∷ outer → (pre' : List ℕ) × (loops ≡ pre' ++ start ∷ outer)
+between_step : (code : List Instr) (p start : ℕ) (outer loops : List ℕ) → start ≤ p → (o : Option Instr) → (pre : List ℕ)
+    → opened o (suc p) code loops ≡ pre ++ start ∷ outer → (pre' : List ℕ) × (loops ≡ pre' ++ start ∷ outer)
 between_step code p start outer loops le (Some (Begin k)) pre e = begin_between p start outer loops le (through_end 0 (drop (suc p) code)) pre e
 between_step code p start outer [] le (Some End) pre e = (pre, e)
 between_step code p start outer (x ∷ loops) le (Some End) pre e = (x ∷ pre, ap (λ l. x ∷ l) e)

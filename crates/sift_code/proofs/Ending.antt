@@ -59,12 +59,15 @@ module _ (program : Program) (sound : IsSound program) (inputs : Inputs) (fits :
   comes : (n : ℕ) (s : State) → Agrees program s → left_of program s ≤ n → Comes (exec program.code inputs n s)
   comes zero s a le = by (eqb_tells s.place (length program.code))
     where
-      by : ((s.place == length program.code) ≡ true) × (s.place ≡ length program.code) ⊎ (((s.place == length program.code) ≡ false) × (s.place ≢ length program.code)) → Comes (exec program.code inputs zero s)
+      by : ((s.place == length program.code) ≡ true) × (s.place ≡ length program.code)
+          ⊎ (((s.place == length program.code) ≡ false) × (s.place ≢ length program.code)) → Comes (exec program.code inputs zero s)
       by (inl e) = (s.outs, ap (λ (t : Bool). if t then Done s.outs else Unfinished) e.0)
       by (inr d) = absurd (omega (arith, a.within, more_to_do s (omega (arith, a.within, d.1))))
   comes (suc n) s a le = by (λ t b l. comes n t b l) (eqb_tells s.place (length program.code))
     where
-      by : ((t : State) → Agrees program t → left_of program t ≤ n → Comes (exec program.code inputs n t)) → ((s.place == length program.code) ≡ true) × (s.place ≡ length program.code) ⊎ (((s.place == length program.code) ≡ false) × (s.place ≢ length program.code)) → Comes (exec program.code inputs (suc n) s)
+      by : ((t : State) → Agrees program t → left_of program t ≤ n → Comes (exec program.code inputs n t))
+          → ((s.place == length program.code) ≡ true) × (s.place ≡ length program.code)
+          ⊎ (((s.place == length program.code) ≡ false) × (s.place ≢ length program.code)) → Comes (exec program.code inputs (suc n) s)
       by go_on (inl e) = (s.outs, ap (λ (t : Bool). if t then Done s.outs else after (exec program.code inputs n) (step program.code inputs s)) e.0)
       by go_on (inr d) =
           let go = step_leads program sound inputs fits s (omega (arith, a.within, d.1)) a in

@@ -11,7 +11,8 @@ first_at program p bad inside free is =
     record { offends = is.0; inside = omega (arith, is.1); first = λ q before. free q (omega (arith, is.1)) }
 
 -- nothing offends where nothing does before the code's length, and nothing there
-pub free_through : (program : Program) (p last : ℕ) → p ≡ last → last ≡ length program.code → ((q : ℕ) → q < p → IsFree program q) → IsFree program last → (q : ℕ) → q ≤ length program.code → IsFree program q
+pub free_through : (program : Program) (p last : ℕ) → p ≡ last → last ≡ length program.code → ((q : ℕ) → q < p → IsFree program q)
+    → IsFree program last → (q : ℕ) → q ≤ length program.code → IsFree program q
 free_through program p last e end before here q to = by (eqb_tells q last)
   where
     by : ((q == last) ≡ true) × (q ≡ last) ⊎ (((q == last) ≡ false) × (q ≢ last)) → IsFree program q

@@ -23,7 +23,8 @@ same_number m n h = elim (eqb_tells m n) [ inl e ↦ e.1 | inr d ↦ absurd (h d
 abbrev pub Carries : List Arrival → ℕ → ℕ → Type 0
 Carries brought to height = (x : ℕ) → All (λ h. h ≡ x) (brought_to to brought) → height ≡ x
 
-carried_by : (arrival : Arrival) (rest : List Arrival) (to height : ℕ) → (b : Bool) → (arrival.place == to) ≡ b → Carries rest to height → (x : ℕ) → All (λ h. h ≡ x) (if b then arrival.height ∷ brought_to to rest else brought_to to rest) → height ≡ x
+carried_by : (arrival : Arrival) (rest : List Arrival) (to height : ℕ) → (b : Bool) → (arrival.place == to) ≡ b → Carries rest to height
+    → (x : ℕ) → All (λ h. h ≡ x) (if b then arrival.height ∷ brought_to to rest else brought_to to rest) → height ≡ x
 carried_by arrival rest to height true is carries x all = carries x (All-tail (λ h. h ≡ x) arrival.height (brought_to to rest) all)
 carried_by arrival rest to height false is carries x all = carries x all
 
@@ -53,7 +54,9 @@ carries_on code (suc n) p to height carries =
     subst (λ q. Carries (trail_at code q).brought to height) (sym e) (carries_followed (slice_get code (n + p)) (suc (n + p)) (trail_at code (n + p)) to height (carries_on code n p to height carries))
 
 -- the height that a jump brings to a place ahead is among those that were brought there
-pub carries_there : (code : List Instr) (p to height : ℕ) (i : Instr) → slice_get code p ≡ Some i → ((trail : Trail) → trail ≡ trail_at code p → Carries (brought_by i trail) to height) → p < to → Carries (trail_at code to).brought to height
+pub carries_there : (code : List Instr) (p to height : ℕ) (i : Instr) → slice_get code p ≡ Some i
+    → ((trail : Trail) → trail ≡ trail_at code p → Carries (brought_by i trail) to height) → p < to
+    → Carries (trail_at code to).brought to height
 carries_there code p to height i at brings ahead =
     let e : to - (p + 1) + (p + 1) ≡ to = omega arith in
     subst (λ q. Carries (trail_at code q).brought to height) e
@@ -62,7 +65,8 @@ carries_there code p to height i at brings ahead =
 pub jumpz_carries : (code : List Instr) (p to : ℕ) → slice_get code p ≡ Some (JumpZ to) → p < to → Carries (trail_at code to).brought to (height_after (JumpZ to) (height_at code p))
 jumpz_carries code p to at ahead =
     carries_there code p to (height_after (JumpZ to) (height_at code p)) (JumpZ to) at
-    (λ trail e. subst (λ (h : ℕ). Carries (brought_by (JumpZ to) trail) to (height_after (JumpZ to) h)) (ap (λ (t : Trail). t.height) e) (carries_new trail.brought to (height_after (JumpZ to) trail.height))) ahead
+    (λ trail e. subst (λ (h : ℕ). Carries (brought_by (JumpZ to) trail) to (height_after (JumpZ to) h)) (ap (λ (t : Trail). t.height) e)
+    (carries_new trail.brought to (height_after (JumpZ to) trail.height))) ahead
 
 pub jump_carries : (code : List Instr) (p to : ℕ) → slice_get code p ≡ Some (Jump to) → p < to → Carries (trail_at code to).brought to (height_at code p)
 jump_carries code p to at ahead =

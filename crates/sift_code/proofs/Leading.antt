@@ -29,7 +29,9 @@ module _ (program : Program) (sound : IsSound program) (inputs : Inputs) (fits :
       whether true stack long =
           jump program sound inputs fits (JumpZ to) s to _ stack (λ next loops. refl) (λ cs. refl) at a (jumpz_lands program sound s.place to at) (omega (arith, a.height))
       whether false stack long =
-          on program sound inputs fits (JumpZ to) s (record s { place = s.place + 1; stack = stack }) (record { nests = λ next loops. refl; costs = λ cs. refl; heights = λ next trail. refl }) at a refl (omega arith) refl refl refl
+          on program sound inputs fits (JumpZ to) s (record s { place = s.place + 1; stack = stack })
+          (record { nests = λ next loops. refl; costs = λ cs. refl; heights = λ next trail. refl }) at a refl
+          (omega arith) refl refl refl
 
       by : (stack : List ℕ) → s.stack ≡ stack → Leads program s (tested to s stack)
       by [] e = absurd (omega (arith, a.height, enough, ap (length {A = ℕ}) e))
@@ -39,7 +41,9 @@ module _ (program : Program) (sound : IsSound program) (inputs : Inputs) (fits :
   goto to s at a =
       jump program sound inputs fits (Jump to) s to _ s.stack (λ next loops. refl) (λ cs. refl) at a (jump_lands program sound s.place to at) a.height
 
-  skip : (s : State) (n : ℕ) → slice_get program.code s.place ≡ Some (Begin 0) → Agrees program s → through_end 0 (drop (s.place + 1) program.code) ≡ Some n → Leads program s (skipped s (through_end 0 (drop (s.place + 1) program.code)))
+  skip : (s : State) (n : ℕ) → slice_get program.code s.place ≡ Some (Begin 0) → Agrees program s
+      → through_end 0 (drop (s.place + 1) program.code) ≡ Some n
+      → Leads program s (skipped s (through_end 0 (drop (s.place + 1) program.code)))
   skip s n at a through =
       let past = past_end program.code (braced program sound) s.place 0 n at through in
       let within : past.last < length program.code = slice_get_within program.code past.last End past.ends in
@@ -86,7 +90,8 @@ module _ (program : Program) (sound : IsSound program) (inputs : Inputs) (fits :
         less = omega (arith, remaining_begin program.code k (costs (drop (s.place + 1) program.code)) s.loops (s.place + 1) refl);
       }
 
-  leave : (s : State) (l : Loop) (outer : List Loop) → slice_get program.code s.place ≡ Some End → Agrees program s → s.loops ≡ l ∷ outer → Leads program s (Some (record s { place = s.place + 1; loops = outer }))
+  leave : (s : State) (l : Loop) (outer : List Loop) → slice_get program.code s.place ≡ Some End → Agrees program s → s.loops ≡ l ∷ outer
+      → Leads program s (Some (record s { place = s.place + 1; loops = outer }))
   leave s l outer at a is =
       let within : s.place < length program.code = slice_get_within program.code s.place End at in
       let behind : height_at program.code (s.place + 1) ≡ height_at program.code s.place = height_here program.code s.place End at ∙ omega arith in
@@ -108,7 +113,9 @@ module _ (program : Program) (sound : IsSound program) (inputs : Inputs) (fits :
         less = omega arith;
       }
 
-  back : (s : State) (m : ℕ) (l : Loop) (outer : List Loop) → slice_get program.code s.place ≡ Some End → Agrees program s → s.loops ≡ l ∷ outer → l.left ≡ suc (suc m) → Leads program s (Some (record s { place = l.start; loops = record { start = l.start; left = suc m } ∷ outer }))
+  back : (s : State) (m : ℕ) (l : Loop) (outer : List Loop) → slice_get program.code s.place ≡ Some End → Agrees program s
+      → s.loops ≡ l ∷ outer → l.left ≡ suc (suc m)
+      → Leads program s (Some (record s { place = l.start; loops = record { start = l.start; left = suc m } ∷ outer }))
   back s m l outer at a is left =
       let within : s.place < length program.code = slice_get_within program.code s.place End at in
       let loops : starts_of (l ∷ outer) ≡ enclosing program.code s.place = sym (ap starts_of is) ∙ a.loops in
@@ -117,7 +124,9 @@ module _ (program : Program) (sound : IsSound program) (inputs : Inputs) (fits :
       let falls = between program.code (braced program sound) l.start s.place there.early (omega arith) (sym loops ∙ sym there.inside) in
       let costs_same : costs (drop (s.place + 1) program.code) ≡ tail0 (costs (drop l.start program.code)) = ap tail0 (sym (costs_here program.code s.place End at)) ∙ falls.outer in
       let round = same_round program sound s.place l.start (starts_of outer) at (sym loops) in
-      let more : remaining program.code (1 ∷ costs (drop (s.place + 1) program.code)) (l ∷ outer) ≡ 1 + (suc (suc m) - 1) * head0 (costs (drop l.start program.code)) + remaining program.code (tail0 (costs (drop l.start program.code))) outer = rw (left, costs_same) refl in
+      let more : remaining program.code (1 ∷ costs (drop (s.place + 1) program.code)) (l ∷ outer) ≡ 1 + (suc (suc m) - 1)
+      * head0 (costs (drop l.start program.code)) + remaining program.code (tail0 (costs (drop l.start program.code))) outer =
+      rw (left, costs_same) refl in
       let cost : left_of program s ≡ remaining program.code (1 ∷ costs (drop (s.place + 1) program.code)) (l ∷ outer) =
       ap (λ cs. remaining program.code cs s.loops) (costs_here program.code s.place End at) ∙ ap (λ ls. remaining program.code (1 ∷ costs (drop (s.place + 1) program.code)) ls) is in
       record {
@@ -149,10 +158,22 @@ module _ (program : Program) (sound : IsSound program) (inputs : Inputs) (fits :
   -- an instruction leads on
   leads : (i : Instr) (s : State) → slice_get program.code s.place ≡ Some i → Agrees program s → Leads program s (effect i program.code inputs s)
   leads (Push w) s at a = push program sound inputs fits (Push w) s (Some w) w (record { nests = λ next loops. refl; costs = λ cs. refl; heights = λ next trail. refl }) at a (λ h. omega arith) refl
-  leads (Load l) s at a = push program sound inputs fits (Load l) s (slice_get s.locals l) _ (record { nests = λ next loops. refl; costs = λ cs. refl; heights = λ next trail. refl }) at a (λ h. omega arith) (present s.locals local_count l a.locals (named program sound s.place (Load l) at))
-  leads (Sense x) s at a = push program sound inputs fits (Sense x) s (slice_get inputs.sensed x) _ (record { nests = λ next loops. refl; costs = λ cs. refl; heights = λ next trail. refl }) at a (λ h. omega arith) (present inputs.sensed program.limits.sensors x fits.sensed (named program sound s.place (Sense x) at))
-  leads (Now w) s at a = push program sound inputs fits (Now w) s (slice_get inputs.made w) _ (record { nests = λ next loops. refl; costs = λ cs. refl; heights = λ next trail. refl }) at a (λ h. omega arith) (present inputs.made program.limits.words w fits.made (named program sound s.place (Now w) at))
-  leads (Last w) s at a = push program sound inputs fits (Last w) s (slice_get inputs.last w) _ (record { nests = λ next loops. refl; costs = λ cs. refl; heights = λ next trail. refl }) at a (λ h. omega arith) (present inputs.last program.limits.words w fits.last (named program sound s.place (Last w) at))
+  leads (Load l) s at a =
+      push program sound inputs fits (Load l) s (slice_get s.locals l) _
+      (record { nests = λ next loops. refl; costs = λ cs. refl; heights = λ next trail. refl }) at a (λ h. omega arith)
+      (present s.locals local_count l a.locals (named program sound s.place (Load l) at))
+  leads (Sense x) s at a =
+      push program sound inputs fits (Sense x) s (slice_get inputs.sensed x) _
+      (record { nests = λ next loops. refl; costs = λ cs. refl; heights = λ next trail. refl }) at a (λ h. omega arith)
+      (present inputs.sensed program.limits.sensors x fits.sensed (named program sound s.place (Sense x) at))
+  leads (Now w) s at a =
+      push program sound inputs fits (Now w) s (slice_get inputs.made w) _
+      (record { nests = λ next loops. refl; costs = λ cs. refl; heights = λ next trail. refl }) at a (λ h. omega arith)
+      (present inputs.made program.limits.words w fits.made (named program sound s.place (Now w) at))
+  leads (Last w) s at a =
+      push program sound inputs fits (Last w) s (slice_get inputs.last w) _
+      (record { nests = λ next loops. refl; costs = λ cs. refl; heights = λ next trail. refl }) at a (λ h. omega arith)
+      (present inputs.last program.limits.words w fits.last (named program sound s.place (Last w) at))
   leads (Store l) s at a = store program sound inputs fits l s at a
   leads (Out j) s at a = put program sound inputs fits j s at a
   leads Mid s at a = middle program sound inputs fits s at a
@@ -160,18 +181,42 @@ module _ (program : Program) (sound : IsSound program) (inputs : Inputs) (fits :
   leads (Jump to) s at a = goto to s at a
   leads (Begin k) s at a = begin k s at a
   leads End s at a = end s at a
-  leads Add s at a = combine program sound inputs fits Add s add (record { nests = λ next loops. refl; costs = λ cs. refl; heights = λ next trail. refl }) at a (λ h. refl) (filled program sound s.place Add at)
-  leads Sub s at a = combine program sound inputs fits Sub s sub (record { nests = λ next loops. refl; costs = λ cs. refl; heights = λ next trail. refl }) at a (λ h. refl) (filled program sound s.place Sub at)
-  leads Mul s at a = combine program sound inputs fits Mul s mul (record { nests = λ next loops. refl; costs = λ cs. refl; heights = λ next trail. refl }) at a (λ h. refl) (filled program sound s.place Mul at)
-  leads Div s at a = combine program sound inputs fits Div s div (record { nests = λ next loops. refl; costs = λ cs. refl; heights = λ next trail. refl }) at a (λ h. refl) (filled program sound s.place Div at)
-  leads Rem s at a = combine program sound inputs fits Rem s rem (record { nests = λ next loops. refl; costs = λ cs. refl; heights = λ next trail. refl }) at a (λ h. refl) (filled program sound s.place Rem at)
-  leads And s at a = combine program sound inputs fits And s and (record { nests = λ next loops. refl; costs = λ cs. refl; heights = λ next trail. refl }) at a (λ h. refl) (filled program sound s.place And at)
-  leads Or s at a = combine program sound inputs fits Or s or (record { nests = λ next loops. refl; costs = λ cs. refl; heights = λ next trail. refl }) at a (λ h. refl) (filled program sound s.place Or at)
-  leads Xor s at a = combine program sound inputs fits Xor s xor (record { nests = λ next loops. refl; costs = λ cs. refl; heights = λ next trail. refl }) at a (λ h. refl) (filled program sound s.place Xor at)
-  leads Shl s at a = combine program sound inputs fits Shl s shl (record { nests = λ next loops. refl; costs = λ cs. refl; heights = λ next trail. refl }) at a (λ h. refl) (filled program sound s.place Shl at)
-  leads Shr s at a = combine program sound inputs fits Shr s shr (record { nests = λ next loops. refl; costs = λ cs. refl; heights = λ next trail. refl }) at a (λ h. refl) (filled program sound s.place Shr at)
-  leads Lt s at a = combine program sound inputs fits Lt s lt (record { nests = λ next loops. refl; costs = λ cs. refl; heights = λ next trail. refl }) at a (λ h. refl) (filled program sound s.place Lt at)
-  leads Eq s at a = combine program sound inputs fits Eq s eq (record { nests = λ next loops. refl; costs = λ cs. refl; heights = λ next trail. refl }) at a (λ h. refl) (filled program sound s.place Eq at)
+  leads Add s at a = combine program sound inputs fits Add s add
+      (record { nests = λ next loops. refl; costs = λ cs. refl; heights = λ next trail. refl }) at a (λ h. refl)
+      (filled program sound s.place Add at)
+  leads Sub s at a = combine program sound inputs fits Sub s sub
+      (record { nests = λ next loops. refl; costs = λ cs. refl; heights = λ next trail. refl }) at a (λ h. refl)
+      (filled program sound s.place Sub at)
+  leads Mul s at a = combine program sound inputs fits Mul s mul
+      (record { nests = λ next loops. refl; costs = λ cs. refl; heights = λ next trail. refl }) at a (λ h. refl)
+      (filled program sound s.place Mul at)
+  leads Div s at a = combine program sound inputs fits Div s div
+      (record { nests = λ next loops. refl; costs = λ cs. refl; heights = λ next trail. refl }) at a (λ h. refl)
+      (filled program sound s.place Div at)
+  leads Rem s at a = combine program sound inputs fits Rem s rem
+      (record { nests = λ next loops. refl; costs = λ cs. refl; heights = λ next trail. refl }) at a (λ h. refl)
+      (filled program sound s.place Rem at)
+  leads And s at a = combine program sound inputs fits And s and
+      (record { nests = λ next loops. refl; costs = λ cs. refl; heights = λ next trail. refl }) at a (λ h. refl)
+      (filled program sound s.place And at)
+  leads Or s at a = combine program sound inputs fits Or s or
+      (record { nests = λ next loops. refl; costs = λ cs. refl; heights = λ next trail. refl }) at a (λ h. refl)
+      (filled program sound s.place Or at)
+  leads Xor s at a = combine program sound inputs fits Xor s xor
+      (record { nests = λ next loops. refl; costs = λ cs. refl; heights = λ next trail. refl }) at a (λ h. refl)
+      (filled program sound s.place Xor at)
+  leads Shl s at a = combine program sound inputs fits Shl s shl
+      (record { nests = λ next loops. refl; costs = λ cs. refl; heights = λ next trail. refl }) at a (λ h. refl)
+      (filled program sound s.place Shl at)
+  leads Shr s at a = combine program sound inputs fits Shr s shr
+      (record { nests = λ next loops. refl; costs = λ cs. refl; heights = λ next trail. refl }) at a (λ h. refl)
+      (filled program sound s.place Shr at)
+  leads Lt s at a = combine program sound inputs fits Lt s lt
+      (record { nests = λ next loops. refl; costs = λ cs. refl; heights = λ next trail. refl }) at a (λ h. refl)
+      (filled program sound s.place Lt at)
+  leads Eq s at a = combine program sound inputs fits Eq s eq
+      (record { nests = λ next loops. refl; costs = λ cs. refl; heights = λ next trail. refl }) at a (λ h. refl)
+      (filled program sound s.place Eq at)
 
   -- a step leads on, but at the code's end
   pub step_leads : (s : State) → s.place < length program.code → Agrees program s → Leads program s (step program.code inputs s)

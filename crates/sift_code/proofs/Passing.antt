@@ -20,7 +20,9 @@ use Rattle.sift_code.proofs.Heights.{trail_here, height_here}
 
 -- ---- heights
 
-heights_above : (entry : ℕ → ℕ) (p last : ℕ) (table : List ℕ) (v : ℕ) → p < last → length table ≡ last + 1 → ((q : ℕ) → q ≤ p → slice_index table q ≡ entry q) → v ≡ entry (p + 1) → (q : ℕ) → q ≤ p + 1 → slice_index (slice_set table (p + 1) v) q ≡ entry q
+heights_above : (entry : ℕ → ℕ) (p last : ℕ) (table : List ℕ) (v : ℕ) → p < last → length table ≡ last + 1
+    → ((q : ℕ) → q ≤ p → slice_index table q ≡ entry q) → v ≡ entry (p + 1) → (q : ℕ) → q ≤ p + 1
+    → slice_index (slice_set table (p + 1) v) q ≡ entry q
 heights_above entry p last table v within long tells is q to = by (eqb_tells q (p + 1))
   where
     by : ((q == (p + 1)) ≡ true) × (q ≡ p + 1) ⊎ (((q == (p + 1)) ≡ false) × (q ≢ p + 1)) → slice_index (slice_set table (p + 1) v) q ≡ entry q
@@ -42,16 +44,27 @@ behind-summary _ next trail = refl
 
 -- ---- what was brought
 
-brought_step : (arrival : Arrival) (rest : List Arrival) (p last : ℕ) (table : List (Option Brought)) → length table ≡ last + 1 → arrival.place ≤ last → slice_index_or table p None ≡ summary (brought_to p rest) → ((arrival.place == p) ≡ true) × (arrival.place ≡ p) ⊎ (((arrival.place == p) ≡ false) × (arrival.place ≢ p)) → slice_index_or (slice_set table arrival.place (Some (joined arrival.height (slice_index_or table arrival.place None)))) p None ≡ summary (brought_to p (arrival ∷ rest))
+brought_step : (arrival : Arrival) (rest : List Arrival) (p last : ℕ) (table : List (Option Brought)) → length table ≡ last + 1
+    → arrival.place ≤ last → slice_index_or table p None ≡ summary (brought_to p rest) → ((arrival.place == p) ≡ true) × (arrival.place ≡ p)
+    ⊎ (((arrival.place == p) ≡ false) × (arrival.place ≢ p))
+    → slice_index_or (slice_set table arrival.place (Some (joined arrival.height (slice_index_or table arrival.place None)))) p None
+    ≡ summary (brought_to p (arrival ∷ rest))
 brought_step arrival rest p last table long within is (inl e) =
-    subst (λ (b : Bool). slice_index_or (slice_set table arrival.place (Some (joined arrival.height (slice_index_or table arrival.place None)))) p None ≡ summary (if b then arrival.height ∷ brought_to p rest else brought_to p rest)) (sym e.0)
+    subst (λ (b : Bool). slice_index_or
+    (slice_set table arrival.place (Some (joined arrival.height (slice_index_or table arrival.place None)))) p None
+    ≡ summary (if b then arrival.height ∷ brought_to p rest else brought_to p rest)) (sym e.0)
     (rw e.1 (get_or-set_same table p (Some (joined arrival.height (slice_index_or table p None))) None (omega (arith, e.1)) ∙ ap (λ o. Some (joined arrival.height o)) is))
 brought_step arrival rest p last table long within is (inr d) =
-    subst (λ (b : Bool). slice_index_or (slice_set table arrival.place (Some (joined arrival.height (slice_index_or table arrival.place None)))) p None ≡ summary (if b then arrival.height ∷ brought_to p rest else brought_to p rest)) (sym d.0)
+    subst (λ (b : Bool). slice_index_or
+    (slice_set table arrival.place (Some (joined arrival.height (slice_index_or table arrival.place None)))) p None
+    ≡ summary (if b then arrival.height ∷ brought_to p rest else brought_to p rest)) (sym d.0)
     (get_or-set_other table arrival.place p (Some (joined arrival.height (slice_index_or table arrival.place None))) None (λ e. d.1 (sym e)) ∙ is)
 
 -- one more height is brought
-pub brought_more : (arrival : Arrival) (rest : List Arrival) (last : ℕ) (table : List (Option Brought)) → arrival.place ≤ last → AreBrought last rest table → AreBrought last (arrival ∷ rest) (slice_set table arrival.place (Some (joined arrival.height (slice_index_or table arrival.place None))))
+pub brought_more : (arrival : Arrival) (rest : List Arrival) (last : ℕ) (table : List (Option Brought)) → arrival.place ≤ last
+    → AreBrought last rest table
+    → AreBrought last (arrival ∷ rest)
+    (slice_set table arrival.place (Some (joined arrival.height (slice_index_or table arrival.place None))))
 brought_more arrival rest last table within are = record {
   long = length-set table arrival.place _ ∙ are.long;
   entries = λ p to. brought_step arrival rest p last table are.long within (are.entries p to) (eqb_tells arrival.place p);
@@ -97,32 +110,49 @@ brings_nothing (Jump to) trail not_jumpz not_jump = absurd (not_jump to refl)
 brings_nothing _ trail not_jumpz not_jump = refl
 
 -- one place on, by what was read of the tables
-pub passed : (code : List Instr) (p : ℕ) (i : Instr) (w t : Walk) (v h pop push : ℕ) (brought : Option Brought) → slice_get code p ≡ Some i → IsAt code p w → h ≡ slice_index_or w.heights.items p h → pop ≡ pops i → push ≡ pushes i → brought ≡ slice_index_or w.brought.items (p + 1) brought → v ≡ behind i brought (h - pop + push) → t.heights.items ≡ slice_set w.heights.items (p + 1) v → AreBrought (length code) (brought_by i (trail_at code p)) t.brought.items → t.depth ≡ length (enclosing code (p + 1)) → t.stack ≡ max w.stack (h - pop + push) → IsAt code (p + 1) t
+pub passed : (code : List Instr) (p : ℕ) (i : Instr) (w t : Walk) (v h pop push : ℕ) (brought : Option Brought) → slice_get code p ≡ Some i
+    → IsAt code p w → h ≡ slice_index_or w.heights.items p h → pop ≡ pops i → push ≡ pushes i
+    → brought ≡ slice_index_or w.brought.items (p + 1) brought → v ≡ behind i brought (h - pop + push)
+    → t.heights.items ≡ slice_set w.heights.items (p + 1) v → AreBrought (length code) (brought_by i (trail_at code p)) t.brought.items
+    → t.depth ≡ length (enclosing code (p + 1)) → t.stack ≡ max w.stack (h - pop + push) → IsAt code (p + 1) t
 passed code p i w t v h pop push brought at here h_is pop_is push_is brought_is v_is heights are depth stack =
     let within : p < length code = slice_get_within code p i at in
     let high = read_height w.heights.items p h (height_at code p) (omega (arith, here.long)) h_is (here.heights p (omega arith)) in
     let after_is : h - pop + push ≡ height_after i (height_at code p) = cc in
-    let told = read_brought w.brought.items (p + 1) brought (summary (brought_to (p + 1) (trail_at code p).brought)) (omega (arith, here.brought.long)) brought_is (here.brought.entries (p + 1) (omega arith)) in
-    let value : v ≡ height_at code (p + 1) = v_is ∙ (ap (λ b. behind i b (h - pop + push)) told ∙ (ap (behind i (summary (brought_to (p + 1) (trail_at code p).brought))) after_is ∙ (behind-summary i (p + 1) (trail_at code p) ∙ sym (height_here code p i at)))) in
+    let told = read_brought w.brought.items (p + 1) brought (summary (brought_to (p + 1) (trail_at code p).brought))
+    (omega (arith, here.brought.long)) brought_is (here.brought.entries (p + 1) (omega arith)) in
+    let value : v ≡ height_at code (p + 1) = v_is
+    ∙ (ap (λ b. behind i b (h - pop + push)) told
+    ∙ (ap (behind i (summary (brought_to (p + 1) (trail_at code p).brought))) after_is
+    ∙ (behind-summary i (p + 1) (trail_at code p) ∙ sym (height_here code p i at)))) in
     let trail : (trail_at code (p + 1)).brought ≡ brought_by i (trail_at code p) = ap (λ (t : Trail). t.brought) (trail_here code p i at) in
     record {
       long = ap (length {A = ℕ}) heights ∙ (length-set w.heights.items (p + 1) v ∙ here.long);
       heights = λ q to. ap (λ (l : List ℕ). slice_index l q) heights ∙ heights_above (height_at code) p (length code) w.heights.items v within here.long here.heights value q to;
       brought = subst (λ l. AreBrought (length code) l t.brought.items) (sym trail) are;
       depth = depth;
-      stack = stack ∙ (ap (max w.stack) (after_is ∙ sym (ap (λ o. height_behind o (height_at code p)) at)) ∙ (ap (λ s. max s (height_behind (slice_get code p) (height_at code p))) here.stack ∙ rw add-one refl));
+      stack = stack ∙ (ap (max w.stack) (after_is ∙ sym (ap (λ o. height_behind o (height_at code p)) at))
+          ∙ (ap (λ s. max s (height_behind (slice_get code p) (height_at code p))) here.stack ∙ rw add-one refl));
     }
 
 -- a jump brought its height, in a table that was written in place
-pub brought_by_jump : (code : List Instr) (p to : ℕ) (i : Instr) (w : Walk) (h pop push : ℕ) (table written : List (Option Brought)) → slice_get code p ≡ Some i → IsAt code p w → (brought_by i (trail_at code p) ≡ record { place = to; height = height_after i (height_at code p) } ∷ (trail_at code p).brought) → (IsBadTarget code p to → IsBadJumpAt code p (Some i)) → (IsBadJump code p → ⊥) → h ≡ slice_index_or w.heights.items p h → pop ≡ pops i → push ≡ pushes i → table ≡ w.brought.items → written ≡ slice_set table to (Some (joined (h - pop + push) (slice_index_or table to None))) → AreBrought (length code) (brought_by i (trail_at code p)) (take w.brought.len (written ++ drop (length written) w.brought.items))
+pub brought_by_jump : (code : List Instr) (p to : ℕ) (i : Instr) (w : Walk) (h pop push : ℕ) (table written : List (Option Brought))
+    → slice_get code p ≡ Some i → IsAt code p w
+    → (brought_by i (trail_at code p) ≡ record { place = to; height = height_after i (height_at code p) } ∷ (trail_at code p).brought)
+    → (IsBadTarget code p to → IsBadJumpAt code p (Some i)) → (IsBadJump code p → ⊥) → h ≡ slice_index_or w.heights.items p h → pop ≡ pops i
+    → push ≡ pushes i → table ≡ w.brought.items
+    → written ≡ slice_set table to (Some (joined (h - pop + push) (slice_index_or table to None)))
+    → AreBrought (length code) (brought_by i (trail_at code p)) (take w.brought.len (written ++ drop (length written) w.brought.items))
 brought_by_jump code p to i w h pop push table written at here brings bad good h_is pop_is push_is same is =
     let within : p < length code = slice_get_within code p i at in
     let high = read_height w.heights.items p h (height_at code p) (omega (arith, here.long)) h_is (here.heights p (omega arith)) in
     let after_is : h - pop + push ≡ height_after i (height_at code p) = cc in
     let wrote : written ≡ slice_set w.brought.items to (Some (joined (height_after i (height_at code p)) (slice_index_or w.brought.items to None))) =
-    is ∙ (ap (λ l. slice_set l to (Some (joined (h - pop + push) (slice_index_or l to None)))) same ∙ ap (λ n. slice_set w.brought.items to (Some (joined n (slice_index_or w.brought.items to None)))) after_is) in
+    is ∙ (ap (λ l. slice_set l to (Some (joined (h - pop + push) (slice_index_or l to None)))) same
+    ∙ ap (λ n. slice_set w.brought.items to (Some (joined n (slice_index_or w.brought.items to None)))) after_is) in
     let all = all_written w.brought.items written w.brought.len (sym w.brought.ok.0) (ap (length {A = Option Brought}) wrote ∙ length-set w.brought.items to _) in
-    let more = brought_more (record { place = to; height = height_after i (height_at code p) }) (trail_at code p).brought (length code) w.brought.items (target_within code p to i at bad good) here.brought in
+    let more = brought_more (record { place = to; height = height_after i (height_at code p) }) (trail_at code p).brought
+    (length code) w.brought.items (target_within code p to i at bad good) here.brought in
     subst (λ l. AreBrought (length code) l (take w.brought.len (written ++ drop (length written) w.brought.items))) (sym brings)
     (subst (λ (l : List (Option Brought)). AreBrought (length code) (record { place = to; height = height_after i (height_at code p) } ∷ (trail_at code p).brought) l) (sym (all ∙ wrote)) more)
 
@@ -130,7 +160,8 @@ brought_by_jump code p to i w h pop push table written at here brings bad good h
 abbrev pub IsJump : Instr → ℕ → Type 0
 IsJump i to = (i ≡ JumpZ to) ⊎ (i ≡ Jump to)
 
-pub jump_brings : (code : List Instr) (p to : ℕ) (i : Instr) → IsJump i to → brought_by i (trail_at code p) ≡ record { place = to; height = height_after i (height_at code p) } ∷ (trail_at code p).brought
+pub jump_brings : (code : List Instr) (p to : ℕ) (i : Instr) → IsJump i to
+    → brought_by i (trail_at code p) ≡ record { place = to; height = height_after i (height_at code p) } ∷ (trail_at code p).brought
 jump_brings code p to i (inl e) = rw e refl
 jump_brings code p to i (inr e) = let same : height_at code p - 0 + 0 ≡ height_at code p = omega arith in rw (e, same) refl
 

@@ -81,12 +81,15 @@ locals_of-get ws l there room =
 pub loops_of-set : (starts ws : List ℕ) (k w : ℕ) → ((j : ℕ) → j < length starts → lefts_start + j ≡ k → ⊥) → loops_of starts (slice_set ws k w) ≡ loops_of starts ws
 loops_of-set [] ws k w other = refl
 loops_of-set (start ∷ outer) ws k w other =
-    let here : slice_index (slice_set ws k w) (lefts_start + length outer) ≡ slice_index ws (lefts_start + length outer) = get_or-set_other ws k (lefts_start + length outer) w 0 (other (length outer) (omega arith)) in
+    let here : slice_index (slice_set ws k w) (lefts_start + length outer) ≡ slice_index ws (lefts_start + length outer) =
+    get_or-set_other ws k (lefts_start + length outer) w 0 (other (length outer) (omega arith)) in
     let rest : loops_of outer (slice_set ws k w) ≡ loops_of outer ws = loops_of-set outer ws k w (λ j within. other j (omega arith)) in
     rw (here, rest) refl
 
 -- one more loop
-pub loops_of-push : (start rounds : ℕ) (outer ws : List ℕ) → lefts_start + length outer < length ws → loops_of (start ∷ outer) (slice_set ws (lefts_start + length outer) rounds) ≡ record { start = start; left = rounds } ∷ loops_of outer ws
+pub loops_of-push : (start rounds : ℕ) (outer ws : List ℕ) → lefts_start + length outer < length ws
+    → loops_of (start ∷ outer) (slice_set ws (lefts_start + length outer) rounds)
+    ≡ record { start = start; left = rounds } ∷ loops_of outer ws
 loops_of-push start rounds outer ws within =
     let here : slice_index (slice_set ws (lefts_start + length outer) rounds) (lefts_start + length outer) ≡ rounds = get_or-set_same ws (lefts_start + length outer) rounds 0 within in
     let rest : loops_of outer (slice_set ws (lefts_start + length outer) rounds) ≡ loops_of outer ws = loops_of-set outer ws (lefts_start + length outer) rounds (λ j less e. omega arith) in

@@ -43,14 +43,22 @@ below k n h = grind (arith, nat_tests)
 
 module _ (program : Program) (sound : IsSound program) (inputs : Inputs) (fits : Fits inputs program.limits) where
   -- on to the next place
-  pub on : (i : Instr) (s t : State) → IsPlain i → slice_get program.code s.place ≡ Some i → Agrees program s → t.place ≡ s.place + 1 → length t.stack ≡ height_after i (length s.stack) → t.loops ≡ s.loops → length t.locals ≡ length s.locals → length t.outs ≡ length s.outs → Leads program s (Some t)
+  pub on : (i : Instr) (s t : State) → IsPlain i → slice_get program.code s.place ≡ Some i → Agrees program s → t.place ≡ s.place + 1
+      → length t.stack ≡ height_after i (length s.stack) → t.loops ≡ s.loops → length t.locals ≡ length s.locals
+      → length t.outs ≡ length s.outs → Leads program s (Some t)
   on i s t plain at a place height loops locals outs =
       let within : s.place < length program.code = slice_get_within program.code s.place i at in
-      let high : height_at program.code (s.place + 1) ≡ height_after i (height_at program.code s.place) = height_here program.code s.place i at ∙ plain.heights (s.place + 1) (trail_at program.code s.place) in
-      let inside : enclosing program.code (s.place + 1) ≡ enclosing program.code s.place = nested_here program.code (braced program sound) s.place i at ∙ plain.nests (s.place + 1) (enclosing program.code s.place) in
+      let high : height_at program.code (s.place + 1) ≡ height_after i (height_at program.code s.place) =
+      height_here program.code s.place i at ∙ plain.heights (s.place + 1) (trail_at program.code s.place) in
+      let inside : enclosing program.code (s.place + 1) ≡ enclosing program.code s.place =
+      nested_here program.code (braced program sound) s.place i at ∙ plain.nests (s.place + 1) (enclosing program.code s.place) in
       let cost : left_of program s ≡ 1 + remaining program.code (costs (drop (s.place + 1) program.code)) s.loops =
-      ap (λ cs. remaining program.code cs s.loops) (costs_here program.code s.place i at ∙ plain.costs (costs (drop (s.place + 1) program.code))) ∙ remaining_more program.code (costs (drop (s.place + 1) program.code)) s.loops in
-      let there : left_of program t ≡ remaining program.code (costs (drop (s.place + 1) program.code)) s.loops = ap (λ q. remaining program.code (costs (drop q program.code)) t.loops) place ∙ ap (λ ls. remaining program.code (costs (drop (s.place + 1) program.code)) ls) loops in
+      ap (λ cs. remaining program.code cs s.loops) (costs_here program.code s.place i at
+      ∙ plain.costs (costs (drop (s.place + 1) program.code)))
+      ∙ remaining_more program.code (costs (drop (s.place + 1) program.code)) s.loops in
+      let there : left_of program t ≡ remaining program.code (costs (drop (s.place + 1) program.code)) s.loops =
+      ap (λ q. remaining program.code (costs (drop q program.code)) t.loops) place
+      ∙ ap (λ ls. remaining program.code (costs (drop (s.place + 1) program.code)) ls) loops in
       record {
         state = t;
         is = refl;
@@ -65,12 +73,14 @@ module _ (program : Program) (sound : IsSound program) (inputs : Inputs) (fits :
         less = omega arith;
       }
 
-  pub push : (i : Instr) (s : State) (o : Option ℕ) (w : ℕ) → IsPlain i → slice_get program.code s.place ≡ Some i → Agrees program s → ((h : ℕ) → height_after i h ≡ h + 1) → o ≡ Some w → Leads program s (on_with s (pushed o s.stack))
+  pub push : (i : Instr) (s : State) (o : Option ℕ) (w : ℕ) → IsPlain i → slice_get program.code s.place ≡ Some i → Agrees program s
+      → ((h : ℕ) → height_after i h ≡ h + 1) → o ≡ Some w → Leads program s (on_with s (pushed o s.stack))
   push i s o w plain at a more e =
       subst (λ o'. Leads program s (on_with s (pushed o' s.stack))) (sym e)
       (on i s (record s { place = s.place + 1; stack = w ∷ s.stack }) plain at a refl (omega (arith, more (length s.stack))) refl refl refl)
 
-  pub combine : (i : Instr) (s : State) (op : ℕ → ℕ → ℕ) → IsPlain i → slice_get program.code s.place ≡ Some i → Agrees program s → ((h : ℕ) → height_after i h ≡ h - 2 + 1) → 2 ≤ height_at program.code s.place → Leads program s (on_with s (combined op s.stack))
+  pub combine : (i : Instr) (s : State) (op : ℕ → ℕ → ℕ) → IsPlain i → slice_get program.code s.place ≡ Some i → Agrees program s
+      → ((h : ℕ) → height_after i h ≡ h - 2 + 1) → 2 ≤ height_at program.code s.place → Leads program s (on_with s (combined op s.stack))
   combine i s op plain at a less enough = by s.stack refl
     where
       by : (stack : List ℕ) → s.stack ≡ stack → Leads program s (on_with s (combined op stack))
@@ -90,7 +100,9 @@ module _ (program : Program) (sound : IsSound program) (inputs : Inputs) (fits :
       by (x ∷ []) e = absurd (omega (arith, a.height, enough, ap (length {A = ℕ}) e))
       by (x ∷ y ∷ []) e = absurd (omega (arith, a.height, enough, ap (length {A = ℕ}) e))
       by (x ∷ y ∷ z ∷ stack) e =
-          on Mid s (record s { place = s.place + 1; stack = mid z y x ∷ stack }) (record { nests = λ next loops. refl; costs = λ cs. refl; heights = λ next trail. refl }) at a refl (omega (arith, ap (length {A = ℕ}) e)) refl refl refl
+          on Mid s (record s { place = s.place + 1; stack = mid z y x ∷ stack })
+          (record { nests = λ next loops. refl; costs = λ cs. refl; heights = λ next trail. refl }) at a refl
+          (omega (arith, ap (length {A = ℕ}) e)) refl refl refl
 
   pub store : (l : ℕ) (s : State) → slice_get program.code s.place ≡ Some (Store l) → Agrees program s → Leads program s (stored l s s.stack)
   store l s at a = by s.stack refl
@@ -106,7 +118,8 @@ module _ (program : Program) (sound : IsSound program) (inputs : Inputs) (fits :
       by (x ∷ stack) e =
           let t : State = record s { place = s.place + 1; stack = stack; locals = slice_set s.locals l x } in
           subst (λ (b : Bool). Leads program s (if b then Some t else None)) (sym there)
-          (on (Store l) s t (record { nests = λ next loops. refl; costs = λ cs. refl; heights = λ next trail. refl }) at a refl (omega (arith, ap (length {A = ℕ}) e)) refl (length-set s.locals l x) refl)
+          (on (Store l) s t (record { nests = λ next loops. refl; costs = λ cs. refl; heights = λ next trail. refl }) at a refl
+          (omega (arith, ap (length {A = ℕ}) e)) refl (length-set s.locals l x) refl)
 
   pub put : (j : ℕ) (s : State) → slice_get program.code s.place ≡ Some (Out j) → Agrees program s → Leads program s (put_out j s s.stack)
   put j s at a = by s.stack refl
@@ -125,12 +138,17 @@ module _ (program : Program) (sound : IsSound program) (inputs : Inputs) (fits :
           (on (Out j) s t (record { nests = λ next loops. refl; costs = λ cs. refl; heights = λ next trail. refl }) at a refl (omega (arith, ap (length {A = ℕ}) e)) refl refl (length-set s.outs j x))
 
   -- a jump ahead
-  pub jump : (i : Instr) (s : State) (to height : ℕ) (stack : List ℕ) → ((next : ℕ) (loops : List ℕ) → nested i next loops ≡ loops) → ((cs : List ℕ) → cost_step i cs ≡ (1 + head0 cs) ∷ tail0 cs) → slice_get program.code s.place ≡ Some i → Agrees program s → Lands program.code s.place to height → length stack ≡ height → Leads program s (Some (record s { place = to; stack = stack }))
+  pub jump : (i : Instr) (s : State) (to height : ℕ) (stack : List ℕ) → ((next : ℕ) (loops : List ℕ) → nested i next loops ≡ loops)
+      → ((cs : List ℕ) → cost_step i cs ≡ (1 + head0 cs) ∷ tail0 cs) → slice_get program.code s.place ≡ Some i → Agrees program s
+      → Lands program.code s.place to height → length stack ≡ height → Leads program s (Some (record s { place = to; stack = stack }))
   jump i s to height stack nests cost_is at a lands high =
-      let inside : enclosing program.code (s.place + 1) ≡ enclosing program.code s.place = nested_here program.code (braced program sound) s.place i at ∙ nests (s.place + 1) (enclosing program.code s.place) in
+      let inside : enclosing program.code (s.place + 1) ≡ enclosing program.code s.place =
+      nested_here program.code (braced program sound) s.place i at ∙ nests (s.place + 1) (enclosing program.code s.place) in
       let falls = between program.code (braced program sound) (s.place + 1) to (omega (arith, lands.ahead)) lands.within (lands.same_loops ∙ sym inside) in
       let cost : left_of program s ≡ 1 + remaining program.code (costs (drop (s.place + 1) program.code)) s.loops =
-      ap (λ cs. remaining program.code cs s.loops) (costs_here program.code s.place i at ∙ cost_is (costs (drop (s.place + 1) program.code))) ∙ remaining_more program.code (costs (drop (s.place + 1) program.code)) s.loops in
+      ap (λ cs. remaining program.code cs s.loops) (costs_here program.code s.place i at
+      ∙ cost_is (costs (drop (s.place + 1) program.code)))
+      ∙ remaining_more program.code (costs (drop (s.place + 1) program.code)) s.loops in
       record {
         state = record s { place = to; stack = stack };
         is = refl;

@@ -28,7 +28,9 @@ pub remaining_none : (code : List Instr) (cs : List ℕ) (ls : List Loop) → re
 remaining_none code cs [] = omega arith
 remaining_none code cs (l ∷ ls) = omega arith
 
-pub remaining_begin : (code : List Instr) (k : ℕ) (cs : List ℕ) (ls : List Loop) (start : ℕ) → costs (drop start code) ≡ cs → 1 + remaining code cs (record { start = start; left = suc k } ∷ ls) ≡ remaining code ((1 + suc k * head0 cs + head0 (tail0 cs)) ∷ tail0 (tail0 cs)) ls
+pub remaining_begin : (code : List Instr) (k : ℕ) (cs : List ℕ) (ls : List Loop) (start : ℕ) → costs (drop start code) ≡ cs
+    → 1 + remaining code cs (record { start = start; left = suc k } ∷ ls)
+    ≡ remaining code ((1 + suc k * head0 cs + head0 (tail0 cs)) ∷ tail0 (tail0 cs)) ls
 remaining_begin code k cs [] start e = rw e (first_round k (head0 cs) (head0 (tail0 cs)))
 remaining_begin code k cs (l ∷ ls) start e = rw e (omega (arith, first_round k (head0 cs) (head0 (tail0 cs))))
 

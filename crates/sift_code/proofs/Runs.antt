@@ -19,11 +19,13 @@ GoesOn program inputs s =
     (n : ℕ) × (exec program.code inputs n s ≡ exec program.code inputs (bound_of program.code) (start_state program.limits.outputs))
 
 -- where all is 0 a run starts
-pub started_state : (program : Program) (ws outs : List ℕ) → locals_of ws ≡ replicate 32 0 → outs ≡ replicate program.limits.outputs 0 → state_of program.code (machine 0 0 0) ws outs ≡ start_state program.limits.outputs
+pub started_state : (program : Program) (ws outs : List ℕ) → locals_of ws ≡ replicate 32 0 → outs ≡ replicate program.limits.outputs 0
+    → state_of program.code (machine 0 0 0) ws outs ≡ start_state program.limits.outputs
 started_state program ws outs locals puts = rw (locals, puts) refl
 
 module _ (program : Program) (sound : IsSound program) (inputs : Inputs) (fits : Fits inputs program.limits) where
-  pub starts : (ws outs : List ℕ) → locals_of ws ≡ replicate 32 0 → outs ≡ replicate program.limits.outputs 0 → Stands program (machine 0 0 0) ws outs × GoesOn program inputs (state_of program.code (machine 0 0 0) ws outs)
+  pub starts : (ws outs : List ℕ) → locals_of ws ≡ replicate 32 0 → outs ≡ replicate program.limits.outputs 0
+      → Stands program (machine 0 0 0) ws outs × GoesOn program inputs (state_of program.code (machine 0 0 0) ws outs)
   starts ws outs locals puts =
       let same = started_state program ws outs locals puts in (
         record {
@@ -34,7 +36,9 @@ module _ (program : Program) (sound : IsSound program) (inputs : Inputs) (fits :
       )
 
   -- one step on, the run stands as the code says, and less is left to do
-  pub stands_on : (m n : Machine) (ws vs outs puts : List ℕ) → m.place < length program.code → Stands program m ws outs → Steps program inputs m ws outs n vs puts → Stands program n vs puts × (left_of program (state_of program.code n vs puts) < left_of program (state_of program.code m ws outs))
+  pub stands_on : (m n : Machine) (ws vs outs puts : List ℕ) → m.place < length program.code → Stands program m ws outs
+      → Steps program inputs m ws outs n vs puts
+      → Stands program n vs puts × (left_of program (state_of program.code n vs puts) < left_of program (state_of program.code m ws outs))
   stands_on m n ws vs outs puts within stands steps =
       let leads = step_leads program sound inputs fits (state_of program.code m ws outs) within stands.agrees in
       let both : Some leads.state ≡ Some (state_of program.code n vs puts) = sym leads.is ∙ steps.stepped in
@@ -55,7 +59,9 @@ module _ (program : Program) (sound : IsSound program) (inputs : Inputs) (fits :
           let over : Unfinished ≡ Done ends.0 = sym open_yet ∙ (e ∙ ends.1) in
           cc
       by (suc n) e =
-          let one : exec program.code inputs (suc n) s ≡ exec program.code inputs n t = ap (λ (b : Bool). if b then Done s.outs else after (exec program.code inputs n) (step program.code inputs s)) not_yet ∙ ap (after (exec program.code inputs n)) is in
+          let one : exec program.code inputs (suc n) s ≡ exec program.code inputs n t =
+          ap (λ (b : Bool). if b then Done s.outs else after (exec program.code inputs n) (step program.code inputs s)) not_yet
+          ∙ ap (after (exec program.code inputs n)) is in
           (n, sym one ∙ e)
 
   -- at the code's length the run is over

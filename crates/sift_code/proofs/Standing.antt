@@ -34,7 +34,9 @@ pub record Fetched (program : Program) (m : Machine) (ws outs : List ℕ) (i : I
   pub wide : 352 ≤ length ws
 
 -- it stands at the instruction that was fetched
-pub fetched : {region : Region} {span : Extent} {program : Program} {m : Machine} {outs : List ℕ} {nest : List Instr} {i j : Instr} → IsLive region span → 352 ≤ span.len → Stands program m (words_at region span.number) outs → IsSound program → nest ≡ program.code → slice_get nest m.place ≡ Some i → i ≡ j → Fetched program m (words_at region span.number) outs j
+pub fetched : {region : Region} {span : Extent} {program : Program} {m : Machine} {outs : List ℕ} {nest : List Instr} {i j : Instr}
+    → IsLive region span → 352 ≤ span.len → Stands program m (words_at region span.number) outs → IsSound program → nest ≡ program.code
+    → slice_get nest m.place ≡ Some i → i ≡ j → Fetched program m (words_at region span.number) outs j
 fetched {m = m} {j = j} live room stands sound same at is =
     record { sound = sound; stands = stands; at = subst (λ c. slice_get c m.place ≡ Some j) same (at ∙ ap Some is); wide = omega (arith, room, live.long) }
 
@@ -50,7 +52,10 @@ operand {program} {m} {i = i} f = named program f.sound m.place i f.at
 
 module _ {program : Program} (inputs : Inputs) {m : Machine} {ws outs : List ℕ} {i : Instr} (f : Fetched program m ws outs i) where
   -- an instruction does this, and this is how the words hold it
-  pub stepped_to : (n : Machine) (vs puts : List ℕ) (p : ℕ) (stack : List ℕ) (loops : List Loop) (locals o : List ℕ) → effect i program.code inputs (state_of program.code m ws outs) ≡ Some (state p stack loops locals o) → n.depth ≡ length (enclosing program.code n.place) → p ≡ n.place → stack ≡ stack_of n.height vs → loops ≡ loops_of (enclosing program.code n.place) vs → locals ≡ locals_of vs → o ≡ puts → Steps program inputs m ws outs n vs puts
+  pub stepped_to : (n : Machine) (vs puts : List ℕ) (p : ℕ) (stack : List ℕ) (loops : List Loop) (locals o : List ℕ)
+      → effect i program.code inputs (state_of program.code m ws outs) ≡ Some (state p stack loops locals o)
+      → n.depth ≡ length (enclosing program.code n.place) → p ≡ n.place → stack ≡ stack_of n.height vs
+      → loops ≡ loops_of (enclosing program.code n.place) vs → locals ≡ locals_of vs → o ≡ puts → Steps program inputs m ws outs n vs puts
   stepped_to n vs puts p stack loops locals o does depth place stacks loops_are locals_are outs_are =
       record {
         stepped = ap (λ x. effect_of x program.code inputs (state_of program.code m ws outs)) f.at ∙ (does ∙ ap Some (same_state _ _ _ _ _ _ _ _ _ _ place stacks loops_are locals_are outs_are));
@@ -58,7 +63,14 @@ module _ {program : Program} (inputs : Inputs) {m : Machine} {ws outs : List ℕ
       }
 
   -- an instruction that only goes on to the next place leaves the loops
-  pub plain : (n : Machine) (vs puts stack locals o : List ℕ) → IsPlain i → effect i program.code inputs (state_of program.code m ws outs) ≡ Some (state (m.place + 1) stack (loops_of (enclosing program.code m.place) ws) locals o) → n.place ≡ m.place + 1 → n.depth ≡ m.depth → stack ≡ stack_of n.height vs → loops_of (enclosing program.code m.place) vs ≡ loops_of (enclosing program.code m.place) ws → locals ≡ locals_of vs → o ≡ puts → Steps program inputs m ws outs n vs puts
+  pub plain : (n : Machine) (vs puts stack locals o : List ℕ) → IsPlain i → effect i program.code inputs (state_of program.code m ws outs)
+      ≡ Some (state (m.place + 1) stack (loops_of (enclosing program.code m.place) ws) locals o) → n.place ≡ m.place + 1 → n.depth ≡ m.depth
+      → stack ≡ stack_of n.height vs → loops_of (enclosing program.code m.place) vs ≡ loops_of (enclosing program.code m.place) ws
+      → locals ≡ locals_of vs → o ≡ puts → Steps program inputs m ws outs n vs puts
   plain n vs puts stack locals o is_plain does place depth stacks loops locals_are outs_are =
-      let inside : enclosing program.code n.place ≡ enclosing program.code m.place = ap (enclosing program.code) place ∙ (nested_here program.code (braced program f.sound) m.place i f.at ∙ is_plain.nests (m.place + 1) (enclosing program.code m.place)) in
-      stepped_to n vs puts (m.place + 1) stack (loops_of (enclosing program.code m.place) ws) locals o does (depth ∙ (f.stands.depth ∙ ap (length {A = ℕ}) (sym inside))) (sym place) stacks (sym loops ∙ ap (λ e. loops_of e vs) (sym inside)) locals_are outs_are
+      let inside : enclosing program.code n.place ≡ enclosing program.code m.place = ap (enclosing program.code) place
+      ∙ (nested_here program.code (braced program f.sound) m.place i f.at
+      ∙ is_plain.nests (m.place + 1) (enclosing program.code m.place)) in
+      stepped_to n vs puts (m.place + 1) stack (loops_of (enclosing program.code m.place) ws) locals o does (depth
+      ∙ (f.stands.depth ∙ ap (length {A = ℕ}) (sym inside))) (sym place) stacks (sym loops
+      ∙ ap (λ e. loops_of e vs) (sym inside)) locals_are outs_are

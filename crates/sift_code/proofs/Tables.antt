@@ -22,7 +22,8 @@ TellsFrom entry at last table =
     (length table ≡ last + 1) × ((p : ℕ) → at ≤ p → p ≤ last → slice_index_or table p None ≡ entry p)
 
 -- one entry below
-pub tells_below : (entry : ℕ → Option ℕ) (at last : ℕ) (table : List (Option ℕ)) (v : Option ℕ) → 0 < at → at ≤ last → TellsFrom entry at last table → v ≡ entry (at - 1) → TellsFrom entry (at - 1) last (slice_set table (at - 1) v)
+pub tells_below : (entry : ℕ → Option ℕ) (at last : ℕ) (table : List (Option ℕ)) (v : Option ℕ) → 0 < at → at ≤ last
+    → TellsFrom entry at last table → v ≡ entry (at - 1) → TellsFrom entry (at - 1) last (slice_set table (at - 1) v)
 tells_below entry at last table v some within tells is =
     (length-set table (at - 1) v ∙ tells.0, λ p from to. by p from to (eqb_tells p (at - 1)))
   where
@@ -36,7 +37,8 @@ TellsTo entry at last table =
     (length table ≡ last + 1) × ((p : ℕ) → p ≤ at → slice_index_or table p None ≡ entry p)
 
 -- one entry above
-pub tells_above : (entry : ℕ → Option ℕ) (at last : ℕ) (table : List (Option ℕ)) (v : Option ℕ) → at < last → TellsTo entry at last table → v ≡ entry (at + 1) → TellsTo entry (at + 1) last (slice_set table (at + 1) v)
+pub tells_above : (entry : ℕ → Option ℕ) (at last : ℕ) (table : List (Option ℕ)) (v : Option ℕ) → at < last → TellsTo entry at last table
+    → v ≡ entry (at + 1) → TellsTo entry (at + 1) last (slice_set table (at + 1) v)
 tells_above entry at last table v within tells is =
     (length-set table (at + 1) v ∙ tells.0, λ p to. by p to (eqb_tells p (at + 1)))
   where
@@ -86,12 +88,15 @@ one_more_none : (o : Option ℕ) → one_more o ≡ None → o ≡ None
 one_more_none None e = refl
 one_more_none (Some n) e = cc
 
-through_more : (i : Instr) (rest : List Instr) (all outer : List ℕ) (n m : ℕ) → n ≡ suc m → through_end (length all) rest ≡ onward m (through_end (length outer) (drop m rest)) → one_more (through_end (length all) rest) ≡ onward n (through_end (length outer) (drop n (i ∷ rest)))
+through_more : (i : Instr) (rest : List Instr) (all outer : List ℕ) (n m : ℕ) → n ≡ suc m
+    → through_end (length all) rest ≡ onward m (through_end (length outer) (drop m rest))
+    → one_more (through_end (length all) rest) ≡ onward n (through_end (length outer) (drop n (i ∷ rest)))
 through_more i rest all outer n m e is =
     rw e (ap one_more is ∙ onward_one_more m (through_end (length outer) (drop m rest)))
 
 -- inside more loops, the count goes on behind the End that closes the inner ones
-through_past : (rest : List Instr) (inner outer : List ℕ) (x n : ℕ) → through_end (length inner) rest ≡ Some n → through_end (length (inner ++ x ∷ outer)) rest ≡ onward n (through_end (length outer) (drop n rest))
+through_past : (rest : List Instr) (inner outer : List ℕ) (x n : ℕ) → through_end (length inner) rest ≡ Some n
+    → through_end (length (inner ++ x ∷ outer)) rest ≡ onward n (through_end (length outer) (drop n rest))
 through_past [] [] outer x n e = cc
 through_past [] (y ∷ inner) outer x n e = cc
 through_past (End ∷ rest) [] outer x n e =
@@ -131,7 +136,8 @@ through_within [] (y ∷ inner) n e = cc
 through_within (End ∷ rest) [] n e = let one : n ≡ 1 = cc in omega arith
 through_within (End ∷ rest) (y ∷ inner) n e = let more = one_more_some (through_end (length inner) rest) n e in omega (arith, more.2, through_within rest inner more.0 more.1)
 through_within (Begin k ∷ rest) [] n e = let more = one_more_some (through_end (length {A = ℕ} (0 ∷ [])) rest) n e in omega (arith, more.2, through_within rest (0 ∷ []) more.0 more.1)
-through_within (Begin k ∷ rest) (y ∷ inner) n e = let more = one_more_some (through_end (length {A = ℕ} (0 ∷ y ∷ inner)) rest) n e in omega (arith, more.2, through_within rest (0 ∷ y ∷ inner) more.0 more.1)
+through_within (Begin k ∷ rest) (y ∷ inner) n e = let more = one_more_some (through_end (length {A = ℕ} (0 ∷ y ∷ inner)) rest) n e in
+    omega (arith, more.2, through_within rest (0 ∷ y ∷ inner) more.0 more.1)
 through_within (i ∷ rest) [] n e = let more = one_more_some (through_end (length {A = ℕ} []) rest) n e in omega (arith, more.2, through_within rest [] more.0 more.1)
 through_within (i ∷ rest) (y ∷ inner) n e = let more = one_more_some (through_end (length (y ∷ inner)) rest) n e in omega (arith, more.2, through_within rest (y ∷ inner) more.0 more.1)
 
@@ -161,7 +167,11 @@ past_at-Begin code p k q at e = by (through_end 0 (drop (p + 1) code)) refl
     by (Some n) is =
         let same : p + 1 + n ≡ q = (let f = sym (ap (onward (p + 1)) is) ∙ e in cc) in
         let d : drop n (drop (p + 1) code) ≡ drop q code = drop-drop n (p + 1) code ∙ ap (λ m. drop m code) same in
-        past_by code p (Begin k) at ∙ (ap (λ o. onward p (one_more o)) (through_past (drop (p + 1) code) [] [] 0 n is) ∙ (onward_more p (onward n (through_end 0 (drop n (drop (p + 1) code)))) ∙ (onward_onward (p + 1) n (through_end 0 (drop n (drop (p + 1) code))) ∙ (ap (λ l. onward (p + 1 + n) (through_end 0 l)) d ∙ ap (λ m. onward m (through_end 0 (drop q code))) same))))
+        past_by code p (Begin k) at
+        ∙ (ap (λ o. onward p (one_more o)) (through_past (drop (p + 1) code) [] [] 0 n is)
+        ∙ (onward_more p (onward n (through_end 0 (drop n (drop (p + 1) code))))
+        ∙ (onward_onward (p + 1) n (through_end 0 (drop n (drop (p + 1) code)))
+        ∙ (ap (λ l. onward (p + 1 + n) (through_end 0 l)) d ∙ ap (λ m. onward m (through_end 0 (drop q code))) same))))
 
 -- at a Begin without a match there is none
 pub past_at-Begin_alone : (code : List Instr) (p k : ℕ) → slice_get code p ≡ Some (Begin k) → past_at code (p + 1) ≡ None → past_at code p ≡ None
@@ -171,7 +181,8 @@ past_at-Begin_alone code p k at e = by (through_end 0 (drop (p + 1) code)) refl
     by None is = past_by code p (Begin k) at ∙ ap (λ o. onward p (one_more o)) (through_none (drop (p + 1) code) [] [] 0 is)
     by (Some n) is = let bad = sym (ap (onward (p + 1)) is) ∙ e in cc
 
-past_plain : (code : List Instr) (p : ℕ) (i : Instr) → slice_get code p ≡ Some i → ((k : ℕ) → i ≡ Begin k → ⊥) → (i ≡ End → ⊥) → through_end 0 (i ∷ drop (p + 1) code) ≡ one_more (through_end 0 (drop (p + 1) code))
+past_plain : (code : List Instr) (p : ℕ) (i : Instr) → slice_get code p ≡ Some i → ((k : ℕ) → i ≡ Begin k → ⊥) → (i ≡ End → ⊥)
+    → through_end 0 (i ∷ drop (p + 1) code) ≡ one_more (through_end 0 (drop (p + 1) code))
 past_plain code p (Begin k) at not_begin not_end = absurd (not_begin k refl)
 past_plain code p End at not_begin not_end = absurd (not_end refl)
 past_plain code p _ at not_begin not_end = refl
@@ -260,7 +271,8 @@ option_same (Some m) None e = cc
 option_same (Some m) (Some n) e = eq-eqb m n cc
 
 -- places are enclosed by the same loops where their starts are the same
-pub same_starts : (code : List Instr) (p q : ℕ) (a b : Option ℕ) (r : Bool) → a ≡ start_at code p → b ≡ start_at code q → r ≡ option_eq eqb a b → (r ≡ true → enclosing code p ≡ enclosing code q) × (enclosing code p ≡ enclosing code q → r ≡ true)
+pub same_starts : (code : List Instr) (p q : ℕ) (a b : Option ℕ) (r : Bool) → a ≡ start_at code p → b ≡ start_at code q
+    → r ≡ option_eq eqb a b → (r ≡ true → enclosing code p ≡ enclosing code q) × (enclosing code p ≡ enclosing code q → r ≡ true)
 same_starts code p q a b r a_is b_is r_is = (
   λ e. enclosing_by_innermost code p q (sym a_is ∙ (option_true a b (sym r_is ∙ e) ∙ b_is)),
   λ e. r_is ∙ option_same a b (a_is ∙ (ap innermost e ∙ sym b_is)),

@@ -33,27 +33,44 @@ enclosing_few program sound (suc p) le =
 
 module _ {program : Program} (inputs : Inputs) {m : Machine} {ws outs : List ℕ} where
   -- a jump leaves the loops
-  lands : (i : Instr) (n : Machine) (stack : List ℕ) (to height : ℕ) → Fetched program m ws outs i → effect i program.code inputs (state_of program.code m ws outs) ≡ Some (state to stack (loops_of (enclosing program.code m.place) ws) (locals_of ws) outs) → enclosing program.code to ≡ enclosing program.code m.place → stack ≡ stack_of height ws → n ≡ machine to height m.depth → Steps program inputs m ws outs n ws outs
+  lands : (i : Instr) (n : Machine) (stack : List ℕ) (to height : ℕ) → Fetched program m ws outs i
+      → effect i program.code inputs (state_of program.code m ws outs)
+      ≡ Some (state to stack (loops_of (enclosing program.code m.place) ws) (locals_of ws) outs)
+      → enclosing program.code to ≡ enclosing program.code m.place → stack ≡ stack_of height ws → n ≡ machine to height m.depth
+      → Steps program inputs m ws outs n ws outs
   lands i n stack to height f does inside stacks machine_is =
-      rw machine_is (stepped_to inputs f (machine to height m.depth) ws outs to stack (loops_of (enclosing program.code m.place) ws) (locals_of ws) outs does (f.stands.depth ∙ ap (length {A = ℕ}) (sym inside)) refl stacks (ap (λ e. loops_of e ws) (sym inside)) refl refl)
+      rw machine_is (stepped_to inputs f (machine to height m.depth) ws outs to stack (loops_of (enclosing program.code m.place) ws)
+      (locals_of ws) outs does (f.stands.depth ∙ ap (length {A = ℕ}) (sym inside)) refl stacks
+      (ap (λ e. loops_of e ws) (sym inside)) refl refl)
 
   pub jumps : {to : ℕ} {n : Machine} → Fetched program m ws outs (Jump to) → n ≡ machine to m.height m.depth → Steps program inputs m ws outs n ws outs
   jumps {to} {n} f machine_is = lands (Jump to) n (stack_of m.height ws) to m.height f refl (jump_lands program f.sound m.place to f.at).same_loops refl machine_is
 
-  tests : (to : ℕ) (b : Bool) → Fetched program m ws outs (JumpZ to) → (slice_index ws (m.height - 1) == 0) ≡ b → tested to (state_of program.code m ws outs) (stack_of m.height ws) ≡ Some (state (if b then to else m.place + 1) (stack_of (m.height - 1) ws) (loops_of (enclosing program.code m.place) ws) (locals_of ws) outs)
+  tests : (to : ℕ) (b : Bool) → Fetched program m ws outs (JumpZ to) → (slice_index ws (m.height - 1) == 0) ≡ b
+      → tested to (state_of program.code m ws outs) (stack_of m.height ws)
+      ≡ Some (state (if b then to else m.place + 1) (stack_of (m.height - 1) ws) (loops_of (enclosing program.code m.place) ws)
+      (locals_of ws) outs)
   tests to b f is =
-      ap (tested to (state_of program.code m ws outs)) (stack_of-top m.height ws (heights f).0) ∙ ap (λ (b' : Bool). Some (state (if b' then to else m.place + 1) (stack_of (m.height - 1) ws) (loops_of (enclosing program.code m.place) ws) (locals_of ws) outs)) is
+      ap (tested to (state_of program.code m ws outs)) (stack_of-top m.height ws (heights f).0)
+      ∙ ap (λ (b' : Bool). Some
+      (state (if b' then to else m.place + 1) (stack_of (m.height - 1) ws) (loops_of (enclosing program.code m.place) ws)
+      (locals_of ws) outs)) is
 
   at_zero : {to : ℕ} {n : Machine} → Fetched program m ws outs (JumpZ to) → slice_index ws (m.height - 1) ≡ 0 → n ≡ machine to (m.height - 1) m.depth → Steps program inputs m ws outs n ws outs
   at_zero {to} {n} f none machine_is =
       lands (JumpZ to) n (stack_of (m.height - 1) ws) to (m.height - 1) f (tests to true f (ap (λ x. x == 0) none)) (jumpz_lands program f.sound m.place to f.at).same_loops refl machine_is
 
-  at_others : {to : ℕ} {n : Machine} → Fetched program m ws outs (JumpZ to) → (slice_index ws (m.height - 1) == 0) ≡ false → n ≡ machine (m.place + 1) (m.height - 1) m.depth → Steps program inputs m ws outs n ws outs
+  at_others : {to : ℕ} {n : Machine} → Fetched program m ws outs (JumpZ to) → (slice_index ws (m.height - 1) == 0) ≡ false
+      → n ≡ machine (m.place + 1) (m.height - 1) m.depth → Steps program inputs m ws outs n ws outs
   at_others {to} {n} f is machine_is =
-      rw machine_is (plain inputs f (machine (m.place + 1) (m.height - 1) m.depth) ws outs (stack_of (m.height - 1) ws) (locals_of ws) outs (record { nests = λ next loops. refl; costs = λ cs. refl; heights = λ next trail. refl }) (tests to false f is) refl refl refl refl refl refl)
+      rw machine_is (plain inputs f (machine (m.place + 1) (m.height - 1) m.depth) ws outs (stack_of (m.height - 1) ws) (locals_of ws) outs
+      (record { nests = λ next loops. refl; costs = λ cs. refl; heights = λ next trail. refl })
+      (tests to false f is) refl refl refl refl refl refl)
 
   -- a test
-  pub jumps_at_zero : {to : ℕ} {n k : Machine} (w : ℕ) → Fetched program m ws outs (JumpZ to) → w ≡ slice_index ws (m.height - 1) → k ≡ machine (m.place + 1) (m.height - 1) m.depth → (w ≡ 0 → n ≡ at_place to k) → (w ≢ 0 → n ≡ k) → Steps program inputs m ws outs n ws outs
+  pub jumps_at_zero : {to : ℕ} {n k : Machine} (w : ℕ) → Fetched program m ws outs (JumpZ to) → w ≡ slice_index ws (m.height - 1)
+      → k ≡ machine (m.place + 1) (m.height - 1) m.depth → (w ≡ 0 → n ≡ at_place to k) → (w ≢ 0 → n ≡ k)
+      → Steps program inputs m ws outs n ws outs
   jumps_at_zero {to} {n} w f word popped at_none other =
       elim (eqb_tells (slice_index ws (m.height - 1)) 0) [
         | inl e ↦ at_zero f e.1 (at_none (word ∙ e.1) ∙ ap (at_place to) popped)
@@ -68,7 +85,8 @@ module _ {program : Program} (inputs : Inputs) {m : Machine} {ws outs : List ℕ
       let there : Some (m.place + 1 + matched.0) ≡ Some n.place = sym (ap (onward (m.place + 1)) matched.1) ∙ passes.past in
       let place : m.place + 1 + matched.0 ≡ n.place = cc in
       let inside : enclosing program.code n.place ≡ enclosing program.code m.place = ap (enclosing program.code) (sym place) ∙ past.outside in
-      rw passes.words (stepped_to inputs f n ws outs (m.place + 1 + matched.0) (stack_of m.height ws) (loops_of (enclosing program.code m.place) ws) (locals_of ws) outs (ap (skipped (state_of program.code m ws outs)) matched.1)
+      rw passes.words (stepped_to inputs f n ws outs (m.place + 1 + matched.0) (stack_of m.height ws)
+      (loops_of (enclosing program.code m.place) ws) (locals_of ws) outs (ap (skipped (state_of program.code m ws outs)) matched.1)
       (passes.depth ∙ (f.stands.depth ∙ ap (length {A = ℕ}) (sym inside))) place (ap (λ h. stack_of h ws) (sym passes.height)) (ap (λ e. loops_of e ws) (sym inside)) refl refl)
 
   -- a loop begun
@@ -80,44 +98,74 @@ module _ {program : Program} (inputs : Inputs) {m : Machine} {ws outs : List ℕ
       let low = heights f in
       let words : vs ≡ slice_set ws (lefts_start + length (enclosing program.code m.place)) (suc k) = e.words ∙ ap (λ d. slice_set ws (lefts_start + d) (suc k)) f.stands.depth in
       let at_left = lefts_start + length (enclosing program.code m.place) in
-      rw (e.one_more, words) (stepped_to inputs f (machine (m.place + 1) m.height (m.depth + 1)) (slice_set ws at_left (suc k)) outs (m.place + 1) (stack_of m.height ws) (record { start = m.place + 1; left = suc k } ∷ loops_of (enclosing program.code m.place) ws) (locals_of ws) outs refl
+      rw (e.one_more, words)
+      (stepped_to inputs f (machine (m.place + 1) m.height (m.depth + 1)) (slice_set ws at_left (suc k)) outs (m.place + 1)
+      (stack_of m.height ws) (record { start = m.place + 1; left = suc k } ∷ loops_of (enclosing program.code m.place) ws)
+      (locals_of ws) outs refl
       (omega (arith, f.stands.depth, ap (length {A = ℕ}) inside)) refl (sym (stack_of-set m.height ws at_left (suc k) (omega (arith, low.1))))
-      (sym (ap (λ l. loops_of l (slice_set ws at_left (suc k))) inside ∙ loops_of-push (m.place + 1) (suc k) (enclosing program.code m.place) ws (omega (arith, few)))) (sym (locals_of-above ws at_left (suc k) (omega arith))) refl)
+      (sym (ap (λ l. loops_of l (slice_set ws at_left (suc k))) inside
+      ∙ loops_of-push (m.place + 1) (suc k) (enclosing program.code m.place) ws (omega (arith, few))))
+      (sym (locals_of-above ws at_left (suc k) (omega arith))) refl)
 
   -- a Begin
-  pub begins : (k : ℕ) {n : Machine} {vs : List ℕ} → Fetched program m ws outs (Begin k) → (k ≡ 0 → Passes program.code (machine (m.place + 1) m.height m.depth) n ws vs) → (0 < k → Enters k (machine (m.place + 1) m.height m.depth) n ws vs) → Steps program inputs m ws outs n vs outs
+  pub begins : (k : ℕ) {n : Machine} {vs : List ℕ} → Fetched program m ws outs (Begin k)
+      → (k ≡ 0 → Passes program.code (machine (m.place + 1) m.height m.depth) n ws vs)
+      → (0 < k → Enters k (machine (m.place + 1) m.height m.depth) n ws vs) → Steps program inputs m ws outs n vs outs
   begins zero {n} {vs} f none some = skips n vs f (none refl)
   begins (suc k) {n} {vs} f none some = enters k n vs f (some (omega arith))
 
   -- out of a loop
-  leaves : (left start : ℕ) (outer : List ℕ) (n : Machine) (vs : List ℕ) → Fetched program m ws outs End → enclosing program.code m.place ≡ start ∷ outer → n ≡ machine (m.place + 1) m.height (m.depth - 1) → vs ≡ ws → effect End program.code inputs (state_of program.code m ws outs) ≡ Some (state (m.place + 1) (stack_of m.height ws) (loops_of outer ws) (locals_of ws) outs) → Steps program inputs m ws outs n vs outs
+  leaves : (left start : ℕ) (outer : List ℕ) (n : Machine) (vs : List ℕ) → Fetched program m ws outs End
+      → enclosing program.code m.place ≡ start ∷ outer → n ≡ machine (m.place + 1) m.height (m.depth - 1) → vs ≡ ws
+      → effect End program.code inputs (state_of program.code m ws outs)
+      ≡ Some (state (m.place + 1) (stack_of m.height ws) (loops_of outer ws) (locals_of ws) outs) → Steps program inputs m ws outs n vs outs
   leaves left start outer n vs f is machine_is words does =
       let inside : enclosing program.code (m.place + 1) ≡ outer = nested_here program.code (braced program f.sound) m.place End f.at ∙ ap (drop 1) is in
       rw (machine_is, words) (stepped_to inputs f (machine (m.place + 1) m.height (m.depth - 1)) ws outs (m.place + 1) (stack_of m.height ws) (loops_of outer ws) (locals_of ws) outs does
       (omega (arith, f.stands.depth, ap (length {A = ℕ}) is, ap (length {A = ℕ}) inside)) refl refl (ap (λ e. loops_of e ws) (sym inside)) refl refl)
 
   -- back to the start of a loop
-  goes_back : (k start : ℕ) (outer : List ℕ) (n : Machine) (vs : List ℕ) → Fetched program m ws outs End → enclosing program.code m.place ≡ start ∷ outer → n ≡ machine start m.height m.depth → vs ≡ slice_set ws (lefts_start + length outer) (suc k) → effect End program.code inputs (state_of program.code m ws outs) ≡ Some (state start (stack_of m.height ws) (record { start = start; left = suc k } ∷ loops_of outer ws) (locals_of ws) outs) → Steps program inputs m ws outs n vs outs
+  goes_back : (k start : ℕ) (outer : List ℕ) (n : Machine) (vs : List ℕ) → Fetched program m ws outs End
+      → enclosing program.code m.place ≡ start ∷ outer → n ≡ machine start m.height m.depth
+      → vs ≡ slice_set ws (lefts_start + length outer) (suc k) → effect End program.code inputs (state_of program.code m ws outs)
+      ≡ Some (state start (stack_of m.height ws) (record { start = start; left = suc k } ∷ loops_of outer ws) (locals_of ws) outs)
+      → Steps program inputs m ws outs n vs outs
   goes_back k start outer n vs f is machine_is words does =
       let inside : enclosing program.code start ≡ start ∷ outer = (opened_before program.code m.place start outer [] is).inside in
       let wide = f.wide in
       let few = enclosing_few program f.sound m.place f.stands.agrees.within in
       let low = heights f in
       let at_left = lefts_start + length outer in
-      rw (machine_is, words) (stepped_to inputs f (machine start m.height m.depth) (slice_set ws at_left (suc k)) outs start (stack_of m.height ws) (record { start = start; left = suc k } ∷ loops_of outer ws) (locals_of ws) outs does
+      rw (machine_is, words)
+      (stepped_to inputs f (machine start m.height m.depth) (slice_set ws at_left (suc k)) outs start (stack_of m.height ws)
+      (record { start = start; left = suc k } ∷ loops_of outer ws) (locals_of ws) outs does
       (f.stands.depth ∙ (ap (length {A = ℕ}) is ∙ sym (ap (length {A = ℕ}) inside))) refl (sym (stack_of-set m.height ws at_left (suc k) (omega (arith, low.1))))
-      (sym (ap (λ l. loops_of l (slice_set ws at_left (suc k))) inside ∙ loops_of-push start (suc k) outer ws (omega (arith, few, ap (length {A = ℕ}) is)))) (sym (locals_of-above ws at_left (suc k) (omega arith))) refl)
+      (sym (ap (λ l. loops_of l (slice_set ws at_left (suc k))) inside
+      ∙ loops_of-push start (suc k) outer ws (omega (arith, few, ap (length {A = ℕ}) is))))
+      (sym (locals_of-above ws at_left (suc k) (omega arith))) refl)
 
-  round : (left start : ℕ) (outer : List ℕ) (n : Machine) (vs : List ℕ) → Fetched program m ws outs End → enclosing program.code m.place ≡ start ∷ outer → slice_index ws (lefts_start + length outer) ≡ left → EndsRound left start (machine (m.place + 1) m.height m.depth) n ws vs → Steps program inputs m ws outs n vs outs
+  round : (left start : ℕ) (outer : List ℕ) (n : Machine) (vs : List ℕ) → Fetched program m ws outs End
+      → enclosing program.code m.place ≡ start ∷ outer → slice_index ws (lefts_start + length outer) ≡ left
+      → EndsRound left start (machine (m.place + 1) m.height m.depth) n ws vs → Steps program inputs m ws outs n vs outs
   round zero start outer n vs f is left ends =
-      leaves 0 start outer n vs f is ends.0 ends.1 (ap (λ e. ended (state_of program.code m ws outs) (loops_of e ws)) is ∙ ap (λ k. round_ended (state_of program.code m ws outs) (record { start = start; left = slice_index ws (lefts_start + length outer) }) k (loops_of outer ws)) left)
+      leaves 0 start outer n vs f is ends.0 ends.1 (ap (λ e. ended (state_of program.code m ws outs) (loops_of e ws)) is
+      ∙ ap (λ k. round_ended (state_of program.code m ws outs)
+      (record { start = start; left = slice_index ws (lefts_start + length outer) }) k (loops_of outer ws)) left)
   round (suc zero) start outer n vs f is left ends =
-      leaves 1 start outer n vs f is ends.0 ends.1 (ap (λ e. ended (state_of program.code m ws outs) (loops_of e ws)) is ∙ ap (λ k. round_ended (state_of program.code m ws outs) (record { start = start; left = slice_index ws (lefts_start + length outer) }) k (loops_of outer ws)) left)
+      leaves 1 start outer n vs f is ends.0 ends.1 (ap (λ e. ended (state_of program.code m ws outs) (loops_of e ws)) is
+      ∙ ap (λ k. round_ended (state_of program.code m ws outs)
+      (record { start = start; left = slice_index ws (lefts_start + length outer) }) k (loops_of outer ws)) left)
   round (suc (suc k)) start outer n vs f is left ends =
       let where_left : lefts_start + m.depth - 1 ≡ lefts_start + length outer = omega (arith, f.stands.depth, ap (length {A = ℕ}) is) in
-      goes_back k start outer n vs f is ends.0 (ends.1 ∙ ap (λ q. slice_set ws q (suc k)) where_left) (ap (λ e. ended (state_of program.code m ws outs) (loops_of e ws)) is ∙ ap (λ q. round_ended (state_of program.code m ws outs) (record { start = start; left = slice_index ws (lefts_start + length outer) }) q (loops_of outer ws)) left)
+      goes_back k start outer n vs f is ends.0 (ends.1 ∙ ap (λ q. slice_set ws q (suc k)) where_left)
+      (ap (λ e. ended (state_of program.code m ws outs) (loops_of e ws)) is
+      ∙ ap (λ q. round_ended (state_of program.code m ws outs)
+      (record { start = start; left = slice_index ws (lefts_start + length outer) }) q (loops_of outer ws)) left)
 
-  ends_by : (start : ℕ) (loops : List ℕ) (n : Machine) (vs : List ℕ) → Fetched program m ws outs End → enclosing program.code m.place ≡ loops → innermost loops ≡ Some start → EndsRound (slice_index ws (lefts_start + m.depth - 1)) start (machine (m.place + 1) m.height m.depth) n ws vs → Steps program inputs m ws outs n vs outs
+  ends_by : (start : ℕ) (loops : List ℕ) (n : Machine) (vs : List ℕ) → Fetched program m ws outs End
+      → enclosing program.code m.place ≡ loops → innermost loops ≡ Some start
+      → EndsRound (slice_index ws (lefts_start + m.depth - 1)) start (machine (m.place + 1) m.height m.depth) n ws vs
+      → Steps program inputs m ws outs n vs outs
   ends_by start [] n vs f is first ends = cc
   ends_by start (s ∷ outer) n vs f is first ends =
       let same : s ≡ start = cc in
@@ -133,5 +181,7 @@ module _ {program : Program} (inputs : Inputs) {m : Machine} {ws outs : List ℕ
       by (s ∷ outer) is first = cc
 
   -- an End
-  pub ends : {start : ℕ} {n : Machine} {vs : List ℕ} → Fetched program m ws outs End → start_at program.code m.place ≡ Some start → EndsRound (slice_index ws (lefts_start + m.depth - 1)) start (machine (m.place + 1) m.height m.depth) n ws vs → Steps program inputs m ws outs n vs outs
+  pub ends : {start : ℕ} {n : Machine} {vs : List ℕ} → Fetched program m ws outs End → start_at program.code m.place ≡ Some start
+      → EndsRound (slice_index ws (lefts_start + m.depth - 1)) start (machine (m.place + 1) m.height m.depth) n ws vs
+      → Steps program inputs m ws outs n vs outs
   ends {start} {n} {vs} f first ended_so = ends_by start (enclosing program.code m.place) n vs f refl first ended_so

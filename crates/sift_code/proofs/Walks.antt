@@ -26,7 +26,8 @@ sums_one h = record {
   latest = λ x all. All-head (λ y. y ≡ x) h [] all;
 }
 
-sums_more : (h : ℕ) (hs : List ℕ) (b : Brought) → Sums hs b → ((b.height == h) ≡ true) × (b.height ≡ h) ⊎ (((b.height == h) ≡ false) × (b.height ≢ h)) → Sums (h ∷ hs) (record { height = h; same = b.same && (b.height == h) })
+sums_more : (h : ℕ) (hs : List ℕ) (b : Brought) → Sums hs b → ((b.height == h) ≡ true) × (b.height ≡ h)
+    ⊎ (((b.height == h) ≡ false) × (b.height ≢ h)) → Sums (h ∷ hs) (record { height = h; same = b.same && (b.height == h) })
 sums_more h hs b s (inl e) = record {
   alike = λ same. All-cons (λ x. x ≡ h) h hs refl (subst (λ (y : ℕ). All (λ x. x ≡ y) hs) e.1 (s.alike (grind (arith, e.0))));
   unlike = λ same x all. s.unlike (grind (arith, e.0)) x (All-tail (λ y. y ≡ x) h hs all);

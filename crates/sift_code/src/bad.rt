@@ -1,3 +1,5 @@
+//! Why code is refused.
+
 use sift_base::NoMemory;
 
 /// Why code is refused, and at which place: the first that offends.

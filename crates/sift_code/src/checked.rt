@@ -1,3 +1,5 @@
+//! Checked code, and the verifier that makes it.
+
 ghost use Rattle.std.specs.Prelude.{◌≡◌, ◌≢◌, ◌<◌, ◌≤◌, ◌^◌, length, IfOk, IfErr, IsOk};
 ghost use Rattle.sift_code.specs.Refusal.{IsSound, IsFirst, within, program_of};
 ghost use Rattle.sift_code.specs.Heights.{stack_through};
@@ -136,6 +138,3 @@ fn bound(nest: &Nest, limits: &Limits) -> u32
     }
     bound
 }
-
-#[cfg(test)]
-mod tests;

@@ -1,3 +1,5 @@
+//! The instructions of the stack machine.
+
 ghost use Rattle.std.specs.Prelude.{◌≡◌};
 ghost use Rattle.sift_code.specs.Heights.{pops as popped, pushes as pushed};
 

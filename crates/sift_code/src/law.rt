@@ -1,3 +1,5 @@
+//! The law that checked code comes to its end.
+
 ghost use Rattle.sift_code.specs.Refusal.{Program, IsSound};
 ghost use Rattle.sift_code.specs.Ends.{Ends};
 

@@ -1,3 +1,5 @@
+//! What code may name.
+
 use std::marker::Model;
 
 /// How many words a run may sense, how many were voted, and how many it may put out.

@@ -1,3 +1,5 @@
+//! Code with its loops: where each Begin has its End.
+
 ghost use Rattle.std.specs.Prelude.{◌↔◌, Some, IsTrue, IsSome, IfSome, ◌≡◌, ◌+◌, ◌<◌, ◌≤◌, ◌^◌, length, slice_get, IfOk};
 ghost use Rattle.sift_code.specs.Enclosing.{enclosing};
 ghost use Rattle.sift_code.specs.Nest.{AreStarts, ArePasts, start_at, past_at};

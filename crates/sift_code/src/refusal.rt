@@ -1,3 +1,5 @@
+//! The test of one place of code, reason by reason.
+
 ghost use Rattle.std.specs.Prelude.{Some, ◌≡◌, ◌+◌, ◌<◌, ◌≤◌, ◌^◌, ◌↔◌, length, slice_get, IfErr, IsOk, IsTrue};
 ghost use Rattle.sift_code.specs.Refusal.{within, stack_limit, Refuses, place_of, IsFree};
 ghost use Rattle.sift_code.specs.Refusal.{IsBadTarget, IsBadJump, IsUnequal, IsUnequalEnd, IsUnderflow, IsTooDeep, IsCrowdedAt, IsBadOperandAt};

@@ -1,3 +1,5 @@
+//! The walk over code that follows the height of the stack.
+
 ghost use Rattle.std.specs.Prelude.{◌≡◌, ◌+◌, ◌<◌, ◌^◌, length, slice_get, slice_set, slice_index_or, IfOk, Some, None};
 ghost use Rattle.sift_code.specs.Refusal.{IsBadJump, IsUnderflow, IsTooDeep};
 ghost use Rattle.sift_code.specs.Walk.{IsAt, behind, joined};

@@ -1,3 +1,5 @@
+//! How a run lays out its work span: locals, stack and loops.
+
 ghost use Rattle.std.specs.Prelude.{◌≡◌, ◌≤◌, ◌<◌, ◌+◌, replicate, slice_index, slice_set};
 ghost use Rattle.sift_pool.specs.Region.{IsLive, KeepsLive, words_at};
 ghost use Rattle.sift_code.specs.Changes.{ChangesOnly};

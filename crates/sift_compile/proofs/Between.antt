@@ -39,7 +39,8 @@ limits_of b = record { sensors = b.sensors; words = b.words; outputs = b.outputs
 below : (k n : ℕ) → k < n → nat_lt k n ≡ true
 below k n h = grind (arith, nat_tests)
 
-pub stored_there : (l : ℕ) (s : Machine.State) (w : ℕ) (stack : List ℕ) → l < length s.locals → stored l s (w ∷ stack) ≡ Some (record s { place = s.place + 1; stack = stack; locals = slice_set s.locals l w })
+pub stored_there : (l : ℕ) (s : Machine.State) (w : ℕ) (stack : List ℕ) → l < length s.locals
+    → stored l s (w ∷ stack) ≡ Some (record s { place = s.place + 1; stack = stack; locals = slice_set s.locals l w })
 stored_there l s w stack within =
     ap (λ (b : Bool). if b then Some (let t : Machine.State = record s { place = s.place + 1; stack = stack; locals = slice_set s.locals l w } in t) else None) (below l (length s.locals) within)
 
@@ -73,7 +74,10 @@ module _ (code : List Instr) (inputs : Inputs) where
       record { locals = run.locals; begins = begin-take (length t.locals) run.locals (body t).locals run.begins; long = run.long; comes = run.comes }
 
   -- a word, and an instruction that takes it
-  pub use_run : (p : ℕ) (loops : List Loop) (locals outs new_locals new_outs : List ℕ) (ct : List Instr) (i : Instr) (v : ℕ) → Stands code p (ct ++ i ∷ []) → Comes code inputs (at p loops locals outs) (pushing (at p loops locals outs) ct v) → effect i code inputs (pushing (at p loops locals outs) ct v) ≡ Some (at (p + length ct + 1) loops new_locals new_outs) → Comes code inputs (at p loops locals outs) (at (p + length (ct ++ i ∷ [])) loops new_locals new_outs)
+  pub use_run : (p : ℕ) (loops : List Loop) (locals outs new_locals new_outs : List ℕ) (ct : List Instr) (i : Instr) (v : ℕ)
+      → Stands code p (ct ++ i ∷ []) → Comes code inputs (at p loops locals outs) (pushing (at p loops locals outs) ct v)
+      → effect i code inputs (pushing (at p loops locals outs) ct v) ≡ Some (at (p + length ct + 1) loops new_locals new_outs)
+      → Comes code inputs (at p loops locals outs) (at (p + length (ct ++ i ∷ [])) loops new_locals new_outs)
   use_run p loops locals outs new_locals new_outs ct i v stands c does =
       let s = at p loops locals outs in
       let t = at (p + length ct + 1) loops new_locals new_outs in

@@ -46,7 +46,9 @@ module _ (code : List Instr) (inputs : Inputs) where
       over_now false e f = cc
   same_end (suc m) (suc n) s a b is are = both (λ t e f. same_end m n t a b e f) (s.place == length code) (step code inputs s) is are
     where
-      both : ((t : State) → exec code inputs m t ≡ Done a → exec code inputs n t ≡ Done b → a ≡ b) → (t : Bool) (o : Option State) → (if t then Done s.outs else after (exec code inputs m) o) ≡ Done a → (if t then Done s.outs else after (exec code inputs n) o) ≡ Done b → a ≡ b
+      both : ((t : State) → exec code inputs m t ≡ Done a → exec code inputs n t ≡ Done b → a ≡ b) → (t : Bool) (o : Option State)
+          → (if t then Done s.outs else after (exec code inputs m) o) ≡ Done a
+          → (if t then Done s.outs else after (exec code inputs n) o) ≡ Done b → a ≡ b
       both ih true o e f = cc
       both ih false None e f = cc
       both ih false (Some t) e f = ih t e f

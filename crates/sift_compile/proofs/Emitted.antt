@@ -32,7 +32,9 @@ test_behind : (old code : List Instr) (t : Term) (to : ℕ) → code ≡ old ++ 
 test_behind old code t to is = omega (arith, test_long old code t to is, length-term_code t)
 
 -- an `if` without an `else`
-pub choose_emitted : (old c1 c2 : List Instr) (t : Term) (first : Block) (locals passed : ℕ) → c1 ≡ old ++ (term_code t ++ JumpZ (behind (length old) (term_code t) + passed) ∷ []) → passed ≡ block_length first → c2 ≡ c1 ++ block_code (length c1) locals first → c2 ≡ old ++ statement_code (length old) locals (choose t first)
+pub choose_emitted : (old c1 c2 : List Instr) (t : Term) (first : Block) (locals passed : ℕ)
+    → c1 ≡ old ++ (term_code t ++ JumpZ (behind (length old) (term_code t) + passed) ∷ []) → passed ≡ block_length first
+    → c2 ≡ c1 ++ block_code (length c1) locals first → c2 ≡ old ++ statement_code (length old) locals (choose t first)
 choose_emitted old c1 c2 t first locals passed e1 is e2 =
     let ct = term_code t in
     let p = behind (length old) ct in
@@ -44,7 +46,10 @@ choose_emitted old c1 c2 t first locals passed e1 is e2 =
     all ∙ (flat ∙ ap (λ n. old ++ (ct ++ JumpZ n ∷ cf)) there)
 
 -- an `if` with an `else`
-pub choose_else_emitted : (old c1 c2 c3 c4 : List Instr) (t : Term) (first second : Block) (locals passed past : ℕ) → c1 ≡ old ++ (term_code t ++ JumpZ (behind (length old) (term_code t) + passed) ∷ []) → passed ≡ block_length first + 1 → c2 ≡ c1 ++ block_code (length c1) locals first → c3 ≡ c2 ++ Jump (length c2 + 1 + past) ∷ [] → past ≡ block_length second → c4 ≡ c3 ++ block_code (length c3) locals second → c4 ≡ old ++ statement_code (length old) locals (choose_else t first second)
+pub choose_else_emitted : (old c1 c2 c3 c4 : List Instr) (t : Term) (first second : Block) (locals passed past : ℕ)
+    → c1 ≡ old ++ (term_code t ++ JumpZ (behind (length old) (term_code t) + passed) ∷ []) → passed ≡ block_length first + 1
+    → c2 ≡ c1 ++ block_code (length c1) locals first → c3 ≡ c2 ++ Jump (length c2 + 1 + past) ∷ [] → past ≡ block_length second
+    → c4 ≡ c3 ++ block_code (length c3) locals second → c4 ≡ old ++ statement_code (length old) locals (choose_else t first second)
 choose_else_emitted old c1 c2 c3 c4 t first second locals passed past e1 is e2 e3 are e4 =
     let ct = term_code t in
     let p = behind (length old) ct in
@@ -58,12 +63,15 @@ choose_else_emitted old c1 c2 c3 c4 t first second locals passed past e1 is e2 e
     let e4' : c4 ≡ c3 ++ cs = e4 ∙ ap (λ n. c3 ++ block_code n locals second) l3 in
     let there : p + passed ≡ q = omega (arith, is, length-block_code p locals first) in
     let end : length c2 + 1 + past ≡ q + length cs = omega (arith, are, l2, length-block_code q locals second) in
-    let all : c4 ≡ (((old ++ (ct ++ JumpZ (p + passed) ∷ [])) ++ cf) ++ Jump (length c2 + 1 + past) ∷ []) ++ cs = e4' ∙ ap (λ l. l ++ cs) (e3 ∙ ap (λ l. l ++ Jump (length c2 + 1 + past) ∷ []) (e2' ∙ ap (λ l. l ++ cf) e1)) in
-    let flat : (((old ++ (ct ++ JumpZ (p + passed) ∷ [])) ++ cf) ++ Jump (length c2 + 1 + past) ∷ []) ++ cs ≡ old ++ (ct ++ JumpZ (p + passed) ∷ (cf ++ Jump (length c2 + 1 + past) ∷ cs)) = simp append_assoc in
+    let all : c4 ≡ (((old ++ (ct ++ JumpZ (p + passed) ∷ [])) ++ cf) ++ Jump (length c2 + 1 + past) ∷ []) ++ cs = e4'
+    ∙ ap (λ l. l ++ cs) (e3 ∙ ap (λ l. l ++ Jump (length c2 + 1 + past) ∷ []) (e2' ∙ ap (λ l. l ++ cf) e1)) in
+    let flat : (((old ++ (ct ++ JumpZ (p + passed) ∷ [])) ++ cf) ++ Jump (length c2 + 1 + past) ∷ []) ++ cs
+    ≡ old ++ (ct ++ JumpZ (p + passed) ∷ (cf ++ Jump (length c2 + 1 + past) ∷ cs)) = simp append_assoc in
     all ∙ (flat ∙ (ap (λ n. old ++ (ct ++ JumpZ n ∷ (cf ++ Jump (length c2 + 1 + past) ∷ cs))) there ∙ ap (λ n. old ++ (ct ++ JumpZ q ∷ (cf ++ Jump n ∷ cs))) end))
 
 -- a `repeat`
-pub repeat_emitted : (old c1 c2 c3 : List Instr) (k : ℕ) (body : Block) (locals : ℕ) → c1 ≡ old ++ Begin k ∷ [] → c2 ≡ c1 ++ block_code (length c1) locals body → c3 ≡ c2 ++ End ∷ [] → c3 ≡ old ++ statement_code (length old) locals (repeat k body)
+pub repeat_emitted : (old c1 c2 c3 : List Instr) (k : ℕ) (body : Block) (locals : ℕ) → c1 ≡ old ++ Begin k ∷ []
+    → c2 ≡ c1 ++ block_code (length c1) locals body → c3 ≡ c2 ++ End ∷ [] → c3 ≡ old ++ statement_code (length old) locals (repeat k body)
 repeat_emitted old c1 c2 c3 k body locals e1 e2 e3 =
     let cb = block_code (length old + 1) locals body in
     let e2' : c2 ≡ c1 ++ cb = e2 ∙ ap (λ n. c1 ++ block_code n locals body) (instr_long old c1 (Begin k) e1) in
@@ -72,9 +80,19 @@ repeat_emitted old c1 c2 c3 k body locals e1 e2 e3 =
     all ∙ flat
 
 -- where the rest of a block begins with a statement there is room for it, and it is sound
-pub rest_room : (old code : List Instr) (at now locals live : ℕ) (whole rest : Block) (statement : Statement) (limit : ℕ) → code ++ block_code now live (step statement rest) ≡ old ++ block_code at locals whole → length old + block_length whole ≤ limit → length code + statement_length statement ≤ limit
+pub rest_room : (old code : List Instr) (at now locals live : ℕ) (whole rest : Block) (statement : Statement) (limit : ℕ)
+    → code ++ block_code now live (step statement rest) ≡ old ++ block_code at locals whole → length old + block_length whole ≤ limit
+    → length code + statement_length statement ≤ limit
 rest_room old code at now locals live whole rest statement limit is room =
-    omega (arith, room, ap (length {A = Instr}) is, length-append code (block_code now live (step statement rest)), length-append old (block_code at locals whole), length-block_code at locals whole, length-block_code now live (step statement rest))
+    omega (
+      arith,
+      room,
+      ap (length {A = Instr}) is,
+      length-append code (block_code now live (step statement rest)),
+      length-append old (block_code at locals whole),
+      length-block_code at locals whole,
+      length-block_code now live (step statement rest),
+    )
 
 pub rest_sound : (live : ℕ) (statement : Statement) (rest : Block) → AreSoundFor live (step statement rest) → IsSoundFor live statement
 rest_sound live statement rest sound = (sound.0, sound.1.0)

@@ -66,7 +66,9 @@ free_both program p q r a b x from before = by (cases_lt x q)
 
 module _ (program : Program) (p : ℕ) (i : Instr) (height : ℕ) (brought : List Arrival) (at : slice_get program.code p ≡ Some i) (here : trail_at program.code p ≡ trail height brought) where
   -- what is known of an instruction's place, one test after the other
-  pub free_at : (IsBadJumpAt program.code p (Some i) → ⊥) → All (λ x. x ≡ height) (brought_to p brought) → (IsUnequalEnd program.code p (Some i) → ⊥) → pops i ≤ height → height_after i height ≤ stack_limit → (IsCrowdedAt (length (enclosing program.code p)) (Some i) → ⊥) → (IsBadOperandAt program.limits (Some i) → ⊥) → IsFree program p
+  pub free_at : (IsBadJumpAt program.code p (Some i) → ⊥) → All (λ x. x ≡ height) (brought_to p brought)
+      → (IsUnequalEnd program.code p (Some i) → ⊥) → pops i ≤ height → height_after i height ≤ stack_limit
+      → (IsCrowdedAt (length (enclosing program.code p)) (Some i) → ⊥) → (IsBadOperandAt program.limits (Some i) → ⊥) → IsFree program p
   free_at good_jump meets equal_end filled shallow room named = record {
     jumps = λ bad. good_jump (subst (IsBadJumpAt program.code p) at bad);
     equal = λ bad. unequal bad;

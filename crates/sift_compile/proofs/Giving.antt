@@ -19,7 +19,9 @@ use Rattle.sift_compile.proofs.Between.{at, Holds}
 use Rattle.sift_compile.proofs.Statements.{block_runs}
 
 -- the program's run that comes to the end has put out what the task means
-gives_meaning : (sensors words : ℕ) (task : TaskTree) → IsSound sensors words task → (inputs : Inputs) → Fits inputs (task_program sensors words task).limits → (outs : List ℕ) → RunsTo (task_program sensors words task) inputs outs → outs ≡ meaning_of task inputs
+gives_meaning : (sensors words : ℕ) (task : TaskTree) → IsSound sensors words task → (inputs : Inputs)
+    → Fits inputs (task_program sensors words task).limits → (outs : List ℕ) → RunsTo (task_program sensors words task) inputs outs
+    → outs ≡ meaning_of task inputs
 gives_meaning sensors words task sound inputs fits outs runs =
     let code = task_code task in
     let b : Bounds = record { sensors = sensors; words = words; outputs = task.outputs } in

@@ -27,13 +27,17 @@ module _ (program : Program) where
   -- nothing offends in this code at this place, whatever was brought to places outside it
   abbrev pub AllPass : ℕ → List Instr → Type 0
   AllPass p piece =
-      (to : ℕ) (brought : List Arrival) → Stands program.code p piece → p + length piece ≤ length program.code → trail_at program.code p ≡ trail 0 brought → IsClear p to brought → p + length piece ≤ to → Passes program p (p + length piece) brought
+      (to : ℕ) (brought : List Arrival) → Stands program.code p piece → p + length piece ≤ length program.code
+      → trail_at program.code p ≡ trail 0 brought → IsClear p to brought → p + length piece ≤ to
+      → Passes program p (p + length piece) brought
 
   pub passes_to : (p q r : ℕ) (brought : List Arrival) → q ≡ r → Passes program p q brought → Passes program p r brought
   passes_to p q r brought e passes = subst (λ x. Passes program p x brought) e passes
 
   -- a term, where the stack is empty and something follows
-  pub test_pushes : (x : Term) → AllPush program x → (p to : ℕ) (brought : List Arrival) → Stands program.code p (term_code x) → trail_at program.code p ≡ trail 0 brought → IsClear p to brought → p + length (term_code x) < to → need x ≤ stack_limit → Pushes program p (p + length (term_code x)) 0 brought
+  pub test_pushes : (x : Term) → AllPush program x → (p to : ℕ) (brought : List Arrival) → Stands program.code p (term_code x)
+      → trail_at program.code p ≡ trail 0 brought → IsClear p to brought → p + length (term_code x) < to → need x ≤ stack_limit
+      → Pushes program p (p + length (term_code x)) 0 brought
   test_pushes x all p to brought stands here clear before low =
       all p 0 brought stands here (clear_meets p to p brought clear) (λ y from until. clear_quiet p to y brought clear from (omega (arith, until, before))) (omega (arith, low))
 
@@ -45,18 +49,25 @@ module _ (program : Program) where
   bad_target p to ahead inside same (inr (inl past)) = omega (arith, past, inside)
   bad_target p to ahead inside same (inr (inr others)) = others same
 
-  pub jumpz_free : (p to : ℕ) (brought : List Arrival) → slice_get program.code p ≡ Some (JumpZ to) → trail_at program.code p ≡ trail 1 brought → Meets p 1 brought → p < to → to ≤ length program.code → enclosing program.code to ≡ enclosing program.code p → IsFree program p
+  pub jumpz_free : (p to : ℕ) (brought : List Arrival) → slice_get program.code p ≡ Some (JumpZ to)
+      → trail_at program.code p ≡ trail 1 brought → Meets p 1 brought → p < to → to ≤ length program.code
+      → enclosing program.code to ≡ enclosing program.code p → IsFree program p
   jumpz_free p to brought at here meets ahead inside same =
       free_at program p (JumpZ to) 1 brought at here (bad_target p to ahead inside same) meets (λ bad. bad) (omega arith) (omega arith) (λ bad. bad) (λ bad. bad)
 
-  pub jumpz_trail : (p to : ℕ) (brought : List Arrival) → slice_get program.code p ≡ Some (JumpZ to) → trail_at program.code p ≡ trail 1 brought → trail_at program.code (p + 1) ≡ trail 0 (empty_at to ∷ brought)
+  pub jumpz_trail : (p to : ℕ) (brought : List Arrival) → slice_get program.code p ≡ Some (JumpZ to)
+      → trail_at program.code p ≡ trail 1 brought → trail_at program.code (p + 1) ≡ trail 0 (empty_at to ∷ brought)
   jumpz_trail p to brought at here = trail_here program.code p (JumpZ to) at ∙ ap (followed (Some (JumpZ to)) (p + 1)) here
 
-  pub jump_free : (p to from until : ℕ) (brought : List Arrival) → slice_get program.code p ≡ Some (Jump to) → trail_at program.code p ≡ trail 0 brought → IsClear from until brought → p < to → to ≤ length program.code → enclosing program.code to ≡ enclosing program.code p → IsFree program p
+  pub jump_free : (p to from until : ℕ) (brought : List Arrival) → slice_get program.code p ≡ Some (Jump to)
+      → trail_at program.code p ≡ trail 0 brought → IsClear from until brought → p < to → to ≤ length program.code
+      → enclosing program.code to ≡ enclosing program.code p → IsFree program p
   jump_free p to from until brought at here clear ahead inside same =
       free_at program p (Jump to) 0 brought at here (bad_target p to ahead inside same) (clear_meets from until p brought clear) (λ bad. bad) (omega arith) (omega arith) (λ bad. bad) (λ bad. bad)
 
-  pub jump_trail : (p to from until : ℕ) (brought : List Arrival) → slice_get program.code p ≡ Some (Jump to) → trail_at program.code p ≡ trail 0 brought → IsClear from until brought → trail_at program.code (p + 1) ≡ trail 0 (empty_at to ∷ brought)
+  pub jump_trail : (p to from until : ℕ) (brought : List Arrival) → slice_get program.code p ≡ Some (Jump to)
+      → trail_at program.code p ≡ trail 0 brought → IsClear from until brought
+      → trail_at program.code (p + 1) ≡ trail 0 (empty_at to ∷ brought)
   jump_trail p to from until brought at here clear =
       trail_here program.code p (Jump to) at
       ∙ ap (followed (Some (Jump to)) (p + 1)) here

@@ -17,7 +17,15 @@ length-term_code (minus t) = omega (arith, length-term_code t, length-append (te
 length-term_code (binary o t u) =
     omega (arith, length-term_code t, length-term_code u, length-append (term_code t) (term_code u ++ operator_code o ∷ []), length-append (term_code u) (operator_code o ∷ []))
 length-term_code (middle t u v) =
-    omega (arith, length-term_code t, length-term_code u, length-term_code v, length-append (term_code t) (term_code u ++ (term_code v ++ instr.Mid ∷ [])), length-append (term_code u) (term_code v ++ instr.Mid ∷ []), length-append (term_code v) (instr.Mid ∷ []))
+    omega (
+      arith,
+      length-term_code t,
+      length-term_code u,
+      length-term_code v,
+      length-append (term_code t) (term_code u ++ (term_code v ++ instr.Mid ∷ [])),
+      length-append (term_code u) (term_code v ++ instr.Mid ∷ []),
+      length-append (term_code v) (instr.Mid ∷ []),
+    )
 
 length-use : (t : Term) (i : Instr) → length (term_code t ++ i ∷ []) ≡ term_length t + 1
 length-use t i = omega (arith, length-term_code t, length-append (term_code t) (i ∷ []))
@@ -29,7 +37,12 @@ length-choose at t first =
 pub length-choose_else : (at : ℕ) (t : Term) (first second : List Instr) → length (choose_else_code at (term_code t) first second) ≡ term_length t + length first + length second + 2
 length-choose_else at t first second =
     let other = behind (behind at (term_code t)) first in
-    omega (arith, length-term_code t, length-append (term_code t) (instr.JumpZ other ∷ (first ++ instr.Jump (other + length second) ∷ second)), length-append first (instr.Jump (other + length second) ∷ second))
+    omega (
+      arith,
+      length-term_code t,
+      length-append (term_code t) (instr.JumpZ other ∷ (first ++ instr.Jump (other + length second) ∷ second)),
+      length-append first (instr.Jump (other + length second) ∷ second),
+    )
 
 mutual
   pub length-statement_code : (at locals : ℕ) (statement : Statement) → length (statement_code at locals statement) ≡ statement_length statement
@@ -49,4 +62,9 @@ mutual
   length-block_code at locals end = refl
   length-block_code at locals (step statement rest) =
       let cs = statement_code at locals statement in
-      omega (arith, length-statement_code at locals statement, length-block_code (at + length cs) (locals_after locals statement) rest, length-append cs (block_code (at + length cs) (locals_after locals statement) rest))
+      omega (
+        arith,
+        length-statement_code at locals statement,
+        length-block_code (at + length cs) (locals_after locals statement) rest,
+        length-append cs (block_code (at + length cs) (locals_after locals statement) rest),
+      )

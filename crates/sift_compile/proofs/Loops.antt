@@ -23,7 +23,11 @@ pub keeps_none : KeepsLoops []
 keeps_none = record { by = λ code p stands. let e : p + 0 ≡ p = omega arith in ap (enclosing code) e }
 
 pub keeps_both : (a b : List Instr) → KeepsLoops a → KeepsLoops b → KeepsLoops (a ++ b)
-keeps_both a b ka kb = record { by = λ code p stands. let e : p + length (a ++ b) ≡ p + length a + length b = omega (arith, length-append a b) in ap (enclosing code) e ∙ (kb.by code (p + length a) (stands_back code p a b stands) ∙ ka.by code p (stands_front code p a b stands)) }
+keeps_both a b ka kb =
+    record {
+      by = λ code p stands. let e : p + length (a ++ b) ≡ p + length a + length b = omega (arith, length-append a b) in
+          ap (enclosing code) e ∙ (kb.by code (p + length a) (stands_back code p a b stands) ∙ ka.by code p (stands_front code p a b stands));
+    }
 
 pub keeps_one : (i : Instr) → IsPlain i → KeepsLoops (i ∷ [])
 keeps_one i plain = record { by = λ code p stands. enclosing_here code p i (stands_here code p i [] stands) ∙ opened_plain i (p + 1) code (enclosing code p) plain }
@@ -38,12 +42,19 @@ loop_encloses code p k body matched stands =
     ∙ ap (λ o. opened_by o (p + 1) (enclosing code p)) (closes code (p + 1) body matched (stands_on code p (Begin k) _ stands))
 
 -- and its End
-pub end_enclosed : (code : List Instr) (p k : ℕ) (body : List Instr) → IsMatched body → KeepsLoops body → Stands code p (Begin k ∷ (body ++ End ∷ [])) → enclosing code (p + 1 + length body) ≡ (p + 1) ∷ enclosing code p
+pub end_enclosed : (code : List Instr) (p k : ℕ) (body : List Instr) → IsMatched body → KeepsLoops body
+    → Stands code p (Begin k ∷ (body ++ End ∷ [])) → enclosing code (p + 1 + length body) ≡ (p + 1) ∷ enclosing code p
 end_enclosed code p k body matched keeps stands =
     keeps.by code (p + 1) (stands_front code (p + 1) body _ (stands_on code p (Begin k) _ stands)) ∙ loop_encloses code p k body matched stands
 
 pub keeps_loop : (k : ℕ) (body : List Instr) → IsMatched body → KeepsLoops body → KeepsLoops (Begin k ∷ (body ++ End ∷ []))
-keeps_loop k body matched keeps = record { by = λ code p stands. let e : p + length (Begin k ∷ (body ++ End ∷ [])) ≡ p + 1 + length body + 1 = omega (arith, length-append body (End ∷ [])) in ap (enclosing code) e ∙ (enclosing_here code (p + 1 + length body) End (stands_next code (p + 1) body [] End (stands_on code p (Begin k) _ stands)) ∙ ap (drop 1) (end_enclosed code p k body matched keeps stands)) }
+keeps_loop k body matched keeps =
+    record {
+      by = λ code p stands. let e : p + length (Begin k ∷ (body ++ End ∷ [])) ≡ p + 1 + length body
+          + 1 = omega (arith, length-append body (End ∷ [])) in ap (enclosing code) e
+          ∙ (enclosing_here code (p + 1 + length body) End (stands_next code (p + 1) body [] End (stands_on code p (Begin k) _ stands))
+          ∙ ap (drop 1) (end_enclosed code p k body matched keeps stands));
+    }
 
 -- ---- compiled code
 

@@ -53,18 +53,33 @@ matched_none = record { by = λ depth rest. onward_none (through_end depth rest)
 pub matched_more : (i : Instr) (code : List Instr) → IsPlain i → IsMatched code → IsMatched (i ∷ code)
 matched_more i code plain matched =
     let n : length code + 1 ≡ length (i ∷ code) = omega arith in
-    record { by = λ depth rest. through_plain i depth (code ++ rest) plain ∙ (ap one_more (matched.by depth rest) ∙ (onward_more (length code) (through_end depth rest) ∙ ap (λ n. onward n (through_end depth rest)) n)) }
+    record {
+      by = λ depth rest. through_plain i depth (code ++ rest) plain
+          ∙ (ap one_more (matched.by depth rest)
+          ∙ (onward_more (length code) (through_end depth rest) ∙ ap (λ n. onward n (through_end depth rest)) n));
+    }
 
 pub matched_one : (i : Instr) → IsPlain i → IsMatched (i ∷ [])
 matched_one i plain = matched_more i [] plain matched_none
 
 pub matched_both : (a b : List Instr) → IsMatched a → IsMatched b → IsMatched (a ++ b)
-matched_both a b ma mb = record { by = λ depth rest. ap (through_end depth) (append_assoc a b rest) ∙ (ma.by depth (b ++ rest) ∙ (ap (onward (length a)) (mb.by depth rest) ∙ (onward_add (length a) (length b) (through_end depth rest) ∙ ap (λ n. onward n (through_end depth rest)) (sym (length-append a b))))) }
+matched_both a b ma mb =
+    record {
+      by = λ depth rest. ap (through_end depth) (append_assoc a b rest)
+          ∙ (ma.by depth (b ++ rest)
+          ∙ (ap (onward (length a)) (mb.by depth rest)
+          ∙ (onward_add (length a) (length b) (through_end depth rest) ∙ ap (λ n. onward n (through_end depth rest)) (sym (length-append a b)))));
+    }
 
 pub matched_loop : (k : ℕ) (body : List Instr) → IsMatched body → IsMatched (Begin k ∷ (body ++ End ∷ []))
 matched_loop k body matched =
     let n : length body + 2 ≡ length (Begin k ∷ (body ++ End ∷ [])) = omega (arith, length-append body (End ∷ [])) in
-    record { by = λ depth rest. through_begin k depth ((body ++ End ∷ []) ++ rest) ∙ (ap (λ l. one_more (through_end (suc depth) l)) (append_assoc body (End ∷ []) rest) ∙ (ap one_more (matched.by (suc depth) (End ∷ rest)) ∙ (onward_loop (length body) (through_end depth rest) ∙ ap (λ n. onward n (through_end depth rest)) n))) }
+    record {
+      by = λ depth rest. through_begin k depth ((body ++ End ∷ []) ++ rest)
+          ∙ (ap (λ l. one_more (through_end (suc depth) l)) (append_assoc body (End ∷ []) rest)
+          ∙ (ap one_more (matched.by (suc depth) (End ∷ rest))
+          ∙ (onward_loop (length body) (through_end depth rest) ∙ ap (λ n. onward n (through_end depth rest)) n)));
+    }
 
 -- a loop whose body is matched is closed by the End behind it
 pub closes : (code : List Instr) (p : ℕ) (body : List Instr) → IsMatched body → Stands code p (body ++ End ∷ []) → through_end 0 (drop p code) ≡ Some (length body + 1)

@@ -44,7 +44,8 @@ module _ (program : Program) where
         grown = as_before (q + 1) brought;
       })
 
-  pub choose_passes : (x : Term) (first : List Instr) (p : ℕ) → AllPush program x → need x ≤ stack_limit → KeepsLoops first → AllPass program (behind p (term_code x)) first → AllPass program p (choose_code p (term_code x) first)
+  pub choose_passes : (x : Term) (first : List Instr) (p : ℕ) → AllPush program x → need x ≤ stack_limit → KeepsLoops first
+      → AllPass program (behind p (term_code x)) first → AllPass program p (choose_code p (term_code x) first)
   choose_passes x first p all low keeps passes to brought stands inside here clear before =
       let ct = term_code x in
       let q = p + length ct in
@@ -53,7 +54,9 @@ module _ (program : Program) where
       let part = test_pushes program x all p to brought (stands_front program.code p ct _ stands) here clear (omega (arith, whole, before)) low in
       let at = stands_next program.code p ct first (JumpZ end) stands in
       let meets : Meets q 1 brought = quiet_meets q 1 brought (some_quiet program x p to brought clear (omega (arith, whole, before))) in
-      let loops : enclosing program.code end ≡ enclosing program.code q = ap (enclosing program.code) whole ∙ ((keeps_choose p x first keeps).by program.code p stands ∙ sym ((keeps_term x).by program.code p (stands_front program.code p ct _ stands))) in
+      let loops : enclosing program.code end ≡ enclosing program.code q = ap (enclosing program.code) whole
+      ∙ ((keeps_choose p x first keeps).by program.code p stands
+      ∙ sym ((keeps_term x).by program.code p (stands_front program.code p ct _ stands))) in
       let free = jumpz_free program q end brought at part.pushed meets (omega arith) (omega (arith, whole, inside)) loops in
       let now = empty_at end ∷ brought in
       let clear_now : IsClear (q + 1) end now = (refl, inr (omega arith), clear_narrow p to (q + 1) end brought (omega arith) (omega (arith, whole, before)) clear) in
@@ -65,7 +68,9 @@ module _ (program : Program) where
         grown = grown_on end brought now body.arrivals (one_grown end end brought brought (omega arith) (as_before end brought)) body.grown;
       })
 
-  pub choose_else_passes : (x : Term) (first second : List Instr) (p : ℕ) → AllPush program x → need x ≤ stack_limit → KeepsLoops first → KeepsLoops second → AllPass program (behind p (term_code x)) first → AllPass program (behind (behind p (term_code x)) first) second → AllPass program p (choose_else_code p (term_code x) first second)
+  pub choose_else_passes : (x : Term) (first second : List Instr) (p : ℕ) → AllPush program x → need x ≤ stack_limit → KeepsLoops first
+      → KeepsLoops second → AllPass program (behind p (term_code x)) first → AllPass program (behind (behind p (term_code x)) first) second
+      → AllPass program p (choose_else_code p (term_code x) first second)
   choose_else_passes x first second p all low keeps also passes others to brought stands inside here clear before =
       let ct = term_code x in
       let q = p + length ct in
@@ -88,14 +93,19 @@ module _ (program : Program) where
       let body = passes r now (stands_front program.code (behind p ct) first _ rest) (omega (arith, whole, inside)) (jumpz_trail program q other brought at part.pushed) clear_now (omega arith) in
       let clear_before : IsClear other end now = (refl, inl (omega arith), clear_narrow p to other end brought (omega arith) (omega (arith, whole, before)) clear) in
       let clear_then : IsClear other end body.arrivals = clear_grown r other end now body.arrivals (omega arith) body.grown clear_before in
-      let first_loops : enclosing program.code r ≡ enclosing program.code p = keeps.by program.code (behind p ct) (stands_front program.code (behind p ct) first _ rest) ∙ (jump_loops q at ∙ test_loops) in
+      let first_loops : enclosing program.code r ≡ enclosing program.code p =
+      keeps.by program.code (behind p ct) (stands_front program.code (behind p ct) first _ rest) ∙ (jump_loops q at ∙ test_loops) in
       let free_jump = jump_free program r end other end body.arrivals at_jump body.empty clear_then (omega arith) (omega (arith, whole, inside)) (end_loops ∙ sym first_loops) in
       let later = empty_at end ∷ body.arrivals in
       let clear_later : IsClear other end later = (refl, inr (omega arith), clear_then) in
       let more = others end later last (omega (arith, whole, inside)) (jump_trail program r end other end body.arrivals at_jump body.empty clear_then) clear_later (omega arith) in
-      let grown_first : Grown end brought body.arrivals = grown_on end brought now body.arrivals (one_grown end other brought brought (omega arith) (as_before end brought)) (grown_later r end now body.arrivals (omega arith) body.grown) in
+      let grown_first : Grown end brought body.arrivals =
+      grown_on end brought now body.arrivals (one_grown end other brought brought (omega arith) (as_before end brought))
+      (grown_later r end now body.arrivals (omega arith) body.grown) in
       passes_to program p end _ brought whole (record {
-        free = free_both program p q end part.free (free_both program q (q + 1) end (free_one program q free) (free_both program (q + 1) r end body.free (free_both program r (r + 1) end (free_one program r free_jump) more.free)));
+        free = free_both program p q end part.free
+            (free_both program q (q + 1) end (free_one program q free)
+            (free_both program (q + 1) r end body.free (free_both program r (r + 1) end (free_one program r free_jump) more.free)));
         arrivals = more.arrivals;
         empty = more.empty;
         grown = grown_on end brought later more.arrivals (one_grown end end brought body.arrivals (omega arith) grown_first) more.grown;
@@ -104,7 +114,8 @@ module _ (program : Program) where
       jump_loops : (q : ℕ) → slice_get program.code q ≡ Some (JumpZ (behind (behind p (term_code x)) first)) → enclosing program.code (q + 1) ≡ enclosing program.code q
       jump_loops q at = enclosing_here program.code q (JumpZ (behind (behind p (term_code x)) first)) at
 
-  pub repeat_passes : (k : ℕ) (body : List Instr) (p : ℕ) → length (enclosing program.code p) < loop_limit → IsMatched body → KeepsLoops body → AllPass program (p + 1) body → AllPass program p (Begin k ∷ (body ++ End ∷ []))
+  pub repeat_passes : (k : ℕ) (body : List Instr) (p : ℕ) → length (enclosing program.code p) < loop_limit → IsMatched body
+      → KeepsLoops body → AllPass program (p + 1) body → AllPass program p (Begin k ∷ (body ++ End ∷ []))
   repeat_passes k body p room matched keeps passes to brought stands inside here clear before =
       let q = p + 1 + length body in
       let whole : q + 1 ≡ p + length (Begin k ∷ (body ++ End ∷ [])) = omega (arith, length-append body (End ∷ [])) in
@@ -112,14 +123,17 @@ module _ (program : Program) where
       let rest = stands_on program.code p (Begin k) _ stands in
       let at_end = stands_next program.code (p + 1) body [] End rest in
       let closed = closes program.code (p + 1) body matched rest in
-      let free = free_at program p (Begin k) 0 brought at here (λ bad. let e = sym closed ∙ bad in cc) (clear_meets p to p brought clear) (λ bad. bad) (omega arith) (omega arith) (λ bad. omega (arith, bad, room)) (λ bad. bad) in
+      let free = free_at program p (Begin k) 0 brought at here (λ bad. let e = sym closed ∙ bad in cc) (clear_meets p to p brought clear)
+      (λ bad. bad) (omega arith) (omega arith) (λ bad. omega (arith, bad, room)) (λ bad. bad) in
       let entered : trail_at program.code (p + 1) ≡ trail 0 brought = trail_here program.code p (Begin k) at ∙ ap (followed (Some (Begin k)) (p + 1)) here in
       let clear_in : IsClear (p + 1) q brought = clear_narrow p to (p + 1) q brought (omega arith) (omega (arith, whole, before)) clear in
       let inner = passes q brought (stands_front program.code (p + 1) body _ rest) (omega (arith, whole, inside)) entered clear_in (omega arith) in
       let clear_end : IsClear q to inner.arrivals = clear_grown q q to brought inner.arrivals (omega arith) inner.grown (clear_narrow p to q to brought (omega arith) (omega arith) clear) in
       let loops = end_enclosed program.code p k body matched keeps stands in
       let same : height_at program.code q ≡ height_at program.code (p + 1) = ap (λ (t : Trail). t.height) inner.empty ∙ sym (ap (λ (t : Trail). t.height) entered) in
-      let free_end = free_at program q End 0 inner.arrivals at_end inner.empty (λ bad. let e = sym loops ∙ bad in cc) (clear_meets q to q inner.arrivals clear_end) (λ bad. subst (IsUnequalRound program.code q) loops bad same) (omega arith) (omega arith) (λ bad. bad) (λ bad. bad) in
+      let free_end = free_at program q End 0 inner.arrivals at_end inner.empty (λ bad. let e = sym loops ∙ bad in
+      cc) (clear_meets q to q inner.arrivals clear_end) (λ bad. subst (IsUnequalRound program.code q) loops bad same) (omega arith)
+      (omega arith) (λ bad. bad) (λ bad. bad) in
       passes_to program p (q + 1) _ brought whole (record {
         free = free_both program p (p + 1) (q + 1) (free_one program p free) (free_both program (p + 1) q (q + 1) inner.free (free_one program q free_end));
         arrivals = inner.arrivals;

@@ -12,9 +12,14 @@ use Rattle.sift_compile.proofs.Matched.{IsMatched, closes}
 use Rattle.sift_compile.proofs.Between.{at, Runs, Holds, runs_to, runs_from}
 
 module _ (code : List Instr) (inputs : Inputs) where
-  module _ (depth outputs p q : ℕ) (loops : List Loop) (round : State → State) (keeps : (t : State) → HasSizes depth outputs t → HasSizes depth outputs (round t)) (ends : slice_get code q ≡ Some End) (runs : (left : ℕ) (locals : List ℕ) (t : State) → Holds depth outputs locals t → Runs code inputs (at p (record { start = p; left = left } ∷ loops) locals t.outs) q (record { start = p; left = left } ∷ loops) (round t)) where
+  module _ (depth outputs p q : ℕ) (loops : List Loop) (round : State → State) (keeps : (t : State) → HasSizes depth outputs t
+      → HasSizes depth outputs (round t)) (ends : slice_get code q ≡ Some End) (runs : (left : ℕ) (locals : List ℕ) (t : State)
+      → Holds depth outputs locals t
+      → Runs code inputs (at p (record { start = p; left = left } ∷ loops) locals t.outs) q (record { start = p; left = left } ∷ loops)
+      (round t)) where
     -- so many rounds more than one
-    rounds_run : (n : ℕ) (locals : List ℕ) (t : State) → Holds depth outputs locals t → Runs code inputs (at p (record { start = p; left = suc n } ∷ loops) locals t.outs) (q + 1) loops (times n round (round t))
+    rounds_run : (n : ℕ) (locals : List ℕ) (t : State) → Holds depth outputs locals t
+        → Runs code inputs (at p (record { start = p; left = suc n } ∷ loops) locals t.outs) (q + 1) loops (times n round (round t))
     rounds_run zero locals t holds =
         let run = runs 1 locals t holds in
         let here = at q (record { start = p; left = 1 } ∷ loops) run.locals (round t).outs in
@@ -27,12 +32,15 @@ module _ (code : List Instr) (inputs : Inputs) where
         let more = rounds_run n run.locals (round t) (record { begins = run.begins; long = run.long; sizes = keeps t holds.sizes }) in
         runs_from code inputs _ there _ loops _ (comes_on code inputs _ here there run.comes (comes_by code inputs here there End ends refl)) more
 
-    pub repeat_run : (start : ℕ) (body : List Instr) (k : ℕ) (locals : List ℕ) (t : State) → start + 1 ≡ p → p + length body ≡ q → IsMatched body → Stands code start (Begin k ∷ (body ++ End ∷ [])) → Holds depth outputs locals t → Runs code inputs (at start loops locals t.outs) (start + length (Begin k ∷ (body ++ End ∷ []))) loops (times k round t)
+    pub repeat_run : (start : ℕ) (body : List Instr) (k : ℕ) (locals : List ℕ) (t : State) → start + 1 ≡ p → p + length body ≡ q
+        → IsMatched body → Stands code start (Begin k ∷ (body ++ End ∷ [])) → Holds depth outputs locals t
+        → Runs code inputs (at start loops locals t.outs) (start + length (Begin k ∷ (body ++ End ∷ []))) loops (times k round t)
     repeat_run start body zero locals t e f matched stands holds =
         let s = at start loops locals t.outs in
         let there = at (start + 1 + (length body + 1)) loops locals t.outs in
         let whole : start + 1 + (length body + 1) ≡ start + length (Begin 0 ∷ (body ++ End ∷ [])) = omega (arith, length-append body (End ∷ [])) in
-        let skip = comes_by code inputs s there (Begin 0) (stands_here code start (Begin 0) _ stands) (ap (skipped s) (closes code (start + 1) body matched (stands_on code start (Begin 0) _ stands))) in
+        let skip = comes_by code inputs s there (Begin 0) (stands_here code start (Begin 0) _ stands)
+        (ap (skipped s) (closes code (start + 1) body matched (stands_on code start (Begin 0) _ stands))) in
         runs_to code inputs s _ _ loops t whole (record { locals = locals; begins = holds.begins; long = holds.long; comes = skip })
     repeat_run start body (suc n) locals t e f matched stands holds =
         let s = at start loops locals t.outs in

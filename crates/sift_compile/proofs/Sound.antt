@@ -47,7 +47,10 @@ few_after b depth (repeat k body) few sound = few
 
 module _ (b : Bounds) (program : Program) (outputs : program.limits ≡ (let l : Code.Limits = record { sensors = b.sensors; words = b.words; outputs = b.outputs } in l)) where
   pushes : (depth : ℕ) (t : Term) → depth ≤ local_count → IsSoundTerm b depth t → AllPush program t
-  pushes depth t few sound = term_pushes program t (subst (λ (l : Code.Limits). NamesWithin l.sensors l.words local_count t) (sym outputs) (names_more b.sensors b.words depth local_count t few sound.names))
+  pushes depth t few sound =
+      term_pushes program t
+      (subst (λ (l : Code.Limits). NamesWithin l.sensors l.words local_count t) (sym outputs)
+      (names_more b.sensors b.words depth local_count t few sound.names))
 
   store_takes : (l : ℕ) → l < local_count → Takes program (Store l)
   store_takes l within = record { calm = tt; pops_one = refl; pushes_none = refl; named = λ bad. omega (arith, bad, within) }
@@ -66,7 +69,9 @@ module _ (b : Bounds) (program : Program) (outputs : program.limits ≡ (let l :
       enclosing_here program.code (p + length first) (Jump to) (stands_next program.code p first rest (Jump to) stands)
 
   mutual
-    statement_passes : (statement : Statement) (p depth : ℕ) → IsSoundStatement b depth statement → depth ≤ local_count → length (enclosing program.code p) + open_repeats statement ≤ loop_limit → Stands program.code p (statement_code p depth statement) → AllPass program p (statement_code p depth statement)
+    statement_passes : (statement : Statement) (p depth : ℕ) → IsSoundStatement b depth statement → depth ≤ local_count
+        → length (enclosing program.code p) + open_repeats statement ≤ loop_limit → Stands program.code p (statement_code p depth statement)
+        → AllPass program p (statement_code p depth statement)
     statement_passes (bind t) p depth sound few shallow stands = use_passes program t (Store depth) p (pushes depth t few sound.0) sound.0.needs (store_takes depth sound.1)
     statement_passes (assign l t) p depth sound few shallow stands = use_passes program t (Store l) p (pushes depth t few sound.0) sound.0.needs (store_takes l (omega (arith, sound.1, few)))
     statement_passes (output j t) p depth sound few shallow stands = use_passes program t (Out j) p (pushes depth t few sound.0) sound.0.needs (out_takes j sound.1)
@@ -75,7 +80,8 @@ module _ (b : Bounds) (program : Program) (outputs : program.limits ≡ (let l :
         let cf = block_code (behind p ct) depth first in
         let here = stands_behind program.code p ct _ _ stands in
         let loops : enclosing program.code (behind p ct) ≡ enclosing program.code p = jumpz_loops p t _ _ stands in
-        choose_passes program t cf p (pushes depth t few sound.0) sound.0.needs (keeps_block (behind p ct) depth first) (block_passes first (behind p ct) depth sound.1 few (omega (arith, shallow, ap (length {A = ℕ}) loops)) here)
+        choose_passes program t cf p (pushes depth t few sound.0) sound.0.needs (keeps_block (behind p ct) depth first)
+        (block_passes first (behind p ct) depth sound.1 few (omega (arith, shallow, ap (length {A = ℕ}) loops)) here)
     statement_passes (choose_else t first second) p depth sound few shallow stands =
         let ct = term_code t in
         let cf = block_code (behind p ct) depth first in
@@ -85,24 +91,35 @@ module _ (b : Bounds) (program : Program) (outputs : program.limits ≡ (let l :
         let loops : enclosing program.code (behind p ct) ≡ enclosing program.code p = jumpz_loops p t _ _ stands in
         let first_loops = (keeps_block (behind p ct) depth first).by program.code (behind p ct) (stands_front program.code (behind p ct) cf _ here) in
         let other_loops : enclosing program.code (behind (behind p ct) cf) ≡ enclosing program.code p = jump_loops (behind p ct) cf cs _ here ∙ (first_loops ∙ loops) in
-        choose_else_passes program t cf cs p (pushes depth t few sound.0) sound.0.needs (keeps_block (behind p ct) depth first) (keeps_block (behind (behind p ct) cf) depth second) (block_passes first (behind p ct) depth sound.1 few (omega (arith, shallow, ap (length {A = ℕ}) loops)) (stands_front program.code (behind p ct) cf _ here)) (block_passes second (behind (behind p ct) cf) depth sound.2 few (omega (arith, shallow, ap (length {A = ℕ}) other_loops)) there)
+        choose_else_passes program t cf cs p (pushes depth t few sound.0) sound.0.needs (keeps_block (behind p ct) depth first)
+        (keeps_block (behind (behind p ct) cf) depth second)
+        (block_passes first (behind p ct) depth sound.1 few (omega (arith, shallow, ap (length {A = ℕ}) loops))
+        (stands_front program.code (behind p ct) cf _ here))
+        (block_passes second (behind (behind p ct) cf) depth sound.2 few
+        (omega (arith, shallow, ap (length {A = ℕ}) other_loops)) there)
     statement_passes (repeat k body) p depth sound few shallow stands =
         let cb = block_code (p + 1) depth body in
         let loops = loop_encloses program.code p k cb (matched_block (p + 1) depth body) stands in
         let here = stands_front program.code (p + 1) cb _ (stands_on program.code p (Begin k) _ stands) in
-        repeat_passes program k cb p (omega (arith, shallow)) (matched_block (p + 1) depth body) (keeps_block (p + 1) depth body) (block_passes body (p + 1) depth sound.1 few (omega (arith, shallow, ap (length {A = ℕ}) loops)) here)
+        repeat_passes program k cb p (omega (arith, shallow)) (matched_block (p + 1) depth body) (keeps_block (p + 1) depth body)
+        (block_passes body (p + 1) depth sound.1 few (omega (arith, shallow, ap (length {A = ℕ}) loops)) here)
 
-    block_passes : (block : Block) (p depth : ℕ) → IsSoundBlock b depth block → depth ≤ local_count → length (enclosing program.code p) + open_repeats_in block ≤ loop_limit → Stands program.code p (block_code p depth block) → AllPass program p (block_code p depth block)
+    block_passes : (block : Block) (p depth : ℕ) → IsSoundBlock b depth block → depth ≤ local_count
+        → length (enclosing program.code p) + open_repeats_in block ≤ loop_limit → Stands program.code p (block_code p depth block)
+        → AllPass program p (block_code p depth block)
     block_passes end p depth sound few shallow stands = none_passes program p
     block_passes (step statement rest) p depth sound few shallow stands =
         let cs = statement_code p depth statement in
         let q = p + length cs in
         let here = stands_front program.code p cs _ stands in
         let loops = (keeps_statement p depth statement).by program.code p here in
-        both_pass program p cs _ (statement_passes statement p depth sound.0 few (omega (arith, shallow)) here) (block_passes rest q (locals_after depth statement) sound.1 (few_after b depth statement few sound.0) (omega (arith, shallow, ap (length {A = ℕ}) loops)) (stands_back program.code p cs _ stands))
+        both_pass program p cs _ (statement_passes statement p depth sound.0 few (omega (arith, shallow)) here)
+        (block_passes rest q (locals_after depth statement) sound.1 (few_after b depth statement few sound.0)
+        (omega (arith, shallow, ap (length {A = ℕ}) loops)) (stands_back program.code p cs _ stands))
 
 -- nothing offends at the code's end
-end_free : (program : Program) (p : ℕ) (brought : List Arrival) → p ≡ length program.code → trail_at program.code p ≡ trail 0 brought → All (λ height. height ≡ 0) (brought_to p brought) → IsFree program p
+end_free : (program : Program) (p : ℕ) (brought : List Arrival) → p ≡ length program.code → trail_at program.code p ≡ trail 0 brought
+    → All (λ height. height ≡ 0) (brought_to p brought) → IsFree program p
 end_free program p brought last here meets =
     record {
       jumps = λ bad. subst (IsBadJumpAt program.code p) none bad;
@@ -137,7 +154,8 @@ code_is_sound sensors words task sound p inside = by (cases_lt p (length code))
     whole : Passes program 0 (0 + length code) []
     whole =
         let b : Bounds = record { sensors = sensors; words = words; outputs = task.outputs } in
-        block_passes b program refl task.body 0 0 sound.sound_body (omega arith) (omega (arith, sound.few_repeats)) (stands_whole code) (length code) [] (stands_whole code) (omega arith) refl tt (omega arith)
+        block_passes b program refl task.body 0 0 sound.sound_body (omega arith) (omega (arith, sound.few_repeats)) (stands_whole code)
+        (length code) [] (stands_whole code) (omega arith) refl tt (omega arith)
 
     by : (p < length code) ⊎ (length code ≤ p) → IsFree program p
     by (inl before) = whole.free p (omega arith) (omega (arith, before))

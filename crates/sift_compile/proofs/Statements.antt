@@ -22,7 +22,10 @@ use Rattle.sift_compile.proofs.Repeating.{repeat_run}
 
 module _ (code : List Instr) (inputs : Inputs) where
   module _ (b : Bounds) (fits : Fits inputs (limits_of b)) where
-    term_run : (x : Term) (p depth : ℕ) (loops : List Loop) (locals : List ℕ) (t : State) → IsSoundTerm b depth x → Holds depth b.outputs locals t → Stands code p (term_code x) → Comes code inputs (at p loops locals t.outs) (pushing (at p loops locals t.outs) (term_code x) (value_of x (readings_from inputs) t.locals))
+    term_run : (x : Term) (p depth : ℕ) (loops : List Loop) (locals : List ℕ) (t : State) → IsSoundTerm b depth x
+        → Holds depth b.outputs locals t → Stands code p (term_code x)
+        → Comes code inputs (at p loops locals t.outs)
+        (pushing (at p loops locals t.outs) (term_code x) (value_of x (readings_from inputs) t.locals))
     term_run x p depth loops locals t sound holds stands =
         term_runs code inputs (limits_of b) fits x t.locals (at p loops locals t.outs) (subst (λ n. NamesWithin b.sensors b.words n x) (sym holds.sizes.locals_are) sound.names) holds.begins stands
 
@@ -31,11 +34,18 @@ module _ (code : List Instr) (inputs : Inputs) where
     holds_on depth s q loops t run sizes = record { begins = run.begins; long = run.long; sizes = sizes }
 
     -- a block in a scope of its own
-    scope_run : (block : Block) (p depth : ℕ) (loops : List Loop) (locals : List ℕ) (t : State) → Runs code inputs (at p loops locals t.outs) (p + length (block_code p depth block)) loops (after_all block (readings_from inputs) t) → Runs code inputs (at p loops locals t.outs) (p + length (block_code p depth block)) loops (scoped (after_all block (readings_from inputs)) t)
+    scope_run : (block : Block) (p depth : ℕ) (loops : List Loop) (locals : List ℕ) (t : State)
+        → Runs code inputs (at p loops locals t.outs) (p + length (block_code p depth block)) loops
+        (after_all block (readings_from inputs) t)
+        → Runs code inputs (at p loops locals t.outs) (p + length (block_code p depth block)) loops
+        (scoped (after_all block (readings_from inputs)) t)
     scope_run block p depth loops locals t run = runs_scoped code inputs _ _ loops (after_all block (readings_from inputs)) t run
 
     mutual
-      pub statement_runs : (statement : Statement) (p depth : ℕ) (loops : List Loop) (locals : List ℕ) (t : State) → IsSoundStatement b depth statement → Holds depth b.outputs locals t → Stands code p (statement_code p depth statement) → Runs code inputs (at p loops locals t.outs) (p + length (statement_code p depth statement)) loops (after statement (readings_from inputs) t)
+      pub statement_runs : (statement : Statement) (p depth : ℕ) (loops : List Loop) (locals : List ℕ) (t : State)
+          → IsSoundStatement b depth statement → Holds depth b.outputs locals t → Stands code p (statement_code p depth statement)
+          → Runs code inputs (at p loops locals t.outs) (p + length (statement_code p depth statement)) loops
+          (after statement (readings_from inputs) t)
       statement_runs (bind x) p depth loops locals t sound holds stands =
           let v = value_of x (readings_from inputs) t.locals in
           let c = term_run x p depth loops locals t sound.0 holds (stands_front code p (term_code x) _ stands) in
@@ -71,7 +81,9 @@ module _ (code : List Instr) (inputs : Inputs) where
           let ct = term_code x in
           let c = term_run x p depth loops locals t sound.0 holds (stands_front code p ct _ stands) in
           let run = block_runs first (behind p ct) depth loops locals t sound.1 holds (stands_behind code p ct _ _ stands) in
-          choose_run code inputs p loops locals t ct (block_code (behind p ct) depth first) _ (value_of x (readings_from inputs) t.locals) holds.begins holds.long stands c (scope_run first (behind p ct) depth loops locals t run)
+          choose_run code inputs p loops locals t ct (block_code (behind p ct) depth first) _
+          (value_of x (readings_from inputs) t.locals) holds.begins holds.long stands c
+          (scope_run first (behind p ct) depth loops locals t run)
       statement_runs (choose_else x first second) p depth loops locals t sound holds stands =
           let ct = term_code x in
           let cf = block_code (behind p ct) depth first in
@@ -80,14 +92,24 @@ module _ (code : List Instr) (inputs : Inputs) where
           let here = stands_behind code p ct _ _ stands in
           let run = block_runs first (behind p ct) depth loops locals t sound.1 holds (stands_front code (behind p ct) cf _ here) in
           let other = block_runs second (behind (behind p ct) cf) depth loops locals t sound.2 holds (stands_behind code (behind p ct) cf cs _ here) in
-          choose_else_run code inputs p loops locals t ct cf _ cs _ (value_of x (readings_from inputs) t.locals) stands c (scope_run first (behind p ct) depth loops locals t run) (scope_run second (behind (behind p ct) cf) depth loops locals t other)
+          choose_else_run code inputs p loops locals t ct cf _ cs _ (value_of x (readings_from inputs) t.locals) stands c
+          (scope_run first (behind p ct) depth loops locals t run)
+          (scope_run second (behind (behind p ct) cf) depth loops locals t other)
       statement_runs (repeat k body) p depth loops locals t sound holds stands =
           let cb = block_code (p + 1) depth body in
           let round = scoped (after_all body (readings_from inputs)) in
           let here = stands_on code p (Begin k) _ stands in
-          repeat_run code inputs depth b.outputs (p + 1) (p + 1 + length cb) loops round (λ u has. sizes-round depth b.outputs (after_all body (readings_from inputs)) u has (adds-after_all body (readings_from inputs) u)) (stands_next code (p + 1) cb [] End here) (λ left now u h. scope_run body (p + 1) depth _ now u (block_runs body (p + 1) depth (record { start = p + 1; left = left } ∷ loops) now u sound.1 h (stands_front code (p + 1) cb _ here))) p cb k locals t refl refl (matched_block (p + 1) depth body) stands holds
+          repeat_run code inputs depth b.outputs (p + 1) (p + 1 + length cb) loops round
+          (λ u has. sizes-round depth b.outputs (after_all body (readings_from inputs)) u has
+          (adds-after_all body (readings_from inputs) u)) (stands_next code (p + 1) cb [] End here)
+          (λ left now u h. scope_run body (p + 1) depth _ now u
+          (block_runs body (p + 1) depth (record { start = p + 1; left = left } ∷ loops) now u sound.1 h
+          (stands_front code (p + 1) cb _ here))) p cb k locals t refl refl (matched_block (p + 1) depth body) stands holds
 
-      pub block_runs : (block : Block) (p depth : ℕ) (loops : List Loop) (locals : List ℕ) (t : State) → IsSoundBlock b depth block → Holds depth b.outputs locals t → Stands code p (block_code p depth block) → Runs code inputs (at p loops locals t.outs) (p + length (block_code p depth block)) loops (after_all block (readings_from inputs) t)
+      pub block_runs : (block : Block) (p depth : ℕ) (loops : List Loop) (locals : List ℕ) (t : State) → IsSoundBlock b depth block
+          → Holds depth b.outputs locals t → Stands code p (block_code p depth block)
+          → Runs code inputs (at p loops locals t.outs) (p + length (block_code p depth block)) loops
+          (after_all block (readings_from inputs) t)
       block_runs end p depth loops locals t sound holds stands =
           runs_to code inputs _ p _ loops t (omega arith) (record { locals = locals; begins = holds.begins; long = holds.long; comes = comes_nowhere code inputs _ })
       block_runs (step statement rest) p depth loops locals t sound holds stands =

@@ -54,11 +54,15 @@ module _ (code : List Instr) (inputs : Inputs) where
   push_runs s i v stands does = comes_by code inputs s (pushing s (i ∷ []) v) i (stands_here code s.place i [] stands) does
 
   -- a list that is read
-  read_runs : (s : State) (i : Instr) (words : List ℕ) (k : ℕ) → Stands code s.place (i ∷ []) → k < length words → effect i code inputs s ≡ on_with s (pushed (slice_get words k) s.stack) → Comes code inputs s (pushing s (i ∷ []) (slice_index words k))
+  read_runs : (s : State) (i : Instr) (words : List ℕ) (k : ℕ) → Stands code s.place (i ∷ []) → k < length words
+      → effect i code inputs s ≡ on_with s (pushed (slice_get words k) s.stack)
+      → Comes code inputs s (pushing s (i ∷ []) (slice_index words k))
   read_runs s i words k stands within does =
       push_runs s i (slice_index words k) stands (does ∙ ap (λ o. on_with s (pushed o s.stack)) (get-index words k within))
 
-  minus_runs : (s : State) (ca : List Instr) (x : ℕ) → Stands code s.place (instr.Push 0 ∷ (ca ++ instr.Sub ∷ [])) → Comes code inputs (pushing s (instr.Push 0 ∷ []) 0) (pushing (pushing s (instr.Push 0 ∷ []) 0) ca x) → Comes code inputs s (pushing s (instr.Push 0 ∷ (ca ++ instr.Sub ∷ [])) (sub 0 x))
+  minus_runs : (s : State) (ca : List Instr) (x : ℕ) → Stands code s.place (instr.Push 0 ∷ (ca ++ instr.Sub ∷ []))
+      → Comes code inputs (pushing s (instr.Push 0 ∷ []) 0) (pushing (pushing s (instr.Push 0 ∷ []) 0) ca x)
+      → Comes code inputs s (pushing s (instr.Push 0 ∷ (ca ++ instr.Sub ∷ [])) (sub 0 x))
   minus_runs s ca x stands a =
       let zero_pushed = pushing s (instr.Push 0 ∷ []) 0 in
       let both = pushing zero_pushed ca x in
@@ -67,9 +71,14 @@ module _ (code : List Instr) (inputs : Inputs) where
       let t : State = record s { place = both.place + 1; stack = sub 0 x ∷ s.stack } in
       let whole : t.place ≡ s.place + length (instr.Push 0 ∷ (ca ++ instr.Sub ∷ [])) = omega (arith, length-append ca (instr.Sub ∷ [])) in
       comes_to s t _ whole
-      (comes_on code inputs s zero_pushed t (comes_by code inputs s zero_pushed (instr.Push 0) (stands_here code s.place (instr.Push 0) _ stands) refl) (comes_on code inputs zero_pushed both t a (comes_by code inputs both t instr.Sub at refl)))
+      (comes_on code inputs s zero_pushed t
+      (comes_by code inputs s zero_pushed (instr.Push 0) (stands_here code s.place (instr.Push 0) _ stands) refl)
+      (comes_on code inputs zero_pushed both t a (comes_by code inputs both t instr.Sub at refl)))
 
-  binary_runs : (s : State) (i : Instr) (op : ℕ → ℕ → ℕ) (ca cb : List Instr) (x y : ℕ) → ((t : State) → effect i code inputs t ≡ on_with t (combined op t.stack)) → Stands code s.place (ca ++ (cb ++ i ∷ [])) → Comes code inputs s (pushing s ca x) → Comes code inputs (pushing s ca x) (pushing (pushing s ca x) cb y) → Comes code inputs s (pushing s (ca ++ (cb ++ i ∷ [])) (op x y))
+  binary_runs : (s : State) (i : Instr) (op : ℕ → ℕ → ℕ) (ca cb : List Instr) (x y : ℕ)
+      → ((t : State) → effect i code inputs t ≡ on_with t (combined op t.stack)) → Stands code s.place (ca ++ (cb ++ i ∷ []))
+      → Comes code inputs s (pushing s ca x) → Comes code inputs (pushing s ca x) (pushing (pushing s ca x) cb y)
+      → Comes code inputs s (pushing s (ca ++ (cb ++ i ∷ [])) (op x y))
   binary_runs s i op ca cb x y does stands a b =
       let one = pushing s ca x in
       let two = pushing one cb y in
@@ -78,18 +87,29 @@ module _ (code : List Instr) (inputs : Inputs) where
       let whole : t.place ≡ s.place + length (ca ++ (cb ++ i ∷ [])) = omega (arith, length-append ca (cb ++ i ∷ []), length-append cb (i ∷ [])) in
       comes_to s t _ whole (comes_on code inputs s one t a (comes_on code inputs one two t b (comes_by code inputs two t i at (does two))))
 
-  middle_runs : (s : State) (ca cb cc : List Instr) (x y z : ℕ) → Stands code s.place (ca ++ (cb ++ (cc ++ instr.Mid ∷ []))) → Comes code inputs s (pushing s ca x) → Comes code inputs (pushing s ca x) (pushing (pushing s ca x) cb y) → Comes code inputs (pushing (pushing s ca x) cb y) (pushing (pushing (pushing s ca x) cb y) cc z) → Comes code inputs s (pushing s (ca ++ (cb ++ (cc ++ instr.Mid ∷ []))) (mid x y z))
+  middle_runs : (s : State) (ca cb cc : List Instr) (x y z : ℕ) → Stands code s.place (ca ++ (cb ++ (cc ++ instr.Mid ∷ [])))
+      → Comes code inputs s (pushing s ca x) → Comes code inputs (pushing s ca x) (pushing (pushing s ca x) cb y)
+      → Comes code inputs (pushing (pushing s ca x) cb y) (pushing (pushing (pushing s ca x) cb y) cc z)
+      → Comes code inputs s (pushing s (ca ++ (cb ++ (cc ++ instr.Mid ∷ []))) (mid x y z))
   middle_runs s ca cb cc x y z stands a b c =
       let one = pushing s ca x in
       let two = pushing one cb y in
       let three = pushing two cc z in
       let at = stands_here code three.place instr.Mid [] (stands_back code two.place cc (instr.Mid ∷ []) (stands_back code one.place cb _ (stands_back code s.place ca _ stands))) in
       let t : State = record s { place = three.place + 1; stack = mid x y z ∷ s.stack } in
-      let whole : t.place ≡ s.place + length (ca ++ (cb ++ (cc ++ instr.Mid ∷ []))) = omega (arith, length-append ca (cb ++ (cc ++ instr.Mid ∷ [])), length-append cb (cc ++ instr.Mid ∷ []), length-append cc (instr.Mid ∷ [])) in
+      let whole : t.place ≡ s.place + length (ca ++ (cb ++ (cc ++ instr.Mid ∷ []))) =
+      omega (
+        arith,
+        length-append ca (cb ++ (cc ++ instr.Mid ∷ [])),
+        length-append cb (cc ++ instr.Mid ∷ []),
+        length-append cc (instr.Mid ∷ []),
+      ) in
       comes_to s t _ whole (comes_on code inputs s one t a (comes_on code inputs one two t b (comes_on code inputs two three t c (comes_by code inputs three t instr.Mid at refl))))
 
   module _ (limits : Limits) (fits : Fits inputs limits) where
-    pub term_runs : (t : Term) (live : List ℕ) (s : State) → NamesWithin limits.sensors limits.words (length live) t → BeginWith s.locals live → Stands code s.place (term_code t) → Comes code inputs s (pushing s (term_code t) (value_of t (readings_from inputs) live))
+    pub term_runs : (t : Term) (live : List ℕ) (s : State) → NamesWithin limits.sensors limits.words (length live) t
+        → BeginWith s.locals live → Stands code s.place (term_code t)
+        → Comes code inputs s (pushing s (term_code t) (value_of t (readings_from inputs) live))
     term_runs (number n) live s names begins stands = push_runs s (instr.Push n) n stands refl
     term_runs (local l) live s names begins stands =
         push_runs s (instr.Load l) (slice_index live l) stands (ap (λ o. on_with s (pushed o s.stack)) (begin-get s.locals live l begins names))
@@ -102,10 +122,15 @@ module _ (code : List Instr) (inputs : Inputs) where
     term_runs (binary o t u) live s names begins stands =
         let one = pushing s (term_code t) (value_of t (readings_from inputs) live) in
         let rest = stands_back code s.place (term_code t) _ stands in
-        binary_runs s (operator_code o) (operation o) (term_code t) (term_code u) _ _ (operator_effect o) stands (term_runs t live s names.0 begins (stands_front code s.place (term_code t) _ stands)) (term_runs u live one names.1 begins (stands_front code one.place (term_code u) _ rest))
+        binary_runs s (operator_code o) (operation o) (term_code t) (term_code u) _ _ (operator_effect o) stands
+        (term_runs t live s names.0 begins (stands_front code s.place (term_code t) _ stands))
+        (term_runs u live one names.1 begins (stands_front code one.place (term_code u) _ rest))
     term_runs (middle t u v) live s names begins stands =
         let one = pushing s (term_code t) (value_of t (readings_from inputs) live) in
         let two = pushing one (term_code u) (value_of u (readings_from inputs) live) in
         let rest = stands_back code s.place (term_code t) _ stands in
         let last = stands_back code one.place (term_code u) _ rest in
-        middle_runs s (term_code t) (term_code u) (term_code v) _ _ _ stands (term_runs t live s names.0 begins (stands_front code s.place (term_code t) _ stands)) (term_runs u live one names.1 begins (stands_front code one.place (term_code u) _ rest)) (term_runs v live two names.2 begins (stands_front code two.place (term_code v) _ last))
+        middle_runs s (term_code t) (term_code u) (term_code v) _ _ _ stands
+        (term_runs t live s names.0 begins (stands_front code s.place (term_code t) _ stands))
+        (term_runs u live one names.1 begins (stands_front code one.place (term_code u) _ rest))
+        (term_runs v live two names.2 begins (stands_front code two.place (term_code v) _ last))

@@ -1,3 +1,5 @@
+//! The compiler: code of a task, within the limits.
+
 ghost use Rattle.std.specs.Prelude.{◌≡◌, ◌<◌, ◌≤◌, length, Err, IsOk, IfOk, IfErr};
 ghost use Rattle.sift_code.specs.Bound.{kept};
 ghost use Rattle.sift_lang.specs.Tree.{tree_of};
@@ -73,6 +75,3 @@ fn no_memory(bad: Bad) -> NoMemory
         _ => unreachable!(),
     }
 }
-
-#[cfg(test)]
-mod tests;

@@ -1,3 +1,5 @@
+//! The laws that compiled code is sound and means its task.
+
 ghost use Rattle.sift_compile.specs.Correct.{CodeIsSound, CodeMeansItsTask};
 
 /// The code of a sound task is sound, so `verify` never refuses it.

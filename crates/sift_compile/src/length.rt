@@ -1,3 +1,5 @@
+//! How long the code of a task is.
+
 ghost use Rattle.std.specs.Prelude.{◌≡◌};
 ghost use Rattle.sift_code.specs.Bound.{kept};
 ghost use Rattle.sift_lang.specs.Tree.{term_of, statement_of, block_of};

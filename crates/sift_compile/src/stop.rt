@@ -1,3 +1,5 @@
+//! Why a task has no code.
+
 use sift_base::NoMemory;
 
 /// The most instructions of a task's code.

@@ -1,3 +1,5 @@
+//! An executor: the pool in which a unit runs code.
+
 ghost use Rattle.std.specs.Prelude.{IfOk};
 ghost use Rattle.sift_code.specs.Ends.{RunsTo};
 ghost use Rattle.sift_core.specs.Executor.{IsReady, readings_of, Reads};

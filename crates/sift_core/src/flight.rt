@@ -1,3 +1,5 @@
+//! The flight, frame by frame.
+
 ghost use Rattle.std.specs.Prelude.{◌≡◌, ℕ, ◌≤◌, IfOk, OnOk, ◌++◌, [], All, length, map};
 ghost use Rattle.sift_lang.specs.Tree.{TaskTree, tree_of};
 ghost use Rattle.sift_program.specs.Program.{program_of};

@@ -1,3 +1,5 @@
+//! A unit: its words of this frame and of the one before.
+
 use sift_base::Word;
 
 /// What a unit keeps of a flight.

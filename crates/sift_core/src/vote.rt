@@ -1,3 +1,5 @@
+//! Copies of a task's words, and the vote over them.
+
 ghost use Rattle.std.specs.Prelude.{◌≡◌, ℕ, IfOk, OnOk, map};
 ghost use Rattle.sift_vote.specs.Majority.{IsAgreed};
 ghost use Rattle.sift_core.specs.Frame.{words_in, places_of, Each, Takes};

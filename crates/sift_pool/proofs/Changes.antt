@@ -27,7 +27,8 @@ IsLaid-push ps ws number start len laid next after =
     }
 
 -- its words are the zeros
-pieces-push : (ps : List Extent) (ws : List ℕ) (number start len : ℕ) → IsLaid ps ws → pieces (lengths (ps ++ extent number start len ∷ [])) (ws ++ replicate len 0) ≡ pieces (lengths ps) ws ++ replicate len 0 ∷ []
+pieces-push : (ps : List Extent) (ws : List ℕ) (number start len : ℕ) → IsLaid ps ws
+    → pieces (lengths (ps ++ extent number start len ∷ [])) (ws ++ replicate len 0) ≡ pieces (lengths ps) ws ++ replicate len 0 ∷ []
 pieces-push ps ws number start len laid =
     let lens = map_push (λ p. p.len) ps (extent number start len) in
     let zeros : List ℕ = replicate len 0 in
@@ -64,14 +65,19 @@ start_after k ps ws p laid found =
     omega (arith, ap (λ q. q.start) same, ap sum lens)
 
 -- the first spans, and the words before the next span
-pub released : (ps : List Extent) (ws : List ℕ) (qs : List Extent) (vs : List ℕ) (k : ℕ) (own p : Extent) → IsLaid ps ws → slice_get ps k ≡ Some p → own ≡ p → qs ≡ take k ps → vs ≡ take own.start ws → IsLaid qs vs × (pieces (lengths qs) vs ≡ take k (pieces (lengths ps) ws))
+pub released : (ps : List Extent) (ws : List ℕ) (qs : List Extent) (vs : List ℕ) (k : ℕ) (own p : Extent) → IsLaid ps ws
+    → slice_get ps k ≡ Some p → own ≡ p → qs ≡ take k ps → vs ≡ take own.start ws
+    → IsLaid qs vs × (pieces (lengths qs) vs ≡ take k (pieces (lengths ps) ws))
 released ps ws qs vs k own p laid found same first words =
     let start = ap (λ q. q.start) same ∙ start_after k ps ws p laid found in
     let words_are = words ∙ ap (λ n. take n ws) start in
     (rw (first, words_are) (IsLaid-take k ps ws laid), rw (first, words_are) (pieces-first k ps ws))
 
 -- one more span, of zeros
-pub carved : (capacity room : ℕ) (ps : List Extent) (ws : List ℕ) (region : Region) → Holds capacity room ps ws region → (capacity' room' : ℕ) (qs : List Extent) (vs : List ℕ) (number start len : ℕ) → capacity' ≡ capacity → room' ≡ room → number ≡ length ps → start ≡ length ws → qs ≡ ps ++ extent number start len ∷ [] → vs ≡ ws ++ replicate len 0 → Carves region (laid_region capacity' room' qs vs) len (extent number start len)
+pub carved : (capacity room : ℕ) (ps : List Extent) (ws : List ℕ) (region : Region) → Holds capacity room ps ws region
+    → (capacity' room' : ℕ) (qs : List Extent) (vs : List ℕ) (number start len : ℕ) → capacity' ≡ capacity → room' ≡ room
+    → number ≡ length ps → start ≡ length ws → qs ≡ ps ++ extent number start len ∷ [] → vs ≡ ws ++ replicate len 0
+    → Carves region (laid_region capacity' room' qs vs) len (extent number start len)
 carved capacity room ps ws region holds capacity' room' qs vs number start len same_capacity same_room next after spans words =
     let zeros : List ℕ = replicate len 0 in
     let last : pieces (lengths qs) vs ≡ region.spans ++ zeros ∷ [] =

@@ -44,7 +44,8 @@ module _ (capacity room : ℕ) (ps : List Extent) (ws : List ℕ) (region : Regi
       cc
 
   -- a pool with other spans, and the same capacity and room
-  pub laid_region-spans : (capacity' room' : ℕ) (qs : List Extent) (vs : List ℕ) (spans : List (List ℕ)) → capacity' ≡ capacity → room' ≡ room → pieces (lengths qs) vs ≡ spans → laid_region capacity' room' qs vs ≡ record region { spans = spans }
+  pub laid_region-spans : (capacity' room' : ℕ) (qs : List Extent) (vs : List ℕ) (spans : List (List ℕ)) → capacity' ≡ capacity
+      → room' ≡ room → pieces (lengths qs) vs ≡ spans → laid_region capacity' room' qs vs ≡ record region { spans = spans }
   laid_region-spans capacity' room' qs vs spans same_capacity same_room same_spans =
       let fits : capacity ≡ region.capacity = ap (λ r. r.capacity) holds.seen in
       let for_spans : room ≡ region.room = ap (λ r. r.room) holds.seen in
@@ -82,7 +83,8 @@ module _ (capacity room : ℕ) (ps : List Extent) (ws : List ℕ) (region : Regi
       rw (same, among.starts, spans_are) (sym word)
 
   -- a word that is written into a live span
-  pub live_set : (own p : Extent) (at w : ℕ) → own ≡ p → IsLive region p → at < p.len → pieces (lengths ps) (set ws (own.start + at) w) ≡ set region.spans p.number (set (words_at region p.number) at w)
+  pub live_set : (own p : Extent) (at w : ℕ) → own ≡ p → IsLive region p → at < p.len
+      → pieces (lengths ps) (set ws (own.start + at) w) ≡ set region.spans p.number (set (words_at region p.number) at w)
   live_set own p at w same live inside =
       let among = live_among p live in
       let written = pieces-set p.number (lengths ps) ws at w among.present (omega (arith, inside, among.long)) in

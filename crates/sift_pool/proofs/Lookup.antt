@@ -21,7 +21,8 @@ Decides-same_test p q =
     (Decides-and (p.start == q.start) (p.len == q.len) (Decides-eqb p.start q.start) (Decides-eqb p.len q.len)))
 
 -- what `get` finds is the span at that index, if there is one
-pub option_map-get : {B : Type 0} (now : B → Extent) (ps : List Extent) (k : ℕ) (own : Option B) → is_some own ≡ nat_lt k (length ps) → IfSome own (λ x. now x ≡ get_or ps k (now x)) → option_map now own ≡ slice_get ps k
+pub option_map-get : {B : Type 0} (now : B → Extent) (ps : List Extent) (k : ℕ) (own : Option B) → is_some own ≡ nat_lt k (length ps)
+    → IfSome own (λ x. now x ≡ get_or ps k (now x)) → option_map now own ≡ slice_get ps k
 option_map-get now ps k None there found =
     let past : length ps ≤ k = grind (arith, nat_tests) in
     sym (slice_get_past ps k past)

@@ -93,7 +93,8 @@ drop-put_mid_add m a k ws ys enough =
     cc
 
 -- a write to all words of a piece leaves the other pieces
-pub pieces-put_mid : (k : ℕ) (ns ws ys : List ℕ) → k < length ns → length ys ≡ get_or ns k 0 → sum ns ≤ length ws → pieces ns (put_mid (sum (take k ns)) (get_or ns k 0) ws ys) ≡ set (pieces ns ws) k ys
+pub pieces-put_mid : (k : ℕ) (ns ws ys : List ℕ) → k < length ns → length ys ≡ get_or ns k 0 → sum ns ≤ length ws
+    → pieces ns (put_mid (sum (take k ns)) (get_or ns k 0) ws ys) ≡ set (pieces ns ws) k ys
 pieces-put_mid k [] ws ys there long enough = absurd (omega arith)
 pieces-put_mid zero (n ∷ ns) ws ys there long enough =
     let head : take n (ys ++ drop n ws) ≡ ys = take_at ys (drop n ws) n long in
@@ -116,7 +117,9 @@ length-put_mid start len ws ys long within =
     omega (arith, length-append (take start ws) (ys ++ drop len (drop start ws)), after, length-drop len (drop start ws), length-drop start ws)
 
 -- a fill of the part from one number to another is a write of as many equal words
-pub put_mid-filled : (ws part ys : List ℕ) (from size start len word : ℕ) → part ≡ ws → ys ≡ replicate (length (take (from + size - from) (drop from part))) word → from ≡ start → size ≡ len → start + len ≤ length ws → put_mid from (from + size - from) part ys ≡ put_mid start len ws (replicate len word)
+pub put_mid-filled : (ws part ys : List ℕ) (from size start len word : ℕ) → part ≡ ws
+    → ys ≡ replicate (length (take (from + size - from) (drop from part))) word → from ≡ start → size ≡ len → start + len ≤ length ws
+    → put_mid from (from + size - from) part ys ≡ put_mid start len ws (replicate len word)
 put_mid-filled ws part ys from size start len word same fills starts long within =
     let size_is : from + size - from ≡ len = omega arith in
     let enough : len ≤ length (drop start ws) = omega (arith, length-drop start ws) in

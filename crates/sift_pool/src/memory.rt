@@ -1,3 +1,5 @@
+//! Want of memory, as this crate answers it.
+
 use std::alloc::AllocError;
 
 /// An allocation failed. Only the call that makes a pool may answer this, and it says nothing else.

@@ -1,3 +1,5 @@
+//! The pool: words in spans, one after another.
+
 ghost use Rattle.std.specs.Prelude.{◌≡◌, ◌<◌, ◌≤◌, ◌↔◌, length, IsTrue, IsOk, IsErr, IfOk, IfErr, OnErr};
 ghost use Rattle.std.specs.Prelude.{slice_index, slice_set, replicate, ◌+◌, ◌++◌, vec_len, vec_capacity};
 ghost use Rattle.sift_pool.specs.Region.{empty_region, words_at, with_words, first_spans, left_in};
@@ -144,6 +146,3 @@ fn push_zeros(words: &mut Vec<u16>, len: usize)
         words.push_reserved(0);
     }
 }
-
-#[cfg(test)]
-mod tests;

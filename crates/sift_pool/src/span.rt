@@ -1,3 +1,5 @@
+//! What a caller holds of a pool: a span, a mark, and why nothing was carved.
+
 ghost use Rattle.std.specs.Prelude.{ℕ};
 ghost use Rattle.sift_pool.specs.Region.{Extent};
 

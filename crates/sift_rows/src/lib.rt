@@ -10,6 +10,10 @@ mod buffer;
 #[cfg(test)]
 mod clock;
 #[cfg(test)]
+mod code;
+#[cfg(test)]
+mod compile;
+#[cfg(test)]
 mod compiled;
 #[cfg(test)]
 mod config;
@@ -20,12 +24,22 @@ mod io;
 #[cfg(test)]
 mod lang;
 #[cfg(test)]
+mod machine;
+#[cfg(test)]
 mod parse;
+#[cfg(test)]
+mod pool;
 #[cfg(test)]
 mod program;
 #[cfg(test)]
 mod scenario;
 #[cfg(test)]
+mod script;
+#[cfg(test)]
+mod shapes;
+#[cfg(test)]
 mod skew;
+#[cfg(test)]
+mod table;
 #[cfg(test)]
 mod vote;

@@ -1,5 +1,10 @@
 pub mod Codes
+pub mod Decided
 pub mod DocumentLemmas
+pub mod EachAnswered
+pub mod FirstBroken
+pub mod Known
+pub mod Limits
 pub mod NewNames
 pub mod Numbers
 pub mod OneMission
@@ -17,4 +22,3 @@ pub mod UniqueRefusals
 pub mod Unrefused
 pub mod WordCounts
 pub mod WordValues
-pub mod Limits

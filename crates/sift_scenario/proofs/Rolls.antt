@@ -31,7 +31,7 @@ long_words : (low high : ℕ) (words : Option (List ℕ)) (ws : List ℕ) → op
 long_words low high None ws is = cc
 long_words low high (Some words) ws is = of_length-long low high words ws is
 
-word_array-long : (low high : ℕ) (d : Data) (ws : List ℕ) → word_array low high d ≡ Some ws → (low ≤ length ws) × (length ws ≤ high)
+pub word_array-long : (low high : ℕ) (d : Data) (ws : List ℕ) → word_array low high d ≡ Some ws → (low ≤ length ws) × (length ws ≤ high)
 word_array-long low high (array items) ws is = long_words low high (word_values (list_of items)) ws is
 word_array-long low high (integer z) ws is = cc
 word_array-long low high (string s) ws is = cc

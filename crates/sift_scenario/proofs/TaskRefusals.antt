@@ -32,7 +32,7 @@ form_refusal-other roll left task form n at (inl fault) = refusal_of-other task 
 form_refusal-other roll left task form n at (inr over) = over-other left task over.tree n at over.over
 
 -- a task of a lawful document is refused
-text_refused_by : (d : Members) (e : Refused) → IsLawful d → (e ≢ NoMemory → TasksAreRefused (tasks_of d) e) → IsRefusedWith d e
+pub text_refused_by : (d : Members) (e : Refused) → IsLawful d → (e ≢ NoMemory → TasksAreRefused (tasks_of d) e) → IsRefusedWith d e
 text_refused_by d (Scenario n at) lawful refused = let r = refused (λ same. cc) in absurd (form_refusal-other _ _ _ _ n at r.2.here.holds)
 text_refused_by d (Task t k at) lawful refused = (lawful, refused (λ same. cc))
 text_refused_by d NoMemory lawful refused = tt

@@ -1,10 +1,16 @@
 -- The laws of what a document is answered with.
-use Rattle.std.specs.Prelude.{◌≡◌, ◌≢◌}
+use Rattle.std.specs.Prelude.{◌≡◌, ◌≢◌, ◌⊎◌, ℕ, List, Err}
 use Rattle.toml.specs.Data.{Members}
+use Rattle.sift_lang.specs.Tree.{TaskTree}
+use Rattle.sift_parse.specs.declared.stop.ParseStop.{ParseStop}
+use Rattle.sift_parse.specs.declared.stop.ParseStop.TheVariants as parse
+use Rattle.sift_parse.specs.Force.{Roll}
+use Rattle.sift_parse.specs.Outcome.{AreNames, IsTaskOf, Tells}
 use Rattle.sift_scenario.specs.declared.refused.Refused.{Refused}
 use Rattle.sift_scenario.specs.declared.refused.Refused.TheVariants.{NoMemory}
 use Rattle.sift_scenario.specs.Mission.{IsMission, Stated}
 use Rattle.sift_scenario.specs.Refusal.{IsRefusedWith}
+use Rattle.sift_scenario.specs.Rules.{IsFirstBroken, IsLawful}
 
 -- a document that states a mission isn't refused, where memory is not wanting
 abbrev pub MissionsAreAccepted : Type 0
@@ -17,3 +23,18 @@ OneRefusal = (document : Members) (one other : Refused) → one ≢ NoMemory →
 -- a document states at most one mission
 abbrev pub OneMission : Type 0
 OneMission = (document : Members) (one other : Stated) → IsMission document one → IsMission document other → one ≡ other
+
+-- a document keeps all rules, or one is the first that it breaks, at a first place
+abbrev pub RulesAreKeptOrBroken : Type 0
+RulesAreKeptOrBroken = (document : Members) → IsLawful document ⊎ ((number place : ℕ) × IsFirstBroken document number place)
+
+-- each text is a task, or is refused
+abbrev pub TextsAreAnswered : Type 0
+TextsAreAnswered = (roll : Roll) (bytes : List ℕ) → AreNames roll
+    → ((tree : TaskTree) × IsTaskOf roll bytes tree) ⊎ ((stop : ParseStop) × (stop ≢ parse.NoMemory) × Tells roll bytes (Err stop))
+
+-- where that is so, each document states a mission, or is refused
+abbrev pub DocumentsAreAnswered : Type 0
+DocumentsAreAnswered = TextsAreAnswered → (document : Members)
+    → ((mission : Stated) × IsMission document mission)
+    ⊎ ((refused : Refused) × (refused ≢ NoMemory) × IsRefusedWith document refused)

@@ -1,6 +1,6 @@
 //! The laws of what a document is answered with.
 
-ghost use Rattle.sift_scenario.specs.Laws.{MissionsAreAccepted, OneMission, OneRefusal};
+ghost use Rattle.sift_scenario.specs.Laws.{DocumentsAreAnswered, MissionsAreAccepted, OneMission, OneRefusal, RulesAreKeptOrBroken};
 
 /// A document that states a mission is refused by no rule, and none of its tasks is refused.
 pub fn missions_are_accepted()
@@ -15,4 +15,14 @@ pub fn one_refusal()
 /// A document states at most one mission.
 pub fn one_mission()
     ensures { OneMission }
+{}
+
+/// A document keeps all rules, or one is the first that it breaks, at a first place.
+pub fn rules_are_kept_or_broken()
+    ensures { RulesAreKeptOrBroken }
+{}
+
+/// A document states a mission or is refused, where each text of a task is a task or refused.
+pub fn documents_are_answered()
+    ensures { DocumentsAreAnswered }
 {}

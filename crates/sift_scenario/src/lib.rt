@@ -12,6 +12,9 @@ mod task;
 mod tree;
 mod value;
 
-pub use law::{missions_are_accepted, one_mission, one_refusal};
+pub use law::{
+    documents_are_answered, missions_are_accepted, one_mission, one_refusal,
+    rules_are_kept_or_broken,
+};
 pub use mission::{Mission, mission_of};
 pub use refused::Refused;

@@ -1,5 +1,6 @@
 pub mod Bounds
 pub mod Lists
 pub mod Refusals
+pub mod Slots
 pub mod Steady
 pub mod Views

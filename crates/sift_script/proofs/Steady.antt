@@ -95,7 +95,8 @@ pub working_units_have_not_turned : WorkingUnitsHaveNotTurned
 working_units_have_not_turned faults u f working = no_storm (fault_of_unit faults u) f (not_come faults u f (not_true (is_faulty faults u f) working))
 
 -- the fault of a unit comes in a frame of the mission, where each does
-comes_below : (faults : List Fault) (u frames : ℕ) (d : Fault) → ((at : ℕ) → at < length faults → (get_or faults at d).from < frames) → IfSome (fault_of_unit faults u) (λ fault. fault.from < frames)
+comes_below : (faults : List Fault) (u frames : ℕ) (d : Fault) → ((at : ℕ) → at < length faults → (get_or faults at d).from < frames)
+    → IfSome (fault_of_unit faults u) (λ fault. fault.from < frames)
 comes_below [] u frames d each = tt
 comes_below (fault ∷ faults) u frames d each = elim (cases_Bool (eqb fault.unit u)) [
   | inl own ↦ rw own (each 0 (omega arith))

@@ -1,10 +1,11 @@
 -- What holds of fault scripts.
-use Rattle.std.specs.Prelude.{◌≡◌, ℕ, ◌<◌, ◌≤◌, List, Some, None, true, false}
+use Rattle.std.specs.Prelude.{◌≡◌, ℕ, ◌<◌, ◌≤◌, ◌↔◌, List, Some, None, true, false}
+use Rattle.sift_base.specs.Shapes.{AllShapes, first_word}
 use Rattle.sift_base.specs.declared.slot.Slot.{Slot}
-use Rattle.sift_script.specs.Changes.{override_of}
+use Rattle.sift_script.specs.Changes.{first_word_of, is_same_slot, override_of}
 use Rattle.sift_script.specs.Faults.{has_turned, storm_of, works}
 use Rattle.sift_script.specs.Rules.{IsFirstBroken, IsGood}
-use Rattle.sift_script.specs.Script.{Fault, FaultScript}
+use Rattle.sift_script.specs.Script.{Fault, FaultScript, outputs_of}
 
 -- in a good script for some units, one unit of the mission works in every frame
 abbrev pub OneUnitIsSteady : Type 0
@@ -28,6 +29,14 @@ WorkingUnitsHaveNotTurned = (faults : List Fault) (u f : ℕ) → works faults u
 abbrev pub StormsComeInTheMission : Type 0
 StormsComeInTheMission =
     (script : FaultScript) (u from number strays : ℕ) → IsGood script → storm_of script.faults u ≡ Some (from, number, strays) → from < script.frames
+
+-- slots are compared whole: two are the same where they are one
+abbrev pub SlotsAreComparedWhole : Type 0
+SlotsAreComparedWhole = (one other : Slot) → (is_same_slot one other ≡ true) ↔ (one ≡ other)
+
+-- an item counts the words of the tasks before its own as a mission does
+abbrev pub WordsAreNumberedAlike : Type 0
+WordsAreNumberedAlike = (shapes : AllShapes) (t : ℕ) → first_word_of (outputs_of shapes) t ≡ first_word shapes t
 
 -- a script that breaks a rule has one first broken rule, at one entry, and one that meets all rules has none
 abbrev pub OneBrokenRule : Type 0

@@ -87,9 +87,12 @@ pub fn check(
 ) -> Result<GoodScript, Broken>
     requires layout { IsLayout layout.now }
     requires shapes { AreShapes (shapes_of shapes.now) }
-    ensures same { IfOk result (λ good. good ≡ script_for script layout.now (shapes_of shapes.now) frames) }
+    ensures same { IfOk result (λ good.
+        good ≡ script_for script layout.now (shapes_of shapes.now) frames) }
     ensures good { IfOk result IsGood }
-    ensures broken { IfErr result (λ broken. IsFirstBroken (script_for script layout.now (shapes_of shapes.now) frames) broken.rule broken.entry) }
+    ensures broken { IfErr result (λ broken.
+        let checked = script_for script layout.now (shapes_of shapes.now) frames in
+        IsFirstBroken checked broken.rule broken.entry) }
 {
     let parts = Parts::of(script, *layout, shapes, frames);
     for at in 0..parts.script.entries.len() {

@@ -2,6 +2,7 @@
 
 ghost use Rattle.sift_script.specs.Laws.{OneUnitIsSteady, FaultsAreForGood, WorkingUnitsSayTheirWords};
 ghost use Rattle.sift_script.specs.Laws.{WorkingUnitsHaveNotTurned, StormsComeInTheMission, OneBrokenRule};
+ghost use Rattle.sift_script.specs.Laws.{SlotsAreComparedWhole, WordsAreNumberedAlike};
 
 /// A good script leaves a unit that never fails.
 pub fn one_unit_is_steady()
@@ -26,6 +27,16 @@ pub fn working_units_have_not_turned()
 /// A good script has no storm that comes after the mission's end.
 pub fn storms_come_in_the_mission()
     ensures { StormsComeInTheMission }
+{}
+
+/// An item is about the one slot that it stands for.
+pub fn slots_are_compared_whole()
+    ensures { SlotsAreComparedWhole }
+{}
+
+/// The word that an item speaks of has the number that it has in a mission of these tasks.
+pub fn words_are_numbered_alike()
+    ensures { WordsAreNumberedAlike }
 {}
 
 /// A script is refused in at most one way, and never if it meets all rules.

@@ -1,9 +1,9 @@
 //! A script with what it is for: the mission's layout, its tasks' output words and its frames.
 
-ghost use Rattle.std.specs.Prelude.{◌≡◌, ◌<◌, ◌≤◌, ◌+◌, ◌*◌, length, map, sum};
+ghost use Rattle.std.specs.Prelude.{◌≡◌, ◌≤◌, ◌*◌, length, map, sum};
 ghost use Rattle.std.specs.Option.{option_map};
 ghost use Rattle.sift_base.specs.Shapes.{shapes_of, AreShapes};
-ghost use Rattle.sift_script.specs.Script.{script_for, change_of, fault_of, faults_of};
+ghost use Rattle.sift_script.specs.Script.{script_for, change_of, fault_of};
 ghost use Rattle.sift_script.specs.Changes.{slot_of, is_same_slot, fits, first_word_of, replacement_by};
 ghost use Rattle.sift_script.specs.Faults.{fault_of_unit, is_faulty};
 ghost use Rattle.sift_script.specs.Parts.{script_of};
@@ -56,7 +56,8 @@ impl Parts {
 
     /// The entry of a unit, where it has one.
     pub fn entry_of(&self, u: UnitId) -> Option<&Entry>
-        ensures { option_map (λ entry. fault_of entry.now) result ≡ fault_of_unit (script_of self.now).faults u }
+        ensures { option_map (λ entry. fault_of entry.now) result
+            ≡ fault_of_unit (script_of self.now).faults u }
     {
         let unit = u.get();
         self.script.entries.iter().find(|entry| entry.unit == unit)
@@ -64,7 +65,8 @@ impl Parts {
 
     /// Whether an item is about a slot.
     fn is_about(&self, item: &Item, slot: Slot) -> bool
-        ensures { result ≡ is_same_slot (slot_of (script_of self.now).outputs (change_of item.now)) slot }
+        ensures { let about = slot_of (script_of self.now).outputs (change_of item.now) in
+            result ≡ is_same_slot about slot }
     {
         match slot {
             Slot::Clock => item.kind == SlotKind::Clock,
@@ -97,7 +99,8 @@ impl Parts {
         slot: Slot,
         to: UnitId,
     ) -> Option<Option<Word>>
-        ensures { result ≡ replacement_by (script_of self.now).outputs f slot to (map change_of items.now) }
+        ensures { let changes = map change_of items.now in
+            result ≡ replacement_by (script_of self.now).outputs f slot to changes }
     {
         items
             .iter()

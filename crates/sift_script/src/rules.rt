@@ -1,8 +1,7 @@
 //! The rules of an entry, one test a rule.
 
-ghost use Rattle.std.specs.Prelude.{◌≡◌, ◌<◌, ◌≤◌, ◌+◌, ◌↔◌, length, map, IsTrue};
+ghost use Rattle.std.specs.Prelude.{◌≡◌, ◌<◌, ◌↔◌, length, map, IsTrue};
 ghost use Rattle.std.specs.List.{All};
-ghost use Rattle.sift_base.specs.Layout.{IsLayout};
 ghost use Rattle.sift_base.specs.Units.{has};
 ghost use Rattle.sift_script.specs.Script.{change_of};
 ghost use Rattle.sift_script.specs.Rules.{HasUnit, HasNewUnit, FailsInMission, LeavesAUnit, HasPlaceBy, HasFrameBy};
@@ -61,7 +60,8 @@ pub fn leaves_a_unit(parts: &Parts, at: usize) -> bool
 
 /// Whether the sensor, task and word, or unit of an item is one of the mission's.
 fn has_place(parts: &Parts, item: &Item) -> bool
-    ensures { IsTrue result ↔ HasPlaceBy (script_of parts.now) item.now.kind item.now.index item.now.word }
+    ensures { IsTrue result
+        ↔ HasPlaceBy (script_of parts.now) item.now.kind item.now.index item.now.word }
 {
     match item.kind {
         SlotKind::Clock | SlotKind::Report => true,
@@ -124,7 +124,8 @@ fn are_receivers(units: u8, unit: u8, to: &[u8]) -> bool
 
 /// Whether each of some items is for receivers of what a unit says among so many.
 fn have_receivers(units: u8, unit: u8, items: &[Item]) -> bool
-    ensures { IsTrue result ↔ All (λ change. AreReceivers units unit change.to) (map change_of items.now) }
+    ensures { IsTrue result
+        ↔ All (λ change. AreReceivers units unit change.to) (map change_of items.now) }
 {
     for item in items {
         if !are_receivers(units, unit, &item.to) {

@@ -2,11 +2,11 @@
 use Rattle.std.proofs.Common.{◌≡◌, ℕ, zero, suc, ◌+◌, ◌*◌, ◌<◌, ◌≤◌, [], length, get_or, arith}
 use Rattle.std.proofs.lemmas.List.Elements.{All-from_get_or}
 use Rattle.std.proofs.lemmas.List.FromFn.{get_or-map-range_with_len, get_or-range_with_len, length-map-range_with_len, length-range_with_len}
-use Rattle.std.specs.List.{range_with_len}
+use Rattle.std.specs.List.{All, range_with_len}
 use Rattle.sift_base.specs.Shapes.{AllShapes, AreShapes, shape_at}
 use Rattle.sift_base.specs.Units.{IsAscending, IsBelowAll}
 use Rattle.sift_table.specs.Laws.{PlainTablesAreGood}
-use Rattle.sift_table.specs.Rules.{MeetsEach, row_rules}
+use Rattle.sift_table.specs.Rules.{MeetsEach, ReadsPolledWords, SharesNoPosition, row_rules}
 use Rattle.sift_table.specs.Schedule.{plain_of, polled_in, positions_of, run_in}
 
 -- consecutive numbers are above what comes before them
@@ -18,6 +18,13 @@ consecutive_above p a (suc n) low = (low, consecutive_above p (a + 1) n (omega a
 consecutive_ascend : (a n : ℕ) → IsAscending (range_with_len a n)
 consecutive_ascend a zero = tt
 consecutive_ascend a (suc n) = (consecutive_above a (a + 1) n (omega arith), consecutive_ascend (a + 1) n)
+
+-- consecutive numbers from 0 on are below their count
+consecutive_below : (n : ℕ) → All (λ p. p < n) (range_with_len 0 n)
+consecutive_below n =
+    let count = length-range_with_len 0 n in
+    All-from_get_or (λ p. p < n) (range_with_len 0 n) 0
+    (λ i low. let inside : i < n = omega (arith, low, count) in rw (get_or-range_with_len 0 n i 0 inside) (omega (arith, inside)))
 
 module _ (size period tasks t : ℕ) (there : t < tasks) where
   -- when a task of the plain table runs
@@ -33,37 +40,24 @@ module _ (size period tasks t : ℕ) (there : t < tasks) where
   plain_positions = get_or-map-range_with_len (λ k. range_with_len 0 size) 0 tasks t t [] there (omega arith)
 
 -- each row of the plain table meets the rules of a row
-plain_row : (size period : ℕ) (shapes : AllShapes) (t : ℕ) → 3 ≤ size → AreShapes shapes → 4 + 2 * length shapes.tasks + 6 ≤ period → t < length shapes.tasks
-    → MeetsEach row_rules (plain_of size period (length shapes.tasks)) shapes t
+plain_row : (size period : ℕ) (shapes : AllShapes) (t : ℕ) → 3 ≤ size → AreShapes shapes → 4 + 2 * length shapes.tasks + 6 ≤ period
+    → t < length shapes.tasks → MeetsEach row_rules (plain_of size period (length shapes.tasks)) shapes t
 plain_row size period shapes t enough sound long there =
     let tasks = length shapes.tasks in
+    let table = plain_of size period tasks in
     let run = plain_run size period tasks t there in
     let poll = plain_poll size period tasks t there in
-    let at = plain_positions size period tasks t there in (
-      omega (arith, run),
-      (
-        omega (arith, poll),
-        (
-          omega (arith, run, poll),
-          (
-            rw at (rw (length-range_with_len 0 size) enough),
-            (
-              rw at (All-from_get_or (λ p. p < size) (range_with_len 0 size) 0 (λ i low. rw (get_or-range_with_len 0 size i 0 (omega (arith, low, length-range_with_len 0 size))) (omega (arith, low, length-range_with_len 0 size)))),
-              (
-                rw at (consecutive_ascend 0 size),
-                (
-                  λ k d low. (
-                      let needed = get_or (shape_at shapes t).needs k d in
-                      let earlier : needed < t = sound.earlier t there k d low in
-                      omega (arith, run, plain_poll size period tasks needed (omega (arith, there, earlier)), earlier)),
-                  (λ earlier before same. absurd (omega (arith, run, same, plain_run size period tasks earlier (omega (arith, there, before)))), tt),
-                ),
-              ),
-            ),
-          ),
-        ),
-      ),
-    )
+    let at = plain_positions size period tasks t there in
+    let few : 3 ≤ length (positions_of table t) = rw at (rw (length-range_with_len 0 size) enough) in
+    let inside : All (λ p. p < size) (positions_of table t) = rw at (consecutive_below size) in
+    let ascend : IsAscending (positions_of table t) = rw at (consecutive_ascend 0 size) in
+    let reads : ReadsPolledWords table shapes t = λ k d low.
+    let needed = get_or (shape_at shapes t).needs k d in
+    let earlier : needed < t = sound.earlier t there k d low in
+    omega (arith, run, plain_poll size period tasks needed (omega (arith, there, earlier)), earlier) in
+    let apart : SharesNoPosition table t = λ earlier before same.
+    absurd (omega (arith, run, same, plain_run size period tasks earlier (omega (arith, there, before)))) in
+    (omega (arith, run), (omega (arith, poll), (omega (arith, run, poll), (few, (inside, (ascend, (reads, (apart, tt))))))))
 
 pub plain_tables_are_good : PlainTablesAreGood
 plain_tables_are_good size period shapes enough sound long =

@@ -13,7 +13,8 @@ met_unbroken (rule ∷ rules) table shapes row number met (inl here) = here.0 me
 met_unbroken (rule ∷ rules) table shapes row number met (inr later) = met_unbroken rules table shapes row number met.1 later.1
 
 -- the first broken rule of a row is one
-one_number : (rules : List Rule) (table : Schedule) (shapes : AllShapes) (row number other : ℕ) → BreaksFirst rules table shapes row number → BreaksFirst rules table shapes row other → other ≡ number
+one_number : (rules : List Rule) (table : Schedule) (shapes : AllShapes) (row number other : ℕ)
+    → BreaksFirst rules table shapes row number → BreaksFirst rules table shapes row other → other ≡ number
 one_number [] table shapes row number other broken again = absurd broken
 one_number (rule ∷ rules) table shapes row number other (inl here) (inl there) = there.1 ∙ sym here.1
 one_number (rule ∷ rules) table shapes row number other (inl here) (inr there) = absurd (here.0 there.0)
@@ -34,7 +35,8 @@ refused_bad table shapes number row (inl whole) good = met_unbroken table_rules 
 refused_bad table shapes number row (inr broken) good = met_unbroken row_rules table shapes row number (good.rows row broken.inside) broken.broken
 
 -- two first broken rules are one
-one_refusal : (table : Schedule) (shapes : AllShapes) (number row other at : ℕ) → IsFirstBroken table shapes number row → IsFirstBroken table shapes other at → (other ≡ number) × (at ≡ row)
+one_refusal : (table : Schedule) (shapes : AllShapes) (number row other at : ℕ)
+    → IsFirstBroken table shapes number row → IsFirstBroken table shapes other at → (other ≡ number) × (at ≡ row)
 one_refusal table shapes number row other at (inl one) (inl two) = (one_number table_rules table shapes 0 number other one.0 two.0, two.1 ∙ sym one.1)
 one_refusal table shapes number row other at (inl one) (inr two) = absurd (met_unbroken table_rules table shapes 0 number two.whole one.0)
 one_refusal table shapes number row other at (inr one) (inl two) = absurd (met_unbroken table_rules table shapes 0 other one.whole two.0)

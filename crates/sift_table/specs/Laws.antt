@@ -7,18 +7,18 @@ use Rattle.sift_base.specs.declared.layout.Layout.{Layout}
 use Rattle.sift_base.specs.declared.slot.Slot.{Slot}
 use Rattle.sift_table.specs.Rules.{IsFirstBroken, IsGood, least_executors, report_lead}
 use Rattle.sift_table.specs.Schedule.{Schedule, agreed_in, hearing_delay, plain_of, polled_in, run_in, runs_at}
-use Rattle.sift_table.specs.Timing.{due_in, heard_in, task_of}
+use Rattle.sift_table.specs.Timing.{due_in, end_lead, heard_in, task_of}
 
 -- the fewest subframes that a frame may have
 abbrev pub shortest_period : ℕ
 shortest_period = 12
 
--- the word of each slot is heard two subframes after it is said, or later, and two before the frame ends, or earlier
+-- the word of each slot is heard two subframes after it is said, or later, and two before the frame's end, or earlier
 abbrev pub SlotsAreHeardInTime : Type 0
 SlotsAreHeardInTime =
     (table : Schedule) (shapes : AllShapes) (layout : Layout) (slot : Slot) → IsGood table shapes → shortest_period ≤ table.period
     → layout.words ≡ words_in shapes.tasks → IsSlot layout slot
-    → (due_in table shapes slot + 2 ≤ heard_in table shapes slot) × (heard_in table shapes slot + 2 ≤ table.period)
+    → (due_in table shapes slot + hearing_delay ≤ heard_in table shapes slot) × (heard_in table shapes slot + end_lead ≤ table.period)
 
 -- a task runs in the subframe in which what it reads of this frame is polled, or later
 abbrev pub TasksRunAfterTheirNeeds : Type 0

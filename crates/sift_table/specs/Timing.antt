@@ -3,7 +3,8 @@ use Rattle.std.specs.Prelude.{ℕ, suc, ◌-◌, List, [], ◌∷◌, nat_lt, if
 use Rattle.sift_base.specs.Shapes.{AllShapes, Shape}
 use Rattle.sift_base.specs.declared.slot.Slot.{Slot}
 use Rattle.sift_base.specs.declared.slot.Slot.TheVariants.{Clock, Sense, RelaySense, Out, Report, RelayReport}
-use Rattle.sift_table.specs.Schedule.{Schedule, polled_in, run_in}
+use Rattle.sift_table.specs.Rules.{report_lead}
+use Rattle.sift_table.specs.Schedule.{Schedule, agreed_in, hearing_delay, polled_in, run_in}
 
 -- the task among these that puts out word w of all their words: each task's words follow those of the task before it
 abbrev pub task_among : List Shape → ℕ → ℕ
@@ -14,20 +15,28 @@ task_among (task ∷ rest) w = if nat_lt w task.outputs then 0 else suc (task_am
 abbrev pub task_of : AllShapes → ℕ → ℕ
 task_of shapes w = task_among shapes.tasks w
 
+-- so many subframes before a frame's end the reports are heard, and said again by those who heard them
+abbrev pub relay_lead : ℕ
+relay_lead = 4
+
+-- so many subframes before a frame's end the last words of the frame are heard
+abbrev pub end_lead : ℕ
+end_lead = 2
+
 -- the subframe of a frame in which the word of a slot is said
 abbrev pub due_in : Schedule → AllShapes → Slot → ℕ
 due_in table shapes Clock = 0
 due_in table shapes (Sense x) = 0
-due_in table shapes (RelaySense x) = 2
+due_in table shapes (RelaySense x) = hearing_delay
 due_in table shapes (Out w) = run_in table (task_of shapes w)
-due_in table shapes Report = table.period - 6
-due_in table shapes (RelayReport u) = table.period - 4
+due_in table shapes Report = table.period - report_lead
+due_in table shapes (RelayReport u) = table.period - relay_lead
 
 -- the subframe of a frame in which the word of a slot is heard
 abbrev pub heard_in : Schedule → AllShapes → Slot → ℕ
-heard_in table shapes Clock = 2
-heard_in table shapes (Sense x) = 2
-heard_in table shapes (RelaySense x) = 4
+heard_in table shapes Clock = hearing_delay
+heard_in table shapes (Sense x) = hearing_delay
+heard_in table shapes (RelaySense x) = agreed_in
 heard_in table shapes (Out w) = polled_in table (task_of shapes w)
-heard_in table shapes Report = table.period - 4
-heard_in table shapes (RelayReport u) = table.period - 2
+heard_in table shapes Report = table.period - relay_lead
+heard_in table shapes (RelayReport u) = table.period - end_lead

@@ -1,6 +1,6 @@
 //! Tables that were checked.
 
-ghost use Rattle.std.specs.Prelude.{◌≡◌, ◌<◌, ◌≤◌, length, IfOk, IfErr, IfSome, IfNone};
+ghost use Rattle.std.specs.Prelude.{◌≡◌, ◌<◌, length, IfOk, IfErr, IfSome, IfNone};
 ghost use Rattle.sift_base.specs.Shapes.{shapes_of, AreShapes};
 ghost use Rattle.sift_table.specs.Schedule.{schedule_of, run_in, polled_in, runs_at};
 ghost use Rattle.sift_table.specs.Rules.{HasAnEntryEach, IsGood, IsFirstBroken, MeetsEach, BreaksFirst, row_rules};
@@ -73,7 +73,8 @@ pub fn check(table: Table, shapes: &Shapes) -> Result<GoodTable, Broken>
     requires { AreShapes (shapes_of shapes.now) }
     ensures same { IfOk result (λ good. good ≡ schedule_of table) }
     ensures good { IfOk result (λ good. IsGood good (shapes_of shapes.now)) }
-    ensures broken { IfErr result (λ broken. IsFirstBroken (schedule_of table) (shapes_of shapes.now) broken.rule broken.row) }
+    ensures broken { IfErr result (λ broken.
+        IsFirstBroken (schedule_of table) (shapes_of shapes.now) broken.rule broken.row) }
 {
     if !rules::has_an_entry_each(&table, shapes) {
         return Err(Broken { rule: 1, row: 0 });
@@ -94,8 +95,10 @@ fn broken_rule(table: &Table, shapes: &Shapes, row: usize) -> Option<u8>
     requires shapes { AreShapes (shapes_of shapes.now) }
     requires entries { HasAnEntryEach (schedule_of table.now) (shapes_of shapes.now) }
     requires row { row < length (shapes_of shapes.now).tasks }
-    ensures broken { IfSome result (BreaksFirst row_rules (schedule_of table.now) (shapes_of shapes.now) row) }
-    ensures met { IfNone result (MeetsEach row_rules (schedule_of table.now) (shapes_of shapes.now) row) }
+    ensures broken { IfSome result
+        (BreaksFirst row_rules (schedule_of table.now) (shapes_of shapes.now) row) }
+    ensures met { IfNone result
+        (MeetsEach row_rules (schedule_of table.now) (shapes_of shapes.now) row) }
 {
     if !rules::runs_after_agreement(table, row) {
         return Some(2);

@@ -1,6 +1,6 @@
 //! The rules of a row, one test a rule.
 
-ghost use Rattle.std.specs.Prelude.{◌≡◌, ◌<◌, ◌≤◌, ◌↔◌, length, IsTrue};
+ghost use Rattle.std.specs.Prelude.{◌≡◌, ◌<◌, ◌↔◌, length, IsTrue};
 ghost use Rattle.sift_base.specs.Shapes.{shapes_of, shape_at, AreShapes};
 ghost use Rattle.sift_table.specs.Schedule.{schedule_of};
 ghost use Rattle.sift_table.specs.Rules.{HasAnEntryEach, RunsAfterAgreement, IsPolledByReports, IsPolledAfterRun, HasEnoughPositions};
@@ -94,7 +94,8 @@ pub fn reads_polled_words(table: &Table, shapes: &Shapes, row: usize) -> bool
     requires shapes { AreShapes (shapes_of shapes.now) }
     requires entries { HasAnEntryEach (schedule_of table.now) (shapes_of shapes.now) }
     requires row { row < length (shapes_of shapes.now).tasks }
-    ensures { IsTrue result ↔ ReadsPolledWords (schedule_of table.now) (shapes_of shapes.now) row }
+    ensures { IsTrue result
+        ↔ ReadsPolledWords (schedule_of table.now) (shapes_of shapes.now) row }
 {
     for &needed in needs_of(shapes, row) {
         if table.poll[usize::from(needed)] > table.run[row] {

@@ -65,7 +65,8 @@ fn all_positions(alloc: Global, size: u8) -> Result<Vec<u8>, AllocError>
 /// Every second subframe from one on, one for each task.
 fn every_second(alloc: Global, from: u8, tasks: u8) -> Result<Vec<u8>, AllocError>
     requires { from + 2 * tasks < 2 ^ 8 }
-    ensures { IfOk result (λ subframes. subframes.items ≡ map (λ t. from + 2 * t) (range_with_len 0 tasks)) }
+    ensures { IfOk result (λ subframes.
+        subframes.items ≡ map (λ t. from + 2 * t) (range_with_len 0 tasks)) }
 {
     (0..tasks).map(|t| from + 2 * t).collect(alloc)
 }

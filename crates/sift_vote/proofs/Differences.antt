@@ -44,15 +44,21 @@ module _ (us : List ℕ) (places : List (Option ℕ)) (vote : Option ℕ) (caugh
     (within : i < length us) (same : length places ≡ length us) (unit_is : t ≡ get_or us i t) (place_is : place ≡ get_or places i place)
     (are : (u : ℕ) → holds caught u ≡ has_differing (take i us) (take i places) vote u) where
   front : (u : ℕ) → has_differing (take (i + 1) us) (take (i + 1) places) vote u ≡ (has_differing (take i us) (take i places) vote u || (nat_eq t u && differs place vote))
-  front u = rw (add-one i) (differing_front us places vote u i t place within same ∙ (λ j. has_differing (take i us) (take i places) vote u || (nat_eq (sym unit_is j) u && differs (sym place_is j) vote)))
+  front u = rw (add-one i) (differing_front us places vote u i t place within same
+      ∙ (λ j. has_differing (take i us) (take i places) vote u || (nat_eq (sym unit_is j) u && differs (sym place_is j) vote)))
 
   -- whose place differs joins them
   pub differing_joins : differs place vote ≡ true → (u : ℕ) → holds (set.insert caught t) u ≡ has_differing (take (i + 1) us) (take (i + 1) places) vote u
-  differing_joins differ u = joins caught t u (has_differing (take i us) (take i places) vote u) (are u) ∙ sym (front u ∙ ap (λ b. has_differing (take i us) (take i places) vote u || (nat_eq t u && b)) differ ∙ ap (λ b. has_differing (take i us) (take i places) vote u || b) (true_last (nat_eq t u)))
+  differing_joins differ u = joins caught t u (has_differing (take i us) (take i places) vote u) (are u)
+      ∙ sym (front u ∙ ap (λ b. has_differing (take i us) (take i places) vote u || (nat_eq t u && b)) differ
+      ∙ ap (λ b. has_differing (take i us) (take i places) vote u || b) (true_last (nat_eq t u)))
 
   -- whose place doesn't differ doesn't
   pub same_stays_out : differs place vote ≡ false → (u : ℕ) → holds caught u ≡ has_differing (take (i + 1) us) (take (i + 1) places) vote u
-  same_stays_out agree u = are u ∙ sym (front u ∙ ap (λ b. has_differing (take i us) (take i places) vote u || (nat_eq t u && b)) agree ∙ ap (λ b. has_differing (take i us) (take i places) vote u || b) (false_last (nat_eq t u)) ∙ or_false (has_differing (take i us) (take i places) vote u))
+  same_stays_out agree u = are u
+      ∙ sym (front u ∙ ap (λ b. has_differing (take i us) (take i places) vote u || (nat_eq t u && b)) agree
+      ∙ ap (λ b. has_differing (take i us) (take i places) vote u || b) (false_last (nat_eq t u))
+      ∙ or_false (has_differing (take i us) (take i places) vote u))
     where
       or_false : (b : Bool) → (b || false) ≡ b
       or_false true = refl

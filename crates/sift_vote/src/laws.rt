@@ -1,3 +1,5 @@
+//! The laws of majority and agreement.
+
 ghost use Rattle.sift_vote.specs.Majority.{
   MajorityIsUnique,
   AgreementIsUnique,

@@ -1,3 +1,5 @@
+//! The majority of places.
+
 ghost use Rattle.std.specs.Prelude.{◌≡◌, ℕ, IfSome, IfNone};
 ghost use Rattle.sift_vote.specs.Majority.{votes_for, IsMajority, HasNoMajority};
 

@@ -10,8 +10,12 @@ use Rattle.sift_code.proofs.checked.bound.Goals.{in-Begin, in-End, in_default}
 -- no more than 32 loops are open
 pub push-requires : goal.push-requires
 push-requires c =
-    let at = read_item c.code-instr-items.result.now c.args.nest.now c.loop-instr.instr-index c.instr-item.result c.code-instr-items.ensures (omega arith) c.instr-item.is in
-    (lit< tt, outside_room (within c.args.nest.now c.args.limits.now) c.requires c.loop-instr.instr-index c.in-Begin.rounds c.loop-instr.outside.items (at ∙ ap Some c.in-Begin.is) c.loop-instr.invariant.2)
+    let at = read_item c.code-instr-items.result.now c.args.nest.now c.loop-instr.instr-index c.instr-item.result c.code-instr-items.ensures (omega arith) c.instr-item.is in (
+      lit< tt,
+      outside_room
+          (within c.args.nest.now c.args.limits.now) c.requires c.loop-instr.instr-index c.in-Begin.rounds c.loop-instr.outside.items (at
+          ∙ ap Some c.in-Begin.is) c.loop-instr.invariant.2,
+    )
 
 -- the sum and the products behind one more instruction
 pub loop-instr-preserved : goal.loop-instr-preserved
@@ -22,14 +26,23 @@ loop-instr-preserved c =
       | in-Begin w ↦ (
           let here = at ∙ ap Some w.in-Begin.is in (
             sum,
-            w.product-is ∙ (w.saturating_mul-product.ensures ∙ rw w.from.ensures (product_in c.args.nest.now c.loop-instr.instr-index w.in-Begin.rounds c.loop-instr.product here c.loop-instr.invariant.1)),
-            ap (λ v. v.items) w.outside-is ∙ (w.push.ensures.items ∙ outside_in c.args.nest.now c.loop-instr.instr-index w.in-Begin.rounds c.loop-instr.product c.loop-instr.outside.items here c.loop-instr.invariant.1 c.loop-instr.invariant.2),
+            w.product-is ∙ (w.saturating_mul-product.ensures
+                ∙ rw w.from.ensures (product_in c.args.nest.now c.loop-instr.instr-index w.in-Begin.rounds c.loop-instr.product here
+                c.loop-instr.invariant.1)),
+            ap (λ v. v.items) w.outside-is
+                ∙ (w.push.ensures.items
+                ∙ outside_in c.args.nest.now c.loop-instr.instr-index w.in-Begin.rounds c.loop-instr.product c.loop-instr.outside.items here
+                c.loop-instr.invariant.1 c.loop-instr.invariant.2),
           ))
       | in-End w ↦ (
           let next = rounds_end c.args.nest.now c.loop-instr.instr-index (at ∙ ap Some w.in-End.is) in (
             sum,
-            w.product-is ∙ (w.unwrap_or-product.ensures ∙ (product_out (rounds_at c.args.nest.now c.loop-instr.instr-index) c.loop-instr.outside.items w.pop.result c.loop-instr.invariant.2 w.pop.ensures.value ∙ ap (λ rs. kept (product rs)) (sym next))),
-            ap (λ v. v.items) w.outside-is ∙ (outside_out (rounds_at c.args.nest.now c.loop-instr.instr-index) c.loop-instr.outside.items w.pop.new.self.items c.loop-instr.invariant.2 w.pop.ensures.rest ∙ ap products_outside (sym next)),
+            w.product-is ∙ (w.unwrap_or-product.ensures
+                ∙ (product_out (rounds_at c.args.nest.now c.loop-instr.instr-index) c.loop-instr.outside.items w.pop.result
+                c.loop-instr.invariant.2 w.pop.ensures.value ∙ ap (λ rs. kept (product rs)) (sym next))),
+            ap (λ v. v.items) w.outside-is
+                ∙ (outside_out (rounds_at c.args.nest.now c.loop-instr.instr-index) c.loop-instr.outside.items w.pop.new.self.items
+                c.loop-instr.invariant.2 w.pop.ensures.rest ∙ ap products_outside (sym next)),
           ))
       | in_default w ↦ (
           let next = rounds_other c.args.nest.now c.loop-instr.instr-index c.instr-item.result at w.in_default.not-Begin w.in_default.not-End in (

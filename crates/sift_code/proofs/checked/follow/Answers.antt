@@ -24,7 +24,9 @@ pub returns-in_err-check-2-clause-refused : goal.returns-in_err-check-2-clause-r
 returns-in_err-check-2-clause-refused c =
     let same = ap length c.code-instr-items.ensures in
     let p = err_from_is_err_and c.from_residual-in_err-check-2.result c.from_residual-in_err-check-2.ensures.1 in
-    rw (p.1, p.2) (λ other. first_at (within c.args.nest.now c.args.limits.now) c.len.result c.in_err-check-2.field-0.0 (omega (arith, c.len.ensures)) (λ q before. c.loop-at.invariant.1 q (omega (arith, c.len.ensures))) c.in_err-check-2.ensures.refused)
+    rw (p.1, p.2) (λ other. first_at (within c.args.nest.now c.args.limits.now) c.len.result c.in_err-check-2.field-0.0
+    (omega (arith, c.len.ensures))
+    (λ q before. c.loop-at.invariant.1 q (omega (arith, c.len.ensures))) c.in_err-check-2.ensures.refused)
 
 -- no place offends
 pub returns-clause-sound : goal.returns-clause-sound

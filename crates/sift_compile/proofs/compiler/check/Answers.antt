@@ -12,7 +12,9 @@ emit_block-requires-clause-room c =
 
 pub no_memory-requires : goal.no_memory-requires
 no_memory-requires c =
-    let code = c.in_ok-emit_block.ensures ∙ (ap (λ l. l ++ block_code (length l) 0 (block_of c.deref.result.now)) c.new-code.ensures.items ∙ ap (λ l. block_code 0 0 (block_of l)) c.deref.ensures.value) in
+    let code = c.in_ok-emit_block.ensures
+    ∙ (ap (λ l. l ++ block_code (length l) 0 (block_of c.deref.result.now)) c.new-code.ensures.items
+    ∙ ap (λ l. block_code 0 0 (block_of l)) c.deref.ensures.value) in
     let program = task_program c.args.sensors c.args.words (tree_of c.args.task.now) in
     let sound = code_is_sound c.args.sensors c.args.words (tree_of c.args.task.now) c.requires.sound in
     never_refused program sound c.in-Err.bad (rw code at c.in-Err.ensures.refused)

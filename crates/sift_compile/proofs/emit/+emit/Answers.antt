@@ -33,7 +33,8 @@ emit_statement-emit_block-requires t c =
     let view : statement_of c.args.statement.now ≡ choose (term_of d.test) (block_of d.first.items) = search (rules, the_lemmas) in
     let sound = rw view at c.requires.sound in
     let room = rw view at c.requires.room in
-    let l1 = test_long c.args.code.now.items c.emit_test.new.code.items (term_of d.test) (behind (length c.args.code.now.items) (term_code (term_of d.test)) + c.block_length.result) c.in_ok-emit_test-in-None.ensures in (
+    let l1 = test_long c.args.code.now.items c.emit_test.new.code.items (term_of d.test)
+    (behind (length c.args.code.now.items) (term_code (term_of d.test)) + c.block_length.result) c.in_ok-emit_test-in-None.ensures in (
       search (rules, the_lemmas),
       rw c.deref-in-None.ensures.value (omega (arith, room, l1), (sound.0, sound.1.1)),
     )
@@ -48,7 +49,8 @@ emit_statement-returns-in_ok-emit_block-in-None-clause-emitted t c =
     let is : c.block_length.result ≡ kept (block_length (block_of d.first.items)) = rw c.deref.ensures.value at c.block_length.ensures in
     let passed = is ∙ kept_same (block_length (block_of d.first.items)) (omega (arith, room)) in
     let emitted = rw c.deref-in-None.ensures.value at c.in_ok-emit_block-in-None.ensures in
-    choose_emitted old c.emit_test.new.code.items c.emit_block.new.code.items (term_of d.test) (block_of d.first.items) c.args.locals c.block_length.result c.in_ok-emit_test-in-None.ensures passed emitted
+    choose_emitted old c.emit_test.new.code.items c.emit_block.new.code.items (term_of d.test)
+    (block_of d.first.items) c.args.locals c.block_length.result c.in_ok-emit_test-in-None.ensures passed emitted
     ∙ ap (λ s. old ++ statement_code (length old) c.args.locals s) (sym view)
 
 pub emit_statement-returns-in_ok-put-in-Repeat-2-clause-emitted :
@@ -58,7 +60,8 @@ emit_statement-returns-in_ok-put-in-Repeat-2-clause-emitted t c =
     let old = c.args.code.now.items in
     let view : statement_of c.args.statement.now ≡ repeat d.rounds (block_of d.body.items) = search (rules, the_lemmas) in
     let emitted = rw c.deref-in-Repeat.ensures.value at c.in_ok-emit_block-in-Repeat.ensures in
-    repeat_emitted old c.put.new.code.items c.emit_block-in-Repeat.new.code.items c.put-in-Repeat.new.code.items d.rounds (block_of d.body.items) c.args.locals c.in_ok-put-in-Repeat.ensures emitted c.in_ok-put-in-Repeat-2.ensures
+    repeat_emitted old c.put.new.code.items c.emit_block-in-Repeat.new.code.items c.put-in-Repeat.new.code.items d.rounds
+    (block_of d.body.items) c.args.locals c.in_ok-put-in-Repeat.ensures emitted c.in_ok-put-in-Repeat-2.ensures
     ∙ ap (λ s. old ++ statement_code (length old) c.args.locals s) (sym view)
 
 pub emit_statement-emit_block-requires-in-Some :
@@ -69,7 +72,8 @@ emit_statement-emit_block-requires-in-Some t c =
     let view : statement_of c.args.statement.now ≡ choose_else (term_of d.test) (block_of d.first.items) (block_of c.in-Some.second.items) = search (rules, the_lemmas) in
     let sound = rw view at c.requires.sound in
     let room = rw view at c.requires.room in
-    let l1 = test_long old c.emit_test-in-Some.new.code.items (term_of d.test) (behind (length old) (term_code (term_of d.test)) + (c.block_length-in-Some.result + 1)) c.in_ok-emit_test-in-Some.ensures in (
+    let l1 = test_long old c.emit_test-in-Some.new.code.items (term_of d.test)
+    (behind (length old) (term_code (term_of d.test)) + (c.block_length-in-Some.result + 1)) c.in_ok-emit_test-in-Some.ensures in (
       search (rules, the_lemmas),
       rw c.deref-in-Some-2.ensures.value (omega (arith, room, l1), (sound.0, sound.1.1)),
     )
@@ -118,5 +122,8 @@ emit_statement-returns-in_ok-emit_block-in-Some-2-clause-emitted t c =
     let past = are ∙ kept_same (block_length second) (omega (arith, room)) in
     let one = rw c.deref-in-Some-2.ensures.value at c.in_ok-emit_block-in-Some.ensures in
     let two = rw c.deref-in-Some-4.ensures.value at c.in_ok-emit_block-in-Some-2.ensures in
-    choose_else_emitted old c.emit_test-in-Some.new.code.items c.emit_block-in-Some.new.code.items c.emit_skip.new.code.items c.emit_block-in-Some-2.new.code.items (term_of d.test) first second c.args.locals (c.block_length-in-Some.result + 1) c.block_length-in-Some-2.result c.in_ok-emit_test-in-Some.ensures passed one c.in_ok-emit_skip-in-Some.ensures past two
+    choose_else_emitted old c.emit_test-in-Some.new.code.items c.emit_block-in-Some.new.code.items c.emit_skip.new.code.items
+    c.emit_block-in-Some-2.new.code.items (term_of d.test) first second c.args.locals
+    (c.block_length-in-Some.result + 1) c.block_length-in-Some-2.result c.in_ok-emit_test-in-Some.ensures passed one
+    c.in_ok-emit_skip-in-Some.ensures past two
     ∙ ap (λ s. old ++ statement_code (length old) c.args.locals s) (sym view)

@@ -16,6 +16,12 @@ loop-position-preserved c =
     ap {B = ℕ} (λ r. cond (not (nat_eq t c.args.accused) && has_bit r c.args.accused) 1 0) report ∙ ap {B = ℕ} (λ b. cond b 1 0) (sym c.accuses.ensures) in
     let front = accusers-front (names_by us reports) us i t c.args.accused c.unit_at.ensures in
     elim c.if-accuses.branch [
-      | then-accuses w ↦ rw (add-one i, w.count-is) (omega (arith, front, added, ap {B = ℕ} (λ b. cond b 1 0) w.if-accuses.true, c.loop-position.invariant.0), omega (arith, c.loop-position.invariant.1))
-      | else-accuses w ↦ rw (add-one i, w.count-is) (omega (arith, front, added, ap {B = ℕ} (λ b. cond b 1 0) w.if-accuses.false, c.loop-position.invariant.0), omega (arith, c.loop-position.invariant.1))
+      | then-accuses w ↦ rw (add-one i, w.count-is) (
+        omega (arith, front, added, ap {B = ℕ} (λ b. cond b 1 0) w.if-accuses.true, c.loop-position.invariant.0),
+        omega (arith, c.loop-position.invariant.1),
+      )
+      | else-accuses w ↦ rw (add-one i, w.count-is) (
+        omega (arith, front, added, ap {B = ℕ} (λ b. cond b 1 0) w.if-accuses.false, c.loop-position.invariant.0),
+        omega (arith, c.loop-position.invariant.1),
+      )
     ]

@@ -1,7 +1,5 @@
-use Rattle.std.proofs.Common.{◌≡◌, ◌≢◌, ◌<◌, ◌≤◌, ℕ, Option, Some, None, sym, refl, subst, ◌∙◌, arith}
-use Rattle.sift_buffer.specs.Ranges.{Ranges, IsPlace}
-use Rattle.sift_buffer.specs.Conditions.{MaySay, MayHear}
-use Rattle.sift_buffer.specs.Views.{View, fresh_view}
+use Rattle.std.proofs.Common.{◌≡◌, sym, refl, subst, arith}
+use Rattle.sift_buffer.specs.Views.{View, PortMaySay}
 use Rattle.sift_rows.proofs.buffer.a_unit_says_by_one_store.Goals as goal
 
 pub say_five-requires : goal.say_five-requires

@@ -15,7 +15,9 @@ loop-position-preserved c = λ u.
     let place = c.index-places-position in
     elim c.if-differs.branch [
       | then-differs w ↦ ap (λ units. holds units u) (w.caught-is ∙ w.with-caught.ensures)
-          ∙ differing_joins c.args.units.now c.args.places.now c.args.vote l.caught l.position t.result place.result c.loop-position-test.true c.requires t.is place.is l.invariant (sym c.differs.ensures ∙ w.if-differs.true) u
+          ∙ differing_joins c.args.units.now c.args.places.now c.args.vote l.caught l.position t.result place.result
+          c.loop-position-test.true c.requires t.is place.is l.invariant (sym c.differs.ensures ∙ w.if-differs.true) u
       | else-differs w ↦ ap (λ units. holds units u) w.caught-is
-          ∙ same_stays_out c.args.units.now c.args.places.now c.args.vote l.caught l.position t.result place.result c.loop-position-test.true c.requires t.is place.is l.invariant (sym c.differs.ensures ∙ w.if-differs.false) u
+          ∙ same_stays_out c.args.units.now c.args.places.now c.args.vote l.caught l.position t.result place.result
+          c.loop-position-test.true c.requires t.is place.is l.invariant (sym c.differs.ensures ∙ w.if-differs.false) u
     ]

@@ -34,7 +34,8 @@ returns-clause-written c =
     let start = ap (λ p. p.start) c.span.view_is in
     let within = live_within _ _ _ _ _ holds span span refl c.requires in
     let long = length-replicate span.len c.args.word in
-    let filled = put_mid-filled words.items c.deref_mut.result.now c.fill.new.self c.span.inside.start c.span.inside.len span.start span.len c.args.word c.deref_mut.ensures.value (c.fill.ensures.after (λ y same. same)) start (ap (λ p. p.len) c.span.view_is) within.0 in
+    let filled = put_mid-filled words.items c.deref_mut.result.now c.fill.new.self c.span.inside.start c.span.inside.len span.start span.len
+    c.args.word c.deref_mut.ensures.value (c.fill.ensures.after (λ y same. same)) start (ap (λ p. p.len) c.span.view_is) within.0 in
     let as_many = length-put_mid span.start span.len words.items (replicate span.len c.args.word) long within.0 in
     let items = with_items_is words _ (ap length filled ∙ as_many ∙ sym words.ok.0) in
     laid_region-spans _ _ _ _ _ holds _ _ _ _ _ refl refl
