@@ -1,4 +1,4 @@
-pub mod Frame
+pub mod Held
 pub mod Limits
 pub mod Meaning
 pub mod Sound

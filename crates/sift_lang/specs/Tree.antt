@@ -64,16 +64,16 @@ choice_of t first None = choose t first
 choice_of t first (Some second) = choose_else t first (block_from second.items)
 
 -- one level of a statement, with each statement inside already seen
-abbrev pub level_of : Stmt-F Statement → Statement
-level_of (Stmt-F.Let e) = bind (term_of e)
-level_of (Stmt-F.Set l e) = assign l (term_of e)
-level_of (Stmt-F.Output j e) = output j (term_of e)
-level_of (Stmt-F.If e first second) = choice_of (term_of e) (block_from first.items) second
-level_of (Stmt-F.Repeat k body) = repeat k (block_from body.items)
+abbrev pub layer_of : Stmt-F Statement → Statement
+layer_of (Stmt-F.Let e) = bind (term_of e)
+layer_of (Stmt-F.Set l e) = assign l (term_of e)
+layer_of (Stmt-F.Output j e) = output j (term_of e)
+layer_of (Stmt-F.If e first second) = choice_of (term_of e) (block_from first.items) second
+layer_of (Stmt-F.Repeat k body) = repeat k (block_from body.items)
 
 -- the statement that a `Stmt` is
 abbrev pub statement_of : Stmt → Statement
-statement_of = fold-Stmt Statement level_of
+statement_of = fold-Stmt Statement layer_of
 
 -- the block that a list of `Stmt`s is
 abbrev pub block_of : List Stmt → Block

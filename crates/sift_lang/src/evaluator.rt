@@ -1,9 +1,10 @@
+//! The evaluator: the output words of a task.
 ghost use Rattle.std.specs.Prelude.{◌≡◌, ℕ, ◌≤◌, length, replicate, []};
 ghost use Rattle.arrayvec.specs.ArrayVec.{array_vec_len};
 ghost use Rattle.sift_lang.specs.Tree.{term_of, statement_of, block_of, tree_of};
 ghost use Rattle.sift_lang.specs.Meaning.{operation, value_of, after, after_all, scoped, meaning};
 ghost use Rattle.sift_lang.specs.Sound.{Bounds, NamesWithin, IsSoundStatement, IsSoundBlock, IsSound, NowsBelow, EachTerm, EachTermOf, AllNowsBelow};
-ghost use Rattle.sift_lang.specs.Frame.{readings_of, state_of, bounds_of};
+ghost use Rattle.sift_lang.specs.Held.{readings_of, state_of, bounds_of};
 
 use crate::tree::{Expr, LOCAL_LIMIT, OUTPUT_LIMIT, Op, Stmt, Task};
 use arrayvec::ArrayVec;
@@ -18,6 +19,7 @@ struct Readings<'a> {
 }
 
 impl Op {
+    /// The word that the operator gives.
     fn apply(self, a: Word, b: Word) -> Word
         ensures { result ≡ operation self a b }
     {
@@ -38,6 +40,7 @@ impl Op {
     }
 }
 
+/// The value of an expression, where these locals live.
 fn value(e: &Expr, readings: &Readings, locals: &[Word]) -> Word
     requires names { let sensors = length readings.now.ins.now in
         let words = length readings.now.last.now in
@@ -66,14 +69,14 @@ fn value(e: &Expr, readings: &Readings, locals: &[Word]) -> Word
 
 /// What statements change.
 #[derive(Drop)]
-struct Frame {
+struct State {
     locals: ArrayVec<Word, LOCAL_LIMIT>,
     outs: ArrayVec<Word, OUTPUT_LIMIT>,
 }
 
-impl Frame {
-    // No local lives, and so many output words are 0.
-    fn new(outputs: u8) -> Frame
+impl State {
+    /// No local lives, and so many output words are 0.
+    fn new(outputs: u8) -> State
         requires { outputs ≤ OUTPUT_LIMIT }
         ensures { state_of result ≡ record { locals = []; outs = replicate outputs 0 } }
     {
@@ -81,12 +84,13 @@ impl Frame {
         for _output in 0..outputs {
             outs.push(Word::of(0));
         }
-        Frame {
+        State {
             locals: ArrayVec::new(),
             outs,
         }
     }
 
+    /// Runs a statement.
     #[cycle(run)]
     fn run(&mut self, statement: &Stmt, readings: &Readings)
         requires sound { let locals = array_vec_len self.old.locals in
@@ -125,7 +129,7 @@ impl Frame {
         }
     }
 
-    // Runs the statements in turn. The locals that they add end with the block.
+    /// Runs the statements in turn. The locals that they add end with the block.
     #[cycle(run)]
     fn run_block(&mut self, block: &[Stmt], readings: &Readings)
         requires sound { let locals = array_vec_len self.old.locals in
@@ -153,7 +157,7 @@ pub fn eval(task: &Task, ins: &[Word], made: &[Word], last: &[Word]) -> ArrayVec
     ensures means { result.items ≡ meaning (tree_of task.now) ins.now made.now last.now }
     ensures outputs { array_vec_len result ≡ task.now.outputs }
 {
-    let mut frame = Frame::new(task.outputs);
-    frame.run_block(&task.body, &Readings { ins, made, last });
-    frame.outs
+    let mut state = State::new(task.outputs);
+    state.run_block(&task.body, &Readings { ins, made, last });
+    state.outs
 }

@@ -4,8 +4,6 @@
 #![tactic(auto)]
 
 mod evaluator;
-#[cfg(test)]
-mod tests;
 mod tree;
 
 pub use evaluator::eval;

@@ -10,14 +10,14 @@ use Rattle.sift_parse.specs.Roll.{Roll}
 use Rattle.sift_parse.specs.Written.{lexeme_of}
 
 -- the level that the code holds
-abbrev pub level_of : held_level.Level → Level
-level_of (variant.Block lived) = block lived
-level_of variant.Parenthesis = parenthesis
-level_of variant.Minus = negation
+abbrev pub open_level_of : held_level.Level → Level
+open_level_of (variant.Block lived) = block lived
+open_level_of variant.Parenthesis = parenthesis
+open_level_of variant.Minus = negation
 
 -- what the code holds to be in force: its lists have the newest last
 abbrev pub force_of : held.Force → Force
-force_of f = record { before = option_map lexeme_of f.before; levels = reverse (map level_of f.levels.items); locals = reverse (map (λ w. w.now) f.locals.items); pending = option_map (λ w. w.now) f.pending; named = f.named.now }
+force_of f = record { before = option_map lexeme_of f.before; levels = reverse (map open_level_of f.levels.items); locals = reverse (map (λ w. w.now) f.locals.items); pending = option_map (λ w. w.now) f.pending; named = f.named.now }
 
 -- what a word names here has a number of one byte
 abbrev pub NamesFew : Roll → Force → Lexeme → Type 0

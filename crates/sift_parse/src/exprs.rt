@@ -1,3 +1,4 @@
+//! Expressions, read token by token: a level an operator.
 ghost use Rattle.std.specs.Prelude.{◌≡◌, ◌<◌, ◌≤◌, OnOk, length};
 ghost use Rattle.sift_lang.specs.Tree.{term_of};
 ghost use Rattle.sift_parse.specs.Grammar.{prim_level};
@@ -5,7 +6,7 @@ ghost use Rattle.sift_parse.specs.Reading.{prim_by, closed_by, middle_by, read, 
 ghost use Rattle.sift_parse.specs.Parsing.{Reading};
 
 use crate::token::{Keyword, Sign, Token};
-use crate::tokens::{Fault, Tokens};
+use crate::tokens::{ReadStop, Tokens};
 use sift_base::Word;
 use sift_lang::{Expr, Op};
 use std::alloc::Global;
@@ -17,16 +18,16 @@ const PRIM_LEVEL: u8 = 5;
 const COMPARISON_LEVEL: u8 = 0;
 
 /// An expression.
-pub(crate) fn expr(alloc: Global, tokens: &mut Tokens<'_>) -> Result<Expr, Fault>
+pub(crate) fn expr(alloc: Global, tokens: &mut Tokens<'_>) -> Result<Expr, ReadStop>
     ensures reads { Reading term_of (λ fuel. read fuel 0) tokens.old.rest.now result tokens.new.rest.now }
     ensures goes_on { OnOk result (length tokens.new.rest.now < length tokens.old.rest.now) }
 {
     level(alloc, tokens, 0)
 }
 
-// An expression of the level: operands of the next, joined by the operators of this one.
+/// An expression of the level: operands of the next, joined by the operators of this one.
 #[cycle(exprs)]
-fn level(alloc: Global, tokens: &mut Tokens<'_>, n: u8) -> Result<Expr, Fault>
+fn level(alloc: Global, tokens: &mut Tokens<'_>, n: u8) -> Result<Expr, ReadStop>
     requires { n ≤ PRIM_LEVEL }
     ensures reads { Reading term_of (λ fuel. read fuel n) tokens.old.rest.now result tokens.new.rest.now }
     ensures goes_on { OnOk result (length tokens.new.rest.now < length tokens.old.rest.now) }
@@ -38,9 +39,9 @@ fn level(alloc: Global, tokens: &mut Tokens<'_>, n: u8) -> Result<Expr, Fault>
     chain(alloc, tokens, n, first)
 }
 
-// What the operators of the level that follow make of the operand before them.
+/// What the operators of the level that follow make of the operand before them.
 #[cycle(exprs)]
-fn chain(alloc: Global, tokens: &mut Tokens<'_>, n: u8, first: Expr) -> Result<Expr, Fault>
+fn chain(alloc: Global, tokens: &mut Tokens<'_>, n: u8, first: Expr) -> Result<Expr, ReadStop>
     requires { n < PRIM_LEVEL }
     ensures reads { Reading term_of (λ fuel. tail fuel n (term_of first)) tokens.old.rest.now result tokens.new.rest.now }
     ensures goes_on { OnOk result (length tokens.new.rest.now ≤ length tokens.old.rest.now) }
@@ -56,13 +57,14 @@ fn chain(alloc: Global, tokens: &mut Tokens<'_>, n: u8, first: Expr) -> Result<E
     Ok(left)
 }
 
+/// A prim.
 #[cycle(exprs)]
-fn prim(alloc: Global, tokens: &mut Tokens<'_>) -> Result<Expr, Fault>
+fn prim(alloc: Global, tokens: &mut Tokens<'_>) -> Result<Expr, ReadStop>
     ensures reads { Reading term_of (λ fuel. prim_by (read fuel prim_level) (read fuel 0)) tokens.old.rest.now result tokens.new.rest.now }
     ensures goes_on { OnOk result (length tokens.new.rest.now < length tokens.old.rest.now) }
 {
     let [token, rest @ ..] = tokens.rest else {
-        return Err(Fault::Syntax);
+        return Err(ReadStop::Syntax);
     };
     let front = *tokens;
     tokens.rest = rest;
@@ -80,14 +82,14 @@ fn prim(alloc: Global, tokens: &mut Tokens<'_>) -> Result<Expr, Fault>
         Token::Keyword(Keyword::Last) => Ok(Expr::Last(tokens.word()?)),
         _ => {
             *tokens = front;
-            Err(Fault::Syntax)
+            Err(ReadStop::Syntax)
         }
     }
 }
 
-// An expression and the sign after it.
+/// An expression and the sign after it.
 #[cycle(exprs)]
-fn closed(alloc: Global, tokens: &mut Tokens<'_>, sign: Sign) -> Result<Expr, Fault>
+fn closed(alloc: Global, tokens: &mut Tokens<'_>, sign: Sign) -> Result<Expr, ReadStop>
     ensures reads { Reading term_of (λ fuel. closed_by sign (read fuel 0)) tokens.old.rest.now result tokens.new.rest.now }
     ensures goes_on { OnOk result (length tokens.new.rest.now < length tokens.old.rest.now) }
 {
@@ -96,9 +98,9 @@ fn closed(alloc: Global, tokens: &mut Tokens<'_>, sign: Sign) -> Result<Expr, Fa
     Ok(inner)
 }
 
-// What follows `mid`: three expressions in parentheses.
+/// What follows `mid`: three expressions in parentheses.
 #[cycle(exprs)]
-fn middle(alloc: Global, tokens: &mut Tokens<'_>) -> Result<Expr, Fault>
+fn middle(alloc: Global, tokens: &mut Tokens<'_>) -> Result<Expr, ReadStop>
     ensures reads { Reading term_of (λ fuel. middle_by (read fuel 0)) tokens.old.rest.now result tokens.new.rest.now }
     ensures goes_on { OnOk result (length tokens.new.rest.now < length tokens.old.rest.now) }
 {

@@ -1,3 +1,4 @@
+//! What is in force at a place of a text, kept lexeme by lexeme.
 ghost use Rattle.std.specs.Prelude.{◌≡◌, ◌<◌, ◌^◌, IfOk, sum, slice_index};
 ghost use Rattle.std.specs.Option.{ForSome};
 ghost use Rattle.sift_parse.specs.declared.token.Sign.TheVariants.{CloseParen};
@@ -13,7 +14,7 @@ ghost use Rattle.sift_parse.specs.Held.{force_of, NamesFew};
 ghost use Rattle.sift_parse.specs.Written.{lexeme_of};
 
 use crate::lexeme::Lexeme;
-use crate::look_up::{keyword_of, local_of, sensor_number, size_of, task_number, first_word};
+use crate::look_up::{first_word, keyword_of, local_of, sensor_number, size_of, task_number};
 use crate::names::Names;
 use crate::token::{Keyword, Sign, Token};
 use sift_base::NoMemory;
@@ -69,7 +70,7 @@ impl<'a> Force<'a> {
         }
     }
 
-    // Whether an operand ends at the place, so that a `-` there is no minus before a prim.
+    /// Whether an operand ends at the place, so that a `-` there is no minus before a prim.
     fn ends_operand(&self) -> bool
         ensures { result ≡ levels.ends_operand (force_of self.now).before }
     {
@@ -91,7 +92,7 @@ impl<'a> Force<'a> {
         }
     }
 
-    // Ends the minuses of a prim that ends here.
+    /// Ends the minuses of a prim that ends here.
     fn end_prim(&mut self)
         ensures { force_of self.new ≡ record (force_of self.old) { levels = without_minuses (force_of self.old).levels } }
     {
@@ -100,14 +101,14 @@ impl<'a> Force<'a> {
         }
     }
 
-    // Whether the innermost level is a minus.
+    /// Whether the innermost level is a minus.
     fn in_minus(&self) -> bool
         ensures { result ≡ is_minus (force_of self.now).levels }
     {
         matches!(self.levels.last(), Some(Level::Minus))
     }
 
-    // Ends the innermost block: its locals are no more.
+    /// Ends the innermost block: its locals are no more.
     fn leave_block(&mut self)
         ensures { force_of self.new ≡ leave_block (force_of self.old).levels (force_of self.old) }
     {
@@ -116,7 +117,7 @@ impl<'a> Force<'a> {
         }
     }
 
-    // Ends a statement: the local of a `let` is seen from here on.
+    /// Ends a statement: the local of a `let` is seen from here on.
     fn end_let(&mut self) -> Result<(), NoMemory>
         ensures { IfOk result (λ _. force_of self.new ≡ end_let (force_of self.old).pending (force_of self.old)) }
     {
@@ -126,7 +127,7 @@ impl<'a> Force<'a> {
         Ok(())
     }
 
-    // A name: a prim ends with it, except with a task's, whose word's number is to come.
+    /// A name: a prim ends with it, except with a task's, whose word's number is to come.
     fn after_name(&mut self, name: &'a [u8])
         ensures { force_of self.new ≡ spec.after_name (role_after (spec.keyword_before (force_of self.old))) name.now (force_of self.old) }
     {
@@ -137,6 +138,7 @@ impl<'a> Force<'a> {
         }
     }
 
+    /// A word: a name where it is no keyword.
     fn after_word(&mut self, word: &'a [u8])
         ensures { force_of self.new ≡ moved (force_of self.old) (spec_lexeme.word word.now) }
     {
@@ -146,6 +148,7 @@ impl<'a> Force<'a> {
         self.named = word;
     }
 
+    /// An operator, which opens a level where it is a minus before a prim.
     fn after_operator(&mut self, op: Op) -> Result<(), NoMemory>
         ensures { IfOk result (λ _. force_of self.new ≡ moved (force_of self.old) (spec_lexeme.operator op)) }
     {
@@ -155,6 +158,7 @@ impl<'a> Force<'a> {
         Ok(())
     }
 
+    /// A `)`, with which a prim ends.
     fn close_parenthesis(&mut self)
         ensures { force_of self.new ≡ moved (force_of self.old) (spec_lexeme.mark CloseParen) }
     {
@@ -162,6 +166,7 @@ impl<'a> Force<'a> {
         self.end_prim();
     }
 
+    /// A sign that is no operator.
     fn after_mark(&mut self, mark: Sign) -> Result<(), NoMemory>
         ensures { IfOk result (λ _. force_of self.new ≡ moved (force_of self.old) (spec_lexeme.mark mark)) }
     {
@@ -213,7 +218,7 @@ impl<'a> Force<'a> {
         }
     }
 
-    // The token that a word is here; a name that isn't there counts as 0.
+    /// The token that a word is here; a name that isn't there counts as 0.
     fn word_token(&self, names: &Names, word: &[u8]) -> Token
         requires few { ForSome (spec.number_named (roll_of names.now) (force_of self.now) word.now) (λ n. n < 2 ^ 8) }
         ensures { result ≡ spec.word_token (roll_of names.now) (force_of self.now) word.now (keywords.keyword_of word.now) }
@@ -227,7 +232,7 @@ impl<'a> Force<'a> {
         }
     }
 
-    // The number of the word that a number of a task's asks for here.
+    /// The number of the word that a number of a task's asks for here.
     fn index_meant(&self, names: &Names, task: usize, n: u32) -> u8
         requires few { sum (roll_of names.now).sizes < 2 ^ 8 }
         requires there { n < slice_index (roll_of names.now).sizes task }
@@ -239,7 +244,7 @@ impl<'a> Force<'a> {
         }
     }
 
-    // The token that a number is here; a number that is too large or asks for a word that isn't there counts as 0.
+    /// The token that a number is here; a number that is too large or asks for a word that isn't there counts as 0.
     fn number_token(&self, names: &Names, n: u32) -> Token
         requires few { sum (roll_of names.now).sizes < 2 ^ 8 }
         ensures { result ≡ told.number_token (roll_of names.now) (force_of self.now).before (spec.task_asked (roll_of names.now) (force_of self.now) (force_of self.now).before) n }

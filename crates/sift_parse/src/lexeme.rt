@@ -1,3 +1,4 @@
+//! The lexeme at the front of bytes.
 ghost use Rattle.std.specs.Prelude.{◌≡◌, ℕ, ◌<◌, ◌∷◌, [], IfSome, IfNone};
 ghost use Rattle.sift_parse.specs.Lexeme.{numeral};
 ghost use Rattle.sift_parse.specs.Written.{SpellsSign, NoSign, IsSignAt, NoSignAt, IsLexemeAt, NoLexemeAt, BeginsLetter, BeginsDigit, IsHexLength, IsNumberAt, lexeme_of};
@@ -19,7 +20,7 @@ pub(crate) enum Lexeme<'a> {
     Mark(Sign),
 }
 
-// The sign of two bytes.
+/// The sign of two bytes.
 fn long_sign<'a>(first: u8, second: u8) -> Option<Lexeme<'a>>
     ensures found { IfSome result (λ l. SpellsSign (lexeme_of l) (first ∷ second ∷ [])) }
     ensures none { IfNone result (NoSign (first ∷ second ∷ [])) }
@@ -32,7 +33,7 @@ fn long_sign<'a>(first: u8, second: u8) -> Option<Lexeme<'a>>
     }
 }
 
-// The sign of one byte.
+/// The sign of one byte.
 fn short_sign<'a>(byte: u8) -> Option<Lexeme<'a>>
     ensures found { IfSome result (λ l. SpellsSign (lexeme_of l) (byte ∷ [])) }
     ensures none { IfNone result (NoSign (byte ∷ [])) }
@@ -60,7 +61,7 @@ fn short_sign<'a>(byte: u8) -> Option<Lexeme<'a>>
     Some(lexeme)
 }
 
-// The sign at the front, and how many bytes it has.
+/// The sign at the front, and how many bytes it has.
 fn sign_at<'a>(bytes: &[u8]) -> Option<(Lexeme<'a>, usize)>
     ensures found { IfSome result (λ r. IsSignAt bytes.now (lexeme_of r.0) r.1) }
     ensures none { IfNone result (NoSignAt bytes.now) }
@@ -74,7 +75,7 @@ fn sign_at<'a>(bytes: &[u8]) -> Option<(Lexeme<'a>, usize)>
     Some((short_sign(*first)?, 1))
 }
 
-// How many hexadecimal digits stand after `0x` at the front.
+/// How many hexadecimal digits stand after `0x` at the front.
 fn hex_len(bytes: &[u8]) -> usize
     ensures { IsHexLength bytes.now result }
 {
@@ -84,7 +85,7 @@ fn hex_len(bytes: &[u8]) -> usize
     }
 }
 
-// How a number is written at the front: the radix of its digits, where they begin, and how many they are.
+/// How a number is written at the front: the radix of its digits, where they begin, and how many they are.
 fn digits_at(bytes: &[u8]) -> (u32, usize, usize)
     ensures { IsNumberAt bytes.now result.0 result.1 result.2 }
 {
@@ -94,7 +95,7 @@ fn digits_at(bytes: &[u8]) -> (u32, usize, usize)
     }
 }
 
-// The number at the front, and how many bytes it has.
+/// The number at the front, and how many bytes it has.
 fn number_at(bytes: &[u8]) -> Option<(u32, usize)>
     requires { BeginsDigit bytes.now }
     ensures found { IfSome result (λ r. IsLexemeAt bytes.now (numeral r.0) r.1) }

@@ -16,8 +16,6 @@ mod runs;
 mod scan;
 mod stop;
 mod task;
-#[cfg(test)]
-mod tests;
 mod token;
 mod tokens;
 mod unique;

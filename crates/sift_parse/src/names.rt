@@ -1,3 +1,4 @@
+//! Who is there: the names that a text may use.
 use sift_base::Name;
 
 /// Who is there: the sensors and the tasks of a mission, and the task whose text is parsed.

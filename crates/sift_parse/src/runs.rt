@@ -1,3 +1,4 @@
+//! Runs of bytes of one kind at the front: names and digits.
 ghost use Rattle.std.specs.Prelude.{◌≡◌, ◌↔◌, ◌<◌, ◌≤◌, ℕ, IsTrue, length, slice_index, EachIndex};
 ghost use Rattle.std.specs.Char.{digit_value, IsAsciiAlphabetic};
 ghost use Rattle.std.specs.Str.{byte};
@@ -8,7 +9,7 @@ ghost use Rattle.sift_parse.specs.Written.{IsRun, Continues, BeginsLetter, Begin
 
 use sift_base::is_name_byte;
 
-// What is kept of a number that is greater than a text may hold.
+/// What is kept of a number that is greater than a text may hold.
 const TOO_LARGE: u32 = 65_536;
 
 /// How many bytes at the front may stand in a name.

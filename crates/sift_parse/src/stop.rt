@@ -1,3 +1,4 @@
+//! Why a text is no task.
 ghost use Rattle.std.specs.Prelude.{◌≡◌, ◌≤◌};
 ghost use Rattle.sift_parse.specs.Limits.{text_limit};
 

@@ -1,3 +1,4 @@
+//! Tokens, and how many levels may be open.
 use sift_lang::Op;
 
 /// The most blocks, parentheses and minuses that may be open at once.

@@ -1,3 +1,4 @@
+//! The tokens that are left to read, taken one by one.
 ghost use Rattle.std.specs.Prelude.{◌≡◌};
 ghost use Rattle.sift_parse.specs.Reading.{read_sign, read_name, read_number, read_index, read_word};
 ghost use Rattle.sift_parse.specs.Grammar as spec;
@@ -9,31 +10,31 @@ use std::alloc::{AllocError, AllocFailed};
 
 /// Why reading stopped.
 #[derive(Clone, Copy, Debug, PartialEq, Eq)]
-pub(crate) enum Fault {
+pub(crate) enum ReadStop {
     /// The first token that is left offends, or the tokens end where one is missing.
     Syntax,
     NoMemory,
 }
 
-impl From<AllocError> for Fault {
+impl From<AllocError> for ReadStop {
     ghost use Rattle.std.specs.Prelude.{◌≡◌};
-    ghost use Rattle.sift_parse.specs.declared.tokens.Fault.TheVariants.{NoMemory};
+    ghost use Rattle.sift_parse.specs.declared.tokens.ReadStop.TheVariants.{NoMemory};
 
     ghost from_gives = { λ _ e. e ≡ NoMemory };
 
-    fn from(_: AllocError) -> Fault {
-        Fault::NoMemory
+    fn from(_: AllocError) -> ReadStop {
+        ReadStop::NoMemory
     }
 }
 
-impl<T: Drop> From<AllocFailed<T>> for Fault {
+impl<T: Drop> From<AllocFailed<T>> for ReadStop {
     ghost use Rattle.std.specs.Prelude.{◌≡◌};
-    ghost use Rattle.sift_parse.specs.declared.tokens.Fault.TheVariants.{NoMemory};
+    ghost use Rattle.sift_parse.specs.declared.tokens.ReadStop.TheVariants.{NoMemory};
 
     ghost from_gives = { λ _ e. e ≡ NoMemory };
 
-    fn from(_: AllocFailed<T>) -> Fault {
-        Fault::NoMemory
+    fn from(_: AllocFailed<T>) -> ReadStop {
+        ReadStop::NoMemory
     }
 }
 
@@ -45,7 +46,7 @@ pub(crate) struct Tokens<'a> {
 
 impl<'a> Tokens<'a> {
     /// The sign, if it is the next token.
-    pub fn sign(&mut self, sign: Sign) -> Result<(), Fault>
+    pub fn sign(&mut self, sign: Sign) -> Result<(), ReadStop>
         ensures { Answers (λ _. tt) (read_sign sign self.old.rest.now) result self.new.rest.now }
     {
         match self.rest {
@@ -53,12 +54,12 @@ impl<'a> Tokens<'a> {
                 self.rest = rest;
                 Ok(())
             }
-            _ => Err(Fault::Syntax),
+            _ => Err(ReadStop::Syntax),
         }
     }
 
     /// The name, if the next token is one.
-    pub fn name(&mut self) -> Result<u8, Fault>
+    pub fn name(&mut self) -> Result<u8, ReadStop>
         ensures { Answers (λ n. n) (read_name self.old.rest.now) result self.new.rest.now }
     {
         match self.rest {
@@ -66,12 +67,12 @@ impl<'a> Tokens<'a> {
                 self.rest = rest;
                 Ok(*number)
             }
-            _ => Err(Fault::Syntax),
+            _ => Err(ReadStop::Syntax),
         }
     }
 
     /// The number, if the next token is one.
-    pub fn number(&mut self) -> Result<u16, Fault>
+    pub fn number(&mut self) -> Result<u16, ReadStop>
         ensures { Answers (λ n. n) (read_number self.old.rest.now) result self.new.rest.now }
     {
         match self.rest {
@@ -79,12 +80,12 @@ impl<'a> Tokens<'a> {
                 self.rest = rest;
                 Ok(*number)
             }
-            _ => Err(Fault::Syntax),
+            _ => Err(ReadStop::Syntax),
         }
     }
 
     /// The number of a word, if the next token is one.
-    pub fn index(&mut self) -> Result<u8, Fault>
+    pub fn index(&mut self) -> Result<u8, ReadStop>
         ensures { Answers (λ n. n) (read_index self.old.rest.now) result self.new.rest.now }
     {
         match self.rest {
@@ -92,12 +93,12 @@ impl<'a> Tokens<'a> {
                 self.rest = rest;
                 Ok(*number)
             }
-            _ => Err(Fault::Syntax),
+            _ => Err(ReadStop::Syntax),
         }
     }
 
     /// The number of a task's word: a name, a dot and the number.
-    pub fn word(&mut self) -> Result<u8, Fault>
+    pub fn word(&mut self) -> Result<u8, ReadStop>
         ensures { Answers (λ n. n) (read_word self.old.rest.now) result self.new.rest.now }
     {
         self.name()?;
@@ -132,7 +133,7 @@ impl<'a> Tokens<'a> {
     }
 }
 
-// The level of an operator: comparisons are level 0.
+/// The level of an operator: comparisons are level 0.
 fn level_of(op: Op) -> u8
     ensures { result ≡ spec.level_of op }
 {

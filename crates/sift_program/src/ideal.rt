@@ -1,3 +1,4 @@
+//! The ideal machine: its words, frame by frame.
 ghost use Rattle.std.specs.Prelude.{◌≡◌, ℕ, ◌+◌, ◌≤◌, List, length};
 ghost use Rattle.arrayvec.specs.ArrayVec.{array_vec_len};
 ghost use Rattle.sift_lang.specs.Tree.{tree_of};
@@ -62,7 +63,7 @@ impl Ideal {
     }
 }
 
-// Adds the words of the task to those that the tasks before it made in this frame.
+/// Adds the words of the task to those that the tasks before it made in this frame.
 fn run(task: &Task, agreed: &[Word], made: &mut ArrayVec<Word, WORD_LIMIT>, last: &[Word])
     requires sound { IsSound (length agreed.now) (length last.now) (tree_of task.now) }
     requires nows { AllNowsBelow (array_vec_len made.old) (tree_of task.now) }

@@ -5,8 +5,6 @@
 
 mod ideal;
 mod program;
-#[cfg(test)]
-mod tests;
 
 pub use ideal::{Ideal, ideal_frame_is_unique};
 pub use program::{Program, TASK_LIMIT, WORD_LIMIT, limits_are_the_missions};

@@ -22,9 +22,15 @@ mod exec;
 #[cfg(test)]
 mod io;
 #[cfg(test)]
+mod lang;
+#[cfg(test)]
 mod machine;
 #[cfg(test)]
+mod parse;
+#[cfg(test)]
 mod pool;
+#[cfg(test)]
+mod program;
 #[cfg(test)]
 mod scenario;
 #[cfg(test)]

@@ -6,7 +6,7 @@ use Rattle.std.proofs.lemmas.Option.{slice_get_within}
 use Rattle.std.specs.List.{slice_get}
 use Rattle.toml.specs.Data.{Members}
 use Rattle.sift_lang.specs.Tree.{TaskTree}
-use Rattle.sift_parse.proofs.OneAnswer.{one_answer}
+use Rattle.sift_parse.proofs.Refusals.OneAnswer.{one_answer}
 use Rattle.sift_parse.specs.Outcome.{Tells}
 use Rattle.sift_parse.specs.Roll.{Roll}
 use Rattle.sift_scenario.proofs.Order.{rule_number-injective}

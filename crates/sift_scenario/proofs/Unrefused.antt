@@ -5,7 +5,7 @@ use Rattle.std.proofs.lemmas.Option.{get_or_from_slice_get, slice_get-get_or, sl
 use Rattle.std.specs.List.{slice_get}
 use Rattle.toml.specs.Data.{Members}
 use Rattle.sift_lang.specs.Tree.{TaskTree, end}
-use Rattle.sift_parse.proofs.OneAnswer.{task_is_answered}
+use Rattle.sift_parse.proofs.Refusals.OneAnswer.{task_is_answered}
 use Rattle.sift_parse.specs.Outcome.{IsTaskOf, Tells}
 use Rattle.sift_parse.specs.Roll.{Roll}
 use Rattle.sift_parse.specs.declared.stop.ParseStop.{ParseStop}

@@ -1,6 +1,6 @@
 use Rattle.std.proofs.Common.{◌+◌, ◌*◌, ◌≤◌, length, map}
 use Rattle.sift_lang.specs.Tree.{statement_of}
-use Rattle.sift_parse.proofs.Turns.{Turns}
+use Rattle.sift_parse.proofs.Parsing.Turns.{Turns}
 use Rattle.sift_parse.proofs.blocks.+blocks.Given as goal
 
 abbrev pub decreases-block : goal.decreases-block

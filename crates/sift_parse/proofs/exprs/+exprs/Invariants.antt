@@ -1,6 +1,6 @@
 use Rattle.std.proofs.Common.{◌+◌, ◌-◌, ◌*◌, ◌≤◌, length}
 use Rattle.sift_lang.specs.Tree.{term_of}
-use Rattle.sift_parse.proofs.Chains.{Leads}
+use Rattle.sift_parse.proofs.Parsing.Chains.{Leads}
 use Rattle.sift_parse.proofs.exprs.+exprs.Given as goal
 
 abbrev pub decreases-level : goal.decreases-level

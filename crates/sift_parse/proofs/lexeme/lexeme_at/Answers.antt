@@ -1,10 +1,11 @@
 use Rattle.std.proofs.Common.{ℕ, List, Option, Some, None, IfSome, IfNone}
 use Rattle.sift_parse.specs.declared.lexeme.Lexeme as held
 use Rattle.sift_parse.specs.Written.{BeginsLetter, BeginsDigit, IsSignAt, IsLexemeAt, lexeme_of}
-use Rattle.sift_parse.proofs.Lexing.{words-found, signs-found, signs-none}
+use Rattle.sift_parse.proofs.Lexing.Fronts.{words-found, signs-found, signs-none}
 use Rattle.sift_parse.proofs.lexeme.lexeme_at.Goals as goal
 
-if_sign : (text : List ℕ) (o : Option (held.Lexeme × ℕ)) → ¬ BeginsLetter text → ¬ BeginsDigit text → IfSome o (λ r. IsSignAt text (lexeme_of r.0) r.1) → IfSome o (λ r. IsLexemeAt text (lexeme_of r.0) r.1)
+if_sign : (text : List ℕ) (o : Option (held.Lexeme × ℕ)) → ¬ BeginsLetter text → ¬ BeginsDigit text
+    → IfSome o (λ r. IsSignAt text (lexeme_of r.0) r.1) → IfSome o (λ r. IsLexemeAt text (lexeme_of r.0) r.1)
 if_sign text None l d h = tt
 if_sign text (Some r) l d h = signs-found text (lexeme_of r.0) r.1 l d h
 
@@ -13,7 +14,8 @@ if_none None P Q f h = f h
 if_none (Some a) P Q f h = tt
 
 pub returns-then-begins_name-clause-found : goal.returns-then-begins_name-clause-found
-returns-then-begins_name-clause-found c = words-found c.args.bytes.now c.name_len-len.result (c.begins_name.ensures.0 c.if-begins_name.true) c.name_len-len.ensures
+returns-then-begins_name-clause-found c =
+    words-found c.args.bytes.now c.name_len-len.result (c.begins_name.ensures.0 c.if-begins_name.true) c.name_len-len.ensures
 
 pub returns-clause-found : goal.returns-clause-found
 returns-clause-found c =

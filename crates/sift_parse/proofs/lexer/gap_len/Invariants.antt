@@ -1,6 +1,6 @@
 use Rattle.std.proofs.Common.{◌≡◌, drop}
 use Rattle.sift_parse.specs.Lexeme.{after_gap}
-use Rattle.sift_parse.proofs.Gaps.{after_either}
+use Rattle.sift_parse.proofs.Lexing.Gaps.{after_either}
 use Rattle.sift_parse.proofs.lexer.gap_len.Given as goal
 
 -- what is left, in a comment or outside of one, leads to what follows the gap

@@ -1,8 +1,8 @@
 use Rattle.std.proofs.Common.{◌+◌}
 use Rattle.std.proofs.lemmas.List.{map-append}
 use Rattle.sift_parse.specs.Written.{placed_of, lexeme_of}
-use Rattle.sift_parse.proofs.Gaps.{Lexes-start, one-more}
-use Rattle.sift_parse.proofs.Lexing.{take-rest}
+use Rattle.sift_parse.proofs.Lexing.Gaps.{Lexes-start, one-more}
+use Rattle.sift_parse.proofs.Lexing.Fronts.{take-rest}
 use Rattle.sift_parse.proofs.lexer.lex.Goals as goal
 
 pub loop-lexeme-init : goal.loop-lexeme-init
@@ -14,8 +14,15 @@ loop-lexeme-preserved c =
     let at = c.loop-lexeme.at in
     let found = rw (take-rest at text) at c.in-Some.ensures.found in
     let gap = rw (take-rest (at + c.in-Some.len) text) at c.gap_len-at-in-Some.ensures in
-    let more = one-more text at c.in-Some.len c.gap_len-at-in-Some.result (lexeme_of c.in-Some.lexeme) (placed_of c.loop-lexeme.placed.items) c.loop-lexeme.invariant.within c.loop-lexeme.invariant.lexes found gap in
+    let more =
+    one-more text at c.in-Some.len c.gap_len-at-in-Some.result (lexeme_of c.in-Some.lexeme)
+    (placed_of c.loop-lexeme.placed.items) c.loop-lexeme.invariant.within c.loop-lexeme.invariant.lexes found gap in
     record { within = more.within; lexes = rw (c.in_ok-push.ensures.items, map-append) more.lexes }
 
 pub returns : goal.returns
-returns c = record { within = c.loop-lexeme.invariant.within; lexes = c.loop-lexeme.invariant.lexes; none = rw (take-rest c.loop-lexeme.at c.args.text.now) at c.in_default.ensures.none }
+returns c =
+    record {
+      within = c.loop-lexeme.invariant.within;
+      lexes = c.loop-lexeme.invariant.lexes;
+      none = rw (take-rest c.loop-lexeme.at c.args.text.now) at c.in_default.ensures.none;
+    }

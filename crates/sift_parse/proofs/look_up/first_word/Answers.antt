@@ -1,6 +1,6 @@
 use Rattle.std.proofs.Common.{rules, arith}
 use Rattle.std.proofs.lemmas.Grind.{common_steps}
-use Rattle.sift_parse.proofs.Newest.{sum-taken}
+use Rattle.sift_parse.proofs.Places.Newest.{sum-taken}
 use Rattle.sift_parse.proofs.look_up.first_word.Goals as goal
 
 pub loop-i-preserved : goal.loop-i-preserved

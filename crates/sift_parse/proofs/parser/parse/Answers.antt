@@ -1,5 +1,5 @@
 use Rattle.sift_lang.specs.Tree.{block_of}
-use Rattle.sift_parse.proofs.Offending.{offends-at, task-read}
+use Rattle.sift_parse.proofs.Parsing.Offending.{offends-at, task-read}
 use Rattle.sift_parse.proofs.parser.parse.Goals as goal
 
 pub overflow_sub-result : goal.overflow_sub-result

@@ -3,7 +3,7 @@ use Rattle.std.specs.Char.{digit_value}
 use Rattle.std.specs.Str.Parse.{digits_value}
 use Rattle.std.proofs.lemmas.Int.Digits.{digits_value_more}
 use Rattle.sift_parse.specs.Lexeme.{kept}
-use Rattle.sift_parse.proofs.Numbers.{kept-more, unwrap_or-some}
+use Rattle.sift_parse.proofs.Lexing.Kept.{kept-more, unwrap_or-some}
 use Rattle.sift_parse.proofs.runs.number_kept.Goals as goal
 
 pub loop-b-preserved : goal.loop-b-preserved
@@ -13,7 +13,8 @@ loop-b-preserved c =
     let v = digits_value c.args.radix (take i ds) in
     let b : c.from.result ≡ get_or ds i 0 = search rules in
     let is_digit : digit_value c.from.result < c.args.radix = rw b (c.requires.digits i (omega arith)) in
-    let digit : c.unwrap_or-digit.result ≡ digit_value (get_or ds i 0) = c.unwrap_or-digit.ensures ∙ (unwrap_or-some _ _ _ c.to_digit.ensures.value is_digit ∙ ap digit_value b) in
+    let digit : c.unwrap_or-digit.result ≡ digit_value (get_or ds i 0) =
+    c.unwrap_or-digit.ensures ∙ (unwrap_or-some _ _ _ c.to_digit.ensures.value is_digit ∙ ap digit_value b) in
     let more = kept-more v c.args.radix (digit_value (get_or ds i 0)) (omega arith) in
     let value = digits_value_more c.args.radix ds i (omega arith) in
     let n : c.loop-b.n * c.args.radix + c.unwrap_or-digit.result ≡ kept v * c.args.radix + digit_value (get_or ds i 0) = rw (c.loop-b.invariant, digit) refl in

@@ -2,7 +2,7 @@ use Rattle.std.proofs.Common.{take}
 use Rattle.sift_parse.specs.Roll.{roll_of}
 use Rattle.sift_parse.specs.Held.{force_of}
 use Rattle.sift_parse.specs.Written.{placed_of}
-use Rattle.sift_parse.proofs.Taking.{Scanning}
+use Rattle.sift_parse.proofs.Refusals.Taking.{Scanning}
 use Rattle.sift_parse.proofs.scan.scan.Given as goal
 
 -- the lexemes so far are taken

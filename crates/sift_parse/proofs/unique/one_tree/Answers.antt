@@ -1,4 +1,4 @@
-use Rattle.sift_parse.proofs.Whole.{one_tree}
+use Rattle.sift_parse.proofs.Parsing.Whole.{one_tree}
 use Rattle.sift_parse.proofs.unique.one_tree.Goals as goal
 
 pub returns : goal.returns

@@ -1,6 +1,6 @@
 use Rattle.std.proofs.Common.{rules, arith}
 use Rattle.std.proofs.lemmas.Grind.{common_steps}
-use Rattle.sift_parse.proofs.Newest.{reverse-map-pushed, oldest-reverse-map}
+use Rattle.sift_parse.proofs.Places.Newest.{reverse-map-pushed, oldest-reverse-map}
 use Rattle.sift_parse.proofs.force.Force.leave_block.Goals as goal
 
 pub returns-in-Some-Block : goal.returns-in-Some-Block

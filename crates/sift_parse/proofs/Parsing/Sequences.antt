@@ -1,0 +1,99 @@
+-- How one reader goes after another, and what is answered then.
+use Rattle.std.proofs.Common.{◌≡◌, ℕ, suc, ◌+◌, List, refl, ap, ◌∙◌, subst, arith, add-one, Result, Ok, Err}
+use Rattle.sift_lang.specs.declared.tree.Expr.{Expr}
+use Rattle.sift_lang.specs.Tree.{Term, middle, term_of}
+use Rattle.sift_parse.specs.declared.token.Sign.TheVariants.{OpenParen, CloseParen, Comma}
+use Rattle.sift_parse.specs.declared.tokens.ReadStop.{ReadStop}
+use Rattle.sift_parse.specs.declared.tokens.ReadStop.TheVariants.{Syntax, NoMemory}
+use Rattle.sift_parse.specs.declared.token.Token.{Token}
+use Rattle.sift_parse.specs.Reading.{Outcome, found, fault, and_then, read_sign, closed_by, middle_by, read}
+use Rattle.sift_parse.specs.Parsing.{Settles, Reading}
+
+-- ---- one reader after another
+
+pub reads-then : (A B : Type 0) (R : ℕ → List Token → Outcome A) (S : ℕ → A → List Token → Outcome B) (ts mid : List Token) (a : A) (o : Outcome B)
+    → Settles A R ts (found a mid) → Settles B (λ fuel. S fuel a) mid o → Settles B (λ fuel ts. and_then (R fuel ts) (S fuel)) ts o
+reads-then A B R S ts mid a o r s =
+    record {
+      least = r.least + s.least;
+      from = λ fuel le. ap (λ o. and_then o (S fuel)) (r.from fuel (omega arith))
+          ∙ s.from fuel (omega arith);
+    }
+
+pub reads-then_fault : (A B : Type 0) (R : ℕ → List Token → Outcome A) (S : ℕ → A → List Token → Outcome B) (ts bad : List Token)
+    → Settles A R ts (fault bad) → Settles B (λ fuel ts. and_then (R fuel ts) (S fuel)) ts (fault bad)
+reads-then_fault A B R S ts bad r = record { least = r.least; from = λ fuel le. ap (λ o. and_then o (S fuel)) (r.from fuel le) }
+
+-- a reader that makes no calls
+pub reads-now : (A : Type 0) (R : List Token → Outcome A) (ts : List Token) (o : Outcome A) → R ts ≡ o → Settles A (λ fuel. R) ts o
+reads-now A R ts o e = record { least = 0; from = λ fuel le. e }
+
+-- the next level, as the code counts it
+pub reads-suc : (n : ℕ) (ts : List Token) (o : Outcome Term) → Settles Term (λ fuel. read fuel (n + 1)) ts o
+    → Settles Term (λ fuel. read fuel (suc n)) ts o
+reads-suc n ts o r = subst (λ m. Settles Term (λ fuel. read fuel m) ts o) (add-one n) r
+
+-- ---- results
+
+-- what is answered by one reader is answered by another
+pub answered : (R S : ℕ → List Token → Outcome Term) (ts us left : List Token) (r : Result Expr ReadStop)
+    → ((o : Outcome Term) → Settles Term R ts o → Settles Term S us o) → Reading term_of R ts r left → Reading term_of S us r left
+answered R S ts us left (Ok e) f h = f (found (term_of e) left) h
+answered R S ts us left (Err Syntax) f h = f (fault left) h
+answered R S ts us left (Err NoMemory) f h = tt
+
+-- what offends for one reader offends for another
+pub failed : (R S : ℕ → List Token → Outcome Term) (ts us left : List Token) (e : ReadStop)
+    → ((bad : List Token) → Settles Term R ts (fault bad) → Settles Term S us (fault bad)) → Reading {T = Expr} term_of R ts (Err e) left
+    → Reading {T = Expr} term_of S us (Err e) left
+failed R S ts us left Syntax f h = f left h
+failed R S ts us left NoMemory f h = tt
+
+-- ---- `mid`
+
+-- the reader of the third part, and of the second and third
+abbrev third_by : ℕ → Term → Term → List Token → Outcome Term
+third_by fuel t u ws = and_then (closed_by CloseParen (read fuel 0) ws) (λ v rest. found (middle t u v) rest)
+
+abbrev second_by : ℕ → Term → List Token → Outcome Term
+second_by fuel t vs = and_then (closed_by Comma (read fuel 0) vs) (third_by fuel t)
+
+middle-step : (ts us : List Token) (o : Outcome Term) → read_sign OpenParen ts ≡ found tt us
+    → Settles Term (λ fuel us. and_then (closed_by Comma (read fuel 0) us) (second_by fuel)) us o
+    → Settles Term (λ fuel. middle_by (read fuel 0)) ts o
+middle-step ts us o e r =
+    record {
+      least = r.least;
+      from = λ fuel le. ap (λ o. and_then o (λ _ us. and_then (closed_by Comma (read fuel 0) us) (second_by fuel))) e
+          ∙ r.from fuel le;
+    }
+
+pub middle-second : (ts us vs bad : List Token) (t : Term) → read_sign OpenParen ts ≡ found tt us
+    → Settles Term (λ fuel. closed_by Comma (read fuel 0)) us (found t vs) → Settles Term (λ fuel. closed_by Comma (read fuel 0)) vs (fault bad)
+    → Settles Term (λ fuel. middle_by (read fuel 0)) ts (fault bad)
+middle-second ts us vs bad t e r s =
+    middle-step ts us (fault bad) e
+    (reads-then Term Term (λ fuel. closed_by Comma (read fuel 0)) second_by us vs t (fault bad) r
+    (reads-then_fault Term Term (λ fuel. closed_by Comma (read fuel 0)) (λ fuel. third_by fuel t) vs bad s))
+
+pub middle-third : (ts us vs ws bad : List Token) (t u : Term) → read_sign OpenParen ts ≡ found tt us
+    → Settles Term (λ fuel. closed_by Comma (read fuel 0)) us (found t vs)
+    → Settles Term (λ fuel. closed_by Comma (read fuel 0)) vs (found u ws)
+    → Settles Term (λ fuel. closed_by CloseParen (read fuel 0)) ws (fault bad) → Settles Term (λ fuel. middle_by (read fuel 0)) ts (fault bad)
+middle-third ts us vs ws bad t u e r s q =
+    middle-step ts us (fault bad) e
+    (reads-then Term Term (λ fuel. closed_by Comma (read fuel 0)) second_by us vs t (fault bad) r
+    (reads-then Term Term (λ fuel. closed_by Comma (read fuel 0)) (λ fuel. third_by fuel t) vs ws u (fault bad) s
+    (reads-then_fault Term Term (λ fuel. closed_by CloseParen (read fuel 0)) (λ fuel v rest. found (middle t u v) rest) ws bad q)))
+
+pub middle-found : (ts us vs ws left : List Token) (t u v : Term) → read_sign OpenParen ts ≡ found tt us
+    → Settles Term (λ fuel. closed_by Comma (read fuel 0)) us (found t vs)
+    → Settles Term (λ fuel. closed_by Comma (read fuel 0)) vs (found u ws)
+    → Settles Term (λ fuel. closed_by CloseParen (read fuel 0)) ws (found v left)
+    → Settles Term (λ fuel. middle_by (read fuel 0)) ts (found (middle t u v) left)
+middle-found ts us vs ws left t u v e r s q =
+    middle-step ts us (found (middle t u v) left) e
+    (reads-then Term Term (λ fuel. closed_by Comma (read fuel 0)) second_by us vs t (found (middle t u v) left) r
+    (reads-then Term Term (λ fuel. closed_by Comma (read fuel 0)) (λ fuel. third_by fuel t) vs ws u (found (middle t u v) left) s
+    (reads-then Term Term (λ fuel. closed_by CloseParen (read fuel 0)) (λ fuel v rest. found (middle t u v) rest) ws left v
+    (found (middle t u v) left) q (record { least = 0; from = λ fuel le. refl }))))

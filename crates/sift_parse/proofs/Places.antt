@@ -1,0 +1,22 @@
+-- What is in force at a place, and that it is what the lexemes before it tell.
+pub mod Blocks
+pub mod Counted
+pub mod Depths
+pub mod EndLaws
+pub mod EndTokens
+pub mod Layers
+pub mod Lets
+pub mod Levels
+pub mod Living
+pub mod Locals
+pub mod MinusLaw
+pub mod MinusTokens
+pub mod Moves
+pub mod Naming
+pub mod Newest
+pub mod Placing
+pub mod Plain
+pub mod Seen
+pub mod States
+pub mod Tidy
+pub mod TidyTasks

@@ -1,0 +1,10 @@
+-- What stands at a place, the first of it, and the answer to a text.
+pub mod Answered
+pub mod Answering
+pub mod Offences
+pub mod OneAnswer
+pub mod OneRefusal
+pub mod Refusing
+pub mod Standing
+pub mod Stops
+pub mod Taking
