@@ -9,15 +9,9 @@ use Rattle.sift_vote.specs.Agreed.{agreed_of}
 use Rattle.sift_unit.specs.Slots.{is_slot, executors}
 use Rattle.sift_unit.specs.Conduct.{made}
 use Rattle.sift_unit.specs.Fits.{Fits, IsNumbered}
-<<<<<<< HEAD
-use Rattle.sift_unit.specs.Premises.{RunsProgram}
-use Rattle.sift_flight.specs.Calm.{four_units, due_in, heard_in, mission_of, program_of, word_in, account_of, FliesCalmly}
-use Rattle.sift_flight.proofs.CalmActs.{IsPlain}
-=======
 use Rattle.sift_flight.specs.Calm.{four_units, due_in, heard_in, mission_of}
 use Rattle.sift_flight.specs.CalmFlight.{word_in, account_of}
 use Rattle.sift_flight.proofs.CalmStages.{IsPlain}
->>>>>>> 1c6a6eefe08eaf0ded3f0f2211b0d7609eb496d1
 use Rattle.sift_flight.proofs.CalmBoards.{IsCalm, calm_landed}
 use Rattle.sift_flight.proofs.CalmConduct.{four, place, HasFigures, conduct_by, own_words}
 use Rattle.sift_flight.proofs.CalmFits.{four_are_below, fits_by, flyable_by, has_margin}

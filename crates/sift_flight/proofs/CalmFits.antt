@@ -14,16 +14,10 @@ use Rattle.sift_unit.specs.Acts.{IsConfigOf}
 use Rattle.sift_unit.specs.Fits.{Fits, IsNumbered, IsRead, is_caught_in, HasExecutors}
 use Rattle.sift_flight.specs.Configuration.{config_at, HasMarginAt}
 use Rattle.sift_flight.specs.Flight.{flight_of}
-<<<<<<< HEAD
 use Rattle.sift_unit.specs.Premises.{IsFlyable}
-use Rattle.sift_flight.specs.Calm.{Calm, four_units, due_in, heard_in, mission_of, account_of, core_of}
-use Rattle.sift_flight.proofs.CalmActs.{IsPlain}
-=======
-use Rattle.sift_flight.specs.Premises.{IsFlyable}
 use Rattle.sift_flight.specs.Calm.{Calm, four_units, due_in, heard_in, mission_of}
 use Rattle.sift_flight.specs.CalmFlight.{account_of, core_of}
 use Rattle.sift_flight.proofs.CalmStages.{IsPlain}
->>>>>>> 1c6a6eefe08eaf0ded3f0f2211b0d7609eb496d1
 use Rattle.sift_flight.proofs.CalmConduct.{four}
 
 -- all pass

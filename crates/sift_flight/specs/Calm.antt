@@ -8,15 +8,6 @@ use Rattle.sift_lang.specs.Tree.{TaskTree, end}
 use Rattle.sift_lang.specs.Meaning.{meaning}
 use Rattle.sift_program.specs.Program.{ProgramTree}
 use Rattle.sift_unit.specs.Mission.{Mission}
-<<<<<<< HEAD
-use Rattle.sift_unit.specs.Slots.{calls, stamp_of, heard_at}
-use Rattle.sift_unit.specs.Account.{Account}
-use Rattle.sift_flight.specs.Configuration.{HasMarginAt}
-use Rattle.sift_flight.specs.Flight.{flight_of}
-use Rattle.sift_flight.specs.Landing.{HaveLanded}
-use Rattle.sift_unit.specs.Premises.{IsFlyable, RunsProgram}
-=======
->>>>>>> 1c6a6eefe08eaf0ded3f0f2211b0d7609eb496d1
 
 -- a calm mission: the length of its frame; its sensors' words; its tasks, each with one word, with the subframes in which they run, the
 -- words of this frame that they need, and their words before the frame and in it; the slot of each number; and which units turn after the frame
