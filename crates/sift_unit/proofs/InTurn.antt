@@ -1,11 +1,11 @@
 -- The units of a configuration in turn, and words made anew in part.
-use Rattle.std.proofs.Common.{◌≡◌, ℕ, zero, suc, ◌+◌, ◌<◌, ◌≤◌, ◌++◌, Bool, true, false, ◌&&◌, nat_eq, List, [], ◌∷◌, length, map, take, slice_get, Some, unwrap_or, inl, inr, refl, sym, ap, ◌∙◌, arith, add-one, eqb-true, ltb-true}
-use Rattle.std.specs.Prelude.{nat_lt, if◌then◌else◌}
+use Rattle.std.proofs.Common.{◌≡◌, ℕ, zero, suc, ◌+◌, ◌<◌, ◌≤◌, ◌++◌, Bool, true, false, ◌&&◌, nat_eq, List, [], ◌∷◌, length, map, take, slice_get, Some, unwrap_or, inl, inr, refl, ap, ◌∙◌, arith, add-one, eqb-true, ltb-true}
+use Rattle.std.specs.Prelude.{nat_lt}
 use Rattle.std.proofs.lemmas.Bool.{cases_Bool}
 use Rattle.sift_base.specs.Units.{has, IsAscending, IsBelowAll}
 use Rattle.sift_base.proofs.Counts.{has-head, has-tail}
 use Rattle.sift_unit.specs.Mission.{Mission}
-use Rattle.sift_unit.specs.Memory.{renewed, is_word_of, is_made_by}
+use Rattle.sift_unit.specs.Memory.{renewed, is_made_by}
 use Rattle.sift_unit.proofs.Tests.{and_in}
 
 -- values in turn, one unit more

@@ -39,5 +39,5 @@ pub next_is : (us : List ℕ) (convicted : Units) (names : ℕ → ℕ → Bool)
     next_units us convicted ≡ next_by names us
 next_is us convicted names same =
     let kept : remaining us convicted ≡ kept_by names us
-        = filter_same (λ v. not (holds convicted v)) (λ v. not (is_convicted names us v)) us (λ v there. ap not (same v)) in
+    = filter_same (λ v. not (holds convicted v)) (λ v. not (is_convicted names us v)) us (λ v there. ap not (same v)) in
     ap (λ vs. if nat_le 4 (length vs) then vs else us) kept

@@ -1,11 +1,8 @@
 -- The mission as flights see it, from its data.
-use Rattle.std.specs.Prelude.{ℕ, suc, ◌+◌, ◌-◌, ◌*◌, ◌%◌, List, [], ◌∷◌, length, slice_index, slice_index_or, Bool, ◌&&◌, nat_eq, nat_lt, if◌then◌else◌, option_map, ℤ, pos}
+use Rattle.std.specs.Prelude.{ℕ, suc, ◌-◌, ◌%◌, List, [], ◌∷◌, length, slice_index, slice_index_or, Bool, ◌&&◌, nat_eq, if◌then◌else◌, option_map, ℤ, pos}
 use Rattle.sift_base.specs.Layout.{least_units, slot_count, slot_kind, slot_number}
 use Rattle.sift_base.specs.Shapes.{first_word, shape_at}
 use Rattle.sift_base.specs.Units.{has}
-use Rattle.sift_base.specs.declared.layout.Layout.{Layout}
-use Rattle.sift_base.specs.declared.slot.Slot.{Slot}
-use Rattle.sift_base.specs.declared.slot.Slot.TheVariants.{Clock, Sense, RelaySense, Out, Report, RelayReport}
 use Rattle.sift_config.specs.Config.{first_units}
 use Rattle.sift_lang.specs.Meaning.{meaning}
 use Rattle.sift_script.specs.Changes as changes

@@ -9,8 +9,8 @@ ghost use Rattle.sift_exec.specs.Conviction.{next_by};
 
 use crate::account::Account;
 use crate::duty::Duty;
-use crate::memory::Memory;
 use crate::lists::copy_of;
+use crate::memory::Memory;
 use arrayvec::ArrayVec;
 use sift_base::{UnitId, Word};
 use sift_config::Config;

@@ -6,9 +6,9 @@ ghost use Rattle.sift_unit.specs.Boards.{IsNewBoard};
 
 use crate::account::Account;
 use crate::duty::Duty;
+use crate::lists::copy_of;
 use crate::memory::Memory;
 use crate::part::Part;
-use crate::lists::copy_of;
 use arrayvec::ArrayVec;
 use sift_base::{NoMemory, UnitId, Word};
 use sift_config::Config;

@@ -74,13 +74,7 @@ pub trait Duty {
         ensures { result ≡ (mission self.now).sensed sensor frame };
 
     /// What the script of faults puts in the place of a unit's word.
-    fn override_of(
-        &self,
-        unit: UnitId,
-        frame: u32,
-        slot: usize,
-        to: UnitId,
-    ) -> Option<Option<Word>>
+    fn override_of(&self, unit: UnitId, frame: u32, slot: usize, to: UnitId) -> Option<Option<Word>>
         requires { slot < (mission self.now).slots }
         ensures { result ≡ (mission self.now).override unit frame ((mission self.now).kind slot) to };
 
