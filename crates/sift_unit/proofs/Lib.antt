@@ -1,4 +1,5 @@
 pub mod ByWords
+pub mod Echoes
 pub mod FitSlots
 pub mod FitTables
 pub mod FitTasks
@@ -7,6 +8,7 @@ pub mod Flying
 pub mod Held
 pub mod Meanings
 pub mod Numbers
+pub mod Perfect
 pub mod Positions
 pub mod Rows
 pub mod Tasks

@@ -3,6 +3,7 @@ pub mod Acts
 pub mod ByWord
 pub mod Conduct
 pub mod Data
+pub mod Example
 pub mod Fits
 pub mod Flown
 pub mod Frames

@@ -8,6 +8,8 @@ mod mission;
 mod next;
 mod parts;
 mod schedule;
+#[cfg(test)]
+mod tests;
 mod words;
 
 pub use laws::{
