@@ -15,10 +15,15 @@ mod next;
 mod part;
 mod parts;
 mod schedule;
+<<<<<<< HEAD
 mod stepped;
 mod stepping;
 mod tidings;
 mod walk;
+=======
+#[cfg(test)]
+mod tests;
+>>>>>>> 1a4e2d046b708f60b8c15dafc256d1055df13f63
 mod words;
 
 pub use account::Account;
