@@ -23,35 +23,35 @@ use Rattle.sift_unit.proofs.Ending.{frame_going}
 pub start_going : (m : Mission) (u : ℕ) (places : List (Option ℕ)) (memory : Memory) (c : Acts) → Fits m → has m.units u ≡ true →
     length places ≡ unit_limit → IsShaped m memory → IsFresh c → Going m (first_desk m u places memory) c
 start_going m u places memory c fit unit wide shape fresh = record {
-    range = record {
-      unit = unit;
-      frame = omega arith;
-      subframe = (let long = fit.counted.period in omega arith);
-      part = omega arith;
-      slot = omega arith;
-      other = omega arith;
-      count = refl;
-      config = fit.config;
-      configs = λ f d low. absurd (omega arith);
-      places = wide;
-      shape = shape;
+  range = record {
+    unit = unit;
+    frame = omega arith;
+    subframe = (let long = fit.counted.period in omega arith);
+    part = omega arith;
+    slot = omega arith;
+    other = omega arith;
+    count = refl;
+    config = fit.config;
+    configs = λ f d low. absurd (omega arith);
+    places = wide;
+    shape = shape;
+  };
+  progress = fresh.progress ∙ (let z : 0 ≡ 0 * m.period + 0 = omega arith in z);
+  left = fresh.left;
+  meets = λ a h fate. record {
+    acts = record {
+      said = λ f k q slot. fresh.said f (m.number k) q
+          ∙ sym (choice_none {A = Saying} (calls m (a f).cfg k u q) _ _ (not_past_yet 0 0 f (say_spot m (a f).cfg k q) (omega arith) refl));
+      heard = λ f k p slot. ap (λ x. option_map stamp_and_moment x) (fresh.heard f (m.number k) p)
+          ∙ sym (choice_none {A = ℕ × ℕ} (calls m (a f).cfg k p u) _ _ (not_past_yet 0 0 f (hear_spot m (a f).cfg k p) (omega arith) refl));
     };
-    progress = fresh.progress ∙ (let z : 0 ≡ 0 * m.period + 0 = omega arith in z);
-    left = fresh.left;
-    meets = λ a h fate. record {
-      acts = record {
-        said = λ f k q slot. fresh.said f (m.number k) q
-            ∙ sym (choice_none {A = Saying} (calls m (a f).cfg k u q) _ _ (not_past_yet 0 0 f (say_spot m (a f).cfg k q) (omega arith) refl));
-        heard = λ f k p slot. ap (λ x. option_map stamp_and_moment x) (fresh.heard f (m.number k) p)
-            ∙ sym (choice_none {A = ℕ × ℕ} (calls m (a f).cfg k p u) _ _ (not_past_yet 0 0 f (hear_spot m (a f).cfg k p) (omega arith) refl));
-      };
-      ended = λ f low. absurd (omega arith);
-      begins = record { cfg = fate.cfg; clk = fate.clk };
-      last = refl;
-      places = λ zero few sub p below call. absurd (omega arith);
-      remembers = λ member. record { heard = λ k slot past. absurd (omega arith); ran = λ k slot past. absurd (omega arith) };
-    };
-  }
+    ended = λ f low. absurd (omega arith);
+    begins = record { cfg = fate.cfg; clk = fate.clk };
+    last = refl;
+    places = λ zero few sub p below call. absurd (omega arith);
+    remembers = λ member. record { heard = λ k slot past. absurd (omega arith); ran = λ k slot past. absurd (omega arith) };
+  };
+}
 
 -- a new board keeps to its conduct
 pub start_law : StartLaw

@@ -79,13 +79,7 @@ impl Board {
         let stamp = self.stamp(mission);
         if let Some(other) = UnitId::of(self.other) {
             let word = self.memory.word_to(
-                mission,
-                &self.cfg,
-                self.unit,
-                self.frame,
-                &self.clk,
-                self.slot,
-                other,
+                mission, &self.cfg, self.unit, self.frame, &self.clk, self.slot, other,
             );
             port.say(other, self.slot, self.frame, stamp, word);
             self.other += 1;
@@ -142,7 +136,9 @@ impl Board {
         requires last { self.old.subframe + 1 ≡ (M.mission mission.now).period }
         ensures { GoesOn (M.mission mission.now) self.old self.new }
     {
-        let account = self.memory.account(mission, &self.cfg, self.unit, &self.clk);
+        let account = self
+            .memory
+            .account(mission, &self.cfg, self.unit, &self.clk);
         self.cfg = account.next_cfg;
         self.clk = copied(&account.next_clk);
         self.last = copy_of(&account.outs);

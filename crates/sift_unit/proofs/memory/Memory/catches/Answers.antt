@@ -13,7 +13,7 @@ returns g c =
     let us = c.args.config.now in
     let b = memory_of c.args.self.now in
     let polls : c.within.result ≡ poll_now m us b = is_gathered c.within.result (λ v. any_below m.words (λ w. holds (units_at b.poll w) v)) us
-          (λ v. c.within.ensures v ∙ ap (λ t. has us v && t) (c.union_of.ensures v ∙ ap (λ n. any_below n (λ w. holds (units_at b.poll w) v)) c.words.ensures)) in
+    (λ v. c.within.ensures v ∙ ap (λ t. has us v && t) (c.union_of.ensures v ∙ ap (λ n. any_below n (λ w. holds (units_at b.poll w) v)) c.words.ensures)) in
     let relays : c.within-2.result ≡ relay_now m us b = is_gathered c.within-2.result (λ v. any_below m.sensors (λ x. holds (units_at b.relay x) v)) us
-          (λ v. c.within-2.ensures v ∙ ap (λ t. has us v && t) (c.union_of-2.ensures v ∙ ap (λ n. any_below n (λ x. holds (units_at b.relay x) v)) c.sensors.ensures)) in
+    (λ v. c.within-2.ensures v ∙ ap (λ t. has us v && t) (c.union_of-2.ensures v ∙ ap (λ n. any_below n (λ x. holds (units_at b.relay x) v)) c.sensors.ensures)) in
     λ i. record { poll = polls i; relay = relays i; clock = b.clock }

@@ -15,5 +15,5 @@ returns g c =
     let f = report_taken m us c.args.unit b in
     let words : c.deref.result.now ≡ map f us = c.deref.ensures.0 ∙ c.reports_taken-reports.ensures in
     c.next_config.ensures ∙ next_is us c.convict.result (names_by us c.deref.result.now) c.convict.ensures
-      ∙ next-same (names_by us c.deref.result.now) (names_now m us c.args.unit b) us (λ r v there. ap (λ w. has_bit w v)
-      (ap (λ ws. report_by us ws r) words ∙ report_of_unit f us r there))
+    ∙ next-same (names_by us c.deref.result.now) (names_now m us c.args.unit b) us (λ r v there. ap (λ w. has_bit w v)
+    (ap (λ ws. report_by us ws r) words ∙ report_of_unit f us r there))
