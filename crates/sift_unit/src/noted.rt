@@ -14,7 +14,7 @@ ghost use Rattle.sift_base.specs.declared.slot.Slot.TheVariants.{RelaySense, Out
 
 use crate::duty::Duty;
 use crate::memory::Memory;
-use crate::words::put;
+use crate::lists::put;
 use arrayvec::ArrayVec;
 use sift_agree::agree;
 use sift_base::{Slot, UnitId, UnitSet, Word};
