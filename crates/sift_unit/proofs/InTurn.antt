@@ -1,9 +1,16 @@
 -- The units of a configuration in turn, and words made anew in part.
+<<<<<<< HEAD
 use Rattle.std.proofs.Common.{◌≡◌, ℕ, zero, suc, ◌+◌, ◌<◌, ◌≤◌, ◌++◌, Bool, true, false, ◌&&◌, nat_eq, List, [], ◌∷◌, length, map, take, slice_get, Some, unwrap_or, inl, inr, refl, ap, ◌∙◌, arith, add-one, eqb-true, ltb-true}
 use Rattle.std.specs.Prelude.{nat_lt}
+=======
+use Rattle.std.proofs.Common.{◌≡◌, ℕ, zero, suc, ◌+◌, ◌<◌, ◌≤◌, ◌++◌, Bool, true, false, ◌&&◌, nat_eq, List, [], ◌∷◌, length, map, take, slice_get, Some, unwrap_or, inl, inr, refl, sym, ap, ◌∙◌, subst, not, append-nil, arith, add-one, eqb-true, ltb-true}
+use Rattle.std.specs.List.{filter}
+use Rattle.std.specs.Prelude.{nat_lt, if◌then◌else◌}
+>>>>>>> b4795fa296ab2aa5f3e87c577129010aa2af4e74
 use Rattle.std.proofs.lemmas.Bool.{cases_Bool}
-use Rattle.sift_base.specs.Units.{has, IsAscending, IsBelowAll}
+use Rattle.sift_base.specs.Units.{has, others, IsAscending, IsBelowAll}
 use Rattle.sift_base.proofs.Counts.{has-head, has-tail}
+use Rattle.sift_config.specs.Config.{IsConfig}
 use Rattle.sift_unit.specs.Mission.{Mission}
 use Rattle.sift_unit.specs.Memory.{renewed, is_made_by}
 use Rattle.sift_unit.proofs.Tests.{and_in}
@@ -59,3 +66,59 @@ module _ (m : Mission) (us : List ℕ) (u t : ℕ) (runs : Bool) (tells : (w : �
       none true true = refl
       none true false = refl
       none false b = refl
+
+-- ---- units that pass a test, in turn
+
+-- values of those units in turn, one unit more
+pub passing_more : {A : Type 0} (f : ℕ → A) (p : ℕ → Bool) (us : List ℕ) (i t : ℕ) → slice_get us i ≡ Some t →
+    map f (filter p (take (i + 1) us)) ≡ map f (filter p (take i us)) ++ (if p t then f t ∷ [] else [])
+passing_more {A = A} f p us i t at = rw (add-one i) (more us i at)
+  where
+    one : (u : ℕ) → u ≡ t → map f (filter p (u ∷ [])) ≡ (if p t then f t ∷ [] else [])
+    one u e = subst (λ (v : ℕ). map f (filter p (v ∷ [])) ≡ (if p t then f t ∷ [] else [])) (sym e) (elim (cases_Bool (p t)) [ inl y ↦ rw y refl | inr n ↦ rw n refl ])
+
+    more : (us : List ℕ) (i : ℕ) → slice_get us i ≡ Some t → map f (filter p (take (suc i) us)) ≡ map f (filter p (take i us)) ++ (if p t then f t ∷ [] else [])
+    more [] i at = absurd cc
+    more (u ∷ us) zero at = one u (ap (λ o. unwrap_or o t) at)
+    more (u ∷ us) (suc i) at = elim (cases_Bool (p u)) [
+      | inl y ↦ rw y (ap (λ xs. f u ∷ xs) (more us i at))
+      | inr n ↦ rw n (more us i at)
+    ]
+
+-- they are no more than so many
+pub length-passing : {A : Type 0} (f : ℕ → A) (p : ℕ → Bool) (us : List ℕ) (i : ℕ) → length (map f (filter p (take i us))) ≤ i
+length-passing f p [] zero = omega arith
+length-passing f p [] (suc i) = omega arith
+length-passing f p (u ∷ us) zero = omega arith
+length-passing f p (u ∷ us) (suc i) =
+    let rest = length-passing f p us i in
+    elim (cases_Bool (p u)) [ inl y ↦ rw y (omega arith) | inr n ↦ rw n (omega arith) ]
+
+-- the units other than two
+pub others_both : (of own : ℕ) (us : List ℕ) → filter (λ v. not (nat_eq v of) && not (nat_eq v own)) us ≡ others own (others of us)
+others_both of own [] = refl
+others_both of own (u ∷ us) =
+    let rest = others_both of own us in
+    elim (cases_Bool (nat_eq u of)) [
+      | inl y ↦ rw y rest
+      | inr n ↦ rw n (elim (cases_Bool (nat_eq u own)) [ inl y ↦ rw y rest | inr k ↦ rw k (ap (λ xs. u ∷ xs) rest) ])
+    ]
+
+-- room for one more, in a configuration
+pub room_in_turn : {A : Type 0} (f : ℕ → A) (p : ℕ → Bool) (us : List ℕ) (i : ℕ) (xs : List A) → IsConfig us → i < length us →
+    xs ≡ map f (filter p (take i us)) → length xs < 8
+room_in_turn f p us i xs config low is =
+    let few = few_units 8 0 us (omega arith) config.ascending (λ u there. (omega arith, config.inside u there)) in
+    let so_far = length-passing f p us i in
+    let are = ap length is in
+    omega arith
+
+-- one unit more that passes
+pub passing_yes : {A : Type 0} (f : ℕ → A) (p : ℕ → Bool) (us : List ℕ) (i t : ℕ) → slice_get us i ≡ Some t → p t ≡ true →
+    map f (filter p (take (i + 1) us)) ≡ map f (filter p (take i us)) ++ f t ∷ []
+passing_yes f p us i t at passes = passing_more f p us i t at ∙ ap (λ b. map f (filter p (take i us)) ++ (if b then f t ∷ [] else [])) passes
+
+-- and one that doesn't
+pub passing_no : {A : Type 0} (f : ℕ → A) (p : ℕ → Bool) (us : List ℕ) (i t : ℕ) → slice_get us i ≡ Some t → p t ≡ false →
+    map f (filter p (take (i + 1) us)) ≡ map f (filter p (take i us))
+passing_no f p us i t at fails = passing_more f p us i t at ∙ (ap (λ b. map f (filter p (take i us)) ++ (if b then f t ∷ [] else [])) fails ∙ append-nil _)

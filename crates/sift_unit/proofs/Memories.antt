@@ -1,6 +1,12 @@
 -- Sets of units in a memory.
 use Rattle.std.proofs.Common.{◌≡◌, ℕ, ◌<◌, ◌&&◌, Bool, true, not, nat_eq, List, [], ◌∷◌, length, map, inl, inr, ap, ◌∙◌, sym, eqb-true}
-use Rattle.std.specs.Prelude.{slice_index_or, nat_le, if◌then◌else◌}
+use Rattle.std.proofs.Common.{false, nat_cmp}
+use Rattle.sift_base.specs.ReadBack.{false_last}
+use Rattle.sift_vote.specs.Majority.{IsMajority, HasNoMajority}
+use Rattle.sift_vote.specs.Agreed.{majority_of}
+use Rattle.sift_vote.proofs.Found.{majority_is_found}
+use Rattle.std.proofs.Common.{Option, Some, None, refl}
+use Rattle.std.specs.Prelude.{IfSome, IfNone, slice_index_or, nat_le, if◌then◌else◌}
 use Rattle.std.proofs.lemmas.Bool.{cases_Bool}
 use Rattle.std.proofs.lemmas.List.{get_or_default}
 use Rattle.sift_base.proofs.Sets.{filter_same}
@@ -41,3 +47,17 @@ next_is us convicted names same =
     let kept : remaining us convicted ≡ kept_by names us
     = filter_same (λ v. not (holds convicted v)) (λ v. not (is_convicted names us v)) us (λ v there. ap not (same v)) in
     ap (λ vs. if nat_le 4 (length vs) then vs else us) kept
+
+-- a majority that was found, or none, is the majority of the places
+pub majority_is : (places : List (Option ℕ)) (found : Option ℕ) → IfSome found (IsMajority places) → IfNone found (HasNoMajority places) → found ≡ majority_of places
+majority_is places (Some w) is none = sym ((majority_is_found places w).1 is)
+majority_is places None is none = sym (absent (majority_of places) (λ w e. none w ((majority_is_found places w).0 e)))
+  where
+    absent : (o : Option ℕ) → ((w : ℕ) → o ≡ Some w → ⊥) → o ≡ None
+    absent None never = refl
+    absent (Some w) never = absurd (never w refl)
+
+-- nobody is gathered by a test with a part that fails
+pub nobody_else : (us : List ℕ) (u : ℕ) (own : Bool) (test : ℕ → Bool) → own ≡ false → set.empty ≡ gathered (λ v. not (nat_eq v u) && (own && test v)) us
+nobody_else us u own test fails = is_gathered set.empty (λ v. not (nat_eq v u) && (own && test v)) us
+    (λ v. set.contains-empty nat_cmp v ∙ sym (rw fails (ap (λ t. has us v && t) (false_last (not (nat_eq v u))) ∙ false_last (has us v))))

@@ -61,12 +61,17 @@ input_at m us u f b heard x =
     if nat_eq (reader_of us x) u then m.sensed x f
     else agreed_of (taken us (reader_of us x) u (λ q. place_at b.direct x) (λ q p. place_at heard p))
 
+-- the other units whose clock is absent or too far away, where these words were heard of the clocks
+abbrev pub caught_by_clock : Mission → List ℕ → ℕ → ℤ → List (Option ℕ) → Units
+caught_by_clock m us u clk heard = gathered (λ v. not (nat_eq v u) && is_too_far (m.skew +ℤ m.error) (reading_at m u clk heard v)) us
+
+-- the next offset, by these words
+abbrev pub offset_after : Mission → List ℕ → ℕ → ℤ → List (Option ℕ) → ℤ
+offset_after m us u clk heard = next_offset (m.skew +ℤ m.error) us (reading_at m u clk heard) clk u (m.drift u)
+
 -- the memory after all that is to be heard of a slot was heard
 abbrev pub note : Mission → List ℕ → ℕ → ℕ → ℤ → Slot → List (Option ℕ) → Memory → Memory
-note m us u f clk Clock heard b = record b {
-  clock = gathered (λ v. not (nat_eq v u) && is_too_far (m.skew +ℤ m.error) (reading_at m u clk heard v)) us;
-  next_clk = next_offset (m.skew +ℤ m.error) us (reading_at m u clk heard) clk u (m.drift u);
-}
+note m us u f clk Clock heard b = record b { clock = caught_by_clock m us u clk heard; next_clk = offset_after m us u clk heard }
 note m us u f clk (Sense x) heard b = record b { direct = slice_set b.direct x (place_at heard (reader_of us x)) }
 note m us u f clk (RelaySense x) heard b = record b {
   ins = slice_set b.ins x (input_at m us u f b heard x);

@@ -7,7 +7,7 @@ ghost use Rattle.sift_unit.specs.Mission.{Mission};
 ghost use Rattle.sift_unit.specs.Slots.{calls};
 ghost use Rattle.sift_unit.specs.Acts.{IsConfigOf};
 ghost use Rattle.sift_unit.specs.Fits.{Fits};
-ghost use Rattle.sift_unit.specs.Memory.{note as note_of, renewed, is_word_of};
+ghost use Rattle.sift_unit.specs.Memory.{caught_by_clock, offset_after, renewed, is_word_of};
 ghost use Rattle.sift_unit.specs.Remembered.{IsShaped};
 ghost use Rattle.sift_unit.specs.Desk.{spot};
 ghost use Rattle.sift_unit.specs.Stops.{IsNothingBetween};
@@ -16,7 +16,7 @@ ghost use Rattle.sift_unit.specs.Boards.{part_of, memory_of};
 
 use crate::memory::Memory;
 use crate::part::Part;
-use sift_base::{Slot, UnitId, Word};
+use sift_base::{Slot, UnitId, UnitSet, Word};
 use sift_config::Config;
 
 /// A mission, as far as a board asks it.
@@ -107,21 +107,32 @@ pub trait Duty {
         ensures to { result ≤ (mission self.now).slots }
         ensures idle { IsNothingBetween (mission self.now) config.now (spot subframe (part_of part) slot 0) (spot subframe (part_of part) result 0) };
 
-    /// Notes what was heard of a slot.
-    fn note(
+    /// The units of the configuration that are caught by what was heard of their clocks.
+    fn clock_catches(
         &self,
-        memory: &mut Memory,
         config: &Config,
         unit: UnitId,
-        frame: u32,
         clk: &i64,
-        slot: usize,
         places: &[Option<Word>; 8],
-    )
-        requires slot { IsSlotOf (mission self.now) config.now slot }
-        requires shape { IsShaped (mission self.now) (memory_of memory.old) }
-        requires member { has config.now unit ≡ true }
-        ensures { memory_of memory.new ≡ note_of (mission self.now) config.now unit frame clk.now ((mission self.now).kind slot) places.now (memory_of memory.old) };
+    ) -> UnitSet
+        requires { has config.now unit ≡ true }
+        ensures { result ≡ caught_by_clock (mission self.now) config.now unit clk.now places.now };
+
+    /// The next offset, by what was heard of the others' clocks.
+    fn next_offset(
+        &self,
+        config: &Config,
+        unit: UnitId,
+        clk: &i64,
+        places: &[Option<Word>; 8],
+    ) -> i64
+        requires { has config.now unit ≡ true }
+        ensures { result ≡ offset_after (mission self.now) config.now unit clk.now places.now };
+
+    /// Whether a unit puts out a word.
+    fn executes(&self, config: &Config, word: u8, unit: UnitId) -> bool
+        requires { word < (mission self.now).words }
+        ensures { result ≡ (mission self.now).executes config.now word unit };
 
     /// Whether a unit runs a task.
     fn runs(&self, config: &Config, task: usize, unit: UnitId) -> bool

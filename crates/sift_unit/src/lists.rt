@@ -1,6 +1,6 @@
 //! Lists of words of a fixed capacity.
 
-ghost use Rattle.std.specs.Prelude.{◌≡◌, ◌≤◌, length};
+ghost use Rattle.std.specs.Prelude.{◌≡◌, ◌<◌, ◌≤◌, length, slice_set};
 
 use arrayvec::ArrayVec;
 use sift_base::Word;
@@ -27,4 +27,12 @@ pub(crate) fn zeros<const N: usize>(count: usize) -> ArrayVec<Word, N>
         words.push(Word::of(0));
     }
     words
+}
+
+/// Puts a word at a place of a list.
+pub(crate) fn put<const N: usize>(words: &mut ArrayVec<Word, N>, at: u8, word: Word)
+    requires { at < length words.old.items }
+    ensures { words.new.items ≡ slice_set words.old.items at word }
+{
+    words[usize::from(at)] = word;
 }

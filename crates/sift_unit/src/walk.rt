@@ -78,7 +78,8 @@ impl Board {
 
     /// Goes on to the next call of this subframe, or to its end.
     pub(crate) fn find_call<M: Duty>(&mut self, mission: &M)
-        requires { InRange (M.mission mission.now) (desk_of self.old) }
+        requires range { InRange (M.mission mission.now) (desk_of self.old) }
+        requires frame { self.old.frame < (M.mission mission.now).frames }
         ensures passes { Passes (M.mission mission.now) (desk_of self.old) (desk_of self.new) }
         ensures nearer { left (desk_of self.new) ≤ left (desk_of self.old) }
         ensures accounts { self.new.accounts ≡ self.old.accounts }
@@ -92,6 +93,7 @@ impl Board {
     /// Goes on where nothing is to be said or heard. What isn't due is not looked at.
     fn pass<M: Duty>(&mut self, mission: &M)
         requires range { InRange (M.mission mission.now) (desk_of self.old) }
+        requires frame { self.old.frame < (M.mission mission.now).frames }
         requires idle { at_call (M.mission mission.now) (desk_of self.old) ≡ false }
         requires inside { at_end (M.mission mission.now) (desk_of self.old) ≡ false }
         ensures onward { Onward (M.mission mission.now) (desk_of self.old) (desk_of self.new) }
@@ -148,6 +150,7 @@ impl Board {
     /// Goes past a unit, past a slot, or past a slot that was heard, whose words it notes.
     fn pass_hearing<M: Duty>(&mut self, mission: &M)
         requires range { InRange (M.mission mission.now) (desk_of self.old) }
+        requires frame { self.old.frame < (M.mission mission.now).frames }
         requires member { has self.old.cfg self.old.unit ≡ true }
         requires part { (desk_of self.old).part ≡ 0 }
         requires slot { self.old.slot < (M.mission mission.now).slots }
@@ -164,8 +167,8 @@ impl Board {
             self.other += 1;
             return;
         }
-        mission.note(
-            &mut self.memory,
+        self.memory.note(
+            mission,
             &self.cfg,
             self.unit,
             self.frame,

@@ -17,7 +17,7 @@ returns-then-self-lt8-clause-onward g c =
 
 -- past a slot that was heard
 pub returns-clause-onward : goal.returns-clause-onward
-returns-clause-onward g c = note_onward _ (g.met.M.Duty.fits c.args.mission.now) (desk_of c.args.self.now) c.requires.range (memory_of c.note.new.memory)
+returns-clause-onward g c = note_onward _ (g.met.M.Duty.fits c.args.mission.now) (desk_of c.args.self.now) c.requires.range (memory_of c.note.new.self)
     (record {
       part = c.requires.part;
       slot = c.requires.slot;

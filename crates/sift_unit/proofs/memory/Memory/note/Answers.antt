@@ -1,0 +1,28 @@
+use Rattle.std.proofs.Common.{◌∙◌, ap, sym}
+use Rattle.sift_unit.specs.Memory.{note as note_of}
+use Rattle.sift_unit.specs.Boards.{memory_of}
+use Rattle.sift_unit.proofs.memory.Memory.note.Goals as goal
+
+-- the slot of a sensor's relays
+pub returns-in-RelaySense : goal.returns-in-RelaySense
+returns-in-RelaySense g c =
+    let m = g.M.Duty.mission c.args.mission.now in
+    let b = memory_of c.args.self.now in
+    c.note_relays.ensures c.args.clk.now
+    ∙ ap (λ k. note_of m c.args.config.now c.args.unit c.args.frame c.args.clk.now k c.args.places.now b) (sym c.in-RelaySense.is ∙ c.kind.ensures)
+
+-- the slot of an output word
+pub returns-in-Out : goal.returns-in-Out
+returns-in-Out g c =
+    let m = g.M.Duty.mission c.args.mission.now in
+    let b = memory_of c.args.self.now in
+    c.note_poll.ensures c.args.frame c.args.clk.now
+    ∙ ap (λ k. note_of m c.args.config.now c.args.unit c.args.frame c.args.clk.now k c.args.places.now b) (sym c.in-Out.is ∙ c.kind.ensures)
+
+-- the slot of a report's relays
+pub returns-in-RelayReport : goal.returns-in-RelayReport
+returns-in-RelayReport g c =
+    let m = g.M.Duty.mission c.args.mission.now in
+    let b = memory_of c.args.self.now in
+    c.note_report.ensures m c.args.frame c.args.clk.now
+    ∙ ap (λ k. note_of m c.args.config.now c.args.unit c.args.frame c.args.clk.now k c.args.places.now b) (sym c.in-RelayReport.is ∙ c.kind.ensures)

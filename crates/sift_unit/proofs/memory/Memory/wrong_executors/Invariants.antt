@@ -1,0 +1,11 @@
+use Rattle.std.proofs.Common.{◌≡◌, ℕ, ◌&&◌, take}
+use Rattle.sift_base.specs.Units.{holds, has}
+use Rattle.sift_vote.specs.Differing.{differs}
+use Rattle.sift_unit.specs.Memory.{polled_at}
+use Rattle.sift_unit.specs.Boards.{memory_of}
+use Rattle.sift_unit.proofs.memory.Memory.wrong_executors.Given as goal
+
+-- wrong so far are those among the units seen
+abbrev pub invariant-loop-position : goal.invariant-loop-position
+invariant-loop-position g l = (v : ℕ) → holds l.wrong v ≡ (has (take l.position l.fn.config) v
+    && ((g.M.Duty.mission l.fn.mission).executes l.fn.config l.fn.word v && differs (polled_at l.fn.unit (memory_of l.fn.self) l.fn.places l.fn.word v) l.fn.vote))

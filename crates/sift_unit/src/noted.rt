@@ -1,0 +1,267 @@
+//! What a board notes of a slot, all of which it has heard.
+
+ghost use Rattle.std.specs.Prelude.{◌≡◌, ◌<◌, ◌&&◌, ℕ, ℤ, Some, map, not, nat_eq, true};
+ghost use Rattle.std.specs.List.{filter};
+ghost use Rattle.sift_base.specs.Units.{has, holds};
+ghost use Rattle.sift_vote.specs.Agreed.{majority_of};
+ghost use Rattle.sift_vote.specs.Differing.{differs as is_other};
+ghost use Rattle.sift_unit.specs.Mission.{Mission};
+ghost use Rattle.sift_unit.specs.Memory.{place_at, polled_at, poll_of, note as note_of};
+ghost use Rattle.sift_unit.specs.Remembered.{IsShaped};
+ghost use Rattle.sift_unit.specs.Passing.{IsSlotOf};
+ghost use Rattle.sift_unit.specs.Boards.{memory_of};
+ghost use Rattle.sift_base.specs.declared.slot.Slot.TheVariants.{RelaySense, Out, RelayReport};
+
+use crate::duty::Duty;
+use crate::memory::Memory;
+use crate::lists::put;
+use arrayvec::ArrayVec;
+use sift_agree::agree;
+use sift_base::{Slot, UnitId, UnitSet, Word};
+use sift_config::Config;
+use sift_vote::majority;
+
+impl Memory {
+    /// Notes what was heard of a slot, by unit.
+    pub(crate) fn note<M: Duty>(
+        &mut self,
+        mission: &M,
+        config: &Config,
+        unit: UnitId,
+        frame: u32,
+        clk: &i64,
+        slot: usize,
+        places: &[Option<Word>; 8],
+    )
+        requires slot { IsSlotOf (M.mission mission.now) config.now slot }
+        requires member { has config.now unit ≡ true }
+        requires frame { frame < (M.mission mission.now).frames }
+        requires shape { IsShaped (M.mission mission.now) (memory_of self.old) }
+        ensures { memory_of self.new ≡ note_of (M.mission mission.now) config.now unit frame clk.now ((M.mission mission.now).kind slot) places.now (memory_of self.old) }
+    {
+        match mission.kind(slot) {
+            Slot::Clock => {
+                self.clock = mission.clock_catches(config, unit, clk, places);
+                self.next_clk = mission.next_offset(config, unit, clk, places);
+            }
+            Slot::Sense(x) => {
+                let reader = config.reader_of(x);
+                self.direct[usize::from(x)] = places[usize::from(reader.get())];
+            }
+            Slot::RelaySense(x) => self.note_relays(mission, config, unit, frame, x, places),
+            Slot::Out(w) => self.note_poll(mission, config, unit, w, places),
+            Slot::Report => self.reports.copy_from_slice(places),
+            Slot::RelayReport(s) => self.note_report(config, unit, s, places),
+        }
+    }
+
+    /// Notes a sensor's word, and who relayed another.
+    fn note_relays<M: Duty>(
+        &mut self,
+        mission: &M,
+        config: &Config,
+        unit: UnitId,
+        frame: u32,
+        sensor: u8,
+        places: &[Option<Word>; 8],
+    )
+        requires sensor { sensor < (M.mission mission.now).sensors }
+        requires frame { frame < (M.mission mission.now).frames }
+        requires shape { IsShaped (M.mission mission.now) (memory_of self.old) }
+        ensures { (clk : ℤ) → memory_of self.new ≡ note_of (M.mission mission.now) config.now unit frame clk (RelaySense sensor) places.now (memory_of self.old) }
+    {
+        let reader = config.reader_of(sensor);
+        if reader == unit {
+            let own = mission.sensed(sensor, frame);
+            put(&mut self.ins, sensor, own);
+            self.relay[usize::from(sensor)] = liars(config, unit, own, places);
+            return;
+        }
+        let relays = relays_of(places, config, reader, unit);
+        let word = agree(self.direct_of(sensor), &relays);
+        put(&mut self.ins, sensor, word);
+        self.relay[usize::from(sensor)] = UnitSet::empty();
+    }
+
+    /// The word of a sensor as its reader said it.
+    fn direct_of(&self, sensor: u8) -> Option<Word>
+        requires { sensor < 8 }
+        ensures { result ≡ place_at (memory_of self.now).direct sensor }
+    {
+        self.direct[usize::from(sensor)]
+    }
+
+    /// Notes the voted word of a number, and who put out another.
+    fn note_poll<M: Duty>(
+        &mut self,
+        mission: &M,
+        config: &Config,
+        unit: UnitId,
+        word: u8,
+        places: &[Option<Word>; 8],
+    )
+        requires word { word < (M.mission mission.now).words }
+        requires shape { IsShaped (M.mission mission.now) (memory_of self.old) }
+        ensures { (f : ℕ) (clk : ℤ) → memory_of self.new ≡ note_of (M.mission mission.now) config.now unit f clk (Out word) places.now (memory_of self.old) }
+    {
+        let vote = self.vote(mission, config, unit, word, places);
+        let wrong = self.wrong_executors(mission, config, unit, word, places, &vote);
+        put(&mut self.outs, word, vote.unwrap_or(Word::of(0)));
+        self.poll[usize::from(word)] = wrong;
+    }
+
+    /// The majority of the executors' words.
+    fn vote<M: Duty>(
+        &self,
+        mission: &M,
+        config: &Config,
+        unit: UnitId,
+        word: u8,
+        places: &[Option<Word>; 8],
+    ) -> Option<Word>
+        requires { word < (M.mission mission.now).words }
+        ensures { result ≡ majority_of (poll_of (M.mission mission.now) config.now unit (memory_of self.now) places.now word) }
+    {
+        let mut ballots = ArrayVec::<Option<Word>, 8>::new();
+        for position in 0..config.len() {
+            let executor = config.unit_at(position);
+            if mission.executes(config, word, executor) {
+                ballots.push(self.ballot(unit, word, places, executor));
+            }
+        }
+        majority(&ballots)
+    }
+
+    /// The word of an executor in a poll: the own one as it was made, another's as it was heard.
+    fn ballot(
+        &self,
+        unit: UnitId,
+        word: u8,
+        places: &[Option<Word>; 8],
+        executor: UnitId,
+    ) -> Option<Word>
+        requires { word < 64 }
+        ensures { result ≡ polled_at unit (memory_of self.now) places.now word executor }
+    {
+        if executor == unit {
+            return Some(self.made[usize::from(word)]);
+        }
+        places[usize::from(executor.get())]
+    }
+
+    /// The executors whose word is absent, or differs from a vote that is there.
+    fn wrong_executors<M: Duty>(
+        &self,
+        mission: &M,
+        config: &Config,
+        unit: UnitId,
+        word: u8,
+        places: &[Option<Word>; 8],
+        vote: &Option<Word>,
+    ) -> UnitSet
+        requires { word < (M.mission mission.now).words }
+        ensures { (v : ℕ) → holds result v ≡ (has config.now v && ((M.mission mission.now).executes config.now word v && is_other (polled_at unit (memory_of self.now) places.now word v) vote.now)) }
+    {
+        let mut wrong = UnitSet::empty();
+        for position in 0..config.len() {
+            let executor = config.unit_at(position);
+            if self.is_wrong(mission, config, unit, word, places, vote, executor) {
+                wrong = wrong.with(executor);
+            }
+        }
+        wrong
+    }
+
+    /// Whether a unit is an executor whose word is absent, or differs from a vote that is there.
+    fn is_wrong<M: Duty>(
+        &self,
+        mission: &M,
+        config: &Config,
+        unit: UnitId,
+        word: u8,
+        places: &[Option<Word>; 8],
+        vote: &Option<Word>,
+        executor: UnitId,
+    ) -> bool
+        requires few { word < 64 }
+        requires word { word < (M.mission mission.now).words }
+        ensures { result ≡ ((M.mission mission.now).executes config.now word executor && is_other (polled_at unit (memory_of self.now) places.now word executor) vote.now) }
+    {
+        let ballot = self.ballot(unit, word, places, executor);
+        mission.executes(config, word, executor) && differs(&ballot, vote)
+    }
+
+    /// Notes the agreed report of a unit.
+    fn note_report(&mut self, config: &Config, unit: UnitId, of: UnitId, places: &[Option<Word>; 8])
+        ensures { (m : Mission) (f : ℕ) (clk : ℤ) → memory_of self.new ≡ note_of m config.now unit f clk (RelayReport of) places.now (memory_of self.old) }
+    {
+        let relays = relays_of(places, config, of, unit);
+        self.agreed[usize::from(of.get())] = agree(place_of(&self.reports, of), &relays);
+    }
+}
+
+/// The place of a unit.
+fn place_of(places: &[Option<Word>; 8], unit: UnitId) -> Option<Word>
+    ensures { result ≡ place_at places.now unit }
+{
+    places[usize::from(unit.get())]
+}
+
+/// Whether a place is absent, or differs from a vote that is there.
+fn differs(place: &Option<Word>, vote: &Option<Word>) -> bool
+    ensures { result ≡ is_other place.now vote.now }
+{
+    match (*place, *vote) {
+        (None, _) => true,
+        (Some(_), None) => false,
+        (Some(word), Some(winner)) => word != winner,
+    }
+}
+
+/// The other units that relayed another word than the own one, or none.
+fn liars(config: &Config, unit: UnitId, own: Word, places: &[Option<Word>; 8]) -> UnitSet
+    ensures { (v : ℕ) → holds result v ≡ (has config.now v && (not (nat_eq v unit) && is_other (place_at places.now v) (Some own))) }
+{
+    let told = Some(own);
+    let mut liars = UnitSet::empty();
+    for position in 0..config.len() {
+        let other = config.unit_at(position);
+        if lies(unit, &told, places, other) {
+            liars = liars.with(other);
+        }
+    }
+    liars
+}
+
+/// Whether it is another unit, whose relay is absent or differs from what it was told.
+fn lies(unit: UnitId, told: &Option<Word>, places: &[Option<Word>; 8], other: UnitId) -> bool
+    ensures { result ≡ (not (nat_eq other unit) && is_other (place_at places.now other) told.now) }
+{
+    other != unit && differs(&places[usize::from(other.get())], told)
+}
+
+/// Whether it is a unit other than these two.
+fn is_third(unit: UnitId, of: UnitId, own: UnitId) -> bool
+    ensures { result ≡ (not (nat_eq unit of) && not (nat_eq unit own)) }
+{
+    unit != of && unit != own
+}
+
+/// The words of the units other than these two, in their order.
+fn relays_of(
+    places: &[Option<Word>; 8],
+    config: &Config,
+    of: UnitId,
+    own: UnitId,
+) -> ArrayVec<Option<Word>, 8>
+    ensures { result.items ≡ map (place_at places.now) (filter (λ v. not (nat_eq v of) && not (nat_eq v own)) config.now) }
+{
+    let mut relays = ArrayVec::new();
+    for position in 0..config.len() {
+        let unit = config.unit_at(position);
+        if is_third(unit, of, own) {
+            relays.push(place_of(places, unit));
+        }
+    }
+    relays
+}
