@@ -9,9 +9,9 @@ use Rattle.sift_compile.specs.Length.{code_limit, task_length, task_steps}
 use Rattle.sift_lang.specs.Tree.{TaskTree}
 use Rattle.sift_parse.specs.declared.stop.ParseStop.{ParseStop}
 use Rattle.sift_parse.specs.declared.stop.ParseStop.TheVariants as parse
-use Rattle.sift_parse.specs.Force.{Roll, words_before}
-use Rattle.sift_parse.specs.Linear.{linear_tree}
 use Rattle.sift_parse.specs.Outcome.{AreNames}
+use Rattle.sift_parse.specs.Roll.{Roll, first_word}
+use Rattle.sift_parse.specs.Linear.{linear_tree}
 use Rattle.sift_scenario.proofs.Codes.{allowed_more}
 use Rattle.sift_scenario.proofs.Decided.{at_most}
 use Rattle.sift_scenario.proofs.FirstBroken.{kept_or_broken}
@@ -63,7 +63,7 @@ stop_some task parse.NoMemory some e = some refl
 tree_or_stop :
     TextsAreAnswered → (roll : Roll) (task : ℕ) (form : Form) → AreNames roll
     → ((tree : TaskTree) × IsTreeOf roll form tree) ⊎ ((e : Refused) × (e ≢ NoMemory) × IsNoTask roll task form e)
-tree_or_stop texts roll task (linear factor addend) names = inl (linear_tree (words_before roll roll.this) factor addend, refl)
+tree_or_stop texts roll task (linear factor addend) names = inl (linear_tree (first_word roll roll.this) factor addend, refl)
 tree_or_stop texts roll task (text bytes) names = elim (texts roll bytes names) [
   | inl is ↦ inl (is.0, is.1)
   | inr stopped ↦ inr (

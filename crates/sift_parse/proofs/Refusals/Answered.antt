@@ -5,7 +5,7 @@ use Rattle.std.specs.Str.{byte}
 use Rattle.sift_lang.specs.Tree.{TaskTree}
 use Rattle.sift_parse.specs.declared.stop.ParseStop.TheVariants as stop
 use Rattle.sift_parse.specs.declared.stop.Which.TheVariants as which
-use Rattle.sift_parse.specs.Answer.{HasAnswer, a_task, a_refusal, TextsAreAnswered}
+use Rattle.sift_parse.specs.Answer.{HasAnswer, a_task, a_refusal, NoTextIsUnanswered}
 use Rattle.sift_parse.specs.Lexeme.{Lexeme, Spells, IsLexeme, Placed, Lexes, no_lexeme, is_blank, after_gap, after_comment}
 use Rattle.sift_parse.specs.Limits.{text_limit}
 use Rattle.sift_parse.specs.Outcome.{IsStopped, Tells}
@@ -150,8 +150,8 @@ module _ (r : Roll) (text : List ℕ) (short : length text ≤ text_limit) (none
   absurd-short : ⊥
   absurd-short = climb (length (after_gap text)) [] (after_gap text) (omega arith) (no_lexeme text) none-first
 
-pub texts_are_answered : TextsAreAnswered
-texts_are_answered r text none = elim (cases_lt text_limit (length text)) [
+pub no_text_is_unanswered : NoTextIsUnanswered
+no_text_is_unanswered r text none = elim (cases_lt text_limit (length text)) [
   | inl long ↦ none (a_refusal (stop.Limit which.Text text_limit) (λ e. cc) (refl, long))
   | inr short ↦ absurd-short r text short none
 ]

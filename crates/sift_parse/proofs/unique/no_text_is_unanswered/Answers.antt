@@ -1,0 +1,5 @@
+use Rattle.sift_parse.proofs.Refusals.Answered.{no_text_is_unanswered}
+use Rattle.sift_parse.proofs.unique.no_text_is_unanswered.Goals as goal
+
+pub returns : goal.returns
+returns c = no_text_is_unanswered
