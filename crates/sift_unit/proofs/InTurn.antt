@@ -1,12 +1,7 @@
 -- The units of a configuration in turn, and words made anew in part.
-<<<<<<< HEAD
-use Rattle.std.proofs.Common.{◌≡◌, ℕ, zero, suc, ◌+◌, ◌<◌, ◌≤◌, ◌++◌, Bool, true, false, ◌&&◌, nat_eq, List, [], ◌∷◌, length, map, take, slice_get, Some, unwrap_or, inl, inr, refl, ap, ◌∙◌, arith, add-one, eqb-true, ltb-true}
-use Rattle.std.specs.Prelude.{nat_lt}
-=======
 use Rattle.std.proofs.Common.{◌≡◌, ℕ, zero, suc, ◌+◌, ◌<◌, ◌≤◌, ◌++◌, Bool, true, false, ◌&&◌, nat_eq, List, [], ◌∷◌, length, map, take, slice_get, Some, unwrap_or, inl, inr, refl, sym, ap, ◌∙◌, subst, not, append-nil, arith, add-one, eqb-true, ltb-true}
 use Rattle.std.specs.List.{filter}
 use Rattle.std.specs.Prelude.{nat_lt, if◌then◌else◌}
->>>>>>> b4795fa296ab2aa5f3e87c577129010aa2af4e74
 use Rattle.std.proofs.lemmas.Bool.{cases_Bool}
 use Rattle.sift_base.specs.Units.{has, others, IsAscending, IsBelowAll}
 use Rattle.sift_base.proofs.Counts.{has-head, has-tail}

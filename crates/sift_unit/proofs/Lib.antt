@@ -5,7 +5,6 @@ pub mod Calls
 pub mod Conducts
 pub mod Continuing
 pub mod Driving
-pub mod Echoes
 pub mod Ending
 pub mod Exporting
 pub mod FitSlots
@@ -28,7 +27,6 @@ pub mod Noting
 pub mod Numbers
 pub mod Passing
 pub mod Past
-pub mod Perfect
 pub mod Positions
 pub mod Rows
 pub mod Running

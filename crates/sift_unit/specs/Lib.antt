@@ -6,7 +6,6 @@ pub mod ByWord
 pub mod Conduct
 pub mod Data
 pub mod Desk
-pub mod Example
 pub mod Fits
 pub mod Flown
 pub mod Frames

@@ -10,24 +10,16 @@ mod faults;
 mod laws;
 mod lists;
 mod memory;
-<<<<<<< HEAD
 mod mission;
 mod next;
-=======
 mod noted;
->>>>>>> b4795fa296ab2aa5f3e87c577129010aa2af4e74
 mod part;
 mod parts;
 mod schedule;
-<<<<<<< HEAD
 mod stepped;
 mod stepping;
 mod tidings;
 mod walk;
-=======
-#[cfg(test)]
-mod tests;
->>>>>>> 1a4e2d046b708f60b8c15dafc256d1055df13f63
 mod words;
 
 pub use account::Account;
@@ -36,12 +28,8 @@ pub use duty::Duty;
 pub use laws::{
     a_unit_says_nothing_to_itself, boards_keep_to_their_conduct, boards_may_jump,
     boards_that_step_keep_to_their_conduct, boards_that_turn_at_once_keep_to_it,
-<<<<<<< HEAD
     boards_that_turn_keep_to_it, fitting_parts_make_a_flight, fitting_parts_make_a_mission,
     new_boards_keep_to_it, new_boards_may_step,
-=======
-    boards_that_turn_keep_to_it, new_boards_keep_to_it, new_boards_may_step,
->>>>>>> b4795fa296ab2aa5f3e87c577129010aa2af4e74
 };
 pub use memory::Memory;
 pub use mission::Mission;

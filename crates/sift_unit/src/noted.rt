@@ -13,8 +13,8 @@ ghost use Rattle.sift_unit.specs.Boards.{memory_of};
 ghost use Rattle.sift_base.specs.declared.slot.Slot.TheVariants.{RelaySense, Out, RelayReport};
 
 use crate::duty::Duty;
-use crate::memory::Memory;
 use crate::lists::put;
+use crate::memory::Memory;
 use arrayvec::ArrayVec;
 use sift_agree::agree;
 use sift_base::{Slot, UnitId, UnitSet, Word};
