@@ -13,6 +13,8 @@ use Rattle.sift_unit.specs.Fits.{Fits}
 use Rattle.sift_flight.specs.Landing.{HaveLanded}
 use Rattle.sift_flight.specs.Calm.{Calm, four_units, mission_of}
 use Rattle.sift_flight.specs.CalmFlight.{word_in, account_of, acts_of, ranges_of, core_of}
+use Rattle.sift_buffer.specs.Lawful.{Lawful}
+use Rattle.sift_flight.proofs.Landed.{lawful_cores_hear_lawfully}
 use Rattle.sift_flight.proofs.Calls.{call_of}
 use Rattle.sift_flight.proofs.CalmStages.{IsPlain}
 use Rattle.sift_flight.proofs.CalmActs.{said_act, lawful}
@@ -101,7 +103,10 @@ module _ (c : Calm) (calm : IsCalm c) where
   pub calm_landed : HaveLanded (mission_of c) (ranges_of c) (core_of c) (λ u f. account_of c) 1
   calm_landed = record {
     places = record { units = calm.below; slots = omega arith };
-    lawful = lawful c calm.plain;
+    heard = lawful_cores_hear_lawfully (ranges_of c) (core_of c) (lawful c calm.plain);
     boards = board;
     within = omega arith;
   }
+
+  pub calm_lawful : Lawful (ranges_of c) (core_of c)
+  calm_lawful = lawful c calm.plain

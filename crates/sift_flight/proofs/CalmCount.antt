@@ -12,7 +12,7 @@ use Rattle.sift_unit.specs.Fits.{Fits, IsNumbered}
 use Rattle.sift_flight.specs.Calm.{four_units, due_in, heard_in, mission_of}
 use Rattle.sift_flight.specs.CalmFlight.{word_in, account_of}
 use Rattle.sift_flight.proofs.CalmStages.{IsPlain}
-use Rattle.sift_flight.proofs.CalmBoards.{IsCalm, calm_landed}
+use Rattle.sift_flight.proofs.CalmBoards.{IsCalm, calm_lawful, calm_landed}
 use Rattle.sift_flight.proofs.CalmConduct.{four, place, HasFigures, conduct_by, own_words}
 use Rattle.sift_flight.proofs.CalmFits.{four_are_below, fits_by, flyable_by, has_margin}
 use Rattle.sift_flight.specs.Calms.{FliesCalmly, count_kind, count}
@@ -114,4 +114,4 @@ calm = record {
 
 -- and the mission flies
 pub count_flies : FliesCalmly count
-count_flies = record { flyable = flyable_by count plain fits; runs = runs; landed = calm_landed count calm; margin = has_margin count }
+count_flies = record { flyable = flyable_by count plain fits; runs = runs; lawful = calm_lawful count calm; landed = calm_landed count calm; margin = has_margin count }

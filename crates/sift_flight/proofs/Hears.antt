@@ -72,11 +72,11 @@ module _ (m : Mission) (r : Ranges) (c : Core) (accounts : ℕ → ℕ → Accou
 
     -- what q heard was heard before p left, or after
     from_sayings : at < (c.of p).left → IsFromSayings (c.of p) q (m.number k) stamp at word
-    from_sayings before = landed.lawful.heard q p f (m.number k) stamp at word
+    from_sayings before = landed.heard.sayings q p f (m.number k) stamp at word
         (landed.places.units q flies.unit) (landed.places.units p unit) (call_of m mine k p q called).other below heard_act before
 
     from_strays : (c.of p).left ≤ at → IsFromStrays (c.of p) q (m.number k) stamp word
-    from_strays after = landed.lawful.turned.heard q p f (m.number k) stamp at word
+    from_strays after = landed.heard.strays q p f (m.number k) stamp at word
         (landed.places.units q flies.unit) (landed.places.units p unit) (call_of m mine k p q called).other below heard_act after
 
     -- where p has turned

@@ -3,7 +3,7 @@ use Rattle.std.proofs.Common.{inl, inr, refl, ap}
 use Rattle.std.proofs.lemmas.Bool.{cases_Bool}
 use Rattle.sift_unit.specs.Slots.{is_slot}
 use Rattle.sift_unit.specs.Acts.{word_in_saying, word_in_hearing}
-use Rattle.sift_flight.specs.Landing.{LandedFramesAreRound}
+use Rattle.sift_flight.specs.Landing.{LandedFramesAreRound, LawfulCoresHearLawfully}
 use Rattle.sift_flight.proofs.FrameActs.{hushed, deafened}
 use Rattle.sift_flight.proofs.Hears.{units_hear_by_the_equations}
 
@@ -17,3 +17,7 @@ landed_frames_are_round m r c accounts n f fits landed low = record {
     heard = λ k p. elim (cases_Bool (is_slot m k)) [ inl t ↦ rw t (ap word_in_hearing (deafened m (m.storm u) (c.of u) f k p t (landed.boards u unit).turns gone)) | inr t ↦ rw t refl ];
   };
 }
+
+-- a lawful core has both
+pub lawful_cores_hear_lawfully : LawfulCoresHearLawfully
+lawful_cores_hear_lawfully r c lawful = record { sayings = lawful.heard; strays = lawful.turned.heard }

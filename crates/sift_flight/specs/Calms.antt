@@ -4,6 +4,7 @@ use Rattle.sift_base.specs.declared.slot.Slot.{Slot}
 use Rattle.sift_base.specs.declared.slot.Slot.TheVariants.{Clock, Sense, RelaySense, Out, Report, RelayReport}
 use Rattle.sift_lang.specs.declared.tree.Op.TheVariants.{Add, Mul}
 use Rattle.sift_lang.specs.Tree.{number, sense, this_frame, last_frame, binary, output, end, step, TaskTree}
+use Rattle.sift_buffer.specs.Lawful.{Lawful}
 use Rattle.sift_flight.specs.Configuration.{HasMarginAt}
 use Rattle.sift_flight.specs.Flight.{flight_of}
 use Rattle.sift_flight.specs.Landing.{HaveLanded}
@@ -74,10 +75,11 @@ gauge = record {
 
 -- ---- what they show
 
--- the mission can be flown, its program is run, its core and its boards' accounts have landed, and its frame has margin
+-- the mission can be flown, its program is run, its core is lawful, its boards and accounts have landed, and its frame has margin
 pub record FliesCalmly (c : Calm) : Type 0 where
   pub flyable : IsFlyable (mission_of c)
   pub runs : RunsProgram (mission_of c) (program_of c)
+  pub lawful : Lawful (ranges_of c) (core_of c)
   pub landed : HaveLanded (mission_of c) (ranges_of c) (core_of c) (λ u f. account_of c) 1
   pub margin : HasMarginAt (mission_of c) (flight_of (mission_of c) (core_of c) (λ u f. account_of c)) 0
 

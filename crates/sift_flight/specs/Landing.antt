@@ -1,10 +1,11 @@
--- From a lawful core and what its boards have kept to a round flight.
-use Rattle.std.specs.Prelude.{◌≡◌, ℕ, ◌<◌, ◌≤◌, true}
+-- From a core that hears lawfully, and what its boards have kept, to a round flight.
+use Rattle.std.specs.Prelude.{◌≡◌, ◌≢◌, ℕ, ◌<◌, ◌≤◌, true, Option, Some}
 use Rattle.sift_base.specs.Units.{has}
 use Rattle.sift_base.specs.declared.slot.Slot.{Slot}
 use Rattle.sift_buffer.specs.Ranges.{Ranges}
 use Rattle.sift_buffer.specs.Core.{Core}
-use Rattle.sift_buffer.specs.Lawful.{Lawful}
+use Rattle.sift_buffer.specs.Conduct.{hearing}
+use Rattle.sift_buffer.specs.Lawful.{Lawful, HearsSayings, IsFromStrays}
 use Rattle.sift_unit.specs.Mission.{Mission}
 use Rattle.sift_unit.specs.Account.{Account}
 use Rattle.sift_unit.specs.Frames.{Flies}
@@ -19,10 +20,20 @@ pub record HasPlacesFor (m : Mission) (r : Ranges) : Type 0 where
   pub units : (u : ℕ) → has m.units u ≡ true → u < r.units
   pub slots : m.slots ≤ r.slots
 
--- the core is lawful, and each unit's board has kept all of its conduct in n frames, as far as the unit had not turned
+-- what units heard of a unit that had not left is from its sayings, and of one that had left from its sayings or its strays
+pub record HearsLawfully (r : Ranges) (c : Core) : Type 0 where
+  pub sayings : HearsSayings r c
+  pub strays : (q p f k s h : ℕ) (w : Option ℕ) → q < r.units → p < r.units → p ≢ q → k < r.slots →
+      (c.of q).heard f k p ≡ Some (hearing s h w) → (c.of p).left ≤ h → IsFromStrays (c.of p) q k s w
+
+-- a lawful core hears lawfully
+abbrev pub LawfulCoresHearLawfully : Type 0
+LawfulCoresHearLawfully = (r : Ranges) (c : Core) → Lawful r c → HearsLawfully r c
+
+-- units have heard lawfully, and each unit's board has kept all of its conduct in n frames, as far as the unit had not turned
 pub record HaveLanded (m : Mission) (r : Ranges) (c : Core) (accounts : ℕ → ℕ → Account) (n : ℕ) : Type 0 where
   pub places : HasPlacesFor m r
-  pub lawful : Lawful r c
+  pub heard : HearsLawfully r c
   pub boards : (u : ℕ) → has m.units u ≡ true → BoardKeeps m u (c.of u) (accounts u) n
   pub within : n ≤ m.frames
 
@@ -30,7 +41,7 @@ pub record HaveLanded (m : Mission) (r : Ranges) (c : Core) (accounts : ℕ → 
 abbrev pub strays_in : Core → Strays
 strays_in c p = (c.of p).strays
 
--- what units hear in a lawful core whose boards have kept n frames, they hear by the hearing equations, in each of these frames
+-- what units hear lawfully while their boards keep n frames, they hear by the hearing equations, in each of these frames
 abbrev pub UnitsHearByTheEquations : Type 0
 UnitsHearByTheEquations = (m : Mission) (r : Ranges) (c : Core) (accounts : ℕ → ℕ → Account) (n f : ℕ) → Fits m →
     HaveLanded m r c accounts n → f < n → (q : ℕ) (k : Slot) (p : ℕ) → Flies m q f →

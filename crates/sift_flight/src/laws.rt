@@ -2,12 +2,17 @@
 
 ghost use Rattle.sift_flight.specs.Calms.{CalmMissionsFly};
 ghost use Rattle.sift_flight.specs.Headline.{HeadlineHolds};
-ghost use Rattle.sift_flight.specs.Landing.{UnitsHearByTheEquations, LandedFramesAreRound};
+ghost use Rattle.sift_flight.specs.Landing.{LawfulCoresHearLawfully, UnitsHearByTheEquations, LandedFramesAreRound};
 ghost use Rattle.sift_flight.specs.Round.{AtMostOneIsRound};
 ghost use Rattle.sift_flight.specs.Rows.{RowsHold};
 
-/// What units hear in a lawful core whose boards have kept their conduct, they hear by the hearing
-/// equations, strays included.
+/// What is heard in a lawful core is heard lawfully.
+pub fn lawful_cores_hear_lawfully()
+    ensures { LawfulCoresHearLawfully }
+{}
+
+/// What units hear lawfully while their boards keep their conduct, they hear by the hearing equations,
+/// strays included.
 pub fn units_hear_by_the_equations()
     ensures { UnitsHearByTheEquations }
 {}

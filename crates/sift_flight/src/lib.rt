@@ -6,5 +6,5 @@ mod laws;
 
 pub use laws::{
     at_most_one_flight_is_round, calm_missions_fly, headline_holds, landed_frames_are_round,
-    rows_hold, units_hear_by_the_equations,
+    lawful_cores_hear_lawfully, rows_hold, units_hear_by_the_equations,
 };
