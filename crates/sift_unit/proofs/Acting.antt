@@ -113,13 +113,15 @@ module _ (m : Mission) (fit : Fits m) (u : ℕ) (a : Accounts) (h : Words) (fram
       let sm = small_of m us k u q fit config call in let s1 = sm.few in let s3 = sm.number in let s4 = sm.to in
       let from = say_spot m us k q in let to = say_spot m us k (q + 1) in
       record {
-        said = λ f' k' q' slot. put_cases (λ (x : Option Saying). x ≡ said_by m u a h frame to f' k' q') c.said frame (m.number k) q (saying s w) f' (m.number k') q'
+        said = λ f' k' q' slot. put_cases (λ (x : Option Saying). x ≡ said_by m u a h frame to f' k' q') c.said frame
+            (m.number k) q (saying s w) f' (m.number k') q'
             (λ t. let ke : k' ≡ k = sym (fit.numbered.back k' slot) ∙ (ap m.kind t.1 ∙ sm.kind) in
             rw (t.0, ke, t.2) ((λ i. Some (saying (es i) (ew i))) ∙ sym (said_at to k q call (omega arith))))
             (λ away. acts.said f' k' q' slot ∙ said_within from to f' k' q' (omega arith) (λ e t low.
             let sm' = small_of m us k' u q' fit config t in let s3' = sm'.number in let s4' = sm'.to in
             let ne : say_spot m us k' q' ≢ say_spot m us k q = λ z. away
-            (let o = spot_same (m.due us k') 2 (m.number k') q' (m.due us k) 2 (m.number k) q (omega arith) (omega arith) (omega arith) (omega arith) (omega arith) (omega arith) z in (e, o.slot, o.other)) in
+            (let o = spot_same (m.due us k') 2 (m.number k') q' (m.due us k) 2 (m.number k) q
+            (omega arith) (omega arith) (omega arith) (omega arith) (omega arith) (omega arith) z in (e, o.slot, o.other)) in
             omega arith));
         heard = λ f' k' p' slot. acts.heard f' k' p' slot ∙ heard_within from to f' k' p' (omega arith)
             (λ e t low. let sm' = small_of m us k' p' u fit config t in let s3' = sm'.number in let s4' = sm'.from in omega arith);
@@ -134,12 +136,14 @@ module _ (m : Mission) (fit : Fits m) (u : ℕ) (a : Accounts) (h : Words) (fram
       record {
         said = λ f' k' q' slot. acts.said f' k' q' slot ∙ said_within from to f' k' q' (omega arith)
             (λ e t low. let sm' = small_of m us k' u q' fit config t in let s3' = sm'.number in let s4' = sm'.to in omega arith);
-        heard = λ f' k' p' slot. put_cases (λ (x : Option Hearing). option_map stamp_and_moment x ≡ heard_by m u a frame to f' k' p') c.heard frame (m.number k) p (hearing s c.progress w) f' (m.number k') p'
+        heard = λ f' k' p' slot. put_cases (λ (x : Option Hearing). option_map stamp_and_moment x ≡ heard_by m u a frame to f' k' p') c.heard frame
+            (m.number k) p (hearing s c.progress w) f' (m.number k') p'
             (λ t. let ke : k' ≡ k = sym (fit.numbered.back k' slot) ∙ (ap m.kind t.1 ∙ sm.kind) in
             rw (t.0, ke, t.2) ((λ i. Some (es i, ep i)) ∙ sym (heard_here to k p call (omega arith))))
             (λ away. acts.heard f' k' p' slot ∙ heard_within from to f' k' p' (omega arith) (λ e t low.
             let sm' = small_of m us k' p' u fit config t in let s3' = sm'.number in let s4' = sm'.from in
             let ne : hear_spot m us k' p' ≢ hear_spot m us k p = λ z. away
-            (let o = spot_same (m.heard_in us k') 0 (m.number k') p' (m.heard_in us k) 0 (m.number k) p (omega arith) (omega arith) (omega arith) (omega arith) (omega arith) (omega arith) z in (e, o.slot, o.other)) in
+            (let o = spot_same (m.heard_in us k') 0 (m.number k') p' (m.heard_in us k) 0 (m.number k) p
+            (omega arith) (omega arith) (omega arith) (omega arith) (omega arith) (omega arith) z in (e, o.slot, o.other)) in
             omega arith));
       }

@@ -6,7 +6,7 @@ use native.Mathlib.Decide.{ℕ_discrete}
 use Rattle.sift_buffer.specs.Conduct.{saying}
 use Rattle.sift_buffer.specs.Conduct.{Conduct as Acts}
 use Rattle.sift_buffer.specs.Ranges.{Ranges}
-use Rattle.sift_buffer.specs.Conditions.{MaySay, MayHear, MayEnter}
+use Rattle.sift_buffer.specs.Conditions.{MaySay, MayHear}
 use Rattle.sift_unit.specs.Mission.{Mission}
 use Rattle.sift_unit.specs.Slots.{stamp_of}
 use Rattle.sift_unit.specs.Fits.{Fits}
@@ -58,12 +58,3 @@ module _ (m : Mission) (fit : Fits m) (r : Ranges) (of : IsPortOf m r) (b : Desk
               | inr lf ↦ let lf' : b.frame < f' = omega arith in let up = frame_low m.period b.frame f' lf' in omega arith
             ]);
       }
-
-  -- it may try to enter the next subframe
-  pub may_enter : MayEnter c
-  may_enter = record {
-    flies = g.left;
-    below =
-        (let p = g.progress in let inside = g.range.subframe in let frames = fit.counted.frames in let short = fit.counted.short in
-        let up = frame_low m.period b.frame 1000 (omega arith) in omega arith);
-  }

@@ -97,7 +97,8 @@ module _ (m : Mission) (fit : Fits m) (b : TheBoard) (v : View) (d : Drives m b 
     ranges = d.ranges;
     still = d.still;
     room = d.room;
-    going = rw eq (say_going m fit (desk_of b) v.conduct s w d.going (saying_is m fit (desk_of b) e) es (subst (λ z. w ≡ word_to m b.cfg b.unit b.frame b.clk (desk_of b).memory (m.kind b.slot) z) eq ew));
+    going = rw eq (say_going m fit (desk_of b) v.conduct s w d.going (saying_is m fit (desk_of b) e) es
+        (subst (λ z. w ≡ word_to m b.cfg b.unit b.frame b.clk (desk_of b).memory (m.kind b.slot) z) eq ew));
   })
 
   -- and has moved

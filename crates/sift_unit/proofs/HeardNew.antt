@@ -1,5 +1,6 @@
 -- What the memory holds of a slot, once all of it was heard.
-use Rattle.std.proofs.Common.{◌≡◌, ◌≢◌, inl, inr, ℕ, ◌<◌, List, ◌∷◌, length, true, not, nat_eq, Option, None, Some, refl, sym, ap, ◌∙◌, subst, arith, ne_eqb, eqb-true, ltb-true, lt-ltb, get_or-set_same}
+use Rattle.std.proofs.Common.{◌≡◌, ◌≢◌, inl, inr, ℕ, ◌<◌, List, ◌∷◌, length, true, not, nat_eq, Option}
+use Rattle.std.proofs.Common.{None, Some, refl, sym, ap, ◌∙◌, subst, arith, ne_eqb, eqb-true, ltb-true, lt-ltb, get_or-set_same}
 use Rattle.std.specs.Prelude.{ℤ, ◌+ℤ◌}
 use Rattle.std.specs.FinSet as set
 use Rattle.std.proofs.lemmas.Bool.{cases_Bool}

@@ -1,5 +1,6 @@
 -- A board hears a word.
-use Rattle.std.proofs.Common.{◌≡◌, ℕ, ◌+◌, ◌<◌, length, true, Option, Some, None, refl, sym, ◌∙◌, subst, arith, eqb-true, ltb-true, lt-ltb, eq-eqb, option_map, length-set, get_or-set_same, get_or-set_other}
+use Rattle.std.proofs.Common.{◌≡◌, ℕ, ◌+◌, ◌<◌, length, true, Option, Some, None, refl, sym}
+use Rattle.std.proofs.Common.{◌∙◌, subst, arith, eqb-true, ltb-true, lt-ltb, eq-eqb, option_map, length-set, get_or-set_same, get_or-set_other}
 use Rattle.std.specs.Prelude.{slice_set}
 use Rattle.std.proofs.lemmas.Bool.{and_parts}
 use mathlib.Core.Logic.{dite}

@@ -1,5 +1,6 @@
 -- The units of a configuration in turn, and words made anew in part.
-use Rattle.std.proofs.Common.{◌≡◌, ℕ, zero, suc, ◌+◌, ◌<◌, ◌≤◌, ◌++◌, Bool, true, false, ◌&&◌, nat_eq, List, [], ◌∷◌, length, map, take, slice_get, Some, unwrap_or, inl, inr, refl, sym, ap, ◌∙◌, subst, not, append-nil, arith, add-one, eqb-true, ltb-true}
+use Rattle.std.proofs.Common.{◌≡◌, ℕ, zero, suc, ◌+◌, ◌<◌, ◌≤◌, ◌++◌, Bool, true, false, ◌&&◌, nat_eq, List, [], ◌∷◌, length}
+use Rattle.std.proofs.Common.{map, take, slice_get, Some, unwrap_or, inl, inr, refl, sym, ap, ◌∙◌, subst, not, append-nil, arith, add-one, eqb-true, ltb-true}
 use Rattle.std.specs.List.{filter}
 use Rattle.std.specs.Prelude.{nat_lt, if◌then◌else◌}
 use Rattle.std.proofs.lemmas.Bool.{cases_Bool}

@@ -2,11 +2,10 @@
 use Rattle.std.proofs.Common.{◌≡◌, inl, inr, ℕ, ◌≤◌, false, refl, arith}
 use Rattle.std.proofs.lemmas.Bool.{cases_lt}
 use Rattle.sift_base.specs.Units.{has}
-use Rattle.sift_buffer.specs.Conduct.{Conduct as Acts}
 use Rattle.sift_unit.specs.Mission.{Mission}
 use Rattle.sift_unit.specs.Fits.{Fits}
-use Rattle.sift_unit.specs.Desk.{Desk, spot, cursor, hear_spot, say_spot, heard_mark, run_mark, moved}
-use Rattle.sift_unit.specs.Going.{InRange, Going}
+use Rattle.sift_unit.specs.Desk.{Desk, spot, cursor, hear_spot, say_spot, heard_mark, run_mark}
+use Rattle.sift_unit.specs.Going.{InRange}
 use Rattle.sift_unit.specs.Stops.{IsNothingBetween, hearing, running, saying}
 use Rattle.sift_unit.specs.BoardLaws.{JumpLaw}
 use Rattle.sift_unit.proofs.Tests.{not_both}
@@ -59,11 +58,6 @@ module _ (m : Mission) (fit : Fits m) where
     slot = omega arith;
     other = omega arith;
   }
-
-  -- so it goes to the subframe's end
-  pub idle_going : (b : Desk) (c : Acts) → Going m b c → has b.cfg b.unit ≡ false → cursor b ≤ spot b.subframe 2 m.slots 0 →
-      Going m (moved b b.subframe 2 m.slots 0 b.places) c
-  idle_going b c g out up = skip_going m fit b b.subframe 2 m.slots 0 c c.progress g (idle_skips b g.range out up) (inl refl) g.progress
 
 -- a board may jump to where there is no stop before
 pub jump_law : JumpLaw

@@ -15,7 +15,8 @@ use Rattle.sift_exec.specs.Conviction.{report_by, is_convicted, kept_by, next_by
 use Rattle.std.specs.FinSet as set
 use Rattle.std.specs.Cmp.{nat_cmp_total}
 use Rattle.sift_base.specs.Units.{Units, has, holds}
-use Rattle.sift_unit.specs.Memory.{units_at, gathered}
+use Rattle.sift_unit.specs.Memory.{Memory, units_at, gathered}
+use Rattle.std.specs.Prelude.{ℤ}
 use Rattle.sift_unit.proofs.Sets.{holds-gathered}
 
 -- two sets that have the same units are one set
@@ -61,3 +62,8 @@ majority_is places None is none = sym (absent (majority_of places) (λ w e. none
 pub nobody_else : (us : List ℕ) (u : ℕ) (own : Bool) (test : ℕ → Bool) → own ≡ false → set.empty ≡ gathered (λ v. not (nat_eq v u) && (own && test v)) us
 nobody_else us u own test fails = is_gathered set.empty (λ v. not (nat_eq v u) && (own && test v)) us
     (λ v. set.contains-empty nat_cmp v ∙ sym (rw fails (ap (λ t. has us v && t) (false_last (not (nat_eq v u))) ∙ false_last (has us v))))
+
+-- a memory with these clocks, and one with the same
+pub clocks_same : (b : Memory) (clock clock' : Units) (next next' : ℤ) → clock ≡ clock' → next ≡ next' →
+    (let x : Memory = record b { clock = clock; next_clk = next } in x) ≡ (let y : Memory = record b { clock = clock'; next_clk = next' } in y)
+clocks_same b clock clock' next next' ec en i = record b { clock = ec i; next_clk = en i }

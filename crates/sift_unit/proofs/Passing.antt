@@ -27,10 +27,6 @@ passes_on m a b d p q = record {
   subframe = q.subframe ∙ p.subframe;
 }
 
--- no move is one
-pub passes_none : (m : Mission) (b : Desk) → InRange m b → Passes m b b
-passes_none m b r = record { range = r; going = λ c g. g; unit = refl; frame = refl; subframe = refl }
-
 -- a board that isn't at its subframe's end is in an earlier part, or at an earlier slot
 pub inside_is : (m : Mission) (b : Desk) → InRange m b → is_end m b ≡ false → (b.part < 2) ⊎ (b.slot < m.slots)
 inside_is m b r inside = let part = r.part in let slot = r.slot in dite (ℕ_discrete b.part 2)

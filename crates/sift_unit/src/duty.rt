@@ -1,13 +1,14 @@
 //! What a unit has to do, by its mission.
 
-ghost use Rattle.std.specs.Prelude.{◌≡◌, ◌<◌, ◌≤◌, ℕ, true, length};
+ghost use Rattle.std.specs.Prelude.{◌≡◌, ◌<◌, ◌≤◌, ℕ, true, length, pos, ◌+ℤ◌};
+ghost use Rattle.sift_clock.specs.Distance.{IsWithin, error_limit};
 ghost use Rattle.sift_base.specs.Units.{has};
 ghost use Rattle.sift_base.specs.Layout.{word_limit};
 ghost use Rattle.sift_unit.specs.Mission.{Mission};
 ghost use Rattle.sift_unit.specs.Slots.{calls};
 ghost use Rattle.sift_unit.specs.Acts.{IsConfigOf};
 ghost use Rattle.sift_unit.specs.Fits.{Fits};
-ghost use Rattle.sift_unit.specs.Memory.{caught_by_clock, offset_after, renewed, is_word_of};
+ghost use Rattle.sift_unit.specs.Memory.{offset_after, renewed, is_word_of};
 ghost use Rattle.sift_unit.specs.Remembered.{IsShaped};
 ghost use Rattle.sift_unit.specs.Desk.{spot};
 ghost use Rattle.sift_unit.specs.Stops.{IsNothingBetween};
@@ -16,7 +17,7 @@ ghost use Rattle.sift_unit.specs.Boards.{part_of, memory_of};
 
 use crate::memory::Memory;
 use crate::part::Part;
-use sift_base::{Slot, UnitId, UnitSet, Word};
+use sift_base::{Slot, UnitId, Word};
 use sift_config::Config;
 
 /// A mission, as far as a board asks it.
@@ -107,16 +108,14 @@ pub trait Duty {
         ensures to { result ≤ (mission self.now).slots }
         ensures idle { IsNothingBetween (mission self.now) config.now (spot subframe (part_of part) slot 0) (spot subframe (part_of part) result 0) };
 
-    /// The units of the configuration that are caught by what was heard of their clocks.
-    fn clock_catches(
-        &self,
-        config: &Config,
-        unit: UnitId,
-        clk: &i64,
-        places: &[Option<Word>; 8],
-    ) -> UnitSet
-        requires { has config.now unit ≡ true }
-        ensures { result ≡ caught_by_clock (mission self.now) config.now unit clk.now places.now };
+    /// How far another clock may be ahead or behind as it is read: the skew and the reading error.
+    fn limit(&self) -> i32
+        ensures { result ≡ (mission self.now).skew +ℤ (mission self.now).error };
+
+    /// The error of a unit's reading of another unit's clock.
+    fn error_of(&self, unit: UnitId, other: UnitId) -> i32
+        ensures error { result ≡ (mission self.now).errors unit other }
+        ensures small { IsWithin error_limit result (pos 0) };
 
     /// The next offset, by what was heard of the others' clocks.
     fn next_offset(

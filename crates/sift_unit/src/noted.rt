@@ -1,16 +1,17 @@
 //! What a board notes of a slot, all of which it has heard.
 
-ghost use Rattle.std.specs.Prelude.{◌≡◌, ◌<◌, ◌&&◌, ℕ, ℤ, Some, map, not, nat_eq, true};
+ghost use Rattle.std.specs.Prelude.{◌≡◌, ◌<◌, ◌&&◌, ℕ, ℤ, ◌+ℤ◌, Some, map, not, nat_eq, true};
 ghost use Rattle.std.specs.List.{filter};
 ghost use Rattle.sift_base.specs.Units.{has, holds};
 ghost use Rattle.sift_vote.specs.Agreed.{majority_of};
 ghost use Rattle.sift_vote.specs.Differing.{differs as is_other};
+ghost use Rattle.sift_clock.specs.Reading.{is_too_far};
 ghost use Rattle.sift_unit.specs.Mission.{Mission};
-ghost use Rattle.sift_unit.specs.Memory.{place_at, polled_at, poll_of, note as note_of};
+ghost use Rattle.sift_unit.specs.Memory.{reading_at, place_at, polled_at, poll_of, note as note_of};
 ghost use Rattle.sift_unit.specs.Remembered.{IsShaped};
 ghost use Rattle.sift_unit.specs.Passing.{IsSlotOf};
 ghost use Rattle.sift_unit.specs.Boards.{memory_of};
-ghost use Rattle.sift_base.specs.declared.slot.Slot.TheVariants.{RelaySense, Out, RelayReport};
+ghost use Rattle.sift_base.specs.declared.slot.Slot.TheVariants.{Clock, RelaySense, Out, RelayReport};
 
 use crate::duty::Duty;
 use crate::lists::put;
@@ -18,6 +19,7 @@ use crate::memory::Memory;
 use arrayvec::ArrayVec;
 use sift_agree::agree;
 use sift_base::{Slot, UnitId, UnitSet, Word};
+use sift_clock::{reading, too_far};
 use sift_config::Config;
 use sift_vote::majority;
 
@@ -40,10 +42,7 @@ impl Memory {
         ensures { memory_of self.new ≡ note_of (M.mission mission.now) config.now unit frame clk.now ((M.mission mission.now).kind slot) places.now (memory_of self.old) }
     {
         match mission.kind(slot) {
-            Slot::Clock => {
-                self.clock = mission.clock_catches(config, unit, clk, places);
-                self.next_clk = mission.next_offset(config, unit, clk, places);
-            }
+            Slot::Clock => self.note_clocks(mission, config, unit, clk, places),
             Slot::Sense(x) => {
                 let reader = config.reader_of(x);
                 self.direct[usize::from(x)] = places[usize::from(reader.get())];
@@ -53,6 +52,22 @@ impl Memory {
             Slot::Report => self.reports.copy_from_slice(places),
             Slot::RelayReport(s) => self.note_report(config, unit, s, places),
         }
+    }
+
+    /// Notes whose clock is too far away, and the next offset.
+    fn note_clocks<M: Duty>(
+        &mut self,
+        mission: &M,
+        config: &Config,
+        unit: UnitId,
+        clk: &i64,
+        places: &[Option<Word>; 8],
+    )
+        requires { has config.now unit ≡ true }
+        ensures { (f : ℕ) → memory_of self.new ≡ note_of (M.mission mission.now) config.now unit f clk.now Clock places.now (memory_of self.old) }
+    {
+        self.clock = far_clocks(mission, config, unit, clk, places);
+        self.next_clk = mission.next_offset(config, unit, clk, places);
     }
 
     /// Notes a sensor's word, and who relayed another.
@@ -216,6 +231,40 @@ fn differs(place: &Option<Word>, vote: &Option<Word>) -> bool
         (Some(_), None) => false,
         (Some(word), Some(winner)) => word != winner,
     }
+}
+
+/// The other units whose clock is absent or too far away.
+fn far_clocks<M: Duty>(
+    mission: &M,
+    config: &Config,
+    unit: UnitId,
+    clk: &i64,
+    places: &[Option<Word>; 8],
+) -> UnitSet
+    ensures { (v : ℕ) → holds result v ≡ (has config.now v && (not (nat_eq v unit) && is_too_far ((M.mission mission.now).skew +ℤ (M.mission mission.now).error) (reading_at (M.mission mission.now) unit clk.now places.now v))) }
+{
+    let mut far = UnitSet::empty();
+    for position in 0..config.len() {
+        let other = config.unit_at(position);
+        if is_far(mission, unit, clk, places, other) {
+            far = far.with(other);
+        }
+    }
+    far
+}
+
+/// Whether it is another unit, whose clock is absent or too far away.
+fn is_far<M: Duty>(
+    mission: &M,
+    unit: UnitId,
+    clk: &i64,
+    places: &[Option<Word>; 8],
+    other: UnitId,
+) -> bool
+    ensures { result ≡ (not (nat_eq other unit) && is_too_far ((M.mission mission.now).skew +ℤ (M.mission mission.now).error) (reading_at (M.mission mission.now) unit clk.now places.now other)) }
+{
+    let ticks = reading(place_of(places, other), *clk, mission.error_of(unit, other));
+    other != unit && too_far(ticks, mission.limit())
 }
 
 /// The other units that relayed another word than the own one, or none.

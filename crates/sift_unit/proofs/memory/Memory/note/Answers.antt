@@ -3,6 +3,14 @@ use Rattle.sift_unit.specs.Memory.{note as note_of}
 use Rattle.sift_unit.specs.Boards.{memory_of}
 use Rattle.sift_unit.proofs.memory.Memory.note.Goals as goal
 
+-- the slot of the clocks
+pub returns-in-Clock : goal.returns-in-Clock
+returns-in-Clock g c =
+    let m = g.M.Duty.mission c.args.mission.now in
+    let b = memory_of c.args.self.now in
+    c.note_clocks.ensures c.args.frame
+    ∙ ap (λ k. note_of m c.args.config.now c.args.unit c.args.frame c.args.clk.now k c.args.places.now b) (sym c.in-Clock.is ∙ c.kind.ensures)
+
 -- the slot of a sensor's relays
 pub returns-in-RelaySense : goal.returns-in-RelaySense
 returns-in-RelaySense g c =

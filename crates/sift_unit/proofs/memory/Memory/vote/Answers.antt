@@ -1,3 +1,4 @@
+use Rattle.std.specs.Prelude.{Option, Bool, ℕ}
 use Rattle.std.proofs.Common.{◌≡◌, ◌++◌, ◌∷◌, [], ◌<◌, ap, ◌∙◌, sym, arith, length}
 use Rattle.sift_unit.specs.Memory.{polled_at, poll_of}
 use Rattle.sift_vote.specs.Agreed.{majority_of}
@@ -13,28 +14,34 @@ use Rattle.sift_unit.proofs.memory.Memory.vote.Goals.{then-executes, else-execut
 pub push-requires : goal.push-requires
 push-requires g c =
     let us = c.args.config.now in
+    let f : ℕ → Option ℕ = polled_at c.args.unit (memory_of c.args.self.now) c.args.places.now c.args.word in
+    let p : ℕ → Bool = (g.M.Duty.mission c.args.mission.now).executes c.args.config.now c.args.word in
     let low : c.loop-position.position < length us = (let t = c.loop-position-test.true in let all = c.len-position-end.ensures.length in omega arith) in
-    let room = room_in_turn (polled_at c.args.unit (memory_of c.args.self.now) c.args.places.now c.args.word) ((g.M.Duty.mission c.args.mission.now).executes c.args.config.now c.args.word) us c.loop-position.position c.loop-position.ballots.items c.len-position-end.ensures.config low c.loop-position.invariant in
+    let room = room_in_turn f p us c.loop-position.position c.loop-position.ballots.items c.len-position-end.ensures.config low c.loop-position.invariant in
     omega arith
 
 -- one unit more
 pub loop-position-preserved : goal.loop-position-preserved
 loop-position-preserved g c =
     let us = c.args.config.now in
+    let f : ℕ → Option ℕ = polled_at c.args.unit (memory_of c.args.self.now) c.args.places.now c.args.word in
+    let p : ℕ → Bool = (g.M.Duty.mission c.args.mission.now).executes c.args.config.now c.args.word in
     let i = c.loop-position.position in
     let t = c.unit_at-executor.result in
     elim c.if-executes.branch [
       | then-executes w ↦ (λ j. (w.ballots-is j).items) ∙ w.push.ensures.items ∙ (λ j. c.loop-position.invariant j ++ w.ballot.ensures j ∷ [])
-          ∙ sym (passing_yes (polled_at c.args.unit (memory_of c.args.self.now) c.args.places.now c.args.word) ((g.M.Duty.mission c.args.mission.now).executes c.args.config.now c.args.word) us i t c.unit_at-executor.ensures (sym c.executes.ensures ∙ w.if-executes.true))
+          ∙ sym (passing_yes f p us i t c.unit_at-executor.ensures (sym c.executes.ensures ∙ w.if-executes.true))
       | else-executes w ↦ (λ j. (w.ballots-is j).items) ∙ c.loop-position.invariant
-          ∙ sym (passing_no (polled_at c.args.unit (memory_of c.args.self.now) c.args.places.now c.args.word) ((g.M.Duty.mission c.args.mission.now).executes c.args.config.now c.args.word) us i t c.unit_at-executor.ensures (sym c.executes.ensures ∙ w.if-executes.false))
+          ∙ sym (passing_no f p us i t c.unit_at-executor.ensures (sym c.executes.ensures ∙ w.if-executes.false))
     ]
 
 -- the majority of all of them
 pub returns : goal.returns
 returns g c =
     let m = g.M.Duty.mission c.args.mission.now in
-    let words : c.deref.result.now ≡ poll_of m c.args.config.now c.args.unit (memory_of c.args.self.now) c.args.places.now c.args.word
-    = c.deref.ensures.0 ∙ c.loop-position.invariant ∙ ap (λ us. map (polled_at c.args.unit (memory_of c.args.self.now) c.args.places.now c.args.word) (filter (m.executes c.args.config.now c.args.word) us))
+    let f : ℕ → Option ℕ = polled_at c.args.unit (memory_of c.args.self.now) c.args.places.now c.args.word in
+    let words : c.deref.result.now ≡
+    poll_of m c.args.config.now c.args.unit (memory_of c.args.self.now) c.args.places.now c.args.word
+    = c.deref.ensures.0 ∙ c.loop-position.invariant ∙ ap (λ us. map f (filter (m.executes c.args.config.now c.args.word) us))
     (take_all c.loop-position.position c.args.config.now (let t = c.loop-position-test.false in let all = c.len-position-end.ensures.length in omega arith)) in
     majority_is c.deref.result.now c.majority.result c.majority.ensures.found c.majority.ensures.none ∙ ap (λ ws. majority_of ws) words
