@@ -1,7 +1,7 @@
 -- Each slot of a layout has a number, and each number its slot.
-use Rattle.std.proofs.Common.{◌≡◌, ℕ, zero, suc, ◌+◌, ◌-◌, ◌*◌, ◌<◌, ◌≤◌, true, false, inl, inr, refl, sym, arith, nat_eq}
+use Rattle.std.proofs.Common.{◌≡◌, ℕ, zero, suc, ◌+◌, ◌-◌, ◌*◌, ◌<◌, ◌≤◌, true, inl, inr, refl, sym, arith, nat_eq}
 use Rattle.std.specs.List.{range_with_len}
-use Rattle.std.proofs.lemmas.Bool.{cases_Bool, cases_eq, cases_lt, eqb-true, eq-eqb, ne_eqb, lt-ltb, le-ltb}
+use Rattle.std.proofs.lemmas.Bool.{both_ways, cases_Bool, cases_eq, cases_lt, eqb-true, eq-eqb, ne_eqb, lt-ltb, le-ltb}
 use Rattle.sift_base.specs.Layout.{IsSlot, slot_count, slot_number}
 use Rattle.sift_base.specs.Units.{has, IsAscending, IsBelowAll}
 use Rattle.sift_base.specs.declared.layout.Layout.{Layout}
@@ -11,16 +11,17 @@ use Rattle.sift_unit.specs.Flown.{slot_kind, kind_behind_sensors}
 
 -- ---- the numbers from one on
 
+-- a number that is no less than another, and not it, is above it
+above : (x y : ℕ) → x ≤ y → (x ≡ y → ⊥) → x + 1 ≤ y
+above x y low differ = elim (cases_lt x y) [ inl less ↦ omega arith | inr more ↦ absurd (differ (omega arith)) ]
+
 -- a list of numbers in turn has those from the first to below the end
 pub has-range : (a n u : ℕ) → a ≤ u → u < a + n → has (range_with_len a n) u ≡ true
 has-range a zero u low high = absurd (omega arith)
 has-range a (suc n) u low high = elim (cases_Bool (nat_eq a u)) [
   | inl same ↦ rw same refl
-  | inr other ↦ rw other (has-range (a + 1) n u (omega (arith, later a u low other)) (omega arith))
+  | inr other ↦ rw other (has-range (a + 1) n u (above a u low (λ e. both_ways (nat_eq a u) other (eq-eqb a u e))) (omega arith))
 ]
-  where
-    later : (x y : ℕ) → x ≤ y → nat_eq x y ≡ false → x + 1 ≤ y
-    later x y low' other = elim (cases_eq x y) [ inl same ↦ absurd (cc (eq-eqb x y same, other)) | inr differ ↦ elim (cases_lt x y) [ inl less ↦ omega arith | inr more ↦ absurd (differ (omega arith)) ] ]
 
 -- and no others
 pub range-has : (a n u : ℕ) → has (range_with_len a n) u ≡ true → (a ≤ u) × (u < a + n)
@@ -62,12 +63,27 @@ module _ (layout : Layout) where
   kind-of-number Report there =
       let n = slot_number layout Report in
       let first = 1 + 2 * layout.sensors in
-      rw (ne_eqb n 0 (λ e. omega (arith, e)), le-ltb n (1 + layout.sensors) (omega arith), le-ltb n first (omega arith), le-ltb n (first + layout.words) (omega arith), eq-eqb n (first + layout.words) refl) refl
+      rw (
+        ne_eqb n 0 (λ e. omega (arith, e)),
+        le-ltb n (1 + layout.sensors) (omega arith),
+        le-ltb n first (omega arith),
+        le-ltb n (first + layout.words) (omega arith),
+        eq-eqb n (first + layout.words) refl,
+      )
+      refl
   kind-of-number (RelayReport u) there =
       let n = slot_number layout (RelayReport u) in
       let first = 1 + 2 * layout.sensors in
       let back : n - (first + layout.words + 1) ≡ u = omega arith in
-      rw (ne_eqb n 0 (λ e. omega (arith, e)), le-ltb n (1 + layout.sensors) (omega arith), le-ltb n first (omega arith), le-ltb n (first + layout.words) (omega arith), ne_eqb n (first + layout.words) (λ e. omega (arith, e)), back) refl
+      rw (
+        ne_eqb n 0 (λ e. omega (arith, e)),
+        le-ltb n (1 + layout.sensors) (omega arith),
+        le-ltb n first (omega arith),
+        le-ltb n (first + layout.words) (omega arith),
+        ne_eqb n (first + layout.words) (λ e. omega (arith, e)),
+        back,
+      )
+      refl
 
   -- each number below the count is that of its slot
   pub number-of-kind : (i : ℕ) → i < slot_count layout → IsSlot layout (slot_kind layout i) × (slot_number layout (slot_kind layout i) ≡ i)
@@ -92,9 +108,8 @@ module _ (layout : Layout) where
             | inl less ↦ rw (lt-ltb n (first + layout.words) less) (omega arith, omega arith)
             | inr more ↦ rw (le-ltb n (first + layout.words) more) (elim (cases_eq n (first + layout.words)) [
               | inl same ↦ rw (eq-eqb n (first + layout.words) same) (tt, omega arith)
-              | inr past ↦ rw (ne_eqb n (first + layout.words) past) (omega (arith, above n (first + layout.words) more past), omega (arith, above n (first + layout.words) more past))
+              | inr past ↦
+                  let behind_report = above (first + layout.words) n more (λ e. past (sym e)) in
+                  rw (ne_eqb n (first + layout.words) past) (omega (arith, behind_report), omega (arith, behind_report))
             ])
           ]
-        where
-          above : (x y : ℕ) → y ≤ x → (x ≡ y → ⊥) → y + 1 ≤ x
-          above x y low'' differ = elim (cases_lt y x) [ inl less ↦ omega arith | inr more' ↦ absurd (differ (omega arith)) ]
