@@ -2,17 +2,14 @@
 use Rattle.std.proofs.Common.{◌≡◌, ℕ, zero, suc, ◌+◌, ◌-◌, ◌<◌, ◌≤◌, List, [], ◌∷◌, ◌++◌, length, map, take, get_or, replicate, slice_index, inl, inr, refl, sym, ap, ◌∙◌, arith}
 use Rattle.std.proofs.lemmas.Bool.{cases_lt, le-ltb, lt-ltb}
 use Rattle.std.proofs.lemmas.List.{append-nil, append_assoc, length-map, length-take-le, take_more, get_or-append_right, get_or-replicate, get_or_append_left, length-append, length-replicate}
-use Rattle.std.proofs.lemmas.List.Sums.{sum_by-cons, sum_by_more_le}
+use Rattle.std.proofs.lemmas.List.Sums.{sum_by_more_le}
 use Rattle.sift_lang.specs.Tree.{TaskTree, tree_of}
 use Rattle.sift_lang.specs.declared.tree.Task.{Task}
 use Rattle.sift_program.specs.Sound.{output_count}
 use Rattle.sift_table.specs.Timing.{task_among}
 use Rattle.sift_unit.specs.ByWord.{by_word}
 use Rattle.sift_unit.specs.Needs.{shapes_from}
-
--- the outputs of one task more
-output_count-cons : (task : TaskTree) (tasks : List TaskTree) → output_count (task ∷ tasks) ≡ task.outputs + output_count tasks
-output_count-cons task tasks = sum_by-cons (λ t. t.outputs) task tasks
+use Rattle.sift_unit.proofs.Tasks.{output_count-cons}
 
 -- each word has a task
 pub length-by_word : (t : ℕ) (tasks : List TaskTree) → length (by_word t tasks) ≡ output_count tasks

@@ -1,8 +1,6 @@
 -- What fits makes a mission that flights can stand on: its script and its clocks beside its tables.
-use Rattle.std.proofs.Common.{◌≡◌, ℕ, ◌<◌, [], length, get_or, true, Option, None, Some, option_map, inl, inr, refl, ap, ◌∙◌, arith, pos}
+use Rattle.std.proofs.Common.{◌≡◌, ℕ, [], Option, None, Some, option_map, inl, inr, refl, ap, ◌∙◌, arith, pos}
 use Rattle.std.proofs.lemmas.Bool.{cases_lt, le-leb, le-ltb, lt-leb, lt-ltb}
-use Rattle.sift_base.specs.Units.{has}
-use Rattle.sift_config.specs.Config.{first_units}
 use Rattle.sift_script.specs.Faults as faults
 use Rattle.sift_script.specs.Laws.{FaultsAreForGood, OneUnitIsSteady, WorkingUnitsHaveNotTurned, WorkingUnitsSayTheirWords}
 use Rattle.sift_table.specs.Laws.{WordsHaveTheirTask}
@@ -12,7 +10,8 @@ use Rattle.sift_unit.specs.PartsFit.{PartsFit}
 use Rattle.sift_unit.specs.Premises.{AreClocksSound, IsScriptSound, PartsMakeItFit, PartsMakeItFlyable}
 use Rattle.sift_unit.specs.Slots.{turned_by}
 use Rattle.sift_unit.proofs.FitTasks.{program-is}
-use Rattle.sift_unit.proofs.Numbers.{has-range, range-has}
+use Rattle.sift_unit.proofs.Rows.{drift-low, error-low, errors-low, start-low}
+use Rattle.sift_unit.proofs.Numbers.{has-range}
 
 -- a storm has come where its first frame has
 turned-is : (storm : Option (ℕ × ℕ × ℕ)) (f : ℕ) → turned_by (option_map (λ s. s.0) storm) f ≡ faults.has_come storm f
@@ -23,10 +22,7 @@ turned-is (Some storm) f = elim (cases_lt f storm.0) [
 ]
 
 module _ (d : MissionData) (fit : PartsFit d) where
-  -- the units are those below their count
-  unit-below : (u : ℕ) → has (first_units d.units) u ≡ true → u < d.units
-  unit-below u there = omega (arith, (range-has 0 d.units u there).1)
-
+  -- the script is such as flights stand on
   scripted : OneUnitIsSteady → FaultsAreForGood → WorkingUnitsSayTheirWords → WorkingUnitsHaveNotTurned → IsScriptSound (flown d)
   scripted steady for_good own whole = record {
     steady = (
@@ -39,21 +35,14 @@ module _ (d : MissionData) (fit : PartsFit d) where
     whole = λ u f works. turned-is (faults.storm_of d.script.faults u) f ∙ whole d.script.faults u f works;
   }
 
+  -- the clocks are such as flights stand on
   clocked : AreClocksSound (flown d)
   clocked = record {
     admitted = fit.clock.admitted;
-    together = λ u v u_there v_there. fit.clock.together u (pos 0) (started u u_there) v (pos 0) (started v v_there);
-    drifts = λ u there. (let low = unit-below u there in let many = fit.clock.drifts in fit.clock.drifts_within u (pos 0) (omega arith));
-    errors = λ u v u_there v_there. (
-        let low = unit-below u u_there in let rows = fit.clock.rows in
-        let below : u < length d.clock.errors = omega arith in
-        let columns : length (get_or d.clock.errors u []) ≡ d.units = fit.clock.columns u [] below in
-        let inside = unit-below v v_there in
-        fit.clock.errors_within u [] below v (pos 0) (omega arith));
+    together = λ u v u_there v_there. fit.clock.together u (pos 0) (start-low d fit u u_there) v (pos 0) (start-low d fit v v_there);
+    drifts = λ u there. fit.clock.drifts_within u (pos 0) (drift-low d fit u there);
+    errors = λ u v u_there v_there. fit.clock.errors_within u [] (errors-low d fit u u_there) v (pos 0) (error-low d fit u u_there v v_there);
   }
-    where
-      started : (u : ℕ) → has (first_units d.units) u ≡ true → u < length d.clock.start
-      started u there = let low = unit-below u there in let many = fit.clock.starts in omega arith
 
 -- the laws of scripts and words make it flyable
 pub flyable : PartsMakeItFit → OneUnitIsSteady → FaultsAreForGood → WorkingUnitsSayTheirWords → WorkingUnitsHaveNotTurned → WordsHaveTheirTask → PartsMakeItFlyable

@@ -15,7 +15,7 @@ words_in-cons : (task : Shape) (tasks : List Shape) → words_in (task ∷ tasks
 words_in-cons task tasks = sum_by-cons (λ t. t.outputs) task tasks
 
 -- the outputs of one task more
-output_count-cons : (task : TaskTree) (tasks : List TaskTree) → output_count (task ∷ tasks) ≡ task.outputs + output_count tasks
+pub output_count-cons : (task : TaskTree) (tasks : List TaskTree) → output_count (task ∷ tasks) ≡ task.outputs + output_count tasks
 output_count-cons task tasks = sum_by-cons (λ t. t.outputs) task tasks
 
 -- ---- shapes
