@@ -1,2 +1,4 @@
+pub mod Echoes
 pub mod Fits
+pub mod Perfect
 pub mod Ports

@@ -42,4 +42,6 @@ mod skew;
 #[cfg(test)]
 mod table;
 #[cfg(test)]
+mod unit;
+#[cfg(test)]
 mod vote;
