@@ -38,6 +38,23 @@ pub fn two_tasks(alloc: Global) -> Result<Shapes, NoMemory>
     })
 }
 
+/// Two tasks of one output word that don't read each other.
+pub fn twin_tasks(alloc: Global) -> Result<Shapes, NoMemory>
+    ensures { IfOk result (λ shapes. AreShapes (shapes_of shapes)) }
+{
+    let tasks = vec![in alloc;
+        TaskShape {
+            outputs: 1,
+            needs: Vec::new(alloc)
+        },
+        TaskShape {
+            outputs: 1,
+            needs: Vec::new(alloc)
+        },
+    ]?;
+    Ok(Shapes { sensors: 0, tasks })
+}
+
 /// Three tasks of one output word that don't read each other.
 pub fn three_tasks(alloc: Global) -> Result<Shapes, NoMemory>
     ensures { IfOk result (λ shapes. AreShapes (shapes_of shapes)) }

@@ -2,7 +2,7 @@
 
 ghost use Rattle.sift_base.specs.Shapes.{shapes_of, AreShapes};
 
-use crate::shapes::{digits, one_task, three_tasks, two_tasks};
+use crate::shapes::{digits, one_task, three_tasks, twin_tasks, two_tasks};
 use sift_base::{NoMemory, Shapes};
 use sift_table::{Broken, Table, check, plain_table};
 use std::alloc::Global;
@@ -148,6 +148,15 @@ fn tables_of_tasks_that_read_and_share(rt: HostRuntime) -> Result<(), Fail> {
         let table = table(alloc, 6, 14, columns)?;
         expect(&rt, table, &shapes, want, case);
     }
+    Ok(())
+}
+
+#[test]
+fn four_units_have_no_room_for_twins_at_once(rt: HostRuntime) -> Result<(), Fail> {
+    let alloc = rt.alloc();
+    let shapes = twin_tasks(alloc)?;
+    let twins = table(alloc, 4, 12, ("44", "66", "012 123"))?;
+    expect(&rt, twins, &shapes, Some((9, 1)), "shared positions");
     Ok(())
 }
 

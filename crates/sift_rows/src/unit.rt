@@ -12,7 +12,6 @@ ghost use Rattle.sift_unit.specs.Acts.{IsConfigOf};
 ghost use Rattle.sift_unit.specs.Flown.{mission_of};
 ghost use Rattle.sift_unit.specs.PartsFit.{PartsFit};
 
-use sift_unit::{Mission, MissionParts};
 use arrayvec::ArrayVec;
 use sift_base::{Layout, Name, NoMemory, Shapes, TaskShape, UnitId, UnitSet, Word};
 use sift_code::Checked;
@@ -23,6 +22,7 @@ use sift_program::Program;
 use sift_script::{GoodScript, Script};
 use sift_skew::ClockPlan;
 use sift_table::{GoodTable, Table, plain_table};
+use sift_unit::{Mission, MissionParts};
 use std::alloc::Global;
 use std::process::Abort;
 use std::test::Fail;
