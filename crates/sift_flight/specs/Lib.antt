@@ -1,4 +1,5 @@
 pub mod Flight
+pub mod Told
 pub mod Hearing
 pub mod Round
 pub mod Landing
