@@ -6,3 +6,5 @@ pub mod Inputs
 pub mod Owing
 pub mod ReportLemmas
 pub mod Statuses
+mod Words
+mod Settings

@@ -5,3 +5,4 @@ pub mod Input
 pub mod Output
 pub mod Refusal
 pub mod Report
+pub mod Options

@@ -9,6 +9,7 @@ mod answer;
 mod command;
 mod exit;
 mod line;
+mod options;
 mod refusal;
 mod report;
 #[cfg(test)]
