@@ -1,0 +1,71 @@
+//! The figures of a frame's clocks.
+
+ghost use Rattle.std.specs.Prelude.{◌≡◌, ◌<◌, [], All, MatchOption, length, map};
+ghost use Rattle.sift_skew.specs.Figures.{AreInRange};
+ghost use Rattle.sift_unit.specs.Flown.{mission_of};
+ghost use Rattle.sift_flight.specs.Configuration.{IsSkewAt, IsSlackAt, Works, next_offsets_at, offsets_at, working_at};
+ghost use Rattle.sift_flight.specs.Figures.{skew_at, slack_at};
+ghost use Rattle.sift_flight.specs.Told.{IsWhole, told};
+
+use crate::figures::working_at;
+use crate::flight::Flight;
+use crate::told::account_at;
+use arrayvec::ArrayVec;
+use sift_skew::{skew, slack};
+use sift_unit::Mission;
+
+/// The skew of a frame: the largest difference of two working clocks of its configuration. There is none where no unit of it works.
+pub fn skew_at(mission: &Mission, flight: &Flight, f: u32) -> Option<i64>
+    requires whole { IsWhole (mission_of mission.now) mission.now.layout flight.now }
+    requires frame { f < (mission_of mission.now).frames }
+    ensures told { result ≡ skew_at (mission_of mission.now) (told (mission_of mission.now) flight.now) f }
+    ensures skew { MatchOption result (working_at (mission_of mission.now) (told (mission_of mission.now) flight.now) f ≡ [])
+        (IsSkewAt (mission_of mission.now) (told (mission_of mission.now) flight.now) f) }
+{
+    skew(&offsets_at(mission, flight, f))
+}
+
+/// The slack of a frame: the least that is left of a subframe between two working clocks of its configuration, with their offsets
+/// of this frame or the next. There is none where no unit of it works.
+pub fn slack_at(mission: &Mission, flight: &Flight, f: u32) -> Option<i64>
+    requires whole { IsWhole (mission_of mission.now) mission.now.layout flight.now }
+    requires frame { f < (mission_of mission.now).frames }
+    ensures told { result ≡ slack_at (mission_of mission.now) (told (mission_of mission.now) flight.now) f }
+    ensures slack { MatchOption result (working_at (mission_of mission.now) (told (mission_of mission.now) flight.now) f ≡ [])
+        (IsSlackAt (mission_of mission.now) (told (mission_of mission.now) flight.now) f) }
+{
+    let length = mission.parts().clock.length;
+    slack(
+        length,
+        &offsets_at(mission, flight, f),
+        &next_offsets_at(mission, flight, f),
+    )
+}
+
+/// The offsets of the working units of the configuration at a frame.
+fn offsets_at(mission: &Mission, flight: &Flight, f: u32) -> ArrayVec<i64, 8>
+    requires whole { IsWhole (mission_of mission.now) mission.now.layout flight.now }
+    requires frame { f < (mission_of mission.now).frames }
+    ensures offsets { result.items ≡ offsets_at (mission_of mission.now) (told (mission_of mission.now) flight.now) f }
+    ensures in_range { AreInRange result.items }
+{
+    let mut offsets = ArrayVec::new();
+    for unit in &working_at(mission, flight, f) {
+        offsets.push(account_at(mission, flight, *unit, f).clk);
+    }
+    offsets
+}
+
+/// Their offsets in force after the frame.
+fn next_offsets_at(mission: &Mission, flight: &Flight, f: u32) -> ArrayVec<i64, 8>
+    requires whole { IsWhole (mission_of mission.now) mission.now.layout flight.now }
+    requires frame { f < (mission_of mission.now).frames }
+    ensures offsets { result.items ≡ next_offsets_at (mission_of mission.now) (told (mission_of mission.now) flight.now) f }
+    ensures in_range { AreInRange result.items }
+{
+    let mut offsets = ArrayVec::new();
+    for unit in &working_at(mission, flight, f) {
+        offsets.push(account_at(mission, flight, *unit, f).next_clk);
+    }
+    offsets
+}
