@@ -28,3 +28,4 @@ pub mod CalmCount
 pub mod GaugeProgram
 pub mod CalmGauge
 pub mod Rows
+mod TellingAlike
