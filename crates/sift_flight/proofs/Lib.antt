@@ -28,4 +28,4 @@ pub mod CalmCount
 pub mod GaugeProgram
 pub mod CalmGauge
 pub mod Rows
-mod TellingAlike
+pub mod TellingAlike

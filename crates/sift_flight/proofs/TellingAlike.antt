@@ -20,7 +20,7 @@ use Rattle.sift_flight.proofs.Unique.{both_round}
 use Rattle.sift_flight.proofs.SameFrame.{same_here}
 
 -- what is the same at each unit of a list is the same of the list
-map-same : {A : Type 0} (f g : ℕ → A) (us : List ℕ) → ((u : ℕ) → has us u ≡ true → f u ≡ g u) → map f us ≡ map g us
+pub map-same : {A : Type 0} (f g : ℕ → A) (us : List ℕ) → ((u : ℕ) → has us u ≡ true → f u ≡ g u) → map f us ≡ map g us
 map-same f g [] same = refl
 map-same f g (u ∷ us) same =
     ap (λ x. x ∷ map f us) (same u (has-head u us)) ∙ ap (λ xs. g u ∷ xs) (map-same f g us (λ v h. same v (has-tail u us v h)))
