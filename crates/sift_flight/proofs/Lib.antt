@@ -29,3 +29,8 @@ pub mod GaugeProgram
 pub mod CalmGauge
 pub mod Rows
 pub mod TellingAlike
+pub mod Listed
+pub mod Firsts
+pub mod Telling
+pub mod Reaching
+pub mod Counted

@@ -1,9 +1,9 @@
 //! The figures of a frame's clocks.
 
-ghost use Rattle.std.specs.Prelude.{◌≡◌, ◌<◌, [], All, MatchOption, length, map};
+ghost use Rattle.std.specs.Prelude.{◌≡◌, ◌<◌, ◌≤◌, [], All, MatchOption, length, map};
 ghost use Rattle.sift_skew.specs.Figures.{AreInRange};
 ghost use Rattle.sift_unit.specs.Flown.{mission_of};
-ghost use Rattle.sift_flight.specs.Configuration.{IsSkewAt, IsSlackAt, Works, next_offsets_at, offsets_at, working_at};
+ghost use Rattle.sift_flight.specs.Configuration.{IsSkewAt, IsSlackAt, Works, working_at};
 ghost use Rattle.sift_flight.specs.Figures.{skew_at, slack_at};
 ghost use Rattle.sift_flight.specs.Told.{IsWhole, told};
 
@@ -11,6 +11,7 @@ use crate::figures::working_at;
 use crate::flight::Flight;
 use crate::told::account_at;
 use arrayvec::ArrayVec;
+use sift_base::UnitId;
 use sift_skew::{skew, slack};
 use sift_unit::Mission;
 
@@ -22,7 +23,8 @@ pub fn skew_at(mission: &Mission, flight: &Flight, f: u32) -> Option<i64>
     ensures skew { MatchOption result (working_at (mission_of mission.now) (told (mission_of mission.now) flight.now) f ≡ [])
         (IsSkewAt (mission_of mission.now) (told (mission_of mission.now) flight.now) f) }
 {
-    skew(&offsets_at(mission, flight, f))
+    let working = working_at(mission, flight, f);
+    skew(&offsets_of(mission, flight, f, &working))
 }
 
 /// The slack of a frame: the least that is left of a subframe between two working clocks of its configuration, with their offsets
@@ -34,37 +36,39 @@ pub fn slack_at(mission: &Mission, flight: &Flight, f: u32) -> Option<i64>
     ensures slack { MatchOption result (working_at (mission_of mission.now) (told (mission_of mission.now) flight.now) f ≡ [])
         (IsSlackAt (mission_of mission.now) (told (mission_of mission.now) flight.now) f) }
 {
-    let length = mission.parts().clock.length;
-    slack(
-        length,
-        &offsets_at(mission, flight, f),
-        &next_offsets_at(mission, flight, f),
-    )
+    let working = working_at(mission, flight, f);
+    let now = offsets_of(mission, flight, f, &working);
+    let next = next_offsets_of(mission, flight, f, &working);
+    slack(mission.parts().clock.length, &now, &next)
 }
 
-/// The offsets of the working units of the configuration at a frame.
-fn offsets_at(mission: &Mission, flight: &Flight, f: u32) -> ArrayVec<i64, 8>
+/// The offsets of units that work in a frame.
+fn offsets_of(mission: &Mission, flight: &Flight, f: u32, units: &[UnitId]) -> ArrayVec<i64, 8>
     requires whole { IsWhole (mission_of mission.now) mission.now.layout flight.now }
     requires frame { f < (mission_of mission.now).frames }
-    ensures offsets { result.items ≡ offsets_at (mission_of mission.now) (told (mission_of mission.now) flight.now) f }
+    requires work { All (λ u. Works (mission_of mission.now) u f) units.now }
+    requires few { length units.now ≤ 8 }
+    ensures offsets { result.items ≡ map (λ u. ((told (mission_of mission.now) flight.now).account u f).clk) units.now }
     ensures in_range { AreInRange result.items }
 {
     let mut offsets = ArrayVec::new();
-    for unit in &working_at(mission, flight, f) {
+    for unit in units {
         offsets.push(account_at(mission, flight, *unit, f).clk);
     }
     offsets
 }
 
-/// Their offsets in force after the frame.
-fn next_offsets_at(mission: &Mission, flight: &Flight, f: u32) -> ArrayVec<i64, 8>
+/// The offsets in force after a frame of units that work in it.
+fn next_offsets_of(mission: &Mission, flight: &Flight, f: u32, units: &[UnitId]) -> ArrayVec<i64, 8>
     requires whole { IsWhole (mission_of mission.now) mission.now.layout flight.now }
     requires frame { f < (mission_of mission.now).frames }
-    ensures offsets { result.items ≡ next_offsets_at (mission_of mission.now) (told (mission_of mission.now) flight.now) f }
+    requires work { All (λ u. Works (mission_of mission.now) u f) units.now }
+    requires few { length units.now ≤ 8 }
+    ensures offsets { result.items ≡ map (λ u. ((told (mission_of mission.now) flight.now).account u f).next_clk) units.now }
     ensures in_range { AreInRange result.items }
 {
     let mut offsets = ArrayVec::new();
-    for unit in &working_at(mission, flight, f) {
+    for unit in units {
         offsets.push(account_at(mission, flight, *unit, f).next_clk);
     }
     offsets

@@ -22,7 +22,7 @@ pub fn config_at(mission: &Mission, flight: &Flight, f: u32) -> Config
     ensures config { result ≡ config_at (mission_of mission.now) (told (mission_of mission.now) flight.now) f }
     ensures units { IsConfigOf (mission_of mission.now) result }
 {
-    if f < mission.frames() {
+    if f < mission.parts().frames {
         account_at(mission, flight, lead_of(mission, f), f).cfg
     } else {
         account_at(mission, flight, lead_of(mission, f - 1), f - 1).next_cfg
@@ -65,10 +65,10 @@ pub fn margin_at(mission: &Mission, flight: &Flight, f: u32) -> bool
     ensures told { result ≡ margin_at (mission_of mission.now) (told (mission_of mission.now) flight.now) f }
     ensures margin { IsTrue result ↔ HasMarginAt (mission_of mission.now) (told (mission_of mission.now) flight.now) f }
 {
-    for g in 0..f + 1 {
+    for g in 0..f {
         if !is_sound_at(mission, flight, g) {
             return false;
         }
     }
-    true
+    is_sound_at(mission, flight, f)
 }

@@ -1,10 +1,9 @@
 //! What a whole flight tells of one unit in one frame.
 
-ghost use Rattle.std.specs.Prelude.{◌≡◌, ◌<◌, ◌≤◌, ◌↔◌, IfSome, IfNone, IsTrue, true, false};
-ghost use Rattle.sift_base.specs.Units.{has};
+ghost use Rattle.std.specs.Prelude.{◌≡◌, ◌<◌};
 ghost use Rattle.sift_unit.specs.Boards.{account_of};
 ghost use Rattle.sift_unit.specs.Flown.{mission_of};
-ghost use Rattle.sift_unit.specs.Slots.{has_turned};
+ghost use Rattle.sift_unit.specs.Premises.{IsFlyable};
 ghost use Rattle.sift_flight.specs.Configuration.{Works, lead_of};
 ghost use Rattle.sift_flight.specs.Told.{IsAccountOf, IsWhole, told};
 
@@ -20,8 +19,16 @@ pub fn account_at<'a>(mission: &Mission, flight: &'a Flight, u: UnitId, f: u32) 
     ensures told { account_of result.now ≡ (told (mission_of mission.now) flight.now).account u f }
     ensures account { IsAccountOf (mission_of mission.now) u (account_of result.now) }
 {
-    fitting_parts_make_a_flight();
+    can_be_flown(mission);
     &flight.accounts[usize::from(u.get())][f as usize]
+}
+
+/// A mission can be flown: its parts fit.
+fn can_be_flown(mission: &Mission)
+    ensures { IsFlyable (mission_of mission.now) }
+{
+    fitting_parts_make_a_flight();
+    mission.parts();
 }
 
 /// The lead unit of a frame: the lowest-numbered one that works in it. Some unit does.
@@ -29,7 +36,7 @@ pub(crate) fn lead_of(mission: &Mission, f: u32) -> UnitId
     ensures lead { result ≡ lead_of (mission_of mission.now) f }
     ensures works { Works (mission_of mission.now) result f }
 {
-    fitting_parts_make_a_flight();
+    can_be_flown(mission);
     let everyone = mission.everyone();
     for i in 0..everyone.len() {
         let unit = everyone.unit_at(i);

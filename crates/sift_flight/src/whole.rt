@@ -3,10 +3,14 @@
 ghost use Rattle.sift_flight.specs.Figures.{MarginIsTold, SkewIsTold, SlackIsTold};
 ghost use Rattle.sift_flight.specs.Whole.{RoundFlightsAreWhole};
 
+use sift_unit::fitting_parts_make_a_flight;
+
 /// A round flight of a mission whose parts fit is whole.
 pub fn round_flights_are_whole()
     ensures { RoundFlightsAreWhole }
-{}
+{
+    fitting_parts_make_a_flight();
+}
 
 /// The margin of a frame is told just where it has margin.
 pub fn margin_is_told()
