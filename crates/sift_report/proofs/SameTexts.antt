@@ -3,10 +3,13 @@ use Rattle.std.proofs.Common.{◌≡◌, ℕ, zero, suc, ◌+◌, ◌-◌, ◌<�
 use Rattle.std.specs.List.{flat_map, range_with_len}
 use Rattle.sift_base.specs.Units.{has}
 use Rattle.sift_base.proofs.Counts.{has-head, has-tail}
+use Rattle.sift_unit.specs.Account.{Account, Places}
 use Rattle.sift_unit.specs.Data.{MissionData}
 use Rattle.sift_unit.specs.Flown.{flown}
 use Rattle.sift_unit.specs.Mission.{Mission}
 use Rattle.sift_flight.specs.Alike.{AreAlike}
+use Rattle.sift_flight.specs.Configuration.{config_at}
+use Rattle.sift_flight.specs.Figures.{margin_at}
 use Rattle.sift_flight.specs.Flight.{Flight}
 use Rattle.sift_flight.proofs.TellingAlike.{map-same}
 use Rattle.sift_report.specs.Line.{text_of_lines}
@@ -29,6 +32,10 @@ flat-units f g [] same = refl
 flat-units f g (u ∷ us) same =
     ap (λ xs. xs ++ flat_map f us) (same u (has-head u us)) ∙ ap (λ xs. g u ++ xs) (flat-units f g us (λ v h. same v (has-tail u us v h)))
 
+-- the votes of a unit in a frame are made of its account and its words alone
+abbrev votes_by : MissionData → (f u : ℕ) → Account → Places → Places → List ℕ
+votes_by d f u a said heard = unit_votes d (record { said = λ _ _. said; heard = λ _ _. heard; account = λ _ _. a }) f u
+
 module _ (d : MissionData) (fl gl : Flight) (some : 0 < d.frames) (alike : AreAlike (flown d) fl gl) where
   same_line : (f : ℕ) → f < d.frames → (u : ℕ) → has (flown d).units u ≡ true → unit_line (flown d) fl f u ≡ unit_line (flown d) gl f u
   same_line f low u hu = ap (λ a. if (flown d).works u f then working_line f u a else Faulty f u) (alike.units u f hu low).account
@@ -43,7 +50,8 @@ module _ (d : MissionData) (fl gl : Flight) (some : 0 < d.frames) (alike : AreAl
 
   same_last : last_line (flown d) fl ≡ last_line (flown d) gl
   same_last =
-      ap (λ us. Last d.frames us _) (alike.config d.frames (omega arith)) ∙ ap (λ b. Last d.frames _ b) (alike.frames (d.frames - 1) (omega arith)).margin
+      ap (λ us. Last d.frames us (margin_at (flown d) fl (d.frames - 1))) (alike.config d.frames (omega arith))
+      ∙ ap (λ b. Last d.frames (config_at (flown d) gl d.frames) b) (alike.frames (d.frames - 1) (omega arith)).margin
 
   same_sheet : sheet_of (flown d) fl ≡ sheet_of (flown d) gl
   same_sheet =
@@ -51,7 +59,11 @@ module _ (d : MissionData) (fl gl : Flight) (some : 0 < d.frames) (alike : AreAl
       ∙ ap (λ x. flat_map (frame_lines (flown d) gl) (range_with_len 0 d.frames) ++ x ∷ []) same_last
 
   same_votes : (f : ℕ) → f < d.frames → (u : ℕ) → has (flown d).units u ≡ true → unit_votes d fl f u ≡ unit_votes d gl f u
-  same_votes f low u hu = let s = alike.units u f hu low in rw (s.account, s.said, s.heard) refl
+  same_votes f low u hu =
+      let s = alike.units u f hu low in
+      ap (λ a. votes_by d f u a (fl.said u f) (fl.heard u f)) s.account
+      ∙ (ap (λ said. votes_by d f u (gl.account u f) said (fl.heard u f)) s.said
+      ∙ ap (λ heard. votes_by d f u (gl.account u f) (gl.said u f) heard) s.heard)
 
   same_frame_votes : (f : ℕ) → f < d.frames → frame_votes d fl f ≡ frame_votes d gl f
   same_frame_votes f low = flat-units (unit_votes d fl f) (unit_votes d gl f) (flown d).units (same_votes f low)
