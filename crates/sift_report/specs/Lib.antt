@@ -6,3 +6,4 @@ pub mod Part
 pub mod Sheet
 pub mod Votes
 pub mod OneText
+pub mod Printed

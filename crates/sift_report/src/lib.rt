@@ -18,7 +18,7 @@ mod votes;
 mod word;
 
 pub use ideal::ideal_text;
-pub use law::alike_flights_have_one_text;
+pub use law::{alike_flights_have_one_text, the_headline_is_printed};
 pub use line::ReportLine;
 pub use print::push_line;
 pub use read::read_line;
