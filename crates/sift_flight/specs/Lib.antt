@@ -4,6 +4,9 @@ pub mod Hearing
 pub mod Round
 pub mod Landing
 pub mod Configuration
+pub mod Figures
+pub mod Whole
+pub mod Alike
 pub mod Headline
 pub mod Calm
 pub mod CalmFlight

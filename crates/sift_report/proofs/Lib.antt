@@ -1,0 +1,3 @@
+mod SameTexts
+mod Places
+mod HeadlineLines
