@@ -4,4 +4,6 @@ pub mod Executors
 pub mod Flights
 pub mod Frames
 pub mod Ideal
+pub mod NewRacks
+pub mod RackEvents
 pub mod Votes

@@ -1,4 +1,7 @@
 pub mod Code
+pub mod Crews
 pub mod Executor
 pub mod Flight
+pub mod Following
 pub mod Frame
+pub mod Racks

@@ -1,8 +1,10 @@
-//! The flight of a mission: what every unit votes in every frame.
+//! Flights of missions: all units' boards, stepped in any order over one plain memory.
 #![tactic(auto)]
 
 mod executor;
 mod flight;
+mod rack;
+mod rack_port;
 #[cfg(test)]
 mod tests;
 mod unit;
