@@ -2,8 +2,11 @@ pub mod Changes
 pub mod Compiled
 pub mod Executors
 pub mod Flights
+pub mod FirstUnits
 pub mod Frames
 pub mod Ideal
 pub mod NewRacks
+pub mod MachineSteps
+pub mod Others
 pub mod RackEvents
 pub mod Votes

@@ -3,6 +3,7 @@
 
 mod executor;
 mod flight;
+mod machine;
 mod rack;
 mod rack_port;
 #[cfg(test)]
@@ -11,3 +12,4 @@ mod unit;
 mod vote;
 
 pub use flight::plain_fly;
+pub use machine::Machine;

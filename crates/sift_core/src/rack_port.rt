@@ -54,12 +54,12 @@ impl Rack {
         self.unit = unit;
     }
 
-    /// The progress number of a unit.
-    pub(crate) fn number(&self, unit: UnitId) -> u64
+    /// The progress of a unit.
+    pub(crate) fn progress_of(&self, unit: UnitId) -> u64
         requires { unit < self.now.grid.layout.units }
-        ensures { Stands self.now unit result }
+        ensures { result ≡ ((core_of self.now).of unit).progress }
     {
-        self.words[usize::from(unit.get())]
+        u64::from(self.acts[usize::from(unit.get())].progress())
     }
 
     /// Stores the progress of the unit, raised by one.
