@@ -6,7 +6,11 @@ pub mod FirstUnits
 pub mod Frames
 pub mod Ideal
 pub mod NewRacks
+pub mod Least
 pub mod MachineSteps
 pub mod Others
+pub mod Progress
 pub mod RackEvents
+pub mod Sums
+pub mod Turning
 pub mod Votes

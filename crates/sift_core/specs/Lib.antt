@@ -8,3 +8,4 @@ pub mod Frame
 pub mod Machines
 pub mod Racks
 pub mod Steps
+pub mod Turns

@@ -4,6 +4,7 @@
 mod executor;
 mod flight;
 mod machine;
+mod order;
 mod rack;
 mod rack_port;
 #[cfg(test)]
