@@ -1,5 +1,6 @@
 pub mod Changes
 pub mod Compiled
+pub mod EndedFrames
 pub mod Executors
 pub mod Flights
 pub mod FirstUnits

@@ -3,6 +3,7 @@
 
 mod executor;
 mod flight;
+mod laws;
 mod machine;
 mod order;
 mod rack;
@@ -13,4 +14,5 @@ mod unit;
 mod vote;
 
 pub use flight::plain_fly;
+pub use laws::ended_frames_are_round;
 pub use machine::Machine;
