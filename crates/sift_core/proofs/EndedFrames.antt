@@ -35,7 +35,7 @@ module _ (m : Mission) (x : Machine) (d : Board) (f : ℕ) (keep : KeepLaw) (hea
       let flying : Flying m (desk_of b) ((core_of x.rack).of u) =
       record { before = λ from storm. some_none from (sym drives.still ∙ storm); going = drives.going } in
       subst (λ (n : ℕ). BoardKeeps m n ((core_of x.rack).of u) (accounts_at m x d u) (f + 1)) (sym drives.unit)
-      (keep m (desk_of b) ((core_of x.rack).of u) (f + 1) flies.fits (inl flying) (inl (let e = ended u d there in omega arith)))
+      (keep m (desk_of b) ((core_of x.rack).of u) (f + 1) drives.fits (inl flying) (inl (let e = ended u d there in omega arith)))
 
   pub landed : HaveLanded m (ranges_for x.rack) (core_of x.rack) (accounts_at m x d) (f + 1)
   landed = record {
@@ -47,4 +47,4 @@ module _ (m : Mission) (x : Machine) (d : Board) (f : ℕ) (keep : KeepLaw) (hea
 
 pub ended_round : KeepLaw → LawfulCoresHearLawfully → LandedFramesAreRound → EndedFramesAreRound
 ended_round keep hear round m x d f flies ended =
-    round m (ranges_for x.rack) (core_of x.rack) (accounts_at m x d) (f + 1) f flies.fits (landed m x d f keep hear flies ended) (omega arith)
+    round m (ranges_for x.rack) (core_of x.rack) (accounts_at m x d) (f + 1) f (first m x d f keep hear flies ended).fits (landed m x d f keep hear flies ended) (omega arith)

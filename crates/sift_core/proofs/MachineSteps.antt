@@ -54,6 +54,7 @@ module _ (x : Rack) (u : ℕ) (c : Rack) (chosen : IsChosen x u c) where
 -- a board drives on another view of the same unit, ranges and conduct
 drives_by : (m : Mission) (b : Board) (v w : View) → w.unit ≡ v.unit → w.ranges ≡ v.ranges → w.conduct ≡ v.conduct → Drives m b v → Drives m b w
 drives_by m b v w unit ranges conduct d = record {
+  fits = d.fits;
   unit = unit ∙ d.unit;
   ranges = subst (λ (r : Ranges). IsPortOf m r) (sym ranges) d.ranges;
   still = d.still;
@@ -118,7 +119,6 @@ module _ (m : Mission) (x : Machine) (u : ℕ) (c : Rack) (at : ℕ) (b : Board)
 
   pub step_flies : Flies m (record { rack = d; boards = bs })
   step_flies = record {
-    fits = s.flies.fits;
     units = s.flies.units ∙ ap (λ (l : Layout). first_units l.units) (sym layout);
     lawful = subst (λ (n : Ranges). Lawful n (core_of d)) (sym ranges)
         (reached_lawful s.keep (ranges_for x.rack) u (core_of x.rack) (core_of d) reaches s.flies.lawful);

@@ -92,7 +92,7 @@ module _ (m : Mission) (x : Machine) (u : ℕ) (r : Stepped) (x' : Machine)
   going_distance Landed st aloft goes =
       let e = others_distances in let range = drives.going.range in
       let low : b.frame * m.period + b.subframe < m.frames * m.period = subst (λ (n : ℕ). n < m.frames * m.period) drives.going.progress aloft in
-      let few : b.slot ≤ 90 = let a = range.slot in let c = flies.fits.numbered.few in omega arith in
+      let few : b.slot ≤ 90 = let a = range.slot in let c = drives.fits.numbered.few in omega arith in
       let less = landed_nearer m (desk_of b) (desk_of b') st.ended low range.part few range.other in omega arith
 
   pub goes_nearer : IsAloft m x u → ¬ IsWaiting r → distances m x' < distances m x

@@ -5,7 +5,6 @@ use Rattle.sift_base.specs.declared.layout.Layout.{Layout}
 use Rattle.sift_config.specs.Config.{first_units}
 use Rattle.sift_buffer.specs.Lawful.{Lawful}
 use Rattle.sift_unit.specs.Mission.{Mission}
-use Rattle.sift_unit.specs.Fits.{Fits}
 use Rattle.sift_unit.specs.Account.{Account}
 use Rattle.sift_unit.specs.Desk.{Desk, accounts_of}
 use Rattle.sift_unit.specs.Passing.{distance}
@@ -32,7 +31,6 @@ progress_at x u = ((core_of x.rack).of u).progress
 
 -- the machine flies the mission: its core is lawful, and each unit's board drives on this unit's own view of the rack
 pub record Flies (m : Mission) (x : Machine) : Type 0 where
-  pub fits : Fits m
   pub units : m.units ≡ first_units (layout_of x).units
   pub lawful : Lawful (ranges_for x.rack) (core_of x.rack)
   pub count : length x.boards.items ≡ (layout_of x).units
