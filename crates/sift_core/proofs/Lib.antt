@@ -1,7 +1,17 @@
 pub mod Changes
 pub mod Compiled
+pub mod EndedFrames
 pub mod Executors
 pub mod Flights
+pub mod FirstUnits
 pub mod Frames
 pub mod Ideal
+pub mod NewRacks
+pub mod Least
+pub mod MachineSteps
+pub mod Others
+pub mod Progress
+pub mod RackEvents
+pub mod Sums
+pub mod Turning
 pub mod Votes

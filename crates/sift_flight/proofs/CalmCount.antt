@@ -52,7 +52,7 @@ numbered = record {
 
 -- its figures are those of a small mission
 plain : IsPlain count
-plain = record { long = omega arith; short = omega arith; sensors = omega arith; tasks = omega arith; steady = refl; words = words; timed = timed }
+plain = record { long = omega arith; short = omega arith; sensors = omega arith; tasks = omega arith; starts = refl; steady = refl; words = words; timed = timed }
   where
     words : (n : ℕ) → word_in count (count_kind n) < word_count
     words zero = omega arith

@@ -99,9 +99,16 @@ module _ (c : Calm) where
       period = plain.long;
       short = plain.short;
       frames = omega arith;
+      starts = plain.starts;
     };
     executors = executors_run;
     config = four_are_config;
+    clocks = record {
+      starts = λ u hu. (omega (arith, ints), omega (arith, ints));
+      limit = omega (arith, ints);
+      change = omega (arith, ints);
+      drifts = λ u hu. (omega (arith, ints), omega (arith, ints));
+    };
   }
     where
       in_time : (k : Slot) → is_slot (mission_of c) k ≡ true → (due_in c k + 2 ≤ heard_in c k) × (heard_in c k + 2 ≤ c.period)

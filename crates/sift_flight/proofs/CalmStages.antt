@@ -14,6 +14,7 @@ pub record IsPlain (c : Calm) : Type 0 where
   pub short : c.period ≤ 64
   pub sensors : length c.sensed ≤ sensor_limit
   pub tasks : length c.tasks ≤ word_limit
+  pub starts : length c.starts ≡ length c.tasks
   pub steady : c.turns 0 ≡ false
   pub words : (n : ℕ) → word_in c (c.kind n) < word_count
   pub timed : (n : ℕ) → (due_in c (c.kind n) + 2 ≤ heard_in c (c.kind n)) × (heard_in c (c.kind n) + 2 ≤ c.period)

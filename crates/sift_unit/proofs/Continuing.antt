@@ -1,6 +1,7 @@
 -- A board goes on after it has entered, and what its step then came to.
 use Rattle.std.proofs.Common.{◌≡◌, inl, inr, ℕ, ◌+◌, ◌*◌, ◌<◌, ◌≤◌, ◌++◌, List, [], ◌∷◌, true, sym, ap, ◌∙◌, subst, arith}
 use Rattle.std.specs.Prelude.{ℤ}
+use Rattle.sift_skew.specs.Leading.{OffsetsChangeLittle}
 use Rattle.sift_buffer.specs.Conduct.{with_entered}
 use Rattle.sift_buffer.specs.Conduct.{Conduct as Acts}
 use Rattle.sift_buffer.specs.Views.{View, view_with_said, view_with_heard, EntersAfterRound}
@@ -29,13 +30,13 @@ module _ (m : Mission) (fit : Fits m) (b : Desk) (end : is_end m b ≡ true) whe
       record b { frame = b.frame + 1; subframe = 0; part = 0; slot = 0; other = 0; cfg = cfg; clk = clk; last = last; accounts = accounts }
 
   -- to the next frame, with what the account says
-  pub frame_on : b.subframe + 1 ≡ m.period → b.frame < m.frames → (account : Account) (cfg : List ℕ) (clk : ℤ) (last : List ℕ) (accounts : List Account) →
+  pub frame_on : OffsetsChangeLittle → b.subframe + 1 ≡ m.period → b.frame < m.frames → (account : Account) (cfg : List ℕ) (clk : ℤ) (last : List ℕ) (accounts : List Account) →
       account ≡ account_now m b → cfg ≡ account.next_cfg → clk ≡ account.next_clk → last ≡ account.outs → accounts ≡ b.accounts ++ account ∷ [] →
       (c : Acts) → Going m b c → Going m (next_desk cfg clk last accounts) (with_entered c)
-  frame_on high room account cfg clk last accounts is ec ek el pushed c g =
+  frame_on little high room account cfg clk last accounts is ec ek el pushed c g =
       let t = end_is m b end in
       let at : AtFrameEnd m fit b = record { slot = t.1; part = t.0; subframe = high; frame = room } in
-      let done = frame_going m fit b b.memory accounts g.range.shape (pushed ∙ ap (λ z. b.accounts ++ z ∷ []) is) c g at in
+      let done = frame_going m fit b b.memory accounts g.range.shape (pushed ∙ ap (λ z. b.accounts ++ z ∷ []) is) little c g at in
       subst (λ z. Going m (next_desk z clk last accounts) (with_entered c)) (sym (ec ∙ ap (λ (z : Account). z.next_cfg) is))
       (subst (λ z. Going m (next_desk (account_now m b).next_cfg z last accounts) (with_entered c)) (sym (ek ∙ ap (λ (z : Account). z.next_clk) is))
       (subst (λ z. Going m (next_desk (account_now m b).next_cfg (account_now m b).next_clk z accounts) (with_entered c)) (sym (el ∙ ap (λ (z : Account). z.outs) is))

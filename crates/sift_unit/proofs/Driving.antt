@@ -39,6 +39,7 @@ seen_going m b c s g = record {
 -- a round of looks leaves a board what it was
 pub looks_drive : (m : Mission) (b : TheBoard) (v v' : View) → Drives m b v → KeepsOwn v v' → Drives m b v'
 looks_drive m b v v' d own = record {
+  fits = d.fits;
   unit = own.unit ∙ d.unit;
   ranges = subst (λ r. IsPortOf m r) (sym own.ranges) d.ranges;
   still = d.still;
@@ -51,6 +52,7 @@ pub enter_drives : (m : Mission) (b b' : TheBoard) (v v' : View) → Drives m b 
 enter_drives m b b' v v' d on e =
     let d1 = looks_drive m b v e.before d e.round.own in
     subst (λ z. Drives m b' z) (sym e.after) (record {
+      fits = d1.fits;
       unit = d1.unit ∙ sym on.unit;
       ranges = d1.ranges;
       still = ap m.storm on.unit ∙ d1.still;
@@ -83,6 +85,7 @@ module _ (m : Mission) (fit : Fits m) (b : TheBoard) (v : View) (d : Drives m b 
   pub hear_drives : is_hearing m (desk_of b) ≡ true → (i p s : ℕ) (w : Option ℕ) (v' : View) → i ≡ b.other → p ≡ b.other → s ≡ stamp_here →
       v' ≡ view_with_heard v b.frame b.slot p s w → Drives m (heard_board i w) v'
   hear_drives e i p s w v' ei ep es ev = subst (λ z. Drives m (heard_board i w) z) (sym ev) (record {
+    fits = d.fits;
     unit = d.unit;
     ranges = d.ranges;
     still = d.still;
@@ -93,6 +96,7 @@ module _ (m : Mission) (fit : Fits m) (b : TheBoard) (v : View) (d : Drives m b 
   pub say_drives : is_saying m (desk_of b) ≡ true → (q s : ℕ) (w : Option ℕ) (v' : View) → q ≡ b.other → s ≡ stamp_here →
       w ≡ word_to m b.cfg b.unit b.frame b.clk (desk_of b).memory (m.kind b.slot) q → v' ≡ view_with_said v b.frame b.slot q s w → Drives m said_board v'
   say_drives e q s w v' eq es ew ev = subst (λ z. Drives m said_board z) (sym ev) (record {
+    fits = d.fits;
     unit = d.unit;
     ranges = d.ranges;
     still = d.still;
@@ -117,6 +121,7 @@ module _ (m : Mission) (fit : Fits m) (b : TheBoard) (v : View) (d : Drives m b 
 -- a board that has passed places drives on
 pub pass_drives : (m : Mission) (b b' : TheBoard) (v : View) → Drives m b v → Passes m (desk_of b) (desk_of b') → b'.accounts ≡ b.accounts → Drives m b' v
 pass_drives m b b' v d p same = record {
+  fits = d.fits;
   unit = d.unit ∙ sym p.unit;
   ranges = d.ranges;
   still = ap m.storm p.unit ∙ d.still;

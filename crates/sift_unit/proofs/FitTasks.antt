@@ -42,7 +42,7 @@ module _ (d : MissionData) (fit : PartsFit d) where
   task-there w low = let many = length-shapes d.program.tasks 0 d.program.tasks in let below = task-below d fit w low in omega arith
 
   -- the shape of a task that is there
-  shape-is : (t : ℕ) → t < length d.program.tasks → shape_at (shapes_in d) t ≡ shape_in d.program.tasks t (task_at d.program.tasks t)
+  pub shape-is : (t : ℕ) → t < length d.program.tasks → shape_at (shapes_in d) t ≡ shape_in d.program.tasks t (task_at d.program.tasks t)
   shape-is t low = shape-there d.program.tasks t 0 d.program.tasks _ low ∙ ap (λ n. shape_in d.program.tasks n (task_at d.program.tasks t)) (zero-add t)
 
   -- the tasks' words are numbered as their shapes' are
@@ -122,10 +122,11 @@ module _ (d : MissionData) (fit : PartsFit d) where
     period = fit.limits.long;
     short = fit.limits.short;
     frames = fit.limits.few_frames;
+    starts = (let words = fit.layout.words in let starts = fit.program.a_start_each in omega arith);
   }
 
   -- word i of task t is one of task t
-  task-of-word : WordsHaveTheirTask → (t i : ℕ) → t < length d.program.tasks → i < (task_at d.program.tasks t).outputs
+  pub task-of-word : WordsHaveTheirTask → (t i : ℕ) → t < length d.program.tasks → i < (task_at d.program.tasks t).outputs
       → task_of (shapes_in d) (program.first_word d.program.tasks t + i) ≡ t
   task-of-word theirs t i low own =
       let many = length-shapes d.program.tasks 0 d.program.tasks in

@@ -1,6 +1,6 @@
 -- The units of a configuration in turn, and words made anew in part.
 use Rattle.std.proofs.Common.{◌≡◌, ℕ, zero, suc, ◌+◌, ◌<◌, ◌≤◌, ◌++◌, Bool, true, false, ◌&&◌, nat_eq, List, [], ◌∷◌, length}
-use Rattle.std.proofs.Common.{map, take, slice_get, Some, unwrap_or, inl, inr, refl, sym, ap, ◌∙◌, subst, not, append-nil, arith, add-one, eqb-true, ltb-true}
+use Rattle.std.proofs.Common.{map, take, slice_get, Some, unwrap_or, inl, inr, refl, sym, ap, ◌∙◌, subst, not, append-nil, arith, add-one, eqb-true, ltb-true, ne_eqb}
 use Rattle.std.specs.List.{filter}
 use Rattle.std.specs.Prelude.{nat_lt, if◌then◌else◌}
 use Rattle.std.proofs.lemmas.Bool.{cases_Bool}
@@ -118,3 +118,16 @@ passing_yes f p us i t at passes = passing_more f p us i t at ∙ ap (λ b. map 
 pub passing_no : {A : Type 0} (f : ℕ → A) (p : ℕ → Bool) (us : List ℕ) (i t : ℕ) → slice_get us i ≡ Some t → p t ≡ false →
     map f (filter p (take (i + 1) us)) ≡ map f (filter p (take i us))
 passing_no f p us i t at fails = passing_more f p us i t at ∙ (ap (λ b. map f (filter p (take i us)) ++ (if b then f t ∷ [] else [])) fails ∙ append-nil _)
+
+-- a unit below all of a list is none of them
+others_below : (u : ℕ) (us : List ℕ) → IsBelowAll u us → others u us ≡ us
+others_below u [] below = refl
+others_below u (v ∷ us) below = rw (ne_eqb v u (λ e. omega (arith, below.0))) (ap (λ vs. v ∷ vs) (others_below u us below.1))
+
+-- an ascending list has one unit more than the others of a unit that it has
+pub others_and_one : (u : ℕ) (us : List ℕ) → IsAscending us → has us u ≡ true → length (others u us) + 1 ≡ length us
+others_and_one u [] up there = absurd cc
+others_and_one u (v ∷ us) up there = elim (cases_Bool (nat_eq v u)) [
+  | inl same ↦ rw same (rw (ap length (others_below u us (subst (λ w. IsBelowAll w us) (eqb-true v u same) up.0))) (omega arith))
+  | inr other ↦ rw other (omega (arith, others_and_one u us up.1 (rw other at there)))
+]

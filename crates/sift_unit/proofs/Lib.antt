@@ -5,6 +5,7 @@ pub mod Calls
 pub mod Conducts
 pub mod Continuing
 pub mod Driving
+pub mod Due
 pub mod Ending
 pub mod Exporting
 pub mod FitSlots
@@ -20,9 +21,11 @@ pub mod InTurn
 pub mod Jumping
 pub mod Kept
 pub mod Made
+pub mod Making
 pub mod Meanings
 pub mod Memories
 pub mod Moving
+pub mod Nearness
 pub mod Noting
 pub mod Numbers
 pub mod Passing
@@ -33,6 +36,7 @@ pub mod Running
 pub mod Saying
 pub mod Sets
 pub mod Skipping
+pub mod Splices
 pub mod Standing
 pub mod Starting
 pub mod Tasks

@@ -75,6 +75,9 @@ module _ (m : Mission) (fit : Fits m) where
     count = r.count;
     config = r.config;
     configs = r.configs;
+    clk = r.clk;
+    clocks = r.clocks;
+    last = r.last;
     places = wide;
     shape = r.shape;
   }
@@ -103,6 +106,9 @@ module _ (m : Mission) (fit : Fits m) where
     count = r.count;
     config = r.config;
     configs = r.configs;
+    clk = r.clk;
+    clocks = r.clocks;
+    last = r.last;
     places = r.places;
     shape = r.shape;
   }

@@ -40,6 +40,9 @@ module _ (m : Mission) (fit : Fits m) where
     count = r.count;
     config = r.config;
     configs = r.configs;
+    clk = r.clk;
+    clocks = r.clocks;
+    last = r.last;
     places = r.places;
     shape = shape;
   }

@@ -48,6 +48,9 @@ module _ (m : Mission) (fit : Fits m) (b : Desk) (r : InRange m b) where
     count = r.count;
     config = r.config;
     configs = r.configs;
+    clk = r.clk;
+    clocks = r.clocks;
+    last = r.last;
     places = r.places;
     shape = r.shape;
   }

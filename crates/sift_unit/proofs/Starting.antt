@@ -14,7 +14,9 @@ use Rattle.sift_unit.specs.Desk.{Desk, say_spot, hear_spot, is_end, first_desk, 
 use Rattle.sift_unit.specs.Going.{Going}
 use Rattle.sift_unit.specs.Keeping.{IsFresh, as_flying}
 use Rattle.sift_unit.specs.BoardLaws.{StartLaw, TurnLaw, TurnFirstLaw}
+use Rattle.sift_skew.specs.Leading.{OffsetsChangeLittle}
 use Rattle.sift_unit.proofs.Tests.{choice_none}
+use Rattle.sift_unit.proofs.Nearness.{near_start}
 use Rattle.sift_unit.proofs.Past.{not_past_yet}
 use Rattle.sift_unit.proofs.Standing.{next_mul}
 use Rattle.sift_unit.proofs.Ending.{frame_going}
@@ -33,6 +35,9 @@ start_going m u places memory c fit unit wide shape fresh = record {
     count = refl;
     config = fit.config;
     configs = λ f d low. absurd (omega arith);
+    clk = near_start (m.offset u) (fit.clocks.starts u unit);
+    clocks = λ f d low. absurd (omega arith);
+    last = λ member. fit.counted.starts;
     places = wide;
     shape = shape;
   };
@@ -65,10 +70,10 @@ pub end_is : (m : Mission) (b : Desk) → is_end m b ≡ true → (b.part ≡ 2)
 end_is m b e = let t = and_parts _ _ e in (eqb-true b.part 2 t.0, eqb-true b.slot m.slots t.1)
 
 -- a board turns at a frame's end
-pub turn_law : TurnLaw
-turn_law m b c memory accounts fit g storm end high room shape pushed =
+pub turn_law : OffsetsChangeLittle → TurnLaw
+turn_law little m b c memory accounts fit g storm end high room shape pushed =
     let t = end_is m b end in let p = g.progress in let q = next_mul b.frame m.period in let long = fit.counted.period in
-    let next = frame_going m fit b memory accounts shape pushed c g (record { slot = t.1; part = t.0; subframe = high; frame = room }) in
+    let next = frame_going m fit b memory accounts shape pushed little c g (record { slot = t.1; part = t.0; subframe = high; frame = room }) in
     record {
       storm = storm;
       at = refl;

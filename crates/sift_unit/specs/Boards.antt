@@ -80,6 +80,7 @@ pub record IsPortOf (m : Mission) (r : Ranges) : Type 0 where
 
 -- a board steps on its own port: all that a step wants and keeps
 pub record Drives (m : Mission) (b : TheBoard) (v : View) : Type 0 where
+  pub fits : Fits m
   pub unit : v.unit ≡ b.unit
   pub ranges : IsPortOf m v.ranges
   pub still : m.storm b.unit ≡ None
@@ -93,8 +94,9 @@ pub record GoesOn (m : Mission) (b b' : TheBoard) : Type 0 where
   pub room : m.frames ≤ vec_capacity b'.accounts
   pub frame : b'.frame * m.period + b'.subframe ≡ b.frame * m.period + b.subframe + 1
 
--- the board of unit u before the flight: in shape, and with room for all its accounts
+-- the board of unit u before the flight: in shape, and with room for all its accounts; and the mission is one that boards can fly
 pub record IsNewBoard (m : Mission) (u : ℕ) (b : TheBoard) : Type 0 where
+  pub fits : Fits m
   pub desk : desk_of b ≡ first_desk m u b.places (memory_of b.memory)
   pub places : length b.places ≡ unit_limit
   pub shape : IsShaped m (memory_of b.memory)
@@ -102,9 +104,9 @@ pub record IsNewBoard (m : Mission) (u : ℕ) (b : TheBoard) : Type 0 where
 
 -- a new board drives on a port of its unit on which nothing was done, where the unit is never stray
 abbrev pub NewBoardLaw : Type 0
-NewBoardLaw = (m : Mission) (u : ℕ) (b : TheBoard) (v : View) → Fits m → has m.units u ≡ true → m.storm u ≡ None → IsNewBoard m u b →
+NewBoardLaw = (m : Mission) (u : ℕ) (b : TheBoard) (v : View) → has m.units u ≡ true → m.storm u ≡ None → IsNewBoard m u b →
     v.unit ≡ u → IsPortOf m v.ranges → IsFresh v.conduct → Drives m b v
 
 -- a board that has driven, whatever words its port gave, guarantees its acts and accounts in all frames that it has ended
 abbrev pub DriveLaw : Type 0
-DriveLaw = (m : Mission) (b : TheBoard) (v : View) → Fits m → Drives m b v → BoardKeeps m b.unit v.conduct (accounts_of m (desk_of b)) b.frame
+DriveLaw = (m : Mission) (b : TheBoard) (v : View) → Drives m b v → BoardKeeps m b.unit v.conduct (accounts_of m (desk_of b)) b.frame

@@ -1,12 +1,15 @@
 -- What tables, layout, program and limits give of a mission: premises that hold of every mission that the code makes.
-use Rattle.std.specs.Prelude.{◌≡◌, ℕ, ◌+◌, ◌<◌, ◌≤◌, List, length, slice_index, Bool, true, false}
+use Rattle.std.specs.Prelude.{◌≡◌, ℕ, ◌+◌, ◌<◌, ◌≤◌, List, length, slice_index, Bool, true, false, pos, ◌+ℤ◌, ◌≤ℤ◌}
 use Rattle.sift_base.specs.Units.{has, unit_limit}
 use Rattle.sift_base.specs.Layout.{sensor_limit, word_limit}
 use Rattle.sift_base.specs.declared.slot.Slot.{Slot}
 use Rattle.sift_base.specs.declared.slot.Slot.TheVariants.{Clock, Sense, RelaySense, Out, Report, RelayReport}
+use Rattle.sift_clock.specs.Distance.{IsWithin}
 use Rattle.sift_unit.specs.Mission.{Mission}
 use Rattle.sift_unit.specs.Slots.{is_slot, executors}
 use Rattle.sift_unit.specs.Acts.{IsConfigOf}
+use Rattle.sift_unit.specs.PartsFit.{start_limit}
+use Rattle.sift_unit.specs.Reach.{change_limit}
 
 -- the most slots of a mission
 abbrev pub slot_limit : ℕ
@@ -62,10 +65,18 @@ pub record IsCounted (m : Mission) : Type 0 where
   pub period : 12 ≤ m.period
   pub short : m.period ≤ 64
   pub frames : m.frames ≤ 1000
+  pub starts : length m.starts ≡ m.words
 
 -- each word has at least three executors, all in the configuration
 abbrev pub HasExecutors : Mission → Type 0
 HasExecutors m = (us : List ℕ) (w : ℕ) → IsConfigOf m us → w < m.words → 3 ≤ length (executors m us w)
+
+-- the clocks start near 0, and corrections and drifts are small
+pub record AreClocksNear (m : Mission) : Type 0 where
+  pub starts : (u : ℕ) → has m.units u ≡ true → IsWithin start_limit (m.offset u) (pos 0)
+  pub limit : pos 0 ≤ℤ (m.skew +ℤ m.error)
+  pub change : (m.skew +ℤ m.error +ℤ m.rate) ≤ℤ pos change_limit
+  pub drifts : (u : ℕ) → has m.units u ≡ true → IsWithin m.rate (m.drift u) (pos 0)
 
 -- all of it
 pub record Fits (m : Mission) : Type 0 where
@@ -75,3 +86,4 @@ pub record Fits (m : Mission) : Type 0 where
   pub counted : IsCounted m
   pub executors : HasExecutors m
   pub config : IsConfigOf m m.units
+  pub clocks : AreClocksNear m

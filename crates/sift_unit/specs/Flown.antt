@@ -28,9 +28,13 @@ abbrev pub position_in : List ℕ → ℕ → ℕ
 position_in [] u = 0
 position_in (v ∷ us) u = if nat_eq v u then 0 else suc (position_in us u)
 
--- a unit of the configuration runs the task of a word: the table has the task at its position
+-- a unit of the configuration runs a task: the table has the task at its position
+abbrev pub runs_in : MissionData → List ℕ → ℕ → ℕ → Bool
+runs_in d us t u = has us u && schedule.runs_at (table_for d us) t (position_in us u)
+
+-- it executes the words of the tasks that it runs
 abbrev pub executes_in : MissionData → List ℕ → ℕ → ℕ → Bool
-executes_in d us w u = has us u && schedule.runs_at (table_for d us) (task_of (shapes_in d) w) (position_in us u)
+executes_in d us w u = runs_in d us (task_of (shapes_in d) w) u
 
 -- ---- words
 

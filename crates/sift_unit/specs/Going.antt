@@ -12,6 +12,7 @@ use Rattle.sift_unit.specs.Frames.{last_of, BeginConduct, BusyConduct, IdleCondu
 use Rattle.sift_unit.specs.Acts.{IsConfigOf, stamp_and_moment}
 use Rattle.sift_unit.specs.Memory.{Memory, place_at}
 use Rattle.sift_unit.specs.Remembered.{Heard, Ran, Matches, Settled, IsShaped}
+use Rattle.sift_unit.specs.Reach.{IsNearIn, IsNear}
 use Rattle.sift_unit.specs.Desk.{Desk, cursor, hear_spot, say_spot, heard_mark, run_mark, settled_mark, is_past}
 
 -- the account of each frame
@@ -100,6 +101,9 @@ pub record InRange (m : Mission) (b : Desk) : Type 0 where
   pub count : length b.accounts ≡ b.frame
   pub config : IsConfigOf m b.cfg
   pub configs : (f : ℕ) (d : Account) → f < b.frame → IsConfigOf m (slice_index_or b.accounts f d).cfg
+  pub clk : IsNearIn b.frame b.clk
+  pub clocks : (f : ℕ) (d : Account) → f < b.frame → IsNear f (slice_index_or b.accounts f d)
+  pub last : has b.cfg b.unit ≡ true → length b.last ≡ m.words
   pub places : length b.places ≡ unit_limit
   pub shape : IsShaped m b.memory
 

@@ -17,8 +17,10 @@ pub mod Needs
 pub mod PartsFit
 pub mod Passing
 pub mod Premises
+pub mod Reach
 pub mod Remembered
 pub mod Slots
 pub mod Stepping
 pub mod Stops
 pub mod Tidings
+pub mod Work

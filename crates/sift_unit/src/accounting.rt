@@ -1,6 +1,7 @@
 //! The account of a frame, of what a board remembers of it.
 
 ghost use Rattle.std.specs.Prelude.{◌≡◌, map, nat_eq, slice_index, if◌then◌else◌};
+ghost use Rattle.sift_unit.specs.Fits.{Fits};
 ghost use Rattle.sift_unit.specs.Acts.{IsConfigOf};
 ghost use Rattle.sift_unit.specs.Tidings.{report_taken, busy_account, idle_account, frame_account, names_now};
 ghost use Rattle.sift_unit.specs.Remembered.{IsShaped};
@@ -25,6 +26,7 @@ impl Memory {
         unit: UnitId,
         clk: &i64,
     ) -> Account
+        requires fits { Fits (M.mission mission.now) }
         requires config { IsConfigOf (M.mission mission.now) config.now }
         requires shape { IsShaped (M.mission mission.now) (memory_of self.now) }
         ensures { account_of result ≡ frame_account (M.mission mission.now) config.now unit clk.now (memory_of self.now) }
@@ -37,6 +39,7 @@ impl Memory {
 
     /// The account of a unit that is in its configuration.
     fn busy<M: Duty>(&self, mission: &M, config: &Config, unit: UnitId, clk: &i64) -> Account
+        requires fits { Fits (M.mission mission.now) }
         requires config { IsConfigOf (M.mission mission.now) config.now }
         requires shape { IsShaped (M.mission mission.now) (memory_of self.now) }
         ensures { account_of result ≡ busy_account (M.mission mission.now) config.now unit clk.now (memory_of self.now) }
@@ -55,7 +58,8 @@ impl Memory {
 
     /// The configuration of the next frame, by the reports as the unit takes them.
     fn next_config<M: Duty>(&self, mission: &M, config: &Config, unit: UnitId) -> Config
-        requires { IsConfigOf (M.mission mission.now) config.now }
+        requires fits { Fits (M.mission mission.now) }
+        requires config { IsConfigOf (M.mission mission.now) config.now }
         ensures { result ≡ next_by (names_now (M.mission mission.now) config.now unit (memory_of self.now)) config.now }
     {
         let reports = self.reports_taken(mission, config, unit);
@@ -69,6 +73,7 @@ impl Memory {
         config: &Config,
         unit: UnitId,
     ) -> ArrayVec<Word, 8>
+        requires fits { Fits (M.mission mission.now) }
         ensures { result.items ≡ map (report_taken (M.mission mission.now) config.now unit (memory_of self.now)) config.now }
     {
         let own = self.report(mission, config);

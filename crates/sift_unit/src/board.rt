@@ -2,12 +2,15 @@
 
 ghost use Rattle.std.specs.Prelude.{◌≡◌, ◌<◌, IfOk, true, length, slice_index_or};
 ghost use Rattle.sift_base.specs.Units.{has};
+ghost use Rattle.sift_unit.specs.Flown.{mission_of};
 ghost use Rattle.sift_unit.specs.Boards.{IsNewBoard};
 
 use crate::account::Account;
-use crate::duty::Duty;
+use crate::executor::Executor;
+use crate::laws::a_mission_fits;
 use crate::lists::copy_of;
 use crate::memory::Memory;
+use crate::mission::Mission;
 use crate::part::Part;
 use arrayvec::ArrayVec;
 use sift_base::{NoMemory, UnitId, Word};
@@ -30,14 +33,17 @@ pub struct Board {
     pub(crate) places: [Option<Word>; 8],
     pub(crate) memory: Memory,
     pub(crate) accounts: Vec<Account>,
+    pub(crate) executor: Executor,
 }
 
 impl Board {
-    /// The board of a unit of the mission before the flight, with the memory for all its accounts.
-    pub fn make<M: Duty>(alloc: Global, mission: &M, unit: UnitId) -> Result<Board, NoMemory>
-        requires { has (M.mission mission.now).units unit ≡ true }
-        ensures { IfOk result (λ board. IsNewBoard (M.mission mission.now) unit board) }
+    /// The board of a unit of the mission before the flight, with the memory for all its accounts and
+    /// for the runs of its tasks.
+    pub fn make(alloc: Global, mission: &Mission, unit: UnitId) -> Result<Board, NoMemory>
+        requires { has (mission_of mission.now).units unit ≡ true }
+        ensures { IfOk result (λ board. IsNewBoard (mission_of mission.now) unit board) }
     {
+        a_mission_fits(mission);
         let accounts = Vec::with_capacity(alloc, mission.frames() as usize)?;
         Ok(Board {
             unit,
@@ -52,6 +58,7 @@ impl Board {
             places: [None; 8],
             memory: Memory::blank(mission),
             accounts,
+            executor: Executor::make(alloc)?,
         })
     }
 

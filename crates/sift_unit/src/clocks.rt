@@ -1,6 +1,7 @@
 //! The clocks of a mission, in whole ticks.
 
-ghost use Rattle.std.specs.Prelude.{◌≡◌, ◌<◌, length, ◌+ℤ◌, true};
+ghost use Rattle.std.specs.Prelude.{◌≡◌, ◌<◌, length, pos, ◌+ℤ◌, true};
+ghost use Rattle.sift_clock.specs.Distance.{IsWithin, error_limit};
 ghost use Rattle.sift_base.specs.Units.{has};
 ghost use Rattle.sift_unit.specs.Flown.{mission_of, ticks_of};
 
@@ -37,7 +38,8 @@ impl Mission {
     pub fn error(&self, u: UnitId, p: UnitId) -> i32
         requires own { has (mission_of self.now).units u ≡ true }
         requires other { has (mission_of self.now).units p ≡ true }
-        ensures { result ≡ (mission_of self.now).errors u p }
+        ensures error { result ≡ (mission_of self.now).errors u p }
+        ensures small { IsWithin error_limit result (pos 0) }
     {
         ticks_at(&self.parts().clock.errors[usize::from(u.get())], p)
     }

@@ -8,20 +8,19 @@ ghost use Rattle.sift_unit.specs.Mission.{Mission};
 ghost use Rattle.sift_unit.specs.Slots.{calls};
 ghost use Rattle.sift_unit.specs.Acts.{IsConfigOf};
 ghost use Rattle.sift_unit.specs.Fits.{Fits};
-ghost use Rattle.sift_unit.specs.Memory.{offset_after, renewed, is_word_of};
-ghost use Rattle.sift_unit.specs.Remembered.{IsShaped};
+ghost use Rattle.sift_unit.specs.Memory.{renewed, is_word_of};
 ghost use Rattle.sift_unit.specs.Desk.{spot};
 ghost use Rattle.sift_unit.specs.Stops.{IsNothingBetween};
 ghost use Rattle.sift_unit.specs.Passing.{IsSlotOf, IsTaskOf};
-ghost use Rattle.sift_unit.specs.Boards.{part_of, memory_of};
+ghost use Rattle.sift_unit.specs.Boards.{part_of};
 
-use crate::memory::Memory;
+use crate::executor::Executor;
 use crate::part::Part;
 use sift_base::{Slot, UnitId, Word};
 use sift_config::Config;
 
-/// A mission, as far as a board asks it.
-pub trait Duty {
+/// A mission, as far as a board asks it. A clause sees no more of it than the definitions do.
+pub(crate) trait Duty {
     /// The mission, as the definitions see it.
     ghost mission: { Self → Mission };
 
@@ -102,6 +101,7 @@ pub trait Duty {
     /// The next slot, from this one on, of which there is something to do in this part of a
     /// subframe, or the number of slots where there is none.
     fn next_due(&self, config: &Config, subframe: u32, part: Part, slot: usize) -> usize
+        requires fits { Fits (mission self.now) }
         requires config { IsConfigOf (mission self.now) config.now }
         requires slot { slot ≤ (mission self.now).slots }
         ensures from { slot ≤ result }
@@ -114,42 +114,42 @@ pub trait Duty {
 
     /// The error of a unit's reading of another unit's clock.
     fn error_of(&self, unit: UnitId, other: UnitId) -> i32
+        requires own { has (mission self.now).units unit ≡ true }
+        requires other { has (mission self.now).units other ≡ true }
         ensures error { result ≡ (mission self.now).errors unit other }
         ensures small { IsWithin error_limit result (pos 0) };
 
-    /// The next offset, by what was heard of the others' clocks.
-    fn next_offset(
-        &self,
-        config: &Config,
-        unit: UnitId,
-        clk: &i64,
-        places: &[Option<Word>; 8],
-    ) -> i64
-        requires { has config.now unit ≡ true }
-        ensures { result ≡ offset_after (mission self.now) config.now unit clk.now places.now };
+    /// The drift of a unit's clock in a frame.
+    fn drift_of(&self, unit: UnitId) -> i32
+        requires { has (mission self.now).units unit ≡ true }
+        ensures { result ≡ (mission self.now).drift unit };
 
     /// Whether a unit puts out a word.
     fn executes(&self, config: &Config, word: u8, unit: UnitId) -> bool
-        requires { word < (mission self.now).words }
+        requires config { IsConfigOf (mission self.now) config.now }
+        requires word { word < (mission self.now).words }
         ensures { result ≡ (mission self.now).executes config.now word unit };
 
     /// Whether a unit runs a task.
     fn runs(&self, config: &Config, task: usize, unit: UnitId) -> bool
         requires { IsTaskOf (mission self.now) config.now task }
-        ensures { (w : ℕ) → w < (mission self.now).words → (mission self.now).task w ≡ task → (mission self.now).executes config.now w unit ≡ result };
+        ensures member { result ≡ true → has config.now unit ≡ true }
+        ensures words { (w : ℕ) → w < (mission self.now).words → (mission self.now).task w ≡ task → (mission self.now).executes config.now w unit ≡ result };
 
-    /// Makes the words of a task of the agreed words, this frame's words and those before.
+    /// Makes the words of a task of the agreed words, this frame's words and those before, by the
+    /// task's checked code.
     fn make_words(
         &self,
         task: usize,
+        executor: &mut Executor,
         ins: &[Word],
         now: &[Word],
         last: &[Word],
         made: &mut [Word; 64],
     )
-        requires { task < (mission self.now).tasks }
+        requires task { task < (mission self.now).tasks }
+        requires ins { length ins.now ≡ (mission self.now).sensors }
+        requires now { length now.now ≡ (mission self.now).words }
+        requires last { length last.now ≡ (mission self.now).words }
         ensures { made.new ≡ renewed (is_word_of (mission self.now) task) (λ w. (mission self.now).word w ins.now now.now last.now) made.old 0 };
-
-    /// What the parts of a mission give.
-    ghost fits: { (x : Self) → Fits (mission x) };
 }

@@ -1,14 +1,18 @@
 //! Laws about missions, about who speaks to whom, and about what boards do.
 
+ghost use Rattle.sift_unit.specs.Fits.{Fits};
+ghost use Rattle.sift_unit.specs.Flown.{mission_of};
 ghost use Rattle.sift_unit.specs.Premises.{PartsMakeItFit, PartsMakeItFlyable};
 ghost use Rattle.sift_unit.specs.Slots.{NothingIsSaidToItself};
 ghost use Rattle.sift_unit.specs.BoardLaws.{KeepLaw, StartLaw, TurnLaw, TurnFirstLaw, JumpLaw};
 ghost use Rattle.sift_unit.specs.Boards.{NewBoardLaw, DriveLaw};
 
+use crate::mission::Mission;
 use sift_script::{
     faults_are_for_good, one_unit_is_steady, working_units_have_not_turned,
     working_units_say_their_words,
 };
+use sift_skew::offsets_change_little;
 use sift_table::{
     slots_are_heard_in_time, tasks_have_three_executors, tasks_run_after_their_needs,
     words_have_their_task,
@@ -26,6 +30,14 @@ pub fn fitting_parts_make_a_mission()
     slots_are_heard_in_time();
     tasks_run_after_their_needs();
     tasks_have_three_executors();
+}
+
+/// So has each mission.
+pub fn a_mission_fits(mission: &Mission)
+    ensures { Fits (mission_of mission.now) }
+{
+    fitting_parts_make_a_mission();
+    let _parts = mission.parts();
 }
 
 /// Its script of faults and its clocks are such as flights stand on, too.
@@ -53,7 +65,9 @@ pub fn new_boards_keep_to_it()
 /// A board that turns at a frame's end does so.
 pub fn boards_that_turn_keep_to_it()
     ensures { TurnLaw }
-{}
+{
+    offsets_change_little();
+}
 
 /// A board that turns before anything else does so.
 pub fn boards_that_turn_at_once_keep_to_it()

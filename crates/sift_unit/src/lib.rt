@@ -5,7 +5,9 @@ mod account;
 mod accounting;
 mod board;
 mod clocks;
+mod duties;
 mod duty;
+mod executor;
 mod faults;
 mod laws;
 mod lists;
@@ -15,6 +17,7 @@ mod next;
 mod noted;
 mod part;
 mod parts;
+mod readings;
 mod schedule;
 mod stepped;
 mod stepping;
@@ -24,9 +27,8 @@ mod words;
 
 pub use account::Account;
 pub use board::Board;
-pub use duty::Duty;
 pub use laws::{
-    a_unit_says_nothing_to_itself, boards_keep_to_their_conduct, boards_may_jump,
+    a_mission_fits, a_unit_says_nothing_to_itself, boards_keep_to_their_conduct, boards_may_jump,
     boards_that_step_keep_to_their_conduct, boards_that_turn_at_once_keep_to_it,
     boards_that_turn_keep_to_it, fitting_parts_make_a_flight, fitting_parts_make_a_mission,
     new_boards_keep_to_it, new_boards_may_step,

@@ -1,6 +1,6 @@
 //! Lists of words of a fixed capacity.
 
-ghost use Rattle.std.specs.Prelude.{◌≡◌, ◌<◌, ◌≤◌, length, slice_set};
+ghost use Rattle.std.specs.Prelude.{◌≡◌, ◌<◌, ◌≤◌, ◌+◌, ◌++◌, length, take, drop, slice_set};
 
 use arrayvec::ArrayVec;
 use sift_base::Word;
@@ -35,4 +35,12 @@ pub(crate) fn put<const N: usize>(words: &mut ArrayVec<Word, N>, at: u8, word: W
     ensures { words.new.items ≡ slice_set words.old.items at word }
 {
     words[usize::from(at)] = word;
+}
+
+/// Puts words into a list from a place on.
+pub(crate) fn put_at(list: &mut [Word], at: usize, words: &[Word])
+    requires { at + length words.now ≤ length list.old }
+    ensures { list.new ≡ take at list.old ++ (words.now ++ drop (at + length words.now) list.old) }
+{
+    list[at..at + words.len()].copy_from_slice(words);
 }

@@ -1,12 +1,15 @@
 //! What a board remembers in a frame.
 
-ghost use Rattle.std.specs.Prelude.{◌≡◌};
+ghost use Rattle.std.specs.Prelude.{◌≡◌, length, true};
+ghost use Rattle.sift_base.specs.Units.{has};
+ghost use Rattle.sift_unit.specs.Fits.{Fits};
 ghost use Rattle.sift_unit.specs.Memory.{run as run_of};
 ghost use Rattle.sift_unit.specs.Remembered.{IsShaped};
 ghost use Rattle.sift_unit.specs.Passing.{IsTaskOf};
 ghost use Rattle.sift_unit.specs.Boards.{memory_of};
 
 use crate::duty::Duty;
+use crate::executor::Executor;
 use crate::lists::zeros;
 use arrayvec::ArrayVec;
 use sift_base::{UnitId, UnitSet, Word};
@@ -40,6 +43,7 @@ pub struct Memory {
 impl Memory {
     /// A memory with room for all that is to be remembered of a mission's frames.
     pub(crate) fn blank<M: Duty>(mission: &M) -> Memory
+        requires fits { Fits (M.mission mission.now) }
         ensures { IsShaped (M.mission mission.now) (memory_of result) }
     {
         Memory {
@@ -60,16 +64,19 @@ impl Memory {
     pub(crate) fn run<M: Duty>(
         &mut self,
         mission: &M,
+        executor: &mut Executor,
         config: &Config,
         unit: UnitId,
         last: &[Word],
         task: usize,
     )
-        requires { IsTaskOf (M.mission mission.now) config.now task }
+        requires task { IsTaskOf (M.mission mission.now) config.now task }
+        requires shape { IsShaped (M.mission mission.now) (memory_of self.old) }
+        requires last { has config.now unit ≡ true → length last.now ≡ (M.mission mission.now).words }
         ensures { memory_of self.new ≡ run_of (M.mission mission.now) config.now unit last.now task (memory_of self.old) }
     {
         if mission.runs(config, task, unit) {
-            mission.make_words(task, &self.ins, &self.outs, last, &mut self.made);
+            mission.make_words(task, executor, &self.ins, &self.outs, last, &mut self.made);
         }
     }
 }

@@ -58,4 +58,22 @@ impl Mission {
         }
         tasks
     }
+
+    /// The next task, from a number on, that is run in a subframe, and the count of the slots where there is none.
+    pub(crate) fn next_task(&self, config: &Config, subframe: u32, from: usize) -> usize
+        requires config { IsConfigOf (mission_of self.now) config.now }
+        requires from { from ≤ (mission_of self.now).slots }
+        ensures after { from ≤ result }
+        ensures within { result ≤ (mission_of self.now).slots }
+        ensures passed { (t : ℕ) → t < (mission_of self.now).tasks → from ≤ t → t < result → (mission_of self.now).run_in config.now t ≢ subframe }
+    {
+        let tasks = self.tasks();
+        if from < tasks {
+            let next = self.next_run(config, subframe, from);
+            if next < tasks {
+                return next;
+            }
+        }
+        self.slots()
+    }
 }

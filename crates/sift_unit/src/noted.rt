@@ -1,13 +1,16 @@
 //! What a board notes of a slot, all of which it has heard.
 
-ghost use Rattle.std.specs.Prelude.{◌≡◌, ◌<◌, ◌&&◌, ℕ, ℤ, ◌+ℤ◌, Some, map, not, nat_eq, true};
+ghost use Rattle.std.specs.Prelude.{◌≡◌, ◌<◌, ◌&&◌, ℕ, ℤ, pos, Some, map, not, nat_eq, true};
 ghost use Rattle.std.specs.List.{filter};
 ghost use Rattle.sift_base.specs.Units.{has, holds};
 ghost use Rattle.sift_vote.specs.Agreed.{majority_of};
 ghost use Rattle.sift_vote.specs.Differing.{differs as is_other};
-ghost use Rattle.sift_clock.specs.Reading.{is_too_far};
+ghost use Rattle.sift_clock.specs.Distance.{IsWithin};
+ghost use Rattle.sift_skew.specs.Limits.{offset_limit};
 ghost use Rattle.sift_unit.specs.Mission.{Mission};
-ghost use Rattle.sift_unit.specs.Memory.{reading_at, place_at, polled_at, poll_of, note as note_of};
+ghost use Rattle.sift_unit.specs.Fits.{Fits};
+ghost use Rattle.sift_unit.specs.Acts.{IsConfigOf};
+ghost use Rattle.sift_unit.specs.Memory.{place_at, polled_at, poll_of, note as note_of};
 ghost use Rattle.sift_unit.specs.Remembered.{IsShaped};
 ghost use Rattle.sift_unit.specs.Passing.{IsSlotOf};
 ghost use Rattle.sift_unit.specs.Boards.{memory_of};
@@ -16,10 +19,10 @@ ghost use Rattle.sift_base.specs.declared.slot.Slot.TheVariants.{Clock, RelaySen
 use crate::duty::Duty;
 use crate::lists::put;
 use crate::memory::Memory;
+use crate::readings::{far_clocks, next_offset};
 use arrayvec::ArrayVec;
 use sift_agree::agree;
 use sift_base::{Slot, UnitId, UnitSet, Word};
-use sift_clock::{reading, too_far};
 use sift_config::Config;
 use sift_vote::majority;
 
@@ -35,9 +38,11 @@ impl Memory {
         slot: usize,
         places: &[Option<Word>; 8],
     )
+        requires fits { Fits (M.mission mission.now) }
         requires slot { IsSlotOf (M.mission mission.now) config.now slot }
         requires member { has config.now unit ≡ true }
         requires frame { frame < (M.mission mission.now).frames }
+        requires near { IsWithin offset_limit clk.now (pos 0) }
         requires shape { IsShaped (M.mission mission.now) (memory_of self.old) }
         ensures { memory_of self.new ≡ note_of (M.mission mission.now) config.now unit frame clk.now ((M.mission mission.now).kind slot) places.now (memory_of self.old) }
     {
@@ -63,11 +68,14 @@ impl Memory {
         clk: &i64,
         places: &[Option<Word>; 8],
     )
-        requires { has config.now unit ≡ true }
+        requires fits { Fits (M.mission mission.now) }
+        requires config { IsConfigOf (M.mission mission.now) config.now }
+        requires member { has config.now unit ≡ true }
+        requires near { IsWithin offset_limit clk.now (pos 0) }
         ensures { (f : ℕ) → memory_of self.new ≡ note_of (M.mission mission.now) config.now unit f clk.now Clock places.now (memory_of self.old) }
     {
         self.clock = far_clocks(mission, config, unit, clk, places);
-        self.next_clk = mission.next_offset(config, unit, clk, places);
+        self.next_clk = next_offset(mission, config, unit, clk, places);
     }
 
     /// Notes a sensor's word, and who relayed another.
@@ -80,6 +88,7 @@ impl Memory {
         sensor: u8,
         places: &[Option<Word>; 8],
     )
+        requires fits { Fits (M.mission mission.now) }
         requires sensor { sensor < (M.mission mission.now).sensors }
         requires frame { frame < (M.mission mission.now).frames }
         requires shape { IsShaped (M.mission mission.now) (memory_of self.old) }
@@ -115,6 +124,8 @@ impl Memory {
         word: u8,
         places: &[Option<Word>; 8],
     )
+        requires fits { Fits (M.mission mission.now) }
+        requires config { IsConfigOf (M.mission mission.now) config.now }
         requires word { word < (M.mission mission.now).words }
         requires shape { IsShaped (M.mission mission.now) (memory_of self.old) }
         ensures { (f : ℕ) (clk : ℤ) → memory_of self.new ≡ note_of (M.mission mission.now) config.now unit f clk (Out word) places.now (memory_of self.old) }
@@ -134,7 +145,9 @@ impl Memory {
         word: u8,
         places: &[Option<Word>; 8],
     ) -> Option<Word>
-        requires { word < (M.mission mission.now).words }
+        requires fits { Fits (M.mission mission.now) }
+        requires config { IsConfigOf (M.mission mission.now) config.now }
+        requires word { word < (M.mission mission.now).words }
         ensures { result ≡ majority_of (poll_of (M.mission mission.now) config.now unit (memory_of self.now) places.now word) }
     {
         let mut ballots = ArrayVec::<Option<Word>, 8>::new();
@@ -174,7 +187,9 @@ impl Memory {
         places: &[Option<Word>; 8],
         vote: &Option<Word>,
     ) -> UnitSet
-        requires { word < (M.mission mission.now).words }
+        requires fits { Fits (M.mission mission.now) }
+        requires config { IsConfigOf (M.mission mission.now) config.now }
+        requires word { word < (M.mission mission.now).words }
         ensures { (v : ℕ) → holds result v ≡ (has config.now v && ((M.mission mission.now).executes config.now word v && is_other (polled_at unit (memory_of self.now) places.now word v) vote.now)) }
     {
         let mut wrong = UnitSet::empty();
@@ -198,6 +213,7 @@ impl Memory {
         vote: &Option<Word>,
         executor: UnitId,
     ) -> bool
+        requires config { IsConfigOf (M.mission mission.now) config.now }
         requires few { word < 64 }
         requires word { word < (M.mission mission.now).words }
         ensures { result ≡ ((M.mission mission.now).executes config.now word executor && is_other (polled_at unit (memory_of self.now) places.now word executor) vote.now) }
@@ -216,7 +232,7 @@ impl Memory {
 }
 
 /// The place of a unit.
-fn place_of(places: &[Option<Word>; 8], unit: UnitId) -> Option<Word>
+pub(crate) fn place_of(places: &[Option<Word>; 8], unit: UnitId) -> Option<Word>
     ensures { result ≡ place_at places.now unit }
 {
     places[usize::from(unit.get())]
@@ -231,40 +247,6 @@ fn differs(place: &Option<Word>, vote: &Option<Word>) -> bool
         (Some(_), None) => false,
         (Some(word), Some(winner)) => word != winner,
     }
-}
-
-/// The other units whose clock is absent or too far away.
-fn far_clocks<M: Duty>(
-    mission: &M,
-    config: &Config,
-    unit: UnitId,
-    clk: &i64,
-    places: &[Option<Word>; 8],
-) -> UnitSet
-    ensures { (v : ℕ) → holds result v ≡ (has config.now v && (not (nat_eq v unit) && is_too_far ((M.mission mission.now).skew +ℤ (M.mission mission.now).error) (reading_at (M.mission mission.now) unit clk.now places.now v))) }
-{
-    let mut far = UnitSet::empty();
-    for position in 0..config.len() {
-        let other = config.unit_at(position);
-        if is_far(mission, unit, clk, places, other) {
-            far = far.with(other);
-        }
-    }
-    far
-}
-
-/// Whether it is another unit, whose clock is absent or too far away.
-fn is_far<M: Duty>(
-    mission: &M,
-    unit: UnitId,
-    clk: &i64,
-    places: &[Option<Word>; 8],
-    other: UnitId,
-) -> bool
-    ensures { result ≡ (not (nat_eq other unit) && is_too_far ((M.mission mission.now).skew +ℤ (M.mission mission.now).error) (reading_at (M.mission mission.now) unit clk.now places.now other)) }
-{
-    let ticks = reading(place_of(places, other), *clk, mission.error_of(unit, other));
-    other != unit && too_far(ticks, mission.limit())
 }
 
 /// The other units that relayed another word than the own one, or none.

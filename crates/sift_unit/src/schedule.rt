@@ -5,7 +5,7 @@ ghost use Rattle.sift_base.specs.Layout.{IsLayout, slot_count};
 ghost use Rattle.sift_unit.specs.Acts.{IsConfigOf};
 ghost use Rattle.sift_unit.specs.Data.{data_of};
 ghost use Rattle.sift_base.specs.Layout.{slot_kind};
-ghost use Rattle.sift_unit.specs.Flown.{mission_of, table_for};
+ghost use Rattle.sift_unit.specs.Flown.{mission_of, table_for, runs_in};
 ghost use Rattle.sift_unit.specs.Slots.{calls, is_senders};
 
 use crate::mission::Mission;
@@ -37,7 +37,8 @@ impl Mission {
 
     /// How many tasks there are.
     pub fn tasks(&self) -> usize
-        ensures { result ≡ (mission_of self.now).tasks }
+        ensures count { result ≡ (mission_of self.now).tasks }
+        ensures few { result ≤ (mission_of self.now).slots }
     {
         self.parts().program.tasks.len()
     }
@@ -128,16 +129,25 @@ impl Mission {
         }
     }
 
-    /// Whether a unit runs the task of a word: it is at one of the task's positions of the configuration.
+    /// Whether a unit runs a task: it is at one of the task's positions of the configuration.
+    pub fn runs(&self, config: &Config, t: usize, u: UnitId) -> bool
+        requires config { IsConfigOf (mission_of self.now) config.now }
+        requires task { t < (mission_of self.now).tasks }
+        ensures { result ≡ runs_in (data_of self.now) config.now t u }
+    {
+        match config.position_of(u) {
+            Some(position) => self.table(config).runs(t, position),
+            None => false,
+        }
+    }
+
+    /// Whether a unit runs the task of a word.
     pub fn executes(&self, config: &Config, w: u8, u: UnitId) -> bool
         requires config { IsConfigOf (mission_of self.now) config.now }
         requires word { w < (mission_of self.now).words }
         ensures { result ≡ (mission_of self.now).executes config.now w u }
     {
-        match config.position_of(u) {
-            Some(position) => self.table(config).runs(self.task_of(w), position),
-            None => false,
-        }
+        self.runs(config, self.task_of(w), u)
     }
 
     /// Whether it is for one unit to say the slot of a number to another, where both are in the configuration.

@@ -3,6 +3,8 @@
 ghost use Rattle.std.specs.Prelude.{◌≡◌, ◌<◌, ◌≤◌, ◌+◌, ◌*◌, ℕ, true};
 ghost use Rattle.std.specs.Vec.{vec_capacity};
 ghost use Rattle.sift_unit.specs.Desk.{is_hearing as at_hearing, is_saying as at_saying, is_end as at_end};
+ghost use Rattle.sift_unit.specs.Fits.{Fits};
+ghost use Rattle.sift_unit.specs.Flown.{mission_of};
 ghost use Rattle.sift_unit.specs.Going.{InRange};
 ghost use Rattle.sift_unit.specs.Passing.{IsSlotOf};
 ghost use Rattle.sift_unit.specs.Stepping.{Steps, HasMoved};
@@ -11,14 +13,26 @@ ghost use Rattle.sift_unit.specs.Boards.{desk_of, Drives, GoesOn};
 use crate::board::Board;
 use crate::duty::Duty;
 use crate::lists::copy_of;
+use crate::mission::Mission;
 use crate::part::Part;
 use crate::stepped::Stepped;
 use sift_base::UnitId;
 use sift_buffer::{Entering, Port};
+use sift_skew::offsets_change_little;
 
 impl Board {
     /// Does the work up to the board's next call on the port, and makes that one call.
-    pub fn step<M: Duty, T: Port>(&mut self, mission: &M, port: &mut T) -> Stepped
+    pub fn step<T: Port>(&mut self, mission: &Mission, port: &mut T) -> Stepped
+        requires { Drives (mission_of mission.now) self.old (T.view port.old) }
+        ensures drives { Drives (mission_of mission.now) self.new (T.view port.new) }
+        ensures steps { Steps (mission_of mission.now) (desk_of self.old) (T.view port.old) result (desk_of self.new) (T.view port.new) (T.stands port.new) }
+        ensures follows { T.follows port.old port.new }
+    {
+        self.step_by(mission, port)
+    }
+
+    /// The same, of all that a mission asks of a board.
+    fn step_by<M: Duty, T: Port>(&mut self, mission: &M, port: &mut T) -> Stepped
         requires { Drives (M.mission mission.now) self.old (T.view port.old) }
         ensures drives { Drives (M.mission mission.now) self.new (T.view port.new) }
         ensures steps { Steps (M.mission mission.now) (desk_of self.old) (T.view port.old) result (desk_of self.new) (T.view port.new) (T.stands port.new) }
@@ -41,6 +55,7 @@ impl Board {
 
     /// The stamp of the slot at which the board stands.
     fn stamp<M: Duty>(&self, mission: &M) -> u32
+        requires fits { Fits (M.mission mission.now) }
         requires slot { IsSlotOf (M.mission mission.now) self.now.cfg self.now.slot }
         requires frame { self.now.frame < (M.mission mission.now).frames }
         ensures { result ≡ self.now.frame * (M.mission mission.now).period + (M.mission mission.now).due self.now.cfg ((M.mission mission.now).kind self.now.slot) + 1 }
@@ -111,6 +126,7 @@ impl Board {
 
     /// Begins the next subframe, and the next frame after the last subframe.
     fn go_on<M: Duty>(&mut self, mission: &M)
+        requires fits { Fits (M.mission mission.now) }
         requires range { InRange (M.mission mission.now) (desk_of self.old) }
         requires frame { self.old.frame < (M.mission mission.now).frames }
         requires room { (M.mission mission.now).frames ≤ vec_capacity self.old.accounts }
@@ -129,6 +145,7 @@ impl Board {
 
     /// Accounts for the frame, and begins the next.
     fn end_frame<M: Duty>(&mut self, mission: &M)
+        requires fits { Fits (M.mission mission.now) }
         requires range { InRange (M.mission mission.now) (desk_of self.old) }
         requires frame { self.old.frame < (M.mission mission.now).frames }
         requires room { (M.mission mission.now).frames ≤ vec_capacity self.old.accounts }
@@ -136,6 +153,7 @@ impl Board {
         requires last { self.old.subframe + 1 ≡ (M.mission mission.now).period }
         ensures { GoesOn (M.mission mission.now) self.old self.new }
     {
+        offsets_change_little();
         let account = self
             .memory
             .account(mission, &self.cfg, self.unit, &self.clk);

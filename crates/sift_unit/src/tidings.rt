@@ -2,6 +2,7 @@
 
 ghost use Rattle.std.specs.Prelude.{◌≡◌, ◌<◌, ◌≤◌, ◌&&◌, ℕ, length, true};
 ghost use Rattle.sift_base.specs.Units.{has, holds};
+ghost use Rattle.sift_unit.specs.Fits.{Fits};
 ghost use Rattle.sift_unit.specs.Slots.{is_slot};
 ghost use Rattle.sift_unit.specs.Conduct.{any_below};
 ghost use Rattle.sift_unit.specs.Memory.{units_at};
@@ -29,6 +30,7 @@ impl Memory {
         slot: usize,
         to: UnitId,
     ) -> Option<Word>
+        requires fits { Fits (M.mission mission.now) }
         requires slot { IsSlotOf (M.mission mission.now) config.now slot }
         requires frame { frame < (M.mission mission.now).frames }
         requires shape { IsShaped (M.mission mission.now) (memory_of self.now) }
@@ -49,6 +51,7 @@ impl Memory {
         clk: &i64,
         slot: Slot,
     ) -> Option<Word>
+        requires fits { Fits (M.mission mission.now) }
         requires slot { is_slot (M.mission mission.now) slot ≡ true }
         requires frame { frame < (M.mission mission.now).frames }
         ensures { result ≡ word_now (M.mission mission.now) config.now frame clk.now (memory_of self.now) slot }
@@ -65,6 +68,7 @@ impl Memory {
 
     /// The own report: the byte of all that were caught.
     pub(crate) fn report<M: Duty>(&self, mission: &M, config: &Config) -> Word
+        requires fits { Fits (M.mission mission.now) }
         ensures { result ≡ report_now (M.mission mission.now) config.now (memory_of self.now) }
     {
         let Catches { poll, relay, clock } = self.catches(mission, config);
@@ -73,6 +77,7 @@ impl Memory {
 
     /// All that were caught, by kind.
     pub(crate) fn catches<M: Duty>(&self, mission: &M, config: &Config) -> Catches
+        requires fits { Fits (M.mission mission.now) }
         ensures { result ≡ bad_now (M.mission mission.now) config.now (memory_of self.now) }
     {
         Catches {

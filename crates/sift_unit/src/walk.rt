@@ -4,6 +4,7 @@ ghost use Rattle.std.specs.Prelude.{◌≡◌, ◌≢◌, ◌⊎◌, ◌<◌, �
 ghost use Rattle.sift_base.specs.Units.{has};
 ghost use Rattle.sift_unit.specs.Slots.{calls};
 ghost use Rattle.sift_unit.specs.Desk.{is_hearing as at_hearing, is_saying as at_saying, is_call as at_call, is_end as at_end};
+ghost use Rattle.sift_unit.specs.Fits.{Fits};
 ghost use Rattle.sift_unit.specs.Going.{InRange};
 ghost use Rattle.sift_unit.specs.Passing.{Passes, Onward, IsSlotOf, left};
 ghost use Rattle.sift_unit.specs.Boards.{desk_of};
@@ -16,7 +17,8 @@ use sift_base::UnitId;
 impl Board {
     /// Whether the board stands where it hears a word.
     pub(crate) fn is_hearing<M: Duty>(&self, mission: &M) -> bool
-        requires { InRange (M.mission mission.now) (desk_of self.now) }
+        requires fits { Fits (M.mission mission.now) }
+        requires range { InRange (M.mission mission.now) (desk_of self.now) }
         ensures { result ≡ at_hearing (M.mission mission.now) (desk_of self.now) }
     {
         match self.part {
@@ -31,7 +33,8 @@ impl Board {
 
     /// Whether the unit hears the slot from the other unit at which it stands.
     fn hears_other<M: Duty>(&self, mission: &M) -> bool
-        requires { IsSlotOf (M.mission mission.now) self.now.cfg self.now.slot }
+        requires fits { Fits (M.mission mission.now) }
+        requires slot { IsSlotOf (M.mission mission.now) self.now.cfg self.now.slot }
         ensures { result ≡ calls (M.mission mission.now) self.now.cfg ((M.mission mission.now).kind self.now.slot) self.now.other self.now.unit }
     {
         match UnitId::of(self.other) {
@@ -42,7 +45,8 @@ impl Board {
 
     /// Whether the board stands where it says a word.
     pub(crate) fn is_saying<M: Duty>(&self, mission: &M) -> bool
-        requires { InRange (M.mission mission.now) (desk_of self.now) }
+        requires fits { Fits (M.mission mission.now) }
+        requires range { InRange (M.mission mission.now) (desk_of self.now) }
         ensures { result ≡ at_saying (M.mission mission.now) (desk_of self.now) }
     {
         match self.part {
@@ -57,7 +61,8 @@ impl Board {
 
     /// Whether the unit says the slot to the other unit at which it stands.
     fn says_to_other<M: Duty>(&self, mission: &M) -> bool
-        requires { IsSlotOf (M.mission mission.now) self.now.cfg self.now.slot }
+        requires fits { Fits (M.mission mission.now) }
+        requires slot { IsSlotOf (M.mission mission.now) self.now.cfg self.now.slot }
         ensures { result ≡ calls (M.mission mission.now) self.now.cfg ((M.mission mission.now).kind self.now.slot) self.now.unit self.now.other }
     {
         match UnitId::of(self.other) {
@@ -78,6 +83,7 @@ impl Board {
 
     /// Goes on to the next call of this subframe, or to its end.
     pub(crate) fn find_call<M: Duty>(&mut self, mission: &M)
+        requires fits { Fits (M.mission mission.now) }
         requires range { InRange (M.mission mission.now) (desk_of self.old) }
         requires frame { self.old.frame < (M.mission mission.now).frames }
         ensures passes { Passes (M.mission mission.now) (desk_of self.old) (desk_of self.new) }
@@ -92,6 +98,7 @@ impl Board {
 
     /// Goes on where nothing is to be said or heard. What isn't due is not looked at.
     fn pass<M: Duty>(&mut self, mission: &M)
+        requires fits { Fits (M.mission mission.now) }
         requires range { InRange (M.mission mission.now) (desk_of self.old) }
         requires frame { self.old.frame < (M.mission mission.now).frames }
         requires idle { at_call (M.mission mission.now) (desk_of self.old) ≡ false }
@@ -123,6 +130,7 @@ impl Board {
 
     /// Goes to the subframe's end, since the unit is outside its configuration.
     fn rest<M: Duty>(&mut self, mission: &M)
+        requires fits { Fits (M.mission mission.now) }
         requires range { InRange (M.mission mission.now) (desk_of self.old) }
         requires out { has self.old.cfg self.old.unit ≡ false }
         requires inside { at_end (M.mission mission.now) (desk_of self.old) ≡ false }
@@ -136,6 +144,7 @@ impl Board {
 
     /// Goes on to the next part of the subframe.
     fn next_part<M: Duty>(&mut self, mission: &M)
+        requires fits { Fits (M.mission mission.now) }
         requires range { InRange (M.mission mission.now) (desk_of self.old) }
         requires end { (self.old.slot ≡ (M.mission mission.now).slots) ⊎ (((desk_of self.old).part ≡ 1) × ((M.mission mission.now).tasks ≤ self.old.slot)) }
         requires inside { (desk_of self.old).part < 2 }
@@ -149,6 +158,7 @@ impl Board {
 
     /// Goes past a unit, past a slot, or past a slot that was heard, whose words it notes.
     fn pass_hearing<M: Duty>(&mut self, mission: &M)
+        requires fits { Fits (M.mission mission.now) }
         requires range { InRange (M.mission mission.now) (desk_of self.old) }
         requires frame { self.old.frame < (M.mission mission.now).frames }
         requires member { has self.old.cfg self.old.unit ≡ true }
@@ -182,6 +192,7 @@ impl Board {
 
     /// Goes past a task, which it runs if it is due.
     fn pass_running<M: Duty>(&mut self, mission: &M)
+        requires fits { Fits (M.mission mission.now) }
         requires range { InRange (M.mission mission.now) (desk_of self.old) }
         requires part { (desk_of self.old).part ≡ 1 }
         requires slot { self.old.slot < (M.mission mission.now).slots }
@@ -197,14 +208,21 @@ impl Board {
             self.other = 0;
             return;
         }
-        self.memory
-            .run(mission, &self.cfg, self.unit, &self.last, self.slot);
+        self.memory.run(
+            mission,
+            &mut self.executor,
+            &self.cfg,
+            self.unit,
+            &self.last,
+            self.slot,
+        );
         self.slot += 1;
         self.other = 0;
     }
 
     /// Goes past a unit or a slot.
     fn pass_saying<M: Duty>(&mut self, mission: &M)
+        requires fits { Fits (M.mission mission.now) }
         requires range { InRange (M.mission mission.now) (desk_of self.old) }
         requires part { (desk_of self.old).part ≡ 2 }
         requires slot { self.old.slot < (M.mission mission.now).slots }

@@ -6,10 +6,10 @@ use Rattle.sift_unit.proofs.board.Board.end_frame.Goals as goal
 
 pub returns : goal.returns
 returns g c = record {
-  going = frame_on _ (g.met.M.Duty.fits c.args.mission.now) (desk_of c.args.self.now) c.requires.end c.requires.last c.requires.frame
+  going = frame_on _ c.requires.fits (desk_of c.args.self.now) c.requires.end c.offsets_change_little.ensures c.requires.last c.requires.frame
       (account_of c.account-account.result) _ _ _ _ c.account-account.ensures refl (search (rules, c.copied-self.ensures)) (c.copy_of-self.ensures ∙ c.deref.ensures.0)
       (ap (λ xs. map account_of xs) c.push_reserved.ensures.items ∙ map-append account_of c.args.self.now.accounts.items (c.account-account.result ∷ []));
   unit = refl;
   room = (let same = c.push_reserved.ensures.capacity in let before = c.requires.room in omega arith);
-  frame = next_place _ (g.met.M.Duty.fits c.args.mission.now) (desk_of c.args.self.now) c.requires.end c.requires.last;
+  frame = next_place _ c.requires.fits (desk_of c.args.self.now) c.requires.end c.requires.last;
 }

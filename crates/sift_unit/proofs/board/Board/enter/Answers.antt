@@ -12,7 +12,7 @@ returns-then-self-frames-clause-drives g c =
 pub returns-then-self-frames-clause-steps : goal.returns-then-self-frames-clause-steps
 returns-then-self-frames-clause-steps g c =
     let d = enter_drives _ c.args.self.now c.go_on.new.self (g.T.Port.view c.args.port.now) (g.T.Port.view c.try_enter.new.self) c.requires.drives c.go_on.ensures c.in-Entered.ensures.tried in
-    enter_lands _ (g.met.M.Duty.fits c.args.mission.now) (desk_of c.args.self.now) c.requires.end c.requires.drives.going.range c.requires.frame
+    enter_lands _ c.requires.drives.fits (desk_of c.args.self.now) c.requires.end c.requires.drives.going.range c.requires.frame
     (desk_of c.go_on.new.self) d.going.range c.go_on.ensures.frame _ _ c.in-Entered.ensures.tried (c.if-self-frames.true ∙ c.frames.ensures)
 
 -- the board in the next subframe
@@ -23,7 +23,7 @@ returns-else-self-frames-clause-drives g c =
 pub returns-else-self-frames-clause-steps : goal.returns-else-self-frames-clause-steps
 returns-else-self-frames-clause-steps g c =
     let d = enter_drives _ c.args.self.now c.go_on.new.self (g.T.Port.view c.args.port.now) (g.T.Port.view c.try_enter.new.self) c.requires.drives c.go_on.ensures c.in-Entered.ensures.tried in
-    enter_moves _ (g.met.M.Duty.fits c.args.mission.now) (desk_of c.args.self.now) c.requires.end c.requires.drives.going.range c.requires.frame
+    enter_moves _ c.requires.drives.fits (desk_of c.args.self.now) c.requires.end c.requires.drives.going.range c.requires.frame
     (desk_of c.go_on.new.self) d.going.range c.go_on.ensures.frame _ _ c.in-Entered.ensures.tried (λ e. c.if-self-frames.false (e ∙ sym c.frames.ensures))
 
 -- the board that waits

@@ -7,17 +7,17 @@ use Rattle.sift_unit.proofs.board.Board.pass_hearing.Goals as goal
 pub returns-then-self-heard_in-clause-onward : goal.returns-then-self-heard_in-clause-onward
 returns-then-self-heard_in-clause-onward g c =
     let part = c.requires.part in
-    slot_onward _ (g.met.M.Duty.fits c.args.mission.now) (desk_of c.args.self.now) c.requires.range c.requires.slot
+    slot_onward _ c.requires.fits (desk_of c.args.self.now) c.requires.range c.requires.slot
     (record { hears = λ p s. c.if-self-heard_in.true (s ∙ sym c.heard_in.ensures); runs = λ p. absurd (omega arith); says = λ p. absurd (omega arith) })
 
 -- past a unit from which nothing is heard
 pub returns-then-self-lt8-clause-onward : goal.returns-then-self-lt8-clause-onward
 returns-then-self-lt8-clause-onward g c =
-    place_onward _ (g.met.M.Duty.fits c.args.mission.now) (desk_of c.args.self.now) c.requires.range c.requires.slot (let low = c.if-self-lt8.true in omega arith) c.requires.idle
+    place_onward _ c.requires.fits (desk_of c.args.self.now) c.requires.range c.requires.slot (let low = c.if-self-lt8.true in omega arith) c.requires.idle
 
 -- past a slot that was heard
 pub returns-clause-onward : goal.returns-clause-onward
-returns-clause-onward g c = note_onward _ (g.met.M.Duty.fits c.args.mission.now) (desk_of c.args.self.now) c.requires.range (memory_of c.note.new.self)
+returns-clause-onward g c = note_onward _ c.requires.fits (desk_of c.args.self.now) c.requires.range (memory_of c.note.new.self)
     (record {
       part = c.requires.part;
       slot = c.requires.slot;

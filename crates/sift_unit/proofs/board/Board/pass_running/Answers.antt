@@ -7,12 +7,12 @@ use Rattle.sift_unit.proofs.board.Board.pass_running.Goals as goal
 pub returns-then-self-run_in-clause-onward : goal.returns-then-self-run_in-clause-onward
 returns-then-self-run_in-clause-onward g c =
     let part = c.requires.part in
-    slot_onward _ (g.met.M.Duty.fits c.args.mission.now) (desk_of c.args.self.now) c.requires.range c.requires.slot
+    slot_onward _ c.requires.fits (desk_of c.args.self.now) c.requires.range c.requires.slot
     (record { hears = λ p. absurd (omega arith); runs = λ p low s. c.if-self-run_in.true (s ∙ sym c.run_in.ensures); says = λ p. absurd (omega arith) })
 
 -- past a task that was run
 pub returns-clause-onward : goal.returns-clause-onward
-returns-clause-onward g c = run_onward _ (g.met.M.Duty.fits c.args.mission.now) (desk_of c.args.self.now) c.requires.range (memory_of c.run.new.self)
+returns-clause-onward g c = run_onward _ c.requires.fits (desk_of c.args.self.now) c.requires.range (memory_of c.run.new.self)
     (record {
       part = c.requires.part;
       slot = (let few = c.if-self-tasks.false in let tasks = c.tasks.ensures in omega arith);

@@ -7,7 +7,7 @@ use Rattle.sift_unit.proofs.board.Board.pass_saying.Goals.{else-self-due-via-the
 -- past a unit to which nothing is said
 pub returns-then-self-lt8-clause-onward : goal.returns-then-self-lt8-clause-onward
 returns-then-self-lt8-clause-onward g c =
-    place_onward _ (g.met.M.Duty.fits c.args.mission.now) (desk_of c.args.self.now) c.requires.range c.requires.slot (let low = c.if-self-lt8.true in omega arith) c.requires.idle
+    place_onward _ c.requires.fits (desk_of c.args.self.now) c.requires.range c.requires.slot (let low = c.if-self-lt8.true in omega arith) c.requires.idle
 
 -- past a slot that isn't said now, or was said to all
 pub returns-clause-onward : goal.returns-clause-onward
@@ -15,7 +15,7 @@ returns-clause-onward g c =
     let part = c.requires.part in
     let m = g.M.Duty.mission c.args.mission.now in
     let b = c.args.self.now in
-    slot_onward _ (g.met.M.Duty.fits c.args.mission.now) (desk_of c.args.self.now) c.requires.range c.requires.slot (record {
+    slot_onward _ c.requires.fits (desk_of c.args.self.now) c.requires.range c.requires.slot (record {
       hears = λ p. absurd (omega arith);
       runs = λ p. absurd (omega arith);
       says = λ p. elim c.else-self-due.branch [

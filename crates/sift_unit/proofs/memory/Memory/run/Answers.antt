@@ -12,5 +12,5 @@ returns-else-runs g c =
     let b = memory_of c.args.self.now in
     let u = c.args.unit in
     let t = c.args.task in
-    let same = renewed-none (is_made_by m us u t) (λ w. m.word w b.ins b.outs c.args.last.now) b.made 0 (made_not m us u t c.runs.result c.runs.ensures c.if-runs.false) in
+    let same = renewed-none (is_made_by m us u t) (λ w. m.word w b.ins b.outs c.args.last.now) b.made 0 (made_not m us u t c.runs.result c.runs.ensures.words c.if-runs.false) in
     λ i. record b { made = sym same i }

@@ -1,6 +1,6 @@
-use Rattle.std.proofs.Common.{◌≡◌, get_or, ap, sym, ◌∙◌, w32, rules}
+use Rattle.std.proofs.Common.{◌≡◌, [], get_or, ap, sym, ◌∙◌, w32, rules, arith, pos}
 use mir.Val.{SFits}
-use Rattle.std.proofs.lemmas.Int.{to_z-of_z}
+use Rattle.std.proofs.lemmas.Int.{ints, to_z-of_z}
 use Rattle.sift_unit.proofs.Rows.{error-low, errors-low, errors-place, errors-row}
 use Rattle.sift_unit.specs.Data.{data_of}
 use Rattle.sift_unit.specs.Flown.{ticks_of}
@@ -20,8 +20,8 @@ ticks_at-requires c =
     rw (← errors-row c.args.self.now c.parts.ensures.fit c.args.u low row read)
     (error-low (data_of c.args.self.now) c.parts.ensures.fit c.args.u c.requires.own c.args.p c.requires.other)
 
-pub returns : goal.returns
-returns c =
+pub returns-clause-error : goal.returns-clause-error
+returns-clause-error c =
     let row = c.index-deref-from.result in
     let low = errors-low (data_of c.args.self.now) c.parts.ensures.fit c.args.u c.requires.own in
     let read : row ≡ get_or c.args.self.now.clock.errors.items c.args.u row =
@@ -29,3 +29,11 @@ returns c =
     let fits : SFits w32 c.ticks_at.result = search rules in
     to_z-of_z w32 c.ticks_at.result fits
     ∙ (c.ticks_at.ensures ∙ ap (λ ticks. ticks_of ticks c.args.p) (sym (errors-row c.args.self.now c.parts.ensures.fit c.args.u low row read)))
+
+pub returns-clause-small : goal.returns-clause-small
+returns-clause-small c =
+    let d = data_of c.args.self.now in
+    let fit = c.parts.ensures.fit in
+    let near = fit.clock.errors_within c.args.u [] (errors-low d fit c.args.u c.requires.own) c.args.p (pos 0) (error-low d fit c.args.u c.requires.own c.args.p c.requires.other) in
+    let kept = fit.clock.admitted.kept in let told = fit.clock.admitted.told in let rate = fit.clock.numbers.2 in
+    rw (returns-clause-error c) (omega (arith, ints), omega (arith, ints))

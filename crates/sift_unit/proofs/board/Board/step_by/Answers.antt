@@ -2,7 +2,7 @@ use Rattle.std.proofs.Common.{arith}
 use Rattle.sift_unit.specs.Boards.{desk_of}
 use Rattle.sift_unit.proofs.Driving.{pass_drives}
 use Rattle.sift_unit.proofs.Continuing.{moves_from, steps_from}
-use Rattle.sift_unit.proofs.board.Board.step.Goals as goal
+use Rattle.sift_unit.proofs.board.Board.step_by.Goals as goal
 
 -- where it found its call, it drives on
 pub enter-requires-clause-drives : goal.enter-requires-clause-drives

@@ -3,7 +3,7 @@ use Rattle.std.specs.Prelude.{◌+ℤ◌}
 use Rattle.sift_base.specs.Units.{holds, has}
 use Rattle.sift_clock.specs.Reading.{is_too_far}
 use Rattle.sift_unit.specs.Memory.{reading_at}
-use Rattle.sift_unit.proofs.noted.far_clocks.Given as goal
+use Rattle.sift_unit.proofs.readings.far_clocks.Given as goal
 
 -- far so far are those among the units seen
 abbrev pub invariant-loop-position : goal.invariant-loop-position

@@ -6,11 +6,17 @@ use Rattle.sift_clock.specs.Reading.{is_too_far}
 use Rattle.sift_config.proofs.Lists.{has_front, get-drop}
 use Rattle.sift_exec.proofs.Accusing.{guilty_joins, innocent_stays}
 use Rattle.sift_unit.specs.Memory.{reading_at}
-use Rattle.sift_unit.proofs.noted.far_clocks.Goals as goal
-use Rattle.sift_unit.proofs.noted.far_clocks.Goals.{then-is_far, else-is_far}
+use Rattle.sift_unit.proofs.Positions.{position-found}
+use Rattle.sift_unit.proofs.readings.far_clocks.Goals as goal
+use Rattle.sift_unit.proofs.readings.far_clocks.Goals.{then-is_far, else-is_far}
 
 pub loop-position-init : goal.loop-position-init
 loop-position-init g c = λ v. ap (λ units. holds units v) c.empty-far.ensures ∙ set.contains-empty nat_cmp v
+
+-- the other unit is one of the mission
+pub is_far-requires-clause-other : goal.is_far-requires-clause-other
+is_far-requires-clause-other g c =
+    c.requires.config.inside c.unit_at-other.result (position-found c.args.config.now c.loop-position.position c.unit_at-other.result c.requires.config.ascending c.unit_at-other.ensures).0
 
 -- one unit more
 pub loop-position-preserved : goal.loop-position-preserved

@@ -1,0 +1,124 @@
+//! What a mission has its units do.
+
+ghost use Rattle.sift_unit.specs.Flown.{mission_of};
+
+use crate::duty::Duty;
+use crate::executor::Executor;
+use crate::mission::Mission;
+use crate::part::Part;
+use sift_base::{Slot, UnitId, Word};
+use sift_config::Config;
+
+impl Duty for Mission {
+    ghost mission = { mission_of };
+
+    fn frames(&self) -> u32 {
+        self.frames()
+    }
+
+    fn period(&self) -> u32 {
+        self.period()
+    }
+
+    fn slots(&self) -> usize {
+        self.slots()
+    }
+
+    fn tasks(&self) -> usize {
+        self.tasks()
+    }
+
+    fn sensors(&self) -> usize {
+        self.sensors()
+    }
+
+    fn words(&self) -> usize {
+        self.words()
+    }
+
+    fn everyone(&self) -> Config {
+        self.everyone()
+    }
+
+    fn offset(&self, unit: UnitId) -> i64 {
+        self.offset(unit)
+    }
+
+    fn starts(&self) -> &[Word] {
+        self.starts()
+    }
+
+    fn kind(&self, slot: usize) -> Slot {
+        self.kind(slot)
+    }
+
+    fn sensed(&self, sensor: u8, frame: u32) -> Word {
+        self.sensed(sensor, frame)
+    }
+
+    fn override_of(
+        &self,
+        unit: UnitId,
+        frame: u32,
+        slot: usize,
+        to: UnitId,
+    ) -> Option<Option<Word>> {
+        self.override_of(unit, frame, self.kind(slot), to)
+    }
+
+    fn due(&self, config: &Config, slot: usize) -> u32 {
+        self.due(config, slot)
+    }
+
+    fn heard_in(&self, config: &Config, slot: usize) -> u32 {
+        self.heard_in(config, slot)
+    }
+
+    fn run_in(&self, config: &Config, task: usize) -> u32 {
+        self.run_in(config, task)
+    }
+
+    fn is_called(&self, config: &Config, slot: usize, from: UnitId, to: UnitId) -> bool {
+        self.is_called(config, slot, from, to)
+    }
+
+    fn next_due(&self, config: &Config, subframe: u32, part: Part, slot: usize) -> usize {
+        match part {
+            Part::Hearing => self.next_heard(config, subframe, slot),
+            Part::Running => self.next_task(config, subframe, slot),
+            Part::Saying => self.next_said(config, subframe, slot),
+        }
+    }
+
+    fn limit(&self) -> i32 {
+        self.reading_limit()
+    }
+
+    fn error_of(&self, unit: UnitId, other: UnitId) -> i32 {
+        self.error(unit, other)
+    }
+
+    fn drift_of(&self, unit: UnitId) -> i32 {
+        self.drift(unit)
+    }
+
+    fn executes(&self, config: &Config, word: u8, unit: UnitId) -> bool {
+        self.executes(config, word, unit)
+    }
+
+    fn runs(&self, config: &Config, task: usize, unit: UnitId) -> bool {
+        self.runs(config, task, unit)
+    }
+
+    fn make_words(
+        &self,
+        task: usize,
+        executor: &mut Executor,
+        ins: &[Word],
+        now: &[Word],
+        last: &[Word],
+        made: &mut [Word; 64],
+    ) {
+        self.put_words(task, executor, ins, now, last, made);
+    }
+}
