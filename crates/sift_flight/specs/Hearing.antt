@@ -1,5 +1,5 @@
 -- The hearing equations: what a unit hears of another in a frame.
-use Rattle.std.specs.Prelude.{◌≡◌, ◌≢◌, ℕ, List, true, false, Option, None}
+use Rattle.std.specs.Prelude.{◌≡◌, ◌≢◌, ℕ, List, [], true, false, Option, None}
 use Rattle.sift_base.specs.declared.slot.Slot.{Slot}
 use Rattle.sift_buffer.specs.Cell.{taken}
 use Rattle.sift_buffer.specs.Conduct.{Stray, stray_to}
@@ -11,6 +11,10 @@ use Rattle.sift_flight.specs.Flight.{Flight, config_of}
 -- the strays of each unit that has turned
 abbrev pub Strays : Type 0
 Strays = ℕ → List Stray
+
+-- no unit strays
+abbrev pub no_strays : Strays
+no_strays p = []
 
 -- absence, or what is taken of a stray to q in slot number k by the stamp s
 pub data IsOfStray (strays : List Stray) (q k s : ℕ) (w : Option ℕ) : Type 0 where

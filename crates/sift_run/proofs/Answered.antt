@@ -1,17 +1,40 @@
 -- A whole answer, from what was asked for and what was written.
-use Rattle.std.proofs.Common.{◌≡◌, ◌⊎◌, inl, inr, ℕ, List, [], ◌∷◌, lit<, Contains, refl, sym, ◌∙◌, ap, subst, arith}
+use Rattle.std.proofs.Common.{codes, ◌≡◌, ◌⊎◌, inl, inr, ℕ, List, [], ◌∷◌, lit<, Contains, refl, sym, ◌∙◌, ap, subst, arith}
 use Rattle.sift_run.proofs.Coming.{IsFault}
 use Rattle.sift_run.proofs.Owing.{owed_came, reported_unowed, stated_came, told_text}
 use Rattle.sift_run.proofs.Statuses.{begun_with_memory, fault_rose, refused_words, status_of-known, status_of-other, wanting_needs}
-use Rattle.sift_run.specs.Answer.{IsAnswered, IsReported, report_status, statuses}
-use Rattle.sift_run.specs.Command.{IsCommandLine}
+use Rattle.sift_flight.specs.Hearing.{no_strays}
+use Rattle.sift_report.specs.Printed.{HeadlineIsPrinted}
+use Rattle.sift_run.specs.Answer.{IsAnswered, IsHeadlineWritten, IsReported, report_status, statuses}
+use Rattle.sift_run.specs.Command.{AskToFly, IsCommandLine, MakesFit}
+use Rattle.sift_run.specs.Laws.{OneCommand, OneText}
+use Rattle.sift_run.specs.declared.command.Command.{Command}
+use Rattle.sift_run.specs.declared.command.Command.TheVariants.{Run}
 use Rattle.sift_run.specs.Input.{Input, IsBegun}
 use Rattle.sift_run.specs.Output.{IsCut, IsWritten, Output, AnswersWith, Says, SaysRefusal, sink_fault_status}
 use Rattle.sift_run.specs.Refusal.{IsCause, line_of, no_memory_status, status_of}
 use Rattle.sift_run.specs.declared.refusal.Refusal.{Refusal}
 use Rattle.sift_run.specs.declared.refusal.Refusal.TheVariants.{NoMemory}
 
-module _ (words : List (List ℕ)) (input : Input) (output : Output) where
+module _ (one_command : OneCommand) (one_text : OneText) (head : HeadlineIsPrinted) (words : List (List ℕ)) (input : Input) (output : Output) where
+  -- what was written of a flight is its report, and the headline holds of its lines
+  written_headline :
+      (text : List ℕ) (order : ℕ) → IsReported words input text → AskToFly (codes "run") words order → IsWritten output text
+      → IsHeadlineWritten input output
+  written_headline text order report ask written =
+      let here : MakesFit (Run order) report.2 text =
+      subst (λ (c : Command). MakesFit c report.2 text) (one_command words report.0 (Run order) report.1 ask) report.4 in
+      record {
+        bytes = report.2;
+        mission = here.0;
+        flight = here.3.0;
+        read = report.3;
+        stated = here.2;
+        round = here.3.1;
+        written = subst (λ (t : List ℕ). IsWritten output t) here.3.2 written;
+        headline = head here.0 no_strays here.3.0 here.1 here.3.1;
+      }
+
   -- a report was due, and it was written
   report_written :
       (text : List ℕ) (status : ℕ) → IsReported words input text → status ≡ report_status → IsWritten output text
@@ -19,6 +42,7 @@ module _ (words : List (List ℕ)) (input : Input) (output : Output) where
   report_written text status report is written = record {
     known = (0, lit< tt, sym is);
     reported = λ _. (text, report, written);
+    headline = λ _ order ask. written_headline text order report ask written;
     refused = λ refusal e. absurd ((status_of-other refusal).0 (sym e ∙ is));
     cut = λ e. absurd (omega (arith, is, e));
     no_memory = λ e. absurd (omega (arith, is, e));
@@ -26,7 +50,7 @@ module _ (words : List (List ℕ)) (input : Input) (output : Output) where
     owed = λ bytes owed told due. absurd (reported_unowed words input bytes told owed text report due);
     complete = λ bytes wanted command told asks short makes calm_source calm_sink. inl (
       is,
-      subst (λ (t : List ℕ). IsWritten output t) (told_text words input bytes told wanted text command asks makes report) written,
+      subst (λ (t : List ℕ). IsWritten output t) (told_text words input bytes told one_command one_text wanted text command asks makes report) written,
     );
   }
 
@@ -35,8 +59,9 @@ module _ (words : List (List ℕ)) (input : Input) (output : Output) where
       (text : List ℕ) (status : ℕ) → IsReported words input text → status ≡ sink_fault_status → IsCut output text
       → IsAnswered words input output status
   report_cut text status report is cuts = record {
-    known = (6, lit< tt, sym is);
+    known = (8, lit< tt, sym is);
     reported = λ e. absurd (omega (arith, is, e));
+    headline = λ e order ask. absurd (omega (arith, is, e));
     refused = λ refusal e. absurd ((status_of-other refusal).1 (sym e ∙ is));
     cut = λ _. (text, inl report, cuts);
     no_memory = λ e. absurd (omega (arith, is, e));
@@ -59,8 +84,9 @@ module _ (words : List (List ℕ)) (input : Input) (output : Output) where
       (status : ℕ) → status ≡ no_memory_status → IsWritten output [] → IsCommandLine words × IsBegun input
       → IsAnswered words input output status
   from_no_memory status is kept stopped = record {
-    known = (7, lit< tt, sym is);
+    known = (9, lit< tt, sym is);
     reported = λ e. absurd (omega (arith, is, e));
+    headline = λ e order ask. absurd (omega (arith, is, e));
     refused = λ refusal e. (NoMemory, stopped, (is, kept));
     cut = λ e. absurd (omega (arith, is, e));
     no_memory = λ _. stopped;
@@ -84,6 +110,7 @@ module _ (words : List (List ℕ)) (input : Input) (output : Output) where
   refusal_written came status here written = record {
     known = subst (λ (n : ℕ). Contains statuses n) (sym written.0) (status_of-known came);
     reported = λ e. absurd ((status_of-other came).0 (sym written.0 ∙ e));
+    headline = λ e order ask. absurd ((status_of-other came).0 (sym written.0 ∙ e));
     refused = λ one e. (came, here, written);
     cut = λ e. absurd ((status_of-other came).1 (sym written.0 ∙ e));
     no_memory = λ e. begun_with_memory words input came here (wanting_needs words input came (sym written.0 ∙ e));
@@ -101,8 +128,9 @@ module _ (words : List (List ℕ)) (input : Input) (output : Output) where
       (came : Refusal) (status : ℕ) → IsCause words input came → status ≡ sink_fault_status → IsCut output (line_of came)
       → IsAnswered words input output status
   refusal_cut came status here is cuts = record {
-    known = (6, lit< tt, sym is);
+    known = (8, lit< tt, sym is);
     reported = λ e. absurd (omega (arith, is, e));
+    headline = λ e order ask. absurd (omega (arith, is, e));
     refused = λ refusal e. absurd ((status_of-other refusal).1 (sym e ∙ is));
     cut = λ _. (line_of came, inr (came, here, refl), cuts);
     no_memory = λ e. absurd (omega (arith, is, e));

@@ -1,8 +1,9 @@
 -- What may come of bytes that were read to their end.
 use Rattle.std.proofs.Common.{◌≡◌, ◌≢◌, ◌≤◌, ◌⊎◌, inl, inr, ℕ, List, length, refl, ap, subst, arith}
 use Rattle.toml.specs.Data.{Members}
+use Rattle.sift_unit.specs.Data.{MissionData}
 use Rattle.sift_scenario.proofs.UniqueRefusals.{missions_are_accepted, one_refusal}
-use Rattle.sift_scenario.specs.Mission.{IsMission, Stated}
+use Rattle.sift_scenario.specs.Mission.{IsMission}
 use Rattle.sift_scenario.specs.Refusal.{IsRefusedWith}
 use Rattle.sift_scenario.specs.declared.refused.Refused.{Refused}
 use Rattle.sift_scenario.specs.declared.refused.Refused.TheVariants as reason
@@ -20,7 +21,7 @@ IsFault came = (status_of came ≡ 8) ⊎ (status_of came ≡ no_memory_status)
 -- ---- documents
 
 -- bytes that state a mission are refused for want of memory alone
-pub stated_alone : (bytes : List ℕ) (mission : Stated) (why : Refused) → States bytes mission → StatesNone bytes why → why ≡ reason.NoMemory
+pub stated_alone : (bytes : List ℕ) (mission : MissionData) (why : Refused) → States bytes mission → StatesNone bytes why → why ≡ reason.NoMemory
 stated_alone bytes mission why states none =
     let here : IsMission none.0 mission =
     subst (λ (d : Members). IsMission d mission) (one_tree bytes states.0 none.0 states.1 none.1) states.2 in
@@ -37,6 +38,12 @@ refused_alone bytes (reason.Scenario rule place) owed some one other =
 refused_alone bytes (reason.Task task kind at) owed some one other =
     let here = subst (λ (d : Members). IsRefusedWith d owed) (one_tree bytes other.0 one.0 other.1 one.1) other.2 in
     inl (one_refusal one.0 (reason.Task task kind at) owed (λ e. cc) some one.2 here)
+refused_alone bytes (reason.Table size row rule) owed some one other =
+    let here = subst (λ (d : Members). IsRefusedWith d owed) (one_tree bytes other.0 one.0 other.1 one.1) other.2 in
+    inl (one_refusal one.0 (reason.Table size row rule) owed (λ e. cc) some one.2 here)
+refused_alone bytes (reason.Script entry rule) owed some one other =
+    let here = subst (λ (d : Members). IsRefusedWith d owed) (one_tree bytes other.0 one.0 other.1 one.1) other.2 in
+    inl (one_refusal one.0 (reason.Script entry rule) owed (λ e. cc) some one.2 here)
 
 -- a reason whose status isn't that of want of memory isn't want of memory
 some_reason : (why : Refused) → status_of (Document why) ≢ no_memory_status → why ≢ reason.NoMemory
@@ -74,7 +81,7 @@ no_document_came words bytes (Document owed) command short none due = absurd (no
 
 -- a mission was stated, where a refusal is owed
 pub made_unowed :
-    (words : List (List ℕ)) (bytes : List ℕ) (owed : Refusal) (mission : Stated)
+    (words : List (List ℕ)) (bytes : List ℕ) (owed : Refusal) (mission : MissionData)
     → IsCommandLine words → length bytes ≤ document_limit → States bytes mission → ¬ IsOwed words bytes owed
 made_unowed words bytes Usage mission command short states due = due command
 made_unowed words bytes ReadFault mission command short states due = due.2

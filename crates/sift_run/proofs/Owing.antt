@@ -1,17 +1,15 @@
 -- What may come of an input that is owed a refusal, and of one that states a mission.
 use Rattle.std.proofs.Common.{◌≡◌, ◌<◌, ◌≤◌, ◌⊎◌, inl, inr, ℕ, List, length, refl, sym, ap, ◌∙◌, subst, arith}
 use Rattle.toml.specs.Data.{Members}
-use Rattle.sift_scenario.proofs.OneMission.{one_mission}
-use Rattle.sift_scenario.specs.Mission.{IsMission}
 use Rattle.sift_scenario.specs.declared.refused.Refused.{Refused}
 use Rattle.sift_run.proofs.Coming.{IsFault, document_came, made_unowed, no_document_came, stated_alone}
-use Rattle.sift_run.proofs.Inputs.{long_input, one_tree, only_input, short_input}
+use Rattle.sift_run.proofs.Inputs.{long_input, only_input, short_input}
 use Rattle.sift_run.specs.Answer.{IsReported}
-use Rattle.sift_run.specs.Command.{Asks, IsCommandLine, Makes, text_of}
-use Rattle.sift_run.specs.Input.{Input, IsTold, States, StatesNone, document_limit}
+use Rattle.sift_run.specs.Command.{Asks, IsCommandLine, Makes, MakesFit}
+use Rattle.sift_run.specs.Laws.{OneCommand, OneText}
+use Rattle.sift_run.specs.Input.{Input, IsTold, StatesNone, document_limit}
 use Rattle.sift_run.specs.Refusal.{AreRefused, IsCause, IsOwed, status_of}
 use Rattle.sift_run.specs.declared.command.Command.{Command}
-use Rattle.sift_run.specs.declared.command.Command.TheVariants.{Run}
 use Rattle.sift_run.specs.declared.refusal.Refusal.{Refusal}
 use Rattle.sift_run.specs.declared.refusal.Refusal.TheVariants.{Usage, NotADocument, Document, ReadFault, NoMemory, TooLong}
 
@@ -55,8 +53,8 @@ module _ (words : List (List ℕ)) (input : Input) (bytes : List ℕ) (told : Is
   pub reported_unowed : (owed : Refusal) (text : List ℕ) → IsReported words input text → ¬ IsOwed words bytes owed
   reported_unowed owed text report due =
       let same = only_input input bytes report.2 told report.3 in
-      let makes = subst (λ (bs : List ℕ). Makes report.0 bs text) same report.4 in
-      made_unowed words bytes owed makes.0 (report.0, report.1) (short_input input bytes report.2 told report.3) makes.1 due
+      let makes = subst (λ (bs : List ℕ). MakesFit report.0 bs text) same report.4 in
+      made_unowed words bytes owed makes.0 (report.0, report.1) (short_input input bytes report.2 told report.3) makes.2 due
 
   -- where the input states a mission only a fault came
   pub stated_came :
@@ -75,12 +73,12 @@ module _ (words : List (List ℕ)) (input : Input) (bytes : List ℕ) (told : Is
       let none = subst (λ (bs : List ℕ). StatesNone bs why) same here.3 in
       inr (ap (λ (w : Refused). status_of (Document w)) (stated_alone bytes makes.0 why makes.1 none))
 
-  -- the text that was made is that of the mission that the input states
+  -- the text that was made is the one that the command makes of the input
   pub told_text :
-      (text made : List ℕ) (command : Command) → Asks words command → Makes command bytes text → IsReported words input made → made ≡ text
-  told_text text made Run asks makes (Run, asks', all, read, (mission, states, is)) =
-      let same = only_input input bytes all told read in
-      let here : States bytes mission = subst (λ (bs : List ℕ). States bs mission) same states in
-      let mine : IsMission makes.1.0 mission =
-      subst (λ (d : Members). IsMission d mission) (one_tree bytes here.0 makes.1.0 here.1 makes.1.1) here.2 in
-      is ∙ ap (text_of Run) (one_mission makes.1.0 mission makes.0 mine makes.1.2) ∙ sym makes.2
+      OneCommand → OneText → (text made : List ℕ) (command : Command) → Asks words command → Makes command bytes text
+      → IsReported words input made → made ≡ text
+  told_text one_command one_text text made command asks makes report =
+      let same = only_input input bytes report.2 told report.3 in
+      let here = subst (λ (bs : List ℕ). MakesFit report.0 bs made) same report.4 in
+      let mine = subst (λ (c : Command). MakesFit c bytes made) (one_command words report.0 command report.1 asks) here in
+      one_text command bytes made text mine makes

@@ -72,7 +72,7 @@ pub record Begins (options all : Options) (flag : Flag) (value : List ℕ) (rest
   pub sets : Sets options flag value after
   pub adds : Adds after rest all
 
-no_words : (flag : Flag) (value : List ℕ) (rest : List (List ℕ)) → BeginWith [] flag value rest → ⊥
+pub no_words : (flag : Flag) (value : List ℕ) (rest : List (List ℕ)) → BeginWith [] flag value rest → ⊥
 no_words flag value rest (inl e) = omega (arith, ap length e)
 no_words flag value rest (inr e) = omega (arith, ap length e)
 

@@ -4,9 +4,10 @@ use Rattle.toml.specs.Data.{Members}
 use Rattle.toml.specs.Parse.{parse_document}
 use Rattle.sift_io.specs.Flow.{Inflow}
 use Rattle.sift_io.specs.Reading.{TakesAll, TakesAtMost}
-use Rattle.sift_scenario.specs.Mission.{IsMission, Stated}
+use Rattle.sift_scenario.specs.Mission.{IsMission}
 use Rattle.sift_scenario.specs.Refusal.{IsRefusedWith}
 use Rattle.sift_scenario.specs.declared.refused.Refused.{Refused}
+use Rattle.sift_unit.specs.Data.{MissionData}
 
 -- the most bytes of a document
 abbrev pub document_limit : ℕ
@@ -38,7 +39,7 @@ abbrev pub IsDocument : List ℕ → Members → Type 0
 IsDocument bytes document = IsUtf8 bytes × (parse_document bytes ≡ Some document)
 
 -- the bytes are a document that states the mission
-abbrev pub States : List ℕ → Stated → Type 0
+abbrev pub States : List ℕ → MissionData → Type 0
 States bytes mission = (document : Members) × IsDocument bytes document × IsMission document mission
 
 -- the bytes are a document that states no mission, for this reason

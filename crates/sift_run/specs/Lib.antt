@@ -1,8 +1,7 @@
 pub mod Answer
 pub mod Command
-pub mod Flight
 pub mod Input
 pub mod Output
 pub mod Refusal
-pub mod Report
 pub mod Options
+pub mod Laws

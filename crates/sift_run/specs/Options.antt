@@ -52,6 +52,10 @@ given options Workers = options.workers
 given options Order = options.order
 given options Number = options.number
 
+-- no option is given
+abbrev pub no_options : Options
+no_options = record { workers = None; order = None; number = None }
+
 -- these options with the number of one
 abbrev pub with_given : Options → Flag → ℕ → Options
 with_given options Workers n = record options { workers = Some n }

@@ -23,6 +23,8 @@ status_of Usage = 2
 status_of NotADocument = 3
 status_of (Document (document.Scenario rule place)) = 4
 status_of (Document (document.Task task kind at)) = 5
+status_of (Document (document.Table size row rule)) = 6
+status_of (Document (document.Script entry rule)) = 7
 status_of (Document document.NoMemory) = no_memory_status
 status_of ReadFault = 8
 status_of NoMemory = no_memory_status
@@ -36,6 +38,10 @@ line_of (Document (document.Scenario rule place)) =
     concat (codes "scenario rule " ∷ decimal rule ∷ codes " at " ∷ decimal place ∷ codes "\n" ∷ [])
 line_of (Document (document.Task task kind at)) =
     concat (codes "task " ∷ decimal task ∷ codes " kind " ∷ decimal kind ∷ codes " at " ∷ decimal at ∷ codes "\n" ∷ [])
+line_of (Document (document.Table size row rule)) =
+    concat (codes "table " ∷ decimal size ∷ codes " row " ∷ decimal row ∷ codes " rule " ∷ decimal rule ∷ codes "\n" ∷ [])
+line_of (Document (document.Script entry rule)) =
+    concat (codes "script entry " ∷ decimal entry ∷ codes " rule " ∷ decimal rule ∷ codes "\n" ∷ [])
 line_of (Document document.NoMemory) = []
 line_of ReadFault = codes "read fault\n"
 line_of NoMemory = []
@@ -49,7 +55,8 @@ NeedsMemory _ = ⊥
 
 -- ---- causes
 
--- the bytes are no document, or one that is refused so: by its first broken rule, or its first refused task; want of memory says nothing of them
+-- the bytes are no document, or one that is refused so: by its first broken rule, its first refused task, its first bad table, or its
+-- script; want of memory says nothing of them
 abbrev pub AreRefused : List ℕ → Refusal → Type 0
 AreRefused bytes NotADocument = (document : Members) → ¬ IsDocument bytes document
 AreRefused bytes (Document reason) = StatesNone bytes reason

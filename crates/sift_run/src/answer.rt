@@ -2,7 +2,7 @@
 
 ghost use Rattle.std.specs.Prelude.{◌≡◌, IfErr, IfOk, map, string_bytes};
 ghost use Rattle.sift_run.specs.Answer.{IsReported};
-ghost use Rattle.sift_run.specs.Command.{IsCommandLine, Makes};
+ghost use Rattle.sift_run.specs.Command.{IsCommandLine, MakesFit};
 ghost use Rattle.sift_run.specs.Input.{input};
 ghost use Rattle.sift_run.specs.Refusal.{AreRefused, IsCause};
 
@@ -37,7 +37,7 @@ pub fn answer<S: Source>(alloc: Global, words: &[String], source: &mut S) -> Res
 
 /// The text that a command makes of these bytes.
 fn answer_to(alloc: Global, command: Command, bytes: &[u8]) -> Result<String, Refusal>
-    ensures made { IfOk result (λ text. Makes command bytes.now (string_bytes text)) }
+    ensures made { IfOk result (λ text. MakesFit command bytes.now (string_bytes text)) }
     ensures refused { IfErr result (AreRefused bytes.now) }
 {
     let document = match toml::table_from_slice(alloc, bytes) {
@@ -46,5 +46,6 @@ fn answer_to(alloc: Global, command: Command, bytes: &[u8]) -> Result<String, Re
         Err(_) => return Err(Refusal::NotADocument),
     };
     let mission = mission_of(alloc, &document)?;
+    mission.parts();
     Ok(command.text(alloc, &mission)?)
 }

@@ -1,58 +1,85 @@
 //! The commands: what the words of a command line ask for, and what each makes of a mission.
 
-ghost use Rattle.std.specs.Prelude.{◌≡◌, IfOk, IfNone, IfSome, map, string_bytes};
-ghost use Rattle.sift_scenario.specs.Flight.{CanFly};
-ghost use Rattle.sift_scenario.specs.Mission.{stated};
-ghost use Rattle.sift_run.specs.Command.{Asks, IsCommandLine, text_of};
-ghost use Rattle.sift_run.specs.Report.{mission_report};
+ghost use Rattle.std.specs.Prelude.{◌≡◌, ℕ, IfOk, IfSome, Some, map, string_bytes};
+ghost use Rattle.sift_flight.specs.Told.{IsWhole, told};
+ghost use Rattle.sift_unit.specs.Data.{data_of};
+ghost use Rattle.sift_unit.specs.Flown.{mission_of};
+ghost use Rattle.sift_run.specs.Command.{Asks, GiveOrder, IsFlightOf, TextOf};
 
-use crate::report::report;
+use crate::options::Options;
 use sift_base::NoMemory;
-use sift_core::plain_fly;
-use sift_scenario::Mission;
+use sift_core::fly;
+use sift_flight::{Flight, round_flights_are_whole};
+use sift_report::{ideal_text, report_text, votes_text};
+use sift_unit::Mission;
 use std::alloc::Global;
 
 /// What the words ask for.
 #[derive(Clone, Copy, Debug, PartialEq, Eq)]
 pub enum Command {
-    /// `run`: flies the mission that the input states, and reports on it.
-    Run,
+    /// `run`: flies the mission that the input states, its units stepping in this order, and reports on it.
+    Run { order: u64 },
+    /// `votes`: flies the mission likewise, and tells each vote with the words that were polled.
+    Votes { order: u64 },
+    /// `ideal`: tells what the ideal machine puts out over the mission's own sensor words.
+    Ideal,
+    /// `check`: tells that the input states a mission.
+    Check,
 }
 
 impl Command {
     /// The command that the words ask for, where they are a command line.
     pub fn from_words(words: &[String]) -> Option<Command>
         ensures found { IfSome result (Asks (map string_bytes words.now)) }
-        ensures none { IfNone result (¬ IsCommandLine (map string_bytes words.now)) }
+        ensures exact { (command : Command) → Asks (map string_bytes words.now) command → result ≡ Some command }
     {
-        match words {
-            [word] if word.as_str() == "run" => Some(Command::Run),
+        let [verb, rest @ ..] = words else {
+            return None;
+        };
+        match verb.as_str() {
+            "run" => Some(Command::Run {
+                order: order_of(rest)?,
+            }),
+            "votes" => Some(Command::Votes {
+                order: order_of(rest)?,
+            }),
+            "ideal" if rest.is_empty() => Some(Command::Ideal),
+            "check" if rest.is_empty() => Some(Command::Check),
             _ => None,
         }
     }
 
     /// The text that the command makes of a mission.
     pub fn text(self, alloc: Global, mission: &Mission) -> Result<String, NoMemory>
-        requires { CanFly (stated mission.now) mission.now.code.items }
-        ensures { IfOk result (λ text. string_bytes text ≡ text_of self (stated mission.now)) }
+        ensures { IfOk result (λ text. TextOf self (data_of mission.now) (string_bytes text)) }
     {
         match self {
-            Command::Run => report_on(alloc, mission),
+            Command::Run { order } => report_text(alloc, mission, &flight_of(alloc, mission, order)?),
+            Command::Votes { order } => votes_text(alloc, mission, &flight_of(alloc, mission, order)?),
+            Command::Ideal => ideal_text(alloc, mission),
+            Command::Check => Ok(String::from_str(alloc, "ok\n")?),
         }
     }
 }
 
-/// Flies a mission and reports on it.
-fn report_on(alloc: Global, mission: &Mission) -> Result<String, NoMemory>
-    requires { CanFly (stated mission.now) mission.now.code.items }
-    ensures { IfOk result (λ text. string_bytes text ≡ mission_report (stated mission.now)) }
+/// A flight of the mission. All orders of steps give flights that tell the same.
+fn flight_of(alloc: Global, mission: &Mission, order: u64) -> Result<Flight, NoMemory>
+    ensures whole { IfOk result (IsWhole (mission_of mission.now) mission.now.layout) }
+    ensures round { IfOk result (λ flight. IsFlightOf (data_of mission.now) (told (mission_of mission.now) flight)) }
 {
-    let flight = plain_fly(
-        alloc,
-        &mission.program,
-        &mission.code,
-        mission.units,
-        mission.frames,
-    )?;
-    report(alloc, mission.units, mission.frames, &flight)
+    mission.parts();
+    round_flights_are_whole();
+    fly(alloc, mission, order)
+}
+
+/// The order number that the options of a flight give, 0 where none does.
+fn order_of(words: &[String]) -> Option<u64>
+    ensures found { IfSome result (GiveOrder (map string_bytes words.now)) }
+    ensures exact { (order : ℕ) → GiveOrder (map string_bytes words.now) order → result ≡ Some order }
+{
+    let options = Options::NONE.and(words)?;
+    if options.number.is_some() {
+        return None;
+    }
+    Some(options.order.unwrap_or(0))
 }

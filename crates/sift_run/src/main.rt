@@ -8,10 +8,9 @@
 mod answer;
 mod command;
 mod exit;
-mod line;
+mod law;
 mod options;
 mod refusal;
-mod report;
 #[cfg(test)]
 mod tests;
 mod top;

@@ -59,6 +59,8 @@ impl Refusal {
             Refusal::NotADocument => 3,
             Refusal::Document(Refused::Scenario { .. }) => 4,
             Refusal::Document(Refused::Task { .. }) => 5,
+            Refusal::Document(Refused::Table { .. }) => 6,
+            Refusal::Document(Refused::Script { .. }) => 7,
             Refusal::Document(Refused::NoMemory) => 10,
             Refusal::ReadFault => 8,
             Refusal::NoMemory => 10,
@@ -93,6 +95,8 @@ fn document_line(alloc: Global, reason: Refused) -> Result<CowStr<'static, Globa
     match reason {
         Refused::Scenario { rule, place } => write!(line, "scenario rule {rule} at {place}\n")?,
         Refused::Task { task, kind, at } => write!(line, "task {task} kind {kind} at {at}\n")?,
+        Refused::Table { size, row, rule } => write!(line, "table {size} row {row} rule {rule}\n")?,
+        Refused::Script { entry, rule } => write!(line, "script entry {entry} rule {rule}\n")?,
         Refused::NoMemory => return Err(NoMemory),
     }
     Ok(CowStr::Owned(line))

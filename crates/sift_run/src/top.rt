@@ -8,8 +8,10 @@ ghost use Rattle.sift_run.specs.Output.{Says, SaysRefusal, output};
 ghost use Rattle.sift_run.specs.Refusal.{no_memory_status};
 
 use crate::answer::answer;
+use crate::law::{one_command, one_text};
 use crate::refusal::Refusal;
 use sift_io::{Sink, Source, WriteStop, write_all};
+use sift_report::the_headline_is_printed;
 use std::alloc::Global;
 
 /// The status of a report.
@@ -21,7 +23,7 @@ const SINK_FAULT: u8 = 9;
 /// Does what the command words ask for, without the program's name: reads the source, writes a text or the line of a
 /// refusal to the sink, and answers the exit status. The whole text is made before any of it is written.
 ///
-/// The tests come in the order of the statuses 2, 8 or 11, 3, 4, 5 and 9. Words that are no command line never get 10.
+/// The tests come in the order of the statuses 2, 8 or 11, 3, 4, 5, 6, 7 and 9. Words that are no command line never get 10.
 /// Clauses on bytes hold where the source and the sink tell their bytes.
 pub fn sift<S: Source, K: Sink>(alloc: Global, words: &[String], source: &mut S, sink: &mut K) -> u8
     ensures answered { IsAnswered (map string_bytes words.now)
@@ -32,6 +34,9 @@ pub fn sift<S: Source, K: Sink>(alloc: Global, words: &[String], source: &mut S,
     ensures unread { ¬ IsCommandLine (map string_bytes words.now) → source.new ≡ source.old }
     ensures unwritten { result ≡ no_memory_status → sink.new ≡ sink.old }
 {
+    one_command();
+    one_text();
+    the_headline_is_printed();
     match answer(alloc, words, source) {
         Ok(text) => say(sink, text.as_str(), REPORTED),
         Err(refusal) => refuse(alloc, sink, refusal),

@@ -1,0 +1,68 @@
+-- A command makes one text at most of an input.
+use Rattle.std.proofs.Common.{◌≡◌, ℕ, ◌<◌, List, [], refl, sym, ap, ◌∙◌, subst, arith}
+use Rattle.toml.specs.Data.{Members}
+use Rattle.sift_scenario.specs.Laws.{OneMission}
+use Rattle.sift_scenario.specs.Mission.{AreSame, IsMission}
+use Rattle.sift_unit.specs.Data.{MissionData}
+use Rattle.sift_unit.specs.Flown.{flown}
+use Rattle.sift_unit.specs.Mission.{Mission}
+use Rattle.sift_unit.specs.PartsFit.{PartsFit}
+use Rattle.sift_unit.specs.Premises.{PartsMakeItFlyable}
+use Rattle.sift_flight.specs.Alike.{RoundFlightsAreAlike}
+use Rattle.sift_flight.specs.Flight.{Flight}
+use Rattle.sift_flight.specs.Hearing.{no_strays}
+use Rattle.sift_flight.specs.Round.{HasNoStorms, IsRound}
+use Rattle.sift_report.specs.Ideal.{ideal_of}
+use Rattle.sift_report.specs.OneText.{AlikeFlightsHaveOneText, HaveOneText}
+use Rattle.sift_report.specs.Sheet.{report_of}
+use Rattle.sift_report.specs.Votes.{votes_of}
+use Rattle.sift_run.specs.Command.{IsFlightOf, Makes, MakesFit, TextOf}
+use Rattle.sift_run.specs.Laws.{OneText}
+use Rattle.sift_run.specs.declared.command.Command.{Command}
+use Rattle.sift_run.specs.declared.command.Command.TheVariants.{Run, Votes, Ideal, Check}
+use Rattle.sift_run.proofs.Inputs.{one_tree}
+
+-- a mission without its code
+abbrev bare : MissionData → MissionData
+bare d = record d { code = [] }
+
+-- a text is made of a mission without its code
+bare_text : (command : Command) (d : MissionData) (text : List ℕ) → TextOf command d text → TextOf command (bare d) text
+bare_text (Run order) d text made = made
+bare_text (Votes order) d text made = made
+bare_text Ideal d text made = made
+bare_text Check d text made = made
+
+-- and back
+bare_text_back : (command : Command) (d : MissionData) (text : List ℕ) → TextOf command (bare d) text → TextOf command d text
+bare_text_back (Run order) d text made = made
+bare_text_back (Votes order) d text made = made
+bare_text_back Ideal d text made = made
+bare_text_back Check d text made = made
+
+-- a mission whose parts fit has no storm
+calm : (d : MissionData) → PartsFit d → HasNoStorms (flown d)
+calm d fits u there = ap _ (fits.script.calm u)
+
+module _ (mission : OneMission) (flies : PartsMakeItFlyable) (alike : RoundFlightsAreAlike) (texts : AlikeFlightsHaveOneText) where
+  -- two flights of a mission have one text of each kind
+  one_flight : (d : MissionData) (fl gl : Flight) → PartsFit d → IsFlightOf d fl → IsFlightOf d gl → HaveOneText d fl gl
+  one_flight d fl gl fits one other =
+      let some : 0 < d.frames = omega (arith, fits.limits.some_frame) in
+      texts d fl gl some (alike (flown d) no_strays no_strays fl gl (flies d fits).0 (calm d fits) some one other)
+
+  -- so a command makes one text of a mission
+  one_of : (command : Command) (d : MissionData) (text other : List ℕ) → PartsFit d → TextOf command d text → TextOf command d other → text ≡ other
+  one_of (Run order) d text other fits a b = a.2 ∙ ((one_flight d a.0 b.0 fits a.1 b.1).report ∙ sym b.2)
+  one_of (Votes order) d text other fits a b = a.2 ∙ ((one_flight d a.0 b.0 fits a.1 b.1).votes ∙ sym b.2)
+  one_of Ideal d text other fits a b = a ∙ sym b
+  one_of Check d text other fits a b = a ∙ sym b
+
+  pub one_text : OneText
+  one_text command bytes text other made makes =
+      let document = made.2.0 in
+      let theirs : IsMission document makes.0 =
+      subst (λ (t : Members). IsMission t makes.0) (one_tree bytes makes.1.0 document makes.1.1 made.2.1) makes.1.2 in
+      let same : AreSame makes.0 made.0 = mission document makes.0 made.0 theirs made.2.2 in
+      let here : TextOf command (bare made.0) other = subst (λ d. TextOf command d other) same (bare_text command makes.0 other makes.2) in
+      one_of command made.0 text other made.1 made.3 (bare_text_back command made.0 other here)
