@@ -6,6 +6,7 @@ pub mod Flights
 pub mod FirstUnits
 pub mod Frames
 pub mod Ideal
+pub mod NewMachines
 pub mod NewRacks
 pub mod Least
 pub mod MachineSteps
