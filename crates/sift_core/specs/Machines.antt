@@ -6,7 +6,7 @@ use Rattle.sift_config.specs.Config.{first_units}
 use Rattle.sift_buffer.specs.Lawful.{Lawful}
 use Rattle.sift_unit.specs.Mission.{Mission}
 use Rattle.sift_unit.specs.Account.{Account}
-use Rattle.sift_unit.specs.Desk.{Desk, accounts_of}
+use Rattle.sift_unit.specs.Desk.{accounts_of}
 use Rattle.sift_unit.specs.Passing.{distance}
 use Rattle.sift_unit.specs.Boards.{desk_of, Drives, IsNewBoard}
 use Rattle.sift_unit.specs.declared.board.Board.{Board}

@@ -1,6 +1,12 @@
--- Two lists that differ in one element at most.
-use Rattle.std.proofs.Common.{◌≡◌, ◌≢◌, ℕ, zero, suc, ◌+◌, ◌<◌, List, [], ◌∷◌, length, slice_index_or, sum_by, refl, sym, ap, ◌∙◌, arith}
+-- Lists: one of one element, and two that differ in one element at most.
+use Rattle.std.proofs.Common.{◌≡◌, ◌≢◌, ℕ, zero, suc, ◌+◌, ◌<◌, List, [], ◌∷◌, length, slice_index_or, sum_by, refl, ap, arith}
+use Rattle.std.specs.List.{All}
 use Rattle.std.proofs.lemmas.List.Sums.{sum_by-cons}
+
+-- what holds of an element holds of all of a list of it alone
+pub all_one : {A : Type 0} (P : A → Type 0) (x : A) → P x → All P (x ∷ [])
+all_one P x p zero d low = p
+all_one P x p (suc k) d low = absurd (omega arith)
 
 module _ {A : Type 0} where
   -- two lists as long as each other, with the same elements
