@@ -15,6 +15,7 @@ mod port;
 pub use acts::Acts;
 pub use cell::{pack, take};
 pub use gate::{Look, find_behind};
+pub use grid::Grid;
 pub use journal::Journal;
 pub use laws::{
     conditions_tell_cores_apart, events_keep_the_core_lawful, fresh_is_lawful, packing_is_taken,

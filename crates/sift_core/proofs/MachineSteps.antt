@@ -1,0 +1,146 @@
+-- What a step of one unit keeps of a machine, and what it tells.
+use Rattle.std.proofs.Common.{◌≡◌, ◌≢◌, ℕ, ◌<◌, Vec, List, length, length-set, slice_set, slice_index_or, true, sym, refl, ap, ◌∙◌, subst}
+use Rattle.std.specs.declared.alloc.Global.{Global}
+use Rattle.std.proofs.lemmas.List.{get_or-set_same, get_or-set_other, get_or_default}
+use mathlib.Core.Logic.{dite}
+use native.Mathlib.Decide.{ℕ_discrete}
+use Rattle.sift_base.specs.Units.{has}
+use Rattle.sift_base.specs.declared.layout.Layout.{Layout}
+use Rattle.sift_config.specs.Config.{first_units}
+use Rattle.sift_buffer.specs.Ranges.{Ranges}
+use Rattle.sift_buffer.specs.Conduct.{Conduct}
+use Rattle.sift_buffer.specs.Core.{Core}
+use Rattle.sift_buffer.specs.Tables.{ranges_of}
+use Rattle.sift_buffer.specs.Lawful.{Lawful}
+use Rattle.sift_buffer.specs.Laws.{EventsKeepLawful}
+use Rattle.sift_buffer.specs.Reaches.{Reaches}
+use Rattle.sift_buffer.specs.Views.{View}
+use Rattle.sift_unit.specs.Mission.{Mission}
+use Rattle.sift_unit.specs.Boards.{desk_of, Drives, IsPortOf}
+use Rattle.sift_unit.specs.Going.{Going}
+use Rattle.sift_unit.specs.Stepping.{Steps}
+use Rattle.sift_unit.specs.declared.board.Board.{Board}
+use Rattle.sift_unit.specs.declared.stepped.Stepped.{Stepped}
+use Rattle.sift_core.specs.Crews.{core_by}
+use Rattle.sift_core.specs.Racks.{Follows, IsChosen, Stands, ranges_for, core_of, view_of, view_at}
+use Rattle.sift_core.specs.Machines.{Flies, board_at, layout_of}
+use Rattle.sift_core.specs.Steps.{StepsUnit}
+use Rattle.sift_core.specs.declared.machine.Machine.{Machine}
+use Rattle.sift_core.specs.declared.rack.Rack.{Rack}
+use Rattle.sift_core.proofs.FirstUnits.{unit_low}
+use Rattle.sift_core.proofs.Others.{others_stay, reached_lawful}
+
+-- the unit is one of the rack's
+pub unit_below : (m : Mission) (x : Machine) (u : ℕ) → Flies m x → has m.units u ≡ true → u < (layout_of x).units
+unit_below m x u flies there = unit_low (layout_of x).units u (subst (λ (us : List ℕ). has us u ≡ true) flies.units there)
+
+-- another choice of the unit leaves ranges, core and, for the unit, the view
+module _ (x : Rack) (u : ℕ) (c : Rack) (chosen : IsChosen x u c) where
+  pub same_ranges : ranges_for c ≡ ranges_for x
+  same_ranges i = ranges_of (chosen.layout i) (chosen.frames i)
+
+  pub same_core : core_of c ≡ core_of x
+  same_core i = core_by (chosen.words i).items (chosen.acts i).items
+
+  pub same_view : view_of c ≡ view_at x u
+  same_view i = record {
+    ranges = same_ranges i;
+    unit = chosen.unit i;
+    conduct = (same_core i).of (chosen.unit i);
+    looks = chosen.looks i;
+    last = record { unit = chosen.last_unit i; number = chosen.last_number i };
+  }
+
+-- a board drives on another view of the same unit, ranges and conduct
+drives_by : (m : Mission) (b : Board) (v w : View) → w.unit ≡ v.unit → w.ranges ≡ v.ranges → w.conduct ≡ v.conduct → Drives m b v → Drives m b w
+drives_by m b v w unit ranges conduct d = record {
+  fits = d.fits;
+  unit = unit ∙ d.unit;
+  ranges = subst (λ (r : Ranges). IsPortOf m r) (sym ranges) d.ranges;
+  still = d.still;
+  room = d.room;
+  going = subst (λ (c : Conduct). Going m (desk_of b) c) (sym conduct) d.going;
+}
+
+-- before the step: the unit's board drives on the rack whose unit it is now
+pub drives_chosen : (m : Mission) (x : Machine) (u : ℕ) (c : Rack) (at : ℕ) (b : Board) → Flies m x → has m.units u ≡ true → IsChosen x.rack u c →
+    at ≡ u → b ≡ slice_index_or x.boards.items at b → Drives m b (view_of c)
+drives_chosen m x u c at b flies there chosen here is =
+    let mine : b ≡ board_at x b u = is ∙ ap (λ (i : ℕ). slice_index_or x.boards.items i b) here in
+    subst (λ (v : View). Drives m b v) (sym (same_view x.rack u c chosen))
+    (subst (λ (z : Board). Drives m z (view_at x.rack u)) (sym mine) (flies.drives u b (unit_below m x u flies there)))
+
+-- what is known after the step of the unit's board
+pub record Stepping (m : Mission) (x : Machine) (u : ℕ) (c : Rack) (at : ℕ) (b : Board) (r : Stepped) (d : Rack) (b' : Board) : Type 0 where
+  pub keep : EventsKeepLawful
+  pub flies : Flies m x
+  pub unit : has m.units u ≡ true
+  pub chosen : IsChosen x.rack u c
+  pub here : at ≡ u
+  pub board : b ≡ slice_index_or x.boards.items at b
+  pub drives : Drives m b' (view_of d)
+  pub steps : Steps m (desk_of b) (view_of c) r (desk_of b') (view_of d) (Stands d)
+  pub follows : Follows c d
+
+module _ (m : Mission) (x : Machine) (u : ℕ) (c : Rack) (at : ℕ) (b : Board) (r : Stepped) (d : Rack) (b' : Board)
+    (s : Stepping m x u c at b r d b') (bs : Vec Board Global) (is : bs.items ≡ slice_set x.boards.items at b') where
+  low : u < (layout_of x).units
+  low = unit_below m x u s.flies s.unit
+
+  within : u < length x.boards.items
+  within = rw s.flies.count low
+
+  items : bs.items ≡ slice_set x.boards.items u b'
+  items = is ∙ ap (λ (i : ℕ). slice_set x.boards.items i b') s.here
+
+  layout : d.grid.layout ≡ x.rack.grid.layout
+  layout = s.follows.layout ∙ s.chosen.layout
+
+  frames : d.grid.frames ≡ x.rack.grid.frames
+  frames = s.follows.frames ∙ s.chosen.frames
+
+  ranges : ranges_for d ≡ ranges_for x.rack
+  ranges i = ranges_of (layout i) (frames i)
+
+  mine : d.unit ≡ u
+  mine = s.follows.unit ∙ s.chosen.unit
+
+  reaches : Reaches (ranges_for x.rack) u (core_of x.rack) (core_of d)
+  reaches = subst (λ (a : Core). Reaches (ranges_for x.rack) u a (core_of d)) (same_core x.rack u c s.chosen)
+      (subst (λ (v : ℕ). Reaches (ranges_for x.rack) v (core_of c) (core_of d)) s.chosen.unit
+      (subst (λ (n : Ranges). Reaches n c.unit (core_of c) (core_of d)) (same_ranges x.rack u c s.chosen) s.follows.reaches))
+
+  -- the own board after the step, and another's
+  own_board : (e : Board) → slice_index_or bs.items u e ≡ b'
+  own_board e = ap (λ (z : List Board). slice_index_or z u e) items ∙ get_or-set_same x.boards.items u b' e within
+
+  other_board : (p : ℕ) (e : Board) → p ≢ u → slice_index_or bs.items p e ≡ board_at x e p
+  other_board p e ne = ap (λ (z : List Board). slice_index_or z p e) items ∙ get_or-set_other x.boards.items u p b' e ne
+
+  pub step_flies : Flies m (record { rack = d; boards = bs })
+  step_flies = record {
+    units = s.flies.units ∙ ap (λ (l : Layout). first_units l.units) (sym layout);
+    lawful = subst (λ (n : Ranges). Lawful n (core_of d)) (sym ranges)
+        (reached_lawful s.keep (ranges_for x.rack) u (core_of x.rack) (core_of d) reaches s.flies.lawful);
+    count = ap length items ∙ (length-set x.boards.items u b' ∙ (s.flies.count ∙ ap (λ (l : Layout). l.units) (sym layout)));
+    frames = frames ∙ s.flies.frames;
+    drives = λ p e hp. dite (ℕ_discrete p u)
+        (λ z. subst (λ (n : ℕ). Drives m (slice_index_or bs.items n e) (view_at d n)) (mine ∙ sym z)
+        (subst (λ (y : Board). Drives m y (view_of d)) (sym (ap (λ (n : ℕ). slice_index_or bs.items n e) mine ∙ own_board e)) s.drives))
+        (λ ne. subst (λ (y : Board). Drives m y (view_at d p)) (sym (other_board p e ne))
+        (drives_by m (board_at x e p) (view_at x.rack p) (view_at d p) refl ranges (others_stay (ranges_for x.rack) u (core_of x.rack) (core_of d) reaches p ne)
+        (s.flies.drives p e (subst (λ (l : Layout). p < l.units) layout hp))));
+  }
+
+  pub step_stepped : StepsUnit m u x r (record { rack = d; boards = bs })
+  step_stepped = record {
+    layout = layout;
+    reaches = reaches;
+    others = other_board;
+    outcome = λ e.
+        let was : b ≡ board_at x e u = s.board ∙ (ap (λ (i : ℕ). slice_index_or x.boards.items i b) s.here ∙ get_or_default x.boards.items u b e within) in
+        subst (λ (y : Board). Steps m (desk_of y) (view_at x.rack u) r (desk_of (slice_index_or bs.items u e)) (view_at d u) (Stands d)) was
+        (subst (λ (y : Board). Steps m (desk_of b) (view_at x.rack u) r (desk_of y) (view_at d u) (Stands d)) (sym (own_board e))
+        (subst (λ (n : ℕ). Steps m (desk_of b) (view_at x.rack u) r (desk_of b') (view_at d n) (Stands d)) mine
+        (subst (λ (v : View). Steps m (desk_of b) v r (desk_of b') (view_of d) (Stands d)) (same_view x.rack u c s.chosen) s.steps)));
+  }

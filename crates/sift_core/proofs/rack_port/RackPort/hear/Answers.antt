@@ -1,0 +1,31 @@
+use Rattle.std.proofs.Common.{◌≡◌, ◌<◌, ℕ, Option, slice_index, length, sym, refl, ap, ◌∙◌, subst}
+use Rattle.sift_buffer.specs.Cell.{taken}
+use Rattle.sift_buffer.specs.Ranges.{place, shared_words}
+use Rattle.sift_buffer.specs.Conduct.{put, with_heard}
+use Rattle.sift_buffer.specs.Core.{hear}
+use Rattle.sift_core.specs.Racks.{ranges_for, core_of}
+use Rattle.sift_core.specs.declared.rack.Rack.{Rack}
+use Rattle.sift_core.proofs.RackEvents.{lent, follows_by}
+use Rattle.sift_core.proofs.rack_port.RackPort.hear.Goals as goal
+
+pub returns-clause-follows : goal.returns-clause-follows
+returns-clause-follows c =
+    let x : Rack = c.args.self.now in let a = c.args in let w : Option ℕ = c.take-word.result in
+    let at : ℕ = place (ranges_for x) a.from x.unit a.slot in
+    let low : at < length x.words.items = rw x.wide (subst (λ (n : ℕ). n < shared_words (ranges_for x)) c.place-place.ensures.place c.place-place.ensures.below) in
+    let cell = lent x.words.items at c.place-place.result c.index.result.now 0 c.place-place.ensures.place low c.index.ensures in
+    let found : w ≡ taken (slice_index x.words.items at) a.stamp = c.take-word.ensures.word ∙ ap (λ (n : ℕ). taken n a.stamp) cell in
+    follows_by x _ (hear x.unit a.from a.slot a.f a.stamp) (λ d. with_heard d a.f a.slot a.from a.stamp w) c.from.result c.index_mut-own.result.now c.note_heard.new.self
+    (record {
+      layout = refl;
+      frames = refl;
+      unit = refl;
+      at_is = c.from.ensures ∙ c.get.ensures.number;
+      lent_is = c.index_mut-own.ensures.value;
+      noted = c.note_heard.ensures.conduct;
+      acts = refl;
+      doer_is = refl;
+      may = (x.here, c.requires);
+      of = λ i. put (core_of x).of x.unit (with_heard ((core_of x).of x.unit) a.f a.slot a.from a.stamp (sym found i));
+      words = refl;
+    })

@@ -1,0 +1,24 @@
+use Rattle.std.proofs.Common.{slice_set, sym, refl, ◌∙◌}
+use Rattle.sift_buffer.specs.Conduct.{with_said}
+use Rattle.sift_buffer.specs.Core.{say}
+use Rattle.sift_core.specs.declared.rack.Rack.{Rack}
+use Rattle.sift_core.proofs.RackEvents.{follows_by}
+use Rattle.sift_core.proofs.rack_port.RackPort.say.Goals as goal
+
+pub returns-clause-follows : goal.returns-clause-follows
+returns-clause-follows c =
+    let x : Rack = c.args.self.now in let a = c.args in
+    follows_by x _ (say x.unit a.to a.slot a.f a.stamp a.word) (λ d. with_said d a.f a.slot a.to a.stamp a.word) c.from.result c.index_mut-own.result.now
+    c.note_said.new.self (record {
+      layout = refl;
+      frames = refl;
+      unit = refl;
+      at_is = c.from.ensures ∙ c.get.ensures.number;
+      lent_is = c.index_mut-own.ensures.value;
+      noted = c.note_said.ensures.conduct;
+      acts = refl;
+      doer_is = refl;
+      may = (x.here, (c.requires, c.pack.ensures.small));
+      of = refl;
+      words = λ i. slice_set x.words.items (sym c.place-place.ensures.place i) (sym c.pack.ensures.cell i);
+    })

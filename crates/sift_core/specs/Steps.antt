@@ -1,0 +1,26 @@
+-- What one step of one unit came to.
+use Rattle.std.specs.Prelude.{◌≡◌, ◌≢◌, ℕ, ⊤}
+use Rattle.sift_buffer.specs.Reaches.{Reaches}
+use Rattle.sift_unit.specs.Mission.{Mission}
+use Rattle.sift_unit.specs.Boards.{desk_of}
+use Rattle.sift_unit.specs.Stepping.{Steps}
+use Rattle.sift_unit.specs.declared.board.Board.{Board}
+use Rattle.sift_unit.specs.declared.stepped.Stepped.{Stepped}
+use Rattle.sift_unit.specs.declared.stepped.Stepped.TheVariants.{Moved, NotYet, Landed}
+use Rattle.sift_core.specs.Racks.{ranges_for, core_of, view_at, Stands}
+use Rattle.sift_core.specs.Machines.{layout_of, board_at}
+use Rattle.sift_core.specs.declared.machine.Machine.{Machine}
+
+-- unit u stepped, with this answer: all that changed of the core is by its events, each other board is as it was, and its own board tells
+-- what the answer says
+pub record StepsUnit (m : Mission) (u : ℕ) (x : Machine) (r : Stepped) (x' : Machine) : Type 0 where
+  pub layout : layout_of x' ≡ layout_of x
+  pub reaches : Reaches (ranges_for x.rack) u (core_of x.rack) (core_of x'.rack)
+  pub others : (p : ℕ) (d : Board) → p ≢ u → board_at x' d p ≡ board_at x d p
+  pub outcome : (d : Board) → Steps m (desk_of (board_at x d u)) (view_at x.rack u) r (desk_of (board_at x' d u)) (view_at x'.rack u) (Stands x'.rack)
+
+-- the answer of a unit that waits
+abbrev pub IsWaiting : Stepped → Type 0
+IsWaiting Moved = ⊥
+IsWaiting (NotYet p n) = ⊤
+IsWaiting Landed = ⊥

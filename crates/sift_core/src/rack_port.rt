@@ -1,0 +1,148 @@
+//! The plain memory of all units as the port of each.
+ghost use Rattle.std.specs.Prelude.{◌≡◌, ◌<◌, ◌+◌, IfOk};
+ghost use Rattle.sift_base.specs.Layout.{IsLayout};
+ghost use Rattle.sift_buffer.specs.Conditions.{MayEnter, PassesGate};
+ghost use Rattle.sift_buffer.specs.Views.{view_with_entered};
+ghost use Rattle.sift_core.specs.Racks.{IsNewRack, IsChosen, Follows, Stands, view_of, ranges_for, core_of};
+ghost use Rattle.sift_core.specs.Crews.{IsCrew};
+ghost use Rattle.sift_core.specs.Following.{itself, further};
+
+use crate::rack::Rack;
+use sift_base::{Layout, NoMemory, UnitId, Word};
+use sift_buffer::{Acts, Entering, Grid, Look, Port, find_behind, pack, take};
+use std::alloc::Global;
+
+impl Rack {
+    /// A rack on which no unit has done anything, with the memory for all their acts.
+    pub(crate) fn make(alloc: Global, layout: Layout, frames: u32) -> Result<Rack, NoMemory>
+        requires { IsLayout layout }
+        ensures { IfOk result (λ rack. IsNewRack rack layout frames) }
+    {
+        let grid = Grid { layout, frames };
+        let words = vec![in alloc; 0; grid.shared_words()]?;
+        let acts = Rack::make_acts(alloc, layout, frames)?;
+        Ok(Rack {
+            grid,
+            unit: UnitId::default(),
+            words,
+            acts,
+            looks: 0,
+            last_unit: 0,
+            last_number: 0,
+        })
+    }
+
+    /// The acts of all units of a layout, in their order, in which nothing was done.
+    fn make_acts(alloc: Global, layout: Layout, frames: u32) -> Result<Vec<Acts>, NoMemory>
+        requires { IsLayout layout }
+        ensures { IfOk result (λ acts. IsCrew acts.items layout.units layout frames) }
+    {
+        let mut all = Vec::with_capacity(alloc, usize::from(layout.units))?;
+        for number in 0..layout.units {
+            if let Some(unit) = UnitId::of(number) {
+                all.push_reserved(Acts::make(alloc, layout, unit, frames)?);
+            }
+        }
+        Ok(all)
+    }
+
+    /// Makes it the port of another unit.
+    pub(crate) fn choose(&mut self, unit: UnitId)
+        requires { unit < self.old.grid.layout.units }
+        ensures { IsChosen self.old unit self.new }
+    {
+        self.unit = unit;
+    }
+
+    /// The progress of a unit.
+    pub(crate) fn progress_of(&self, unit: UnitId) -> u64
+        requires { unit < self.now.grid.layout.units }
+        ensures { result ≡ ((core_of self.now).of unit).progress }
+    {
+        u64::from(self.acts[usize::from(unit.get())].progress())
+    }
+
+    /// The acts alone.
+    pub(crate) fn end(self) -> Vec<Acts>
+        ensures { result ≡ self.acts }
+    {
+        self.acts
+    }
+
+    /// Stores the progress of the unit, raised by one.
+    fn go_on(&mut self)
+        requires may { MayEnter (view_of self.old).conduct }
+        requires gate { PassesGate (ranges_for self.old) (view_of self.old).conduct self.old.unit }
+        ensures entered { view_of self.new ≡ view_with_entered (view_of self.old) }
+        ensures follows { Follows self.old self.new }
+    {
+        let unit = usize::from(self.unit.get());
+        let own = &mut self.acts[unit];
+        self.words[unit] = u64::from(own.progress()) + 1;
+        own.note_entered();
+    }
+}
+
+impl Look for Rack {
+    ghost view = { view_of };
+
+    ghost follows = { Follows };
+
+    ghost stands = { Stands };
+
+    ghost follows_itself = { itself };
+
+    ghost follows_on = { further };
+
+    fn look(&mut self, other: UnitId) -> u64 {
+        let number = self.words[usize::from(other.get())];
+        let own = &mut self.acts[usize::from(self.unit.get())];
+        own.note_seen(other, number);
+        self.looks = self.looks.saturating_add(1);
+        self.last_unit = other.get();
+        self.last_number = number;
+        number
+    }
+}
+
+impl Port for Rack {
+    ghost view = { view_of };
+
+    ghost follows = { Follows };
+
+    ghost stands = { Stands };
+
+    ghost follows_itself = { itself };
+
+    ghost follows_on = { further };
+
+    fn progress(&self) -> u64 {
+        u64::from(self.acts[usize::from(self.unit.get())].progress())
+    }
+
+    fn say(&mut self, to: UnitId, slot: usize, f: u32, stamp: u32, word: Option<Word>) {
+        let stored = word;
+        let place = self.grid.place(self.unit, to, slot);
+        self.words[place] = pack(stamp, stored);
+        let own = &mut self.acts[usize::from(self.unit.get())];
+        own.note_said(f, slot, to, stamp, word);
+    }
+
+    fn hear(&mut self, from: UnitId, slot: usize, f: u32, stamp: u32) -> Option<Word> {
+        let place = self.grid.place(from, self.unit, slot);
+        let word = take(self.words[place], stamp);
+        let heard = word;
+        let own = &mut self.acts[usize::from(self.unit.get())];
+        own.note_heard(f, slot, from, stamp, heard);
+        word
+    }
+
+    fn try_enter(&mut self) -> Entering {
+        let progress = u64::from(self.acts[usize::from(self.unit.get())].progress());
+        if let Some((unit, seen)) = find_behind(self, self.grid.layout.units, self.unit, progress) {
+            return Entering::NotYet { unit, seen };
+        }
+        self.go_on();
+        Entering::Entered
+    }
+}
