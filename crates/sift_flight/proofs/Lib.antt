@@ -28,3 +28,8 @@ pub mod CalmCount
 pub mod GaugeProgram
 pub mod CalmGauge
 pub mod Rows
+pub mod Listed
+pub mod Firsts
+pub mod Telling
+pub mod Reaching
+pub mod Counted

@@ -4,6 +4,8 @@ pub mod Hearing
 pub mod Round
 pub mod Landing
 pub mod Configuration
+pub mod Figures
+pub mod Whole
 pub mod Headline
 pub mod Calm
 pub mod CalmFlight

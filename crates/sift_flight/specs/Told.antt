@@ -1,6 +1,5 @@
 -- What a flight of the code tells: words and accounts by unit, frame and slot; and when it is whole.
-use Rattle.std.specs.Prelude.{◌≡◌, ℕ, ◌<◌, ◌≤◌, List, [], length, slice_index_or, map, Bool, true, false, Option, Some, None, if◌then◌else◌, min, pos, ℤ}
-use Rattle.std.specs.List.{All}
+use Rattle.std.specs.Prelude.{◌≡◌, ℕ, ◌<◌, ◌≤◌, List, [], length, slice_index_or, map, true, false, Option, Some, None, if◌then◌else◌, min, pos, ℤ}
 use Rattle.sift_base.specs.Units.{has}
 use Rattle.sift_base.specs.declared.layout.Layout.{Layout}
 use Rattle.sift_buffer.specs.Journals.{Pages, said_in, heard_in, IsJournalOf}
@@ -8,10 +7,9 @@ use Rattle.sift_clock.specs.Distance.{IsWithin}
 use Rattle.sift_exec.specs.Record.{nobody}
 use Rattle.sift_unit.specs.Mission.{Mission}
 use Rattle.sift_unit.specs.Slots.{is_slot, has_turned}
-use Rattle.sift_unit.specs.Account.{Account, Places}
+use Rattle.sift_unit.specs.Account.{Account}
 use Rattle.sift_unit.specs.Acts.{IsConfigOf}
 use Rattle.sift_unit.specs.Boards.{account_of}
-use Rattle.sift_unit.specs.declared.account.Account.{Account as TheAccount}
 use Rattle.sift_flight.specs.Flight.{Flight}
 use Rattle.sift_flight.specs.declared.flight.Flight.{Flight as TheFlight}
 

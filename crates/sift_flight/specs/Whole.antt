@@ -1,0 +1,13 @@
+-- Round flights are whole: what a report wants of a flight holds of each that is flown as it ought to be.
+use Rattle.sift_unit.specs.Data.{MissionData}
+use Rattle.sift_unit.specs.Flown.{flown}
+use Rattle.sift_unit.specs.PartsFit.{PartsFit}
+use Rattle.sift_flight.specs.Hearing.{Strays}
+use Rattle.sift_flight.specs.Round.{IsRound}
+use Rattle.sift_flight.specs.Told.{IsLogged, IsWhole, told}
+use Rattle.sift_flight.specs.declared.flight.Flight.{Flight as TheFlight}
+
+-- a flight of a mission whose parts fit is whole, where there is a journal and a list of accounts for each unit and what they tell is round
+abbrev pub RoundFlightsAreWhole : Type 0
+RoundFlightsAreWhole = (d : MissionData) (strays : Strays) (fl : TheFlight) → PartsFit d →
+    IsLogged (flown d) d.layout fl → IsRound (flown d) strays (told (flown d) fl) → IsWhole (flown d) d.layout fl

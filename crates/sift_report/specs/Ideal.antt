@@ -1,0 +1,29 @@
+-- The outputs of the ideal machine over the mission's own sensor words.
+use Rattle.std.specs.Prelude.{codes, ℕ, List, [], ◌∷◌, ◌++◌, map}
+use Rattle.std.specs.Fmt.{decimal}
+use Rattle.std.specs.List.{flat_map, join_with_byte, range_with_len}
+use Rattle.sift_program.specs.Ideal.{ideal_words}
+use Rattle.sift_unit.specs.Data.{MissionData}
+use Rattle.sift_unit.specs.Flown.{flown}
+use Rattle.sift_unit.specs.Mission.{Mission}
+use Rattle.sift_report.specs.Part.{blank, words_text}
+
+-- the words of the mission's sensors in a frame
+abbrev pub sensed_in : Mission → ℕ → List ℕ
+sensed_in m f = map (λ x. m.sensed x f) (range_with_len 0 m.sensors)
+
+-- the line of a frame with these outputs, with its line feed
+abbrev pub outputs_text : ℕ → List ℕ → List ℕ
+outputs_text f outs = join_with_byte blank ((codes "f=" ++ decimal f) ∷ (codes "out=" ++ words_text outs) ∷ []) ++ codes "\n"
+
+-- the last line, with its line feed
+abbrev pub frames_text : ℕ → List ℕ
+frames_text frames = join_with_byte blank (codes "end" ∷ (codes "frames=" ++ decimal frames) ∷ []) ++ codes "\n"
+
+-- the line of a frame: what the ideal machine puts out in it
+abbrev pub ideal_line : MissionData → ℕ → List ℕ
+ideal_line d f = outputs_text f (ideal_words d.program (sensed_in (flown d)) f)
+
+-- the ideal machine's outputs in each frame
+abbrev pub ideal_of : MissionData → List ℕ
+ideal_of d = flat_map (ideal_line d) (range_with_len 0 d.frames) ++ frames_text d.frames

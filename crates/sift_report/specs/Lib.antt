@@ -1,0 +1,7 @@
+pub mod Apart
+pub mod Ideal
+pub mod Line
+pub mod Number
+pub mod Part
+pub mod Sheet
+pub mod Votes

@@ -1,0 +1,51 @@
+//! The outputs of the ideal machine.
+
+ghost use Rattle.std.specs.Prelude.{◌≡◌, ◌++◌, ◌≤◌, ◌<◌, IfOk, OnOk, length, string_bytes};
+ghost use Rattle.sift_base.specs.Layout.{sensor_limit};
+ghost use Rattle.sift_unit.specs.Data.{data_of};
+ghost use Rattle.sift_unit.specs.Flown.{mission_of};
+ghost use Rattle.sift_report.specs.Ideal.{frames_text, ideal_of, outputs_text, sensed_in};
+
+use crate::print::push_words;
+use arrayvec::ArrayVec;
+use sift_base::{NoMemory, Word};
+use sift_program::Ideal;
+use sift_unit::Mission;
+use std::alloc::{AllocError, Global};
+
+/// The ideal machine's outputs in each frame, over the mission's own sensor words.
+pub fn ideal_text(alloc: Global, mission: &Mission) -> Result<String, NoMemory>
+    ensures { IfOk result (λ text. string_bytes text ≡ ideal_of (data_of mission.now)) }
+{
+    let program = &mission.parts().program;
+    let mut text = String::new(alloc);
+    let mut ideal = Ideal::start(program);
+    for f in 0..mission.frames() {
+        ideal.frame(program, &sensed_in(mission, f));
+        push_outputs(&mut text, f, ideal.outs())?;
+    }
+    let frames = mission.frames();
+    writeln!(text, "end frames={frames}")?;
+    Ok(text)
+}
+
+/// The words of the mission's sensors in a frame.
+fn sensed_in(mission: &Mission, f: u32) -> ArrayVec<Word, 8>
+    requires { f < (mission_of mission.now).frames }
+    ensures { result.items ≡ sensed_in (mission_of mission.now) f }
+{
+    let mut words = ArrayVec::new();
+    for x in 0..mission.parts().layout.sensors {
+        words.push(mission.sensed(x, f));
+    }
+    words
+}
+
+/// Appends the line of a frame with these outputs.
+fn push_outputs(text: &mut String, f: u32, outs: &[Word]) -> Result<(), AllocError>
+    ensures { OnOk result (string_bytes text.new ≡ string_bytes text.old ++ outputs_text f outs.now) }
+{
+    write!(text, "f={f} out=")?;
+    push_words(text, outs)?;
+    text.push('\n')
+}

@@ -1,0 +1,25 @@
+//! The texts of a flight: its report, its votes, and the outputs of the ideal machine; and the lines of a report, printed and read back.
+#![tactic(auto)]
+
+mod form;
+mod ideal;
+mod line;
+mod list;
+mod number;
+mod part;
+mod print;
+mod read;
+mod report;
+mod sheet;
+mod units;
+mod value;
+mod votes;
+mod word;
+
+pub use ideal::ideal_text;
+pub use line::ReportLine;
+pub use print::push_line;
+pub use read::read_line;
+pub use report::{last_line_text, report_text};
+pub use sheet::{frame_line, last_line, unit_line};
+pub use votes::votes_text;

@@ -1,0 +1,189 @@
+//! Lines of a report, printed.
+
+ghost use Rattle.std.specs.Prelude.{◌≡◌, ◌<◌, ◌++◌, ◌∷◌, [], false, codes, string_bytes, OnOk};
+ghost use Rattle.std.specs.Fmt.{decimal, digit_glyph};
+ghost use Rattle.sift_base.specs.Units.{members};
+ghost use Rattle.sift_report.specs.Line.{caught_text, printed};
+ghost use Rattle.sift_report.specs.Part.{margin_text, ticks_text, unit_digit, units_text, word_text, words_text};
+
+use crate::line::ReportLine;
+use arrayvec::ArrayVec;
+use sift_base::{UnitId, UnitSet, Word};
+use sift_config::Config;
+use std::alloc::AllocError;
+
+/// Appends a line, with its line feed.
+pub fn push_line(text: &mut String, line: &ReportLine) -> Result<(), AllocError>
+    ensures { OnOk result (string_bytes text.new ≡ string_bytes text.old ++ printed line.now) }
+{
+    match line {
+        ReportLine::Unit {
+            f,
+            u,
+            cfg,
+            clk,
+            ins,
+            outs,
+            bad,
+        } => {
+            push_head(text, *f, *u)?;
+            text.push_str("cfg=")?;
+            push_config(text, cfg)?;
+            write!(text, " clk={clk} in=")?;
+            push_words(text, ins)?;
+            text.push_str(" out=")?;
+            push_words(text, outs)?;
+            text.push_str(" bad=")?;
+            push_caught(text, *bad)?;
+            text.push('\n')
+        }
+        ReportLine::Faulty { f, u } => {
+            push_head(text, *f, *u)?;
+            text.push_str("faulty\n")
+        }
+        ReportLine::Idle { f, u } => {
+            push_head(text, *f, *u)?;
+            text.push_str("idle\n")
+        }
+        ReportLine::Frame {
+            f,
+            skew,
+            slack,
+            margin,
+        } => {
+            write!(text, "f={f} skew=")?;
+            push_ticks(text, *skew)?;
+            text.push_str(" slack=")?;
+            push_ticks(text, *slack)?;
+            push_margin(text, *margin)
+        }
+        ReportLine::Last {
+            frames,
+            cfg,
+            margin,
+        } => {
+            write!(text, "end frames={frames} cfg=")?;
+            push_config(text, cfg)?;
+            push_margin(text, *margin)
+        }
+    }
+}
+
+/// Appends the frame and the unit that a line begins with, and a blank.
+pub fn push_head(text: &mut String, f: u32, u: UnitId) -> Result<(), AllocError>
+    ensures { OnOk result (string_bytes text.new
+        ≡ string_bytes text.old ++ codes "f=" ++ decimal f ++ codes " u=" ++ unit_digit u ∷ codes " ") }
+{
+    write!(text, "f={f} u=")?;
+    push_unit(text, u)?;
+    text.push(' ')
+}
+
+/// Appends the margin that a line ends with, and the line feed.
+fn push_margin(text: &mut String, margin: bool) -> Result<(), AllocError>
+    ensures { OnOk result (string_bytes text.new ≡ string_bytes text.old ++ codes " margin=" ++ margin_text margin ++ codes "\n") }
+{
+    text.push_str(" margin=")?;
+    text.push_str(if margin { "ok" } else { "lost" })?;
+    text.push('\n')
+}
+
+/// Appends the units that were caught.
+fn push_caught(text: &mut String, bad: UnitSet) -> Result<(), AllocError>
+    ensures { OnOk result (string_bytes text.new ≡ string_bytes text.old ++ caught_text bad) }
+{
+    push_units(text, &members_of(bad))
+}
+
+/// The members of a set, ascending.
+fn members_of(units: UnitSet) -> ArrayVec<UnitId, 8>
+    ensures { result.items ≡ members units }
+{
+    let mut list = ArrayVec::new();
+    let mut rest = units;
+    for _ in 0..units.len() {
+        list.push(rest.first());
+        rest = rest.without(rest.first());
+    }
+    list
+}
+
+/// Appends a configuration.
+fn push_config(text: &mut String, config: &Config) -> Result<(), AllocError>
+    ensures { OnOk result (string_bytes text.new ≡ string_bytes text.old ++ units_text config.now) }
+{
+    for i in 0..config.len() {
+        push_unit(text, config.unit_at(i))?;
+    }
+    Ok(())
+}
+
+/// Appends units, or `-` where there is none.
+fn push_units(text: &mut String, units: &[UnitId]) -> Result<(), AllocError>
+    ensures { OnOk result (string_bytes text.new ≡ string_bytes text.old ++ units_text units.now) }
+{
+    if units.is_empty() {
+        return text.push('-');
+    }
+    for unit in units {
+        push_unit(text, *unit)?;
+    }
+    Ok(())
+}
+
+/// Appends the digit of a unit.
+pub fn push_unit(text: &mut String, u: UnitId) -> Result<(), AllocError>
+    ensures { OnOk result (string_bytes text.new ≡ string_bytes text.old ++ unit_digit u ∷ []) }
+{
+    text.push(char::from(b'0' + u.get()))
+}
+
+/// Appends ticks, or `-` where there is no number of them.
+fn push_ticks(text: &mut String, ticks: Option<i64>) -> Result<(), AllocError>
+    ensures { OnOk result (string_bytes text.new ≡ string_bytes text.old ++ ticks_text ticks) }
+{
+    match ticks {
+        Some(ticks) => write!(text, "{ticks}"),
+        None => text.push('-'),
+    }
+}
+
+/// Appends words with commas between them, or `-` where there is none.
+pub fn push_words(text: &mut String, words: &[Word]) -> Result<(), AllocError>
+    ensures { OnOk result (string_bytes text.new ≡ string_bytes text.old ++ words_text words.now) }
+{
+    let Some((first, others)) = words.split_first() else {
+        return text.push('-');
+    };
+    push_word(text, *first)?;
+    for word in others {
+        text.push(',')?;
+        push_word(text, *word)?;
+    }
+    Ok(())
+}
+
+/// Appends a word as four hexadecimal digits.
+pub fn push_word(text: &mut String, word: Word) -> Result<(), AllocError>
+    ensures { OnOk result (string_bytes text.new ≡ string_bytes text.old ++ word_text word) }
+{
+    let bits = word.get();
+    text.push(hex_digit(bits / 4096))?;
+    text.push(hex_digit(bits / 256 % 16))?;
+    text.push(hex_digit(bits / 16 % 16))?;
+    text.push(hex_digit(bits % 16))
+}
+
+/// The hexadecimal digit of a value.
+fn hex_digit(value: u16) -> char
+    requires { value < 16 }
+    ensures below { result < 128 }
+    ensures digit { result ≡ digit_glyph false value }
+{
+    let value = value as u8;
+    char::from(if value < 10 {
+        b'0' + value
+    } else {
+        b'a' + (value - 10)
+    })
+}

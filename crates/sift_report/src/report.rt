@@ -1,0 +1,68 @@
+//! The report of a flight.
+
+ghost use Rattle.std.specs.Prelude.{◌≡◌, ◌<◌, ◌++◌, IfOk, OnOk, string_bytes};
+ghost use Rattle.sift_unit.specs.Flown.{mission_of};
+ghost use Rattle.sift_flight.specs.Figures.{margin_at};
+ghost use Rattle.sift_flight.specs.Told.{IsWhole, told};
+ghost use Rattle.sift_report.specs.Line.{text_of_lines};
+ghost use Rattle.sift_report.specs.Sheet.{end_of, frame_lines, report_of};
+
+use crate::print::push_line;
+use crate::sheet::{frame_line, last_line, unit_line};
+use sift_base::NoMemory;
+use sift_flight::{Flight, is_sound_at, margin_at};
+use sift_unit::Mission;
+use std::alloc::{AllocError, Global};
+
+/// The report of a whole flight.
+pub fn report_text(alloc: Global, mission: &Mission, flight: &Flight) -> Result<String, NoMemory>
+    requires { IsWhole (mission_of mission.now) mission.now.layout flight.now }
+    ensures { IfOk result (λ text. string_bytes text
+        ≡ report_of (mission_of mission.now) (told (mission_of mission.now) flight.now)) }
+{
+    let mut text = String::new(alloc);
+    let mut margin = true;
+    for f in 0..mission.frames() {
+        margin = margin && is_sound_at(mission, flight, f);
+        push_frame(&mut text, mission, flight, f, margin)?;
+    }
+    push_line(&mut text, &last_line(mission, flight, margin))?;
+    Ok(text)
+}
+
+/// Appends the lines of a frame that has this margin.
+fn push_frame(
+    text: &mut String,
+    mission: &Mission,
+    flight: &Flight,
+    f: u32,
+    margin: bool,
+) -> Result<(), AllocError>
+    requires whole { IsWhole (mission_of mission.now) mission.now.layout flight.now }
+    requires frame { f < (mission_of mission.now).frames }
+    requires margin { margin ≡ margin_at (mission_of mission.now) (told (mission_of mission.now) flight.now) f }
+    ensures { OnOk result (string_bytes text.new ≡ string_bytes text.old
+        ++ text_of_lines (frame_lines (mission_of mission.now) (told (mission_of mission.now) flight.now) f)) }
+{
+    let everyone = mission.everyone();
+    for i in 0..everyone.len() {
+        push_line(text, &unit_line(mission, flight, f, everyone.unit_at(i)))?;
+    }
+    push_line(text, &frame_line(mission, flight, f, margin))
+}
+
+/// The last line of a whole flight's report, with its line feed.
+pub fn last_line_text(
+    alloc: Global,
+    mission: &Mission,
+    flight: &Flight,
+) -> Result<String, NoMemory>
+    requires { IsWhole (mission_of mission.now) mission.now.layout flight.now }
+    ensures { IfOk result (λ text. string_bytes text
+        ≡ end_of (mission_of mission.now) (told (mission_of mission.now) flight.now)) }
+{
+    let mut text = String::new(alloc);
+    let margin = margin_at(mission, flight, mission.frames() - 1);
+    push_line(&mut text, &last_line(mission, flight, margin))?;
+    Ok(text)
+}

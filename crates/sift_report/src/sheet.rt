@@ -1,0 +1,86 @@
+//! The lines of a flight's report, as values.
+
+ghost use Rattle.std.specs.Prelude.{◌≡◌, ◌<◌, true};
+ghost use Rattle.sift_base.specs.Units.{has};
+ghost use Rattle.sift_exec.specs.Record.{everyone_in};
+ghost use Rattle.sift_unit.specs.Boards.{account_of};
+ghost use Rattle.sift_unit.specs.Flown.{mission_of};
+ghost use Rattle.sift_flight.specs.Figures.{margin_at, margin_before};
+ghost use Rattle.sift_flight.specs.Told.{IsWhole, told};
+ghost use Rattle.sift_report.specs.Sheet.{account_line, frame_line, last_line, unit_line};
+
+use crate::line::ReportLine;
+use arrayvec::ArrayVec;
+use sift_base::{UnitId, UnitSet};
+use sift_exec::Catches;
+use sift_flight::{Flight, account_at, config_at, skew_at, slack_at};
+use sift_unit::{Account, Mission};
+
+/// The line of a unit in a frame.
+pub fn unit_line(mission: &Mission, flight: &Flight, f: u32, u: UnitId) -> ReportLine
+    requires whole { IsWhole (mission_of mission.now) mission.now.layout flight.now }
+    requires unit { has (mission_of mission.now).units u ≡ true }
+    requires frame { f < (mission_of mission.now).frames }
+    ensures { result ≡ unit_line (mission_of mission.now) (told (mission_of mission.now) flight.now) f u }
+{
+    if !mission.works(u, f) {
+        return ReportLine::Faulty { f, u };
+    }
+    let account = account_at(mission, flight, u, f);
+    if !account.cfg.has(u) {
+        return ReportLine::Idle { f, u };
+    }
+    account_line(f, u, account)
+}
+
+/// What a working unit of its own configuration tells of a frame, from its account.
+fn account_line(f: u32, u: UnitId, account: &Account) -> ReportLine
+    ensures { result ≡ account_line f u (account_of account.now) }
+{
+    ReportLine::Unit {
+        f,
+        u,
+        cfg: account.cfg,
+        clk: account.clk,
+        ins: ArrayVec::try_from(account.ins.as_slice()).unwrap(),
+        outs: ArrayVec::try_from(account.outs.as_slice()).unwrap(),
+        bad: everyone_in(account.bad),
+    }
+}
+
+/// The units that were caught, in whatever way.
+fn everyone_in(bad: Catches) -> UnitSet
+    ensures { result ≡ everyone_in bad }
+{
+    let Catches { poll, relay, clock } = bad;
+    poll.union(relay).union(clock)
+}
+
+/// What is told of a whole frame that has this margin.
+pub fn frame_line(mission: &Mission, flight: &Flight, f: u32, margin: bool) -> ReportLine
+    requires whole { IsWhole (mission_of mission.now) mission.now.layout flight.now }
+    requires frame { f < (mission_of mission.now).frames }
+    requires margin { margin ≡ margin_at (mission_of mission.now) (told (mission_of mission.now) flight.now) f }
+    ensures { result ≡ frame_line (mission_of mission.now) (told (mission_of mission.now) flight.now) f }
+{
+    ReportLine::Frame {
+        f,
+        skew: skew_at(mission, flight, f),
+        slack: slack_at(mission, flight, f),
+        margin,
+    }
+}
+
+/// The last line, where the last frame has this margin.
+pub fn last_line(mission: &Mission, flight: &Flight, margin: bool) -> ReportLine
+    requires whole { IsWhole (mission_of mission.now) mission.now.layout flight.now }
+    requires margin { margin ≡ margin_before (mission_of mission.now) (told (mission_of mission.now) flight.now) (mission_of mission.now).frames }
+    ensures { result ≡ last_line (mission_of mission.now) (told (mission_of mission.now) flight.now) }
+{
+    let frames = mission.frames();
+    ReportLine::Last {
+        frames,
+        cfg: config_at(mission, flight, frames),
+        margin,
+    }
+}
