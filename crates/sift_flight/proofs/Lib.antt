@@ -28,6 +28,7 @@ pub mod CalmCount
 pub mod GaugeProgram
 pub mod CalmGauge
 pub mod Rows
+pub mod TellingAlike
 pub mod Listed
 pub mod Firsts
 pub mod Telling

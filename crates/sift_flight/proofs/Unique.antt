@@ -31,7 +31,7 @@ module _ (m : Mission) (strays strays' : Strays) (fl gl : Flight) (fits : Fits m
       (cases_Bool (has (config_of gl u f) u))
 
   -- each frame begins alike in both
-  both_round : (f : ℕ) → f < m.frames → AreBothRound m strays strays' fl gl f
+  pub both_round : (f : ℕ) → f < m.frames → AreBothRound m strays strays' fl gl f
   both_round zero low = record {
     fits = fits;
     calm = calm;

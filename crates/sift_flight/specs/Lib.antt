@@ -6,6 +6,7 @@ pub mod Landing
 pub mod Configuration
 pub mod Figures
 pub mod Whole
+pub mod Alike
 pub mod Headline
 pub mod Calm
 pub mod CalmFlight

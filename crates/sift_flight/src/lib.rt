@@ -2,6 +2,7 @@
 //! all units do as they ought to.
 #![tactic(auto)]
 
+mod alike;
 mod clocks;
 mod figures;
 mod flight;
@@ -9,6 +10,7 @@ mod laws;
 mod told;
 mod whole;
 
+pub use alike::round_flights_are_alike;
 pub use clocks::{skew_at, slack_at};
 pub use figures::{config_at, is_sound_at, margin_at, working_at};
 pub use flight::Flight;

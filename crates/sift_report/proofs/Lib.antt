@@ -8,3 +8,6 @@ pub mod Sets
 pub mod LineForms
 pub mod Fields
 pub mod Printed
+mod SameTexts
+mod Places
+mod HeadlineLines

@@ -5,3 +5,5 @@ pub mod Number
 pub mod Part
 pub mod Sheet
 pub mod Votes
+pub mod OneText
+pub mod Printed

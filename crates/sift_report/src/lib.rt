@@ -3,6 +3,7 @@
 
 mod form;
 mod ideal;
+mod law;
 mod line;
 mod list;
 mod number;
@@ -17,6 +18,7 @@ mod votes;
 mod word;
 
 pub use ideal::ideal_text;
+pub use law::{alike_flights_have_one_text, the_headline_is_printed};
 pub use line::ReportLine;
 pub use print::push_line;
 pub use read::read_line;

@@ -1,0 +1,18 @@
+-- The texts of flights that tell the same.
+use Rattle.std.specs.Prelude.{◌≡◌, ◌<◌}
+use Rattle.sift_unit.specs.Data.{MissionData}
+use Rattle.sift_unit.specs.Flown.{flown}
+use Rattle.sift_flight.specs.Alike.{AreAlike}
+use Rattle.sift_flight.specs.Flight.{Flight}
+use Rattle.sift_report.specs.Sheet.{end_of, report_of}
+use Rattle.sift_report.specs.Votes.{votes_of}
+
+-- two flights have one report, one text of votes and one last line
+pub record HaveOneText (d : MissionData) (fl gl : Flight) : Type 0 where
+  pub report : report_of (flown d) fl ≡ report_of (flown d) gl
+  pub votes : votes_of d fl ≡ votes_of d gl
+  pub end : end_of (flown d) fl ≡ end_of (flown d) gl
+
+-- flights that tell the same have one text of each kind
+abbrev pub AlikeFlightsHaveOneText : Type 0
+AlikeFlightsHaveOneText = (d : MissionData) (fl gl : Flight) → 0 < d.frames → AreAlike (flown d) fl gl → HaveOneText d fl gl
