@@ -14,7 +14,7 @@ placed-first : (o : Ordering) (k : String Global) (v : Value) (e : String Global
     members_view (insert_entry string_cmp es k v) ≡ placed (string_bytes k) (view v) (members_view es) →
     members_view (match_ordering o ((k, v) ∷ e ∷ es) ((e.0, v) ∷ es) (e ∷ insert_entry string_cmp es k v))
     ≡ match_ordering o (member (string_bytes k) (view v) (members_view (e ∷ es))) (member (string_bytes e.0) (view v) (members_view es))
-        (member (string_bytes e.0) (view e.1) (placed (string_bytes k) (view v) (members_view es)))
+    (member (string_bytes e.0) (view e.1) (placed (string_bytes k) (view v) (members_view es)))
 placed-first Less k v e es h = refl
 placed-first Equal k v e es h = refl
 placed-first Greater k v e es h = ap (member (string_bytes e.0) (view e.1)) h

@@ -50,11 +50,14 @@ sensor_tables sensors x = map (λ k. sensor_table k (after x (words_each * k))) 
 abbrev pub pattern_from : (t x : ℕ) → Pattern
 pattern_from t x = pattern_of (draw_at x 1 pattern_count) t
 
+-- the table of a task: its name, its start word and its text
+abbrev pub task_entries : (t start : ℕ) → (text : List ℕ) → Data
+task_entries t start text = table (placed (codes "text") (string text) (placed (codes "start") (array_of (number start ∷ []))
+    (placed (codes "name") (string (task_name t)) no_members)))
+
 -- the table of task t, whose draws are those from x: its start word, its pattern, and those of the pattern
 abbrev pub task_table : (t sensors x : ℕ) → Data
-task_table t sensors x = table (placed (codes "text") (string (text_by (pattern_from t x) t sensors (after x 2)))
-    (placed (codes "start") (array_of (number (draw_at x 0 word_values) ∷ []))
-    (placed (codes "name") (string (task_name t)) no_members)))
+task_table t sensors x = task_entries t (draw_at x 0 word_values) (text_by (pattern_from t x) t sensors (after x 2))
 
 -- the generator's number where task t begins, where the first task begins at x
 abbrev pub task_place : (t x : ℕ) → ℕ
@@ -76,12 +79,15 @@ abbrev pub fault_item : (units unit task value : ℕ) → Data
 fault_item units unit task value = table (placed (codes "value") (number value) (placed (codes "to") (string (other_digits units unit))
     (placed (codes "word") (number 0) (placed (codes "index") (number task) (placed (codes "slot") (string (codes "out")) no_members)))))
 
+-- the table of a fault: the unit, its first frame, and the wrong value that it says for a task's word
+abbrev pub fault_entries : (units unit from task value : ℕ) → Data
+fault_entries units unit from task value = table (placed (codes "say") (array_of (fault_item units unit task value ∷ []))
+    (placed (codes "from") (number from) (placed (codes "unit") (number unit) no_members)))
+
 -- the table of the fault, whose draws are those from x: the unit, its first frame, the task and the wrong value
 abbrev pub fault_table : (units frames tasks x : ℕ) → Data
 fault_table units frames tasks x =
-    let unit = draw_at x 0 units in
-    table (placed (codes "say") (array_of (fault_item units unit (draw_at x 2 tasks) (draw_at x 3 word_values) ∷ []))
-    (placed (codes "from") (number (draw_at x 1 frames)) (placed (codes "unit") (number unit) no_members)))
+    fault_entries units (draw_at x 0 units) (draw_at x 1 frames) (draw_at x 2 tasks) (draw_at x 3 word_values)
 
 -- ---- the tree
 
@@ -95,11 +101,14 @@ first_task_place n = after (sensor_place n) (words_each * sensor_count n)
 abbrev pub fault_place : ℕ → ℕ
 fault_place n = task_place (task_count n) (first_task_place n)
 
+-- the tree of a document with these units, frames, sensors, tasks and one fault
+abbrev pub document_of : (units frames : ℕ) → (sensors tasks : List Data) → (fault : Data) → Members
+document_of units frames sensors tasks fault =
+    placed (codes "fault") (array_of (fault ∷ [])) (placed (codes "task") (array_of tasks) (placed (codes "sensor") (array_of sensors)
+    (placed (codes "frames") (number frames) (placed (codes "units") (number units) no_members))))
+
 -- the tree of the scenario with number n
 abbrev pub tree_of : ℕ → Members
-tree_of n =
-    placed (codes "fault") (array_of (fault_table (unit_count n) (frame_count n) (task_count n) (fault_place n) ∷ []))
-    (placed (codes "task") (array_of (task_tables (task_count n) (sensor_count n) (first_task_place n)))
-    (placed (codes "sensor") (array_of (sensor_tables (sensor_count n) (sensor_place n)))
-    (placed (codes "frames") (number (frame_count n))
-    (placed (codes "units") (number (unit_count n)) no_members))))
+tree_of n = document_of (unit_count n) (frame_count n)
+    (sensor_tables (sensor_count n) (sensor_place n)) (task_tables (task_count n) (sensor_count n) (first_task_place n))
+    (fault_table (unit_count n) (frame_count n) (task_count n) (fault_place n))

@@ -10,7 +10,12 @@ use std::alloc::Global;
 use toml::{Table, Value};
 
 /// The table with one more entry, in the order of the keys.
-pub(crate) fn with(alloc: Global, mut entries: Table, key: &str, value: Value) -> Result<Table, NoMemory>
+pub(crate) fn with(
+    alloc: Global,
+    mut entries: Table,
+    key: &str,
+    value: Value,
+) -> Result<Table, NoMemory>
     ensures { IfOk result (λ table. table_view table ≡ placed key.now (view value) (table_view entries)) }
 {
     let key = String::from_str(alloc, key)?;
@@ -21,7 +26,12 @@ pub(crate) fn with(alloc: Global, mut entries: Table, key: &str, value: Value) -
 }
 
 /// The table with one more entry that is a number.
-pub(crate) fn with_number(alloc: Global, entries: Table, key: &str, n: u32) -> Result<Table, NoMemory>
+pub(crate) fn with_number(
+    alloc: Global,
+    entries: Table,
+    key: &str,
+    n: u32,
+) -> Result<Table, NoMemory>
     ensures { IfOk result (λ table. table_view table ≡ placed key.now (number n) (table_view entries)) }
 {
     with(alloc, entries, key, Value::from(n))

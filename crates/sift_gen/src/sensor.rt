@@ -13,7 +13,11 @@ use std::alloc::Global;
 use toml::{Table, Value};
 
 /// The tables of so many sensors, and as many draws as they have words.
-pub(crate) fn sensor_tables(alloc: Global, draw: &mut Draw, sensors: u32) -> Result<Vec<Value>, NoMemory>
+pub(crate) fn sensor_tables(
+    alloc: Global,
+    draw: &mut Draw,
+    sensors: u32,
+) -> Result<Vec<Value>, NoMemory>
     ensures made { IfOk result (λ tables. map view tables.items ≡ sensor_tables sensors draw.old) }
     ensures drawn { IfOk result (λ _. draw.new ≡ after draw.old (words_each * sensors)) }
 {

@@ -4,7 +4,7 @@ ghost use Rattle.std.specs.Prelude.{◌≡◌, ◌<◌, ◌≤◌, IfOk, map, st
 ghost use Rattle.toml.specs.View.{table_view, view};
 ghost use Rattle.toml.specs.Data.{table};
 ghost use Rattle.sift_gen.specs.Draws.{after, draw_at};
-ghost use Rattle.sift_gen.specs.Scenario.{pattern_from, task_place, task_table, task_tables};
+ghost use Rattle.sift_gen.specs.Scenario.{pattern_from, task_entries, task_place, task_table, task_tables};
 ghost use Rattle.sift_gen.specs.Tasks.{chase_text, draws_by, middle_text, pattern_of, sum_text, task_name, text_by, triple_text};
 
 use crate::entry::{array_of_one, with};
@@ -39,7 +39,13 @@ impl Pattern {
     }
 
     /// The text of a task of this pattern, and the draws that it takes.
-    fn text(self, alloc: Global, draw: &mut Draw, task: u32, sensors: u32) -> Result<String, NoMemory>
+    fn text(
+        self,
+        alloc: Global,
+        draw: &mut Draw,
+        task: u32,
+        sensors: u32,
+    ) -> Result<String, NoMemory>
         requires sensors { 0 < sensors }
         requires earlier { self ≡ Pattern.Triple → 0 < task }
         ensures made { IfOk result (λ text. string_bytes text ≡ text_by self task sensors draw.old) }
@@ -61,7 +67,12 @@ impl Pattern {
 }
 
 /// The tables of so many tasks, and the draws that they take.
-pub(crate) fn task_tables(alloc: Global, draw: &mut Draw, tasks: u32, sensors: u32) -> Result<Vec<Value>, NoMemory>
+pub(crate) fn task_tables(
+    alloc: Global,
+    draw: &mut Draw,
+    tasks: u32,
+    sensors: u32,
+) -> Result<Vec<Value>, NoMemory>
     requires { 0 < sensors }
     ensures made { IfOk result (λ tables. map view tables.items ≡ task_tables tasks sensors draw.old) }
     ensures drawn { IfOk result (λ _. draw.new ≡ task_place tasks draw.old) }
@@ -82,8 +93,25 @@ fn task_table(alloc: Global, draw: &mut Draw, task: u32, sensors: u32) -> Result
     let start = drawn(draw, 65536);
     let pattern = Pattern::of(drawn(draw, 4), task);
     let text = pattern.text(alloc, draw, task, sensors)?;
-    let entries = with(alloc, Table::new(alloc), "name", Value::String(task_name(alloc, task)?))?;
-    let entries = with(alloc, entries, "start", array_of_one(alloc, Value::from(start))?)?;
+    task_entries(alloc, task, start, text)
+}
+
+/// The entries of a task: its name, its start word and its text.
+fn task_entries(alloc: Global, task: u32, start: u32, text: String) -> Result<Table, NoMemory>
+    ensures { IfOk result (λ entries. table (table_view entries) ≡ task_entries task start (string_bytes text)) }
+{
+    let entries = with(
+        alloc,
+        Table::new(alloc),
+        "name",
+        Value::String(task_name(alloc, task)?),
+    )?;
+    let entries = with(
+        alloc,
+        entries,
+        "start",
+        array_of_one(alloc, Value::from(start))?,
+    )?;
     with(alloc, entries, "text", Value::String(text))
 }
 
@@ -122,7 +150,9 @@ fn middle_text(alloc: Global, task: u32, first: u32, second: u32) -> Result<Stri
 fn chase_text(alloc: Global, task: u32, sensor: u32) -> Result<String, NoMemory>
     ensures { IfOk result (λ text. string_bytes text ≡ chase_text task sensor) }
 {
-    Ok(format!(in alloc; "let d = sense s{sensor} - last t{task}.0; if d < 0 {{ out 0 = last t{task}.0 - 1; }} else {{ out 0 = last t{task}.0 + 1; }}")?)
+    Ok(format!(in alloc;
+        "let d = sense s{sensor} - last t{task}.0; if d < 0 {{ out 0 = last t{task}.0 - 1; }} else {{ out 0 = last t{task}.0 + 1; }}"
+    )?)
 }
 
 /// Three times an earlier task's word, and a sensor.

@@ -7,6 +7,6 @@ use Rattle.sift_gen.proofs.sensor.sensor_tables.Given as goal
 -- the tables so far, and as many draws as they have words
 abbrev pub invariant-loop-k : goal.invariant-loop-k
 invariant-loop-k l = record {
-  made : map view l.tables.items ≡ sensor_tables l.k-counter l.fn.draw;
-  drawn : l.draw ≡ after l.fn.draw (words_each * l.k-counter);
+  made : map view l.tables.items ≡ sensor_tables l.k l.fn.draw;
+  drawn : l.draw ≡ after l.fn.draw (words_each * l.k);
 }

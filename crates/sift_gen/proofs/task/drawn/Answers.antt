@@ -1,4 +1,4 @@
-use Rattle.std.proofs.Common.{arith, rules}
+use Rattle.std.proofs.Common.{rules}
 use Rattle.sift_gen.specs.Draws.{after}
 use Rattle.sift_gen.proofs.task.drawn.Goals as goal
 
