@@ -14,3 +14,4 @@ pub mod Rounds
 pub mod LedgerLemmas
 pub mod NewLedgers
 pub mod LoneEvents
+pub mod Words

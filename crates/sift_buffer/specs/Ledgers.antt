@@ -1,5 +1,5 @@
 -- What a contract sees of the acts that a unit keeps: its journal with stamps, and what it knows.
-use Rattle.std.specs.Prelude.{◌≡◌, ℕ, ◌==◌, if◌then◌else◌, List, [], slice_index, Option, Some, None}
+use Rattle.std.specs.Prelude.{◌≡◌, ℕ, ◌==◌, if◌then◌else◌, List, [], slice_index, Option, Some, None, option_and_then}
 use Rattle.sift_base.specs.declared.layout.Layout.{Layout}
 use Rattle.sift_buffer.specs.Ranges.{Ranges}
 use Rattle.sift_buffer.specs.Conduct.{Saying, Hearing, Conduct, never, saying, hearing}
@@ -51,3 +51,8 @@ pub record Tells (l : Ledger) (layout : Layout) (unit frames : ℕ) (d : Conduct
 -- the ledger of the same unit that tells another conduct
 abbrev pub Becomes : Ledger → Ledger → Conduct → Type 0
 Becomes old new d = Tells new old.pages.layout old.pages.unit old.pages.frames d
+
+-- the journal has just the words that the conduct tells: absence where nothing was said, and where nothing was heard
+pub record HasItsWords (l : Ledger) : Type 0 where
+  pub said : (f k q : ℕ) → said_in l.pages f k q ≡ option_and_then (λ act. act.word) ((conduct_in l).said f k q)
+  pub heard : (f k p : ℕ) → heard_in l.pages f k p ≡ option_and_then (λ act. act.word) ((conduct_in l).heard f k p)

@@ -5,7 +5,7 @@ use Rattle.sift_base.specs.Units.{unit_limit}
 use Rattle.sift_buffer.specs.Conduct.{last_progress}
 use Rattle.sift_buffer.specs.Tables.{ranges_of, entry_count}
 use Rattle.sift_buffer.specs.Journals.{Pages, ranges_in}
-use Rattle.sift_buffer.specs.Ledgers.{Ledger}
+use Rattle.sift_buffer.specs.Ledgers.{Ledger, HasItsWords}
 
 -- the unit is one of the layout's, and each list has all its entries
 pub record IsSized (j : Pages) : Type 0 where
@@ -13,7 +13,8 @@ pub record IsSized (j : Pages) : Type 0 where
   pub said : length j.said ≡ entry_count (ranges_in j)
   pub heard : length j.heard ≡ entry_count (ranges_in j)
 
--- the lists of a ledger have all their entries, its journal is of this layout and these frames, and its progress is one of a unit that flies
+-- the lists of a ledger have all their entries, its journal is of this layout and these frames and has its words, and its progress is one of
+-- a unit that flies
 pub record IsFull (l : Ledger) (layout : Layout) (frames : ℕ) : Type 0 where
   pub layout_is : l.pages.layout ≡ layout
   pub frames_are : l.pages.frames ≡ frames
@@ -22,3 +23,4 @@ pub record IsFull (l : Ledger) (layout : Layout) (frames : ℕ) : Type 0 where
   pub heard_at : length l.heard_at ≡ entry_count (ranges_of layout frames)
   pub seen : length l.seen ≡ unit_limit
   pub progress : l.progress ≤ last_progress
+  pub words : HasItsWords l

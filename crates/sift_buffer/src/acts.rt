@@ -6,7 +6,7 @@ ghost use Rattle.sift_base.specs.Units.{unit_limit};
 ghost use Rattle.sift_buffer.specs.Ranges.{IsPlace};
 ghost use Rattle.sift_buffer.specs.Conduct.{fresh, last_progress, with_seen, with_said, with_heard, with_entered};
 ghost use Rattle.sift_buffer.specs.Journals.{ranges_in};
-ghost use Rattle.sift_buffer.specs.Ledgers.{Tells, Becomes, conduct_in};
+ghost use Rattle.sift_buffer.specs.Ledgers.{Tells, Becomes, HasItsWords, conduct_in};
 
 use crate::grid::Grid;
 use crate::journal::Journal;
@@ -104,7 +104,8 @@ impl Acts {
 
     /// The journal alone.
     pub fn end(self) -> Journal
-        ensures { result ≡ self.pages }
+        ensures pages { result ≡ self.pages }
+        ensures words { HasItsWords self }
     {
         self.journal
     }

@@ -1,5 +1,5 @@
 -- What a step of one unit keeps of a machine, and what it tells.
-use Rattle.std.proofs.Common.{◌≡◌, ◌≢◌, ℕ, ◌<◌, Vec, List, length, length-set, slice_set, slice_index, slice_index_or, true, sym, refl, ap, ◌∙◌, subst}
+use Rattle.std.proofs.Common.{◌≡◌, ◌≢◌, ℕ, ◌<◌, Vec, List, length, length-set, slice_set, slice_index_or, true, sym, refl, ap, ◌∙◌, subst}
 use Rattle.std.specs.declared.alloc.Global.{Global}
 use Rattle.std.proofs.lemmas.List.{get_or-set_same, get_or-set_other, get_or_default}
 use mathlib.Core.Logic.{dite}
@@ -27,7 +27,7 @@ use Rattle.sift_core.specs.Machines.{Flies, board_at, layout_of}
 use Rattle.sift_core.specs.Steps.{StepsUnit}
 use Rattle.sift_core.specs.declared.machine.Machine.{Machine}
 use Rattle.sift_core.specs.declared.rack.Rack.{Rack}
-use Rattle.sift_core.proofs.FirstUnits.{unit_low, low_unit}
+use Rattle.sift_core.proofs.FirstUnits.{unit_low}
 use Rattle.sift_core.proofs.Others.{others_stay, reached_lawful}
 
 -- the unit is one of the rack's

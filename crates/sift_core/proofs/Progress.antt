@@ -1,5 +1,5 @@
 -- What a step does to the progress of units, and to the distances that are left.
-use Rattle.std.proofs.Common.{◌≡◌, ◌≢◌, ℕ, ◌+◌, ◌*◌, ◌-◌, ◌<◌, ◌≤◌, List, [], ◌∷◌, length, slice_index, slice_index_or, sum_by, true, inl, inr, sym, refl, ap, ◌∙◌, subst, arith}
+use Rattle.std.proofs.Common.{◌≡◌, ℕ, ◌+◌, ◌*◌, ◌-◌, ◌<◌, ◌≤◌, List, [], ◌∷◌, length, slice_index, true, sym, ap, ◌∙◌, subst, arith}
 use mathlib.Core.Logic.{dite}
 use native.Mathlib.Decide.{ℕ_discrete}
 use Rattle.sift_base.specs.Units.{has}
@@ -7,7 +7,7 @@ use Rattle.sift_base.specs.declared.layout.Layout.{Layout}
 use Rattle.sift_buffer.specs.Conduct.{Conduct}
 use Rattle.sift_unit.specs.Mission.{Mission}
 use Rattle.sift_unit.specs.Desk.{Desk}
-use Rattle.sift_unit.specs.Passing.{distance, left}
+use Rattle.sift_unit.specs.Passing.{distance}
 use Rattle.sift_unit.specs.Boards.{desk_of, Drives}
 use Rattle.sift_unit.specs.Stepping.{Steps}
 use Rattle.sift_unit.specs.declared.board.Board.{Board}
@@ -21,10 +21,10 @@ use Rattle.sift_core.specs.declared.machine.Machine.{Machine}
 use Rattle.sift_core.proofs.FirstUnits.{low_unit}
 use Rattle.sift_core.proofs.MachineSteps.{unit_below}
 use Rattle.sift_core.proofs.Others.{others_stay}
-use Rattle.sift_core.proofs.Sums.{sums}
+use Rattle.sift_core.proofs.Lists.{sums}
 
 -- a board of a list that has one
-first_of : (xs : List Board) (u : ℕ) → u < length xs → Board
+pub first_of : (xs : List Board) (u : ℕ) → u < length xs → Board
 first_of [] u low = absurd (omega arith)
 first_of (b ∷ bs) u low = b
 

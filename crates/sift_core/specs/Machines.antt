@@ -6,9 +6,9 @@ use Rattle.sift_config.specs.Config.{first_units}
 use Rattle.sift_buffer.specs.Lawful.{Lawful}
 use Rattle.sift_unit.specs.Mission.{Mission}
 use Rattle.sift_unit.specs.Account.{Account}
-use Rattle.sift_unit.specs.Desk.{Desk, accounts_of}
+use Rattle.sift_unit.specs.Desk.{accounts_of}
 use Rattle.sift_unit.specs.Passing.{distance}
-use Rattle.sift_unit.specs.Boards.{desk_of, Drives}
+use Rattle.sift_unit.specs.Boards.{desk_of, Drives, IsNewBoard}
 use Rattle.sift_unit.specs.declared.board.Board.{Board}
 use Rattle.sift_core.specs.Racks.{ranges_for, core_of, view_at}
 use Rattle.sift_core.specs.declared.machine.Machine.{Machine}
@@ -40,3 +40,8 @@ pub record Flies (m : Mission) (x : Machine) : Type 0 where
 -- how far all boards are from the flight's end
 abbrev pub distances : Mission → Machine → ℕ
 distances m x = sum_by (λ b. distance m (desk_of b)) x.boards.items
+
+-- so many boards that have not stepped, in the order of their units
+pub record AreNewBoards (m : Mission) (units : ℕ) (boards : List Board) : Type 0 where
+  pub count : length boards ≡ units
+  pub new : (u : ℕ) (d : Board) → u < units → IsNewBoard m u (slice_index_or boards u d)

@@ -3,6 +3,7 @@
 
 mod executor;
 mod flight;
+mod landing;
 mod laws;
 mod machine;
 mod order;
@@ -14,5 +15,6 @@ mod unit;
 mod vote;
 
 pub use flight::plain_fly;
+pub use landing::fly;
 pub use laws::ended_frames_are_round;
 pub use machine::Machine;

@@ -2,13 +2,14 @@
 ghost use Rattle.std.specs.Prelude.{◌≡◌, ◌<◌, ◌≤◌, IfOk, true};
 ghost use Rattle.sift_base.specs.Units.{has};
 ghost use Rattle.sift_unit.specs.Flown.{mission_of};
-ghost use Rattle.sift_core.specs.Machines.{Flies, layout_of, progress_at, distances};
+ghost use Rattle.sift_core.specs.Machines.{Flies, AreNewBoards, layout_of, progress_at};
 ghost use Rattle.sift_core.specs.Steps.{StepsUnit};
 
 use crate::rack::Rack;
-use sift_base::UnitId;
-use sift_buffer::events_keep_the_core_lawful;
-use sift_unit::{Board, Mission, Stepped};
+use sift_base::{NoMemory, UnitId};
+use sift_buffer::{events_keep_the_core_lawful, fresh_is_lawful};
+use sift_unit::{Board, Mission, Stepped, a_mission_fits, new_boards_may_step};
+use std::alloc::Global;
 
 /// All units of a mission: the boards, and the words and acts over which they step.
 #[derive(Drop)]
@@ -18,6 +19,34 @@ pub struct Machine {
 }
 
 impl Machine {
+    /// All units before their first step. It takes all memory of their flight.
+    pub fn make(alloc: Global, mission: &Mission) -> Result<Machine, NoMemory>
+        ensures flies { IfOk result (λ machine. Flies (mission_of mission.now) machine) }
+        ensures layout { IfOk result (λ machine. layout_of machine ≡ mission.now.layout) }
+    {
+        a_mission_fits(mission);
+        fresh_is_lawful();
+        new_boards_may_step();
+        let parts = mission.parts();
+        let rack = Rack::make(alloc, parts.layout, parts.frames)?;
+        let boards = Machine::make_boards(alloc, mission)?;
+        Ok(Machine { rack, boards })
+    }
+
+    /// The boards of all units, in their order.
+    fn make_boards(alloc: Global, mission: &Mission) -> Result<Vec<Board>, NoMemory>
+        ensures { IfOk result (λ boards. AreNewBoards (mission_of mission.now) mission.now.units boards.items) }
+    {
+        let units = mission.parts().units;
+        let mut boards = Vec::with_capacity(alloc, usize::from(units))?;
+        for number in 0..units {
+            if let Some(unit) = UnitId::of(number) {
+                boards.push_reserved(Board::make(alloc, mission, unit)?);
+            }
+        }
+        Ok(boards)
+    }
+
     /// The next step of a unit. All else of the other units stays as it was.
     pub fn step(&mut self, mission: &Mission, u: UnitId) -> Stepped
         requires flies { Flies (mission_of mission.now) self.old }

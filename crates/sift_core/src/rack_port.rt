@@ -62,6 +62,13 @@ impl Rack {
         u64::from(self.acts[usize::from(unit.get())].progress())
     }
 
+    /// The acts alone.
+    pub(crate) fn end(self) -> Vec<Acts>
+        ensures { result ≡ self.acts }
+    {
+        self.acts
+    }
+
     /// Stores the progress of the unit, raised by one.
     fn go_on(&mut self)
         requires may { MayEnter (view_of self.old).conduct }

@@ -1,3 +1,13 @@
+pub mod Above
+pub mod Joined
+pub mod Reading
+pub mod Results
+pub mod Numerals
+pub mod Ascending
+pub mod Sets
+pub mod LineForms
+pub mod Fields
+pub mod Printed
 mod SameTexts
 mod Places
 mod HeadlineLines

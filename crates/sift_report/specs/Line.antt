@@ -31,9 +31,13 @@ fields_of (Last frames cfg margin) =
 abbrev pub line_text : ReportLine → List ℕ
 line_text line = join_with_byte blank (fields_of line)
 
+-- a line with its line feed
+abbrev pub printed : ReportLine → List ℕ
+printed line = line_text line ++ codes "\n"
+
 -- lines as they are printed, each with its line feed
 abbrev pub text_of_lines : List ReportLine → List ℕ
-text_of_lines lines = flat_map (λ line. line_text line ++ codes "\n") lines
+text_of_lines lines = flat_map printed lines
 
 -- each field of the line holds what it can: a number of 32 bits, a unit, a configuration, ticks of 64 bits, so many words, units
 abbrev pub IsLine : ReportLine → Type 0

@@ -8,7 +8,7 @@ use Rattle.sift_unit.specs.Mission.{Mission}
 use Rattle.sift_flight.specs.Flight.{Flight}
 use Rattle.sift_flight.specs.Configuration.{config_at}
 use Rattle.sift_flight.specs.Figures.{margin_at, skew_at, slack_at}
-use Rattle.sift_report.specs.Line.{text_of_lines}
+use Rattle.sift_report.specs.Line.{printed, text_of_lines}
 use Rattle.sift_report.specs.declared.line.ReportLine.{ReportLine}
 use Rattle.sift_report.specs.declared.line.ReportLine.TheVariants.{Unit as unit, Faulty, Idle, Frame, Last}
 
@@ -46,4 +46,4 @@ report_of m fl = text_of_lines (sheet_of m fl)
 
 -- the last line of the report, with its line feed
 abbrev pub end_of : Mission → Flight → List ℕ
-end_of m fl = text_of_lines (last_line m fl ∷ [])
+end_of m fl = printed (last_line m fl)

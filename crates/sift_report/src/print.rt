@@ -3,7 +3,7 @@
 ghost use Rattle.std.specs.Prelude.{◌≡◌, ◌<◌, ◌++◌, ◌∷◌, [], false, codes, string_bytes, OnOk};
 ghost use Rattle.std.specs.Fmt.{decimal, digit_glyph};
 ghost use Rattle.sift_base.specs.Units.{members};
-ghost use Rattle.sift_report.specs.Line.{caught_text, text_of_lines};
+ghost use Rattle.sift_report.specs.Line.{caught_text, printed};
 ghost use Rattle.sift_report.specs.Part.{margin_text, ticks_text, unit_digit, units_text, word_text, words_text};
 
 use crate::line::ReportLine;
@@ -14,7 +14,7 @@ use std::alloc::AllocError;
 
 /// Appends a line, with its line feed.
 pub fn push_line(text: &mut String, line: &ReportLine) -> Result<(), AllocError>
-    ensures { OnOk result (string_bytes text.new ≡ string_bytes text.old ++ text_of_lines (line.now ∷ [])) }
+    ensures { OnOk result (string_bytes text.new ≡ string_bytes text.old ++ printed line.now) }
 {
     match line {
         ReportLine::Unit {

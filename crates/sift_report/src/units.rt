@@ -56,6 +56,7 @@ fn read_units(text: &str) -> Option<ArrayVec<UnitId, 8>>
 
 /// The set of units that is printed so, where there is one.
 pub fn read_set(text: &str) -> Option<UnitSet>
+    ensures units { IfSome result AreUnits }
     ensures printed { IfSome result (λ units. units_text (members units) ≡ text.now) }
     ensures exact { (units : Units) → AreUnits units → units_text (members units) ≡ text.now → result ≡ Some units }
 {
@@ -66,7 +67,8 @@ pub fn read_set(text: &str) -> Option<UnitSet>
 /// The set of ascending units.
 fn set_of(units: &[UnitId]) -> UnitSet
     requires { AscendFrom 0 units.now }
-    ensures { members result ≡ units.now }
+    ensures members { members result ≡ units.now }
+    ensures units { AreUnits result }
 {
     let mut set = UnitSet::empty();
     for unit in units {

@@ -1,6 +1,5 @@
-use Rattle.std.proofs.Common.{◌≡◌, ℕ, ◌≤◌, arith, Some, None}
+use Rattle.std.proofs.Common.{arith}
 use Rattle.sift_unit.specs.Flown.{mission_of}
-use Rattle.sift_core.specs.Machines.{layout_of}
 use Rattle.sift_core.proofs.Least.{least_ends}
 use Rattle.sift_core.proofs.machine.Machine.least.Goals as goal
 

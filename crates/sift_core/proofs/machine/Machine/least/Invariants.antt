@@ -1,6 +1,6 @@
-use Rattle.std.proofs.Common.{ℕ, ◌≤◌, ◌<◌, ◌*◌}
+use Rattle.std.proofs.Common.{◌≤◌}
 use Rattle.sift_unit.specs.Flown.{mission_of}
-use Rattle.sift_core.specs.Machines.{progress_at, layout_of}
+use Rattle.sift_core.specs.Machines.{layout_of}
 use Rattle.sift_core.proofs.Least.{IsLeastBelow}
 use Rattle.sift_core.proofs.machine.Machine.least.Given as goal
 

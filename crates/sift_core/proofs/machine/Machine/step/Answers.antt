@@ -1,6 +1,6 @@
 use Rattle.std.proofs.Common.{◌∙◌, refl}
 use Rattle.sift_unit.specs.Flown.{mission_of}
-use Rattle.sift_core.proofs.MachineSteps.{Stepping, unit_below, drives_chosen, step_flies, step_stepped}
+use Rattle.sift_core.proofs.MachineSteps.{unit_below, drives_chosen, step_flies, step_stepped}
 use Rattle.sift_core.proofs.machine.Machine.step.Goals as goal
 
 pub choose-requires : goal.choose-requires

@@ -1,5 +1,5 @@
 use Rattle.sift_unit.specs.Flown.{mission_of}
-use Rattle.sift_core.proofs.Turning.{Drawn, unit_there, own_turn, own_nearer, own_layout, least_turn, least_nearer, least_layout}
+use Rattle.sift_core.proofs.Turning.{unit_there, own_turn, own_nearer, least_turn, least_nearer}
 use Rattle.sift_core.proofs.machine.Machine.turn.Goals as goal
 
 pub goes_itself-requires-clause-unit : goal.goes_itself-requires-clause-unit

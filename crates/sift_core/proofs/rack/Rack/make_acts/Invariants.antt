@@ -1,4 +1,4 @@
-use Rattle.std.proofs.Common.{◌≡◌, ◌≤◌, vec_capacity}
+use Rattle.std.proofs.Common.{◌≤◌, vec_capacity}
 use Rattle.sift_core.specs.Crews.{IsCrew}
 use Rattle.sift_core.proofs.rack.Rack.make_acts.Given as goal
 

@@ -1,5 +1,5 @@
 use Rattle.std.proofs.Common.{◌≡◌, ◌<◌, ℕ, slice_index, length, sym, refl, ◌∙◌, arith}
-use Rattle.sift_buffer.specs.Conduct.{Conduct, put, with_seen}
+use Rattle.sift_buffer.specs.Conduct.{put, with_seen}
 use Rattle.sift_buffer.specs.Core.{look}
 use Rattle.sift_core.specs.Racks.{core_of}
 use Rattle.sift_core.specs.declared.rack.Rack.{Rack}

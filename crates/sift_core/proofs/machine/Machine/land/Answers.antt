@@ -1,0 +1,25 @@
+use Rattle.std.proofs.Common.{◌∙◌, ap, map, List, subst}
+use Rattle.std.specs.List.{All}
+use Rattle.sift_buffer.specs.Ledgers.{Ledger, HasItsWords}
+use Rattle.sift_unit.specs.Flown.{mission_of}
+use Rattle.sift_core.proofs.Home.{landed_round, landed_logged}
+use Rattle.sift_core.proofs.machine.Machine.land.Goals as goal
+
+pub returns-clause-round : goal.returns-clause-round
+returns-clause-round c = landed_round (mission_of c.args.mission.now) c.args.self (record { journals = c.journals_of.result; accounts = c.accounts_of.result }) (record {
+  flies = c.requires.flies;
+  landed = c.requires.landed;
+  words = subst (λ (acts : List Ledger). All HasItsWords acts) (ap (λ acts. acts.items) c.end.ensures) c.journals_of.ensures.words;
+  journals = c.journals_of.ensures.journals ∙ ap (λ acts. map (λ ledger. ledger.pages) acts.items) c.end.ensures;
+  accounts = c.accounts_of.ensures;
+})
+    c.boards_keep_to_their_conduct.ensures c.lawful_cores_hear_lawfully.ensures c.landed_frames_are_round.ensures
+
+pub returns-clause-logged : goal.returns-clause-logged
+returns-clause-logged c = landed_logged (mission_of c.args.mission.now) c.args.self (record { journals = c.journals_of.result; accounts = c.accounts_of.result }) (record {
+  flies = c.requires.flies;
+  landed = c.requires.landed;
+  words = subst (λ (acts : List Ledger). All HasItsWords acts) (ap (λ acts. acts.items) c.end.ensures) c.journals_of.ensures.words;
+  journals = c.journals_of.ensures.journals ∙ ap (λ acts. map (λ ledger. ledger.pages) acts.items) c.end.ensures;
+  accounts = c.accounts_of.ensures;
+})

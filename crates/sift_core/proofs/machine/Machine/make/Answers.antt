@@ -1,0 +1,11 @@
+use Rattle.std.proofs.Common.{subst}
+use Rattle.sift_unit.specs.Data.{data_of}
+use Rattle.sift_unit.specs.declared.parts.MissionParts.{MissionParts}
+use Rattle.sift_core.specs.Racks.{IsNewRack}
+use Rattle.sift_core.proofs.NewMachines.{new_flies}
+use Rattle.sift_core.proofs.machine.Machine.make.Goals as goal
+
+pub returns-clause-flies : goal.returns-clause-flies
+returns-clause-flies c = new_flies (data_of c.args.mission.now) _ c.parts-parts.ensures.fit c.fresh_is_lawful.ensures c.new_boards_may_step.ensures
+    (subst (λ (p : MissionParts). IsNewRack c.in_ok-rack.rack p.layout p.frames) c.parts-parts.ensures.same c.in_ok-rack.ensures)
+    c.in_ok-boards.ensures

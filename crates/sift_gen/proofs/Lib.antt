@@ -1,0 +1,5 @@
+mod Drawing
+mod Placing
+mod Listing
+mod Shallow
+mod Trees

@@ -1,0 +1,7 @@
+use Rattle.std.proofs.Common.{rules}
+use Rattle.sift_gen.specs.Draws.{after}
+use Rattle.sift_gen.proofs.task.drawn.Goals as goal
+
+pub returns : goal.returns
+unfolding after
+returns c = search rules

@@ -1,0 +1,4 @@
+pub mod Draws
+pub mod Entries
+pub mod Tasks
+pub mod Scenario

@@ -1,0 +1,114 @@
+-- The scenario that is drawn from a number, as the tree of a document.
+use Rattle.std.specs.Prelude.{codes, ℕ, zero, suc, ◌+◌, ◌-◌, ◌*◌, List, [], ◌∷◌, map, nat_eq, not}
+use Rattle.std.specs.Fmt.{decimal}
+use Rattle.std.specs.List.{filter, flat_map, range_with_len}
+use Rattle.toml.specs.Data.{Data, Members, no_members, string, table}
+use Rattle.sift_gen.specs.Draws.{after, draw_at}
+use Rattle.sift_gen.specs.Entries.{array_of, number, placed}
+use Rattle.sift_gen.specs.Tasks.{draws_by, pattern_count, pattern_of, sensor_name, task_name, text_by, word_values}
+use Rattle.sift_gen.specs.declared.task.Pattern.{Pattern}
+
+-- ---- counts
+
+-- how many units there are: 5 to 8
+abbrev pub unit_count : ℕ → ℕ
+unit_count n = 5 + draw_at n 0 4
+
+-- how many frames: 20 to 200
+abbrev pub frame_count : ℕ → ℕ
+frame_count n = 20 + draw_at n 1 181
+
+-- how many sensors: 1 to 8
+abbrev pub sensor_count : ℕ → ℕ
+sensor_count n = 1 + draw_at n 2 8
+
+-- how many tasks: 1 to 12
+abbrev pub task_count : ℕ → ℕ
+task_count n = 1 + draw_at n 3 12
+
+-- ---- sensors
+
+-- how many words each sensor has
+abbrev pub words_each : ℕ
+words_each = 16
+
+-- the words of a sensor: the draws from x
+unfoldable pub sensor_words : ℕ → List Data
+sensor_words x = map (λ i. number (draw_at x i word_values)) (range_with_len 0 words_each)
+
+-- the table of sensor k, whose words are the draws from x
+abbrev pub sensor_table : (k x : ℕ) → Data
+sensor_table k x = table (placed (codes "words") (array_of (sensor_words x)) (placed (codes "name") (string (sensor_name k)) no_members))
+
+-- the tables of the first sensors, of which the words are the draws from x
+abbrev pub sensor_tables : (sensors x : ℕ) → List Data
+sensor_tables sensors x = map (λ k. sensor_table k (after x (words_each * k))) (range_with_len 0 sensors)
+
+-- ---- tasks
+
+-- the pattern of task t, whose draws are those from x: the second is its pattern
+abbrev pub pattern_from : (t x : ℕ) → Pattern
+pattern_from t x = pattern_of (draw_at x 1 pattern_count) t
+
+-- the table of a task: its name, its start word and its text
+abbrev pub task_entries : (t start : ℕ) → (text : List ℕ) → Data
+task_entries t start text = table (placed (codes "text") (string text) (placed (codes "start") (array_of (number start ∷ []))
+    (placed (codes "name") (string (task_name t)) no_members)))
+
+-- the table of task t, whose draws are those from x: its start word, its pattern, and those of the pattern
+abbrev pub task_table : (t sensors x : ℕ) → Data
+task_table t sensors x = task_entries t (draw_at x 0 word_values) (text_by (pattern_from t x) t sensors (after x 2))
+
+-- the generator's number where task t begins, where the first task begins at x
+abbrev pub task_place : (t x : ℕ) → ℕ
+task_place zero x = x
+task_place (suc t) x = after (after (task_place t x) 2) (draws_by (pattern_from t (task_place t x)))
+
+-- the tables of the first tasks
+abbrev pub task_tables : (tasks sensors x : ℕ) → List Data
+task_tables tasks sensors x = map (λ t. task_table t sensors (task_place t x)) (range_with_len 0 tasks)
+
+-- ---- the fault
+
+-- the digits of all units but one
+abbrev pub other_digits : (units unit : ℕ) → List ℕ
+other_digits units unit = flat_map decimal (filter (λ u. not (nat_eq u unit)) (range_with_len 0 units))
+
+-- the item of a wrong word of a task, said to all other units
+abbrev pub fault_item : (units unit task value : ℕ) → Data
+fault_item units unit task value = table (placed (codes "value") (number value) (placed (codes "to") (string (other_digits units unit))
+    (placed (codes "word") (number 0) (placed (codes "index") (number task) (placed (codes "slot") (string (codes "out")) no_members)))))
+
+-- the table of a fault: the unit, its first frame, and the wrong value that it says for a task's word
+abbrev pub fault_entries : (units unit from task value : ℕ) → Data
+fault_entries units unit from task value = table (placed (codes "say") (array_of (fault_item units unit task value ∷ []))
+    (placed (codes "from") (number from) (placed (codes "unit") (number unit) no_members)))
+
+-- the table of the fault, whose draws are those from x: the unit, its first frame, the task and the wrong value
+abbrev pub fault_table : (units frames tasks x : ℕ) → Data
+fault_table units frames tasks x =
+    fault_entries units (draw_at x 0 units) (draw_at x 1 frames) (draw_at x 2 tasks) (draw_at x 3 word_values)
+
+-- ---- the tree
+
+-- the generator's number where the sensors begin, where the tasks do, and where the fault does
+abbrev pub sensor_place : ℕ → ℕ
+sensor_place n = after n 4
+
+abbrev pub first_task_place : ℕ → ℕ
+first_task_place n = after (sensor_place n) (words_each * sensor_count n)
+
+abbrev pub fault_place : ℕ → ℕ
+fault_place n = task_place (task_count n) (first_task_place n)
+
+-- the tree of a document with these units, frames, sensors, tasks and one fault
+abbrev pub document_of : (units frames : ℕ) → (sensors tasks : List Data) → (fault : Data) → Members
+document_of units frames sensors tasks fault =
+    placed (codes "fault") (array_of (fault ∷ [])) (placed (codes "task") (array_of tasks) (placed (codes "sensor") (array_of sensors)
+    (placed (codes "frames") (number frames) (placed (codes "units") (number units) no_members))))
+
+-- the tree of the scenario with number n
+abbrev pub tree_of : ℕ → Members
+tree_of n = document_of (unit_count n) (frame_count n)
+    (sensor_tables (sensor_count n) (sensor_place n)) (task_tables (task_count n) (sensor_count n) (first_task_place n))
+    (fault_table (unit_count n) (frame_count n) (task_count n) (fault_place n))

@@ -1,0 +1,61 @@
+-- The tasks of a drawn scenario: each follows one of four patterns.
+use Rattle.std.specs.Prelude.{codes, ℕ, ◌==◌, ◌&&◌, nat_lt, if◌then◌else◌, List, [], ◌∷◌, ◌++◌}
+use Rattle.std.specs.Fmt.{decimal}
+use Rattle.std.specs.List.{concat}
+use Rattle.sift_gen.specs.Draws.{draw_at}
+use Rattle.sift_gen.specs.declared.task.Pattern.{Pattern}
+use Rattle.sift_gen.specs.declared.task.Pattern.TheVariants.{Sum, Middle, Chase, Triple}
+
+-- the number of values of a word, and of the patterns
+abbrev pub word_values : ℕ
+word_values = 65536
+
+abbrev pub pattern_count : ℕ
+pattern_count = 4
+
+-- ---- texts
+
+-- the name of a sensor, and of a task
+abbrev pub sensor_name : ℕ → List ℕ
+sensor_name x = codes "s" ++ decimal x
+
+abbrev pub task_name : ℕ → List ℕ
+task_name t = codes "t" ++ decimal t
+
+-- a sensor's words are summed up
+abbrev pub sum_text : (t a : ℕ) → List ℕ
+sum_text t a = concat (codes "out 0 = sense " ∷ sensor_name a ∷ codes " + last " ∷ task_name t ∷ codes ".0;" ∷ [])
+
+-- the middle one of two sensors and the word before
+abbrev pub middle_text : (t a b : ℕ) → List ℕ
+middle_text t a b = concat (codes "out 0 = mid(sense " ∷ sensor_name a ∷ codes ", sense " ∷ sensor_name b
+    ∷ codes ", last " ∷ task_name t ∷ codes ".0);" ∷ [])
+
+-- one step a frame after a sensor
+abbrev pub chase_text : (t a : ℕ) → List ℕ
+chase_text t a = concat (codes "let d = sense " ∷ sensor_name a ∷ codes " - last " ∷ task_name t
+    ∷ codes ".0; if d < 0 { out 0 = last " ∷ task_name t ∷ codes ".0 - 1; } else { out 0 = last " ∷ task_name t ∷ codes ".0 + 1; }" ∷ [])
+
+-- three times an earlier task's word, and a sensor
+abbrev pub triple_text : (d a : ℕ) → List ℕ
+triple_text d a = concat (codes "out 0 = now " ∷ task_name d ∷ codes ".0 * 3 + sense " ∷ sensor_name a ∷ codes ";" ∷ [])
+
+-- ---- patterns
+
+-- the pattern of task t, by the number drawn for it; the first task has no earlier one
+abbrev pub pattern_of : (n t : ℕ) → Pattern
+pattern_of n t = if n == 1 then Middle else if n == 2 then Chase else if n == 3 && nat_lt 0 t then Triple else Sum
+
+-- the text of task t by its pattern, where the draws of the pattern are those from x, among so many sensors
+abbrev pub text_by : Pattern → (t sensors x : ℕ) → List ℕ
+text_by Sum t sensors x = sum_text t (draw_at x 0 sensors)
+text_by Middle t sensors x = middle_text t (draw_at x 0 sensors) (draw_at x 1 sensors)
+text_by Chase t sensors x = chase_text t (draw_at x 0 sensors)
+text_by Triple t sensors x = triple_text (draw_at x 0 t) (draw_at x 1 sensors)
+
+-- how many draws a pattern takes
+abbrev pub draws_by : Pattern → ℕ
+draws_by Sum = 1
+draws_by Middle = 2
+draws_by Chase = 1
+draws_by Triple = 2

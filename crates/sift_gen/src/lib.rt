@@ -1,0 +1,10 @@
+//! Scenarios drawn from a number: each is a mission of five to eight units, of which one turns faulty.
+#![tactic(auto)]
+
+mod entry;
+mod fault;
+mod scenario;
+mod sensor;
+mod task;
+
+pub use scenario::{scenario_text, scenario_tree};

@@ -1,0 +1,17 @@
+-- What the option of a result tells of it.
+use Rattle.std.proofs.Common.{◌≡◌, ap, Option, Result, Ok, Err, Some, None}
+use Rattle.std.specs.Result.{OnOk, OnErr, result_ok}
+
+-- where there is a value, the result was one
+pub on_ok : {T E : Type 0} (r : Result T E) (x : T) (P : Type 0) → result_ok r ≡ Some x → OnOk r P → P
+on_ok (Ok y) x P e h = h
+on_ok (Err y) x P e h = (cc)
+
+-- and where there is none, it was an error
+pub on_err : {T E : Type 0} (r : Result T E) (P : Type 0) → result_ok r ≡ None → OnErr r P → P
+on_err (Ok y) P e h = (cc)
+on_err (Err y) P e h = h
+
+-- values that are given are one where the options are
+pub held : {X : Type 0} (x y : X) → Some x ≡ Some y → x ≡ y
+held x y e = cc

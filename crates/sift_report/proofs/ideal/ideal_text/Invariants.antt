@@ -1,0 +1,13 @@
+use Rattle.std.proofs.Common.{◌≡◌, string_bytes}
+use Rattle.std.specs.List.{flat_map, range_with_len}
+use Rattle.sift_program.specs.Ideal.{words_before}
+use Rattle.sift_unit.specs.Data.{data_of}
+use Rattle.sift_unit.specs.Flown.{mission_of}
+use Rattle.sift_report.specs.Ideal.{ideal_line, sensed_in}
+use Rattle.sift_report.proofs.ideal.ideal_text.Given as goal
+
+-- the lines of the frames so far are written, and the machine has run them
+abbrev pub invariant-loop-f : goal.invariant-loop-f
+invariant-loop-f l =
+    (string_bytes l.text ≡ flat_map (ideal_line (data_of l.mission)) (range_with_len 0 l.f))
+    × (l.ideal ≡ words_before (data_of l.mission).program (sensed_in (mission_of l.mission)) l.f)

@@ -1,0 +1,1 @@
+use Rattle.sift_report.proofs.print.members_of.Goals as goal

@@ -1,0 +1,12 @@
+use Rattle.std.proofs.Common.{◌≡◌, ◌++◌, map, take, string_bytes}
+use Rattle.sift_unit.specs.Flown.{mission_of}
+use Rattle.sift_flight.specs.Told.{told}
+use Rattle.sift_report.specs.Line.{text_of_lines}
+use Rattle.sift_report.specs.Sheet.{unit_line}
+use Rattle.sift_report.proofs.report.push_frame.Given as goal
+
+-- the lines of the units so far are written
+abbrev pub invariant-loop-i : goal.invariant-loop-i
+invariant-loop-i l =
+    string_bytes l.text ≡ string_bytes l.initial.text
+    ++ text_of_lines (map (unit_line (mission_of l.mission) (told (mission_of l.mission) l.flight) l.f) (take l.i l.everyone))
