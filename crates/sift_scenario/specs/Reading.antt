@@ -19,10 +19,12 @@ use Rattle.sift_scenario.specs.Root.{frames_of, period_of, units_of}
 use Rattle.sift_scenario.specs.Sensor.{sensor_names, sensor_words}
 use Rattle.sift_scenario.specs.Table.{IsTimeless, positions_of, schedules_of, size_of}
 use Rattle.sift_scenario.specs.Task.{AreForms, name_of, start_words, tasks_of}
+use Rattle.sift_scenario.specs.TaskRules.{IsTaskNumber}
 use Rattle.sift_scenario.specs.Testing.{form_of}
 
--- these are the names, the start words and the forms of the tasks in these tables
+-- these are the names, the start words and the forms of the tasks in these tables, which are as many as may be
 pub record AreTasksRead (tables : List Members) (tasks : Tasks) : Type 0 where
+  pub few : IsTaskNumber (length tables)
   pub names : map (λ name. Some name.bytes) tasks.names.items ≡ map name_of tables
   pub starts : map (λ words. Some words.items) tasks.starts.items ≡ map start_words tables
   pub forms : AreForms tables (map form_of tasks.forms.items)

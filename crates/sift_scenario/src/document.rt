@@ -1,8 +1,9 @@
 //! What a document states, by its rules.
 
-ghost use Rattle.std.specs.Prelude.{◌≡◌, ◌≤◌, IfErr, IfOk, unwrap_or};
+ghost use Rattle.std.specs.Prelude.{◌≡◌, ◌≤◌, IfErr, IfOk, IfSome, unwrap_or};
 ghost use Rattle.toml.specs.View.{table_view};
 ghost use Rattle.sift_base.specs.Shapes.{task_limit};
+ghost use Rattle.sift_unit.specs.PartsFit.{longest_period};
 ghost use Rattle.sift_scenario.specs.Lawful.{rules_of};
 ghost use Rattle.sift_scenario.specs.Reading.{IsReadOf};
 ghost use Rattle.sift_scenario.specs.Root.{plain_period};
@@ -59,9 +60,13 @@ pub(crate) fn entries_of(alloc: Global, document: &toml::Table) -> Result<Entrie
 }
 
 /// How many subframes a frame has: as many as stated, or else as the plain table of so many tasks needs.
-fn period_of(subframes: Option<u8>, tasks: u8) -> u8
-    requires { tasks ≤ task_limit }
+fn period_of(subframes: Option<u32>, tasks: u8) -> u8
+    requires tasks { tasks ≤ task_limit }
+    requires subframes { IfSome subframes (λ stated. stated ≤ longest_period) }
     ensures { result ≡ unwrap_or subframes (plain_period tasks) }
 {
-    subframes.unwrap_or(10 + 2 * tasks)
+    match subframes {
+        Some(stated) => stated as u8,
+        None => 10 + 2 * tasks,
+    }
 }

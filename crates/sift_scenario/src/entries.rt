@@ -15,7 +15,12 @@ use std::alloc::Global;
 use toml::{Table, Value};
 
 /// The entries of an array that has from `low` to `high` of them, by the rule of this number.
-pub(crate) fn entries_between(value: &Value, low: usize, high: usize, rule: u32) -> Result<&[Value], Refused>
+pub(crate) fn entries_between(
+    value: &Value,
+    low: usize,
+    high: usize,
+    rule: u32,
+) -> Result<&[Value], Refused>
     ensures entries { IfOk result (λ entries. map (λ entry. view entry) entries.now ≡ entries_of (Some (view value.now))) }
     ensures few { IfOk result (λ entries. length entries.now ≤ high) }
     ensures right { IfOk result (λ _. IsArrayOf low high (view value.now)) }

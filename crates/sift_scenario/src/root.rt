@@ -15,7 +15,7 @@ pub(crate) struct Root {
     pub units: u8,
     pub frames: u32,
     /// Where the document states it.
-    pub subframes: Option<u8>,
+    pub subframes: Option<u32>,
 }
 
 /// What the root states beside its entries.
@@ -82,14 +82,13 @@ fn check_version(document: &Table) -> Result<(), Refused>
 }
 
 /// How many subframes a frame has, where it is stated.
-fn subframes_of(document: &Table) -> Result<Option<u8>, Refused>
+fn subframes_of(document: &Table) -> Result<Option<u32>, Refused>
     ensures subframes { IfOk result (λ subframes. (unstated : ℕ) →
         period_or unstated (table_view document.now) ≡ Some (unwrap_or subframes unstated)) }
     ensures tests { Tests 5 (BreaksSubframes (table_view document.now)) result }
 {
     match optional_between(document, "subframes", 12, 64) {
-        Some(Some(subframes)) => Ok(Some(subframes as u8)),
-        Some(None) => Ok(None),
+        Some(subframes) => Ok(subframes),
         None => Err(broken(5, 0)),
     }
 }

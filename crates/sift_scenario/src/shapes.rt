@@ -14,11 +14,7 @@ use sift_program::Program;
 use std::alloc::Global;
 
 /// The shapes of a program's tasks, beside so many sensors.
-pub(crate) fn shapes_of(
-    alloc: Global,
-    program: &Program,
-    sensors: u8,
-) -> Result<Shapes, NoMemory>
+pub(crate) fn shapes_of(alloc: Global, program: &Program, sensors: u8) -> Result<Shapes, NoMemory>
     requires { IsSoundProgram sensors (program_of program.now) }
     ensures { IfOk result (λ shapes. shapes_of shapes ≡ program_shapes sensors (program_of program.now)) }
 {

@@ -59,12 +59,7 @@ fn all_plain(alloc: Global, units: u8, period: u8, tasks: u8) -> Result<Vec<Tabl
 }
 
 /// The tables that the value of `table` states.
-fn stated_tables(
-    alloc: Global,
-    value: &Value,
-    units: u8,
-    period: u8,
-) -> Result<Vec<Table>, Refused>
+fn stated_tables(alloc: Global, value: &Value, units: u8, period: u8) -> Result<Vec<Table>, Refused>
     requires enough_units { least_units ≤ units }
     requires few_units { units ≤ unit_limit }
     ensures read { IfOk result (λ tables.
@@ -130,29 +125,25 @@ fn check_times(alloc: Global, tables: &[&toml::Table]) -> Result<(), Refused>
     ensures { Tests 24 (BreaksTimes (map (λ table. table_view table.now) tables.now)) result }
 {
     for (place, table) in tables.iter().enumerate() {
-        if !has_times(alloc, table)? {
+        let timeless = is_timeless(alloc, table)?;
+        if timeless {
             return Err(broken(24, place));
         }
     }
     Ok(())
 }
 
-/// Whether a table says when the tasks are run and polled.
-fn has_times(alloc: Global, table: &toml::Table) -> Result<bool, NoMemory>
-    ensures { IfOk result (λ has. IsTrue has
-        ↔ (IsTimeless (table_view table.now) → ⊥)) }
+/// Whether a table doesn't say when the tasks are run and polled.
+fn is_timeless(alloc: Global, table: &toml::Table) -> Result<bool, NoMemory>
+    ensures { IfOk result (λ timeless. IsTrue timeless ↔ IsTimeless (table_view table.now)) }
 {
     let run = subframes_at(alloc, table, "run")?;
     let poll = subframes_at(alloc, table, "poll")?;
-    Ok(run.is_some() && poll.is_some())
+    Ok(run.is_none() || poll.is_none())
 }
 
 /// The schedules that these tables state, for frames of so many subframes.
-fn read_tables(
-    alloc: Global,
-    tables: &[&toml::Table],
-    period: u8,
-) -> Result<Vec<Table>, Refused>
+fn read_tables(alloc: Global, tables: &[&toml::Table], period: u8) -> Result<Vec<Table>, Refused>
     requires few { length tables.now ≤ unit_limit }
     requires sized { All (λ table. size_of (table_view table.now) ≢ None) tables.now }
     requires timed { IsKept (rule 24 (BreaksTimes (map (λ table. table_view table.now) tables.now))) }
@@ -194,11 +185,7 @@ fn read_table(alloc: Global, table: &toml::Table, period: u8) -> Result<Option<T
 }
 
 /// The subframes at a key of a table.
-fn subframes_at(
-    alloc: Global,
-    table: &toml::Table,
-    key: &str,
-) -> Result<Option<Vec<u8>>, NoMemory>
+fn subframes_at(alloc: Global, table: &toml::Table, key: &str) -> Result<Option<Vec<u8>>, NoMemory>
     ensures { IfOk result (λ found.
         option_map (λ list. list.items) found ≡ read_at (array_of subframe) key.now (table_view table.now)) }
 {

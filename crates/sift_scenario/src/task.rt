@@ -50,7 +50,7 @@ pub(crate) fn tasks_of(alloc: Global, document: &Table) -> Result<Tasks<'_>, Ref
 
 /// What these tables state, where no rule of the tasks is broken.
 fn read_tasks<'a>(alloc: Global, tables: &[&'a Table]) -> Result<Tasks<'a>, Refused>
-    requires { length tables.now ≤ task_limit }
+    requires { IsTaskNumber (length tables.now) }
     ensures read { IfOk result (AreTasksRead (map (λ task. table_view task.now) tables.now)) }
     ensures tests { TestsEach (each_task_rules (map (λ task. table_view task.now) tables.now)) result }
 {

@@ -100,7 +100,16 @@ pub(crate) fn compile_tasks(
     for (task, form) in forms.iter().enumerate() {
         names.this = task;
         let tree = form_tree(alloc, form, names)?;
-        let code = tree_code(alloc, &tree, task, Room { sensors, words, left })?;
+        let code = tree_code(
+            alloc,
+            &tree,
+            task,
+            Room {
+                sensors,
+                words,
+                left,
+            },
+        )?;
         left -= code.bound();
         trees.push(tree)?;
         codes.push(code)?;

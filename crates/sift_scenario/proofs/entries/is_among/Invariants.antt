@@ -1,5 +1,5 @@
 use Rattle.std.proofs.Common.{◌≢◌, ◌<◌, ℕ, get_or, map}
-use Rattle.sift_scenario.proofs.task.is_among.Given as goal
+use Rattle.sift_scenario.proofs.entries.is_among.Given as goal
 
 -- none of the names so far is the text
 abbrev pub invariant-loop-name : goal.invariant-loop-name

@@ -1,0 +1,31 @@
+use Rattle.std.proofs.Common.{◌≡◌, ◌<◌, ℕ, List, length, ap, map, sym, ◌∙◌, arith}
+use Rattle.std.proofs.lemmas.List.{length-map}
+use Rattle.toml.specs.View.{table_view, view}
+use Rattle.sift_scenario.proofs.Order.{ok_from}
+use Rattle.sift_scenario.proofs.Places.{map_map}
+use Rattle.sift_scenario.proofs.TaskTests.{tested_tasks}
+use Rattle.sift_scenario.proofs.Testing.{some_entry}
+use Rattle.sift_scenario.specs.Document.{members_of}
+use Rattle.sift_scenario.specs.TaskRules.{IsTaskNumber}
+use Rattle.sift_scenario.proofs.task.task_tables.Goals as goal
+
+pub returns-clause-tables : goal.returns-clause-tables
+returns-clause-tables c =
+    ok_from _ _ c.tables_in.result (λ tables so. so ∙ map_map members_of view c.entries_at-entries.result.now ∙ ap (map members_of) c.entries_at-entries.ensures) c.tables_in.ensures.tables
+
+pub returns-clause-few : goal.returns-clause-few
+returns-clause-few c =
+    let entries = c.entries_at-entries.result.now in
+    let some = some_entry entries c.if-is_empty.ensures in
+    ok_from _ _ c.tables_in.result (λ tables so.
+    let long : length tables.items ≡ length entries =
+    sym (length-map tables.items (λ table. table_view table.now)) ∙ ap length so ∙ length-map entries (λ entry. members_of (view entry)) in
+    (omega (arith, long, some, length-map entries view), omega (arith, long, c.if-entries-gt-TASK_LIMIT.false)))
+    c.tables_in.ensures.tables
+
+-- what tests the entries tests the rule
+pub returns-clause-tests : goal.returns-clause-tests
+returns-clause-tests c =
+    let entries = c.entries_at-entries.result.now in
+    let number : IsTaskNumber (length (map view entries)) = (some_entry entries c.if-is_empty.ensures, omega (arith, length-map entries view, c.if-entries-gt-TASK_LIMIT.false)) in
+    tested_tasks (table_view c.args.document.now) (map view entries) c.entries_at-entries.ensures number c.tables_in.result c.tables_in.ensures.tests
