@@ -1,15 +1,14 @@
 -- Trees and codes of tasks, one after another.
-use Rattle.std.proofs.Common.{◌≡◌, ◌<◌, ◌≤◌, ◌-◌, inl, inr, ℕ, List, [], ◌∷◌, ◌++◌, length, map, take, sym, ap, subst, ◌∙◌, arith}
-use Rattle.std.proofs.lemmas.List.{map-append, take-append-le, take_at}
+use Rattle.std.proofs.Common.{◌≡◌, ◌<◌, ◌≤◌, ◌-◌, inl, inr, ℕ, List, [], ◌∷◌, ◌++◌, length, map, take, sym, ap, subst, ◌∙◌, arith, length-append}
+use Rattle.std.proofs.lemmas.List.{take-append-le, take_at}
 use Rattle.std.proofs.lemmas.List.Sums.{sum_by-append, sum_by-cons, sum_by_more_le}
 use Rattle.std.proofs.Math.Nat.{min-eq_left}
 use Rattle.std.proofs.lemmas.Option.{slice_get_within}
 use Rattle.std.specs.List.{sum}
 use Rattle.sift_code.specs.Bound.{kept}
 use Rattle.sift_code.specs.Refusal.{Program}
-use Rattle.sift_compile.specs.Code.{task_program}
-use Rattle.sift_compile.specs.Correct.{Means}
 use Rattle.sift_compile.specs.Length.{task_steps}
+use Rattle.sift_compile.specs.Tasks.{AreCodesOf, IsCodeOf}
 use Rattle.sift_lang.specs.Sound.{IsSound}
 use Rattle.sift_lang.specs.Tree.{TaskTree}
 use Rattle.sift_parse.proofs.Sound.Task.{has_size, task_is_sound}
@@ -17,18 +16,16 @@ use Rattle.sift_parse.specs.Outcome.{AreNames}
 use Rattle.sift_parse.specs.Roll.{first_word, Roll}
 use Rattle.sift_scenario.proofs.Places.{pushed}
 use Rattle.sift_scenario.proofs.Programs.{sound_tree}
-use Rattle.sift_scenario.specs.Flight.{AreCodesOf}
-use Rattle.sift_scenario.specs.Mission.{AreAllowed, IsTreeOf, IsWithin, steps_left}
+use Rattle.sift_scenario.specs.Program.{AreAllowed, IsTreeOf, IsWithin, steps_left}
 use Rattle.sift_scenario.specs.Task.{Form, linear, text}
 
 -- a tree of a form is sound
-pub sound_form : (r : Roll) (form : Form) (tree : TaskTree) → AreNames r → r.this < length r.sizes → r.sensors ≡ [] → IsTreeOf r form tree → IsSound 0 (sum r.sizes) tree
-sound_form r (linear factor addend) tree names here sensors is =
+pub sound_form : (r : Roll) (form : Form) (tree : TaskTree) → AreNames r → r.this < length r.sizes → IsTreeOf r form tree → IsSound (length r.sensors) (sum r.sizes) tree
+sound_form r (linear factor addend) tree names here is =
     let some = names.some_words r.this 0 here in
     let room = sum_by_more_le (λ n. n) r.sizes r.this 0 here in
-    rw is (sound_tree (first_word r r.this) (sum r.sizes) factor addend (omega (arith, some, room)))
-sound_form r (text bytes) tree names here sensors is =
-    subst (λ (n : ℕ). IsSound n (sum r.sizes) tree) (ap length sensors) (task_is_sound r bytes tree (has_size r names here) is).sound
+    rw is (sound_tree (length r.sensors) (first_word r r.this) (sum r.sizes) factor addend (omega (arith, some, room)))
+sound_form r (text bytes) tree names here is = (task_is_sound r bytes tree (has_size r names here) is).sound
 
 -- the trees before a place, where there is one more at the end
 take_before : (ts : List TaskTree) (t : TaskTree) (k : ℕ) → k ≤ length ts → take k (ts ++ t ∷ []) ≡ take k ts
@@ -57,12 +54,19 @@ left_more ts t left bound steps so is same allowed =
 
 -- the codes with one more
 pub codes_more :
-    (words : ℕ) (ts : List TaskTree) (t : TaskTree) (old new : List Program) (code : Program)
-    → AreCodesOf words ts old → new ≡ old ++ code ∷ [] → code ≡ task_program 0 words t → Means code t → AreCodesOf words (ts ++ t ∷ []) new
-codes_more words ts t old new code so added is means = record {
-  codes_are = added ∙ ap (λ (cs : List Program). cs ++ code ∷ []) so.codes_are ∙ ap (λ (c : Program). map (task_program 0 words) ts ++ c ∷ []) is ∙ sym (map-append (task_program 0 words) ts (t ∷ []));
-  mean = λ k tree there. elim (pushed ts t k tree there) [
-    | inl before ↦ so.mean k tree before
-    | inr at_end ↦ subst (λ (u : TaskTree). Means (task_program 0 words u) u) at_end.1 (subst (λ (p : Program). Means p t) is means)
+    (sensors words : ℕ) (ts : List TaskTree) (t : TaskTree) (old new : List Program) (code : Program)
+    → AreCodesOf sensors words ts old → new ≡ old ++ code ∷ [] → IsCodeOf sensors words t code → AreCodesOf sensors words (ts ++ t ∷ []) new
+codes_more sensors words ts t old new code so added is = rw added (record {
+  as_many = omega (arith, so.as_many, length-append old (code ∷ []), length-append ts (t ∷ []));
+  each = λ k tree p there stands. elim (pushed ts t k tree there) [
+    | inl before ↦ elim (pushed old code k p stands) [
+      | inl early ↦ so.each k tree p before early
+      | inr late ↦ let low = slice_get_within ts k tree before in absurd (omega (arith, low, late.0, so.as_many))
+    ]
+    | inr at_end ↦ elim (pushed old code k p stands) [
+      | inl early ↦ let low = slice_get_within old k p early in absurd (omega (arith, low, at_end.0, so.as_many))
+      | inr late ↦
+          subst (λ (c : Program). IsCodeOf sensors words tree c) late.1 (subst (λ (u : TaskTree). IsCodeOf sensors words u code) at_end.1 is)
+    ]
   ];
-}
+})

@@ -3,7 +3,7 @@ use Rattle.std.proofs.Common.{◌≡◌, ◌<◌, ◌≤◌, ◌⊎◌, inl, inr
 use Rattle.std.proofs.lemmas.Bool.{cases_lt, cases_order}
 use Rattle.std.specs.List.{All, Contains, slice_get}
 use Rattle.sift_scenario.specs.Entries.{HoldsOf}
-use Rattle.sift_scenario.specs.Testing.{IsFirstPlace}
+use Rattle.sift_scenario.specs.Rules.{IsFirstPlace}
 
 -- it holds, or it doesn't
 abbrev pub Decided : Type 0 → Type 0
@@ -108,7 +108,7 @@ among same (y ∷ ys) x = elim (same y x) [
 ]
 
 -- what holds of the first entry and of each other
-all_more : {X : Type 0} (P : X → Type 0) (x : X) (xs : List X) → P x → All P xs → All P (x ∷ xs)
+pub all_more : {X : Type 0} (P : X → Type 0) (x : X) (xs : List X) → P x → All P xs → All P (x ∷ xs)
 all_more P x xs here rest zero d low = here
 all_more P x xs here rest (suc k) d low = rest k d (omega (arith, low))
 
@@ -136,3 +136,16 @@ held entries place P (Some x) known is = elim (known x) [
 -- what can be decided of an entry can be decided of the one at a place
 pub holds : {A : Type 0} (entries : List A) (place : ℕ) (P : A → Type 0) → ((x : A) → Decided (P x)) → Decided (HoldsOf entries place P)
 holds entries place P known = held entries place P (slice_get entries place) known refl
+
+-- what can't but hold holds, where it can be decided
+pub stable : {P : Type 0} → Decided P → ((P → ⊥) → ⊥) → P
+stable (inl p) never = p
+stable (inr other) never = absurd (never other)
+
+-- whether an option of a number is this one
+pub same_value : (a : Option ℕ) (n : ℕ) → Decided (a ≡ Some n)
+same_value None n = inr (λ e. cc)
+same_value (Some m) n = elim (same_number m n) [
+  | inl same ↦ inl (ap (λ x. Some x) same)
+  | inr other ↦ inr (λ e. other (cc e))
+]

@@ -1,5 +1,5 @@
 -- Arrays and tables of a document, beside the lists that hold them.
-use Rattle.std.proofs.Common.{◌≡◌, ◌≢◌, ◌<◌, ℕ, List, [], ◌∷◌, length, get_or, map, String, Global, string_bytes, Some, refl, ap, subst, sym, ◌∙◌, arith}
+use Rattle.std.proofs.Common.{◌≡◌, ◌≢◌, ◌<◌, ◌≤◌, ◌⊎◌, inl, inr, ℕ, List, [], ◌∷◌, length, get_or, map, String, Global, string_bytes, Some, refl, ap, subst, sym, ◌∙◌, arith}
 use Rattle.std.proofs.lemmas.List.{get_or-map, length-map}
 use Rattle.std.proofs.lemmas.Option.{get_or_from_slice_get, slice_get_within}
 use Rattle.std.proofs.lemmas.List.Elements.{All-map}
@@ -7,7 +7,7 @@ use Rattle.std.specs.List.{All, Contains, slice_get}
 use Rattle.toml.specs.Data.{Data, string, integer, float, boolean, datetime, array, table, Items, as_array}
 use Rattle.toml.specs.View.{items_view, members_view, view}
 use Rattle.toml.specs.declared.value.Value.{Value}
-use Rattle.sift_scenario.specs.Document.{keys_of, list_of}
+use Rattle.sift_scenario.specs.Document.{IsArrayOf, entries_of, keys_of, list_of}
 
 -- an array's data, from its items
 pub array_from : (d : Data) (items : Items) → Some items ≡ as_array d → d ≡ array items
@@ -23,6 +23,34 @@ array_from (table ms) items same = cc
 pub list_of-view : (vs : List Value) → list_of (items_view vs) ≡ map view vs
 list_of-view [] = refl
 list_of-view (v ∷ vs) = ap (λ ds. view v ∷ ds) (list_of-view vs)
+
+-- so are those of a value that is an array
+pub entries_of-values : (d : Data) (vs : List Value) → Some (items_view vs) ≡ as_array d → map view vs ≡ entries_of (Some d)
+entries_of-values d vs is = rw (array_from d _ is) (sym (list_of-view vs))
+
+-- ---- how many entries there are
+
+-- an array of the values has so many as there are
+pub is_array : (low high : ℕ) (d : Data) (vs : List Value) → Some (items_view vs) ≡ as_array d → low ≤ length vs → length vs ≤ high → IsArrayOf low high d
+is_array low high d vs is from to =
+    let long : length (list_of (items_view vs)) ≡ length vs = ap length (list_of-view vs) ∙ length-map vs view in record {
+      items = items_view vs;
+      there = sym is;
+      enough = omega (arith, long, from);
+      few = omega (arith, long, to);
+    }
+
+-- and no other number
+pub no_array :
+    (low high : ℕ) (d : Data) (vs : List Value) → Some (items_view vs) ≡ as_array d → (length vs < low) ⊎ (high < length vs) → IsArrayOf low high d → ⊥
+no_array low high d vs is outside right =
+    let both : Some right.items ≡ Some (items_view vs) = sym right.there ∙ sym is in
+    let one : right.items ≡ items_view vs = cc both in
+    let long : length (list_of right.items) ≡ length vs = ap (λ (xs : Items). length (list_of xs)) one ∙ ap length (list_of-view vs) ∙ length-map vs view in
+    elim outside [
+      | inl short ↦ omega (arith, long, short, right.enough)
+      | inr more ↦ omega (arith, long, more, right.few)
+    ]
 
 -- ---- one among others
 

@@ -1,5 +1,5 @@
 -- Where each text is a task or refused, each document states a mission or is refused.
-use Rattle.std.proofs.Common.{◌≡◌, ◌≢◌, ◌<◌, ◌≤◌, ◌⊎◌, inl, inr, ℕ, zero, suc, List, [], length, Option, Some, None, refl, sym, ◌∷◌, ◌++◌, get_or, arith, length-append}
+use Rattle.std.proofs.Common.{◌≡◌, ◌≢◌, ◌<◌, ◌≤◌, ◌⊎◌, inl, inr, ℕ, zero, suc, List, [], length, Option, Some, None, refl, sym, ◌∷◌, ◌++◌, get_or, take, arith, length-append}
 use Rattle.std.proofs.lemmas.Bool.{cases_lt}
 use Rattle.std.proofs.lemmas.List.{length-map}
 use Rattle.std.proofs.lemmas.Option.{slice_get-get_or}
@@ -13,7 +13,6 @@ use Rattle.sift_parse.specs.Outcome.{AreNames}
 use Rattle.sift_parse.specs.Roll.{Roll, first_word}
 use Rattle.sift_parse.specs.Linear.{linear_tree}
 use Rattle.sift_scenario.proofs.Codes.{allowed_more}
-use Rattle.sift_scenario.proofs.Decided.{at_most}
 use Rattle.sift_scenario.proofs.FirstBroken.{kept_or_broken}
 use Rattle.sift_scenario.proofs.Known.{form_known}
 use Rattle.sift_scenario.proofs.Places.{matches_more}
@@ -22,13 +21,36 @@ use Rattle.sift_scenario.proofs.TaskRefusals.{text_refused_by}
 use Rattle.sift_scenario.proofs.Turns.{code_first, text_first}
 use Rattle.sift_scenario.specs.Document.{members_of}
 use Rattle.sift_scenario.specs.Entries.{EachMatches}
-use Rattle.sift_scenario.specs.Laws.{DocumentsAreAnswered, TextsAreAnswered}
-use Rattle.sift_scenario.specs.Mission.{AreAllowed, IsTreeOf, IsWithin, Stated, all_starts, roll_for, steps_left, turn_of}
+use Rattle.sift_scenario.specs.Laws.{DocumentsAreAnswered, ScriptsAreAnswered, TablesAreAnswered, TextsAreAnswered}
+use Rattle.sift_scenario.specs.Mission.{IsStated, layout_in, script_in}
+use Rattle.sift_scenario.specs.Program.{AreAllowed, IsProgramOf, IsTreeOf, IsWithin, all_starts, roll_for, steps_left, turn_of}
 use Rattle.sift_scenario.specs.Refusal.{IsFirstRefused, IsNoTask, IsOver, refusal_of, told_number}
-use Rattle.sift_scenario.specs.Rules.{IsLawful, IsTaskNumber, few_words, forms_stated, frames_of, frames_stated, names_stated, starts_stated, task_limit, tasks_stated, units_of, units_stated}
-use Rattle.sift_scenario.specs.Task.{AreForms, Form, HasForm, linear, task_entries, tasks_of, text}
+use Rattle.sift_scenario.proofs.Decided.{all_more, at_most}
+use Rattle.sift_scenario.proofs.Periods.{task_number}
+use Rattle.sift_scenario.proofs.Sensing.{few_sensors, sensors_differ}
+use Rattle.sift_scenario.proofs.Themes.{kept_themes}
+use Rattle.sift_scenario.specs.Clock.{clocks_of}
+use Rattle.sift_scenario.specs.Fault.{faults_of}
+use Rattle.sift_scenario.specs.Lawful.{IsLawful, themes_for}
+use Rattle.sift_scenario.specs.Root.{frames_of, period_of, units_of}
+use Rattle.sift_scenario.specs.Sensor.{sensor_names, sensor_words}
+use Rattle.sift_scenario.specs.Table.{schedules_of}
+use Rattle.sift_scenario.specs.Task.{AreForms, Form, HasForm, counts_of, linear, names_of, task_entries, tasks_of, text}
+use Rattle.sift_scenario.specs.TaskRules.{BreaksForms, IsTaskNumber, task_rules}
+use Rattle.sift_scenario.specs.Rules.{AreKept, IsKept}
+use Rattle.sift_base.specs.Shapes.{AllShapes}
+use Rattle.sift_program.specs.Program.{ProgramTree}
+use Rattle.sift_script.specs.Rules as scripts
+use Rattle.sift_script.specs.Script.{FaultScript, outputs_of}
+use Rattle.sift_table.specs.Rules as tables
+use Rattle.sift_table.specs.Schedule.{Schedule}
+use Rattle.sift_unit.specs.Data.{MissionData, shapes_in}
+use Rattle.sift_unit.specs.Needs.{program_shapes}
 use Rattle.sift_scenario.specs.declared.refused.Refused.{Refused}
-use Rattle.sift_scenario.specs.declared.refused.Refused.TheVariants.{Scenario, Task, NoMemory}
+use Rattle.sift_scenario.specs.declared.refused.Refused.TheVariants.{Scenario, Task, Table, Script, NoMemory}
+use Rattle.std.specs.List.{All, sum}
+use Rattle.sift_scenario.specs.Refusal.{IsFirstBadTable, IsRefusedWith}
+use Rattle.sift_scenario.specs.Mission.{IsMission}
 
 -- an option that isn't none has a value
 value_of : {A : Type 0} (o : Option A) → o ≢ None → (x : A) × (o ≡ Some x)
@@ -134,60 +156,122 @@ module _
         ]
   ]
 
--- there are 1 to 24 tasks in a lawful document
-lawful_number : (d : Members) → IsLawful d → IsTaskNumber (length (task_entries d))
-lawful_number d lawful = elim (at_most 1 (length (task_entries d))) [
-  | inl some ↦ elim (at_most (length (task_entries d)) task_limit) [
-    | inl few ↦ (some, few)
-    | inr many ↦ absurd (lawful tasks_stated 0 (inl (refl, λ number. many number.1)))
-  ]
-  | inr none ↦ absurd (lawful tasks_stated 0 (inl (refl, λ number. none number.0)))
+-- each task has a form where the rule of the forms is kept
+lawful_form : (tasks : List Members) → ((place : ℕ) → BreaksForms tasks place → ⊥) → (k : ℕ) (task : Members) → slice_get tasks k ≡ Some task → (form : Form) × HasForm task form
+lawful_form tasks kept k task there = elim (form_known task) [
+  | inl has ↦ has
+  | inr none ↦ absurd (kept k (record { entry = task; there = there; holds = λ form has. none (form, has) }))
 ]
 
--- each task of a lawful document has a form
-lawful_form : (d : Members) → IsLawful d → (k : ℕ) (task : Members) → slice_get (tasks_of d) k ≡ Some task → (form : Form) × HasForm task form
-lawful_form d lawful k task there = elim (form_known task) [
-  | inl has ↦ has
-  | inr none ↦ absurd (lawful forms_stated k (record { entry = task; there = there; holds = λ form has. none (form, has) }))
+-- the tasks of a lawful document state a program, or one of them is refused
+program_or_refused :
+    TextsAreAnswered → (d : Members) (units : ℕ) → units_of d ≡ Some units → IsLawful d
+    → ((program : ProgramTree) × IsProgramOf (sensor_names d) (tasks_of d) program) ⊎ ((e : Refused) × (e ≢ NoMemory) × IsRefusedWith d e)
+program_or_refused texts d units is lawful =
+    let tasks = tasks_of d in
+    let kept : AreKept (task_rules d) = (kept_themes d units is lawful).1.0 in
+    let number = task_number d kept in
+    let long = length-map (task_entries d) members_of in
+    let found = matched (λ place task form. HasForm task form) tasks no_members (lawful_form tasks kept.1.1.1.1.0) (length tasks) (omega arith) in
+    let forms = found.0 in
+    let stated : AreForms tasks forms = record { as_many = found.1; each = found.2 } in
+    let roll = roll_for (sensor_names d) tasks in
+    let names : (task : ℕ) → task < length forms → AreNames (turn_of task roll) = λ task low.
+    turns (sensor_names d) tasks (sensors_differ d units is lawful) (few_sensors d units is lawful) kept.1.0 kept.1.1.0 kept.1.1.1.0
+    (omega (arith, number.0, long)) (omega (arith, number.1, long)) task (omega (arith, low, found.1)) in
+    elim (trees_or_refused texts roll forms names (length forms) (omega arith)) [
+      | inr refused ↦ inr (refused.0, refused.1, text_refused_by d refused.0 lawful (λ some. (forms, stated, refused.2)))
+      | inl trees ↦ inl (
+        record { tasks = trees.0; starts = all_starts tasks },
+        record { starts = refl; forms = forms; stated = stated; trees = record { as_many = trees.1; each = trees.2 }; allowed = trees.3 },
+      )
+    ]
+
+-- the first of some tables isn't good, or all are
+tables_known :
+    TablesAreAnswered → (shapes : AllShapes) (schedules : List Schedule)
+    → All (λ table. tables.IsGood table shapes) schedules ⊎ ((size : ℕ) × (row : ℕ) × (rule : ℕ) × IsFirstBadTable schedules shapes size row rule)
+tables_known known shapes [] = inl (λ k d low. absurd (omega (arith, low)))
+tables_known known shapes (table ∷ rest) = elim (known table shapes) [
+  | inr broken ↦ inr (
+    table.size,
+    broken.1,
+    broken.0,
+    record {
+      place = 0;
+      earlier = λ k d low. absurd (omega (arith, low));
+      here = record { entry = table; there = refl; holds = (refl, broken.2) };
+    },
+  )
+  | inl good ↦ elim (tables_known known shapes rest) [
+    | inl all ↦ inl (all_more (λ t. tables.IsGood t shapes) table rest good all)
+    | inr later ↦ let bad = later.3 in inr (
+      later.0,
+      later.1,
+      later.2,
+      record {
+        place = suc bad.place;
+        earlier = all_more (λ t. tables.IsGood t shapes) table (take bad.place rest) good bad.earlier;
+        here = record { entry = bad.here.entry; there = bad.here.there; holds = bad.here.holds };
+      },
+    )
+  ]
 ]
+
+-- the data of a document, from its numbers and its program
+data_for : (d : Members) (units frames period : ℕ) → ProgramTree → MissionData
+data_for d units frames period program =
+    let sensors = length (sensor_words d) in
+    let words = sum (counts_of (tasks_of d)) in record {
+      units = units;
+      frames = frames;
+      period = period;
+      layout = record { units = units; sensors = sensors; words = words };
+      names = names_of (tasks_of d);
+      program = program;
+      code = [];
+      tables = schedules_of d units period;
+      sensors = sensor_words d;
+      clock = clocks_of units d;
+      script = record {
+        faults = faults_of d;
+        layout = record { units = units; sensors = sensors; words = words };
+        outputs = outputs_of (program_shapes sensors program);
+        frames = frames;
+      };
+    }
 
 pub each_answered : DocumentsAreAnswered
-each_answered texts d = elim (kept_or_broken d) [
+unfolding data_for
+each_answered texts good_tables good_scripts d = elim (kept_or_broken d) [
   | inr broken ↦ inr (Scenario broken.0 broken.1, λ e. cc, broken.2)
   | inl lawful ↦
-      let tasks = tasks_of d in
-      let number = lawful_number d lawful in
-      let long = length-map (task_entries d) members_of in
-      let found = matched (λ place task form. HasForm task form) tasks no_members (lawful_form d lawful) (length tasks) (omega arith) in
-      let forms = found.0 in
-      let stated : AreForms tasks forms = record { as_many = found.1; each = found.2 } in
-      let names : (task : ℕ) → task < length forms → AreNames (turn_of task (roll_for tasks)) = λ task low.
-      turns tasks (lawful names_stated) (lawful starts_stated) (lawful few_words)
-      (omega (arith, number.0, long)) (omega (arith, number.1, long)) task (omega (arith, low, found.1)) in
-      elim (trees_or_refused texts (roll_for tasks) forms names (length forms) (omega arith)) [
-        | inr refused ↦ inr (refused.0, refused.1, text_refused_by d refused.0 lawful (λ some. (forms, stated, refused.2)))
-        | inl trees ↦
-            let units = value_of (units_of d) (λ none. lawful units_stated 0 (refl, none)) in
-            let frames = value_of (frames_of d) (λ none. lawful frames_stated 0 (refl, none)) in
-            let mission : Stated = record {
-              units = units.0;
-              frames = frames.0;
-              program = record { tasks = trees.0; starts = all_starts tasks };
+      let units = value_of (units_of d) (λ none. lawful.1.0 0 (refl, none)) in
+      let frames = value_of (frames_of d) (λ none. lawful.1.1.0 0 (refl, none)) in
+      let period = value_of (period_of d) (λ none. lawful.1.1.1.1.0 0 (refl, none)) in
+      elim (program_or_refused texts d units.0 units.1 lawful) [
+        | inr refused ↦ inr (refused.0, refused.1, refused.2)
+        | inl program ↦
+            let mission = data_for d units.0 frames.0 period.0 program.0 in
+            let stated : IsStated d mission = record {
+              lawful = lawful;
+              units = units.1;
+              frames = frames.1;
+              period = period.1;
+              clock = refl;
+              sensors = refl;
+              names = refl;
+              program = program.1;
+              layout = refl;
+              tables = refl;
+              script = refl;
             } in
-            inl (
-              mission,
-              record {
-                lawful = lawful;
-                units = units.1;
-                frames = frames.1;
-                program = record {
-                  starts = refl;
-                  forms = forms;
-                  stated = stated;
-                  trees = record { as_many = trees.1; each = trees.2 };
-                  allowed = trees.3;
-                };
-              },
-            )
+            elim (tables_known good_tables (shapes_in mission) mission.tables) [
+              | inr bad ↦ inr (Table bad.0 bad.1 bad.2, λ e. cc, record { mission = mission; stated = stated; bad = bad.3 })
+              | inl good ↦ elim (good_scripts mission.script) [
+                | inr bad ↦ inr (Script bad.1 bad.0, λ e. cc, record { mission = mission; stated = stated; good_tables = good; bad = bad.2 })
+                | inl fine ↦ inl (mission, record { stated = stated; good_tables = good; good_script = fine })
+              ]
+            ]
       ]
 ]

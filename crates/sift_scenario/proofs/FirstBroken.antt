@@ -1,105 +1,138 @@
 -- Each rule of a document is kept, or broken at a first place; so all are kept, or one is the first that is broken.
-use Rattle.std.proofs.Common.{◌<◌, ◌+◌, ◌⊎◌, inl, inr, ℕ, suc, length, map, take, sum, refl, arith}
+use Rattle.std.proofs.Common.{◌≡◌, ◌<◌, ◌≤◌, ◌+◌, ◌⊎◌, inl, inr, ℕ, suc, List, [], ◌∷◌, length, map, take, sum, Option, Some, None, refl, arith}
 use Rattle.std.proofs.lemmas.Option.{slice_get_within}
 use Rattle.std.proofs.lemmas.List.{length-map}
-use Rattle.toml.specs.Data.{Members}
+use Rattle.std.specs.Prelude.{unwrap_or}
+use Rattle.toml.specs.Data.{Data, Members}
+use Rattle.sift_base.specs.Layout.{word_limit}
+use Rattle.sift_base.specs.Shapes.{task_limit}
 use Rattle.sift_scenario.proofs.Decided.{Decided, at_most, both, either, first_place, holds, negated, nothing, same_number}
-use Rattle.sift_scenario.proofs.Known.{form_known, known_keys, known_table, new_name_of}
-use Rattle.sift_scenario.proofs.Order.{Keeps, all_kept, none_below, up_to_forms, up_to_frames, up_to_keys, up_to_names, up_to_starts, up_to_tasks, up_to_units, up_to_words}
-use Rattle.sift_scenario.specs.Document.{members_of}
+use Rattle.sift_scenario.proofs.Known.{form_known, known_array, known_entry, known_keys, known_table, new_name_of}
+use Rattle.sift_scenario.specs.Document.{IsArrayOf, entries_of}
+use Rattle.sift_scenario.specs.Entries.{HoldsOf}
+use Rattle.sift_scenario.specs.Lawful.{rules_of, themes_for}
 use Rattle.sift_scenario.specs.Laws.{RulesAreKeptOrBroken}
-use Rattle.sift_scenario.specs.Rules.{Breaks, IsFirstBroken, IsLawful, KeepsBelow, Rule, root_keys_known, units_stated, frames_stated, tasks_stated, names_stated, starts_stated, few_words, forms_stated, frames_of, root_keys, rule_number, task_limit, units_of, word_limit}
+use Rattle.sift_scenario.specs.Root.{frames_of, period_of, root_keys, root_rules, units_of, version_of}
+use Rattle.sift_scenario.specs.Rules.{AreKept, BreaksEntries, BreaksFirst, IsFirstPlace, OfNoEntry, Rule, followed_by, joined, rule}
+use Rattle.sift_scenario.specs.Table.{BreaksPositions, BreaksTables, BreaksTimes, IsTableEntry, IsTimeless, positions_of, polls_of, runs_of, size_count, table_rules, table_value, tables_in}
 use Rattle.sift_scenario.specs.Task.{HasForm, IsNewName, counts_of, name_of, start_words, task_entries, task_keys, task_outputs, tasks_of}
-use Rattle.sift_scenario.specs.Testing.{IsFirstPlace}
+use Rattle.sift_scenario.specs.TaskRules.{BreaksForms, BreaksNames, BreaksStarts, BreaksTasks, BreaksWords, each_task_rules, task_rules}
 
--- ---- the rules
+-- a rule is broken at a first place, or at none
+abbrev IsDecided : Rule → Type 0
+IsDecided rule = ((place : ℕ) × IsFirstPlace rule.BrokenAt place) ⊎ ((place : ℕ) → rule.BrokenAt place → ⊥)
+
+-- each of these rules is
+abbrev AreDecided : List Rule → Type 0
+AreDecided [] = Unit {0}
+AreDecided (rule ∷ rest) = IsDecided rule × AreDecided rest
+
+-- so all are kept, or one is the first that is broken
+kept_or_first : (rules : List Rule) → AreDecided rules → AreKept rules ⊎ ((number : ℕ) × (place : ℕ) × BreaksFirst rules number place)
+kept_or_first [] known = inl tt
+kept_or_first (rule ∷ rest) (inl at, known) = inr (rule.number, at.0, inl (refl, at.1))
+kept_or_first (rule ∷ rest) (inr kept, known) = elim (kept_or_first rest known) [
+  | inl all ↦ inl (kept, all)
+  | inr broken ↦ inr (broken.0, broken.1, inr (kept, broken.2))
+]
+
+decided_joined : (these those : List Rule) → AreDecided these → AreDecided those → AreDecided (followed_by these those)
+decided_joined [] those known others = others
+decided_joined (rule ∷ rest) those known others = (known.0, decided_joined rest those known.1 others)
+
+-- the same of lists of rules, one after the other
+abbrev AreAllDecided : List (List Rule) → Type 0
+AreAllDecided [] = Unit {0}
+AreAllDecided (rules ∷ rest) = AreDecided rules × AreAllDecided rest
+
+decided_all : (themes : List (List Rule)) → AreAllDecided themes → AreDecided (joined themes)
+decided_all [] known = tt
+decided_all (rules ∷ rest) known = decided_joined rules (joined rest) known.0 (decided_all rest known.1)
+
+-- ---- kinds of rules
+
+-- a rule that speaks of no entry
+of_none : (fault : Type 0) → Decided fault → ((place : ℕ) × IsFirstPlace (OfNoEntry fault) place) ⊎ ((place : ℕ) → OfNoEntry fault place → ⊥)
+of_none fault (inl there) = inl (0, record { broken = (refl, there); first = λ at low. absurd (omega (arith, low)) })
+of_none fault (inr none) = inr (λ place broken. none broken.1)
+
+-- a rule that speaks of each entry
+of_each :
+    {A : Type 0} (entries : List A) (Fault : ℕ → A → Type 0) → ((place : ℕ) (entry : A) → Decided (Fault place entry))
+    → ((place : ℕ) × IsFirstPlace (λ at. HoldsOf entries at (Fault at)) place) ⊎ ((place : ℕ) → HoldsOf entries place (Fault place) → ⊥)
+of_each entries Fault known = first_place (λ at. HoldsOf entries at (Fault at)) (λ at. holds entries at (Fault at) (known at)) (length entries)
+    (λ at broken. slice_get_within entries at broken.entry broken.there)
+
+-- a rule of an array and of each of its entries
+of_array :
+    (low high : ℕ) (IsEntry : ℕ → Data → Type 0) (value : Option Data) → ((place : ℕ) (entry : Data) → Decided (IsEntry place entry))
+    → ((place : ℕ) × IsFirstPlace (BreaksEntries low high IsEntry value) place) ⊎ ((place : ℕ) → BreaksEntries low high IsEntry value place → ⊥)
+of_array low high IsEntry None known = inr (λ place broken. broken)
+of_array low high IsEntry (Some value) known = first_place (BreaksEntries low high IsEntry (Some value))
+    (λ at. either (both (same_number at 0) (negated (known_array low high value))) (holds (entries_of (Some value)) at _ (λ entry. negated (known at entry))))
+    (length (entries_of (Some value)) + 1)
+    (λ at broken. elim broken [
+      | inl whole ↦ omega (arith, whole.0)
+      | inr one ↦ let low = slice_get_within (entries_of (Some value)) at one.entry one.there in omega (arith, low)
+    ])
 
 -- none of a kind of things, where it is known whether there is one
 none_of : {A : Type 0} (P : A → Type 0) → Decided ((x : A) × P x) → Decided ((x : A) → P x → ⊥)
 none_of P (inl h) = inr (λ none. none h.0 h.1)
 none_of P (inr none) = inl (λ x h. none (x, h))
 
--- a rule is broken at a place, or not
-broken_known : (rule : Rule) (d : Members) (at : ℕ) → Decided (Breaks rule d at)
-broken_known root_keys_known d at = both (same_number at 0) (negated (known_keys root_keys d))
-broken_known units_stated d at = both (same_number at 0) (nothing (units_of d))
-broken_known frames_stated d at = both (same_number at 0) (nothing (frames_of d))
-broken_known tasks_stated d at = either
-    (both (same_number at 0) (negated (both (at_most 1 (length (task_entries d))) (at_most (length (task_entries d)) task_limit))))
-    (holds (task_entries d) at _ (λ entry. negated (known_table task_keys entry)))
-broken_known names_stated d at =
-    let earlier = map name_of (take at (tasks_of d)) in
-    holds (tasks_of d) at _ (λ task. none_of (λ name. IsNewName earlier task name) (new_name_of earlier task (name_of task) refl))
-broken_known starts_stated d at = holds (tasks_of d) at _ (λ task. nothing (start_words task))
-broken_known few_words d at =
-    both (at_most (suc at) (length (counts_of (tasks_of d)))) (at_most (suc word_limit) (sum (take (at + 1) (counts_of (tasks_of d)))))
-broken_known forms_stated d at = holds (tasks_of d) at _ (λ task. none_of (λ form. HasForm task form) (form_known task))
+-- ---- the rules
 
--- a rule is broken at no place past the entries
-broken_within : (rule : Rule) (d : Members) (at : ℕ) → Breaks rule d at → at < length (task_entries d) + 1
-broken_within root_keys_known d at broken = omega (arith, broken.0)
-broken_within units_stated d at broken = omega (arith, broken.0)
-broken_within frames_stated d at broken = omega (arith, broken.0)
-broken_within tasks_stated d at (inl broken) = omega (arith, broken.0)
-broken_within tasks_stated d at (inr broken) =
-    let low = slice_get_within (task_entries d) at broken.entry broken.there in omega (arith, low)
-broken_within names_stated d at broken =
-    let low = slice_get_within (tasks_of d) at broken.entry broken.there in omega (arith, low, length-map (task_entries d) members_of)
-broken_within starts_stated d at broken =
-    let low = slice_get_within (tasks_of d) at broken.entry broken.there in omega (arith, low, length-map (task_entries d) members_of)
-broken_within few_words d at broken =
-    omega (arith, broken.0, length-map (tasks_of d) task_outputs, length-map (task_entries d) members_of)
-broken_within forms_stated d at broken =
-    let low = slice_get_within (tasks_of d) at broken.entry broken.there in omega (arith, low, length-map (task_entries d) members_of)
-
--- a rule is broken at a first place, or kept
-first_of : (rule : Rule) (d : Members) → ((place : ℕ) × IsFirstPlace (Breaks rule d) place) ⊎ Keeps rule d
-first_of rule d = first_place (Breaks rule d) (broken_known rule d) (length (task_entries d) + 1) (broken_within rule d)
-
--- a rule that is broken, where none of a lower number is
-broken_first :
-    (d : Members) (rule : Rule) (place : ℕ) → KeepsBelow (rule_number rule) d → IsFirstPlace (Breaks rule d) place
-    → (number : ℕ) × (place : ℕ) × IsFirstBroken d number place
-broken_first d rule place below first = (
-  rule_number rule,
-  place,
-  record {
-    rule = rule;
-    number_is = refl;
-    broken = first.broken;
-    first_rule = below;
-    first_place = first.first;
-  },
+root_known : (d : Members) → AreDecided (root_rules d)
+root_known d = (
+  of_none _ (negated (known_keys root_keys d)),
+  (of_none _ (nothing (units_of d)), (of_none _ (nothing (frames_of d)), (of_none _ (nothing (version_of d)), (of_none _ (nothing (period_of d)), tt)))),
 )
 
--- the rules of the tasks, where those of the root are kept
-tasks_kept_or_broken : (d : Members) → KeepsBelow 18 d → IsLawful d ⊎ ((number : ℕ) × (place : ℕ) × IsFirstBroken d number place)
-tasks_kept_or_broken d below = elim (first_of tasks_stated d) [
-  | inl at ↦ inr (broken_first d tasks_stated at.0 below at.1)
-  | inr tasks ↦ let to_names = up_to_tasks d below tasks in elim (first_of names_stated d) [
-    | inl at ↦ inr (broken_first d names_stated at.0 to_names at.1)
-    | inr names ↦ let to_starts = up_to_names d to_names names in elim (first_of starts_stated d) [
-      | inl at ↦ inr (broken_first d starts_stated at.0 to_starts at.1)
-      | inr starts ↦ let to_words = up_to_starts d to_starts starts in elim (first_of few_words d) [
-        | inl at ↦ inr (broken_first d few_words at.0 to_words at.1)
-        | inr words ↦ let to_forms = up_to_words d to_words words in elim (first_of forms_stated d) [
-          | inl at ↦ inr (broken_first d forms_stated at.0 to_forms at.1)
-          | inr forms ↦ inl (all_kept d (up_to_forms d to_forms forms))
-        ]
-      ]
-    ]
-  ]
-]
+-- names are missing, are no names, or an earlier entry's
+names_known : (number : ℕ) (entries : List Members) → IsDecided (rule number (BreaksNames entries))
+names_known number entries = of_each entries (λ place entry. (name : List ℕ) → IsNewName (map name_of (take place entries)) entry name → ⊥)
+    (λ place entry. none_of (λ name. IsNewName (map name_of (take place entries)) entry name) (new_name_of (map name_of (take place entries)) entry (name_of entry) refl))
+
+words_known : (counts : List ℕ) → IsDecided (rule 21 (BreaksWords counts))
+words_known counts = first_place (BreaksWords counts)
+    (λ at. both (at_most (suc at) (length counts)) (at_most (suc word_limit) (sum (take (at + 1) counts)))) (length counts) (λ at broken. broken.0)
+
+tasks_known : (d : Members) → IsDecided (rule 18 (BreaksTasks d))
+tasks_known d = first_place (BreaksTasks d)
+    (λ at. either (both (same_number at 0) (negated (both (at_most 1 (length (task_entries d))) (at_most (length (task_entries d)) task_limit))))
+    (holds (task_entries d) at _ (λ entry. negated (known_table task_keys entry))))
+    (length (task_entries d) + 1)
+    (λ at broken. elim broken [
+      | inl whole ↦ omega (arith, whole.0)
+      | inr one ↦ let low = slice_get_within (task_entries d) at one.entry one.there in omega (arith, low)
+    ])
+
+task_known : (d : Members) → AreDecided (task_rules d)
+task_known d = (
+  tasks_known d,
+  (
+    names_known 19 (tasks_of d),
+    (
+      of_each (tasks_of d) (λ place task. start_words task ≡ None) (λ place task. nothing (start_words task)),
+      (
+        words_known (counts_of (tasks_of d)),
+        (of_each (tasks_of d) (λ place task. (form : _) → HasForm task form → ⊥) (λ place task. none_of (HasForm task) (form_known task)), tt),
+      ),
+    ),
+  ),
+)
+
+table_known : (units : ℕ) (value : Option Data) → AreDecided (table_rules units value)
+table_known units value = (
+  of_array (size_count units) (size_count units) IsTableEntry value known_entry,
+  (
+    of_each (tables_in value) (λ place. IsTimeless) (λ place table. either (nothing (runs_of table)) (nothing (polls_of table))),
+    (of_each (tables_in value) (λ place table. positions_of table ≡ None) (λ place table. nothing (positions_of table)), tt),
+  ),
+)
 
 -- all rules are kept, or one is the first that is broken
 pub kept_or_broken : RulesAreKeptOrBroken
-kept_or_broken d = elim (first_of root_keys_known d) [
-  | inl at ↦ inr (broken_first d root_keys_known at.0 (λ rule place low. absurd (none_below rule low)) at.1)
-  | inr keys ↦ elim (first_of units_stated d) [
-    | inl at ↦ inr (broken_first d units_stated at.0 (up_to_keys d keys) at.1)
-    | inr units ↦ elim (first_of frames_stated d) [
-      | inl at ↦ inr (broken_first d frames_stated at.0 (up_to_units d keys units) at.1)
-      | inr frames ↦ tasks_kept_or_broken d (up_to_frames d (up_to_units d keys units) frames)
-    ]
-  ]
-]
+kept_or_broken d = kept_or_first (rules_of d)
+    (decided_all (themes_for (unwrap_or (units_of d) 0) d) (root_known d, (task_known d, (table_known (unwrap_or (units_of d) 0) (table_value d), tt))))

@@ -1,15 +1,17 @@
 -- What is known of a task: whether it has a name that is new, and whether it has a form.
-use Rattle.std.proofs.Common.{◌≡◌, inl, inr, ℕ, List, [], ◌∷◌, length, Option, Some, None, refl, sym, subst, ◌∙◌, arith}
+use Rattle.std.proofs.Common.{◌≡◌, inl, inr, ℕ, List, [], ◌∷◌, length, Option, Some, None, ◌+◌, refl, sym, ap, subst, ◌∙◌, arith}
 use Rattle.std.specs.Prelude.{codes, option_and_then}
-use Rattle.toml.specs.Data.{Data, Members, string, integer, float, boolean, datetime, array, table, as_str, get_member}
+use Rattle.toml.specs.Data.{Data, Items, Members, string, integer, float, boolean, datetime, array, table, as_str, get_member}
 use Rattle.sift_base.specs.Name.{HasNameForm, IsName, IsNameByte, keywords}
 use Rattle.std.specs.Str.{byte}
-use Rattle.sift_scenario.proofs.Decided.{Decided, among, at_most, both, each, either, negated, nothing, same_number, same_option, same_text}
-use Rattle.sift_scenario.proofs.Rolls.{word_array-long}
-use Rattle.sift_scenario.specs.Document.{HasOnlyKeys, IsTableOf, keys_of, read_at, word_array}
+use Rattle.sift_scenario.proofs.Decided.{Decided, among, at_most, both, each, either, negated, nothing, same_number, same_option, same_text, same_value}
+use Rattle.sift_scenario.proofs.ReadEntries.{array_between-long}
+use Rattle.sift_base.specs.Layout.{least_units}
+use Rattle.sift_scenario.specs.Document.{HasOnlyKeys, IsArrayOf, IsTableOf, keys_of, list_of, members_of, read_at, word_array, word_value}
+use Rattle.sift_scenario.specs.Table.{IsTableEntry, size_of, table_keys}
 use Rattle.sift_scenario.specs.Task.{Form, HasForm, IsLinear, IsNewName, IsText, linear, name_of, task_outputs, text}
 
--- ---- keys and names
+-- ---- keys and entries
 
 -- the keys of a table are known, or not
 pub known_keys : (known : List (List ℕ)) (members : Members) → Decided (HasOnlyKeys known members)
@@ -28,6 +30,31 @@ known_table known (float x) = inr (λ h. let e = h.1 in cc)
 known_table known (boolean b) = inr (λ h. let e = h.1 in cc)
 known_table known (datetime t) = inr (λ h. let e = h.1 in cc)
 known_table known (array xs) = inr (λ h. let e = h.1 in cc)
+
+-- a value is an array of so many entries, or not
+pub known_array : (low high : ℕ) (value : Data) → Decided (IsArrayOf low high value)
+known_array low high (array items) = elim (both (at_most low (length (list_of items))) (at_most (length (list_of items)) high)) [
+  | inl h ↦ inl (record { items = items; there = refl; enough = h.0; few = h.1 })
+  | inr other ↦ inr (λ h. let same : Some items ≡ Some h.items = h.there in
+      let one : h.items ≡ items = cc same in
+      let long : length (list_of h.items) ≡ length (list_of items) = ap (λ (xs : Items). length (list_of xs)) one in
+      other (omega (arith, long, h.enough), omega (arith, long, h.few)))
+]
+known_array low high (string s) = inr (λ h. let e = h.there in cc)
+known_array low high (integer z) = inr (λ h. let e = h.there in cc)
+known_array low high (float x) = inr (λ h. let e = h.there in cc)
+known_array low high (boolean b) = inr (λ h. let e = h.there in cc)
+known_array low high (datetime t) = inr (λ h. let e = h.there in cc)
+known_array low high (table ms) = inr (λ h. let e = h.there in cc)
+
+-- an entry is a table of its size, or not
+pub known_entry : (place : ℕ) (entry : Data) → Decided (IsTableEntry place entry)
+known_entry place entry = elim (both (known_table table_keys entry) (same_value (size_of (members_of entry)) (least_units + place))) [
+  | inl h ↦ inl (record { known = h.0; sized = h.1 })
+  | inr other ↦ inr (λ h. other (h.known, h.sized))
+]
+
+-- ---- names
 
 -- a byte may follow in a name, or not
 name_byte : (b : ℕ) → Decided (IsNameByte b)
@@ -72,7 +99,7 @@ text_alone task (Some bytes) is = elim (nothing (get_member (codes "linear") tas
 -- an array of two words has two
 two_words : (d : Option Data) (ws : List ℕ) → option_and_then (word_array 2 2) d ≡ Some ws → length ws ≡ 2
 two_words None ws is = cc
-two_words (Some d) ws is = let long = word_array-long 2 2 d ws is in omega (arith, long.0, long.1)
+two_words (Some d) ws is = let long = array_between-long 2 2 word_value d ws is in omega (arith, long.0, long.1)
 
 -- a task has a linear rule alone and one word, or not
 linear_alone :

@@ -6,7 +6,7 @@ use Rattle.sift_compile.specs.Stop.{IsAllowed, Stops}
 use Rattle.sift_compile.specs.declared.stop.CompileStop.{CompileStop}
 use Rattle.sift_compile.specs.declared.stop.CompileStop.TheVariants.{CodeTooLong, TooManySteps, NoMemory}
 use Rattle.sift_lang.specs.Tree.{TaskTree}
-use Rattle.sift_scenario.specs.Mission.{IsWithin}
+use Rattle.sift_scenario.specs.Program.{IsWithin}
 use Rattle.sift_scenario.specs.Refusal.{told_number}
 use Rattle.sift_scenario.specs.Testing.{IsCodeStop, code_refusal_of}
 use Rattle.sift_scenario.specs.declared.refused.Refused.TheVariants.{Task}

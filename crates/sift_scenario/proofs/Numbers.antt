@@ -1,11 +1,11 @@
 -- Integers between two numbers.
-use Rattle.std.proofs.Common.{◌≡◌, ◌≤◌, ℕ, Option, Some, None, arith}
-use Rattle.std.specs.Prelude.{pos, negsuc, option_and_then}
+use Rattle.std.proofs.Common.{◌≡◌, ◌≤◌, ℕ, suc, Option, Some, None, IfSome, arith}
+use Rattle.std.specs.Prelude.{pos, negsuc, option_and_then, unwrap_or}
 use Rattle.toml.specs.Data.{Data, string, integer, float, boolean, datetime, array, table}
-use Rattle.sift_scenario.specs.Document.{integer_between}
+use Rattle.sift_scenario.specs.Document.{integer_between, read_by}
 
 -- a number that is read lies between the two
-between : (low high : ℕ) (d : Data) (n : ℕ) → integer_between low high d ≡ Some n → (low ≤ n) × (n ≤ high)
+pub between : (low high : ℕ) (d : Data) (n : ℕ) → integer_between low high d ≡ Some n → (low ≤ n) × (n ≤ high)
 between low high (integer (pos m)) n is = grind arith
 between low high (integer (negsuc m)) n is = cc
 between low high (string s) n is = cc
@@ -19,3 +19,13 @@ between low high (table ms) n is = cc
 pub between_at : (low high : ℕ) (d : Option Data) (n : ℕ) → option_and_then (integer_between low high) d ≡ Some n → (low ≤ n) × (n ≤ high)
 between_at low high None n is = cc
 between_at low high (Some d) n is = between low high d n is
+
+-- what is read of an optional number is as stated: a number between the two, or nothing where the key is missing
+pub between_or :
+    (low high : ℕ) (d : Option Data) (stated : Option ℕ)
+    → ((unstated : ℕ) → read_by unstated (integer_between low high) d ≡ Some (unwrap_or stated unstated)) → IfSome stated (λ n. n ≤ high)
+between_or low high d None is = tt
+between_or low high None (Some n) is =
+    let one = is 0 in let other = is (suc n) in
+    let same : 0 ≡ n = cc one in let wrong : suc n ≡ n = cc other in absurd (omega (arith, wrong))
+between_or low high (Some d) (Some n) is = (between low high d n (is 0)).1

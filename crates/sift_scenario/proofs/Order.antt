@@ -1,121 +1,123 @@
--- Rules one after another, in the order of their numbers.
-use Rattle.std.proofs.Common.{◌≡◌, ◌<◌, ◌≤◌, ◌⊎◌, ◌==◌, inl, inr, cond, List, ℕ, refl, sym, ap, subst, ◌∙◌, arith}
-use Rattle.std.proofs.lemmas.Bool.{cases_order}
-use Rattle.toml.specs.Data.{Members}
-use Rattle.sift_scenario.specs.Refusal.{IsRefusedWith}
-use Rattle.sift_scenario.specs.Testing.{KeepsTaskRules, RefusesBy}
-use Rattle.sift_scenario.specs.Rules.{Breaks, IsLawful, KeepsBelow, Rule, root_keys_known, units_stated, frames_stated, tasks_stated, names_stated, starts_stated, few_words, forms_stated, rule_number}
-use Rattle.sift_scenario.specs.Task.{tasks_of}
+-- Rules one after another, in the order of a list.
+use Rattle.std.proofs.Common.{◌≡◌, ◌⊎◌, inl, inr, List, [], ◌∷◌, ℕ, zero, suc, Result, Ok, Err, IfOk, IfErr, refl}
+use Rattle.sift_scenario.specs.Rules.{AreKept, BreaksFirst, IsKept, Rule, followed_by, joined}
+use Rattle.sift_scenario.specs.Testing.{RefusesBy, RefusesFirst, TestsEach}
 use Rattle.sift_scenario.specs.declared.refused.Refused.{Refused}
-use Rattle.sift_scenario.specs.declared.refused.Refused.TheVariants.{Scenario, Task, NoMemory}
+use Rattle.sift_scenario.specs.declared.refused.Refused.TheVariants.{Scenario, Task, Table, Script, NoMemory}
 
--- no rule has a number between this rule's and the given one
-abbrev pub IsNext : Rule → ℕ → Type 0
-IsNext rule number = (other : Rule) → rule_number rule < rule_number other → number ≤ rule_number other
+-- ---- the first of some rules
 
--- n is the number of a rule
-abbrev IsNumber : ℕ → Type 0
-IsNumber n = (n ≡ 1) ⊎ ((n ≡ 2) ⊎ ((n ≡ 3) ⊎ ((n ≡ 18) ⊎ ((n ≡ 19) ⊎ ((n ≡ 20) ⊎ ((n ≡ 21) ⊎ (n ≡ 22)))))))
+-- the first of some rules is refused
+here : (rule : Rule) (rest : List Rule) (e : Refused) → RefusesBy rule.number rule.BrokenAt e → RefusesFirst (rule ∷ rest) e
+here rule rest (Scenario n place) refused = inl refused
+here rule rest (Task t k at) refused = refused
+here rule rest (Table size row n) refused = refused
+here rule rest (Script entry n) refused = refused
+here rule rest NoMemory refused = tt
 
--- the numbers that rules have
-numbers : (rule : Rule) → IsNumber (rule_number rule)
-numbers root_keys_known = inl refl
-numbers units_stated = inr (inl refl)
-numbers frames_stated = inr (inr (inl refl))
-numbers tasks_stated = inr (inr (inr (inl refl)))
-numbers names_stated = inr (inr (inr (inr (inl refl))))
-numbers starts_stated = inr (inr (inr (inr (inr (inl refl)))))
-numbers few_words = inr (inr (inr (inr (inr (inr (inl refl))))))
-numbers forms_stated = inr (inr (inr (inr (inr (inr (inr refl))))))
+-- the first of some rules is kept, and one of the others is refused
+pub later : (rule : Rule) (rest : List Rule) (e : Refused) → IsKept rule → RefusesFirst rest e → RefusesFirst (rule ∷ rest) e
+later rule rest (Scenario n place) kept refused = inr (kept, refused)
+later rule rest (Task t k at) kept refused = refused
+later rule rest (Table size row n) kept refused = refused
+later rule rest (Script entry n) kept refused = refused
+later rule rest NoMemory kept refused = tt
 
--- no rule has a lower number than the first
-pub none_below : (rule : Rule) → ¬ (rule_number rule < 1)
-none_below rule low = omega (arith, numbers rule, low)
+-- ---- some rules, and others
 
--- the rule of a number
-rule_at : ℕ → Rule
-rule_at n =
-    cond (n == 1) root_keys_known (cond (n == 2) units_stated (cond (n == 3) frames_stated (cond (n == 18) tasks_stated
-    (cond (n == 19) names_stated (cond (n == 20) starts_stated (cond (n == 21) few_words forms_stated))))))
+-- all are kept where these and those are
+kept_both : (these those : List Rule) → AreKept these → AreKept those → AreKept (followed_by these those)
+kept_both [] those kept others = others
+kept_both (rule ∷ rest) those kept others = (kept.0, kept_both rest those kept.1 others)
 
-rule_at-rule_number : (rule : Rule) → rule_at (rule_number rule) ≡ rule
-unfolding rule_at
-rule_at-rule_number root_keys_known = refl
-rule_at-rule_number units_stated = refl
-rule_at-rule_number frames_stated = refl
-rule_at-rule_number tasks_stated = refl
-rule_at-rule_number names_stated = refl
-rule_at-rule_number starts_stated = refl
-rule_at-rule_number few_words = refl
-rule_at-rule_number forms_stated = refl
+kept_first : (these those : List Rule) → AreKept (followed_by these those) → AreKept these
+kept_first [] those kept = tt
+kept_first (rule ∷ rest) those kept = (kept.0, kept_first rest those kept.1)
 
--- no two rules have one number
-pub rule_number-injective : (one other : Rule) → rule_number one ≡ rule_number other → one ≡ other
-rule_number-injective one other same = sym (rule_at-rule_number one) ∙ ap rule_at same ∙ rule_at-rule_number other
+kept_second : (these those : List Rule) → AreKept (followed_by these those) → AreKept those
+kept_second [] those kept = kept
+kept_second (rule ∷ rest) those kept = kept_second rest those kept.1
 
--- this rule isn't broken either, and so none up to the next
-pub keeps_next :
-    (document : Members) (rule : Rule) (number : ℕ) → IsNext rule number
-    → KeepsBelow (rule_number rule) document → ((at : ℕ) → ¬ Breaks rule document at) → KeepsBelow number document
-keeps_next document rule number next below none other at low broken = elim (cases_order (rule_number other) (rule_number rule)) [
-  | inl same ↦ none at (subst (λ (r : Rule). Breaks r document at) (rule_number-injective other rule same) broken)
-  | inr (inl before) ↦ below other at before broken
-  | inr (inr behind) ↦ let most = next other behind in absurd (omega (arith, low, most))
-]
+-- one of these is the first that is broken, whatever follows
+broken_first : (these those : List Rule) (n place : ℕ) → BreaksFirst these n place → BreaksFirst (followed_by these those) n place
+broken_first [] those n place broken = absurd broken
+broken_first (rule ∷ rest) those n place (inl broken) = inl broken
+broken_first (rule ∷ rest) those n place (inr broken) = inr (broken.0, broken_first rest those n place broken.1)
 
--- the rule is the first that is broken, at the place that its test answers
-pub refused_by :
-    (document : Members) (rule : Rule) (e : Refused) → KeepsBelow (rule_number rule) document
-    → (number : ℕ) → number ≡ rule_number rule → RefusesBy number (Breaks rule document) e → IsRefusedWith document e
-refused_by document rule (Scenario n place) below number same tests = record {
-  rule = rule;
-  number_is = tests.0 ∙ same;
-  broken = tests.1.broken;
-  first_rule = λ other at low. below other at (omega (arith, low, tests.0, same));
-  first_place = tests.1.first;
-}
-refused_by document rule (Task t k at) below number same tests = absurd tests
-refused_by document rule NoMemory below number same tests = tt
+-- these are kept, and one of those is the first that is broken
+broken_second : (these those : List Rule) (n place : ℕ) → AreKept these → BreaksFirst those n place → BreaksFirst (followed_by these those) n place
+broken_second [] those n place kept broken = broken
+broken_second (rule ∷ rest) those n place kept broken = inr (kept.0, broken_second rest those n place kept.1 broken)
 
--- no rule at all is broken
-pub all_kept : (document : Members) → KeepsBelow 23 document → IsLawful document
-all_kept document below rule at broken = below rule at (omega (arith, numbers rule)) broken
+-- the same, of what is refused
+refused_first : (these those : List Rule) (e : Refused) → RefusesFirst these e → RefusesFirst (followed_by these those) e
+refused_first these those (Scenario n place) refused = broken_first these those n place refused
+refused_first these those (Task t k at) refused = refused
+refused_first these those (Table size row n) refused = refused
+refused_first these those (Script entry n) refused = refused
+refused_first these those NoMemory refused = tt
 
--- ---- the rules up to each
+refused_second : (these those : List Rule) (e : Refused) → AreKept these → RefusesFirst those e → RefusesFirst (followed_by these those) e
+refused_second these those (Scenario n place) kept refused = broken_second these those n place kept refused
+refused_second these those (Task t k at) kept refused = refused
+refused_second these those (Table size row n) kept refused = refused
+refused_second these those (Script entry n) kept refused = refused
+refused_second these those NoMemory kept refused = tt
 
--- no place breaks the rule
-abbrev pub Keeps : Rule → Members → Type 0
-Keeps rule document = (at : ℕ) → ¬ Breaks rule document at
+-- ---- lists of rules, one after the other
 
-pub up_to_keys : (d : Members) → Keeps root_keys_known d → KeepsBelow 2 d
-up_to_keys d keys = keeps_next d root_keys_known 2 (λ other above. omega (arith, numbers other, above)) (λ rule at low. absurd (none_below rule low)) keys
+-- the rules of each list are kept
+abbrev pub AreAllKept : List (List Rule) → Type 0
+AreAllKept [] = Unit {0}
+AreAllKept (rules ∷ rest) = AreKept rules × AreAllKept rest
 
-pub up_to_units : (d : Members) → Keeps root_keys_known d → Keeps units_stated d → KeepsBelow 3 d
-up_to_units d keys units = keeps_next d units_stated 3 (λ other above. omega (arith, numbers other, above)) (up_to_keys d keys) units
+pub kept_joined : (themes : List (List Rule)) → AreAllKept themes → AreKept (joined themes)
+kept_joined [] kept = tt
+kept_joined (rules ∷ rest) kept = kept_both rules (joined rest) kept.0 (kept_joined rest kept.1)
 
-pub up_to_frames : (d : Members) → KeepsBelow 3 d → Keeps frames_stated d → KeepsBelow 18 d
-up_to_frames d below frames = keeps_next d frames_stated 18 (λ other above. omega (arith, numbers other, above)) below frames
+pub kept_each : (themes : List (List Rule)) → AreKept (joined themes) → AreAllKept themes
+kept_each [] kept = tt
+kept_each (rules ∷ rest) kept = (kept_first rules (joined rest) kept, kept_each rest (kept_second rules (joined rest) kept))
 
-pub up_to_tasks : (d : Members) → KeepsBelow 18 d → Keeps tasks_stated d → KeepsBelow 19 d
-up_to_tasks d below tasks = keeps_next d tasks_stated 19 (λ other above. omega (arith, numbers other, above)) below tasks
+-- a rule of the list so many places on is refused, and the lists before it are kept
+abbrev pub StopsIn : ℕ → List (List Rule) → Refused → Type 0
+StopsIn k [] e = ⊥
+StopsIn zero (rules ∷ rest) e = RefusesFirst rules e
+StopsIn (suc k) (rules ∷ rest) e = AreKept rules × StopsIn k rest e
 
-pub up_to_names : (d : Members) → KeepsBelow 19 d → Keeps names_stated d → KeepsBelow 20 d
-up_to_names d below names = keeps_next d names_stated 20 (λ other above. omega (arith, numbers other, above)) below names
+-- so it is the first that is broken
+pub stopped_in : (k : ℕ) (themes : List (List Rule)) (e : Refused) → StopsIn k themes e → RefusesFirst (joined themes) e
+stopped_in k [] e stops = absurd stops
+stopped_in zero (rules ∷ rest) e stops = refused_first rules (joined rest) e stops
+stopped_in (suc k) (rules ∷ rest) e stops = refused_second rules (joined rest) e stops.0 (stopped_in k rest e stops.1)
 
-pub up_to_starts : (d : Members) → KeepsBelow 20 d → Keeps starts_stated d → KeepsBelow 21 d
-up_to_starts d below starts = keeps_next d starts_stated 21 (λ other above. omega (arith, numbers other, above)) below starts
+-- ---- where a test stops
 
-pub up_to_words : (d : Members) → KeepsBelow 21 d → Keeps few_words d → KeepsBelow 22 d
-up_to_words d below words = keeps_next d few_words 22 (λ other above. omega (arith, numbers other, above)) below words
+-- the rule so many places on is refused, and those before it are kept
+abbrev pub StopsAt : ℕ → List Rule → Refused → Type 0
+StopsAt k [] e = ⊥
+StopsAt zero (rule ∷ rest) e = RefusesBy rule.number rule.BrokenAt e
+StopsAt (suc k) (rule ∷ rest) e = IsKept rule × StopsAt k rest e
 
-pub up_to_forms : (d : Members) → KeepsBelow 22 d → Keeps forms_stated d → KeepsBelow 23 d
-up_to_forms d below forms = keeps_next d forms_stated 23 (λ other above. omega (arith, numbers other, above)) below forms
+-- so it is the first that is broken
+pub stopped : (k : ℕ) (rules : List Rule) (e : Refused) → StopsAt k rules e → RefusesFirst rules e
+stopped k [] e stops = absurd stops
+stopped zero (rule ∷ rest) e stops = here rule rest e stops
+stopped (suc k) (rule ∷ rest) e stops = later rule rest e stops.0 (stopped k rest e stops.1)
 
--- the rules before that of the names are kept, and those of the tasks in these tables, and so all are
-pub lawful_with : (d : Members) (tasks : List Members) → tasks ≡ tasks_of d → KeepsBelow 19 d → KeepsTaskRules tasks → IsLawful d
-lawful_with d tasks same below kept =
-    let here : KeepsTaskRules (tasks_of d) = subst KeepsTaskRules same kept in
-    let names = up_to_names d below here.names in
-    let starts = up_to_starts d names here.starts in
-    let words = up_to_words d starts here.words in
-    all_kept d (up_to_forms d words here.forms)
+-- what a call answers tests the rules, where it does so in either case
+pub ended :
+    {A : Type 0} (rules : List Rule) (r : Result A Refused)
+    → ((x : A) → r ≡ Ok x → AreKept rules) → ((e : Refused) → r ≡ Err e → RefusesFirst rules e) → TestsEach rules r
+ended rules (Ok x) kept refused = kept x refl
+ended rules (Err e) kept refused = refused e refl
+
+-- what holds where a call is done, of what follows
+pub ok_from : {A E : Type 0} (P Q : A → Type 0) (r : Result A E) → ((x : A) → P x → Q x) → IfOk r P → IfOk r Q
+ok_from P Q (Ok x) so holds = so x holds
+ok_from P Q (Err e) so holds = tt
+
+-- and where it is refused
+pub err_from : {A E : Type 0} (P Q : E → Type 0) (r : Result A E) → ((e : E) → P e → Q e) → IfErr r P → IfErr r Q
+err_from P Q (Ok x) so holds = tt
+err_from P Q (Err e) so holds = so e holds

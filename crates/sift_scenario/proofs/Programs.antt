@@ -12,7 +12,7 @@ use Rattle.sift_parse.specs.Answer.{HasSize}
 use Rattle.sift_parse.specs.Linear.{linear_tree}
 use Rattle.sift_program.specs.Program.{ProgramTree}
 use Rattle.sift_program.specs.Sound.{IsSoundProgram, first_word}
-use Rattle.sift_scenario.specs.Mission.{AreTreesOf, IsTreeOf, roll_for, turn_of}
+use Rattle.sift_scenario.specs.Program.{AreTreesOf, IsTreeOf, roll_for, turn_of}
 use Rattle.sift_scenario.specs.Task.{AreForms, Form, linear, text, HasForm, counts_of, task_outputs}
 
 -- lists of one length with the same entries are the same
@@ -28,8 +28,8 @@ same_lists (x ∷ xs) (y ∷ ys) long each =
 -- ---- trees of linear tasks
 
 -- such a tree is sound where there is its word
-pub sound_tree : (word words factor addend : ℕ) → word < words → IsSound 0 words (linear_tree word factor addend)
-sound_tree word words factor addend low = record {
+pub sound_tree : (sensors word words factor addend : ℕ) → word < words → IsSound sensors words (linear_tree word factor addend)
+sound_tree sensors word words factor addend low = record {
   some_output = omega arith;
   few_outputs = omega arith;
   few_repeats = omega arith;
@@ -42,7 +42,7 @@ reads_none word factor addend made = (((tt, tt), tt), tt)
 
 -- ---- one task
 
-module _ (tasks : List Members) (sizes : (t : ℕ) → t < length tasks → HasSize (turn_of t (roll_for tasks))) (t : ℕ) (task : Members) (there : slice_get tasks t ≡ Some task) where
+module _ (sensors : List (List ℕ)) (tasks : List Members) (sizes : (t : ℕ) → t < length tasks → HasSize (turn_of t (roll_for sensors tasks))) (t : ℕ) (task : Members) (there : slice_get tasks t ≡ Some task) where
   -- its number of words
   count_here : get_or (counts_of tasks) t 0 ≡ task_outputs task
   count_here =
@@ -50,33 +50,33 @@ module _ (tasks : List Members) (sizes : (t : ℕ) → t < length tasks → HasS
       get_or-map task_outputs tasks t task 0 low ∙ ap task_outputs (get_or_from_slice_get tasks t task task there)
 
   -- its tree has as many outputs
-  outputs_here : (form : Form) (tree : TaskTree) → HasForm task form → IsTreeOf (turn_of t (roll_for tasks)) form tree → tree.outputs ≡ get_or (counts_of tasks) t 0
+  outputs_here : (form : Form) (tree : TaskTree) → HasForm task form → IsTreeOf (turn_of t (roll_for sensors tasks)) form tree → tree.outputs ≡ get_or (counts_of tasks) t 0
   outputs_here (linear factor addend) tree form is = ap (λ (x : TaskTree). x.outputs) is ∙ sym (count_here ∙ form.one_word)
   outputs_here (text bytes) tree form is = is.outputs
 
   -- its tree is sound
-  sound_here : (form : Form) (tree : TaskTree) → HasForm task form → IsTreeOf (turn_of t (roll_for tasks)) form tree → IsSound 0 (sum (counts_of tasks)) tree
+  sound_here : (form : Form) (tree : TaskTree) → HasForm task form → IsTreeOf (turn_of t (roll_for sensors tasks)) form tree → IsSound (length sensors) (sum (counts_of tasks)) tree
   sound_here (linear factor addend) tree form is =
       let low = slice_get_within tasks t task there in
       let one : get_or (counts_of tasks) t 0 ≡ 1 = count_here ∙ form.one_word in
       let room = sum_by_more_le (λ n. n) (counts_of tasks) t 0 (rw length-map low) in
-      rw is (sound_tree _ _ factor addend (omega (arith, one, room)))
+      rw is (sound_tree _ _ _ factor addend (omega (arith, one, room)))
   sound_here (text bytes) tree form is = (task_is_sound _ bytes tree (sizes t (slice_get_within tasks t task there)) is).sound
 
   -- it reads only words of earlier tasks
-  reads_here : (form : Form) (tree : TaskTree) → HasForm task form → IsTreeOf (turn_of t (roll_for tasks)) form tree → AllNowsBelow (sum (take t (counts_of tasks))) tree
+  reads_here : (form : Form) (tree : TaskTree) → HasForm task form → IsTreeOf (turn_of t (roll_for sensors tasks)) form tree → AllNowsBelow (sum (take t (counts_of tasks))) tree
   reads_here (linear factor addend) tree form is = rw is (reads_none (sum (take t (counts_of tasks))) factor addend (sum (take t (counts_of tasks))))
   reads_here (text bytes) tree form is = (task_is_sound _ bytes tree (sizes t (slice_get_within tasks t task there)) is).nows
 
 -- ---- the program
 
-module _ (tasks : List Members) (sizes : (t : ℕ) → t < length tasks → HasSize (turn_of t (roll_for tasks))) (forms : List Form) (trees : List TaskTree) (stated : AreForms tasks forms) (parsed : AreTreesOf (roll_for tasks) forms trees) where
+module _ (sensors : List (List ℕ)) (tasks : List Members) (sizes : (t : ℕ) → t < length tasks → HasSize (turn_of t (roll_for sensors tasks))) (forms : List Form) (trees : List TaskTree) (stated : AreForms tasks forms) (parsed : AreTreesOf (roll_for sensors tasks) forms trees) where
   -- what stands at a place of the tasks, the forms and the trees
   outputs_at : (t : ℕ) (tree : TaskTree) → slice_get trees t ≡ Some tree → tree.outputs ≡ get_or (counts_of tasks) t 0
   outputs_at t tree there =
       let form = parsed.each t tree there in
       let task = stated.each t form.entry form.there in
-      outputs_here tasks sizes t task.entry task.there form.entry tree task.holds form.holds
+      outputs_here sensors tasks sizes t task.entry task.there form.entry tree task.holds form.holds
 
   -- the trees have as many outputs as the tasks have words
   outputs_are : map (λ (tree : TaskTree). tree.outputs) trees ≡ counts_of tasks
@@ -97,7 +97,7 @@ module _ (tasks : List Members) (sizes : (t : ℕ) → t < length tasks → HasS
   pub sound_program :
       (starts : List ℕ) → length starts ≡ sum (counts_of tasks) → sum (counts_of tasks) ≤ 64
       → 0 < length tasks → length tasks ≤ 24
-      → IsSoundProgram 0 (let p : ProgramTree = record { tasks = trees; starts = starts } in p)
+      → IsSoundProgram (length sensors) (let p : ProgramTree = record { tasks = trees; starts = starts } in p)
   sound_program starts long words some few = record {
     some_task = omega (arith, parsed.as_many, stated.as_many, some);
     few_tasks = omega (arith, parsed.as_many, stated.as_many, few);
@@ -106,9 +106,9 @@ module _ (tasks : List Members) (sizes : (t : ℕ) → t < length tasks → HasS
     tasks_sound = λ k d low.
         let form = parsed.each k (get_or trees k d) (slice_get-get_or trees k d low) in
         let task = stated.each k form.entry form.there in
-        rw long (sound_here tasks sizes k task.entry task.there form.entry (get_or trees k d) task.holds form.holds);
+        rw long (sound_here sensors tasks sizes k task.entry task.there form.entry (get_or trees k d) task.holds form.holds);
     reads_earlier_words = λ k tree there.
         let form = parsed.each k tree there in
         let task = stated.each k form.entry form.there in
-        rw (first_is k) (reads_here tasks sizes k task.entry task.there form.entry tree task.holds form.holds);
+        rw (first_is k) (reads_here sensors tasks sizes k task.entry task.there form.entry tree task.holds form.holds);
   }

@@ -5,14 +5,15 @@ use Rattle.std.proofs.lemmas.List.{get_or-map, get_or-take, length-map, length-t
 use Rattle.std.proofs.lemmas.Option.{get_or_from_slice_get, slice_get-get_or, slice_get_within}
 use Rattle.std.specs.List.{slice_get, sum}
 use Rattle.std.specs.Prelude.{codes, option_and_then, unwrap_or}
-use Rattle.toml.specs.Data.{Data, Members, get_member, no_members, string, integer, float, boolean, datetime, array, table}
+use Rattle.toml.specs.Data.{Data, Members, get_member, no_members}
 use Rattle.sift_base.specs.Name.{IsName}
 use Rattle.sift_parse.specs.Answer.{HasSize}
 use Rattle.sift_parse.specs.Outcome.{AreDistinct, AreNames}
-use Rattle.sift_scenario.specs.Document.{list_of, of_length, word_array, word_values}
-use Rattle.sift_scenario.specs.Mission.{roll_for, turn_of}
-use Rattle.sift_scenario.specs.Rules.{BreaksNames, BreaksStarts, BreaksWords}
+use Rattle.sift_scenario.proofs.ReadEntries.{array_between-long}
+use Rattle.sift_scenario.specs.Document.{word_array, word_value}
+use Rattle.sift_scenario.specs.Program.{roll_for, turn_of}
 use Rattle.sift_scenario.specs.Task.{counts_of, name_of, start_words, task_outputs}
+use Rattle.sift_scenario.specs.TaskRules.{BreaksNames, BreaksStarts, BreaksWords}
 
 -- within a list the default doesn't matter
 any_default : (xs : List ℕ) (k d e : ℕ) → k < length xs → get_or xs k d ≡ get_or xs k e
@@ -22,27 +23,9 @@ any_default (x ∷ xs) (suc k) d e low = any_default xs k d e (omega (arith, low
 
 -- ---- start words
 
--- a list that is kept for its length has it
-of_length-long : (low high : ℕ) (words ws : List ℕ) → of_length low high words ≡ Some ws → (low ≤ length ws) × (length ws ≤ high)
-of_length-long low high words ws is = grind arith
-
--- words that are read of an array are as many as they may be
-long_words : (low high : ℕ) (words : Option (List ℕ)) (ws : List ℕ) → option_and_then (of_length low high) words ≡ Some ws → (low ≤ length ws) × (length ws ≤ high)
-long_words low high None ws is = cc
-long_words low high (Some words) ws is = of_length-long low high words ws is
-
-pub word_array-long : (low high : ℕ) (d : Data) (ws : List ℕ) → word_array low high d ≡ Some ws → (low ≤ length ws) × (length ws ≤ high)
-word_array-long low high (array items) ws is = long_words low high (word_values (list_of items)) ws is
-word_array-long low high (integer z) ws is = cc
-word_array-long low high (string s) ws is = cc
-word_array-long low high (float x) ws is = cc
-word_array-long low high (boolean b) ws is = cc
-word_array-long low high (datetime t) ws is = cc
-word_array-long low high (table ms) ws is = cc
-
 read-long : (d : Option Data) (ws : List ℕ) → option_and_then (word_array 1 8) d ≡ Some ws → (1 ≤ length ws) × (length ws ≤ 8)
 read-long None ws is = cc
-read-long (Some d) ws is = word_array-long 1 8 d ws is
+read-long (Some d) ws is = array_between-long 1 8 word_value d ws is
 
 -- a task that has start words has 1 to 8 output words
 count_of : (words : Option (List ℕ)) → words ≢ None → ((ws : List ℕ) → words ≡ Some ws → (1 ≤ length ws) × (length ws ≤ 8)) → (1 ≤ length (unwrap_or words [])) × (length (unwrap_or words []) ≤ 8)
@@ -59,8 +42,8 @@ module _ (tasks : List Members) where
       rw (get_or-map task_outputs tasks k no_members 0 low) (count_of (start_words task) some (λ ws is. read-long (get_member (codes "start") task) ws is))
 
   -- so each task has as many words as a task may have
-  pub sized : ((at : ℕ) → ¬ BreaksStarts tasks at) → (t : ℕ) → t < length tasks → HasSize (turn_of t (roll_for tasks))
-  sized kept t low = let count = count_at kept t low in record { some = omega (arith, count.0); few = omega (arith, count.1) }
+  pub sized : (sensors : List (List ℕ)) → ((at : ℕ) → ¬ BreaksStarts tasks at) → (t : ℕ) → t < length tasks → HasSize (turn_of t (roll_for sensors tasks))
+  sized sensors kept t low = let count = count_at kept t low in record { some = omega (arith, count.0); few = omega (arith, count.1) }
 
   -- where the rule of the output words is kept, they are few
   pub few_words : 0 < length tasks → ((at : ℕ) → ¬ BreaksWords (counts_of tasks) at) → sum (counts_of tasks) ≤ 64
@@ -115,14 +98,15 @@ module _ (tasks : List Members) (kept : (at : ℕ) → ¬ BreaksNames tasks at) 
     | inr (inr after) ↦ absurd (later_differs j i n after there_j there_i)
   ]
 
--- where the rules of the tasks are kept, each may take its turn
+-- where the rules of the tasks are kept, each may take its turn beside sensors whose names are few and differ
 pub turns :
-    (tasks : List Members) → ((at : ℕ) → ¬ BreaksNames tasks at) → ((at : ℕ) → ¬ BreaksStarts tasks at) → ((at : ℕ) → ¬ BreaksWords (counts_of tasks) at)
-    → 0 < length tasks → length tasks ≤ 24 → (task : ℕ) → task < length tasks → AreNames (turn_of task (roll_for tasks))
-turns tasks names starts words some few task low = record {
-  sensors_differ = λ i j name there. cc;
+    (sensors : List (List ℕ)) (tasks : List Members) → AreDistinct sensors → length sensors ≤ 8
+    → ((at : ℕ) → ¬ BreaksNames tasks at) → ((at : ℕ) → ¬ BreaksStarts tasks at) → ((at : ℕ) → ¬ BreaksWords (counts_of tasks) at)
+    → 0 < length tasks → length tasks ≤ 24 → (task : ℕ) → task < length tasks → AreNames (turn_of task (roll_for sensors tasks))
+turns sensors tasks differ few_sensors names starts words some few task low = record {
+  sensors_differ = differ;
   tasks_differ = distinct tasks names;
-  few_sensors = omega arith;
+  few_sensors = few_sensors;
   few_tasks = omega (arith, length-map tasks (λ t. unwrap_or (name_of t) []), few);
   some_words = λ k d at. rw (any_default (counts_of tasks) k d 0 at) (count_at tasks starts k (omega (arith, at, length-map tasks task_outputs))).0;
   few_words = λ k d at. rw (any_default (counts_of tasks) k d 0 at) (count_at tasks starts k (omega (arith, at, length-map tasks task_outputs))).1;

@@ -8,8 +8,8 @@ use Rattle.std.specs.List.{flat_map, sum}
 use Rattle.std.specs.Prelude.{unwrap_or}
 use Rattle.toml.specs.Data.{Members}
 use Rattle.sift_scenario.proofs.Places.{map_map}
-use Rattle.sift_scenario.specs.Mission.{all_starts}
-use Rattle.sift_scenario.specs.Task.{counts_of, name_of, start_words, task_outputs}
+use Rattle.sift_scenario.specs.Program.{all_starts}
+use Rattle.sift_scenario.specs.Task.{counts_of, name_of, names_of, start_words, task_outputs}
 
 -- what reads the tables of a document reads their values
 pub read_values : {A B : Type 0} (shown : A → Members) (read : Members → B) (tasks : List A) → map (λ task. read (shown task)) tasks ≡ map read (map shown tasks)
@@ -38,7 +38,7 @@ module _ {B : Type 0} (words : B → List ℕ) (tasks : List Members) (starts : 
 pub names_from :
     {C : Type 0} (bytes : C → List ℕ) (tasks : List Members) (names : List C)
     → map (λ name. Some (bytes name)) names ≡ map name_of tasks
-    → map bytes names ≡ map (λ task. unwrap_or (name_of task) []) tasks
+    → map bytes names ≡ names_of tasks
 names_from bytes tasks names named =
     map_map (λ o. unwrap_or o []) (λ name. Some (bytes name)) names
     ∙ ap (map (λ o. unwrap_or o [])) named

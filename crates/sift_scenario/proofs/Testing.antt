@@ -3,11 +3,11 @@ use Rattle.std.proofs.Common.{◌≡◌, ◌<◌, ◌==◌, ℕ, List, [], ◌�
 use Rattle.toml.specs.Data.{Data, Members}
 use Rattle.toml.specs.View.{view}
 use Rattle.toml.specs.declared.value.Value.{Value}
-use Rattle.sift_scenario.specs.Document.{IsTableOf}
+use Rattle.sift_scenario.specs.Document.{IsNoTableOf}
 use Rattle.sift_scenario.specs.Entries.{HoldsOf}
-use Rattle.sift_scenario.specs.Testing.{IsFirstPlace}
-use Rattle.sift_scenario.specs.Rules.{BreaksTasks, IsTaskNumber}
+use Rattle.sift_scenario.specs.Rules.{IsFirstPlace, OfNoEntry}
 use Rattle.sift_scenario.specs.Task.{task_entries, task_keys}
+use Rattle.sift_scenario.specs.TaskRules.{BreaksTasks, IsTaskNumber}
 
 -- the rule is broken at a place, and at none before it
 pub first_broken : (number place : ℕ) (Breaks : ℕ → Type 0) → Breaks place → ((at : ℕ) → at < place → ¬ Breaks at) → (number ≡ number) × IsFirstPlace Breaks place
@@ -16,7 +16,7 @@ first_broken number place Breaks broken first = (refl, record { broken = broken;
 -- as many entries as may be, of which the one at a place is a table with known keys
 pub keeps_tasks :
     (document : Members) (entries : List Data) (at : ℕ)
-    → entries ≡ task_entries document → IsTaskNumber (length entries) → ¬ HoldsOf entries at (λ entry. ¬ IsTableOf task_keys entry)
+    → entries ≡ task_entries document → IsTaskNumber (length entries) → ¬ HoldsOf entries at (IsNoTableOf task_keys)
     → ¬ BreaksTasks document at
 keeps_tasks document entries at same number known (inl other) = other.1 (rw (← same) number)
 keeps_tasks document entries at same number known (inr entry) = known (rw same entry)
@@ -25,3 +25,13 @@ keeps_tasks document entries at same number known (inr entry) = known (rw same e
 pub some_entry : (entries : List Value) → false ≡ (length entries == 0) → 0 < length (map (λ entry. view entry) entries)
 some_entry [] is = cc
 some_entry (e ∷ es) is = omega arith
+
+-- ---- rules that speak of no entry
+
+-- the fault is there, and so the rule is broken at place 0
+pub refused_of_none : (number : ℕ) (fault : Type 0) → fault → (number ≡ number) × IsFirstPlace (OfNoEntry fault) 0
+refused_of_none number fault there = (refl, record { broken = (refl, there); first = λ at low. absurd (omega (arith, low)) })
+
+-- the fault isn't there, and so the rule is kept
+pub kept_of_none : (fault : Type 0) → (fault → ⊥) → (place : ℕ) → ¬ OfNoEntry fault place
+kept_of_none fault none place broken = none broken.1

@@ -5,7 +5,7 @@ use Rattle.sift_lang.specs.Tree.{TaskTree}
 use Rattle.sift_parse.specs.Roll.{Roll, roll_of}
 use Rattle.sift_parse.specs.declared.names.Names.{Names}
 use Rattle.sift_scenario.specs.Entries.{EachMatches}
-use Rattle.sift_scenario.specs.Mission.{AreAllowed, IsTreeOf, steps_left, turn_of}
+use Rattle.sift_scenario.specs.Program.{AreAllowed, IsTreeOf, steps_left, turn_of}
 use Rattle.sift_scenario.specs.Refusal.{IsFirstRefused, IsNoTask}
 use Rattle.sift_scenario.specs.Task.{Form}
 use Rattle.sift_scenario.specs.Testing.{IsCodeStop}

@@ -1,58 +1,101 @@
 -- A document that states a mission isn't refused, and one that is refused is refused in one way.
-use Rattle.std.proofs.Common.{◌≡◌, ◌≢◌, ◌<◌, ◌⊎◌, inl, inr, ℕ, List, length, Some, Result, Ok, Err, IfOk, IfErr, refl, sym, ap, subst, ◌∙◌, arith}
+use Rattle.std.proofs.Common.{◌≡◌, ◌≢◌, ◌<◌, ◌⊎◌, inl, inr, ℕ, List, [], ◌∷◌, length, get_or, take, Some, Result, Ok, Err, IfOk, IfErr, refl, sym, ap, subst, ◌∙◌, arith}
 use Rattle.std.proofs.lemmas.Bool.{cases_order}
-use Rattle.std.proofs.lemmas.List.{take_all}
-use Rattle.std.proofs.lemmas.Option.{slice_get_within}
-use Rattle.std.specs.List.{slice_get}
+use Rattle.std.proofs.lemmas.List.{get_or-take, length-take, take_all}
+use Rattle.std.proofs.lemmas.Option.{get_or_from_slice_get, slice_get_within}
+use Rattle.std.specs.List.{All, slice_get}
 use Rattle.toml.specs.Data.{Members}
+use Rattle.sift_base.specs.Shapes.{AllShapes}
 use Rattle.sift_lang.specs.Tree.{TaskTree}
 use Rattle.sift_parse.proofs.Refusals.OneAnswer.{one_answer}
 use Rattle.sift_parse.specs.Outcome.{Tells}
 use Rattle.sift_parse.specs.Roll.{Roll}
-use Rattle.sift_scenario.proofs.Order.{rule_number-injective}
+use Rattle.sift_script.proofs.Refusals as script_laws
+use Rattle.sift_script.specs.Rules as scripts
+use Rattle.sift_script.specs.Script.{FaultScript}
+use Rattle.sift_table.proofs.Refusals as table_laws
+use Rattle.sift_table.specs.Rules as tables
+use Rattle.sift_table.specs.Schedule.{Schedule}
+use Rattle.sift_unit.specs.Data.{MissionData, data_of, shapes_in}
+use Rattle.sift_unit.specs.declared.parts.MissionParts.{MissionParts}
+use Rattle.sift_scenario.proofs.OneMission.{one_stated}
 use Rattle.sift_scenario.proofs.UniqueForms.{one_forms, one_tree}
+use Rattle.sift_scenario.proofs.Unrefused.{first_trees, kept_unbroken, one_entry, tree_unrefused, unrefused_among}
+use Rattle.sift_scenario.specs.Lawful.{IsFirstBroken, rules_of}
 use Rattle.sift_scenario.specs.Laws.{MissionsAreAccepted, OneRefusal}
-use Rattle.sift_scenario.specs.Mission.{IsMission, Stated, roll_for, stated, steps_left, turn_of}
-use Rattle.sift_scenario.specs.Refusal.{IsFirstRefused, IsFormRefused, IsNoTask, IsOver, IsRefusedWith, OnlyRefuses, refusal_of}
-use Rattle.sift_scenario.specs.Rules.{Breaks, IsFirstBroken, Rule}
+use Rattle.sift_scenario.specs.Mission.{AreSame, HasGoodTables, IsMission, IsStated}
+use Rattle.sift_scenario.specs.Program.{roll_for, steps_left, turn_of}
+use Rattle.sift_scenario.specs.Refusal.{IsFirstBadTable, IsFirstRefused, IsFormRefused, IsNoTask, IsOver, IsRefusedWith, OnlyRefuses, TablesAreRefused, TasksAreRefused, ScriptIsRefused, refusal_of}
+use Rattle.sift_scenario.specs.Rules.{BreaksFirst, IsFirstPlace, Rule}
+use Rattle.sift_scenario.specs.Sensor.{sensor_names}
 use Rattle.sift_scenario.specs.Task.{Form, text, tasks_of}
-use Rattle.sift_scenario.specs.declared.mission.Mission.{Mission}
 use Rattle.sift_scenario.specs.declared.refused.Refused.{Refused}
-use Rattle.sift_scenario.specs.declared.refused.Refused.TheVariants.{Scenario, Task, NoMemory}
-use Rattle.sift_scenario.proofs.Unrefused.{first_trees, lawful_unbroken, one_entry, tree_unrefused, unrefused_among}
+use Rattle.sift_scenario.specs.declared.refused.Refused.TheVariants.{Scenario, Task, Table, Script, NoMemory}
+
+-- ---- what is stated isn't refused
+
+-- where data are stated no task is refused
+stated_tasks : (d : Members) (m : MissionData) (e : Refused) → IsStated d m → TasksAreRefused (sensor_names d) (tasks_of d) e → ⊥
+stated_tasks d m e states refused =
+    let roll = roll_for (sensor_names d) (tasks_of d) in
+    let forms = states.program.forms in
+    let same : refused.0 ≡ forms = one_forms (tasks_of d) refused.0 forms refused.1 states.program.stated in
+    let first : IsFirstRefused roll forms e = subst (λ (fs : List Form). IsFirstRefused roll fs e) same refused.2 in
+    let low = slice_get_within forms first.task first.here.entry first.here.there in
+    unrefused_among roll forms e first m.program.tasks
+    states.program.trees.each states.program.allowed (omega (arith, low, states.program.trees.as_many))
+
+-- where all tables are good none is the first that isn't
+good_unrefused :
+    (schedules : List Schedule) (shapes : AllShapes) (size row rule : ℕ) → All (λ table. tables.IsGood table shapes) schedules
+    → IsFirstBadTable schedules shapes size row rule → ⊥
+good_unrefused schedules shapes size row rule good bad =
+    let low = slice_get_within schedules bad.place bad.here.entry bad.here.there in
+    let here : get_or schedules bad.place bad.here.entry ≡ bad.here.entry = get_or_from_slice_get schedules bad.place bad.here.entry bad.here.entry bad.here.there in
+    let fine : tables.IsGood bad.here.entry shapes = subst (λ (t : Schedule). tables.IsGood t shapes) here (good bad.place bad.here.entry low) in
+    (table_laws.one_broken_rule bad.here.entry shapes rule row bad.here.holds.1).0 fine
+
+-- where data with good tables are stated no table is refused
+stated_tables : (d : Members) (m : MissionData) (size row rule : ℕ) → IsStated d m → HasGoodTables m → TablesAreRefused d size row rule → ⊥
+stated_tables d m size row rule states good refused =
+    let same = one_stated d refused.mission m refused.stated states in
+    let bad : IsFirstBadTable m.tables (shapes_in m) size row rule =
+    subst (λ (x : MissionData). IsFirstBadTable x.tables (shapes_in x) size row rule) same refused.bad in
+    good_unrefused m.tables (shapes_in m) size row rule good bad
+
+-- where data with a good script are stated it isn't refused
+stated_script : (d : Members) (m : MissionData) (entry rule : ℕ) → IsStated d m → scripts.IsGood m.script → ScriptIsRefused d entry rule → ⊥
+stated_script d m entry rule states good refused =
+    let same = one_stated d refused.mission m refused.stated states in
+    let bad : scripts.IsFirstBroken m.script rule entry = subst (λ (x : MissionData). scripts.IsFirstBroken x.script rule entry) same refused.bad in
+    (script_laws.one_broken_rule m.script rule entry bad).0 good
 
 pub missions_are_accepted : MissionsAreAccepted
-missions_are_accepted d mission (Scenario n at) states refused = absurd (lawful_unbroken d n at states.lawful refused)
-missions_are_accepted d mission (Task t k at) states refused =
-    let forms = states.program.forms in
-    let same : refused.1.0 ≡ forms = one_forms (tasks_of d) refused.1.0 forms refused.1.1 states.program.stated in
-    let first : IsFirstRefused (roll_for (tasks_of d)) forms (Task t k at) = subst (λ (fs : List Form). IsFirstRefused (roll_for (tasks_of d)) fs (Task t k at)) same refused.1.2 in
-    let low = slice_get_within forms first.task first.here.entry first.here.there in
-    absurd (unrefused_among (roll_for (tasks_of d)) forms (Task t k at) first mission.program.tasks
-    states.program.trees.each states.program.allowed (omega (arith, low, states.program.trees.as_many)))
+missions_are_accepted d mission (Scenario n at) states refused = absurd (kept_unbroken (rules_of d) n at states.stated.lawful refused)
+missions_are_accepted d mission (Task t k at) states refused = absurd (stated_tasks d mission (Task t k at) states.stated refused.1)
+missions_are_accepted d mission (Table size row rule) states refused = absurd (stated_tables d mission size row rule states.stated states.good_tables refused)
+missions_are_accepted d mission (Script entry rule) states refused = absurd (stated_script d mission entry rule states.stated states.good_script refused)
 missions_are_accepted d mission NoMemory states refused = refl
 
+-- ---- a broken rule
+
 -- the first place of a rule is one
-one_place : (P : ℕ → Type 0) (at other : ℕ) → P at → P other → ((x : ℕ) → x < at → ¬ P x) → ((x : ℕ) → x < other → ¬ P x) → at ≡ other
-one_place P at other here there first second = elim (cases_order at other) [
+one_place : (P : ℕ → Type 0) (at other : ℕ) → IsFirstPlace P at → IsFirstPlace P other → at ≡ other
+one_place P at other one two = elim (cases_order at other) [
   | inl same ↦ same
-  | inr (inl before) ↦ absurd (second at before here)
-  | inr (inr after) ↦ absurd (first other after there)
+  | inr (inl before) ↦ absurd (two.first at before one.broken)
+  | inr (inr after) ↦ absurd (one.first other after two.broken)
 ]
 
 -- the first broken rule is one, at one place
-one_broken : (d : Members) (n m at other : ℕ) → IsFirstBroken d n at → IsFirstBroken d m other → (n ≡ m) × (at ≡ other)
-one_broken d n m at other a b = elim (cases_order n m) [
-  | inl same ↦
-      let rules : a.rule ≡ b.rule = rule_number-injective a.rule b.rule (sym a.number_is ∙ same ∙ b.number_is) in (
-        same,
-        one_place (Breaks b.rule d) at other
-            (subst (λ (r : Rule). Breaks r d at) rules a.broken) b.broken
-            (subst (λ (r : Rule). (x : ℕ) → x < at → ¬ Breaks r d x) rules a.first_place) b.first_place,
-      )
-  | inr (inl before) ↦ absurd (b.first_rule a.rule at (omega (arith, before, a.number_is)) a.broken)
-  | inr (inr after) ↦ absurd (a.first_rule b.rule other (omega (arith, after, b.number_is)) b.broken)
-]
+one_broken : (rules : List Rule) (n m at other : ℕ) → BreaksFirst rules n at → BreaksFirst rules m other → (n ≡ m) × (at ≡ other)
+one_broken [] n m at other a b = absurd a
+one_broken (rule ∷ rest) n m at other (inl a) (inl b) = (a.0 ∙ sym b.0, one_place rule.BrokenAt at other a.1 b.1)
+one_broken (rule ∷ rest) n m at other (inl a) (inr b) = absurd (b.0 at a.1.broken)
+one_broken (rule ∷ rest) n m at other (inr a) (inl b) = absurd (a.0 other b.1.broken)
+one_broken (rule ∷ rest) n m at other (inr a) (inr b) = one_broken rest n m at other a.1 b.1
+
+-- ---- a text, or its code
 
 -- a text stops in one way
 one_stop : (roll : Roll) (task : ℕ) (form : Form) (a b : Refused) → IsNoTask roll task form a → IsNoTask roll task form b → a ≡ b
@@ -102,25 +145,93 @@ one_task_refusal roll forms a b one other = elim (cases_order one.task other.tas
   | inr (inr after) ↦ absurd (unrefused_among roll forms b other one.trees one.earlier one.allowed (omega (arith, after, one.as_many)))
 ]
 
+-- ---- a table, or the script
+
+-- a table before the first that isn't good breaks no rule
+earlier_good :
+    (schedules : List Schedule) (shapes : AllShapes) (i place rule row : ℕ) (table : Schedule) → slice_get schedules i ≡ Some table → i < place
+    → All (λ t. tables.IsGood t shapes) (take place schedules) → tables.IsFirstBroken table shapes rule row → ⊥
+earlier_good schedules shapes i place rule row table there before good broken =
+    let low = slice_get_within schedules i table there in
+    let short : i < length (take place schedules) = omega (arith, low, before, length-take place schedules) in
+    let here : get_or (take place schedules) i table ≡ table = get_or-take place schedules i table before ∙ get_or_from_slice_get schedules i table table there in
+    let fine : tables.IsGood table shapes = subst (λ (t : Schedule). tables.IsGood t shapes) here (good i table short) in
+    (table_laws.one_broken_rule table shapes rule row broken).0 fine
+
+-- the first table that isn't good is one, and breaks one rule first
+one_bad_table :
+    (schedules : List Schedule) (shapes : AllShapes) (size row rule other_size other_row other : ℕ)
+    → IsFirstBadTable schedules shapes size row rule → IsFirstBadTable schedules shapes other_size other_row other
+    → (size ≡ other_size) × ((row ≡ other_row) × (rule ≡ other))
+one_bad_table schedules shapes size row rule other_size other_row other one two = elim (cases_order one.place two.place) [
+  | inl same ↦
+      let there : slice_get schedules two.place ≡ Some one.here.entry = subst (λ (i : ℕ). slice_get schedules i ≡ Some one.here.entry) same one.here.there in
+      let both : Some one.here.entry ≡ Some two.here.entry = sym there ∙ two.here.there in
+      let table : one.here.entry ≡ two.here.entry = cc both in
+      let mine : tables.IsFirstBroken two.here.entry shapes rule row = subst (λ (t : Schedule). tables.IsFirstBroken t shapes rule row) table one.here.holds.1 in
+      let so = (table_laws.one_broken_rule two.here.entry shapes other other_row two.here.holds.1).1 rule row mine in (
+        sym one.here.holds.0 ∙ ap (λ (t : Schedule). t.size) table ∙ two.here.holds.0,
+        (so.1, so.0),
+      )
+  | inr (inl before) ↦ absurd (earlier_good schedules shapes one.place two.place rule row one.here.entry one.here.there before two.earlier one.here.holds.1)
+  | inr (inr after) ↦ absurd (earlier_good schedules shapes two.place one.place other other_row two.here.entry two.here.there after one.earlier two.here.holds.1)
+]
+
+-- the data that two refusals speak of are the same
+one_table_refusal :
+    (d : Members) (size row rule other_size other_row other : ℕ) → TablesAreRefused d size row rule → TablesAreRefused d other_size other_row other
+    → (size ≡ other_size) × ((row ≡ other_row) × (rule ≡ other))
+one_table_refusal d size row rule other_size other_row other one two =
+    let same = one_stated d one.mission two.mission one.stated two.stated in
+    let bad : IsFirstBadTable two.mission.tables (shapes_in two.mission) size row rule =
+    subst (λ (x : MissionData). IsFirstBadTable x.tables (shapes_in x) size row rule) same one.bad in
+    one_bad_table two.mission.tables (shapes_in two.mission) size row rule other_size other_row other bad two.bad
+
+one_script_refusal :
+    (d : Members) (entry rule other_entry other : ℕ) → ScriptIsRefused d entry rule → ScriptIsRefused d other_entry other → (entry ≡ other_entry) × (rule ≡ other)
+one_script_refusal d entry rule other_entry other one two =
+    let same = one_stated d one.mission two.mission one.stated two.stated in
+    let bad : scripts.IsFirstBroken two.mission.script rule entry = subst (λ (x : MissionData). scripts.IsFirstBroken x.script rule entry) same one.bad in
+    let so = (script_laws.one_broken_rule two.mission.script other other_entry two.bad).1 rule entry bad in (so.1, so.0)
+
+-- ---- all of them
+
 pub one_refusal : OneRefusal
 one_refusal d (Scenario n at) (Scenario m other) some some' one two =
-    let same = one_broken d n m at other one two in rw (same.0, same.1) refl
-one_refusal d (Scenario n at) (Task t k x) some some' one two = absurd (lawful_unbroken d n at two.0 one)
-one_refusal d (Task t k x) (Scenario n at) some some' one two = absurd (lawful_unbroken d n at one.0 two)
+    let same = one_broken (rules_of d) n m at other one two in rw (same.0, same.1) refl
+one_refusal d (Scenario n at) (Task t k x) some some' one two = absurd (kept_unbroken (rules_of d) n at two.0 one)
+one_refusal d (Scenario n at) (Table size row rule) some some' one two = absurd (kept_unbroken (rules_of d) n at two.stated.lawful one)
+one_refusal d (Scenario n at) (Script entry rule) some some' one two = absurd (kept_unbroken (rules_of d) n at two.stated.lawful one)
+one_refusal d (Task t k x) (Scenario n at) some some' one two = absurd (kept_unbroken (rules_of d) n at one.0 two)
 one_refusal d (Task t k x) (Task u l y) some some' one two =
+    let roll = roll_for (sensor_names d) (tasks_of d) in
     let same : one.1.0 ≡ two.1.0 = one_forms (tasks_of d) one.1.0 two.1.0 one.1.1 two.1.1 in
-    one_task_refusal (roll_for (tasks_of d)) two.1.0 (Task t k x) (Task u l y)
-    (subst (λ (fs : List Form). IsFirstRefused (roll_for (tasks_of d)) fs (Task t k x)) same one.1.2) two.1.2
+    one_task_refusal roll two.1.0 (Task t k x) (Task u l y)
+    (subst (λ (fs : List Form). IsFirstRefused roll fs (Task t k x)) same one.1.2) two.1.2
+one_refusal d (Task t k x) (Table size row rule) some some' one two = absurd (stated_tasks d two.mission (Task t k x) two.stated one.1)
+one_refusal d (Task t k x) (Script entry rule) some some' one two = absurd (stated_tasks d two.mission (Task t k x) two.stated one.1)
+one_refusal d (Table size row rule) (Scenario n at) some some' one two = absurd (kept_unbroken (rules_of d) n at one.stated.lawful two)
+one_refusal d (Table size row rule) (Task t k x) some some' one two = absurd (stated_tasks d one.mission (Task t k x) one.stated two.1)
+one_refusal d (Table size row rule) (Table other_size other_row other) some some' one two =
+    let same = one_table_refusal d size row rule other_size other_row other one two in rw (same.0, same.1.0, same.1.1) refl
+one_refusal d (Table size row rule) (Script entry other) some some' one two = absurd (stated_tables d two.mission size row rule two.stated two.good_tables one)
+one_refusal d (Script entry rule) (Scenario n at) some some' one two = absurd (kept_unbroken (rules_of d) n at one.stated.lawful two)
+one_refusal d (Script entry rule) (Task t k x) some some' one two = absurd (stated_tasks d one.mission (Task t k x) one.stated two.1)
+one_refusal d (Script entry rule) (Table size row other) some some' one two = absurd (stated_tables d one.mission size row other one.stated one.good_tables two)
+one_refusal d (Script entry rule) (Script other_entry other) some some' one two =
+    let same = one_script_refusal d entry rule other_entry other one two in rw (same.0, same.1) refl
 one_refusal d NoMemory other some some' one two = absurd (some refl)
 one_refusal d (Scenario n at) NoMemory some some' one two = absurd (some' refl)
 one_refusal d (Task t k x) NoMemory some some' one two = absurd (some' refl)
+one_refusal d (Table size row rule) NoMemory some some' one two = absurd (some' refl)
+one_refusal d (Script entry rule) NoMemory some some' one two = absurd (some' refl)
 
 -- ---- what a call answers
 
 -- where a mission is stated only want of memory refuses it
 pub complete_of :
-    (d : Members) (result : Result Mission Refused) → IfErr result (IsRefusedWith d)
-    → (mission : Stated) → IsMission d mission → IfErr result (λ e. e ≡ NoMemory)
+    (d : Members) (result : Result MissionParts Refused) → IfErr result (IsRefusedWith d)
+    → (mission : MissionData) → IsMission d mission → IfErr result (λ e. e ≡ NoMemory)
 complete_of d (Ok held) refused mission states = tt
 complete_of d (Err e) refused mission states = missions_are_accepted d mission e states refused
 
@@ -128,12 +239,14 @@ complete_of d (Err e) refused mission states = missions_are_accepted d mission e
 one_or_none : (d : Members) (e owed : Refused) → IsRefusedWith d e → owed ≢ NoMemory → IsRefusedWith d owed → (e ≡ owed) ⊎ (e ≡ NoMemory)
 one_or_none d (Scenario n at) owed refused some stands = inl (one_refusal d (Scenario n at) owed (λ same. cc) some refused stands)
 one_or_none d (Task t k at) owed refused some stands = inl (one_refusal d (Task t k at) owed (λ same. cc) some refused stands)
+one_or_none d (Table size row rule) owed refused some stands = inl (one_refusal d (Table size row rule) owed (λ same. cc) some refused stands)
+one_or_none d (Script entry rule) owed refused some stands = inl (one_refusal d (Script entry rule) owed (λ same. cc) some refused stands)
 one_or_none d NoMemory owed refused some stands = inr refl
 
 -- where a refusal is owed it comes, or want of memory
 pub exact_of :
-    (d : Members) (result : Result Mission Refused)
-    → IfOk result (λ mission. IsMission d (stated mission)) → IfErr result (IsRefusedWith d)
+    (d : Members) (result : Result MissionParts Refused)
+    → IfOk result (λ mission. IsMission d (data_of mission)) → IfErr result (IsRefusedWith d)
     → (owed : Refused) → owed ≢ NoMemory → IsRefusedWith d owed → OnlyRefuses owed result
-exact_of d (Ok held) accepted refused owed some stands = absurd (some (missions_are_accepted d (stated held) owed accepted stands))
+exact_of d (Ok held) accepted refused owed some stands = absurd (some (missions_are_accepted d (data_of held) owed accepted stands))
 exact_of d (Err e) accepted refused owed some stands = (refl, one_or_none d e owed refused some stands)

@@ -1,9 +1,8 @@
 -- A task that has an allowed tree isn't refused.
-use Rattle.std.proofs.Common.{◌≡◌, ◌≢◌, ◌<◌, ◌≤◌, inl, inr, ℕ, List, length, get_or, take, Some, Err, refl, sym, ap, subst, ◌∙◌, arith}
+use Rattle.std.proofs.Common.{◌≡◌, ◌≢◌, ◌<◌, ◌≤◌, inl, inr, ℕ, List, [], ◌∷◌, length, get_or, take, Some, Err, refl, sym, ap, subst, ◌∙◌, arith}
 use Rattle.std.proofs.lemmas.List.{get_or-take, length-take-le}
 use Rattle.std.proofs.lemmas.Option.{get_or_from_slice_get, slice_get-get_or, slice_get_read, slice_get_within}
 use Rattle.std.specs.List.{slice_get}
-use Rattle.toml.specs.Data.{Members}
 use Rattle.sift_lang.specs.Tree.{TaskTree, end}
 use Rattle.sift_parse.proofs.Refusals.OneAnswer.{task_is_answered}
 use Rattle.sift_parse.specs.Outcome.{IsTaskOf, Tells}
@@ -12,15 +11,17 @@ use Rattle.sift_parse.specs.declared.stop.ParseStop.{ParseStop}
 use Rattle.sift_parse.specs.declared.stop.ParseStop.TheVariants as parse
 use Rattle.sift_scenario.proofs.UniqueForms.{one_tree, same_entries}
 use Rattle.sift_scenario.specs.Entries.{EachMatches}
-use Rattle.sift_scenario.specs.Mission.{AreAllowed, IsTreeOf, IsWithin, steps_left, turn_of}
+use Rattle.sift_scenario.specs.Program.{AreAllowed, IsTreeOf, IsWithin, steps_left, turn_of}
 use Rattle.sift_scenario.specs.Refusal.{IsFirstRefused, IsFormRefused, IsNoTask, IsOver}
-use Rattle.sift_scenario.specs.Rules.{IsFirstBroken, IsLawful}
+use Rattle.sift_scenario.specs.Rules.{AreKept, BreaksFirst, Rule}
 use Rattle.sift_scenario.specs.Task.{Form}
 use Rattle.sift_scenario.specs.declared.refused.Refused.{Refused}
 
--- a lawful document breaks no rule
-pub lawful_unbroken : (d : Members) (n at : ℕ) → IsLawful d → IsFirstBroken d n at → ⊥
-lawful_unbroken d n at lawful broken = lawful broken.rule at broken.broken
+-- where rules are kept none is broken
+pub kept_unbroken : (rules : List Rule) (n at : ℕ) → AreKept rules → BreaksFirst rules n at → ⊥
+kept_unbroken [] n at kept broken = broken
+kept_unbroken (rule ∷ rest) n at kept (inl broken) = kept.0 at broken.1.broken
+kept_unbroken (rule ∷ rest) n at kept (inr broken) = kept_unbroken rest n at kept.1 broken.1
 
 -- a text that is a task isn't refused
 task_unrefused : (roll : Roll) (bytes : List ℕ) (tree : TaskTree) (stop : ParseStop) → stop ≢ parse.NoMemory → IsTaskOf roll bytes tree → Tells roll bytes (Err stop) → ⊥

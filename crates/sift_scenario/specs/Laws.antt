@@ -8,21 +8,27 @@ use Rattle.sift_parse.specs.Outcome.{AreNames, IsTaskOf, Tells}
 use Rattle.sift_parse.specs.Roll.{Roll}
 use Rattle.sift_scenario.specs.declared.refused.Refused.{Refused}
 use Rattle.sift_scenario.specs.declared.refused.Refused.TheVariants.{NoMemory}
-use Rattle.sift_scenario.specs.Mission.{IsMission, Stated}
+use Rattle.sift_scenario.specs.Lawful.{IsFirstBroken, IsLawful}
+use Rattle.sift_scenario.specs.Mission.{AreSame, IsMission}
 use Rattle.sift_scenario.specs.Refusal.{IsRefusedWith}
-use Rattle.sift_scenario.specs.Rules.{IsFirstBroken, IsLawful}
+use Rattle.sift_script.specs.Rules as scripts
+use Rattle.sift_script.specs.Script.{FaultScript}
+use Rattle.sift_base.specs.Shapes.{AllShapes}
+use Rattle.sift_table.specs.Rules as tables
+use Rattle.sift_table.specs.Schedule.{Schedule}
+use Rattle.sift_unit.specs.Data.{MissionData}
 
 -- a document that states a mission isn't refused, where memory is not wanting
 abbrev pub MissionsAreAccepted : Type 0
-MissionsAreAccepted = (document : Members) (mission : Stated) (refused : Refused) → IsMission document mission → IsRefusedWith document refused → refused ≡ NoMemory
+MissionsAreAccepted = (document : Members) (mission : MissionData) (refused : Refused) → IsMission document mission → IsRefusedWith document refused → refused ≡ NoMemory
 
 -- a document is refused in one way, where memory is not wanting
 abbrev pub OneRefusal : Type 0
 OneRefusal = (document : Members) (one other : Refused) → one ≢ NoMemory → other ≢ NoMemory → IsRefusedWith document one → IsRefusedWith document other → one ≡ other
 
--- a document states at most one mission
+-- a document states at most one mission, whatever code is said to be that of its tasks
 abbrev pub OneMission : Type 0
-OneMission = (document : Members) (one other : Stated) → IsMission document one → IsMission document other → one ≡ other
+OneMission = (document : Members) (one other : MissionData) → IsMission document one → IsMission document other → AreSame one other
 
 -- a document keeps all rules, or one is the first that it breaks, at a first place
 abbrev pub RulesAreKeptOrBroken : Type 0
@@ -33,8 +39,17 @@ abbrev pub TextsAreAnswered : Type 0
 TextsAreAnswered = (roll : Roll) (bytes : List ℕ) → AreNames roll
     → ((tree : TaskTree) × IsTaskOf roll bytes tree) ⊎ ((stop : ParseStop) × (stop ≢ parse.NoMemory) × Tells roll bytes (Err stop))
 
+-- each table is good for tasks of given shapes, or breaks a rule first
+abbrev pub TablesAreAnswered : Type 0
+TablesAreAnswered = (table : Schedule) (shapes : AllShapes)
+    → tables.IsGood table shapes ⊎ ((rule : ℕ) × (row : ℕ) × tables.IsFirstBroken table shapes rule row)
+
+-- each script is good, or breaks a rule first
+abbrev pub ScriptsAreAnswered : Type 0
+ScriptsAreAnswered = (script : FaultScript) → scripts.IsGood script ⊎ ((rule : ℕ) × (entry : ℕ) × scripts.IsFirstBroken script rule entry)
+
 -- where that is so, each document states a mission, or is refused
 abbrev pub DocumentsAreAnswered : Type 0
-DocumentsAreAnswered = TextsAreAnswered → (document : Members)
-    → ((mission : Stated) × IsMission document mission)
+DocumentsAreAnswered = TextsAreAnswered → TablesAreAnswered → ScriptsAreAnswered → (document : Members)
+    → ((mission : MissionData) × IsMission document mission)
     ⊎ ((refused : Refused) × (refused ≢ NoMemory) × IsRefusedWith document refused)

@@ -1,27 +1,61 @@
--- What is read of the tables of tasks, and what is made of it. No public clause cites this module.
-use Rattle.std.specs.Prelude.{◌≡◌, List, Some, length, map}
+-- What is read of a document, and what is made of it. No public clause cites this module.
+use Rattle.std.specs.Prelude.{◌≡◌, ◌⊎◌, List, Some, None, length, map}
 use Rattle.toml.specs.Data.{Members}
+use Rattle.sift_compile.specs.Tasks.{AreCodesOf}
 use Rattle.sift_program.specs.Program.{program_of}
 use Rattle.sift_program.specs.Sound.{IsSoundProgram}
-use Rattle.sift_scenario.specs.declared.mission.Entries.{Entries}
-use Rattle.sift_scenario.specs.declared.mission.Running.{Running}
-use Rattle.sift_scenario.specs.Flight.{AreCodesOf}
-use Rattle.sift_scenario.specs.Mission.{IsProgramOf}
-use Rattle.sift_scenario.specs.Rules.{IsTaskNumber}
-use Rattle.sift_scenario.specs.Task.{AreForms, name_of, start_words}
-use Rattle.sift_scenario.specs.Testing.{KeepsTaskRules, form_of}
+use Rattle.sift_script.specs.Script.{faults_of}
+use Rattle.sift_table.specs.Schedule.{schedule_of}
+use Rattle.sift_unit.specs.Data as unit
+use Rattle.sift_scenario.specs.declared.document.Entries.{Entries}
+use Rattle.sift_scenario.specs.declared.program.Running.{Running}
+use Rattle.sift_scenario.specs.declared.sensor.Sensors.{Sensors}
+use Rattle.sift_scenario.specs.declared.task.Tasks.{Tasks}
+use Rattle.sift_scenario.specs.Clock.{clocks_of}
+use Rattle.sift_scenario.specs.Fault as fault
+use Rattle.sift_scenario.specs.Lawful.{IsLawful}
+use Rattle.sift_scenario.specs.Program.{IsProgramOf}
+use Rattle.sift_scenario.specs.Root.{frames_of, period_of, units_of}
+use Rattle.sift_scenario.specs.Sensor.{sensor_names, sensor_words}
+use Rattle.sift_scenario.specs.Table.{IsTimeless, positions_of, schedules_of, size_of}
+use Rattle.sift_scenario.specs.Task.{AreForms, name_of, start_words, tasks_of}
+use Rattle.sift_scenario.specs.TaskRules.{IsTaskNumber}
+use Rattle.sift_scenario.specs.Testing.{form_of}
 
--- these are the names, the start words and the forms of the tasks in these tables, which keep the rules
-pub record IsReadOf (tasks : List Members) (entries : Entries) : Type 0 where
-  pub few : IsTaskNumber (length tasks)
-  pub names : map (λ name. Some name.bytes) entries.names.items ≡ map name_of tasks
-  pub starts : map (λ words. Some words.items) entries.starts.items ≡ map start_words tasks
-  pub forms : AreForms tasks (map form_of entries.forms.items)
-  pub kept : KeepsTaskRules tasks
+-- these are the names, the start words and the forms of the tasks in these tables, which are as many as may be
+pub record AreTasksRead (tables : List Members) (tasks : Tasks) : Type 0 where
+  pub few : IsTaskNumber (length tables)
+  pub names : map (λ name. Some name.bytes) tasks.names.items ≡ map name_of tables
+  pub starts : map (λ words. Some words.items) tasks.starts.items ≡ map start_words tables
+  pub forms : AreForms tables (map form_of tasks.forms.items)
 
--- this is the program of the tasks in these tables, which keep the rules; it is sound, and this is its code
-pub record IsRunningOf (tasks : List Members) (running : Running) : Type 0 where
-  pub stated : IsProgramOf tasks (program_of running.program)
-  pub sound : IsSoundProgram 0 (program_of running.program)
-  pub codes : AreCodesOf (length running.program.starts.items) (program_of running.program).tasks running.code.items
-  pub kept : KeepsTaskRules tasks
+-- these are the names, the start words and the forms of a document's tasks
+abbrev pub AreTasksOf : Members → Tasks → Type 0
+AreTasksOf document tasks = AreTasksRead (tasks_of document) tasks
+
+-- these are the names and the words of a document's sensors
+pub record AreSensorsOf (document : Members) (sensors : Sensors) : Type 0 where
+  pub names : map (λ name. name.bytes) sensors.names.items ≡ sensor_names document
+  pub words : map (λ words. words.items) sensors.words.items ≡ sensor_words document
+
+-- a part of the table isn't read
+abbrev pub IsPartial : Members → Type 0
+IsPartial table = (size_of table ≡ None) ⊎ (IsTimeless table ⊎ (positions_of table ≡ None))
+
+-- these are the entries of the document, which keeps all rules
+pub record IsReadOf (document : Members) (entries : Entries) : Type 0 where
+  pub lawful : IsLawful document
+  pub units : units_of document ≡ Some entries.units
+  pub frames : frames_of document ≡ Some entries.frames
+  pub period : period_of document ≡ Some entries.period
+  pub clock : unit.clocks_of entries.clock ≡ clocks_of entries.units document
+  pub sensors : AreSensorsOf document entries.sensors
+  pub tasks : AreTasksOf document entries.tasks
+  pub tables : map schedule_of entries.tables.items ≡ schedules_of document entries.units entries.period
+  pub faults : faults_of entries.script ≡ fault.faults_of document
+
+-- this is the program of the document's tasks; it is sound, and this is its code
+pub record IsRunningOf (document : Members) (running : Running) : Type 0 where
+  pub stated : IsProgramOf (sensor_names document) (tasks_of document) (program_of running.program)
+  pub sound : IsSoundProgram (length (sensor_names document)) (program_of running.program)
+  pub codes : AreCodesOf (length (sensor_names document)) (length running.program.starts.items) (program_of running.program).tasks running.code.items

@@ -1,18 +1,28 @@
 -- Why a document states no mission.
-use Rattle.std.specs.Prelude.{◌≡◌, ◌≢◌, ◌<◌, ◌≤◌, ◌⊎◌, ℕ, min, List, Err, IsErr, IfErr, Result, length}
+use Rattle.std.specs.Prelude.{◌≡◌, ◌≢◌, ◌<◌, ◌≤◌, ◌⊎◌, ℕ, min, List, Err, IsErr, IfErr, Result, length, take, ⊤}
+use Rattle.std.specs.List.{All}
 use Rattle.toml.specs.Data.{Members}
+use Rattle.sift_base.specs.Shapes.{AllShapes}
 use Rattle.sift_compile.specs.Length.{code_limit, task_length, task_steps}
 use Rattle.sift_lang.specs.Tree.{TaskTree}
 use Rattle.sift_parse.specs.declared.stop.ParseStop.{ParseStop}
 use Rattle.sift_parse.specs.declared.stop.ParseStop.TheVariants as parse
 use Rattle.sift_parse.specs.Outcome.{Tells}
 use Rattle.sift_parse.specs.Roll.{Roll}
+use Rattle.sift_script.specs.Rules as scripts
+use Rattle.sift_table.specs.Rules as tables
+use Rattle.sift_table.specs.Schedule.{Schedule}
+use Rattle.sift_unit.specs.Data.{MissionData, shapes_in}
 use Rattle.sift_scenario.specs.declared.refused.Refused.{Refused}
-use Rattle.sift_scenario.specs.declared.refused.Refused.TheVariants.{Scenario, Task, NoMemory}
+use Rattle.sift_scenario.specs.declared.refused.Refused.TheVariants.{Scenario, Task, Table, Script, NoMemory}
 use Rattle.sift_scenario.specs.Entries.{EachMatches, HoldsOf}
-use Rattle.sift_scenario.specs.Mission.{AreAllowed, IsTreeOf, roll_for, steps_left, turn_of}
-use Rattle.sift_scenario.specs.Rules.{IsFirstBroken, IsLawful}
+use Rattle.sift_scenario.specs.Lawful.{IsFirstBroken, IsLawful}
+use Rattle.sift_scenario.specs.Mission.{HasGoodTables, IsStated}
+use Rattle.sift_scenario.specs.Program.{AreAllowed, IsTreeOf, roll_for, steps_left, turn_of}
+use Rattle.sift_scenario.specs.Sensor.{sensor_names}
 use Rattle.sift_scenario.specs.Task.{AreForms, Form, text, tasks_of}
+
+-- ---- a text, or its code
 
 -- the refusal of a task whose text is no task, with its kind and its place in the text
 abbrev pub refusal_of : ℕ → ParseStop → Refused
@@ -70,15 +80,41 @@ pub record IsFirstRefused (roll : Roll) (forms : List Form) (refused : Refused) 
   pub allowed : AreAllowed trees
   pub here : HoldsOf forms task (λ form. IsFormRefused (turn_of task roll) (steps_left trees) task form refused)
 
--- the tasks in these tables have forms, of which one is refused
-abbrev pub TasksAreRefused : List Members → Refused → Type 0
-TasksAreRefused tasks refused = (forms : List Form) × AreForms tasks forms × IsFirstRefused (roll_for tasks) forms refused
+-- the tasks in these tables have forms, of which one is refused, beside sensors of these names
+abbrev pub TasksAreRefused : (sensors : List (List ℕ)) → List Members → Refused → Type 0
+TasksAreRefused sensors tasks refused = (forms : List Form) × AreForms tasks forms × IsFirstRefused (roll_for sensors tasks) forms refused
+
+-- ---- a table, or the script
+
+-- the first of these tables that isn't good for tasks of these shapes has this size, and breaks this rule first, in this row
+pub record IsFirstBadTable (schedules : List Schedule) (shapes : AllShapes) (size row rule : ℕ) : Type 0 where
+  pub place : ℕ
+  pub earlier : All (λ table. tables.IsGood table shapes) (take place schedules)
+  pub here : HoldsOf schedules place (λ table. (table.size ≡ size) × tables.IsFirstBroken table shapes rule row)
+
+-- a table of what the document states is refused
+pub record TablesAreRefused (document : Members) (size row rule : ℕ) : Type 0 where
+  pub mission : MissionData
+  pub stated : IsStated document mission
+  pub bad : IsFirstBadTable mission.tables (shapes_in mission) size row rule
+
+-- the tables of what the document states are good, and its script is refused
+pub record ScriptIsRefused (document : Members) (entry rule : ℕ) : Type 0 where
+  pub mission : MissionData
+  pub stated : IsStated document mission
+  pub good_tables : HasGoodTables mission
+  pub bad : scripts.IsFirstBroken mission.script rule entry
+
+-- ---- all of them
 
 -- what stands where a document is refused; want of memory says nothing else
 abbrev pub IsRefusedWith : Members → Refused → Type 0
 IsRefusedWith document (Scenario rule place) = IsFirstBroken document rule place
-IsRefusedWith document (Task task kind at) = IsLawful document × TasksAreRefused (tasks_of document) (Task task kind at)
-IsRefusedWith document NoMemory = Unit {0}
+IsRefusedWith document (Task task kind at) =
+    IsLawful document × TasksAreRefused (sensor_names document) (tasks_of document) (Task task kind at)
+IsRefusedWith document (Table size row rule) = TablesAreRefused document size row rule
+IsRefusedWith document (Script entry rule) = ScriptIsRefused document entry rule
+IsRefusedWith document NoMemory = ⊤
 
 -- the document is refused so, unless memory was wanting
 abbrev pub OnlyRefuses : {A : Type 0} → Refused → Result A Refused → Type 0

@@ -3,6 +3,7 @@ use Rattle.std.specs.Prelude.{codes, ℕ, ◌≡◌, List, [], ◌∷◌, length
 use Rattle.std.specs.List.{Contains}
 use Rattle.toml.specs.Data.{Data, Members, get_member, as_str}
 use Rattle.sift_base.specs.Name.{IsName}
+use Rattle.sift_base.specs.Shapes.{output_limit}
 use Rattle.sift_scenario.specs.Entries.{AreMatched}
 use Rattle.sift_scenario.specs.Document.{entries_of, members_of, read_at, word_array}
 
@@ -20,21 +21,21 @@ task_keys = codes "name" ∷ codes "start" ∷ codes "text" ∷ codes "linear" �
 
 -- ---- names
 
--- a task's name, where it is a string
+-- the name of a task, or of another entry that has one, where it is a string
 abbrev pub name_of : Members → Option (List ℕ)
-name_of task = read_at as_str (codes "name") task
+name_of entry = read_at as_str (codes "name") entry
 
--- the name of a task that comes after tasks of these names: it is a name, and none of theirs
-pub record IsNewName (earlier : List (Option (List ℕ))) (task : Members) (name : List ℕ) : Type 0 where
-  pub stated : name_of task ≡ Some name
+-- the names of entries
+abbrev pub names_of : List Members → List (List ℕ)
+names_of entries = map (λ entry. unwrap_or (name_of entry) []) entries
+
+-- the name of an entry that comes after entries of these names: it is a name, and none of theirs
+pub record IsNewName (earlier : List (Option (List ℕ))) (entry : Members) (name : List ℕ) : Type 0 where
+  pub stated : name_of entry ≡ Some name
   pub form : IsName name
   pub new : ¬ Contains earlier (Some name)
 
 -- ---- start words
-
--- the most output words of a task
-abbrev pub output_limit : ℕ
-output_limit = 8
 
 -- a task's start words, one for each of its output words: an array of 1 to 8 word values
 abbrev pub start_words : Members → Option (List ℕ)

@@ -2,12 +2,21 @@
 //!
 //! A document that breaks a rule is refused with the first broken rule, at its first place. Else the
 //! first task whose text is no task, or whose code is too much, is refused, with its kind and its place or count.
+//! Else the first table that isn't good is refused, and else the script of faults, where it isn't.
 #![tactic(auto)]
 
+mod checked;
+mod clock;
+mod document;
+mod entries;
 mod law;
 mod mission;
+mod program;
 mod refused;
 mod root;
+mod sensor;
+mod shapes;
+mod table;
 mod task;
 mod tree;
 mod value;
@@ -16,5 +25,5 @@ pub use law::{
     documents_are_answered, missions_are_accepted, one_mission, one_refusal,
     rules_are_kept_or_broken,
 };
-pub use mission::{Mission, mission_of};
+pub use mission::mission_of;
 pub use refused::Refused;

@@ -21,6 +21,12 @@ pub enum Refused {
     /// the number, and 7 where it may take more steps than the tasks before it leave of 16,384; `at` is
     /// the bound of its steps.
     Task { task: u32, kind: u32, at: u32 },
+    /// The table for the configurations of this size is the first that isn't good. It breaks the table
+    /// rule of this number, in this row, which is a task's number.
+    Table { size: u32, row: u32, rule: u32 },
+    /// The script of faults isn't good: this entry is the first to break a script rule, and that has
+    /// this number.
+    Script { entry: u32, rule: u32 },
     /// An allocation failed.
     NoMemory,
 }

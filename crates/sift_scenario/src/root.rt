@@ -1,41 +1,51 @@
-//! The rules of the root, but for its tasks.
+//! The rules of the root, but for its entries.
 
-ghost use Rattle.std.specs.Prelude.{◌≡◌, IfErr, IfOk, Some};
+ghost use Rattle.std.specs.Prelude.{◌≡◌, ℕ, IfOk, Some, unwrap_or};
 ghost use Rattle.toml.specs.View.{table_view};
-ghost use Rattle.sift_scenario.specs.Rules.{BreaksFrames, BreaksRootKeys, BreaksUnits, KeepsBelow, frames_of, units_of};
-ghost use Rattle.sift_scenario.specs.Document.{integer_between, read_at};
-ghost use Rattle.sift_scenario.specs.Refusal.{IsRefusedWith};
-ghost use Rattle.sift_scenario.specs.Testing.{Tests};
+ghost use Rattle.sift_scenario.specs.Root.{BreaksFrames, BreaksRootKeys, BreaksSubframes, BreaksUnits, BreaksVersion, frames_of, period_or, root_rules, units_of};
+ghost use Rattle.sift_scenario.specs.Testing.{Tests, TestsEach};
 
 use crate::refused::{Refused, broken};
-use crate::value::{has_only_keys, integer_between, member_of};
+use crate::value::{has_only_keys, number_at, optional_between};
 use toml::Table;
 
-/// How many units fly how many frames.
+/// How many units fly how many frames, and of how many subframes.
 #[derive(Clone, Copy)]
 pub(crate) struct Root {
     pub units: u8,
     pub frames: u32,
+    /// Where the document states it.
+    pub subframes: Option<u32>,
 }
 
-/// What the root states beside its tasks.
+/// What the root states beside its entries.
 pub(crate) fn root_of(document: &Table) -> Result<Root, Refused>
     ensures units { IfOk result (λ root. units_of (table_view document.now) ≡ Some root.units) }
     ensures frames { IfOk result (λ root. frames_of (table_view document.now) ≡ Some root.frames) }
-    ensures kept { IfOk result (λ _. KeepsBelow 18 (table_view document.now)) }
-    ensures refused { IfErr result (IsRefusedWith (table_view document.now)) }
+    ensures subframes { IfOk result (λ root. (unstated : ℕ) →
+        period_or unstated (table_view document.now) ≡ Some (unwrap_or root.subframes unstated)) }
+    ensures tests { TestsEach (root_rules (table_view document.now)) result }
 {
     check_keys(document)?;
     let units = units_of(document)?;
     let frames = frames_of(document)?;
-    Ok(Root { units, frames })
+    check_version(document)?;
+    let subframes = subframes_of(document)?;
+    Ok(Root {
+        units,
+        frames,
+        subframes,
+    })
 }
 
 /// Tests the keys of the root.
 fn check_keys(document: &Table) -> Result<(), Refused>
     ensures { Tests 1 (BreaksRootKeys (table_view document.now)) result }
 {
-    if has_only_keys(document, &["units", "frames", "task"]) {
+    if has_only_keys(
+        document,
+        &["version", "units", "frames", "subframes", "task", "table"],
+    ) {
         Ok(())
     } else {
         Err(broken(1, 0))
@@ -61,9 +71,24 @@ fn frames_of(document: &Table) -> Result<u32, Refused>
     number_at(document, "frames", 1, 1_000).ok_or(broken(3, 0))
 }
 
-/// The number at a key that is there and is an integer from `low` to `high`.
-fn number_at(document: &Table, key: &str, low: u32, high: u32) -> Option<u32>
-    ensures { result ≡ read_at (integer_between low high) key.now (table_view document.now) }
+/// Tests the version, where it is stated.
+fn check_version(document: &Table) -> Result<(), Refused>
+    ensures { Tests 4 (BreaksVersion (table_view document.now)) result }
 {
-    integer_between(member_of(document, key)?, low, high)
+    match optional_between(document, "version", 1, 1) {
+        Some(_) => Ok(()),
+        None => Err(broken(4, 0)),
+    }
+}
+
+/// How many subframes a frame has, where it is stated.
+fn subframes_of(document: &Table) -> Result<Option<u32>, Refused>
+    ensures subframes { IfOk result (λ subframes. (unstated : ℕ) →
+        period_or unstated (table_view document.now) ≡ Some (unwrap_or subframes unstated)) }
+    ensures tests { Tests 5 (BreaksSubframes (table_view document.now)) result }
+{
+    match optional_between(document, "subframes", 12, 64) {
+        Some(subframes) => Ok(subframes),
+        None => Err(broken(5, 0)),
+    }
 }

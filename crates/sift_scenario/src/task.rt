@@ -1,16 +1,19 @@
 //! The rules of the tasks, each over all of them, and what the tasks' tables say.
 
-ghost use Rattle.std.specs.Prelude.{◌≡◌, ◌≢◌, ◌↔◌, ◌≤◌, ◌∷◌, [], ℕ, List, Contains, IfOk, IfSome, IfNone, IsTrue, Some, length, map, option_map};
+ghost use Rattle.std.specs.Prelude.{◌≡◌, ◌≢◌, ◌≤◌, ◌∷◌, [], ℕ, IfOk, IfSome, IfNone, Some, length, map, option_map};
 ghost use Rattle.toml.specs.View.{table_view, view};
+ghost use Rattle.sift_base.specs.Shapes.{task_limit};
 ghost use Rattle.sift_scenario.specs.Document.{word_array};
-ghost use Rattle.sift_scenario.specs.Rules.{BreaksForms, BreaksNames, BreaksStarts, BreaksTasks, BreaksWords, IsTaskNumber, task_limit};
-ghost use Rattle.sift_scenario.specs.Testing.{Tests, IsLinearForm, form_of};
-ghost use Rattle.sift_scenario.specs.Task.{AreForms, Form as Stated, HasForm, IsNewName, counts_of, name_of, start_words, tasks_of, task_outputs};
+ghost use Rattle.sift_scenario.specs.Reading.{AreTasksOf, AreTasksRead};
+ghost use Rattle.sift_scenario.specs.TaskRules.{BreaksForms, BreaksStarts, BreaksTasks, BreaksWords, IsTaskNumber, each_task_rules, task_rules};
+ghost use Rattle.sift_scenario.specs.Testing.{Tests, TestsEach, IsLinearForm, form_of};
+ghost use Rattle.sift_scenario.specs.Task.{AreForms, Form as Stated, HasForm, counts_of, start_words, tasks_of, task_outputs};
 
+use crate::entries::{names_in, tables_in};
 use crate::refused::{Refused, broken};
-use crate::value::{entries_at, member_of, table_of, word_array};
+use crate::value::{entries_at, member_of, word_array};
 use arrayvec::ArrayVec;
-use sift_base::{Name, Word, is_name};
+use sift_base::{Name, Word};
 use sift_program::{TASK_LIMIT, WORD_LIMIT};
 use std::alloc::Global;
 use toml::{Table, Value};
@@ -28,8 +31,42 @@ pub(crate) enum Form<'a> {
 /// The start words of a task, one for each of its output words.
 pub(crate) type Starts = ArrayVec<Word, 8>;
 
+/// What the tables of the tasks state, each in the order of the tasks.
+#[derive(Drop)]
+pub(crate) struct Tasks<'a> {
+    pub names: Vec<Name>,
+    pub starts: Vec<Starts>,
+    pub forms: Vec<Form<'a>>,
+}
+
+/// The tasks of a document.
+pub(crate) fn tasks_of(alloc: Global, document: &Table) -> Result<Tasks<'_>, Refused>
+    ensures read { IfOk result (AreTasksOf (table_view document.now)) }
+    ensures tests { TestsEach (task_rules (table_view document.now)) result }
+{
+    let tables = task_tables(alloc, document)?;
+    read_tasks(alloc, &tables)
+}
+
+/// What these tables state, where no rule of the tasks is broken.
+fn read_tasks<'a>(alloc: Global, tables: &[&'a Table]) -> Result<Tasks<'a>, Refused>
+    requires { IsTaskNumber (length tables.now) }
+    ensures read { IfOk result (AreTasksRead (map (λ task. table_view task.now) tables.now)) }
+    ensures tests { TestsEach (each_task_rules (map (λ task. table_view task.now) tables.now)) result }
+{
+    let names = names_in(alloc, tables, 19)?;
+    let starts = task_starts(alloc, tables)?;
+    check_words(&starts)?;
+    let forms = task_forms(alloc, tables, &starts)?;
+    Ok(Tasks {
+        names,
+        starts,
+        forms,
+    })
+}
+
 /// The tables of the tasks.
-pub(crate) fn task_tables<'a>(alloc: Global, document: &'a Table) -> Result<Vec<&'a Table>, Refused>
+fn task_tables(alloc: Global, document: &Table) -> Result<Vec<&Table>, Refused>
     ensures tables { IfOk result (λ tables.
         map (λ task. table_view task.now) tables.items ≡ tasks_of (table_view document.now)) }
     ensures few { IfOk result (λ tables. IsTaskNumber (length tables.items)) }
@@ -39,62 +76,11 @@ pub(crate) fn task_tables<'a>(alloc: Global, document: &'a Table) -> Result<Vec<
     if entries.is_empty() || entries.len() > TASK_LIMIT {
         return Err(broken(18, 0));
     }
-    let mut tables = Vec::new(alloc);
-    for (place, entry) in entries.iter().enumerate() {
-        match table_of(entry, &["name", "start", "text", "linear"]) {
-            Some(table) => tables.push(table)?,
-            None => return Err(broken(18, place)),
-        }
-    }
-    Ok(tables)
-}
-
-/// The names of the tasks.
-pub(crate) fn task_names(alloc: Global, tasks: &[&Table]) -> Result<Vec<Name>, Refused>
-    requires { length tasks.now ≤ task_limit }
-    ensures names { IfOk result (λ names.
-        map (λ name. Some name.bytes) names.items ≡ map (λ task. name_of (table_view task.now)) tasks.now) }
-    ensures tests { Tests 19 (BreaksNames (map (λ task. table_view task.now) tasks.now)) result }
-{
-    let mut names = Vec::new(alloc);
-    for (place, task) in tasks.iter().enumerate() {
-        match new_name(task, &names) {
-            Some(name) => names.push(name)?,
-            None => return Err(broken(19, place)),
-        }
-    }
-    Ok(names)
-}
-
-/// The name of a task that comes after tasks of these names, where it may have it.
-fn new_name(task: &Table, earlier: &[Name]) -> Option<Name>
-    ensures found { IfSome result (λ name.
-        IsNewName (map (λ other. Some other.bytes) earlier.now) (table_view task.now) name.bytes) }
-    ensures none { IfNone result ((name : List ℕ) →
-        ¬ IsNewName (map (λ other. Some other.bytes) earlier.now) (table_view task.now) name) }
-{
-    let text = member_of(task, "name")?.as_str()?;
-    if is_name(text) && !is_among(text, earlier) {
-        Name::from(text).ok()
-    } else {
-        None
-    }
-}
-
-/// Whether one of the names is this text.
-fn is_among(text: &str, names: &[Name]) -> bool
-    ensures { IsTrue result ↔ Contains (map (λ name. name.bytes) names.now) text.now }
-{
-    for name in names {
-        if name.as_str() == text {
-            return true;
-        }
-    }
-    false
+    tables_in(alloc, entries, &["name", "start", "text", "linear"], 18)
 }
 
 /// The start words of each task.
-pub(crate) fn task_starts(alloc: Global, tasks: &[&Table]) -> Result<Vec<Starts>, Refused>
+fn task_starts(alloc: Global, tasks: &[&Table]) -> Result<Vec<Starts>, Refused>
     requires { length tasks.now ≤ task_limit }
     ensures starts { IfOk result (λ starts.
         map (λ words. Some words.items) starts.items ≡ map (λ task. start_words (table_view task.now)) tasks.now) }
@@ -118,7 +104,7 @@ fn start_words(task: &Table) -> Option<Starts>
 }
 
 /// Tests how many output words there are, where these are the start words of the tasks.
-pub(crate) fn check_words(starts: &[Starts]) -> Result<(), Refused>
+fn check_words(starts: &[Starts]) -> Result<(), Refused>
     requires { length starts.now ≤ task_limit }
     ensures { Tests 21 (BreaksWords (map (λ words. length words.items) starts.now)) result }
 {
@@ -133,7 +119,7 @@ pub(crate) fn check_words(starts: &[Starts]) -> Result<(), Refused>
 }
 
 /// What each task runs, where these are the start words of the tasks.
-pub(crate) fn task_forms<'a>(
+fn task_forms<'a>(
     alloc: Global,
     tasks: &[&'a Table],
     starts: &[Starts],

@@ -1,20 +1,19 @@
 //! The trees, the code and the start words of the tasks.
 
-ghost use Rattle.std.specs.Prelude.{◌≡◌, ◌≢◌, ◌<◌, ◌≤◌, ◌^◌, [], ℕ, IfErr, IfOk, IsOk, length, map, slice_index};
+ghost use Rattle.std.specs.Prelude.{◌≡◌, ◌≢◌, ◌<◌, ◌≤◌, ◌^◌, IfErr, IfOk, IsOk, length, map};
 ghost use Rattle.std.specs.List.{flat_map, sum};
 ghost use Rattle.sift_code.specs.Bound.{bound_of};
-ghost use Rattle.sift_compile.specs.Code.{task_program};
-ghost use Rattle.sift_compile.specs.Correct.{Means};
 ghost use Rattle.sift_compile.specs.Length.{task_steps};
 ghost use Rattle.sift_lang.specs.Sound.{IsSound};
 ghost use Rattle.sift_lang.specs.Tree.{tree_of};
 ghost use Rattle.sift_parse.specs.Outcome.{AreNames};
 ghost use Rattle.sift_parse.specs.Roll.{first_word, Roll, roll_of};
 ghost use Rattle.sift_parse.specs.Linear.{linear_tree};
-ghost use Rattle.sift_scenario.specs.Flight.{AreCodesOf};
-ghost use Rattle.sift_scenario.specs.Mission.{AreAllowed, AreTreesOf, IsTreeOf, IsWithin, step_limit, turn_of};
+ghost use Rattle.sift_compile.specs.Tasks.{AreCodesOf, IsCodeOf};
+ghost use Rattle.sift_scenario.specs.Program.{AreAllowed, AreTreesOf, IsTreeOf, IsWithin, step_limit, turn_of};
 ghost use Rattle.sift_scenario.specs.Refusal.{IsFirstRefused, IsNoTask};
-ghost use Rattle.sift_scenario.specs.Rules.{task_limit};
+ghost use Rattle.sift_base.specs.Layout.{sensor_limit};
+ghost use Rattle.sift_base.specs.Shapes.{task_limit};
 ghost use Rattle.sift_scenario.specs.Testing.{AreTurns, IsCodeStop, form_of};
 
 use crate::refused::{Refused, code_refused, text_refused};
@@ -26,11 +25,17 @@ use sift_lang::{Expr, Op, Stmt, Task};
 use sift_parse::{Names, parse_task};
 use std::alloc::Global;
 
-/// The names that the texts of tasks may use, where these are the tasks' names and start words.
-pub(crate) fn names_for(alloc: Global, names: &[Name], starts: &[Starts]) -> Result<Names, NoMemory>
+/// The names that the texts of tasks may use, where these are the sensors' names, and the tasks' names
+/// and start words.
+pub(crate) fn names_for(
+    alloc: Global,
+    sensors: &[Name],
+    names: &[Name],
+    starts: &[Starts],
+) -> Result<Names, NoMemory>
     requires { length names.now ≡ length starts.now }
     ensures { IfOk result (λ all. roll_of all ≡ record {
-      sensors = [];
+      sensors = map (λ name. name.bytes) sensors.now;
       tasks = map (λ name. name.bytes) names.now;
       sizes = map (λ words. length words.items) starts.now;
       this = 0;
@@ -41,7 +46,7 @@ pub(crate) fn names_for(alloc: Global, names: &[Name], starts: &[Starts]) -> Res
         tasks.push((*name, starts[place].len() as u8))?;
     }
     Ok(Names {
-        sensors: Vec::new(alloc),
+        sensors: Vec::from_slice(alloc, sensors)?,
         tasks,
         this: 0,
     })
@@ -68,22 +73,24 @@ pub(crate) struct Compiled {
     pub codes: Vec<Checked>,
 }
 
-/// The trees and the code of the tasks of these forms, each in its turn. They have so many output words.
+/// The trees and the code of the tasks of these forms, each in its turn. There are so many sensors and
+/// output words.
 pub(crate) fn compile_tasks(
     alloc: Global,
     forms: &[Form<'_>],
     names: &mut Names,
+    sensors: u8,
     words: u8,
 ) -> Result<Compiled, Refused>
     requires few { length forms.now ≤ task_limit }
     requires turns { AreTurns (length forms.now) (roll_of names.old) }
     requires words { words ≡ sum (roll_of names.old).sizes }
-    requires no_sensors { (roll_of names.old).sensors ≡ [] }
+    requires sensors { sensors ≡ length (roll_of names.old).sensors }
     ensures trees { IfOk result (λ compiled.
         AreTreesOf (roll_of names.old) (map form_of forms.now) (map tree_of compiled.trees.items)) }
     ensures allowed { IfOk result (λ compiled. AreAllowed (map tree_of compiled.trees.items)) }
     ensures codes { IfOk result (λ compiled.
-        AreCodesOf words (map tree_of compiled.trees.items) compiled.codes.items) }
+        AreCodesOf sensors words (map tree_of compiled.trees.items) compiled.codes.items) }
     ensures refused { IfErr result (λ refused. refused ≢ Refused.NoMemory →
         IsFirstRefused (roll_of names.old) (map form_of forms.now) refused) }
 {
@@ -93,7 +100,16 @@ pub(crate) fn compile_tasks(
     for (task, form) in forms.iter().enumerate() {
         names.this = task;
         let tree = form_tree(alloc, form, names)?;
-        let code = tree_code(alloc, &tree, task, words, left)?;
+        let code = tree_code(
+            alloc,
+            &tree,
+            task,
+            Room {
+                sensors,
+                words,
+                left,
+            },
+        )?;
         left -= code.bound();
         trees.push(tree)?;
         codes.push(code)?;
@@ -101,24 +117,25 @@ pub(crate) fn compile_tasks(
     Ok(Compiled { trees, codes })
 }
 
-/// The code of a tree, which may name so many words and take so many steps.
-fn tree_code(
-    alloc: Global,
-    tree: &Task,
-    task: usize,
+/// What a task's code may name, and how many steps it may take.
+#[derive(Clone, Copy)]
+struct Room {
+    sensors: u8,
     words: u8,
     left: u32,
-) -> Result<Checked, Refused>
+}
+
+/// The code of a tree that has so much room.
+fn tree_code(alloc: Global, tree: &Task, task: usize, room: Room) -> Result<Checked, Refused>
     requires task { task < 2 ^ 32 }
-    requires sound { IsSound 0 words (tree_of tree.now) }
-    requires left { left ≤ step_limit }
-    ensures code { IfOk result (λ code. code ≡ task_program 0 words (tree_of tree.now)) }
-    ensures means { IfOk result (λ code. Means code (tree_of tree.now)) }
-    ensures allowed { IsOk result → IsWithin left (tree_of tree.now) }
+    requires sound { IsSound room.sensors room.words (tree_of tree.now) }
+    requires left { room.left ≤ step_limit }
+    ensures code { IfOk result (IsCodeOf room.sensors room.words (tree_of tree.now)) }
+    ensures allowed { IsOk result → IsWithin room.left (tree_of tree.now) }
     ensures steps { IfOk result (λ code. bound_of code.code ≡ task_steps (tree_of tree.now)) }
-    ensures refused { IfErr result (IsCodeStop left task (tree_of tree.now)) }
+    ensures refused { IfErr result (IsCodeStop room.left task (tree_of tree.now)) }
 {
-    match compile(alloc, tree, 0, words, left) {
+    match compile(alloc, tree, room.sensors, room.words, room.left) {
         Ok(code) => Ok(code),
         Err(stop) => Err(code_refused(task, stop)),
     }

@@ -1,13 +1,15 @@
 //! Readers of single values and tables.
 
-ghost use Rattle.std.specs.Prelude.{◌≡◌, ◌≤◌, ◌↔◌, IfSome, IfNone, IsTrue, map, option_map};
+ghost use Rattle.std.specs.Prelude.{◌≡◌, ◌≤◌, ◌↔◌, ℕ, IfOk, IfSome, IfNone, IsTrue, Some, map, option_map, unwrap_or};
 ghost use Rattle.std.specs.List.{Contains};
 ghost use Rattle.toml.specs.Data.{get_member};
 ghost use Rattle.toml.specs.View.{table_view, view};
-ghost use Rattle.sift_scenario.specs.Document.{HasOnlyKeys, IsTableOf, entries_of, integer_between, members_of, word_array, word_value};
+ghost use Rattle.sift_scenario.specs.Document.{HasOnlyKeys, IsTableOf, array_of, digit_of, digits_of, each_read, entries_of, integer_between, members_of, read_at, read_or, word_array, word_value};
+ghost use Rattle.sift_scenario.specs.Table.{subframe};
 
 use arrayvec::ArrayVec;
-use sift_base::Word;
+use sift_base::{NoMemory, Word};
+use std::alloc::Global;
 use toml::{Table, Value};
 
 /// The value at a key.
@@ -87,6 +89,27 @@ pub(crate) fn integer_between(value: &Value, low: u32, high: u32) -> Option<u32>
     }
 }
 
+/// The number at a key that is there and is an integer from `low` to `high`.
+pub(crate) fn number_at(table: &Table, key: &str, low: u32, high: u32) -> Option<u32>
+    ensures { result ≡ read_at (integer_between low high) key.now (table_view table.now) }
+{
+    integer_between(member_of(table, key)?, low, high)
+}
+
+/// The number at a key, if it is there: `None` where what is there is no integer from `low` to `high`.
+pub(crate) fn optional_between(table: &Table, key: &str, low: u32, high: u32) -> Option<Option<u32>>
+    ensures { (unstated : ℕ) → option_map (λ stated. unwrap_or stated unstated) result
+        ≡ read_or unstated (integer_between low high) key.now (table_view table.now) }
+{
+    match member_of(table, key) {
+        Some(value) => match integer_between(value, low, high) {
+            Some(number) => Some(Some(number)),
+            None => None,
+        },
+        None => Some(None),
+    }
+}
+
 /// The word of a word value.
 fn word_value(value: &Value) -> Option<Word>
     ensures { result ≡ word_value (view value.now) }
@@ -112,4 +135,75 @@ pub(crate) fn word_array(value: &Value, low: usize, high: usize) -> Option<Array
         words.push(word_value(entry)?);
     }
     Some(words)
+}
+
+/// The numbers of an array of numbers of subframes.
+pub(crate) fn subframes(alloc: Global, value: &Value) -> Result<Option<Vec<u8>>, NoMemory>
+    ensures { IfOk result (λ found.
+        option_map (λ list. list.items) found ≡ array_of subframe (view value.now)) }
+{
+    let Some(array) = value.as_array() else {
+        return Ok(None);
+    };
+    let mut list = Vec::new(alloc);
+    for entry in array.as_slice() {
+        match integer_between(entry, 0, 63) {
+            Some(number) => list.push(number as u8)?,
+            None => return Ok(None),
+        }
+    }
+    Ok(Some(list))
+}
+
+/// The numbers of an array of strings of digits.
+pub(crate) fn digit_lists(alloc: Global, value: &Value) -> Result<Option<Vec<Vec<u8>>>, NoMemory>
+    ensures { IfOk result (λ found.
+        option_map (λ lists. map (λ list. list.items) lists.items) found ≡ array_of digits_of (view value.now)) }
+{
+    let Some(array) = value.as_array() else {
+        return Ok(None);
+    };
+    let mut lists = Vec::new(alloc);
+    for entry in array.as_slice() {
+        match digits(alloc, entry)? {
+            Some(list) => lists.push(list)?,
+            None => return Ok(None),
+        }
+    }
+    Ok(Some(lists))
+}
+
+/// The numbers of a string of digits from `0` to `7`.
+pub(crate) fn digits(alloc: Global, value: &Value) -> Result<Option<Vec<u8>>, NoMemory>
+    ensures { IfOk result (λ found.
+        option_map (λ list. list.items) found ≡ digits_of (view value.now)) }
+{
+    match value.as_str() {
+        Some(text) => digits_in(alloc, text),
+        None => Ok(None),
+    }
+}
+
+/// The numbers of digits from `0` to `7`.
+fn digits_in(alloc: Global, text: &str) -> Result<Option<Vec<u8>>, NoMemory>
+    ensures { IfOk result (λ found. option_map (λ list. list.items) found ≡ each_read digit_of text.now) }
+{
+    let mut list = Vec::new(alloc);
+    for byte in text.as_bytes() {
+        match digit_of(*byte) {
+            Some(digit) => list.push(digit)?,
+            None => return Ok(None),
+        }
+    }
+    Ok(Some(list))
+}
+
+/// The number of a digit from `0` to `7`.
+fn digit_of(byte: u8) -> Option<u8>
+    ensures { result ≡ digit_of byte }
+{
+    if byte < b'0' || b'7' < byte {
+        return None;
+    }
+    Some(byte - b'0')
 }

@@ -1,26 +1,43 @@
 use Rattle.std.proofs.Common.{◌≡◌, Err, rules, refl}
 use Rattle.toml.specs.View.{table_view}
-use Rattle.sift_scenario.proofs.Order.{none_below, refused_by, up_to_frames, up_to_keys, up_to_units}
-use Rattle.sift_scenario.specs.Rules.{root_keys_known, units_stated, frames_stated}
+use Rattle.sift_scenario.proofs.Numbers.{between_or}
+use Rattle.sift_scenario.proofs.Order.{stopped}
+use Rattle.sift_scenario.specs.Root.{root_rules}
 use Rattle.sift_scenario.proofs.root.root_of.Goals as goal
 
 -- the first rule that is broken is that of the test that stopped
-pub returns-in_err-check_keys-clause-refused : goal.returns-in_err-check_keys-clause-refused
-returns-in_err-check_keys-clause-refused c =
+pub returns-in_err-check_keys-clause-tests : goal.returns-in_err-check_keys-clause-tests
+returns-in_err-check_keys-clause-tests c =
     let same : c.from_residual.result ≡ Err c.in_err-check_keys.field-0.0 = search rules in
-    rw same (refused_by (table_view c.args.document.now) root_keys_known _ (λ rule at low. absurd (none_below rule low)) 1 refl c.in_err-check_keys.ensures)
+    rw same (stopped 0 (root_rules (table_view c.args.document.now)) c.in_err-check_keys.field-0.0 c.in_err-check_keys.ensures)
 
-pub returns-in_err-units-clause-refused : goal.returns-in_err-units-clause-refused
-returns-in_err-units-clause-refused c =
+pub returns-in_err-units-clause-tests : goal.returns-in_err-units-clause-tests
+returns-in_err-units-clause-tests c =
     let same : c.from_residual-in_err-units.result ≡ Err c.in_err-units.field-0.0 = search rules in
-    rw same (refused_by (table_view c.args.document.now) units_stated _ (up_to_keys (table_view c.args.document.now) c.in_ok-check_keys.ensures) 2 refl c.in_err-units.ensures.tests)
+    rw same (stopped 1 (root_rules (table_view c.args.document.now)) c.in_err-units.field-0.0
+    (c.in_ok-check_keys.ensures, c.in_err-units.ensures.tests))
 
-pub returns-in_err-frames-clause-refused : goal.returns-in_err-frames-clause-refused
-returns-in_err-frames-clause-refused c =
+pub returns-in_err-frames-clause-tests : goal.returns-in_err-frames-clause-tests
+returns-in_err-frames-clause-tests c =
     let same : c.from_residual-in_err-frames.result ≡ Err c.in_err-frames.field-0.0 = search rules in
-    rw same (refused_by (table_view c.args.document.now) frames_stated _
-    (up_to_units (table_view c.args.document.now) c.in_ok-check_keys.ensures c.in_ok-units.ensures.tests) 3 refl c.in_err-frames.ensures.tests)
+    rw same (stopped 2 (root_rules (table_view c.args.document.now)) c.in_err-frames.field-0.0
+    (c.in_ok-check_keys.ensures, (c.in_ok-units.ensures.tests, c.in_err-frames.ensures.tests)))
 
--- none of the three is broken
-pub returns-clause-kept : goal.returns-clause-kept
-returns-clause-kept c = up_to_frames (table_view c.args.document.now) (up_to_units (table_view c.args.document.now) c.in_ok-check_keys.ensures c.in_ok-units.ensures.tests) c.in_ok-frames.ensures.tests
+pub returns-in_err-check_version-clause-tests : goal.returns-in_err-check_version-clause-tests
+returns-in_err-check_version-clause-tests c =
+    let same : c.from_residual-in_err-check_version.result ≡ Err c.in_err-check_version.field-0.0 = search rules in
+    rw same (stopped 3 (root_rules (table_view c.args.document.now)) c.in_err-check_version.field-0.0
+    (c.in_ok-check_keys.ensures, (c.in_ok-units.ensures.tests, (c.in_ok-frames.ensures.tests, c.in_err-check_version.ensures))))
+
+pub returns-in_err-subframes-clause-tests : goal.returns-in_err-subframes-clause-tests
+returns-in_err-subframes-clause-tests c =
+    let same : c.from_residual-in_err-subframes.result ≡ Err c.in_err-subframes.field-0.0 = search rules in
+    rw same (stopped 4 (root_rules (table_view c.args.document.now)) c.in_err-subframes.field-0.0
+    (c.in_ok-check_keys.ensures, (c.in_ok-units.ensures.tests, (c.in_ok-frames.ensures.tests, (c.in_ok-check_version.ensures, c.in_err-subframes.ensures.tests)))))
+
+-- none is broken
+pub returns-clause-tests : goal.returns-clause-tests
+returns-clause-tests c = (
+  c.in_ok-check_keys.ensures,
+  (c.in_ok-units.ensures.tests, (c.in_ok-frames.ensures.tests, (c.in_ok-check_version.ensures, (c.in_ok-subframes.ensures.tests, tt)))),
+)

@@ -1,6 +1,6 @@
 use Rattle.std.proofs.Common.{◌≡◌, ◌<◌, ℕ, Some, map, take}
 use Rattle.toml.specs.View.{table_view}
-use Rattle.sift_scenario.specs.Rules.{BreaksStarts}
+use Rattle.sift_scenario.specs.TaskRules.{BreaksStarts}
 use Rattle.sift_scenario.specs.Task.{start_words}
 use Rattle.sift_scenario.proofs.task.task_starts.Given as goal
 

@@ -8,7 +8,7 @@ use Rattle.sift_parse.specs.declared.names.Names.{Names}
 use Rattle.sift_scenario.proofs.Codes.{allowed_more, codes_more, left_more, sound_form}
 use Rattle.sift_scenario.proofs.Places.{matches_more, taken}
 use Rattle.sift_scenario.proofs.Turns.{code_first, same_turn, text_first}
-use Rattle.sift_scenario.specs.Mission.{IsTreeOf, turn_of}
+use Rattle.sift_scenario.specs.Program.{IsTreeOf, turn_of}
 use Rattle.sift_scenario.specs.Refusal.{IsNoTask}
 use Rattle.sift_scenario.specs.Testing.{form_of}
 use Rattle.sift_scenario.proofs.tree.compile_tasks.Goals as goal
@@ -36,10 +36,10 @@ tree_code-requires-clause-sound c =
     let turn = same_turn c.loop-task.names c.args.names.now c.loop-task.task c.loop-task.invariant.1 c.loop-task.invariant.2 in
     let names = c.requires.turns c.loop-task.task c.loop-task-test.true in
     let tree = subst (λ (roll : Roll). IsTreeOf roll (form_of c.index-forms-task.result) (tree_of c.in_ok-tree.tree)) turn c.in_ok-tree.ensures.tree in
-    rw c.requires.words (sound_form (turn_of c.loop-task.task (roll_of c.args.names.now)) (form_of c.index-forms-task.result) _ names
+    rw (c.requires.words, c.requires.sensors) (sound_form (turn_of c.loop-task.task (roll_of c.args.names.now)) (form_of c.index-forms-task.result) _ names
     (subst (λ (roll : Roll). roll.this < length roll.sizes) turn
     (has_words (let here : Names = record { sensors = c.loop-task.names.sensors; tasks = c.loop-task.names.tasks; this = c.loop-task.task } in here)
-    (subst AreNames (sym turn) names))) c.requires.no_sensors tree)
+    (subst AreNames (sym turn) names))) tree)
 
 -- its code isn't allowed
 pub returns-in_err-code-clause-refused : goal.returns-in_err-code-clause-refused
@@ -74,5 +74,5 @@ loop-task-preserved c =
       rw new (allowed_more trees tree c.loop-task.invariant.4 (rw c.loop-task.invariant.5 at allowed)),
       rw new (left_more trees tree c.loop-task.left c.bound-left.result _ c.loop-task.invariant.5 c.bound-left.ensures
           c.in_ok-code.ensures.steps allowed),
-      rw new (codes_more c.args.words trees tree _ _ _ c.loop-task.invariant.6 c.in_ok-push-2.ensures.items c.in_ok-code.ensures.code c.in_ok-code.ensures.means),
+      rw new (codes_more c.args.sensors c.args.words trees tree _ _ _ c.loop-task.invariant.6 c.in_ok-push-2.ensures.items c.in_ok-code.ensures.code),
     )

@@ -2,8 +2,8 @@ use Rattle.std.proofs.Common.{◌≡◌, length, map}
 use Rattle.sift_lang.specs.Tree.{tree_of}
 use Rattle.sift_parse.specs.Roll.{roll_of}
 use Rattle.sift_scenario.specs.Entries.{EachMatches}
-use Rattle.sift_scenario.specs.Flight.{AreCodesOf}
-use Rattle.sift_scenario.specs.Mission.{AreAllowed, IsTreeOf, steps_left, turn_of}
+use Rattle.sift_compile.specs.Tasks.{AreCodesOf}
+use Rattle.sift_scenario.specs.Program.{AreAllowed, IsTreeOf, steps_left, turn_of}
 use Rattle.sift_scenario.specs.Testing.{form_of}
 use Rattle.sift_scenario.proofs.tree.compile_tasks.Given as goal
 
@@ -16,4 +16,4 @@ invariant-loop-task l =
     × EachMatches (λ task form tree. IsTreeOf (turn_of task (roll_of l.initial.names)) form tree) (map form_of l.forms) (map tree_of l.trees.items)
     × AreAllowed (map tree_of l.trees.items)
     × (l.left ≡ steps_left (map tree_of l.trees.items))
-    × AreCodesOf l.words (map tree_of l.trees.items) l.codes.items
+    × AreCodesOf l.sensors l.words (map tree_of l.trees.items) l.codes.items

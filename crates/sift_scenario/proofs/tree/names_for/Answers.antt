@@ -17,4 +17,4 @@ pub returns : goal.returns
 returns c =
     let names = take_all c.loop-place.place (map (λ name. name.bytes) c.args.names.now) (rw length-map c.loop-place-test.false) in
     let sizes = take_all c.loop-place.place (map (λ words. length words.items) c.args.starts.now) (rw length-map (omega (arith, c.loop-place-test.false, c.requires))) in
-    rw (c.new.ensures.items, c.loop-place.invariant.0, names, c.loop-place.invariant.1, sizes) refl
+    rw (c.in_ok-from_slice.ensures.items, c.loop-place.invariant.0, names, c.loop-place.invariant.1, sizes) refl

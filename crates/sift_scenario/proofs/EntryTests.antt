@@ -1,0 +1,54 @@
+-- The rule of an array whose entries are tested one by one.
+use Rattle.std.proofs.Common.{◌≡◌, inl, inr, ℕ, List, Result, Ok, Err, Some, refl, subst, arith}
+use Rattle.toml.specs.Data.{Data}
+use Rattle.sift_scenario.specs.Document.{IsArrayOf, entries_of}
+use Rattle.sift_scenario.specs.Entries.{HoldsOf}
+use Rattle.sift_scenario.specs.Rules.{BreaksEntries}
+use Rattle.sift_scenario.specs.Testing.{RefusesBy, Tests}
+use Rattle.sift_scenario.specs.declared.refused.Refused.{Refused}
+use Rattle.sift_scenario.specs.declared.refused.Refused.TheVariants.{Scenario, Task, Table, Script, NoMemory}
+
+module _ (number low high : ℕ) (IsEntry : ℕ → Data → Type 0) (value : Data) where
+  -- the value is no array of so many
+  pub refused_whole : (e : Refused) → (e ≡ Scenario number 0) × (IsArrayOf low high value → ⊥) → RefusesBy number (BreaksEntries low high IsEntry (Some value)) e
+  refused_whole e wrong = rw wrong.0 (
+    refl,
+    record {
+      broken = inl (refl, wrong.1);
+      first = λ at low. omega (arith, low);
+    },
+  )
+
+  -- it is one, and no entry breaks the rule
+  kept_entries : IsArrayOf low high value → (place : ℕ) → (HoldsOf (entries_of (Some value)) place (λ entry. IsEntry place entry → ⊥) → ⊥) → BreaksEntries low high IsEntry (Some value) place → ⊥
+  kept_entries right place kept (inl wrong) = wrong.1 right
+  kept_entries right place kept (inr broken) = kept broken
+
+  -- it is one, and an entry breaks the rule first
+  refused_entry :
+      IsArrayOf low high value → (e : Refused) → RefusesBy number (λ place. HoldsOf (entries_of (Some value)) place (λ entry. IsEntry place entry → ⊥)) e
+      → RefusesBy number (BreaksEntries low high IsEntry (Some value)) e
+  refused_entry right (Scenario n place) refused = (
+    refused.0,
+    record {
+      broken = inr refused.1.broken;
+      first = λ at low. kept_entries right at (refused.1.first at low);
+    },
+  )
+  refused_entry right (Task t k at) refused = refused
+  refused_entry right (Table size row n) refused = refused
+  refused_entry right (Script entry n) refused = refused
+  refused_entry right NoMemory refused = tt
+
+  tested_entries :
+      {A : Type 0} → IsArrayOf low high value → (r : Result A Refused)
+      → Tests number (λ place. HoldsOf (entries_of (Some value)) place (λ entry. IsEntry place entry → ⊥)) r → Tests number (BreaksEntries low high IsEntry (Some value)) r
+  tested_entries right (Ok x) tests = λ place. kept_entries right place (tests place)
+  tested_entries right (Err e) tests = refused_entry right e tests
+
+  -- what tests the entries of the array tests the rule
+  pub tested :
+      {A : Type 0} (entries : List Data) → entries ≡ entries_of (Some value) → IsArrayOf low high value → (r : Result A Refused)
+      → Tests number (λ place. HoldsOf entries place (λ entry. IsEntry place entry → ⊥)) r → Tests number (BreaksEntries low high IsEntry (Some value)) r
+  tested entries same right r tests =
+      tested_entries right r (subst (λ (es : List Data). Tests number (λ place. HoldsOf es place (λ entry. IsEntry place entry → ⊥)) r) same tests)

@@ -1,0 +1,94 @@
+-- The parts of a mission that a document states fit.
+use Rattle.std.proofs.Common.{◌≡◌, ◌≤◌, ◌<◌, ◌+◌, ℕ, List, [], length, Some, refl, sym, ap, subst, ◌∙◌, arith}
+use Rattle.std.proofs.lemmas.List.{length-map}
+use Rattle.std.specs.List.{All, sum}
+use Rattle.std.specs.Prelude.{codes, unwrap_or}
+use Rattle.toml.specs.Data.{Members, get_member}
+use Rattle.sift_base.specs.Layout.{least_units}
+use Rattle.sift_base.specs.Units.{unit_limit}
+use Rattle.sift_base.specs.declared.layout.Layout.{Layout}
+use Rattle.sift_compile.specs.Tasks.{AreCodesOf}
+use Rattle.sift_program.specs.Sound.{IsSoundProgram}
+use Rattle.sift_script.specs.Faults.{storm_of}
+use Rattle.sift_script.specs.Rules as scripts
+use Rattle.sift_script.specs.Script.{Fault, FaultScript}
+use Rattle.sift_table.specs.Schedule.{Schedule}
+use Rattle.sift_unit.specs.Data.{Clocks, MissionData, shapes_in}
+use Rattle.sift_unit.specs.PartsFit.{AreClocks, AreTables, HasWords, IsTableFor, PartsFit, frame_limit, table_at}
+use Rattle.sift_scenario.proofs.Clocks.{clocks_fit}
+use Rattle.sift_scenario.proofs.Faulting.{calm}
+use Rattle.sift_scenario.proofs.Numbers.{between_at}
+use Rattle.sift_scenario.proofs.Order.{AreAllKept}
+use Rattle.sift_scenario.proofs.Periods.{period_between}
+use Rattle.sift_scenario.proofs.Sensing.{as_many_sensors, few_sensors, words_fit}
+use Rattle.sift_scenario.proofs.Sizes.{IsSized, schedule_at, schedules_long, schedules_sized}
+use Rattle.sift_scenario.proofs.Starts.{starts_long}
+use Rattle.sift_scenario.proofs.Themes.{kept_themes}
+use Rattle.sift_scenario.specs.Lawful.{themes_for}
+use Rattle.sift_scenario.specs.Mission.{HasGoodTables, IsStated}
+use Rattle.sift_scenario.specs.Table.{schedules_of, table_value}
+use Rattle.sift_scenario.specs.Task.{counts_of, name_of, task_entries, tasks_of}
+
+module _
+    (document : Members) (d : MissionData) (stated : IsStated document d) (good_tables : HasGoodTables d) (good_script : scripts.IsGood d.script)
+    (sound : IsSoundProgram d.layout.sensors d.program)
+    (compiled : AreCodesOf d.layout.sensors d.layout.words d.program.tasks d.code) where
+  -- the rules of each theme are kept
+  themes : AreAllKept (themes_for d.units document)
+  themes = kept_themes document d.units stated.units stated.lawful
+
+  -- the numbers of units, frames and subframes
+  units_between : (least_units ≤ d.units) × (d.units ≤ unit_limit)
+  units_between = between_at least_units unit_limit (get_member (codes "units") document) d.units stated.units
+
+  -- a table for each size
+  sizes : (i : ℕ) → i < length d.tables → IsSized d.period (least_units + i) (table_at d i)
+  sizes i low =
+      let same = stated.tables in
+      subst (λ (ts : List Schedule). IsSized d.period (least_units + i) (schedule_at ts i)) (sym same)
+      (schedules_sized d.units d.period (length (task_entries document)) (table_value document) themes.1.1.0.0 i (rw (← same) low))
+
+  tables_fit : AreTables d
+  tables_fit =
+      let long = ap length stated.tables ∙ schedules_long d.units d.period (length (task_entries document)) (table_value document) themes.1.1.0.0 in record {
+        count = omega (arith, long, units_between.0);
+        each = λ i low. record { sized = (sizes i low).sized; timed = (sizes i low).timed; good = good_tables i _ low };
+      }
+
+  -- all parts
+  pub fit : PartsFit d
+  fit =
+      let frames = between_at 1 frame_limit (get_member (codes "frames") document) d.frames stated.frames in
+      let period = period_between document d.period themes.1.0 stated.period in
+      let sensors : length d.sensors ≤ 8 = omega (arith, ap length stated.sensors, as_many_sensors document, few_sensors document d.units stated.units stated.lawful) in
+      let words : d.layout.words ≡ sum (counts_of (tasks_of document)) = ap (λ (l : Layout). l.words) stated.layout in
+      let starts : length d.program.starts ≡ sum (counts_of (tasks_of document)) = ap length stated.program.starts ∙ starts_long (tasks_of document) in
+      let names : length d.names ≡ length (tasks_of document) = ap length stated.names ∙ length-map (tasks_of document) (λ task. unwrap_or (name_of task) []) in record {
+        limits = record {
+          enough_units = units_between.0;
+          few_units = units_between.1;
+          some_frame = frames.0;
+          few_frames = frames.1;
+          long = period.0;
+          short = period.1;
+          few_sensors = sensors;
+        };
+        layout = record {
+          units = ap (λ (l : Layout). l.units) stated.layout;
+          sensors = ap (λ (l : Layout). l.sensors) stated.layout;
+          words = words ∙ sym starts ∙ sound.a_start_each;
+        };
+        names = names ∙ sym stated.program.stated.as_many ∙ sym stated.program.trees.as_many;
+        program = sound;
+        code = compiled;
+        sensors = subst (λ (ws : List (List ℕ)). All HasWords ws) (sym stated.sensors) (words_fit document d.units stated.units stated.lawful);
+        tables = tables_fit;
+        clock = subst (λ (clocks : Clocks). AreClocks d.units clocks) (sym stated.clock) (clocks_fit d.units document);
+        script = record {
+          layout = ap (λ (s : FaultScript). s.layout) stated.script;
+          outputs = ap (λ (s : FaultScript). s.outputs) stated.script;
+          frames = ap (λ (s : FaultScript). s.frames) stated.script;
+          good = good_script;
+          calm = λ u. ap (λ (s : FaultScript). storm_of s.faults u) stated.script ∙ calm document u;
+        };
+      }

@@ -1,0 +1,30 @@
+-- The rule of `task`, whose entries are tested one by one.
+use Rattle.std.proofs.Common.{◌≡◌, inr, List, length, Result, Ok, Err, subst}
+use Rattle.toml.specs.Data.{Data, Members}
+use Rattle.sift_scenario.proofs.Testing.{keeps_tasks}
+use Rattle.sift_scenario.specs.Document.{IsNoTableOf}
+use Rattle.sift_scenario.specs.Entries.{HoldsOf}
+use Rattle.sift_scenario.specs.Task.{task_entries, task_keys}
+use Rattle.sift_scenario.specs.TaskRules.{BreaksTasks, IsTaskNumber}
+use Rattle.sift_scenario.specs.Testing.{RefusesBy, Tests}
+use Rattle.sift_scenario.specs.declared.refused.Refused.{Refused}
+use Rattle.sift_scenario.specs.declared.refused.Refused.TheVariants.{Scenario, Task, Table, Script, NoMemory}
+
+module _ (document : Members) (entries : List Data) (same : entries ≡ task_entries document) (number : IsTaskNumber (length entries)) where
+  refused_task : (e : Refused) → RefusesBy 18 (λ place. HoldsOf entries place (IsNoTableOf task_keys)) e → RefusesBy 18 (BreaksTasks document) e
+  refused_task (Scenario n place) refused = (
+    refused.0,
+    record {
+      broken = inr (subst (λ (es : List Data). HoldsOf es place (IsNoTableOf task_keys)) same refused.1.broken);
+      first = λ at low. keeps_tasks document entries at same number (refused.1.first at low);
+    },
+  )
+  refused_task (Task t k at) refused = refused
+  refused_task (Table size row n) refused = refused
+  refused_task (Script entry n) refused = refused
+  refused_task NoMemory refused = tt
+
+  -- what tests the entries tests the rule
+  pub tested_tasks : {A : Type 0} (r : Result A Refused) → Tests 18 (λ place. HoldsOf entries place (IsNoTableOf task_keys)) r → Tests 18 (BreaksTasks document) r
+  tested_tasks (Ok x) tests = λ place. keeps_tasks document entries place same number (tests place)
+  tested_tasks (Err e) tests = refused_task e tests

@@ -1,0 +1,87 @@
+use Rattle.std.proofs.Common.{◌≡◌, ℕ, List, Some, Err, rules, length, map, refl, sym, ap, subst, ◌∙◌, arith}
+use Rattle.std.specs.Prelude.{codes, unwrap_or}
+use Rattle.std.proofs.lemmas.List.{length-map}
+use Rattle.sift_script.specs.Script.{fault_of}
+use Rattle.sift_scenario.specs.Document.{members_of}
+use Rattle.toml.specs.Data.{get_member}
+use Rattle.toml.specs.View.{table_view}
+use Rattle.sift_base.specs.Layout.{least_units}
+use Rattle.sift_base.specs.Units.{unit_limit}
+use Rattle.sift_table.specs.Laws.{shortest_period}
+use Rattle.sift_table.specs.Schedule.{Schedule}
+use Rattle.sift_unit.specs.PartsFit.{longest_period}
+use Rattle.sift_scenario.proofs.Numbers.{between_at, between_or}
+use Rattle.sift_scenario.proofs.Read.{count_is}
+use Rattle.sift_scenario.proofs.Themes.{root_refused, theme_refused, themes_kept}
+use Rattle.sift_scenario.specs.Root.{period_or, plain_period}
+use Rattle.sift_scenario.specs.Table.{schedules_by, table_value}
+use Rattle.sift_scenario.specs.Task.{task_entries}
+use Rattle.sift_scenario.proofs.document.entries_of.Goals as goal
+
+-- a rule of the root is broken
+pub returns-in_err-root-clause-refused : goal.returns-in_err-root-clause-refused
+returns-in_err-root-clause-refused c =
+    let same : c.from_residual.result ≡ Err c.in_err-root.field-0.0 = search rules in
+    rw same (root_refused (table_view c.args.document.now) c.in_err-root.field-0.0 c.in_err-root.ensures.tests)
+
+-- a rule of the tasks is
+pub returns-in_err-tasks-clause-refused : goal.returns-in_err-tasks-clause-refused
+returns-in_err-tasks-clause-refused c =
+    let same : c.from_residual-in_err-tasks.result ≡ Err c.in_err-tasks.field-0.0 = search rules in
+    rw same (theme_refused (table_view c.args.document.now) c.in_ok-root.root.units c.in_ok-root.ensures.units 1 c.in_err-tasks.field-0.0
+    (c.in_ok-root.ensures.tests, c.in_err-tasks.ensures.tests))
+
+-- there are as many tasks as entries
+pub overflow_cast-count : goal.overflow_cast-count
+overflow_cast-count c =
+    let count = count_is (table_view c.args.document.now) c.in_ok-tasks.tasks c.in_ok-tasks.ensures.read in
+    omega (arith, count, c.in_ok-tasks.ensures.read.few.1, length-map (task_entries (table_view c.args.document.now)) members_of, c.len-count.ensures, c.in_ok-tasks.tasks.forms.ok.0)
+
+pub period_of-period-requires-clause-tasks : goal.period_of-period-requires-clause-tasks
+period_of-period-requires-clause-tasks c =
+    let count = count_is (table_view c.args.document.now) c.in_ok-tasks.tasks c.in_ok-tasks.ensures.read in
+    omega (arith, count, c.in_ok-tasks.ensures.read.few.1, length-map (task_entries (table_view c.args.document.now)) members_of, c.len-count.ensures, c.in_ok-tasks.tasks.forms.ok.0)
+
+pub period_of-period-requires-clause-subframes : goal.period_of-period-requires-clause-subframes
+period_of-period-requires-clause-subframes c =
+    between_or shortest_period longest_period (get_member (codes "subframes") (table_view c.args.document.now)) c.in_ok-root.root.subframes c.in_ok-root.ensures.subframes
+
+pub tables_of-requires-clause-enough_units : goal.tables_of-requires-clause-enough_units
+tables_of-requires-clause-enough_units c =
+    (between_at least_units unit_limit (get_member (codes "units") (table_view c.args.document.now)) c.in_ok-root.root.units c.in_ok-root.ensures.units).0
+
+pub tables_of-requires-clause-few_units : goal.tables_of-requires-clause-few_units
+tables_of-requires-clause-few_units c =
+    (between_at least_units unit_limit (get_member (codes "units") (table_view c.args.document.now)) c.in_ok-root.root.units c.in_ok-root.ensures.units).1
+
+pub tables_of-requires-clause-few_tasks : goal.tables_of-requires-clause-few_tasks
+tables_of-requires-clause-few_tasks c =
+    let count = count_is (table_view c.args.document.now) c.in_ok-tasks.tasks c.in_ok-tasks.ensures.read in
+    omega (arith, count, c.in_ok-tasks.ensures.read.few.1, length-map (task_entries (table_view c.args.document.now)) members_of, c.len-count.ensures, c.in_ok-tasks.tasks.forms.ok.0)
+
+-- a rule of the tables is broken
+pub returns-in_err-tables-clause-refused : goal.returns-in_err-tables-clause-refused
+returns-in_err-tables-clause-refused c =
+    let same : c.from_residual-in_err-tables.result ≡ Err c.in_err-tables.field-0.0 = search rules in
+    rw same (theme_refused (table_view c.args.document.now) c.in_ok-root.root.units c.in_ok-root.ensures.units 2 c.in_err-tables.field-0.0
+    (c.in_ok-root.ensures.tests, (c.in_ok-tasks.ensures.tests, c.in_err-tables.ensures.tests)))
+
+-- no rule is broken
+pub returns-clause-read : goal.returns-clause-read
+returns-clause-read c =
+    let document = table_view c.args.document.now in
+    let count : c.len-count.result ≡ length (task_entries document) = c.len-count.ensures ∙ c.in_ok-tasks.tasks.forms.ok.0 ∙ count_is document c.in_ok-tasks.tasks c.in_ok-tasks.ensures.read in
+    let plain : plain_period c.len-count.result ≡ plain_period (length (task_entries document)) = ap plain_period count in
+    record {
+      lawful = themes_kept document c.in_ok-root.root.units c.in_ok-root.ensures.units
+          (c.in_ok-root.ensures.tests, (c.in_ok-tasks.ensures.tests, (c.in_ok-tables.ensures.tests, tt)));
+      units = c.in_ok-root.ensures.units;
+      frames = c.in_ok-root.ensures.frames;
+      period = c.in_ok-root.ensures.subframes (plain_period (length (task_entries document)))
+          ∙ ap (λ n. Some (unwrap_or c.in_ok-root.root.subframes n)) (sym plain) ∙ ap (λ n. Some n) (sym c.period_of-period.ensures);
+      clock = c.plain_plan.ensures;
+      sensors = record { names = ap (map (λ name. name.bytes)) c.no_sensors.ensures.names; words = ap (map (λ words. words.items)) c.no_sensors.ensures.words };
+      tasks = c.in_ok-tasks.ensures.read;
+      tables = c.in_ok-tables.ensures.read ∙ ap (λ n. schedules_by (table_value document) c.in_ok-root.root.units c.period_of-period.result n) count;
+      faults = ap (map fault_of) c.new.ensures.items;
+    }

@@ -1,0 +1,64 @@
+use Rattle.std.proofs.Common.{◌≡◌, Err, rules, map, length, sym, subst, ◌∙◌, ap, arith}
+use Rattle.std.proofs.lemmas.List.{length-map}
+use Rattle.sift_lang.specs.Tree.{tree_of}
+use Rattle.sift_parse.specs.Roll.{Roll, roll_of}
+use Rattle.sift_scenario.proofs.Read.{length_is, refused_from, roll_read, running_from, sensors_few, turns_are, words_are, words_few}
+use Rattle.sift_scenario.specs.Program.{AreTreesOf}
+use Rattle.sift_scenario.specs.Refusal.{IsFirstRefused}
+use Rattle.sift_scenario.specs.Testing.{AreTurns, form_of}
+use Rattle.sift_scenario.proofs.program.run_entries.Goals as goal
+
+-- the sensors and the start words are few
+pub overflow_cast-len : goal.overflow_cast-len
+overflow_cast-len c = omega (arith, c.len.ensures, c.args.entries.now.sensors.names.ok.0, sensors_few c.requires.0 c.args.entries.now c.requires.1)
+
+pub overflow_cast-len-2 : goal.overflow_cast-len-2
+overflow_cast-len-2 c =
+    let starts = rw c.deref-4.ensures.value at c.in_ok-starts.ensures in
+    let long = length_is c.requires.0 c.args.entries.now c.requires.1 _ starts in
+    omega (arith, c.len-2.ensures, c.in_ok-starts.starts.ok.0, long, words_few c.requires.0 c.args.entries.now c.requires.1)
+
+-- each task may take its turn
+pub compile_tasks-requires-clause-turns : goal.compile_tasks-requires-clause-turns
+compile_tasks-requires-clause-turns c =
+    let roll : roll_of c.in_ok-names.names ≡ roll_read c.args.entries.now =
+    rw (c.deref.ensures.value, c.deref-2.ensures.value, c.deref-3.ensures.value) at c.in_ok-names.ensures in
+    subst (AreTurns (length c.deref-5.result.now)) (sym roll)
+    (turns_are c.requires.0 c.args.entries.now c.requires.1 _ (ap length c.deref-5.ensures.value))
+
+-- there are as many words as start words, and as many sensors as names
+pub compile_tasks-requires-clause-words : goal.compile_tasks-requires-clause-words
+compile_tasks-requires-clause-words c =
+    let roll : roll_of c.in_ok-names.names ≡ roll_read c.args.entries.now =
+    rw (c.deref.ensures.value, c.deref-2.ensures.value, c.deref-3.ensures.value) at c.in_ok-names.ensures in
+    let starts = rw c.deref-4.ensures.value at c.in_ok-starts.ensures in
+    rw (ap (λ (r : Roll). r.sizes) roll)
+    (c.len-2.ensures ∙ c.in_ok-starts.starts.ok.0 ∙ words_are c.requires.0 c.args.entries.now c.requires.1 _ starts)
+
+pub compile_tasks-requires-clause-sensors : goal.compile_tasks-requires-clause-sensors
+compile_tasks-requires-clause-sensors c =
+    let roll : roll_of c.in_ok-names.names ≡ roll_read c.args.entries.now =
+    rw (c.deref.ensures.value, c.deref-2.ensures.value, c.deref-3.ensures.value) at c.in_ok-names.ensures in
+    rw (ap (λ (r : Roll). r.sensors) roll, length-map) (c.len.ensures ∙ c.args.entries.now.sensors.names.ok.0)
+
+-- a task is refused
+pub returns-in_err-compiled-clause-refused : goal.returns-in_err-compiled-clause-refused
+returns-in_err-compiled-clause-refused c =
+    let same : c.from_residual-in_err-compiled.result ≡ Err c.in_err-compiled.field-0.0 = search rules in
+    let roll : roll_of c.in_ok-names.names ≡ roll_read c.args.entries.now =
+    rw (c.deref.ensures.value, c.deref-2.ensures.value, c.deref-3.ensures.value) at c.in_ok-names.ensures in
+    rw same (λ document read. refused_from document c.args.entries.now read _
+    (λ some. subst (λ (r : Roll). IsFirstRefused r (map form_of c.args.entries.now.tasks.forms.items) c.in_err-compiled.field-0.0) roll
+    (rw c.deref-5.ensures.value at c.in_err-compiled.ensures.refused some)))
+
+-- there is a program
+pub returns-clause-running : goal.returns-clause-running
+returns-clause-running c = λ document read.
+    let roll : roll_of c.in_ok-names.names ≡ roll_read c.args.entries.now =
+    rw (c.deref.ensures.value, c.deref-2.ensures.value, c.deref-3.ensures.value) at c.in_ok-names.ensures in
+    let forms = map form_of c.args.entries.now.tasks.forms.items in
+    let trees = map tree_of c.in_ok-compiled.compiled.trees.items in
+    running_from document c.args.entries.now read _ (rw c.deref-4.ensures.value at c.in_ok-starts.ensures)
+    (subst (λ (r : Roll). AreTreesOf r forms trees) roll (rw c.deref-5.ensures.value at c.in_ok-compiled.ensures.trees))
+    c.in_ok-compiled.ensures.allowed
+    (rw (c.len.ensures ∙ c.args.entries.now.sensors.names.ok.0, c.len-2.ensures ∙ c.in_ok-starts.starts.ok.0) at c.in_ok-compiled.ensures.codes)

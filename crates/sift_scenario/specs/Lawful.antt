@@ -1,0 +1,23 @@
+-- The rules of a document, in the order of their numbers.
+use Rattle.std.specs.Prelude.{ℕ, List, [], ◌∷◌, unwrap_or}
+use Rattle.toml.specs.Data.{Members}
+use Rattle.sift_scenario.specs.Root.{root_rules, units_of}
+use Rattle.sift_scenario.specs.Rules.{AreKept, BreaksFirst, Rule, joined}
+use Rattle.sift_scenario.specs.Table.{table_rules, table_value}
+use Rattle.sift_scenario.specs.TaskRules.{task_rules}
+
+-- the rules of a document of so many units, by what they speak of
+abbrev pub themes_for : (units : ℕ) → Members → List (List Rule)
+themes_for units document = root_rules document ∷ task_rules document ∷ table_rules units (table_value document) ∷ []
+
+-- all rules of a document
+abbrev pub rules_of : Members → List Rule
+rules_of document = joined (themes_for (unwrap_or (units_of document) 0) document)
+
+-- the document keeps all rules
+abbrev pub IsLawful : Members → Type 0
+IsLawful document = AreKept (rules_of document)
+
+-- this is the number of the first rule that the document breaks, and the first place at which it does
+abbrev pub IsFirstBroken : Members → (number place : ℕ) → Type 0
+IsFirstBroken document number place = BreaksFirst (rules_of document) number place

@@ -1,0 +1,68 @@
+-- The program that the tasks of a document state.
+use Rattle.std.specs.Prelude.{ℕ, ◌≡◌, ◌≤◌, ◌-◌, List, [], sum_by, slice_get, take, Some, unwrap_or}
+use Rattle.std.specs.List.{flat_map}
+use Rattle.toml.specs.Data.{Members}
+use Rattle.sift_compile.specs.Length.{code_limit, task_length, task_steps}
+use Rattle.sift_lang.specs.Tree.{TaskTree}
+use Rattle.sift_parse.specs.Outcome.{IsTaskOf}
+use Rattle.sift_parse.specs.Roll.{first_word, Roll}
+use Rattle.sift_parse.specs.Linear.{linear_tree}
+use Rattle.sift_program.specs.Program.{ProgramTree}
+use Rattle.sift_scenario.specs.Entries.{AreMatched}
+use Rattle.sift_scenario.specs.Task.{AreForms, Form, linear, text, counts_of, names_of, start_words}
+
+-- ---- trees
+
+-- the names that the texts of these tasks may use, beside sensors of these names; it is the first task's turn
+abbrev pub roll_for : (sensors : List (List ℕ)) → List Members → Roll
+roll_for sensors tasks = record { sensors = sensors; tasks = names_of tasks; sizes = counts_of tasks; this = 0 }
+
+-- the same, where it is this task's turn
+abbrev pub turn_of : ℕ → Roll → Roll
+turn_of task roll = record roll { this = task }
+
+-- the tree of a task of this form, where it is its turn
+abbrev pub IsTreeOf : Roll → Form → TaskTree → Type 0
+IsTreeOf roll (linear factor addend) tree = tree ≡ linear_tree (first_word roll roll.this) factor addend
+IsTreeOf roll (text bytes) tree = IsTaskOf roll bytes tree
+
+-- the trees of tasks of these forms, in their order
+abbrev pub AreTreesOf : Roll → List Form → List TaskTree → Type 0
+AreTreesOf roll forms trees = AreMatched (λ task form tree. IsTreeOf (turn_of task roll) form tree) forms trees
+
+-- ---- length and steps
+
+-- the most steps that the tasks of a mission may take in a frame, all together
+abbrev pub step_limit : ℕ
+step_limit = 16384
+
+-- the most steps that these tasks take in a frame
+abbrev pub steps_of : List TaskTree → ℕ
+steps_of trees = sum_by task_steps trees
+
+-- the steps that are left after these tasks
+abbrev pub steps_left : List TaskTree → ℕ
+steps_left trees = step_limit - steps_of trees
+
+-- the code of a task is short enough, and takes no more steps than are left
+pub record IsWithin (left : ℕ) (tree : TaskTree) : Type 0 where
+  pub short : task_length tree ≤ code_limit
+  pub quick : task_steps tree ≤ left
+
+-- each task is within what those before it leave
+abbrev pub AreAllowed : List TaskTree → Type 0
+AreAllowed trees = (t : ℕ) (tree : TaskTree) → slice_get trees t ≡ Some tree → IsWithin (steps_left (take t trees)) tree
+
+-- ---- the program
+
+-- the start words of the tasks, in their order
+abbrev pub all_starts : List Members → List ℕ
+all_starts tasks = flat_map (λ task. unwrap_or (start_words task) []) tasks
+
+-- the program of the tasks in these tables, beside sensors of these names
+pub record IsProgramOf (sensors : List (List ℕ)) (tasks : List Members) (program : ProgramTree) : Type 0 where
+  pub starts : program.starts ≡ all_starts tasks
+  pub forms : List Form
+  pub stated : AreForms tasks forms
+  pub trees : AreTreesOf (roll_for sensors tasks) forms program.tasks
+  pub allowed : AreAllowed program.tasks

@@ -1,0 +1,105 @@
+//! The tables in an array of a document, and their names.
+
+ghost use Rattle.std.specs.Prelude.{◌≡◌, ◌<◌, ◌≤◌, ◌↔◌, ◌^◌, ℕ, List, Contains, IfErr, IfOk, IfSome, IfNone, IsTrue, Some, length, map};
+ghost use Rattle.toml.specs.View.{table_view, view};
+ghost use Rattle.sift_scenario.specs.Document.{IsArrayOf, IsNoTableOf, entries_of, members_of};
+ghost use Rattle.sift_scenario.specs.Entries.{HoldsOf};
+ghost use Rattle.sift_scenario.specs.Task.{IsNewName, name_of};
+ghost use Rattle.sift_scenario.specs.TaskRules.{BreaksNames};
+ghost use Rattle.sift_scenario.specs.Testing.{Tests};
+
+use crate::refused::{Refused, broken};
+use crate::value::{member_of, table_of};
+use sift_base::{Name, is_name};
+use std::alloc::Global;
+use toml::{Table, Value};
+
+/// The entries of an array that has from `low` to `high` of them, by the rule of this number.
+pub(crate) fn entries_between(
+    value: &Value,
+    low: usize,
+    high: usize,
+    rule: u32,
+) -> Result<&[Value], Refused>
+    ensures entries { IfOk result (λ entries. map (λ entry. view entry) entries.now ≡ entries_of (Some (view value.now))) }
+    ensures few { IfOk result (λ entries. length entries.now ≤ high) }
+    ensures right { IfOk result (λ _. IsArrayOf low high (view value.now)) }
+    ensures wrong { IfErr result (λ refused. (refused ≡ Refused.Scenario rule 0) × (IsArrayOf low high (view value.now) → ⊥)) }
+{
+    let Some(array) = value.as_array() else {
+        return Err(broken(rule, 0));
+    };
+    let entries = array.as_slice();
+    if entries.len() < low || high < entries.len() {
+        return Err(broken(rule, 0));
+    }
+    Ok(entries)
+}
+
+/// The tables that these entries are, by the rule of this number: each is a table with no other keys
+/// than these.
+pub(crate) fn tables_in<'a>(
+    alloc: Global,
+    entries: &'a [Value],
+    known: &[&str],
+    rule: u32,
+) -> Result<Vec<&'a Table>, Refused>
+    requires { length entries.now < 2 ^ 32 }
+    ensures tables { IfOk result (λ tables.
+        map (λ table. table_view table.now) tables.items ≡ map (λ entry. members_of (view entry)) entries.now) }
+    ensures tests { let keys = map (λ key. key.now) known.now in
+        Tests rule (λ place. HoldsOf (map (λ entry. view entry) entries.now) place (IsNoTableOf keys)) result }
+{
+    let mut tables = Vec::new(alloc);
+    for (place, entry) in entries.iter().enumerate() {
+        match table_of(entry, known) {
+            Some(table) => tables.push(table)?,
+            None => return Err(broken(rule, place)),
+        }
+    }
+    Ok(tables)
+}
+
+/// The names of the entries in these tables, by the rule of this number.
+pub(crate) fn names_in(alloc: Global, tables: &[&Table], rule: u32) -> Result<Vec<Name>, Refused>
+    requires { length tables.now < 2 ^ 32 }
+    ensures names { IfOk result (λ names.
+        map (λ name. Some name.bytes) names.items ≡ map (λ entry. name_of (table_view entry.now)) tables.now) }
+    ensures tests { Tests rule (BreaksNames (map (λ entry. table_view entry.now) tables.now)) result }
+{
+    let mut names = Vec::new(alloc);
+    for (place, entry) in tables.iter().enumerate() {
+        match new_name(entry, &names) {
+            Some(name) => names.push(name)?,
+            None => return Err(broken(rule, place)),
+        }
+    }
+    Ok(names)
+}
+
+/// The name of an entry that comes after entries of these names, where it may have it.
+fn new_name(entry: &Table, earlier: &[Name]) -> Option<Name>
+    ensures found { IfSome result (λ name.
+        IsNewName (map (λ other. Some other.bytes) earlier.now) (table_view entry.now) name.bytes) }
+    ensures none { IfNone result ((name : List ℕ) →
+        ¬ IsNewName (map (λ other. Some other.bytes) earlier.now) (table_view entry.now) name) }
+{
+    let text = member_of(entry, "name")?.as_str()?;
+    if is_name(text) && !is_among(text, earlier) {
+        Name::from(text).ok()
+    } else {
+        None
+    }
+}
+
+/// Whether one of the names is this text.
+fn is_among(text: &str, names: &[Name]) -> bool
+    ensures { IsTrue result ↔ Contains (map (λ name. name.bytes) names.now) text.now }
+{
+    for name in names {
+        if name.as_str() == text {
+            return true;
+        }
+    }
+    false
+}

@@ -1,0 +1,207 @@
+//! The tables of a document, one for the configurations of each size.
+
+ghost use Rattle.std.specs.Prelude.{◌≡◌, ◌≢◌, ◌≤◌, ◌<◌, ◌^◌, ◌⊎◌, ◌↔◌, IfOk, IfSome, IfNone, IsTrue, None, Some, length, map, option_map};
+ghost use Rattle.std.specs.List.{All};
+ghost use Rattle.toml.specs.View.{table_view, view};
+ghost use Rattle.sift_base.specs.Layout.{least_units};
+ghost use Rattle.sift_base.specs.Shapes.{task_limit};
+ghost use Rattle.sift_base.specs.Units.{unit_limit};
+ghost use Rattle.sift_table.specs.Schedule.{schedule_of};
+ghost use Rattle.sift_scenario.specs.Document.{array_of, members_of, read_at};
+ghost use Rattle.sift_scenario.specs.Entries.{HoldsOf};
+ghost use Rattle.sift_scenario.specs.Rules.{IsKept, rule};
+ghost use Rattle.sift_scenario.specs.Table.{BreaksPositions, BreaksTables, BreaksTimes, IsNoTableEntry, IsTableEntry, IsTimeless, plain_tables, positions_of, schedule_in, schedules_by, size_of, subframe, table_rules, table_value, tables_in};
+ghost use Rattle.sift_scenario.specs.Reading.{IsPartial};
+ghost use Rattle.sift_scenario.specs.Testing.{Tests, TestsEach};
+
+use crate::entries::entries_between;
+use crate::refused::{Refused, broken};
+use crate::value::{digit_lists, member_of, number_at, subframes, table_of};
+use sift_base::NoMemory;
+use sift_table::{Table, plain_table};
+use std::alloc::Global;
+use toml::Value;
+
+/// The tables of a document of so many units, subframes and tasks: those that it states, or else the
+/// plain ones.
+pub(crate) fn tables_of(
+    alloc: Global,
+    document: &toml::Table,
+    units: u8,
+    period: u8,
+    tasks: u8,
+) -> Result<Vec<Table>, Refused>
+    requires enough_units { least_units ≤ units }
+    requires few_units { units ≤ unit_limit }
+    requires few_tasks { tasks ≤ task_limit }
+    ensures read { IfOk result (λ tables.
+        map schedule_of tables.items ≡ schedules_by (table_value (table_view document.now)) units period tasks) }
+    ensures tests { TestsEach (table_rules units (table_value (table_view document.now))) result }
+{
+    match member_of(document, "table") {
+        Some(value) => stated_tables(alloc, value, units, period),
+        None => Ok(all_plain(alloc, units, period, tasks)?),
+    }
+}
+
+/// The plain tables of all sizes.
+fn all_plain(alloc: Global, units: u8, period: u8, tasks: u8) -> Result<Vec<Table>, NoMemory>
+    requires enough_units { least_units ≤ units }
+    requires few_units { units ≤ unit_limit }
+    requires few_tasks { tasks ≤ task_limit }
+    ensures { IfOk result (λ tables. map schedule_of tables.items ≡ plain_tables units period tasks) }
+{
+    let mut tables = Vec::new(alloc);
+    for size in 4..units + 1 {
+        tables.push(plain_table(alloc, size, period, tasks)?)?;
+    }
+    Ok(tables)
+}
+
+/// The tables that the value of `table` states.
+fn stated_tables(alloc: Global, value: &Value, units: u8, period: u8) -> Result<Vec<Table>, Refused>
+    requires enough_units { least_units ≤ units }
+    requires few_units { units ≤ unit_limit }
+    ensures read { IfOk result (λ tables.
+        map schedule_of tables.items ≡ map (schedule_in period) (tables_in (Some (view value.now)))) }
+    ensures tests { TestsEach (table_rules units (Some (view value.now))) result }
+{
+    let tables = sized_tables(alloc, value, units)?;
+    check_times(alloc, &tables)?;
+    read_tables(alloc, &tables, period)
+}
+
+/// The tables in the value of `table`, one for each size.
+fn sized_tables(alloc: Global, value: &Value, units: u8) -> Result<Vec<&toml::Table>, Refused>
+    requires enough_units { least_units ≤ units }
+    requires few_units { units ≤ unit_limit }
+    ensures tables { IfOk result (λ tables.
+        map (λ table. table_view table.now) tables.items ≡ tables_in (Some (view value.now))) }
+    ensures few { IfOk result (λ tables. length tables.items ≤ unit_limit) }
+    ensures sized { IfOk result (λ tables. All (λ table. size_of (table_view table.now) ≢ None) tables.items) }
+    ensures tests { Tests 23 (BreaksTables units (Some (view value.now))) result }
+{
+    let sizes = usize::from(units) - 3;
+    let entries = entries_between(value, sizes, sizes, 23)?;
+    entries_by_size(alloc, entries)
+}
+
+/// The tables that these entries are, each of the size that its place tells.
+fn entries_by_size(alloc: Global, entries: &[Value]) -> Result<Vec<&toml::Table>, Refused>
+    requires { length entries.now ≤ unit_limit }
+    ensures tables { IfOk result (λ tables.
+        map (λ table. table_view table.now) tables.items ≡ map (λ entry. members_of (view entry)) entries.now) }
+    ensures sized { IfOk result (λ tables. All (λ table. size_of (table_view table.now) ≢ None) tables.items) }
+    ensures tests { Tests 23 (λ place. HoldsOf (map (λ entry. view entry) entries.now) place (IsNoTableEntry place)) result }
+{
+    let mut tables = Vec::new(alloc);
+    for (place, entry) in entries.iter().enumerate() {
+        match sized_table(entry, place) {
+            Some(table) => tables.push(table)?,
+            None => return Err(broken(23, place)),
+        }
+    }
+    Ok(tables)
+}
+
+/// The table that an entry is, where it has the size that its place tells.
+fn sized_table(entry: &Value, place: usize) -> Option<&toml::Table>
+    requires { place ≤ unit_limit }
+    ensures found { IfSome result (λ table. table_view table.now ≡ members_of (view entry.now)) }
+    ensures sized { IfSome result (λ _. IsTableEntry place (view entry.now)) }
+    ensures none { IfNone result (¬ IsTableEntry place (view entry.now)) }
+{
+    let table = table_of(entry, &["size", "run", "poll", "at"])?;
+    if number_at(table, "size", 4, 8) == Some(4 + place as u32) {
+        Some(table)
+    } else {
+        None
+    }
+}
+
+/// Tests that each table says when the tasks are run and polled.
+fn check_times(alloc: Global, tables: &[&toml::Table]) -> Result<(), Refused>
+    requires { length tables.now ≤ unit_limit }
+    ensures { Tests 24 (BreaksTimes (map (λ table. table_view table.now) tables.now)) result }
+{
+    for (place, table) in tables.iter().enumerate() {
+        let timeless = is_timeless(alloc, table)?;
+        if timeless {
+            return Err(broken(24, place));
+        }
+    }
+    Ok(())
+}
+
+/// Whether a table doesn't say when the tasks are run and polled.
+fn is_timeless(alloc: Global, table: &toml::Table) -> Result<bool, NoMemory>
+    ensures { IfOk result (λ timeless. IsTrue timeless ↔ IsTimeless (table_view table.now)) }
+{
+    let run = subframes_at(alloc, table, "run")?;
+    let poll = subframes_at(alloc, table, "poll")?;
+    Ok(run.is_none() || poll.is_none())
+}
+
+/// The schedules that these tables state, for frames of so many subframes.
+fn read_tables(alloc: Global, tables: &[&toml::Table], period: u8) -> Result<Vec<Table>, Refused>
+    requires few { length tables.now ≤ unit_limit }
+    requires sized { All (λ table. size_of (table_view table.now) ≢ None) tables.now }
+    requires timed { IsKept (rule 24 (BreaksTimes (map (λ table. table_view table.now) tables.now))) }
+    ensures read { IfOk result (λ schedules.
+        map schedule_of schedules.items ≡ map (λ table. schedule_in period (table_view table.now)) tables.now) }
+    ensures tests { Tests 25 (BreaksPositions (map (λ table. table_view table.now) tables.now)) result }
+{
+    let mut schedules = Vec::new(alloc);
+    for (place, table) in tables.iter().enumerate() {
+        match read_table(alloc, table, period)? {
+            Some(schedule) => schedules.push(schedule)?,
+            None => return Err(broken(25, place)),
+        }
+    }
+    Ok(schedules)
+}
+
+/// The schedule that a table states, where it states all of one.
+fn read_table(alloc: Global, table: &toml::Table, period: u8) -> Result<Option<Table>, NoMemory>
+    ensures found { IfOk result (λ found. IfSome found (λ schedule.
+        schedule_of schedule ≡ schedule_in period (table_view table.now))) }
+    ensures whole { IfOk result (λ found. IfSome found (λ _. positions_of (table_view table.now) ≢ None)) }
+    ensures none { IfOk result (λ found. IfNone found (IsPartial (table_view table.now))) }
+{
+    let size = number_at(table, "size", 4, 8);
+    let run = subframes_at(alloc, table, "run")?;
+    let poll = subframes_at(alloc, table, "poll")?;
+    let at = positions_at(alloc, table)?;
+    match (size, run, poll, at) {
+        (Some(size), Some(run), Some(poll), Some(at)) => Ok(Some(Table {
+            size: size as u8,
+            period,
+            run,
+            poll,
+            at,
+        })),
+        _ => Ok(None),
+    }
+}
+
+/// The subframes at a key of a table.
+fn subframes_at(alloc: Global, table: &toml::Table, key: &str) -> Result<Option<Vec<u8>>, NoMemory>
+    ensures { IfOk result (λ found.
+        option_map (λ list. list.items) found ≡ read_at (array_of subframe) key.now (table_view table.now)) }
+{
+    match member_of(table, key) {
+        Some(value) => subframes(alloc, value),
+        None => Ok(None),
+    }
+}
+
+/// The positions that a table states for each task.
+fn positions_at(alloc: Global, table: &toml::Table) -> Result<Option<Vec<Vec<u8>>>, NoMemory>
+    ensures { IfOk result (λ found.
+        option_map (λ lists. map (λ list. list.items) lists.items) found ≡ positions_of (table_view table.now)) }
+{
+    match member_of(table, "at") {
+        Some(value) => digit_lists(alloc, value),
+        None => Ok(None),
+    }
+}
