@@ -8,3 +8,4 @@ pub mod Sets
 pub mod LineForms
 pub mod Fields
 pub mod Printed
+pub mod Machine
