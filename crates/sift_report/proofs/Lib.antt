@@ -11,3 +11,4 @@ pub mod Printed
 mod SameTexts
 mod Places
 mod HeadlineLines
+pub mod Machine

@@ -1,9 +1,16 @@
 -- Texts that grow at their end.
-use Rattle.std.proofs.Common.{◌≡◌, ℕ, zero, suc, ◌+◌, ◌<◌, ◌≤◌, List, [], ◌∷◌, ◌++◌, length, map, take, get_or, Some, refl, sym, ap, ◌∙◌, append_assoc, arith, codes}
+use Rattle.std.proofs.Common.{Result, Ok, Err, ◌≡◌, ℕ, zero, suc, ◌+◌, ◌<◌, ◌≤◌, List, [], ◌∷◌, ◌++◌, length, map, take, get_or, Some, true, refl, sym, ap, ◌∙◌, append_assoc, arith, codes}
 use Rattle.std.specs.Prelude.{slice_get}
-use Rattle.std.specs.List.{flat_map}
-use Rattle.std.proofs.lemmas.List.{append-nil, map_more, take_all}
+use Rattle.std.specs.Result.{OnOk}
+use Rattle.std.specs.List.{flat_map, range_with_len}
+use Rattle.std.proofs.lemmas.Grind.{flat_map-append}
+use Rattle.std.proofs.lemmas.List.{append-nil, map-id, map_more, take_all}
+use Rattle.std.proofs.lemmas.List.FromFn.{map-range_with_len_more}
+use Rattle.sift_base.specs.Units.{has}
+use Rattle.sift_base.proofs.Counts.{has-head, has-tail}
+use Rattle.sift_report.specs.Line.{printed, text_of_lines}
 use Rattle.sift_report.specs.Part.{list_text, unit_digit, units_text}
+use Rattle.sift_report.specs.declared.line.ReportLine.{ReportLine}
 
 -- ---- units
 
@@ -49,3 +56,55 @@ pub parts_all : {V : Type 0} (text : V → List ℕ) (vs : List V) (first : V) (
     → now ≡ old ++ list_text (map text vs)
 parts_all text vs first others k old before now cut seen start rest =
     rw (rest, take_all k others seen, start, cut, list_text-cons text first others) (append_assoc old (text first) (flat_map (λ w. 44 ∷ text w) others))
+
+-- ---- texts in turn
+
+-- one number more
+range-more : (n : ℕ) → range_with_len 0 (n + 1) ≡ range_with_len 0 n ++ n ∷ []
+range-more n = simp map-id at (map-range_with_len_more (λ k. k) 0 n n (omega arith))
+
+-- the text of one number more
+pub text_more : (text : ℕ → List ℕ) (n : ℕ) (old now new : List ℕ) → now ≡ old ++ flat_map text (range_with_len 0 n) → new ≡ now ++ text n
+    → new ≡ old ++ flat_map text (range_with_len 0 (n + 1))
+text_more text n old now new so_far here =
+    rw (here, so_far, range-more n, flat_map-append text) (simp (append_assoc, append-nil))
+
+pub first_text_more : (text : ℕ → List ℕ) (n : ℕ) (now new : List ℕ) → now ≡ flat_map text (range_with_len 0 n) → new ≡ now ++ text n
+    → new ≡ flat_map text (range_with_len 0 (n + 1))
+first_text_more text n now new so_far here = text_more text n [] now new so_far here
+
+-- the lines of one frame more
+pub lines_more : (lines : ℕ → List ReportLine) (n : ℕ) (now new : List ℕ) → now ≡ text_of_lines (flat_map lines (range_with_len 0 n))
+    → new ≡ now ++ text_of_lines (lines n) → new ≡ text_of_lines (flat_map lines (range_with_len 0 (n + 1)))
+lines_more lines n now new so_far here =
+    rw (here, so_far, range-more n, flat_map-append lines)
+    (simp append-nil (sym (flat_map-append printed (flat_map lines (range_with_len 0 n)) (lines n))))
+
+-- the line of one unit more
+pub line_more : (line : ℕ → ReportLine) (us : List ℕ) (i u : ℕ) (old now new : List ℕ) → slice_get us i ≡ Some u
+    → now ≡ old ++ text_of_lines (map line (take i us)) → new ≡ now ++ printed (line u) → new ≡ old ++ text_of_lines (map line (take (i + 1) us))
+line_more line us i u old now new there so_far here =
+    let more : map line (take (i + 1) us) ≡ map line (take i us) ++ line u ∷ [] =
+    map_more line us i u (place_there us i u there) ∙ ap (λ v. map line (take i us) ++ line v ∷ []) (place_holds us i u u there) in
+    rw (here, so_far, more, flat_map-append printed) (simp (append_assoc, append-nil))
+
+-- a last line behind other lines
+pub line_after : (lines : List ReportLine) (last : ReportLine) (old now new : List ℕ) → now ≡ old ++ text_of_lines lines → new ≡ now ++ printed last
+    → new ≡ old ++ text_of_lines (lines ++ last ∷ [])
+line_after lines last old now new so_far here = rw (here, so_far, flat_map-append printed) (simp (append_assoc, append-nil))
+
+-- a unit at a place is one of the list
+pub has_place : (us : List ℕ) (i u : ℕ) → slice_get us i ≡ Some u → has us u ≡ true
+has_place [] zero u e = absurd cc
+has_place [] (suc i) u e = absurd cc
+has_place (v ∷ us) zero u e = let same : v ≡ u = (cc) in rw same (has-head u us)
+has_place (v ∷ us) (suc i) u e = has-tail v us u (has_place us i u e)
+
+-- the lines of all units, and that of the frame behind them
+pub frame_ends : {T E : Type 0} (line : ℕ → ReportLine) (us units : List ℕ) (i : ℕ) (frame last : ReportLine) (r : Result T E) (old now new : List ℕ)
+    → now ≡ old ++ text_of_lines (map line (take i us)) → length us ≤ i → us ≡ units → last ≡ frame → OnOk r (new ≡ now ++ printed last)
+    → OnOk r (new ≡ old ++ text_of_lines (map line units ++ frame ∷ []))
+frame_ends line us units i frame last (Ok value) old now new so_far seen same is pushed =
+    let all : now ≡ old ++ text_of_lines (map line units) = so_far ∙ ap (λ vs. old ++ text_of_lines (map line vs)) (take_all i us seen ∙ same) in
+    line_after (map line units) frame old now new all (pushed ∙ ap (λ l. now ++ printed l) is)
+frame_ends line us units i frame last (Err reason) old now new so_far seen same is pushed = pushed

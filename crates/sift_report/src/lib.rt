@@ -8,6 +8,7 @@ mod line;
 mod list;
 mod number;
 mod part;
+mod poll;
 mod print;
 mod read;
 mod report;

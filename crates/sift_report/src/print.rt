@@ -3,7 +3,7 @@
 ghost use Rattle.std.specs.Prelude.{◌≡◌, ◌<◌, ◌++◌, ◌∷◌, [], false, codes, string_bytes, OnOk};
 ghost use Rattle.std.specs.Fmt.{decimal, digit_glyph};
 ghost use Rattle.sift_base.specs.Units.{members};
-ghost use Rattle.sift_report.specs.Line.{caught_text, printed};
+ghost use Rattle.sift_report.specs.Line.{caught_text, line_text, printed};
 ghost use Rattle.sift_report.specs.Part.{margin_text, ticks_text, unit_digit, units_text, word_text, words_text};
 
 use crate::line::ReportLine;
@@ -15,6 +15,14 @@ use std::alloc::AllocError;
 /// Appends a line, with its line feed.
 pub fn push_line(text: &mut String, line: &ReportLine) -> Result<(), AllocError>
     ensures { OnOk result (string_bytes text.new ≡ string_bytes text.old ++ printed line.now) }
+{
+    push_fields(text, line)?;
+    text.push_str("\n")
+}
+
+/// Appends the fields of a line, with blanks between them.
+fn push_fields(text: &mut String, line: &ReportLine) -> Result<(), AllocError>
+    ensures { OnOk result (string_bytes text.new ≡ string_bytes text.old ++ line_text line.now) }
 {
     match line {
         ReportLine::Unit {
@@ -35,15 +43,15 @@ pub fn push_line(text: &mut String, line: &ReportLine) -> Result<(), AllocError>
             push_words(text, outs)?;
             text.push_str(" bad=")?;
             push_caught(text, *bad)?;
-            text.push('\n')
+            Ok(())
         }
         ReportLine::Faulty { f, u } => {
             push_head(text, *f, *u)?;
-            text.push_str("faulty\n")
+            text.push_str("faulty")
         }
         ReportLine::Idle { f, u } => {
             push_head(text, *f, *u)?;
-            text.push_str("idle\n")
+            text.push_str("idle")
         }
         ReportLine::Frame {
             f,
@@ -55,7 +63,8 @@ pub fn push_line(text: &mut String, line: &ReportLine) -> Result<(), AllocError>
             push_ticks(text, *skew)?;
             text.push_str(" slack=")?;
             push_ticks(text, *slack)?;
-            push_margin(text, *margin)
+            push_margin(text, *margin)?;
+            Ok(())
         }
         ReportLine::Last {
             frames,
@@ -64,7 +73,8 @@ pub fn push_line(text: &mut String, line: &ReportLine) -> Result<(), AllocError>
         } => {
             write!(text, "end frames={frames} cfg=")?;
             push_config(text, cfg)?;
-            push_margin(text, *margin)
+            push_margin(text, *margin)?;
+            Ok(())
         }
     }
 }
@@ -79,13 +89,12 @@ pub fn push_head(text: &mut String, f: u32, u: UnitId) -> Result<(), AllocError>
     text.push(' ')
 }
 
-/// Appends the margin that a line ends with, and the line feed.
+/// Appends the margin that a line ends with.
 fn push_margin(text: &mut String, margin: bool) -> Result<(), AllocError>
-    ensures { OnOk result (string_bytes text.new ≡ string_bytes text.old ++ codes " margin=" ++ margin_text margin ++ codes "\n") }
+    ensures { OnOk result (string_bytes text.new ≡ string_bytes text.old ++ codes " margin=" ++ margin_text margin) }
 {
     text.push_str(" margin=")?;
-    text.push_str(if margin { "ok" } else { "lost" })?;
-    text.push('\n')
+    text.push_str(if margin { "ok" } else { "lost" })
 }
 
 /// Appends the units that were caught.
@@ -99,11 +108,13 @@ fn push_caught(text: &mut String, bad: UnitSet) -> Result<(), AllocError>
 fn members_of(units: UnitSet) -> ArrayVec<UnitId, 8>
     ensures { result.items ≡ members units }
 {
+    let everyone = Config::all(8);
     let mut list = ArrayVec::new();
-    let mut rest = units;
-    for _ in 0..units.len() {
-        list.push(rest.first());
-        rest = rest.without(rest.first());
+    for i in 0..everyone.len() {
+        let unit = everyone.unit_at(i);
+        if units.has(unit) {
+            list.push(unit);
+        }
     }
     list
 }

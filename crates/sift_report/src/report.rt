@@ -22,7 +22,7 @@ pub fn report_text(alloc: Global, mission: &Mission, flight: &Flight) -> Result<
 {
     let mut text = String::new(alloc);
     let mut margin = true;
-    for f in 0..mission.frames() {
+    for f in 0..mission.parts().frames {
         margin = margin && is_sound_at(mission, flight, f);
         push_frame(&mut text, mission, flight, f, margin)?;
     }
@@ -62,7 +62,17 @@ pub fn last_line_text(
         ≡ end_of (mission_of mission.now) (told (mission_of mission.now) flight.now)) }
 {
     let mut text = String::new(alloc);
-    let margin = margin_at(mission, flight, mission.frames() - 1);
-    push_line(&mut text, &last_line(mission, flight, margin))?;
+    push_end(&mut text, mission, flight)?;
     Ok(text)
+}
+
+/// Appends the last line of a whole flight's report, with its line feed.
+pub fn push_end(text: &mut String, mission: &Mission, flight: &Flight) -> Result<(), AllocError>
+    requires { IsWhole (mission_of mission.now) mission.now.layout flight.now }
+    ensures { OnOk result (string_bytes text.new ≡ string_bytes text.old
+        ++ end_of (mission_of mission.now) (told (mission_of mission.now) flight.now)) }
+{
+    let margin = margin_at(mission, flight, mission.parts().frames - 1);
+    push_line(text, &last_line(mission, flight, margin))?;
+    Ok(())
 }

@@ -1,11 +1,11 @@
 //! The lines of a flight's report, as values.
 
-ghost use Rattle.std.specs.Prelude.{◌≡◌, ◌<◌, true};
+ghost use Rattle.std.specs.Prelude.{◌≡◌, ◌-◌, ◌<◌, true};
 ghost use Rattle.sift_base.specs.Units.{has};
 ghost use Rattle.sift_exec.specs.Record.{everyone_in};
 ghost use Rattle.sift_unit.specs.Boards.{account_of};
 ghost use Rattle.sift_unit.specs.Flown.{mission_of};
-ghost use Rattle.sift_flight.specs.Figures.{margin_at, margin_before};
+ghost use Rattle.sift_flight.specs.Figures.{margin_at};
 ghost use Rattle.sift_flight.specs.Told.{IsWhole, told};
 ghost use Rattle.sift_report.specs.Sheet.{account_line, frame_line, last_line, unit_line};
 
@@ -74,7 +74,7 @@ pub fn frame_line(mission: &Mission, flight: &Flight, f: u32, margin: bool) -> R
 /// The last line, where the last frame has this margin.
 pub fn last_line(mission: &Mission, flight: &Flight, margin: bool) -> ReportLine
     requires whole { IsWhole (mission_of mission.now) mission.now.layout flight.now }
-    requires margin { margin ≡ margin_before (mission_of mission.now) (told (mission_of mission.now) flight.now) (mission_of mission.now).frames }
+    requires margin { margin ≡ margin_at (mission_of mission.now) (told (mission_of mission.now) flight.now) ((mission_of mission.now).frames - 1) }
     ensures { result ≡ last_line (mission_of mission.now) (told (mission_of mission.now) flight.now) }
 {
     let frames = mission.frames();

@@ -1,15 +1,20 @@
 //! The votes of a flight.
 
-ghost use Rattle.std.specs.Prelude.{◌≡◌, IfOk, string_bytes};
+ghost use Rattle.std.specs.Prelude.{◌≡◌, ◌+◌, ◌<◌, ◌++◌, IfOk, OnOk, length, true, string_bytes};
+ghost use Rattle.sift_base.specs.Units.{has};
+ghost use Rattle.sift_program.specs.Sound.{first_word};
 ghost use Rattle.sift_unit.specs.Data.{data_of};
 ghost use Rattle.sift_unit.specs.Flown.{mission_of};
+ghost use Rattle.sift_unit.specs.Needs.{task_at};
 ghost use Rattle.sift_flight.specs.Told.{IsWhole, told};
-ghost use Rattle.sift_report.specs.Votes.{votes_of};
+ghost use Rattle.sift_report.specs.Votes.{frame_votes, task_votes, tells, unit_votes, vote_text, votes_of};
 
-use sift_base::NoMemory;
-use sift_flight::Flight;
+use crate::poll::{Output, push_vote};
+use crate::report::push_end;
+use sift_base::{NoMemory, UnitId};
+use sift_flight::{Flight, account_at};
 use sift_unit::Mission;
-use std::alloc::Global;
+use std::alloc::{AllocError, Global};
 
 /// The votes of a whole flight: for each output word of a unit that tells its account the words that it polled, and their majority; and
 /// the last line of the report.
@@ -19,7 +24,89 @@ pub fn votes_text(alloc: Global, mission: &Mission, flight: &Flight) -> Result<S
         ≡ votes_of (data_of mission.now) (told (mission_of mission.now) flight.now)) }
 {
     let mut text = String::new(alloc);
-    let _ = (mission, flight);
-    text.push_str("")?;
+    for f in 0..mission.frames() {
+        push_frame_votes(&mut text, mission, flight, f)?;
+    }
+    push_end(&mut text, mission, flight)?;
     Ok(text)
+}
+
+/// Appends the votes of a frame.
+fn push_frame_votes(
+    text: &mut String,
+    mission: &Mission,
+    flight: &Flight,
+    f: u32,
+) -> Result<(), AllocError>
+    requires whole { IsWhole (mission_of mission.now) mission.now.layout flight.now }
+    requires frame { f < (mission_of mission.now).frames }
+    ensures { OnOk result (string_bytes text.new ≡ string_bytes text.old
+        ++ frame_votes (data_of mission.now) (told (mission_of mission.now) flight.now) f) }
+{
+    let everyone = mission.everyone();
+    for i in 0..everyone.len() {
+        push_unit_votes(text, mission, flight, f, everyone.unit_at(i))?;
+    }
+    Ok(())
+}
+
+/// Appends the votes of a unit in a frame, where it tells its account.
+fn push_unit_votes(
+    text: &mut String,
+    mission: &Mission,
+    flight: &Flight,
+    f: u32,
+    u: UnitId,
+) -> Result<(), AllocError>
+    requires whole { IsWhole (mission_of mission.now) mission.now.layout flight.now }
+    requires unit { has (mission_of mission.now).units u ≡ true }
+    requires frame { f < (mission_of mission.now).frames }
+    ensures { OnOk result (string_bytes text.new ≡ string_bytes text.old
+        ++ unit_votes (data_of mission.now) (told (mission_of mission.now) flight.now) f u) }
+{
+    if !tells(mission, flight, f, u) {
+        return Ok(());
+    }
+    let mut first = 0;
+    for t in 0..mission.parts().program.tasks.len() {
+        push_task_votes(text, mission, flight, f, u, t, first)?;
+        first += mission.outputs(t);
+    }
+    Ok(())
+}
+
+/// Whether a unit tells its account: it works in the frame, and is in its own configuration.
+fn tells(mission: &Mission, flight: &Flight, f: u32, u: UnitId) -> bool
+    requires whole { IsWhole (mission_of mission.now) mission.now.layout flight.now }
+    requires unit { has (mission_of mission.now).units u ≡ true }
+    requires frame { f < (mission_of mission.now).frames }
+    ensures { result ≡ tells (mission_of mission.now) (told (mission_of mission.now) flight.now) f u }
+{
+    mission.works(u, f) && account_at(mission, flight, u, f).cfg.has(u)
+}
+
+/// Appends the votes of a task, whose first word has this number.
+fn push_task_votes(
+    text: &mut String,
+    mission: &Mission,
+    flight: &Flight,
+    f: u32,
+    u: UnitId,
+    t: usize,
+    first: u8,
+) -> Result<(), AllocError>
+    requires whole { IsWhole (mission_of mission.now) mission.now.layout flight.now }
+    requires tells { tells (mission_of mission.now) (told (mission_of mission.now) flight.now) f u ≡ true }
+    requires unit { has (mission_of mission.now).units u ≡ true }
+    requires frame { f < (mission_of mission.now).frames }
+    requires task { t < (mission_of mission.now).tasks }
+    requires first { first ≡ first_word (data_of mission.now).program.tasks t }
+    ensures { OnOk result (string_bytes text.new ≡ string_bytes text.old
+        ++ task_votes (data_of mission.now) (told (mission_of mission.now) flight.now) f u t) }
+{
+    for j in 0..mission.outputs(t) {
+        let word = first + j;
+        push_vote(text, mission, flight, f, u, Output { t, j, word })?;
+    }
+    Ok(())
 }

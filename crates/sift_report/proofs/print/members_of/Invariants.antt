@@ -1,7 +1,8 @@
-use Rattle.std.proofs.Common.{◌≡◌, ◌+◌, ◌++◌, length}
-use Rattle.sift_base.specs.Units.{members}
+use Rattle.std.proofs.Common.{◌≡◌, take}
+use Rattle.std.specs.List.{filter}
+use Rattle.sift_base.specs.Units.{holds}
 use Rattle.sift_report.proofs.print.members_of.Given as goal
 
--- the members so far stand in the list, and the others are left
-abbrev pub invariant-loop-counter : goal.invariant-loop-counter
-invariant-loop-counter l = (l.list.items ++ members l.rest ≡ members l.units) × (length l.list.items ≡ l.counter)
+-- the members among the first units
+abbrev pub invariant-loop-i : goal.invariant-loop-i
+invariant-loop-i l = l.list.items ≡ filter (holds l.units) (take l.i l.everyone)

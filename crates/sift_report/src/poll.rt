@@ -1,0 +1,189 @@
+//! The poll of one output word by one unit.
+
+ghost use Rattle.std.specs.Prelude.{◌≡◌, ◌≢◌, ◌+◌, ◌<◌, ◌≤◌, ◌++◌, ◌∷◌, All, OnOk, codes, length, map, slice_get, Some, true, string_bytes};
+ghost use Rattle.sift_base.specs.Units.{has};
+ghost use Rattle.sift_program.specs.Sound.{first_word};
+ghost use Rattle.sift_unit.specs.Acts.{IsConfigOf};
+ghost use Rattle.sift_unit.specs.Data.{data_of};
+ghost use Rattle.sift_unit.specs.Flown.{mission_of};
+ghost use Rattle.sift_unit.specs.Needs.{task_at};
+ghost use Rattle.sift_unit.specs.Slots.{executors};
+ghost use Rattle.sift_flight.specs.Flight.{config_of};
+ghost use Rattle.sift_flight.specs.Told.{IsWhole, told};
+ghost use Rattle.sift_report.specs.Poll.{IsOutput, poll_of, polled_text, polls_of};
+ghost use Rattle.sift_report.specs.Votes.{lowest_other, place_of, place_text, poll_text, polled_units, tells, vote_text};
+
+use crate::print::{push_head, push_unit, push_word};
+use arrayvec::ArrayVec;
+use sift_base::{Slot, UnitId, Word};
+use sift_config::Config;
+use sift_flight::{Flight, account_at};
+use sift_unit::Mission;
+use sift_vote::majority;
+use std::alloc::AllocError;
+
+/// An output of a task, and its number among all words.
+#[derive(Clone, Copy, Debug, PartialEq, Eq)]
+pub struct Output {
+    /// The task.
+    pub t: usize,
+    /// The number among the task's words.
+    pub j: u8,
+    /// The number among all words.
+    pub word: u8,
+}
+
+/// An executor of a word, and its word as a unit has it.
+#[derive(Clone, Copy, Debug, Default, PartialEq, Eq)]
+pub struct Poll {
+    /// The executor.
+    pub unit: UnitId,
+    /// Its word, where it isn't absent.
+    pub word: Option<Word>,
+}
+
+/// Appends the vote of an output word by a unit that tells its account.
+pub fn push_vote(
+    text: &mut String,
+    mission: &Mission,
+    flight: &Flight,
+    f: u32,
+    u: UnitId,
+    output: Output,
+) -> Result<(), AllocError>
+    requires whole { IsWhole (mission_of mission.now) mission.now.layout flight.now }
+    requires tells { tells (mission_of mission.now) (told (mission_of mission.now) flight.now) f u ≡ true }
+    requires unit { has (mission_of mission.now).units u ≡ true }
+    requires frame { f < (mission_of mission.now).frames }
+    requires output { IsOutput (data_of mission.now) output }
+    ensures { OnOk result (string_bytes text.new ≡ string_bytes text.old
+        ++ vote_text (data_of mission.now) (told (mission_of mission.now) flight.now) f u output.t output.j) }
+{
+    let j = output.j;
+    let polls = polls_of(mission, flight, f, u, output.word);
+    push_head(text, f, u)?;
+    text.push_str("t=")?;
+    text.push_str(mission.parts().names[output.t].as_str())?;
+    write!(text, ".{j} words=")?;
+    push_polls(text, &polls)?;
+    text.push_str(" vote=")?;
+    push_place(text, majority(&places_of(&polls)))?;
+    text.push_str("\n")?;
+    Ok(())
+}
+
+/// The words of a word's executors, as a unit has them.
+fn polls_of(
+    mission: &Mission,
+    flight: &Flight,
+    f: u32,
+    u: UnitId,
+    word: u8,
+) -> ArrayVec<Poll, 8>
+    requires whole { IsWhole (mission_of mission.now) mission.now.layout flight.now }
+    requires tells { tells (mission_of mission.now) (told (mission_of mission.now) flight.now) f u ≡ true }
+    requires unit { has (mission_of mission.now).units u ≡ true }
+    requires frame { f < (mission_of mission.now).frames }
+    requires word { word < (mission_of mission.now).words }
+    ensures { result.items ≡ polls_of (mission_of mission.now) (told (mission_of mission.now) flight.now) f u word }
+{
+    let config = account_at(mission, flight, u, f).cfg;
+    let mut polls = ArrayVec::new();
+    for i in 0..config.len() {
+        let unit = config.unit_at(i);
+        if mission.executes(&config, word, unit) {
+            polls.push(Poll {
+                unit,
+                word: place_of(mission, flight, f, u, word, unit),
+            });
+        }
+    }
+    polls
+}
+
+/// The word of a unit of its configuration, as a unit has it: its own as it said it to the lowest other unit, any other as it heard it.
+fn place_of(
+    mission: &Mission,
+    flight: &Flight,
+    f: u32,
+    u: UnitId,
+    word: u8,
+    from: UnitId,
+) -> Option<Word>
+    requires whole { IsWhole (mission_of mission.now) mission.now.layout flight.now }
+    requires tells { tells (mission_of mission.now) (told (mission_of mission.now) flight.now) f u ≡ true }
+    requires unit { has (mission_of mission.now).units u ≡ true }
+    requires frame { f < (mission_of mission.now).frames }
+    requires word { word < (mission_of mission.now).words }
+    requires from { has (mission_of mission.now).units from ≡ true }
+    ensures { result ≡ place_of (mission_of mission.now) (told (mission_of mission.now) flight.now) f u word from }
+{
+    let slot = mission.parts().layout.number(Slot::Out(word));
+    let journal = &flight.journals[usize::from(u.get())];
+    if from == u {
+        let config = account_at(mission, flight, u, f).cfg;
+        journal.said(f, slot, lowest_other(&config, u))
+    } else {
+        journal.heard(f, slot, from)
+    }
+}
+
+/// The lowest other unit of a configuration.
+fn lowest_other(config: &Config, u: UnitId) -> UnitId
+    ensures lowest { result ≡ lowest_other config.now u }
+    ensures other { result ≢ u }
+    ensures there { has config.now result ≡ true }
+{
+    let lowest = config.unit_at(0);
+    if lowest == u {
+        config.unit_at(1)
+    } else {
+        lowest
+    }
+}
+
+/// The words alone.
+fn places_of(polls: &[Poll]) -> ArrayVec<Option<Word>, 8>
+    requires { length polls.now ≤ 8 }
+    ensures { result.items ≡ map (λ poll. poll.word) polls.now }
+{
+    let mut places = ArrayVec::new();
+    for poll in polls {
+        places.push(poll.word);
+    }
+    places
+}
+
+/// Appends polls with commas between them, or `-` where there is none.
+fn push_polls(text: &mut String, polls: &[Poll]) -> Result<(), AllocError>
+    ensures { OnOk result (string_bytes text.new ≡ string_bytes text.old ++ polled_text polls.now) }
+{
+    let Some((first, others)) = polls.split_first() else {
+        return text.push('-');
+    };
+    push_poll(text, *first)?;
+    for poll in others {
+        text.push(',')?;
+        push_poll(text, *poll)?;
+    }
+    Ok(())
+}
+
+/// Appends an executor and its word.
+fn push_poll(text: &mut String, poll: Poll) -> Result<(), AllocError>
+    ensures { OnOk result (string_bytes text.new ≡ string_bytes text.old ++ poll_text poll.unit poll.word) }
+{
+    push_unit(text, poll.unit)?;
+    text.push(':')?;
+    push_place(text, poll.word)
+}
+
+/// Appends a word, or `-` where there is none.
+fn push_place(text: &mut String, place: Option<Word>) -> Result<(), AllocError>
+    ensures { OnOk result (string_bytes text.new ≡ string_bytes text.old ++ place_text place) }
+{
+    match place {
+        Some(word) => push_word(text, word),
+        None => text.push('-'),
+    }
+}
