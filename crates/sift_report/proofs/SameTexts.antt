@@ -12,7 +12,7 @@ use Rattle.sift_flight.specs.Configuration.{config_at}
 use Rattle.sift_flight.specs.Figures.{margin_at}
 use Rattle.sift_flight.specs.Flight.{Flight}
 use Rattle.sift_flight.proofs.TellingAlike.{map-same}
-use Rattle.sift_report.specs.Line.{text_of_lines}
+use Rattle.sift_report.specs.Line.{printed, text_of_lines}
 use Rattle.sift_report.specs.OneText.{AlikeFlightsHaveOneText, HaveOneText}
 use Rattle.sift_report.specs.Sheet.{end_of, frame_line, frame_lines, last_line, report_of, sheet_of, unit_line, working_line}
 use Rattle.sift_report.specs.Votes.{frame_votes, unit_votes, votes_of}
@@ -69,7 +69,7 @@ module _ (d : MissionData) (fl gl : Flight) (some : 0 < d.frames) (alike : AreAl
   same_frame_votes f low = flat-units (unit_votes d fl f) (unit_votes d gl f) (flown d).units (same_votes f low)
 
   same_end : end_of (flown d) fl ≡ end_of (flown d) gl
-  same_end = ap (λ line. text_of_lines (line ∷ [])) same_last
+  same_end = ap printed same_last
 
   all_votes : votes_of d fl ≡ votes_of d gl
   all_votes =
