@@ -8,3 +8,4 @@ mod Words
 mod Settings
 mod OneCommand
 mod OneText
+mod Both

@@ -60,3 +60,16 @@ one_command words Ideal Check a b = absurd (omega (arith, ap first_byte (sym a �
 one_command words Check (Run k) a b = absurd (omega (arith, ap first_byte (sym a ∙ b.1)))
 one_command words Check (Votes k) a b = absurd (omega (arith, ap first_byte (sym a ∙ b.1)))
 one_command words Check Ideal a b = absurd (omega (arith, ap first_byte (sym a ∙ b)))
+
+-- what words ask for that begin with `run`, or with `votes`
+pub runs : (words rest : List (List ℕ)) (command : Command) → words ≡ codes "run" ∷ rest → Asks words command → (order : ℕ) × GiveOrder rest order
+runs words rest (Run n) e a = (n, subst (λ r. GiveOrder r n) (ap (drop 1) (sym a.1 ∙ e)) a.2)
+runs words rest (Votes n) e a = absurd (omega (arith, ap first_byte (sym a.1 ∙ e)))
+runs words rest Ideal e a = absurd (omega (arith, ap first_byte (sym a ∙ e)))
+runs words rest Check e a = absurd (omega (arith, ap first_byte (sym a ∙ e)))
+
+pub votes : (words rest : List (List ℕ)) (command : Command) → words ≡ codes "votes" ∷ rest → Asks words command → (order : ℕ) × GiveOrder rest order
+votes words rest (Votes n) e a = (n, subst (λ r. GiveOrder r n) (ap (drop 1) (sym a.1 ∙ e)) a.2)
+votes words rest (Run n) e a = absurd (omega (arith, ap first_byte (sym a.1 ∙ e)))
+votes words rest Ideal e a = absurd (omega (arith, ap first_byte (sym a ∙ e)))
+votes words rest Check e a = absurd (omega (arith, ap first_byte (sym a ∙ e)))

@@ -42,7 +42,7 @@ bare_text_back Check d text made = made
 
 -- a mission whose parts fit has no storm
 calm : (d : MissionData) → PartsFit d → HasNoStorms (flown d)
-calm d fits u there = ap _ (fits.script.calm u)
+calm d fits u there = rw (fits.script.calm u) refl
 
 module _ (mission : OneMission) (flies : PartsMakeItFlyable) (alike : RoundFlightsAreAlike) (texts : AlikeFlightsHaveOneText) where
   -- two flights of a mission have one text of each kind

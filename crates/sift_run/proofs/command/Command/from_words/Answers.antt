@@ -1,0 +1,34 @@
+use Rattle.std.proofs.Common.{codes, Some, ap, sym, ◌∙◌, arith}
+use Rattle.sift_run.specs.declared.command.Command.TheVariants.{Run, Votes}
+use Rattle.sift_run.proofs.OneCommand.{one_command, runs, votes}
+use Rattle.sift_run.proofs.Settings.{some_or_none}
+use Rattle.sift_run.proofs.Words.{first-word}
+use Rattle.sift_run.proofs.command.Command.from_words.Goals as goal
+
+-- the options behind `run` give no order, so the words ask for nothing
+pub returns-in_err-order_of-in-run-clause-exact : goal.returns-in_err-order_of-in-run-clause-exact
+returns-in_err-order_of-in-run-clause-exact c = λ command asks.
+    let words = c.args.words.now in
+    let first = first-word words c.verb-item.result (codes "run") (omega arith) c.verb-item.is (sym c.as_str.ensures.value ∙ c.in-run.is) in
+    let order = runs _ _ command first asks in
+    absurd (some_or_none _ (c.in_err-order_of-in-run.ensures.exact order.0 order.1))
+
+pub returns-in_err-order_of-in-votes-clause-exact : goal.returns-in_err-order_of-in-votes-clause-exact
+returns-in_err-order_of-in-votes-clause-exact c = λ command asks.
+    let words = c.args.words.now in
+    let first = first-word words c.verb-item.result (codes "votes") (omega arith) c.verb-item.is (sym c.as_str.ensures.value ∙ c.in-votes.is) in
+    let order = votes _ _ command first asks in
+    absurd (some_or_none _ (c.in_err-order_of-in-votes.ensures.exact order.0 order.1))
+
+-- they give one, and words ask for one command
+pub returns-in_ok-order_of-in-run-clause-exact : goal.returns-in_ok-order_of-in-run-clause-exact
+returns-in_ok-order_of-in-run-clause-exact c = λ command asks.
+    let words = c.args.words.now in
+    let first = first-word words c.verb-item.result (codes "run") (omega arith) c.verb-item.is (sym c.as_str.ensures.value ∙ c.in-run.is) in
+    ap Some (one_command _ (Run c.in_ok-order_of-in-run.field-0) command (_, first, c.in_ok-order_of-in-run.ensures.found) asks)
+
+pub returns-in_ok-order_of-in-votes-clause-exact : goal.returns-in_ok-order_of-in-votes-clause-exact
+returns-in_ok-order_of-in-votes-clause-exact c = λ command asks.
+    let words = c.args.words.now in
+    let first = first-word words c.verb-item.result (codes "votes") (omega arith) c.verb-item.is (sym c.as_str.ensures.value ∙ c.in-votes.is) in
+    ap Some (one_command _ (Votes c.in_ok-order_of-in-votes.field-0) command (_, first, c.in_ok-order_of-in-votes.ensures.found) asks)
