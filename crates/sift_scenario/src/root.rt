@@ -44,7 +44,15 @@ fn check_keys(document: &Table) -> Result<(), Refused>
 {
     if has_only_keys(
         document,
-        &["version", "units", "frames", "subframes", "task", "table"],
+        &[
+            "version",
+            "units",
+            "frames",
+            "subframes",
+            "sensor",
+            "task",
+            "table",
+        ],
     ) {
         Ok(())
     } else {
