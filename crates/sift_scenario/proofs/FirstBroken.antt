@@ -7,9 +7,10 @@ use Rattle.toml.specs.Data.{Data, Members}
 use Rattle.sift_base.specs.Layout.{sensor_limit, word_limit}
 use Rattle.sift_base.specs.Shapes.{task_limit}
 use Rattle.sift_scenario.proofs.Decided.{Decided, at_most, both, either, first_place, holds, negated, nothing, same_number}
-use Rattle.sift_scenario.proofs.Known.{form_known, known_array, known_entry, known_keys, known_table, new_name_of}
+use Rattle.sift_scenario.proofs.Known.{form_known, known_array, known_entry, known_keys, known_saying, known_table, new_name_of}
 use Rattle.sift_scenario.specs.Document.{IsArrayOf, entries_of}
 use Rattle.sift_scenario.specs.Entries.{HoldsOf}
+use Rattle.sift_scenario.specs.Fault.{IsFaultEntry, IsHeadless, IsSaying, changes_of, fault_keys, fault_limit, fault_rules, fault_value, faults_in, from_of, unit_of}
 use Rattle.sift_scenario.specs.Lawful.{rules_of, themes_for}
 use Rattle.sift_scenario.specs.Laws.{RulesAreKeptOrBroken}
 use Rattle.sift_scenario.specs.Root.{frames_of, period_of, root_keys, root_rules, units_of, version_of}
@@ -142,7 +143,19 @@ table_known units value = (
   ),
 )
 
+fault_known : (value : Option Data) → AreDecided (fault_rules value)
+fault_known value = (
+  of_array 0 fault_limit IsFaultEntry value (λ place entry. known_table fault_keys entry),
+  (
+    of_each (faults_in value) (λ place. IsHeadless) (λ place fault. either (nothing (unit_of fault)) (nothing (from_of fault))),
+    (
+      of_each (faults_in value) (λ place fault. IsSaying fault → ⊥) (λ place fault. negated (known_saying fault)),
+      (of_each (faults_in value) (λ place fault. changes_of fault ≡ None) (λ place fault. nothing (changes_of fault)), tt),
+    ),
+  ),
+)
+
 -- all rules are kept, or one is the first that is broken
 pub kept_or_broken : RulesAreKeptOrBroken
 kept_or_broken d = kept_or_first (rules_of d)
-    (decided_all (themes_for (unwrap_or (units_of d) 0) d) (root_known d, (sensor_known (sensor_value d), (task_known d, (table_known (unwrap_or (units_of d) 0) (table_value d), tt)))))
+    (decided_all (themes_for (unwrap_or (units_of d) 0) d) (root_known d, (sensor_known (sensor_value d), (task_known d, (table_known (unwrap_or (units_of d) 0) (table_value d), (fault_known (fault_value d), tt))))))

@@ -1,6 +1,7 @@
 -- The rules of a document, in the order of their numbers.
 use Rattle.std.specs.Prelude.{ℕ, List, [], ◌∷◌, unwrap_or}
 use Rattle.toml.specs.Data.{Members}
+use Rattle.sift_scenario.specs.Fault.{fault_rules, fault_value}
 use Rattle.sift_scenario.specs.Root.{root_rules, units_of}
 use Rattle.sift_scenario.specs.Rules.{AreKept, BreaksFirst, Rule, joined}
 use Rattle.sift_scenario.specs.Sensor.{sensor_rules, sensor_value}
@@ -14,6 +15,7 @@ themes_for units document =
     ∷ sensor_rules (sensor_value document)
     ∷ task_rules document
     ∷ table_rules units (table_value document)
+    ∷ fault_rules (fault_value document)
     ∷ []
 
 -- all rules of a document

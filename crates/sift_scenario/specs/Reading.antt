@@ -13,6 +13,8 @@ use Rattle.sift_scenario.specs.declared.sensor.Sensors.{Sensors}
 use Rattle.sift_scenario.specs.declared.task.Tasks.{Tasks}
 use Rattle.sift_scenario.specs.Clock.{clocks_of}
 use Rattle.sift_scenario.specs.Fault as fault
+use Rattle.sift_scenario.specs.Fault.{from_of, items_of, unit_of}
+use Rattle.sift_scenario.specs.declared.fault.Head.{Head}
 use Rattle.sift_scenario.specs.Lawful.{IsLawful}
 use Rattle.sift_scenario.specs.Program.{IsProgramOf}
 use Rattle.sift_scenario.specs.Root.{frames_of, period_of, units_of}
@@ -41,6 +43,12 @@ pub record AreSensorsIn (tables : List Members) (sensors : Sensors) : Type 0 whe
 -- these are the names and the words of a document's sensors
 abbrev pub AreSensorsOf : Members → Sensors → Type 0
 AreSensorsOf document sensors = AreSensorsIn (sensors_in (sensor_value document)) sensors
+
+-- these are the heads and the items of the faults in these tables
+pub record AreFaultsRead (faults : List Members) (heads : List Head) (said : List (List Members)) : Type 0 where
+  pub units : map (λ head. Some head.unit) heads ≡ map unit_of faults
+  pub from : map (λ head. Some head.from) heads ≡ map from_of faults
+  pub items : said ≡ map items_of faults
 
 -- a part of the table isn't read
 abbrev pub IsPartial : Members → Type 0

@@ -10,6 +10,7 @@ ghost use Rattle.sift_scenario.specs.Root.{plain_period};
 ghost use Rattle.sift_scenario.specs.Testing.{RefusesFirst};
 
 use crate::clock::plain_plan;
+use crate::fault::script_of;
 use crate::refused::Refused;
 use crate::root::root_of;
 use crate::sensor::{Sensors, sensors_of};
@@ -46,6 +47,7 @@ pub(crate) fn entries_of(alloc: Global, document: &toml::Table) -> Result<Entrie
     let count = tasks.forms.len() as u8;
     let period = period_of(root.subframes, count);
     let tables = tables_of(alloc, document, root.units, period, count)?;
+    let script = script_of(alloc, document)?;
     Ok(Entries {
         units: root.units,
         frames: root.frames,
@@ -54,9 +56,7 @@ pub(crate) fn entries_of(alloc: Global, document: &toml::Table) -> Result<Entrie
         sensors,
         tasks,
         tables,
-        script: Script {
-            entries: Vec::new(alloc),
-        },
+        script,
     })
 }
 

@@ -52,6 +52,7 @@ fn check_keys(document: &Table) -> Result<(), Refused>
             "sensor",
             "task",
             "table",
+            "fault",
         ],
     ) {
         Ok(())
