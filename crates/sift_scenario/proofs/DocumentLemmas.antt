@@ -28,6 +28,10 @@ list_of-view (v ∷ vs) = ap (λ ds. view v ∷ ds) (list_of-view vs)
 pub entries_of-values : (d : Data) (vs : List Value) → Some (items_view vs) ≡ as_array d → map view vs ≡ entries_of (Some d)
 entries_of-values d vs is = rw (array_from d _ is) (sym (list_of-view vs))
 
+-- they are those of its items
+pub array_entries : (value : Data) (items : Items) → as_array value ≡ Some items → entries_of (Some value) ≡ list_of items
+array_entries value items there = rw (array_from value items (sym there)) refl
+
 -- ---- how many entries there are
 
 -- an array of the values has so many as there are

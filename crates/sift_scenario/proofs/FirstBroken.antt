@@ -4,16 +4,18 @@ use Rattle.std.proofs.lemmas.Option.{slice_get_within}
 use Rattle.std.proofs.lemmas.List.{length-map}
 use Rattle.std.specs.Prelude.{unwrap_or}
 use Rattle.toml.specs.Data.{Data, Members}
-use Rattle.sift_base.specs.Layout.{word_limit}
+use Rattle.sift_base.specs.Layout.{sensor_limit, word_limit}
 use Rattle.sift_base.specs.Shapes.{task_limit}
 use Rattle.sift_scenario.proofs.Decided.{Decided, at_most, both, either, first_place, holds, negated, nothing, same_number}
-use Rattle.sift_scenario.proofs.Known.{form_known, known_array, known_entry, known_keys, known_table, new_name_of}
+use Rattle.sift_scenario.proofs.Known.{form_known, known_array, known_entry, known_keys, known_saying, known_table, new_name_of}
 use Rattle.sift_scenario.specs.Document.{IsArrayOf, entries_of}
 use Rattle.sift_scenario.specs.Entries.{HoldsOf}
+use Rattle.sift_scenario.specs.Fault.{IsFaultEntry, IsHeadless, IsSaying, changes_of, fault_keys, fault_limit, fault_rules, fault_value, faults_in, from_of, unit_of}
 use Rattle.sift_scenario.specs.Lawful.{rules_of, themes_for}
 use Rattle.sift_scenario.specs.Laws.{RulesAreKeptOrBroken}
 use Rattle.sift_scenario.specs.Root.{frames_of, period_of, root_keys, root_rules, units_of, version_of}
 use Rattle.sift_scenario.specs.Rules.{AreKept, BreaksEntries, BreaksFirst, IsFirstPlace, OfNoEntry, Rule, followed_by, joined, rule}
+use Rattle.sift_scenario.specs.Sensor.{IsSensorEntry, sensor_keys, sensor_rules, sensor_value, sensors_in, words_of}
 use Rattle.sift_scenario.specs.Table.{BreaksPositions, BreaksTables, BreaksTimes, IsTableEntry, IsTimeless, positions_of, polls_of, runs_of, size_count, table_rules, table_value, tables_in}
 use Rattle.sift_scenario.specs.Task.{HasForm, IsNewName, counts_of, name_of, start_words, task_entries, task_keys, task_outputs, tasks_of}
 use Rattle.sift_scenario.specs.TaskRules.{BreaksForms, BreaksNames, BreaksStarts, BreaksTasks, BreaksWords, each_task_rules, task_rules}
@@ -94,6 +96,15 @@ names_known : (number : ℕ) (entries : List Members) → IsDecided (rule number
 names_known number entries = of_each entries (λ place entry. (name : List ℕ) → IsNewName (map name_of (take place entries)) entry name → ⊥)
     (λ place entry. none_of (λ name. IsNewName (map name_of (take place entries)) entry name) (new_name_of (map name_of (take place entries)) entry (name_of entry) refl))
 
+sensor_known : (value : Option Data) → AreDecided (sensor_rules value)
+sensor_known value = (
+  of_array 0 sensor_limit IsSensorEntry value (λ place entry. known_table sensor_keys entry),
+  (
+    names_known 16 (sensors_in value),
+    (of_each (sensors_in value) (λ place sensor. words_of sensor ≡ None) (λ place sensor. nothing (words_of sensor)), tt),
+  ),
+)
+
 words_known : (counts : List ℕ) → IsDecided (rule 21 (BreaksWords counts))
 words_known counts = first_place (BreaksWords counts)
     (λ at. both (at_most (suc at) (length counts)) (at_most (suc word_limit) (sum (take (at + 1) counts)))) (length counts) (λ at broken. broken.0)
@@ -132,7 +143,19 @@ table_known units value = (
   ),
 )
 
+fault_known : (value : Option Data) → AreDecided (fault_rules value)
+fault_known value = (
+  of_array 0 fault_limit IsFaultEntry value (λ place entry. known_table fault_keys entry),
+  (
+    of_each (faults_in value) (λ place. IsHeadless) (λ place fault. either (nothing (unit_of fault)) (nothing (from_of fault))),
+    (
+      of_each (faults_in value) (λ place fault. IsSaying fault → ⊥) (λ place fault. negated (known_saying fault)),
+      (of_each (faults_in value) (λ place fault. changes_of fault ≡ None) (λ place fault. nothing (changes_of fault)), tt),
+    ),
+  ),
+)
+
 -- all rules are kept, or one is the first that is broken
 pub kept_or_broken : RulesAreKeptOrBroken
 kept_or_broken d = kept_or_first (rules_of d)
-    (decided_all (themes_for (unwrap_or (units_of d) 0) d) (root_known d, (task_known d, (table_known (unwrap_or (units_of d) 0) (table_value d), tt))))
+    (decided_all (themes_for (unwrap_or (units_of d) 0) d) (root_known d, (sensor_known (sensor_value d), (task_known d, (table_known (unwrap_or (units_of d) 0) (table_value d), (fault_known (fault_value d), tt))))))

@@ -3,11 +3,14 @@ use Rattle.std.proofs.Common.{◌≡◌, inl, inr, ℕ, List, [], ◌∷◌, len
 use Rattle.std.specs.Prelude.{codes, option_and_then}
 use Rattle.toml.specs.Data.{Data, Items, Members, string, integer, float, boolean, datetime, array, table, as_str, get_member}
 use Rattle.sift_base.specs.Name.{HasNameForm, IsName, IsNameByte, keywords}
+use Rattle.std.specs.List.{All}
 use Rattle.std.specs.Str.{byte}
 use Rattle.sift_scenario.proofs.Decided.{Decided, among, at_most, both, each, either, negated, nothing, same_number, same_option, same_text, same_value}
 use Rattle.sift_scenario.proofs.ReadEntries.{array_between-long}
 use Rattle.sift_base.specs.Layout.{least_units}
-use Rattle.sift_scenario.specs.Document.{HasOnlyKeys, IsArrayOf, IsTableOf, keys_of, list_of, members_of, read_at, word_array, word_value}
+use Rattle.sift_scenario.specs.Document.{HasOnlyKeys, IsArrayOf, IsTableOf, entries_of, keys_of, list_of, members_of, read_at, word_array, word_value}
+use Rattle.sift_scenario.specs.Fault.{IsSaying, item_limit, say_value}
+use Rattle.sift_scenario.specs.Item.{item_keys}
 use Rattle.sift_scenario.specs.Table.{IsTableEntry, size_of, table_keys}
 use Rattle.sift_scenario.specs.Task.{Form, HasForm, IsLinear, IsNewName, IsText, linear, name_of, task_outputs, text}
 
@@ -53,6 +56,20 @@ known_entry place entry = elim (both (known_table table_keys entry) (same_value 
   | inl h ↦ inl (record { known = h.0; sized = h.1 })
   | inr other ↦ inr (λ h. other (h.known, h.sized))
 ]
+
+-- a fault has items as it may, or not
+saying_by : (fault : Members) (o : Option Data) → say_value fault ≡ o → Decided (IsSaying fault)
+saying_by fault None is = inr (λ h. let there = sym is ∙ h.there in cc)
+saying_by fault (Some value) is =
+    elim (both (known_array 1 item_limit value) (each (IsTableOf item_keys) (known_table item_keys) (entries_of (Some value)))) [
+      | inl h ↦ inl (record { value = value; there = is; few = h.0; known = h.1 })
+      | inr other ↦ inr (λ h. let there : Some value ≡ Some h.value = sym is ∙ h.there in
+          let one : h.value ≡ value = cc there in
+          other (subst (IsArrayOf 1 item_limit) one h.few, subst (λ (v : Data). All (IsTableOf item_keys) (entries_of (Some v))) one h.known))
+    ]
+
+pub known_saying : (fault : Members) → Decided (IsSaying fault)
+known_saying fault = saying_by fault (say_value fault) refl
 
 -- ---- names
 

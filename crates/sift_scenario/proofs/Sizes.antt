@@ -5,10 +5,10 @@ use Rattle.std.proofs.lemmas.List.FromFn.{get_or-range_with_len, length-range_wi
 use Rattle.std.proofs.lemmas.Option.{slice_get-get_or}
 use Rattle.std.specs.List.{range_with_len, slice_get}
 use Rattle.std.specs.Prelude.{unwrap_or}
-use Rattle.toml.specs.Data.{Data, Items, as_array, boolean, no_members}
+use Rattle.toml.specs.Data.{Data, boolean, no_members}
 use Rattle.sift_base.specs.Layout.{least_units}
 use Rattle.sift_table.specs.Schedule.{Schedule, plain_of}
-use Rattle.sift_scenario.proofs.DocumentLemmas.{array_from}
+use Rattle.sift_scenario.proofs.DocumentLemmas.{array_entries}
 use Rattle.sift_scenario.proofs.Decided.{stable}
 use Rattle.sift_scenario.proofs.Known.{known_array, known_entry}
 use Rattle.sift_scenario.specs.Document.{IsArrayOf, entries_of, list_of, members_of}
@@ -23,10 +23,6 @@ pub record IsSized (period size : ℕ) (table : Schedule) : Type 0 where
 -- the schedule at a place of a list, or an empty one past its end
 abbrev pub schedule_at : List Schedule → ℕ → Schedule
 schedule_at tables i = get_or tables i (record { size = 0; period = 0; run = []; poll = []; at = [] })
-
--- the entries of an array are those of its items
-array_entries : (value : Data) (items : Items) → as_array value ≡ Some items → entries_of (Some value) ≡ list_of items
-array_entries value items there = rw (array_from value items (sym there)) refl
 
 module _ (units period tasks : ℕ) where
   -- ---- plain ones

@@ -1,5 +1,5 @@
 -- The start words of tasks, as they are read and as the tables state them.
-use Rattle.std.proofs.Common.{◌≡◌, ℕ, List, [], length, map, Some, sym, ap, ◌∙◌}
+use Rattle.std.proofs.Common.{◌≡◌, ℕ, List, [], length, map, Option, Some, sym, ap, ◌∙◌}
 use Rattle.std.proofs.lemmas.List.{length-map}
 use Rattle.std.proofs.lemmas.List.Folds.{flat_map-map}
 use Rattle.std.proofs.lemmas.List.Concat.{length-flat_map}
@@ -47,3 +47,12 @@ names_from bytes tasks names named =
 -- there are as many start words as output words
 pub starts_long : (tasks : List Members) → length (all_starts tasks) ≡ sum (counts_of tasks)
 starts_long tasks = length-flat_map (λ task. unwrap_or (start_words task) []) tasks ∙ sym (sum-map task_outputs tasks)
+
+-- what was read of each entry is what they state
+pub unwrapped :
+    {C X : Type 0} (shown : C → X) (read : Members → Option X) (missing : X) (entries : List Members) (held : List C)
+    → map (λ h. Some (shown h)) held ≡ map read entries → map shown held ≡ map (λ entry. unwrap_or (read entry) missing) entries
+unwrapped shown read missing entries held so =
+    map_map (λ o. unwrap_or o missing) (λ h. Some (shown h)) held
+    ∙ ap (map (λ o. unwrap_or o missing)) so
+    ∙ sym (map_map (λ o. unwrap_or o missing) read entries)

@@ -1,8 +1,107 @@
--- What is said of faults: no unit fails.
-use Rattle.std.specs.Prelude.{List, []}
-use Rattle.toml.specs.Data.{Members}
-use Rattle.sift_script.specs.Script.{Fault}
+-- What the tables of `fault` say, and their rules, one predicate a rule.
+use Rattle.std.specs.Prelude.{codes, ℕ, ◌≡◌, ◌-◌, ◌⊎◌, List, [], ◌∷◌, map, Option, Some, None, option_and_then, option_map, unwrap_or}
+use Rattle.std.specs.List.{All}
+use Rattle.toml.specs.Data.{Data, Members, get_member}
+use Rattle.sift_base.specs.Units.{unit_limit}
+use Rattle.sift_script.specs.Script.{Change, Fault, changing}
+use Rattle.sift_unit.specs.PartsFit.{frame_limit}
+use Rattle.sift_scenario.specs.Document.{IsArrayOf, IsTableOf, each_read, entries_of, integer_between, members_of, read_at}
+use Rattle.sift_scenario.specs.Entries.{HoldsOf}
+use Rattle.sift_scenario.specs.Item.{change_in, item_keys}
+use Rattle.sift_scenario.specs.Rules.{BreaksEntries, Rule, rule}
 
--- the faults of the units
+-- ---- what they say
+
+-- the most faults
+abbrev pub fault_limit : ℕ
+fault_limit = 16
+
+-- the most items of a fault
+abbrev pub item_limit : ℕ
+item_limit = 64
+
+-- the keys that a fault may have
+abbrev pub fault_keys : List (List ℕ)
+fault_keys = codes "unit" ∷ codes "from" ∷ codes "say" ∷ []
+
+-- the value of `fault`, where it is there
+abbrev pub fault_value : Members → Option Data
+fault_value document = get_member (codes "fault") document
+
+-- the faults in the value of `fault`; there are none where it is missing
+abbrev pub faults_in : Option Data → List Members
+faults_in value = map members_of (entries_of value)
+
+-- the unit that fails, and the first frame in which it is faulty
+abbrev pub unit_of : Members → Option ℕ
+unit_of fault = read_at (integer_between 0 (unit_limit - 1)) (codes "unit") fault
+
+abbrev pub from_of : Members → Option ℕ
+from_of fault = read_at (integer_between 0 (frame_limit - 1)) (codes "from") fault
+
+-- the value of `say`, where it is there
+abbrev pub say_value : Members → Option Data
+say_value fault = get_member (codes "say") fault
+
+-- the items of a fault
+abbrev pub items_of : Members → List Members
+items_of fault = map members_of (entries_of (say_value fault))
+
+-- the changes that the items of a fault state
+abbrev pub changes_of : Members → Option (List Change)
+changes_of fault = each_read change_in (items_of fault)
+
+-- ---- their rules
+
+-- the entry is a table with known keys, wherever it stands
+abbrev pub IsFaultEntry : (place : ℕ) → Data → Type 0
+IsFaultEntry place entry = IsTableOf fault_keys entry
+
+-- `fault` is there, and is no array of at most 16 entries, or has an entry that is no table or has an unknown key
+abbrev pub BreaksFaults : Option Data → ℕ → Type 0
+BreaksFaults value place = BreaksEntries 0 fault_limit IsFaultEntry value place
+
+-- `unit` of the fault is missing or is no integer from 0 to 7, or its `from` is missing or is no integer from 0 to 999
+abbrev pub IsHeadless : Members → Type 0
+IsHeadless fault = (unit_of fault ≡ None) ⊎ (from_of fault ≡ None)
+
+-- a fault doesn't say which unit fails, and from when on
+abbrev pub BreaksHeads : List Members → ℕ → Type 0
+BreaksHeads faults place = HoldsOf faults place IsHeadless
+
+-- `say` of the fault is there: an array of 1 to 64 tables with known keys
+pub record IsSaying (fault : Members) : Type 0 where
+  pub value : Data
+  pub there : say_value fault ≡ Some value
+  pub few : IsArrayOf 1 item_limit value
+  pub known : All (IsTableOf item_keys) (entries_of (Some value))
+
+-- a fault's `say` isn't so
+abbrev pub BreaksSays : List Members → ℕ → Type 0
+BreaksSays faults place = HoldsOf faults place (λ fault. ¬ IsSaying fault)
+
+-- an item of a fault states no change
+abbrev pub BreaksItems : List Members → ℕ → Type 0
+BreaksItems faults place = HoldsOf faults place (λ fault. changes_of fault ≡ None)
+
+-- the rules of each fault, where these are the tables of all
+abbrev pub each_fault_rules : List Members → List Rule
+each_fault_rules faults = rule 27 (BreaksHeads faults) ∷ rule 28 (BreaksSays faults) ∷ rule 29 (BreaksItems faults) ∷ []
+
+-- the rules of the faults in the value of `fault`
+abbrev pub fault_rules : Option Data → List Rule
+fault_rules value = rule 26 (BreaksFaults value) ∷ each_fault_rules (faults_in value)
+
+-- ---- the faults
+
+-- the fault that a table states
+abbrev pub fault_in : Members → Fault
+fault_in fault = record {
+  unit = unwrap_or (unit_of fault) 0;
+  from = unwrap_or (from_of fault) 0;
+  plan = changing (unwrap_or (changes_of fault) []);
+}
+
+-- the faults of a document
 abbrev pub faults_of : Members → List Fault
-faults_of document = []
+faults_of document = map fault_in (faults_in (fault_value document))

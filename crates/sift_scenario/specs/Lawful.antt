@@ -1,14 +1,22 @@
 -- The rules of a document, in the order of their numbers.
 use Rattle.std.specs.Prelude.{ℕ, List, [], ◌∷◌, unwrap_or}
 use Rattle.toml.specs.Data.{Members}
+use Rattle.sift_scenario.specs.Fault.{fault_rules, fault_value}
 use Rattle.sift_scenario.specs.Root.{root_rules, units_of}
 use Rattle.sift_scenario.specs.Rules.{AreKept, BreaksFirst, Rule, joined}
+use Rattle.sift_scenario.specs.Sensor.{sensor_rules, sensor_value}
 use Rattle.sift_scenario.specs.Table.{table_rules, table_value}
 use Rattle.sift_scenario.specs.TaskRules.{task_rules}
 
 -- the rules of a document of so many units, by what they speak of
 abbrev pub themes_for : (units : ℕ) → Members → List (List Rule)
-themes_for units document = root_rules document ∷ task_rules document ∷ table_rules units (table_value document) ∷ []
+themes_for units document =
+    root_rules document
+    ∷ sensor_rules (sensor_value document)
+    ∷ task_rules document
+    ∷ table_rules units (table_value document)
+    ∷ fault_rules (fault_value document)
+    ∷ []
 
 -- all rules of a document
 abbrev pub rules_of : Members → List Rule

@@ -2,6 +2,7 @@ pub mod Clock
 pub mod Document
 pub mod Entries
 pub mod Fault
+pub mod Item
 pub mod Lawful
 pub mod Laws
 pub mod Mission

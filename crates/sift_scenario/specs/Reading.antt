@@ -1,5 +1,5 @@
 -- What is read of a document, and what is made of it. No public clause cites this module.
-use Rattle.std.specs.Prelude.{◌≡◌, ◌⊎◌, List, Some, None, length, map}
+use Rattle.std.specs.Prelude.{◌≡◌, ◌⊎◌, List, [], Some, None, length, map, unwrap_or}
 use Rattle.toml.specs.Data.{Members}
 use Rattle.sift_compile.specs.Tasks.{AreCodesOf}
 use Rattle.sift_program.specs.Program.{program_of}
@@ -13,12 +13,14 @@ use Rattle.sift_scenario.specs.declared.sensor.Sensors.{Sensors}
 use Rattle.sift_scenario.specs.declared.task.Tasks.{Tasks}
 use Rattle.sift_scenario.specs.Clock.{clocks_of}
 use Rattle.sift_scenario.specs.Fault as fault
+use Rattle.sift_scenario.specs.Fault.{from_of, items_of, unit_of}
+use Rattle.sift_scenario.specs.declared.fault.Head.{Head}
 use Rattle.sift_scenario.specs.Lawful.{IsLawful}
 use Rattle.sift_scenario.specs.Program.{IsProgramOf}
 use Rattle.sift_scenario.specs.Root.{frames_of, period_of, units_of}
-use Rattle.sift_scenario.specs.Sensor.{sensor_names, sensor_words}
+use Rattle.sift_scenario.specs.Sensor.{sensor_names, sensor_value, sensors_in, words_of}
 use Rattle.sift_scenario.specs.Table.{IsTimeless, positions_of, schedules_of, size_of}
-use Rattle.sift_scenario.specs.Task.{AreForms, name_of, start_words, tasks_of}
+use Rattle.sift_scenario.specs.Task.{AreForms, name_of, names_of, start_words, tasks_of}
 use Rattle.sift_scenario.specs.TaskRules.{IsTaskNumber}
 use Rattle.sift_scenario.specs.Testing.{form_of}
 
@@ -33,10 +35,20 @@ pub record AreTasksRead (tables : List Members) (tasks : Tasks) : Type 0 where
 abbrev pub AreTasksOf : Members → Tasks → Type 0
 AreTasksOf document tasks = AreTasksRead (tasks_of document) tasks
 
+-- these are the names and the words of the sensors in these tables
+pub record AreSensorsIn (tables : List Members) (sensors : Sensors) : Type 0 where
+  pub names : map (λ name. name.bytes) sensors.names.items ≡ names_of tables
+  pub words : map (λ words. words.items) sensors.words.items ≡ map (λ sensor. unwrap_or (words_of sensor) []) tables
+
 -- these are the names and the words of a document's sensors
-pub record AreSensorsOf (document : Members) (sensors : Sensors) : Type 0 where
-  pub names : map (λ name. name.bytes) sensors.names.items ≡ sensor_names document
-  pub words : map (λ words. words.items) sensors.words.items ≡ sensor_words document
+abbrev pub AreSensorsOf : Members → Sensors → Type 0
+AreSensorsOf document sensors = AreSensorsIn (sensors_in (sensor_value document)) sensors
+
+-- these are the heads and the items of the faults in these tables
+pub record AreFaultsRead (faults : List Members) (heads : List Head) (said : List (List Members)) : Type 0 where
+  pub units : map (λ head. Some head.unit) heads ≡ map unit_of faults
+  pub from : map (λ head. Some head.from) heads ≡ map from_of faults
+  pub items : said ≡ map items_of faults
 
 -- a part of the table isn't read
 abbrev pub IsPartial : Members → Type 0

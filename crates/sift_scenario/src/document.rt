@@ -10,9 +10,10 @@ ghost use Rattle.sift_scenario.specs.Root.{plain_period};
 ghost use Rattle.sift_scenario.specs.Testing.{RefusesFirst};
 
 use crate::clock::plain_plan;
+use crate::fault::script_of;
 use crate::refused::Refused;
 use crate::root::root_of;
-use crate::sensor::{Sensors, no_sensors};
+use crate::sensor::{Sensors, sensors_of};
 use crate::table::tables_of;
 use crate::task::{Tasks, tasks_of};
 use sift_script::Script;
@@ -41,21 +42,21 @@ pub(crate) fn entries_of(alloc: Global, document: &toml::Table) -> Result<Entrie
     ensures refused { IfErr result (RefusesFirst (rules_of (table_view document.now))) }
 {
     let root = root_of(document)?;
+    let sensors = sensors_of(alloc, document)?;
     let tasks = tasks_of(alloc, document)?;
     let count = tasks.forms.len() as u8;
     let period = period_of(root.subframes, count);
     let tables = tables_of(alloc, document, root.units, period, count)?;
+    let script = script_of(alloc, document)?;
     Ok(Entries {
         units: root.units,
         frames: root.frames,
         period,
         clock: plain_plan(root.units),
-        sensors: no_sensors(alloc),
+        sensors,
         tasks,
         tables,
-        script: Script {
-            entries: Vec::new(alloc),
-        },
+        script,
     })
 }
 

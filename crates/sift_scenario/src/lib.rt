@@ -9,6 +9,8 @@ mod checked;
 mod clock;
 mod document;
 mod entries;
+mod fault;
+mod item;
 mod law;
 mod mission;
 mod program;

@@ -44,7 +44,16 @@ fn check_keys(document: &Table) -> Result<(), Refused>
 {
     if has_only_keys(
         document,
-        &["version", "units", "frames", "subframes", "task", "table"],
+        &[
+            "version",
+            "units",
+            "frames",
+            "subframes",
+            "sensor",
+            "task",
+            "table",
+            "fault",
+        ],
     ) {
         Ok(())
     } else {

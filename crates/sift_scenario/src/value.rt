@@ -111,7 +111,7 @@ pub(crate) fn optional_between(table: &Table, key: &str, low: u32, high: u32) ->
 }
 
 /// The word of a word value.
-fn word_value(value: &Value) -> Option<Word>
+pub(crate) fn word_value(value: &Value) -> Option<Word>
     ensures { result ≡ word_value (view value.now) }
 {
     let number = value.as_integer()?;

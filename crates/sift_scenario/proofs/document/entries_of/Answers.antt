@@ -1,7 +1,6 @@
 use Rattle.std.proofs.Common.{◌≡◌, ℕ, List, Some, Err, rules, length, map, refl, sym, ap, subst, ◌∙◌, arith}
 use Rattle.std.specs.Prelude.{codes, unwrap_or}
 use Rattle.std.proofs.lemmas.List.{length-map}
-use Rattle.sift_script.specs.Script.{fault_of}
 use Rattle.sift_scenario.specs.Document.{members_of}
 use Rattle.toml.specs.Data.{get_member}
 use Rattle.toml.specs.View.{table_view}
@@ -24,12 +23,19 @@ returns-in_err-root-clause-refused c =
     let same : c.from_residual.result ≡ Err c.in_err-root.field-0.0 = search rules in
     rw same (root_refused (table_view c.args.document.now) c.in_err-root.field-0.0 c.in_err-root.ensures.tests)
 
+-- a rule of the sensors is
+pub returns-in_err-sensors-clause-refused : goal.returns-in_err-sensors-clause-refused
+returns-in_err-sensors-clause-refused c =
+    let same : c.from_residual-in_err-sensors.result ≡ Err c.in_err-sensors.field-0.0 = search rules in
+    rw same (theme_refused (table_view c.args.document.now) c.in_ok-root.root.units c.in_ok-root.ensures.units 1 c.in_err-sensors.field-0.0
+    (c.in_ok-root.ensures.tests, c.in_err-sensors.ensures.tests))
+
 -- a rule of the tasks is
 pub returns-in_err-tasks-clause-refused : goal.returns-in_err-tasks-clause-refused
 returns-in_err-tasks-clause-refused c =
     let same : c.from_residual-in_err-tasks.result ≡ Err c.in_err-tasks.field-0.0 = search rules in
-    rw same (theme_refused (table_view c.args.document.now) c.in_ok-root.root.units c.in_ok-root.ensures.units 1 c.in_err-tasks.field-0.0
-    (c.in_ok-root.ensures.tests, c.in_err-tasks.ensures.tests))
+    rw same (theme_refused (table_view c.args.document.now) c.in_ok-root.root.units c.in_ok-root.ensures.units 2 c.in_err-tasks.field-0.0
+    (c.in_ok-root.ensures.tests, (c.in_ok-sensors.ensures.tests, c.in_err-tasks.ensures.tests)))
 
 -- there are as many tasks as entries
 pub overflow_cast-count : goal.overflow_cast-count
@@ -63,8 +69,15 @@ tables_of-requires-clause-few_tasks c =
 pub returns-in_err-tables-clause-refused : goal.returns-in_err-tables-clause-refused
 returns-in_err-tables-clause-refused c =
     let same : c.from_residual-in_err-tables.result ≡ Err c.in_err-tables.field-0.0 = search rules in
-    rw same (theme_refused (table_view c.args.document.now) c.in_ok-root.root.units c.in_ok-root.ensures.units 2 c.in_err-tables.field-0.0
-    (c.in_ok-root.ensures.tests, (c.in_ok-tasks.ensures.tests, c.in_err-tables.ensures.tests)))
+    rw same (theme_refused (table_view c.args.document.now) c.in_ok-root.root.units c.in_ok-root.ensures.units 3 c.in_err-tables.field-0.0
+    (c.in_ok-root.ensures.tests, (c.in_ok-sensors.ensures.tests, (c.in_ok-tasks.ensures.tests, c.in_err-tables.ensures.tests))))
+
+-- a rule of the faults is broken
+pub returns-in_err-script-clause-refused : goal.returns-in_err-script-clause-refused
+returns-in_err-script-clause-refused c =
+    let same : c.from_residual-in_err-script.result ≡ Err c.in_err-script.field-0.0 = search rules in
+    rw same (theme_refused (table_view c.args.document.now) c.in_ok-root.root.units c.in_ok-root.ensures.units 4 c.in_err-script.field-0.0
+    (c.in_ok-root.ensures.tests, (c.in_ok-sensors.ensures.tests, (c.in_ok-tasks.ensures.tests, (c.in_ok-tables.ensures.tests, c.in_err-script.ensures.tests)))))
 
 -- no rule is broken
 pub returns-clause-read : goal.returns-clause-read
@@ -74,14 +87,14 @@ returns-clause-read c =
     let plain : plain_period c.len-count.result ≡ plain_period (length (task_entries document)) = ap plain_period count in
     record {
       lawful = themes_kept document c.in_ok-root.root.units c.in_ok-root.ensures.units
-          (c.in_ok-root.ensures.tests, (c.in_ok-tasks.ensures.tests, (c.in_ok-tables.ensures.tests, tt)));
+          (c.in_ok-root.ensures.tests, (c.in_ok-sensors.ensures.tests, (c.in_ok-tasks.ensures.tests, (c.in_ok-tables.ensures.tests, (c.in_ok-script.ensures.tests, tt)))));
       units = c.in_ok-root.ensures.units;
       frames = c.in_ok-root.ensures.frames;
       period = c.in_ok-root.ensures.subframes (plain_period (length (task_entries document)))
           ∙ ap (λ n. Some (unwrap_or c.in_ok-root.root.subframes n)) (sym plain) ∙ ap (λ n. Some n) (sym c.period_of-period.ensures);
       clock = c.plain_plan.ensures;
-      sensors = record { names = ap (map (λ name. name.bytes)) c.no_sensors.ensures.names; words = ap (map (λ words. words.items)) c.no_sensors.ensures.words };
+      sensors = c.in_ok-sensors.ensures.read;
       tasks = c.in_ok-tasks.ensures.read;
       tables = c.in_ok-tables.ensures.read ∙ ap (λ n. schedules_by (table_value document) c.in_ok-root.root.units c.period_of-period.result n) count;
-      faults = ap (map fault_of) c.new.ensures.items;
+      faults = c.in_ok-script.ensures.read;
     }

@@ -1,0 +1,31 @@
+use Rattle.std.proofs.Common.{◌≡◌, ◌≤◌, Err, rules, length, map, sym, ap, ◌∙◌, arith}
+use Rattle.std.proofs.lemmas.List.{length-map}
+use Rattle.toml.specs.View.{table_view, view}
+use Rattle.sift_scenario.proofs.EntryTests.{refused_whole, tested}
+use Rattle.sift_scenario.proofs.Order.{ok_from}
+use Rattle.sift_scenario.proofs.Places.{map_map}
+use Rattle.sift_scenario.specs.Document.{members_of}
+use Rattle.sift_scenario.specs.Fault.{IsFaultEntry, fault_limit}
+use Rattle.sift_scenario.proofs.fault.fault_tables.Goals as goal
+
+-- `fault` is no array of so few entries
+pub returns-in_err-entries-clause-tests : goal.returns-in_err-entries-clause-tests
+returns-in_err-entries-clause-tests c =
+    let same : c.from_residual.result ≡ Err c.in_err-entries.field-0.0 = search rules in
+    rw same (refused_whole 26 0 fault_limit IsFaultEntry (view c.args.value.now) _ c.in_err-entries.ensures.wrong)
+
+pub returns-clause-tables : goal.returns-clause-tables
+returns-clause-tables c =
+    ok_from _ _ c.tables_in.result (λ tables so. so ∙ map_map members_of view c.in_ok-entries.entries.now ∙ ap (map members_of) c.in_ok-entries.ensures.entries) c.tables_in.ensures.tables
+
+pub returns-clause-few : goal.returns-clause-few
+returns-clause-few c =
+    ok_from _ _ c.tables_in.result (λ tables so.
+    let long : length tables.items ≡ length c.in_ok-entries.entries.now =
+    sym (length-map tables.items (λ table. table_view table.now)) ∙ ap length so ∙ length-map c.in_ok-entries.entries.now (λ entry. members_of (view entry)) in
+    omega (arith, long, c.in_ok-entries.ensures.few)) c.tables_in.ensures.tables
+
+pub returns-clause-tests : goal.returns-clause-tests
+returns-clause-tests c =
+    tested 26 0 fault_limit IsFaultEntry (view c.args.value.now) _ c.in_ok-entries.ensures.entries
+    c.in_ok-entries.ensures.right c.tables_in.result c.tables_in.ensures.tests

@@ -1,0 +1,10 @@
+use Rattle.std.proofs.Common.{◌≡◌, ◌<◌, ℕ, Some, map, take}
+use Rattle.toml.specs.View.{table_view}
+use Rattle.sift_scenario.specs.Sensor.{BreaksSensed, words_of}
+use Rattle.sift_scenario.proofs.sensor.sensed_words.Given as goal
+
+-- the words of the sensors so far, none of which breaks the rule
+abbrev pub invariant-loop-place : goal.invariant-loop-place
+invariant-loop-place l =
+    (map (λ list. Some list.items) l.words.items ≡ take l.place (map (λ sensor. words_of (table_view sensor.now)) l.tables))
+    × ((at : ℕ) → at < l.place → ¬ BreaksSensed (map (λ sensor. table_view sensor.now) l.tables) at)

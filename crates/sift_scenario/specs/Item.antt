@@ -1,0 +1,91 @@
+-- What an item of `say` states: how a faulty unit's words in a slot are changed.
+use Rattle.std.specs.Prelude.{codes, ℕ, List, [], ◌∷◌, Bool, true, false, Option, Some, None, option_and_then, option_map, if◌then◌else◌}
+use Rattle.std.specs.Str.{bytes_eq}
+use Rattle.toml.specs.Data.{Data, Members, as_str, get_member}
+use Rattle.sift_script.specs.Script.{Change}
+use Rattle.sift_script.specs.declared.script.SlotKind.{SlotKind}
+use Rattle.sift_script.specs.declared.script.SlotKind.TheVariants.{Clock, Sense, Relay, Out, Report, RelayReport}
+use Rattle.sift_scenario.specs.Document.{digits_of, integer_between, read_at, read_or, word_value}
+
+-- the keys that an item may have
+abbrev pub item_keys : List (List ℕ)
+item_keys = codes "slot" ∷ codes "index" ∷ codes "word" ∷ codes "to" ∷ codes "frame" ∷ codes "value" ∷ []
+
+-- the highest number of a sensor, a task, a unit or a word that may be stated
+abbrev pub highest_index : ℕ
+highest_index = 63
+
+-- the highest number of a frame that may be stated
+abbrev pub highest_frame : ℕ
+highest_frame = 999
+
+-- the kind of slot of a name
+abbrev pub kind_named : List ℕ → Option SlotKind
+kind_named name =
+    if bytes_eq name (codes "clock") then Some Clock
+    else if bytes_eq name (codes "sense") then Some Sense
+    else if bytes_eq name (codes "relay") then Some Relay
+    else if bytes_eq name (codes "out") then Some Out
+    else if bytes_eq name (codes "report") then Some Report
+    else if bytes_eq name (codes "relay-report") then Some RelayReport
+    else None
+
+-- the kind of slot that an item is about
+abbrev pub kind_of : Members → Option SlotKind
+kind_of item = option_and_then kind_named (read_at as_str (codes "slot") item)
+
+-- whether slots of a kind have an index: the sensor, the task, or the unit whose report is relayed
+abbrev pub has_index : SlotKind → Bool
+has_index Clock = false
+has_index Sense = true
+has_index Relay = true
+has_index Out = true
+has_index Report = false
+has_index RelayReport = true
+
+-- whether slots of a kind have a word
+abbrev pub has_word : SlotKind → Bool
+has_word Clock = false
+has_word Sense = false
+has_word Relay = false
+has_word Out = true
+has_word Report = false
+has_word RelayReport = false
+
+-- 0 where no value is
+abbrev pub zero_without : Option Data → Option ℕ
+zero_without None = Some 0
+zero_without (Some value) = None
+
+-- the number at a key, which is there just where it is wanted; 0 where it isn't
+abbrev pub number_where : Bool → List ℕ → Members → Option ℕ
+number_where true key item = read_at (integer_between 0 highest_index) key item
+number_where false key item = zero_without (get_member key item)
+
+-- the receivers of an item
+abbrev pub receivers_of : Members → Option (List ℕ)
+receivers_of item = read_at digits_of (codes "to") item
+
+-- the frame that an item is about, or none where no frame is stated
+abbrev pub frame_of : Members → Option (Option ℕ)
+frame_of item = read_or None (λ value. option_map (λ n. Some n) (integer_between 0 highest_frame value)) (codes "frame") item
+
+-- the word that an item has said, or absence where no value is stated
+abbrev pub said_of : Members → Option (Option ℕ)
+said_of item = read_or None (λ value. option_map (λ w. Some w) (word_value value)) (codes "value") item
+
+-- a change in a slot of a kind, where all of it is stated
+abbrev pub change_from : SlotKind → (index word : Option ℕ) → (to : Option (List ℕ)) → (frame value : Option (Option ℕ)) → Option Change
+change_from kind (Some index) (Some word) (Some to) (Some frame) (Some value) =
+    Some (record { kind = kind; index = index; word = word; to = to; frame = frame; value = value })
+change_from kind _ _ _ _ _ = None
+
+-- the change that an item of a kind states
+abbrev pub change_by : Members → SlotKind → Option Change
+change_by item kind =
+    change_from kind (number_where (has_index kind) (codes "index") item) (number_where (has_word kind) (codes "word") item)
+    (receivers_of item) (frame_of item) (said_of item)
+
+-- the change that an item states
+abbrev pub change_in : Members → Option Change
+change_in item = option_and_then (change_by item) (kind_of item)
