@@ -16,7 +16,8 @@ use Rattle.sift_unit.specs.declared.stepped.Stepped.{Stepped}
 use Rattle.sift_unit.specs.declared.stepped.Stepped.TheVariants.{Moved, NotYet, Landed}
 use Rattle.sift_unit.proofs.Skipping.{subframe_going}
 use Rattle.sift_unit.proofs.Starting.{end_is}
-use Rattle.sift_unit.proofs.Ending.{AtFrameEnd, frame_going}
+use Rattle.sift_unit.proofs.Ending.{frame_going}
+use Rattle.sift_unit.proofs.Found.{AtFrameEnd}
 use Rattle.sift_unit.proofs.Standing.{next_mul, frame_low}
 
 module _ (m : Mission) (fit : Fits m) (b : Desk) (end : is_end m b ≡ true) where

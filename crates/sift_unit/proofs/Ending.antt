@@ -1,51 +1,29 @@
 -- A board ends a frame and begins the next.
-use Rattle.std.proofs.Common.{◌≡◌, inl, inr, ℕ, ◌+◌, ◌<◌, ◌≤◌, ◌++◌, List, [], ◌∷◌, length, true, false, refl, sym, ap, ◌∙◌, subst, arith, length-append}
+use Rattle.std.proofs.Common.{◌≡◌, ℕ, ◌+◌, ◌<◌, ◌++◌, List, [], ◌∷◌, length, true, false, refl, sym, ap, ◌∙◌, subst, arith, length-append}
 use Rattle.std.specs.Prelude.{slice_index_or}
-use Rattle.std.proofs.lemmas.Bool.{cases_Bool}
 use Rattle.std.proofs.lemmas.List.{get_or_append_left}
 use mathlib.Core.Logic.{dite}
 use native.Mathlib.Decide.{ℕ_discrete}
 use Rattle.sift_base.specs.Units.{has}
-use Rattle.sift_base.specs.declared.slot.Slot.{Slot}
-use Rattle.sift_base.specs.declared.slot.Slot.TheVariants.{Clock}
 use Rattle.sift_skew.specs.Leading.{OffsetsChangeLittle}
 use Rattle.sift_buffer.specs.Conduct.{with_entered}
 use Rattle.sift_buffer.specs.Conduct.{Conduct as Acts}
 use Rattle.sift_unit.specs.Mission.{Mission}
-use Rattle.sift_unit.specs.Slots.{is_slot}
 use Rattle.sift_unit.specs.Account.{Account}
 use Rattle.sift_unit.specs.Frames.{last_of, BusyConduct}
-use Rattle.sift_unit.specs.Acts.{IsConfigOf, heard_places}
-use Rattle.sift_unit.specs.Conduct.{reading_by}
+use Rattle.sift_unit.specs.Acts.{IsConfigOf}
 use Rattle.sift_unit.specs.Reach.{IsNearIn}
 use Rattle.sift_unit.specs.Fits.{Fits}
 use Rattle.sift_unit.specs.Memory.{Memory}
-use Rattle.sift_unit.specs.Tidings.{names_now}
 use Rattle.sift_unit.specs.Remembered.{IsShaped}
-use Rattle.sift_unit.specs.Desk.{Desk, cursor, heard_mark, account_now, accounts_of, ended_desk}
+use Rattle.sift_unit.specs.Desk.{Desk, cursor, account_now, ended_desk}
 use Rattle.sift_unit.specs.Going.{Accounts, Words, Agrees, Fate, Meets, Ended, InRange, Going}
-use Rattle.sift_unit.proofs.Calls.{next_is_config}
-use Rattle.sift_unit.proofs.Nearness.{near_still, next_near}
-use Rattle.sift_unit.proofs.Tests.{not_both}
+use Rattle.sift_unit.proofs.Found.{AtFrameEnd, all, finds_near, next_config_is, votes_all}
 use Rattle.sift_unit.proofs.Conducts.{busy_is, idle_is}
 use Rattle.sift_unit.proofs.Acting.{small_of, acts_next}
-use Rattle.sift_unit.proofs.Standing.{stands, agrees_own, now_in, now_out, now_cfg, now_clk, next_mul, begins_next, last_next, pushed_at}
+use Rattle.sift_unit.proofs.Standing.{agrees_own, now_in, now_out, now_cfg, now_clk, next_mul, begins_next, last_next, pushed_at}
 
 module _ (m : Mission) (fit : Fits m) where
-  -- the next configuration is one of the mission
-  next_config_is : (b : Desk) → IsConfigOf m b.cfg → IsConfigOf m (account_now m b).next_cfg
-  next_config_is b config = elim (cases_Bool (has b.cfg b.unit)) [
-    | inl t ↦ subst (λ (z : Account). IsConfigOf m z.next_cfg) (sym (now_in m b t)) (next_is_config m (names_now m b.cfg b.unit b.memory) b.cfg config)
-    | inr t ↦ subst (λ (z : Account). IsConfigOf m z.next_cfg) (sym (now_out m b t)) config
-  ]
-
-  -- where a board stands at a frame's end
-  pub record AtFrameEnd (b : Desk) : Type 0 where
-    pub slot : b.slot ≡ m.slots
-    pub part : b.part ≡ 2
-    pub subframe : b.subframe + 1 ≡ m.period
-    pub frame : b.frame < m.frames
-
   module _ (b : Desk) (memory : Memory) (accounts : List Account) (shape : IsShaped m memory) (pushed : accounts ≡ b.accounts ++ account_now m b ∷ []) where
     -- the frame's account is the last
     there : InRange m b → (d : Account) → slice_index_or accounts b.frame d ≡ account_now m b
@@ -55,33 +33,10 @@ module _ (m : Mission) (fit : Fits m) where
     before : InRange m b → (f : ℕ) (d : Account) → f < b.frame → slice_index_or accounts f d ≡ slice_index_or b.accounts f d
     before r f d low = let count = r.count in rw pushed (get_or_append_left b.accounts (account_now m b ∷ []) d f (omega arith))
 
-    -- at its end all slots of the frame were heard
-    all : InRange m b → AtFrameEnd b → (k : Slot) → is_slot m k ≡ true → heard_mark m b.cfg k ≤ cursor b
-    all r at k slot =
-        let few = fit.numbered.few in let nk = fit.numbered.low k slot in let w = fit.timed.within b.cfg k r.config slot in let last = at.subframe in omega arith
-
-    -- the offset that it finds is near enough for the next frame
-    finds_near : OffsetsChangeLittle → (c : Acts) → Going m b c → AtFrameEnd b → IsNearIn (b.frame + 1) (account_now m b).next_clk
-    finds_near little c g at = elim (cases_Bool (has b.cfg b.unit)) [
-      | inl t ↦
-          let rm = (g.meets (accounts_of m b) (heard_places m c) (stands m b c g.range)).remembers t in
-          subst (λ (z : Account). IsNearIn (b.frame + 1) z.next_clk) (sym (now_in m b t))
-          (subst (λ z. IsNearIn (b.frame + 1) z) (sym (rm.heard Clock refl (all g.range at Clock refl)).1)
-          (next_near m fit little b.cfg (reading_by m b.unit b.clk (heard_places m c b.frame)) b.clk b.unit t g.range.unit b.frame g.range.clk))
-      | inr t ↦ subst (λ (z : Account). IsNearIn (b.frame + 1) z.next_clk) (sym (now_out m b t)) (near_still b.frame b.clk g.range.clk)
-    ]
-
-    -- a unit in the next configuration has voted a word for each output
-    votes_all : InRange m b → has (account_now m b).next_cfg b.unit ≡ true → length (account_now m b).outs ≡ m.words
-    votes_all r = elim (cases_Bool (has b.cfg b.unit)) [
-      | inl t ↦ λ member. subst (λ (z : Account). length z.outs ≡ m.words) (sym (now_in m b t)) r.shape.outs
-      | inr t ↦ λ member. absurd (not_both _ t (subst (λ (z : Account). has z.next_cfg b.unit ≡ true) (now_out m b t) member))
-    ]
-
     -- the board stays in range
-    ended_range : OffsetsChangeLittle → (c : Acts) → Going m b c → AtFrameEnd b → InRange m (ended_desk m b memory accounts)
+    ended_range : OffsetsChangeLittle → (c : Acts) → Going m b c → AtFrameEnd m fit b → InRange m (ended_desk m b memory accounts)
     ended_range little c g at =
-        let r = g.range in let long = fit.counted.period in let room = at.frame in let count = r.count in let next = finds_near little c g at in
+        let r = g.range in let long = fit.counted.period in let room = at.frame in let count = r.count in let next = finds_near m fit b little c g at in
         record {
           unit = r.unit;
           frame = omega arith;
@@ -90,7 +45,7 @@ module _ (m : Mission) (fit : Fits m) where
           slot = omega arith;
           other = omega arith;
           count = ap (λ xs. length xs) pushed ∙ length-append b.accounts (account_now m b ∷ []) ∙ (let z : length b.accounts + 1 ≡ b.frame + 1 = omega arith in z);
-          config = next_config_is b r.config;
+          config = next_config_is m fit b r.config;
           configs = λ f d low. dite (ℕ_discrete f b.frame)
               (λ e. rw (e, there r d) (subst (λ z. IsConfigOf m z) (sym (now_cfg m b)) r.config))
               (λ ne. rw (before r f d (omega arith)) (r.configs f d (omega arith)));
@@ -98,7 +53,7 @@ module _ (m : Mission) (fit : Fits m) where
           clocks = λ f d low. dite (ℕ_discrete f b.frame)
               (λ e. rw (e, there r d) (record { clk = subst (λ z. IsNearIn b.frame z) (sym (now_clk m b)) r.clk; next_clk = next }))
               (λ ne. rw (before r f d (omega arith)) (r.clocks f d (omega arith)));
-          last = votes_all r;
+          last = votes_all m fit b r;
           places = r.places;
           shape = shape;
         }
@@ -118,7 +73,7 @@ module _ (m : Mission) (fit : Fits m) where
     }
 
     -- the frame has ended
-    ended_is : (c : Acts) (a : Accounts) (h : Words) → InRange m b → AtFrameEnd b → Fate m b c a h → a b.frame ≡ account_now m b → Meets m b c a h → Ended m b.unit a h b.frame
+    ended_is : (c : Acts) (a : Accounts) (h : Words) → InRange m b → AtFrameEnd m fit b → Fate m b c a h → a b.frame ≡ account_now m b → Meets m b c a h → Ended m b.unit a h b.frame
     ended_is c a h r at fate is mt = record {
       begins = mt.begins;
       busy = λ t.
@@ -127,12 +82,12 @@ module _ (m : Mission) (fit : Fits m) where
           subst (λ z. BusyConduct m z b.unit b.frame (a b.frame) (h b.frame) (last_of m a b.frame)) (sym fate.cfg)
           (subst (λ z. BusyConduct m b.cfg b.unit b.frame (a b.frame) (h b.frame) z) mt.last
           (busy_is m b.cfg b.unit b.frame b.clk (a b.frame) (h b.frame) b.last r.config b.memory r.shape (is ∙ now_in m b t')
-          (λ k slot. rm.heard k slot (all r at k slot))));
+          (λ k slot. rm.heard k slot (all m fit b r at k slot))));
       idle = λ t. idle_is b.cfg b.clk (a b.frame) (is ∙ now_out m b (subst (λ z. has z b.unit ≡ false) fate.cfg t));
     }
 
     -- a board that ends a frame keeps what holds of it
-    pub frame_going : OffsetsChangeLittle → (c : Acts) → Going m b c → AtFrameEnd b → Going m (ended_desk m b memory accounts) (with_entered c)
+    pub frame_going : OffsetsChangeLittle → (c : Acts) → Going m b c → AtFrameEnd m fit b → Going m (ended_desk m b memory accounts) (with_entered c)
     frame_going little c g at =
         let r = g.range in let few = fit.numbered.few in let other = r.other in let low = at.subframe in let last = at.part in let end = at.slot in
         record {

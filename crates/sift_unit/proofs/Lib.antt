@@ -14,6 +14,7 @@ pub mod FitTasks
 pub mod Fitting
 pub mod Flown
 pub mod Flying
+pub mod Found
 pub mod HeardNew
 pub mod Hearing
 pub mod Held

@@ -62,16 +62,16 @@ module _ (m : Mission) (fit : Fits m) where
     ran = λ t k slot low'. let nk = few_tasks in omega arith;
   }
 
-  -- a board in range stays so at the next place of its slot
-  pub range_place : (b : Desk) (ps : List (Option ℕ)) → InRange m b → b.other < unit_limit → length ps ≡ unit_limit →
-      InRange m (moved b b.subframe b.part b.slot (b.other + 1) ps)
-  range_place b ps r here wide = record {
+  -- a board in range stays so at another place of its frame
+  pub range_at : (b : Desk) (i t k o : ℕ) (ps : List (Option ℕ)) → InRange m b → i < m.period → t ≤ 2 → k ≤ m.slots → o ≤ unit_limit →
+      length ps ≡ unit_limit → InRange m (moved b i t k o ps)
+  range_at b i t k o ps r inside part slot other wide = record {
     unit = r.unit;
     frame = r.frame;
-    subframe = r.subframe;
-    part = r.part;
-    slot = r.slot;
-    other = omega arith;
+    subframe = inside;
+    part = part;
+    slot = slot;
+    other = other;
     count = r.count;
     config = r.config;
     configs = r.configs;
@@ -81,6 +81,11 @@ module _ (m : Mission) (fit : Fits m) where
     places = wide;
     shape = r.shape;
   }
+
+  -- and at the next place of its slot
+  pub range_place : (b : Desk) (ps : List (Option ℕ)) → InRange m b → b.other < unit_limit → length ps ≡ unit_limit →
+      InRange m (moved b b.subframe b.part b.slot (b.other + 1) ps)
+  range_place b ps r here wide = range_at b b.subframe b.part b.slot (b.other + 1) ps r r.subframe r.part r.slot (omega arith) wide
 
   -- ---- places at which nothing is to be said or heard
 
@@ -96,22 +101,7 @@ module _ (m : Mission) (fit : Fits m) where
 
   -- it stays in range
   pub skip_range : (b : Desk) (i t k o : ℕ) → InRange m b → Skips b i t k o → InRange m (moved b i t k o b.places)
-  skip_range b i t k o r s = record {
-    unit = r.unit;
-    frame = r.frame;
-    subframe = s.subframe;
-    part = s.part;
-    slot = s.slot;
-    other = s.other;
-    count = r.count;
-    config = r.config;
-    configs = r.configs;
-    clk = r.clk;
-    clocks = r.clocks;
-    last = r.last;
-    places = r.places;
-    shape = r.shape;
-  }
+  skip_range b i t k o r s = range_at b i t k o b.places r s.subframe s.part s.slot s.other r.places
 
   -- a move within a slot is to the next unit, past one from which nothing is to be heard
   pub record NextPlace (b : Desk) (i t k o : ℕ) : Type 0 where

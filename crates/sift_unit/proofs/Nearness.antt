@@ -36,7 +36,8 @@ advanced next own mean drift is near change small = omega (arith, ints)
 pub advanced_fits : (next own : ℤ) → IsWithin offset_limit own (pos 0) → IsWithin (pos change_limit) next own → FitsSigned w64 next
 advanced_fits next own near change = omega (arith, ints)
 
-module _ (m : Mission) (fit : Fits m) (little : OffsetsChangeLittle) (us : List ℕ) (read : ℕ → Option ℤ) (own : ℤ) (u : ℕ) (member : has us u ≡ true) (unit : has m.units u ≡ true) where
+module _ (m : Mission) (fit : Fits m) (little : OffsetsChangeLittle) (us : List ℕ) (read : ℕ → Option ℤ) (own : ℤ) (u : ℕ)
+    (member : has us u ≡ true) (unit : has m.units u ≡ true) where
   -- the next offset is not far from the own one, whatever is read
   pub next_little : IsWithin (pos change_limit) (next_offset (m.skew +ℤ m.error) us read own u (m.drift u)) own
   next_little =

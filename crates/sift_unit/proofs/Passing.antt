@@ -11,7 +11,7 @@ use Rattle.sift_unit.specs.Going.{InRange}
 use Rattle.sift_unit.specs.Stops.{IsNothingBetween}
 use Rattle.sift_unit.specs.Passing.{Passes, Onward}
 use Rattle.sift_unit.proofs.Tests.{neither, not_both}
-use Rattle.sift_unit.proofs.Moving.{few_tasks, skip_range, skip_going}
+use Rattle.sift_unit.proofs.Moving.{few_tasks, range_at, skip_range, skip_going}
 use Rattle.sift_unit.proofs.Skipping.{Idles, IsPartDone, pass_going, slot_going, part_going}
 use Rattle.sift_unit.proofs.Jumping.{jump_skips, idle_skips}
 use Rattle.sift_unit.proofs.Noting.{onto, noted, AtNote, note_range, note_going}
@@ -38,22 +38,7 @@ inside_is m b r inside = let part = r.part in let slot = r.slot in dite (ℕ_dis
 module _ (m : Mission) (fit : Fits m) (b : Desk) (r : InRange m b) where
   -- a board in range elsewhere in its subframe
   range_moved : (t k o : ℕ) → t ≤ 2 → k ≤ m.slots → o ≤ unit_limit → InRange m (moved b b.subframe t k o b.places)
-  range_moved t k o ht hk ho = record {
-    unit = r.unit;
-    frame = r.frame;
-    subframe = r.subframe;
-    part = ht;
-    slot = hk;
-    other = ho;
-    count = r.count;
-    config = r.config;
-    configs = r.configs;
-    clk = r.clk;
-    clocks = r.clocks;
-    last = r.last;
-    places = r.places;
-    shape = r.shape;
-  }
+  range_moved t k o ht hk ho = range_at m fit b b.subframe t k o b.places r r.subframe ht hk ho r.places
 
   -- past a place that is no call
   pub place_onward : b.slot < m.slots → b.other < unit_limit → is_call m b ≡ false → Onward m b (moved b b.subframe b.part b.slot (b.other + 1) b.places)
