@@ -38,15 +38,6 @@ boards_push m n u xs b boards here new = record {
       (boards.new p d (omega arith)));
 }
 
--- the layout of a mission's parts is one
-pub layout_fits : (d : MissionData) → PartsFit d → Fits (flown d) → IsLayout d.layout
-layout_fits d fit fits = record {
-  enough_units = (let e = fit.layout.units in let l = fit.limits.enough_units in omega arith);
-  few_units = (let e = fit.layout.units in let l = fit.limits.few_units in omega arith);
-  few_sensors = fits.counted.sensors;
-  few_words = fits.counted.few_words;
-}
-
 -- the units of the mission are as many as the layout has
 pub units_fit : (d : MissionData) → PartsFit d → (flown d).units ≡ first_units d.layout.units
 units_fit d fit = ap first_units (sym fit.layout.units)

@@ -20,6 +20,8 @@ mod config;
 #[cfg(test)]
 mod exec;
 #[cfg(test)]
+mod flying;
+#[cfg(test)]
 mod io;
 #[cfg(test)]
 mod lang;
