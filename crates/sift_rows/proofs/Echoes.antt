@@ -1,5 +1,5 @@
 -- The parts of the mission made by hand fit.
-use Rattle.std.proofs.Common.{◌≡◌, ℕ, zero, suc, ◌+◌, List, [], ◌∷◌, length, get_or, Some, slice_get, refl, subst, arith}
+use Rattle.std.proofs.Common.{◌≡◌, ℕ, zero, suc, ◌+◌, ◌≤◌, List, [], ◌∷◌, length, get_or, Some, slice_get, refl, subst, arith}
 use Rattle.std.proofs.lemmas.List.Elements.{All-cons, All-nil}
 use Rattle.std.proofs.lemmas.Option.{none-some, same_Some, slice_get-get_or}
 use Rattle.sift_code.specs.Refusal.{Program}
@@ -9,7 +9,7 @@ use Rattle.sift_lang.specs.Tree.{TaskTree}
 use Rattle.sift_program.specs.Sound.{IsSoundProgram, first_word}
 use Rattle.sift_table.specs.Schedule.{Schedule}
 use Rattle.sift_unit.specs.Data.{MissionData}
-use Rattle.sift_rows.specs.Echoes.{IsEchoTable, echo, echoes, no_faults, perfect}
+use Rattle.sift_rows.specs.Echoes.{IsEchoTable, echo, echoes, no_faults_among, perfect_among}
 use Rattle.sift_unit.specs.PartsFit.{HasWords, PartsFit}
 use Rattle.sift_rows.proofs.Perfect.{perfect_clocks}
 
@@ -49,25 +49,25 @@ echo_codes one two first second = record { as_many = refl; each = each }
     each (suc (suc t)) task code there at = absurd (none-some _ there)
 
 -- the data of the mission
-abbrev pub echo_data : List (List ℕ) → List Program → List Schedule → List ℕ → MissionData
-echo_data names code tables row = record {
-  units = 8;
-  frames = 10;
+abbrev pub echo_data : ℕ → ℕ → List (List ℕ) → List Program → List Schedule → List ℕ → MissionData
+echo_data units frames names code tables row = record {
+  units = units;
+  frames = frames;
   period = 20;
-  layout = record { units = 8; sensors = 1; words = 2 };
+  layout = record { units = units; sensors = 1; words = 2 };
   names = names;
   program = echoes;
   code = code;
   tables = tables;
   sensors = row ∷ [];
-  clock = perfect;
-  script = no_faults;
+  clock = perfect_among units;
+  script = no_faults_among units frames;
 }
 
-pub echo_fits : (names : List (List ℕ)) (one two : Program) (tables : List Schedule) (row : List ℕ) → length names ≡ 2 → IsCodeOf 1 2 echo one → IsCodeOf 1 2 echo two
-    → length tables ≡ 5 → ((i : ℕ) (table : Schedule) → slice_get tables i ≡ Some table → IsEchoTable (4 + i) table) → HasWords row
-    → PartsFit (echo_data names (one ∷ two ∷ []) tables row)
-echo_fits names one two tables row named first second count each words = record {
+pub echo_fits : (units frames : ℕ) → 4 ≤ units → units ≤ 8 → 1 ≤ frames → frames ≤ 1000 → (names : List (List ℕ)) (one two : Program) (tables : List Schedule) (row : List ℕ) → length names ≡ 2 → IsCodeOf 1 2 echo one → IsCodeOf 1 2 echo two
+    → length tables + 4 ≡ units + 1 → ((i : ℕ) (table : Schedule) → slice_get tables i ≡ Some table → IsEchoTable (4 + i) table) → HasWords row
+    → PartsFit (echo_data units frames names (one ∷ two ∷ []) tables row)
+echo_fits units frames enough few some most names one two tables row named first second count each words = record {
   limits = record {
     enough_units = omega arith;
     few_units = omega arith;
@@ -89,6 +89,11 @@ echo_fits names one two tables row named first second count each words = record 
         let table = each i (get_or tables i none) (slice_get-get_or tables i none low) in
         record { sized = table.sized; timed = table.timed; good = table.good });
   };
-  clock = perfect_clocks;
+  clock = perfect_clocks units;
   script = record { layout = refl; outputs = refl; frames = refl; good = λ at low. absurd (omega arith); calm = λ u. refl };
 }
+
+-- one table alone, for four units
+pub one_table : (one : Schedule) → IsEchoTable 4 one → (i : ℕ) (table : Schedule) → slice_get (one ∷ []) i ≡ Some table → IsEchoTable (4 + i) table
+one_table one good zero table there = subst (λ (t : Schedule). IsEchoTable 4 t) (same_Some one table there) good
+one_table one good (suc i) table there = absurd (none-some _ there)

@@ -1,3 +1,4 @@
+pub mod Alone
 pub mod Echoes
 pub mod Fits
 pub mod Perfect

@@ -30,18 +30,26 @@ pub record IsEchoTable (size : ℕ) (table : Schedule) : Type 0 where
   pub timed : table.period ≡ 20
   pub good : IsGood table echo_shapes
 
--- no faults, for eight units, a sensor and the program's words, in ten frames
-abbrev pub no_faults : FaultScript
-no_faults = record { faults = []; layout = record { units = 8; sensors = 1; words = 2 }; outputs = 1 ∷ 1 ∷ []; frames = 10 }
+-- no faults, for so many units, a sensor and the program's words, in so many frames
+abbrev pub no_faults_among : ℕ → ℕ → FaultScript
+no_faults_among units frames = record { faults = []; layout = record { units = units; sensors = 1; words = 2 }; outputs = 1 ∷ 1 ∷ []; frames = frames }
 
--- eight clocks that don't err
-abbrev pub perfect : Clocks
-perfect = record {
+-- for eight units, in ten frames
+abbrev pub no_faults : FaultScript
+no_faults = no_faults_among 8 10
+
+-- so many clocks that don't err
+abbrev pub perfect_among : ℕ → Clocks
+perfect_among units = record {
   skew = pos 0;
   error = pos 0;
   rate = pos 0;
   length = pos 1;
-  start = replicate 8 (pos 0);
-  drift = replicate 8 (pos 0);
-  errors = replicate 8 (replicate 8 (pos 0));
+  start = replicate units (pos 0);
+  drift = replicate units (pos 0);
+  errors = replicate units (replicate units (pos 0));
 }
+
+-- eight of them
+abbrev pub perfect : Clocks
+perfect = perfect_among 8

@@ -6,6 +6,8 @@ mod agree;
 #[cfg(test)]
 mod base;
 #[cfg(test)]
+mod board;
+#[cfg(test)]
 mod buffer;
 #[cfg(test)]
 mod clock;

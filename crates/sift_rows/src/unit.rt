@@ -28,7 +28,7 @@ use std::process::Abort;
 use std::test::Fail;
 
 /// How many subframes a frame has.
-const PERIOD: u8 = 20;
+pub(crate) const PERIOD: u8 = 20;
 
 /// `out 0 = sense 0;`
 fn task(alloc: Global) -> Result<Task, NoMemory>
@@ -39,7 +39,7 @@ fn task(alloc: Global) -> Result<Task, NoMemory>
 }
 
 /// Two tasks that put out the sensor's word.
-fn program(alloc: Global) -> Result<Program, NoMemory>
+pub(crate) fn program(alloc: Global) -> Result<Program, NoMemory>
     ensures { IfOk result (λ program. program_of program ≡ echoes) }
 {
     Ok(Program {
@@ -49,7 +49,7 @@ fn program(alloc: Global) -> Result<Program, NoMemory>
 }
 
 /// The code of one of them.
-fn code(alloc: Global) -> Result<Checked, Fail>
+pub(crate) fn code(alloc: Global) -> Result<Checked, Fail>
     ensures { IfOk result (IsCodeOf 1 2 echo) }
 {
     let task = task(alloc)?;
@@ -57,7 +57,7 @@ fn code(alloc: Global) -> Result<Checked, Fail>
 }
 
 /// The shapes of the two tasks.
-fn shapes(alloc: Global) -> Result<Shapes, NoMemory>
+pub(crate) fn shapes(alloc: Global) -> Result<Shapes, NoMemory>
     ensures { IfOk result (λ shapes. shapes_of shapes ≡ echo_shapes) }
 {
     let first = TaskShape {
@@ -89,7 +89,7 @@ fn apart(alloc: Global, size: u8) -> Result<Table, NoMemory>
 }
 
 /// A table, checked.
-fn good(alloc: Global, table: Table) -> Result<GoodTable, Fail>
+pub(crate) fn good(alloc: Global, table: Table) -> Result<GoodTable, Fail>
     requires { table.period ≡ 20 }
     ensures { IfOk result (IsEchoTable table.size) }
 {

@@ -1,19 +1,20 @@
 -- The tables of a mission whose parts fit: when slots are said and heard, and by whom.
-use Rattle.std.proofs.Common.{◌≡◌, ℕ, ◌+◌, ◌-◌, ◌<◌, ◌≤◌, List, length, true, refl, sym, ◌∙◌, subst, arith, count_by}
+use Rattle.std.proofs.Common.{◌≡◌, ℕ, ◌+◌, ◌-◌, ◌<◌, ◌≤◌, List, length, get_or, true, refl, ap, sym, ◌∙◌, subst, arith, count_by}
 use Rattle.std.specs.List.{range_with_len}
+use Rattle.std.proofs.lemmas.List.{get_or_default}
 use Rattle.sift_base.specs.Layout.{least_units}
 use Rattle.sift_base.specs.Shapes.{words_in}
 use Rattle.sift_base.specs.declared.slot.Slot.{Slot}
 use Rattle.sift_base.specs.declared.slot.Slot.TheVariants.{Clock, Sense, RelaySense, Out, Report, RelayReport}
 use Rattle.sift_table.specs.Laws.{SlotsAreHeardInTime, TasksHaveThreeExecutors}
 use Rattle.sift_table.specs.Rules.{MeetsEach, row_rules}
-use Rattle.sift_table.specs.Schedule.{runs_at}
+use Rattle.sift_table.specs.Schedule.{Schedule, runs_at}
 use Rattle.sift_table.specs.Timing.{due_in, heard_in, task_of}
 use Rattle.sift_unit.specs.Acts.{IsConfigOf}
 use Rattle.sift_unit.specs.Data.{MissionData, shapes_in}
 use Rattle.sift_unit.specs.Fits.{IsTimed, HasExecutors, is_caught_in}
 use Rattle.sift_unit.specs.Flown.{flown, table_for}
-use Rattle.sift_unit.specs.PartsFit.{IsTableFor, PartsFit}
+use Rattle.sift_unit.specs.PartsFit.{IsTableFor, PartsFit, table_at}
 use Rattle.sift_unit.specs.Slots.{is_slot}
 use Rattle.sift_unit.proofs.FitSlots.{is-slot}
 use Rattle.sift_unit.proofs.Numbers.{range-has}
@@ -41,6 +42,15 @@ module _ (d : MissionData) (fit : PartsFit d) where
   -- it has a row for each task
   pub table-rows : (us : List ℕ) → IsConfigOf (flown d) us → length (table_for d us).run ≡ length d.program.tasks
   table-rows us config = (table-is us config).good.whole.0.0 ∙ length-shapes d.program.tasks 0 d.program.tasks
+
+  -- a table that stands at a place is the one there, and has a row for each task
+  pub table-placed : (i : ℕ) (table : Schedule) → i < length d.tables → table ≡ get_or d.tables i table → table_at d i ≡ table
+  table-placed i table low is = get_or_default d.tables i _ table low ∙ sym is
+
+  pub placed-rows : (i : ℕ) (table : Schedule) → i < length d.tables → table ≡ get_or d.tables i table → length table.run ≡ length d.program.tasks
+  placed-rows i table low is =
+      ap (λ (t : Schedule). length t.run) (sym (table-placed i table low is))
+      ∙ ((fit.tables.each i low).good.whole.0.0 ∙ length-shapes d.program.tasks 0 d.program.tasks)
 
   -- the shapes have the mission's words
   pub words-are : d.layout.words ≡ words_in (shapes_in d).tasks

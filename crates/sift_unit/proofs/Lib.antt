@@ -20,6 +20,7 @@ pub mod Held
 pub mod InTurn
 pub mod Jumping
 pub mod Kept
+pub mod Links
 pub mod Made
 pub mod Making
 pub mod Meanings

@@ -1,11 +1,13 @@
 -- A board, an account and a memory of the code, as the plain records of the definitions.
-use Rattle.std.specs.Prelude.{◌≡◌, ℕ, ◌+◌, ◌*◌, ◌<◌, ◌≤◌, map, length, true, None}
+use Rattle.std.specs.Prelude.{◌≡◌, ℕ, ◌+◌, ◌*◌, ◌<◌, ◌≤◌, map, length, slice_index_or, true, None, pos}
 use Rattle.std.specs.Vec.{vec_capacity}
 use Rattle.sift_base.specs.Units.{has, unit_limit}
 use Rattle.sift_buffer.specs.Conduct.{with_entered}
 use Rattle.sift_buffer.specs.Conduct.{Conduct as Acts}
 use Rattle.sift_buffer.specs.Ranges.{Ranges}
 use Rattle.sift_buffer.specs.Views.{View}
+use Rattle.sift_clock.specs.Distance.{IsWithin}
+use Rattle.sift_skew.specs.Limits.{offset_limit}
 use Rattle.sift_unit.specs.Mission.{Mission}
 use Rattle.sift_unit.specs.Account.{Account}
 use Rattle.sift_unit.specs.Memory.{Memory}
@@ -110,3 +112,19 @@ NewBoardLaw = (m : Mission) (u : ℕ) (b : TheBoard) (v : View) → has m.units 
 -- a board that has driven, whatever words its port gave, guarantees its acts and accounts in all frames that it has ended
 abbrev pub DriveLaw : Type 0
 DriveLaw = (m : Mission) (b : TheBoard) (v : View) → Drives m b v → BoardKeeps m b.unit v.conduct (accounts_of m (desk_of b)) b.frame
+
+-- the account of frame f that a board has, and d where it has none
+abbrev pub account_at : TheBoard → ℕ → TheAccount → TheAccount
+account_at b f d = slice_index_or b.accounts.items f d
+
+-- a board has one account for each frame that it has ended: that of the frame, with offsets of which figures can be told
+pub record HasAccounts (m : Mission) (b : TheBoard) : Type 0 where
+  pub frames : b.frame ≤ m.frames
+  pub count : length b.accounts.items ≡ b.frame
+  pub each : (f : ℕ) (d : TheAccount) → f < b.frame → account_of (account_at b f d) ≡ accounts_of m (desk_of b) f
+  pub clk : (f : ℕ) (d : TheAccount) → f < b.frame → IsWithin offset_limit (account_at b f d).clk (pos 0)
+  pub next_clk : (f : ℕ) (d : TheAccount) → f < b.frame → IsWithin offset_limit (account_at b f d).next_clk (pos 0)
+
+-- a board that has driven has them, and so one that has landed has the accounts of all frames
+abbrev pub AccountLaw : Type 0
+AccountLaw = (m : Mission) (b : TheBoard) (v : View) → Drives m b v → HasAccounts m b

@@ -23,4 +23,5 @@ pub mod Slots
 pub mod Stepping
 pub mod Stops
 pub mod Tidings
+pub mod Timetable
 pub mod Work

@@ -1,11 +1,13 @@
 //! Laws about missions, about who speaks to whom, and about what boards do.
 
+ghost use Rattle.std.specs.Prelude.{◌≡◌, ℕ, None};
 ghost use Rattle.sift_unit.specs.Fits.{Fits};
 ghost use Rattle.sift_unit.specs.Flown.{mission_of};
-ghost use Rattle.sift_unit.specs.Premises.{PartsMakeItFit, PartsMakeItFlyable};
+ghost use Rattle.sift_unit.specs.Data.{data_of};
+ghost use Rattle.sift_unit.specs.Premises.{IsFlyable, RunsProgram, PartsMakeItFit, PartsMakeItFlyable};
 ghost use Rattle.sift_unit.specs.Slots.{NothingIsSaidToItself};
 ghost use Rattle.sift_unit.specs.BoardLaws.{KeepLaw, StartLaw, TurnLaw, TurnFirstLaw, JumpLaw};
-ghost use Rattle.sift_unit.specs.Boards.{NewBoardLaw, DriveLaw};
+ghost use Rattle.sift_unit.specs.Boards.{NewBoardLaw, DriveLaw, AccountLaw};
 
 use crate::mission::Mission;
 use sift_script::{
@@ -32,11 +34,21 @@ pub fn fitting_parts_make_a_mission()
     tasks_have_three_executors();
 }
 
-/// So has each mission.
+/// So has each mission. No unit of it turns.
 pub fn a_mission_fits(mission: &Mission)
-    ensures { Fits (mission_of mission.now) }
+    ensures fits { Fits (mission_of mission.now) }
+    ensures calm { (u : ℕ) → (mission_of mission.now).storm u ≡ None }
 {
     fitting_parts_make_a_mission();
+    let _parts = mission.parts();
+}
+
+/// Flights can stand on each mission, whose words are those of its program.
+pub fn a_mission_flies(mission: &Mission)
+    ensures flyable { IsFlyable (mission_of mission.now) }
+    ensures program { RunsProgram (mission_of mission.now) (data_of mission.now).program }
+{
+    fitting_parts_make_a_flight();
     let _parts = mission.parts();
 }
 
@@ -88,4 +100,9 @@ pub fn new_boards_may_step()
 /// that it has ended.
 pub fn boards_that_step_keep_to_their_conduct()
     ensures { DriveLaw }
+{}
+
+/// A board has the accounts of all frames that it has ended, with offsets of which figures can be told.
+pub fn boards_account_for_their_frames()
+    ensures { AccountLaw }
 {}

@@ -5,11 +5,15 @@ ghost use Rattle.sift_lang.specs.Tree.{tree_of};
 ghost use Rattle.sift_program.specs.Sound.{output_count};
 ghost use Rattle.sift_unit.specs.ByWord.{by_word};
 ghost use Rattle.sift_unit.specs.Data.{data_of};
-ghost use Rattle.sift_unit.specs.Flown.{mission_of};
+ghost use Rattle.sift_unit.specs.Acts.{IsConfigOf};
+ghost use Rattle.sift_unit.specs.Flown.{mission_of, table_for};
+ghost use Rattle.sift_unit.specs.Timetable.{IsTimetableOf};
 ghost use Rattle.sift_unit.specs.PartsFit.{PartsFit};
 
 use crate::parts::MissionParts;
+use crate::timetable::{Timetable, timetables};
 use arrayvec::ArrayVec;
+use sift_config::Config;
 use sift_lang::Task;
 use std::marker::Model;
 
@@ -19,6 +23,8 @@ pub struct Mission {
     parts: MissionParts,
     /// The task of each word.
     tasks: ArrayVec<u8, 64>,
+    /// By table, when slots are heard and said and tasks are run.
+    times: [Timetable; 5],
 }
 
 impl Model for Mission {
@@ -32,7 +38,7 @@ impl Model for Mission {
 
     ghost view = { λ mission. mission.parts };
 
-    ghost invariant = { λ mission. IsHeld mission.parts mission.tasks.items };
+    ghost invariant = { λ mission. IsHeld mission.parts mission.tasks.items mission.times };
 }
 
 impl Mission {
@@ -42,7 +48,12 @@ impl Mission {
         ensures { result ≡ parts }
     {
         let tasks = tasks_by_word(&parts.program.tasks);
-        Mission { parts, tasks }
+        let times = timetables(&parts, &tasks);
+        Mission {
+            parts,
+            tasks,
+            times,
+        }
     }
 
     /// The parts, for reading. They fit.
@@ -51,6 +62,14 @@ impl Mission {
         ensures fit { PartsFit (data_of self.now) }
     {
         &self.parts
+    }
+
+    /// When slots are heard and said and tasks are run under a configuration.
+    pub(crate) fn timetable(&self, config: &Config) -> &Timetable
+        requires { IsConfigOf (mission_of self.now) config.now }
+        ensures { IsTimetableOf (data_of self.now) (table_for (data_of self.now) config.now) result.now }
+    {
+        &self.times[config.len() - 4]
     }
 
     /// The task that puts out a word.

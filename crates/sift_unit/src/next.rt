@@ -16,13 +16,7 @@ impl Mission {
         ensures within { result ≤ (mission_of self.now).slots }
         ensures passed { (i : ℕ) → from ≤ i → i < result → (mission_of self.now).heard_in config.now ((mission_of self.now).kind i) ≢ subframe }
     {
-        let slots = self.slots();
-        for i in from..slots {
-            if self.heard_in(config, i) == subframe {
-                return i;
-            }
-        }
-        slots
+        self.timetable(config).heard.next(subframe, from)
     }
 
     /// The next slot, from one on, that is said in a subframe, and the count of the slots where there is none.
@@ -33,13 +27,7 @@ impl Mission {
         ensures within { result ≤ (mission_of self.now).slots }
         ensures passed { (i : ℕ) → from ≤ i → i < result → (mission_of self.now).due config.now ((mission_of self.now).kind i) ≢ subframe }
     {
-        let slots = self.slots();
-        for i in from..slots {
-            if self.due(config, i) == subframe {
-                return i;
-            }
-        }
-        slots
+        self.timetable(config).said.next(subframe, from)
     }
 
     /// The next task, from one on, that is run in a subframe, and the count of the tasks where there is none.
@@ -50,13 +38,7 @@ impl Mission {
         ensures within { result ≤ (mission_of self.now).tasks }
         ensures passed { (t : ℕ) → from ≤ t → t < result → (mission_of self.now).run_in config.now t ≢ subframe }
     {
-        let tasks = self.tasks();
-        for t in from..tasks {
-            if self.run_in(config, t) == subframe {
-                return t;
-            }
-        }
-        tasks
+        self.timetable(config).run.next(subframe, from)
     }
 
     /// The next task, from a number on, that is run in a subframe, and the count of the slots where there is none.

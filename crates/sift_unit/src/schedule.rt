@@ -81,22 +81,13 @@ impl Mission {
         &self.parts().tables[config.len() - 4]
     }
 
-    /// The subframe that stands so many before a frame's end.
-    fn before_end(&self, config: &Config, lead: u32) -> u32
-        requires config { IsConfigOf (mission_of self.now) config.now }
-        requires lead { lead ≤ 12 }
-        ensures { result ≡ (table_for (data_of self.now) config.now).period - lead }
-    {
-        u32::from(self.parts().period) - lead
-    }
-
     /// The subframe in which a task is run.
     pub fn run_in(&self, config: &Config, t: usize) -> u32
         requires config { IsConfigOf (mission_of self.now) config.now }
         requires task { t < (mission_of self.now).tasks }
         ensures { result ≡ (mission_of self.now).run_in config.now t }
     {
-        u32::from(self.table(config).run_of(t))
+        self.timetable(config).run.time(t)
     }
 
     /// The subframe in which the slot of a number is said.
@@ -105,13 +96,7 @@ impl Mission {
         requires slot { i < (mission_of self.now).slots }
         ensures { result ≡ (mission_of self.now).due config.now ((mission_of self.now).kind i) }
     {
-        match self.kind(i) {
-            Slot::Clock | Slot::Sense(_) => 0,
-            Slot::RelaySense(_) => 2,
-            Slot::Out(w) => self.run_in(config, self.task_of(w)),
-            Slot::Report => self.before_end(config, 6),
-            Slot::RelayReport(_) => self.before_end(config, 4),
-        }
+        self.timetable(config).said.time(i)
     }
 
     /// The subframe in which the slot of a number is heard.
@@ -120,13 +105,7 @@ impl Mission {
         requires slot { i < (mission_of self.now).slots }
         ensures { result ≡ (mission_of self.now).heard_in config.now ((mission_of self.now).kind i) }
     {
-        match self.kind(i) {
-            Slot::Clock | Slot::Sense(_) => 2,
-            Slot::RelaySense(_) => 4,
-            Slot::Out(w) => u32::from(self.table(config).poll_of(self.task_of(w))),
-            Slot::Report => self.before_end(config, 4),
-            Slot::RelayReport(_) => self.before_end(config, 2),
-        }
+        self.timetable(config).heard.time(i)
     }
 
     /// Whether a unit runs a task: it is at one of the task's positions of the configuration.
@@ -176,7 +155,7 @@ impl Mission {
 }
 
 /// The slot of a number in a layout.
-fn slot_of(layout: &Layout, i: usize) -> Slot
+pub(crate) fn slot_of(layout: &Layout, i: usize) -> Slot
     requires layout { IsLayout layout.now }
     requires there { i < slot_count layout.now }
     ensures { result ≡ slot_kind layout.now i }

@@ -4,7 +4,7 @@ use Rattle.sift_unit.proofs.board.Board.make.Goals as goal
 
 pub returns : goal.returns
 returns c = record {
-  fits = c.a_mission_fits.ensures;
+  fits = c.a_mission_fits.ensures.fits;
   desk = search rules;
   places = refl;
   shape = c.blank.ensures;
