@@ -25,7 +25,8 @@ unit_there m x u flies low = subst (λ (us : List ℕ). has us u ≡ true) (sym 
 drawn_same : (m : Mission) (x : Machine) (n u : ℕ) → Flies m x → u ≡ drawn n (layout_of x).units → u ≡ drawn n (length m.units)
 drawn_same m x n u flies is = is ∙ ap (drawn n) (sym (unit_count m x flies))
 
-module _ (m : Mission) (x : Machine) (n n' u : ℕ) (y : Machine) (flies : Flies m x) (flies_on : Flies m y) (d : IsDrawn (layout_of x).units n n' u) where
+module _ (m : Mission) (x : Machine) (n n' u : ℕ) (y : Machine) (flies : Flies m x) (flies_on : Flies m y) (d : IsDrawn
+    (layout_of x).units n n' u) where
   is : u ≡ drawn n' (length m.units)
   is = drawn_same m x n' u flies d.drawn_is
 
@@ -47,7 +48,8 @@ module _ (m : Mission) (x : Machine) (n n' u : ℕ) (y : Machine) (flies : Flies
   given_no_farther = ⊎_elim (λ landed. let e = ap (λ (z : Machine). distances m z) landed.1 in omega arith)
       (λ (w : Waits m u x y). waits_no_farther m x u w.answer y flies flies_on unit w.stepped w.waits)
 
-  module _ (given : GivesAway m u x y) (v : ℕ) (r : Stepped) (z : Machine) (least : IsLeast m x v) (flies_then : Flies m z) (stepped : StepsUnit m v y r z) where
+  module _ (given : GivesAway m u x y) (v : ℕ) (r : Stepped) (z : Machine) (least : IsLeast m x v) (flies_then : Flies m z)
+      (stepped : StepsUnit m v y r z) where
     still : IsLeast m y v
     still = least_stays m x y v (given_same given) least
 
@@ -60,7 +62,8 @@ module _ (m : Mission) (x : Machine) (n n' u : ℕ) (y : Machine) (flies : Flies
     pub least_nearer : distances m z < distances m x
     least_nearer =
         let first = given_no_farther given in
-        let second = goes_nearer m y v r z flies_on flies_then least.unit stepped still.aloft (least_goes m y v r z flies_on flies_then least.unit stepped still) in omega arith
+        let second = goes_nearer m y v r z flies_on flies_then least.unit stepped still.aloft
+        (least_goes m y v r z flies_on flies_then least.unit stepped still) in omega arith
 
 module _ (m : Mission) (order : ℕ) (x : Machine) (n : ℕ) (y : Machine) (n' : ℕ) (z : Machine) (so_far : (k : ℕ) × AfterTurns m order x k n y) where
   -- some turns, and this one more
