@@ -9,7 +9,8 @@ use Rattle.sift_unit.specs.Conduct.{said_of}
 use Rattle.sift_unit.specs.Frames.{FrameConduct, FirstConduct, LaterConduct, BusyConduct, IdleConduct}
 
 -- the conduct of a frame reads the accounts of this frame and the one before
-conduct_by : (m : Mission) (u : ℕ) (a b : ℕ → Account) (h s : ℕ → Places) (f : ℕ) → ((g : ℕ) → g ≤ f → a g ≡ b g) → FrameConduct m u a h s f → FrameConduct m u b h s f
+conduct_by : (m : Mission) (u : ℕ) (a b : ℕ → Account) (h s : ℕ → Places) (f : ℕ) → ((g : ℕ) → g ≤ f → a g ≡ b g) → FrameConduct m u a h s f →
+    FrameConduct m u b h s f
 conduct_by m u a b h s zero same c =
     let e : a 0 ≡ b 0 = same 0 (omega arith) in record {
       begins = subst (λ (x : Account). FirstConduct m u x) e c.begins;
@@ -23,12 +24,14 @@ conduct_by m u a b h s (suc f) same c =
       begins = subst (λ (x : Account). LaterConduct (b f) x) e (subst (λ (y : Account). LaterConduct y (a (suc f))) before c.begins);
       said = λ k q. c.said k q ∙ (λ i. said_of m (e i).cfg u (suc f) (e i) (h (suc f)) (before i).outs k q);
       busy = subst (λ (x : Account). has x.cfg u ≡ true → BusyConduct m x.cfg u (suc f) x (h (suc f)) (b f).outs) e
-          (subst (λ (y : Account). has (a (suc f)).cfg u ≡ true → BusyConduct m (a (suc f)).cfg u (suc f) (a (suc f)) (h (suc f)) y.outs) before c.busy);
+          (subst (λ (y : Account). has (a (suc f)).cfg u ≡ true → BusyConduct m (a (suc f)).cfg u (suc f) (a (suc f)) (h (suc f)) y.outs) before
+          c.busy);
       idle = subst (λ (x : Account). has x.cfg u ≡ false → IdleConduct x) e c.idle;
     }
 
 -- and so what a board has kept in n frames those of these frames
-pub keeps_by : (m : Mission) (u : ℕ) (d : Acts) (a b : ℕ → Account) (n : ℕ) → ((f : ℕ) → f < n → a f ≡ b f) → BoardKeeps m u d a n → BoardKeeps m u d b n
+pub keeps_by : (m : Mission) (u : ℕ) (d : Acts) (a b : ℕ → Account) (n : ℕ) → ((f : ℕ) → f < n → a f ≡ b f) → BoardKeeps m u d a n →
+    BoardKeeps m u d b n
 keeps_by m u d a b n same k = record {
   stamps = k.stamps;
   turns = k.turns;

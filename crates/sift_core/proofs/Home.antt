@@ -69,7 +69,8 @@ module _ (m : Mission) (x : Machine) (fl : TheFlight) (lands : Lands m x fl) whe
 
   -- the journal and the accounts of a unit
   journal_is : (u : ℕ) → journal_of fl u ≡ (ledger_at x.rack.acts.items u).pages
-  journal_is u = ap (λ (js : List Pages). slice_index_or js u no_pages) lands.journals ∙ mapped (λ (l : Ledger). l.pages) x.rack.acts.items u no_ledger
+  journal_is u = ap (λ (js : List Pages). slice_index_or js u no_pages) lands.journals ∙ mapped (λ
+      (l : Ledger). l.pages) x.rack.acts.items u no_ledger
 
   accounts_are : (u : ℕ) → has m.units u ≡ true → accounts_of fl u ≡ (desk_of (board_at x first u)).accounts
   accounts_are u there = ap (λ (lists : List (List Account)). slice_index_or lists u []) lands.accounts
@@ -102,7 +103,8 @@ module _ (m : Mission) (x : Machine) (fl : TheFlight) (lands : Lands m x fl) whe
 
   pub landed_round : KeepLaw → LawfulCoresHearLawfully → LandedFramesAreRound → IsRound m no_strays (told m fl)
   landed_round keep hear round f low = subst (λ (z : Flight). RoundAt m no_strays z f) (sym told_is)
-      (round m (ranges_for x.rack) (core_of x.rack) (told m fl).account m.frames f (drives 0 (unit_there m x 0 lands.flies (first_low x))).fits (record {
+      (round m (ranges_for x.rack) (core_of x.rack) (told m fl).account m.frames f (drives 0 (unit_there m x 0 lands.flies (first_low x))).fits
+      (record {
         places = has_places m x first lands.flies;
         heard = hear (ranges_for x.rack) (core_of x.rack) lands.flies.lawful;
         boards = λ u there. keeps_by m u ((core_of x.rack).of u) (accounts_at m x first u) ((told m fl).account u) m.frames
@@ -117,7 +119,8 @@ module _ (m : Mission) (x : Machine) (fl : TheFlight) (lands : Lands m x fl) whe
     journal = λ u there. subst (λ (j : Pages). IsJournalOf j (layout_of x) u m.frames) (sym (journal_is u))
         (subst (λ (n : ℕ). IsJournalOf (ledger_at x.rack.acts.items u).pages (layout_of x) u n) lands.flies.frames
         (x.rack.owned u (unit_below m x u lands.flies there)));
-    lists = sym (length-map fl.accounts.items _) ∙ (ap length lands.accounts ∙ (length-map x.boards.items _ ∙ (lands.flies.count ∙ sym (unit_count m x lands.flies))));
+    lists = sym (length-map fl.accounts.items _) ∙ (ap length lands.accounts ∙ (length-map x.boards.items _ ∙ (lands.flies.count ∙ sym
+        (unit_count m x lands.flies))));
     accounts = λ u there. ap length (accounts_are u there) ∙ ((drives u there).going.range.count ∙ (frame_is u there
         ∙ sym (ap (λ (o : Option ℕ). frames_before o m.frames) (ap m.storm (drives u there).unit ∙ (drives u there).still))));
   }

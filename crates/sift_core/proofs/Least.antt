@@ -46,7 +46,8 @@ least_less m x n below found l less = record {
 }
 
 -- the least of all
-pub least_found : (m : Mission) (x : Machine) (n below v : ℕ) → Flies m x → n ≡ (layout_of x).units → IsLeastBelow m x n below (Some v) → IsLeast m x v
+pub least_found : (m : Mission) (x : Machine) (n below v : ℕ) → Flies m x → n ≡ (layout_of x).units → IsLeastBelow m x n below (Some v) →
+    IsLeast m x v
 least_found m x n below v flies all l = record {
   unit = subst (λ (us : List ℕ). has us v ≡ true) (sym flies.units) (low_unit (layout_of x).units v (let a = l.found_is.0 in omega arith));
   aloft = (let a = l.found_is.1 in let b = l.found_is.2 in omega arith);
@@ -56,7 +57,8 @@ least_found m x n below v flies all l = record {
 
 -- or none is left
 pub least_none : (m : Mission) (x : Machine) (n below : ℕ) → Flies m x → n ≡ (layout_of x).units → IsLeastBelow m x n below None → HaveAllLanded m x
-least_none m x n below flies all l u there = let low = unit_below m x u flies there in let a = l.found_is in let b = l.none_less u (omega arith) in omega arith
+least_none m x n below flies all l u there = let low = unit_below m x u flies there in let a = l.found_is in let b = l.none_less u
+    (omega arith) in omega arith
 
 -- what was found in the end
 pub least_ends : (m : Mission) (x : Machine) (n below : ℕ) (found : Option ℕ) → Flies m x → n ≡ (layout_of x).units → IsLeastBelow m x n below found →

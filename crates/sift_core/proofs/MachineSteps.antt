@@ -128,7 +128,8 @@ module _ (m : Mission) (x : Machine) (u : ℕ) (c : Rack) (at : ℕ) (b : Board)
         (λ z. subst (λ (n : ℕ). Drives m (slice_index_or bs.items n e) (view_at d n)) (mine ∙ sym z)
         (subst (λ (y : Board). Drives m y (view_of d)) (sym (ap (λ (n : ℕ). slice_index_or bs.items n e) mine ∙ own_board e)) s.drives))
         (λ ne. subst (λ (y : Board). Drives m y (view_at d p)) (sym (other_board p e ne))
-        (drives_by m (board_at x e p) (view_at x.rack p) (view_at d p) refl ranges (others_stay (ranges_for x.rack) u (core_of x.rack) (core_of d) reaches p ne)
+        (drives_by m (board_at x e p) (view_at x.rack p) (view_at d p) refl ranges (others_stay (ranges_for x.rack) u (core_of x.rack)
+        (core_of d) reaches p ne)
         (s.flies.drives p e (subst (λ (l : Layout). p < l.units) layout hp))));
   }
 
@@ -138,7 +139,8 @@ module _ (m : Mission) (x : Machine) (u : ℕ) (c : Rack) (at : ℕ) (b : Board)
     reaches = reaches;
     others = other_board;
     outcome = λ e.
-        let was : b ≡ board_at x e u = s.board ∙ (ap (λ (i : ℕ). slice_index_or x.boards.items i b) s.here ∙ get_or_default x.boards.items u b e within) in
+        let was : b ≡ board_at x e u = s.board ∙ (ap (λ (i : ℕ). slice_index_or x.boards.items i b) s.here
+        ∙ get_or_default x.boards.items u b e within) in
         subst (λ (y : Board). Steps m (desk_of y) (view_at x.rack u) r (desk_of (slice_index_or bs.items u e)) (view_at d u) (Stands d)) was
         (subst (λ (y : Board). Steps m (desk_of b) (view_at x.rack u) r (desk_of y) (view_at d u) (Stands d)) (sym (own_board e))
         (subst (λ (n : ℕ). Steps m (desk_of b) (view_at x.rack u) r (desk_of b') (view_at d n) (Stands d)) mine

@@ -28,23 +28,16 @@ use Rattle.sift_core.specs.declared.machine.Machine.{Machine}
 use Rattle.sift_core.proofs.FirstUnits.{unit_low, low_unit}
 
 -- one board more
-pub boards_push : (m : Mission) (n u : ℕ) (xs : List Board) (b : Board) → AreNewBoards m n xs → u ≡ n → IsNewBoard m u b → AreNewBoards m (n + 1) (xs ++ b ∷ [])
+pub boards_push : (m : Mission) (n u : ℕ) (xs : List Board) (b : Board) → AreNewBoards m n xs → u ≡ n → IsNewBoard m u b → AreNewBoards m (n + 1)
+    (xs ++ b ∷ [])
 boards_push m n u xs b boards here new = record {
   count = length-append xs (b ∷ []) ∙ ap (λ (i : ℕ). i + 1) boards.count;
   new = λ p d hp. dite (ℕ_discrete p n)
-      (λ e. subst (λ (z : Board). IsNewBoard m p z) (sym (ap (λ (i : ℕ). slice_index_or (xs ++ b ∷ []) i d) (e ∙ sym boards.count) ∙ get_or-append_seam xs b [] d))
+      (λ e. subst (λ (z : Board). IsNewBoard m p z) (sym (ap (λ (i : ℕ). slice_index_or (xs ++ b ∷ []) i d) (e ∙ sym boards.count)
+      ∙ get_or-append_seam xs b [] d))
       (subst (λ (i : ℕ). IsNewBoard m i b) (here ∙ sym e) new))
       (λ ne. subst (λ (z : Board). IsNewBoard m p z) (sym (get_or_append_left xs (b ∷ []) d p (let c = boards.count in omega arith)))
       (boards.new p d (omega arith)));
-}
-
--- the layout of a mission's parts is one
-pub layout_fits : (d : MissionData) → PartsFit d → Fits (flown d) → IsLayout d.layout
-layout_fits d fit fits = record {
-  enough_units = (let e = fit.layout.units in let l = fit.limits.enough_units in omega arith);
-  few_units = (let e = fit.layout.units in let l = fit.limits.few_units in omega arith);
-  few_sensors = fits.counted.sensors;
-  few_words = fits.counted.few_words;
 }
 
 -- the units of the mission are as many as the layout has

@@ -23,14 +23,17 @@ below_cases {P} a b low high = go (nat_lt a b) refl
     go false e = high (ltb-false a b e)
 
 -- one ledger more
-pub crew_push : (xs : List Ledger) (l : Ledger) (n u : ℕ) (layout : Layout) (frames : ℕ) → IsCrew xs n layout frames → u ≡ n → Tells l layout u frames fresh →
+pub crew_push : (xs : List Ledger) (l : Ledger) (n u : ℕ) (layout : Layout) (frames : ℕ) → IsCrew xs n layout frames → u ≡ n →
+    Tells l layout u frames fresh →
     IsCrew (xs ++ l ∷ []) (n + 1) layout frames
 crew_push xs l n u layout frames crew here new = record {
   count = length-append xs (l ∷ []) ∙ ap (λ (i : ℕ). i + 1) crew.count;
   fresh = λ p hp. dite (ℕ_discrete p n)
-      (λ e. subst (λ (z : Ledger). Tells z layout p frames fresh) (sym (ap (ledger_at (xs ++ l ∷ [])) (e ∙ sym crew.count) ∙ get_or-append_seam xs l [] no_ledger))
+      (λ e. subst (λ (z : Ledger). Tells z layout p frames fresh) (sym (ap (ledger_at (xs ++ l ∷ [])) (e ∙ sym crew.count)
+      ∙ get_or-append_seam xs l [] no_ledger))
       (subst (λ (i : ℕ). Tells l layout i frames fresh) (here ∙ sym e) new))
-      (λ ne. subst (λ (z : Ledger). Tells z layout p frames fresh) (sym (get_or_append_left xs (l ∷ []) no_ledger p (let c = crew.count in omega arith)))
+      (λ ne. subst (λ (z : Ledger). Tells z layout p frames fresh) (sym (get_or_append_left xs (l ∷ []) no_ledger p
+      (let c = crew.count in omega arith)))
       (crew.fresh p (omega arith)));
 }
 
@@ -51,10 +54,12 @@ nobody_fresh i = record {
 }
   where
     none : (f k q : ℕ) → ◌≡◌ {A = ℕ} (entry_at 0 (ranges_in no_ledger.pages) [] f k q) 0
-    none f k q = either (nat_lt f 0 && nat_lt k (ranges_in no_ledger.pages).slots && nat_lt q 0) (slice_index_or [] (entry_number (ranges_in no_ledger.pages) f k q) 0) 0 0 refl refl
+    none f k q = either (nat_lt f 0 && nat_lt k (ranges_in no_ledger.pages).slots && nat_lt q 0) (slice_index_or [] (entry_number
+        (ranges_in no_ledger.pages) f k q) 0) 0 0 refl refl
 
 -- the core of zeros and a new crew is fresh
-pub core_fresh : (words : List ℕ) (acts : List Ledger) (layout : Layout) (frames n : ℕ) → words ≡ replicate n 0 → n ≡ shared_words (ranges_of layout frames) →
+pub core_fresh : (words : List ℕ) (acts : List Ledger) (layout : Layout) (frames n : ℕ) → words ≡ replicate n 0 → n ≡ shared_words
+    (ranges_of layout frames) →
     IsCrew acts layout.units layout frames → core_by words acts ≡ fresh_core (ranges_of layout frames)
 core_fresh words acts layout frames n zeros wide crew i = record { words = (zeros ∙ ap (λ (k : ℕ). replicate k 0) wide) i; of = λ u. each u i }
   where

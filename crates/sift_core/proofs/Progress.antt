@@ -85,7 +85,8 @@ module _ (m : Mission) (x : Machine) (u : ℕ) (r : Stepped) (x' : Machine)
   waits_no_farther waits = waiting_distance r outcome waits
 
   -- who has not landed, and goes, is nearer
-  going_distance : (a : Stepped) → Steps m (desk_of b) (view_at x.rack u) a (desk_of b') (view_at x'.rack u) (Stands x'.rack) → IsAloft m x u → ¬ IsWaiting a →
+  going_distance : (a : Stepped) → Steps m (desk_of b) (view_at x.rack u) a (desk_of b') (view_at x'.rack u) (Stands x'.rack) → IsAloft m x u →
+      ¬ IsWaiting a →
       distances m x' < distances m x
   going_distance Moved st aloft goes = let e = others_distances in let less = st.nearer in omega arith
   going_distance (NotYet q n) st aloft goes = absurd (goes tt)
@@ -99,7 +100,8 @@ module _ (m : Mission) (x : Machine) (u : ℕ) (r : Stepped) (x' : Machine)
   goes_nearer aloft goes = going_distance r outcome aloft goes
 
   -- the least unit has nobody to wait for
-  least_waits : (a : Stepped) → Steps m (desk_of b) (view_at x.rack u) a (desk_of b') (view_at x'.rack u) (Stands x'.rack) → IsLeast m x u → ¬ IsWaiting a
+  least_waits : (a : Stepped) → Steps m (desk_of b) (view_at x.rack u) a (desk_of b') (view_at x'.rack u) (Stands x'.rack) → IsLeast m x u →
+      ¬ IsWaiting a
   least_waits Moved st least waits = waits
   least_waits Landed st least waits = waits
   least_waits (NotYet q n) st least waits =

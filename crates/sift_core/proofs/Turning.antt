@@ -8,7 +8,7 @@ use Rattle.sift_unit.specs.Mission.{Mission}
 use Rattle.sift_unit.specs.declared.stepped.Stepped.{Stepped}
 use Rattle.sift_core.specs.Machines.{Flies, layout_of, progress_at, distances}
 use Rattle.sift_core.specs.Steps.{StepsUnit}
-use Rattle.sift_core.specs.Turns.{HaveAllLanded, IsLeast, GoesItself, Waits, GivesAway, TakesTurn, TurnsAt, AfterTurns, FliesInOrder}
+use Rattle.sift_core.specs.Turns.{IsDrawn, HaveAllLanded, IsLeast, GoesItself, Waits, GivesAway, TakesTurn, TurnsAt, AfterTurns, FliesInOrder}
 use Rattle.sift_core.specs.declared.machine.Machine.{Machine}
 use Rattle.sift_core.proofs.FirstUnits.{low_unit}
 use Rattle.sift_core.proofs.Progress.{goes_nearer, waits_no_farther, waits_in_place, least_goes, least_stays}
@@ -25,43 +25,31 @@ unit_there m x u flies low = subst (λ (us : List ℕ). has us u ≡ true) (sym 
 drawn_same : (m : Mission) (x : Machine) (n u : ℕ) → Flies m x → u ≡ drawn n (layout_of x).units → u ≡ drawn n (length m.units)
 drawn_same m x n u flies is = is ∙ ap (drawn n) (sym (unit_count m x flies))
 
--- what was tried: the unit was drawn, and is there
-pub record Drawn (m : Mission) (x : Machine) (n n' u : ℕ) (y : Machine) : Type 0 where
-  pub flies : Flies m x
-  pub flies_on : Flies m y
-  pub next : n' ≡ next_number n
-  pub drawn_is : u ≡ drawn n' (layout_of x).units
-  pub there : u < (layout_of x).units
-
-module _ (m : Mission) (x : Machine) (n n' u : ℕ) (y : Machine) (d : Drawn m x n n' u y) where
+module _ (m : Mission) (x : Machine) (n n' u : ℕ) (y : Machine) (flies : Flies m x) (flies_on : Flies m y) (d : IsDrawn
+    (layout_of x).units n n' u) where
   is : u ≡ drawn n' (length m.units)
-  is = drawn_same m x n' u d.flies d.drawn_is
+  is = drawn_same m x n' u flies d.drawn_is
 
   unit : has m.units u ≡ true
-  unit = unit_there m x u d.flies d.there
+  unit = unit_there m x u flies d.there
 
   pub own_turn : GoesItself m u x y → TurnsAt m n x (Some u) n' y
   own_turn goes = (d.next, subst (λ (w : ℕ). TakesTurn m w x u y) is (inl (refl, goes)))
 
   pub own_nearer : GoesItself m u x y → distances m y < distances m x
-  own_nearer goes = goes_nearer m x u goes.answer y d.flies d.flies_on unit goes.stepped goes.aloft goes.goes
-
-  pub own_layout : GoesItself m u x y → layout_of y ≡ layout_of x
-  own_layout goes = goes.stepped.layout
+  own_nearer goes = goes_nearer m x u goes.answer y flies flies_on unit goes.stepped goes.aloft goes.goes
 
   -- who gives its turn away leaves all progress, and is no farther
   given_same : GivesAway m u x y → (p : ℕ) → progress_at y p ≡ progress_at x p
   given_same = ⊎_elim (λ landed p. ap (λ (z : Machine). progress_at z p) landed.1)
-      (λ (w : Waits m u x y). waits_in_place m x u w.answer y d.flies d.flies_on unit w.stepped w.waits)
+      (λ (w : Waits m u x y). waits_in_place m x u w.answer y flies flies_on unit w.stepped w.waits)
 
   given_no_farther : GivesAway m u x y → distances m y ≤ distances m x
   given_no_farther = ⊎_elim (λ landed. let e = ap (λ (z : Machine). distances m z) landed.1 in omega arith)
-      (λ (w : Waits m u x y). waits_no_farther m x u w.answer y d.flies d.flies_on unit w.stepped w.waits)
+      (λ (w : Waits m u x y). waits_no_farther m x u w.answer y flies flies_on unit w.stepped w.waits)
 
-  given_layout : GivesAway m u x y → layout_of y ≡ layout_of x
-  given_layout = ⊎_elim (λ landed. ap (λ (z : Machine). layout_of z) landed.1) (λ (w : Waits m u x y). w.stepped.layout)
-
-  module _ (given : GivesAway m u x y) (v : ℕ) (r : Stepped) (z : Machine) (least : IsLeast m x v) (flies : Flies m z) (stepped : StepsUnit m v y r z) where
+  module _ (given : GivesAway m u x y) (v : ℕ) (r : Stepped) (z : Machine) (least : IsLeast m x v) (flies_then : Flies m z)
+      (stepped : StepsUnit m v y r z) where
     still : IsLeast m y v
     still = least_stays m x y v (given_same given) least
 
@@ -74,10 +62,8 @@ module _ (m : Mission) (x : Machine) (n n' u : ℕ) (y : Machine) (d : Drawn m x
     pub least_nearer : distances m z < distances m x
     least_nearer =
         let first = given_no_farther given in
-        let second = goes_nearer m y v r z d.flies_on flies least.unit stepped still.aloft (least_goes m y v r z d.flies_on flies least.unit stepped still) in omega arith
-
-    pub least_layout : layout_of z ≡ layout_of x
-    least_layout = stepped.layout ∙ given_layout given
+        let second = goes_nearer m y v r z flies_on flies_then least.unit stepped still.aloft
+        (least_goes m y v r z flies_on flies_then least.unit stepped still) in omega arith
 
 module _ (m : Mission) (order : ℕ) (x : Machine) (n : ℕ) (y : Machine) (n' : ℕ) (z : Machine) (so_far : (k : ℕ) × AfterTurns m order x k n y) where
   -- some turns, and this one more

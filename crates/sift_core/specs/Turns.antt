@@ -31,6 +31,12 @@ pub record IsLeast (m : Mission) (x : Machine) (u : ℕ) : Type 0 where
 
 -- ---- one turn
 
+-- of so many units u was drawn, where the drawer's number was n, and now is n'
+pub record IsDrawn (units n n' u : ℕ) : Type 0 where
+  pub next : n' ≡ next_number n
+  pub drawn_is : u ≡ drawn n' units
+  pub there : u < units
+
 -- the unit has not landed, and steps, and does not wait
 pub record GoesItself (m : Mission) (u : ℕ) (x x' : Machine) : Type 0 where
   pub aloft : IsAloft m x u

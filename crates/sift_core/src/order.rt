@@ -1,10 +1,9 @@
 //! The order of steps: for each turn a unit is drawn.
 ghost use Rattle.std.specs.Prelude.{◌≡◌, ◌<◌, ◌≤◌, ◌*◌, IfSome, IfNone, true, length};
-ghost use Rattle.sift_base.specs.Draw.{next_number, drawn};
 ghost use Rattle.sift_base.specs.Units.{has};
 ghost use Rattle.sift_unit.specs.Flown.{mission_of};
 ghost use Rattle.sift_core.specs.Machines.{Flies, layout_of, distances};
-ghost use Rattle.sift_core.specs.Turns.{IsLeast, HaveAllLanded, Tries, TurnsAt, FliesInOrder};
+ghost use Rattle.sift_core.specs.Turns.{IsLeast, IsDrawn, HaveAllLanded, Tries, TurnsAt, FliesInOrder};
 
 use crate::machine::Machine;
 use sift_base::{Draw, UnitId};
@@ -41,9 +40,7 @@ impl Machine {
 
     /// Draws a unit.
     fn drawn_unit(&self, drawer: &mut Draw) -> UnitId
-        ensures next { drawer.new ≡ next_number drawer.old }
-        ensures drawn { result ≡ drawn drawer.new (layout_of self.now).units }
-        ensures there { result < (layout_of self.now).units }
+        ensures { IsDrawn (layout_of self.now).units drawer.old drawer.new result }
     {
         let number = drawer.draw(u64::from(self.rack.grid.layout.units));
         if let Some(unit) = UnitId::of(number as u8) {

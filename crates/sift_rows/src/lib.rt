@@ -22,6 +22,8 @@ mod config;
 #[cfg(test)]
 mod exec;
 #[cfg(test)]
+mod flying;
+#[cfg(test)]
 mod generated;
 #[cfg(test)]
 mod io;

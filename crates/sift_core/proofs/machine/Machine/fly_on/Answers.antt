@@ -7,7 +7,8 @@ pub loop-drawer-preserved : goal.loop-drawer-preserved
 loop-drawer-preserved c = record {
   flies = c.turn.ensures.flies;
   layout = c.turn.ensures.layout ∙ c.loop-drawer.invariant.layout;
-  after = turns_more (mission_of c.args.mission.now) c.args.order c.args.self.now c.loop-drawer.drawer c.loop-drawer.self c.turn.new.drawer c.turn.new.self
+  after = turns_more (mission_of c.args.mission.now) c.args.order c.args.self.now c.loop-drawer.drawer c.loop-drawer.self c.turn.new.drawer
+      c.turn.new.self
       c.loop-drawer.invariant.after c.turn.result c.loop-drawer-test.ensures c.turn.ensures.turn;
 }
 

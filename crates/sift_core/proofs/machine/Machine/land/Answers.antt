@@ -6,7 +6,11 @@ use Rattle.sift_core.proofs.Home.{landed_round, landed_logged}
 use Rattle.sift_core.proofs.machine.Machine.land.Goals as goal
 
 pub returns-clause-round : goal.returns-clause-round
-returns-clause-round c = landed_round (mission_of c.args.mission.now) c.args.self (record { journals = c.journals_of.result; accounts = c.accounts_of.result }) (record {
+returns-clause-round c = landed_round (mission_of c.args.mission.now) c.args.self (record {
+  journals = c.journals_of.result;
+  accounts =
+      c.accounts_of.result;
+}) (record {
   flies = c.requires.flies;
   landed = c.requires.landed;
   words = subst (λ (acts : List Ledger). All HasItsWords acts) (ap (λ acts. acts.items) c.end.ensures) c.journals_of.ensures.words;
@@ -16,7 +20,11 @@ returns-clause-round c = landed_round (mission_of c.args.mission.now) c.args.sel
     c.boards_keep_to_their_conduct.ensures c.lawful_cores_hear_lawfully.ensures c.landed_frames_are_round.ensures
 
 pub returns-clause-logged : goal.returns-clause-logged
-returns-clause-logged c = landed_logged (mission_of c.args.mission.now) c.args.self (record { journals = c.journals_of.result; accounts = c.accounts_of.result }) (record {
+returns-clause-logged c = landed_logged (mission_of c.args.mission.now) c.args.self (record {
+  journals = c.journals_of.result;
+  accounts =
+      c.accounts_of.result;
+}) (record {
   flies = c.requires.flies;
   landed = c.requires.landed;
   words = subst (λ (acts : List Ledger). All HasItsWords acts) (ap (λ acts. acts.items) c.end.ensures) c.journals_of.ensures.words;

@@ -19,7 +19,8 @@ loop-number-preserved c =
       | in-Some+in_ok-make w ↦ rw w.boards-is (record {
         within = omega arith;
         room = (let r = inv.room in let k = w.push_reserved.ensures.capacity in omega arith);
-        boards = rw w.push_reserved.ensures.items (boards_push (mission_of c.args.mission.now) c.loop-number.number w.in-Some.unit c.loop-number.boards.items _ inv.boards
+        boards = rw w.push_reserved.ensures.items (boards_push (mission_of c.args.mission.now) c.loop-number.number w.in-Some.unit
+            c.loop-number.boards.items _ inv.boards
             w.in-Some.ensures.found.0 w.in_ok-make.ensures);
       })
       | in_default w ↦
@@ -31,5 +32,6 @@ loop-number-preserved c =
 pub returns : goal.returns
 returns c =
     let units : c.parts.result.now.units ≡ c.args.mission.now.units = ap (λ parts. parts.units) c.parts.ensures.same in
-    let all : c.loop-number.number ≡ c.args.mission.now.units = let w = c.loop-number.invariant.within in let t = c.loop-number-test.false in omega arith in
+    let all : c.loop-number.number ≡ c.args.mission.now.units = let w = c.loop-number.invariant.within in let t =
+    c.loop-number-test.false in omega arith in
     subst (λ (n : ℕ). AreNewBoards (mission_of c.args.mission.now) n c.loop-number.boards.items) all c.loop-number.invariant.boards

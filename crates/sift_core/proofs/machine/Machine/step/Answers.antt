@@ -25,7 +25,8 @@ returns-clause-flies c = step_flies (mission_of c.args.mission.now) c.args.self.
     }) _ refl
 
 pub returns-clause-stepped : goal.returns-clause-stepped
-returns-clause-stepped c = step_stepped (mission_of c.args.mission.now) c.args.self.now c.args.u c.choose.new.self c.from.result c.index_mut.result.now
+returns-clause-stepped c = step_stepped (mission_of c.args.mission.now) c.args.self.now c.args.u c.choose.new.self c.from.result
+    c.index_mut.result.now
     c.step.result c.step.new.port c.step.new.self (record {
       keep = c.events_keep_the_core_lawful.ensures;
       flies = c.requires.flies;

@@ -13,7 +13,8 @@ returns-clause-follows c =
     let x : Rack = c.args.self.now in
     let at = c.from-unit.ensures ∙ c.get.ensures.number in
     let low : x.unit < length x.acts.items = rw x.crew x.here in
-    let own : c.index_mut-own.result.now ≡ ledger_at x.acts.items x.unit = lent x.acts.items x.unit c.from-unit.result c.index_mut-own.result.now no_ledger at low
+    let own : c.index_mut-own.result.now ≡ ledger_at x.acts.items x.unit = lent x.acts.items x.unit c.from-unit.result
+    c.index_mut-own.result.now no_ledger at low
     c.index_mut-own.ensures.value in
     let number : c.from.result + 1 ≡ ((core_of x).of x.unit).progress + 1 =
     ap (λ (n : ℕ). n + 1) (c.from.ensures ∙ (c.progress.ensures.progress ∙ ap (λ (l : Ledger). l.progress) own)) in

@@ -10,7 +10,8 @@ loop-number-preserved c =
       | in-Some+in_ok-make w ↦ rw w.all-is (record {
         within = omega arith;
         room = (let r = inv.room in let k = w.push_reserved.ensures.capacity in omega arith);
-        crew = rw w.push_reserved.ensures.items (crew_push c.loop-number.all.items w.in_ok-make.field-0 c.loop-number.number w.in-Some.unit c.args.layout c.args.frames inv.crew
+        crew = rw w.push_reserved.ensures.items (crew_push c.loop-number.all.items w.in_ok-make.field-0 c.loop-number.number w.in-Some.unit
+            c.args.layout c.args.frames inv.crew
             w.in-Some.ensures.found.0 w.in_ok-make.ensures);
       })
       | in_default w ↦ let high = w.in_default.ensures.none in let few = c.requires.few_units in absurd (omega arith)

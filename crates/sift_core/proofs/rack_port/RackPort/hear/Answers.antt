@@ -12,10 +12,12 @@ pub returns-clause-follows : goal.returns-clause-follows
 returns-clause-follows c =
     let x : Rack = c.args.self.now in let a = c.args in let w : Option ℕ = c.take-word.result in
     let at : ℕ = place (ranges_for x) a.from x.unit a.slot in
-    let low : at < length x.words.items = rw x.wide (subst (λ (n : ℕ). n < shared_words (ranges_for x)) c.place-place.ensures.place c.place-place.ensures.below) in
+    let low : at < length x.words.items = rw x.wide (subst (λ (n : ℕ). n < shared_words (ranges_for x)) c.place-place.ensures.place
+    c.place-place.ensures.below) in
     let cell = lent x.words.items at c.place-place.result c.index.result.now 0 c.place-place.ensures.place low c.index.ensures in
     let found : w ≡ taken (slice_index x.words.items at) a.stamp = c.take-word.ensures.word ∙ ap (λ (n : ℕ). taken n a.stamp) cell in
-    follows_by x _ (hear x.unit a.from a.slot a.f a.stamp) (λ d. with_heard d a.f a.slot a.from a.stamp w) c.from.result c.index_mut-own.result.now c.note_heard.new.self
+    follows_by x _ (hear x.unit a.from a.slot a.f a.stamp) (λ d. with_heard d a.f a.slot a.from a.stamp w) c.from.result c.index_mut-own.result.now
+    c.note_heard.new.self
     (record {
       layout = refl;
       frames = refl;

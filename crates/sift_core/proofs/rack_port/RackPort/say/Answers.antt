@@ -8,7 +8,8 @@ use Rattle.sift_core.proofs.rack_port.RackPort.say.Goals as goal
 pub returns-clause-follows : goal.returns-clause-follows
 returns-clause-follows c =
     let x : Rack = c.args.self.now in let a = c.args in
-    follows_by x _ (say x.unit a.to a.slot a.f a.stamp a.word) (λ d. with_said d a.f a.slot a.to a.stamp a.word) c.from.result c.index_mut-own.result.now
+    follows_by x _ (say x.unit a.to a.slot a.f a.stamp a.word) (λ d. with_said d a.f a.slot a.to a.stamp a.word) c.from.result
+    c.index_mut-own.result.now
     c.note_said.new.self (record {
       layout = refl;
       frames = refl;

@@ -1,0 +1,132 @@
+//! Machines over the mission made by hand: who steps, and a whole flight.
+
+ghost use Rattle.std.specs.Prelude.{◌≡◌, true};
+ghost use Rattle.sift_base.specs.Units.{has};
+ghost use Rattle.sift_core.specs.Machines.{Flies};
+ghost use Rattle.sift_unit.specs.Flown.{mission_of};
+
+use crate::unit::parts;
+use sift_base::{Draw, UnitId};
+use sift_core::{Machine, fly};
+use sift_flight::Flight;
+use sift_unit::{Account, Mission, Stepped};
+use std::alloc::Global;
+use std::process::Abort;
+use std::test::Fail;
+
+/// Who steps last in each of the first hundred turns, by the order number. In its first subframe unit 0 says its clock
+/// and the sensor to seven units, and each other unit its clock; in the second no one says or hears a word; in the
+/// third each hears seven clocks first. In the second subframe a unit waits until all have come to it.
+const TURNS: [(u64, &str); 3] = [
+    (
+        0,
+        "7014530703726546123365725317361024132706031150704607100024200656024445560340461305125470150671670550",
+    ),
+    (
+        1,
+        "6146232612324024274535625040107245600045740056057000005163761111773337351474167513722103066076125430",
+    ),
+    (
+        2,
+        "4200734612722202256706425670736456311404743740070631600103300015513155542520665021627625665173562210",
+    ),
+];
+
+fn expect_turns(
+    rt: &impl Abort,
+    alloc: Global,
+    mission: &Mission,
+    order: u64,
+    want: &[u8],
+) -> Result<(), Fail> {
+    let mut machine = Machine::make(alloc, mission)?;
+    let mut drawer = Draw::of(order);
+    for &digit in want {
+        let last = machine
+            .turn(mission, &mut drawer)
+            .ok_or("units have yet to land")?;
+        assert_eq!(rt; last.get() + 48, digit, "order {order}");
+    }
+    Ok(())
+}
+
+#[test]
+fn the_order_number_draws_who_steps(rt: HostRuntime) -> Result<(), Fail> {
+    let mission = Mission::of(parts(rt.alloc())?);
+    for (order, want) in TURNS {
+        expect_turns(&rt, rt.alloc(), &mission, order, want.as_bytes())?;
+    }
+    Ok(())
+}
+
+/// Unit 0, which is one of eight.
+fn first_of(_mission: &Mission) -> UnitId
+    requires { _mission.now.units ≡ 8 }
+    ensures { has (mission_of _mission.now).units result ≡ true }
+{
+    UnitId::default()
+}
+
+/// So many steps of a unit, each with the same answer.
+fn expect_steps(
+    rt: &impl Abort,
+    machine: &mut Machine,
+    mission: &Mission,
+    u: UnitId,
+    times: u8,
+    want: Stepped,
+)
+    requires flies { Flies (mission_of mission.now) machine.old }
+    requires unit { has (mission_of mission.now).units u ≡ true }
+    ensures { Flies (mission_of mission.now) machine.new }
+{
+    for _ in 0..times {
+        let stepped = machine.step(mission, u);
+        assert_eq!(rt; stepped, want);
+    }
+}
+
+/// Unit 0 alone says its clock and the sensor to seven units, enters the second subframe, and waits there for unit 1.
+#[test]
+fn one_unit_alone_waits_in_the_second_subframe(rt: HostRuntime) -> Result<(), Fail> {
+    let parts = parts(rt.alloc())?;
+    let eight = parts.units;
+    let mission = Mission::of(parts);
+    assert_eq!(rt; eight, 8);
+    let first = first_of(&mission);
+    let mut machine = Machine::make(rt.alloc(), &mission)?;
+    expect_steps(&rt, &mut machine, &mission, first, 15, Stepped::Moved);
+    let unit = UnitId::of(1).ok_or("unit 1")?;
+    let waits = Stepped::NotYet { unit, seen: 0 };
+    expect_steps(&rt, &mut machine, &mission, first, 3, waits);
+    Ok(())
+}
+
+/// In ten frames a unit puts out the sensor's words, which come round and round.
+fn expect_accounts(rt: &impl Abort, accounts: &[Account]) {
+    assert_eq!(rt; accounts.len(), 10);
+    for (account, want) in accounts.iter().zip([1, 2, 3, 1, 2, 3, 1, 2, 3, 1]) {
+        assert_eq!(rt; account.outs.len(), 2);
+        let mut words = account.outs.iter().map(|word| word.get());
+        assert_eq!(rt; words.next(), Some(want));
+        assert_eq!(rt; words.next(), Some(want));
+    }
+}
+
+fn expect_flight(rt: &impl Abort, flight: &Flight) {
+    assert_eq!(rt; flight.journals.len(), 8);
+    assert_eq!(rt; flight.accounts.len(), 8);
+    for accounts in &flight.accounts {
+        expect_accounts(rt, accounts);
+    }
+}
+
+#[test]
+fn a_mission_is_flown_to_its_end(rt: HostRuntime) -> Result<(), Fail> {
+    let mission = Mission::of(parts(rt.alloc())?);
+    for order in 0..3 {
+        let flight = fly(rt.alloc(), &mission, order)?;
+        expect_flight(&rt, &flight);
+    }
+    Ok(())
+}
