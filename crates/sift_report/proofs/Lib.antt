@@ -9,3 +9,4 @@ pub mod LineForms
 pub mod Fields
 pub mod Printed
 pub mod Machine
+pub mod Polls

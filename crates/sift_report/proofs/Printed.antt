@@ -1,10 +1,10 @@
 -- Texts that grow at their end.
-use Rattle.std.proofs.Common.{Result, Ok, Err, ◌≡◌, ℕ, zero, suc, ◌+◌, ◌<◌, ◌≤◌, List, [], ◌∷◌, ◌++◌, length, map, take, get_or, Some, true, refl, sym, ap, ◌∙◌, append_assoc, arith, codes}
+use Rattle.std.proofs.Common.{Result, Ok, Err, ◌≡◌, ℕ, zero, suc, ◌+◌, ◌<◌, ◌≤◌, List, [], ◌∷◌, ◌++◌, length, map, take, get_or, Some, true, refl, sym, ap, ◌∙◌, append_assoc, arith}
 use Rattle.std.specs.Prelude.{slice_get}
 use Rattle.std.specs.Result.{OnOk}
 use Rattle.std.specs.List.{flat_map, range_with_len}
 use Rattle.std.proofs.lemmas.Grind.{flat_map-append}
-use Rattle.std.proofs.lemmas.List.{append-nil, map-id, map_more, take_all}
+use Rattle.std.proofs.lemmas.List.{append-nil, map-id, map_more, take_all, take_more}
 use Rattle.std.proofs.lemmas.List.FromFn.{map-range_with_len_more}
 use Rattle.sift_base.specs.Units.{has}
 use Rattle.sift_base.proofs.Counts.{has-head, has-tail}
@@ -108,3 +108,11 @@ frame_ends line us units i frame last (Ok value) old now new so_far seen same is
     let all : now ≡ old ++ text_of_lines (map line units) = so_far ∙ ap (λ vs. old ++ text_of_lines (map line vs)) (take_all i us seen ∙ same) in
     line_after (map line units) frame old now new all (pushed ∙ ap (λ l. now ++ printed l) is)
 frame_ends line us units i frame last (Err reason) old now new so_far seen same is pushed = pushed
+
+-- the text of one unit more
+pub unit_more : (text : ℕ → List ℕ) (us : List ℕ) (i u : ℕ) (old now new : List ℕ) → slice_get us i ≡ Some u → now ≡ old ++ flat_map text (take i us)
+    → new ≡ now ++ text u → new ≡ old ++ flat_map text (take (i + 1) us)
+unit_more text us i u old now new there so_far here =
+    let more : take (i + 1) us ≡ take i us ++ u ∷ [] =
+    take_more us i u (place_there us i u there) ∙ ap (λ v. take i us ++ v ∷ []) (place_holds us i u u there) in
+    rw (here, so_far, more, flat_map-append text) (simp (append_assoc, append-nil))

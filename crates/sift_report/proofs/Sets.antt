@@ -9,7 +9,7 @@ use Rattle.std.proofs.lemmas.Bool.{agree_below_at, cases_Bool, cases_eq, eqb-tru
 use Rattle.std.proofs.lemmas.List.{take_more}
 use Rattle.sift_base.specs.Units.{Units, AreUnits, IsAscending, has, has_bit, holds, members, unit_limit, unit_numbers, units_of}
 use Rattle.sift_base.specs.ReadBack.{set-members}
-use Rattle.sift_base.proofs.Counts.{has-head, has-tail, nat_eq-same}
+use Rattle.sift_base.proofs.Counts.{has-head, has-tail}
 use Rattle.sift_base.proofs.Others.{not_same}
 use Rattle.sift_base.proofs.Sets.{filter_same, below_has, holds_low, holds-insert}
 use Rattle.sift_config.specs.Config.{IsConfig, first_units, remaining}
