@@ -2,7 +2,8 @@ use Rattle.sift_unit.specs.Data.{data_of}
 use Rattle.sift_unit.specs.Flown.{mission_of}
 use Rattle.sift_flight.specs.Told.{told}
 use Rattle.sift_report.specs.Votes.{unit_votes}
-use Rattle.sift_report.proofs.Printed.{has_place, unit_more}
+use Rattle.sift_flight.proofs.Counted.{has_place}
+use Rattle.sift_report.proofs.Printed.{unit_more}
 use Rattle.sift_report.proofs.votes.push_frame_votes.Goals as goal
 
 pub push_unit_votes-requires-clause-unit : goal.push_unit_votes-requires-clause-unit
