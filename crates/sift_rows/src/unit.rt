@@ -166,7 +166,7 @@ fn clock() -> ClockPlan
 }
 
 /// The parts of the mission. The sensor's words are 1, 2 and 3.
-fn parts(alloc: Global) -> Result<MissionParts, Fail>
+pub fn parts(alloc: Global) -> Result<MissionParts, Fail>
     ensures { IfOk result (λ parts. PartsFit (data_of parts)) }
 {
     let words = vec![in alloc; Word::of(1), Word::of(2), Word::of(3)]?;
