@@ -10,3 +10,5 @@ pub mod Fields
 pub mod Printed
 pub mod Machine
 pub mod Polls
+pub mod Heard
+pub mod Remaining

@@ -1,105 +1,36 @@
--- What a unit polled of an output word, and the majority of it.
-use Rattle.std.proofs.Common.{codes, append_assoc, ◌≡◌, ◌≢◌, ℕ, ◌+◌, ◌<◌, ◌≤◌, List, [], ◌∷◌, ◌++◌, length, map, get_or, true, false, Option, Some, None, nat_eq, refl, sym, ap, subst, ◌∙◌, arith, lt-ltb}
-use Rattle.std.specs.Prelude.{IfNone, IfSome, slice_get}
+-- What a unit polled of an output word, the majority of it, and the line of its vote.
+use Rattle.std.proofs.Common.{codes, append_assoc, ◌≡◌, ℕ, ◌+◌, ◌<◌, ◌≤◌, List, [], ◌∷◌, ◌++◌, length, map, get_or, Option}
+use Rattle.std.proofs.Common.{Some, None, refl, sym, ap, ◌∙◌, arith}
+use Rattle.std.specs.Prelude.{IfNone, IfSome}
 use Rattle.std.specs.Fmt.{decimal}
 use Rattle.std.specs.Vec.{vec_len}
 use Rattle.std.specs.List.{join_with_byte}
 use Rattle.arrayvec.specs.declared.array_string.ArrayString.{ArrayString}
-use Rattle.std.proofs.lemmas.List.{get_or-map, get_or_default, length-map, map-append}
-use Rattle.std.proofs.lemmas.List.FromFn.{length-range_with_len}
+use Rattle.std.proofs.lemmas.List.{get_or-map, length-map, map-append}
 use Rattle.std.proofs.lemmas.List.Sums.{sum_by_more, sum_by_more_le}
 use Rattle.std.proofs.lemmas.Simd.{map-map}
-use Rattle.sift_base.specs.Layout.{slot_number, word_limit}
-use Rattle.sift_base.specs.Units.{has, IsAscending}
-use Rattle.sift_base.specs.declared.slot.Slot.TheVariants.{Out}
-use Rattle.sift_base.proofs.Counts.{nat_eq-same}
-use Rattle.sift_base.proofs.Others.{not_same}
-use Rattle.sift_buffer.specs.Journals.{IsJournalOf, Pages, heard_in, ranges_in, said_in}
-use Rattle.sift_buffer.specs.Ranges.{IsPlace}
+use Rattle.sift_base.specs.Layout.{word_limit}
 use Rattle.sift_lang.specs.Tree.{TaskTree, tree_of}
 use Rattle.sift_program.specs.Sound.{first_word, output_count}
 use Rattle.sift_unit.specs.Data.{MissionData, data_of}
-use Rattle.sift_unit.specs.Flown.{flown, mission_of}
+use Rattle.sift_unit.specs.Flown.{flown}
 use Rattle.sift_unit.specs.Mission.{Mission}
 use Rattle.sift_unit.specs.Needs.{task_at}
 use Rattle.sift_unit.specs.PartsFit.{PartsFit}
 use Rattle.sift_unit.specs.declared.parts.MissionParts.{MissionParts}
-use Rattle.sift_unit.proofs.Numbers.{range-has}
 use Rattle.sift_vote.specs.Agreed.{majority_of}
 use Rattle.sift_vote.specs.Majority.{HasNoMajority, IsMajority}
 use Rattle.sift_vote.proofs.Found.{majority_is_found}
 use Rattle.sift_flight.specs.Flight.{Flight}
-use Rattle.sift_flight.specs.Told.{IsWhole, journal_of, no_pages, told}
-use Rattle.sift_flight.specs.declared.flight.Flight.{Flight as TheFlight}
 use Rattle.sift_report.specs.Part.{blank, list_text, unit_digit}
 use Rattle.sift_report.specs.Poll.{poll_of, polled_text, polls_of}
-use Rattle.sift_report.specs.Votes.{lowest_other, name_of, place_of, place_text, poll_text, polled_units, polls_text, vote_fields, vote_text, word_number}
+use Rattle.sift_report.specs.Votes.{name_of, place_of, place_text, poll_text, polled_units, polls_text, vote_fields, vote_text}
+use Rattle.sift_report.specs.Votes.{word_number}
 use Rattle.sift_report.specs.declared.poll.Poll.{Poll}
 
 -- the name of a task or a sensor
 abbrev Name : Type 0
 Name = ArrayString 16
-
--- ---- the lowest other unit
-
--- where the lowest unit is another, it is that
-pub lowest_first : (us : List ℕ) (u a : ℕ) → slice_get us 0 ≡ Some a → a ≢ u → lowest_other us u ≡ a
-lowest_first [] u a e other = absurd cc
-lowest_first (v ∷ us) u a e other =
-    let same : v ≡ a = (cc) in
-    rw (not_same v u (λ own. other (sym same ∙ own))) same
-
--- where it is the unit itself, the next is
-pub lowest_second : (us : List ℕ) (u b : ℕ) → IsAscending us → slice_get us 0 ≡ Some u → slice_get us 1 ≡ Some b → (lowest_other us u ≡ b) × (b ≢ u)
-lowest_second [] u b up e next = absurd cc
-lowest_second (v ∷ []) u b up e next = absurd cc
-lowest_second (v ∷ w ∷ us) u b up e next =
-    let own : v ≡ u = (cc) in
-    let same : w ≡ b = (cc) in
-    let above : w ≢ u = λ at. absurd (omega (arith, up.0.0)) in
-    let passed : nat_eq v u ≡ true = rw own (nat_eq-same u) in
-    let kept : nat_eq w u ≡ false = not_same w u above in
-    (rw (passed, kept) same, λ at. above (same ∙ at))
-
--- ---- journals
-
-module _ (parts : MissionParts) (fit : PartsFit (data_of parts)) (fl : TheFlight) (whole : IsWhole (mission_of parts) parts.layout fl)
-    (u : ℕ) (unit : has (mission_of parts).units u ≡ true) (journal : Pages) (is : journal ≡ get_or fl.journals.items u journal) where
-  -- the unit has a journal
-  pub journal-there : u < length fl.journals.items
-  journal-there =
-      let below = range-has 0 parts.units u unit in
-      omega (arith, below.1, length-range_with_len 0 parts.units, whole.logged.journals)
-
-  journal-is : journal ≡ journal_of fl u
-  journal-is = is ∙ get_or_default fl.journals.items u journal no_pages journal-there
-
-  owner : IsJournalOf journal parts.layout u parts.frames
-  owner = subst (λ j. IsJournalOf j parts.layout u parts.frames) (sym journal-is) (whole.logged.journal u unit)
-
-  -- with a place for each word, frame and other unit
-  pub journal-place : (w f v : ℕ) → w < parts.layout.words → f < parts.frames → has (mission_of parts).units v ≡ true → v ≢ u
-      → IsPlace (ranges_in journal) journal.unit v (slot_number parts.layout (Out w)) f
-  journal-place w f v low frame there other =
-      let below = range-has 0 parts.units v there in
-      rw (owner.layout_is, owner.frames_are, owner.unit_is)
-      (record { cell = record { unit = omega (arith, below.1, fit.layout.units); other = other; slot = omega arith }; frame = frame })
-
-  -- and tells what was said and heard there
-  pub journal-said : (w f v : ℕ) → w < parts.layout.words → said_in journal f (slot_number parts.layout (Out w)) v ≡ (told (mission_of parts) fl).said u f (Out w) v
-  journal-said w f v low = rw (lt-ltb w parts.layout.words low, journal-is) refl
-
-  pub journal-heard : (w f v : ℕ) → w < parts.layout.words → heard_in journal f (slot_number parts.layout (Out w)) v ≡ (told (mission_of parts) fl).heard u f (Out w) v
-  journal-heard w f v low = rw (lt-ltb w parts.layout.words low, journal-is) refl
-
--- the place of the unit itself and that of another
-pub place-own : (m : Mission) (fl : Flight) (f u w v : ℕ) → v ≡ u → place_of m fl f u w v ≡ fl.said u f (Out w) (lowest_other ((fl.account u f).cfg) u)
-place-own m fl f u w v same = let test : nat_eq v u ≡ true = rw same (nat_eq-same u) in rw test refl
-
-pub place-other : (m : Mission) (fl : Flight) (f u w v : ℕ) → v ≢ u → place_of m fl f u w v ≡ fl.heard u f (Out w) v
-place-other m fl f u w v other = rw (not_same v u other) refl
-
--- ---- polls
 
 -- the words of polls, and their text
 pub polled_words : (m : Mission) (fl : Flight) (f u w : ℕ) → map (λ poll. poll.word) (polls_of m fl f u w) ≡ map (place_of m fl f u w) (polled_units m fl f u w)

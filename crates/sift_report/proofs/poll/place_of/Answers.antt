@@ -7,7 +7,7 @@ use Rattle.sift_buffer.specs.Journals.{heard_in, said_in}
 use Rattle.sift_unit.specs.Flown.{mission_of}
 use Rattle.sift_flight.specs.Told.{told}
 use Rattle.sift_report.specs.Votes.{lowest_other}
-use Rattle.sift_report.proofs.Polls.{journal-heard, journal-place, journal-said, place-other, place-own}
+use Rattle.sift_report.proofs.Heard.{journal-heard, journal-place, journal-said, place-other, place-own}
 use Rattle.sift_report.proofs.poll.place_of.Goals as goal
 
 pub said-requires : goal.said-requires
