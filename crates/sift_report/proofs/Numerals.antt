@@ -90,7 +90,8 @@ negative_is_printed [] r negative parsed = absurd negative
 negative_is_printed (s ∷ []) r negative parsed = absurd negative
 negative_is_printed (s ∷ c ∷ cs) r negative parsed =
     let told = parse_signed_minus numerals w64 (s ∷ c ∷ cs) r parsed negative.0 in
-    elim r as (λ v. OkIff v (AllDigits 10 (c ∷ cs) × (0 < length (c ∷ cs)) × (digits_value 10 (c ∷ cs) ≤ 2 ^ 63)) (neg_ℤ (pos (digits_value 10 (c ∷ cs)))) → IfSome (result_ok v) (λ z. signed_decimal z ≡ s ∷ c ∷ cs)) [
+    elim r as (λ v. OkIff v (AllDigits 10 (c ∷ cs) × (0 < length (c ∷ cs)) × (digits_value 10 (c ∷ cs) ≤ 2 ^ 63)) (neg_ℤ (pos (digits_value 10 (c ∷ cs))))
+    → IfSome (result_ok v) (λ z. signed_decimal z ≡ s ∷ c ∷ cs)) [
       | Ok n ↦ λ h. rw h.1 (behind_sign _ s c cs negative
           (decimal-digits_value numerals (c ∷ cs) h.0.0 h.0.1 (λ z. absurd (omega (arith, negative.1.0))) (omega arith)))
       | Err e ↦ λ _. tt

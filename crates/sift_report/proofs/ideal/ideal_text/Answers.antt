@@ -29,7 +29,8 @@ loop-f-preserved c =
     let agreed = c.deref.ensures.0 ∙ c.sensed_in.ensures in
     let before : c.loop-f.ideal ≡ words_before d.program (sensed_in (mission_of c.args.mission.now)) c.loop-f.f = c.loop-f.invariant.1 in
     let words = rw c.parts.ensures.same at (c.frame.ensures.in_turn (sensed_in (mission_of c.args.mission.now)) c.loop-f.f (rw c.parts.ensures.same before) agreed) in (
-      first_text_more (ideal_line d) c.loop-f.f _ _ c.loop-f.invariant.0 (c.in_ok-push_outputs.ensures ∙ ap (λ ws. string_bytes c.loop-f.text ++ outputs_text c.loop-f.f ws) (c.outs.ensures ∙ words)),
+      first_text_more (ideal_line d) c.loop-f.f _ _ c.loop-f.invariant.0
+          (c.in_ok-push_outputs.ensures ∙ ap (λ ws. string_bytes c.loop-f.text ++ outputs_text c.loop-f.f ws) (c.outs.ensures ∙ words)),
       rw (add-one c.loop-f.f) words,
     )
 
