@@ -1,5 +1,6 @@
 -- How many units a configuration has, and how many of them work.
-use Rattle.std.proofs.Common.{◌≡◌, ℕ, zero, suc, ◌+◌, ◌-◌, ◌<◌, ◌≤◌, List, [], ◌∷◌, ◌++◌, length, get_or, take, Bool, true, false, ◌&&◌, cond, Some, refl, sym, ap, ◌∙◌, inl, inr, arith}
+use Rattle.std.proofs.Common.{◌≡◌, ℕ, zero, suc, ◌+◌, ◌-◌, ◌<◌, ◌≤◌, List, [], ◌∷◌, ◌++◌, length, get_or, take, Bool, true, false, ◌&&◌, cond}
+use Rattle.std.proofs.Common.{Some, refl, sym, ap, ◌∙◌, inl, inr, arith}
 use Rattle.std.specs.Prelude.{count_by, nat_le, slice_get}
 use Rattle.std.specs.List.{filter}
 use Rattle.std.proofs.lemmas.Bool.{cases_Bool, le-leb, lt-leb}
@@ -47,14 +48,14 @@ filter-≤ passes us = omega (arith, faulty-rest passes us)
 -- ---- place by place
 
 -- a place that a list has
-place_there : (us : List ℕ) (i u : ℕ) → slice_get us i ≡ Some u → i < length us
+pub place_there : (us : List ℕ) (i u : ℕ) → slice_get us i ≡ Some u → i < length us
 place_there [] zero u e = absurd cc
 place_there [] (suc i) u e = absurd cc
 place_there (v ∷ us) zero u e = omega arith
 place_there (v ∷ us) (suc i) u e = omega (arith, place_there us i u e)
 
 -- holds what stands there
-place_holds : (us : List ℕ) (i u d : ℕ) → slice_get us i ≡ Some u → get_or us i d ≡ u
+pub place_holds : (us : List ℕ) (i u d : ℕ) → slice_get us i ≡ Some u → get_or us i d ≡ u
 place_holds [] zero u d e = absurd cc
 place_holds [] (suc i) u d e = absurd cc
 place_holds (v ∷ us) zero u d e = cc

@@ -27,7 +27,9 @@ frame_flown (Some from) frames f low still = elim (cases_lt f from) [
 module _ (fl : TheFlight) (u : ℕ) (row : Vec TheAccount Global) (low : u < length fl.accounts.items) (is : row ≡ get_or fl.accounts.items u row) where
   -- the accounts of a unit are those in its row
   row_is : accounts_of fl u ≡ map account_of row.items
-  row_is = get_or-map (λ (accounts : Vec TheAccount Global). map account_of accounts.items) fl.accounts.items u row [] low ∙ ap (λ (r : Vec TheAccount Global). map account_of r.items) (sym is)
+  row_is =
+      get_or-map (λ (accounts : Vec TheAccount Global). map account_of accounts.items) fl.accounts.items u row [] low
+      ∙ ap (λ (r : Vec TheAccount Global). map account_of r.items) (sym is)
 
   -- there are as many
   in_row : (f : ℕ) → f < length (accounts_of fl u) → f < length row.items

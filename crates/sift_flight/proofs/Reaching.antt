@@ -1,5 +1,6 @@
 -- Round flights are whole, by induction over frames.
-use Rattle.std.proofs.Common.{◌≡◌, ℕ, zero, suc, ◌+◌, ◌*◌, ◌<◌, ◌≤◌, List, length, Bool, not, true, false, Option, None, Some, ℤ, pos, ◌+ℤ◌, inl, inr, refl, subst, arith}
+use Rattle.std.proofs.Common.{◌≡◌, ℕ, zero, suc, ◌+◌, ◌*◌, ◌<◌, ◌≤◌, List, length, Bool, not, true, false, Option, None, Some, ℤ, pos, ◌+ℤ◌}
+use Rattle.std.proofs.Common.{inl, inr, refl, subst, arith}
 use Rattle.std.specs.Prelude.{nat_le}
 use Rattle.std.proofs.lemmas.Bool.{cases_Bool, cases_lt, cases_eq, le-ltb, lt-ltb, leb-true}
 use Rattle.std.proofs.lemmas.Int.{ints}
@@ -83,7 +84,8 @@ module _ (m : Mission) (flyable : IsFlyable m) (near : (u : ℕ) → has m.units
         let told_apart = flyable.clocks.admitted.told in
         let drift = flyable.clocks.drifts u unit in
         let error = flyable.clocks.errors u u unit unit in
-        let near_by = offsets_change_little (m.skew +ℤ m.error) m.rate (fl.account u f).cfg (reading_by m u (fl.account u f).clk (fl.heard u f)) (fl.account u f).clk (m.drift u) u there (omega (arith, ints)) drift in
+        let read = reading_by m u (fl.account u f).clk (fl.heard u f) in
+        let near_by = offsets_change_little (m.skew +ℤ m.error) m.rate (fl.account u f).cfg read (fl.account u f).clk (m.drift u) u there (omega (arith, ints)) drift in
         let same = busy.conduct.clocks.next in
         rw same (omega (arith, ints, near_by.0), omega (arith, ints, near_by.1))
     | inr away ↦

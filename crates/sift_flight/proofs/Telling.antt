@@ -1,5 +1,6 @@
 -- The margin, the skew and the slack of a frame are told as they are.
-use Rattle.std.proofs.Common.{◌≡◌, ℕ, zero, suc, ◌+◌, ◌<◌, ◌≤◌, List, [], ◌∷◌, ◌++◌, fold, true, false, Option, None, Some, length, take, get_or, ℤ, pos, to_z, of_z, w64, ◌-ℤ◌, inl, inr, refl, sym, ap, subst, ◌∙◌, arith}
+use Rattle.std.proofs.Common.{◌≡◌, ℕ, zero, suc, ◌+◌, ◌<◌, ◌≤◌, List, [], ◌∷◌, ◌++◌, fold, true, false, Option, None, Some, length, take}
+use Rattle.std.proofs.Common.{get_or, ℤ, pos, to_z, of_z, w64, ◌-ℤ◌, inl, inr, refl, sym, ap, subst, ◌∙◌, arith}
 use Rattle.std.specs.Prelude.{◌≤ℤ◌, nat_le, map, MatchOption}
 use Rattle.std.specs.Int.{int_max, int_min}
 use Rattle.std.specs.List.{Contains}

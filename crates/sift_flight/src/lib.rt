@@ -1,5 +1,5 @@
 //! Flights as equations: what units hear of one another, and what follows of the flights in which
-//! all units do as they ought to.
+//! all units do as they ought to; and the figures of a frame that a report tells.
 #![tactic(auto)]
 
 mod alike;

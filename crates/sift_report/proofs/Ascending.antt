@@ -1,5 +1,6 @@
 -- Ascending units, read digit by digit.
-use Rattle.std.proofs.Common.{◌≡◌, ℕ, ◌+◌, ◌<◌, ◌≤◌, List, [], ◌∷◌, ◌++◌, length, map, take, drop, get_or, refl, sym, ap, subst, ◌∙◌, add-one, arith, codes, append_assoc, length-append}
+use Rattle.std.proofs.Common.{◌≡◌, ℕ, ◌+◌, ◌<◌, ◌≤◌, List, [], ◌∷◌, ◌++◌, length, map, take, drop, get_or, refl, sym, ap, subst, ◌∙◌, add-one}
+use Rattle.std.proofs.Common.{arith, codes, append_assoc, length-append}
 use Rattle.std.proofs.lemmas.List.{take_more, take_all, map-append, get_or-map, length-map, append-nil}
 use Rattle.std.proofs.Math.Seq.{drop-cons}
 use Rattle.sift_report.specs.Part.{AscendFrom, unit_digit, units_text}

@@ -1,5 +1,6 @@
 -- A line is known from its fields, with blanks between them.
-use Rattle.std.proofs.Common.{◌≡◌, ℕ, ℤ, ◌<◌, ◌≤◌, ◌^◌, List, [], ◌∷◌, length, map, eqb, Bool, true, false, Option, Some, None, IfSome, sym, ap, ◌∙◌, arith, rules, w64}
+use Rattle.std.proofs.Common.{◌≡◌, ℕ, ℤ, ◌<◌, ◌≤◌, ◌^◌, List, [], ◌∷◌, length, map, eqb, Bool, true, false, Option, Some, None, IfSome, sym, ap}
+use Rattle.std.proofs.Common.{◌∙◌, arith, rules, w64}
 use Rattle.std.specs.Fmt.{decimal, signed_decimal}
 use Rattle.std.specs.Int.RustNames.{FitsSigned}
 use Rattle.std.specs.List.{join_with_byte, slice_split}

@@ -12,3 +12,6 @@ mod SameTexts
 mod Places
 mod HeadlineLines
 pub mod Machine
+pub mod Polls
+pub mod Heard
+pub mod Remaining

@@ -1,11 +1,13 @@
 -- Numbers, printed and read back.
-use Rattle.std.proofs.Common.{◌≡◌, ◌≢◌, ℕ, zero, suc, ◌^◌, ◌<◌, ◌≤◌, ◌⊎◌, inl, inr, List, [], ◌∷◌, length, get_or, ℤ, pos, negsuc, Option, Some, None, Result, Ok, Err, IfSome, refl, sym, ap, subst, ◌∙◌, arith, w64, codes}
+use Rattle.std.proofs.Common.{◌≡◌, ◌≢◌, ℕ, zero, suc, ◌^◌, ◌<◌, ◌≤◌, ◌⊎◌, inl, inr, List, [], ◌∷◌, length, get_or, ℤ, pos, negsuc, Option, Some}
+use Rattle.std.proofs.Common.{None, Result, Ok, Err, IfSome, refl, sym, ap, subst, ◌∙◌, arith, w64, codes}
 use Rattle.std.specs.Fmt.{decimal, signed_decimal}
 use Rattle.std.specs.Int.RustNames.{FitsSigned}
 use Rattle.std.specs.Result.{OkIff, result_ok}
 use Rattle.std.specs.Str.Parse.{AllDigits, digits_value, ParsesUnsigned, ParsesSigned}
 use Rattle.std.proofs.lemmas.Fmt.{decimal_is_IsNumeral, decimal_digit, decimal-digits_value, first_decimal, parse-decimal, parse-signed_decimal}
-use Rattle.std.proofs.lemmas.Str.Parse.{IsNumeralModel, digit_from_value, numerals_by_value, tells_digits, parse_plain, parse_signed_plain, parse_signed_minus}
+use Rattle.std.proofs.lemmas.Str.Parse.{IsNumeralModel, digit_from_value, numerals_by_value, tells_digits, parse_plain, parse_signed_plain}
+use Rattle.std.proofs.lemmas.Str.Parse.{parse_signed_minus}
 use Rattle.sift_report.specs.Number.{IsPlain, IsNegative, IsSigned}
 use Rattle.sift_report.specs.Part.{AreTicks, ticks_text}
 use lib.IntN.{neg_ℤ}
@@ -88,7 +90,8 @@ negative_is_printed [] r negative parsed = absurd negative
 negative_is_printed (s ∷ []) r negative parsed = absurd negative
 negative_is_printed (s ∷ c ∷ cs) r negative parsed =
     let told = parse_signed_minus numerals w64 (s ∷ c ∷ cs) r parsed negative.0 in
-    elim r as (λ v. OkIff v (AllDigits 10 (c ∷ cs) × (0 < length (c ∷ cs)) × (digits_value 10 (c ∷ cs) ≤ 2 ^ 63)) (neg_ℤ (pos (digits_value 10 (c ∷ cs)))) → IfSome (result_ok v) (λ z. signed_decimal z ≡ s ∷ c ∷ cs)) [
+    elim r as (λ v. OkIff v (AllDigits 10 (c ∷ cs) × (0 < length (c ∷ cs)) × (digits_value 10 (c ∷ cs) ≤ 2 ^ 63)) (neg_ℤ (pos (digits_value 10 (c ∷ cs))))
+    → IfSome (result_ok v) (λ z. signed_decimal z ≡ s ∷ c ∷ cs)) [
       | Ok n ↦ λ h. rw h.1 (behind_sign _ s c cs negative
           (decimal-digits_value numerals (c ∷ cs) h.0.0 h.0.1 (λ z. absurd (omega (arith, negative.1.0))) (omega arith)))
       | Err e ↦ λ _. tt

@@ -1,30 +1,18 @@
 -- Texts that grow at their end.
-use Rattle.std.proofs.Common.{Result, Ok, Err, ◌≡◌, ℕ, zero, suc, ◌+◌, ◌<◌, ◌≤◌, List, [], ◌∷◌, ◌++◌, length, map, take, get_or, Some, true, refl, sym, ap, ◌∙◌, append_assoc, arith, codes}
+use Rattle.std.proofs.Common.{Result, Ok, Err, ◌≡◌, ℕ, ◌+◌, ◌<◌, ◌≤◌, List, [], ◌∷◌, ◌++◌, length, map, take, Some, refl, sym, ap, ◌∙◌}
+use Rattle.std.proofs.Common.{append_assoc, arith}
 use Rattle.std.specs.Prelude.{slice_get}
 use Rattle.std.specs.Result.{OnOk}
 use Rattle.std.specs.List.{flat_map, range_with_len}
 use Rattle.std.proofs.lemmas.Grind.{flat_map-append}
-use Rattle.std.proofs.lemmas.List.{append-nil, map-id, map_more, take_all}
+use Rattle.std.proofs.lemmas.List.{append-nil, map-id, map_more, take_all, take_more}
 use Rattle.std.proofs.lemmas.List.FromFn.{map-range_with_len_more}
-use Rattle.sift_base.specs.Units.{has}
-use Rattle.sift_base.proofs.Counts.{has-head, has-tail}
+use Rattle.sift_flight.proofs.Counted.{place_holds, place_there}
 use Rattle.sift_report.specs.Line.{printed, text_of_lines}
 use Rattle.sift_report.specs.Part.{list_text, unit_digit, units_text}
 use Rattle.sift_report.specs.declared.line.ReportLine.{ReportLine}
 
 -- ---- units
-
-place_there : (us : List ℕ) (i u : ℕ) → slice_get us i ≡ Some u → i < length us
-place_there [] zero u e = absurd cc
-place_there [] (suc i) u e = absurd cc
-place_there (v ∷ us) zero u e = omega arith
-place_there (v ∷ us) (suc i) u e = omega (arith, place_there us i u e)
-
-place_holds : (us : List ℕ) (i u d : ℕ) → slice_get us i ≡ Some u → get_or us i d ≡ u
-place_holds [] zero u d e = absurd cc
-place_holds [] (suc i) u d e = absurd cc
-place_holds (v ∷ us) zero u d e = cc
-place_holds (v ∷ us) (suc i) u d e = place_holds us i u d e
 
 -- the digit of one unit more
 pub digit_more : (us : List ℕ) (i u : ℕ) (old now new : List ℕ) → slice_get us i ≡ Some u → now ≡ old ++ map unit_digit (take i us)
@@ -93,13 +81,6 @@ pub line_after : (lines : List ReportLine) (last : ReportLine) (old now new : Li
     → new ≡ old ++ text_of_lines (lines ++ last ∷ [])
 line_after lines last old now new so_far here = rw (here, so_far, flat_map-append printed) (simp (append_assoc, append-nil))
 
--- a unit at a place is one of the list
-pub has_place : (us : List ℕ) (i u : ℕ) → slice_get us i ≡ Some u → has us u ≡ true
-has_place [] zero u e = absurd cc
-has_place [] (suc i) u e = absurd cc
-has_place (v ∷ us) zero u e = let same : v ≡ u = (cc) in rw same (has-head u us)
-has_place (v ∷ us) (suc i) u e = has-tail v us u (has_place us i u e)
-
 -- the lines of all units, and that of the frame behind them
 pub frame_ends : {T E : Type 0} (line : ℕ → ReportLine) (us units : List ℕ) (i : ℕ) (frame last : ReportLine) (r : Result T E) (old now new : List ℕ)
     → now ≡ old ++ text_of_lines (map line (take i us)) → length us ≤ i → us ≡ units → last ≡ frame → OnOk r (new ≡ now ++ printed last)
@@ -108,3 +89,11 @@ frame_ends line us units i frame last (Ok value) old now new so_far seen same is
     let all : now ≡ old ++ text_of_lines (map line units) = so_far ∙ ap (λ vs. old ++ text_of_lines (map line vs)) (take_all i us seen ∙ same) in
     line_after (map line units) frame old now new all (pushed ∙ ap (λ l. now ++ printed l) is)
 frame_ends line us units i frame last (Err reason) old now new so_far seen same is pushed = pushed
+
+-- the text of one unit more
+pub unit_more : (text : ℕ → List ℕ) (us : List ℕ) (i u : ℕ) (old now new : List ℕ) → slice_get us i ≡ Some u → now ≡ old ++ flat_map text (take i us)
+    → new ≡ now ++ text u → new ≡ old ++ flat_map text (take (i + 1) us)
+unit_more text us i u old now new there so_far here =
+    let more : take (i + 1) us ≡ take i us ++ u ∷ [] =
+    take_more us i u (place_there us i u there) ∙ ap (λ v. take i us ++ v ∷ []) (place_holds us i u u there) in
+    rw (here, so_far, more, flat_map-append text) (simp (append_assoc, append-nil))

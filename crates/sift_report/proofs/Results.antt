@@ -1,5 +1,5 @@
 -- What the option of a result tells of it.
-use Rattle.std.proofs.Common.{◌≡◌, ap, Option, Result, Ok, Err, Some, None}
+use Rattle.std.proofs.Common.{◌≡◌, Result, Ok, Err, Some, None}
 use Rattle.std.specs.Result.{OnOk, OnErr, result_ok}
 
 -- where there is a value, the result was one

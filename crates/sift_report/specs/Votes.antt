@@ -12,7 +12,6 @@ use Rattle.sift_unit.specs.Mission.{Mission}
 use Rattle.sift_unit.specs.Needs.{task_at}
 use Rattle.sift_unit.specs.Slots.{executors}
 use Rattle.sift_flight.specs.Flight.{Flight, config_of}
-use Rattle.sift_flight.specs.Told.{told}
 use Rattle.sift_report.specs.Part.{blank, unit_digit, list_text, word_text}
 use Rattle.sift_report.specs.Sheet.{end_of}
 

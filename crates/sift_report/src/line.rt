@@ -18,9 +18,15 @@ pub enum ReportLine {
         bad: UnitSet,
     },
     /// The unit is faulty in the frame.
-    Faulty { f: u32, u: UnitId },
+    Faulty {
+        f: u32,
+        u: UnitId,
+    },
     /// The unit works in the frame, and is outside its own configuration.
-    Idle { f: u32, u: UnitId },
+    Idle {
+        f: u32,
+        u: UnitId,
+    },
     /// What is told of a whole frame.
     Frame {
         f: u32,

@@ -1,7 +1,9 @@
 //! The poll of one output word by one unit.
 
 ghost use Rattle.std.specs.Prelude.{◌≡◌, ◌≢◌, ◌+◌, ◌<◌, ◌≤◌, ◌++◌, ◌∷◌, All, OnOk, codes, length, map, slice_get, Some, true, string_bytes};
-ghost use Rattle.sift_base.specs.Units.{has};
+ghost use Rattle.std.specs.Fmt.{decimal};
+ghost use Rattle.sift_base.specs.Units.{has, IsAscending};
+ghost use Rattle.sift_vote.specs.Agreed.{majority_of};
 ghost use Rattle.sift_program.specs.Sound.{first_word};
 ghost use Rattle.sift_unit.specs.Acts.{IsConfigOf};
 ghost use Rattle.sift_unit.specs.Data.{data_of};
@@ -59,27 +61,45 @@ pub fn push_vote(
     ensures { OnOk result (string_bytes text.new ≡ string_bytes text.old
         ++ vote_text (data_of mission.now) (told (mission_of mission.now) flight.now) f u output.t output.j) }
 {
-    let j = output.j;
+    let name = mission.parts().names[output.t].as_str();
     let polls = polls_of(mission, flight, f, u, output.word);
+    let vote = vote_of(&polls);
     push_head(text, f, u)?;
-    text.push_str("t=")?;
-    text.push_str(mission.parts().names[output.t].as_str())?;
-    write!(text, ".{j} words=")?;
+    push_output(text, name, output.j)?;
     push_polls(text, &polls)?;
-    text.push_str(" vote=")?;
-    push_place(text, majority(&places_of(&polls)))?;
+    push_result(text, vote)?;
     text.push_str("\n")?;
     Ok(())
 }
 
+/// Appends the name of a task, the number of an output among its words, and the label of its polls.
+fn push_output(text: &mut String, name: &str, j: u8) -> Result<(), AllocError>
+    ensures { OnOk result (string_bytes text.new
+        ≡ string_bytes text.old ++ (codes "t=" ++ (name.now ++ (codes "." ++ (decimal j ++ codes " words="))))) }
+{
+    text.push_str("t=")?;
+    text.push_str(name)?;
+    write!(text, ".{j} words=")
+}
+
+/// Appends the majority.
+fn push_result(text: &mut String, vote: Option<Word>) -> Result<(), AllocError>
+    ensures { OnOk result (string_bytes text.new ≡ string_bytes text.old ++ (codes " vote=" ++ place_text vote)) }
+{
+    text.push_str(" vote=")?;
+    push_place(text, vote)
+}
+
+/// The majority of polls.
+fn vote_of(polls: &[Poll]) -> Option<Word>
+    requires { length polls.now ≤ 8 }
+    ensures { result ≡ majority_of (map (λ poll. poll.word) polls.now) }
+{
+    majority(&places_of(polls))
+}
+
 /// The words of a word's executors, as a unit has them.
-fn polls_of(
-    mission: &Mission,
-    flight: &Flight,
-    f: u32,
-    u: UnitId,
-    word: u8,
-) -> ArrayVec<Poll, 8>
+fn polls_of(mission: &Mission, flight: &Flight, f: u32, u: UnitId, word: u8) -> ArrayVec<Poll, 8>
     requires whole { IsWhole (mission_of mission.now) mission.now.layout flight.now }
     requires tells { tells (mission_of mission.now) (told (mission_of mission.now) flight.now) f u ≡ true }
     requires unit { has (mission_of mission.now).units u ≡ true }
@@ -130,6 +150,8 @@ fn place_of(
 
 /// The lowest other unit of a configuration.
 fn lowest_other(config: &Config, u: UnitId) -> UnitId
+    requires enough { 2 ≤ length config.now }
+    requires ascending { IsAscending config.now }
     ensures lowest { result ≡ lowest_other config.now u }
     ensures other { result ≢ u }
     ensures there { has config.now result ≡ true }

@@ -52,11 +52,7 @@ fn push_frame(
 }
 
 /// The last line of a whole flight's report, with its line feed.
-pub fn last_line_text(
-    alloc: Global,
-    mission: &Mission,
-    flight: &Flight,
-) -> Result<String, NoMemory>
+pub fn last_line_text(alloc: Global, mission: &Mission, flight: &Flight) -> Result<String, NoMemory>
     requires { IsWhole (mission_of mission.now) mission.now.layout flight.now }
     ensures { IfOk result (λ text. string_bytes text
         ≡ end_of (mission_of mission.now) (told (mission_of mission.now) flight.now)) }

@@ -1,6 +1,7 @@
 //! The votes of a flight.
 
-ghost use Rattle.std.specs.Prelude.{◌≡◌, ◌+◌, ◌<◌, ◌++◌, IfOk, OnOk, length, true, string_bytes};
+ghost use Rattle.std.specs.Prelude.{◌≡◌, ◌+◌, ◌<◌, ◌≤◌, ◌++◌, IfOk, OnOk, length, true, string_bytes};
+ghost use Rattle.sift_base.specs.Layout.{word_limit};
 ghost use Rattle.sift_base.specs.Units.{has};
 ghost use Rattle.sift_program.specs.Sound.{first_word};
 ghost use Rattle.sift_unit.specs.Data.{data_of};
@@ -101,6 +102,7 @@ fn push_task_votes(
     requires frame { f < (mission_of mission.now).frames }
     requires task { t < (mission_of mission.now).tasks }
     requires first { first ≡ first_word (data_of mission.now).program.tasks t }
+    requires room { first + (task_at (data_of mission.now).program.tasks t).outputs ≤ word_limit }
     ensures { OnOk result (string_bytes text.new ≡ string_bytes text.old
         ++ task_votes (data_of mission.now) (told (mission_of mission.now) flight.now) f u t) }
 {

@@ -38,6 +38,8 @@ mod pool;
 #[cfg(test)]
 mod program;
 #[cfg(test)]
+mod report;
+#[cfg(test)]
 mod scenario;
 #[cfg(test)]
 mod script;

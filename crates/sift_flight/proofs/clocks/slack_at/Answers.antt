@@ -19,7 +19,9 @@ found c =
     let now = c.deref-3.ensures.0 ∙ c.offsets_of-now.ensures.offsets ∙ ap (map clk) (c.deref.ensures.0 ∙ c.working_at-working.ensures.working) in
     let next = c.deref-4.ensures.0 ∙ c.next_offsets_of-next.ensures.offsets ∙ ap (map next_clk) (c.deref-2.ensures.0 ∙ c.working_at-working.ensures.working) in
     let length : to_z w32 (of_z w32 m.length) ≡ m.length = omega (arith, ints, c.parts.ensures.fit.clock.numbers.3) in
-    let figure = subst (λ n. MatchOption c.slack.result (c.deref-3.result.now ≡ []) (IsSlack n c.deref-3.result.now c.deref-4.result.now)) length (rw c.parts.ensures.same at c.slack.ensures) in
+    let figure =
+    subst (λ n. MatchOption c.slack.result (c.deref-3.result.now ≡ []) (IsSlack n c.deref-3.result.now c.deref-4.result.now)) length
+    (rw c.parts.ensures.same at c.slack.ensures) in
     subst (λ os. MatchOption c.slack.result (os ≡ []) (IsSlack m.length os (next_offsets_at m (told m c.args.flight.now) c.args.f))) now
     (subst (λ os. MatchOption c.slack.result (c.deref-3.result.now ≡ []) (IsSlack m.length c.deref-3.result.now os)) next figure)
 

@@ -1,4 +1,4 @@
-use Rattle.std.proofs.Common.{◌≡◌, ◌≤◌, ◌∙◌, sym, subst, add-one, arith, length, slice_get, Some}
+use Rattle.std.proofs.Common.{ℕ, Bool, ◌≡◌, ◌≤◌, ◌∙◌, sym, subst, add-one, arith, length, slice_get, Some}
 use Rattle.sift_unit.specs.Flown.{mission_of}
 use Rattle.sift_flight.specs.Configuration.{Works}
 use Rattle.sift_flight.proofs.Leading.{lead_works}
@@ -7,16 +7,20 @@ use Rattle.sift_flight.proofs.told.lead_of.Goals as goal
 
 pub returns-then-works-clause-lead : goal.returns-then-works-clause-lead
 returns-then-works-clause-lead c =
-    sym (c.loop-i.invariant ∙ found_here (λ u. (mission_of c.args.mission.now).works u c.args.f) c.everyone-everyone.result c.loop-i.i c.unit_at-unit.result c.unit_at-unit.ensures (sym c.works.ensures ∙ c.if-works.true))
+    let works : ℕ → Bool = λ u. (mission_of c.args.mission.now).works u c.args.f in
+    let here = found_here works c.everyone-everyone.result c.loop-i.i c.unit_at-unit.result c.unit_at-unit.ensures (sym c.works.ensures ∙ c.if-works.true) in
+    sym (c.loop-i.invariant ∙ here)
 
 pub returns-then-works-clause-works : goal.returns-then-works-clause-works
 returns-then-works-clause-works c =
-    let lead = sym (c.loop-i.invariant ∙ found_here (λ u. (mission_of c.args.mission.now).works u c.args.f) c.everyone-everyone.result c.loop-i.i c.unit_at-unit.result c.unit_at-unit.ensures (sym c.works.ensures ∙ c.if-works.true)) in
-    subst (λ u. Works (mission_of c.args.mission.now) u c.args.f) (sym lead) (lead_works (mission_of c.args.mission.now) c.can_be_flown.ensures c.args.f)
+    subst (λ u. Works (mission_of c.args.mission.now) u c.args.f) (sym (returns-then-works-clause-lead c))
+    (lead_works (mission_of c.args.mission.now) c.can_be_flown.ensures c.args.f)
 
 pub loop-i-preserved : goal.loop-i-preserved
 loop-i-preserved c =
-    rw (add-one c.loop-i.i) (c.loop-i.invariant ∙ found_later (λ u. (mission_of c.args.mission.now).works u c.args.f) c.everyone-everyone.result c.loop-i.i c.unit_at-unit.result c.unit_at-unit.ensures (sym c.works.ensures ∙ c.if-works.false))
+    let works : ℕ → Bool = λ u. (mission_of c.args.mission.now).works u c.args.f in
+    let later = found_later works c.everyone-everyone.result c.loop-i.i c.unit_at-unit.result c.unit_at-unit.ensures (sym c.works.ensures ∙ c.if-works.false) in
+    rw (add-one c.loop-i.i) (c.loop-i.invariant ∙ later)
 
 -- past the last unit none has passed, so the lead unit has the number 0
 pub returns-clause-lead : goal.returns-clause-lead

@@ -1,4 +1,4 @@
-use Rattle.std.proofs.Common.{◌≡◌, ◌∙◌, ◌++◌, length, map, sym, ap, subst, arith, add-one, string_bytes}
+use Rattle.std.proofs.Common.{◌≡◌, ◌∙◌, ◌++◌, length, sym, ap, arith, add-one, string_bytes}
 use Rattle.std.specs.List.{flat_map, range_with_len}
 use Rattle.std.proofs.lemmas.List.FromFn.{length-map-range_with_len}
 use Rattle.sift_program.specs.Ideal.{words_before}
@@ -28,9 +28,11 @@ loop-f-preserved c =
     let d = data_of c.args.mission.now in
     let agreed = c.deref.ensures.0 ∙ c.sensed_in.ensures in
     let before : c.loop-f.ideal ≡ words_before d.program (sensed_in (mission_of c.args.mission.now)) c.loop-f.f = c.loop-f.invariant.1 in
-    let words = rw c.parts.ensures.same at (c.frame.ensures.in_turn (sensed_in (mission_of c.args.mission.now)) c.loop-f.f (rw c.parts.ensures.same before) agreed) in
-    (first_text_more (ideal_line d) c.loop-f.f _ _ c.loop-f.invariant.0 (c.in_ok-push_outputs.ensures ∙ ap (λ ws. string_bytes c.loop-f.text ++ outputs_text c.loop-f.f ws) (c.outs.ensures ∙ words)),
-    rw (add-one c.loop-f.f) words)
+    let words = rw c.parts.ensures.same at (c.frame.ensures.in_turn (sensed_in (mission_of c.args.mission.now)) c.loop-f.f (rw c.parts.ensures.same before) agreed) in (
+      first_text_more (ideal_line d) c.loop-f.f _ _ c.loop-f.invariant.0
+          (c.in_ok-push_outputs.ensures ∙ ap (λ ws. string_bytes c.loop-f.text ++ outputs_text c.loop-f.f ws) (c.outs.ensures ∙ words)),
+      rw (add-one c.loop-f.f) words,
+    )
 
 pub returns : goal.returns
 returns c =

@@ -18,7 +18,9 @@ loop-part-init g c = rw c.new-list.ensures (none_read g.T.Part.text_of g.T.Part.
 
 pub loop-part-preserved : goal.loop-part-preserved
 loop-part-preserved g c =
-    let runs = YieldsList-at c.into_iter-part-iterator.ensures.into_iter_gives (YieldsList-from_str_split 44 c.args.text.now (omega arith) c.split-part-items.ensures.text c.split-part-items.ensures.has_more c.split-part-items.ensures.pattern) in
+    let cuts =
+    YieldsList-from_str_split 44 c.args.text.now (omega arith) c.split-part-items.ensures.text c.split-part-items.ensures.has_more c.split-part-items.ensures.pattern in
+    let runs = YieldsList-at c.into_iter-part-iterator.ensures.into_iter_gives cuts in
     let turn = YieldsList-turn runs c.loop-part.yielded _ c.loop-part.yielded_by _ _ c.in-Some.part c.in-Some.is c.next.ensures.steps in
     let pushed : c.try_push.new.self.items ≡ c.loop-part.list.items ++ c.in_ok-item.item ∷ [] =
     on_ok c.try_push.result c.in_ok-ok.field-0 _ (sym c.ok.ensures.value ∙ c.in_ok-ok.was) c.try_push.ensures.ok in
@@ -28,7 +30,9 @@ loop-part-preserved g c =
 
 pub returns-in_err-item-clause-exact : goal.returns-in_err-item-clause-exact
 returns-in_err-item-clause-exact g c = λ list holds fit e.
-    let runs = YieldsList-at c.into_iter-part-iterator.ensures.into_iter_gives (YieldsList-from_str_split 44 c.args.text.now (omega arith) c.split-part-items.ensures.text c.split-part-items.ensures.has_more c.split-part-items.ensures.pattern) in
+    let cuts =
+    YieldsList-from_str_split 44 c.args.text.now (omega arith) c.split-part-items.ensures.text c.split-part-items.ensures.has_more c.split-part-items.ensures.pattern in
+    let runs = YieldsList-at c.into_iter-part-iterator.ensures.into_iter_gives cuts in
     let turn = YieldsList-turn runs c.loop-part.yielded _ c.loop-part.yielded_by _ _ c.in-Some.part c.in-Some.is c.next.ensures.steps in
     absurd (none_has g.T.Part.text_of g.T.Part.IsPart _ _ c.in-Some.part.now turn.0 turn.1
     (λ w held printed. let exact = c.in_err-item.ensures.exact w held printed in (cc)) list.items holds
@@ -36,7 +40,9 @@ returns-in_err-item-clause-exact g c = λ list holds fit e.
 
 pub returns-in_err-ok-clause-exact : goal.returns-in_err-ok-clause-exact
 returns-in_err-ok-clause-exact g c = λ list holds fit e.
-    let runs = YieldsList-at c.into_iter-part-iterator.ensures.into_iter_gives (YieldsList-from_str_split 44 c.args.text.now (omega arith) c.split-part-items.ensures.text c.split-part-items.ensures.has_more c.split-part-items.ensures.pattern) in
+    let cuts =
+    YieldsList-from_str_split 44 c.args.text.now (omega arith) c.split-part-items.ensures.text c.split-part-items.ensures.has_more c.split-part-items.ensures.pattern in
+    let runs = YieldsList-at c.into_iter-part-iterator.ensures.into_iter_gives cuts in
     let turn = YieldsList-turn runs c.loop-part.yielded _ c.loop-part.yielded_by _ _ c.in-Some.part c.in-Some.is c.next.ensures.steps in
     let full : length c.loop-part.list.items ≡ g.row.N = on_err c.try_push.result _ (sym c.ok.ensures.value ∙ c.in_err-ok.was) c.try_push.ensures.full in
     let more : length c.loop-part.list.items < length list.items =
@@ -46,13 +52,17 @@ returns-in_err-ok-clause-exact g c = λ list holds fit e.
 
 pub returns-clause-printed : goal.returns-clause-printed
 returns-clause-printed g c =
-    let runs = YieldsList-at c.into_iter-part-iterator.ensures.into_iter_gives (YieldsList-from_str_split 44 c.args.text.now (omega arith) c.split-part-items.ensures.text c.split-part-items.ensures.has_more c.split-part-items.ensures.pattern) in
+    let cuts =
+    YieldsList-from_str_split 44 c.args.text.now (omega arith) c.split-part-items.ensures.text c.split-part-items.ensures.has_more c.split-part-items.ensures.pattern in
+    let runs = YieldsList-at c.into_iter-part-iterator.ensures.into_iter_gives cuts in
     let end = YieldsList-end runs c.loop-part.yielded _ c.loop-part.yielded_by _ _ c.in-None.is c.next.ensures.steps in
     cut_values g.T.Part.text_of g.met.T.ListPart.apart c.loop-part.list.items c.args.text.now (whole_printed g.T.Part.text_of g.T.Part.IsPart _ _ _ c.loop-part.invariant end.1)
 
 pub returns-clause-exact : goal.returns-clause-exact
 returns-clause-exact g c = λ list holds fit e.
-    let runs = YieldsList-at c.into_iter-part-iterator.ensures.into_iter_gives (YieldsList-from_str_split 44 c.args.text.now (omega arith) c.split-part-items.ensures.text c.split-part-items.ensures.has_more c.split-part-items.ensures.pattern) in
+    let cuts =
+    YieldsList-from_str_split 44 c.args.text.now (omega arith) c.split-part-items.ensures.text c.split-part-items.ensures.has_more c.split-part-items.ensures.pattern in
+    let runs = YieldsList-at c.into_iter-part-iterator.ensures.into_iter_gives cuts in
     let end = YieldsList-end runs c.loop-part.yielded _ c.loop-part.yielded_by _ _ c.in-None.is c.next.ensures.steps in
     ap (λ xs. Some (record { items = xs }))
     (whole_exact g.T.Part.text_of g.T.Part.IsPart _ _ _ c.loop-part.invariant end.1 list.items holds

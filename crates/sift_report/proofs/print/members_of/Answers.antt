@@ -19,7 +19,7 @@ loop-i-preserved c = elim c.if-has.branch [
       ∙ sym (filter-yes (holds c.args.units) c.all-everyone.result c.loop-i.i c.unit_at-unit.result c.unit_at-unit.ensures (sym c.has.ensures ∙ w.if-has.true))
   | else-has w ↦
       rw w.list-is (c.loop-i.invariant
-        ∙ sym (filter-no (holds c.args.units) c.all-everyone.result c.loop-i.i c.unit_at-unit.result c.unit_at-unit.ensures (sym c.has.ensures ∙ w.if-has.false)))
+      ∙ sym (filter-no (holds c.args.units) c.all-everyone.result c.loop-i.i c.unit_at-unit.result c.unit_at-unit.ensures (sym c.has.ensures ∙ w.if-has.false)))
 ]
 
 pub returns : goal.returns

@@ -1,9 +1,8 @@
-use Rattle.std.proofs.Common.{◌≡◌, ◌-◌, ◌++◌, ◌∙◌, ap, string_bytes}
+use Rattle.std.proofs.Common.{◌-◌, ◌++◌, ◌∙◌, ap, string_bytes}
 use Rattle.sift_unit.specs.Flown.{mission_of}
 use Rattle.sift_flight.specs.Figures.{margin_at}
 use Rattle.sift_flight.specs.Told.{told}
 use Rattle.sift_report.specs.Line.{printed}
-use Rattle.sift_report.specs.Sheet.{last_line}
 use Rattle.sift_report.proofs.report.push_end.Goals as goal
 
 pub last_line-requires-clause-margin : goal.last_line-requires-clause-margin

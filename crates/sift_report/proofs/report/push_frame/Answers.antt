@@ -1,10 +1,9 @@
-use Rattle.std.proofs.Common.{◌≡◌, ◌∙◌, ap, arith}
-use Rattle.std.proofs.lemmas.List.{take_all}
+use Rattle.std.proofs.Common.{arith}
 use Rattle.sift_unit.specs.Flown.{mission_of}
 use Rattle.sift_flight.specs.Told.{told}
-use Rattle.sift_report.specs.Line.{text_of_lines}
-use Rattle.sift_report.specs.Sheet.{frame_line, unit_line}
-use Rattle.sift_report.proofs.Printed.{has_place, line_more, frame_ends}
+use Rattle.sift_report.specs.Sheet.{unit_line}
+use Rattle.sift_flight.proofs.Counted.{has_place}
+use Rattle.sift_report.proofs.Printed.{line_more, frame_ends}
 use Rattle.sift_report.proofs.report.push_frame.Goals as goal
 
 pub unit_line-requires-clause-unit : goal.unit_line-requires-clause-unit

@@ -13,16 +13,17 @@ use Rattle.sift_report.proofs.report.report_text.Goals as goal
 pub loop-f-preserved : goal.loop-f-preserved
 loop-f-preserved c =
     let m = mission_of c.args.mission.now in
-    let fl = told m c.args.flight.now in
-    (lines_more (frame_lines m fl) c.loop-f.f _ _ c.loop-f.invariant.0 c.in_ok-push_frame.ensures,
-    rw (add-one c.loop-f.f) (elim c.if-margin.branch [
-      | then-margin w ↦
-          let before : margin_before m fl c.loop-f.f ≡ true = sym c.loop-f.invariant.1 ∙ w.if-margin.true in
-          rw before (w.margin-is ∙ w.is_sound_at-margin.ensures)
-      | else-margin w ↦
-          let before : margin_before m fl c.loop-f.f ≡ false = sym c.loop-f.invariant.1 ∙ w.if-margin.false in
-          rw before (w.margin-is ∙ w.if-margin.false)
-    ]))
+    let fl = told m c.args.flight.now in (
+      lines_more (frame_lines m fl) c.loop-f.f _ _ c.loop-f.invariant.0 c.in_ok-push_frame.ensures,
+      rw (add-one c.loop-f.f) (elim c.if-margin.branch [
+        | then-margin w ↦
+            let before : margin_before m fl c.loop-f.f ≡ true = sym c.loop-f.invariant.1 ∙ w.if-margin.true in
+            rw before (w.margin-is ∙ w.is_sound_at-margin.ensures)
+        | else-margin w ↦
+            let before : margin_before m fl c.loop-f.f ≡ false = sym c.loop-f.invariant.1 ∙ w.if-margin.false in
+            rw before (w.margin-is ∙ w.if-margin.false)
+      ]),
+    )
 
 pub last_line-requires-clause-margin : goal.last_line-requires-clause-margin
 last_line-requires-clause-margin c =

@@ -1,9 +1,9 @@
-use Rattle.std.proofs.Common.{◌≡◌, ◌<◌, length, ap, ◌∙◌, sym, subst, Some}
+use Rattle.std.proofs.Common.{◌≡◌, ◌<◌, length, ap, ◌∙◌, subst}
 use Rattle.std.specs.Prelude.{IfNone, IfSome}
 use Rattle.sift_base.specs.Units.{members}
 use Rattle.sift_config.specs.Config.{remaining}
 use Rattle.sift_report.specs.Part.{units_text}
-use Rattle.sift_report.proofs.Sets.{config_members, config_units, remains, remains_printed, rest_is, set_of_config}
+use Rattle.sift_report.proofs.Remaining.{config_members, config_units, remains, remains_printed, rest_is, set_of_config}
 use Rattle.sift_report.proofs.Results.{held}
 use Rattle.sift_report.proofs.units.read_config.Goals as goal
 

@@ -11,5 +11,5 @@ use Rattle.sift_report.proofs.votes.push_unit_votes.Given as goal
 abbrev pub invariant-loop-t : goal.invariant-loop-t
 invariant-loop-t l =
     (string_bytes l.text ≡ string_bytes l.initial.text
-      ++ flat_map (task_votes (data_of l.mission) (told (mission_of l.mission) l.flight) l.f l.u) (range_with_len 0 l.t))
+    ++ flat_map (task_votes (data_of l.mission) (told (mission_of l.mission) l.flight) l.f l.u) (range_with_len 0 l.t))
     × (l.first ≡ first_word (data_of l.mission).program.tasks l.t)

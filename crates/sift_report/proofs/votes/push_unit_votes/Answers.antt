@@ -1,0 +1,23 @@
+use Rattle.std.proofs.Common.{arith}
+use Rattle.sift_unit.specs.Data.{data_of}
+use Rattle.sift_unit.specs.Flown.{mission_of}
+use Rattle.sift_flight.specs.Told.{told}
+use Rattle.sift_report.specs.Votes.{task_votes}
+use Rattle.sift_report.proofs.Polls.{next_first, task_there, word_room}
+use Rattle.sift_report.proofs.Printed.{text_more}
+use Rattle.sift_report.proofs.votes.push_unit_votes.Goals as goal
+
+pub push_task_votes-requires-clause-room : goal.push_task_votes-requires-clause-room
+push_task_votes-requires-clause-room c =
+    let d = data_of c.args.mission.now in
+    let there = task_there c.parts.result.now c.args.mission.now c.parts.ensures.same c.loop-t.t c.len-t-end.result c.loop-t-test.true c.len-t-end.ensures in
+    omega (arith, word_room d c.parts.ensures.fit c.loop-t.t there, c.loop-t.invariant.1)
+
+pub loop-t-preserved : goal.loop-t-preserved
+loop-t-preserved c =
+    let d = data_of c.args.mission.now in
+    let there = task_there c.parts.result.now c.args.mission.now c.parts.ensures.same c.loop-t.t c.len-t-end.result c.loop-t-test.true c.len-t-end.ensures in (
+      text_more (task_votes (data_of c.args.mission.now) (told (mission_of c.args.mission.now) c.args.flight.now) c.args.f c.args.u) c.loop-t.t _ _ _
+          c.loop-t.invariant.0 c.in_ok-push_task_votes.ensures,
+      omega (arith, next_first d.program.tasks c.loop-t.t there, c.loop-t.invariant.1, c.outputs-first.ensures),
+    )
