@@ -21,7 +21,7 @@ use Rattle.sift_flight.specs.Round.{IsRound, RoundAt}
 use Rattle.sift_flight.specs.Told.{told, no_pages, no_account, journal_of, accounts_of, IsLogged, frames_before}
 use Rattle.sift_flight.specs.declared.flight.Flight.{Flight as TheFlight}
 use Rattle.sift_core.specs.Crews.{ledger_at, no_ledger}
-use Rattle.sift_core.specs.Ended.{no_strays}
+use Rattle.sift_flight.specs.Hearing.{no_strays}
 use Rattle.sift_core.specs.Racks.{ranges_for, core_of, view_at}
 use Rattle.sift_core.specs.Machines.{Flies, board_at, accounts_at, layout_of}
 use Rattle.sift_core.specs.Turns.{HaveAllLanded}

@@ -1,13 +1,7 @@
-pub mod Changes
-pub mod Compiled
 pub mod EndedFrames
-pub mod Executors
 pub mod FirstUnits
-pub mod Flights
 pub mod FrameLists
-pub mod Frames
 pub mod Home
-pub mod Ideal
 pub mod Least
 pub mod Lists
 pub mod MachineSteps
@@ -17,4 +11,3 @@ pub mod Others
 pub mod Progress
 pub mod RackEvents
 pub mod Turning
-pub mod Votes

@@ -1,18 +1,14 @@
 -- What holds of the frames that all units have ended.
-use Rattle.std.specs.Prelude.{◌≡◌, ℕ, ◌<◌, [], true}
+use Rattle.std.specs.Prelude.{◌≡◌, ℕ, ◌<◌, true}
 use Rattle.sift_base.specs.Units.{has}
 use Rattle.sift_unit.specs.Mission.{Mission}
 use Rattle.sift_unit.specs.declared.board.Board.{Board}
 use Rattle.sift_flight.specs.Flight.{flight_of}
-use Rattle.sift_flight.specs.Hearing.{Strays}
+use Rattle.sift_flight.specs.Hearing.{no_strays}
 use Rattle.sift_flight.specs.Round.{RoundAt}
 use Rattle.sift_core.specs.Racks.{core_of}
 use Rattle.sift_core.specs.Machines.{Flies, board_at, accounts_at}
 use Rattle.sift_core.specs.declared.machine.Machine.{Machine}
-
--- no unit strays
-abbrev pub no_strays : Strays
-no_strays p = []
 
 -- each unit has ended the frame
 abbrev pub HaveEnded : Mission → Machine → ℕ → Type 0

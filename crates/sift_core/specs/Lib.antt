@@ -1,10 +1,6 @@
-pub mod Code
 pub mod Crews
 pub mod Ended
-pub mod Executor
-pub mod Flight
 pub mod Following
-pub mod Frame
 pub mod Machines
 pub mod Racks
 pub mod Steps

@@ -6,7 +6,7 @@ ghost use Rattle.sift_unit.specs.Boards.{account_of, desk_of};
 ghost use Rattle.sift_unit.specs.Flown.{mission_of};
 ghost use Rattle.sift_flight.specs.Told.{told, IsLogged};
 ghost use Rattle.sift_flight.specs.Round.{IsRound};
-ghost use Rattle.sift_core.specs.Ended.{no_strays};
+ghost use Rattle.sift_flight.specs.Hearing.{no_strays};
 ghost use Rattle.sift_core.specs.Machines.{Flies, layout_of};
 ghost use Rattle.sift_core.specs.Turns.{HaveAllLanded};
 
