@@ -25,8 +25,8 @@ unit_there m x u flies low = subst (λ (us : List ℕ). has us u ≡ true) (sym 
 drawn_same : (m : Mission) (x : Machine) (n u : ℕ) → Flies m x → u ≡ drawn n (layout_of x).units → u ≡ drawn n (length m.units)
 drawn_same m x n u flies is = is ∙ ap (drawn n) (sym (unit_count m x flies))
 
-module _ (m : Mission) (x : Machine) (n n' u : ℕ) (y : Machine) (flies : Flies m x) (flies_on : Flies m y) (d : IsDrawn
-    (layout_of x).units n n' u) where
+module _ (m : Mission) (x : Machine) (n n' u : ℕ) (y : Machine) (flies : Flies m x) (flies_on : Flies m y)
+    (d : IsDrawn (layout_of x).units n n' u) where
   is : u ≡ drawn n' (length m.units)
   is = drawn_same m x n' u flies d.drawn_is
 

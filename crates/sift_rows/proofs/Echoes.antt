@@ -97,3 +97,10 @@ echo_fits units frames enough few some most names one two tables row named first
 pub one_table : (one : Schedule) → IsEchoTable 4 one → (i : ℕ) (table : Schedule) → slice_get (one ∷ []) i ≡ Some table → IsEchoTable (4 + i) table
 one_table one good zero table there = subst (λ (t : Schedule). IsEchoTable 4 t) (same_Some one table there) good
 one_table one good (suc i) table there = absurd (none-some _ there)
+
+-- two tables, for four units and for five
+pub two_tables : (four five : Schedule) → IsEchoTable 4 four → IsEchoTable 5 five → (i : ℕ) (table : Schedule) → slice_get (four ∷ five ∷ []) i ≡ Some table →
+    IsEchoTable (4 + i) table
+two_tables four five small large zero table there = subst (λ (t : Schedule). IsEchoTable 4 t) (same_Some four table there) small
+two_tables four five small large (suc zero) table there = subst (λ (t : Schedule). IsEchoTable 5 t) (same_Some five table there) large
+two_tables four five small large (suc (suc i)) table there = absurd (none-some _ there)

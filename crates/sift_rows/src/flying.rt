@@ -5,6 +5,7 @@ ghost use Rattle.sift_base.specs.Units.{has};
 ghost use Rattle.sift_core.specs.Machines.{Flies};
 ghost use Rattle.sift_unit.specs.Flown.{mission_of};
 
+use crate::five::five_units;
 use crate::unit::parts;
 use sift_base::{Draw, UnitId};
 use sift_core::{Machine, fly};
@@ -14,10 +15,17 @@ use std::alloc::Global;
 use std::process::Abort;
 use std::test::Fail;
 
-/// Who steps last in each of the first hundred turns, by the order number. In its first subframe unit 0 says its clock
-/// and the sensor to seven units, and each other unit its clock; in the second no one says or hears a word; in the
-/// third each hears seven clocks first. In the second subframe a unit waits until all have come to it.
-const TURNS: [(u64, &str); 3] = [
+/// Who steps last in each of the first thirty turns of five units, by the order number. In its first subframe unit 0 says
+/// its clock and the sensor to the four others, and each other unit its clock; in the second no one says or hears a word,
+/// and a unit waits until all have come to it; in the third each hears the others' clocks first.
+const TURNS_OF_FIVE: [(u64, &str); 3] = [
+    (0, "242101404432200203134003301102"),
+    (1, "431040024132204200200011431333"),
+    (2, "021404330232441403102300010212"),
+];
+
+/// And of the first hundred turns of eight units.
+const TURNS_OF_EIGHT: [(u64, &str); 3] = [
     (
         0,
         "7014530703726546123365725317361024132706031150704607100024200656024445560340461305125470150671670550",
@@ -52,8 +60,12 @@ fn expect_turns(
 
 #[test]
 fn the_order_number_draws_who_steps(rt: HostRuntime) -> Result<(), Fail> {
+    let mission = Mission::of(five_units(rt.alloc())?);
+    for (order, want) in TURNS_OF_FIVE {
+        expect_turns(&rt, rt.alloc(), &mission, order, want.as_bytes())?;
+    }
     let mission = Mission::of(parts(rt.alloc())?);
-    for (order, want) in TURNS {
+    for (order, want) in TURNS_OF_EIGHT {
         expect_turns(&rt, rt.alloc(), &mission, order, want.as_bytes())?;
     }
     Ok(())

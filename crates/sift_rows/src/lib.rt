@@ -22,6 +22,8 @@ mod config;
 #[cfg(test)]
 mod exec;
 #[cfg(test)]
+mod five;
+#[cfg(test)]
 mod flying;
 #[cfg(test)]
 mod generated;
