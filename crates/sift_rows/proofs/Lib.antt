@@ -3,3 +3,4 @@ pub mod Echoes
 pub mod Fits
 pub mod Perfect
 pub mod Ports
+pub mod Both

@@ -24,6 +24,8 @@ mod exec;
 #[cfg(test)]
 mod five;
 #[cfg(test)]
+mod flights;
+#[cfg(test)]
 mod flying;
 #[cfg(test)]
 mod generated;

@@ -54,8 +54,16 @@ impl Command {
         ensures { IfOk result (λ text. TextOf self (data_of mission.now) (string_bytes text)) }
     {
         match self {
-            Command::Run { order } => report_text(alloc, mission, &flight_of(alloc, mission, order)?),
-            Command::Votes { order } => votes_text(alloc, mission, &flight_of(alloc, mission, order)?),
+            Command::Run { order } => report_text(
+                alloc,
+                mission,
+                &flight_of(alloc, mission, order)?,
+            ),
+            Command::Votes { order } => votes_text(
+                alloc,
+                mission,
+                &flight_of(alloc, mission, order)?,
+            ),
             Command::Ideal => ideal_text(alloc, mission),
             Command::Check => Ok(String::from_str(alloc, "ok\n")?),
         }

@@ -38,9 +38,18 @@ impl Options {
     {
         let number = value_of(flag, value)?;
         match flag {
-            Flag::Workers if self.workers.is_none() => Some(Options { workers: Some(number), ..self }),
-            Flag::Order if self.order.is_none() => Some(Options { order: Some(number), ..self }),
-            Flag::Number if self.number.is_none() => Some(Options { number: Some(number), ..self }),
+            Flag::Workers if self.workers.is_none() => Some(Options {
+                workers: Some(number),
+                ..self
+            }),
+            Flag::Order if self.order.is_none() => Some(Options {
+                order: Some(number),
+                ..self
+            }),
+            Flag::Number if self.number.is_none() => Some(Options {
+                number: Some(number),
+                ..self
+            }),
             _ => None,
         }
     }
