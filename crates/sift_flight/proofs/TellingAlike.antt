@@ -66,7 +66,7 @@ module _ (m : Mission) (s s' : Strays) (fl gl : Flight) (flyable : IsFlyable m) 
   same_offsets f low number =
       ap (map (λ u. number (fl.account u f))) (same_working f low)
       ∙ map-same (λ u. number (fl.account u f)) (λ u. number (gl.account u f)) (working_at m gl f)
-        (λ u h. ap number (same_unit u f (inside f low u (filter_has (λ v. m.works v f) (config_at m gl f) u h).1) low).account)
+      (λ u h. ap number (same_unit u f (inside f low u (filter_has (λ v. m.works v f) (config_at m gl f) u h).1) low).account)
 
   -- the margin
   same_sound : (f : ℕ) → f < m.frames → is_sound_at m fl f ≡ is_sound_at m gl f

@@ -31,9 +31,9 @@ use Rattle.sift_report.proofs.Places.{get-behind, get-chunk, get-first, get-left
 first_low : (a n u : ℕ) → has (range_with_len a n) u ≡ true → u < a + n
 first_low a zero u h = absurd cc
 first_low a (suc n) u h = elim (cases_Bool (nat_eq a u)) [
-    | inl t ↦ grind (arith, nat_tests, t)
-    | inr t ↦ let rest = first_low (a + 1) n u (rw t at h) in omega arith
-  ]
+  | inl t ↦ grind (arith, nat_tests, t)
+  | inr t ↦ let rest = first_low (a + 1) n u (rw t at h) in omega arith
+]
 
 -- offsets of units that are there are some
 some_offsets : (clock : ℕ → ℤ) (us : List ℕ) (u : ℕ) → has us u ≡ true → map clock us ≡ [] → ⊥
@@ -73,14 +73,14 @@ module _ (d : MissionData) (fl : Flight) where
   unit_at f u low within =
       in_frame f u low (omega arith)
       ∙ (get-left (map (unit_line (flown d) fl f) (flown d).units) (frame_line (flown d) fl f ∷ []) u
-        (rw (length-map-range_with_len (unit_line (flown d) fl f) 0 d.units) within)
+      (rw (length-map-range_with_len (unit_line (flown d) fl f) 0 d.units) within)
       ∙ (get-first (unit_line (flown d) fl f) 0 d.units u within ∙ ap (λ v. Some (unit_line (flown d) fl f v)) (omega arith)))
 
   frame_at : (f : ℕ) → f < d.frames → line_at d lines f d.units ≡ Some (frame_line (flown d) fl f)
   frame_at f low =
       in_frame f d.units low (omega arith)
       ∙ get-right (map (unit_line (flown d) fl f) (flown d).units) (frame_line (flown d) fl f ∷ []) 0 d.units
-        (rw (length-map-range_with_len (unit_line (flown d) fl f) 0 d.units) (omega arith))
+      (rw (length-map-range_with_len (unit_line (flown d) fl f) 0 d.units) (omega arith))
 
   end_at : line_at d lines d.frames 0 ≡ Some (last_line (flown d) fl)
   end_at = get-behind (frame_lines (flown d) fl) (d.units + 1) width (last_line (flown d) fl ∷ []) 0 d.frames 0 (d.frames * (d.units + 1) + 0) refl
