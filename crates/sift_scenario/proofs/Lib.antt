@@ -7,6 +7,7 @@ pub mod DocumentLemmas
 pub mod EachAnswered
 pub mod EntryTests
 pub mod Faulting
+pub mod Figures
 pub mod FirstBroken
 pub mod Fitting
 pub mod Known

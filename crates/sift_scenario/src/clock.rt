@@ -197,12 +197,10 @@ fn errors_of(clock: &Table, units: u8, error: u32) -> Result<ArrayVec<ArrayVec<i
 
 /// Whether no two of the offsets differ by more than the skew.
 fn are_together(offsets: &[i32], skew: u32) -> bool
-    requires skew { skew ≤ tick_limit }
-    requires near { All (λ offset. IsWithin (pos tick_limit) offset (pos 0)) offsets.now }
     ensures { IsTrue result ↔ StartTogether skew offsets.now }
 {
     for offset in offsets {
-        if !is_near(*offset, offsets, skew) {
+        if !is_near(offset, offsets, skew) {
             return false;
         }
     }
@@ -210,13 +208,11 @@ fn are_together(offsets: &[i32], skew: u32) -> bool
 }
 
 /// Whether the offset is above none of the others by more than the skew.
-fn is_near(offset: i32, others: &[i32], skew: u32) -> bool
-    requires skew { skew ≤ tick_limit }
-    requires near { All (λ other. IsWithin (pos tick_limit) other (pos 0)) others.now }
-    ensures { IsTrue result ↔ All (λ other. offset ≤ℤ (other +ℤ pos skew)) others.now }
+fn is_near(offset: &i32, others: &[i32], skew: u32) -> bool
+    ensures { IsTrue result ↔ All (λ other. offset.now ≤ℤ (other +ℤ pos skew)) others.now }
 {
     for other in others {
-        if *other + (skew as i32) < offset {
+        if i64::from(*other) + i64::from(skew) < i64::from(*offset) {
             return false;
         }
     }
@@ -255,7 +251,8 @@ fn unit_ticks(value: &Value, units: u8, far: u32) -> Option<ArrayVec<i32, 8>>
 /// The number of ticks of an integer that is no farther from 0 than `far`.
 fn ticks_within(value: &Value, far: u32) -> Option<i32>
     requires { far ≤ tick_limit }
-    ensures { result ≡ ticks_within far (view value.now) }
+    ensures read { result ≡ ticks_within far (view value.now) }
+    ensures near { IfSome result (λ ticks. IsWithin (pos far) ticks (pos 0)) }
 {
     let ticks = value.as_integer()?;
     if ticks < -i64::from(far) || i64::from(far) < ticks {
