@@ -1,5 +1,6 @@
 pub mod Assembling
 pub mod CheckLemmas
+pub mod ClockTests
 pub mod Clocks
 pub mod Codes
 pub mod Decided
