@@ -10,6 +10,7 @@ pub mod Faulting
 pub mod FirstBroken
 pub mod Fitting
 pub mod Known
+pub mod KnownStarts
 pub mod Limits
 pub mod Made
 pub mod NewNames
@@ -32,6 +33,7 @@ pub mod TaskRefusals
 pub mod TaskTests
 pub mod Testing
 pub mod Themes
+pub mod Ticks
 pub mod Turns
 pub mod UniqueForms
 pub mod UniqueRefusals
