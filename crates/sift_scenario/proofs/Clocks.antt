@@ -27,7 +27,9 @@ not_less m n never = elim (cases_lt m n) [ inl less ↦ absurd (never less) | in
 are_numbers : (skew error rate long : ℕ) → skew ≤ tick_limit → error ≤ tick_limit → rate ≤ tick_limit → long ≤ length_limit → AreNumbers (pos skew) (pos error) (pos rate) (pos long)
 are_numbers skew error rate long few_skew few_error few_rate few_long = (
   (omega (arith, ints), omega (arith, ints, few_skew)),
-  ((omega (arith, ints), omega (arith, ints, few_error)), ((omega (arith, ints), omega (arith, ints, few_rate)), (omega (arith, ints), omega (arith, ints, few_long)))),
+  (omega (arith, ints), omega (arith, ints, few_error)),
+  (omega (arith, ints), omega (arith, ints, few_rate)),
+  (omega (arith, ints), omega (arith, ints, few_long)),
 )
 
 -- they are admitted where the skew and the length are enough

@@ -91,14 +91,14 @@ rows_read units far d rows is =
     (omega (arith, long.0, long.1), all_between (AreTicks units far) (unit_ticks units far) (ticks_read units far) units units d rows is)
 
 -- as many zeros are
-zeros_near : (units far : ℕ) → AreTicks units far (zeros units)
+pub zeros_near : (units far : ℕ) → AreTicks units far (zeros units)
 zeros_near units far = (
   length-replicate units (pos 0),
   All-replicate (λ tick. IsWithin (pos far) tick (pos 0)) units (pos 0) (omega (arith, ints), omega (arith, ints)),
 )
 
 -- and as many rows of them
-rows_near : (units far : ℕ) → AreRows units far (replicate units (zeros units))
+pub rows_near : (units far : ℕ) → AreRows units far (replicate units (zeros units))
 rows_near units far = (length-replicate units (zeros units), All-replicate (AreTicks units far) units (zeros units) (zeros_near units far))
 
 -- ---- values that may be missing
