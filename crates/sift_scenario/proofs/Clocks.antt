@@ -1,10 +1,9 @@
 -- The clocks that a document states are admitted.
-use Rattle.std.proofs.Common.{◌≡◌, ◌<◌, ◌≤◌, ◌+◌, ◌*◌, ℕ, List, [], length, Option, Some, None, replicate, inl, inr, refl, arith}
+use Rattle.std.proofs.Common.{◌≡◌, ◌<◌, ◌≤◌, ◌+◌, ◌*◌, ℕ, List, [], Option, Some, None, replicate, inl, inr, refl, arith}
 use Rattle.std.proofs.lemmas.Bool.{cases_lt}
 use Rattle.std.proofs.lemmas.Int.{ints}
 use Rattle.std.specs.List.{All}
 use Rattle.std.specs.Prelude.{codes, ℤ, pos, option_and_then, unwrap_or, ◌≤ℤ◌, ◌+ℤ◌}
-use Rattle.sift_clock.specs.Distance.{IsWithin}
 use Rattle.sift_skew.specs.Limits.{AreNumbers, IsAdmitted}
 use Rattle.toml.specs.Data.{Data, Members, get_member}
 use Rattle.sift_unit.specs.PartsFit.{AreClocks}
@@ -24,7 +23,9 @@ not_less : (m n : ℕ) → (m < n → ⊥) → n ≤ m
 not_less m n never = elim (cases_lt m n) [ inl less ↦ absurd (never less) | inr le ↦ le ]
 
 -- four figures within their limits are numbers to ask about
-are_numbers : (skew error rate long : ℕ) → skew ≤ tick_limit → error ≤ tick_limit → rate ≤ tick_limit → long ≤ length_limit → AreNumbers (pos skew) (pos error) (pos rate) (pos long)
+are_numbers :
+    (skew error rate long : ℕ) → skew ≤ tick_limit → error ≤ tick_limit → rate ≤ tick_limit → long ≤ length_limit
+    → AreNumbers (pos skew) (pos error) (pos rate) (pos long)
 are_numbers skew error rate long few_skew few_error few_rate few_long = (
   (omega (arith, ints), omega (arith, ints, few_skew)),
   (omega (arith, ints), omega (arith, ints, few_error)),
@@ -43,11 +44,15 @@ are_admitted skew error rate long few kept enough = record {
 }
 
 -- a figure that must be there
-figure_at : (low high : ℕ) (d : Option Data) → (option_and_then (integer_between low high) d ≡ None → ⊥) → number_in (option_and_then (integer_between low high) d) ≤ high
+figure_at :
+    (low high : ℕ) (d : Option Data) → (option_and_then (integer_between low high) d ≡ None → ⊥)
+    → number_in (option_and_then (integer_between low high) d) ≤ high
 figure_at low high d some = right_in (λ n. n ≤ high) 0 (option_and_then (integer_between low high) d) some (λ n is. (between_at low high d n is).1)
 
 -- a figure that may be missing, and is 0 then
-figure_or : (d : Option Data) → (read_by 0 (integer_between 0 tick_limit) d ≡ None → ⊥) → number_in (read_by 0 (integer_between 0 tick_limit) d) ≤ tick_limit
+figure_or :
+    (d : Option Data) → (read_by 0 (integer_between 0 tick_limit) d ≡ None → ⊥)
+    → number_in (read_by 0 (integer_between 0 tick_limit) d) ≤ tick_limit
 figure_or d some = right_in (λ n. n ≤ tick_limit) 0 (read_by 0 (integer_between 0 tick_limit) d) some
     (right_or (λ n. n ≤ tick_limit) (integer_between 0 tick_limit) (λ e n is. (between 0 tick_limit e n is).1) 0 (omega arith) d)
 
@@ -56,7 +61,15 @@ fitting :
     (units skew error rate long : ℕ) (start drift : List ℤ) (errors : List (List ℤ))
     → AreNumbers (pos skew) (pos error) (pos rate) (pos long) → IsAdmitted (pos skew) (pos error) (pos rate) (pos long)
     → AreTicks units tick_limit start → StartTogether skew start → AreTicks units rate drift → AreRows units error errors
-    → AreClocks units (record { skew = pos skew; error = pos error; rate = pos rate; length = pos long; start = start; drift = drift; errors = errors })
+    → AreClocks units (record {
+      skew = pos skew;
+      error = pos error;
+      rate = pos rate;
+      length = pos long;
+      start = start;
+      drift = drift;
+      errors = errors;
+    })
 fitting units skew error rate long start drift errors numbers admitted starts together drifts rows = record {
   numbers = numbers;
   admitted = admitted;
@@ -97,25 +110,32 @@ module _ (units : ℕ) (clock : Members) (figures : AreKept (figure_rules clock)
   length_fits = figure_at 1 length_limit (get_member (codes "length") clock) (λ none. figures.1.1.0 0 (refl, none))
 
   -- the clocks start near to 0, and together
-  start_fits : AreTicks units tick_limit (unwrap_or (starts_of units clock) []) × StartTogether (number_in (skew_of clock)) (unwrap_or (starts_of units clock) [])
+  start_fits :
+      AreTicks units tick_limit (unwrap_or (starts_of units clock) [])
+      × StartTogether (number_in (skew_of clock)) (unwrap_or (starts_of units clock) [])
   start_fits =
       let there = together_in (number_in (skew_of clock)) (starts_of units clock) (λ apart. rules.0 0 (refl, apart)) in
       rw there.1 (ticks_or units tick_limit (get_member (codes "start") clock) there.0 there.1, there.2)
 
   -- the drifts and the errors are within the rate and the error
   drift_fits : AreTicks units (number_in (rate_of clock)) (unwrap_or (drifts_of units (number_in (rate_of clock)) clock) [])
-  drift_fits = right_in (AreTicks units (number_in (rate_of clock))) [] (drifts_of units (number_in (rate_of clock)) clock) (λ none. rules.1.0 0 (refl, none))
-      (ticks_or units (number_in (rate_of clock)) (get_member (codes "drift") clock))
+  drift_fits =
+      let rate = number_in (rate_of clock) in
+      right_in (AreTicks units rate) [] (drifts_of units rate clock) (λ none. rules.1.0 0 (refl, none))
+      (ticks_or units rate (get_member (codes "drift") clock))
 
   rows_fit : AreRows units (number_in (error_of clock)) (unwrap_or (errors_of units (number_in (error_of clock)) clock) [])
-  rows_fit = right_in (AreRows units (number_in (error_of clock))) [] (errors_of units (number_in (error_of clock)) clock) (λ none. rules.1.1.0 0 (refl, none))
-      (rows_or units (number_in (error_of clock)) (get_member (codes "errors") clock))
+  rows_fit =
+      let error = number_in (error_of clock) in
+      right_in (AreRows units error) [] (errors_of units error clock) (λ none. rules.1.1.0 0 (refl, none))
+      (rows_or units error (get_member (codes "errors") clock))
 
   -- clocks that keep the rules fit
   stated_fit : AreClocks units (stated_clocks units clock)
   stated_fit = fitting units (number_in (skew_of clock)) (number_in (error_of clock)) (number_in (rate_of clock)) (number_in (length_of clock)) _ _ _
       (are_numbers _ _ _ _ skew_fits error_fits rate_fits length_fits)
-      (are_admitted _ _ _ _ skew_fits (not_less _ _ (λ small. figures.1.1.1.0 0 (refl, small))) (not_less _ _ (λ short. figures.1.1.1.1.0 0 (refl, short))))
+      (are_admitted _ _ _ _ skew_fits (not_less _ _ (λ small. figures.1.1.1.0 0 (refl, small)))
+      (not_less _ _ (λ short. figures.1.1.1.1.0 0 (refl, short))))
       start_fits.0 start_fits.1 drift_fits rows_fit
 
 -- the clocks that a value of `clock` states fit, and so do those where it is missing

@@ -1,5 +1,5 @@
 -- Integers that are near to 0, as a document states them for each unit.
-use Rattle.std.proofs.Common.{◌≡◌, ◌≤◌, ℕ, zero, suc, List, [], ◌∷◌, length, Option, Some, None, replicate, refl, subst, arith}
+use Rattle.std.proofs.Common.{◌≡◌, ℕ, zero, suc, List, [], ◌∷◌, length, Option, Some, None, replicate, refl, subst, arith}
 use Rattle.std.proofs.lemmas.Int.{ints}
 use Rattle.std.proofs.lemmas.List.{length-replicate}
 use Rattle.std.specs.List.{All}
@@ -85,7 +85,9 @@ ticks_read units far d ticks is =
     (omega (arith, long.0, long.1), all_between (λ tick. IsWithin (pos far) tick (pos 0)) (ticks_within far) (near_zero far) units units d ticks is)
 
 -- and so does one of rows
-rows_read : (units far : ℕ) (d : Data) (rows : List (List ℤ)) → array_between units units (unit_ticks units far) d ≡ Some rows → AreRows units far rows
+rows_read :
+    (units far : ℕ) (d : Data) (rows : List (List ℤ))
+    → array_between units units (unit_ticks units far) d ≡ Some rows → AreRows units far rows
 rows_read units far d rows is =
     let long = array_between-long units units (unit_ticks units far) d rows is in
     (omega (arith, long.0, long.1), all_between (AreTicks units far) (unit_ticks units far) (ticks_read units far) units units d rows is)
@@ -104,12 +106,16 @@ rows_near units far = (length-replicate units (zeros units), All-replicate (AreT
 -- ---- values that may be missing
 
 -- what is read of a value that may be missing, and is zeros then
-pub ticks_or : (units far : ℕ) (d : Option Data) (ticks : List ℤ) → read_by (zeros units) (unit_ticks units far) d ≡ Some ticks → AreTicks units far ticks
-ticks_or units far d ticks is = right_or (AreTicks units far) (unit_ticks units far) (ticks_read units far) (zeros units) (zeros_near units far) d ticks is
+pub ticks_or :
+    (units far : ℕ) (d : Option Data) (ticks : List ℤ)
+    → read_by (zeros units) (unit_ticks units far) d ≡ Some ticks → AreTicks units far ticks
+ticks_or units far d ticks is =
+    right_or (AreTicks units far) (unit_ticks units far) (ticks_read units far) (zeros units) (zeros_near units far) d ticks is
 
 -- the same of rows
 pub rows_or :
     (units far : ℕ) (d : Option Data) (rows : List (List ℤ))
     → read_by (replicate units (zeros units)) (array_between units units (unit_ticks units far)) d ≡ Some rows → AreRows units far rows
-rows_or units far d rows is = right_or (AreRows units far) (array_between units units (unit_ticks units far)) (rows_read units far) (replicate units (zeros units))
-    (rows_near units far) d rows is
+rows_or units far d rows is =
+    right_or (AreRows units far) (array_between units units (unit_ticks units far)) (rows_read units far)
+    (replicate units (zeros units)) (rows_near units far) d rows is
