@@ -12,6 +12,7 @@ pub mod Figures
 pub mod FirstBroken
 pub mod Fitting
 pub mod Known
+pub mod KnownStarts
 pub mod Limits
 pub mod Made
 pub mod NewNames
@@ -34,6 +35,7 @@ pub mod TaskRefusals
 pub mod TaskTests
 pub mod Testing
 pub mod Themes
+pub mod Ticks
 pub mod Turns
 pub mod UniqueForms
 pub mod UniqueRefusals
