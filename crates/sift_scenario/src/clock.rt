@@ -114,7 +114,10 @@ fn error_and_rate(clock: &Table) -> Result<(u32, u32), Refused>
     ensures rate { IfOk result (λ both. rate_of (table_view clock.now) ≡ Some both.1) }
     ensures tests { Tests 8 (BreaksErrorOrRate (table_view clock.now)) result }
 {
-    match (number_or_zero(clock, "error"), number_or_zero(clock, "rate")) {
+    match (
+        number_or_zero(clock, "error"),
+        number_or_zero(clock, "rate"),
+    ) {
         (Some(error), Some(rate)) => Ok((error, rate)),
         _ => Err(broken(8, 0)),
     }
