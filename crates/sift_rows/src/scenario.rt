@@ -1,7 +1,10 @@
 //! Missions that documents state, and what their programs compute. Refused documents are cases, in cases/.
 
+ghost use Rattle.sift_program.specs.Program.{program_of};
+ghost use Rattle.sift_program.specs.Sound.{IsSoundProgram};
+
 use sift_base::Word;
-use sift_program::Ideal;
+use sift_program::{Ideal, Program};
 use sift_scenario::Refused::{self, Scenario, Script, Table, Task};
 use sift_scenario::mission_of;
 use sift_unit::Mission;
@@ -179,15 +182,22 @@ fn a_document_states_a_mission_or_is_refused(rt: HostRuntime) -> Result<(), Fail
     Ok(())
 }
 
-/// Runs the program of a mission without sensors, and expects its start words and then those of each frame.
-fn expect_frames(rt: &impl Abort, mission: &Mission, frames: &[&[u16]], row: &str) {
-    let parts = mission.parts();
-    assert_eq!(rt; parts.layout.sensors, 0, "sensors of {row}");
-    let mut ideal = Ideal::start(&parts.program);
+/// Runs a program, and expects its start words and then those of each frame.
+fn expect_frames(rt: &impl Abort, program: &Program, frames: &[&[u16]], row: &str)
+    requires { IsSoundProgram 0 (program_of program.now) }
+{
+    let mut ideal = Ideal::start(program);
     for want in frames {
         expect_words(rt, ideal.outs(), want, row);
-        ideal.frame(&parts.program, &[]);
+        ideal.frame(program, &[]);
     }
+}
+
+/// Runs the program of a mission without sensors, and expects these frames.
+fn expect_flight(rt: &impl Abort, mission: &Mission, frames: &[&[u16]], row: &str) {
+    let parts = mission.parts();
+    assert_eq!(rt; parts.layout.sensors, 0, "sensors of {row}");
+    expect_frames(rt, &parts.program, frames, row);
 }
 
 /// Expects these words.
@@ -204,7 +214,7 @@ fn the_ideal_machine_runs_what_the_tasks_say(rt: HostRuntime) -> Result<(), Fail
         let document = with_tasks(rt.alloc(), tasks)?;
         let table = toml::table_from_str(rt.alloc(), &document)?;
         let mission = mission_of(rt.alloc(), &table)?;
-        expect_frames(&rt, &mission, frames, tasks);
+        expect_flight(&rt, &mission, frames, tasks);
     }
     Ok(())
 }

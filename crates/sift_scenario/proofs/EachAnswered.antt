@@ -169,7 +169,7 @@ program_or_refused :
     → ((program : ProgramTree) × IsProgramOf (sensor_names d) (tasks_of d) program) ⊎ ((e : Refused) × (e ≢ NoMemory) × IsRefusedWith d e)
 program_or_refused texts d units is lawful =
     let tasks = tasks_of d in
-    let kept : AreKept (task_rules d) = (kept_themes d units is lawful).1.1.0 in
+    let kept : AreKept (task_rules d) = (kept_themes d units is lawful).1.1.1.0 in
     let number = task_number d kept in
     let long = length-map (task_entries d) members_of in
     let found = matched (λ place task form. HasForm task form) tasks no_members (lawful_form tasks kept.1.1.1.1.0) (length tasks) (omega arith) in

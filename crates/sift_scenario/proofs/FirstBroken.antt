@@ -1,14 +1,15 @@
 -- Each rule of a document is kept, or broken at a first place; so all are kept, or one is the first that is broken.
-use Rattle.std.proofs.Common.{◌≡◌, ◌<◌, ◌≤◌, ◌+◌, ◌⊎◌, inl, inr, ℕ, suc, List, [], ◌∷◌, length, map, take, sum, Option, Some, None, refl, arith}
+use Rattle.std.proofs.Common.{◌≡◌, ◌+◌, ◌⊎◌, inl, inr, ℕ, suc, List, [], ◌∷◌, length, map, take, sum, Option, Some, None, refl, arith}
 use Rattle.std.proofs.lemmas.Option.{slice_get_within}
-use Rattle.std.proofs.lemmas.List.{length-map}
 use Rattle.std.specs.Prelude.{unwrap_or}
 use Rattle.toml.specs.Data.{Data, Members}
 use Rattle.sift_base.specs.Layout.{sensor_limit, word_limit}
 use Rattle.sift_base.specs.Shapes.{task_limit}
 use Rattle.sift_scenario.proofs.Decided.{Decided, at_most, both, either, first_place, holds, negated, nothing, same_number}
 use Rattle.sift_scenario.proofs.Known.{form_known, known_array, known_entry, known_keys, known_saying, known_table, new_name_of}
-use Rattle.sift_scenario.specs.Document.{IsArrayOf, entries_of}
+use Rattle.sift_scenario.proofs.KnownStarts.{apart_known}
+use Rattle.sift_scenario.specs.Clock.{clock_keys, clock_rules, clock_themes, clock_value, drifts_of, error_of, errors_of, length_of, number_in, rate_of, skew_of, starts_of}
+use Rattle.sift_scenario.specs.Document.{entries_of, members_of}
 use Rattle.sift_scenario.specs.Entries.{HoldsOf}
 use Rattle.sift_scenario.specs.Fault.{IsFaultEntry, IsHeadless, IsSaying, changes_of, fault_keys, fault_limit, fault_rules, fault_value, faults_in, from_of, unit_of}
 use Rattle.sift_scenario.specs.Lawful.{rules_of, themes_for}
@@ -16,9 +17,9 @@ use Rattle.sift_scenario.specs.Laws.{RulesAreKeptOrBroken}
 use Rattle.sift_scenario.specs.Root.{frames_of, period_of, root_keys, root_rules, units_of, version_of}
 use Rattle.sift_scenario.specs.Rules.{AreKept, BreaksEntries, BreaksFirst, IsFirstPlace, OfNoEntry, Rule, followed_by, joined, rule}
 use Rattle.sift_scenario.specs.Sensor.{IsSensorEntry, sensor_keys, sensor_rules, sensor_value, sensors_in, words_of}
-use Rattle.sift_scenario.specs.Table.{BreaksPositions, BreaksTables, BreaksTimes, IsTableEntry, IsTimeless, positions_of, polls_of, runs_of, size_count, table_rules, table_value, tables_in}
-use Rattle.sift_scenario.specs.Task.{HasForm, IsNewName, counts_of, name_of, start_words, task_entries, task_keys, task_outputs, tasks_of}
-use Rattle.sift_scenario.specs.TaskRules.{BreaksForms, BreaksNames, BreaksStarts, BreaksTasks, BreaksWords, each_task_rules, task_rules}
+use Rattle.sift_scenario.specs.Table.{IsTableEntry, IsTimeless, positions_of, polls_of, runs_of, size_count, table_rules, table_value, tables_in}
+use Rattle.sift_scenario.specs.Task.{HasForm, IsNewName, counts_of, name_of, start_words, task_entries, task_keys, tasks_of}
+use Rattle.sift_scenario.specs.TaskRules.{BreaksNames, BreaksTasks, BreaksWords, task_rules}
 
 -- a rule is broken at a first place, or at none
 abbrev IsDecided : Rule → Type 0
@@ -96,6 +97,33 @@ names_known : (number : ℕ) (entries : List Members) → IsDecided (rule number
 names_known number entries = of_each entries (λ place entry. (name : List ℕ) → IsNewName (map name_of (take place entries)) entry name → ⊥)
     (λ place entry. none_of (λ name. IsNewName (map name_of (take place entries)) entry name) (new_name_of (map name_of (take place entries)) entry (name_of entry) refl))
 
+clock_known : (units : ℕ) (value : Option Data) → AreDecided (clock_rules units value)
+clock_known units None = tt
+clock_known units (Some value) =
+    let clock = members_of value in
+    decided_all (clock_themes units value) (
+      (of_none _ (negated (known_table clock_keys value)), tt),
+      (
+        (
+          of_none _ (nothing (skew_of clock)),
+          (
+            of_none _ (either (nothing (error_of clock)) (nothing (rate_of clock))),
+            (of_none _ (nothing (length_of clock)), (of_none _ (at_most _ _), (of_none _ (at_most _ _), tt))),
+          ),
+        ),
+        (
+          (
+            of_none _ (apart_known (number_in (skew_of clock)) (starts_of units clock)),
+            (
+              of_none _ (nothing (drifts_of units (number_in (rate_of clock)) clock)),
+              (of_none _ (nothing (errors_of units (number_in (error_of clock)) clock)), tt),
+            ),
+          ),
+          tt,
+        ),
+      ),
+    )
+
 sensor_known : (value : Option Data) → AreDecided (sensor_rules value)
 sensor_known value = (
   of_array 0 sensor_limit IsSensorEntry value (λ place entry. known_table sensor_keys entry),
@@ -158,4 +186,10 @@ fault_known value = (
 -- all rules are kept, or one is the first that is broken
 pub kept_or_broken : RulesAreKeptOrBroken
 kept_or_broken d = kept_or_first (rules_of d)
-    (decided_all (themes_for (unwrap_or (units_of d) 0) d) (root_known d, (sensor_known (sensor_value d), (task_known d, (table_known (unwrap_or (units_of d) 0) (table_value d), (fault_known (fault_value d), tt))))))
+    (decided_all (themes_for (unwrap_or (units_of d) 0) d) (
+      root_known d,
+      (
+        clock_known (unwrap_or (units_of d) 0) (clock_value d),
+        (sensor_known (sensor_value d), (task_known d, (table_known (unwrap_or (units_of d) 0) (table_value d), (fault_known (fault_value d), tt)))),
+      ),
+    ))

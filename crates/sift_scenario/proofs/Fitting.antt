@@ -46,11 +46,11 @@ module _
   sizes i low =
       let same = stated.tables in
       subst (λ (ts : List Schedule). IsSized d.period (least_units + i) (schedule_at ts i)) (sym same)
-      (schedules_sized d.units d.period (length (task_entries document)) (table_value document) themes.1.1.1.0.0 i (rw (← same) low))
+      (schedules_sized d.units d.period (length (task_entries document)) (table_value document) themes.1.1.1.1.0.0 i (rw (← same) low))
 
   tables_fit : AreTables d
   tables_fit =
-      let long = ap length stated.tables ∙ schedules_long d.units d.period (length (task_entries document)) (table_value document) themes.1.1.1.0.0 in record {
+      let long = ap length stated.tables ∙ schedules_long d.units d.period (length (task_entries document)) (table_value document) themes.1.1.1.1.0.0 in record {
         count = omega (arith, long, units_between.0);
         each = λ i low. record { sized = (sizes i low).sized; timed = (sizes i low).timed; good = good_tables i _ low };
       }
@@ -59,7 +59,7 @@ module _
   pub fit : PartsFit d
   fit =
       let frames = between_at 1 frame_limit (get_member (codes "frames") document) d.frames stated.frames in
-      let period = period_between document d.period themes.1.1.0 stated.period in
+      let period = period_between document d.period themes.1.1.1.0 stated.period in
       let sensors : length d.sensors ≤ 8 = omega (arith, ap length stated.sensors, as_many_sensors document, few_sensors document d.units stated.units stated.lawful) in
       let words : d.layout.words ≡ sum (counts_of (tasks_of document)) = ap (λ (l : Layout). l.words) stated.layout in
       let starts : length d.program.starts ≡ sum (counts_of (tasks_of document)) = ap length stated.program.starts ∙ starts_long (tasks_of document) in
@@ -83,7 +83,7 @@ module _
         code = compiled;
         sensors = subst (λ (ws : List (List ℕ)). All HasWords ws) (sym stated.sensors) (words_fit document d.units stated.units stated.lawful);
         tables = tables_fit;
-        clock = subst (λ (clocks : Clocks). AreClocks d.units clocks) (sym stated.clock) (clocks_fit d.units document);
+        clock = subst (λ (clocks : Clocks). AreClocks d.units clocks) (sym stated.clock) (clocks_fit document d.units stated.units stated.lawful);
         script = record {
           layout = ap (λ (s : FaultScript). s.layout) stated.script;
           outputs = ap (λ (s : FaultScript). s.outputs) stated.script;

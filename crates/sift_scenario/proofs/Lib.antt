@@ -1,5 +1,6 @@
 pub mod Assembling
 pub mod CheckLemmas
+pub mod ClockTests
 pub mod Clocks
 pub mod Codes
 pub mod Decided
@@ -7,9 +8,11 @@ pub mod DocumentLemmas
 pub mod EachAnswered
 pub mod EntryTests
 pub mod Faulting
+pub mod Figures
 pub mod FirstBroken
 pub mod Fitting
 pub mod Known
+pub mod KnownStarts
 pub mod Limits
 pub mod Made
 pub mod NewNames
@@ -32,6 +35,7 @@ pub mod TaskRefusals
 pub mod TaskTests
 pub mod Testing
 pub mod Themes
+pub mod Ticks
 pub mod Turns
 pub mod UniqueForms
 pub mod UniqueRefusals

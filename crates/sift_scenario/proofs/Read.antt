@@ -45,7 +45,7 @@ roll_read entries = record {
 module _ (document : Members) (entries : Entries) (read : IsReadOf document entries) where
   -- the rules of the tasks are kept
   tasks_kept : AreKept (each_task_rules (tasks_of document))
-  tasks_kept = (kept_themes document entries.units read.units read.lawful).1.1.0.1
+  tasks_kept = (kept_themes document entries.units read.units read.lawful).1.1.1.0.1
 
   -- these names are the document's
   pub roll_is : roll_read entries ≡ roll_for (sensor_names document) (tasks_of document)

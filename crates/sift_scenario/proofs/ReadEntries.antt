@@ -1,5 +1,6 @@
 -- What is read of the entries of an array, one after another.
-use Rattle.std.proofs.Common.{◌≡◌, ◌<◌, ◌≤◌, ◌+◌, ◌⊎◌, inl, inr, ℕ, zero, suc, List, [], ◌∷◌, ◌++◌, length, get_or, map, take, Option, Some, None, refl, sym, ap, ◌∙◌, arith}
+use Rattle.std.proofs.Common.{◌≡◌, ◌≢◌, ◌<◌, ◌≤◌, ◌+◌, ◌⊎◌, inl, inr, ℕ, zero, suc, List, [], ◌∷◌, ◌++◌, length, get_or, map, take, Option, Some, None, refl, sym, ap, ◌∙◌, arith}
+use Rattle.std.proofs.lemmas.Bool.{cases_order}
 use Rattle.std.proofs.lemmas.List.{get_or-map, length-map, take_all, take_more}
 use Rattle.std.specs.Option.{option_and_then}
 use Rattle.toml.specs.Data.{Data, string, integer, float, boolean, datetime, array, table, as_array, as_str}
@@ -73,6 +74,14 @@ lengthless low high n (Some ys) outside long = of_length-outside low high ys (rw
 kept-long : {A : Type 0} (low high : ℕ) (xs : Option (List A)) (ys : List A) → option_and_then (of_length low high) xs ≡ Some ys → (low ≤ length ys) × (length ys ≤ high)
 kept-long low high None ys is = cc
 kept-long low high (Some xs) ys is = of_length-long low high xs ys is
+
+-- another length than the one that is asked for is below or above it
+pub differing : (m n : ℕ) → m ≢ n → (m < n) ⊎ (n < m)
+differing m n other = elim (cases_order m n) [
+  | inl same ↦ absurd (other same)
+  | inr (inl less) ↦ inl less
+  | inr (inr more) ↦ inr more
+]
 
 -- what is read of an array of so many entries is ins much
 pub array_between-long : {A : Type 0} (low high : ℕ) (read : Data → Option A) (d : Data) (xs : List A) → array_between low high read d ≡ Some xs → (low ≤ length xs) × (length xs ≤ high)

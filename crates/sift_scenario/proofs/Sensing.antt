@@ -48,7 +48,7 @@ some_words (Some ws) some right = right ws refl
 module _ (document : Members) (units : ℕ) (is : units_of document ≡ Some units) (lawful : IsLawful document) where
   -- the rules of the sensors are kept
   sensors_kept : AreKept (sensor_rules (sensor_value document))
-  sensors_kept = (kept_themes document units is lawful).1.0
+  sensors_kept = (kept_themes document units is lawful).1.1.0
 
   -- their names differ
   pub sensors_differ : AreDistinct (sensor_names document)

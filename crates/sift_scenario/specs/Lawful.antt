@@ -1,6 +1,7 @@
 -- The rules of a document, in the order of their numbers.
 use Rattle.std.specs.Prelude.{ℕ, List, [], ◌∷◌, unwrap_or}
 use Rattle.toml.specs.Data.{Members}
+use Rattle.sift_scenario.specs.Clock.{clock_rules, clock_value}
 use Rattle.sift_scenario.specs.Fault.{fault_rules, fault_value}
 use Rattle.sift_scenario.specs.Root.{root_rules, units_of}
 use Rattle.sift_scenario.specs.Rules.{AreKept, BreaksFirst, Rule, joined}
@@ -12,6 +13,7 @@ use Rattle.sift_scenario.specs.TaskRules.{task_rules}
 abbrev pub themes_for : (units : ℕ) → Members → List (List Rule)
 themes_for units document =
     root_rules document
+    ∷ clock_rules units (clock_value document)
     ∷ sensor_rules (sensor_value document)
     ∷ task_rules document
     ∷ table_rules units (table_value document)

@@ -15,7 +15,7 @@ use Rattle.sift_scenario.specs.Task.{task_entries}
 
 -- the keys that the root may have
 abbrev pub root_keys : List (List ℕ)
-root_keys = codes "version" ∷ codes "units" ∷ codes "frames" ∷ codes "subframes" ∷ codes "sensor" ∷ codes "task" ∷ codes "table" ∷ codes "fault" ∷ []
+root_keys = codes "version" ∷ codes "units" ∷ codes "frames" ∷ codes "subframes" ∷ codes "clock" ∷ codes "sensor" ∷ codes "task" ∷ codes "table" ∷ codes "fault" ∷ []
 
 -- the number of units
 abbrev pub units_of : Members → Option ℕ

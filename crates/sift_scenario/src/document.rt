@@ -9,7 +9,7 @@ ghost use Rattle.sift_scenario.specs.Reading.{IsReadOf};
 ghost use Rattle.sift_scenario.specs.Root.{plain_period};
 ghost use Rattle.sift_scenario.specs.Testing.{RefusesFirst};
 
-use crate::clock::plain_plan;
+use crate::clock::plan_of;
 use crate::fault::script_of;
 use crate::refused::Refused;
 use crate::root::root_of;
@@ -42,6 +42,7 @@ pub(crate) fn entries_of(alloc: Global, document: &toml::Table) -> Result<Entrie
     ensures refused { IfErr result (RefusesFirst (rules_of (table_view document.now))) }
 {
     let root = root_of(document)?;
+    let clock = plan_of(document, root.units)?;
     let sensors = sensors_of(alloc, document)?;
     let tasks = tasks_of(alloc, document)?;
     let count = tasks.forms.len() as u8;
@@ -52,7 +53,7 @@ pub(crate) fn entries_of(alloc: Global, document: &toml::Table) -> Result<Entrie
         units: root.units,
         frames: root.frames,
         period,
-        clock: plain_plan(root.units),
+        clock,
         sensors,
         tasks,
         tables,

@@ -49,6 +49,7 @@ fn check_keys(document: &Table) -> Result<(), Refused>
             "units",
             "frames",
             "subframes",
+            "clock",
             "sensor",
             "task",
             "table",

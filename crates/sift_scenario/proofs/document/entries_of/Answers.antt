@@ -23,19 +23,30 @@ returns-in_err-root-clause-refused c =
     let same : c.from_residual.result ≡ Err c.in_err-root.field-0.0 = search rules in
     rw same (root_refused (table_view c.args.document.now) c.in_err-root.field-0.0 c.in_err-root.ensures.tests)
 
+-- a rule of the clock is
+pub returns-in_err-clock-clause-refused : goal.returns-in_err-clock-clause-refused
+returns-in_err-clock-clause-refused c =
+    let same : c.from_residual-in_err-clock.result ≡ Err c.in_err-clock.field-0.0 = search rules in
+    rw same (theme_refused (table_view c.args.document.now) c.in_ok-root.root.units c.in_ok-root.ensures.units 1 c.in_err-clock.field-0.0
+    (c.in_ok-root.ensures.tests, c.in_err-clock.ensures.tests))
+
+pub plan_of-requires : goal.plan_of-requires
+plan_of-requires c =
+    (between_at least_units unit_limit (get_member (codes "units") (table_view c.args.document.now)) c.in_ok-root.root.units c.in_ok-root.ensures.units).1
+
 -- a rule of the sensors is
 pub returns-in_err-sensors-clause-refused : goal.returns-in_err-sensors-clause-refused
 returns-in_err-sensors-clause-refused c =
     let same : c.from_residual-in_err-sensors.result ≡ Err c.in_err-sensors.field-0.0 = search rules in
-    rw same (theme_refused (table_view c.args.document.now) c.in_ok-root.root.units c.in_ok-root.ensures.units 1 c.in_err-sensors.field-0.0
-    (c.in_ok-root.ensures.tests, c.in_err-sensors.ensures.tests))
+    rw same (theme_refused (table_view c.args.document.now) c.in_ok-root.root.units c.in_ok-root.ensures.units 2 c.in_err-sensors.field-0.0
+    (c.in_ok-root.ensures.tests, (c.in_ok-clock.ensures.tests, c.in_err-sensors.ensures.tests)))
 
 -- a rule of the tasks is
 pub returns-in_err-tasks-clause-refused : goal.returns-in_err-tasks-clause-refused
 returns-in_err-tasks-clause-refused c =
     let same : c.from_residual-in_err-tasks.result ≡ Err c.in_err-tasks.field-0.0 = search rules in
-    rw same (theme_refused (table_view c.args.document.now) c.in_ok-root.root.units c.in_ok-root.ensures.units 2 c.in_err-tasks.field-0.0
-    (c.in_ok-root.ensures.tests, (c.in_ok-sensors.ensures.tests, c.in_err-tasks.ensures.tests)))
+    rw same (theme_refused (table_view c.args.document.now) c.in_ok-root.root.units c.in_ok-root.ensures.units 3 c.in_err-tasks.field-0.0
+    (c.in_ok-root.ensures.tests, (c.in_ok-clock.ensures.tests, (c.in_ok-sensors.ensures.tests, c.in_err-tasks.ensures.tests))))
 
 -- there are as many tasks as entries
 pub overflow_cast-count : goal.overflow_cast-count
@@ -69,15 +80,15 @@ tables_of-requires-clause-few_tasks c =
 pub returns-in_err-tables-clause-refused : goal.returns-in_err-tables-clause-refused
 returns-in_err-tables-clause-refused c =
     let same : c.from_residual-in_err-tables.result ≡ Err c.in_err-tables.field-0.0 = search rules in
-    rw same (theme_refused (table_view c.args.document.now) c.in_ok-root.root.units c.in_ok-root.ensures.units 3 c.in_err-tables.field-0.0
-    (c.in_ok-root.ensures.tests, (c.in_ok-sensors.ensures.tests, (c.in_ok-tasks.ensures.tests, c.in_err-tables.ensures.tests))))
+    rw same (theme_refused (table_view c.args.document.now) c.in_ok-root.root.units c.in_ok-root.ensures.units 4 c.in_err-tables.field-0.0
+    (c.in_ok-root.ensures.tests, (c.in_ok-clock.ensures.tests, (c.in_ok-sensors.ensures.tests, (c.in_ok-tasks.ensures.tests, c.in_err-tables.ensures.tests)))))
 
 -- a rule of the faults is broken
 pub returns-in_err-script-clause-refused : goal.returns-in_err-script-clause-refused
 returns-in_err-script-clause-refused c =
     let same : c.from_residual-in_err-script.result ≡ Err c.in_err-script.field-0.0 = search rules in
-    rw same (theme_refused (table_view c.args.document.now) c.in_ok-root.root.units c.in_ok-root.ensures.units 4 c.in_err-script.field-0.0
-    (c.in_ok-root.ensures.tests, (c.in_ok-sensors.ensures.tests, (c.in_ok-tasks.ensures.tests, (c.in_ok-tables.ensures.tests, c.in_err-script.ensures.tests)))))
+    rw same (theme_refused (table_view c.args.document.now) c.in_ok-root.root.units c.in_ok-root.ensures.units 5 c.in_err-script.field-0.0
+    (c.in_ok-root.ensures.tests, (c.in_ok-clock.ensures.tests, (c.in_ok-sensors.ensures.tests, (c.in_ok-tasks.ensures.tests, (c.in_ok-tables.ensures.tests, c.in_err-script.ensures.tests))))))
 
 -- no rule is broken
 pub returns-clause-read : goal.returns-clause-read
@@ -87,12 +98,12 @@ returns-clause-read c =
     let plain : plain_period c.len-count.result ≡ plain_period (length (task_entries document)) = ap plain_period count in
     record {
       lawful = themes_kept document c.in_ok-root.root.units c.in_ok-root.ensures.units
-          (c.in_ok-root.ensures.tests, (c.in_ok-sensors.ensures.tests, (c.in_ok-tasks.ensures.tests, (c.in_ok-tables.ensures.tests, (c.in_ok-script.ensures.tests, tt)))));
+          (c.in_ok-root.ensures.tests, (c.in_ok-clock.ensures.tests, (c.in_ok-sensors.ensures.tests, (c.in_ok-tasks.ensures.tests, (c.in_ok-tables.ensures.tests, (c.in_ok-script.ensures.tests, tt))))));
       units = c.in_ok-root.ensures.units;
       frames = c.in_ok-root.ensures.frames;
       period = c.in_ok-root.ensures.subframes (plain_period (length (task_entries document)))
           ∙ ap (λ n. Some (unwrap_or c.in_ok-root.root.subframes n)) (sym plain) ∙ ap (λ n. Some n) (sym c.period_of-period.ensures);
-      clock = c.plain_plan.ensures;
+      clock = c.in_ok-clock.ensures.read;
       sensors = c.in_ok-sensors.ensures.read;
       tasks = c.in_ok-tasks.ensures.read;
       tables = c.in_ok-tables.ensures.read ∙ ap (λ n. schedules_by (table_value document) c.in_ok-root.root.units c.period_of-period.result n) count;

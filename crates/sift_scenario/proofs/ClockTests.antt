@@ -1,0 +1,62 @@
+-- Where the test of a clock stops, and where it doesn't.
+use Rattle.std.proofs.Common.{◌≡◌, ℕ, Some, sym, ap, subst}
+use Rattle.toml.specs.Data.{Data, Members}
+use Rattle.sift_scenario.proofs.Order.{kept_joined, stopped, stopped_in}
+use Rattle.sift_scenario.specs.Clock.{BreaksClock, BreaksDrift, BreaksErrors, BreaksStart, clock_rules, clock_themes, error_of, figure_rules, number_in, rate_of, skew_of, unit_rules}
+use Rattle.sift_scenario.specs.Document.{members_of}
+use Rattle.sift_scenario.specs.Rules.{AreKept, IsKept, rule}
+use Rattle.sift_scenario.specs.Testing.{RefusesBy, RefusesFirst}
+use Rattle.sift_scenario.specs.declared.refused.Refused.{Refused}
+
+-- a value, and the table that it is
+module _ (units : ℕ) (value : Data) (clock : Members) (same : clock ≡ members_of value) (known : IsKept (rule 6 (BreaksClock value))) where
+  -- one of its figures is refused
+  pub figure_refused : (e : Refused) → RefusesFirst (figure_rules clock) e → RefusesFirst (clock_rules units (Some value)) e
+  figure_refused e refused =
+      stopped_in 1 (clock_themes units value) e ((known, tt), subst (λ (members : Members). RefusesFirst (figure_rules members) e) same refused)
+
+  -- the figures are as they should be
+  module _ (figures : AreKept (figure_rules clock)) where
+    kept : AreKept (figure_rules (members_of value))
+    kept = subst (λ (members : Members). AreKept (figure_rules members)) same figures
+
+    -- a rule of what it says of the units is refused
+    pub units_refused : (e : Refused) → RefusesFirst (unit_rules units clock) e → RefusesFirst (clock_rules units (Some value)) e
+    units_refused e refused =
+        stopped_in 2 (clock_themes units value) e ((known, tt), (kept, subst (λ (members : Members). RefusesFirst (unit_rules units members) e) same refused))
+
+    -- no rule is broken
+    pub clock_kept : AreKept (unit_rules units clock) → AreKept (clock_rules units (Some value))
+    clock_kept rest =
+        kept_joined (clock_themes units value) ((known, tt), (kept, (subst (λ (members : Members). AreKept (unit_rules units members)) same rest, tt)))
+
+-- a clock, and the figures that were read of it
+module _
+    (units : ℕ) (clock : Members) (skew error rate : ℕ)
+    (skew_is : skew_of clock ≡ Some skew) (error_is : error_of clock ≡ Some error) (rate_is : rate_of clock ≡ Some rate) where
+  -- the starts, the drifts or the errors are refused
+  pub start_refused : (e : Refused) → RefusesBy 12 (BreaksStart units skew clock) e → RefusesFirst (unit_rules units clock) e
+  start_refused e refused =
+      stopped 0 (unit_rules units clock) e (subst (λ (n : ℕ). RefusesBy 12 (BreaksStart units n clock) e) (sym (ap number_in skew_is)) refused)
+
+  -- the starts are as they should be, by the skew that was read
+  pub start_kept : IsKept (rule 12 (BreaksStart units skew clock)) → IsKept (rule 12 (BreaksStart units (number_in (skew_of clock)) clock))
+  start_kept kept = subst (λ (n : ℕ). IsKept (rule 12 (BreaksStart units n clock))) (sym (ap number_in skew_is)) kept
+
+  pub drift_kept : IsKept (rule 13 (BreaksDrift units rate clock)) → IsKept (rule 13 (BreaksDrift units (number_in (rate_of clock)) clock))
+  drift_kept kept = subst (λ (n : ℕ). IsKept (rule 13 (BreaksDrift units n clock))) (sym (ap number_in rate_is)) kept
+
+  pub errors_kept : IsKept (rule 14 (BreaksErrors units error clock)) → IsKept (rule 14 (BreaksErrors units (number_in (error_of clock)) clock))
+  errors_kept kept = subst (λ (n : ℕ). IsKept (rule 14 (BreaksErrors units n clock))) (sym (ap number_in error_is)) kept
+
+  pub drift_refused :
+      (e : Refused) → IsKept (rule 12 (BreaksStart units skew clock)) → RefusesBy 13 (BreaksDrift units rate clock) e → RefusesFirst (unit_rules units clock) e
+  drift_refused e starts refused =
+      stopped 1 (unit_rules units clock) e (start_kept starts, subst (λ (n : ℕ). RefusesBy 13 (BreaksDrift units n clock) e) (sym (ap number_in rate_is)) refused)
+
+  pub errors_refused :
+      (e : Refused) → IsKept (rule 12 (BreaksStart units skew clock)) → IsKept (rule 13 (BreaksDrift units rate clock))
+      → RefusesBy 14 (BreaksErrors units error clock) e → RefusesFirst (unit_rules units clock) e
+  errors_refused e starts drifts refused =
+      stopped 2 (unit_rules units clock) e
+      (start_kept starts, (drift_kept drifts, subst (λ (n : ℕ). RefusesBy 14 (BreaksErrors units n clock) e) (sym (ap number_in error_is)) refused))
