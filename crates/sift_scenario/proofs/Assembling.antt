@@ -1,11 +1,10 @@
 -- The data that entries and their program make.
-use Rattle.std.proofs.Common.{◌≡◌, ◌≢◌, ℕ, List, length, map, sum, Some, refl, sym, ap, subst, ◌∙◌}
+use Rattle.std.proofs.Common.{ℕ, List, length, map, sym, ap, ◌∙◌}
 use Rattle.std.proofs.lemmas.List.{length-map}
 use Rattle.toml.specs.Data.{Members}
 use Rattle.sift_base.specs.Shapes.{AllShapes}
 use Rattle.sift_base.specs.declared.layout.Layout.{Layout}
 use Rattle.sift_program.specs.Program.{program_of}
-use Rattle.sift_script.specs.Rules as scripts
 use Rattle.sift_script.specs.Script.{FaultScript, outputs_of, script_for}
 use Rattle.sift_table.specs.Schedule.{Schedule, schedule_of}
 use Rattle.sift_unit.specs.Data as unit
@@ -15,7 +14,7 @@ use Rattle.sift_scenario.proofs.Starts.{names_from, starts_long}
 use Rattle.sift_scenario.specs.Mission.{HasGoodTables, IsStated}
 use Rattle.sift_scenario.specs.Reading.{IsReadOf, IsRunningOf}
 use Rattle.sift_scenario.specs.Refusal.{IsRefusedWith}
-use Rattle.sift_scenario.specs.Task.{counts_of, tasks_of}
+use Rattle.sift_scenario.specs.Task.{tasks_of}
 use Rattle.sift_scenario.specs.Testing.{RefusesScript, RefusesTable}
 use Rattle.sift_scenario.specs.declared.document.Entries.{Entries}
 use Rattle.sift_scenario.specs.declared.program.Running.{Running}

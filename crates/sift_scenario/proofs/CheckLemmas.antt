@@ -1,11 +1,10 @@
 -- Tables that are checked one after another.
-use Rattle.std.proofs.Common.{◌≡◌, ◌<◌, ℕ, List, length, get_or, map, take, subst, sym}
+use Rattle.std.proofs.Common.{◌≡◌, ◌<◌, ℕ, List, length, get_or, map, take}
 use Rattle.std.specs.List.{All}
 use Rattle.sift_base.specs.Shapes.{AllShapes}
 use Rattle.sift_table.specs.Rules.{IsGood}
 use Rattle.sift_table.specs.Schedule.{Schedule}
 use Rattle.sift_scenario.proofs.Places.{holds_here}
-use Rattle.sift_scenario.specs.Entries.{HoldsOf}
 use Rattle.sift_scenario.specs.Testing.{IsBadTable, RefusesTable}
 use Rattle.sift_scenario.specs.declared.refused.Refused.{Refused}
 use Rattle.sift_scenario.specs.declared.refused.Refused.TheVariants.{Scenario, Task, Table, Script, NoMemory}

@@ -21,8 +21,8 @@ use Rattle.sift_scenario.proofs.TaskRefusals.{text_refused_by}
 use Rattle.sift_scenario.proofs.Turns.{code_first, text_first}
 use Rattle.sift_scenario.specs.Document.{members_of}
 use Rattle.sift_scenario.specs.Entries.{EachMatches}
-use Rattle.sift_scenario.specs.Laws.{DocumentsAreAnswered, ScriptsAreAnswered, TablesAreAnswered, TextsAreAnswered}
-use Rattle.sift_scenario.specs.Mission.{IsStated, layout_in, script_in}
+use Rattle.sift_scenario.specs.Laws.{DocumentsAreAnswered, TablesAreAnswered, TextsAreAnswered}
+use Rattle.sift_scenario.specs.Mission.{IsStated}
 use Rattle.sift_scenario.specs.Program.{AreAllowed, IsProgramOf, IsTreeOf, IsWithin, all_starts, roll_for, steps_left, turn_of}
 use Rattle.sift_scenario.specs.Refusal.{IsFirstRefused, IsNoTask, IsOver, refusal_of, told_number}
 use Rattle.sift_scenario.proofs.Decided.{all_more, at_most}
@@ -31,17 +31,16 @@ use Rattle.sift_scenario.proofs.Sensing.{few_sensors, sensors_differ}
 use Rattle.sift_scenario.proofs.Themes.{kept_themes}
 use Rattle.sift_scenario.specs.Clock.{clocks_of}
 use Rattle.sift_scenario.specs.Fault.{faults_of}
-use Rattle.sift_scenario.specs.Lawful.{IsLawful, themes_for}
+use Rattle.sift_scenario.specs.Lawful.{IsLawful}
 use Rattle.sift_scenario.specs.Root.{frames_of, period_of, units_of}
 use Rattle.sift_scenario.specs.Sensor.{sensor_names, sensor_words}
 use Rattle.sift_scenario.specs.Table.{schedules_of}
 use Rattle.sift_scenario.specs.Task.{AreForms, Form, HasForm, counts_of, linear, names_of, task_entries, tasks_of, text}
-use Rattle.sift_scenario.specs.TaskRules.{BreaksForms, IsTaskNumber, task_rules}
-use Rattle.sift_scenario.specs.Rules.{AreKept, IsKept}
+use Rattle.sift_scenario.specs.TaskRules.{BreaksForms, task_rules}
+use Rattle.sift_scenario.specs.Rules.{AreKept}
 use Rattle.sift_base.specs.Shapes.{AllShapes}
 use Rattle.sift_program.specs.Program.{ProgramTree}
-use Rattle.sift_script.specs.Rules as scripts
-use Rattle.sift_script.specs.Script.{FaultScript, outputs_of}
+use Rattle.sift_script.specs.Script.{outputs_of}
 use Rattle.sift_table.specs.Rules as tables
 use Rattle.sift_table.specs.Schedule.{Schedule}
 use Rattle.sift_unit.specs.Data.{MissionData, shapes_in}
@@ -50,7 +49,6 @@ use Rattle.sift_scenario.specs.declared.refused.Refused.{Refused}
 use Rattle.sift_scenario.specs.declared.refused.Refused.TheVariants.{Scenario, Task, Table, Script, NoMemory}
 use Rattle.std.specs.List.{All, sum}
 use Rattle.sift_scenario.specs.Refusal.{IsFirstBadTable, IsRefusedWith}
-use Rattle.sift_scenario.specs.Mission.{IsMission}
 
 -- an option that isn't none has a value
 value_of : {A : Type 0} (o : Option A) → o ≢ None → (x : A) × (o ≡ Some x)

@@ -1,5 +1,5 @@
 -- The parts of a mission that a document states fit.
-use Rattle.std.proofs.Common.{◌≡◌, ◌≤◌, ◌<◌, ◌+◌, ℕ, List, [], length, Some, refl, sym, ap, subst, ◌∙◌, arith}
+use Rattle.std.proofs.Common.{◌≡◌, ◌≤◌, ◌<◌, ◌+◌, ℕ, List, [], length, sym, ap, subst, ◌∙◌, arith}
 use Rattle.std.proofs.lemmas.List.{length-map}
 use Rattle.std.specs.List.{All, sum}
 use Rattle.std.specs.Prelude.{codes, unwrap_or}
@@ -11,10 +11,10 @@ use Rattle.sift_compile.specs.Tasks.{AreCodesOf}
 use Rattle.sift_program.specs.Sound.{IsSoundProgram}
 use Rattle.sift_script.specs.Faults.{storm_of}
 use Rattle.sift_script.specs.Rules as scripts
-use Rattle.sift_script.specs.Script.{Fault, FaultScript}
+use Rattle.sift_script.specs.Script.{FaultScript}
 use Rattle.sift_table.specs.Schedule.{Schedule}
-use Rattle.sift_unit.specs.Data.{Clocks, MissionData, shapes_in}
-use Rattle.sift_unit.specs.PartsFit.{AreClocks, AreTables, HasWords, IsTableFor, PartsFit, frame_limit, table_at}
+use Rattle.sift_unit.specs.Data.{Clocks, MissionData}
+use Rattle.sift_unit.specs.PartsFit.{AreClocks, AreTables, HasWords, PartsFit, frame_limit, table_at}
 use Rattle.sift_scenario.proofs.Clocks.{clocks_fit}
 use Rattle.sift_scenario.proofs.Faulting.{calm}
 use Rattle.sift_scenario.proofs.Numbers.{between_at}
@@ -26,7 +26,7 @@ use Rattle.sift_scenario.proofs.Starts.{starts_long}
 use Rattle.sift_scenario.proofs.Themes.{kept_themes}
 use Rattle.sift_scenario.specs.Lawful.{themes_for}
 use Rattle.sift_scenario.specs.Mission.{HasGoodTables, IsStated}
-use Rattle.sift_scenario.specs.Table.{schedules_of, table_value}
+use Rattle.sift_scenario.specs.Table.{table_value}
 use Rattle.sift_scenario.specs.Task.{counts_of, name_of, task_entries, tasks_of}
 
 module _

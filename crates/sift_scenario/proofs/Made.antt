@@ -1,14 +1,13 @@
 -- The mission that entries, their program, tables and a script make.
-use Rattle.std.proofs.Common.{◌≡◌, ◌≤◌, ℕ, List, length, map, refl, sym, ap, subst, ◌∙◌, arith}
+use Rattle.std.proofs.Common.{◌≡◌, ◌≤◌, ℕ, List, length, map, sym, ap, subst, ◌∙◌, arith}
 use Rattle.std.proofs.lemmas.List.{length-map}
-use Rattle.std.specs.List.{All, sum}
+use Rattle.std.specs.List.{All}
 use Rattle.std.specs.Prelude.{codes}
 use Rattle.toml.specs.Data.{Members, get_member}
 use Rattle.sift_base.specs.Layout.{IsLayout, least_units}
 use Rattle.sift_base.specs.Shapes.{AllShapes, AreShapes}
 use Rattle.sift_base.specs.Units.{unit_limit}
 use Rattle.sift_base.specs.declared.layout.Layout.{Layout}
-use Rattle.sift_compile.specs.Tasks.{AreCodesOf}
 use Rattle.sift_program.specs.Program.{program_of}
 use Rattle.sift_program.specs.Sound.{IsSoundProgram}
 use Rattle.sift_script.specs.Rules as scripts

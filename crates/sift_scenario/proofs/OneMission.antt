@@ -1,11 +1,10 @@
 -- A document states at most one mission.
-use Rattle.std.proofs.Common.{◌≡◌, ℕ, List, [], length, map, Some, refl, sym, ap, subst, ◌∙◌}
+use Rattle.std.proofs.Common.{◌≡◌, ℕ, List, [], length, Some, refl, sym, ap, subst, ◌∙◌}
 use Rattle.std.specs.List.{sum}
 use Rattle.toml.specs.Data.{Members}
-use Rattle.sift_base.specs.declared.layout.Layout.{Layout}
 use Rattle.sift_lang.specs.Tree.{TaskTree}
 use Rattle.sift_program.specs.Program.{ProgramTree}
-use Rattle.sift_script.specs.Script.{FaultScript, outputs_of}
+use Rattle.sift_script.specs.Script.{outputs_of}
 use Rattle.sift_unit.specs.Data.{MissionData}
 use Rattle.sift_unit.specs.Needs.{program_shapes}
 use Rattle.sift_scenario.proofs.UniqueForms.{one_forms, one_trees}

@@ -1,5 +1,5 @@
 -- Rules one after another, in the order of a list.
-use Rattle.std.proofs.Common.{◌≡◌, ◌⊎◌, inl, inr, List, [], ◌∷◌, ℕ, zero, suc, Result, Ok, Err, IfOk, IfErr, refl}
+use Rattle.std.proofs.Common.{◌≡◌, inl, inr, List, [], ◌∷◌, ℕ, zero, suc, Result, Ok, Err, IfOk, IfErr, refl}
 use Rattle.sift_scenario.specs.Rules.{AreKept, BreaksFirst, IsKept, Rule, followed_by, joined}
 use Rattle.sift_scenario.specs.Testing.{RefusesBy, RefusesFirst, TestsEach}
 use Rattle.sift_scenario.specs.declared.refused.Refused.{Refused}

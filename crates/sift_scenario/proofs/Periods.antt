@@ -1,5 +1,5 @@
 -- How many subframes a frame has.
-use Rattle.std.proofs.Common.{◌≡◌, ◌≤◌, ℕ, length, Option, Some, None, inl, inr, refl, arith}
+use Rattle.std.proofs.Common.{◌≡◌, ◌≤◌, ℕ, length, Option, Some, None, inl, refl, arith}
 use Rattle.std.specs.Prelude.{codes}
 use Rattle.toml.specs.Data.{Data, Members, get_member}
 use Rattle.sift_table.specs.Laws.{shortest_period}

@@ -1,5 +1,5 @@
 -- The schedules of a document: one for each size, each of the mission's period.
-use Rattle.std.proofs.Common.{◌≡◌, ◌<◌, ◌+◌, inl, inr, ℕ, List, [], length, get_or, map, true, Option, Some, None, refl, sym, ap, ◌∙◌, arith}
+use Rattle.std.proofs.Common.{◌≡◌, ◌<◌, ◌+◌, inl, inr, ℕ, List, [], length, get_or, map, true, Option, Some, None, refl, ap, ◌∙◌, arith}
 use Rattle.std.proofs.lemmas.List.{get_or-map, length-map}
 use Rattle.std.proofs.lemmas.List.FromFn.{get_or-range_with_len, length-range_with_len}
 use Rattle.std.proofs.lemmas.Option.{slice_get-get_or}
@@ -11,7 +11,7 @@ use Rattle.sift_table.specs.Schedule.{Schedule, plain_of}
 use Rattle.sift_scenario.proofs.DocumentLemmas.{array_entries}
 use Rattle.sift_scenario.proofs.Decided.{stable}
 use Rattle.sift_scenario.proofs.Known.{known_array, known_entry}
-use Rattle.sift_scenario.specs.Document.{IsArrayOf, entries_of, list_of, members_of}
+use Rattle.sift_scenario.specs.Document.{IsArrayOf, entries_of, members_of}
 use Rattle.sift_scenario.specs.Rules.{IsKept, rule}
 use Rattle.sift_scenario.specs.Table.{BreaksTables, IsTableEntry, plain_tables, schedule_in, schedules_by, size_count, tables_in}
 

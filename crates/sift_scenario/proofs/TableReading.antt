@@ -1,5 +1,5 @@
 -- Tables of `table` that are read in part.
-use Rattle.std.proofs.Common.{◌≡◌, ◌≢◌, ◌<◌, ◌⊎◌, inl, inr, ℕ, List, length, get_or, map, None, sym, ap, ◌∙◌}
+use Rattle.std.proofs.Common.{◌≡◌, ◌≢◌, ◌<◌, inl, inr, ℕ, List, length, get_or, map, None, sym, ap, ◌∙◌}
 use Rattle.std.specs.List.{All}
 use Rattle.toml.specs.Data.{Members}
 use Rattle.sift_scenario.proofs.Places.{holds_here}

@@ -12,7 +12,6 @@ use Rattle.sift_parse.specs.Outcome.{Tells}
 use Rattle.sift_parse.specs.Roll.{Roll}
 use Rattle.sift_script.proofs.Refusals as script_laws
 use Rattle.sift_script.specs.Rules as scripts
-use Rattle.sift_script.specs.Script.{FaultScript}
 use Rattle.sift_table.proofs.Refusals as table_laws
 use Rattle.sift_table.specs.Rules as tables
 use Rattle.sift_table.specs.Schedule.{Schedule}
@@ -21,9 +20,9 @@ use Rattle.sift_unit.specs.declared.parts.MissionParts.{MissionParts}
 use Rattle.sift_scenario.proofs.OneMission.{one_stated}
 use Rattle.sift_scenario.proofs.UniqueForms.{one_forms, one_tree}
 use Rattle.sift_scenario.proofs.Unrefused.{first_trees, kept_unbroken, one_entry, tree_unrefused, unrefused_among}
-use Rattle.sift_scenario.specs.Lawful.{IsFirstBroken, rules_of}
+use Rattle.sift_scenario.specs.Lawful.{rules_of}
 use Rattle.sift_scenario.specs.Laws.{MissionsAreAccepted, OneRefusal}
-use Rattle.sift_scenario.specs.Mission.{AreSame, HasGoodTables, IsMission, IsStated}
+use Rattle.sift_scenario.specs.Mission.{HasGoodTables, IsMission, IsStated}
 use Rattle.sift_scenario.specs.Program.{roll_for, steps_left, turn_of}
 use Rattle.sift_scenario.specs.Refusal.{IsFirstBadTable, IsFirstRefused, IsFormRefused, IsNoTask, IsOver, IsRefusedWith, OnlyRefuses, TablesAreRefused, TasksAreRefused, ScriptIsRefused, refusal_of}
 use Rattle.sift_scenario.specs.Rules.{BreaksFirst, IsFirstPlace, Rule}

@@ -1,5 +1,5 @@
 -- What single values and tables of a document say, over the tree that `toml` reads.
-use Rattle.std.specs.Prelude.{codes, ℕ, ◌≡◌, ◌≤◌, ◌-◌, pos, negsuc, int_le, nat_le, ◌&&◌, List, [], ◌∷◌, length, if◌then◌else◌, Option, Some, None, option_and_then}
+use Rattle.std.specs.Prelude.{ℕ, ◌≡◌, ◌≤◌, ◌-◌, pos, negsuc, int_le, nat_le, ◌&&◌, List, [], ◌∷◌, length, if◌then◌else◌, Option, Some, None, option_and_then}
 use Rattle.std.specs.List.{All, Contains}
 use Rattle.std.specs.Str.{byte}
 use Rattle.toml.specs.Data.{Data, string, integer, array, Items, no_items, item, Members, no_members, member, get_member, as_array, as_table}

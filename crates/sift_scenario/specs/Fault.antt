@@ -1,5 +1,5 @@
 -- What the tables of `fault` say, and their rules, one predicate a rule.
-use Rattle.std.specs.Prelude.{codes, ℕ, ◌≡◌, ◌-◌, ◌⊎◌, List, [], ◌∷◌, map, Option, Some, None, option_and_then, option_map, unwrap_or}
+use Rattle.std.specs.Prelude.{codes, ℕ, ◌≡◌, ◌-◌, ◌⊎◌, List, [], ◌∷◌, map, Option, Some, None, unwrap_or}
 use Rattle.std.specs.List.{All}
 use Rattle.toml.specs.Data.{Data, Members, get_member}
 use Rattle.sift_base.specs.Units.{unit_limit}

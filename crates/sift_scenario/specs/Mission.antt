@@ -1,5 +1,5 @@
 -- The mission that a document states.
-use Rattle.std.specs.Prelude.{◌≡◌, List, [], Some, length, sum}
+use Rattle.std.specs.Prelude.{◌≡◌, [], Some, length, sum}
 use Rattle.std.specs.List.{All}
 use Rattle.toml.specs.Data.{Members}
 use Rattle.sift_base.specs.declared.layout.Layout.{Layout}

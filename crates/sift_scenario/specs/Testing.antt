@@ -18,7 +18,7 @@ use Rattle.sift_scenario.specs.declared.task.Form.TheVariants as variant
 use Rattle.sift_scenario.specs.Document.{word_array}
 use Rattle.sift_scenario.specs.Program.{turn_of}
 use Rattle.sift_scenario.specs.Refusal.{IsFirstBadTable, IsOver}
-use Rattle.sift_scenario.specs.Rules.{AreKept, BreaksFirst, IsFirstPlace, IsKept, Rule}
+use Rattle.sift_scenario.specs.Rules.{AreKept, BreaksFirst, IsFirstPlace, Rule}
 use Rattle.sift_scenario.specs.Task.{Form, linear, text}
 
 -- ---- rules

@@ -1,4 +1,4 @@
-use Rattle.std.proofs.Common.{◌≡◌, ◌≢◌, ◌<◌, ◌⊎◌, inl, inr, ℕ, map, sym, take, ap, ◌∙◌, arith}
+use Rattle.std.proofs.Common.{inl, inr, map, sym, take, ap, ◌∙◌, arith}
 use Rattle.std.proofs.lemmas.List.{get_or-map, length-map, map-append, take_all}
 use Rattle.toml.specs.View.{view}
 use Rattle.sift_scenario.proofs.DocumentLemmas.{array_from}

@@ -1,4 +1,4 @@
-use Rattle.std.proofs.Common.{◌≡◌, ◌≢◌, ◌<◌, ◌⊎◌, inl, inr, ℕ, map, sym, take, ap, ◌∙◌, arith, w32, to_z, of_z}
+use Rattle.std.proofs.Common.{◌≡◌, inl, inr, map, sym, take, ap, ◌∙◌, arith, w32, to_z, of_z}
 use Rattle.std.proofs.lemmas.Int.{ints}
 use Rattle.std.proofs.lemmas.List.{get_or-map, length-map, take_all}
 use Rattle.toml.specs.View.{view}

@@ -1,4 +1,4 @@
-use Rattle.std.proofs.Common.{◌≡◌, ℕ, List, Some, Err, rules, length, map, refl, sym, ap, subst, ◌∙◌, arith}
+use Rattle.std.proofs.Common.{◌≡◌, Some, Err, rules, length, sym, ap, ◌∙◌, arith}
 use Rattle.std.specs.Prelude.{codes, unwrap_or}
 use Rattle.std.proofs.lemmas.List.{length-map}
 use Rattle.sift_scenario.specs.Document.{members_of}
@@ -7,12 +7,11 @@ use Rattle.toml.specs.View.{table_view}
 use Rattle.sift_base.specs.Layout.{least_units}
 use Rattle.sift_base.specs.Units.{unit_limit}
 use Rattle.sift_table.specs.Laws.{shortest_period}
-use Rattle.sift_table.specs.Schedule.{Schedule}
 use Rattle.sift_unit.specs.PartsFit.{longest_period}
 use Rattle.sift_scenario.proofs.Numbers.{between_at, between_or}
 use Rattle.sift_scenario.proofs.Read.{count_is}
 use Rattle.sift_scenario.proofs.Themes.{root_refused, theme_refused, themes_kept}
-use Rattle.sift_scenario.specs.Root.{period_or, plain_period}
+use Rattle.sift_scenario.specs.Root.{plain_period}
 use Rattle.sift_scenario.specs.Table.{schedules_by, table_value}
 use Rattle.sift_scenario.specs.Task.{task_entries}
 use Rattle.sift_scenario.proofs.document.entries_of.Goals as goal

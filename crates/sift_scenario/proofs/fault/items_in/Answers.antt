@@ -1,4 +1,4 @@
-use Rattle.std.proofs.Common.{◌≡◌, ◌∙◌, Some, None, map, take, sym, ap}
+use Rattle.std.proofs.Common.{◌≡◌, ◌∙◌, None, map, take, sym, ap}
 use Rattle.std.proofs.lemmas.List.{get_or-map, length-map, map-append}
 use Rattle.toml.specs.View.{table_view}
 use Rattle.sift_scenario.proofs.Places.{so_far}

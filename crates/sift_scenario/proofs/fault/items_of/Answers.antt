@@ -1,13 +1,12 @@
 use Rattle.std.proofs.Common.{◌≡◌, Some, List, map, sym, ap, subst, ◌∙◌}
 use Rattle.std.specs.List.{All}
-use Rattle.std.specs.Option.{IfNone, IfSome}
 use Rattle.toml.specs.Data.{Data}
 use Rattle.toml.specs.View.{table_view, view}
 use Rattle.sift_scenario.proofs.Faulting.{none_from, saying_value, some_from}
 use Rattle.sift_scenario.proofs.Order.{ok_from}
 use Rattle.sift_scenario.proofs.Places.{map_map}
 use Rattle.sift_scenario.specs.Document.{IsTableOf, entries_of, members_of}
-use Rattle.sift_scenario.specs.Fault.{items_of, say_value}
+use Rattle.sift_scenario.specs.Fault.{say_value}
 use Rattle.sift_scenario.specs.Item.{item_keys}
 use Rattle.sift_scenario.proofs.fault.items_of.Goals as goal
 

@@ -1,7 +1,6 @@
-use Rattle.std.proofs.Common.{◌≡◌, ◌∙◌, length, get_or, map, take, sym, ap, subst, arith}
+use Rattle.std.proofs.Common.{◌∙◌, map, take, sym, ap, subst}
 use Rattle.std.proofs.lemmas.List.{get_or-map, length-map, take_all}
 use Rattle.std.proofs.lemmas.List.Elements.{All-push}
-use Rattle.std.specs.List.{All}
 use Rattle.toml.specs.Data.{Data}
 use Rattle.toml.specs.View.{table_view, view}
 use Rattle.sift_scenario.proofs.Places.{read_more, so_far}

@@ -1,4 +1,4 @@
-use Rattle.std.proofs.Common.{◌≡◌, ◌<◌, ℕ, map, take}
+use Rattle.std.proofs.Common.{◌≡◌, map, take}
 use Rattle.std.specs.List.{All}
 use Rattle.toml.specs.View.{table_view, view}
 use Rattle.sift_scenario.specs.Document.{IsTableOf, members_of}

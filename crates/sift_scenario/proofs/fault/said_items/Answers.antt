@@ -1,4 +1,4 @@
-use Rattle.std.proofs.Common.{◌≡◌, None, Some, below_more, map, ◌∙◌, arith}
+use Rattle.std.proofs.Common.{below_more, map, ◌∙◌, arith}
 use Rattle.std.proofs.lemmas.List.{length-map, take_all}
 use Rattle.toml.specs.View.{table_view}
 use Rattle.sift_scenario.proofs.Places.{fails_here, holds_here, nowhere, read_more}

@@ -1,5 +1,5 @@
-use Rattle.std.proofs.Common.{◌≡◌, ℕ, Err, rules, length, refl, sym, ap, ◌∙◌, arith}
-use Rattle.sift_base.specs.Shapes.{AllShapes, shapes_of}
+use Rattle.std.proofs.Common.{◌≡◌, ℕ, Err, rules, length, refl, ◌∙◌, arith}
+use Rattle.sift_base.specs.Shapes.{shapes_of}
 use Rattle.sift_base.specs.declared.layout.Layout.{Layout}
 use Rattle.sift_scenario.proofs.Assembling.{layout_read}
 use Rattle.sift_scenario.proofs.Made.{fits, layout_fits, mission_is, program_sound, refused_script, refused_table, sensors_few, shapes_fit}

@@ -1,4 +1,4 @@
-use Rattle.std.proofs.Common.{◌≡◌, Err, rules, refl}
+use Rattle.std.proofs.Common.{◌≡◌, Err, rules}
 use Rattle.toml.specs.View.{table_view}
 use Rattle.sift_scenario.proofs.Order.{err_from, ok_from}
 use Rattle.sift_scenario.proofs.TaskRefusals.{rule_refused}

@@ -1,6 +1,5 @@
-use Rattle.std.proofs.Common.{◌≡◌, Err, rules, refl}
+use Rattle.std.proofs.Common.{◌≡◌, Err, rules}
 use Rattle.toml.specs.View.{table_view}
-use Rattle.sift_scenario.proofs.Numbers.{between_or}
 use Rattle.sift_scenario.proofs.Order.{stopped}
 use Rattle.sift_scenario.specs.Root.{root_rules}
 use Rattle.sift_scenario.proofs.root.root_of.Goals as goal

@@ -1,4 +1,4 @@
-use Rattle.std.proofs.Common.{◌≡◌, ◌∙◌, length, drop, sym, ap, true, false, refl}
+use Rattle.std.proofs.Common.{◌≡◌, ◌∙◌, sym, ap, true, false, refl}
 use Rattle.std.proofs.Math.ListN.{drop_of_length-le}
 use Rattle.sift_lang.specs.Tree.{block_of, statement_of}
 use Rattle.sift_unit.specs.Needs.{block_reads, statement_reads}

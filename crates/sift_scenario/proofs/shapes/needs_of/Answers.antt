@@ -1,4 +1,4 @@
-use Rattle.std.proofs.Common.{◌≡◌, ◌<◌, ◌+◌, ◌∙◌, map, length, cond, true, false, sym, ap, refl, [], ◌∷◌, append-nil, arith}
+use Rattle.std.proofs.Common.{◌≡◌, ◌<◌, ◌+◌, ◌∙◌, map, length, sym, ap, append-nil, arith}
 use Rattle.std.specs.List.{filter, range_with_len}
 use Rattle.sift_lang.specs.Tree.{tree_of}
 use Rattle.sift_unit.specs.Needs.{reads_task, task_at}

@@ -1,10 +1,10 @@
-use Rattle.std.proofs.Common.{◌≡◌, ◌<◌, ◌+◌, ◌-◌, ◌∙◌, length, get_or, take, true, false, sym, ap, refl, arith}
+use Rattle.std.proofs.Common.{◌≡◌, ◌<◌, ◌+◌, ◌-◌, ◌∙◌, get_or, take, true, false, sym, ap, refl, arith}
 use Rattle.std.proofs.lemmas.List.{take_all}
 use Rattle.std.proofs.lemmas.List.Folds.{list_any_at, list_any_more}
 use Rattle.std.proofs.lemmas.List.FromFn.{get_or-range_with_len, length-range_with_len}
 use Rattle.std.specs.List.{list_any, range_with_len}
-use Rattle.sift_lang.specs.Tree.{block_of, tree_of}
-use Rattle.sift_unit.specs.Needs.{block_reads, reads_word}
+use Rattle.sift_lang.specs.Tree.{tree_of}
+use Rattle.sift_unit.specs.Needs.{reads_word}
 use Rattle.sift_scenario.proofs.shapes.reads_some.Goals as goal
 
 -- the task reads a word

@@ -1,6 +1,6 @@
-use Rattle.std.proofs.Common.{◌≡◌, ◌<◌, ◌∙◌, length, map, take, sym, ap, refl, arith}
+use Rattle.std.proofs.Common.{◌<◌, ◌∙◌, length, map, sym, ap, arith}
 use Rattle.std.proofs.lemmas.List.{length-map, map-append, take_all}
-use Rattle.sift_base.specs.Shapes.{AllShapes, Shape, shape_of}
+use Rattle.sift_base.specs.Shapes.{AllShapes}
 use Rattle.sift_lang.specs.Tree.{tree_of}
 use Rattle.sift_unit.proofs.Tasks.{length-shapes}
 use Rattle.sift_unit.specs.Needs.{shapes_from}

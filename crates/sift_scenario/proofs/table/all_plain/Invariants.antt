@@ -1,4 +1,4 @@
-use Rattle.std.proofs.Common.{◌≡◌, ◌-◌, map, length}
+use Rattle.std.proofs.Common.{◌≡◌, ◌-◌, map}
 use Rattle.std.specs.List.{range_with_len}
 use Rattle.sift_table.specs.Schedule.{plain_of, schedule_of}
 use Rattle.sift_scenario.proofs.table.all_plain.Given as goal

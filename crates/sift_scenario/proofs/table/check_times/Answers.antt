@@ -1,4 +1,4 @@
-use Rattle.std.proofs.Common.{◌≡◌, true, false, below_more, refl, arith}
+use Rattle.std.proofs.Common.{◌≡◌, true, false, below_more, arith}
 use Rattle.toml.specs.View.{table_view}
 use Rattle.sift_scenario.proofs.Places.{fails_here, holds_here, nowhere}
 use Rattle.sift_scenario.proofs.Testing.{first_broken}

@@ -1,4 +1,4 @@
-use Rattle.std.proofs.Common.{◌≡◌, Some, None, ◌⊎◌, inl, inr, below_more, map, sym, ◌∙◌, arith}
+use Rattle.std.proofs.Common.{◌≡◌, None, below_more, map, ◌∙◌, arith}
 use Rattle.std.proofs.lemmas.List.{length-map, take_all}
 use Rattle.toml.specs.View.{table_view}
 use Rattle.sift_table.specs.Schedule.{schedule_of}

@@ -1,10 +1,10 @@
-use Rattle.std.proofs.Common.{◌≡◌, ◌-◌, Err, rules, map, ap, ◌∙◌, length, arith}
-use Rattle.toml.specs.View.{table_view, view}
+use Rattle.std.proofs.Common.{◌≡◌, ◌-◌, Err, rules, map, ap, ◌∙◌, arith}
+use Rattle.toml.specs.View.{view}
 use Rattle.sift_scenario.proofs.EntryTests.{refused_whole, tested}
 use Rattle.sift_scenario.proofs.Order.{ok_from}
 use Rattle.sift_scenario.proofs.Places.{map_map}
 use Rattle.sift_scenario.specs.Document.{members_of}
-use Rattle.sift_scenario.specs.Table.{IsTableEntry, size_count, tables_in}
+use Rattle.sift_scenario.specs.Table.{IsTableEntry, size_count}
 use Rattle.sift_scenario.proofs.table.sized_tables.Goals as goal
 
 -- `table` is no array of so many entries

@@ -1,4 +1,4 @@
-use Rattle.std.proofs.Common.{◌≡◌, ℕ, Some, Err, rules, map, refl, sym, ap, subst, ◌∙◌, List}
+use Rattle.std.proofs.Common.{◌≡◌, ℕ, Some, Err, rules, map, ap, subst, ◌∙◌, List}
 use Rattle.toml.specs.Data.{Members}
 use Rattle.toml.specs.View.{table_view, view}
 use Rattle.sift_scenario.proofs.Order.{ended, ok_from, stopped}

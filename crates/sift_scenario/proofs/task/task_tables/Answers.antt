@@ -1,4 +1,4 @@
-use Rattle.std.proofs.Common.{◌≡◌, ◌<◌, ℕ, List, length, ap, map, sym, ◌∙◌, arith}
+use Rattle.std.proofs.Common.{◌≡◌, length, ap, map, sym, ◌∙◌, arith}
 use Rattle.std.proofs.lemmas.List.{length-map}
 use Rattle.toml.specs.View.{table_view, view}
 use Rattle.sift_scenario.proofs.Order.{ok_from}

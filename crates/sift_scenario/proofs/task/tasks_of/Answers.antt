@@ -1,9 +1,9 @@
-use Rattle.std.proofs.Common.{◌≡◌, List, Err, rules, map, refl, subst}
+use Rattle.std.proofs.Common.{◌≡◌, List, Err, rules, map, subst}
 use Rattle.toml.specs.Data.{Members}
 use Rattle.toml.specs.View.{table_view}
 use Rattle.sift_scenario.proofs.Order.{ended, later, ok_from, stopped}
 use Rattle.sift_scenario.specs.Reading.{AreTasksRead}
-use Rattle.sift_scenario.specs.Rules.{AreKept, rule}
+use Rattle.sift_scenario.specs.Rules.{rule}
 use Rattle.sift_scenario.specs.Task.{tasks_of}
 use Rattle.sift_scenario.specs.TaskRules.{BreaksTasks, each_task_rules, task_rules}
 use Rattle.sift_scenario.specs.Testing.{TestsEach}

@@ -1,6 +1,5 @@
-use Rattle.std.proofs.Common.{◌≡◌, Some, List, [], ◌∷◌, sym, ◌∙◌, ap, map}
+use Rattle.std.proofs.Common.{sym, ◌∙◌}
 use Rattle.std.proofs.lemmas.List.{map-append}
-use Rattle.std.specs.Option.{option_map}
 use Rattle.toml.specs.View.{view}
 use Rattle.sift_scenario.proofs.ReadEntries.{array_of-values, value-all, value-none, value-step}
 use Rattle.sift_scenario.specs.Document.{digits_of}

@@ -1,6 +1,6 @@
-use Rattle.std.proofs.Common.{sym, ◌∙◌, ap, get_or}
+use Rattle.std.proofs.Common.{sym}
 use Rattle.sift_scenario.proofs.ReadEntries.{each_read-none, read-all, read-step}
-use Rattle.sift_scenario.specs.Document.{digit_of, each_read}
+use Rattle.sift_scenario.specs.Document.{digit_of}
 use Rattle.sift_scenario.proofs.value.digits_in.Goals as goal
 
 -- a byte is no such digit

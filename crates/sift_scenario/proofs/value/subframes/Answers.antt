@@ -1,6 +1,6 @@
 use Rattle.std.proofs.Common.{sym, ◌∙◌}
 use Rattle.toml.specs.View.{view}
-use Rattle.sift_scenario.proofs.ReadEntries.{array_of-other, array_of-values, value-all, value-none, value-step}
+use Rattle.sift_scenario.proofs.ReadEntries.{array_of-values, value-all, value-none, value-step}
 use Rattle.sift_scenario.specs.Table.{subframe}
 use Rattle.sift_scenario.proofs.value.subframes.Goals as goal
 
