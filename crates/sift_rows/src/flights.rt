@@ -47,7 +47,11 @@ const FLIGHTS: [(&str, u32, &str); 3] = [
 /// The mission that a document states.
 fn stated(alloc: Global, document: &str) -> Result<Mission, Fail> {
     let table = toml::table_from_str(alloc, document)?;
-    Ok(sift_scenario::mission_of(alloc, &table).ok().ok_or("a mission")?)
+    Ok(
+        sift_scenario::mission_of(alloc, &table)
+            .ok()
+            .ok_or("a mission")?,
+    )
 }
 
 /// A flight of the mission.
