@@ -1,0 +1,88 @@
+-- The law of printing: the text that a sound tree prints is a text of that tree.
+use Rattle.std.specs.Prelude.{◌≡◌, ◌≢◌, ◌+◌, ◌<◌, ◌≤◌, ℕ, suc, max, nat_lt, Bool, true, false, length, sum, slice_index, Some}
+use Rattle.sift_base.specs.Name.{IsName}
+use Rattle.sift_lang.specs.Limits.{local_limit}
+use Rattle.sift_lang.specs.Sound.{EachTerm}
+use Rattle.sift_lang.specs.Tree.{Term, number, local, sense, this_frame, last_frame, minus, binary, middle, Statement, bind, assign, output, choose, choose_else, repeat, Block, end, step, TaskTree}
+use Rattle.sift_parse.specs.Grammar.{level_of, prim_level}
+use Rattle.sift_parse.specs.Limits.{text_limit, level_limit, number_limit}
+use Rattle.sift_parse.specs.Outcome.{AreNames, IsSoundAmong, IsTaskOf}
+use Rattle.sift_parse.specs.Printing.{Naming, left_level, printed_text}
+use Rattle.sift_parse.specs.Roll.{Roll, number_in, first_word}
+
+-- ---- names
+
+-- the sensor is found by its name
+pub record NamesSensor (r : Roll) (N : Naming) (x : ℕ) : Type 0 where
+  pub is_name : IsName (N.sensor_name x)
+  pub found : number_in r.sensors (N.sensor_name x) ≡ Some x
+
+-- the voted word is the word of this number among those of its task, which is found by its name
+pub record NamesWord (r : Roll) (N : Naming) (w : ℕ) : Type 0 where
+  pub is_name : IsName (N.task_name w)
+  pub found : number_in r.tasks (N.task_name w) ≡ Some (N.task_of w)
+  pub within : N.index_of w < slice_index r.sizes (N.task_of w)
+  pub same : first_word r (N.task_of w) + N.index_of w ≡ w
+
+-- what is there has its name, and no two locals have the same one
+pub record IsNamingOf (r : Roll) (N : Naming) : Type 0 where
+  pub sensors : (x : ℕ) → x < length r.sensors → NamesSensor r N x
+  pub words : (w : ℕ) → w < sum r.sizes → NamesWord r N w
+  pub locals : (l : ℕ) → l < local_limit → IsName (N.local_name l)
+  pub distinct : (l m : ℕ) → l < m → m < local_limit → N.local_name m ≢ N.local_name l
+
+-- ---- limits
+
+-- one more level, where there are parentheses
+abbrev pub one_more_if : Bool → ℕ → ℕ
+one_more_if true n = n + 1
+one_more_if false n = n
+
+-- how many levels a term opens at once, where it is printed as an operand of this level
+abbrev pub depth : Term → ℕ → ℕ
+depth (number k) n = 0
+depth (local l) n = 0
+depth (sense x) n = 0
+depth (this_frame w) n = 0
+depth (last_frame w) n = 0
+depth (minus t) n = depth t prim_level + 1
+depth (binary op t u) n = one_more_if (nat_lt (level_of op) n) (max (depth t (left_level (level_of op))) (depth u (suc (level_of op))))
+depth (middle t u v) n = max (depth t 0) (max (depth u 0) (depth v 0)) + 1
+
+abbrev mutual
+  -- how many levels a statement opens at once
+  pub depth_of : Statement → ℕ
+  depth_of (bind t) = depth t 0
+  depth_of (assign l t) = depth t 0
+  depth_of (output j t) = depth t 0
+  depth_of (choose t first) = max (depth t 0) (depth_in first + 1)
+  depth_of (choose_else t first second) = max (depth t 0) (max (depth_in first) (depth_in second) + 1)
+  depth_of (repeat n body) = depth_in body + 1
+
+  -- how many levels the statements of a block open at once
+  pub depth_in : Block → ℕ
+  depth_in end = 0
+  depth_in (step statement more) = max (depth_of statement) (depth_in more)
+
+-- each number of the term is one that a text may hold
+abbrev pub HasSmallNumbers : Term → Type 0
+HasSmallNumbers (number k) = k ≤ number_limit
+HasSmallNumbers (local l) = Unit {0}
+HasSmallNumbers (sense x) = Unit {0}
+HasSmallNumbers (this_frame w) = Unit {0}
+HasSmallNumbers (last_frame w) = Unit {0}
+HasSmallNumbers (minus t) = HasSmallNumbers t
+HasSmallNumbers (binary op t u) = HasSmallNumbers t × HasSmallNumbers u
+HasSmallNumbers (middle t u v) = HasSmallNumbers t × HasSmallNumbers u × HasSmallNumbers v
+
+-- the tree may be printed: it is that of a sound task with as many output words as the task has, and within the limits of a text
+pub record IsPrintable (r : Roll) (N : Naming) (tree : TaskTree) : Type 0 where
+  pub outputs : tree.outputs ≡ slice_index r.sizes r.this
+  pub sound : IsSoundAmong r tree
+  pub small : EachTerm HasSmallNumbers tree.body
+  pub shallow : depth_in tree.body ≤ level_limit
+  pub short : length (printed_text N tree.body) ≤ text_limit
+
+-- the text that a tree prints is a text of that tree
+abbrev pub PrintedTreeIsTask : Type 0
+PrintedTreeIsTask = (r : Roll) (N : Naming) (tree : TaskTree) → AreNames r → IsNamingOf r N → IsPrintable r N tree → IsTaskOf r (printed_text N tree.body) tree
