@@ -34,11 +34,11 @@ read_one total text here mid l ls e x i = record {
 
 -- ---- numbers and names
 
-gap-digits : (ds rest : List ℕ) → 0 < length ds → AllDigits 10 ds → after_gap (ds ++ rest) ≡ ds ++ rest
+pub gap-digits : (ds rest : List ℕ) → 0 < length ds → AllDigits 10 ds → after_gap (ds ++ rest) ≡ ds ++ rest
 gap-digits [] rest some h = absurd (omega arith)
 gap-digits (d ∷ ds) rest some h = let digit = digit_from_value d h.0 in no_gap d (ds ++ rest) digit.0
 
-gap-name : (w rest : List ℕ) → HasNameForm w → after_gap (w ++ rest) ≡ w ++ rest
+pub gap-name : (w rest : List ℕ) → HasNameForm w → after_gap (w ++ rest) ≡ w ++ rest
 gap-name [] rest h = absurd h
 gap-name (b ∷ w) rest h = let lower = h.0 in no_gap b (w ++ rest) (omega arith)
 
@@ -55,7 +55,7 @@ name_bytes (b ∷ bs) h (suc k) d lt = name_bytes bs h.1 k d (omega arith)
 pub wide : (n : ℕ) → n < 2 ^ 16 → n < 2 ^ 64
 wide n lt = omega arith
 
-keeps : (n : ℕ) → n < 2 ^ 16 → kept n ≡ n
+pub keeps : (n : ℕ) → n < 2 ^ 16 → kept n ≡ n
 keeps n lt = grind (arith, nat_tests)
 
 -- a number that a text may hold, after a gap or none
