@@ -1,4 +1,7 @@
 -- The text that a tree prints is a text of that tree.
+pub mod Agrees
 pub mod Fronts
+pub mod Known
+pub mod MayStand
 pub mod Read
 pub mod Spacing
