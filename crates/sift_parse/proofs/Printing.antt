@@ -3,7 +3,10 @@ pub mod Agreed
 pub mod Agrees
 pub mod Fronts
 pub mod Known
+pub mod Levels
 pub mod MayStand
+pub mod Named
+pub mod Prims
 pub mod Read
 pub mod Signs
 pub mod Spacing
