@@ -6,8 +6,10 @@ pub mod Known
 pub mod Levels
 pub mod MayStand
 pub mod Named
+pub mod Operators
 pub mod Prims
 pub mod Read
 pub mod Signs
 pub mod Spacing
+pub mod Terms
 pub mod Text
