@@ -5,13 +5,16 @@ pub mod Blocks
 pub mod Braces
 pub mod Fronts
 pub mod Known
+pub mod Law
 pub mod Levels
 pub mod MayStand
 pub mod Named
+pub mod Names
 pub mod Operators
 pub mod Prims
 pub mod Read
 pub mod Signs
+pub mod Spaces
 pub mod Spacing
 pub mod Statements
 pub mod Terms

@@ -1,0 +1,60 @@
+-- The text that a sound tree prints is a text of that tree.
+use Rattle.std.proofs.Common.{◌≡◌, ◌<◌, ◌≤◌, false, [], length, sum, refl, sym, ap, ◌∙◌, subst, arith}
+use Rattle.sift_lang.specs.Sound.{IsSoundBlock, locals_after}
+use Rattle.sift_lang.specs.Tree.{Statement, Block, end, step}
+use Rattle.sift_parse.specs.Answer.{HasSize}
+use Rattle.sift_parse.specs.Grammar.{IsTask, no_statement, a_statement}
+use Rattle.sift_parse.specs.Limits.{level_limit}
+use Rattle.sift_parse.specs.Printable.{depth_in, PrintedTreeIsTask}
+use Rattle.sift_parse.specs.Printing.{Naming, print_statement, print_block, print_body}
+use Rattle.sift_parse.specs.Roll.{Roll}
+use Rattle.sift_parse.proofs.Printing.Blocks.{names-many, statement-printed, block-printed}
+use Rattle.sift_parse.proofs.Printing.Known.{at_front, tokens_by}
+use Rattle.sift_parse.proofs.Printing.MayStand.{AllMayStand}
+use Rattle.sift_parse.proofs.Printing.Named.{IsNamedBlock}
+use Rattle.sift_parse.proofs.Printing.Names.{Named, bounds, block-named}
+use Rattle.sift_parse.proofs.Printing.Read.{items_in}
+use Rattle.sift_parse.proofs.Printing.Spaces.{body-follows}
+use Rattle.sift_parse.proofs.Printing.Statements.{Opens, Stated, Blocked}
+use Rattle.sift_parse.proofs.Printing.Text.{pieces-parsed}
+
+-- a text begins with a statement
+front-opens : (r : Roll) → Opens r at_front
+front-opens r = record { role = refl; no_let = λ e. cc; no_now = λ e. cc; bare = refl; none = refl }
+
+-- what is printed of a body is a task, and each item of it may stand in its place
+record Body (r : Roll) (N : Naming) (b : Block) : Type 0 where
+  pub task : IsTask (tokens_by r at_front (items_in (print_body N b))) b
+  pub stands : AllMayStand r at_front (items_in (print_body N b))
+
+body-step : (r : Roll) (N : Naming) (s : Statement) (b : Block) → (i : Stated r N at_front s (print_statement N 0 s false))
+    → Blocked r i.after b (print_block N (locals_after 0 s) b) → Body r N (step s b)
+body-step r N s b i j = let rest = print_block N (locals_after 0 s) b [] in record {
+  task = a_statement _ (tokens_by r i.after (items_in rest)) [] s b (i.tokens rest) (j.tokens []);
+  stands = i.stands rest (j.stands [] tt);
+}
+
+body-printed : (r : Roll) (N : Naming) (b : Block) → IsNamedBlock r N [] b → depth_in b ≤ level_limit → Body r N b
+body-printed r N end named few = record { task = no_statement []; stands = tt }
+body-printed r N (step s b) named few =
+    let i = statement-printed r N s 0 false at_front (front-opens r) refl named.0 (omega arith) in
+    let same : length i.after.levels ≡ 0 = ap length i.levels in
+    let many : locals_after 0 s ≡ length i.after.locals = sym (names-many N [] s) ∙ sym (ap length i.locals) in
+    body-step r N s b i
+    (block-printed r N b (locals_after 0 s) i.after i.opens many (subst (λ l. IsNamedBlock r N l b) (sym i.locals) named.1) (omega arith))
+
+pub printed_tree_is_task : PrintedTreeIsTask
+printed_tree_is_task r N tree names naming p =
+    let size : HasSize r = record {
+      some = subst (λ n. 0 < n) p.outputs p.sound.sound.some_output;
+      few = subst (λ n. n ≤ 8) p.outputs p.sound.sound.few_outputs;
+    } in
+    let is : Named r N = record { names = names; size = size; naming = naming } in
+    let sound : IsSoundBlock (bounds r) 0 tree.body =
+    subst (λ n. IsSoundBlock (record { sensors = length r.sensors; words = sum r.sizes; outputs = n }) 0 tree.body) p.outputs p.sound.sound.sound_body in
+    let i = body-printed r N tree.body (block-named r N 0 tree.body is (omega arith) sound p.sound.nows p.small) p.shallow in
+    record {
+      short = p.short;
+      parsed = pieces-parsed r (print_body N tree.body) tree.body (body-follows N tree.body) i.stands i.task;
+      outputs = p.outputs;
+    }
