@@ -14,7 +14,7 @@ use Rattle.sift_parse.specs.Refusal.{IsNotBefore}
 use Rattle.sift_parse.specs.Roll.{Roll, number_in}
 use Rattle.sift_parse.specs.Scanned.{NoneAt}
 use Rattle.sift_parse.specs.Tokens.{Role, new_local, a_sensor, a_task, old_local, role_after, local_of, task_after, index_meant}
-use Rattle.sift_parse.proofs.Linear.Tokens.{no_keyword}
+use Rattle.sift_parse.proofs.Printing.Keywords.{keyword-is, keyword-short, no_keyword}
 use Rattle.sift_parse.proofs.Printing.Known.{after_key, Known, at_front, key_before, ends_in, after_role, known_after, asked_by, index_by, token_by}
 use Rattle.sift_parse.proofs.Printing.MayStand.{FitsLet, Means, IsEarlier, MayStand}
 use Rattle.sift_parse.proofs.Refusals.Fine.{none_at_word, none_at_keyword}
@@ -55,28 +55,6 @@ lets-agree : (r : Roll) (f : Force) (h : Known) → Agrees r f h → FitsLet (le
 lets-agree r f h a fits e = subst (λ l. length l < 32) (sym a.locals) (fits (sym a.key ∙ e))
 
 -- ---- keywords
-
-keyword-is : (k : Keyword) → keyword_of (keyword_bytes k) ≡ Some k
-keyword-is Let = refl
-keyword-is Out = refl
-keyword-is If = refl
-keyword-is Else = refl
-keyword-is Repeat = refl
-keyword-is Mid = refl
-keyword-is Sense = refl
-keyword-is Now = refl
-keyword-is Last = refl
-
-keyword-short : (k : Keyword) → length (keyword_bytes k) ≤ name_limit
-keyword-short Let = omega arith
-keyword-short Out = omega arith
-keyword-short If = omega arith
-keyword-short Else = omega arith
-keyword-short Repeat = omega arith
-keyword-short Mid = omega arith
-keyword-short Sense = omega arith
-keyword-short Now = omega arith
-keyword-short Last = omega arith
 
 asked-after : (r : Roll) (k : Keyword) → task_after r (Some k) ≡ asked_by r (after_key k)
 asked-after r Let = refl

@@ -13,7 +13,7 @@ use Rattle.sift_parse.specs.Roll.{Roll}
 use Rattle.sift_parse.proofs.Printing.Braces.{in_brace, brace-opens, Closed, closed, in_if, if-written, in_else, else-written, in_repeat, repeat-written}
 use Rattle.sift_parse.proofs.Printing.Known.{Known, known_after}
 use Rattle.sift_parse.proofs.Printing.Named.{names_after, IsNamedStatement, IsNamedBlock}
-use Rattle.sift_parse.proofs.Printing.Prims.{assign-starts, if-starts, Printed}
+use Rattle.sift_parse.proofs.Printing.Printed.{assign-starts, if-starts, Printed}
 use Rattle.sift_parse.proofs.Printing.Statements.{Opens, Stated, Blocked, in_let, let-written, in_assignment, assign-written, in_output, output-written}
 use Rattle.sift_parse.proofs.Printing.Terms.{fits-at, term-printed}
 use Rattle.sift_parse.proofs.Sound.Force.{bare-short}

@@ -12,7 +12,7 @@ use Rattle.sift_parse.specs.Printing.{Naming}
 use Rattle.sift_parse.specs.Roll.{Roll}
 use Rattle.sift_parse.proofs.Places.Seen.{oldest-append}
 use Rattle.sift_parse.proofs.Printing.Known.{Known, left_levels, left_locals, known_after}
-use Rattle.sift_parse.proofs.Printing.Prims.{Printed}
+use Rattle.sift_parse.proofs.Printing.Printed.{Printed}
 use Rattle.sift_parse.proofs.Printing.Statements.{Opens, Stated, Blocked, bare-of}
 use Rattle.sift_parse.proofs.Sound.Force.{bare-twice}
 

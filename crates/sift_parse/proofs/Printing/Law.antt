@@ -1,12 +1,13 @@
 -- The text that a sound tree prints is a text of that tree.
-use Rattle.std.proofs.Common.{◌≡◌, ◌<◌, ◌≤◌, false, [], length, sum, refl, sym, ap, ◌∙◌, subst, arith}
-use Rattle.sift_lang.specs.Sound.{IsSoundBlock, locals_after}
+use Rattle.std.proofs.Common.{◌≡◌, ℕ, ◌<◌, ◌≤◌, false, [], length, sum, refl, sym, ap, ◌∙◌, subst, arith}
+use Rattle.sift_lang.specs.Sound.{Bounds, IsSoundBlock, locals_after}
 use Rattle.sift_lang.specs.Tree.{Statement, Block, end, step}
 use Rattle.sift_parse.specs.Answer.{HasSize}
 use Rattle.sift_parse.specs.Grammar.{IsTask, no_statement, a_statement}
 use Rattle.sift_parse.specs.Limits.{level_limit}
 use Rattle.sift_parse.specs.Printable.{depth_in, PrintedTreeIsTask}
-use Rattle.sift_parse.specs.Printing.{Naming, print_statement, print_block, print_body}
+use Rattle.sift_parse.specs.Printing.{Naming, print_statement, print_block, print_body, printed_text}
+use Rattle.sift_parse.specs.Refusal.{IsParsed}
 use Rattle.sift_parse.specs.Roll.{Roll}
 use Rattle.sift_parse.proofs.Printing.Blocks.{names-many, statement-printed, block-printed}
 use Rattle.sift_parse.proofs.Printing.Known.{at_front, tokens_by}
@@ -43,6 +44,11 @@ body-printed r N (step s b) named few =
     body-step r N s b i
     (block-printed r N b (locals_after 0 s) i.after i.opens many (subst (λ l. IsNamedBlock r N l b) (sym i.locals) named.1) (omega arith))
 
+-- the text of a body that has its names is a text of that body
+pub body-parsed : (r : Roll) (N : Naming) (b : Block) → IsNamedBlock r N [] b → depth_in b ≤ level_limit → IsParsed r (printed_text N b) b
+body-parsed r N b named few =
+    let i = body-printed r N b named few in pieces-parsed r (print_body N b) b (body-follows N b) i.stands i.task
+
 pub printed_tree_is_task : PrintedTreeIsTask
 printed_tree_is_task r N tree names naming p =
     let size : HasSize r = record {
@@ -50,11 +56,7 @@ printed_tree_is_task r N tree names naming p =
       few = subst (λ n. n ≤ 8) p.outputs p.sound.sound.few_outputs;
     } in
     let is : Named r N = record { names = names; size = size; naming = naming } in
-    let sound : IsSoundBlock (bounds r) 0 tree.body =
-    subst (λ n. IsSoundBlock (record { sensors = length r.sensors; words = sum r.sizes; outputs = n }) 0 tree.body) p.outputs p.sound.sound.sound_body in
-    let i = body-printed r N tree.body (block-named r N 0 tree.body is (omega arith) sound p.sound.nows p.small) p.shallow in
-    record {
-      short = p.short;
-      parsed = pieces-parsed r (print_body N tree.body) tree.body (body-follows N tree.body) i.stands i.task;
-      outputs = p.outputs;
-    }
+    let tree_in : ℕ → Bounds = λ n. record { sensors = length r.sensors; words = sum r.sizes; outputs = n } in
+    let sound : IsSoundBlock (bounds r) 0 tree.body = subst (λ n. IsSoundBlock (tree_in n) 0 tree.body) p.outputs p.sound.sound.sound_body in
+    let named = block-named r N 0 tree.body is (omega arith) sound p.sound.nows p.small in
+    record { short = p.short; parsed = body-parsed r N tree.body named p.shallow; outputs = p.outputs }

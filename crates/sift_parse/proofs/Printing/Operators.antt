@@ -15,7 +15,7 @@ use Rattle.sift_parse.specs.Roll.{Roll}
 use Rattle.sift_parse.proofs.Printing.Known.{Before, Known, ends_in, is_minus_after, after_operator, known_after, tokens_by}
 use Rattle.sift_parse.proofs.Printing.Levels.{prim-of, op-level, two-operands}
 use Rattle.sift_parse.proofs.Printing.MayStand.{FitsLevel, AllMayStand}
-use Rattle.sift_parse.proofs.Printing.Prims.{Starts, Printed}
+use Rattle.sift_parse.proofs.Printing.Printed.{Starts, Printed}
 use Rattle.sift_parse.proofs.Printing.Read.{items_in}
 use Rattle.sift_parse.proofs.Sound.Force.{bare-twice}
 

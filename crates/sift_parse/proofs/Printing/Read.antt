@@ -1,5 +1,10 @@
 -- The text of pieces is read as their lexemes.
-use Rattle.std.proofs.Common.{◌≡◌, ℕ, Bool, true, false, List, [], ◌∷◌, ◌++◌, refl, arith}
+use Rattle.std.proofs.Common.{◌≡◌, ℕ, ◌-◌, ◌<◌, Bool, true, false, List, [], ◌∷◌, ◌++◌, length, refl, sym, ap, subst, arith}
+use Rattle.std.specs.Str.Parse.{AllDigits}
+use Rattle.std.proofs.lemmas.Str.Parse.{digit_from_value}
+use Rattle.sift_base.specs.Name.{HasNameForm}
+use Rattle.sift_parse.specs.Refusal.{lexemes_of}
+use Rattle.sift_parse.proofs.Lexing.Front.{no_gap}
 use Rattle.std.specs.Prelude.{map}
 use Rattle.std.specs.Fmt.{decimal}
 use Rattle.std.proofs.lemmas.Fmt.{decimal_is_IsNumeral}
@@ -7,13 +12,21 @@ use Rattle.sift_lang.specs.declared.tree.Op.{Op}
 use Rattle.sift_lang.specs.declared.tree.Op.TheVariants.{Add, Sub, Mul, Div, Rem, And, Or, Xor, Shl, Shr, Lt, Eq}
 use Rattle.sift_parse.specs.declared.token.Sign.{Sign}
 use Rattle.sift_parse.specs.declared.token.Sign.TheVariants.{Assign, OpenParen, CloseParen, OpenBrace, CloseBrace, Comma, Dot, Semicolon}
-use Rattle.sift_parse.specs.Lexeme.{Lexeme, word, numeral, operator, mark, operator_bytes, sign_bytes, after_gap}
+use Rattle.sift_parse.specs.Lexeme.{Lexeme, word, numeral, operator, mark, operator_bytes, sign_bytes, IsLexeme, after_gap, Placed, Lexes, no_lexeme, a_lexeme}
 use Rattle.sift_parse.specs.Pieces.{Item, lexeme_for, printed, Piece, blank_if, text_of}
-use Rattle.sift_parse.proofs.Linear.Parts.{IsRead, read_none, read_one, gap-digits, gap-name}
 use Rattle.sift_parse.proofs.Printing.Fronts.{lexeme-printed}
 use Rattle.sift_parse.proofs.Printing.Spacing.{AllFollow, IsFormed, AllFormed}
 
 -- ---- gaps
+
+-- no gap begins with a digit or a letter
+gap-digits : (ds rest : List ℕ) → 0 < length ds → AllDigits 10 ds → after_gap (ds ++ rest) ≡ ds ++ rest
+gap-digits [] rest some h = absurd (omega arith)
+gap-digits (d ∷ ds) rest some h = let digit = digit_from_value d h.0 in no_gap d (ds ++ rest) digit.0
+
+gap-name : (w rest : List ℕ) → HasNameForm w → after_gap (w ++ rest) ≡ w ++ rest
+gap-name [] rest h = absurd h
+gap-name (b ∷ w) rest h = let lower = h.0 in no_gap b (w ++ rest) (omega arith)
 
 operator-gap : (op : Op) (rest : List ℕ) → after_gap (operator_bytes op ++ rest) ≡ operator_bytes op ++ rest
 operator-gap Add rest = refl
@@ -52,6 +65,23 @@ blank-gap true bytes e = e
 blank-gap false bytes e = e
 
 -- ---- the text
+
+-- these are the lexemes of the text, which ends with them
+pub record IsRead (total : ℕ) (text : List ℕ) (ls : List Lexeme) : Type 0 where
+  pub placed : List Placed
+  pub lexes : Lexes total text placed []
+  pub same : lexemes_of placed ≡ ls
+
+read_none : (total : ℕ) → IsRead total [] []
+read_none total = record { placed = []; lexes = no_lexeme []; same = refl }
+
+read_one : (total : ℕ) (text here mid : List ℕ) (l : Lexeme) (ls : List Lexeme) → after_gap text ≡ here → IsLexeme here l mid
+    → IsRead total mid ls → IsRead total text (l ∷ ls)
+read_one total text here mid l ls e x i = record {
+  placed = record { lexeme = l; at = total - length (after_gap text) } ∷ i.placed;
+  lexes = a_lexeme text mid [] l i.placed (subst (λ t. IsLexeme t l mid) (sym e) x) i.lexes;
+  same = ap (λ k. l ∷ k) i.same;
+}
 
 -- the items of pieces
 abbrev pub items_in : List Piece → List Item

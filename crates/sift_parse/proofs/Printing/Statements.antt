@@ -16,7 +16,7 @@ use Rattle.sift_parse.specs.Tokens.{old_local, role_after, local_of}
 use Rattle.sift_parse.proofs.Printing.Known.{Known, key_before, after_role, ended_let, known_after, tokens_by}
 use Rattle.sift_parse.proofs.Printing.MayStand.{Means, AllMayStand}
 use Rattle.sift_parse.proofs.Printing.Named.{names_after}
-use Rattle.sift_parse.proofs.Printing.Prims.{Printed}
+use Rattle.sift_parse.proofs.Printing.Printed.{Printed}
 use Rattle.sift_parse.proofs.Printing.Read.{items_in}
 use Rattle.sift_parse.proofs.Sound.Force.{bare-twice}
 

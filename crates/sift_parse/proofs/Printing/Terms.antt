@@ -16,7 +16,8 @@ use Rattle.sift_parse.proofs.Printing.Known.{Known, known_after}
 use Rattle.sift_parse.proofs.Printing.Levels.{op-level}
 use Rattle.sift_parse.proofs.Printing.Named.{IsNamed}
 use Rattle.sift_parse.proofs.Printing.Operators.{in_minus, minus-written, in_joined, binary-written, in_paren, parens-written, in_comma, middle-written}
-use Rattle.sift_parse.proofs.Printing.Prims.{Starts, operator-starts, paren-starts, comma-starts, Printed, lowered, number-written, local-written, sense-written, now-written, last-written}
+use Rattle.sift_parse.proofs.Printing.Prims.{number-written, local-written, sense-written, now-written, last-written}
+use Rattle.sift_parse.proofs.Printing.Printed.{Starts, operator-starts, paren-starts, comma-starts, Printed, lowered}
 use Rattle.sift_parse.proofs.Sound.Force.{bare-short}
 
 -- what a term asks of the place where it is printed: its names are seen, and so many more levels may be open

@@ -14,9 +14,9 @@ use Rattle.sift_parse.specs.Refusal.{lexemes_of, IsParsed}
 use Rattle.sift_parse.specs.Roll.{Roll}
 use Rattle.sift_parse.specs.Scanned.{IsFine}
 use Rattle.sift_parse.specs.Tokens.{tokens_of}
-use Rattle.sift_parse.proofs.Linear.Parts.{name_bytes}
 use Rattle.sift_parse.proofs.Places.Placing.{tokens-told, begins-told}
 use Rattle.sift_parse.proofs.Printing.Agrees.{front-agrees}
+use Rattle.sift_parse.proofs.Printing.Keywords.{keyword-form}
 use Rattle.sift_parse.proofs.Printing.Known.{Known, at_front, known_after, tokens_by}
 use Rattle.sift_parse.proofs.Printing.MayStand.{MayStand, AllMayStand}
 use Rattle.sift_parse.proofs.Printing.Read.{items_in, pieces_read}
@@ -25,34 +25,6 @@ use Rattle.sift_parse.proofs.Printing.Spacing.{AllFollow, IsFormed, AllFormed}
 use Rattle.sift_parse.proofs.Refusals.Answering.{begins-task}
 use Rattle.sift_parse.proofs.Refusals.Fine.{AllFine, fine-at}
 use Rattle.sift_parse.proofs.Refusals.Standing.{none_before}
-
--- a keyword has the form of a name
-keyword-form : (k : Keyword) → HasNameForm (keyword_bytes k)
-keyword-form Let = ((omega arith, omega arith), name_bytes (codes "et") ((omega arith, omega arith), ((omega arith, omega arith), tt)))
-keyword-form Out = ((omega arith, omega arith), name_bytes (codes "ut") ((omega arith, omega arith), ((omega arith, omega arith), tt)))
-keyword-form If = ((omega arith, omega arith), name_bytes (codes "f") ((omega arith, omega arith), tt))
-keyword-form Else = (
-    (omega arith, omega arith),
-    name_bytes (codes "lse")
-    ((omega arith, omega arith), ((omega arith, omega arith), ((omega arith, omega arith), tt))),
-  )
-keyword-form Repeat = (
-    (omega arith, omega arith),
-    name_bytes (codes "epeat")
-    ((omega arith, omega arith), ((omega arith, omega arith), ((omega arith, omega arith), ((omega arith, omega arith), ((omega arith, omega arith), tt))))),
-  )
-keyword-form Mid = ((omega arith, omega arith), name_bytes (codes "id") ((omega arith, omega arith), ((omega arith, omega arith), tt)))
-keyword-form Sense = (
-    (omega arith, omega arith),
-    name_bytes (codes "ense")
-    ((omega arith, omega arith), ((omega arith, omega arith), ((omega arith, omega arith), ((omega arith, omega arith), tt)))),
-  )
-keyword-form Now = ((omega arith, omega arith), name_bytes (codes "ow") ((omega arith, omega arith), ((omega arith, omega arith), tt)))
-keyword-form Last = (
-    (omega arith, omega arith),
-    name_bytes (codes "ast")
-    ((omega arith, omega arith), ((omega arith, omega arith), ((omega arith, omega arith), tt))),
-  )
 
 formed : (r : Roll) (h : Known) (i : Item) → MayStand r h i → IsFormed (lexeme_for i)
 formed r h (key k) may = keyword-form k

@@ -1,0 +1,93 @@
+-- The text of a linear task is what its tree prints.
+use Rattle.std.proofs.Common.{◌≡◌, ℕ, zero, suc, ◌+◌, ◌<◌, ◌≤◌, ◌^◌, Bool, true, false, List, [], ◌∷◌, ◌++◌, length, slice_get, slice_index, codes, Some, refl, sym, ap, ◌∙◌, subst, arith, length-append}
+use Rattle.std.specs.Fmt.{decimal}
+use Rattle.std.specs.List.{position_from}
+use Rattle.std.specs.Str.{bytes_eq}
+use Rattle.std.proofs.lemmas.Fmt.{decimal_digit, length-decimal-le}
+use Rattle.std.proofs.lemmas.Slice.Eq.{bytes_eq-Decides}
+use Rattle.sift_lang.specs.Tree.{Block}
+use Rattle.sift_parse.specs.Limits.{text_limit}
+use Rattle.sift_parse.specs.Linear.{linear_text, linear_tree, HasOneWord, LinearTextIsParsed}
+use Rattle.sift_parse.specs.Outcome.{AreDistinct, AreNames}
+use Rattle.sift_parse.specs.Printing.{Naming, printed_text}
+use Rattle.sift_parse.specs.Refusal.{IsParsed}
+use Rattle.sift_parse.specs.Roll.{Roll, number_in, first_word}
+use Rattle.sift_parse.proofs.Printing.Law.{body-parsed}
+use Rattle.sift_parse.proofs.Printing.Named.{WritesWord, IsNamedBlock}
+
+-- ---- the name
+
+distinct-tail : (x : List ℕ) (names : List (List ℕ)) → AreDistinct (x ∷ names) → AreDistinct names
+distinct-tail x names h i j name a b = let e = h (suc i) (suc j) name a b in omega arith
+
+-- a name is found at its place in a list of different ones
+found_at : (names : List (List ℕ)) (name : List ℕ) (i start : ℕ) → AreDistinct names → slice_get names i ≡ Some name
+    → position_from (λ n. bytes_eq n name) start names ≡ Some (start + i)
+found_at [] name i start h e = cc
+found_at (x ∷ names) name zero start h e =
+    let same : x ≡ name = cc in
+    let test : bytes_eq x name ≡ true = (bytes_eq-Decides x name).1 same in
+    let sum : start + 0 ≡ start = omega arith in
+    rw (test, sum) refl
+found_at (x ∷ names) name (suc i) start h e = differs (bytes_eq x name) refl (found_at names name i (start + 1) (distinct-tail x names h) e)
+  where
+    differs : (b : Bool) → bytes_eq x name ≡ b → position_from (λ n. bytes_eq n name) (start + 1) names ≡ Some ((start + 1) + i)
+        → position_from (λ n. bytes_eq n name) start (x ∷ names) ≡ Some (start + suc i)
+    differs true t later = absurd (let same = (bytes_eq-Decides x name).0 t in let z = h 0 (suc i) name (ap Some same) e in omega arith)
+    differs false t later =
+        let sum : start + suc i ≡ (start + 1) + i = omega arith in
+        rw (t, sum) later
+
+-- the task is found by its name
+own_number : (r : Roll) (name : List ℕ) → AreNames r → HasOneWord r name → number_in r.tasks name ≡ Some r.this
+own_number r name names own =
+    let sum : 0 + r.this ≡ r.this = omega arith in
+    found_at r.tasks name r.this 0 names.tasks_differ own.named ∙ ap Some sum
+
+-- ---- the text
+
+-- the naming of a text that names one task alone
+abbrev naming : ℕ → List ℕ → Naming
+naming this name =
+    record { sensor_name = λ x. []; local_name = λ l. []; task_name = λ w. name; task_of = λ w. this; index_of = λ w. 0 }
+
+abbrev body : Roll → ℕ → ℕ → Block
+body r factor addend = (linear_tree (first_word r r.this) factor addend).body
+
+linear_printed : (r : Roll) (name : List ℕ) (factor addend : ℕ)
+    → printed_text (naming r.this name) (body r factor addend) ≡ linear_text name factor addend
+linear_printed r name factor addend = let zero : decimal 0 ≡ codes "0" = decimal_digit 0 (omega arith) in rw zero refl
+
+linear_named : (r : Roll) (name : List ℕ) (factor addend : ℕ) → AreNames r → HasOneWord r name → factor < 2 ^ 16 → addend < 2 ^ 16
+    → IsNamedBlock r (naming r.this name) [] (body r factor addend)
+linear_named r name factor addend names own small lt =
+    let one = own.one_word in
+    let word : WritesWord r name r.this 0 (first_word r r.this) = record {
+      is_name = own.is_name;
+      found = own_number r name names own;
+      small = omega arith;
+      within = omega arith;
+      same = omega arith;
+    } in
+    ((((omega arith, word), omega arith), omega arith, omega arith), tt)
+
+-- the text is short, as its name and its numbers are
+linear_short : (name : List ℕ) (factor addend : ℕ) → length name ≤ 16 → factor < 2 ^ 16 → addend < 2 ^ 16
+    → length (linear_text name factor addend) ≤ text_limit
+linear_short name factor addend short small lt =
+    let a = length-decimal-le 5 factor (omega arith) (omega arith) (omega arith) in
+    let b = length-decimal-le 5 addend (omega arith) (omega arith) (omega arith) in
+    let c = length-append (decimal factor) (codes " * last " ++ (name ++ (codes ".0 + " ++ (decimal addend ++ codes ";")))) in
+    let d = length-append name (codes ".0 + " ++ (decimal addend ++ codes ";")) in
+    let e = length-append (decimal addend) (codes ";") in
+    omega arith
+
+-- the text of a linear task is a task, and has its tree
+pub linear_text_is_parsed : LinearTextIsParsed
+linear_text_is_parsed r name factor addend names own small lt = record {
+  short = linear_short name factor addend own.is_name.short small lt;
+  parsed =
+      subst (λ t. IsParsed r t (body r factor addend)) (linear_printed r name factor addend)
+      (body-parsed r (naming r.this name) (body r factor addend) (linear_named r name factor addend names own small lt) (omega arith));
+  outputs = sym own.one_word;
+}
