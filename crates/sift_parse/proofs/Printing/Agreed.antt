@@ -1,23 +1,21 @@
 -- What is known at each printed item is what is in force at its lexeme: numbers, operators, other signs, and all of them.
-use Rattle.std.proofs.Common.{◌≡◌, ℕ, ◌<◌, ◌≤◌, not, true, false, List, [], ◌∷◌, length, drop, slice_index, Option, Some, None, refl, sym, ap, ◌∙◌, subst, arith}
-use Rattle.std.specs.Prelude.{Bool, if◌then◌else◌, map, nat_lt, nat_le}
+use Rattle.std.proofs.Common.{◌≡◌, ℕ, ◌<◌, ◌≤◌, not, true, false, ◌∷◌, length, slice_index, Option, Some, None, refl, sym, ap, ◌∙◌, subst, arith}
+use Rattle.std.specs.Prelude.{Bool, if◌then◌else◌, nat_lt, nat_le}
 use Rattle.std.proofs.lemmas.Bool.Decides.{nat_tests}
 use Rattle.sift_lang.specs.declared.tree.Op.{Op}
 use Rattle.sift_lang.specs.declared.tree.Op.TheVariants.{Add, Sub, Mul, Div, Rem, And, Or, Xor, Shl, Shr, Lt, Eq}
-use Rattle.sift_parse.specs.declared.token.Sign.{Sign}
-use Rattle.sift_parse.specs.declared.token.Sign.TheVariants.{Assign, OpenParen, CloseParen, OpenBrace, CloseBrace, Comma, Dot, Semicolon}
-use Rattle.sift_parse.specs.Force.{Force, Level, block, parenthesis, negation, advance, opens, keyword_before, without_minuses, oldest, leave_block, end_let, task_asked, tokens_from}
+use Rattle.sift_parse.specs.Force.{Force, negation, opens, without_minuses}
 use Rattle.sift_parse.specs.Levels.{ends_operand}
-use Rattle.sift_parse.specs.Lexeme.{Lexeme, operator, mark}
-use Rattle.sift_parse.specs.Limits.{level_limit, number_limit}
-use Rattle.sift_parse.specs.Pieces.{Item, key, called, figure, joined, sign, lexeme_for}
+use Rattle.sift_parse.specs.Lexeme.{Lexeme, operator}
+use Rattle.sift_parse.specs.Limits.{number_limit}
+use Rattle.sift_parse.specs.Pieces.{figure, joined}
 use Rattle.sift_parse.specs.Refusal.{LacksWord}
 use Rattle.sift_parse.specs.Roll.{Roll}
 use Rattle.sift_parse.specs.Tokens.{index_meant, number_token}
-use Rattle.sift_parse.proofs.Printing.Agrees.{Agrees, Agreed, keyword-agreed, name-agreed}
-use Rattle.sift_parse.proofs.Printing.Known.{Before, after_sign, Known, ends_in, is_minus_after, after_operator, left_levels, left_locals, ended_let, sign_before, known_after, asked_by, index_by, figure_token, token_by, tokens_by}
-use Rattle.sift_parse.proofs.Printing.MayStand.{FitsLevel, HasWord, NamesTask, opens_level, MayStand, AllMayStand}
-use Rattle.sift_parse.proofs.Refusals.Fine.{none_at_operator, none_at_mark, none_at_number, AllFine}
+use Rattle.sift_parse.proofs.Printing.Agrees.{Agrees, Agreed}
+use Rattle.sift_parse.proofs.Printing.Known.{Before, Known, ends_in, is_minus_after, after_operator, known_after, asked_by, index_by, figure_token}
+use Rattle.sift_parse.proofs.Printing.MayStand.{FitsLevel, HasWord, MayStand}
+use Rattle.sift_parse.proofs.Refusals.Fine.{none_at_operator, none_at_number}
 
 -- ---- numbers
 

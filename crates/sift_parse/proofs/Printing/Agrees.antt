@@ -1,11 +1,10 @@
 -- What is known at a place is what is in force there: the record of what agrees, and that keywords and names keep it.
 use Rattle.std.proofs.Common.{◌≡◌, ℕ, ◌<◌, ◌≤◌, List, length, Option, Some, None, is_none, unwrap_or, refl, sym, ap, ◌∙◌, subst, arith}
-use Rattle.sift_base.specs.Name.{name_limit}
 use Rattle.sift_parse.specs.declared.token.Keyword.{Keyword}
 use Rattle.sift_parse.specs.declared.token.Keyword.TheVariants.{Let, Out, If, Else, Repeat, Mid, Sense, Now, Last}
 use Rattle.sift_parse.specs.declared.token.Token.{Token}
 use Rattle.sift_parse.specs.declared.token.Token.TheVariants as token
-use Rattle.sift_parse.specs.Force.{Force, at_start, advance, keyword_before, without_minuses, after_word, named_by, number_named, task_asked, word_token, token_of}
+use Rattle.sift_parse.specs.Force.{Force, at_start, advance, keyword_before, without_minuses, named_by, number_named, task_asked, word_token, token_of}
 use Rattle.sift_parse.specs.Keywords.{keyword_of}
 use Rattle.sift_parse.specs.Levels.{ends_operand}
 use Rattle.sift_parse.specs.Lexeme.{word}

@@ -67,10 +67,10 @@ if-written r N h t b term first blank o lt i j =
       locals = c.locals ∙ i.locals;
       tokens = λ rest. an_if _ _ _ t b (i.tokens (braced first rest)) (j.tokens (far (sign CloseBrace) ∷ rest));
       stands = λ rest y. (
-          (λ x. absurd (o.no_let x)),
-          i.stands (braced first rest)
-          ((tt, (λ x. omega arith)), j.stands (far (sign CloseBrace) ∷ rest) ((tt, (λ x. cc)), y)),
-        );
+        (λ x. absurd (o.no_let x)),
+        i.stands (braced first rest)
+            ((tt, (λ x. omega arith)), j.stands (far (sign CloseBrace) ∷ rest) ((tt, (λ x. cc)), y)),
+      );
     }
 
 -- ---- an `if` with an `else`
@@ -97,15 +97,15 @@ else-written r N h t b c term first second blank o lt i j k =
       tokens = λ rest. (let other = far (key Else) ∷ braced second rest in
           an_if_else _ _ _ _ t b c (i.tokens (braced first other)) (j.tokens (far (sign CloseBrace) ∷ other)) (k.tokens (far (sign CloseBrace) ∷ rest)));
       stands = λ rest z. (let other = far (key Else) ∷ braced second rest in (
-            (λ e. absurd (o.no_let e)),
-            i.stands (braced first other) (
-              (tt, (λ e. omega arith)),
-              j.stands (far (sign CloseBrace) ∷ other) (
-                (tt, (λ e. cc)),
-                ((λ e. cc), ((tt, (λ e. omega arith)), k.stands (far (sign CloseBrace) ∷ rest) ((tt, (λ e. cc)), z))),
-              ),
-            ),
-          ));
+        (λ e. absurd (o.no_let e)),
+        i.stands (braced first other) (
+          (tt, (λ e. omega arith)),
+          j.stands (far (sign CloseBrace) ∷ other) (
+            (tt, (λ e. cc)),
+            ((λ e. cc), ((tt, (λ e. omega arith)), k.stands (far (sign CloseBrace) ∷ rest) ((tt, (λ e. cc)), z))),
+          ),
+        ),
+      ));
     }
 
 -- ---- a `repeat`
@@ -127,10 +127,10 @@ repeat-written r N h n b body blank o lt le j =
       locals = c.locals;
       tokens = λ rest. a_repeat n _ _ b (j.tokens (far (sign CloseBrace) ∷ rest));
       stands = λ rest y. (
-          (λ x. absurd (o.no_let x)),
-          (
-            (omega arith, (λ x. le), tt),
-            ((tt, (λ x. omega arith)), j.stands (far (sign CloseBrace) ∷ rest) ((tt, (λ x. cc)), y)),
-          ),
-        );
+        (λ x. absurd (o.no_let x)),
+        (
+          (omega arith, (λ x. le), tt),
+          ((tt, (λ x. omega arith)), j.stands (far (sign CloseBrace) ∷ rest) ((tt, (λ x. cc)), y)),
+        ),
+      );
     }

@@ -1,18 +1,15 @@
 -- With what a printed tree begins, and what may follow a lexeme.
-use Rattle.std.proofs.Common.{◌≡◌, ℕ, suc, Bool, true, false, List, [], ◌∷◌, refl, sym, subst}
+use Rattle.std.proofs.Common.{◌≡◌, ℕ, suc, Bool, true, false, List, [], ◌∷◌, refl}
 use Rattle.std.specs.Prelude.{nat_lt}
-use Rattle.sift_lang.specs.declared.tree.Op.{Op}
 use Rattle.sift_lang.specs.declared.tree.Op.TheVariants.{Sub}
 use Rattle.sift_lang.specs.Sound.{locals_after}
 use Rattle.sift_lang.specs.Tree.{Term, number, local, sense, this_frame, last_frame, minus, binary, middle, Statement, bind, assign, output, choose, choose_else, repeat, Block, end, step}
-use Rattle.sift_parse.specs.declared.token.Keyword.TheVariants.{If, Else}
 use Rattle.sift_parse.specs.declared.token.Sign.{Sign}
-use Rattle.sift_parse.specs.declared.token.Sign.TheVariants.{Assign, OpenParen, CloseParen, OpenBrace, CloseBrace, Comma, Semicolon}
-use Rattle.sift_parse.specs.Grammar.{level_of, prim_level}
+use Rattle.sift_parse.specs.Grammar.{level_of}
 use Rattle.sift_parse.specs.Lexeme.{Lexeme, word, numeral, operator, mark}
-use Rattle.sift_parse.specs.Pieces.{key, joined, sign, keyword_bytes, lexeme_for, Piece, far, near}
-use Rattle.sift_parse.specs.Printing.{Naming, in_parens_if, left_level, print_term, print_value, print_statement, print_block, print_body}
-use Rattle.sift_parse.proofs.Printing.Spacing.{Parts, EndsOperand, MayStandAfter, MayFollow, AllFollow}
+use Rattle.sift_parse.specs.Pieces.{joined, lexeme_for, Piece, far}
+use Rattle.sift_parse.specs.Printing.{Naming, in_parens_if, left_level, print_term, print_statement, print_block}
+use Rattle.sift_parse.proofs.Printing.Spacing.{Parts, EndsOperand, MayStandAfter, MayFollow}
 
 -- ---- what begins with a blank
 

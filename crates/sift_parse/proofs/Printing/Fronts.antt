@@ -1,19 +1,14 @@
 -- The lexeme at the front of what is printed.
-use Rattle.std.proofs.Common.{◌≡◌, ℕ, ◌<◌, ◌≤◌, Bool, true, false, inl, inr, List, [], ◌∷◌, ◌++◌, length, refl, sym, ap, ◌∙◌, subst, arith}
+use Rattle.std.proofs.Common.{◌≡◌, ℕ, ◌≤◌, Bool, true, false, inl, inr, List, [], ◌∷◌, ◌++◌, refl, sym, ap, ◌∙◌, subst, arith}
 use Rattle.std.specs.Fmt.{decimal}
 use Rattle.std.proofs.lemmas.Fmt.{decimal_is_IsNumeral}
-use Rattle.sift_lang.specs.declared.tree.Op.{Op}
-use Rattle.sift_lang.specs.declared.tree.Op.TheVariants.{Add, Sub, Mul, Div, Rem, And, Or, Xor, Shl, Shr, Lt, Eq}
 use Rattle.sift_parse.specs.declared.token.Sign.{Sign}
 use Rattle.sift_parse.specs.declared.token.Sign.TheVariants.{Assign, OpenParen, CloseParen, OpenBrace, CloseBrace, Comma, Dot, Semicolon}
-use Rattle.sift_parse.specs.Lexeme.{Lexeme, word, numeral, operator, mark, operator_bytes, sign_bytes, kept, IsLexeme}
+use Rattle.sift_parse.specs.Lexeme.{Lexeme, word, numeral, operator, mark, sign_bytes, kept, IsLexeme}
 use Rattle.sift_parse.specs.Pieces.{lexeme_for, printed, Piece, blank_if, text_of}
-use Rattle.sift_parse.specs.Written.{SpellsSign}
 use Rattle.sift_parse.proofs.Lexing.Ends.{Ends, word-front}
-use Rattle.sift_parse.proofs.Lexing.Front.{IsAlone, number-front, sign-front}
-use Rattle.sift_parse.proofs.Lexing.Fronts.{NoWord, sign-lexeme}
-use Rattle.sift_parse.proofs.Lexing.OneLexeme.{operator-no_word, mark-no_word}
-use Rattle.sift_parse.proofs.Printing.Spacing.{Parts, IsParting, EndsOperand, MayStandAfter, MayFollow, IsFormed}
+use Rattle.sift_parse.proofs.Lexing.Front.{number-front}
+use Rattle.sift_parse.proofs.Printing.Spacing.{Parts, IsParting, EndsOperand, MayFollow, IsFormed}
 use Rattle.std.proofs.lemmas.Bool.Decides.{nat_tests}
 use Rattle.sift_parse.specs.Limits.{number_limit}
 use Rattle.sift_parse.proofs.Printing.SignFronts.{blank-ends, operator-printed, sign-printed}

@@ -28,27 +28,27 @@ keyword-form Let = ((omega arith, omega arith), name_bytes (codes "et") ((omega 
 keyword-form Out = ((omega arith, omega arith), name_bytes (codes "ut") ((omega arith, omega arith), ((omega arith, omega arith), tt)))
 keyword-form If = ((omega arith, omega arith), name_bytes (codes "f") ((omega arith, omega arith), tt))
 keyword-form Else = (
-    (omega arith, omega arith),
-    name_bytes (codes "lse")
-    ((omega arith, omega arith), ((omega arith, omega arith), ((omega arith, omega arith), tt))),
-  )
+  (omega arith, omega arith),
+  name_bytes (codes "lse")
+      ((omega arith, omega arith), ((omega arith, omega arith), ((omega arith, omega arith), tt))),
+)
 keyword-form Repeat = (
-    (omega arith, omega arith),
-    name_bytes (codes "epeat")
-    ((omega arith, omega arith), ((omega arith, omega arith), ((omega arith, omega arith), ((omega arith, omega arith), ((omega arith, omega arith), tt))))),
-  )
+  (omega arith, omega arith),
+  name_bytes (codes "epeat")
+      ((omega arith, omega arith), ((omega arith, omega arith), ((omega arith, omega arith), ((omega arith, omega arith), ((omega arith, omega arith), tt))))),
+)
 keyword-form Mid = ((omega arith, omega arith), name_bytes (codes "id") ((omega arith, omega arith), ((omega arith, omega arith), tt)))
 keyword-form Sense = (
-    (omega arith, omega arith),
-    name_bytes (codes "ense")
-    ((omega arith, omega arith), ((omega arith, omega arith), ((omega arith, omega arith), ((omega arith, omega arith), tt)))),
-  )
+  (omega arith, omega arith),
+  name_bytes (codes "ense")
+      ((omega arith, omega arith), ((omega arith, omega arith), ((omega arith, omega arith), ((omega arith, omega arith), tt)))),
+)
 keyword-form Now = ((omega arith, omega arith), name_bytes (codes "ow") ((omega arith, omega arith), ((omega arith, omega arith), tt)))
 keyword-form Last = (
-    (omega arith, omega arith),
-    name_bytes (codes "ast")
-    ((omega arith, omega arith), ((omega arith, omega arith), ((omega arith, omega arith), tt))),
-  )
+  (omega arith, omega arith),
+  name_bytes (codes "ast")
+      ((omega arith, omega arith), ((omega arith, omega arith), ((omega arith, omega arith), tt))),
+)
 
 -- ---- the bytes of keywords
 

@@ -1,5 +1,5 @@
 -- How operators, parentheses and `mid` are printed, where their operands are.
-use Rattle.std.proofs.Common.{◌≡◌, ℕ, suc, ◌<◌, Bool, true, false, not, List, ◌∷◌, length, drop, refl, sym, ap, ◌∙◌, subst, arith}
+use Rattle.std.proofs.Common.{◌≡◌, suc, ◌<◌, Bool, true, false, not, List, ◌∷◌, length, drop, refl, sym, ap, ◌∙◌, subst}
 use Rattle.sift_lang.specs.declared.tree.Op.{Op}
 use Rattle.sift_lang.specs.declared.tree.Op.TheVariants.{Add, Sub, Mul, Div, Rem, And, Or, Xor, Shl, Shr, Lt, Eq}
 use Rattle.sift_lang.specs.Tree.{Term, minus, binary, middle}
@@ -38,9 +38,9 @@ minus-written r h t write blank s lt i =
           (tokens_by r i.after (items_in rest))) (sym opens)
           (a_prim _ _ (minus t) (a_minus _ _ t (prim-of 5 _ _ t refl (i.tokens rest))));
       stands = λ rest y. (
-          (λ e. lt),
-          subst (λ b. AllMayStand r (after_operator b h) (items_in (write rest))) (sym opens) (i.stands rest y),
-        );
+        (λ e. lt),
+        subst (λ b. AllMayStand r (after_operator b h) (items_in (write rest))) (sym opens) (i.stands rest y),
+      );
     }
 
 -- an operator after an operand is no minus

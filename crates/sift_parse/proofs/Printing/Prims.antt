@@ -1,19 +1,17 @@
 -- How numbers and names are printed.
-use Rattle.std.proofs.Common.{◌≡◌, ◌≢◌, ℕ, ◌<◌, ◌≤◌, Bool, true, false, List, ◌∷◌, Some, None, refl, sym, subst}
+use Rattle.std.proofs.Common.{◌≡◌, ℕ, ◌<◌, ◌≤◌, Bool, List, ◌∷◌, Some, refl, sym, subst}
 use Rattle.sift_base.specs.Name.{IsName}
-use Rattle.sift_lang.specs.Tree.{Term, number, local, sense, this_frame, last_frame}
+use Rattle.sift_lang.specs.Tree.{number, local, sense, this_frame, last_frame}
 use Rattle.sift_parse.specs.declared.token.Keyword.{Keyword}
-use Rattle.sift_parse.specs.declared.token.Keyword.TheVariants.{Let, If, Repeat, Sense, Now, Last}
-use Rattle.sift_parse.specs.declared.token.Sign.TheVariants.{Assign, OpenParen, Comma, Dot}
+use Rattle.sift_parse.specs.declared.token.Keyword.TheVariants.{Sense, Now, Last}
+use Rattle.sift_parse.specs.declared.token.Sign.TheVariants.{Dot}
 use Rattle.sift_parse.specs.declared.token.Token.TheVariants as token
-use Rattle.sift_parse.specs.Force.{without_minuses}
 use Rattle.sift_parse.specs.Grammar.{IsPrim, a_number, a_local, a_sensor, of_this_frame, of_last_frame, IsLevel, a_prim}
 use Rattle.sift_parse.specs.Limits.{number_limit}
 use Rattle.sift_parse.specs.Pieces.{key, called, figure, sign, Piece, piece, far, near}
 use Rattle.sift_parse.specs.Roll.{Roll, number_in}
-use Rattle.sift_parse.specs.Tokens.{old_local, role_after, local_of}
-use Rattle.sift_parse.proofs.Printing.Known.{Before, after_key, after_joined, after_sign, Known, key_before, ends_in, after_role, known_after, asked_by, figure_token, tokens_by}
-use Rattle.sift_parse.proofs.Printing.Levels.{lower}
+use Rattle.sift_parse.specs.Tokens.{old_local, local_of}
+use Rattle.sift_parse.proofs.Printing.Known.{Known, after_role, known_after, figure_token, tokens_by}
 use Rattle.sift_parse.proofs.Printing.MayStand.{Means, HasWord, AllMayStand}
 use Rattle.sift_parse.proofs.Printing.Named.{WritesWord}
 use Rattle.sift_parse.proofs.Printing.Read.{items_in}
@@ -44,9 +42,9 @@ local-written r h l w blank s is seen = record {
       subst (λ role. IsLevel 5 (token.Name l ∷ tokens_by r (after_role role w l h) (items_in rest)) (local l) ts) (sym s.role)
       (a_prim _ ts (local l) (a_local l ts)));
   stands = λ rest x. (
-      (is, subst (λ role. Means r h.locals role w l) (sym s.role) seen, (λ e. absurd (s.no_let e)), (λ e. absurd (s.no_now e))),
-      subst (λ role. AllMayStand r (after_role role w l h) (items_in rest)) (sym s.role) x,
-    );
+    (is, subst (λ role. Means r h.locals role w l) (sym s.role) seen, (λ e. absurd (s.no_let e)), (λ e. absurd (s.no_now e))),
+    subst (λ role. AllMayStand r (after_role role w l h) (items_in rest)) (sym s.role) x,
+  );
 }
 
 pub sense-written : (r : Roll) (h : Known) (x : ℕ) (w : List ℕ) (blank : Bool) → Starts r h.before → IsName w → number_in r.sensors w ≡ Some x
@@ -83,9 +81,9 @@ now-written r h w task index v blank s is earlier = record {
       (subst (λ n. IsPrim (token.Keyword Now ∷ token.Name task ∷ token.Sign Dot ∷ token.Index n ∷ ts) (this_frame v) ts) (sym is.same)
       (of_this_frame task v ts)));
   stands = λ rest y. (
-      (λ e. absurd (s.no_let e)),
-      ((is.is_name, is.found, (λ e. cc), (λ e. earlier)), ((tt, (λ e. cc)), ((is.small, (λ e. cc), is.within), y))),
-    );
+    (λ e. absurd (s.no_let e)),
+    ((is.is_name, is.found, (λ e. cc), (λ e. earlier)), ((tt, (λ e. cc)), ((is.small, (λ e. cc), is.within), y))),
+  );
 }
 
 pub last-written : (r : Roll) (h : Known) (w : List ℕ) (task index v : ℕ) (blank : Bool) → Starts r h.before → WritesWord r w task index v
@@ -101,7 +99,7 @@ last-written r h w task index v blank s is = record {
       (subst (λ n. IsPrim (token.Keyword Last ∷ token.Name task ∷ token.Sign Dot ∷ token.Index n ∷ ts) (last_frame v) ts) (sym is.same)
       (of_last_frame task v ts)));
   stands = λ rest y. (
-      (λ e. absurd (s.no_let e)),
-      ((is.is_name, is.found, (λ e. cc), (λ e. cc)), ((tt, (λ e. cc)), ((is.small, (λ e. cc), is.within), y))),
-    );
+    (λ e. absurd (s.no_let e)),
+    ((is.is_name, is.found, (λ e. cc), (λ e. cc)), ((tt, (λ e. cc)), ((is.small, (λ e. cc), is.within), y))),
+  );
 }

@@ -1,21 +1,16 @@
 -- Where a term may start, and what is printed of it.
-use Rattle.std.proofs.Common.{◌≡◌, ◌≢◌, ℕ, ◌<◌, ◌≤◌, Bool, true, false, List, ◌∷◌, Some, None, refl, sym, subst}
-use Rattle.sift_base.specs.Name.{IsName}
-use Rattle.sift_lang.specs.Tree.{Term, number, local, sense, this_frame, last_frame}
-use Rattle.sift_parse.specs.declared.token.Keyword.{Keyword}
-use Rattle.sift_parse.specs.declared.token.Keyword.TheVariants.{Let, If, Repeat, Sense, Now, Last}
-use Rattle.sift_parse.specs.declared.token.Sign.TheVariants.{Assign, OpenParen, Comma, Dot}
-use Rattle.sift_parse.specs.declared.token.Token.TheVariants as token
+use Rattle.std.proofs.Common.{◌≡◌, ◌≢◌, ℕ, ◌≤◌, true, false, List, Some, None, refl}
+use Rattle.sift_lang.specs.Tree.{Term}
+use Rattle.sift_parse.specs.declared.token.Keyword.TheVariants.{Let, If, Repeat, Now}
+use Rattle.sift_parse.specs.declared.token.Sign.TheVariants.{Assign, OpenParen, Comma}
 use Rattle.sift_parse.specs.Force.{without_minuses}
-use Rattle.sift_parse.specs.Grammar.{IsPrim, a_number, a_local, a_sensor, of_this_frame, of_last_frame, IsLevel, a_prim}
-use Rattle.sift_parse.specs.Limits.{number_limit}
-use Rattle.sift_parse.specs.Pieces.{key, called, figure, sign, Piece, piece, far, near}
-use Rattle.sift_parse.specs.Roll.{Roll, number_in}
-use Rattle.sift_parse.specs.Tokens.{old_local, role_after, local_of}
-use Rattle.sift_parse.proofs.Printing.Known.{Before, after_key, after_joined, after_sign, Known, key_before, ends_in, after_role, known_after, asked_by, figure_token, tokens_by}
+use Rattle.sift_parse.specs.Grammar.{IsLevel}
+use Rattle.sift_parse.specs.Pieces.{Piece}
+use Rattle.sift_parse.specs.Roll.{Roll}
+use Rattle.sift_parse.specs.Tokens.{old_local, role_after}
+use Rattle.sift_parse.proofs.Printing.Known.{Before, after_key, after_joined, after_sign, Known, key_before, ends_in, asked_by, tokens_by}
 use Rattle.sift_parse.proofs.Printing.Levels.{lower}
-use Rattle.sift_parse.proofs.Printing.MayStand.{Means, HasWord, AllMayStand}
-use Rattle.sift_parse.proofs.Printing.Named.{WritesWord}
+use Rattle.sift_parse.proofs.Printing.MayStand.{AllMayStand}
 use Rattle.sift_parse.proofs.Printing.Read.{items_in}
 
 -- ---- where a term may start

@@ -1,18 +1,15 @@
 -- What is printed may be written one piece after another.
 use Rattle.std.proofs.Common.{◌≡◌, ℕ, suc, Bool, true, false, List, [], ◌∷◌, refl, sym, subst}
 use Rattle.std.specs.Prelude.{nat_lt}
-use Rattle.sift_lang.specs.declared.tree.Op.{Op}
-use Rattle.sift_lang.specs.declared.tree.Op.TheVariants.{Sub}
 use Rattle.sift_lang.specs.Sound.{locals_after}
 use Rattle.sift_lang.specs.Tree.{Term, number, local, sense, this_frame, last_frame, minus, binary, middle, Statement, bind, assign, output, choose, choose_else, repeat, Block, end, step}
-use Rattle.sift_parse.specs.declared.token.Keyword.TheVariants.{If, Else}
-use Rattle.sift_parse.specs.declared.token.Sign.{Sign}
+use Rattle.sift_parse.specs.declared.token.Keyword.TheVariants.{If}
 use Rattle.sift_parse.specs.declared.token.Sign.TheVariants.{Assign, OpenParen, CloseParen, OpenBrace, CloseBrace, Comma, Semicolon}
 use Rattle.sift_parse.specs.Grammar.{level_of, prim_level}
-use Rattle.sift_parse.specs.Lexeme.{Lexeme, word, numeral, operator, mark}
-use Rattle.sift_parse.specs.Pieces.{key, joined, sign, keyword_bytes, lexeme_for, Piece, far, near}
+use Rattle.sift_parse.specs.Lexeme.{word, operator, mark}
+use Rattle.sift_parse.specs.Pieces.{joined, sign, keyword_bytes, Piece, far, near}
 use Rattle.sift_parse.specs.Printing.{Naming, in_parens_if, left_level, print_term, print_value, print_statement, print_block, print_body}
-use Rattle.sift_parse.proofs.Printing.Spacing.{Parts, EndsOperand, MayStandAfter, MayFollow, AllFollow}
+use Rattle.sift_parse.proofs.Printing.Spacing.{MayFollow, AllFollow}
 use Rattle.sift_parse.proofs.Printing.Follows.{term-first, block-first, IsOpen, block-open, far-follows, open-follows, parting-follows, minus-follows, FollowOperand, word-follows, number-follows}
 
 -- ---- terms
@@ -74,9 +71,9 @@ braces-follow N b k rest law e f =
 condition-follows : (N : Naming) (t : Term) (rest : List Piece) (blocks : List Piece) → blocks ≡ far (sign OpenBrace) ∷ rest → AllFollow blocks
     → MayFollow (word (keyword_bytes If)) (print_term N t 0 true blocks) × AllFollow (print_term N t 0 true blocks)
 condition-follows N t rest blocks e f = (
-    far-follows (word (keyword_bytes If)) (print_term N t 0 true blocks) (term-first N t 0 true blocks),
-    term-follows N t 0 true blocks (subst FollowOperand (sym e) tt) f,
-  )
+  far-follows (word (keyword_bytes If)) (print_term N t 0 true blocks) (term-first N t 0 true blocks),
+  term-follows N t 0 true blocks (subst FollowOperand (sym e) tt) f,
+)
 
 mutual
   statement-follows : (N : Naming) (s : Statement) (k : ℕ) (blank : Bool) (rest : List Piece) → IsOpen rest → AllFollow rest

@@ -1,5 +1,5 @@
 -- How statements with an expression are printed, and what is printed of statements and blocks.
-use Rattle.std.proofs.Common.{◌≡◌, ◌≢◌, ℕ, ◌<◌, ◌≤◌, Bool, List, ◌∷◌, ◌++◌, length, Some, None, slice_index, refl, sym, ap, ◌∙◌, subst, arith}
+use Rattle.std.proofs.Common.{◌≡◌, ◌≢◌, ℕ, ◌<◌, ◌≤◌, Bool, List, ◌∷◌, ◌++◌, length, Some, None, slice_index, refl, sym, ap, ◌∙◌, subst}
 use Rattle.sift_base.specs.Name.{IsName}
 use Rattle.sift_lang.specs.Limits.{local_limit}
 use Rattle.sift_lang.specs.Tree.{Term, Statement, bind, assign, output, Block}
@@ -77,9 +77,9 @@ let-written r N h k t write blank o e lt is i = record {
       ∙ (ap (λ l. N.local_name k ∷ l) i.locals ∙ ap (λ k. N.local_name k ∷ h.locals) e);
   tokens = λ rest. a_let k _ _ t (i.tokens (near (sign Semicolon) ∷ rest));
   stands = λ rest y. (
-      (λ x. absurd (o.no_let x)),
-      ((is, e, (λ x. lt), (λ x. cc)), ((tt, (λ x. cc)), i.stands (near (sign Semicolon) ∷ rest) ((tt, (λ x. cc)), y))),
-    );
+    (λ x. absurd (o.no_let x)),
+    ((is, e, (λ x. lt), (λ x. cc)), ((tt, (λ x. cc)), i.stands (near (sign Semicolon) ∷ rest) ((tt, (λ x. cc)), y))),
+  );
 }
 
 -- ---- an assignment
@@ -100,10 +100,10 @@ assign-written r N h l w t write blank o is found i = record {
       (tokens_by r (known_after i.after (sign Semicolon)) (items_in rest))) (sym o.role)
       (an_assignment l _ _ t (i.tokens (near (sign Semicolon) ∷ rest)));
   stands = λ rest y. (
-      (is, subst (λ role. Means r h.locals role w l) (sym o.role) found, (λ x. absurd (o.no_let x)), (λ x. absurd (o.no_now x))),
-      subst (λ role. AllMayStand r (after_role role w l h) (items_in (value_pieces write rest))) (sym o.role)
-      ((tt, (λ x. cc)), i.stands (near (sign Semicolon) ∷ rest) ((tt, (λ x. cc)), y)),
-    );
+    (is, subst (λ role. Means r h.locals role w l) (sym o.role) found, (λ x. absurd (o.no_let x)), (λ x. absurd (o.no_now x))),
+    subst (λ role. AllMayStand r (after_role role w l h) (items_in (value_pieces write rest))) (sym o.role)
+        ((tt, (λ x. cc)), i.stands (near (sign Semicolon) ∷ rest) ((tt, (λ x. cc)), y)),
+  );
 }
 
 -- ---- an output
@@ -121,7 +121,7 @@ output-written r N h j t write blank o small within i = record {
   locals = ap (λ x. ended_let x i.after.locals) (i.pending ∙ o.none) ∙ i.locals;
   tokens = λ rest. an_output j _ _ t (i.tokens (near (sign Semicolon) ∷ rest));
   stands = λ rest y. (
-      (λ x. absurd (o.no_let x)),
-      ((small, (λ x. cc), within), ((tt, (λ x. cc)), i.stands (near (sign Semicolon) ∷ rest) ((tt, (λ x. cc)), y))),
-    );
+    (λ x. absurd (o.no_let x)),
+    ((small, (λ x. cc), within), ((tt, (λ x. cc)), i.stands (near (sign Semicolon) ∷ rest) ((tt, (λ x. cc)), y))),
+  );
 }

@@ -1,19 +1,14 @@
 -- The text of pieces is a task, where each may stand in its place and their tokens are one.
-use Rattle.std.proofs.Common.{ℕ, List, [], ◌∷◌, ◌++◌, length, sym, subst, arith}
-use Rattle.std.specs.Prelude.{codes, map}
-use Rattle.sift_base.specs.Name.{HasNameForm}
+use Rattle.std.proofs.Common.{List, [], ◌∷◌, length, sym, subst}
+use Rattle.std.specs.Prelude.{map}
 use Rattle.sift_lang.specs.Tree.{Block}
-use Rattle.sift_parse.specs.declared.token.Keyword.{Keyword}
-use Rattle.sift_parse.specs.declared.token.Keyword.TheVariants.{Let, Out, If, Else, Repeat, Mid, Sense, Now, Last}
 use Rattle.sift_parse.specs.Force.{at_start}
 use Rattle.sift_parse.specs.Force as force
 use Rattle.sift_parse.specs.Grammar.{IsTask, Begins}
-use Rattle.sift_parse.specs.Lexeme.{Lexeme}
-use Rattle.sift_parse.specs.Pieces.{Item, key, called, figure, joined, sign, keyword_bytes, lexeme_for, Piece, text_of}
+use Rattle.sift_parse.specs.Pieces.{Item, key, called, figure, joined, sign, lexeme_for, Piece, text_of}
 use Rattle.sift_parse.specs.Refusal.{lexemes_of, IsParsed}
 use Rattle.sift_parse.specs.Roll.{Roll}
 use Rattle.sift_parse.specs.Scanned.{IsFine}
-use Rattle.sift_parse.specs.Tokens.{tokens_of}
 use Rattle.sift_parse.proofs.Places.Placing.{tokens-told, begins-told}
 use Rattle.sift_parse.proofs.Printing.Agrees.{front-agrees}
 use Rattle.sift_parse.proofs.Printing.Keywords.{keyword-form}
