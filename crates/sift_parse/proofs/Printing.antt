@@ -13,6 +13,7 @@ pub mod Linear
 pub mod MayStand
 pub mod Named
 pub mod Names
+pub mod NamesAgree
 pub mod Operators
 pub mod Prims
 pub mod Printed

@@ -46,7 +46,9 @@ depth (sense x) n = 0
 depth (this_frame w) n = 0
 depth (last_frame w) n = 0
 depth (minus t) n = depth t prim_level + 1
-depth (binary op t u) n = one_more_if (nat_lt (level_of op) n) (max (depth t (left_level (level_of op))) (depth u (suc (level_of op))))
+depth (binary op t u) n =
+    let m = level_of op in
+    one_more_if (nat_lt m n) (max (depth t (left_level m)) (depth u (suc m)))
 depth (middle t u v) n = max (depth t 0) (max (depth u 0) (depth v 0)) + 1
 
 abbrev mutual
@@ -85,4 +87,5 @@ pub record IsPrintable (r : Roll) (N : Naming) (tree : TaskTree) : Type 0 where
 
 -- the text that a tree prints is a text of that tree
 abbrev pub PrintedTreeIsTask : Type 0
-PrintedTreeIsTask = (r : Roll) (N : Naming) (tree : TaskTree) → AreNames r → IsNamingOf r N → IsPrintable r N tree → IsTaskOf r (printed_text N tree.body) tree
+PrintedTreeIsTask =
+    (r : Roll) (N : Naming) (tree : TaskTree) → AreNames r → IsNamingOf r N → IsPrintable r N tree → IsTaskOf r (printed_text N tree.body) tree

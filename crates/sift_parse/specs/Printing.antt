@@ -8,7 +8,8 @@ use Rattle.sift_parse.specs.declared.token.Sign.TheVariants.{Assign, OpenParen, 
 use Rattle.sift_parse.specs.Grammar.{level_of, prim_level}
 use Rattle.sift_parse.specs.Pieces.{key, called, figure, joined, sign, Piece, piece, far, near, text_of}
 
--- the names that a text writes: of a sensor and of a local by its number, and of a voted word its task's, which task that is, and which of the task's words it is
+-- The names that a text writes: of a sensor and of a local by its number, and of a voted word that of its task.
+-- Which task that is, and which of its words, the naming tells too.
 pub record Naming : Type 0 where
   pub sensor_name : ℕ → List ℕ
   pub local_name : ℕ → List ℕ
@@ -40,8 +41,13 @@ print_term N (sense x) n blank rest = piece blank (key Sense) ∷ far (called (N
 print_term N (this_frame w) n blank rest = piece blank (key Now) ∷ print_word N w rest
 print_term N (last_frame w) n blank rest = piece blank (key Last) ∷ print_word N w rest
 print_term N (minus t) n blank rest = piece blank (joined Sub) ∷ print_term N t prim_level false rest
-print_term N (binary op t u) n blank rest = in_parens_if (nat_lt (level_of op) n) (λ blank rest. print_term N t (left_level (level_of op)) blank (far (joined op) ∷ print_term N u (suc (level_of op)) true rest)) blank rest
-print_term N (middle t u v) n blank rest = piece blank (key Mid) ∷ near (sign OpenParen) ∷ print_term N t 0 false (near (sign Comma) ∷ print_term N u 0 true (near (sign Comma) ∷ print_term N v 0 true (near (sign CloseParen) ∷ rest)))
+print_term N (binary op t u) n blank rest =
+    let m = level_of op in
+    in_parens_if (nat_lt m n) (λ blank rest. print_term N t (left_level m) blank (far (joined op) ∷ print_term N u (suc m) true rest)) blank rest
+print_term N (middle t u v) n blank rest =
+    let third = near (sign Comma) ∷ print_term N v 0 true (near (sign CloseParen) ∷ rest) in
+    let second = near (sign Comma) ∷ print_term N u 0 true third in
+    piece blank (key Mid) ∷ near (sign OpenParen) ∷ print_term N t 0 false second
 
 -- the pieces of a statement's expression, from its `=` to its `;`
 abbrev pub print_value : Naming → Term → List Piece → List Piece
@@ -49,15 +55,21 @@ print_value N t rest = far (sign Assign) ∷ print_term N t 0 true (near (sign S
 
 -- ---- statements
 
+-- what is written, in braces
+abbrev pub in_braces : (List Piece → List Piece) → List Piece → List Piece
+in_braces write rest = far (sign OpenBrace) ∷ write (far (sign CloseBrace) ∷ rest)
+
 abbrev mutual
   -- the pieces of a statement, where so many locals live
   pub print_statement : Naming → ℕ → Statement → Bool → List Piece → List Piece
   print_statement N k (bind t) blank rest = piece blank (key Let) ∷ far (called (N.local_name k) k) ∷ print_value N t rest
   print_statement N k (assign l t) blank rest = piece blank (called (N.local_name l) l) ∷ print_value N t rest
   print_statement N k (output j t) blank rest = piece blank (key Out) ∷ far (figure j) ∷ print_value N t rest
-  print_statement N k (choose t first) blank rest = piece blank (key If) ∷ print_term N t 0 true (far (sign OpenBrace) ∷ print_block N k first (far (sign CloseBrace) ∷ rest))
-  print_statement N k (choose_else t first second) blank rest = piece blank (key If) ∷ print_term N t 0 true (far (sign OpenBrace) ∷ print_block N k first (far (sign CloseBrace) ∷ far (key Else) ∷ far (sign OpenBrace) ∷ print_block N k second (far (sign CloseBrace) ∷ rest)))
-  print_statement N k (repeat n body) blank rest = piece blank (key Repeat) ∷ far (figure n) ∷ far (sign OpenBrace) ∷ print_block N k body (far (sign CloseBrace) ∷ rest)
+  print_statement N k (choose t first) blank rest = piece blank (key If) ∷ print_term N t 0 true (in_braces (print_block N k first) rest)
+  print_statement N k (choose_else t first second) blank rest =
+      let other = far (key Else) ∷ in_braces (print_block N k second) rest in
+      piece blank (key If) ∷ print_term N t 0 true (in_braces (print_block N k first) other)
+  print_statement N k (repeat n body) blank rest = piece blank (key Repeat) ∷ far (figure n) ∷ in_braces (print_block N k body) rest
 
   -- the pieces of a block, where so many locals live: its statements in turn, each after a blank
   pub print_block : Naming → ℕ → Block → List Piece → List Piece

@@ -8,7 +8,7 @@ use Rattle.sift_parse.specs.Force.{without_minuses, oldest}
 use Rattle.sift_parse.specs.Grammar.{an_if, an_if_else, a_repeat}
 use Rattle.sift_parse.specs.Limits.{level_limit}
 use Rattle.sift_parse.specs.Pieces.{key, figure, sign, Piece, piece, far}
-use Rattle.sift_parse.specs.Printing.{Naming}
+use Rattle.sift_parse.specs.Printing.{Naming, in_braces}
 use Rattle.sift_parse.specs.Roll.{Roll}
 use Rattle.sift_parse.proofs.Places.Seen.{oldest-append}
 use Rattle.sift_parse.proofs.Printing.Known.{Known, left_levels, left_locals, known_after}
@@ -44,10 +44,6 @@ closed r h b write j =
       pending = j.opens.none;
     }
 
--- a block in braces
-abbrev braced : (List Piece → List Piece) → List Piece → List Piece
-braced write rest = far (sign OpenBrace) ∷ write (far (sign CloseBrace) ∷ rest)
-
 -- ---- an `if`
 
 -- what is known after its keyword
@@ -56,7 +52,7 @@ in_if h = known_after h (key If)
 
 pub if-written : (r : Roll) (N : Naming) (h : Known) (t : Term) (b : Block) (term first : List Piece → List Piece) (blank : Bool) → Opens r h
     → length h.levels < level_limit → (i : Printed r (in_if h) 0 t term) → Blocked r (in_brace i.after) b first
-    → Stated r N h (choose t b) (λ rest. piece blank (key If) ∷ term (braced first rest))
+    → Stated r N h (choose t b) (λ rest. piece blank (key If) ∷ term (in_braces first rest))
 if-written r N h t b term first blank o lt i j =
     let c = closed r i.after b first j in
     let same : length i.after.levels ≡ length h.levels = ap length (i.levels ∙ o.bare) in
@@ -65,10 +61,10 @@ if-written r N h t b term first blank o lt i j =
       opens = c.opens (bare-of i.after.levels h.levels i.levels);
       levels = c.levels ∙ (i.levels ∙ o.bare);
       locals = c.locals ∙ i.locals;
-      tokens = λ rest. an_if _ _ _ t b (i.tokens (braced first rest)) (j.tokens (far (sign CloseBrace) ∷ rest));
+      tokens = λ rest. an_if _ _ _ t b (i.tokens (in_braces first rest)) (j.tokens (far (sign CloseBrace) ∷ rest));
       stands = λ rest y. (
         (λ x. absurd (o.no_let x)),
-        i.stands (braced first rest)
+        i.stands (in_braces first rest)
             ((tt, (λ x. omega arith)), j.stands (far (sign CloseBrace) ∷ rest) ((tt, (λ x. cc)), y)),
       );
     }
@@ -82,7 +78,7 @@ in_else h = known_after (known_after h (sign CloseBrace)) (key Else)
 pub else-written : (r : Roll) (N : Naming) (h : Known) (t : Term) (b c : Block) (term first second : List Piece → List Piece) (blank : Bool)
     → Opens r h → length h.levels < level_limit → (i : Printed r (in_if h) 0 t term) → (j : Blocked r (in_brace i.after) b first)
     → Blocked r (in_brace (in_else j.after)) c second
-    → Stated r N h (choose_else t b c) (λ rest. piece blank (key If) ∷ term (braced first (far (key Else) ∷ braced second rest)))
+    → Stated r N h (choose_else t b c) (λ rest. piece blank (key If) ∷ term (in_braces first (far (key Else) ∷ in_braces second rest)))
 else-written r N h t b c term first second blank o lt i j k =
     let x = closed r i.after b first j in
     let y = closed r (in_else j.after) c second k in
@@ -94,11 +90,11 @@ else-written r N h t b c term first second blank o lt i j k =
       opens = y.opens (ap without_minuses levels ∙ (o.bare ∙ sym levels));
       levels = y.levels ∙ levels;
       locals = y.locals ∙ (x.locals ∙ i.locals);
-      tokens = λ rest. (let other = far (key Else) ∷ braced second rest in
-          an_if_else _ _ _ _ t b c (i.tokens (braced first other)) (j.tokens (far (sign CloseBrace) ∷ other)) (k.tokens (far (sign CloseBrace) ∷ rest)));
-      stands = λ rest z. (let other = far (key Else) ∷ braced second rest in (
+      tokens = λ rest. (let other = far (key Else) ∷ in_braces second rest in
+          an_if_else _ _ _ _ t b c (i.tokens (in_braces first other)) (j.tokens (far (sign CloseBrace) ∷ other)) (k.tokens (far (sign CloseBrace) ∷ rest)));
+      stands = λ rest z. (let other = far (key Else) ∷ in_braces second rest in (
         (λ e. absurd (o.no_let e)),
-        i.stands (braced first other) (
+        i.stands (in_braces first other) (
           (tt, (λ e. omega arith)),
           j.stands (far (sign CloseBrace) ∷ other) (
             (tt, (λ e. cc)),
@@ -116,7 +112,7 @@ in_repeat h n = known_after (known_after h (key Repeat)) (figure n)
 
 pub repeat-written : (r : Roll) (N : Naming) (h : Known) (n : ℕ) (b : Block) (body : List Piece → List Piece) (blank : Bool) → Opens r h
     → length h.levels < level_limit → n ≤ round_limit → Blocked r (in_brace (in_repeat h n)) b body
-    → Stated r N h (repeat n b) (λ rest. piece blank (key Repeat) ∷ far (figure n) ∷ braced body rest)
+    → Stated r N h (repeat n b) (λ rest. piece blank (key Repeat) ∷ far (figure n) ∷ in_braces body rest)
 repeat-written r N h n b body blank o lt le j =
     let c = closed r (in_repeat h n) b body j in
     let same : length (without_minuses h.levels) ≡ length h.levels = ap length o.bare in

@@ -34,8 +34,16 @@ keyword-form Else = (
 )
 keyword-form Repeat = (
   (omega arith, omega arith),
-  name_bytes (codes "epeat")
-      ((omega arith, omega arith), ((omega arith, omega arith), ((omega arith, omega arith), ((omega arith, omega arith), ((omega arith, omega arith), tt))))),
+  name_bytes (codes "epeat") (
+    (omega arith, omega arith),
+    (
+      (omega arith, omega arith),
+      (
+        (omega arith, omega arith),
+        ((omega arith, omega arith), ((omega arith, omega arith), tt)),
+      ),
+    ),
+  ),
 )
 keyword-form Mid = ((omega arith, omega arith), name_bytes (codes "id") ((omega arith, omega arith), ((omega arith, omega arith), tt)))
 keyword-form Sense = (

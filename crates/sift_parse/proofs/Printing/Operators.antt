@@ -108,7 +108,8 @@ pub middle-written : (r : Roll) (h : Known) (t u v : Term) (first second third :
     → length h.levels < level_limit → (i : Printed r (in_paren (known_after h (key Mid))) 0 t first)
     → (j : Printed r (in_comma i.after) 0 u second) → Printed r (in_comma j.after) 0 v third
     → Printed r h 5 (middle t u v)
-    (λ rest. piece blank (key Mid) ∷ near (sign OpenParen) ∷ first (near (sign Comma) ∷ second (near (sign Comma) ∷ third (near (sign CloseParen) ∷ rest))))
+    (λ rest. (let last = near (sign Comma) ∷ third (near (sign CloseParen) ∷ rest) in
+    piece blank (key Mid) ∷ near (sign OpenParen) ∷ first (near (sign Comma) ∷ second last)))
 middle-written r h t u v first second third blank s lt i j k = record {
   after = known_after k.after (sign CloseParen);
   ends = refl;

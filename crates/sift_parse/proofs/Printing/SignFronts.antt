@@ -64,7 +64,8 @@ sign-short (mark Dot) b h = one b _ h
 sign-short (mark Semicolon) b h = one b _ h
 
 -- an operator of two bytes, whatever follows
-pair-front : (op : Op) (c d : ℕ) (next : List ℕ) → operator_bytes op ≡ c ∷ d ∷ [] → NoWord (c ∷ []) → IsLexeme (c ∷ d ∷ next) (operator op) next
+pair-front : (op : Op) (c d : ℕ) (next : List ℕ) → operator_bytes op ≡ c ∷ d ∷ [] → NoWord (c ∷ [])
+    → IsLexeme (c ∷ d ∷ next) (operator op) next
 pair-front op c d next spells none = (sign-lexeme (c ∷ d ∷ next) (operator op) 2 none (record {
   some = omega arith;
   within = omega arith;
@@ -78,7 +79,8 @@ single-front op c [] follow low spells none = absurd follow
 single-front op c (p ∷ ps) follow low spells none =
     sign-front (operator op) c (text_of (p ∷ ps)) (sym spells) none (operator-alone op c p.blank (lexeme_for p.item) (text_of ps) follow low)
 
-pub operator-printed : (op : Op) (ps : List Piece) → MayFollow (operator op) ps → IsLexeme (operator_bytes op ++ text_of ps) (operator op) (text_of ps)
+pub operator-printed : (op : Op) (ps : List Piece) → MayFollow (operator op) ps
+    → IsLexeme (operator_bytes op ++ text_of ps) (operator op) (text_of ps)
 operator-printed Add ps follow = single-front Add _ ps follow (λ e. omega arith) refl (operator-no_word Add)
 operator-printed Sub ps follow = single-front Sub _ ps follow (λ e. omega arith) refl (operator-no_word Sub)
 operator-printed Mul ps follow = single-front Mul _ ps follow (λ e. omega arith) refl (operator-no_word Mul)

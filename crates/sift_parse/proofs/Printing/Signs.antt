@@ -8,7 +8,8 @@ use Rattle.sift_parse.specs.Lexeme.{mark}
 use Rattle.sift_parse.specs.Pieces.{Item, key, called, figure, joined, sign, lexeme_for}
 use Rattle.sift_parse.specs.Roll.{Roll}
 use Rattle.sift_parse.proofs.Printing.Agreed.{levels-agree, figure-agreed, operator-agreed}
-use Rattle.sift_parse.proofs.Printing.Agrees.{Agrees, Agreed, keyword-agreed, name-agreed}
+use Rattle.sift_parse.proofs.Printing.Agrees.{Agrees, Agreed, keyword-agreed}
+use Rattle.sift_parse.proofs.Printing.NamesAgree.{name-agreed}
 use Rattle.sift_parse.proofs.Printing.Known.{after_sign, Known, left_levels, left_locals, ended_let, sign_before, known_after, token_by, tokens_by}
 use Rattle.sift_parse.proofs.Printing.MayStand.{NamesTask, opens_level, MayStand, AllMayStand}
 use Rattle.sift_parse.proofs.Refusals.Fine.{none_at_mark, AllFine}

@@ -76,7 +76,8 @@ operator-printed : (r : Roll) (N : Naming) (op : Op) (t u : Term) (n : ℕ) (h :
 operator-printed r N op t u n h blank few left right s f =
     let m = level_of op in
     in-parens-if r h m n (binary op t u) (both_pieces N op t u) blank (nat_lt m n) refl (op-level op) few
-    (λ e. (let room : length h.levels + (both_depth op t u + 1) ≤ 32 = subst (λ c. length h.levels + one_more_if c (both_depth op t u) ≤ 32) e f.room in
+    (λ e. (let room : length h.levels + (both_depth op t u + 1) ≤ 32 =
+    subst (λ c. length h.levels + one_more_if c (both_depth op t u) ≤ 32) e f.room in
     (omega arith, both-printed r N op t u h (in_paren h) false left right f.named refl (paren-starts r) (omega arith))))
     (λ e. (let room : length h.levels + both_depth op t u ≤ 32 = subst (λ c. length h.levels + one_more_if c (both_depth op t u) ≤ 32) e f.room in
     both-printed r N op t u h h blank left right f.named refl s room))

@@ -85,4 +85,5 @@ fine-at r f [] (q ∷ front) more p e h = cc
 fine-at r f (x ∷ ps) [] more p e h = let same : x ≡ p = cc in subst (λ q. NoneAt r f q.lexeme) same h.0
 fine-at r f (x ∷ ps) (q ∷ front) more p e h =
     let same : x ≡ q = cc in
-    subst (λ y. NoneAt r (fold advance (advance f y.lexeme) (lexemes_of front)) p.lexeme) same (fine-at r (advance f x.lexeme) ps front more p (cc) h.1)
+    subst (λ y. NoneAt r (fold advance (advance f y.lexeme) (lexemes_of front)) p.lexeme) same
+    (fine-at r (advance f x.lexeme) ps front more p (cc) h.1)
