@@ -48,6 +48,7 @@ pub record Piece : Type 0 where
   pub blank : Bool
   pub item : Item
 
+-- an item after a blank, or directly after the one before it
 abbrev pub piece : Bool → Item → Piece
 piece blank i = record { blank = blank; item = i }
 

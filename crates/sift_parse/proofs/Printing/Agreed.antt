@@ -19,6 +19,7 @@ use Rattle.sift_parse.proofs.Refusals.Fine.{none_at_operator, none_at_number}
 
 -- ---- numbers
 
+-- a task that has the word doesn't lack it
 has-word : (r : Roll) (o : Option ℕ) (n : ℕ) → HasWord r o n → LacksWord r o n → ⊥
 has-word r (Some task) n lt le = omega arith
 has-word r None n lt h = h
@@ -33,6 +34,7 @@ number-token r b before (Some task) n meant small lt =
     rw (test, same) refl
 number-token r b before None n meant small lt = let test : nat_le n 65535 ≡ true = grind (arith, nat_tests) in rw test refl
 
+-- a number keeps what is known
 pub figure-agreed : (r : Roll) (f : Force) (h : Known) (n : ℕ) → Agrees r f h → MayStand r h (figure n) → Agreed r f h (figure n)
 figure-agreed r f h n a may = record {
   token =
@@ -54,6 +56,7 @@ figure-agreed r f h n a may = record {
 
 -- ---- operators
 
+-- an operator opens a minus by what is known where it does by what is in force
 opens-same : (f : Force) (b : Before) (op : Op) → ends_operand f.before ≡ ends_in b → opens f (operator op) ≡ is_minus_after b op
 opens-same f b Sub e = ap not e
 opens-same f b Add e = refl
@@ -72,6 +75,7 @@ opens-same f b Eq e = refl
 abbrev operator_force : Bool → Op → Force → Force
 operator_force minus op f = record (if minus then record f { levels = negation ∷ f.levels } else f) { before = Some (operator op) }
 
+-- an operator keeps what is known, whether it is a minus or not
 operator-agrees : (r : Roll) (f : Force) (h : Known) (op : Op) (minus : Bool) → Agrees r f h
     → Agrees r (operator_force minus op f) (after_operator minus h)
 operator-agrees r f h op true a = record {
@@ -100,6 +104,7 @@ pub levels-agree : (r : Roll) (f : Force) (h : Known) (opens closed : Bool) → 
     → FitsLevel opens (length f.levels)
 levels-agree r f h opens closed a same fits e = subst (λ l. length l < 32) (sym a.levels) (fits (sym same ∙ e))
 
+-- an operator is the token that is computed, and nothing is refused of it
 pub operator-agreed : (r : Roll) (f : Force) (h : Known) (op : Op) → Agrees r f h → MayStand r h (joined op) → Agreed r f h (joined op)
 operator-agreed r f h op a may =
     let minus = is_minus_after h.before op in

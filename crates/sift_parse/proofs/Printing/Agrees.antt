@@ -26,6 +26,7 @@ pub record Agrees (r : Roll) (f : Force) (h : Known) : Type 0 where
   pub pending : f.pending ≡ h.pending
   pub named : (task : ℕ) → h.task ≡ Some task → unwrap_or (number_in r.tasks f.named) 0 ≡ task
 
+-- nothing is known at the front of a text, and nothing is in force at its start
 pub front-agrees : (r : Roll) → Agrees r at_start at_front
 front-agrees r = record {
   key = refl;
@@ -51,6 +52,7 @@ lets-agree r f h a fits e = subst (λ l. length l < 32) (sym a.locals) (fits (sy
 
 -- ---- keywords
 
+-- a keyword asks for the words of this task, or for none
 asked-after : (r : Roll) (k : Keyword) → task_after r (Some k) ≡ asked_by r (after_key k)
 asked-after r Let = refl
 asked-after r Out = refl
@@ -62,6 +64,7 @@ asked-after r Sense = refl
 asked-after r Now = refl
 asked-after r Last = refl
 
+-- what is known after a keyword is in force after it
 keyword-agrees : (r : Roll) (f : Force) (h : Known) (w : List ℕ) (k : Keyword) → keyword_of w ≡ Some k → Agrees r f h
     → Agrees r (word_force (Some k) w f) (known_after h (key k))
 keyword-agrees r f h w k e a = record {
@@ -75,6 +78,7 @@ keyword-agrees r f h w k e a = record {
   named = λ task e. cc;
 }
 
+-- a keyword is its token, and nothing is refused of it
 pub keyword-agreed : (r : Roll) (f : Force) (h : Known) (k : Keyword) → Agrees r f h → MayStand r h (key k) → Agreed r f h (key k)
 keyword-agreed r f h k a may =
     let w = keyword_bytes k in

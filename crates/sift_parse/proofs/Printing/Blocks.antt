@@ -34,6 +34,7 @@ abbrev added : Naming → List (List ℕ) → Statement → List (List ℕ)
 added N locals (bind t) = N.local_name (length locals) ∷ []
 added N locals _ = []
 
+-- a statement adds names before the older ones
 names-added : (N : Naming) (locals : List (List ℕ)) (s : Statement) → names_after N locals s ≡ added N locals s ++ locals
 names-added N locals (bind t) = refl
 names-added N locals (assign l t) = refl
@@ -42,6 +43,7 @@ names-added N locals (choose t b) = refl
 names-added N locals (choose_else t b c) = refl
 names-added N locals (repeat n b) = refl
 
+-- a statement and the block after it are a block
 step-written : (r : Roll) (N : Naming) (h : Known) (s : Statement) (b : Block) (first more : List Piece → List Piece)
     → (i : Stated r N h s first) → Blocked r i.after b more → Blocked r h (step s b) (λ rest. first (more rest))
 step-written r N h s b first more i j = record {
@@ -62,6 +64,7 @@ abbrev InBlock : Roll → Naming → Block → Type 0
 InBlock r N b = (k : ℕ) (g : Known) → Opens r g → k ≡ length g.locals → IsNamedBlock r N g.locals b
     → length g.levels + depth_in b ≤ level_limit → Blocked r g b (print_block N k b)
 
+-- an `if` is printed as itself, where its block is
 if-printed : (r : Roll) (N : Naming) (t : Term) (b : Block) (k : ℕ) (blank : Bool) (h : Known) → InBlock r N b → Opens r h
     → k ≡ length h.locals → IsNamedStatement r N h.locals (choose t b) → length h.levels + depth_of (choose t b) ≤ level_limit
     → Stated r N h (choose t b) (print_statement N k (choose t b) blank)
@@ -72,6 +75,7 @@ if-printed r N t b k blank h first o e named few =
     (first k (in_brace i.after) (brace-opens r i.after (i.pending ∙ o.none)) (e ∙ sym (ap length i.locals))
     (subst (λ l. IsNamedBlock r N l b) (sym i.locals) named.1) (omega arith))
 
+-- an `if` with an `else` is printed as itself, where its blocks are
 else-printed : (r : Roll) (N : Naming) (t : Term) (b c : Block) (k : ℕ) (blank : Bool) (h : Known) → InBlock r N b → InBlock r N c → Opens r h
     → k ≡ length h.locals → IsNamedStatement r N h.locals (choose_else t b c) → length h.levels + depth_of (choose_else t b c) ≤ level_limit
     → Stated r N h (choose_else t b c) (print_statement N k (choose_else t b c) blank)

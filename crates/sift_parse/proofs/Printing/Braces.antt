@@ -20,6 +20,7 @@ use Rattle.sift_parse.proofs.Sound.Force.{bare-twice}
 abbrev pub in_brace : Known → Known
 in_brace h = known_after h (sign OpenBrace)
 
+-- a statement may start after a `{`
 pub brace-opens : (r : Roll) (h : Known) → h.pending ≡ None → Opens r (in_brace h)
 brace-opens r h e = record { role = refl; no_let = λ e. cc; no_now = λ e. cc; bare = refl; none = e }
 
@@ -30,6 +31,7 @@ pub record Closed (r : Roll) (h after : Known) : Type 0 where
   pub locals : after.locals ≡ h.locals
   pub pending : after.pending ≡ None
 
+-- what is so after the `}` of a block
 pub closed : (r : Roll) (h : Known) (b : Block) (write : List Piece → List Piece) (j : Blocked r (in_brace h) b write)
     → Closed r h (known_after j.after (sign CloseBrace))
 closed r h b write j =
@@ -50,6 +52,7 @@ closed r h b write j =
 abbrev pub in_if : Known → Known
 in_if h = known_after h (key If)
 
+-- an `if` is written by its expression and its block
 pub if-written : (r : Roll) (N : Naming) (h : Known) (t : Term) (b : Block) (term first : List Piece → List Piece) (blank : Bool) → Opens r h
     → length h.levels < level_limit → (i : Printed r (in_if h) 0 t term) → Blocked r (in_brace i.after) b first
     → Stated r N h (choose t b) (λ rest. piece blank (key If) ∷ term (in_braces first rest))
@@ -75,6 +78,7 @@ if-written r N h t b term first blank o lt i j =
 abbrev pub in_else : Known → Known
 in_else h = known_after (known_after h (sign CloseBrace)) (key Else)
 
+-- an `if` with an `else` is written by its expression and its blocks
 pub else-written : (r : Roll) (N : Naming) (h : Known) (t : Term) (b c : Block) (term first second : List Piece → List Piece) (blank : Bool)
     → Opens r h → length h.levels < level_limit → (i : Printed r (in_if h) 0 t term) → (j : Blocked r (in_brace i.after) b first)
     → Blocked r (in_brace (in_else j.after)) c second
@@ -110,6 +114,7 @@ else-written r N h t b c term first second blank o lt i j k =
 abbrev pub in_repeat : Known → ℕ → Known
 in_repeat h n = known_after (known_after h (key Repeat)) (figure n)
 
+-- a `repeat` is written by its number and its block
 pub repeat-written : (r : Roll) (N : Naming) (h : Known) (n : ℕ) (b : Block) (body : List Piece → List Piece) (blank : Bool) → Opens r h
     → length h.levels < level_limit → n ≤ round_limit → Blocked r (in_brace (in_repeat h n)) b body
     → Stated r N h (repeat n b) (λ rest. piece blank (key Repeat) ∷ far (figure n) ∷ in_braces body rest)

@@ -22,6 +22,7 @@ record IsEnded (bytes : List ℕ) : Type 0 where
   pub split : bytes ≡ first ∷ rest
   pub ends : Ends first
 
+-- a sign that goes on with nothing begins with a byte that ends an operand
 sign-ended : (s : Sign) (rest : List ℕ) → Parts s → IsEnded (sign_bytes s ++ rest)
 sign-ended Assign rest parts = absurd parts
 sign-ended OpenParen rest parts = record { first = 40; rest = rest; split = refl; ends = inl (omega arith) }
@@ -32,6 +33,7 @@ sign-ended Comma rest parts = record { first = 44; rest = rest; split = refl; en
 sign-ended Dot rest parts = record { first = 46; rest = rest; split = refl; ends = inl (omega arith) }
 sign-ended Semicolon rest parts = record { first = 59; rest = rest; split = refl; ends = inr refl }
 
+-- the same of a lexeme
 lexeme-ended : (l : Lexeme) (rest : List ℕ) → IsParting l → IsEnded (printed l ++ rest)
 lexeme-ended (word w) rest parts = absurd parts
 lexeme-ended (numeral n) rest parts = absurd parts
@@ -47,12 +49,14 @@ ended false l rest ends = lexeme-ended l rest ends
 keeps : (n : ℕ) → n ≤ number_limit → kept n ≡ n
 keeps n lt = grind (arith, nat_tests)
 
+-- a word is the first lexeme before what may follow it
 word-printed : (w : List ℕ) (ps : List Piece) → IsFormed (word w) → MayFollow (word w) ps → IsLexeme (w ++ text_of ps) (word w) (text_of ps)
 word-printed w [] form follow = absurd follow
 word-printed w (p ∷ ps) form follow =
     let i = ended p.blank (lexeme_for p.item) (text_of ps) follow in
     subst (λ t. IsLexeme (w ++ t) (word w) t) (sym i.split) (word-front w i.first i.rest form i.ends)
 
+-- a number is the first lexeme before what may follow it
 number-printed : (n : ℕ) (ps : List Piece) → IsFormed (numeral n) → MayFollow (numeral n) ps
     → IsLexeme (decimal n ++ text_of ps) (numeral n) (text_of ps)
 number-printed n [] small follow = absurd follow

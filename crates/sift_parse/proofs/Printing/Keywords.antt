@@ -17,6 +17,7 @@ abbrev AreLower : List ℕ → Type 0
 AreLower [] = Unit {0}
 AreLower (b ∷ bs) = IsAsciiLowercase b × AreLower bs
 
+-- lower-case letters may follow in a name
 name_bytes : (bs : List ℕ) → AreLower bs → All IsNameByte bs
 name_bytes [] h k d lt = absurd (omega arith)
 name_bytes (b ∷ bs) h zero d lt = inl h.0
@@ -60,6 +61,7 @@ keyword-form Last = (
 
 -- ---- the bytes of keywords
 
+-- the bytes of a keyword are that keyword
 pub keyword-is : (k : Keyword) → keyword_of (keyword_bytes k) ≡ Some k
 keyword-is Let = refl
 keyword-is Out = refl
@@ -71,6 +73,7 @@ keyword-is Sense = refl
 keyword-is Now = refl
 keyword-is Last = refl
 
+-- a keyword is no longer than a name may be
 pub keyword-short : (k : Keyword) → length (keyword_bytes k) ≤ name_limit
 keyword-short Let = omega arith
 keyword-short Out = omega arith

@@ -37,6 +37,7 @@ pub record Known : Type 0 where
 abbrev pub at_front : Known
 at_front = record { before = at_first; levels = []; locals = []; pending = None; task = None }
 
+-- the keyword before a place
 abbrev pub key_before : Before → Option Keyword
 key_before (after_key k) = Some k
 key_before _ = None
@@ -50,6 +51,7 @@ ends_in _ = false
 
 -- ---- what is known after an item
 
+-- after a name of this role
 abbrev pub after_role : Role → List ℕ → ℕ → Known → Known
 after_role new_local w n h = record { before = after_called; levels = h.levels; locals = h.locals; pending = Some w; task = None }
 after_role a_task w n h = record { before = after_called; levels = h.levels; locals = h.locals; pending = h.pending; task = Some n }
@@ -61,6 +63,7 @@ abbrev pub is_minus_after : Before → Op → Bool
 is_minus_after b Sub = not (ends_in b)
 is_minus_after b _ = false
 
+-- the levels, with one more that is a minus or without
 abbrev pub with_minus : Bool → List Level → List Level
 with_minus true levels = negation ∷ levels
 with_minus false levels = levels
@@ -69,22 +72,27 @@ with_minus false levels = levels
 abbrev pub after_operator : Bool → Known → Known
 after_operator minus h = record { before = after_joined; levels = with_minus minus h.levels; locals = h.locals; pending = h.pending; task = h.task }
 
+-- the levels without the innermost
 abbrev pub left_levels : List Level → List Level
 left_levels (level ∷ levels) = levels
 left_levels [] = []
 
+-- the locals that live after a block
 abbrev pub left_locals : List Level → List (List ℕ) → List (List ℕ)
 left_locals (block lived ∷ levels) locals = oldest lived locals
 left_locals _ locals = locals
 
+-- the locals after the end of a statement
 abbrev pub ended_let : Option (List ℕ) → List (List ℕ) → List (List ℕ)
 ended_let (Some w) locals = w ∷ locals
 ended_let None locals = locals
 
+-- what stands before a place after a sign, where the last word names this task
 abbrev pub sign_before : Sign → Option ℕ → Before
 sign_before Dot (Some task) = after_dot task
 sign_before s task = after_sign s
 
+-- the levels, the locals and the open `let` after a sign
 abbrev pub sign_levels : Sign → Known → List Level
 sign_levels OpenParen h = parenthesis ∷ h.levels
 sign_levels CloseParen h = without_minuses (drop 1 h.levels)
@@ -101,6 +109,7 @@ abbrev pub sign_pending : Sign → Known → Option (List ℕ)
 sign_pending Semicolon h = None
 sign_pending _ h = h.pending
 
+-- after an item
 abbrev pub known_after : Known → Item → Known
 known_after h (key k) = record { before = after_key k; levels = h.levels; locals = h.locals; pending = h.pending; task = None }
 known_after h (called w n) = after_role (role_after (key_before h.before)) w n h
@@ -122,10 +131,12 @@ abbrev pub index_by : Roll → Before → ℕ → ℕ → ℕ
 index_by r (after_dot t) task n = first_word r task + n
 index_by r _ task n = n
 
+-- the token of a number that asks for a word of this task, or for none
 abbrev pub figure_token : Roll → Before → Option ℕ → ℕ → Token
 figure_token r b (Some task) n = token.Index (index_by r b task n)
 figure_token r b None n = token.Number n
 
+-- the token of an item
 abbrev pub token_by : Roll → Known → Item → Token
 token_by r h (key k) = token.Keyword k
 token_by r h (called w n) = token.Name n

@@ -28,6 +28,7 @@ record Body (r : Roll) (N : Naming) (b : Block) : Type 0 where
   pub task : IsTask (tokens_by r at_front (items_in (print_body N b))) b
   pub stands : AllMayStand r at_front (items_in (print_body N b))
 
+-- a statement and the block after it are a body
 body-step : (r : Roll) (N : Naming) (s : Statement) (b : Block) → (i : Stated r N at_front s (print_statement N 0 s false))
     → Blocked r i.after b (print_block N (locals_after 0 s) b) → Body r N (step s b)
 body-step r N s b i j = let rest = print_block N (locals_after 0 s) b [] in record {
@@ -35,6 +36,7 @@ body-step r N s b i j = let rest = print_block N (locals_after 0 s) b [] in reco
   stands = i.stands rest (j.stands [] tt);
 }
 
+-- a body that has its names is printed as itself
 body-printed : (r : Roll) (N : Naming) (b : Block) → IsNamedBlock r N [] b → depth_in b ≤ level_limit → Body r N b
 body-printed r N end named few = record { task = no_statement []; stands = tt }
 body-printed r N (step s b) named few =
@@ -49,6 +51,7 @@ pub body-parsed : (r : Roll) (N : Naming) (b : Block) → IsNamedBlock r N [] b 
 body-parsed r N b named few =
     let i = body-printed r N b named few in pieces-parsed r (print_body N b) b (body-follows N b) i.stands i.task
 
+-- a sound tree has its names, so that what it prints is a text of it
 pub printed_tree_is_task : PrintedTreeIsTask
 printed_tree_is_task r N tree names naming p =
     let size : HasSize r = record {

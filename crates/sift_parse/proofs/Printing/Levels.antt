@@ -8,6 +8,7 @@ use Rattle.sift_parse.specs.declared.token.Token.TheVariants.{Operator}
 use Rattle.sift_parse.specs.Grammar.{level_of, IsPrim, IsLevel, a_prim, a_chain, IsTail, no_more, compared, more}
 use Rattle.sift_parse.specs.Printing.{left_level}
 
+-- the same by how many levels lie between
 lift : (k n m : ℕ) (ts rest : List Token) (t : Term) → n + k ≡ m → m ≤ 5 → IsLevel m ts t rest → IsLevel n ts t rest
 lift zero n m ts rest t e few d = let same : m ≡ n = omega arith in subst (λ n. IsLevel n ts t rest) same d
 lift (suc k) n m ts rest t e few d =
@@ -38,6 +39,7 @@ level-more n op t u ts mid us rest (a_prim vs ws x d0) e some lt at d = absurd (
 level-more n op t u ts mid us rest (a_chain m vs mid0 ws x y lt0 d0 q) e some lt at d =
     a_chain m vs mid0 rest x (binary op y u) lt0 d0 (tail-more m op x y u mid0 ws us rest q e some at d)
 
+-- each operator binds less than a prim
 pub op-level : (op : Op) → level_of op < 5
 op-level Add = omega arith
 op-level Sub = omega arith

@@ -17,6 +17,7 @@ use Rattle.sift_parse.proofs.Printing.Named.{WritesWord, IsNamedBlock}
 
 -- ---- the name
 
+-- different names are different without the first
 distinct-tail : (x : List ℕ) (names : List (List ℕ)) → AreDistinct (x ∷ names) → AreDistinct names
 distinct-tail x names h i j name a b = let e = h (suc i) (suc j) name a b in omega arith
 
@@ -51,13 +52,16 @@ abbrev naming : ℕ → List ℕ → Naming
 naming this name =
     record { sensor_name = λ x. []; local_name = λ l. []; task_name = λ w. name; task_of = λ w. this; index_of = λ w. 0 }
 
+-- the body of a linear task
 abbrev body : Roll → ℕ → ℕ → Block
 body r factor addend = (linear_tree (first_word r r.this) factor addend).body
 
+-- the text of a linear task is what its body prints
 linear_printed : (r : Roll) (name : List ℕ) (factor addend : ℕ)
     → printed_text (naming r.this name) (body r factor addend) ≡ linear_text name factor addend
 linear_printed r name factor addend = let zero : decimal 0 ≡ codes "0" = decimal_digit 0 (omega arith) in rw zero refl
 
+-- the body of a linear task has its names
 linear_named : (r : Roll) (name : List ℕ) (factor addend : ℕ) → AreNames r → HasOneWord r name → factor < 2 ^ 16 → addend < 2 ^ 16
     → IsNamedBlock r (naming r.this name) [] (body r factor addend)
 linear_named r name factor addend names own small lt =

@@ -45,6 +45,7 @@ abbrev pub NamesTask : Sign → Option ℕ → Type 0
 NamesTask Dot None = ⊥
 NamesTask _ _ = Unit {0}
 
+-- the sign opens a level
 abbrev pub opens_level : Sign → Bool
 opens_level OpenParen = true
 opens_level OpenBrace = true

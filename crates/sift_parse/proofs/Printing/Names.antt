@@ -27,6 +27,7 @@ abbrev pub local_names : Naming → ℕ → List (List ℕ)
 local_names N zero = []
 local_names N (suc k) = N.local_name k ∷ local_names N k
 
+-- there are so many
 local_names-many : (N : Naming) (k : ℕ) → length (local_names N k) ≡ k
 local_names-many N zero = refl
 local_names-many N (suc k) = let i = local_names-many N k in omega arith
@@ -75,6 +76,7 @@ earlier r N w size n lt = unless (N.task_of w) r.this (λ e. later (inl e)) (λ 
     later (inl e) = let same = n.same in let x : first_word r r.this ≡ first_word r (N.task_of w) = ap (first_word r) e in omega arith
     later (inr after) = let same = n.same in let x = word-before r r.this (N.task_of w) 0 after size.some in omega arith
 
+-- a term has its names, where so many locals live
 term-named : (r : Roll) (N : Naming) (k : ℕ) (t : Term) → Named r N → k ≤ 32 → NamesWithin (length r.sensors) (sum r.sizes) k t
     → NowsBelow (first_word r r.this) t → HasSmallNumbers t → IsNamed r N (local_names N k) t
 term-named r N k (number n) is few w m s = s
@@ -94,9 +96,11 @@ term-named r N k (middle t u v) is few w m s =
 abbrev pub bounds : Roll → Bounds
 bounds r = record { sensors = length r.sensors; words = sum r.sizes; outputs = slice_index r.sizes r.this }
 
+-- one more, said in two ways
 one-more : (k : ℕ) → k + 1 ≡ suc k
 one-more k = omega arith
 
+-- the names with that of one more local
 names-more : (N : Naming) (k : ℕ) → N.local_name (length (local_names N k)) ∷ local_names N k ≡ local_names N (suc k)
 names-more N k = ap (λ n. N.local_name n ∷ local_names N k) (local_names-many N k)
 

@@ -18,6 +18,7 @@ use Rattle.sift_parse.proofs.Refusals.Fine.{none_at_word}
 use Rattle.sift_parse.proofs.Sound.Force.{word_force, name_force}
 use Rattle.sift_parse.proofs.Printing.Agrees.{Agrees, Agreed, lets-agree}
 
+-- what is known after a name is in force after it
 name-agrees : (r : Roll) (f : Force) (h : Known) (w : List ℕ) (n : ℕ) (role : Role) → keyword_of w ≡ None → Means r h.locals role w n
     → Agrees r f h → Agrees r (name_force role w f) (after_role role w n h)
 name-agrees r f h w n new_local e m a = record {
@@ -61,6 +62,7 @@ name-agrees r f h w n old_local e m a = record {
   named = λ task e. cc;
 }
 
+-- what a name means by what is known it names by what is in force
 means-named : (r : Roll) (f : Force) (locals : List (List ℕ)) (w : List ℕ) (n : ℕ) (role : Role) → f.locals ≡ locals
     → Means r locals role w n → named_by r f role w ≡ Some n
 means-named r f locals w n new_local e m = ap (λ l. Some (length l)) e ∙ ap (λ n. Some n) (sym m)
@@ -82,6 +84,7 @@ name-force : (r : Roll) (f : Force) (g : Known) (w : List ℕ) (role : Role) →
 name-force r f g w role e at a =
     subst (λ o. Agrees r (word_force o w f) g) (sym e) (subst (λ role. Agrees r (name_force role w f) g) (sym at) a)
 
+-- a name is the token of what it means, and nothing is refused of it
 pub name-agreed : (r : Roll) (f : Force) (h : Known) (w : List ℕ) (n : ℕ) → Agrees r f h → MayStand r h (called w n) → Agreed r f h (called w n)
 name-agreed r f h w n a may =
     let e = no_keyword w may.0.free in

@@ -23,6 +23,7 @@ use Rattle.sift_parse.proofs.Sound.Force.{bare-twice}
 abbrev pub in_minus : Known → Known
 in_minus h = after_operator true h
 
+-- a minus is written by a `-` and its prim
 pub minus-written : (r : Roll) (h : Known) (t : Term) (write : List Piece → List Piece) (blank : Bool) → Starts r h.before
     → length h.levels < level_limit → Printed r (in_minus h) 5 t write → Printed r h 5 (minus t) (λ rest. piece blank (joined Sub) ∷ write rest)
 minus-written r h t write blank s lt i =
@@ -62,6 +63,7 @@ joins b Eq e = refl
 abbrev pub in_joined : Known → Known
 in_joined h = after_operator false h
 
+-- an operator is written between its operands
 pub binary-written : (r : Roll) (h : Known) (op : Op) (t u : Term) (left right : List Piece → List Piece)
     → (i : Printed r h (left_level (level_of op)) t left) → Printed r (in_joined i.after) (suc (level_of op)) u right
     → Printed r h (level_of op) (binary op t u) (λ rest. left (far (joined op) ∷ right rest))
@@ -88,6 +90,7 @@ binary-written r h op t u left right i j =
 abbrev pub in_paren : Known → Known
 in_paren h = known_after h (sign OpenParen)
 
+-- an expression in parentheses is a prim
 pub parens-written : (r : Roll) (h : Known) (t : Term) (write : List Piece → List Piece) (blank : Bool) → length h.levels < level_limit
     → Printed r (in_paren h) 0 t write → Printed r h 5 t (λ rest. piece blank (sign OpenParen) ∷ write (near (sign CloseParen) ∷ rest))
 parens-written r h t write blank lt i = record {
@@ -104,6 +107,7 @@ parens-written r h t write blank lt i = record {
 abbrev pub in_comma : Known → Known
 in_comma h = known_after h (sign Comma)
 
+-- the middle of three is written by its three expressions
 pub middle-written : (r : Roll) (h : Known) (t u v : Term) (first second third : List Piece → List Piece) (blank : Bool) → Starts r h.before
     → length h.levels < level_limit → (i : Printed r (in_paren (known_after h (key Mid))) 0 t first)
     → (j : Printed r (in_comma i.after) 0 u second) → Printed r (in_comma j.after) 0 v third

@@ -17,6 +17,7 @@ use Rattle.sift_parse.proofs.Printing.Named.{WritesWord}
 use Rattle.sift_parse.proofs.Printing.Read.{items_in}
 use Rattle.sift_parse.proofs.Printing.Printed.{Starts, Printed}
 
+-- a number is written as itself
 pub number-written : (r : Roll) (h : Known) (k : ℕ) (blank : Bool) → Starts r h.before → k ≤ number_limit
     → Printed r h 5 (number k) (λ rest. piece blank (figure k) ∷ rest)
 number-written r h k blank s small = record {
@@ -30,6 +31,7 @@ number-written r h k blank s small = record {
   stands = λ rest x. ((small, (λ e. absurd (s.no_repeat e)), subst (λ o. HasWord r o k) (sym s.asked) tt), x);
 }
 
+-- a local is written by its name
 pub local-written : (r : Roll) (h : Known) (l : ℕ) (w : List ℕ) (blank : Bool) → Starts r h.before → IsName w → local_of h.locals w ≡ Some l
     → Printed r h 5 (local l) (λ rest. piece blank (called w l) ∷ rest)
 local-written r h l w blank s is seen = record {
@@ -47,6 +49,7 @@ local-written r h l w blank s is seen = record {
   );
 }
 
+-- a sensor's word is written by the sensor's name
 pub sense-written : (r : Roll) (h : Known) (x : ℕ) (w : List ℕ) (blank : Bool) → Starts r h.before → IsName w → number_in r.sensors w ≡ Some x
     → Printed r h 5 (sense x) (λ rest. piece blank (key Sense) ∷ far (called w x) ∷ rest)
 sense-written r h x w blank s is found = record {
@@ -65,9 +68,11 @@ sense-written r h x w blank s is found = record {
 abbrev word_known : Known → Keyword → List ℕ → ℕ → ℕ → Known
 word_known h k w task index = known_after (known_after (known_after (known_after h (key k)) (called w task)) (sign Dot)) (figure index)
 
+-- the pieces of a voted word, with its keyword
 abbrev word_pieces : Keyword → List ℕ → (task index : ℕ) → Bool → List Piece → List Piece
 word_pieces k w task index blank rest = piece blank (key k) ∷ far (called w task) ∷ near (sign Dot) ∷ near (figure index) ∷ rest
 
+-- a word voted in this frame is written by its task and its number
 pub now-written : (r : Roll) (h : Known) (w : List ℕ) (task index v : ℕ) (blank : Bool) → Starts r h.before → WritesWord r w task index v
     → task < r.this → Printed r h 5 (this_frame v) (word_pieces Now w task index blank)
 now-written r h w task index v blank s is earlier = record {
@@ -86,6 +91,7 @@ now-written r h w task index v blank s is earlier = record {
   );
 }
 
+-- a word voted in the last frame is written by its task and its number
 pub last-written : (r : Roll) (h : Known) (w : List ℕ) (task index v : ℕ) (blank : Bool) → Starts r h.before → WritesWord r w task index v
     → Printed r h 5 (last_frame v) (word_pieces Last w task index blank)
 last-written r h w task index v blank s is = record {

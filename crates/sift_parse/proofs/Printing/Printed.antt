@@ -24,18 +24,23 @@ pub record Starts (r : Roll) (b : Before) : Type 0 where
   pub no_repeat : key_before b ≢ Some Repeat
   pub no_now : key_before b ≢ Some Now
 
+-- a term may start after an operator
 pub operator-starts : (r : Roll) → Starts r after_joined
 operator-starts r = record { role = refl; ends = refl; asked = refl; no_let = λ e. cc; no_repeat = λ e. cc; no_now = λ e. cc }
 
+-- a term may start after a `(`
 pub paren-starts : (r : Roll) → Starts r (after_sign OpenParen)
 paren-starts r = record { role = refl; ends = refl; asked = refl; no_let = λ e. cc; no_repeat = λ e. cc; no_now = λ e. cc }
 
+-- a term may start after a comma
 pub comma-starts : (r : Roll) → Starts r (after_sign Comma)
 comma-starts r = record { role = refl; ends = refl; asked = refl; no_let = λ e. cc; no_repeat = λ e. cc; no_now = λ e. cc }
 
+-- a term may start after a `=`
 pub assign-starts : (r : Roll) → Starts r (after_sign Assign)
 assign-starts r = record { role = refl; ends = refl; asked = refl; no_let = λ e. cc; no_repeat = λ e. cc; no_now = λ e. cc }
 
+-- a term may start after `if`
 pub if-starts : (r : Roll) → Starts r (after_key If)
 if-starts r = record { role = refl; ends = refl; asked = refl; no_let = λ e. cc; no_repeat = λ e. cc; no_now = λ e. cc }
 

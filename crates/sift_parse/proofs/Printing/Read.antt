@@ -24,10 +24,12 @@ gap-digits : (ds rest : List ℕ) → 0 < length ds → AllDigits 10 ds → afte
 gap-digits [] rest some h = absurd (omega arith)
 gap-digits (d ∷ ds) rest some h = let digit = digit_from_value d h.0 in no_gap d (ds ++ rest) digit.0
 
+-- no gap begins with a name
 gap-name : (w rest : List ℕ) → HasNameForm w → after_gap (w ++ rest) ≡ w ++ rest
 gap-name [] rest h = absurd h
 gap-name (b ∷ w) rest h = let lower = h.0 in no_gap b (w ++ rest) (omega arith)
 
+-- no gap begins with an operator
 operator-gap : (op : Op) (rest : List ℕ) → after_gap (operator_bytes op ++ rest) ≡ operator_bytes op ++ rest
 operator-gap Add rest = refl
 operator-gap Sub rest = refl
@@ -42,6 +44,7 @@ operator-gap Shr rest = refl
 operator-gap Lt rest = refl
 operator-gap Eq rest = refl
 
+-- no gap begins with a sign
 sign-gap : (s : Sign) (rest : List ℕ) → after_gap (sign_bytes s ++ rest) ≡ sign_bytes s ++ rest
 sign-gap Assign rest = refl
 sign-gap OpenParen rest = refl
@@ -72,9 +75,11 @@ pub record IsRead (total : ℕ) (text : List ℕ) (ls : List Lexeme) : Type 0 wh
   pub lexes : Lexes total text placed []
   pub same : lexemes_of placed ≡ ls
 
+-- no lexeme is read of no byte
 read_none : (total : ℕ) → IsRead total [] []
 read_none total = record { placed = []; lexes = no_lexeme []; same = refl }
 
+-- one more lexeme at the front
 read_one : (total : ℕ) (text here mid : List ℕ) (l : Lexeme) (ls : List Lexeme) → after_gap text ≡ here → IsLexeme here l mid
     → IsRead total mid ls → IsRead total text (l ∷ ls)
 read_one total text here mid l ls e x i = record {
@@ -87,6 +92,7 @@ read_one total text here mid l ls e x i = record {
 abbrev pub items_in : List Piece → List Item
 items_in ps = map (λ p. p.item) ps
 
+-- the text of pieces is read as their lexemes
 pub pieces_read : (total : ℕ) (ps : List Piece) → AllFormed ps → AllFollow ps → IsRead total (text_of ps) (map lexeme_for (items_in ps))
 pieces_read total [] formed follow = read_none total
 pieces_read total (p ∷ ps) formed follow =

@@ -17,6 +17,7 @@ use Rattle.sift_parse.proofs.Printing.Spacing.{Parts, MayStandAfter, MayFollow}
 pub blank-ends : Ends 32
 blank-ends = inl (omega arith)
 
+-- no sign of two bytes begins with a byte below 60
 low-alone : (c : ℕ) (next : List ℕ) → c < 60 → IsAlone c next
 low-alone c [] low = tt
 low-alone c (b ∷ next) low = inl low
@@ -27,14 +28,17 @@ operator-alone : (op : Op) (c : ℕ) (blank : Bool) (l : Lexeme) (rest : List �
 operator-alone op c true l rest follow low = inr blank-ends
 operator-alone op c false l rest follow low = low-alone c (printed l ++ rest) (low follow)
 
+-- a sign is alone before a blank, and one that goes on with nothing before anything
 sign-alone : (s : Sign) (c : ℕ) (blank : Bool) (l : Lexeme) (rest : List ℕ) → MayStandAfter (mark s) blank l → (Parts s → c < 60)
     → IsAlone c (blank_if blank (printed l ++ rest))
 sign-alone s c true l rest follow low = inr blank-ends
 sign-alone s c false l rest follow low = low-alone c (printed l ++ rest) (low follow)
 
+-- one byte is no more than two
 one : (front : List ℕ) (c : ℕ) → front ≡ c ∷ [] → length front ≤ 2
 one front c e = let n : length front ≡ 1 = ap length e in omega arith
 
+-- two bytes are no more than two
 two : (front : List ℕ) (c d : ℕ) → front ≡ c ∷ d ∷ [] → length front ≤ 2
 two front c d e = let n : length front ≡ 2 = ap length e in omega arith
 
@@ -73,12 +77,14 @@ pair-front op c d next spells none = (sign-lexeme (c ∷ d ∷ next) (operator o
   longest = λ other front back e s. sign-short other front s;
 })).lexeme
 
+-- an operator of one byte, before what may follow it
 single-front : (op : Op) (c : ℕ) (ps : List Piece) → MayFollow (operator op) ps → (op ≡ Sub → c < 60) → operator_bytes op ≡ c ∷ []
     → NoWord (c ∷ []) → IsLexeme (c ∷ text_of ps) (operator op) (text_of ps)
 single-front op c [] follow low spells none = absurd follow
 single-front op c (p ∷ ps) follow low spells none =
     sign-front (operator op) c (text_of (p ∷ ps)) (sym spells) none (operator-alone op c p.blank (lexeme_for p.item) (text_of ps) follow low)
 
+-- an operator is the first lexeme before what may follow it
 pub operator-printed : (op : Op) (ps : List Piece) → MayFollow (operator op) ps
     → IsLexeme (operator_bytes op ++ text_of ps) (operator op) (text_of ps)
 operator-printed Add ps follow = single-front Add _ ps follow (λ e. omega arith) refl (operator-no_word Add)
@@ -94,12 +100,14 @@ operator-printed Shr ps follow = pair-front Shr _ _ (text_of ps) refl (operator-
 operator-printed Lt ps follow = single-front Lt _ ps follow (λ e. cc) refl (operator-no_word Lt)
 operator-printed Eq ps follow = pair-front Eq _ _ (text_of ps) refl (operator-no_word Eq)
 
+-- a sign of one byte, before what may follow it
 one-front : (s : Sign) (c : ℕ) (ps : List Piece) → MayFollow (mark s) ps → (Parts s → c < 60) → sign_bytes s ≡ c ∷ [] → NoWord (c ∷ [])
     → IsLexeme (c ∷ text_of ps) (mark s) (text_of ps)
 one-front s c [] follow low spells none = sign-front (mark s) c [] (sym spells) none tt
 one-front s c (p ∷ ps) follow low spells none =
     sign-front (mark s) c (text_of (p ∷ ps)) (sym spells) none (sign-alone s c p.blank (lexeme_for p.item) (text_of ps) follow low)
 
+-- a sign is the first lexeme before what may follow it
 pub sign-printed : (s : Sign) (ps : List Piece) → MayFollow (mark s) ps → IsLexeme (sign_bytes s ++ text_of ps) (mark s) (text_of ps)
 sign-printed Assign ps follow = one-front Assign _ ps follow (λ e. absurd e) refl (mark-no_word Assign)
 sign-printed OpenParen ps follow = one-front OpenParen _ ps follow (λ e. omega arith) refl (mark-no_word OpenParen)

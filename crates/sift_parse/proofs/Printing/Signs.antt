@@ -14,6 +14,7 @@ use Rattle.sift_parse.proofs.Printing.Known.{after_sign, Known, left_levels, lef
 use Rattle.sift_parse.proofs.Printing.MayStand.{NamesTask, opens_level, MayStand, AllMayStand}
 use Rattle.sift_parse.proofs.Refusals.Fine.{none_at_mark, AllFine}
 
+-- a sign opens a level by what is known where it does by what is in force
 sign-opens : (f : Force) (s : Sign) → opens f (mark s) ≡ opens_level s
 sign-opens f Assign = refl
 sign-opens f OpenParen = refl
@@ -37,6 +38,7 @@ abbrev AsksNothing : Sign → Type 0
 AsksNothing Dot = ⊥
 AsksNothing s = Unit {0}
 
+-- a sign keeps what is known, but for the levels, the locals and the `let` that it changes
 plain-agrees : (r : Roll) (f : Force) (h : Known) (s : Sign) (levels kept : List Level) (locals lived : List (List ℕ)) (pending due : Option (List ℕ))
     → AsksNothing s → Agrees r f h → levels ≡ kept → locals ≡ lived → pending ≡ due
     → Agrees r (force_with s levels locals pending f) (known_with s kept lived due h)
@@ -92,6 +94,7 @@ dot-agrees r f h (Some task) e names a = record {
 }
 dot-agrees r f h None e names a = absurd names
 
+-- what is known after a sign is in force after it
 sign-agrees : (r : Roll) (f : Force) (h : Known) (s : Sign) → NamesTask s h.task → Agrees r f h
     → Agrees r (advance f (mark s)) (known_after h (sign s))
 sign-agrees r f h Assign names a = plain-agrees r f h Assign _ _ _ _ _ _ tt a a.levels a.locals a.pending
@@ -111,6 +114,7 @@ sign-agrees r f h Semicolon names a =
     subst (λ p. Agrees r (record (end_let p f) { before = Some (mark Semicolon) }) (known_after h (sign Semicolon))) (sym a.pending)
     (end-agrees r f h h.pending a.pending a)
 
+-- a sign is its token, and nothing is refused of it
 sign-agreed : (r : Roll) (f : Force) (h : Known) (s : Sign) → Agrees r f h → MayStand r h (sign s) → Agreed r f h (sign s)
 sign-agreed r f h s a may = record {
   token = refl;
@@ -120,6 +124,7 @@ sign-agreed r f h s a may = record {
 
 -- ---- all items
 
+-- each item is the token that is computed, and nothing is refused of it
 item-agreed : (r : Roll) (f : Force) (h : Known) (i : Item) → Agrees r f h → MayStand r h i → Agreed r f h i
 item-agreed r f h (key k) a may = keyword-agreed r f h k a may
 item-agreed r f h (called w n) a may = name-agreed r f h w n a may

@@ -18,12 +18,14 @@ use Rattle.sift_parse.proofs.Printing.Follows.{term-first, block-first, IsOpen, 
 abbrev Follows : (Bool → List Piece → List Piece) → Type 0
 Follows write = (blank : Bool) (rest : List Piece) → FollowOperand rest → AllFollow rest → AllFollow (write blank rest)
 
+-- in parentheses it may be written before what may follow an operand
 parens-follow : (b : Bool) (write : Bool → List Piece → List Piece) → Follows write → Follows (in_parens_if b write)
 parens-follow true write law blank rest e f =
     let close = near (sign CloseParen) ∷ rest in
     (parting-follows OpenParen (write false close) tt, law false close tt (parting-follows CloseParen rest tt, f))
 parens-follow false write law blank rest e f = law blank rest e f
 
+-- a term may be written before what may follow an operand
 term-follows : (N : Naming) (t : Term) (n : ℕ) → Follows (print_term N t n)
 term-follows N (number k) n blank rest e f = (number-follows k rest e, f)
 term-follows N (local l) n blank rest e f = (word-follows (N.local_name l) rest e, f)

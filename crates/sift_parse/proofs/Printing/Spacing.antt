@@ -15,6 +15,7 @@ Parts OpenBrace = ⊥
 Parts CloseBrace = ⊥
 Parts s = Unit {0}
 
+-- the lexeme is a sign that goes on with nothing
 abbrev pub IsParting : Lexeme → Type 0
 IsParting (mark s) = Parts s
 IsParting l = ⊥
@@ -54,6 +55,7 @@ IsFormed (word w) = HasNameForm w
 IsFormed (numeral n) = n ≤ number_limit
 IsFormed l = Unit {0}
 
+-- each lexeme of the pieces is formed so
 abbrev pub AllFormed : List Piece → Type 0
 AllFormed [] = Unit {0}
 AllFormed (p ∷ ps) = IsFormed (lexeme_for p.item) × AllFormed ps

@@ -65,6 +65,7 @@ value_pieces write rest = far (sign Assign) ∷ write (near (sign Semicolon) ∷
 abbrev pub in_let : Known → List ℕ → ℕ → Known
 in_let h w k = known_after (known_after (known_after h (key Let)) (called w k)) (sign Assign)
 
+-- a `let` is written by its name and its expression
 pub let-written : (r : Roll) (N : Naming) (h : Known) (k : ℕ) (t : Term) (write : List Piece → List Piece) (blank : Bool) → Opens r h
     → k ≡ length h.locals → length h.locals < local_limit → IsName (N.local_name k) → Printed r (in_let h (N.local_name k) k) 0 t write
     → Stated r N h (bind t) (λ rest. piece blank (key Let) ∷ far (called (N.local_name k) k) ∷ value_pieces write rest)
@@ -84,9 +85,11 @@ let-written r N h k t write blank o e lt is i = record {
 
 -- ---- an assignment
 
+-- what is known after its `=`
 abbrev pub in_assignment : Known → List ℕ → ℕ → Known
 in_assignment h w l = known_after (after_role old_local w l h) (sign Assign)
 
+-- an assignment is written by its name and its expression
 pub assign-written : (r : Roll) (N : Naming) (h : Known) (l : ℕ) (w : List ℕ) (t : Term) (write : List Piece → List Piece) (blank : Bool)
     → Opens r h → IsName w → local_of h.locals w ≡ Some l → Printed r (in_assignment h w l) 0 t write
     → Stated r N h (assign l t) (λ rest. piece blank (called w l) ∷ value_pieces write rest)
@@ -108,9 +111,11 @@ assign-written r N h l w t write blank o is found i = record {
 
 -- ---- an output
 
+-- what is known after its `=`
 abbrev pub in_output : Known → ℕ → Known
 in_output h j = known_after (known_after (known_after h (key Out)) (figure j)) (sign Assign)
 
+-- an output is written by its number and its expression
 pub output-written : (r : Roll) (N : Naming) (h : Known) (j : ℕ) (t : Term) (write : List Piece → List Piece) (blank : Bool) → Opens r h
     → j ≤ number_limit → j < slice_index r.sizes r.this → Printed r (in_output h j) 0 t write
     → Stated r N h (output j t) (λ rest. piece blank (key Out) ∷ far (figure j) ∷ value_pieces write rest)

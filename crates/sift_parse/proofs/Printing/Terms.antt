@@ -36,6 +36,7 @@ Operand r N t n = (blank : Bool) (g : Known) → Starts r g.before → Fits r N 
 
 -- ---- operators
 
+-- the level of a left operand is that of a prim at most
 left-few : (m : ℕ) → m < 5 → left_level m ≤ 5
 left-few zero lt = omega arith
 left-few (suc m) lt = omega arith
@@ -59,6 +60,7 @@ both_depth op t u = max (depth t (left_level (level_of op))) (depth u (suc (leve
 abbrev both_pieces : Naming → Op → Term → Term → Bool → List Piece → List Piece
 both_pieces N op t u blank rest = print_term N t (left_level (level_of op)) blank (far (joined op) ∷ print_term N u (suc (level_of op)) true rest)
 
+-- an operator and its operands, without parentheses
 both-printed : (r : Roll) (N : Naming) (op : Op) (t u : Term) (h g : Known) (blank : Bool) → Operand r N t (left_level (level_of op))
     → Operand r N u (suc (level_of op)) → IsNamed r N h.locals (binary op t u) → g.locals ≡ h.locals → Starts r g.before
     → length g.levels + both_depth op t u ≤ level_limit → Printed r g (level_of op) (binary op t u) (both_pieces N op t u blank)
@@ -70,6 +72,7 @@ both-printed r N op t u h g blank left right named e st room =
     let j = right true k (operator-starts r) (fits-at r N h k u (depth u (suc (level_of op))) (i.locals ∙ e) named.1 (omega arith)) in
     binary-written r g op t u (print_term N t (left_level (level_of op)) blank) (print_term N u (suc (level_of op)) true) i j
 
+-- an operator and its operands, in parentheses where the level asks for them
 operator-printed : (r : Roll) (N : Naming) (op : Op) (t u : Term) (n : ℕ) (h : Known) (blank : Bool) → n ≤ 5
     → Operand r N t (left_level (level_of op)) → Operand r N u (suc (level_of op)) → Starts r h.before
     → Fits r N h (binary op t u) (depth (binary op t u) n) → Printed r h n (binary op t u) (print_term N (binary op t u) n blank)
@@ -84,6 +87,7 @@ operator-printed r N op t u n h blank few left right s f =
 
 -- ---- the middle of three
 
+-- the middle of three is printed as itself, where the three are
 three-printed : (r : Roll) (N : Naming) (t u v : Term) (n : ℕ) (h : Known) (blank : Bool) → n ≤ 5 → Operand r N t 0 → Operand r N u 0
     → Operand r N v 0 → Starts r h.before → Fits r N h (middle t u v) (depth (middle t u v) n)
     → Printed r h n (middle t u v) (print_term N (middle t u v) n blank)
@@ -113,6 +117,7 @@ three-printed r N t u v n h blank few first second third s f =
 
 -- ---- all terms
 
+-- a term is printed as itself, wherever it fits
 pub term-printed : (r : Roll) (N : Naming) (t : Term) (n : ℕ) (blank : Bool) (h : Known) → n ≤ 5 → Starts r h.before
     → Fits r N h t (depth t n) → Printed r h n t (print_term N t n blank)
 term-printed r N (number k) n blank h few s f = lowered r h n 5 (number k) _ few (omega arith) (number-written r h k blank s f.named)

@@ -21,6 +21,7 @@ use Rattle.sift_parse.proofs.Refusals.Answering.{begins-task}
 use Rattle.sift_parse.proofs.Refusals.Fine.{AllFine, fine-at}
 use Rattle.sift_parse.proofs.Refusals.Standing.{none_before}
 
+-- the lexeme of an item that may stand is formed
 formed : (r : Roll) (h : Known) (i : Item) → MayStand r h i → IsFormed (lexeme_for i)
 formed r h (key k) may = keyword-form k
 formed r h (called w n) may = may.0.formed
@@ -28,6 +29,7 @@ formed r h (figure n) may = may.0
 formed r h (joined op) may = tt
 formed r h (sign s) may = tt
 
+-- so is each
 all-formed : (r : Roll) (h : Known) (ps : List Piece) → AllMayStand r h (items_in ps) → AllFormed ps
 all-formed r h [] may = tt
 all-formed r h (p ∷ ps) may = (formed r h p.item may.0, all-formed r (known_after h p.item) ps may.1)

@@ -17,6 +17,7 @@ use Rattle.sift_parse.specs.Scanned.{NoneAt}
 
 -- ---- at one lexeme
 
+-- at an operator
 pub none_at_operator : (r : Roll) (f : Force) (op : Op) → (opens f (operator op) ≡ true → length f.levels < level_limit)
     → NoneAt r f (operator op)
 none_at_operator r f op fits no_lexeme_here h = h
@@ -29,6 +30,7 @@ none_at_operator r f op fits deep_level h = let lt = fits h.0 in omega (arith, h
 none_at_operator r f op fits unknown_name h = h
 none_at_operator r f op fits later_task h = h
 
+-- at another sign
 pub none_at_mark : (r : Roll) (f : Force) (s : Sign) → (opens f (mark s) ≡ true → length f.levels < level_limit) → NoneAt r f (mark s)
 none_at_mark r f s fits no_lexeme_here h = h
 none_at_mark r f s fits no_syntax h = h
@@ -40,6 +42,7 @@ none_at_mark r f s fits deep_level h = let lt = fits h.0 in omega (arith, h.1)
 none_at_mark r f s fits unknown_name h = h
 none_at_mark r f s fits later_task h = h
 
+-- at a number
 pub none_at_number : (r : Roll) (f : Force) (n : ℕ) → n ≤ number_limit → (keyword_before f ≡ Some Repeat → n ≤ round_limit)
     → ¬ LacksWord r (task_asked r f f.before) n → NoneAt r f (numeral n)
 none_at_number r f n small rounds lacks no_lexeme_here h = h
@@ -52,6 +55,7 @@ none_at_number r f n small rounds lacks deep_level h = let e : IsTrue false = h.
 none_at_number r f n small rounds lacks unknown_name h = lacks h
 none_at_number r f n small rounds lacks later_task h = h
 
+-- at a word
 pub none_at_word : (r : Roll) (f : Force) (w : List ℕ) → length w ≤ name_limit
     → (keyword_before f ≡ Some Let → length f.locals < local_limit) → ((keyword_of w ≡ None) → ¬ (number_named r f w ≡ None))
     → ((keyword_of w ≡ None) → keyword_before f ≡ Some Now → ¬ IsNotBefore r (number_in r.tasks w)) → NoneAt r f (word w)
@@ -78,6 +82,7 @@ abbrev pub AllFine : Roll → Force → List Lexeme → Type 0
 AllFine r f [] = Unit {0}
 AllFine r f (l ∷ ls) = NoneAt r f l × AllFine r (advance f l) ls
 
+-- no refusal stands at one of them
 pub fine-at : (r : Roll) (f : Force) (ps front more : List Placed) (p : Placed) → ps ≡ front ++ p ∷ more → AllFine r f (lexemes_of ps)
     → NoneAt r (fold advance f (lexemes_of front)) p.lexeme
 fine-at r f [] [] more p e h = cc
