@@ -95,7 +95,8 @@ else-written r N h t b c term first second blank o lt i j k =
       levels = y.levels ∙ levels;
       locals = y.locals ∙ (x.locals ∙ i.locals);
       tokens = λ rest. (let other = far (key Else) ∷ in_braces second rest in
-          an_if_else _ _ _ _ t b c (i.tokens (in_braces first other)) (j.tokens (far (sign CloseBrace) ∷ other)) (k.tokens (far (sign CloseBrace) ∷ rest)));
+          an_if_else _ _ _ _ t b c (i.tokens (in_braces first other)) (j.tokens (far (sign CloseBrace) ∷ other))
+          (k.tokens (far (sign CloseBrace) ∷ rest)));
       stands = λ rest z. (let other = far (key Else) ∷ in_braces second rest in (
         (λ e. absurd (o.no_let e)),
         i.stands (in_braces first other) (
