@@ -3,6 +3,7 @@ pub mod Agreed
 pub mod Agrees
 pub mod Blocks
 pub mod Braces
+pub mod Finding
 pub mod Follows
 pub mod Fronts
 pub mod Keywords

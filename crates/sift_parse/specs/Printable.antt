@@ -1,35 +1,49 @@
 -- The law of printing: the text that a sound tree prints is a text of that tree.
-use Rattle.std.specs.Prelude.{◌≡◌, ◌≢◌, ◌+◌, ◌<◌, ◌≤◌, ℕ, suc, max, nat_lt, Bool, true, false, length, sum, slice_index, Some}
+use Rattle.std.specs.Prelude.{◌≡◌, ◌≢◌, ◌+◌, ◌<◌, ◌≤◌, ℕ, suc, max, nat_lt, Bool, true, false, length, sum, slice_get, slice_index, Some}
 use Rattle.sift_base.specs.Name.{IsName}
-use Rattle.sift_lang.specs.Limits.{local_limit}
-use Rattle.sift_lang.specs.Sound.{EachTerm}
+use Rattle.sift_lang.specs.Sound.{EachTerm, locals_after}
 use Rattle.sift_lang.specs.Tree.{Term, number, local, sense, this_frame, last_frame, minus, binary, middle, Statement, bind, assign, output, choose, choose_else, repeat, Block, end, step, TaskTree}
 use Rattle.sift_parse.specs.Grammar.{level_of, prim_level}
 use Rattle.sift_parse.specs.Limits.{text_limit, level_limit, number_limit}
 use Rattle.sift_parse.specs.Outcome.{AreNames, IsSoundAmong, IsTaskOf}
 use Rattle.sift_parse.specs.Printing.{Naming, left_level, printed_text}
-use Rattle.sift_parse.specs.Roll.{Roll, number_in, first_word}
+use Rattle.sift_parse.specs.Roll.{Roll, first_word}
 
 -- ---- names
 
--- the sensor is found by its name
+-- the sensor of this number has its name
 pub record NamesSensor (r : Roll) (N : Naming) (x : ℕ) : Type 0 where
   pub is_name : IsName (N.sensor_name x)
-  pub found : number_in r.sensors (N.sensor_name x) ≡ Some x
+  pub named : slice_get r.sensors x ≡ Some (N.sensor_name x)
 
--- the voted word is the word of this number among those of its task, which is found by its name
+-- the voted word is the word of this number among those of its task, which has its name
 pub record NamesWord (r : Roll) (N : Naming) (w : ℕ) : Type 0 where
   pub is_name : IsName (N.task_name w)
-  pub found : number_in r.tasks (N.task_name w) ≡ Some (N.task_of w)
+  pub named : slice_get r.tasks (N.task_of w) ≡ Some (N.task_name w)
   pub within : N.index_of w < slice_index r.sizes (N.task_of w)
   pub same : first_word r (N.task_of w) + N.index_of w ≡ w
 
--- what is there has its name, and no two locals have the same one
-pub record IsNamingOf (r : Roll) (N : Naming) : Type 0 where
+-- what is there has its name, and so have so many locals, of which no two have the same
+pub record IsNamingOf (r : Roll) (N : Naming) (locals : ℕ) : Type 0 where
   pub sensors : (x : ℕ) → x < length r.sensors → NamesSensor r N x
   pub words : (w : ℕ) → w < sum r.sizes → NamesWord r N w
-  pub locals : (l : ℕ) → l < local_limit → IsName (N.local_name l)
-  pub distinct : (l m : ℕ) → l < m → m < local_limit → N.local_name m ≢ N.local_name l
+  pub local_names : (l : ℕ) → l < locals → IsName (N.local_name l)
+  pub distinct : (l m : ℕ) → l < m → m < locals → N.local_name m ≢ N.local_name l
+
+abbrev mutual
+  -- the most locals that live at once in a statement, where so many live before it
+  pub most_locals_of : ℕ → Statement → ℕ
+  most_locals_of k (bind t) = k + 1
+  most_locals_of k (assign l t) = k
+  most_locals_of k (output j t) = k
+  most_locals_of k (choose t first) = most_locals_in k first
+  most_locals_of k (choose_else t first second) = max (most_locals_in k first) (most_locals_in k second)
+  most_locals_of k (repeat n body) = most_locals_in k body
+
+  -- the most that live at once in a block
+  pub most_locals_in : ℕ → Block → ℕ
+  most_locals_in k end = k
+  most_locals_in k (step statement more) = max (most_locals_of k statement) (most_locals_in (locals_after k statement) more)
 
 -- ---- limits
 
@@ -88,4 +102,4 @@ pub record IsPrintable (r : Roll) (N : Naming) (tree : TaskTree) : Type 0 where
 -- the text that a tree prints is a text of that tree
 abbrev pub PrintedTreeIsTask : Type 0
 PrintedTreeIsTask =
-    (r : Roll) (N : Naming) (tree : TaskTree) → AreNames r → IsNamingOf r N → IsPrintable r N tree → IsTaskOf r (printed_text N tree.body) tree
+    (r : Roll) (N : Naming) (tree : TaskTree) → AreNames r → IsNamingOf r N (most_locals_in 0 tree.body) → IsPrintable r N tree → IsTaskOf r (printed_text N tree.body) tree

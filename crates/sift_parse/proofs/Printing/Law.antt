@@ -5,7 +5,7 @@ use Rattle.sift_lang.specs.Tree.{Statement, Block, end, step}
 use Rattle.sift_parse.specs.Answer.{HasSize}
 use Rattle.sift_parse.specs.Grammar.{IsTask, no_statement, a_statement}
 use Rattle.sift_parse.specs.Limits.{level_limit}
-use Rattle.sift_parse.specs.Printable.{depth_in, PrintedTreeIsTask}
+use Rattle.sift_parse.specs.Printable.{most_locals_in, depth_in, PrintedTreeIsTask}
 use Rattle.sift_parse.specs.Printing.{Naming, print_statement, print_block, print_body, printed_text}
 use Rattle.sift_parse.specs.Refusal.{IsParsed}
 use Rattle.sift_parse.specs.Roll.{Roll}
@@ -58,8 +58,9 @@ printed_tree_is_task r N tree names naming p =
       some = subst (λ n. 0 < n) p.outputs p.sound.sound.some_output;
       few = subst (λ n. n ≤ 8) p.outputs p.sound.sound.few_outputs;
     } in
-    let is : Named r N = record { names = names; size = size; naming = naming } in
+    let most = most_locals_in 0 tree.body in
+    let is : Named r N most = record { names = names; size = size; naming = naming } in
     let tree_in : ℕ → Bounds = λ n. record { sensors = length r.sensors; words = sum r.sizes; outputs = n } in
     let sound : IsSoundBlock (bounds r) 0 tree.body = subst (λ n. IsSoundBlock (tree_in n) 0 tree.body) p.outputs p.sound.sound.sound_body in
-    let named = block-named r N 0 tree.body is (omega arith) sound p.sound.nows p.small in
+    let named = block-named r N most 0 tree.body is (omega arith) (omega arith) sound p.sound.nows p.small in
     record { short = p.short; parsed = body-parsed r N tree.body named p.shallow; outputs = p.outputs }

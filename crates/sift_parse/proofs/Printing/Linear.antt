@@ -12,40 +12,9 @@ use Rattle.sift_parse.specs.Outcome.{AreDistinct, AreNames}
 use Rattle.sift_parse.specs.Printing.{Naming, printed_text}
 use Rattle.sift_parse.specs.Refusal.{IsParsed}
 use Rattle.sift_parse.specs.Roll.{Roll, number_in, first_word}
+use Rattle.sift_parse.proofs.Printing.Finding.{name_found}
 use Rattle.sift_parse.proofs.Printing.Law.{body-parsed}
 use Rattle.sift_parse.proofs.Printing.Named.{WritesWord, IsNamedBlock}
-
--- ---- the name
-
--- different names are different without the first
-distinct-tail : (x : List ℕ) (names : List (List ℕ)) → AreDistinct (x ∷ names) → AreDistinct names
-distinct-tail x names h i j name a b = let e = h (suc i) (suc j) name a b in omega arith
-
--- a name is found at its place in a list of different ones
-found_at : (names : List (List ℕ)) (name : List ℕ) (i start : ℕ) → AreDistinct names → slice_get names i ≡ Some name
-    → position_from (λ n. bytes_eq n name) start names ≡ Some (start + i)
-found_at [] name i start h e = cc
-found_at (x ∷ names) name zero start h e =
-    let same : x ≡ name = cc in
-    let test : bytes_eq x name ≡ true = (bytes_eq-Decides x name).1 same in
-    let sum : start + 0 ≡ start = omega arith in
-    rw (test, sum) refl
-found_at (x ∷ names) name (suc i) start h e = differs (bytes_eq x name) refl (found_at names name i (start + 1) (distinct-tail x names h) e)
-  where
-    differs : (b : Bool) → bytes_eq x name ≡ b → position_from (λ n. bytes_eq n name) (start + 1) names ≡ Some ((start + 1) + i)
-        → position_from (λ n. bytes_eq n name) start (x ∷ names) ≡ Some (start + suc i)
-    differs true t later = absurd (let same = (bytes_eq-Decides x name).0 t in let z = h 0 (suc i) name (ap Some same) e in omega arith)
-    differs false t later =
-        let sum : start + suc i ≡ (start + 1) + i = omega arith in
-        rw (t, sum) later
-
--- the task is found by its name
-own_number : (r : Roll) (name : List ℕ) → AreNames r → HasOneWord r name → number_in r.tasks name ≡ Some r.this
-own_number r name names own =
-    let sum : 0 + r.this ≡ r.this = omega arith in
-    found_at r.tasks name r.this 0 names.tasks_differ own.named ∙ ap Some sum
-
--- ---- the text
 
 -- the naming of a text that names one task alone
 abbrev naming : ℕ → List ℕ → Naming
@@ -68,7 +37,7 @@ linear_named r name factor addend names own small lt =
     let one = own.one_word in
     let word : WritesWord r name r.this 0 (first_word r r.this) = record {
       is_name = own.is_name;
-      found = own_number r name names own;
+      found = name_found r.tasks name r.this names.tasks_differ own.named;
       small = omega arith;
       within = omega arith;
       same = omega arith;

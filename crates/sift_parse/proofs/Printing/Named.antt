@@ -4,10 +4,14 @@ use Rattle.sift_base.specs.Name.{IsName}
 use Rattle.sift_lang.specs.Limits.{local_limit, round_limit}
 use Rattle.sift_lang.specs.Tree.{Term, number, local, sense, this_frame, last_frame, minus, binary, middle, Statement, bind, assign, output, choose, choose_else, repeat, Block, end, step}
 use Rattle.sift_parse.specs.Limits.{number_limit}
-use Rattle.sift_parse.specs.Printable.{NamesSensor}
 use Rattle.sift_parse.specs.Printing.{Naming}
 use Rattle.sift_parse.specs.Roll.{Roll, number_in, first_word}
 use Rattle.sift_parse.specs.Tokens.{local_of}
+
+-- the sensor of this number is found by its name
+pub record FindsSensor (r : Roll) (N : Naming) (x : ℕ) : Type 0 where
+  pub is_name : IsName (N.sensor_name x)
+  pub found : number_in r.sensors (N.sensor_name x) ≡ Some x
 
 -- the local of this number is seen by its name
 pub record NamesLocal (N : Naming) (locals : List (List ℕ)) (l : ℕ) : Type 0 where
@@ -30,7 +34,7 @@ IsWord r N w = WritesWord r (N.task_name w) (N.task_of w) (N.index_of w) w
 abbrev pub IsNamed : Roll → Naming → List (List ℕ) → Term → Type 0
 IsNamed r N locals (number k) = k ≤ number_limit
 IsNamed r N locals (local l) = NamesLocal N locals l
-IsNamed r N locals (sense x) = NamesSensor r N x
+IsNamed r N locals (sense x) = FindsSensor r N x
 IsNamed r N locals (this_frame w) = IsWord r N w × (N.task_of w < r.this)
 IsNamed r N locals (last_frame w) = IsWord r N w
 IsNamed r N locals (minus t) = IsNamed r N locals t

@@ -7,18 +7,19 @@ use Rattle.sift_lang.specs.Sound.{Bounds, NamesWithin, NowsBelow, IsSoundStateme
 use Rattle.sift_lang.specs.Tree.{Term, number, local, sense, this_frame, last_frame, minus, binary, middle, Statement, bind, assign, output, choose, choose_else, repeat, Block, end, step}
 use Rattle.sift_parse.specs.Answer.{HasSize}
 use Rattle.sift_parse.specs.Outcome.{AreNames}
-use Rattle.sift_parse.specs.Printable.{NamesWord, IsNamingOf, HasSmallNumbers}
+use Rattle.sift_parse.specs.Printable.{NamesSensor, NamesWord, IsNamingOf, most_locals_of, most_locals_in, HasSmallNumbers}
 use Rattle.sift_parse.specs.Printing.{Naming}
 use Rattle.sift_parse.specs.Roll.{Roll, first_word}
 use Rattle.sift_parse.specs.Tokens.{local_of}
-use Rattle.sift_parse.proofs.Printing.Named.{IsWord, IsNamed, IsNamedStatement, IsNamedBlock}
+use Rattle.sift_parse.proofs.Printing.Finding.{name_found}
+use Rattle.sift_parse.proofs.Printing.Named.{FindsSensor, IsWord, IsNamed, IsNamedStatement, IsNamedBlock}
 use Rattle.sift_parse.proofs.Sound.Names.{word-before, word-below}
 
--- the roll, its names and a naming of it, where the task has words
-pub record Named (r : Roll) (N : Naming) : Type 0 where
+-- the roll, its names and a naming of it with so many locals, where the task has words
+pub record Named (r : Roll) (N : Naming) (many : ℕ) : Type 0 where
   pub names : AreNames r
   pub size : HasSize r
-  pub naming : IsNamingOf r N
+  pub naming : IsNamingOf r N many
 
 -- ---- locals
 
@@ -33,9 +34,9 @@ local_names-many N zero = refl
 local_names-many N (suc k) = let i = local_names-many N k in omega arith
 
 -- each of them is seen by its name
-local-found : (r : Roll) (N : Naming) → IsNamingOf r N → (k l : ℕ) → k ≤ 32 → l < k → local_of (local_names N k) (N.local_name l) ≡ Some l
-local-found r N n zero l few lt = absurd (omega arith)
-local-found r N n (suc k) l few lt = by (bytes_eq (N.local_name k) (N.local_name l)) refl (local-found r N n k l (omega arith))
+local-found : (r : Roll) (N : Naming) (many : ℕ) → IsNamingOf r N many → (k l : ℕ) → k ≤ many → l < k → local_of (local_names N k) (N.local_name l) ≡ Some l
+local-found r N many n zero l few lt = absurd (omega arith)
+local-found r N many n (suc k) l few lt = by (bytes_eq (N.local_name k) (N.local_name l)) refl (local-found r N many n k l (omega arith))
   where
     newest : ¬ (l < k) → l ≡ k
     newest h = omega arith
@@ -61,9 +62,15 @@ local-found r N n (suc k) l few lt = by (bytes_eq (N.local_name k) (N.local_name
 -- a voted word is written as its naming says
 is-word : (r : Roll) (N : Naming) (w : ℕ) → AreNames r → NamesWord r N w → IsWord r N w
 is-word r N w a n =
+    let found = name_found r.tasks (N.task_name w) (N.task_of w) a.tasks_differ n.named in
     let below = word-below r (N.task_of w) (N.index_of w) n.within in
     let words = a.words in
-    record { is_name = n.is_name; found = n.found; small = omega arith; within = n.within; same = n.same }
+    record { is_name = n.is_name; found = found; small = omega arith; within = n.within; same = n.same }
+
+-- a sensor is found by the name that it has
+finds-sensor : (r : Roll) (N : Naming) (x : ℕ) → AreNames r → NamesSensor r N x → FindsSensor r N x
+finds-sensor r N x a n =
+    record { is_name = n.is_name; found = name_found r.sensors (N.sensor_name x) x a.sensors_differ n.named }
 
 -- a word of an earlier task is one of a task before this one
 earlier : (r : Roll) (N : Naming) (w : ℕ) → HasSize r → NamesWord r N w → w < first_word r r.this → N.task_of w < r.this
@@ -77,18 +84,18 @@ earlier r N w size n lt = unless (N.task_of w) r.this (λ e. later (inl e)) (λ 
     later (inr after) = let same = n.same in let x = word-before r r.this (N.task_of w) 0 after size.some in omega arith
 
 -- a term has its names, where so many locals live
-term-named : (r : Roll) (N : Naming) (k : ℕ) (t : Term) → Named r N → k ≤ 32 → NamesWithin (length r.sensors) (sum r.sizes) k t
+term-named : (r : Roll) (N : Naming) (many k : ℕ) (t : Term) → Named r N many → k ≤ many → NamesWithin (length r.sensors) (sum r.sizes) k t
     → NowsBelow (first_word r r.this) t → HasSmallNumbers t → IsNamed r N (local_names N k) t
-term-named r N k (number n) is few w m s = s
-term-named r N k (local l) is few w m s =
-    record { is_name = is.naming.locals l (omega arith); found = local-found r N is.naming k l few w }
-term-named r N k (sense x) is few w m s = is.naming.sensors x w
-term-named r N k (this_frame v) is few w m s = let n = is.naming.words v w in (is-word r N v is.names n, earlier r N v is.size n m)
-term-named r N k (last_frame v) is few w m s = is-word r N v is.names (is.naming.words v w)
-term-named r N k (minus t) is few w m s = term-named r N k t is few w m s
-term-named r N k (binary op t u) is few w m s = (term-named r N k t is few w.0 m.0 s.0, term-named r N k u is few w.1 m.1 s.1)
-term-named r N k (middle t u v) is few w m s =
-    (term-named r N k t is few w.0 m.0 s.0, term-named r N k u is few w.1 m.1 s.1, term-named r N k v is few w.2 m.2 s.2)
+term-named r N many k (number n) is few w m s = s
+term-named r N many k (local l) is few w m s =
+    record { is_name = is.naming.local_names l (omega arith); found = local-found r N many is.naming k l few w }
+term-named r N many k (sense x) is few w m s = finds-sensor r N x is.names (is.naming.sensors x w)
+term-named r N many k (this_frame v) is few w m s = let n = is.naming.words v w in (is-word r N v is.names n, earlier r N v is.size n m)
+term-named r N many k (last_frame v) is few w m s = is-word r N v is.names (is.naming.words v w)
+term-named r N many k (minus t) is few w m s = term-named r N many k t is few w m s
+term-named r N many k (binary op t u) is few w m s = (term-named r N many k t is few w.0 m.0 s.0, term-named r N many k u is few w.1 m.1 s.1)
+term-named r N many k (middle t u v) is few w m s =
+    (term-named r N many k t is few w.0 m.0 s.0, term-named r N many k u is few w.1 m.1 s.1, term-named r N many k v is few w.2 m.2 s.2)
 
 -- ---- statements
 
@@ -105,41 +112,42 @@ names-more : (N : Naming) (k : ℕ) → N.local_name (length (local_names N k)) 
 names-more N k = ap (λ n. N.local_name n ∷ local_names N k) (local_names-many N k)
 
 mutual
-  statement-named : (r : Roll) (N : Naming) (k : ℕ) (s : Statement) → Named r N → k ≤ 32 → IsSoundStatement (bounds r) k s
+  statement-named : (r : Roll) (N : Naming) (many k : ℕ) (s : Statement) → Named r N many → k ≤ many → most_locals_of k s ≤ many → IsSoundStatement (bounds r) k s
       → EachTermOf (NowsBelow (first_word r r.this)) s → EachTermOf HasSmallNumbers s → IsNamedStatement r N (local_names N k) s
-  statement-named r N k (bind t) is few h m s =
+  statement-named r N many k (bind t) is few most h m s =
       let n = local_names-many N k in
       let lt = h.1 in
-      let name = subst (λ n. IsName (N.local_name n)) (sym n) (is.naming.locals k (omega arith)) in
-      (term-named r N k t is few h.0.names m s, name, omega arith)
-  statement-named r N k (assign l t) is few h m s =
+      let name = subst (λ n. IsName (N.local_name n)) (sym n) (is.naming.local_names k (omega arith)) in
+      (term-named r N many k t is few h.0.names m s, name, omega arith)
+  statement-named r N many k (assign l t) is few most h m s =
       let lt = h.1 in
-      let seen = local-found r N is.naming k l few lt in
-      (term-named r N k t is few h.0.names m s, record { is_name = is.naming.locals l (omega arith); found = seen })
-  statement-named r N k (output j t) is few h m s =
+      let seen = local-found r N many is.naming k l few lt in
+      (term-named r N many k t is few h.0.names m s, record { is_name = is.naming.local_names l (omega arith); found = seen })
+  statement-named r N many k (output j t) is few most h m s =
       let lt = h.1 in
       let size = is.size.few in
-      (term-named r N k t is few h.0.names m s, omega arith, lt)
-  statement-named r N k (choose t b) is few h m s = (term-named r N k t is few h.0.names m.0 s.0, block-named r N k b is few h.1 m.1 s.1)
-  statement-named r N k (choose_else t b c) is few h m s =
-      (term-named r N k t is few h.0.names m.0 s.0, block-named r N k b is few h.1 m.1 s.1, block-named r N k c is few h.2 m.2 s.2)
-  statement-named r N k (repeat n b) is few h m s = (h.0, block-named r N k b is few h.1 m s)
+      (term-named r N many k t is few h.0.names m s, omega arith, lt)
+  statement-named r N many k (choose t b) is few most h m s = (term-named r N many k t is few h.0.names m.0 s.0, block-named r N many k b is few (omega arith) h.1 m.1 s.1)
+  statement-named r N many k (choose_else t b c) is few most h m s =
+      (term-named r N many k t is few h.0.names m.0 s.0, block-named r N many k b is few (omega arith) h.1 m.1 s.1, block-named r N many k c is few (omega arith) h.2 m.2 s.2)
+  statement-named r N many k (repeat n b) is few most h m s = (h.0, block-named r N many k b is few (omega arith) h.1 m s)
 
-  pub block-named : (r : Roll) (N : Naming) (k : ℕ) (b : Block) → Named r N → k ≤ 32 → IsSoundBlock (bounds r) k b
+  pub block-named : (r : Roll) (N : Naming) (many k : ℕ) (b : Block) → Named r N many → k ≤ many → most_locals_in k b ≤ many → IsSoundBlock (bounds r) k b
       → EachTerm (NowsBelow (first_word r r.this)) b → EachTerm HasSmallNumbers b → IsNamedBlock r N (local_names N k) b
-  block-named r N k end is few h m s = tt
-  block-named r N k (step (bind t) b) is few h m s =
+  block-named r N many k end is few most h m s = tt
+  block-named r N many k (step (bind t) b) is few most h m s =
       let lt = h.0.1 in
       let sound = subst (λ n. IsSoundBlock (bounds r) n b) (one-more k) h.1 in
-      let more = block-named r N (suc k) b is (omega arith) sound m.1 s.1 in
-      (statement-named r N k (bind t) is few h.0 m.0 s.0, subst (λ l. IsNamedBlock r N l b) (sym (names-more N k)) more)
-  block-named r N k (step (assign l t) b) is few h m s =
-      (statement-named r N k (assign l t) is few h.0 m.0 s.0, block-named r N k b is few h.1 m.1 s.1)
-  block-named r N k (step (output j t) b) is few h m s =
-      (statement-named r N k (output j t) is few h.0 m.0 s.0, block-named r N k b is few h.1 m.1 s.1)
-  block-named r N k (step (choose t c) b) is few h m s =
-      (statement-named r N k (choose t c) is few h.0 m.0 s.0, block-named r N k b is few h.1 m.1 s.1)
-  block-named r N k (step (choose_else t c d) b) is few h m s =
-      (statement-named r N k (choose_else t c d) is few h.0 m.0 s.0, block-named r N k b is few h.1 m.1 s.1)
-  block-named r N k (step (repeat n c) b) is few h m s =
-      (statement-named r N k (repeat n c) is few h.0 m.0 s.0, block-named r N k b is few h.1 m.1 s.1)
+      let rest = subst (λ n. most_locals_in n b ≤ many) (one-more k) (omega arith) in
+      let more = block-named r N many (suc k) b is (omega arith) rest sound m.1 s.1 in
+      (statement-named r N many k (bind t) is few (omega arith) h.0 m.0 s.0, subst (λ l. IsNamedBlock r N l b) (sym (names-more N k)) more)
+  block-named r N many k (step (assign l t) b) is few most h m s =
+      (statement-named r N many k (assign l t) is few (omega arith) h.0 m.0 s.0, block-named r N many k b is few (omega arith) h.1 m.1 s.1)
+  block-named r N many k (step (output j t) b) is few most h m s =
+      (statement-named r N many k (output j t) is few (omega arith) h.0 m.0 s.0, block-named r N many k b is few (omega arith) h.1 m.1 s.1)
+  block-named r N many k (step (choose t c) b) is few most h m s =
+      (statement-named r N many k (choose t c) is few (omega arith) h.0 m.0 s.0, block-named r N many k b is few (omega arith) h.1 m.1 s.1)
+  block-named r N many k (step (choose_else t c d) b) is few most h m s =
+      (statement-named r N many k (choose_else t c d) is few (omega arith) h.0 m.0 s.0, block-named r N many k b is few (omega arith) h.1 m.1 s.1)
+  block-named r N many k (step (repeat n c) b) is few most h m s =
+      (statement-named r N many k (repeat n c) is few (omega arith) h.0 m.0 s.0, block-named r N many k b is few (omega arith) h.1 m.1 s.1)
