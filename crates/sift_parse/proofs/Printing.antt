@@ -26,3 +26,4 @@ pub mod Spacing
 pub mod Statements
 pub mod Terms
 pub mod Text
+pub mod TreeNames

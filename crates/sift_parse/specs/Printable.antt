@@ -102,4 +102,5 @@ pub record IsPrintable (r : Roll) (N : Naming) (tree : TaskTree) : Type 0 where
 -- the text that a tree prints is a text of that tree
 abbrev pub PrintedTreeIsTask : Type 0
 PrintedTreeIsTask =
-    (r : Roll) (N : Naming) (tree : TaskTree) → AreNames r → IsNamingOf r N (most_locals_in 0 tree.body) → IsPrintable r N tree → IsTaskOf r (printed_text N tree.body) tree
+    (r : Roll) (N : Naming) (tree : TaskTree) → AreNames r → IsNamingOf r N (most_locals_in 0 tree.body) → IsPrintable r N tree
+    → IsTaskOf r (printed_text N tree.body) tree

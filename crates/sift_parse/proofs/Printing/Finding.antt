@@ -1,10 +1,10 @@
 -- A name is found at its place.
-use Rattle.std.proofs.Common.{◌≡◌, ℕ, zero, suc, ◌+◌, ◌<◌, ◌≤◌, ◌^◌, Bool, true, false, List, [], ◌∷◌, ◌++◌, length, slice_get, codes, Some, refl, sym, ap, ◌∙◌, subst, arith, length-append}
+use Rattle.std.proofs.Common.{◌≡◌, ℕ, zero, suc, ◌+◌, Bool, true, false, List, [], ◌∷◌, slice_get, Some, refl, ap, ◌∙◌, arith}
 use Rattle.std.specs.List.{position_from}
 use Rattle.std.specs.Str.{bytes_eq}
 use Rattle.std.proofs.lemmas.Slice.Eq.{bytes_eq-Decides}
-use Rattle.sift_parse.specs.Outcome.{AreDistinct, AreNames}
-use Rattle.sift_parse.specs.Roll.{Roll, number_in, first_word}
+use Rattle.sift_parse.specs.Outcome.{AreDistinct}
+use Rattle.sift_parse.specs.Roll.{number_in}
 
 -- different names are different without the first
 distinct-tail : (x : List ℕ) (names : List (List ℕ)) → AreDistinct (x ∷ names) → AreDistinct names

@@ -13,11 +13,12 @@ use Rattle.sift_parse.proofs.Printing.Blocks.{names-many, statement-printed, blo
 use Rattle.sift_parse.proofs.Printing.Known.{at_front, tokens_by}
 use Rattle.sift_parse.proofs.Printing.MayStand.{AllMayStand}
 use Rattle.sift_parse.proofs.Printing.Named.{IsNamedBlock}
-use Rattle.sift_parse.proofs.Printing.Names.{Named, bounds, block-named}
+use Rattle.sift_parse.proofs.Printing.Names.{Named}
 use Rattle.sift_parse.proofs.Printing.Read.{items_in}
 use Rattle.sift_parse.proofs.Printing.Spaces.{body-follows}
 use Rattle.sift_parse.proofs.Printing.Statements.{Opens, Stated, Blocked}
 use Rattle.sift_parse.proofs.Printing.Text.{pieces-parsed}
+use Rattle.sift_parse.proofs.Printing.TreeNames.{bounds, block-named}
 
 -- a text begins with a statement
 front-opens : (r : Roll) → Opens r at_front

@@ -1,17 +1,14 @@
 -- The text of a linear task is what its tree prints.
-use Rattle.std.proofs.Common.{◌≡◌, ℕ, zero, suc, ◌+◌, ◌<◌, ◌≤◌, ◌^◌, Bool, true, false, List, [], ◌∷◌, ◌++◌, length, slice_get, codes, Some, refl, sym, ap, ◌∙◌, subst, arith, length-append}
+use Rattle.std.proofs.Common.{◌≡◌, ℕ, ◌<◌, ◌≤◌, ◌^◌, List, [], ◌++◌, length, codes, refl, sym, subst, arith, length-append}
 use Rattle.std.specs.Fmt.{decimal}
-use Rattle.std.specs.List.{position_from}
-use Rattle.std.specs.Str.{bytes_eq}
 use Rattle.std.proofs.lemmas.Fmt.{decimal_digit, length-decimal-le}
-use Rattle.std.proofs.lemmas.Slice.Eq.{bytes_eq-Decides}
 use Rattle.sift_lang.specs.Tree.{Block}
 use Rattle.sift_parse.specs.Limits.{text_limit}
 use Rattle.sift_parse.specs.Linear.{linear_text, linear_tree, HasOneWord, LinearTextIsParsed}
-use Rattle.sift_parse.specs.Outcome.{AreDistinct, AreNames}
+use Rattle.sift_parse.specs.Outcome.{AreNames}
 use Rattle.sift_parse.specs.Printing.{Naming, printed_text}
 use Rattle.sift_parse.specs.Refusal.{IsParsed}
-use Rattle.sift_parse.specs.Roll.{Roll, number_in, first_word}
+use Rattle.sift_parse.specs.Roll.{Roll, first_word}
 use Rattle.sift_parse.proofs.Printing.Finding.{name_found}
 use Rattle.sift_parse.proofs.Printing.Law.{body-parsed}
 use Rattle.sift_parse.proofs.Printing.Named.{WritesWord, IsNamedBlock}

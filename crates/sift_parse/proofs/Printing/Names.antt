@@ -1,18 +1,17 @@
--- What a sound tree names has its name.
-use Rattle.std.proofs.Common.{◌≡◌, ◌≢◌, ℕ, zero, suc, ◌+◌, ◌<◌, ◌≤◌, ◌⊎◌, inl, inr, Bool, true, false, List, [], ◌∷◌, length, sum, slice_index, Some, refl, sym, ap, ◌∙◌, subst, arith}
+-- What the terms of a sound tree name has its name.
+use Rattle.std.proofs.Common.{◌≡◌, ◌≢◌, ℕ, zero, suc, ◌<◌, ◌≤◌, ◌⊎◌, inl, inr, Bool, true, false, List, [], ◌∷◌, length, sum, Some, refl, sym, ap, ◌∙◌, arith}
 use Rattle.std.specs.Str.{bytes_eq}
 use Rattle.std.proofs.lemmas.Slice.Eq.{bytes_eq-Decides}
-use Rattle.sift_base.specs.Name.{IsName}
-use Rattle.sift_lang.specs.Sound.{Bounds, NamesWithin, NowsBelow, IsSoundStatement, IsSoundBlock, EachTermOf, EachTerm}
-use Rattle.sift_lang.specs.Tree.{Term, number, local, sense, this_frame, last_frame, minus, binary, middle, Statement, bind, assign, output, choose, choose_else, repeat, Block, end, step}
+use Rattle.sift_lang.specs.Sound.{NamesWithin, NowsBelow}
+use Rattle.sift_lang.specs.Tree.{Term, number, local, sense, this_frame, last_frame, minus, binary, middle}
 use Rattle.sift_parse.specs.Answer.{HasSize}
 use Rattle.sift_parse.specs.Outcome.{AreNames}
-use Rattle.sift_parse.specs.Printable.{NamesSensor, NamesWord, IsNamingOf, most_locals_of, most_locals_in, HasSmallNumbers}
+use Rattle.sift_parse.specs.Printable.{NamesSensor, NamesWord, IsNamingOf, HasSmallNumbers}
 use Rattle.sift_parse.specs.Printing.{Naming}
 use Rattle.sift_parse.specs.Roll.{Roll, first_word}
 use Rattle.sift_parse.specs.Tokens.{local_of}
 use Rattle.sift_parse.proofs.Printing.Finding.{name_found}
-use Rattle.sift_parse.proofs.Printing.Named.{FindsSensor, IsWord, IsNamed, IsNamedStatement, IsNamedBlock}
+use Rattle.sift_parse.proofs.Printing.Named.{FindsSensor, IsWord, IsNamed}
 use Rattle.sift_parse.proofs.Sound.Names.{word-before, word-below}
 
 -- the roll, its names and a naming of it with so many locals, where the task has words
@@ -29,12 +28,13 @@ local_names N zero = []
 local_names N (suc k) = N.local_name k ∷ local_names N k
 
 -- there are so many
-local_names-many : (N : Naming) (k : ℕ) → length (local_names N k) ≡ k
+pub local_names-many : (N : Naming) (k : ℕ) → length (local_names N k) ≡ k
 local_names-many N zero = refl
 local_names-many N (suc k) = let i = local_names-many N k in omega arith
 
 -- each of them is seen by its name
-local-found : (r : Roll) (N : Naming) (many : ℕ) → IsNamingOf r N many → (k l : ℕ) → k ≤ many → l < k → local_of (local_names N k) (N.local_name l) ≡ Some l
+pub local-found : (r : Roll) (N : Naming) (many : ℕ) → IsNamingOf r N many → (k l : ℕ) → k ≤ many → l < k
+    → local_of (local_names N k) (N.local_name l) ≡ Some l
 local-found r N many n zero l few lt = absurd (omega arith)
 local-found r N many n (suc k) l few lt = by (bytes_eq (N.local_name k) (N.local_name l)) refl (local-found r N many n k l (omega arith))
   where
@@ -84,7 +84,7 @@ earlier r N w size n lt = unless (N.task_of w) r.this (λ e. later (inl e)) (λ 
     later (inr after) = let same = n.same in let x = word-before r r.this (N.task_of w) 0 after size.some in omega arith
 
 -- a term has its names, where so many locals live
-term-named : (r : Roll) (N : Naming) (many k : ℕ) (t : Term) → Named r N many → k ≤ many → NamesWithin (length r.sensors) (sum r.sizes) k t
+pub term-named : (r : Roll) (N : Naming) (many k : ℕ) (t : Term) → Named r N many → k ≤ many → NamesWithin (length r.sensors) (sum r.sizes) k t
     → NowsBelow (first_word r r.this) t → HasSmallNumbers t → IsNamed r N (local_names N k) t
 term-named r N many k (number n) is few w m s = s
 term-named r N many k (local l) is few w m s =
@@ -96,58 +96,3 @@ term-named r N many k (minus t) is few w m s = term-named r N many k t is few w 
 term-named r N many k (binary op t u) is few w m s = (term-named r N many k t is few w.0 m.0 s.0, term-named r N many k u is few w.1 m.1 s.1)
 term-named r N many k (middle t u v) is few w m s =
     (term-named r N many k t is few w.0 m.0 s.0, term-named r N many k u is few w.1 m.1 s.1, term-named r N many k v is few w.2 m.2 s.2)
-
--- ---- statements
-
--- what there is in all
-abbrev pub bounds : Roll → Bounds
-bounds r = record { sensors = length r.sensors; words = sum r.sizes; outputs = slice_index r.sizes r.this }
-
--- one more, said in two ways
-one-more : (k : ℕ) → k + 1 ≡ suc k
-one-more k = omega arith
-
--- the names with that of one more local
-names-more : (N : Naming) (k : ℕ) → N.local_name (length (local_names N k)) ∷ local_names N k ≡ local_names N (suc k)
-names-more N k = ap (λ n. N.local_name n ∷ local_names N k) (local_names-many N k)
-
-mutual
-  statement-named : (r : Roll) (N : Naming) (many k : ℕ) (s : Statement) → Named r N many → k ≤ many → most_locals_of k s ≤ many → IsSoundStatement (bounds r) k s
-      → EachTermOf (NowsBelow (first_word r r.this)) s → EachTermOf HasSmallNumbers s → IsNamedStatement r N (local_names N k) s
-  statement-named r N many k (bind t) is few most h m s =
-      let n = local_names-many N k in
-      let lt = h.1 in
-      let name = subst (λ n. IsName (N.local_name n)) (sym n) (is.naming.local_names k (omega arith)) in
-      (term-named r N many k t is few h.0.names m s, name, omega arith)
-  statement-named r N many k (assign l t) is few most h m s =
-      let lt = h.1 in
-      let seen = local-found r N many is.naming k l few lt in
-      (term-named r N many k t is few h.0.names m s, record { is_name = is.naming.local_names l (omega arith); found = seen })
-  statement-named r N many k (output j t) is few most h m s =
-      let lt = h.1 in
-      let size = is.size.few in
-      (term-named r N many k t is few h.0.names m s, omega arith, lt)
-  statement-named r N many k (choose t b) is few most h m s = (term-named r N many k t is few h.0.names m.0 s.0, block-named r N many k b is few (omega arith) h.1 m.1 s.1)
-  statement-named r N many k (choose_else t b c) is few most h m s =
-      (term-named r N many k t is few h.0.names m.0 s.0, block-named r N many k b is few (omega arith) h.1 m.1 s.1, block-named r N many k c is few (omega arith) h.2 m.2 s.2)
-  statement-named r N many k (repeat n b) is few most h m s = (h.0, block-named r N many k b is few (omega arith) h.1 m s)
-
-  pub block-named : (r : Roll) (N : Naming) (many k : ℕ) (b : Block) → Named r N many → k ≤ many → most_locals_in k b ≤ many → IsSoundBlock (bounds r) k b
-      → EachTerm (NowsBelow (first_word r r.this)) b → EachTerm HasSmallNumbers b → IsNamedBlock r N (local_names N k) b
-  block-named r N many k end is few most h m s = tt
-  block-named r N many k (step (bind t) b) is few most h m s =
-      let lt = h.0.1 in
-      let sound = subst (λ n. IsSoundBlock (bounds r) n b) (one-more k) h.1 in
-      let rest = subst (λ n. most_locals_in n b ≤ many) (one-more k) (omega arith) in
-      let more = block-named r N many (suc k) b is (omega arith) rest sound m.1 s.1 in
-      (statement-named r N many k (bind t) is few (omega arith) h.0 m.0 s.0, subst (λ l. IsNamedBlock r N l b) (sym (names-more N k)) more)
-  block-named r N many k (step (assign l t) b) is few most h m s =
-      (statement-named r N many k (assign l t) is few (omega arith) h.0 m.0 s.0, block-named r N many k b is few (omega arith) h.1 m.1 s.1)
-  block-named r N many k (step (output j t) b) is few most h m s =
-      (statement-named r N many k (output j t) is few (omega arith) h.0 m.0 s.0, block-named r N many k b is few (omega arith) h.1 m.1 s.1)
-  block-named r N many k (step (choose t c) b) is few most h m s =
-      (statement-named r N many k (choose t c) is few (omega arith) h.0 m.0 s.0, block-named r N many k b is few (omega arith) h.1 m.1 s.1)
-  block-named r N many k (step (choose_else t c d) b) is few most h m s =
-      (statement-named r N many k (choose_else t c d) is few (omega arith) h.0 m.0 s.0, block-named r N many k b is few (omega arith) h.1 m.1 s.1)
-  block-named r N many k (step (repeat n c) b) is few most h m s =
-      (statement-named r N many k (repeat n c) is few (omega arith) h.0 m.0 s.0, block-named r N many k b is few (omega arith) h.1 m.1 s.1)
