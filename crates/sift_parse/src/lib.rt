@@ -26,5 +26,5 @@ pub use task::parse_task;
 pub use token::LEVEL_LIMIT;
 pub use unique::{
     linear_text_is_parsed, minus_ends_with_prim, no_text_is_unanswered, one_answer, one_tree,
-    task_is_answered, task_is_sound, what_ends_nothing,
+    printed_tree_is_task, task_is_answered, task_is_sound, what_ends_nothing,
 };

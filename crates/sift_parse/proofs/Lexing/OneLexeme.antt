@@ -51,7 +51,7 @@ sign_read-mark Comma = refl
 sign_read-mark Dot = refl
 sign_read-mark Semicolon = refl
 
-operator-no_word : (op : Op) → NoWord (operator_bytes op)
+pub operator-no_word : (op : Op) → NoWord (operator_bytes op)
 operator-no_word Add = (λ x. omega arith, λ x. omega arith)
 operator-no_word Sub = (λ x. omega arith, λ x. omega arith)
 operator-no_word Mul = (λ x. omega arith, λ x. omega arith)
@@ -65,7 +65,7 @@ operator-no_word Shr = (λ x. omega arith, λ x. omega arith)
 operator-no_word Lt = (λ x. omega arith, λ x. omega arith)
 operator-no_word Eq = (λ x. omega arith, λ x. omega arith)
 
-mark-no_word : (s : Sign) → NoWord (sign_bytes s)
+pub mark-no_word : (s : Sign) → NoWord (sign_bytes s)
 mark-no_word Assign = (λ x. omega arith, λ x. omega arith)
 mark-no_word OpenParen = (λ x. omega arith, λ x. omega arith)
 mark-no_word CloseParen = (λ x. omega arith, λ x. omega arith)

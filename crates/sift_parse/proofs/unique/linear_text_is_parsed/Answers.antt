@@ -1,4 +1,4 @@
-use Rattle.sift_parse.proofs.Linear.Text.{linear_text_is_parsed}
+use Rattle.sift_parse.proofs.Printing.Linear.{linear_text_is_parsed}
 use Rattle.sift_parse.proofs.unique.linear_text_is_parsed.Goals as goal
 
 pub returns : goal.returns
