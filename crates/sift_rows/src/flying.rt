@@ -80,7 +80,7 @@ fn first_of(_mission: &Mission) -> UnitId
 }
 
 /// So many steps of a unit, each with the same answer.
-fn expect_steps(
+pub(crate) fn expect_steps(
     rt: &impl Abort,
     machine: &mut Machine,
     mission: &Mission,
