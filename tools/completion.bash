@@ -1,0 +1,33 @@
+# Completes the command line of `sift` in bash: the command, the options that it takes and that don't stand there yet, and
+# a file after `<`. tools/install puts it where bash-completion looks for it; without that, source it.
+_sift() {
+  local place=$COMP_CWORD word=${COMP_WORDS[COMP_CWORD]} before options offered='' option
+  COMPREPLY=()
+
+  # Bash splits words at `=` and `<`, which are then words of their own.
+  case $word in = | '<') word='' place=$((place + 1)) ;; esac
+  before=${COMP_WORDS[place - 1]}
+  [ "$before" = = ] && before=${COMP_WORDS[place - 2]}
+
+  case $before in
+    '<') compopt -o filenames 2>/dev/null; mapfile -t COMPREPLY < <(compgen -f -- "$word"); return ;;
+    --workers) mapfile -t COMPREPLY < <(compgen -W 1 -- "$word"); return ;;
+    --order | --number) return ;;
+  esac
+
+  if [ "$place" -eq 1 ]; then
+    mapfile -t COMPREPLY < <(compgen -W 'run votes ideal check gen trial' -- "$word")
+    return
+  fi
+  case ${COMP_WORDS[1]} in
+    run | votes) options='--order --workers' ;;
+    gen) options='--number' ;;
+    trial) options='--number --order --workers' ;;
+    *) return ;;
+  esac
+  for option in $options; do
+    [[ " ${COMP_WORDS[*]:2:place-2} " == *" $option "* ]] || offered+=" $option"
+  done
+  mapfile -t COMPREPLY < <(compgen -W "$offered" -- "$word")
+}
+complete -F _sift sift
