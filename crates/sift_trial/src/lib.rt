@@ -3,6 +3,8 @@
 
 mod drawing;
 mod law;
+mod texts;
 
 pub use drawing::drawn_mission;
 pub use law::drawn_trees_are_missions;
+pub use texts::{drawn_tasks_are_brief, drawn_texts_are_tasks};
