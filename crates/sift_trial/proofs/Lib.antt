@@ -1,0 +1,14 @@
+mod Ranges
+mod Values
+mod Tables
+mod Root
+mod Sensors
+mod Tasks
+mod Digits
+mod Faults
+mod Script
+mod Shapes
+mod Program
+mod Mission
+mod EachNumber
+mod NumberedNames
