@@ -1,0 +1,4 @@
+mod NumberedNames
+mod DrawnRoll
+mod DrawnTrees
+mod DrawnTexts
