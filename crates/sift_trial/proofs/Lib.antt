@@ -1,3 +1,7 @@
+mod NumberedNames
+mod DrawnRoll
+mod DrawnTrees
+mod DrawnTexts
 mod Ranges
 mod Values
 mod Tables
@@ -11,4 +15,3 @@ mod Shapes
 mod Program
 mod Mission
 mod EachNumber
-mod NumberedNames

@@ -1,5 +1,5 @@
 -- The names of drawn sensors and tasks: a letter and a number are a name, and other numbers make other names.
-use Rattle.std.proofs.Common.{◌≡◌, ◌≢◌, ℕ, zero, suc, ◌≤◌, ◌<◌, ◌^◌, inl, inr, List, [], ◌∷◌, length, slice_index, codes, subst, arith}
+use Rattle.std.proofs.Common.{◌≡◌, ◌≢◌, ℕ, zero, suc, ◌≤◌, ◌<◌, ◌^◌, inl, inr, List, [], ◌∷◌, length, slice_index, subst, arith}
 use Rattle.std.specs.Char.{IsAsciiLowercase}
 use Rattle.std.specs.Fmt.{decimal}
 use Rattle.std.specs.List.{All, Contains}
