@@ -1,9 +1,8 @@
 -- What is made of each number below another.
 use Rattle.std.proofs.Common.{◌≡◌, ◌<◌, ◌≤◌, ◌+◌, ℕ, zero, suc, List, [], ◌∷◌, length, get_or, map, Some, refl, sym, ap, subst, ◌∙◌, arith}
 use Rattle.std.proofs.lemmas.List.FromFn.{get_or-map-range_with_len, length-map-range_with_len}
-use Rattle.std.proofs.lemmas.List.Sums.{sum_by-cons}
 use Rattle.std.proofs.lemmas.Option.{get_or_from_slice_get, slice_get-get_or, slice_get_within}
-use Rattle.std.specs.List.{All, range_with_len, slice_get, sum}
+use Rattle.std.specs.List.{All, range_with_len, slice_get}
 use Rattle.sift_scenario.specs.Entries.{AreMatched, HoldsOf}
 
 module _ {A : Type 0} (f : ℕ → A) (n : ℕ) where
@@ -54,8 +53,3 @@ made_alike f g a zero alike = refl
 made_alike {A} f g a (suc n) alike =
     ap (λ (y : A). y ∷ map f (range_with_len (a + 1) n)) (alike a (omega arith) (omega arith))
     ∙ ap (λ ys. g a ∷ ys) (made_alike f g (a + 1) n (λ k from to. alike k (omega (arith, from)) (omega (arith, to))))
-
--- so many ones
-pub ones : (a n : ℕ) → sum (map (λ k. 1) (range_with_len a n)) ≡ n
-ones a zero = refl
-ones a (suc n) = let rest = ones (a + 1) n in omega (arith, rest, sum_by-cons (λ x. x) 1 (map (λ k. 1) (range_with_len (a + 1) n)))

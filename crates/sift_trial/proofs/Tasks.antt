@@ -15,7 +15,8 @@ use Rattle.sift_scenario.specs.Entries.{HoldsOf}
 use Rattle.sift_scenario.specs.Rules.{AreKept}
 use Rattle.sift_scenario.specs.Task.{AreForms, Form, HasForm, counts_of, start_words, task_keys, task_outputs, text}
 use Rattle.sift_scenario.specs.TaskRules.{BreaksWords, each_task_rules}
-use Rattle.sift_trial.proofs.Ranges.{made_alike, made_of, matched, nowhere, ones}
+use Rattle.sift_trial.proofs.DrawnRoll.{words_sum}
+use Rattle.sift_trial.proofs.Ranges.{made_alike, made_of, matched, nowhere}
 use Rattle.sift_trial.proofs.Tables.{entries_kept, listed, members_are, names_kept, tables_long}
 use Rattle.sift_trial.proofs.Values.{draw_below, word_read}
 
@@ -84,7 +85,7 @@ module _ (tasks sensors x : ℕ) where
   words_few few place broken =
       let long = length-map-range_with_len {X = ℕ} (λ t. 1) 0 tasks in
       let so_far : sum (take (place + 1) (map (λ t. 1) (range_with_len 0 tasks))) ≡ place + 1 =
-      ap sum (take-map-range_with_len {X = ℕ} (λ t. 1) 0 tasks (place + 1) (omega (arith, broken.0, long))) ∙ ones 0 (place + 1) in
+      ap sum (take-map-range_with_len {X = ℕ} (λ t. 1) 0 tasks (place + 1) (omega (arith, broken.0, long))) ∙ words_sum (place + 1) in
       omega (arith, broken.0, broken.1, long, so_far, few)
 
   -- they keep the rules of each task
