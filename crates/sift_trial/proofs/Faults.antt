@@ -1,13 +1,12 @@
 -- The fault of a drawn document: what its table says, and the rules that it keeps.
-use Rattle.std.proofs.Common.{◌≡◌, ◌<◌, ◌≤◌, ◌+◌, ℕ, List, [], ◌∷◌, length, Option, Some, None, inl, inr, refl, sym, ap, ◌∙◌, arith}
+use Rattle.std.proofs.Common.{◌≡◌, ◌<◌, ◌≤◌, ℕ, [], ◌∷◌, Some, None, inl, inr, refl, arith}
 use Rattle.std.proofs.lemmas.List.Elements.{All-cons, All-from_recursion, All-nil}
-use Rattle.std.specs.List.{All, Contains}
-use Rattle.std.specs.Prelude.{codes}
-use Rattle.toml.specs.Data.{Data, Members, no_members, string, table}
-use Rattle.sift_gen.specs.Entries.{array_of, number, placed}
-use Rattle.sift_gen.specs.Scenario.{fault_entries, fault_item, other_digits}
+use Rattle.std.specs.List.{Contains}
+use Rattle.toml.specs.Data.{Data, Members, table}
+use Rattle.sift_gen.specs.Entries.{array_of}
+use Rattle.sift_gen.specs.Scenario.{fault_entries, fault_item}
 use Rattle.sift_scenario.specs.Document.{HasOnlyKeys, IsTableOf, keys_of, members_of}
-use Rattle.sift_scenario.specs.Fault.{IsFaultEntry, IsHeadless, IsSaying, changes_of, fault_in, fault_keys, fault_rules, faults_in, from_of, unit_of}
+use Rattle.sift_scenario.specs.Fault.{IsFaultEntry, IsHeadless, IsSaying, changes_of, fault_in, fault_keys, fault_rules, from_of, unit_of}
 use Rattle.sift_scenario.specs.Item.{change_in, item_keys}
 use Rattle.sift_scenario.specs.Rules.{AreKept}
 use Rattle.sift_script.specs.Script.{Change, Fault, changing}
@@ -73,14 +72,19 @@ module _
   }
 
   pub faults_kept : AreKept (fault_rules (Some faults_value))
-  faults_kept =
-      (λ place broken. elim broken [
-        | inl none ↦ none.1 (record { items = _; there = refl; enough = omega arith; few = omega arith })
-        | inr entry ↦ not_only (table entries) (λ k d. ¬ IsFaultEntry k d) (λ fails. fails (entries, refl, fault_known)) place entry
-      ],
-      (not_only entries (λ k fault. IsHeadless fault) (λ headless. elim headless [
+  faults_kept = (
+    λ place broken. elim broken [
+      | inl none ↦ none.1 (record { items = _; there = refl; enough = omega arith; few = omega arith })
+      | inr entry ↦ not_only (table entries) (λ k d. ¬ IsFaultEntry k d) (λ fails. fails (entries, refl, fault_known)) place entry
+    ],
+    (
+      not_only entries (λ k fault. IsHeadless fault) (λ headless. elim headless [
         | inl none ↦ cc (unit_stated, none)
         | inr none ↦ cc (from_stated, none)
       ]),
-      (not_only entries (λ k fault. ¬ IsSaying fault) (λ fails. fails saying),
-      (not_only entries (λ k fault. changes_of fault ≡ None) (λ none. cc (changes_stated, none)), tt))))
+      (
+        not_only entries (λ k fault. ¬ IsSaying fault) (λ fails. fails saying),
+        (not_only entries (λ k fault. changes_of fault ≡ None) (λ none. cc (changes_stated, none)), tt),
+      ),
+    ),
+  )

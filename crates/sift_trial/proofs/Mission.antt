@@ -1,13 +1,12 @@
 -- The mission that a drawn document states.
-use Rattle.std.proofs.Common.{◌≡◌, ◌≢◌, ◌<◌, ◌≤◌, ◌+◌, ◌*◌, ◌-◌, ℕ, List, [], ◌∷◌, length, map, Some, None, inl, inr, refl, sym, ap, subst, ◌∙◌, arith}
+use Rattle.std.proofs.Common.{◌≡◌, ◌≢◌, ◌<◌, ◌≤◌, ◌+◌, ◌-◌, ℕ, List, [], ◌∷◌, length, map, None, inl, inr, refl, sym, ap, subst, ◌∙◌, arith}
 use Rattle.std.proofs.lemmas.List.FromFn.{get_or-range_with_len, length-map-range_with_len, length-range_with_len}
 use Rattle.std.proofs.lemmas.List.{length-map}
 use Rattle.std.proofs.lemmas.List.Elements.{All-map}
-use Rattle.std.specs.List.{All, range_with_len, sum}
+use Rattle.std.specs.List.{range_with_len, sum}
 use Rattle.std.specs.Prelude.{unwrap_or}
-use Rattle.toml.specs.Data.{Data, Members, table}
+use Rattle.toml.specs.Data.{Members}
 use Rattle.sift_base.specs.Name.{IsName}
-use Rattle.sift_base.specs.Shapes.{AllShapes, AreShapes}
 use Rattle.sift_base.specs.declared.layout.Layout.{Layout}
 use Rattle.sift_gen.specs.Scenario.{document_of, fault_entries, sensor_tables, task_tables}
 use Rattle.sift_gen.specs.Tasks.{sensor_name, task_name}
@@ -15,7 +14,7 @@ use Rattle.sift_parse.specs.Roll.{Roll}
 use Rattle.sift_program.specs.Program.{ProgramTree}
 use Rattle.sift_scenario.proofs.Order.{kept_joined}
 use Rattle.sift_scenario.specs.Clock.{clocks_of}
-use Rattle.sift_scenario.specs.Fault.{fault_in, faults_of}
+use Rattle.sift_scenario.specs.Fault.{faults_of}
 use Rattle.sift_scenario.specs.Lawful.{IsLawful, themes_for}
 use Rattle.sift_scenario.specs.Mission.{HasGoodTables, IsMission, IsStated}
 use Rattle.sift_scenario.specs.Program.{AreTreesOf, IsProgramOf, all_starts, roll_for}
@@ -26,13 +25,13 @@ use Rattle.sift_scenario.specs.Table.{schedules_of, table_rules}
 use Rattle.sift_scenario.specs.Task.{Form, counts_of, names_of, task_entries, tasks_of, text}
 use Rattle.sift_scenario.specs.TaskRules.{task_rules}
 use Rattle.sift_script.specs.Rules as scripts
-use Rattle.sift_script.specs.Script.{Fault, FaultScript, outputs_of}
+use Rattle.sift_script.specs.Script.{Fault, outputs_of}
 use Rattle.sift_table.specs.Laws.{PlainTablesAreGood}
 use Rattle.sift_table.specs.Rules as tables
-use Rattle.sift_table.specs.Schedule.{Schedule, plain_of}
+use Rattle.sift_table.specs.Schedule.{plain_of}
 use Rattle.sift_unit.specs.Data.{MissionData, shapes_in}
 use Rattle.sift_unit.specs.Needs.{program_shapes}
-use Rattle.sift_trial.proofs.Faults.{drawn_fault, fault_stated, faults_kept}
+use Rattle.sift_trial.proofs.Faults.{fault_stated, faults_kept}
 use Rattle.sift_trial.proofs.Program.{drawn_trees, trees_allowed, trees_are, trees_long, trees_of_one_word}
 use Rattle.sift_trial.proofs.Root.{frames_are, root_kept, units_are}
 use Rattle.sift_trial.proofs.Script.{script_good}
@@ -42,7 +41,7 @@ use Rattle.sift_trial.proofs.Tables.{names_are}
 use Rattle.sift_trial.proofs.Tasks.{all_known, counts_are, each_kept, forms_are, tasks_are, tasks_long, text_at}
 use Rattle.sift_trial.proofs.Sensors as sensing
 use Rattle.sift_trial.proofs.Tasks as tasking
-use Rattle.sift_trial.specs.Texts.{DrawnTasksAreBrief, DrawnTextsAreTasks, drawn_roll, drawn_sensors, drawn_sizes, drawn_tasks}
+use Rattle.sift_trial.specs.Texts.{DrawnTasksAreBrief, DrawnTextsAreTasks, drawn_roll, drawn_sensors, drawn_tasks}
 
 -- counts, and a fault, that may be drawn
 pub record MayBeDrawn (units frames sensors tasks unit from task value : ℕ) : Type 0 where
@@ -84,13 +83,14 @@ module _
   -- the rules of the tasks are kept
   all_tasks_kept : AreKept (task_rules d)
   all_tasks_kept =
-      let long = tasks_long tasks sensors z in
-      (λ place broken. elim broken [
-        | inl none ↦ none.1 (omega (arith, long, may.some_task), omega (arith, long, may.few_tasks))
-        | inr entry ↦ all_known tasks sensors z place entry
-      ],
-      each_kept tasks sensors z may.few_tasks (λ t low. known.tasks.formed t (omega (arith, low, may.few_tasks)))
-      (λ i k before low. known.tasks.differ i k before (omega (arith, low, may.few_tasks))))
+      let long = tasks_long tasks sensors z in (
+        λ place broken. elim broken [
+          | inl none ↦ none.1 (omega (arith, long, may.some_task), omega (arith, long, may.few_tasks))
+          | inr entry ↦ all_known tasks sensors z place entry
+        ],
+        each_kept tasks sensors z may.few_tasks (λ t low. known.tasks.formed t (omega (arith, low, may.few_tasks)))
+            (λ i k before low. known.tasks.differ i k before (omega (arith, low, may.few_tasks))),
+      )
 
   -- there are no tables of which one could be bad
   no_tables : (n : ℕ) → AreKept (table_rules n None)
@@ -99,16 +99,28 @@ module _
   -- so all rules are kept
   lawful : IsLawful d
   lawful =
-      kept_joined (themes_for (unwrap_or (units_of d) 0) d)
-      (root_kept units frames (sensor_tables sensors y) (task_tables tasks sensors z) (fault_entries units unit from task value)
-      may.enough_units may.few_units may.some_frames may.few_frames,
-      (tt,
-      (sensors_kept sensors y may.few_sensors (λ k low. known.sensors.formed k (omega (arith, low, may.few_sensors)))
-      (λ i k before low. known.sensors.differ i k before (omega (arith, low, may.few_sensors))),
-      (all_tasks_kept,
-      (no_tables (unwrap_or (units_of d) 0),
-      (faults_kept units unit from task value may.enough_units may.few_units may.a_unit (omega (arith, may.a_frame, may.few_frames))
-      (omega (arith, may.a_task, may.few_tasks)) may.a_word, tt))))))
+      kept_joined (themes_for (unwrap_or (units_of d) 0) d) (
+        root_kept units frames (sensor_tables sensors y) (task_tables tasks sensors z) (fault_entries units unit from task value)
+            may.enough_units may.few_units may.some_frames may.few_frames,
+        (
+          tt,
+          (
+            sensors_kept sensors y may.few_sensors (λ k low. known.sensors.formed k (omega (arith, low, may.few_sensors)))
+                (λ i k before low. known.sensors.differ i k before (omega (arith, low, may.few_sensors))),
+            (
+              all_tasks_kept,
+              (
+                no_tables (unwrap_or (units_of d) 0),
+                (
+                  faults_kept units unit from task value may.enough_units may.few_units may.a_unit (omega (arith, may.a_frame, may.few_frames))
+                      (omega (arith, may.a_task, may.few_tasks)) may.a_word,
+                  tt,
+                ),
+              ),
+            ),
+          ),
+        ),
+      )
 
   -- ---- the program
 

@@ -1,9 +1,9 @@
 -- The program of a drawn document: the trees of its texts, and that they are allowed.
-use Rattle.std.proofs.Common.{◌≡◌, ◌<◌, ◌≤◌, ◌+◌, ◌*◌, ◌-◌, ℕ, zero, suc, List, [], ◌∷◌, Bool, true, false, ◌==◌, nat_lt, length, map, take, Some, inl, inr, refl, sym, ap, subst, ◌∙◌, arith}
+use Rattle.std.proofs.Common.{◌≡◌, ◌<◌, ◌≤◌, ◌+◌, ◌*◌, ℕ, zero, suc, List, ◌==◌, length, map, take, inl, inr, refl, ap, arith}
 use Rattle.std.proofs.lemmas.Bool.{cases_Bool}
 use Rattle.std.proofs.lemmas.List.FromFn.{length-map-range_with_len, take-map-range_with_len}
 use Rattle.std.proofs.lemmas.List.Sums.{sum_by-cons}
-use Rattle.std.specs.List.{range_with_len, slice_get, sum_by}
+use Rattle.std.specs.List.{range_with_len, sum_by}
 use Rattle.sift_compile.specs.Length.{task_length, task_steps}
 use Rattle.sift_gen.specs.Draws.{after, draw_at}
 use Rattle.sift_gen.specs.Scenario.{pattern_from, task_place}
@@ -11,7 +11,6 @@ use Rattle.sift_gen.specs.Tasks.{pattern_of}
 use Rattle.sift_gen.specs.declared.task.Pattern.{Pattern}
 use Rattle.sift_gen.specs.declared.task.Pattern.TheVariants.{Sum, Middle, Chase, Triple}
 use Rattle.sift_lang.specs.Tree.{TaskTree}
-use Rattle.sift_parse.specs.Roll.{Roll}
 use Rattle.sift_scenario.specs.Program.{AreAllowed, AreTreesOf, IsTreeOf, turn_of}
 use Rattle.sift_scenario.specs.Task.{text}
 use Rattle.sift_trial.proofs.Ranges.{at_place, everywhere, matched}

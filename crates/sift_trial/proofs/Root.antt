@@ -1,8 +1,7 @@
 -- The root of a drawn document: what it says beside its entries, and the rules that it keeps.
-use Rattle.std.proofs.Common.{◌≡◌, ◌<◌, ◌≤◌, ◌+◌, ℕ, List, [], ◌∷◌, length, Some, None, refl, sym, ◌∙◌, arith}
+use Rattle.std.proofs.Common.{◌≡◌, ◌≤◌, ℕ, List, Some, refl, arith}
 use Rattle.std.proofs.lemmas.List.Elements.{All-from_recursion}
-use Rattle.std.specs.List.{All, Contains}
-use Rattle.std.specs.Prelude.{codes}
+use Rattle.std.specs.List.{Contains}
 use Rattle.toml.specs.Data.{Data, Members}
 use Rattle.sift_gen.specs.Scenario.{document_of}
 use Rattle.sift_scenario.specs.Document.{HasOnlyKeys, keys_of}
@@ -28,8 +27,13 @@ module _ (units frames : ℕ) (sensors tasks : List Data) (fault : Data) where
 
   -- it keeps the rules of the root
   pub root_kept : 5 ≤ units → units ≤ 8 → 20 ≤ frames → frames ≤ 200 → AreKept (root_rules drawn)
-  root_kept enough few some_frames few_frames =
-      (λ place broken. broken.1 keys_known,
-      (λ place broken. cc (units_are enough few, broken.1),
-      (λ place broken. cc (frames_are some_frames few_frames, broken.1),
-      (λ place broken. cc broken.1, (λ place broken. cc broken.1, tt)))))
+  root_kept enough few some_frames few_frames = (
+    λ place broken. broken.1 keys_known,
+    (
+      λ place broken. cc (units_are enough few, broken.1),
+      (
+        λ place broken. cc (frames_are some_frames few_frames, broken.1),
+        (λ place broken. cc broken.1, (λ place broken. cc broken.1, tt)),
+      ),
+    ),
+  )

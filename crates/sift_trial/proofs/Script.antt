@@ -1,13 +1,11 @@
 -- The script of one fault, which says a wrong word of a task to all other units, is good.
-use Rattle.std.proofs.Common.{◌≡◌, ◌<◌, ◌≤◌, ◌+◌, ℕ, zero, suc, List, [], ◌∷◌, length, false, nat_eq, None, refl, sym, ap, ◌∙◌, arith}
-use Rattle.std.proofs.lemmas.Bool.{eqb-true}
+use Rattle.std.proofs.Common.{◌≡◌, ◌<◌, ◌≤◌, ℕ, zero, suc, List, [], ◌∷◌, length, false, nat_eq, refl, arith}
 use Rattle.std.proofs.lemmas.List.Elements.{All-cons, All-nil}
 use Rattle.std.specs.Prelude.{slice_index}
 use Rattle.sift_base.proofs.Others.{not_same}
-use Rattle.sift_base.specs.Units.{has}
 use Rattle.sift_base.specs.declared.layout.Layout.{Layout}
-use Rattle.sift_script.specs.Rules.{AreReceivers, IsGood, IsThere, units_named}
-use Rattle.sift_script.specs.Script.{Change, FaultScript}
+use Rattle.sift_script.specs.Rules.{AreReceivers, IsGood, IsThere}
+use Rattle.sift_script.specs.Script.{FaultScript}
 use Rattle.sift_trial.proofs.Digits.{receivers}
 use Rattle.sift_trial.proofs.Faults.{drawn_change, drawn_fault}
 
@@ -33,9 +31,20 @@ module _
 
   pub script_good : IsGood drawn_script
   script_good zero low =
-      let change = drawn_change layout.units unit task value in
-      (there, (refl, (early,
-      ((spared unit, omega (arith, spared-few unit, enough), rw (spared-other unit) refl),
-      (All-cons (IsThere drawn_script from) change [] ((among, some), tt) (All-nil (IsThere drawn_script from)),
-      (All-cons (λ c. AreReceivers layout.units unit c.to) change [] (receivers layout.units unit enough few) (All-nil (λ c. AreReceivers layout.units unit c.to)), tt))))))
+      let change = drawn_change layout.units unit task value in (
+        there,
+        (
+          refl,
+          (
+            early,
+            (
+              (spared unit, omega (arith, spared-few unit, enough), rw (spared-other unit) refl),
+              (
+                All-cons (IsThere drawn_script from) change [] ((among, some), tt) (All-nil (IsThere drawn_script from)),
+                (All-cons (λ c. AreReceivers layout.units unit c.to) change [] (receivers layout.units unit enough few) (All-nil (λ c. AreReceivers layout.units unit c.to)), tt),
+              ),
+            ),
+          ),
+        ),
+      )
   script_good (suc at) low = absurd (omega (arith, low))

@@ -1,7 +1,6 @@
 -- The sensors of a drawn document: what their tables say, and the rules that they keep.
-use Rattle.std.proofs.Common.{◌≡◌, ◌≢◌, ◌<◌, ◌≤◌, ◌+◌, ◌*◌, ℕ, zero, suc, List, [], ◌∷◌, length, map, Some, None, inl, inr, refl, sym, ap, subst, ◌∙◌, arith}
+use Rattle.std.proofs.Common.{◌≡◌, ◌≢◌, ◌<◌, ◌≤◌, ◌*◌, ℕ, List, [], ◌∷◌, map, Some, None, inl, inr, refl, arith}
 use Rattle.std.proofs.lemmas.List.Elements.{All-from_recursion}
-use Rattle.std.proofs.lemmas.List.FromFn.{length-map-range_with_len}
 use Rattle.std.specs.List.{Contains, range_with_len}
 use Rattle.std.specs.Prelude.{codes}
 use Rattle.toml.specs.Data.{Data, Members, no_members, string}
@@ -10,11 +9,11 @@ use Rattle.sift_gen.specs.Draws.{after, draw_at}
 use Rattle.sift_gen.specs.Entries.{array_of, items_in, number, placed}
 use Rattle.sift_gen.specs.Scenario.{sensor_tables, sensor_words, words_each}
 use Rattle.sift_gen.specs.Tasks.{sensor_name, word_values}
-use Rattle.sift_scenario.specs.Document.{HasOnlyKeys, each_read, keys_of, list_of, of_length, word_array, word_value}
+use Rattle.sift_scenario.specs.Document.{HasOnlyKeys, each_read, keys_of, list_of, word_value}
 use Rattle.sift_scenario.specs.Rules.{AreKept}
 use Rattle.sift_scenario.specs.Sensor.{IsSensorEntry, sensor_keys, sensor_rules, sensors_in, words_of}
 use Rattle.sift_trial.proofs.Ranges.{nowhere}
-use Rattle.sift_trial.proofs.Tables.{entries_kept, is_array, listed, members_are, names_kept}
+use Rattle.sift_trial.proofs.Tables.{entries_kept, is_array, members_are, names_kept}
 use Rattle.sift_trial.proofs.Values.{draw_below, word_read}
 
 -- ---- one sensor
@@ -55,11 +54,14 @@ module _ (sensors x : ℕ) where
   pub sensors_kept :
       sensors ≤ 8 → ((k : ℕ) → k < sensors → IsName (sensor_name k)) → ((i k : ℕ) → i < k → k < sensors → sensor_name i ≢ sensor_name k)
       → AreKept (sensor_rules (Some sensors_value))
-  sensors_kept few formed differ = rw sensors_are
-      (λ place broken. elim broken [
-        | inl none ↦ none.1 (is_array entries_at sensors 0 8 (omega arith) few)
-        | inr entry ↦ entries_kept entries_at sensors IsSensorEntry
-        (λ k low. let y = after x (words_each * k) in (sensor_entries k y, refl, keys_known k y)) place entry
-      ],
-      (names_kept entries_at sensor_name sensors (λ k. refl) formed differ,
-      (nowhere entries_at sensors (λ k sensor. words_of sensor ≡ None) (λ k low none. cc (sensed k (after x (words_each * k)), none)), tt)))
+  sensors_kept few formed differ = rw sensors_are (
+    λ place broken. elim broken [
+      | inl none ↦ none.1 (is_array entries_at sensors 0 8 (omega arith) few)
+      | inr entry ↦ entries_kept entries_at sensors IsSensorEntry
+          (λ k low. let y = after x (words_each * k) in (sensor_entries k y, refl, keys_known k y)) place entry
+    ],
+    (
+      names_kept entries_at sensor_name sensors (λ k. refl) formed differ,
+      (nowhere entries_at sensors (λ k sensor. words_of sensor ≡ None) (λ k low none. cc (sensed k (after x (words_each * k)), none)), tt),
+    ),
+  )

@@ -1,18 +1,18 @@
 -- The shapes of tasks with one output word each.
-use Rattle.std.proofs.Common.{◌≡◌, ◌<◌, ◌≤◌, ◌+◌, ℕ, zero, suc, List, [], ◌∷◌, length, get_or, map, refl, sym, ap, ◌∙◌, arith}
+use Rattle.std.proofs.Common.{◌≡◌, ◌<◌, ◌≤◌, ◌+◌, ℕ, List, [], ◌∷◌, length, refl, ap, ◌∙◌, arith}
 use Rattle.std.proofs.lemmas.List.{get_or-map, length-map}
 use Rattle.std.proofs.lemmas.List.Sums.{sum_by-cons}
 use Rattle.std.proofs.lemmas.List.Elements.{All-filter, All-head, All-tail}
-use Rattle.std.specs.List.{All, range_with_len, sum_by}
+use Rattle.std.specs.List.{All, range_with_len}
 use Rattle.std.specs.Prelude.{slice_index}
-use Rattle.sift_base.specs.Shapes.{AreShapes, Shape, shape_at, words_in}
+use Rattle.sift_base.specs.Shapes.{AreShapes, Shape, shape_at}
 use Rattle.sift_lang.specs.Tree.{TaskTree, end}
 use Rattle.sift_program.specs.Program.{ProgramTree}
 use Rattle.sift_program.specs.Sound.{output_count}
 use Rattle.sift_script.specs.Script.{outputs_of}
 use Rattle.sift_trial.proofs.Digits.{all_below}
 use Rattle.sift_unit.proofs.Tasks.{length-shapes, shape-there, words-shapes}
-use Rattle.sift_unit.specs.Needs.{program_shapes, reads_task, shape_in, shapes_from, task_at}
+use Rattle.sift_unit.specs.Needs.{program_shapes, reads_task, shape_in, task_at}
 
 -- each tree has one output
 abbrev pub AreOfOneWord : List TaskTree → Type 0

@@ -1,5 +1,5 @@
 -- The tasks of a drawn document: what their tables say, and the rules that they keep.
-use Rattle.std.proofs.Common.{◌≡◌, ◌≢◌, ◌<◌, ◌≤◌, ◌+◌, ◌*◌, ℕ, zero, suc, List, [], ◌∷◌, length, map, take, Some, None, inl, inr, refl, sym, ap, subst, ◌∙◌, arith}
+use Rattle.std.proofs.Common.{◌≡◌, ◌≢◌, ◌<◌, ◌≤◌, ◌+◌, ℕ, List, [], ◌∷◌, length, map, take, Some, None, refl, sym, ap, subst, ◌∙◌, arith}
 use Rattle.std.proofs.lemmas.List.Elements.{All-from_recursion}
 use Rattle.std.proofs.lemmas.List.FromFn.{length-map-range_with_len, take-map-range_with_len}
 use Rattle.std.specs.List.{Contains, range_with_len, sum}
@@ -17,7 +17,7 @@ use Rattle.sift_scenario.specs.Task.{AreForms, Form, HasForm, counts_of, start_w
 use Rattle.sift_scenario.specs.TaskRules.{BreaksWords, each_task_rules}
 use Rattle.sift_trial.proofs.DrawnRoll.{words_sum}
 use Rattle.sift_trial.proofs.Ranges.{made_alike, made_of, matched, nowhere}
-use Rattle.sift_trial.proofs.Tables.{entries_kept, listed, members_are, names_kept, tables_long}
+use Rattle.sift_trial.proofs.Tables.{entries_kept, members_are, names_kept, tables_long}
 use Rattle.sift_trial.proofs.Values.{draw_below, word_read}
 
 -- ---- one task
@@ -92,12 +92,20 @@ module _ (tasks sensors x : ℕ) where
   pub each_kept :
       tasks ≤ 12 → ((t : ℕ) → t < tasks → IsName (task_name t)) → ((i k : ℕ) → i < k → k < tasks → task_name i ≢ task_name k)
       → AreKept (each_task_rules task_members)
-  each_kept few named differ = rw (counts_are, tasks_are)
-      (names_kept entries_at task_name tasks (λ t. refl) named differ,
-      (nowhere entries_at tasks (λ t task. start_words task ≡ None) (λ t low none. cc (started t sensors (task_place t x), none)),
-      (words_few few,
-      (nowhere entries_at tasks (λ t task. (form : Form) → ¬ HasForm task form)
-      (λ t low none. none (text (text_at t)) (formed t sensors (task_place t x))), tt))))
+  each_kept few named differ = rw (counts_are, tasks_are) (
+    names_kept entries_at task_name tasks (λ t. refl) named differ,
+    (
+      nowhere entries_at tasks (λ t task. start_words task ≡ None) (λ t low none. cc (started t sensors (task_place t x), none)),
+      (
+        words_few few,
+        (
+          nowhere entries_at tasks (λ t task. (form : Form) → ¬ HasForm task form)
+              (λ t low none. none (text (text_at t)) (formed t sensors (task_place t x))),
+          tt,
+        ),
+      ),
+    ),
+  )
 
   -- there are so many tables with known keys
   pub tasks_long : length (entries_of (Some tasks_value)) ≡ tasks

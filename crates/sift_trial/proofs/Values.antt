@@ -1,7 +1,7 @@
 -- What is read of single values.
-use Rattle.std.proofs.Common.{◌≡◌, ◌<◌, ◌≤◌, ◌+◌, ℕ, List, [], ◌∷◌, Some, refl, arith}
+use Rattle.std.proofs.Common.{◌≡◌, ◌<◌, ◌≤◌, ℕ, Some, arith}
 use Rattle.std.proofs.lemmas.Bool.Decides.{nat_tests}
-use Rattle.sift_gen.specs.Draws.{after, draw_at}
+use Rattle.sift_gen.specs.Draws.{draw_at}
 use Rattle.sift_gen.specs.Entries.{number}
 use Rattle.sift_scenario.specs.Document.{integer_between, word_value}
 
