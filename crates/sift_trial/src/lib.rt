@@ -3,6 +3,8 @@
 
 mod drawing;
 mod law;
+#[cfg(test)]
+mod tests;
 mod texts;
 
 pub use drawing::drawn_mission;
