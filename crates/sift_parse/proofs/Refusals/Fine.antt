@@ -11,7 +11,7 @@ use Rattle.sift_parse.specs.Force.{Force, advance, opens, keyword_before, number
 use Rattle.sift_parse.specs.Keywords.{keyword_of}
 use Rattle.sift_parse.specs.Lexeme.{Lexeme, word, numeral, operator, mark, Placed}
 use Rattle.sift_parse.specs.Limits.{level_limit, number_limit}
-use Rattle.sift_parse.specs.Refusal.{no_lexeme_here, no_syntax, long_name, large_number, many_rounds, many_locals, deep_level, unknown_name, later_task, LacksWord, IsNotBefore, lexemes_of}
+use Rattle.sift_parse.specs.Refusal.{long_name, large_number, many_rounds, many_locals, deep_level, unknown_name, later_task, LacksWord, IsNotBefore, lexemes_of}
 use Rattle.sift_parse.specs.Roll.{Roll, number_in}
 use Rattle.sift_parse.specs.Scanned.{NoneAt}
 
