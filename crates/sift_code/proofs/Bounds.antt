@@ -10,6 +10,7 @@ use Rattle.sift_code.specs.declared.instr.Instr.TheVariants.{Begin, End}
 use Rattle.sift_code.specs.Enclosing.{enclosing}
 use Rattle.sift_code.specs.Bound.{product, sum_within, bound_of, kept, kept_limit}
 use Rattle.sift_code.specs.Kept.{rounds_behind, rounds_at, bound_before, products_outside}
+use Rattle.sift_code.proofs.Enclosing.{IsNoBrace}
 use Rattle.sift_code.proofs.Costs.{IsBraced, drop_here, nested, nested_here}
 use Rattle.sift_code.proofs.Sound.{at_place, braced, uncrowded}
 use Rattle.sift_code.specs.Refusal.{Program, IsSound}
@@ -100,11 +101,13 @@ last_of [] y = refl
 last_of (x ∷ xs) y = last_of xs y
 
 -- the sum with one more product
-pub sum_more : (code : List Instr) (p bound prod : ℕ) → bound ≡ kept (bound_before code p) → prod ≡ kept (product (rounds_at code p)) → min (bound + prod) kept_limit ≡ kept (bound_before code (p + 1))
+pub sum_more : (code : List Instr) (p bound prod : ℕ) → bound ≡ kept (bound_before code p) → prod ≡ kept (product (rounds_at code p))
+    → min (bound + prod) kept_limit ≡ kept (bound_before code (p + 1))
 sum_more code p bound prod b e = rw (b, e) (kept-add (bound_before code p) (product (rounds_at code p)) ∙ ap kept (sym (bound_more code p)))
 
 -- the products behind a Begin
-pub product_in : (code : List Instr) (p k prod : ℕ) → slice_get code p ≡ Some (Begin k) → prod ≡ kept (product (rounds_at code p)) → min (prod * k) kept_limit ≡ kept (product (rounds_at code (p + 1)))
+pub product_in : (code : List Instr) (p k prod : ℕ) → slice_get code p ≡ Some (Begin k) → prod ≡ kept (product (rounds_at code p))
+    → min (prod * k) kept_limit ≡ kept (product (rounds_at code (p + 1)))
 product_in code p k prod at e = rw e (kept-mul (product (rounds_at code p)) k ∙ ap (λ rs. kept (product rs)) (sym (rounds_here code p (Begin k) at)))
 
 pub outside_in : (code : List Instr) (p k prod : ℕ) (outside : List ℕ) → slice_get code p ≡ Some (Begin k)
@@ -112,30 +115,36 @@ pub outside_in : (code : List Instr) (p k prod : ℕ) (outside : List ℕ) → s
     → outside ++ prod ∷ [] ≡ products_outside (rounds_at code (p + 1))
 outside_in code p k prod outside at e o = rw (e, o) (ap products_outside (sym (rounds_here code p (Begin k) at)))
 
+-- all but the last of the products are those of the loops around the innermost one
+all_but_last : (k : ℕ) (ks outside : List ℕ) → outside ≡ products_outside (k ∷ ks) → length outside - 1 ≡ length (products_outside ks)
+all_but_last k ks outside e =
+    omega (arith, ap (length {A = ℕ}) e, length-append (products_outside ks) (kept (product ks) ∷ []))
+
 -- the products behind an End
-pub product_out : (rounds outside : List ℕ) (o : Option ℕ) → outside ≡ products_outside rounds → o ≡ slice_get outside (length outside - 1) → unwrap_or o 1 ≡ kept (product (drop 1 rounds))
+pub product_out : (rounds outside : List ℕ) (o : Option ℕ) → outside ≡ products_outside rounds
+    → o ≡ slice_get outside (length outside - 1) → unwrap_or o 1 ≡ kept (product (drop 1 rounds))
 product_out [] outside o e is = rw (is, e) refl
 product_out (k ∷ ks) outside o e is =
-    let long : length outside - 1 ≡ length (products_outside ks) = omega (arith, ap (length {A = ℕ}) e, length-append (products_outside ks) (kept (product ks) ∷ [])) in
-    let there : o ≡ Some (kept (product ks)) = is ∙ (ap (slice_get outside) long ∙ (ap (λ l. slice_get l (length (products_outside ks))) e ∙ last_of (products_outside ks) (kept (product ks)))) in
-    ap (λ v. unwrap_or v 1) there
+    let last : slice_get outside (length outside - 1) ≡ Some (kept (product ks)) = ap (slice_get outside) (all_but_last k ks outside e)
+    ∙ (ap (λ l. slice_get l (length (products_outside ks))) e ∙ last_of (products_outside ks) (kept (product ks))) in
+    ap (λ v. unwrap_or v 1) (is ∙ last)
 
 pub outside_out : (rounds outside left : List ℕ) → outside ≡ products_outside rounds → left ≡ take (length outside - 1) outside → left ≡ products_outside (drop 1 rounds)
 outside_out [] outside left e is = rw (is, e) refl
 outside_out (k ∷ ks) outside left e is =
-    let long : length outside - 1 ≡ length (products_outside ks) = omega (arith, ap (length {A = ℕ}) e, length-append (products_outside ks) (kept (product ks) ∷ [])) in
+    let long = all_but_last k ks outside e in
     is ∙ (ap (λ n. take n outside) long ∙ (ap (take (length (products_outside ks))) e ∙ take-append_seam (products_outside ks) (kept (product ks) ∷ [])))
 
 pub rounds_end : (code : List Instr) (p : ℕ) → slice_get code p ≡ Some End → rounds_at code (p + 1) ≡ drop 1 (rounds_at code p)
 rounds_end code p at = rounds_here code p End at
 
-rounds_plain : (i : Instr) (rounds : List ℕ) → ((k : ℕ) → i ≡ Begin k → ⊥) → (i ≡ End → ⊥) → rounds_behind (Some i) rounds ≡ rounds
-rounds_plain (Begin k) rounds not_begin not_end = absurd (not_begin k refl)
-rounds_plain End rounds not_begin not_end = absurd (not_end refl)
-rounds_plain _ rounds not_begin not_end = refl
+rounds_plain : (i : Instr) (rounds : List ℕ) → IsNoBrace i → rounds_behind (Some i) rounds ≡ rounds
+rounds_plain (Begin k) rounds no_brace = absurd (no_brace.0 k refl)
+rounds_plain End rounds no_brace = absurd (no_brace.1 refl)
+rounds_plain _ rounds no_brace = refl
 
-pub rounds_other : (code : List Instr) (p : ℕ) (i : Instr) → slice_get code p ≡ Some i → ((k : ℕ) → i ≡ Begin k → ⊥) → (i ≡ End → ⊥) → rounds_at code (p + 1) ≡ rounds_at code p
-rounds_other code p i at not_begin not_end = rounds_here code p i at ∙ rounds_plain i (rounds_at code p) not_begin not_end
+pub rounds_other : (code : List Instr) (p : ℕ) (i : Instr) → slice_get code p ≡ Some i → IsNoBrace i → rounds_at code (p + 1) ≡ rounds_at code p
+rounds_other code p i at no_brace = rounds_here code p i at ∙ rounds_plain i (rounds_at code p) no_brace
 
 -- the loop has room for one more product
 pub outside_room : (program : Program) → IsSound program → (p k : ℕ) (outside : List ℕ) → slice_get program.code p ≡ Some (Begin k)

@@ -187,7 +187,8 @@ module _ (code : List Instr) (braced : IsBraced code) where
       subst (λ d. Past (q + n) b base (tail0 (down extra (costs d)))) (sym (drop_here code q i here)) go
 
   -- so many instructions on from the start of a loop, its End is behind
-  pub past_end : (p k n : ℕ) → slice_get code p ≡ Some (Begin k) → through_end 0 (drop (p + 1) code) ≡ Some n → Past (p + 1 + n) (p + 1) (enclosing code p) (tail0 (costs (drop (p + 1) code)))
+  pub past_end : (p k n : ℕ) → slice_get code p ≡ Some (Begin k) → through_end 0 (drop (p + 1) code) ≡ Some n
+      → Past (p + 1 + n) (p + 1) (enclosing code p) (tail0 (costs (drop (p + 1) code)))
   past_end p k n at through =
       let within : p < length code = slice_get_within code p (Begin k) at in
       past_from (length code - (p + 1)) (p + 1) (p + 1) n [] (enclosing code p) (omega arith) (nested_here p (Begin k) at) through

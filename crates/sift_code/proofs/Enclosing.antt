@@ -14,6 +14,16 @@ enclosing_next code p = rw add-one refl
 pub enclosing_here : (code : List Instr) (p : ℕ) (i : Instr) → slice_get code p ≡ Some i → enclosing code (p + 1) ≡ opened (Some i) (p + 1) code (enclosing code p)
 enclosing_here code p i at = rw add-one (ap (λ o. opened o (suc p) code (enclosing code p)) at)
 
+-- the instruction is neither a Begin nor an End
+abbrev pub IsNoBrace : Instr → Type 0
+IsNoBrace i = ((k : ℕ) → i ≡ Begin k → ⊥) × (i ≡ End → ⊥)
+
+-- then it opens no loop and closes none
+pub opened_plain : (code : List Instr) (next : ℕ) (i : Instr) (loops : List ℕ) → IsNoBrace i → opened (Some i) next code loops ≡ loops
+opened_plain code next (Begin k) loops no_brace = absurd (no_brace.0 k refl)
+opened_plain code next End loops no_brace = absurd (no_brace.1 refl)
+opened_plain code next _ loops no_brace = refl
+
 -- the loop was opened before this place, and these loops are outside it
 pub record Opened (code : List Instr) (p start : ℕ) (outer : List ℕ) : Type 0 where
   pub begin : ℕ
@@ -38,7 +48,10 @@ begin_opened code p start k outer loops is ih at None none pre e = later code p 
 begin_opened code p start k outer loops is ih at (Some n) some [] e =
     let same : suc p ≡ start = cc in
     let out : loops ≡ outer = cc in
-    let now : enclosing code (suc p) ≡ start ∷ outer = ap (λ o. opened o (suc p) code (enclosing code p)) at ∙ (ap (λ m. opened_by m (suc p) (enclosing code p)) some ∙ (ap (λ x. suc p ∷ x) is ∙ e)) in
+    let opens : enclosing code (suc p) ≡ opened_by (through_end 0 (drop (suc p) code)) (suc p) (enclosing code p) =
+    ap (λ o. opened o (suc p) code (enclosing code p)) at in
+    let now : enclosing code (suc p) ≡ start ∷ outer =
+    opens ∙ (ap (λ m. opened_by m (suc p) (enclosing code p)) some ∙ (ap (λ x. suc p ∷ x) is ∙ e)) in
     record {
       begin = p;
       rounds = k;
@@ -73,7 +86,8 @@ opened_before code (suc p) start outer pre e =
 abbrev pub AreOpen : List Instr → ℕ → List ℕ → Type 0
 AreOpen code p base = (pre : List ℕ) × (enclosing code p ≡ pre ++ base)
 
-begin_between : (p start : ℕ) (outer loops : List ℕ) → start ≤ p → (m : Option ℕ) (pre : List ℕ) → opened_by m (suc p) loops ≡ pre ++ start ∷ outer → (pre' : List ℕ) × (loops ≡ pre' ++ start ∷ outer)
+begin_between : (p start : ℕ) (outer loops : List ℕ) → start ≤ p → (m : Option ℕ) (pre : List ℕ)
+    → opened_by m (suc p) loops ≡ pre ++ start ∷ outer → (pre' : List ℕ) × (loops ≡ pre' ++ start ∷ outer)
 begin_between p start outer loops le None pre e = (pre, e)
 begin_between p start outer loops le (Some n) [] e = let same : suc p ≡ start = cc in absurd (omega arith)
 begin_between p start outer loops le (Some n) (x ∷ pre) e = (pre, cc)

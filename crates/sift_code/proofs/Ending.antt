@@ -26,7 +26,8 @@ weighted (k ∷ ks) cs = product (k ∷ ks) * head0 cs + weighted ks (tail0 cs)
 shared : (p k a b : ℕ) → p * (1 + k * a + b) ≡ p + (k * p * a + p * b)
 shared p k a b = grind arith
 
-weighted_step : (i : Instr) (rounds cs : List ℕ) (rest : List Instr) → ((rs : List ℕ) → weighted rs cs ≤ sum_within rs rest) → weighted rounds (cost_step i cs) ≤ sum_within rounds (i ∷ rest)
+weighted_step : (i : Instr) (rounds cs : List ℕ) (rest : List Instr) → ((rs : List ℕ) → weighted rs cs ≤ sum_within rs rest)
+    → weighted rounds (cost_step i cs) ≤ sum_within rounds (i ∷ rest)
 weighted_step (Begin k) [] cs rest ih = omega (arith, ih (k ∷ []), shared 1 k (head0 cs) (head0 (tail0 cs)))
 weighted_step (Begin k) (r ∷ rs) cs rest ih = omega (arith, ih (k ∷ r ∷ rs), shared (product (r ∷ rs)) k (head0 cs) (head0 (tail0 cs)))
 weighted_step End [] cs rest ih = omega arith

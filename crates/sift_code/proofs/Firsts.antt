@@ -6,7 +6,8 @@ use Rattle.sift_code.specs.declared.bad.Bad.{Bad}
 use Rattle.sift_code.specs.Refusal.{Program, Refuses, place_of, IsFree, IsFirst}
 
 -- a refusal at a place before which nothing offends
-pub first_at : (program : Program) (p : ℕ) (bad : Bad) → p ≤ length program.code → ((q : ℕ) → q < p → IsFree program q) → Refuses program bad × (place_of bad ≡ p) → IsFirst program bad
+pub first_at : (program : Program) (p : ℕ) (bad : Bad) → p ≤ length program.code → ((q : ℕ) → q < p → IsFree program q)
+    → Refuses program bad × (place_of bad ≡ p) → IsFirst program bad
 first_at program p bad inside free is =
     record { offends = is.0; inside = omega (arith, is.1); first = λ q before. free q (omega (arith, is.1)) }
 

@@ -51,7 +51,9 @@ carries_on : (code : List Instr) (n p to height : ℕ) → Carries (trail_at cod
 carries_on code zero p to height carries = let e : 0 + p ≡ p = omega arith in subst (λ q. Carries (trail_at code q).brought to height) (sym e) carries
 carries_on code (suc n) p to height carries =
     let e : suc n + p ≡ suc (n + p) = omega arith in
-    subst (λ q. Carries (trail_at code q).brought to height) (sym e) (carries_followed (slice_get code (n + p)) (suc (n + p)) (trail_at code (n + p)) to height (carries_on code n p to height carries))
+    let before = carries_on code n p to height carries in
+    subst (λ q. Carries (trail_at code q).brought to height) (sym e)
+    (carries_followed (slice_get code (n + p)) (suc (n + p)) (trail_at code (n + p)) to height before)
 
 -- the height that a jump brings to a place ahead is among those that were brought there
 pub carries_there : (code : List Instr) (p to height : ℕ) (i : Instr) → slice_get code p ≡ Some i

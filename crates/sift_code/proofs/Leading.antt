@@ -157,7 +157,9 @@ module _ (program : Program) (sound : IsSound program) (inputs : Inputs) (fits :
 
   -- an instruction leads on
   leads : (i : Instr) (s : State) → slice_get program.code s.place ≡ Some i → Agrees program s → Leads program s (effect i program.code inputs s)
-  leads (Push w) s at a = push program sound inputs fits (Push w) s (Some w) w (record { nests = λ next loops. refl; costs = λ cs. refl; heights = λ next trail. refl }) at a (λ h. omega arith) refl
+  leads (Push w) s at a =
+      push program sound inputs fits (Push w) s (Some w) w
+      (record { nests = λ next loops. refl; costs = λ cs. refl; heights = λ next trail. refl }) at a (λ h. omega arith) refl
   leads (Load l) s at a =
       push program sound inputs fits (Load l) s (slice_get s.locals l) _
       (record { nests = λ next loops. refl; costs = λ cs. refl; heights = λ next trail. refl }) at a (λ h. omega arith)

@@ -9,11 +9,11 @@ use Rattle.sift_code.specs.declared.instr.Instr.TheVariants.{JumpZ, Jump, Begin,
 use Rattle.sift_code.specs.declared.walk.Brought.{Brought}
 use Rattle.sift_code.specs.declared.walk.Walk.{Walk}
 use Rattle.sift_code.specs.Machine.{through_end}
-use Rattle.sift_code.specs.Enclosing.{opened, opened_by, enclosing}
+use Rattle.sift_code.specs.Enclosing.{opened_by, enclosing}
 use Rattle.sift_code.specs.Heights.{Arrival, Trail, trail_at, height_at, height_after, pops, pushes, next_height, height_behind, behind_jump, brought_by, brought_to}
 use Rattle.sift_code.specs.Refusal.{IsBadJump, IsBadJumpAt, IsBadTarget}
 use Rattle.sift_code.specs.Walk.{joined, summary, behind, AreBrought, IsAt}
-use Rattle.sift_code.proofs.Enclosing.{enclosing_here}
+use Rattle.sift_code.proofs.Enclosing.{IsNoBrace, enclosing_here, opened_plain}
 use Rattle.sift_code.proofs.Walks.{read_height, read_brought}
 use Rattle.std.proofs.lemmas.Option.{slice_get_within}
 use Rattle.sift_code.proofs.Heights.{trail_here, height_here}
@@ -77,7 +77,8 @@ all_written items written len is long =
     ap (λ rest. take len (written ++ rest)) none ∙ (ap (take len) (append-nil written) ∙ take_all len written (omega arith))
 
 -- a jump that isn't bad goes no farther than the code's length
-pub target_within : (code : List Instr) (p to : ℕ) (i : Instr) → slice_get code p ≡ Some i → (IsBadTarget code p to → IsBadJumpAt code p (Some i)) → (IsBadJump code p → ⊥) → to ≤ length code
+pub target_within : (code : List Instr) (p to : ℕ) (i : Instr) → slice_get code p ≡ Some i
+    → (IsBadTarget code p to → IsBadJumpAt code p (Some i)) → (IsBadJump code p → ⊥) → to ≤ length code
 target_within code p to i at bad good =
     let h : (length code < to) → ⊥ = λ past. good (subst (λ o. IsBadJumpAt code p o) (sym at) (bad (inr (inl past)))) in
     omega arith
@@ -94,13 +95,8 @@ deeper code p k at good = ap (length {A = ℕ}) (enclosing_here code p (Begin k)
 pub shallower : (code : List Instr) (p : ℕ) → slice_get code p ≡ Some End → length (enclosing code (p + 1)) ≡ length (enclosing code p) - 1
 shallower code p at = ap (length {A = ℕ}) (enclosing_here code p End at) ∙ length-drop 1 (enclosing code p)
 
-same_depth : (code : List Instr) (p : ℕ) (i : Instr) → ((k : ℕ) → i ≡ Begin k → ⊥) → (i ≡ End → ⊥) → length (opened (Some i) (p + 1) code (enclosing code p)) ≡ length (enclosing code p)
-same_depth code p (Begin k) not_begin not_end = absurd (not_begin k refl)
-same_depth code p End not_begin not_end = absurd (not_end refl)
-same_depth code p _ not_begin not_end = refl
-
-pub as_deep : (code : List Instr) (p : ℕ) (i : Instr) → slice_get code p ≡ Some i → ((k : ℕ) → i ≡ Begin k → ⊥) → (i ≡ End → ⊥) → length (enclosing code (p + 1)) ≡ length (enclosing code p)
-as_deep code p i at not_begin not_end = ap (length {A = ℕ}) (enclosing_here code p i at) ∙ same_depth code p i not_begin not_end
+pub as_deep : (code : List Instr) (p : ℕ) (i : Instr) → slice_get code p ≡ Some i → IsNoBrace i → length (enclosing code (p + 1)) ≡ length (enclosing code p)
+as_deep code p i at no_brace = ap (length {A = ℕ}) (enclosing_here code p i at ∙ opened_plain code (p + 1) i (enclosing code p) no_brace)
 
 -- ---- the walk
 
@@ -170,5 +166,5 @@ jump_may_be_bad code p to i (inl e) bad = rw e bad
 jump_may_be_bad code p to i (inr e) bad = rw e bad
 
 pub jump_depth : (code : List Instr) (p to : ℕ) (i : Instr) → slice_get code p ≡ Some i → IsJump i to → length (enclosing code (p + 1)) ≡ length (enclosing code p)
-jump_depth code p to i at (inl e) = as_deep code p i at (λ k f. cc) (λ f. cc)
-jump_depth code p to i at (inr e) = as_deep code p i at (λ k f. cc) (λ f. cc)
+jump_depth code p to i at (inl e) = as_deep code p i at (λ k f. cc, λ f. cc)
+jump_depth code p to i at (inr e) = as_deep code p i at (λ k f. cc, λ f. cc)

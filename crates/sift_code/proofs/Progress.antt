@@ -135,7 +135,8 @@ module _ (program : Program) (sound : IsSound program) (inputs : Inputs) (fits :
       by (x ∷ stack) e =
           let t : State = record s { place = s.place + 1; stack = stack; outs = slice_set s.outs j x } in
           subst (λ (b : Bool). Leads program s (if b then Some t else None)) (sym there)
-          (on (Out j) s t (record { nests = λ next loops. refl; costs = λ cs. refl; heights = λ next trail. refl }) at a refl (omega (arith, ap (length {A = ℕ}) e)) refl refl (length-set s.outs j x))
+          (on (Out j) s t (record { nests = λ next loops. refl; costs = λ cs. refl; heights = λ next trail. refl }) at a refl
+          (omega (arith, ap (length {A = ℕ}) e)) refl refl (length-set s.outs j x))
 
   -- a jump ahead
   pub jump : (i : Instr) (s : State) (to height : ℕ) (stack : List ℕ) → ((next : ℕ) (loops : List ℕ) → nested i next loops ≡ loops)

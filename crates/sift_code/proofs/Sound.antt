@@ -63,7 +63,8 @@ module _ (program : Program) (sound : IsSound program) where
   }
 
   -- the heights at the start and the end of a round are the same
-  pub same_round : (p start : ℕ) (outer : List ℕ) → slice_get program.code p ≡ Some End → enclosing program.code p ≡ start ∷ outer → height_at program.code p ≡ height_at program.code start
+  pub same_round : (p start : ℕ) (outer : List ℕ) → slice_get program.code p ≡ Some End → enclosing program.code p ≡ start ∷ outer
+      → height_at program.code p ≡ height_at program.code start
   same_round p start outer at inside =
       same_number (height_at program.code p) (height_at program.code start)
       (λ differ. (free p End at).equal (inr (inl (subst (λ o. IsUnequalEnd program.code p o) (sym at) (subst (λ l. IsUnequalRound program.code p l) (sym inside) differ)))))

@@ -11,10 +11,19 @@ use Rattle.sift_code.specs.declared.instr.Instr.TheVariants.{Begin, End}
 use Rattle.sift_code.specs.Machine.{through_end, one_more}
 use Rattle.sift_code.specs.Enclosing.{opened, opened_by, enclosing, innermost}
 use Rattle.sift_code.specs.Nest.{onward, past_at, start_at}
-use Rattle.sift_code.proofs.Enclosing.{Opened, enclosing_by_innermost, enclosing_here, opened_before}
+use Rattle.sift_code.proofs.Enclosing.{Opened, IsNoBrace, enclosing_by_innermost, enclosing_here, opened_before, opened_plain}
 use Rattle.sift_code.proofs.Costs.{drop_here, one_more_some}
 
 -- ---- tables
+
+-- where one entry was set, and the others are right, each is
+entry_set : (entry : ℕ → Option ℕ) (table : List (Option ℕ)) (k p : ℕ) (v : Option ℕ) → k < length table → v ≡ entry k
+    → (p ≢ k → slice_index_or table p None ≡ entry p) → slice_index_or (slice_set table k v) p None ≡ entry p
+entry_set entry table k p v inside is others = by (eqb_tells p k)
+  where
+    by : ((p == k) ≡ true) × (p ≡ k) ⊎ (((p == k) ≡ false) × (p ≢ k)) → slice_index_or (slice_set table k v) p None ≡ entry p
+    by (inl e) = rw e.1 (get_or-set_same table k v None inside ∙ is)
+    by (inr d) = get_or-set_other table k p v None d.1 ∙ others d.1
 
 -- the entries from a place on, and no others
 abbrev pub TellsFrom : (ℕ → Option ℕ) → ℕ → ℕ → List (Option ℕ) → Type 0
@@ -25,11 +34,10 @@ TellsFrom entry at last table =
 pub tells_below : (entry : ℕ → Option ℕ) (at last : ℕ) (table : List (Option ℕ)) (v : Option ℕ) → 0 < at → at ≤ last
     → TellsFrom entry at last table → v ≡ entry (at - 1) → TellsFrom entry (at - 1) last (slice_set table (at - 1) v)
 tells_below entry at last table v some within tells is =
-    (length-set table (at - 1) v ∙ tells.0, λ p from to. by p from to (eqb_tells p (at - 1)))
-  where
-    by : (p : ℕ) → at - 1 ≤ p → p ≤ last → ((p == (at - 1)) ≡ true) × (p ≡ at - 1) ⊎ (((p == (at - 1)) ≡ false) × (p ≢ at - 1)) → slice_index_or (slice_set table (at - 1) v) p None ≡ entry p
-    by p from to (inl e) = rw e.1 (get_or-set_same table (at - 1) v None (omega (arith, tells.0)) ∙ is)
-    by p from to (inr d) = get_or-set_other table (at - 1) p v None d.1 ∙ tells.1 p (omega (arith, d.1)) to
+    let inside : at - 1 < length table = omega (arith, tells.0) in (
+      length-set table (at - 1) v ∙ tells.0,
+      λ p from to. entry_set entry table (at - 1) p v inside is (λ other. tells.1 p (omega (arith, other)) to),
+    )
 
 -- the entries up to a place
 abbrev pub TellsTo : (ℕ → Option ℕ) → ℕ → ℕ → List (Option ℕ) → Type 0
@@ -40,11 +48,10 @@ TellsTo entry at last table =
 pub tells_above : (entry : ℕ → Option ℕ) (at last : ℕ) (table : List (Option ℕ)) (v : Option ℕ) → at < last → TellsTo entry at last table
     → v ≡ entry (at + 1) → TellsTo entry (at + 1) last (slice_set table (at + 1) v)
 tells_above entry at last table v within tells is =
-    (length-set table (at + 1) v ∙ tells.0, λ p to. by p to (eqb_tells p (at + 1)))
-  where
-    by : (p : ℕ) → p ≤ at + 1 → ((p == (at + 1)) ≡ true) × (p ≡ at + 1) ⊎ (((p == (at + 1)) ≡ false) × (p ≢ at + 1)) → slice_index_or (slice_set table (at + 1) v) p None ≡ entry p
-    by p to (inl e) = rw e.1 (get_or-set_same table (at + 1) v None (omega (arith, tells.0)) ∙ is)
-    by p to (inr d) = get_or-set_other table (at + 1) p v None d.1 ∙ tells.1 p (omega (arith, d.1))
+    let inside : at + 1 < length table = omega (arith, tells.0) in (
+      length-set table (at + 1) v ∙ tells.0,
+      λ p to. entry_set entry table (at + 1) p v inside is (λ other. tells.1 p (omega (arith, other))),
+    )
 
 read_entry : (table : List (Option ℕ)) (k : ℕ) (v : Option ℕ) → k < length table → v ≡ slice_index_or table k v → v ≡ slice_index_or table k None
 read_entry table k v within is =
@@ -53,10 +60,12 @@ read_entry table k v within is =
     is ∙ (let e = sym a ∙ b in cc)
 
 -- what was read is the entry
-pub read_from : (entry : ℕ → Option ℕ) (at last : ℕ) (table : List (Option ℕ)) (k : ℕ) (v : Option ℕ) → TellsFrom entry at last table → at ≤ k → k ≤ last → v ≡ slice_index_or table k v → v ≡ entry k
+pub read_from : (entry : ℕ → Option ℕ) (at last : ℕ) (table : List (Option ℕ)) (k : ℕ) (v : Option ℕ) → TellsFrom entry at last table
+    → at ≤ k → k ≤ last → v ≡ slice_index_or table k v → v ≡ entry k
 read_from entry at last table k v tells from to is = read_entry table k v (omega (arith, tells.0)) is ∙ tells.1 k from to
 
-pub read_to : (entry : ℕ → Option ℕ) (at last : ℕ) (table : List (Option ℕ)) (k : ℕ) (v : Option ℕ) → TellsTo entry at last table → k ≤ at → at ≤ last → v ≡ slice_index_or table k v → v ≡ entry k
+pub read_to : (entry : ℕ → Option ℕ) (at last : ℕ) (table : List (Option ℕ)) (k : ℕ) (v : Option ℕ) → TellsTo entry at last table
+    → k ≤ at → at ≤ last → v ≡ slice_index_or table k v → v ≡ entry k
 read_to entry at last table k v tells to within is = read_entry table k v (omega (arith, tells.0)) is ∙ tells.1 k to
 
 -- the instruction that was read
@@ -181,16 +190,15 @@ past_at-Begin_alone code p k at e = by (through_end 0 (drop (p + 1) code)) refl
     by None is = past_by code p (Begin k) at ∙ ap (λ o. onward p (one_more o)) (through_none (drop (p + 1) code) [] [] 0 is)
     by (Some n) is = let bad = sym (ap (onward (p + 1)) is) ∙ e in cc
 
-past_plain : (code : List Instr) (p : ℕ) (i : Instr) → slice_get code p ≡ Some i → ((k : ℕ) → i ≡ Begin k → ⊥) → (i ≡ End → ⊥)
-    → through_end 0 (i ∷ drop (p + 1) code) ≡ one_more (through_end 0 (drop (p + 1) code))
-past_plain code p (Begin k) at not_begin not_end = absurd (not_begin k refl)
-past_plain code p End at not_begin not_end = absurd (not_end refl)
-past_plain code p _ at not_begin not_end = refl
+past_plain : (i : Instr) (rest : List Instr) → IsNoBrace i → through_end 0 (i ∷ rest) ≡ one_more (through_end 0 rest)
+past_plain (Begin k) rest no_brace = absurd (no_brace.0 k refl)
+past_plain End rest no_brace = absurd (no_brace.1 refl)
+past_plain _ rest no_brace = refl
 
 -- at another instruction it is that of the next place
-pub past_at-other : (code : List Instr) (p : ℕ) (i : Instr) → slice_get code p ≡ Some i → ((k : ℕ) → i ≡ Begin k → ⊥) → (i ≡ End → ⊥) → past_at code p ≡ past_at code (p + 1)
-past_at-other code p i at not_begin not_end =
-    past_by code p i at ∙ (ap (onward p) (past_plain code p i at not_begin not_end) ∙ onward_more p (through_end 0 (drop (p + 1) code)))
+pub past_at-other : (code : List Instr) (p : ℕ) (i : Instr) → slice_get code p ≡ Some i → IsNoBrace i → past_at code p ≡ past_at code (p + 1)
+past_at-other code p i at no_brace =
+    past_by code p i at ∙ (ap (onward p) (past_plain i (drop (p + 1) code) no_brace) ∙ onward_more p (through_end 0 (drop (p + 1) code)))
 
 -- ---- starts
 
@@ -238,14 +246,9 @@ start_at-End code p s at e =
 pub start_at-End_alone : (code : List Instr) (p : ℕ) → slice_get code p ≡ Some End → start_at code p ≡ None → start_at code (p + 1) ≡ None
 start_at-End_alone code p at e = start_next code p End at ∙ ap (λ l. innermost (drop 1 l)) (innermost_none (enclosing code p) e)
 
-start_plain : (code : List Instr) (p : ℕ) (i : Instr) → ((k : ℕ) → i ≡ Begin k → ⊥) → (i ≡ End → ⊥) → innermost (opened (Some i) (p + 1) code (enclosing code p)) ≡ start_at code p
-start_plain code p (Begin k) not_begin not_end = absurd (not_begin k refl)
-start_plain code p End not_begin not_end = absurd (not_end refl)
-start_plain code p _ not_begin not_end = refl
-
 -- behind another instruction it is that of the place before
-pub start_at-other : (code : List Instr) (p : ℕ) (i : Instr) → slice_get code p ≡ Some i → ((k : ℕ) → i ≡ Begin k → ⊥) → (i ≡ End → ⊥) → start_at code (p + 1) ≡ start_at code p
-start_at-other code p i at not_begin not_end = start_next code p i at ∙ start_plain code p i not_begin not_end
+pub start_at-other : (code : List Instr) (p : ℕ) (i : Instr) → slice_get code p ≡ Some i → IsNoBrace i → start_at code (p + 1) ≡ start_at code p
+start_at-other code p i at no_brace = start_next code p i at ∙ ap innermost (opened_plain code (p + 1) i (enclosing code p) no_brace)
 
 -- ---- what is read of the tables
 

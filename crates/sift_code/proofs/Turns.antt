@@ -56,7 +56,8 @@ module _ {program : Program} (inputs : Inputs) {m : Machine} {ws outs : List ℕ
       (state (if b' then to else m.place + 1) (stack_of (m.height - 1) ws) (loops_of (enclosing program.code m.place) ws)
       (locals_of ws) outs)) is
 
-  at_zero : {to : ℕ} {n : Machine} → Fetched program m ws outs (JumpZ to) → slice_index ws (m.height - 1) ≡ 0 → n ≡ machine to (m.height - 1) m.depth → Steps program inputs m ws outs n ws outs
+  at_zero : {to : ℕ} {n : Machine} → Fetched program m ws outs (JumpZ to) → slice_index ws (m.height - 1) ≡ 0
+      → n ≡ machine to (m.height - 1) m.depth → Steps program inputs m ws outs n ws outs
   at_zero {to} {n} f none machine_is =
       lands (JumpZ to) n (stack_of (m.height - 1) ws) to (m.height - 1) f (tests to true f (ap (λ x. x == 0) none)) (jumpz_lands program f.sound m.place to f.at).same_loops refl machine_is
 
@@ -90,7 +91,8 @@ module _ {program : Program} (inputs : Inputs) {m : Machine} {ws outs : List ℕ
       (passes.depth ∙ (f.stands.depth ∙ ap (length {A = ℕ}) (sym inside))) place (ap (λ h. stack_of h ws) (sym passes.height)) (ap (λ e. loops_of e ws) (sym inside)) refl refl)
 
   -- a loop begun
-  enters : (k : ℕ) (n : Machine) (vs : List ℕ) → Fetched program m ws outs (Begin (suc k)) → Enters (suc k) (machine (m.place + 1) m.height m.depth) n ws vs → Steps program inputs m ws outs n vs outs
+  enters : (k : ℕ) (n : Machine) (vs : List ℕ) → Fetched program m ws outs (Begin (suc k))
+      → Enters (suc k) (machine (m.place + 1) m.height m.depth) n ws vs → Steps program inputs m ws outs n vs outs
   enters k n vs f e =
       let inside : enclosing program.code (m.place + 1) ≡ (m.place + 1) ∷ enclosing program.code m.place = nested_here program.code (braced program f.sound) m.place (Begin (suc k)) f.at in
       let wide = f.wide in

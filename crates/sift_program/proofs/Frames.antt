@@ -17,7 +17,8 @@ use Rattle.sift_program.specs.Sound.{output_count, IsSoundProgram}
 use Rattle.sift_program.specs.Ideal.{with_task, words_made}
 
 -- the tree of the task that a loop over the program's tasks has come to
-pub tree_at : (program : Program) (tasks : List Task) (i : ℕ) (task : Task) → tasks ≡ program.tasks.items → i < length tasks → task ≡ get_or tasks i task → slice_get (program_of program).tasks i ≡ Some (tree_of task)
+pub tree_at : (program : Program) (tasks : List Task) (i : ℕ) (task : Task) → tasks ≡ program.tasks.items → i < length tasks
+    → task ≡ get_or tasks i task → slice_get (program_of program).tasks i ≡ Some (tree_of task)
 tree_at program tasks i task all within is =
     rw (← all) (slice_get-map tree_of tasks i ∙ ap (option_map tree_of) (slice_get_read tasks (length tasks) i task refl within is))
 
@@ -29,7 +30,8 @@ length-words_made tasks prev agreed =
     [] 0 tasks refl
 
 -- the words of one more task
-pub words_made-more : (tasks : List TaskTree) (i : ℕ) (task : TaskTree) (prev agreed : List ℕ) → slice_get tasks i ≡ Some task → words_made (take (i + 1) tasks) prev agreed ≡ with_task prev agreed (words_made (take i tasks) prev agreed) task
+pub words_made-more : (tasks : List TaskTree) (i : ℕ) (task : TaskTree) (prev agreed : List ℕ) → slice_get tasks i ≡ Some task
+    → words_made (take (i + 1) tasks) prev agreed ≡ with_task prev agreed (words_made (take i tasks) prev agreed) task
 words_made-more tasks i task prev agreed is =
     fold_more (with_task prev agreed) [] tasks i task (slice_get_within tasks i task is)
     ∙ ap (with_task prev agreed (words_made (take i tasks) prev agreed)) (get_or_from_slice_get tasks i task task is)
@@ -41,7 +43,8 @@ pub record CanRun (sensors : ℕ) (program : ProgramTree) (made : List ℕ) (tas
   pub room : length made + task.outputs ≤ WORD_LIMIT
 
 -- each task of a sound program can run in its place
-pub CanRun-at : (sensors : ℕ) (program : ProgramTree) (i : ℕ) (task : TaskTree) (made prev agreed : List ℕ) → IsSoundProgram sensors program → slice_get program.tasks i ≡ Some task → made ≡ words_made (take i program.tasks) prev agreed → CanRun sensors program made task
+pub CanRun-at : (sensors : ℕ) (program : ProgramTree) (i : ℕ) (task : TaskTree) (made prev agreed : List ℕ) → IsSoundProgram sensors program
+    → slice_get program.tasks i ≡ Some task → made ≡ words_made (take i program.tasks) prev agreed → CanRun sensors program made task
 CanRun-at sensors program i task made prev agreed sound here is =
     let within = slice_get_within program.tasks i task here in
     let found = get_or_from_slice_get program.tasks i task task here in
@@ -54,6 +57,7 @@ CanRun-at sensors program i task made prev agreed sound here is =
     }
 
 -- where all tasks have run, there is a word for each start
-pub length-frame : (sensors : ℕ) (program : ProgramTree) (i : ℕ) (made prev agreed : List ℕ) → IsSoundProgram sensors program → length program.tasks ≤ i → made ≡ words_made (take i program.tasks) prev agreed → length made ≡ length program.starts
+pub length-frame : (sensors : ℕ) (program : ProgramTree) (i : ℕ) (made prev agreed : List ℕ) → IsSoundProgram sensors program
+    → length program.tasks ≤ i → made ≡ words_made (take i program.tasks) prev agreed → length made ≡ length program.starts
 length-frame sensors program i made prev agreed sound past is =
     ap length is ∙ length-words_made (take i program.tasks) prev agreed ∙ ap output_count (take_all i program.tasks past) ∙ sym sound.a_start_each

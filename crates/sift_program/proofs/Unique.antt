@@ -51,14 +51,18 @@ module _ (tasks : List TaskTree) (prev agreed : List ℕ) where
       let parts = ap (fold (with_task prev agreed) []) (sym (take-append-drop t tasks)) ∙ fold-append (with_task prev agreed) [] (take t tasks) (drop t tasks) in
       (e.0, parts ∙ e.1)
 
-  -- so many of the words are those of the first tasks
-  take-words_made : (t : ℕ) → take (first_word tasks t) (words_made tasks prev agreed) ≡ words_made (take t tasks) prev agreed
+  -- a frame begins with the words of the first tasks
+  abbrev BeginsWith : ℕ → List ℕ → Type 0
+  BeginsWith t frame = take (first_word tasks t) frame ≡ words_made (take t tasks) prev agreed
+
+  -- so do the words that the tasks make
+  take-words_made : (t : ℕ) → BeginsWith t (words_made tasks prev agreed)
   take-words_made t =
       let e = words_made-front t in
       rw e.1 (take_at (words_made (take t tasks) prev agreed) e.0 (first_word tasks t) (length-words_made (take t tasks) prev agreed))
 
   -- where a list begins with the words of the tasks before, a task has one meaning over both
-  meaning-front : (t : ℕ) (task : TaskTree) (frame : List ℕ) → ReadsEarlierWords tasks → slice_get tasks t ≡ Some task → take (first_word tasks t) frame ≡ words_made (take t tasks) prev agreed
+  meaning-front : (t : ℕ) (task : TaskTree) (frame : List ℕ) → ReadsEarlierWords tasks → slice_get tasks t ≡ Some task → BeginsWith t frame
       → meaning task agreed (words_made (take t tasks) prev agreed) prev ≡ meaning task agreed frame prev
   meaning-front t task frame earlier here begins =
       meaning-same (first_word tasks t) task agreed _ frame prev
@@ -73,12 +77,14 @@ module _ (tasks : List TaskTree) (prev agreed : List ℕ) where
         let before = words_made (take t tasks) prev agreed in
         let e = words_made-front (t + 1) in
         let front = e.1 ∙ ap (λ (ws : List ℕ). ws ++ e.0) (words_made-more tasks t task prev agreed here) in
-        let part = slice_range-middle before (meaning task agreed before prev) e.0 (first_word tasks t) task.outputs (length-words_made (take t tasks) prev agreed) (length-meaning task agreed before prev) in
+        let words = meaning task agreed before prev in
+        let part = slice_range-middle before words e.0 (first_word tasks t) task.outputs
+        (length-words_made (take t tasks) prev agreed) (length-meaning task agreed before prev) in
         ap (words_of tasks t task) front ∙ part ∙ meaning-front t task _ earlier here (take-words_made t);
   }
 
   -- a list that meets each task begins with the words of the first tasks
-  meets-front : (frame : List ℕ) → ReadsEarlierWords tasks → MeetsEachTask tasks prev agreed frame → (t : ℕ) → t ≤ length tasks → take (first_word tasks t) frame ≡ words_made (take t tasks) prev agreed
+  meets-front : (frame : List ℕ) → ReadsEarlierWords tasks → MeetsEachTask tasks prev agreed frame → (t : ℕ) → t ≤ length tasks → BeginsWith t frame
   meets-front frame earlier meets zero within = refl
   meets-front frame earlier meets (suc t) within =
       let any : TaskTree = record { outputs = 0; body = end } in

@@ -63,7 +63,8 @@ module _ (document : Members) (entries : Entries) (running : Running) (read : Is
     names = names_from (λ name. name.bytes) (tasks_of document) entries.tasks.names.items read.tasks.names;
     program = runs.stated;
     layout =
-        ap (λ (n : ℕ). let l : Layout = record { units = entries.units; sensors = n; words = length running.program.starts.items } in l) (sym (length-map entries.sensors.words.items (λ words. words.items)))
+        ap (λ (n : ℕ). let l : Layout = record { units = entries.units; sensors = n; words = length running.program.starts.items } in l)
+        (sym (length-map entries.sensors.words.items (λ words. words.items)))
         ∙ ap (λ (n : ℕ). let l : Layout = record { units = entries.units; sensors = length (map (λ words. words.items) entries.sensors.words.items); words = n } in l)
         (ap length runs.stated.starts ∙ starts_long (tasks_of document));
     tables = read.tables;

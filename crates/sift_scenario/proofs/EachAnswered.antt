@@ -15,13 +15,14 @@ use Rattle.sift_parse.specs.Linear.{linear_tree}
 use Rattle.sift_scenario.proofs.Codes.{allowed_more}
 use Rattle.sift_scenario.proofs.FirstBroken.{kept_or_broken}
 use Rattle.sift_scenario.proofs.Known.{form_known}
+use Rattle.sift_scenario.proofs.OneMission.{data_from}
 use Rattle.sift_scenario.proofs.Places.{matches_more}
 use Rattle.sift_scenario.proofs.Rolls.{turns}
 use Rattle.sift_scenario.proofs.TaskRefusals.{text_refused_by}
 use Rattle.sift_scenario.proofs.Turns.{code_first, text_first}
 use Rattle.sift_scenario.specs.Document.{members_of}
 use Rattle.sift_scenario.specs.Entries.{EachMatches}
-use Rattle.sift_scenario.specs.Laws.{DocumentsAreAnswered, TablesAreAnswered, TextsAreAnswered}
+use Rattle.sift_scenario.specs.Laws.{DocumentsAreAnswered, TextsAreAnswered}
 use Rattle.sift_scenario.specs.Mission.{IsStated}
 use Rattle.sift_scenario.specs.Program.{AreAllowed, IsProgramOf, IsTreeOf, IsWithin, all_starts, roll_for, steps_left, turn_of}
 use Rattle.sift_scenario.specs.Refusal.{IsFirstRefused, IsNoTask, IsOver, refusal_of, told_number}
@@ -29,25 +30,22 @@ use Rattle.sift_scenario.proofs.Decided.{all_more, at_most}
 use Rattle.sift_scenario.proofs.Periods.{task_number}
 use Rattle.sift_scenario.proofs.Sensing.{few_sensors, sensors_differ}
 use Rattle.sift_scenario.proofs.Themes.{kept_themes}
-use Rattle.sift_scenario.specs.Clock.{clocks_of}
-use Rattle.sift_scenario.specs.Fault.{faults_of}
 use Rattle.sift_scenario.specs.Lawful.{IsLawful}
 use Rattle.sift_scenario.specs.Root.{frames_of, period_of, units_of}
-use Rattle.sift_scenario.specs.Sensor.{sensor_names, sensor_words}
-use Rattle.sift_scenario.specs.Table.{schedules_of}
-use Rattle.sift_scenario.specs.Task.{AreForms, Form, HasForm, counts_of, linear, names_of, task_entries, tasks_of, text}
+use Rattle.sift_scenario.specs.Sensor.{sensor_names}
+use Rattle.sift_scenario.specs.Task.{AreForms, Form, HasForm, linear, task_entries, tasks_of, text}
 use Rattle.sift_scenario.specs.TaskRules.{BreaksForms, task_rules}
 use Rattle.sift_scenario.specs.Rules.{AreKept}
 use Rattle.sift_base.specs.Shapes.{AllShapes}
 use Rattle.sift_program.specs.Program.{ProgramTree}
-use Rattle.sift_script.specs.Script.{outputs_of}
+use Rattle.sift_script.proofs.Answered.{scripts_are_answered}
+use Rattle.sift_table.proofs.Answered.{tables_are_answered}
 use Rattle.sift_table.specs.Rules as tables
 use Rattle.sift_table.specs.Schedule.{Schedule}
 use Rattle.sift_unit.specs.Data.{MissionData, shapes_in}
-use Rattle.sift_unit.specs.Needs.{program_shapes}
 use Rattle.sift_scenario.specs.declared.refused.Refused.{Refused}
 use Rattle.sift_scenario.specs.declared.refused.Refused.TheVariants.{Scenario, Task, Table, Script, NoMemory}
-use Rattle.std.specs.List.{All, sum}
+use Rattle.std.specs.List.{All}
 use Rattle.sift_scenario.specs.Refusal.{IsFirstBadTable, IsRefusedWith}
 
 -- an option that isn't none has a value
@@ -187,10 +185,10 @@ program_or_refused texts d units is lawful =
 
 -- the first of some tables isn't good, or all are
 tables_known :
-    TablesAreAnswered → (shapes : AllShapes) (schedules : List Schedule)
+    (shapes : AllShapes) (schedules : List Schedule)
     → All (λ table. tables.IsGood table shapes) schedules ⊎ ((size : ℕ) × (row : ℕ) × (rule : ℕ) × IsFirstBadTable schedules shapes size row rule)
-tables_known known shapes [] = inl (λ k d low. absurd (omega (arith, low)))
-tables_known known shapes (table ∷ rest) = elim (known table shapes) [
+tables_known shapes [] = inl (λ k d low. absurd (omega (arith, low)))
+tables_known shapes (table ∷ rest) = elim (tables_are_answered table shapes) [
   | inr broken ↦ inr (
     table.size,
     broken.1,
@@ -201,7 +199,7 @@ tables_known known shapes (table ∷ rest) = elim (known table shapes) [
       here = record { entry = table; there = refl; holds = (refl, broken.2) };
     },
   )
-  | inl good ↦ elim (tables_known known shapes rest) [
+  | inl good ↦ elim (tables_known shapes rest) [
     | inl all ↦ inl (all_more (λ t. tables.IsGood t shapes) table rest good all)
     | inr later ↦ let bad = later.3 in inr (
       later.0,
@@ -216,32 +214,13 @@ tables_known known shapes (table ∷ rest) = elim (known table shapes) [
   ]
 ]
 
--- the data of a document, from its numbers and its program
+-- the data that a document states; what follows doesn't look into them
 data_for : (d : Members) (units frames period : ℕ) → ProgramTree → MissionData
-data_for d units frames period program =
-    let sensors = length (sensor_words d) in
-    let words = sum (counts_of (tasks_of d)) in record {
-      units = units;
-      frames = frames;
-      period = period;
-      layout = record { units = units; sensors = sensors; words = words };
-      names = names_of (tasks_of d);
-      program = program;
-      code = [];
-      tables = schedules_of d units period;
-      sensors = sensor_words d;
-      clock = clocks_of units d;
-      script = record {
-        faults = faults_of d;
-        layout = record { units = units; sensors = sensors; words = words };
-        outputs = outputs_of (program_shapes sensors program);
-        frames = frames;
-      };
-    }
+data_for d units frames period program = data_from d units frames period program
 
 pub each_answered : DocumentsAreAnswered
 unfolding data_for
-each_answered texts good_tables good_scripts d = elim (kept_or_broken d) [
+each_answered texts d = elim (kept_or_broken d) [
   | inr broken ↦ inr (Scenario broken.0 broken.1, λ e. cc, broken.2)
   | inl lawful ↦
       let units = value_of (units_of d) (λ none. lawful.1.0 0 (refl, none)) in
@@ -264,9 +243,9 @@ each_answered texts good_tables good_scripts d = elim (kept_or_broken d) [
               tables = refl;
               script = refl;
             } in
-            elim (tables_known good_tables (shapes_in mission) mission.tables) [
+            elim (tables_known (shapes_in mission) mission.tables) [
               | inr bad ↦ inr (Table bad.0 bad.1 bad.2, λ e. cc, record { mission = mission; stated = stated; bad = bad.3 })
-              | inl good ↦ elim (good_scripts mission.script) [
+              | inl good ↦ elim (scripts_are_answered mission.script) [
                 | inr bad ↦ inr (Script bad.1 bad.0, λ e. cc, record { mission = mission; stated = stated; good_tables = good; bad = bad.2 })
                 | inl fine ↦ inl (mission, record { stated = stated; good_tables = good; good_script = fine })
               ]

@@ -1,12 +1,29 @@
 -- The rule of an array whose entries are tested one by one.
-use Rattle.std.proofs.Common.{◌≡◌, inl, inr, ℕ, List, Result, Ok, Err, Some, refl, subst, arith}
-use Rattle.toml.specs.Data.{Data}
-use Rattle.sift_scenario.specs.Document.{IsArrayOf, entries_of}
+use Rattle.std.proofs.Common.{◌≡◌, ◌∙◌, inl, inr, ℕ, List, Result, Ok, Err, Some, ap, length, map, refl, subst, sym, arith}
+use Rattle.std.proofs.lemmas.List.{length-map}
+use Rattle.toml.specs.Data.{Data, Members}
+use Rattle.toml.specs.View.{view}
+use Rattle.toml.specs.declared.value.Value.{Value}
+use Rattle.sift_scenario.proofs.Places.{map_map}
+use Rattle.sift_scenario.specs.Document.{IsArrayOf, entries_of, members_of}
 use Rattle.sift_scenario.specs.Entries.{HoldsOf}
 use Rattle.sift_scenario.specs.Rules.{BreaksEntries}
 use Rattle.sift_scenario.specs.Testing.{RefusesBy, Tests}
 use Rattle.sift_scenario.specs.declared.refused.Refused.{Refused}
 use Rattle.sift_scenario.specs.declared.refused.Refused.TheVariants.{Scenario, Task, Table, Script, NoMemory}
+
+-- the tables of entries are those that the data of the entries are
+pub of_entries :
+    (entries : List Value) {tables : List Members} {stated : List Data} → tables ≡ map (λ entry. members_of (view entry)) entries
+    → map view entries ≡ stated → tables ≡ map members_of stated
+of_entries entries so is = so ∙ map_map members_of view entries ∙ ap (map members_of) is
+
+-- there are as many tables as entries
+pub as_many_entries :
+    {A : Type 0} (shown : A → Members) (tables : List A) (entries : List Value)
+    → map shown tables ≡ map (λ entry. members_of (view entry)) entries → length tables ≡ length entries
+as_many_entries shown tables entries so =
+    sym (length-map tables shown) ∙ ap length so ∙ length-map entries (λ entry. members_of (view entry))
 
 module _ (number low high : ℕ) (IsEntry : ℕ → Data → Type 0) (value : Data) where
   -- the value is no array of so many
@@ -20,7 +37,9 @@ module _ (number low high : ℕ) (IsEntry : ℕ → Data → Type 0) (value : Da
   )
 
   -- it is one, and no entry breaks the rule
-  kept_entries : IsArrayOf low high value → (place : ℕ) → (HoldsOf (entries_of (Some value)) place (λ entry. IsEntry place entry → ⊥) → ⊥) → BreaksEntries low high IsEntry (Some value) place → ⊥
+  kept_entries :
+      IsArrayOf low high value → (place : ℕ) → (HoldsOf (entries_of (Some value)) place (λ entry. IsEntry place entry → ⊥) → ⊥)
+      → BreaksEntries low high IsEntry (Some value) place → ⊥
   kept_entries right place kept (inl wrong) = wrong.1 right
   kept_entries right place kept (inr broken) = kept broken
 

@@ -8,13 +8,15 @@ use Rattle.std.specs.Prelude.{option_map, unwrap_or}
 use Rattle.sift_script.specs.Faults.{storm_of}
 use Rattle.sift_script.specs.Script.{Change, Fault, changing}
 use Rattle.sift_scenario.specs.Fault.{BreaksItems, IsSaying, changes_of, fault_in, fault_value, faults_in, faults_of, from_of, items_of, say_value, unit_of}
+use Rattle.sift_scenario.proofs.Starts.{read_values}
 use Rattle.sift_scenario.specs.Document.{each_read}
 use Rattle.sift_scenario.specs.Item.{change_in}
 use Rattle.sift_scenario.specs.Reading.{AreFaultsRead}
 use Rattle.sift_scenario.specs.declared.fault.Head.{Head}
 
 -- the fault that a table states is no storm, whichever of them is found
-calm_by : (tables : List Members) (table : Members) (u : ℕ) (b : Bool) → ((fault_in table).unit == u) ≡ b → storm_of (map fault_in tables) u ≡ None → storm_of (map fault_in (table ∷ tables)) u ≡ None
+calm_by : (tables : List Members) (table : Members) (u : ℕ) (b : Bool) → ((fault_in table).unit == u) ≡ b → storm_of (map fault_in tables) u ≡ None
+    → storm_of (map fault_in (table ∷ tables)) u ≡ None
 calm_by tables table u true is rest = rw is refl
 calm_by tables table u false is rest = rw is rest
 
@@ -27,6 +29,19 @@ pub calm : (document : Members) (u : ℕ) → storm_of (faults_of document) u �
 calm document u = calm_all (faults_in (fault_value document)) u
 
 -- ---- faults, one after another
+
+-- what was read of the tables of the faults, first their heads and then their items, is theirs
+pub faults_read :
+    {A : Type 0} (shown : A → Members) (tables others : List A) {faults : List Members} {heads : List Head} {said : List (List Members)}
+    → map shown tables ≡ faults → map shown others ≡ faults
+    → map (λ head. Some head.unit) heads ≡ map (λ table. unit_of (shown table)) tables
+    → map (λ head. Some head.from) heads ≡ map (λ table. from_of (shown table)) tables
+    → said ≡ map (λ table. items_of (shown table)) others → AreFaultsRead faults heads said
+faults_read shown tables others these those units from items = record {
+  units = units ∙ read_values shown unit_of tables ∙ ap (map unit_of) these;
+  from = from ∙ read_values shown from_of tables ∙ ap (map from_of) these;
+  items = items ∙ read_values shown items_of others ∙ ap (map items_of) those;
+}
 
 -- what stands at a place of what is made of a list is made of what stands there
 from_map : {A B : Type 0} (g : A → B) (xs : List A) (i : ℕ) (y : B) → slice_get (map g xs) i ≡ Some y → (x : A) × (slice_get xs i ≡ Some x) × (g x ≡ y)

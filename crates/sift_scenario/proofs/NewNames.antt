@@ -8,12 +8,14 @@ use Rattle.sift_base.specs.Name.{IsName}
 use Rattle.sift_scenario.specs.Task.{IsNewName, name_of}
 
 -- an entry read as some is that one, and the other way round
-get_or-map-any : {A X : Type 0} (f : A → X) (xs : List A) (k : ℕ) (wanted : X) → k < length xs → get_or (map (λ x. Some (f x)) xs) k (Some wanted) ≡ Some wanted → get_or (map f xs) k wanted ≡ wanted
+get_or-map-any : {A X : Type 0} (f : A → X) (xs : List A) (k : ℕ) (wanted : X) → k < length xs
+    → get_or (map (λ x. Some (f x)) xs) k (Some wanted) ≡ Some wanted → get_or (map f xs) k wanted ≡ wanted
 get_or-map-any f [] k wanted low is = absurd (omega (arith, low))
 get_or-map-any f (x ∷ xs) zero wanted low is = cc is
 get_or-map-any f (x ∷ xs) (suc k) wanted low is = get_or-map-any f xs k wanted (omega (arith, low)) is
 
-get_or-map-some : {A X : Type 0} (f : A → X) (xs : List A) (k : ℕ) (wanted : X) → k < length xs → get_or (map f xs) k wanted ≡ wanted → get_or (map (λ x. Some (f x)) xs) k (Some wanted) ≡ Some wanted
+get_or-map-some : {A X : Type 0} (f : A → X) (xs : List A) (k : ℕ) (wanted : X) → k < length xs
+    → get_or (map f xs) k wanted ≡ wanted → get_or (map (λ x. Some (f x)) xs) k (Some wanted) ≡ Some wanted
 get_or-map-some f [] k wanted low is = absurd (omega (arith, low))
 get_or-map-some f (x ∷ xs) zero wanted low is = ap (λ y. Some y) is
 get_or-map-some f (x ∷ xs) (suc k) wanted low is = get_or-map-some f xs k wanted (omega (arith, low)) is

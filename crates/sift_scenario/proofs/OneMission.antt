@@ -27,7 +27,7 @@ one_program sensors tasks one other a b =
     ∙ ap (λ (ws : List ℕ). let p : ProgramTree = record { tasks = other.tasks; starts = ws } in p) (a.starts ∙ sym b.starts)
 
 -- the data that a document states, from its numbers and its program
-abbrev data_from : Members → (units frames period : ℕ) → ProgramTree → MissionData
+abbrev pub data_from : Members → (units frames period : ℕ) → ProgramTree → MissionData
 data_from d units frames period program =
     let sensors = length (sensor_words d) in
     let words = sum (counts_of (tasks_of d)) in record {

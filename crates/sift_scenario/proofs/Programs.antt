@@ -40,9 +40,13 @@ sound_tree sensors word words factor addend low = record {
 reads_none : (word factor addend made : ℕ) → AllNowsBelow made (linear_tree word factor addend)
 reads_none word factor addend made = (((tt, tt), tt), tt)
 
+-- in its turn each task has as many words as a task may have
+abbrev pub AreSized : List (List ℕ) → List Members → Type 0
+AreSized sensors tasks = (t : ℕ) → t < length tasks → HasSize (turn_of t (roll_for sensors tasks))
+
 -- ---- one task
 
-module _ (sensors : List (List ℕ)) (tasks : List Members) (sizes : (t : ℕ) → t < length tasks → HasSize (turn_of t (roll_for sensors tasks))) (t : ℕ) (task : Members) (there : slice_get tasks t ≡ Some task) where
+module _ (sensors : List (List ℕ)) (tasks : List Members) (sizes : AreSized sensors tasks) (t : ℕ) (task : Members) (there : slice_get tasks t ≡ Some task) where
   -- its number of words
   count_here : get_or (counts_of tasks) t 0 ≡ task_outputs task
   count_here =
@@ -70,7 +74,9 @@ module _ (sensors : List (List ℕ)) (tasks : List Members) (sizes : (t : ℕ) �
 
 -- ---- the program
 
-module _ (sensors : List (List ℕ)) (tasks : List Members) (sizes : (t : ℕ) → t < length tasks → HasSize (turn_of t (roll_for sensors tasks))) (forms : List Form) (trees : List TaskTree) (stated : AreForms tasks forms) (parsed : AreTreesOf (roll_for sensors tasks) forms trees) where
+module _
+    (sensors : List (List ℕ)) (tasks : List Members) (sizes : AreSized sensors tasks) (forms : List Form) (trees : List TaskTree)
+    (stated : AreForms tasks forms) (parsed : AreTreesOf (roll_for sensors tasks) forms trees) where
   -- what stands at a place of the tasks, the forms and the trees
   outputs_at : (t : ℕ) (tree : TaskTree) → slice_get trees t ≡ Some tree → tree.outputs ≡ get_or (counts_of tasks) t 0
   outputs_at t tree there =

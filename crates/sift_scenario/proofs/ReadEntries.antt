@@ -66,7 +66,8 @@ of_length-long : {A : Type 0} (low high : ℕ) (xs ys : List A) → of_length lo
 of_length-long low high xs ys is = grind arith
 
 -- what has another length isn't kept
-lengthless : {A : Type 0} (low high n : ℕ) (xs : Option (List A)) → (n < low) ⊎ (high < n) → ((ys : List A) → xs ≡ Some ys → length ys ≡ n) → option_and_then (of_length low high) xs ≡ None
+lengthless : {A : Type 0} (low high n : ℕ) (xs : Option (List A)) → (n < low) ⊎ (high < n)
+    → ((ys : List A) → xs ≡ Some ys → length ys ≡ n) → option_and_then (of_length low high) xs ≡ None
 lengthless low high n None outside long = refl
 lengthless low high n (Some ys) outside long = of_length-outside low high ys (rw (long ys refl) outside)
 
@@ -104,14 +105,18 @@ module _ {A : Type 0} (read : Data → Option A) where
       rw (list_of-view vs, is) (of_length-within low high xs (omega (arith, same, from)) (omega (arith, same, to)))
 
   -- nothing where nothing is read of one of its values
-  pub array_between-none : (low high : ℕ) (vs : List Value) (i : ℕ) (d : Data) → i < length (map view vs) → read (get_or (map view vs) i d) ≡ None → array_between low high read (array (items_view vs)) ≡ None
+  pub array_between-none :
+      (low high : ℕ) (vs : List Value) (i : ℕ) (d : Data) → i < length (map view vs)
+      → read (get_or (map view vs) i d) ≡ None → array_between low high read (array (items_view vs)) ≡ None
   array_between-none low high vs i d low_i is = rw (list_of-view vs, each_read-none read (map view vs) i d low_i is) refl
 
 -- ---- values, one after another
 
 module _ {A B : Type 0} (read : A → Option B) (ins : List A) where
   -- one entry more
-  pub read-step : (i : ℕ) (d : A) (xs : List B) (x : B) → i < length ins → each_read read (take i ins) ≡ Some xs → read (get_or ins i d) ≡ Some x → each_read read (take (i + 1) ins) ≡ Some (xs ++ x ∷ [])
+  pub read-step :
+      (i : ℕ) (d : A) (xs : List B) (x : B) → i < length ins → each_read read (take i ins) ≡ Some xs
+      → read (get_or ins i d) ≡ Some x → each_read read (take (i + 1) ins) ≡ Some (xs ++ x ∷ [])
   read-step i d xs x low before is = rw (take_more ins i d low) (each_read-push read (take i ins) (get_or ins i d) xs x before is)
 
   -- all entries

@@ -12,7 +12,7 @@ use Rattle.sift_parse.specs.Outcome.{AreDistinct, AreNames}
 use Rattle.sift_scenario.proofs.ReadEntries.{array_between-long}
 use Rattle.sift_scenario.specs.Document.{word_array, word_value}
 use Rattle.sift_scenario.specs.Program.{roll_for, turn_of}
-use Rattle.sift_scenario.specs.Task.{counts_of, name_of, start_words, task_outputs}
+use Rattle.sift_scenario.specs.Task.{counts_of, name_of, names_of, start_words, task_outputs}
 use Rattle.sift_scenario.specs.TaskRules.{BreaksNames, BreaksStarts, BreaksWords}
 
 -- within a list the default doesn't matter
@@ -28,7 +28,8 @@ read-long None ws is = cc
 read-long (Some d) ws is = array_between-long 1 8 word_value d ws is
 
 -- a task that has start words has 1 to 8 output words
-count_of : (words : Option (List ℕ)) → words ≢ None → ((ws : List ℕ) → words ≡ Some ws → (1 ≤ length ws) × (length ws ≤ 8)) → (1 ≤ length (unwrap_or words [])) × (length (unwrap_or words []) ≤ 8)
+count_of : (words : Option (List ℕ)) → words ≢ None → ((ws : List ℕ) → words ≡ Some ws → (1 ≤ length ws) × (length ws ≤ 8))
+    → (1 ≤ length (unwrap_or words [])) × (length (unwrap_or words []) ≤ 8)
 count_of None some long = absurd (some refl)
 count_of (Some ws) some long = long ws refl
 
@@ -69,7 +70,7 @@ earlier_name (Some m) n read named = ap (λ x. Some x) read
 
 module _ (tasks : List Members) (kept : (at : ℕ) → ¬ BreaksNames tasks at) where
   -- no later task has the name of an earlier one
-  later_differs : (i j : ℕ) (n : List ℕ) → i < j → slice_get (map (λ task. unwrap_or (name_of task) []) tasks) i ≡ Some n → slice_get (map (λ task. unwrap_or (name_of task) []) tasks) j ≡ Some n → ⊥
+  later_differs : (i j : ℕ) (n : List ℕ) → i < j → slice_get (names_of tasks) i ≡ Some n → slice_get (names_of tasks) j ≡ Some n → ⊥
   later_differs i j n before there_i there_j =
       let low : j < length tasks = rw (← length-map tasks (λ task. unwrap_or (name_of task) [])) (slice_get_within _ j n there_j) in
       let low_i : i < length tasks = omega (arith, before, low) in
@@ -91,7 +92,7 @@ module _ (tasks : List Members) (kept : (at : ℕ) → ¬ BreaksNames tasks at) 
       })
 
   -- so the names are distinct
-  pub distinct : AreDistinct (map (λ task. unwrap_or (name_of task) []) tasks)
+  pub distinct : AreDistinct (names_of tasks)
   distinct i j n there_i there_j = elim (cases_order i j) [
     | inl same ↦ same
     | inr (inl before) ↦ absurd (later_differs i j n before there_i there_j)

@@ -11,11 +11,6 @@ use Rattle.sift_scenario.specs.declared.refused.Refused.TheVariants.{NoMemory}
 use Rattle.sift_scenario.specs.Lawful.{IsFirstBroken, IsLawful}
 use Rattle.sift_scenario.specs.Mission.{AreSame, IsMission}
 use Rattle.sift_scenario.specs.Refusal.{IsRefusedWith}
-use Rattle.sift_script.specs.Rules as scripts
-use Rattle.sift_script.specs.Script.{FaultScript}
-use Rattle.sift_base.specs.Shapes.{AllShapes}
-use Rattle.sift_table.specs.Rules as tables
-use Rattle.sift_table.specs.Schedule.{Schedule}
 use Rattle.sift_unit.specs.Data.{MissionData}
 
 -- a document that states a mission isn't refused, where memory is not wanting
@@ -39,17 +34,8 @@ abbrev pub TextsAreAnswered : Type 0
 TextsAreAnswered = (roll : Roll) (bytes : List ℕ) → AreNames roll
     → ((tree : TaskTree) × IsTaskOf roll bytes tree) ⊎ ((stop : ParseStop) × (stop ≢ parse.NoMemory) × Tells roll bytes (Err stop))
 
--- each table is good for tasks of given shapes, or breaks a rule first
-abbrev pub TablesAreAnswered : Type 0
-TablesAreAnswered = (table : Schedule) (shapes : AllShapes)
-    → tables.IsGood table shapes ⊎ ((rule : ℕ) × (row : ℕ) × tables.IsFirstBroken table shapes rule row)
-
--- each script is good, or breaks a rule first
-abbrev pub ScriptsAreAnswered : Type 0
-ScriptsAreAnswered = (script : FaultScript) → scripts.IsGood script ⊎ ((rule : ℕ) × (entry : ℕ) × scripts.IsFirstBroken script rule entry)
-
 -- where that is so, each document states a mission, or is refused
 abbrev pub DocumentsAreAnswered : Type 0
-DocumentsAreAnswered = TextsAreAnswered → TablesAreAnswered → ScriptsAreAnswered → (document : Members)
+DocumentsAreAnswered = TextsAreAnswered → (document : Members)
     → ((mission : MissionData) × IsMission document mission)
     ⊎ ((refused : Refused) × (refused ≢ NoMemory) × IsRefusedWith document refused)

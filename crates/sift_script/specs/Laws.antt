@@ -1,5 +1,5 @@
 -- What holds of fault scripts.
-use Rattle.std.specs.Prelude.{◌≡◌, ℕ, ◌<◌, ◌≤◌, ◌↔◌, List, Some, None, true, false}
+use Rattle.std.specs.Prelude.{◌≡◌, ℕ, ◌<◌, ◌≤◌, ◌↔◌, ◌⊎◌, List, Some, None, true, false}
 use Rattle.sift_base.specs.Shapes.{AllShapes, first_word}
 use Rattle.sift_base.specs.declared.slot.Slot.{Slot}
 use Rattle.sift_script.specs.Changes.{first_word_of, is_same_slot, override_of}
@@ -43,3 +43,7 @@ abbrev pub OneBrokenRule : Type 0
 OneBrokenRule =
     (script : FaultScript) (number at : ℕ) → IsFirstBroken script number at
     → (¬ IsGood script) × ((other place : ℕ) → IsFirstBroken script other place → (other ≡ number) × (place ≡ at))
+
+-- each script meets all rules, or one is the first that it breaks, at a first entry
+abbrev pub ScriptsAreAnswered : Type 0
+ScriptsAreAnswered = (script : FaultScript) → IsGood script ⊎ ((number : ℕ) × (at : ℕ) × IsFirstBroken script number at)

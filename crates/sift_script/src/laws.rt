@@ -2,7 +2,7 @@
 
 ghost use Rattle.sift_script.specs.Laws.{OneUnitIsSteady, FaultsAreForGood, WorkingUnitsSayTheirWords};
 ghost use Rattle.sift_script.specs.Laws.{WorkingUnitsHaveNotTurned, StormsComeInTheMission, OneBrokenRule};
-ghost use Rattle.sift_script.specs.Laws.{SlotsAreComparedWhole, WordsAreNumberedAlike};
+ghost use Rattle.sift_script.specs.Laws.{SlotsAreComparedWhole, WordsAreNumberedAlike, ScriptsAreAnswered};
 
 /// A good script leaves a unit that never fails.
 pub fn one_unit_is_steady()
@@ -42,4 +42,9 @@ pub fn words_are_numbered_alike()
 /// A script is refused in at most one way, and never if it meets all rules.
 pub fn one_broken_rule()
     ensures { OneBrokenRule }
+{}
+
+/// A script that doesn't meet all rules has a first broken one: no script is left without an answer.
+pub fn scripts_are_answered()
+    ensures { ScriptsAreAnswered }
 {}

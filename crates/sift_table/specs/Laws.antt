@@ -1,5 +1,5 @@
 -- What holds of every table that meets the rules.
-use Rattle.std.specs.Prelude.{◌≡◌, ◌≢◌, ℕ, ◌+◌, ◌*◌, ◌<◌, ◌≤◌, true, false, length, count_by}
+use Rattle.std.specs.Prelude.{◌≡◌, ◌≢◌, ◌⊎◌, ℕ, ◌+◌, ◌*◌, ◌<◌, ◌≤◌, true, false, length, count_by}
 use Rattle.std.specs.List.{Contains, range_with_len}
 use Rattle.sift_base.specs.Layout.{IsSlot}
 use Rattle.sift_base.specs.Shapes.{AllShapes, AreShapes, first_word, shape_at, words_in}
@@ -55,3 +55,7 @@ abbrev pub OneBrokenRule : Type 0
 OneBrokenRule =
     (table : Schedule) (shapes : AllShapes) (number row : ℕ) → IsFirstBroken table shapes number row
     → (¬ IsGood table shapes) × ((other at : ℕ) → IsFirstBroken table shapes other at → (other ≡ number) × (at ≡ row))
+
+-- each table meets all rules for given tasks, or one is the first that it breaks, in a first row
+abbrev pub TablesAreAnswered : Type 0
+TablesAreAnswered = (table : Schedule) (shapes : AllShapes) → IsGood table shapes ⊎ ((number : ℕ) × (row : ℕ) × IsFirstBroken table shapes number row)

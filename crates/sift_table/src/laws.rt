@@ -1,7 +1,7 @@
 //! What holds of every table that meets the rules.
 
 ghost use Rattle.sift_table.specs.Laws.{SlotsAreHeardInTime, TasksRunAfterTheirNeeds, TasksHaveThreeExecutors, PositionsRunOneTaskAtATime};
-ghost use Rattle.sift_table.specs.Laws.{WordsHaveTheirTask, PlainTablesAreGood, OneBrokenRule};
+ghost use Rattle.sift_table.specs.Laws.{WordsHaveTheirTask, PlainTablesAreGood, OneBrokenRule, TablesAreAnswered};
 
 /// What is said in a slot is heard two subframes later at the earliest, and two before the frame's end at the latest.
 pub fn slots_are_heard_in_time()
@@ -36,4 +36,9 @@ pub fn plain_tables_are_good()
 /// A table is refused in at most one way, and never if it meets all rules.
 pub fn one_broken_rule()
     ensures { OneBrokenRule }
+{}
+
+/// A table that doesn't meet all rules has a first broken one: no table is left without an answer.
+pub fn tables_are_answered()
+    ensures { TablesAreAnswered }
 {}

@@ -6,8 +6,8 @@ use Rattle.std.specs.Str.Parse.{digits_value, AllDigits}
 use Rattle.std.proofs.lemmas.Bool.Decides.{nat_tests}
 use Rattle.std.proofs.lemmas.Str.Parse.{digit_from_value}
 use Rattle.std.proofs.Math.Seq.{drop-append_seam, get_or-append_seam}
-use Rattle.sift_lang.specs.declared.tree.Op.TheVariants.{Add, Sub, Mul, Div, Rem, And, Or, Xor, Shl, Shr, Lt, Eq}
-use Rattle.sift_parse.specs.declared.token.Sign.TheVariants.{Assign, OpenParen, CloseParen, OpenBrace, CloseBrace, Comma, Dot, Semicolon}
+use Rattle.sift_lang.specs.declared.tree.Op.TheVariants.{Shl, Shr, Eq}
+use Rattle.sift_parse.specs.declared.token.Sign.TheVariants.{Assign}
 use Rattle.sift_parse.specs.Lexeme.{Lexeme, word, numeral, operator, mark, kept, IsLexeme, is_blank, after_gap}
 use Rattle.sift_parse.specs.Written.{SpellsSign, IsLexemeAt, Continues, BeginsDigit, ten}
 use Rattle.sift_parse.proofs.Lexing.Fronts.{NoWord, sign-lexeme}
@@ -68,26 +68,12 @@ one_byte : (other : Lexeme) (c : ℕ) (next front back : List ℕ) → IsAlone c
     → length front ≤ 1
 one_byte (word w) c next front back h e s = absurd s
 one_byte (numeral n) c next front back h e s = absurd s
-one_byte (operator Add) c next front back h e s = one front _ s
-one_byte (operator Sub) c next front back h e s = one front _ s
-one_byte (operator Mul) c next front back h e s = one front _ s
-one_byte (operator Div) c next front back h e s = one front _ s
-one_byte (operator Rem) c next front back h e s = one front _ s
-one_byte (operator And) c next front back h e s = one front _ s
-one_byte (operator Or) c next front back h e s = one front _ s
-one_byte (operator Xor) c next front back h e s = one front _ s
 one_byte (operator Shl) c next front back h e s = absurd (two_bytes c 60 60 next front back h e s (omega arith) (omega arith))
 one_byte (operator Shr) c next front back h e s = absurd (two_bytes c 62 62 next front back h e s (omega arith) (omega arith))
-one_byte (operator Lt) c next front back h e s = one front _ s
 one_byte (operator Eq) c next front back h e s = absurd (two_bytes c 61 61 next front back h e s (omega arith) (omega arith))
+one_byte (operator op) c next front back h e s = one front _ s
 one_byte (mark Assign) c next front back h e s = one front _ s
-one_byte (mark OpenParen) c next front back h e s = one front _ s
-one_byte (mark CloseParen) c next front back h e s = one front _ s
-one_byte (mark OpenBrace) c next front back h e s = one front _ s
-one_byte (mark CloseBrace) c next front back h e s = one front _ s
-one_byte (mark Comma) c next front back h e s = one front _ s
-one_byte (mark Dot) c next front back h e s = one front _ s
-one_byte (mark Semicolon) c next front back h e s = one front _ s
+one_byte (mark s) c next front back h e spelt = one front _ spelt
 
 -- a sign of one byte, alone
 pub sign-front : (l : Lexeme) (c : ℕ) (next : List ℕ) → SpellsSign l (c ∷ []) → NoWord (c ∷ []) → IsAlone c next

@@ -43,19 +43,7 @@ plain-agrees : (r : Roll) (f : Force) (h : Known) (s : Sign) (levels kept : List
     → AsksNothing s → Agrees r f h → levels ≡ kept → locals ≡ lived → pending ≡ due
     → Agrees r (force_with s levels locals pending f) (known_with s kept lived due h)
 plain-agrees r f h Dot levels kept locals lived pending due asks a x y z = absurd asks
-plain-agrees r f h Assign levels kept locals lived pending due asks a x y z =
-    record { key = refl; ends = refl; asked = refl; meant = λ task n. refl; levels = x; locals = y; pending = z; named = a.named }
-plain-agrees r f h OpenParen levels kept locals lived pending due asks a x y z =
-    record { key = refl; ends = refl; asked = refl; meant = λ task n. refl; levels = x; locals = y; pending = z; named = a.named }
-plain-agrees r f h CloseParen levels kept locals lived pending due asks a x y z =
-    record { key = refl; ends = refl; asked = refl; meant = λ task n. refl; levels = x; locals = y; pending = z; named = a.named }
-plain-agrees r f h OpenBrace levels kept locals lived pending due asks a x y z =
-    record { key = refl; ends = refl; asked = refl; meant = λ task n. refl; levels = x; locals = y; pending = z; named = a.named }
-plain-agrees r f h CloseBrace levels kept locals lived pending due asks a x y z =
-    record { key = refl; ends = refl; asked = refl; meant = λ task n. refl; levels = x; locals = y; pending = z; named = a.named }
-plain-agrees r f h Comma levels kept locals lived pending due asks a x y z =
-    record { key = refl; ends = refl; asked = refl; meant = λ task n. refl; levels = x; locals = y; pending = z; named = a.named }
-plain-agrees r f h Semicolon levels kept locals lived pending due asks a x y z =
+plain-agrees r f h s levels kept locals lived pending due asks a x y z =
     record { key = refl; ends = refl; asked = refl; meant = λ task n. refl; levels = x; locals = y; pending = z; named = a.named }
 
 -- the end of a block, whichever level is innermost

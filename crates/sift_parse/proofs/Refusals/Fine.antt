@@ -11,7 +11,7 @@ use Rattle.sift_parse.specs.Force.{Force, advance, opens, keyword_before, number
 use Rattle.sift_parse.specs.Keywords.{keyword_of}
 use Rattle.sift_parse.specs.Lexeme.{Lexeme, word, numeral, operator, mark, Placed}
 use Rattle.sift_parse.specs.Limits.{level_limit, number_limit}
-use Rattle.sift_parse.specs.Refusal.{no_lexeme_here, no_syntax, long_name, large_number, many_rounds, many_locals, deep_level, unknown_name, later_task, LacksWord, IsNotBefore, lexemes_of}
+use Rattle.sift_parse.specs.Refusal.{long_name, large_number, many_rounds, many_locals, deep_level, unknown_name, later_task, LacksWord, IsNotBefore, lexemes_of}
 use Rattle.sift_parse.specs.Roll.{Roll, number_in}
 use Rattle.sift_parse.specs.Scanned.{NoneAt}
 
@@ -20,54 +20,33 @@ use Rattle.sift_parse.specs.Scanned.{NoneAt}
 -- at an operator
 pub none_at_operator : (r : Roll) (f : Force) (op : Op) → (opens f (operator op) ≡ true → length f.levels < level_limit)
     → NoneAt r f (operator op)
-none_at_operator r f op fits no_lexeme_here h = h
-none_at_operator r f op fits no_syntax h = h
-none_at_operator r f op fits long_name h = h
-none_at_operator r f op fits large_number h = h
-none_at_operator r f op fits many_rounds h = h
-none_at_operator r f op fits many_locals h = h
 none_at_operator r f op fits deep_level h = let lt = fits h.0 in omega (arith, h.1)
-none_at_operator r f op fits unknown_name h = h
-none_at_operator r f op fits later_task h = h
+none_at_operator r f op fits kind h = h
 
 -- at another sign
 pub none_at_mark : (r : Roll) (f : Force) (s : Sign) → (opens f (mark s) ≡ true → length f.levels < level_limit) → NoneAt r f (mark s)
-none_at_mark r f s fits no_lexeme_here h = h
-none_at_mark r f s fits no_syntax h = h
-none_at_mark r f s fits long_name h = h
-none_at_mark r f s fits large_number h = h
-none_at_mark r f s fits many_rounds h = h
-none_at_mark r f s fits many_locals h = h
 none_at_mark r f s fits deep_level h = let lt = fits h.0 in omega (arith, h.1)
-none_at_mark r f s fits unknown_name h = h
-none_at_mark r f s fits later_task h = h
+none_at_mark r f s fits kind h = h
 
 -- at a number
 pub none_at_number : (r : Roll) (f : Force) (n : ℕ) → n ≤ number_limit → (keyword_before f ≡ Some Repeat → n ≤ round_limit)
     → ¬ LacksWord r (task_asked r f f.before) n → NoneAt r f (numeral n)
-none_at_number r f n small rounds lacks no_lexeme_here h = h
-none_at_number r f n small rounds lacks no_syntax h = h
-none_at_number r f n small rounds lacks long_name h = h
 none_at_number r f n small rounds lacks large_number h = omega arith
 none_at_number r f n small rounds lacks many_rounds h = let le = rounds h.0 in omega (arith, h.1)
-none_at_number r f n small rounds lacks many_locals h = h
 none_at_number r f n small rounds lacks deep_level h = let e : IsTrue false = h.0 in cc
 none_at_number r f n small rounds lacks unknown_name h = lacks h
-none_at_number r f n small rounds lacks later_task h = h
+none_at_number r f n small rounds lacks kind h = h
 
 -- at a word
 pub none_at_word : (r : Roll) (f : Force) (w : List ℕ) → length w ≤ name_limit
     → (keyword_before f ≡ Some Let → length f.locals < local_limit) → ((keyword_of w ≡ None) → ¬ (number_named r f w ≡ None))
     → ((keyword_of w ≡ None) → keyword_before f ≡ Some Now → ¬ IsNotBefore r (number_in r.tasks w)) → NoneAt r f (word w)
-none_at_word r f w short locals named earlier no_lexeme_here h = h
-none_at_word r f w short locals named earlier no_syntax h = h
 none_at_word r f w short locals named earlier long_name h = omega arith
-none_at_word r f w short locals named earlier large_number h = h
-none_at_word r f w short locals named earlier many_rounds h = h
 none_at_word r f w short locals named earlier many_locals h = let lt = locals h.0 in omega (arith, h.1)
 none_at_word r f w short locals named earlier deep_level h = let e : IsTrue false = h.0 in cc
 none_at_word r f w short locals named earlier unknown_name h = named h.0 h.1
 none_at_word r f w short locals named earlier later_task h = earlier h.0 h.1 h.2
+none_at_word r f w short locals named earlier kind h = h
 
 -- a keyword is no name
 pub none_at_keyword : (r : Roll) (f : Force) (w : List ℕ) (k : Keyword) → length w ≤ name_limit

@@ -14,7 +14,7 @@ use Rattle.sift_parse.specs.Grammar.{IsExpr, IsStatement, a_let, an_assignment, 
 use Rattle.sift_parse.proofs.Sound.Place.{Place, keyword-at}
 use Rattle.sift_parse.proofs.Sound.Number.{number-at}
 use Rattle.sift_parse.proofs.Sound.Force.{word_force, keyword-place}
-use Rattle.sift_parse.proofs.Sound.Prim.{IsPast}
+use Rattle.sift_parse.proofs.Sound.Prim.{IsPast, carried}
 use Rattle.sift_parse.proofs.Sound.Term.{level-past}
 use Rattle.sift_parse.proofs.Sound.Block.{bounds, Fresh, IsDone, IsThrough, IsBraced, sound-term, braced, braced-carried}
 use Rattle.sift_parse.proofs.Sound.Values.{unless, let-done, assign-done, output-done}
@@ -32,17 +32,7 @@ if-past r f ts rest t d fresh p =
     let k = keyword-at r f If ts p in
     let g : Force = word_force (Some If) k.text f in
     let i = level-past r g 0 ts rest t d fresh.few (record { before = ap is_none k.is; role = ap role_after k.is }) (keyword-place r f If ts k) in
-    record {
-      force = i.force;
-      place = i.place;
-      levels = i.levels;
-      locals = i.locals;
-      pending = i.pending;
-      ended = i.ended;
-      names = i.names;
-      nows = i.nows;
-      needs = (let n = i.needs in omega arith);
-    }
+    carried r f g rest t _ 0 i refl refl refl (omega arith)
 
 -- the first block of an `if`
 first-braced : (r : Roll) (f : Force) (us rest : List Token) (t : Term) (b : Block) → Fresh f → (i : IsPast r f (Sign OpenBrace ∷ us) t 0)

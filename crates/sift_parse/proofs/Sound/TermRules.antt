@@ -3,6 +3,7 @@ use Rattle.std.proofs.Common.{◌≡◌, ℕ, suc, ◌+◌, ◌*◌, ◌≤◌, 
 use Rattle.sift_lang.specs.declared.tree.Op.{Op}
 use Rattle.sift_lang.specs.Tree.{Term, number, this_frame, last_frame, minus, binary, middle}
 use Rattle.sift_lang.specs.Sound.{need, NamesWithin, NowsBelow}
+use Rattle.sift_parse.specs.declared.token.Keyword as keywords
 use Rattle.sift_parse.specs.declared.token.Keyword.TheVariants.{Now, Last}
 use Rattle.sift_parse.specs.declared.token.Sign.TheVariants.{OpenParen, CloseParen, Comma}
 use Rattle.sift_parse.specs.declared.token.Token.{Token}
@@ -33,9 +34,11 @@ number-past r f n rest few p =
       needs = omega arith;
     }
 
-pub this_frame-past : (r : Roll) (f : Force) (w : ℕ) (rest : List Token) → length f.levels ≤ 32 → IsPastWord r f Now w rest
-    → IsPast r f rest (this_frame w) (7 * length f.levels + 5)
-this_frame-past r f w rest few h =
+-- a term that is a voted word
+voted-past : (r : Roll) (f : Force) (k : keywords.Keyword) (w : ℕ) (rest : List Token) (t : Term) (bound : ℕ) → IsPastWord r f k w rest
+    → NamesWithin (length r.sensors) (sum r.sizes) (length f.locals) t → NowsBelow (first_word r r.this) t → need t + bound ≤ 230
+    → IsPast r f rest t bound
+voted-past r f k w rest t bound h names nows needs =
     record {
       force = h.force;
       place = h.place;
@@ -43,25 +46,18 @@ this_frame-past r f w rest few h =
       locals = h.locals;
       pending = h.pending;
       ended = h.ended;
-      names = h.within;
-      nows = h.earlier refl;
-      needs = omega arith;
+      names = names;
+      nows = nows;
+      needs = needs;
     }
+
+pub this_frame-past : (r : Roll) (f : Force) (w : ℕ) (rest : List Token) → length f.levels ≤ 32 → IsPastWord r f Now w rest
+    → IsPast r f rest (this_frame w) (7 * length f.levels + 5)
+this_frame-past r f w rest few h = voted-past r f Now w rest (this_frame w) (7 * length f.levels + 5) h h.within (h.earlier refl) (omega arith)
 
 pub last_frame-past : (r : Roll) (f : Force) (w : ℕ) (rest : List Token) → length f.levels ≤ 32 → IsPastWord r f Last w rest
     → IsPast r f rest (last_frame w) (7 * length f.levels + 5)
-last_frame-past r f w rest few h =
-    record {
-      force = h.force;
-      place = h.place;
-      levels = h.levels;
-      locals = h.locals;
-      pending = h.pending;
-      ended = h.ended;
-      names = h.within;
-      nows = tt;
-      needs = omega arith;
-    }
+last_frame-past r f w rest few h = voted-past r f Last w rest (last_frame w) (7 * length f.levels + 5) h h.within tt (omega arith)
 
 pub minus-past : (r : Roll) (f : Force) (rest : List Token) (t : Term) → IsPast r (minus_force f) rest t (7 * (length f.levels + 1) + 5)
     → IsPast r f rest (minus t) (7 * length f.levels + 5)

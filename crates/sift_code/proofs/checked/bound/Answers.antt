@@ -45,7 +45,7 @@ loop-instr-preserved c =
                 c.loop-instr.invariant.2 w.pop.ensures.rest ∙ ap products_outside (sym next)),
           ))
       | in_default w ↦ (
-          let next = rounds_other c.args.nest.now c.loop-instr.instr-index c.instr-item.result at w.in_default.not-Begin w.in_default.not-End in (
+          let next = rounds_other c.args.nest.now c.loop-instr.instr-index c.instr-item.result at (w.in_default.not-Begin, w.in_default.not-End) in (
             sum,
             w.product-is ∙ (c.loop-instr.invariant.1 ∙ ap (λ rs. kept (product rs)) (sym next)),
             ap (λ v. v.items) w.outside-is ∙ (c.loop-instr.invariant.2 ∙ ap products_outside (sym next)),

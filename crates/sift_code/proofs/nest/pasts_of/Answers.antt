@@ -37,5 +37,5 @@ loop-at-preserved c =
           let next = read_from (past_at c.args.code.now) c.loop-at.at (length c.args.code.now) c.loop-at.pasts.items
           (c.loop-at.at - 1 + 1) w.index-in_default.result.now c.loop-at.invariant (omega arith)
           (omega arith) w.index-in_default.ensures in
-          told (w.entry-is ∙ (next ∙ sym (past_at-other c.args.code.now (c.loop-at.at - 1) c.index-code-at.result at w.in_default.not-Begin w.in_default.not-End))))
+          told (w.entry-is ∙ (next ∙ sym (past_at-other c.args.code.now (c.loop-at.at - 1) c.index-code-at.result at (w.in_default.not-Begin, w.in_default.not-End)))))
     ]

@@ -56,5 +56,5 @@ loop-at-preserved c =
           let here = read_to (start_at c.args.code.now) c.loop-at.at
           (length c.args.code.now) c.loop-at.starts.items c.loop-at.at w.index-in_default.result.now c.loop-at.invariant (omega arith)
           (omega arith) w.index-in_default.ensures in
-          told (w.entry-is ∙ (here ∙ sym (start_at-other c.args.code.now c.loop-at.at c.index-code-at.result at w.in_default.not-Begin w.in_default.not-End))))
+          told (w.entry-is ∙ (here ∙ sym (start_at-other c.args.code.now c.loop-at.at c.index-code-at.result at (w.in_default.not-Begin, w.in_default.not-End)))))
     ]

@@ -36,7 +36,8 @@ block-loop-statements-preserved t c =
 pub block-returns-clause-reads : goal.block-returns-clause-reads
 block-returns-clause-reads t c =
     turns-end c.args.tokens.now.rest.now
-    (map statement_of c.loop-statements.statements.items) c.loop-statements.tokens.rest.now c.statement.new.tokens.rest.now c.loop-statements.invariant.turns (rw c.in_default.is at c.in_ok-next.ensures.reads)
+    (map statement_of c.loop-statements.statements.items) c.loop-statements.tokens.rest.now c.statement.new.tokens.rest.now
+    c.loop-statements.invariant.turns (rw c.in_default.is at c.in_ok-next.ensures.reads)
 
 pub branches-returns-in_err-first-clause-reads : goal.branches-returns-in_err-first-clause-reads
 branches-returns-in_err-first-clause-reads t c =

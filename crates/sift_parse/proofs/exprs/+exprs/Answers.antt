@@ -27,7 +27,8 @@ chain-returns-then-n-eq-COMPARISON_LEVEL-clause-reads t c =
     let us = c.operator.new.self.rest.now in
     rw (c.in_ok-new.ensures.ok, c.in_ok-new-2.ensures.ok)
     (leads-compared n c.in-Some.op (term_of c.args.first) (term_of c.loop-op.left)
-    (term_of c.in_ok-right.right) c.args.tokens.now.rest.now us c.level.new.tokens.rest.now c.if-n-eq-COMPARISON_LEVEL.true c.in-Some.ensures.1 (rw c.in-Some.ensures.0 at c.loop-op.invariant.leads) (reads-suc n us _ c.in_ok-right.ensures.reads))
+    (term_of c.in_ok-right.right) c.args.tokens.now.rest.now us c.level.new.tokens.rest.now c.if-n-eq-COMPARISON_LEVEL.true
+    c.in-Some.ensures.1 (rw c.in-Some.ensures.0 at c.loop-op.invariant.leads) (reads-suc n us _ c.in_ok-right.ensures.reads))
 
 pub chain-loop-op-preserved : goal.chain-loop-op-preserved
 chain-loop-op-preserved t c =

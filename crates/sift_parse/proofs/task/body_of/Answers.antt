@@ -59,7 +59,8 @@ index-requires c =
 pub place-requires : goal.place-requires
 place-requires c =
     let within =
-    tokens-within (roll_of c.args.names.now) c.in_ok-lexed.lexed.placed.items c.in_ok-scanned.scanned.tokens.items c.in_ok-scanned.scanned.refused (rw c.deref.ensures.value at c.in_ok-scanned.ensures) in
+    tokens-within (roll_of c.args.names.now) c.in_ok-lexed.lexed.placed.items c.in_ok-scanned.scanned.tokens.items
+    c.in_ok-scanned.scanned.refused (rw c.deref.ensures.value at c.in_ok-scanned.ensures) in
     subst (λ p. p.at ≤ text_limit) (sym c.index.ensures)
     (place-short c.args.text.now
     (drop c.in_ok-lexed.lexed.end c.args.text.now) c.in_ok-lexed.lexed.placed.items c.in-Err-Syntax.at c.index.result.now
@@ -73,7 +74,9 @@ returns-in-Err-Syntax c =
     let fault : Parses c.deref-2.result.now (Err (Syntax c.in-Err-Syntax.at)) = rw c.in-Err-Syntax.field-0-is at c.in-Err-Syntax.ensures in
     let here =
     offence-here (roll_of c.args.names.now) c.args.text.now
-    (drop lexed.end c.args.text.now) lexed.placed.items scanned.tokens.items c.in-Err-Syntax.at c.index.result.now scanned.refused c.in_ok-lexed.ensures.lexes (rw c.deref.ensures.value at c.in_ok-scanned.ensures) (rw c.deref-2.ensures.value at fault) (omega (arith, c.if-at-len.true, c.len.ensures, scanned.tokens.ok.0)) in
+    (drop lexed.end c.args.text.now) lexed.placed.items scanned.tokens.items c.in-Err-Syntax.at c.index.result.now scanned.refused
+    c.in_ok-lexed.ensures.lexes (rw c.deref.ensures.value at c.in_ok-scanned.ensures) (rw c.deref-2.ensures.value at fault)
+    (omega (arith, c.if-at-len.true, c.len.ensures, scanned.tokens.ok.0)) in
     let place : c.place.result ≡ (get_or lexed.placed.items c.in-Err-Syntax.at c.index.result.now).at = c.place.ensures ∙ ap (λ p. p.at) c.index.ensures in
     record { short = c.requires.short; refused = rw place here }
 

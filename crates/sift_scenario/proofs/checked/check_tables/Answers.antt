@@ -12,8 +12,12 @@ use Rattle.sift_scenario.proofs.checked.check_tables.Goals as goal
 -- a table isn't good
 pub returns-in_err-good_table-clause-refused : goal.returns-in_err-good_table-clause-refused
 returns-in_err-good_table-clause-refused c =
-    let turn = YieldsList-turn (YieldsList-from_vec {s = c.into_iter-table-iterator.result} c.args.tables.items (search rules) (search rules)) c.loop-table.yielded c.loop-table.table-iterator c.loop-table.yielded_by c.next.result c.next.new.self c.in-Some.table c.in-Some.is c.next.ensures.steps in
-    let before = YieldsList-so_far (YieldsList-from_vec {s = c.into_iter-table-iterator.result} c.args.tables.items (search rules) (search rules)) c.loop-table.yielded c.loop-table.table-iterator c.loop-table.yielded_by in
+    let turn =
+    YieldsList-turn (YieldsList-from_vec {s = c.into_iter-table-iterator.result} c.args.tables.items (search rules) (search rules))
+    c.loop-table.yielded c.loop-table.table-iterator c.loop-table.yielded_by c.next.result c.next.new.self c.in-Some.table c.in-Some.is c.next.ensures.steps in
+    let before =
+    YieldsList-so_far (YieldsList-from_vec {s = c.into_iter-table-iterator.result} c.args.tables.items (search rules) (search rules))
+    c.loop-table.yielded c.loop-table.table-iterator c.loop-table.yielded_by in
     let same : c.from_residual.result ≡ Err c.in_err-good_table.field-0.0 = search rules in
     let goods : map schedule_of c.loop-table.yielded ≡ take (length c.loop-table.yielded) (map schedule_of c.args.tables.items) =
     ap (map schedule_of) (sym (map-id c.loop-table.yielded) ∙ before) ∙ sym (take-map schedule_of (length c.loop-table.yielded) c.args.tables.items) in
@@ -30,5 +34,7 @@ loop-table-preserved c = (
 -- all tables were checked
 pub returns-clause-same : goal.returns-clause-same
 returns-clause-same c =
-    let end = YieldsList-end (YieldsList-from_vec {s = c.into_iter-table-iterator.result} c.args.tables.items (search rules) (search rules)) c.loop-table.yielded c.loop-table.table-iterator c.loop-table.yielded_by c.next.result c.next.new.self c.in-None.is c.next.ensures.steps in
+    let end =
+    YieldsList-end (YieldsList-from_vec {s = c.into_iter-table-iterator.result} c.args.tables.items (search rules) (search rules))
+    c.loop-table.yielded c.loop-table.table-iterator c.loop-table.yielded_by c.next.result c.next.new.self c.in-None.is c.next.ensures.steps in
     c.loop-table.invariant.0 ∙ ap (map schedule_of) (sym (map-id c.loop-table.yielded) ∙ end.0)

@@ -1,4 +1,4 @@
-use Rattle.std.proofs.Common.{inl, inr, map, sym, take, ap, ◌∙◌, arith}
+use Rattle.std.proofs.Common.{◌≤◌, length, inl, inr, map, sym, take, ap, ◌∙◌, arith}
 use Rattle.std.proofs.lemmas.List.{get_or-map, length-map, map-append, take_all}
 use Rattle.toml.specs.View.{view}
 use Rattle.sift_scenario.proofs.DocumentLemmas.{array_from}
@@ -30,7 +30,8 @@ pub loop-entry-preserved : goal.loop-entry-preserved
 loop-entry-preserved c =
     let entries = c.as_slice-entries.result.now in (
       rw (so_far view entries c.loop-entry.entry-index c.entry-item.result c.loop-entry-test.true c.entry-item.is, c.push.ensures.items, map-append)
-          (each_read-push (unit_ticks c.args.units c.args.far) (take c.loop-entry.entry-index (map view entries)) (view c.entry-item.result) _ _ c.loop-entry.invariant.0 (sym c.in_ok-unit_ticks.ensures)),
+          (each_read-push (unit_ticks c.args.units c.args.far) (take c.loop-entry.entry-index (map view entries)) (view c.entry-item.result) _ _
+          c.loop-entry.invariant.0 (sym c.in_ok-unit_ticks.ensures)),
       omega (arith, c.push.ensures.len, c.loop-entry.invariant.1),
     )
 
@@ -39,5 +40,7 @@ pub returns : goal.returns
 returns c =
     let entries = c.as_slice-entries.result.now in
     let whole = take_all c.loop-entry.entry-index (map view entries) (rw length-map (omega (arith, c.loop-entry-test.false))) in
+    let enough : c.args.units ≤ length entries = omega (arith, c.if-entries-from.false, c.from.ensures) in
+    let few : length entries ≤ c.args.units = omega (arith, c.if-entries-from.false, c.from.ensures) in
     rw (array_from _ _ c.in_ok-as_array.ensures, ← c.as_slice-entries.ensures.value)
-    (sym (array_between-whole (unit_ticks c.args.units c.args.far) c.args.units c.args.units entries _ (omega (arith, c.if-entries-from.false, c.from.ensures)) (omega (arith, c.if-entries-from.false, c.from.ensures)) (rw (← whole) c.loop-entry.invariant.0)))
+    (sym (array_between-whole (unit_ticks c.args.units c.args.far) c.args.units c.args.units entries _ enough few (rw (← whole) c.loop-entry.invariant.0)))

@@ -1,4 +1,4 @@
-use Rattle.std.proofs.Common.{◌≡◌, inl, inr, map, sym, take, ap, ◌∙◌, arith, w32, to_z, of_z}
+use Rattle.std.proofs.Common.{◌≡◌, ◌≤◌, length, inl, inr, map, sym, take, ap, ◌∙◌, arith, w32, to_z, of_z}
 use Rattle.std.proofs.lemmas.Int.{ints}
 use Rattle.std.proofs.lemmas.List.{get_or-map, length-map, take_all}
 use Rattle.toml.specs.View.{view}
@@ -41,5 +41,7 @@ pub returns : goal.returns
 returns c =
     let entries = c.as_slice-entries.result.now in
     let whole = take_all c.loop-entry.entry-index (map view entries) (rw length-map (omega (arith, c.loop-entry-test.false))) in
+    let enough : c.args.units ≤ length entries = omega (arith, c.if-entries-from.false, c.from.ensures) in
+    let few : length entries ≤ c.args.units = omega (arith, c.if-entries-from.false, c.from.ensures) in
     rw (array_from _ _ c.in_ok-as_array.ensures, ← c.as_slice-entries.ensures.value)
-    (sym (array_between-whole (ticks_within c.args.far) c.args.units c.args.units entries _ (omega (arith, c.if-entries-from.false, c.from.ensures)) (omega (arith, c.if-entries-from.false, c.from.ensures)) (rw (← whole) c.loop-entry.invariant.0)))
+    (sym (array_between-whole (ticks_within c.args.far) c.args.units c.args.units entries _ enough few (rw (← whole) c.loop-entry.invariant.0)))

@@ -96,8 +96,16 @@ returns-clause-read c =
     let count : c.len-count.result ≡ length (task_entries document) = c.len-count.ensures ∙ c.in_ok-tasks.tasks.forms.ok.0 ∙ count_is document c.in_ok-tasks.tasks c.in_ok-tasks.ensures.read in
     let plain : plain_period c.len-count.result ≡ plain_period (length (task_entries document)) = ap plain_period count in
     record {
-      lawful = themes_kept document c.in_ok-root.root.units c.in_ok-root.ensures.units
-          (c.in_ok-root.ensures.tests, (c.in_ok-clock.ensures.tests, (c.in_ok-sensors.ensures.tests, (c.in_ok-tasks.ensures.tests, (c.in_ok-tables.ensures.tests, (c.in_ok-script.ensures.tests, tt))))));
+      lawful = themes_kept document c.in_ok-root.root.units c.in_ok-root.ensures.units (
+        c.in_ok-root.ensures.tests,
+        (
+          c.in_ok-clock.ensures.tests,
+          (
+            c.in_ok-sensors.ensures.tests,
+            (c.in_ok-tasks.ensures.tests, (c.in_ok-tables.ensures.tests, (c.in_ok-script.ensures.tests, tt))),
+          ),
+        ),
+      );
       units = c.in_ok-root.ensures.units;
       frames = c.in_ok-root.ensures.frames;
       period = c.in_ok-root.ensures.subframes (plain_period (length (task_entries document)))

@@ -57,7 +57,8 @@ loop-place-preserved c = λ faults read.
 pub returns-clause-read : goal.returns-clause-read
 returns-clause-read c = λ faults read.
     let long = faults_long faults c.args.heads.now _ read in
-    let high : length (map fault_in faults) ≤ c.loop-place.place = omega (arith, long.1, length-map c.args.said.now (λ items. map (λ item. table_view item.now) items.items), c.loop-place-test.false, length-map faults fault_in) in
+    let as_many = length-map c.args.said.now (λ items. map (λ item. table_view item.now) items.items) in
+    let high : length (map fault_in faults) ≤ c.loop-place.place = omega (arith, long.1, as_many, c.loop-place-test.false, length-map faults fault_in) in
     (c.loop-place.invariant faults read).0 ∙ take_all c.loop-place.place (map fault_in faults) high
 
 pub returns-clause-tests : goal.returns-clause-tests

@@ -12,7 +12,9 @@ returns-in-None c =
     let tables = c.args.tables.now in
     let i = c.loop-table.table-index in
     let none : None ≡ change_in (table_view c.table-item.result.now) = rw c.in-None.is at c.in_ok-item.ensures in
-    let here = get_or-map (λ item. table_view item.now) tables i c.table-item.result (table_view c.table-item.result.now) c.loop-table-test.true ∙ ap (λ item. table_view item.now) (sym c.table-item.is) in
+    let here =
+    get_or-map (λ item. table_view item.now) tables i c.table-item.result (table_view c.table-item.result.now) c.loop-table-test.true
+    ∙ ap (λ item. table_view item.now) (sym c.table-item.is) in
     sym (each_read-none change_in (map (λ item. table_view item.now) tables) i (table_view c.table-item.result.now) (rw length-map c.loop-table-test.true) (ap change_in here ∙ sym none))
 
 -- one item more

@@ -1,12 +1,9 @@
-use Rattle.std.proofs.Common.{◌≡◌, ℕ, List, [], Some, Err, rules, map, ap, subst, ◌∙◌}
-use Rattle.toml.specs.Data.{Members}
+use Rattle.std.proofs.Common.{◌≡◌, [], Some, Err, rules, map, ap, ◌∙◌}
 use Rattle.toml.specs.View.{table_view, view}
 use Rattle.sift_scenario.proofs.Order.{stopped}
 use Rattle.sift_scenario.proofs.Starts.{names_from, read_values, unwrapped}
-use Rattle.sift_scenario.specs.Sensor.{BreaksSensed, sensor_rules, sensors_in, words_of}
+use Rattle.sift_scenario.specs.Sensor.{sensor_rules, sensors_in, words_of}
 use Rattle.sift_scenario.specs.Task.{name_of}
-use Rattle.sift_scenario.specs.TaskRules.{BreaksNames}
-use Rattle.sift_scenario.specs.Testing.{RefusesBy}
 use Rattle.sift_scenario.proofs.sensor.stated_sensors.Goals as goal
 
 -- `sensor` is no array of tables
@@ -19,23 +16,16 @@ returns-in_err-tables-clause-tests c =
 pub returns-in_err-names-clause-tests : goal.returns-in_err-names-clause-tests
 returns-in_err-names-clause-tests c =
     let same : c.from_residual-in_err-names.result ≡ Err c.in_err-names.field-0.0 = search rules in
-    let all = sensors_in (Some (view c.args.value.now)) in
-    let tables : map (λ table. table_view table.now) c.deref.result.now ≡ all = rw c.deref.ensures.value c.in_ok-tables.ensures.tables in
-    let refused : RefusesBy 16 (BreaksNames all) c.in_err-names.field-0.0 =
-    subst (λ (ts : List Members). RefusesBy 16 (BreaksNames ts) c.in_err-names.field-0.0) tables c.in_err-names.ensures.tests in
-    rw same (stopped 1 (sensor_rules (Some (view c.args.value.now))) c.in_err-names.field-0.0 (c.in_ok-tables.ensures.tests, refused))
+    rw same (stopped 1 (sensor_rules (Some (view c.args.value.now))) c.in_err-names.field-0.0
+    (c.in_ok-tables.ensures.tests, rw (c.deref.ensures.value, c.in_ok-tables.ensures.tables) at c.in_err-names.ensures.tests))
 
 -- words are missing, or none
 pub returns-in_err-words-clause-tests : goal.returns-in_err-words-clause-tests
 returns-in_err-words-clause-tests c =
     let same : c.from_residual-in_err-words.result ≡ Err c.in_err-words.field-0.0 = search rules in
-    let all = sensors_in (Some (view c.args.value.now)) in
-    let first : map (λ table. table_view table.now) c.deref.result.now ≡ all = rw c.deref.ensures.value c.in_ok-tables.ensures.tables in
-    let tables : map (λ table. table_view table.now) c.deref-2.result.now ≡ all = rw c.deref-2.ensures.value c.in_ok-tables.ensures.tables in
-    let named : (place : ℕ) → ¬ BreaksNames all place = subst (λ (ts : List Members). (place : ℕ) → ¬ BreaksNames ts place) first c.in_ok-names.ensures.tests in
-    let refused : RefusesBy 17 (BreaksSensed all) c.in_err-words.field-0.0 =
-    subst (λ (ts : List Members). RefusesBy 17 (BreaksSensed ts) c.in_err-words.field-0.0) tables c.in_err-words.ensures.tests in
-    rw same (stopped 2 (sensor_rules (Some (view c.args.value.now))) c.in_err-words.field-0.0 (c.in_ok-tables.ensures.tests, (named, refused)))
+    let named = rw (c.deref.ensures.value, c.in_ok-tables.ensures.tables) at c.in_ok-names.ensures.tests in
+    rw same (stopped 2 (sensor_rules (Some (view c.args.value.now))) c.in_err-words.field-0.0
+    (c.in_ok-tables.ensures.tests, (named, rw (c.deref-2.ensures.value, c.in_ok-tables.ensures.tables) at c.in_err-words.ensures.tests)))
 
 -- the sensors are read
 pub returns-clause-read : goal.returns-clause-read
@@ -53,9 +43,6 @@ returns-clause-read c =
 -- no rule is broken
 pub returns-clause-tests : goal.returns-clause-tests
 returns-clause-tests c =
-    let all = sensors_in (Some (view c.args.value.now)) in
-    let first : map (λ table. table_view table.now) c.deref.result.now ≡ all = rw c.deref.ensures.value c.in_ok-tables.ensures.tables in
-    let tables : map (λ table. table_view table.now) c.deref-2.result.now ≡ all = rw c.deref-2.ensures.value c.in_ok-tables.ensures.tables in
-    let named : (place : ℕ) → ¬ BreaksNames all place = subst (λ (ts : List Members). (place : ℕ) → ¬ BreaksNames ts place) first c.in_ok-names.ensures.tests in
-    let sensed : (place : ℕ) → ¬ BreaksSensed all place = subst (λ (ts : List Members). (place : ℕ) → ¬ BreaksSensed ts place) tables c.in_ok-words.ensures.tests in
+    let named = rw (c.deref.ensures.value, c.in_ok-tables.ensures.tables) at c.in_ok-names.ensures.tests in
+    let sensed = rw (c.deref-2.ensures.value, c.in_ok-tables.ensures.tables) at c.in_ok-words.ensures.tests in
     (c.in_ok-tables.ensures.tests, (named, (sensed, tt)))

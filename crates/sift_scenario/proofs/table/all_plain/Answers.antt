@@ -8,4 +8,5 @@ pub loop-size-preserved : goal.loop-size-preserved
 loop-size-preserved c =
     let size = c.loop-size.size in
     let next : size + 1 - 4 ≡ size - 4 + 1 = omega (arith, c.loop-size.auto.size) in
-    rw (c.in_ok-push.ensures.items, map-append, next, map-range_with_len_more (λ s. plain_of s c.args.period c.args.tasks) 4 (size - 4) size (omega (arith, c.loop-size.auto.size)), c.loop-size.invariant, c.in_ok-plain_table.ensures) refl
+    let more = map-range_with_len_more (λ s. plain_of s c.args.period c.args.tasks) 4 (size - 4) size (omega (arith, c.loop-size.auto.size)) in
+    rw (c.in_ok-push.ensures.items, map-append, next, more, c.loop-size.invariant, c.in_ok-plain_table.ensures) refl

@@ -1,9 +1,7 @@
-use Rattle.std.proofs.Common.{◌≡◌, ◌-◌, Err, rules, map, ap, ◌∙◌, arith}
+use Rattle.std.proofs.Common.{◌≡◌, ◌-◌, Err, rules, arith}
 use Rattle.toml.specs.View.{view}
-use Rattle.sift_scenario.proofs.EntryTests.{refused_whole, tested}
+use Rattle.sift_scenario.proofs.EntryTests.{of_entries, refused_whole, tested}
 use Rattle.sift_scenario.proofs.Order.{ok_from}
-use Rattle.sift_scenario.proofs.Places.{map_map}
-use Rattle.sift_scenario.specs.Document.{members_of}
 use Rattle.sift_scenario.specs.Table.{IsTableEntry, size_count}
 use Rattle.sift_scenario.proofs.table.sized_tables.Goals as goal
 
@@ -16,7 +14,7 @@ returns-in_err-entries-clause-tests c =
 
 pub returns-clause-tables : goal.returns-clause-tables
 returns-clause-tables c =
-    ok_from _ _ c.entries_by_size.result (λ tables so. so ∙ map_map members_of view c.in_ok-entries.entries.now ∙ ap (map members_of) c.in_ok-entries.ensures.entries) c.entries_by_size.ensures.tables
+    ok_from _ _ c.entries_by_size.result (λ tables so. of_entries _ so c.in_ok-entries.ensures.entries) c.entries_by_size.ensures.tables
 
 pub returns-clause-tests : goal.returns-clause-tests
 returns-clause-tests c =

@@ -58,4 +58,4 @@ returns-in_default c =
     (subst (λ l. AreBrought (length c.args.nest.now) l c.args.self.now.brought.items)
     (sym (brings_nothing c.args.instr (trail_at c.args.nest.now c.args.at) c.in_default.not-JumpZ c.in_default.not-Jump))
     c.requires.here.brought)
-    (c.requires.here.depth ∙ sym (as_deep c.args.nest.now c.args.at c.args.instr c.requires.read c.in_default.not-Begin c.in_default.not-End)) c.max-self.ensures
+    (c.requires.here.depth ∙ sym (as_deep c.args.nest.now c.args.at c.args.instr c.requires.read (c.in_default.not-Begin, c.in_default.not-End))) c.max-self.ensures
