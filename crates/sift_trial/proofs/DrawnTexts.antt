@@ -28,6 +28,20 @@ sound_among sensors tasks t low tree sound nows =
       nows = subst (λ n. AllNowsBelow n tree) (sym (first_is sensors tasks t t (omega (arith, low)))) nows;
     }
 
+-- the tree of each pattern prints its text, puts out one word, and reads by `now` only words of earlier tasks
+pub drawn_good : (p : Pattern) (sensors tasks t x : ℕ) → IsDrawable p sensors tasks t
+    → IsPrintedAs sensors tasks t (text_by p t sensors x) (drawn_tree p t sensors x)
+drawn_good Sum sensors tasks t x may =
+    sum_good sensors tasks t (draw_at x 0 sensors) may.few_sensors may.few_tasks may.among (draw_low x 0 sensors may.some_sensor)
+drawn_good Middle sensors tasks t x may =
+    middle_good sensors tasks t (draw_at x 0 sensors) may.few_sensors may.few_tasks may.among (draw_low x 0 sensors may.some_sensor)
+    (draw_at x 1 sensors) (draw_low x 1 sensors may.some_sensor)
+drawn_good Chase sensors tasks t x may =
+    chase_good sensors tasks t (draw_at x 0 sensors) may.few_sensors may.few_tasks may.among (draw_low x 0 sensors may.some_sensor)
+drawn_good Triple sensors tasks t x may =
+    triple_good sensors tasks t (draw_at x 1 sensors) may.few_sensors may.few_tasks may.among (draw_low x 1 sensors may.some_sensor)
+    (draw_at x 0 t) (draw_low x 0 t (may.earlier refl))
+
 module _ (law : PrintedTreeIsTask) where
   -- a text that a good tree prints is a task with this tree
   printed_is_task : (p : Pattern) (sensors tasks t : ℕ) (text : List ℕ) (tree : TaskTree)
@@ -44,20 +58,6 @@ module _ (law : PrintedTreeIsTask) where
       subst (λ (bytes : List ℕ). IsTaskOf roll bytes tree) good.printed
       (law roll drawn_naming tree (drawn_names sensors tasks t may.few_sensors may.few_tasks may.among)
       (drawn_named sensors tasks t may.few_sensors may.few_tasks may.among _ good.one_local) printable)
-
-  -- the tree of each pattern is good
-  drawn_good : (p : Pattern) (sensors tasks t x : ℕ) → IsDrawable p sensors tasks t
-      → IsPrintedAs sensors tasks t (text_by p t sensors x) (drawn_tree p t sensors x)
-  drawn_good Sum sensors tasks t x may =
-      sum_good sensors tasks t (draw_at x 0 sensors) may.few_sensors may.few_tasks may.among (draw_low x 0 sensors may.some_sensor)
-  drawn_good Middle sensors tasks t x may =
-      middle_good sensors tasks t (draw_at x 0 sensors) may.few_sensors may.few_tasks may.among (draw_low x 0 sensors may.some_sensor)
-      (draw_at x 1 sensors) (draw_low x 1 sensors may.some_sensor)
-  drawn_good Chase sensors tasks t x may =
-      chase_good sensors tasks t (draw_at x 0 sensors) may.few_sensors may.few_tasks may.among (draw_low x 0 sensors may.some_sensor)
-  drawn_good Triple sensors tasks t x may =
-      triple_good sensors tasks t (draw_at x 1 sensors) may.few_sensors may.few_tasks may.among (draw_low x 1 sensors may.some_sensor)
-      (draw_at x 0 t) (draw_low x 0 t (may.earlier refl))
 
   pub drawn_texts_are_tasks : DrawnTextsAreTasks
   drawn_texts_are_tasks p sensors tasks t x may =
