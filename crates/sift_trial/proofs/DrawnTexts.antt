@@ -1,7 +1,6 @@
 -- The texts that are drawn are tasks, with the trees of their patterns.
 use Rattle.std.proofs.Common.{ℕ, ◌<◌, ◌≤◌, List, length, sum, refl, sym, ◌∙◌, subst, arith}
 use Rattle.std.proofs.lemmas.List.FromFn.{length-map-range_with_len}
-use Rattle.std.proofs.lemmas.Nat.{mod_below}
 use Rattle.sift_gen.specs.Draws.{draw_at}
 use Rattle.sift_gen.specs.Tasks.{sensor_name, text_by}
 use Rattle.sift_gen.specs.declared.task.Pattern.{Pattern}
@@ -10,13 +9,10 @@ use Rattle.sift_lang.specs.Sound.{AllNowsBelow, IsSound}
 use Rattle.sift_lang.specs.Tree.{TaskTree}
 use Rattle.sift_parse.specs.Outcome.{IsSoundAmong, IsTaskOf}
 use Rattle.sift_parse.specs.Printable.{IsPrintable, PrintedTreeIsTask}
+use Rattle.sift_trial.proofs.Values.{draw_below}
 use Rattle.sift_trial.specs.Texts.{DrawnTasksAreBrief, DrawnTextsAreTasks, IsDrawable, drawn_roll, drawn_sizes, drawn_tree}
 use Rattle.sift_trial.proofs.DrawnRoll.{drawn_named, drawn_names, drawn_naming, first_is, size_at, words_sum}
 use Rattle.sift_trial.proofs.DrawnTrees.{IsPrintedAs, chase_good, middle_good, sum_good, triple_good}
-
--- a draw is below its bound
-draw_low : (x i m : ℕ) → 0 < m → draw_at x i m < m
-draw_low x i m some = mod_below _ m some
 
 -- a tree that is sound for the sensors and tasks of the roll is so among its names
 sound_among : (sensors tasks t : ℕ) → t < tasks → (tree : TaskTree) → IsSound sensors tasks tree → AllNowsBelow t tree → IsSoundAmong (drawn_roll sensors tasks t) tree
@@ -27,6 +23,20 @@ sound_among sensors tasks t low tree sound nows =
           (subst (λ n. IsSound sensors n tree) (sym (words_sum tasks)) sound);
       nows = subst (λ n. AllNowsBelow n tree) (sym (first_is sensors tasks t t (omega (arith, low)))) nows;
     }
+
+-- the tree of each pattern prints its text, puts out one word, and reads by `now` only words of earlier tasks
+pub drawn_good : (p : Pattern) (sensors tasks t x : ℕ) → IsDrawable p sensors tasks t
+    → IsPrintedAs sensors tasks t (text_by p t sensors x) (drawn_tree p t sensors x)
+drawn_good Sum sensors tasks t x may =
+    sum_good sensors tasks t (draw_at x 0 sensors) may.few_sensors may.few_tasks may.among (draw_below x 0 sensors may.some_sensor)
+drawn_good Middle sensors tasks t x may =
+    middle_good sensors tasks t (draw_at x 0 sensors) may.few_sensors may.few_tasks may.among (draw_below x 0 sensors may.some_sensor)
+    (draw_at x 1 sensors) (draw_below x 1 sensors may.some_sensor)
+drawn_good Chase sensors tasks t x may =
+    chase_good sensors tasks t (draw_at x 0 sensors) may.few_sensors may.few_tasks may.among (draw_below x 0 sensors may.some_sensor)
+drawn_good Triple sensors tasks t x may =
+    triple_good sensors tasks t (draw_at x 1 sensors) may.few_sensors may.few_tasks may.among (draw_below x 1 sensors may.some_sensor)
+    (draw_at x 0 t) (draw_below x 0 t (may.earlier refl))
 
 module _ (law : PrintedTreeIsTask) where
   -- a text that a good tree prints is a task with this tree
@@ -44,20 +54,6 @@ module _ (law : PrintedTreeIsTask) where
       subst (λ (bytes : List ℕ). IsTaskOf roll bytes tree) good.printed
       (law roll drawn_naming tree (drawn_names sensors tasks t may.few_sensors may.few_tasks may.among)
       (drawn_named sensors tasks t may.few_sensors may.few_tasks may.among _ good.one_local) printable)
-
-  -- the tree of each pattern is good
-  drawn_good : (p : Pattern) (sensors tasks t x : ℕ) → IsDrawable p sensors tasks t
-      → IsPrintedAs sensors tasks t (text_by p t sensors x) (drawn_tree p t sensors x)
-  drawn_good Sum sensors tasks t x may =
-      sum_good sensors tasks t (draw_at x 0 sensors) may.few_sensors may.few_tasks may.among (draw_low x 0 sensors may.some_sensor)
-  drawn_good Middle sensors tasks t x may =
-      middle_good sensors tasks t (draw_at x 0 sensors) may.few_sensors may.few_tasks may.among (draw_low x 0 sensors may.some_sensor)
-      (draw_at x 1 sensors) (draw_low x 1 sensors may.some_sensor)
-  drawn_good Chase sensors tasks t x may =
-      chase_good sensors tasks t (draw_at x 0 sensors) may.few_sensors may.few_tasks may.among (draw_low x 0 sensors may.some_sensor)
-  drawn_good Triple sensors tasks t x may =
-      triple_good sensors tasks t (draw_at x 1 sensors) may.few_sensors may.few_tasks may.among (draw_low x 1 sensors may.some_sensor)
-      (draw_at x 0 t) (draw_low x 0 t (may.earlier refl))
 
   pub drawn_texts_are_tasks : DrawnTextsAreTasks
   drawn_texts_are_tasks p sensors tasks t x may =
