@@ -20,12 +20,14 @@ const FOUR: &str = "units = 4\nframes = 1\nsubframes = 20\nsensor = [{name = 'x'
     task = [{name = 'a', start = [5], text = 'out 0 = sense x;'}, {name = 'b', start = [7], text = 'out 0 = sense x;'}]\n";
 
 /// Five units and two frames.
-pub const FIVE: &str = "units = 5\nframes = 2\nsubframes = 20\nsensor = [{name = 'x', words = [1]}]\n\
+pub const FIVE: &str =
+    "units = 5\nframes = 2\nsubframes = 20\nsensor = [{name = 'x', words = [1]}]\n\
     task = [{name = 'a', start = [5], text = 'out 0 = sense x;'}, {name = 'b', start = [7], text = 'out 0 = sense x;'}]\n";
 
 /// Eight units and ten frames. From six units on the tasks run in one subframe, on the first three units and the next
 /// three.
-const EIGHT: &str = "units = 8\nframes = 10\nsubframes = 20\nsensor = [{name = 'x', words = [1, 2, 3]}]\n\
+const EIGHT: &str =
+    "units = 8\nframes = 10\nsubframes = 20\nsensor = [{name = 'x', words = [1, 2, 3]}]\n\
     task = [{name = 'a', start = [5], text = 'out 0 = sense x;'}, {name = 'b', start = [7], text = 'out 0 = sense x;'}]\n\
     table = [{size = 4, run = [4, 6], poll = [6, 8], at = ['0123', '0123']}, \
     {size = 5, run = [4, 6], poll = [6, 8], at = ['01234', '01234']}, \

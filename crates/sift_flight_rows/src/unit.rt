@@ -59,6 +59,21 @@ const CALLS: [(usize, u8, u8, bool, &str); 16] = [
     (6, 3, 4, false, "the report of unit 0"),
 ];
 
+/// What comes next, from the first slot and the first task on, in each of the first ten subframes: the slot that is
+/// heard, the slot that is said, and the task that is run.
+const NEXT: [(u32, usize, usize, usize); 10] = [
+    (0, 14, 0, 2),
+    (1, 14, 14, 2),
+    (2, 0, 2, 2),
+    (3, 14, 14, 2),
+    (4, 2, 3, 0),
+    (5, 14, 14, 2),
+    (6, 14, 14, 2),
+    (7, 3, 14, 2),
+    (8, 14, 14, 2),
+    (9, 4, 14, 2),
+];
+
 fn unit(n: u8) -> UnitId {
     UnitId::of(n).unwrap_or_default()
 }
@@ -107,21 +122,17 @@ fn expect_calls(rt: &impl Abort, mission: &Mission, config: &Config)
     }
 }
 
-/// What comes next, from the first slot and the first task on, in each of the first ten subframes.
 fn expect_next(rt: &impl Abort, mission: &Mission, config: &Config)
     requires { mission.now.units ≡ 8 }
 {
     belongs(mission, config);
-    let heard = [14, 14, 0, 14, 2, 14, 14, 3, 14, 4];
-    let said = [0, 14, 2, 14, 3, 14, 14, 14, 14, 14];
-    let run = [2, 2, 2, 2, 0, 2, 2, 2, 2, 2];
-    for (subframe, ((heard, said), run)) in heard.into_iter().zip(said).zip(run).enumerate() {
-        let next = mission.next_heard(config, subframe as u32, 0);
-        assert_eq!(rt; next, heard, "heard in {subframe}");
-        let next = mission.next_said(config, subframe as u32, 0);
-        assert_eq!(rt; next, said, "said in {subframe}");
-        let next = mission.next_run(config, subframe as u32, 0);
-        assert_eq!(rt; next, run, "run in {subframe}");
+    for (subframe, heard, said, run) in NEXT {
+        let next = [
+            mission.next_heard(config, subframe, 0),
+            mission.next_said(config, subframe, 0),
+            mission.next_run(config, subframe, 0),
+        ];
+        assert_eq!(rt; next, [heard, said, run], "in {subframe}");
     }
 }
 
@@ -146,8 +157,20 @@ fn a_sensors_words_come_round_and_round(rt: HostRuntime) -> Result<(), Fail> {
     let mission = eight_units(rt.alloc())?;
     assert!(rt; 0 < mission.sensors());
     assert_eq!(rt; mission.frames(), 10);
-    for (f, want) in [1, 2, 3, 1, 2, 3, 1, 2, 3, 1].into_iter().enumerate() {
-        let word = mission.sensed(0, f as u32);
+    let frames = [
+        (0, 1),
+        (1, 2),
+        (2, 3),
+        (3, 1),
+        (4, 2),
+        (5, 3),
+        (6, 1),
+        (7, 2),
+        (8, 3),
+        (9, 1),
+    ];
+    for (f, want) in frames {
+        let word = mission.sensed(0, f);
         assert_eq!(rt; word.get(), want, "frame {f}");
     }
     Ok(())

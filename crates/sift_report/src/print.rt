@@ -1,9 +1,10 @@
 //! Lines of a report, printed.
 
 ghost use Rattle.std.specs.Prelude.{◌≡◌, ◌<◌, ◌++◌, ◌∷◌, [], false, codes, string_bytes, OnOk};
-ghost use Rattle.std.specs.Fmt.{decimal, digit_glyph};
+ghost use Rattle.std.specs.Fmt.{decimal, digit_glyph, signed_decimal};
 ghost use Rattle.sift_base.specs.Units.{members};
 ghost use Rattle.sift_report.specs.Line.{caught_text, line_text, printed};
+ghost use Rattle.sift_report.specs.declared.line.ReportLine.TheVariants.{Frame, Last};
 ghost use Rattle.sift_report.specs.Part.{margin_text, ticks_text, unit_digit, units_text, word_text, words_text};
 
 use crate::line::ReportLine;
@@ -35,15 +36,7 @@ fn push_fields(text: &mut String, line: &ReportLine) -> Result<(), AllocError>
             bad,
         } => {
             push_head(text, *f, *u)?;
-            text.push_str("cfg=")?;
-            push_config(text, cfg)?;
-            write!(text, " clk={clk} in=")?;
-            push_words(text, ins)?;
-            text.push_str(" out=")?;
-            push_words(text, outs)?;
-            text.push_str(" bad=")?;
-            push_caught(text, *bad)?;
-            Ok(())
+            push_account(text, cfg, *clk, ins, outs, *bad)
         }
         ReportLine::Faulty { f, u } => {
             push_head(text, *f, *u)?;
@@ -58,25 +51,65 @@ fn push_fields(text: &mut String, line: &ReportLine) -> Result<(), AllocError>
             skew,
             slack,
             margin,
-        } => {
-            write!(text, "f={f} skew=")?;
-            push_ticks(text, *skew)?;
-            text.push_str(" slack=")?;
-            push_ticks(text, *slack)?;
-            push_margin(text, *margin)?;
-            Ok(())
-        }
+        } => push_figures(text, *f, *skew, *slack, *margin),
         ReportLine::Last {
             frames,
             cfg,
             margin,
-        } => {
-            write!(text, "end frames={frames} cfg=")?;
-            push_config(text, cfg)?;
-            push_margin(text, *margin)?;
-            Ok(())
-        }
+        } => push_end(text, *frames, cfg, *margin),
     }
+}
+
+/// Appends what a working unit of its own configuration tells, behind the frame and the unit.
+fn push_account(
+    text: &mut String,
+    cfg: &Config,
+    clk: i64,
+    ins: &[Word],
+    outs: &[Word],
+    bad: UnitSet,
+) -> Result<(), AllocError>
+    ensures { OnOk result (string_bytes text.new ≡ string_bytes text.old
+        ++ codes "cfg=" ++ units_text cfg.now ++ codes " clk=" ++ signed_decimal clk
+        ++ codes " in=" ++ words_text ins.now ++ codes " out=" ++ words_text outs.now ++ codes " bad=" ++ caught_text bad) }
+{
+    text.push_str("cfg=")?;
+    push_config(text, cfg)?;
+    write!(text, " clk={clk} in=")?;
+    push_words(text, ins)?;
+    text.push_str(" out=")?;
+    push_words(text, outs)?;
+    text.push_str(" bad=")?;
+    push_caught(text, bad)?;
+    Ok(())
+}
+
+/// Appends what is told of a whole frame.
+fn push_figures(
+    text: &mut String,
+    f: u32,
+    skew: Option<i64>,
+    slack: Option<i64>,
+    margin: bool,
+) -> Result<(), AllocError>
+    ensures { OnOk result (string_bytes text.new ≡ string_bytes text.old ++ line_text (Frame f skew slack margin)) }
+{
+    write!(text, "f={f} skew=")?;
+    push_ticks(text, skew)?;
+    text.push_str(" slack=")?;
+    push_ticks(text, slack)?;
+    push_margin(text, margin)?;
+    Ok(())
+}
+
+/// Appends the end of a report.
+fn push_end(text: &mut String, frames: u32, cfg: &Config, margin: bool) -> Result<(), AllocError>
+    ensures { OnOk result (string_bytes text.new ≡ string_bytes text.old ++ line_text (Last frames cfg.now margin)) }
+{
+    write!(text, "end frames={frames} cfg=")?;
+    push_config(text, cfg)?;
+    push_margin(text, margin)?;
+    Ok(())
 }
 
 /// Appends the frame and the unit that a line begins with, and a blank.

@@ -1,19 +1,14 @@
 //! Texts of tasks: their code, when it is run, puts out the words that their trees mean.
 
-ghost use Rattle.std.specs.Prelude.{◌≡◌, IfOk, length, sum};
 ghost use Rattle.sift_code.specs.Ends.{Fits};
 ghost use Rattle.sift_code.specs.Machine.{inputs};
-ghost use Rattle.sift_lang.specs.Sound.{AllNowsBelow, IsSound};
-ghost use Rattle.sift_lang.specs.Tree.{tree_of};
-ghost use Rattle.sift_parse.specs.Outcome.{AreNames};
-ghost use Rattle.sift_parse.specs.Roll.{first_word, roll_of};
 
+use crate::texts::task_of;
 use arrayvec::ArrayVec;
-use sift_base::{Name, Word};
+use sift_base::Word;
 use sift_code::{Checked, WORK_WORDS, run};
 use sift_compile::compile;
-use sift_lang::{Task, eval};
-use sift_parse::{Names, parse_task};
+use sift_lang::eval;
 use sift_pool::Pool;
 use std::alloc::Global;
 use std::process::Abort;
@@ -150,55 +145,6 @@ const READINGS: [Readings; 5] = [
 /// More instructions than a run of any of the texts takes.
 const BUDGET: u32 = 16_384;
 
-/// A name of a test.
-fn name(text: &str) -> Result<Name, Fail>
-    ensures { IfOk result (λ n. n.bytes ≡ text.now) }
-{
-    match Name::from(text) {
-        Ok(name) => Ok(name),
-        Err(_) => Err(Fail::new("a name of a test")),
-    }
-}
-
-/// The names that the texts use.
-fn names(alloc: Global) -> Result<Names, Fail>
-    ensures names { IfOk result (λ n. AreNames (roll_of n)) }
-    ensures sensors { IfOk result (λ n. length (roll_of n).sensors ≡ 2) }
-    ensures words { IfOk result (λ n. sum (roll_of n).sizes ≡ 11) }
-    ensures made { IfOk result (λ n. first_word (roll_of n) (roll_of n).this ≡ 2) }
-{
-    Ok(Names {
-        sensors: vec![in alloc; name("a")?, name("b")?]?,
-        tasks: vec![in alloc;
-            (name("first")?, 2),
-            (name("this")?, 8),
-            (name("later")?, 1),
-        ]?,
-        this: 1,
-    })
-}
-
-/// The task that a text is.
-fn task_of(alloc: Global, text: &str) -> Result<Task, Fail>
-    ensures sound { IfOk result (λ task. IsSound 2 11 (tree_of task)) }
-    ensures nows { IfOk result (λ task. AllNowsBelow 2 (tree_of task)) }
-{
-    let names = names(alloc)?;
-    match parse_task(alloc, text, &names) {
-        Ok(task) => Ok(task),
-        Err(stop) => Err(Fail::new(format_args!("{text:?}: {stop:?}"))),
-    }
-}
-
-/// The words of these numbers.
-fn words<const N: usize>(numbers: &[u16; N]) -> [Word; N] {
-    let mut words = [Word::of(0); N];
-    for (word, number) in words.iter_mut().zip(numbers) {
-        *word = Word::of(*number);
-    }
-    words
-}
-
 /// What the code puts out, run in a span that is full of other words.
 fn outputs(
     alloc: Global,
@@ -221,8 +167,10 @@ fn outputs(
 fn expect_meaning(rt: &impl Abort, alloc: Global, text: &str) -> Result<(), Fail> {
     let task = task_of(alloc, text)?;
     let code = compile(alloc, &task, 2, 11, BUDGET)?;
-    for (ins, made, last) in &READINGS {
-        let (ins, made, last) = (words(ins), words(made), words(last));
+    for (ins, made, last) in READINGS {
+        let ins = ins.map(Word::of);
+        let made = made.map(Word::of);
+        let last = last.map(Word::of);
         let want = eval(&task, &ins, &made[..2], &last);
         let got = outputs(alloc, &code, &ins, &made, &last)?;
         assert_eq!(rt; got.as_slice(), want.as_slice(), "{text:?} on {ins:?}");

@@ -1,12 +1,11 @@
-//! Rows of tests that call the crates below as their users do, one module a crate.
+//! Rows of tests that call the crates up to documents as their users do, one module a crate. Those of flights stand in
+//! `sift_flight_rows`.
 #![tactic(auto)]
 
 #[cfg(test)]
 mod agree;
 #[cfg(test)]
 mod base;
-#[cfg(test)]
-mod board;
 #[cfg(test)]
 mod buffer;
 #[cfg(test)]
@@ -22,11 +21,7 @@ mod config;
 #[cfg(test)]
 mod exec;
 #[cfg(test)]
-mod five;
-#[cfg(test)]
-mod flights;
-#[cfg(test)]
-mod flying;
+mod fixture;
 #[cfg(test)]
 mod generated;
 #[cfg(test)]
@@ -42,10 +37,6 @@ mod pool;
 #[cfg(test)]
 mod program;
 #[cfg(test)]
-mod report;
-#[cfg(test)]
-mod scenario;
-#[cfg(test)]
 mod script;
 #[cfg(test)]
 mod shapes;
@@ -54,6 +45,8 @@ mod skew;
 #[cfg(test)]
 mod table;
 #[cfg(test)]
-mod unit;
+mod texts;
+#[cfg(test)]
+mod trees;
 #[cfg(test)]
 mod vote;

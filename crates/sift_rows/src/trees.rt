@@ -1,13 +1,12 @@
 //! Texts with their trees.
 
-use super::fixture::names;
+use crate::texts::names;
 use sift_lang::{Expr, Stmt};
 use sift_parse::parse_task;
 use std::alloc::Global;
 use std::test::Fail;
 
-/// Texts of the task `count`, with their trees. `height` is sensor 1, the words of `first` are 0
-/// and 1, and those of `later` are 3 to 5.
+/// Texts of the task `this`, with their trees. `b` is sensor 1, the words of `first` are 0 and 1, and that of `later` is 10.
 const TREES: [(&str, &str); 10] = [
     ("", "{}"),
     ("out 0 = 1 - 2 - 3;", "{out 0 (Sub (Sub 1 2) 3);}"),
@@ -25,8 +24,8 @@ const TREES: [(&str, &str); 10] = [
     ),
     ("let a = 5; a = 1 - -2;", "{let 5;set 0 (Sub 1 -2);}"),
     (
-        "let a = mid(1, sense height, now first.1 + last later.2);",
-        "{let (mid 1 sense 1 (Add now 1 last 5));}",
+        "let a = mid(1, sense b, now first.1 + last later.0);",
+        "{let (mid 1 sense 1 (Add now 1 last 10));}",
     ),
     (
         "let a = 5; let b = 6; if a { out 0 = 1; } else { b = 2; }",
