@@ -9,7 +9,7 @@ use std::alloc::Global;
 use std::test::Fail;
 
 /// Four units, a sensor and two words: ten slots.
-pub const LAYOUT: Layout = Layout {
+pub(crate) const LAYOUT: Layout = Layout {
     units: 4,
     sensors: 1,
     words: 2,
@@ -20,7 +20,7 @@ const FOUR: &str = "units = 4\nframes = 1\nsubframes = 20\nsensor = [{name = 'x'
     task = [{name = 'a', start = [5], text = 'out 0 = sense x;'}, {name = 'b', start = [7], text = 'out 0 = sense x;'}]\n";
 
 /// Five units and two frames.
-pub const FIVE: &str =
+pub(crate) const FIVE: &str =
     "units = 5\nframes = 2\nsubframes = 20\nsensor = [{name = 'x', words = [1]}]\n\
     task = [{name = 'a', start = [5], text = 'out 0 = sense x;'}, {name = 'b', start = [7], text = 'out 0 = sense x;'}]\n";
 
@@ -36,13 +36,13 @@ const EIGHT: &str =
     {size = 8, run = [4, 4], poll = [7, 9], at = ['012', '345']}]\n";
 
 /// The mission that a document states.
-pub fn stated(alloc: Global, document: &str) -> Result<Mission, Fail> {
+pub(crate) fn stated(alloc: Global, document: &str) -> Result<Mission, Fail> {
     let table = toml::table_from_str(alloc, document)?;
     Ok(mission_of(alloc, &table)?)
 }
 
 /// The mission of four units.
-pub fn four_units(alloc: Global) -> Result<Mission, Fail>
+pub(crate) fn four_units(alloc: Global) -> Result<Mission, Fail>
     ensures { IfOk result (λ mission. (mission.layout ≡ record { units = 4; sensors = 1; words = 2 }) × (mission.frames ≡ 1) × (mission.units ≡ 4)) }
 {
     let mission = stated(alloc, FOUR)?;
@@ -54,7 +54,7 @@ pub fn four_units(alloc: Global) -> Result<Mission, Fail>
 }
 
 /// The mission of eight units.
-pub fn eight_units(alloc: Global) -> Result<Mission, Fail>
+pub(crate) fn eight_units(alloc: Global) -> Result<Mission, Fail>
     ensures { IfOk result (λ mission. mission.units ≡ 8) }
 {
     let mission = stated(alloc, EIGHT)?;

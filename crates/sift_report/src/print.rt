@@ -1,7 +1,7 @@
 //! Lines of a report, printed.
 
 ghost use Rattle.std.specs.Prelude.{◌≡◌, ◌<◌, ◌++◌, ◌∷◌, [], false, codes, string_bytes, OnOk};
-ghost use Rattle.std.specs.Fmt.{decimal, digit_glyph, signed_decimal};
+ghost use Rattle.std.specs.Fmt.{decimal, digit_glyph};
 ghost use Rattle.sift_base.specs.Units.{members};
 ghost use Rattle.sift_report.specs.Line.{caught_text, line_text, printed};
 ghost use Rattle.sift_report.specs.declared.line.ReportLine.TheVariants.{Frame, Last};
@@ -36,7 +36,15 @@ fn push_fields(text: &mut String, line: &ReportLine) -> Result<(), AllocError>
             bad,
         } => {
             push_head(text, *f, *u)?;
-            push_account(text, cfg, *clk, ins, outs, *bad)
+            text.push_str("cfg=")?;
+            push_config(text, cfg)?;
+            write!(text, " clk={clk} in=")?;
+            push_words(text, ins)?;
+            text.push_str(" out=")?;
+            push_words(text, outs)?;
+            text.push_str(" bad=")?;
+            push_caught(text, *bad)?;
+            Ok(())
         }
         ReportLine::Faulty { f, u } => {
             push_head(text, *f, *u)?;
@@ -58,30 +66,6 @@ fn push_fields(text: &mut String, line: &ReportLine) -> Result<(), AllocError>
             margin,
         } => push_end(text, *frames, cfg, *margin),
     }
-}
-
-/// Appends what a working unit of its own configuration tells, behind the frame and the unit.
-fn push_account(
-    text: &mut String,
-    cfg: &Config,
-    clk: i64,
-    ins: &[Word],
-    outs: &[Word],
-    bad: UnitSet,
-) -> Result<(), AllocError>
-    ensures { OnOk result (string_bytes text.new ≡ string_bytes text.old
-        ++ codes "cfg=" ++ units_text cfg.now ++ codes " clk=" ++ signed_decimal clk
-        ++ codes " in=" ++ words_text ins.now ++ codes " out=" ++ words_text outs.now ++ codes " bad=" ++ caught_text bad) }
-{
-    text.push_str("cfg=")?;
-    push_config(text, cfg)?;
-    write!(text, " clk={clk} in=")?;
-    push_words(text, ins)?;
-    text.push_str(" out=")?;
-    push_words(text, outs)?;
-    text.push_str(" bad=")?;
-    push_caught(text, bad)?;
-    Ok(())
 }
 
 /// Appends what is told of a whole frame.

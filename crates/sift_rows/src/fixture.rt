@@ -5,7 +5,7 @@ ghost use Rattle.std.specs.Prelude.{◌≡◌, ◌<◌};
 use sift_base::{UnitId, Word};
 
 /// The unit of a number.
-pub fn unit(n: u8) -> UnitId
+pub(crate) fn unit(n: u8) -> UnitId
     requires { n < 8 }
     ensures { result ≡ n }
 {
@@ -13,11 +13,11 @@ pub fn unit(n: u8) -> UnitId
 }
 
 /// The unit of a number that a row has.
-pub fn unit_of(n: u8) -> UnitId {
+pub(crate) fn unit_of(n: u8) -> UnitId {
     UnitId::of(n).unwrap_or_default()
 }
 
 /// A word that was heard.
-pub fn word(n: u16) -> Option<Word> {
+pub(crate) fn word(n: u16) -> Option<Word> {
     Some(Word::of(n))
 }

@@ -10,43 +10,54 @@ use std::alloc::{AllocError, Global};
 use std::process::Abort;
 use std::test::Fail;
 
-/// Texts, as a head, a piece so many times, and a tail, with the limit that is passed and the place.
-#[rattlefmt::skip]
-const PASSED_LIMITS: [(&str, &str, u16, &str, Which, u32); 24] = [
-    ("out 0 = 65536;", "", 0, "", Number, 8),
-    ("out 0 = 0x10000;", "", 0, "", Number, 8),
-    ("repeat 1025 { }", "", 0, "", Repeat, 7),
-    ("repeat 65535 { }", "", 0, "", Repeat, 7),
-    ("let abcdefghijklmnopq = 1;", "", 0, "", Name, 4),
-    // two at one place
-    ("abcdefghijklmnopq = 1;", "", 0, "", Name, 0),
-    ("out 0 = sense abcdefghijklmnopq;", "", 0, "", Name, 14),
-    ("out 0 = now abcdefghijklmnopq.0;", "", 0, "", Name, 12),
-    ("out 70000 = 1;", "", 0, "", Number, 4),
-    ("out 0 = now first.70000;", "", 0, "", Number, 18),
-    ("repeat 70000 { }", "", 0, "", Number, 7),
-    // the first place comes before the kind
-    ("out 0 = 70000 $", "", 0, "", Number, 8),
-    // a 33rd local, hidden ones counted
-    ("", "let x = 1; ", 33, "out 0 = x;", Locals, 356),
-    ("let y = 1; if 1 { ", "let x = 1; ", 32, "}", Locals, 363),
-    // two at one place
-    ("", "let x = 1; ", 32, "let abcdefghijklmnopq;", Name, 356),
-    // more than 4,096 bytes
-    ("out 0 = 1;", " ", 4087, "", Text, 4096),
-    ("$", " ", 4096, "", Text, 4096),
-    // more levels than may be open
-    ("out 0 = ", "(", 33, "1;", Depth, 40),
-    ("out 0 = ", "-", 33, "1;", Depth, 40),
-    ("out 0 = ", "-(", 17, "1;", Depth, 40),
-    ("out 0 = ", "mid(", 33, "1;", Depth, 139),
-    ("", "if 1 { ", 33, "out 0 = 1;", Depth, 229),
-    ("", "repeat 1 { ", 33, "out 0 = 1;", Depth, 361),
-    ("if 1 { out 0 = ", "(", 32, "1;", Depth, 46),
+/// Texts with a number that is too large.
+const NUMBERS: [&str; 6] = [
+    "out 0 = 65536;",
+    "out 0 = 0x10000;",
+    "out 70000 = 1;",
+    "out 0 = now first.70000;",
+    "repeat 70000 { }",
+    "out 0 = 70000 $",
 ];
 
-/// The longest chains of operators, which are read, evaluated and dropped, with their word: a piece so many times.
-const CHAINS: [(&str, u16, u16); 2] = [("+1", 2043, 2044), ("<<0", 1362, 1)];
+/// Texts with a name that is too long.
+const NAMES: [&str; 4] = [
+    "let abcdefghijklmnopq = 1;",
+    "abcdefghijklmnopq = 1;",
+    "out 0 = sense abcdefghijklmnopq;",
+    "out 0 = now abcdefghijklmnopq.0;",
+];
+
+/// Texts with too many rounds.
+const REPEATS: [&str; 2] = ["repeat 1025 { }", "repeat 65535 { }"];
+
+/// Pieces that open levels in an expression, with as many of them as are too many.
+const NESTS: [(&str, u16); 4] = [("(", 33), ("-", 33), ("-(", 17), ("mid(", 33)];
+
+/// Expects that a text passes this limit.
+fn expect(rt: &impl Abort, alloc: Global, text: &str, want: Which) -> Result<(), Fail> {
+    let names = names(alloc)?;
+    let passed = match parse_task(alloc, text, &names) {
+        Err(ParseStop::Limit { which, .. }) => Some(which),
+        _ => None,
+    };
+    assert_eq!(rt; passed, Some(want), "{text:?}");
+    Ok(())
+}
+
+#[test]
+fn texts_pass_a_limit(rt: HostRuntime) -> Result<(), Fail> {
+    for text in NUMBERS {
+        expect(&rt, rt.alloc(), text, Number)?;
+    }
+    for text in NAMES {
+        expect(&rt, rt.alloc(), text, Name)?;
+    }
+    for text in REPEATS {
+        expect(&rt, rt.alloc(), text, Repeat)?;
+    }
+    Ok(())
+}
 
 /// A head, a piece so many times, and a tail.
 fn long(
@@ -64,20 +75,34 @@ fn long(
     Ok(text)
 }
 
-/// Why a text is refused, where it is.
-fn refusal(alloc: Global, text: &str) -> Result<Option<ParseStop>, Fail> {
-    let names = names(alloc)?;
-    Ok(parse_task(alloc, text, &names).err())
+#[test]
+fn long_texts_pass_a_limit(rt: HostRuntime) -> Result<(), Fail> {
+    let alloc = rt.alloc();
+    let locals = long(alloc, "", "let x = 1; ", 33, "out 0 = x;")?;
+    expect(&rt, alloc, &locals, Locals)?;
+    let hidden = long(alloc, "let y = 1; if 1 { ", "let x = 1; ", 32, "}")?;
+    expect(&rt, alloc, &hidden, Locals)?;
+    let name = long(alloc, "", "let x = 1; ", 32, "let abcdefghijklmnopq;")?;
+    expect(&rt, alloc, &name, Name)?;
+    let text = long(alloc, "out 0 = 1;", " ", 4087, "")?;
+    expect(&rt, alloc, &text, Text)?;
+    let no_token = long(alloc, "$", " ", 4096, "")?;
+    expect(&rt, alloc, &no_token, Text)
 }
 
 #[test]
-fn texts_pass_a_limit(rt: HostRuntime) -> Result<(), Fail> {
-    for (head, piece, count, tail, which, at) in PASSED_LIMITS {
-        let text = long(rt.alloc(), head, piece, count, tail)?;
-        let got = refusal(rt.alloc(), &text)?;
-        assert_eq!(rt; got, Some(ParseStop::Limit { which, at }), "{text:?}");
+fn deep_texts_pass_a_limit(rt: HostRuntime) -> Result<(), Fail> {
+    let alloc = rt.alloc();
+    for (piece, count) in NESTS {
+        let text = long(alloc, "out 0 = ", piece, count, "1;")?;
+        expect(&rt, alloc, &text, Depth)?;
     }
-    Ok(())
+    for piece in ["if 1 { ", "repeat 1 { "] {
+        let text = long(alloc, "", piece, 33, "out 0 = 1;")?;
+        expect(&rt, alloc, &text, Depth)?;
+    }
+    let mixed = long(alloc, "if 1 { out 0 = ", "(", 32, "1;")?;
+    expect(&rt, alloc, &mixed, Depth)
 }
 
 /// The first output word of a text's task where all words are 0.
@@ -88,9 +113,10 @@ fn first_word(alloc: Global, text: &str) -> Result<Option<u16>, Fail> {
     Ok(words.first().map(|word| word.get()))
 }
 
+/// The longest chains of operators are read, evaluated and dropped.
 #[test]
 fn long_chains_have_their_word(rt: HostRuntime) -> Result<(), Fail> {
-    for (piece, count, want) in CHAINS {
+    for (piece, count, want) in [("+1", 2043, 2044), ("<<0", 1362, 1)] {
         let text = long(rt.alloc(), "out 0 = 1", piece, count, ";")?;
         let got = first_word(rt.alloc(), &text)?;
         assert_eq!(rt; got, Some(want), "{count} times {piece:?}");

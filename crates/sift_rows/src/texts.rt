@@ -23,7 +23,7 @@ fn name(text: &str) -> Result<Name, Fail>
 }
 
 /// The sensors `a` and `b`, and the tasks `first` of two words, `this` of eight, whose text it is, and `later` of one.
-pub fn names(alloc: Global) -> Result<Names, Fail>
+pub(crate) fn names(alloc: Global) -> Result<Names, Fail>
     ensures names { IfOk result (λ n. AreNames (roll_of n)) }
     ensures sensors { IfOk result (λ n. length (roll_of n).sensors ≡ 2) }
     ensures words { IfOk result (λ n. sum (roll_of n).sizes ≡ 11) }
@@ -41,7 +41,7 @@ pub fn names(alloc: Global) -> Result<Names, Fail>
 }
 
 /// The task that a text is.
-pub fn task_of(alloc: Global, text: &str) -> Result<Task, Fail>
+pub(crate) fn task_of(alloc: Global, text: &str) -> Result<Task, Fail>
     ensures sound { IfOk result (λ task. IsSound 2 11 (tree_of task)) }
     ensures nows { IfOk result (λ task. AllNowsBelow 2 (tree_of task)) }
 {
