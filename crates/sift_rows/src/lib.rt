@@ -1,5 +1,5 @@
-//! Rows of tests that call the crates up to documents as their users do, one module a crate. Those of flights stand in
-//! `sift_flight_rows`.
+//! Rows of tests that call the lowest crates as their users do, one module a crate. Those of tasks and their code stand in
+//! `sift_task_rows`, and those of missions and flights in `sift_flight_rows`.
 #![tactic(auto)]
 
 #[cfg(test)]
@@ -11,31 +11,15 @@ mod buffer;
 #[cfg(test)]
 mod clock;
 #[cfg(test)]
-mod code;
-#[cfg(test)]
-mod compile;
-#[cfg(test)]
-mod compiled;
-#[cfg(test)]
 mod config;
 #[cfg(test)]
 mod exec;
 #[cfg(test)]
 mod fixture;
 #[cfg(test)]
-mod generated;
-#[cfg(test)]
 mod io;
 #[cfg(test)]
-mod lang;
-#[cfg(test)]
-mod machine;
-#[cfg(test)]
-mod parse;
-#[cfg(test)]
 mod pool;
-#[cfg(test)]
-mod program;
 #[cfg(test)]
 mod script;
 #[cfg(test)]
@@ -44,9 +28,5 @@ mod shapes;
 mod skew;
 #[cfg(test)]
 mod table;
-#[cfg(test)]
-mod texts;
-#[cfg(test)]
-mod trees;
 #[cfg(test)]
 mod vote;

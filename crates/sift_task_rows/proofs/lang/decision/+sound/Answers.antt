@@ -1,8 +1,8 @@
 use Rattle.std.proofs.Common.{◌≡◌, rules, arith}
 use Rattle.sift_lang.specs.declared.tree.Stmt.{the_lemmas}
 use Rattle.sift_lang.specs.Tree.{term_of, statement_of, block_of, choose, choose_else, repeat}
-use Rattle.sift_rows.proofs.Fits.{Fits-choose, Fits-choose_else, Fits-choose_else-first, Fits-repeat}
-use Rattle.sift_rows.proofs.lang.decision.+sound.Goals as goal
+use Rattle.sift_task_rows.proofs.Fits.{Fits-choose, Fits-choose_else, Fits-choose_else-first, Fits-repeat}
+use Rattle.sift_task_rows.proofs.lang.decision.+sound.Goals as goal
 
 pub is_sound_statement-returns-then-is_sound_term :
     goal.is_sound_statement-returns-then-is_sound_term

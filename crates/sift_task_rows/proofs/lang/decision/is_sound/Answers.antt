@@ -1,5 +1,5 @@
 use Rattle.std.proofs.Common.{arith}
-use Rattle.sift_rows.proofs.lang.decision.is_sound.Goals as goal
+use Rattle.sift_task_rows.proofs.lang.decision.is_sound.Goals as goal
 
 pub returns-then-outputs-le-OUTPUT_LIMIT : goal.returns-then-outputs-le-OUTPUT_LIMIT
 returns-then-outputs-le-OUTPUT_LIMIT c =

@@ -1,5 +1,5 @@
 use Rattle.std.proofs.Common.{◌≡◌, length}
-use Rattle.sift_rows.proofs.program.expect.Given as goal
+use Rattle.sift_task_rows.proofs.program.expect.Given as goal
 
 -- the machine has a word for each start
 abbrev pub invariant-loop-sensed : goal.invariant-loop-sensed

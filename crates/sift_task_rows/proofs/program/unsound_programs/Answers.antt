@@ -1,6 +1,6 @@
 use Rattle.std.proofs.Common.{refl, lit<, arith}
 use Rattle.sift_lang.specs.Tree.{TaskTree, end}
-use Rattle.sift_rows.proofs.program.unsound_programs.Goals as goal
+use Rattle.sift_task_rows.proofs.program.unsound_programs.Goals as goal
 
 pub returns-clause-sensor_missing : goal.returns-clause-sensor_missing
 returns-clause-sensor_missing c =

@@ -2,8 +2,8 @@ use Rattle.std.proofs.Common.{◌≤◌, ◌↔◌, drop}
 use Rattle.sift_lang.specs.Limits.{local_limit}
 use Rattle.sift_lang.specs.Tree.{block_of}
 use Rattle.sift_lang.specs.Sound.{Bounds}
-use Rattle.sift_rows.proofs.Fits.{Fits}
-use Rattle.sift_rows.proofs.lang.decision.+sound.Given as goal
+use Rattle.sift_task_rows.proofs.Fits.{Fits}
+use Rattle.sift_task_rows.proofs.lang.decision.+sound.Given as goal
 
 -- the statements that are left are sound exactly where all of them are
 abbrev pub invariant-is_sound_block-loop-s : goal.invariant-is_sound_block-loop-s
