@@ -44,5 +44,4 @@ IsTold in_before in_after out_before out_after = (text : List ℕ) × TakesAll i
 abbrev pub IsAnswered : Inflow → Inflow → Outflow → Outflow → ℕ → Type 0
 IsAnswered in_before in_after out_before out_after status =
     ((status ≡ reread_status) × IsReread in_before in_after out_before out_after)
-    ⊎ ((status ≡ no_line_status) × IsTold in_before in_after out_before out_after)
-    ⊎ (status ≡ gave_up_status)
+    ⊎ (((status ≡ no_line_status) × IsTold in_before in_after out_before out_after) ⊎ (status ≡ gave_up_status))

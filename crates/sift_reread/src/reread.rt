@@ -25,7 +25,7 @@ impl From<AllocError> for Stop {
     }
 }
 
-/// The report, read line by line and printed again, or where it stops to be one.
+/// The report, read line by line and printed again, or where it stops to be one. It has no more lines than bytes.
 pub fn reread(alloc: Global, report: &str) -> Result<String, Stop>
     ensures same { IfOk result (λ text. string_bytes text ≡ report.now) }
     ensures read { IfOk result (λ text. IsReport (string_bytes text)) }
@@ -33,14 +33,15 @@ pub fn reread(alloc: Global, report: &str) -> Result<String, Stop>
 {
     let mut text = String::new(alloc);
     let mut rest = report;
-    let mut number = 1;
-    while !rest.is_empty() {
+    for lines in 0..report.len() {
+        if rest.is_empty() {
+            break;
+        }
         let Some((line, later)) = first_line(rest) else {
-            return Err(Stop::NoLine(number));
+            return Err(Stop::NoLine(lines + 1));
         };
         push_line(&mut text, &line)?;
         rest = later;
-        number += 1;
     }
     Ok(text)
 }

@@ -65,9 +65,11 @@ fn pair_sum_and_delay(alloc: Global) -> Result<Program, NoMemory>
     })
 }
 
-fn expect_words<const W: usize>(rt: &impl Abort, words: &[Word], want: &[u16; W], row: &str) {
-    let want = want.map(Word::of);
-    assert_eq!(rt; words, want.as_slice(), "{row}");
+fn expect_words(rt: &impl Abort, words: &[Word], want: &[u16], row: &str) {
+    assert_eq!(rt; words.len(), want.len(), "{row}");
+    for (word, want) in words.iter().zip(want) {
+        assert_eq!(rt; word.get(), *want, "{row}");
+    }
 }
 
 /// Runs the program over the word that its sensor has in each frame, and expects the words beside it.
