@@ -170,6 +170,7 @@ fn a_sensors_words_come_round_and_round(rt: HostRuntime) -> Result<(), Fail> {
         (9, 1),
     ];
     for (f, want) in frames {
+        assert!(rt; f < mission.frames(), "frame {f}");
         let word = mission.sensed(0, f);
         assert_eq!(rt; word.get(), want, "frame {f}");
     }
