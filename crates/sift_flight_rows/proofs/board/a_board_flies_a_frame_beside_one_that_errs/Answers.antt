@@ -1,4 +1,4 @@
-use Rattle.std.proofs.Common.{◌≡◌, sym, ◌∙◌, subst}
+use Rattle.std.proofs.Common.{sym, ◌∙◌, subst}
 use Rattle.sift_buffer.specs.LonePorts.{view_of}
 use Rattle.sift_unit.specs.Boards.{Drives}
 use Rattle.sift_unit.specs.Flown.{mission_of}
