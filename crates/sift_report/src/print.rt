@@ -4,6 +4,7 @@ ghost use Rattle.std.specs.Prelude.{◌≡◌, ◌<◌, ◌++◌, ◌∷◌, [],
 ghost use Rattle.std.specs.Fmt.{decimal, digit_glyph};
 ghost use Rattle.sift_base.specs.Units.{members};
 ghost use Rattle.sift_report.specs.Line.{caught_text, line_text, printed};
+ghost use Rattle.sift_report.specs.declared.line.ReportLine.TheVariants.{Frame, Last};
 ghost use Rattle.sift_report.specs.Part.{margin_text, ticks_text, unit_digit, units_text, word_text, words_text};
 
 use crate::line::ReportLine;
@@ -58,25 +59,41 @@ fn push_fields(text: &mut String, line: &ReportLine) -> Result<(), AllocError>
             skew,
             slack,
             margin,
-        } => {
-            write!(text, "f={f} skew=")?;
-            push_ticks(text, *skew)?;
-            text.push_str(" slack=")?;
-            push_ticks(text, *slack)?;
-            push_margin(text, *margin)?;
-            Ok(())
-        }
+        } => push_figures(text, *f, *skew, *slack, *margin),
         ReportLine::Last {
             frames,
             cfg,
             margin,
-        } => {
-            write!(text, "end frames={frames} cfg=")?;
-            push_config(text, cfg)?;
-            push_margin(text, *margin)?;
-            Ok(())
-        }
+        } => push_end(text, *frames, cfg, *margin),
     }
+}
+
+/// Appends what is told of a whole frame.
+fn push_figures(
+    text: &mut String,
+    f: u32,
+    skew: Option<i64>,
+    slack: Option<i64>,
+    margin: bool,
+) -> Result<(), AllocError>
+    ensures { OnOk result (string_bytes text.new ≡ string_bytes text.old ++ line_text (Frame f skew slack margin)) }
+{
+    write!(text, "f={f} skew=")?;
+    push_ticks(text, skew)?;
+    text.push_str(" slack=")?;
+    push_ticks(text, slack)?;
+    push_margin(text, margin)?;
+    Ok(())
+}
+
+/// Appends the end of a report.
+fn push_end(text: &mut String, frames: u32, cfg: &Config, margin: bool) -> Result<(), AllocError>
+    ensures { OnOk result (string_bytes text.new ≡ string_bytes text.old ++ line_text (Last frames cfg.now margin)) }
+{
+    write!(text, "end frames={frames} cfg=")?;
+    push_config(text, cfg)?;
+    push_margin(text, margin)?;
+    Ok(())
 }
 
 /// Appends the frame and the unit that a line begins with, and a blank.

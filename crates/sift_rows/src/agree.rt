@@ -1,11 +1,8 @@
 //! Rows of agreement.
 
+use crate::fixture::{unit, word};
 use sift_agree::{agree, relay_catches};
-use sift_base::{UnitId, UnitSet, Word};
-
-fn word(n: u16) -> Option<Word> {
-    Some(Word::of(n))
-}
+use sift_base::{UnitSet, Word};
 
 #[test]
 fn the_majority_of_what_was_heard_is_agreed_on(rt: HostRuntime) {
@@ -47,10 +44,7 @@ fn the_majority_of_what_was_heard_is_agreed_on(rt: HostRuntime) {
 
 #[test]
 fn units_that_relay_another_word_are_caught(rt: HostRuntime) {
-    let unit_1 = UnitId::of(1).expect(&rt, "unit 1");
-    let unit_3 = UnitId::of(3).expect(&rt, "unit 3");
-    let unit_7 = UnitId::of(7).expect(&rt, "unit 7");
-    let units = [unit_1, unit_3, unit_7];
+    let units = [unit(1), unit(3), unit(7)];
     let cases = [
         (
             Some(9),

@@ -1,9 +1,10 @@
 //! Cells, journals, and a port among units that the test moves.
-ghost use Rattle.std.specs.Prelude.{◌≡◌, IfOk, Some};
+ghost use Rattle.std.specs.Prelude.{◌≡◌, Some};
 ghost use Rattle.sift_buffer.specs.Conditions.{MayEnter};
 ghost use Rattle.sift_buffer.specs.Views.{PortMaySay, view_with_said};
 ghost use Rattle.sift_rows.specs.Ports.{KeepsActs};
 
+use crate::fixture::unit;
 use sift_base::{Layout, UnitId, Word};
 use sift_buffer::{Entering, Journal, LonePort, Port, pack, take};
 use std::mem::size_of;
@@ -49,16 +50,11 @@ fn cells_give_their_word_to_their_own_stamp(rt: HostRuntime) {
     }
 }
 
-// The unit with this number.
-fn unit(n: u8) -> Result<UnitId, Fail>
-    ensures { IfOk result (λ unit. unit ≡ n) }
-{
-    Ok(UnitId::of(n).ok_or("no such unit")?)
-}
-
 #[test]
 fn a_journal_gives_what_was_noted_last(rt: HostRuntime) -> Result<(), Fail> {
-    let (own, one, three) = (unit(0)?, unit(1)?, unit(3)?);
+    let own = unit(0);
+    let one = unit(1);
+    let three = unit(3);
     let mut journal = Journal::make(rt.alloc(), LAYOUT, own, 2)?;
     let blank = journal.said(1, 8, three);
     assert_eq!(rt; blank, None, "nothing was noted");
@@ -112,7 +108,9 @@ fn try_once<T: Port>(port: &mut T) -> Entering
 
 #[test]
 fn a_unit_says_by_one_store(rt: HostRuntime) -> Result<(), Fail> {
-    let (own, one, two) = (unit(0)?, unit(1)?, unit(2)?);
+    let own = unit(0);
+    let one = unit(1);
+    let two = unit(2);
     let mut port = LonePort::make(rt.alloc(), LAYOUT, own, 1)?;
     say_five(&mut port, one);
     let (cell, other_cell) = (port.cell(one, 0), port.cell(two, 0));
@@ -126,7 +124,10 @@ fn a_unit_says_by_one_store(rt: HostRuntime) -> Result<(), Fail> {
 
 #[test]
 fn a_unit_enters_where_none_is_behind(rt: HostRuntime) -> Result<(), Fail> {
-    let (own, one, two, three) = (unit(0)?, unit(1)?, unit(2)?, unit(3)?);
+    let own = unit(0);
+    let one = unit(1);
+    let two = unit(2);
+    let three = unit(3);
     let mut port = LonePort::make(rt.alloc(), LAYOUT, own, 1)?;
     let first = port.try_enter();
     assert_eq!(rt; first, Entering::Entered, "nobody is behind 0");
@@ -151,9 +152,11 @@ fn a_unit_enters_where_none_is_behind(rt: HostRuntime) -> Result<(), Fail> {
 
 #[test]
 fn a_unit_hears_the_word_with_its_stamp(rt: HostRuntime) -> Result<(), Fail> {
-    let (own, one, two) = (unit(3)?, unit(1)?, unit(2)?);
+    let own = unit(3);
+    let one = unit(1);
+    let two = unit(2);
     let mut port = LonePort::make(rt.alloc(), LAYOUT, own, 1)?;
-    port.set_number(unit(0)?, 1);
+    port.set_number(unit(0), 1);
     port.set_number(one, 1);
     port.set_number(two, 4);
     port.set_cell(one, 8, pack(1, Some(Word::of(9))));

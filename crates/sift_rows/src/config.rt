@@ -1,11 +1,8 @@
 //! Rows of configurations.
 
-use sift_base::{UnitId, UnitSet};
+use crate::fixture::unit_of;
+use sift_base::UnitSet;
 use sift_config::Config;
-
-fn unit(n: u8) -> UnitId {
-    UnitId::of(n).unwrap_or_default()
-}
 
 #[test]
 fn units_have_positions_in_their_order(rt: HostRuntime) {
@@ -13,17 +10,17 @@ fn units_have_positions_in_their_order(rt: HostRuntime) {
     assert_eq!(rt; all.len(), 7);
     let some = all.without(UnitSet::of_bits(0b001_0010)).unwrap_or(all);
     assert_eq!(rt; some.len(), 5);
-    for (position, n) in [0, 2, 3, 5, 6].into_iter().enumerate() {
-        assert_eq!(rt; some.unit_at(position), unit(n), "position {position}");
-        assert_eq!(rt; some.position_of(unit(n)), Some(position), "unit {n}");
-        assert_eq!(rt; some.has(unit(n)), true, "unit {n}");
+    for (position, n) in [(0, 0), (1, 2), (2, 3), (3, 5), (4, 6)] {
+        assert_eq!(rt; some.unit_at(position), unit_of(n), "position {position}");
+        assert_eq!(rt; some.position_of(unit_of(n)), Some(position), "unit {n}");
+        assert_eq!(rt; some.has(unit_of(n)), true, "unit {n}");
     }
     for n in [1, 4, 7] {
-        assert_eq!(rt; some.position_of(unit(n)), None, "unit {n}");
-        assert_eq!(rt; some.has(unit(n)), false, "unit {n}");
+        assert_eq!(rt; some.position_of(unit_of(n)), None, "unit {n}");
+        assert_eq!(rt; some.has(unit_of(n)), false, "unit {n}");
     }
     for (x, n) in [(0, 0), (1, 2), (4, 6), (5, 0), (7, 3)] {
-        assert_eq!(rt; some.reader_of(x), unit(n), "sensor {x}");
+        assert_eq!(rt; some.reader_of(x), unit_of(n), "sensor {x}");
     }
 }
 

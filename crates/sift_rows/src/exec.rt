@@ -1,20 +1,17 @@
 //! Rows of the executive.
 
-use sift_base::{UnitId, UnitSet, Word};
+use crate::fixture::unit_of;
+use sift_base::{UnitSet, Word};
 use sift_config::Config;
 use sift_exec::{Kind, Recorder, convict, next_config};
-
-fn unit(n: u8) -> UnitId {
-    UnitId::of(n).unwrap_or_default()
-}
 
 #[test]
 fn a_recorder_keeps_the_notes_since_it_was_cleared(rt: HostRuntime) {
     let mut recorder = Recorder::new();
     assert_eq!(rt; recorder.mask(), UnitSet::empty());
-    recorder.note(unit(3), Kind::Poll);
-    recorder.note(unit(5), Kind::Clock);
-    recorder.note(unit(3), Kind::Relay);
+    recorder.note(unit_of(3), Kind::Poll);
+    recorder.note(unit_of(5), Kind::Clock);
+    recorder.note(unit_of(3), Kind::Relay);
     let caught = recorder.catches();
     assert_eq!(rt; caught.poll.bits(), 0b00_1000);
     assert_eq!(rt; caught.relay.bits(), 0b00_1000);

@@ -1,4 +1,5 @@
-//! Rows of tests that call the crates below as their users do, one module a crate.
+//! Rows of tests that call the lowest crates as their users do, one module a crate. Those of tasks and their code stand in
+//! `sift_task_rows`, and those of missions and flights in `sift_flight_rows`.
 #![tactic(auto)]
 
 #[cfg(test)]
@@ -6,45 +7,19 @@ mod agree;
 #[cfg(test)]
 mod base;
 #[cfg(test)]
-mod board;
-#[cfg(test)]
 mod buffer;
 #[cfg(test)]
 mod clock;
-#[cfg(test)]
-mod code;
-#[cfg(test)]
-mod compile;
-#[cfg(test)]
-mod compiled;
 #[cfg(test)]
 mod config;
 #[cfg(test)]
 mod exec;
 #[cfg(test)]
-mod five;
-#[cfg(test)]
-mod flights;
-#[cfg(test)]
-mod flying;
-#[cfg(test)]
-mod generated;
+mod fixture;
 #[cfg(test)]
 mod io;
 #[cfg(test)]
-mod lang;
-#[cfg(test)]
-mod machine;
-#[cfg(test)]
-mod parse;
-#[cfg(test)]
 mod pool;
-#[cfg(test)]
-mod program;
-#[cfg(test)]
-mod report;
-#[cfg(test)]
-mod scenario;
 #[cfg(test)]
 mod script;
 #[cfg(test)]
@@ -53,7 +28,5 @@ mod shapes;
 mod skew;
 #[cfg(test)]
 mod table;
-#[cfg(test)]
-mod unit;
 #[cfg(test)]
 mod vote;

@@ -3,8 +3,9 @@
 ghost use Rattle.sift_base.specs.Layout.{IsLayout};
 ghost use Rattle.sift_base.specs.Shapes.{shapes_of, AreShapes};
 
+use crate::fixture::unit_of;
 use crate::shapes::{digits, one_task, two_tasks};
-use sift_base::{Layout, NoMemory, Shapes, Slot, UnitId, Word};
+use sift_base::{Layout, NoMemory, Shapes, Slot, Word};
 use sift_script::{Broken, Entry, Item, Plan, Script, SlotKind, check};
 use std::alloc::Global;
 use std::process::Abort;
@@ -206,11 +207,6 @@ fn scripts_by_their_items(rt: HostRuntime) -> Result<(), Fail> {
     Ok(())
 }
 
-/// The unit of a number below 8.
-fn unit(rt: &impl Abort, number: u8) -> UnitId {
-    UnitId::of(number).expect(rt, "a unit")
-}
-
 /// What unit 4 or another says in a slot of a frame in place of its own word, to a receiver.
 const SAID: [(u8, u32, Slot, u8, Option<Option<u16>>, &str); 15] = [
     (4, 2, Slot::Out(2), 0, Some(Some(7)), "word 1 of task 1"),
@@ -303,15 +299,15 @@ fn a_good_script_tells_what_is_said(rt: HostRuntime) -> Result<(), Fail> {
         .ok()
         .ok_or("a good script")?;
     for (u, f, slot, to, want, case) in SAID {
-        let said = good.override_of(unit(&rt, u), f, slot, unit(&rt, to));
+        let said = good.override_of(unit_of(u), f, slot, unit_of(to));
         let want = want.map(|value| value.map(Word::of));
         assert_eq!(rt; said, want, "{case}");
     }
     for (f, want) in [(1, [true, true]), (2, [false, true]), (3, [false, true])] {
-        let works = [good.works(unit(&rt, 4), f), good.works(unit(&rt, 3), f)];
+        let works = [good.works(unit_of(4), f), good.works(unit_of(3), f)];
         assert_eq!(rt; works, want, "in frame {f}");
     }
-    let storm = good.storm_of(unit(&rt, 4));
+    let storm = good.storm_of(unit_of(4));
     assert_eq!(rt; storm, None, "a unit that says");
     Ok(())
 }
@@ -332,14 +328,14 @@ fn a_good_script_tells_storms(rt: HostRuntime) -> Result<(), Fail> {
     let good = check(Script { entries }, &layout(), &shapes, 50)
         .ok()
         .ok_or("a good script")?;
-    let stray = unit(&rt, 5);
-    let storms = [good.storm_of(stray), good.storm_of(unit(&rt, 4))];
+    let stray = unit_of(5);
+    let storms = [good.storm_of(stray), good.storm_of(unit_of(4))];
     assert_eq!(rt; storms, [Some((10, 1, 100_000)), None]);
     for (f, want) in [(9, true), (10, false), (49, false)] {
         let works = good.works(stray, f);
         assert_eq!(rt; works, want, "in frame {f}");
     }
-    let said = good.override_of(stray, 10, Slot::Clock, unit(&rt, 0));
+    let said = good.override_of(stray, 10, Slot::Clock, unit_of(0));
     assert_eq!(rt; said, None, "a stray says nothing that is replaced");
     Ok(())
 }

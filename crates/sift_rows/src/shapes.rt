@@ -7,7 +7,7 @@ use sift_base::{NoMemory, Shapes, TaskShape};
 use std::alloc::Global;
 
 /// One task with one output word.
-pub fn one_task(alloc: Global) -> Result<Shapes, NoMemory>
+pub(crate) fn one_task(alloc: Global) -> Result<Shapes, NoMemory>
     ensures { IfOk result (λ shapes. AreShapes (shapes_of shapes)) }
 {
     let alone = TaskShape {
@@ -21,7 +21,7 @@ pub fn one_task(alloc: Global) -> Result<Shapes, NoMemory>
 }
 
 /// Two tasks, of one output word and of two. The second reads the first.
-pub fn two_tasks(alloc: Global) -> Result<Shapes, NoMemory>
+pub(crate) fn two_tasks(alloc: Global) -> Result<Shapes, NoMemory>
     ensures { IfOk result (λ shapes. AreShapes (shapes_of shapes)) }
 {
     let first = TaskShape {
@@ -39,7 +39,7 @@ pub fn two_tasks(alloc: Global) -> Result<Shapes, NoMemory>
 }
 
 /// Two tasks of one output word that don't read each other.
-pub fn twin_tasks(alloc: Global) -> Result<Shapes, NoMemory>
+pub(crate) fn twin_tasks(alloc: Global) -> Result<Shapes, NoMemory>
     ensures { IfOk result (λ shapes. AreShapes (shapes_of shapes)) }
 {
     let tasks = vec![in alloc;
@@ -56,7 +56,7 @@ pub fn twin_tasks(alloc: Global) -> Result<Shapes, NoMemory>
 }
 
 /// Three tasks of one output word that don't read each other.
-pub fn three_tasks(alloc: Global) -> Result<Shapes, NoMemory>
+pub(crate) fn three_tasks(alloc: Global) -> Result<Shapes, NoMemory>
     ensures { IfOk result (λ shapes. AreShapes (shapes_of shapes)) }
 {
     let tasks = vec![in alloc;
@@ -77,7 +77,7 @@ pub fn three_tasks(alloc: Global) -> Result<Shapes, NoMemory>
 }
 
 /// The numbers that the digits of a text stand for, one each.
-pub fn digits(alloc: Global, text: &str) -> Result<Vec<u8>, NoMemory> {
+pub(crate) fn digits(alloc: Global, text: &str) -> Result<Vec<u8>, NoMemory> {
     let mut numbers = Vec::new(alloc);
     for digit in text.bytes() {
         numbers.push(digit.saturating_sub(b'0'))?;

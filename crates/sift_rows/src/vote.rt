@@ -1,11 +1,8 @@
 //! Rows of votes.
 
-use sift_base::{UnitId, Word};
+use crate::fixture::{unit, word};
+use sift_base::Word;
 use sift_vote::{differing, majority};
-
-fn word(n: u16) -> Option<Word> {
-    Some(Word::of(n))
-}
 
 #[test]
 fn more_than_half_of_all_places_decide(rt: HostRuntime) {
@@ -24,7 +21,7 @@ fn more_than_half_of_all_places_decide(rt: HostRuntime) {
 
 #[test]
 fn units_differ_by_absence_or_by_another_word(rt: HostRuntime) {
-    let units = [0, 2, 3, 5].map(|n| UnitId::of(n).unwrap_or_default());
+    let units = [unit(0), unit(2), unit(3), unit(5)];
     let places = [word(5), None, word(9), word(5)];
     let cases = [
         (word(5), 0b00_1100, "a vote for 5"),

@@ -17,23 +17,3 @@ returns-in_ok-push_caught-in-Unit c =
       c.in_ok-push_str-in-Unit.ensures.bytes,
       c.in_ok-push_head-in-Unit.ensures,
     ) (simp append_assoc)
-
-pub returns-in_ok-push_margin-in-Frame : goal.returns-in_ok-push_margin-in-Frame
-returns-in_ok-push_margin-in-Frame c =
-    rw (
-      c.in-Frame.is,
-      c.in_ok-push_margin-in-Frame.ensures,
-      c.in_ok-push_ticks-in-Frame-2.ensures,
-      c.in_ok-push_str-in-Frame.ensures.bytes,
-      c.in_ok-push_ticks-in-Frame.ensures,
-      c.in_ok-write-in-Frame.ensures.bytes,
-    ) (simp append_assoc)
-
-pub returns-in_ok-push_margin-in-Last : goal.returns-in_ok-push_margin-in-Last
-returns-in_ok-push_margin-in-Last c =
-    rw (
-      c.in-Last.is,
-      c.in_ok-push_margin-in-Last.ensures,
-      c.in_ok-push_config-in-Last.ensures,
-      c.in_ok-write-in-Last.ensures.bytes,
-    ) (simp append_assoc)

@@ -1,0 +1,10 @@
+use Rattle.sift_unit.specs.Data.{data_of}
+use Rattle.sift_flight.specs.Hearing.{no_strays}
+use Rattle.sift_flight_rows.proofs.Both.{both_ok}
+use Rattle.sift_flight_rows.proofs.texts.flown.Goals as goal
+
+-- a round flight is whole
+pub returns : goal.returns
+returns c =
+    both_ok c.fly.result _ _ _ c.fly.ensures.logged c.fly.ensures.round
+    (λ flight logged round. c.round_flights_are_whole.ensures (data_of c.args.mission.now) no_strays flight c.parts.ensures.fit logged round)

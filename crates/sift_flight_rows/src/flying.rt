@@ -1,0 +1,138 @@
+//! Machines over the missions of the rows: who steps, and a unit that waits alone.
+
+ghost use Rattle.std.specs.Prelude.{◌≡◌, true};
+ghost use Rattle.sift_base.specs.Units.{has};
+ghost use Rattle.sift_core.specs.Machines.{Flies};
+ghost use Rattle.sift_unit.specs.Flown.{mission_of};
+
+use crate::stated::{FIVE, eight_units, stated};
+use sift_base::{Draw, UnitId};
+use sift_core::Machine;
+use sift_unit::{Mission, Stepped};
+use std::alloc::Global;
+use std::process::Abort;
+use std::test::Fail;
+
+/// Who steps last in each of the first thirty turns of five units, by the order number. In its first subframe unit 0 says
+/// its clock and the sensor to the four others, and each other unit its clock; in the second no one says or hears a word,
+/// and a unit waits until all have come to it; in the third each hears the others' clocks first.
+const TURNS_OF_FIVE: [(u64, &str); 3] = [
+    (0, "242101404432200203134003301102"),
+    (1, "431040024132204200200011431333"),
+    (2, "021404330232441403102300010212"),
+];
+
+/// And of the first hundred turns of eight units.
+const TURNS_OF_EIGHT: [(u64, &str); 3] = [
+    (
+        0,
+        "7014530703726546123365725317361024132706031150704607100024200656024445560340461305125470150671670550",
+    ),
+    (
+        1,
+        "6146232612324024274535625040107245600045740056057000005163761111773337351474167513722103066076125430",
+    ),
+    (
+        2,
+        "4200734612722202256706425670736456311404743740070631600103300015513155542520665021627625665173562210",
+    ),
+];
+
+fn expect_turns(
+    rt: &impl Abort,
+    alloc: Global,
+    mission: &Mission,
+    order: u64,
+    want: &[u8],
+) -> Result<(), Fail> {
+    let mut machine = Machine::make(alloc, mission)?;
+    let mut drawer = Draw::of(order);
+    for &digit in want {
+        let last = machine
+            .turn(mission, &mut drawer)
+            .ok_or("units have yet to land")?;
+        assert_eq!(rt; last.get() + 48, digit, "order {order}");
+    }
+    Ok(())
+}
+
+#[test]
+fn the_order_number_draws_who_steps(rt: HostRuntime) -> Result<(), Fail> {
+    let mission = stated(rt.alloc(), FIVE)?;
+    for (order, want) in TURNS_OF_FIVE {
+        expect_turns(&rt, rt.alloc(), &mission, order, want.as_bytes())?;
+    }
+    let mission = eight_units(rt.alloc())?;
+    for (order, want) in TURNS_OF_EIGHT {
+        expect_turns(&rt, rt.alloc(), &mission, order, want.as_bytes())?;
+    }
+    Ok(())
+}
+
+/// Unit 0, which is one of eight.
+fn first_of(_mission: &Mission) -> UnitId
+    requires { _mission.now.units ≡ 8 }
+    ensures { has (mission_of _mission.now).units result ≡ true }
+{
+    UnitId::default()
+}
+
+/// So many steps of a unit, each with the same answer.
+fn expect_steps(
+    rt: &impl Abort,
+    machine: &mut Machine,
+    mission: &Mission,
+    u: UnitId,
+    times: u8,
+    want: Stepped,
+)
+    requires flies { Flies (mission_of mission.now) machine.old }
+    requires unit { has (mission_of mission.now).units u ≡ true }
+    ensures { Flies (mission_of mission.now) machine.new }
+{
+    for _ in 0..times {
+        let stepped = machine.step(mission, u);
+        assert_eq!(rt; stepped, want);
+    }
+}
+
+/// Unit 0 alone says its clock and the sensor to seven units, enters the second subframe, and waits there for unit 1.
+#[test]
+fn one_unit_alone_waits_in_the_second_subframe(rt: HostRuntime) -> Result<(), Fail> {
+    let mission = eight_units(rt.alloc())?;
+    let first = first_of(&mission);
+    let mut machine = Machine::make(rt.alloc(), &mission)?;
+    expect_steps(&rt, &mut machine, &mission, first, 15, Stepped::Moved);
+    let unit = UnitId::of(1).ok_or("unit 1")?;
+    let waits = Stepped::NotYet { unit, seen: 0 };
+    expect_steps(&rt, &mut machine, &mission, first, 3, waits);
+    Ok(())
+}
+
+/// A document of four units that count.
+const COUNT: &str =
+    "units = 4\nframes = 1\ntask = [{name = 'count', start = [5], linear = [3, 1]}]\n";
+
+/// Unit 0, which is one of four.
+fn first_of_four(_mission: &Mission) -> UnitId
+    requires { _mission.now.units ≡ 4 }
+    ensures { has (mission_of _mission.now).units result ≡ true }
+{
+    UnitId::default()
+}
+
+/// Unit 0 alone says its clock to three units, enters the second subframe, and waits there for unit 1, however often it
+/// steps.
+#[test]
+fn one_of_four_units_alone_waits(rt: HostRuntime) -> Result<(), Fail> {
+    let mission = stated(rt.alloc(), COUNT)?;
+    let units = mission.parts().units;
+    assert_eq!(rt; units, 4);
+    let first = first_of_four(&mission);
+    let mut machine = Machine::make(rt.alloc(), &mission)?;
+    expect_steps(&rt, &mut machine, &mission, first, 4, Stepped::Moved);
+    let unit = UnitId::of(1).ok_or("unit 1")?;
+    let waits = Stepped::NotYet { unit, seen: 0 };
+    expect_steps(&rt, &mut machine, &mission, first, 5, waits);
+    Ok(())
+}

@@ -1,0 +1,82 @@
+//! The texts of a flight, and what a frame's line tells. Whole reports, votes and outputs are compared in missions/ and
+//! cases/, and lines that are read back or refused in lines/.
+
+ghost use Rattle.std.specs.Prelude.{IfOk};
+ghost use Rattle.sift_flight.specs.Told.{IsWhole};
+ghost use Rattle.sift_unit.specs.Flown.{mission_of};
+
+use crate::stated::four_units;
+use sift_base::NoMemory;
+use sift_core::fly;
+use sift_flight::{Flight, round_flights_are_whole};
+use sift_report::{ReportLine, ideal_text, last_line_text, read_line, report_text, votes_text};
+use sift_unit::Mission;
+use std::alloc::Global;
+use std::process::Abort;
+use std::test::Fail;
+
+/// The report of the mission of four units: each unit agrees on the sensor's word, which both tasks put out.
+const REPORT: &str = "f=0 u=0 cfg=0123 clk=0 in=0001 out=0001,0001 bad=-\n\
+    f=0 u=1 cfg=0123 clk=0 in=0001 out=0001,0001 bad=-\n\
+    f=0 u=2 cfg=0123 clk=0 in=0001 out=0001,0001 bad=-\n\
+    f=0 u=3 cfg=0123 clk=0 in=0001 out=0001,0001 bad=-\n\
+    f=0 skew=0 slack=1 margin=ok\n\
+    end frames=1 cfg=0123 margin=ok\n";
+
+/// A flight of the mission.
+fn flown(alloc: Global, mission: &Mission) -> Result<Flight, NoMemory>
+    ensures { IfOk result (IsWhole (mission_of mission.now) mission.now.layout) }
+{
+    mission.parts();
+    round_flights_are_whole();
+    fly(alloc, mission, 0)
+}
+
+#[test]
+fn the_texts_of_a_flight_find_memory(rt: HostRuntime) -> Result<(), Fail> {
+    let alloc = rt.alloc();
+    let mission = four_units(alloc)?;
+    let flight = flown(alloc, &mission)?;
+    let report = report_text(alloc, &mission, &flight)?;
+    assert_eq!(rt; report.as_str(), REPORT);
+    let end = last_line_text(alloc, &mission, &flight)?;
+    assert!(rt; REPORT.ends_with(end.as_str()), "{end}");
+    let votes = votes_text(alloc, &mission, &flight)?;
+    assert!(rt; votes.as_str().ends_with(end.as_str()), "{votes}");
+    let ideal = ideal_text(alloc, &mission)?;
+    assert_eq!(rt; ideal.as_str(), "f=0 out=0001,0001\nend frames=1\n");
+    Ok(())
+}
+
+fn expect_figures(
+    rt: &impl Abort,
+    text: &str,
+    want_skew: Option<i64>,
+    want_slack: Option<i64>,
+    want_margin: bool,
+) {
+    match read_line(text) {
+        Some(
+            ReportLine::Frame {
+                f,
+                skew,
+                slack,
+                margin,
+            },
+        ) => {
+            assert_eq!(rt; f, 5, "{text}");
+            assert_eq!(rt; skew, want_skew, "{text}");
+            assert_eq!(rt; slack, want_slack, "{text}");
+            assert_eq!(rt; margin, want_margin, "{text}");
+        }
+        _ => assert!(rt; false, "{text}"),
+    }
+}
+
+#[test]
+fn a_frames_line_tells_its_figures(rt: HostRuntime) {
+    let lost = "f=5 skew=20 slack=-7 margin=lost";
+    expect_figures(&rt, lost, Some(20), Some(-7), false);
+    let kept = "f=5 skew=- slack=30 margin=ok";
+    expect_figures(&rt, kept, None, Some(30), true);
+}

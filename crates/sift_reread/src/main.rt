@@ -1,0 +1,19 @@
+//! `sift_reread`: reads a report back, line by line, and prints it again.
+//!
+//! It reads standard input. A report is written again, with status 0. Of any other text the number of the first line
+//! that is none of a report is written, with status 1. `answer::answer` has the contract; `main` hands on the real input
+//! and output.
+#![tactic(auto)]
+
+mod answer;
+mod reread;
+
+use sift_io::{StdIn, StdOut};
+use std::process::ExitCode;
+
+/// Hands the real input and output to `answer::answer`, whose contract says how the program ends.
+fn main(rt: HostRuntime) -> ExitCode {
+    let mut source = StdIn::new(rt.stdin());
+    let mut sink = StdOut::new(rt.stdout());
+    ExitCode::from(answer::answer(rt.alloc(), &mut source, &mut sink))
+}
