@@ -5,14 +5,13 @@ ghost use Rattle.sift_base.specs.Layout.{IsLayout, slot_count};
 ghost use Rattle.sift_unit.specs.Acts.{IsConfigOf};
 ghost use Rattle.sift_unit.specs.Data.{data_of};
 ghost use Rattle.sift_base.specs.Layout.{slot_kind};
-ghost use Rattle.sift_unit.specs.Flown.{mission_of, table_for, runs_in};
+ghost use Rattle.sift_unit.specs.Flown.{mission_of, runs_in};
 ghost use Rattle.sift_unit.specs.Slots.{calls, is_senders, IsFirstFrom};
 ghost use Rattle.sift_base.specs.Units.{unit_limit};
 
 use crate::mission::Mission;
 use sift_base::{Layout, Slot, UnitId};
 use sift_config::Config;
-use sift_table::GoodTable;
 
 impl Mission {
     /// How many frames are flown, 1 to 1,000.
@@ -71,15 +70,6 @@ impl Mission {
         ensures { result ≡ (mission_of self.now).kind i }
     {
         slot_of(&self.parts().layout, i)
-    }
-
-    /// The table of a configuration's size.
-    fn table(&self, config: &Config) -> &GoodTable
-        requires { IsConfigOf (mission_of self.now) config.now }
-        ensures same { result.now ≡ table_for (data_of self.now) config.now }
-        ensures rows { length result.now.run ≡ (mission_of self.now).tasks }
-    {
-        &self.parts().tables[config.len() - 4]
     }
 
     /// The subframe in which a task is run.
