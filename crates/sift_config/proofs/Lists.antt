@@ -7,7 +7,8 @@ use Rattle.std.proofs.lemmas.Bool.{cases_Bool, cases_eq, eqb-true, or_cases, and
 use Rattle.std.proofs.lemmas.List.FromFn.{length-range_with_len}
 use Rattle.sift_base.specs.Units.{Units, AreUnits, unit_numbers, holds, has, has_bit, members, units_of, IsBelowAll, IsAscending}
 use Rattle.sift_base.specs.ReadBack.{has-filter, has_low, both, holds-units_of}
-use Rattle.sift_base.proofs.Sets.{filter_same, members_without, passing_ascend}
+use Rattle.sift_base.proofs.Sets.{filter_same, members_without, members_are, passing_ascend}
+use Rattle.std.proofs.lemmas.List.Filters.{length-filter_both}
 use Rattle.sift_config.specs.Config.{IsConfig, first_units, remaining}
 
 -- ---- the first units
@@ -130,3 +131,26 @@ get-drop [] zero = refl
 get-drop [] (suc i) = refl
 get-drop (u ∷ us) zero = refl
 get-drop (u ∷ us) (suc i) = get-drop us i
+
+-- ---- a configuration by its members
+
+-- the members of a set of units are a configuration, where they are enough
+pub members_are_config : (units : Units) → AreUnits units → 4 ≤ length (members units) → IsConfig (members units)
+members_are_config units are enough = record {
+  enough = enough;
+  ascending = (members_are units).0;
+  inside = λ u there. are u (sym (has-members units u are) ∙ there);
+}
+
+-- they are 8 at most
+pub members_are_few : (units : Units) → length (members units) ≤ 8
+unfolding members
+members_are_few units =
+    let split = length-filter_both (holds units) (λ u. not (holds units u)) (λ u. refl) unit_numbers in
+    omega (arith, split)
+
+-- numbers from a on in turn
+pub number_at : (a n i j : ℕ) → i < n → a + i ≡ j → slice_get (range_with_len a n) i ≡ Some j
+number_at a zero i j low is = absurd (omega (arith, low))
+number_at a (suc n) zero j low is = ap (λ k. Some k) (omega arith)
+number_at a (suc n) (suc i) j low is = number_at (a + 1) n i j (omega arith) (omega arith)

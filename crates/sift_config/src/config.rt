@@ -1,8 +1,8 @@
 //! A configuration, as the set of its units.
 
-ghost use Rattle.std.specs.Prelude.{◌≡◌, ℕ, ◌<◌, ◌≤◌, List, length, false, slice_get, slice_index, Some, IfSome, IfNone};
+ghost use Rattle.std.specs.Prelude.{◌≡◌, ℕ, ◌<◌, ◌≤◌, List, length, false, slice_get, slice_index, Some, IfSome, IfNone, true};
 ghost use Rattle.std.specs.FinSet as set;
-ghost use Rattle.sift_base.specs.Units.{AreUnits, members, unit_limit, has};
+ghost use Rattle.sift_base.specs.Units.{AreUnits, members, units_of, unit_limit, has};
 ghost use Rattle.sift_base.specs.Layout.{least_units};
 ghost use Rattle.sift_base.specs.ReadBack.{set-members};
 ghost use Rattle.sift_config.specs.Config.{IsConfig, first_units, reader_of, remaining};
@@ -47,6 +47,25 @@ impl Config {
         usize::from(self.units.len())
     }
 
+    /// The units as a set.
+    pub fn units(&self) -> UnitSet
+        ensures { members result ≡ self.now }
+    {
+        self.units
+    }
+
+    /// The units whose bits the byte has, where they are enough.
+    pub fn of_bits(bits: u8) -> Option<Config>
+        ensures found { IfSome result (λ config. config ≡ members (units_of bits)) }
+        ensures none { IfNone result (length (members (units_of bits)) < least_units) }
+    {
+        let units = UnitSet::of_bits(bits);
+        if units.len() >= 4 {
+            return Some(Config { units });
+        }
+        None
+    }
+
     /// Whether the unit is a member.
     pub fn has(&self, u: UnitId) -> bool
         ensures { result ≡ has self.now u }
@@ -59,11 +78,24 @@ impl Config {
         requires { i < length self.now }
         ensures { slice_get self.now i ≡ Some result }
     {
+        if self.is_unbroken() {
+            if let Some(unit) = UnitId::of(i as u8) {
+                return unit;
+            }
+        }
         let mut rest = self.units;
         for _ in 0..i {
             rest = rest.without(rest.first());
         }
         rest.first()
+    }
+
+    /// Whether these are the units of the lowest numbers, so that each stands at its number.
+    fn is_unbroken(&self) -> bool
+        ensures first { result ≡ true → self.now ≡ first_units (length self.now) }
+        ensures few { length self.now ≤ unit_limit }
+    {
+        self.units.bits() == u8::MAX >> (8 - self.units.len())
     }
 
     /// The position of a unit, where it is a member.

@@ -4,7 +4,6 @@ use Rattle.std.proofs.lemmas.List.{get_or_append_left}
 use Rattle.std.proofs.Math.Seq.{get_or-append_seam}
 use mathlib.Core.Logic.{dite}
 use native.Mathlib.Decide.{ℕ_discrete}
-use Rattle.sift_base.specs.Layout.{IsLayout}
 use Rattle.sift_base.specs.declared.layout.Layout.{Layout}
 use Rattle.sift_config.specs.Config.{first_units}
 use Rattle.sift_buffer.specs.Ranges.{Ranges}
@@ -16,7 +15,6 @@ use Rattle.sift_buffer.specs.Lawful.{Lawful}
 use Rattle.sift_buffer.specs.Laws.{FreshIsLawful}
 use Rattle.sift_unit.specs.Mission.{Mission}
 use Rattle.sift_unit.specs.Data.{MissionData}
-use Rattle.sift_unit.specs.Fits.{Fits}
 use Rattle.sift_unit.specs.Flown.{flown}
 use Rattle.sift_unit.specs.Keeping.{IsFresh}
 use Rattle.sift_unit.specs.PartsFit.{PartsFit}

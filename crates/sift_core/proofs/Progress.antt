@@ -118,12 +118,3 @@ module _ (m : Mission) (x : Machine) (u : ℕ) (r : Stepped) (x' : Machine)
 
   pub least_goes : IsLeast m x u → ¬ IsWaiting r
   least_goes least = least_waits r outcome least
-
--- the least unit stays the least, where all progress stays
-pub least_stays : (m : Mission) (x y : Machine) (v : ℕ) → ((p : ℕ) → progress_at y p ≡ progress_at x p) → IsLeast m x v → IsLeast m y v
-least_stays m x y v same least = record {
-  unit = least.unit;
-  aloft = (let a = least.aloft in let e = same v in omega arith);
-  least = λ p there. let a = least.least p there in let e = same v in let f = same p in omega arith;
-  lowest = λ p low. let a = least.lowest p low in let e = same v in let f = same p in omega arith;
-}

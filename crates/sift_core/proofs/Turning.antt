@@ -2,7 +2,7 @@
 use Rattle.std.proofs.Common.{◌≡◌, inl, inr, ⊎_elim, ℕ, suc, ◌<◌, ◌≤◌, List, length, true, false, Option, Some, None, refl, sym, ap, ◌∙◌, subst, arith}
 use Rattle.std.specs.Option.{is_some}
 use Rattle.std.proofs.lemmas.List.FromFn.{length-range_with_len}
-use Rattle.sift_base.specs.Draw.{next_number, drawn}
+use Rattle.sift_base.specs.Draw.{drawn}
 use Rattle.sift_base.specs.Units.{has}
 use Rattle.sift_unit.specs.Mission.{Mission}
 use Rattle.sift_unit.specs.declared.stepped.Stepped.{Stepped}
@@ -11,7 +11,7 @@ use Rattle.sift_core.specs.Steps.{StepsUnit}
 use Rattle.sift_core.specs.Turns.{IsDrawn, HaveAllLanded, IsLeast, GoesItself, Waits, GivesAway, TakesTurn, TurnsAt, AfterTurns, FliesInOrder}
 use Rattle.sift_core.specs.declared.machine.Machine.{Machine}
 use Rattle.sift_core.proofs.FirstUnits.{low_unit}
-use Rattle.sift_core.proofs.Progress.{goes_nearer, waits_no_farther, waits_in_place, least_goes, least_stays}
+use Rattle.sift_core.proofs.Progress.{goes_nearer, waits_no_farther, waits_in_place, least_goes}
 
 -- a mission has as many units as the machine
 pub unit_count : (m : Mission) (x : Machine) → Flies m x → length m.units ≡ (layout_of x).units
@@ -48,22 +48,23 @@ module _ (m : Mission) (x : Machine) (n n' u : ℕ) (y : Machine) (flies : Flies
   given_no_farther = ⊎_elim (λ landed. let e = ap (λ (z : Machine). distances m z) landed.1 in omega arith)
       (λ (w : Waits m u x y). waits_no_farther m x u w.answer y flies flies_on unit w.stepped w.waits)
 
-  module _ (given : GivesAway m u x y) (v : ℕ) (r : Stepped) (z : Machine) (least : IsLeast m x v) (flies_then : Flies m z)
-      (stepped : StepsUnit m v y r z) where
-    still : IsLeast m y v
-    still = least_stays m x y v (given_same given) least
+  -- nor do all units land by that
+  pub given_aloft : GivesAway m u x y → HaveAllLanded m y → HaveAllLanded m x
+  given_aloft given landed p there = let same = given_same given p in let end = landed p there in omega arith
 
+  module _ (given : GivesAway m u x y) (v : ℕ) (r : Stepped) (z : Machine) (least : IsLeast m y v) (flies_then : Flies m z)
+      (stepped : StepsUnit m v y r z) where
     pub least_turn : TurnsAt m n x (Some v) n' z
     least_turn = (
       d.next,
-      subst (λ (w : ℕ). TakesTurn m w x v z) is (inr (record { between = y; given = given; least = still; answer = r; stepped = stepped })),
+      subst (λ (w : ℕ). TakesTurn m w x v z) is (inr (record { between = y; given = given; least = least; answer = r; stepped = stepped })),
     )
 
     pub least_nearer : distances m z < distances m x
     least_nearer =
         let first = given_no_farther given in
-        let second = goes_nearer m y v r z flies_on flies_then least.unit stepped still.aloft
-        (least_goes m y v r z flies_on flies_then least.unit stepped still) in omega arith
+        let second = goes_nearer m y v r z flies_on flies_then least.unit stepped least.aloft
+        (least_goes m y v r z flies_on flies_then least.unit stepped least) in omega arith
 
 module _ (m : Mission) (order : ℕ) (x : Machine) (n : ℕ) (y : Machine) (n' : ℕ) (z : Machine) (so_far : (k : ℕ) × AfterTurns m order x k n y) where
   -- some turns, and this one more

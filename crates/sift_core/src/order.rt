@@ -1,5 +1,5 @@
 //! The order of steps: for each turn a unit is drawn.
-ghost use Rattle.std.specs.Prelude.{◌≡◌, ◌<◌, ◌≤◌, ◌*◌, IfSome, IfNone, true, length};
+ghost use Rattle.std.specs.Prelude.{◌≡◌, ◌<◌, ◌≤◌, ◌*◌, IfSome, IfNone, true, false, length};
 ghost use Rattle.sift_base.specs.Units.{has};
 ghost use Rattle.sift_unit.specs.Flown.{mission_of};
 ghost use Rattle.sift_core.specs.Machines.{Flies, layout_of, distances};
@@ -38,6 +38,23 @@ impl Machine {
         least
     }
 
+    /// Whether all units have landed.
+    fn have_all_landed(&self, mission: &Mission) -> bool
+        requires { Flies (mission_of mission.now) self.now }
+        ensures landed { result ≡ true → HaveAllLanded (mission_of mission.now) self.now }
+        ensures aloft { result ≡ false → ¬ HaveAllLanded (mission_of mission.now) self.now }
+    {
+        let end = end_of(mission);
+        for number in 0..self.rack.grid.layout.units {
+            if let Some(unit) = UnitId::of(number) {
+                if self.progress(unit) < end {
+                    return false;
+                }
+            }
+        }
+        true
+    }
+
     /// Draws a unit.
     fn drawn_unit(&self, drawer: &mut Draw) -> UnitId
         ensures { IsDrawn (layout_of self.now).units drawer.old drawer.new result }
@@ -71,13 +88,18 @@ impl Machine {
         ensures turn { TurnsAt (mission_of mission.now) drawer.old self.old result drawer.new self.new }
         ensures nearer { IfSome result (λ u. distances (mission_of mission.now) self.new < distances (mission_of mission.now) self.old) }
     {
-        let least = self.least(mission)?;
+        if self.have_all_landed(mission) {
+            return None;
+        }
         let drawn = self.drawn_unit(drawer);
         if self.goes_itself(mission, drawn) {
             return Some(drawn);
         }
-        self.step(mission, least);
-        Some(least)
+        if let Some(least) = self.least(mission) {
+            self.step(mission, least);
+            return Some(least);
+        }
+        unreachable!()
     }
 
     /// Flies to the end, turn by turn, as the order number draws them.

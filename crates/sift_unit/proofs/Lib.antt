@@ -33,6 +33,7 @@ pub mod Numbers
 pub mod Passing
 pub mod Past
 pub mod Positions
+mod Quiet
 pub mod Rows
 pub mod Running
 pub mod Saying

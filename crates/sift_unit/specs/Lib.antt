@@ -4,6 +4,7 @@ pub mod BoardLaws
 pub mod Boards
 pub mod ByWord
 pub mod Conduct
+pub mod Crews
 pub mod Data
 pub mod Desk
 pub mod Fits

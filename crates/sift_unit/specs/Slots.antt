@@ -1,7 +1,7 @@
 -- Who says which slot to whom under a configuration, and when.
-use Rattle.std.specs.Prelude.{◌≡◌, ℕ, ◌+◌, ◌*◌, List, Bool, true, false, not, ◌&&◌, nat_eq, nat_lt, Option, None, Some}
+use Rattle.std.specs.Prelude.{◌≡◌, ℕ, ◌+◌, ◌*◌, ◌<◌, ◌≤◌, List, Bool, true, false, not, ◌&&◌, nat_eq, nat_lt, Option, None, Some}
 use Rattle.std.specs.List.{filter}
-use Rattle.sift_base.specs.Units.{has}
+use Rattle.sift_base.specs.Units.{has, unit_limit}
 use Rattle.sift_base.specs.declared.slot.Slot.{Slot}
 use Rattle.sift_base.specs.declared.slot.Slot.TheVariants.{Clock, Sense, RelaySense, Out, Report, RelayReport}
 use Rattle.sift_config.specs.Config.{reader_of}
@@ -50,6 +50,12 @@ turned_by (Some from) f = not (nat_lt f from)
 -- unit u has turned stray by frame f
 abbrev pub has_turned : Mission → ℕ → ℕ → Bool
 has_turned m u f = turned_by (m.storm u) f
+
+-- of the units from a number on the first that passes a test, or the count of all units, where none does
+pub record IsFirstFrom (test : ℕ → Bool) (from first : ℕ) : Type 0 where
+  pub after : from ≤ first
+  pub within : first ≤ unit_limit
+  pub passed : (p : ℕ) → from ≤ p → p < first → test p ≡ false
 
 -- no unit says a slot to itself
 abbrev pub NothingIsSaidToItself : Type 0

@@ -8,6 +8,7 @@ use crate::mission::Mission;
 use crate::part::Part;
 use sift_base::{Slot, UnitId, Word};
 use sift_config::Config;
+use sift_script::working_units_say_their_words;
 
 impl Duty for Mission {
     ghost mission = { mission_of };
@@ -63,6 +64,10 @@ impl Duty for Mission {
         slot: usize,
         to: UnitId,
     ) -> Option<Option<Word>> {
+        working_units_say_their_words();
+        if self.works(unit, frame) {
+            return None;
+        }
         self.override_of(unit, frame, self.kind(slot), to)
     }
 
@@ -80,6 +85,14 @@ impl Duty for Mission {
 
     fn is_called(&self, config: &Config, slot: usize, from: UnitId, to: UnitId) -> bool {
         self.is_called(config, slot, from, to)
+    }
+
+    fn next_caller(&self, config: &Config, slot: usize, from: u8, to: UnitId) -> u8 {
+        self.next_caller(config, slot, from, to)
+    }
+
+    fn next_called(&self, config: &Config, slot: usize, from: UnitId, to: u8) -> u8 {
+        self.next_called(config, slot, from, to)
     }
 
     fn next_due(&self, config: &Config, subframe: u32, part: Part, slot: usize) -> usize {

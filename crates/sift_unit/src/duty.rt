@@ -2,10 +2,10 @@
 
 ghost use Rattle.std.specs.Prelude.{◌≡◌, ◌<◌, ◌≤◌, ℕ, true, length, pos, ◌+ℤ◌};
 ghost use Rattle.sift_clock.specs.Distance.{IsWithin, error_limit};
-ghost use Rattle.sift_base.specs.Units.{has};
+ghost use Rattle.sift_base.specs.Units.{has, unit_limit};
 ghost use Rattle.sift_base.specs.Layout.{word_limit};
 ghost use Rattle.sift_unit.specs.Mission.{Mission};
-ghost use Rattle.sift_unit.specs.Slots.{calls};
+ghost use Rattle.sift_unit.specs.Slots.{calls, IsFirstFrom};
 ghost use Rattle.sift_unit.specs.Acts.{IsConfigOf};
 ghost use Rattle.sift_unit.specs.Fits.{Fits};
 ghost use Rattle.sift_unit.specs.Memory.{renewed, is_word_of};
@@ -97,6 +97,18 @@ pub(crate) trait Duty {
     fn is_called(&self, config: &Config, slot: usize, from: UnitId, to: UnitId) -> bool
         requires { IsSlotOf (mission self.now) config.now slot }
         ensures { result ≡ calls (mission self.now) config.now ((mission self.now).kind slot) from to };
+
+    /// From a number on the first unit that says a slot to a unit, and 8 where none does.
+    fn next_caller(&self, config: &Config, slot: usize, from: u8, to: UnitId) -> u8
+        requires slot { IsSlotOf (mission self.now) config.now slot }
+        requires from { from ≤ unit_limit }
+        ensures { IsFirstFrom (λ p. calls (mission self.now) config.now ((mission self.now).kind slot) p to) from result };
+
+    /// From a number on the first unit to which a unit says a slot, and 8 where there is none.
+    fn next_called(&self, config: &Config, slot: usize, from: UnitId, to: u8) -> u8
+        requires slot { IsSlotOf (mission self.now) config.now slot }
+        requires to { to ≤ unit_limit }
+        ensures { IsFirstFrom (calls (mission self.now) config.now ((mission self.now).kind slot) from) to result };
 
     /// The next slot, from this one on, of which there is something to do in this part of a
     /// subframe, or the number of slots where there is none.

@@ -6,6 +6,7 @@ mod accounting;
 mod agenda;
 mod board;
 mod clocks;
+mod crews;
 mod duties;
 mod duty;
 mod executor;

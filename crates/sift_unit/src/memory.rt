@@ -61,6 +61,7 @@ impl Memory {
     }
 
     /// Runs a task, where the unit is to run it.
+    #[inline(never)]
     pub(crate) fn run<M: Duty>(
         &mut self,
         mission: &M,

@@ -1,18 +1,23 @@
 //! A mission, whose parts fit.
 
 ghost use Rattle.std.specs.Prelude.{◌≡◌, ℕ, ◌+◌, ◌<◌, ◌≤◌, ◌++◌, length, map, replicate};
+ghost use Rattle.sift_base.specs.Shapes.{task_limit};
 ghost use Rattle.sift_lang.specs.Tree.{tree_of};
 ghost use Rattle.sift_program.specs.Sound.{output_count};
 ghost use Rattle.sift_unit.specs.ByWord.{by_word};
+ghost use Rattle.sift_unit.specs.Crews.{AreCrewsBy};
 ghost use Rattle.sift_unit.specs.Data.{data_of};
 ghost use Rattle.sift_unit.specs.Acts.{IsConfigOf};
-ghost use Rattle.sift_unit.specs.Flown.{mission_of, table_for};
+ghost use Rattle.sift_unit.specs.Flown.{mission_of, table_for, runs_in};
+ghost use Rattle.sift_base.specs.Units.{holds};
 ghost use Rattle.sift_unit.specs.Timetable.{IsTimetableOf};
 ghost use Rattle.sift_unit.specs.PartsFit.{PartsFit};
 
+use crate::crews::{Crews, all_crews};
 use crate::parts::MissionParts;
 use crate::timetable::{Timetable, timetables};
 use arrayvec::ArrayVec;
+use sift_base::UnitSet;
 use sift_config::Config;
 use sift_lang::Task;
 use std::marker::Model;
@@ -25,6 +30,8 @@ pub struct Mission {
     tasks: ArrayVec<u8, 64>,
     /// By table, when slots are heard and said and tasks are run.
     times: [Timetable; 5],
+    /// By the byte of a configuration's units, who runs which task.
+    crews: [Crews; 256],
 }
 
 impl Model for Mission {
@@ -38,7 +45,7 @@ impl Model for Mission {
 
     ghost view = { λ mission. mission.parts };
 
-    ghost invariant = { λ mission. IsHeld mission.parts mission.tasks.items mission.times };
+    ghost invariant = { λ mission. IsHeld mission.parts mission.tasks.items mission.times mission.crews };
 }
 
 impl Mission {
@@ -49,10 +56,12 @@ impl Mission {
     {
         let tasks = tasks_by_word(&parts.program.tasks);
         let times = timetables(&parts, &tasks);
+        let crews = all_crews(&parts);
         Mission {
             parts,
             tasks,
             times,
+            crews,
         }
     }
 
@@ -70,6 +79,24 @@ impl Mission {
         ensures { IsTimetableOf (data_of self.now) (table_for (data_of self.now) config.now) result.now }
     {
         &self.times[config.len() - 4]
+    }
+
+    /// The units of a configuration that run a task.
+    pub(crate) fn crew(&self, config: &Config, t: usize) -> UnitSet
+        requires config { IsConfigOf (mission_of self.now) config.now }
+        requires task { t < (mission_of self.now).tasks }
+        ensures { (u : ℕ) → holds result u ≡ runs_in (data_of self.now) config.now t u }
+    {
+        self.crews_for(config).of_task(t)
+    }
+
+    /// Who runs which task under a configuration.
+    fn crews_for(&self, config: &Config) -> &Crews
+        requires { IsConfigOf (mission_of self.now) config.now }
+        ensures crews { AreCrewsBy (table_for (data_of self.now) config.now) config.now (mission_of self.now).tasks result.now }
+        ensures few { (mission_of self.now).tasks ≤ task_limit }
+    {
+        &self.crews[usize::from(config.units().bits())]
     }
 
     /// The task that puts out a word.

@@ -28,6 +28,7 @@ use sift_vote::majority;
 
 impl Memory {
     /// Notes what was heard of a slot, by unit.
+    #[inline(never)]
     pub(crate) fn note<M: Duty>(
         &mut self,
         mission: &M,

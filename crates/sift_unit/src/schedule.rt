@@ -5,13 +5,13 @@ ghost use Rattle.sift_base.specs.Layout.{IsLayout, slot_count};
 ghost use Rattle.sift_unit.specs.Acts.{IsConfigOf};
 ghost use Rattle.sift_unit.specs.Data.{data_of};
 ghost use Rattle.sift_base.specs.Layout.{slot_kind};
-ghost use Rattle.sift_unit.specs.Flown.{mission_of, table_for, runs_in};
-ghost use Rattle.sift_unit.specs.Slots.{calls, is_senders};
+ghost use Rattle.sift_unit.specs.Flown.{mission_of, runs_in};
+ghost use Rattle.sift_unit.specs.Slots.{calls, is_senders, IsFirstFrom};
+ghost use Rattle.sift_base.specs.Units.{unit_limit};
 
 use crate::mission::Mission;
 use sift_base::{Layout, Slot, UnitId};
 use sift_config::Config;
-use sift_table::GoodTable;
 
 impl Mission {
     /// How many frames are flown, 1 to 1,000.
@@ -72,15 +72,6 @@ impl Mission {
         slot_of(&self.parts().layout, i)
     }
 
-    /// The table of a configuration's size.
-    fn table(&self, config: &Config) -> &GoodTable
-        requires { IsConfigOf (mission_of self.now) config.now }
-        ensures same { result.now ≡ table_for (data_of self.now) config.now }
-        ensures rows { length result.now.run ≡ (mission_of self.now).tasks }
-    {
-        &self.parts().tables[config.len() - 4]
-    }
-
     /// The subframe in which a task is run.
     pub fn run_in(&self, config: &Config, t: usize) -> u32
         requires config { IsConfigOf (mission_of self.now) config.now }
@@ -114,10 +105,7 @@ impl Mission {
         requires task { t < (mission_of self.now).tasks }
         ensures { result ≡ runs_in (data_of self.now) config.now t u }
     {
-        match config.position_of(u) {
-            Some(position) => self.table(config).runs(t, position),
-            None => false,
-        }
+        self.crew(config, t).has(u)
     }
 
     /// Whether a unit runs the task of a word.
@@ -151,6 +139,40 @@ impl Mission {
         ensures { result ≡ calls (mission_of self.now) config.now ((mission_of self.now).kind i) from to }
     {
         config.has(from) && config.has(to) && from != to && self.is_sender(config, i, from, to)
+    }
+
+    /// From a number on the first unit that says the slot of a number to a unit, and 8 where none does.
+    pub(crate) fn next_caller(&self, config: &Config, i: usize, from: u8, to: UnitId) -> u8
+        requires config { IsConfigOf (mission_of self.now) config.now }
+        requires slot { i < (mission_of self.now).slots }
+        requires from { from ≤ unit_limit }
+        ensures { IsFirstFrom (λ p. calls (mission_of self.now) config.now ((mission_of self.now).kind i) p to) from result }
+    {
+        for number in from..8 {
+            if let Some(unit) = UnitId::of(number) {
+                if self.is_called(config, i, unit, to) {
+                    return number;
+                }
+            }
+        }
+        8
+    }
+
+    /// From a number on the first unit to which a unit says the slot of a number, and 8 where there is none.
+    pub(crate) fn next_called(&self, config: &Config, i: usize, from: UnitId, to: u8) -> u8
+        requires config { IsConfigOf (mission_of self.now) config.now }
+        requires slot { i < (mission_of self.now).slots }
+        requires to { to ≤ unit_limit }
+        ensures { IsFirstFrom (calls (mission_of self.now) config.now ((mission_of self.now).kind i) from) to result }
+    {
+        for number in to..8 {
+            if let Some(unit) = UnitId::of(number) {
+                if self.is_called(config, i, from, unit) {
+                    return number;
+                }
+            }
+        }
+        8
     }
 }
 

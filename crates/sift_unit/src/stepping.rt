@@ -45,7 +45,7 @@ impl Board {
         if self.is_end(mission) {
             return self.enter(mission, port);
         }
-        if self.is_saying(mission) {
+        if self.says() {
             self.say(mission, port);
             return Stepped::Moved;
         }
@@ -104,6 +104,7 @@ impl Board {
     }
 
     /// Tries to enter the next subframe.
+    #[inline(never)]
     fn enter<M: Duty, T: Port>(&mut self, mission: &M, port: &mut T) -> Stepped
         requires drives { Drives (M.mission mission.now) self.old (T.view port.old) }
         requires frame { self.old.frame < (M.mission mission.now).frames }
@@ -144,6 +145,7 @@ impl Board {
     }
 
     /// Accounts for the frame, and begins the next.
+    #[inline(never)]
     fn end_frame<M: Duty>(&mut self, mission: &M)
         requires fits { Fits (M.mission mission.now) }
         requires range { InRange (M.mission mission.now) (desk_of self.old) }

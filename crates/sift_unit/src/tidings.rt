@@ -67,6 +67,7 @@ impl Memory {
     }
 
     /// The own report: the byte of all that were caught.
+    #[inline(never)]
     pub(crate) fn report<M: Duty>(&self, mission: &M, config: &Config) -> Word
         requires fits { Fits (M.mission mission.now) }
         ensures { result ≡ report_now (M.mission mission.now) config.now (memory_of self.now) }

@@ -1,6 +1,6 @@
 //! The walk of a board from one call on its port to the next.
 
-ghost use Rattle.std.specs.Prelude.{◌≡◌, ◌≢◌, ◌⊎◌, ◌<◌, ◌≤◌, ◌+◌, ℕ, true, false};
+ghost use Rattle.std.specs.Prelude.{◌≡◌, ◌≢◌, ◌⊎◌, ◌<◌, ◌≤◌, ◌+◌, ℕ, true, false, nat_eq};
 ghost use Rattle.sift_base.specs.Units.{has};
 ghost use Rattle.sift_unit.specs.Slots.{calls};
 ghost use Rattle.sift_unit.specs.Desk.{is_hearing as at_hearing, is_saying as at_saying, is_call as at_call, is_end as at_end};
@@ -71,6 +71,16 @@ impl Board {
         }
     }
 
+    /// Whether the board is in the part of its subframe in which it says words.
+    pub(crate) fn says(&self) -> bool
+        ensures { result ≡ nat_eq (desk_of self.now).part 2 }
+    {
+        match self.part {
+            Part::Saying => true,
+            _ => false,
+        }
+    }
+
     /// Whether the board stands at its subframe's end.
     pub(crate) fn is_end<M: Duty>(&self, mission: &M) -> bool
         ensures { result ≡ at_end (M.mission mission.now) (desk_of self.now) }
@@ -97,6 +107,7 @@ impl Board {
     }
 
     /// Goes on where nothing is to be said or heard. What isn't due is not looked at.
+    #[inline(never)]
     fn pass<M: Duty>(&mut self, mission: &M)
         requires fits { Fits (M.mission mission.now) }
         requires range { InRange (M.mission mission.now) (desk_of self.old) }
@@ -174,7 +185,7 @@ impl Board {
             return;
         }
         if self.other < 8 {
-            self.other += 1;
+            self.other = mission.next_caller(&self.cfg, self.slot, self.other + 1, self.unit);
             return;
         }
         self.memory.note(
@@ -231,7 +242,7 @@ impl Board {
         ensures accounts { self.new.accounts ≡ self.old.accounts }
     {
         if self.subframe == mission.due(&self.cfg, self.slot) && self.other < 8 {
-            self.other += 1;
+            self.other = mission.next_called(&self.cfg, self.slot, self.unit, self.other + 1);
             return;
         }
         self.slot += 1;

@@ -1,7 +1,13 @@
-use Rattle.std.proofs.Common.{◌≡◌, ◌<◌, ◌∙◌, ap, sym, length, slice_get, arith}
+use Rattle.std.proofs.Common.{◌≡◌, ◌<◌, ◌∙◌, ap, sym, length, slice_get, arith, refl}
 use Rattle.sift_base.specs.Units.{members}
-use Rattle.sift_config.proofs.Lists.{next_members, get-drop}
+use Rattle.sift_config.proofs.Lists.{next_members, get-drop, number_at}
 use Rattle.sift_config.proofs.config.Config.unit_at.Goals as goal
+
+-- each unit stands at its number
+pub returns-in-Some : goal.returns-in-Some
+returns-in-Some c =
+    let us = c.args.self.now in
+    ap (λ vs. slice_get vs c.args.i) (c.if-is_unbroken.ensures.first refl) ∙ number_at 0 (length us) c.args.i c.in-Some.unit c.requires (omega (arith, c.in-Some.ensures.found.0))
 
 pub loop-preserved : goal.loop-preserved
 loop-preserved c =

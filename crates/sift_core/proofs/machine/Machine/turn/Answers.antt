@@ -1,5 +1,5 @@
 use Rattle.sift_unit.specs.Flown.{mission_of}
-use Rattle.sift_core.proofs.Turning.{unit_there, own_turn, own_nearer, least_turn, least_nearer}
+use Rattle.sift_core.proofs.Turning.{unit_there, own_turn, own_nearer, given_aloft, least_turn, least_nearer}
 use Rattle.sift_core.proofs.machine.Machine.turn.Goals as goal
 
 pub goes_itself-requires-clause-unit : goal.goes_itself-requires-clause-unit
@@ -22,17 +22,24 @@ returns-then-goes_itself-clause-nearer c =
     c.goes_itself.new.self
     c.requires c.goes_itself.ensures.flies c.drawn_unit-drawn.ensures c.if-goes_itself.ensures.tried
 
--- or the least
-pub returns-clause-turn : goal.returns-clause-turn
-returns-clause-turn c =
+-- or the least, where one is left
+pub returns-in-Some-clause-turn : goal.returns-in-Some-clause-turn
+returns-in-Some-clause-turn c =
     least_turn (mission_of c.args.mission.now) c.args.self.now c.args.drawer.now c.drawn_unit-drawn.new.drawer c.drawn_unit-drawn.result
     c.goes_itself.new.self
     c.requires c.goes_itself.ensures.flies c.drawn_unit-drawn.ensures c.if-goes_itself.ensures.tried
-    c.in_ok-least.least c.step.result c.step.new.self c.in_ok-least.ensures.found c.step.ensures.flies c.step.ensures.stepped
+    c.in-Some.least c.step.result c.step.new.self c.in-Some.ensures.found c.step.ensures.flies c.step.ensures.stepped
 
-pub returns-clause-nearer : goal.returns-clause-nearer
-returns-clause-nearer c =
+pub returns-in-Some-clause-nearer : goal.returns-in-Some-clause-nearer
+returns-in-Some-clause-nearer c =
     least_nearer (mission_of c.args.mission.now) c.args.self.now c.args.drawer.now c.drawn_unit-drawn.new.drawer c.drawn_unit-drawn.result
     c.goes_itself.new.self
     c.requires c.goes_itself.ensures.flies c.drawn_unit-drawn.ensures c.if-goes_itself.ensures.tried
-    c.in_ok-least.least c.step.result c.step.new.self c.in_ok-least.ensures.found c.step.ensures.flies c.step.ensures.stepped
+    c.in-Some.least c.step.result c.step.new.self c.in-Some.ensures.found c.step.ensures.flies c.step.ensures.stepped
+
+-- who gives its turn away leaves a unit that has yet to land
+pub unreachable-requires : goal.unreachable-requires
+unreachable-requires c =
+    c.have_all_landed.ensures.aloft c.if-have_all_landed.false (given_aloft (mission_of c.args.mission.now) c.args.self.now c.args.drawer.now
+    c.drawn_unit-drawn.new.drawer c.drawn_unit-drawn.result c.goes_itself.new.self c.requires c.goes_itself.ensures.flies c.drawn_unit-drawn.ensures
+    c.if-goes_itself.ensures.tried c.in_default.ensures.none)

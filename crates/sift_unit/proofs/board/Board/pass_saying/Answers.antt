@@ -1,13 +1,24 @@
-use Rattle.std.proofs.Common.{◌∙◌, sym, arith, inl, inr}
+use Rattle.std.proofs.Common.{◌≡◌, ◌+◌, ◌-◌, ◌∙◌, false, sym, subst, arith, inl, inr}
+use mathlib.Core.Logic.{dite}
+use native.Mathlib.Decide.{ℕ_discrete}
+use Rattle.sift_unit.specs.Desk.{is_call}
 use Rattle.sift_unit.specs.Boards.{desk_of}
-use Rattle.sift_unit.proofs.Passing.{place_onward, slot_onward}
+use Rattle.sift_unit.proofs.Passing.{slot_onward}
+use Rattle.sift_unit.proofs.Quiet.{say_quiet, places_onward}
 use Rattle.sift_unit.proofs.board.Board.pass_saying.Goals as goal
 use Rattle.sift_unit.proofs.board.Board.pass_saying.Goals.{else-self-due-via-then-self-due+else-self-lt8, else-self-due-via-else-self-due}
 
 -- past a unit to which nothing is said
 pub returns-then-self-lt8-clause-onward : goal.returns-then-self-lt8-clause-onward
 returns-then-self-lt8-clause-onward g c =
-    place_onward _ c.requires.fits (desk_of c.args.self.now) c.requires.range c.requires.slot (let low = c.if-self-lt8.true in omega arith) c.requires.idle
+    let b = desk_of c.args.self.now in
+    let to = c.next_called-self.result in
+    let first = c.next_called-self.ensures in
+    let after = first.after in
+    places_onward _ c.requires.fits (to - (b.other + 1)) b c.requires.range to (omega arith) first.within c.requires.slot
+    (λ p from below. dite (ℕ_discrete p b.other)
+    (λ here. subst (λ q. is_call (g.M.Duty.mission c.args.mission.now) (record b { other = q }) ≡ false) (sym here) c.requires.idle)
+    (λ past. say_quiet (g.M.Duty.mission c.args.mission.now) b p c.requires.part (first.passed p (omega arith) below)))
 
 -- past a slot that isn't said now, or was said to all
 pub returns-clause-onward : goal.returns-clause-onward

@@ -1,5 +1,6 @@
-use Rattle.std.proofs.Common.{arith}
+use Rattle.std.proofs.Common.{◌∙◌, sym, arith}
 use Rattle.sift_unit.specs.Boards.{desk_of}
+use Rattle.sift_unit.proofs.Quiet.{call_says, call_hears}
 use Rattle.sift_unit.proofs.Driving.{pass_drives}
 use Rattle.sift_unit.proofs.Continuing.{moves_from, steps_from}
 use Rattle.sift_unit.proofs.board.Board.step_by.Goals as goal
@@ -17,6 +18,17 @@ pub hear-requires-clause-drives : goal.hear-requires-clause-drives
 hear-requires-clause-drives g c =
     pass_drives _ c.args.self.now c.find_call.new.self (g.T.Port.view c.args.port.now) c.requires c.find_call.ensures.passes c.find_call.ensures.accounts
 
+-- there it says, or else hears
+pub say-requires-clause-here : goal.say-requires-clause-here
+say-requires-clause-here g c =
+    let b = desk_of c.find_call.new.self in
+    call_says (g.M.Duty.mission c.args.mission.now) b (c.find_call.ensures.found (sym c.is_end.ensures ∙ c.if-is_end.false)) (sym c.says.ensures ∙ c.if-says.true)
+
+pub hear-requires-clause-here : goal.hear-requires-clause-here
+hear-requires-clause-here g c =
+    let b = desk_of c.find_call.new.self in
+    call_hears (g.M.Duty.mission c.args.mission.now) b (c.find_call.ensures.found (sym c.is_end.ensures ∙ c.if-is_end.false)) (sym c.says.ensures ∙ c.if-says.false)
+
 -- what it came to from there is what it came to from where it stood
 pub returns-then-is_end-clause-steps : goal.returns-then-is_end-clause-steps
 returns-then-is_end-clause-steps g c =
@@ -25,8 +37,8 @@ returns-then-is_end-clause-steps g c =
     (let same = c.find_call.ensures.passes.frame in let most = c.requires.going.range.frame in let more = c.if-self-frames.false in let is = c.frames.ensures in omega arith)
     c.enter.ensures.steps
 
-pub returns-then-is_saying-clause-steps : goal.returns-then-is_saying-clause-steps
-returns-then-is_saying-clause-steps g c =
+pub returns-then-says-clause-steps : goal.returns-then-says-clause-steps
+returns-then-says-clause-steps g c =
     moves_from _ (desk_of c.args.self.now) (desk_of c.find_call.new.self) (desk_of c.say.new.self) (g.T.Port.view c.args.port.now) (g.T.Port.view c.say.new.port)
     c.find_call.ensures.passes c.find_call.ensures.nearer c.say.ensures.moved
 

@@ -19,5 +19,5 @@ offset_bounds-self-inside-len c =
 
 pub returns : goal.returns
 returns c =
-    let held = held-as c.self.inside.parts c.args.self.now c.self.inside.tasks.items c.self.inside.times c.self.invariant c.self.view_is in
+    let held = held-as c.self.inside.parts c.args.self.now c.self.inside.tasks.items c.self.inside.times c.self.inside.crews c.self.invariant c.self.view_is in
     rw c.len.ensures.length (held.times_are (length c.args.config.now - 4) _ (table-low (data_of c.args.self.now) held.fit c.args.config.now c.requires))

@@ -1,0 +1,20 @@
+use Rattle.std.proofs.Common.{◌<◌, arith}
+use Rattle.sift_unit.specs.Flown.{mission_of}
+use Rattle.sift_core.specs.Machines.{layout_of}
+use Rattle.sift_core.proofs.MachineSteps.{unit_below}
+use Rattle.sift_core.proofs.Turning.{unit_there}
+use Rattle.sift_core.proofs.machine.Machine.have_all_landed.Goals as goal
+
+-- a unit that has yet to land
+pub returns-then-progress-end-clause-aloft : goal.returns-then-progress-end-clause-aloft
+returns-then-progress-end-clause-aloft c = λ same landed.
+    let low : c.in-Some.unit < (layout_of c.args.self.now).units = omega (arith, c.in-Some.ensures.found.0, c.loop-number-test.true) in
+    let there = unit_there (mission_of c.args.mission.now) c.args.self.now c.in-Some.unit c.requires low in
+    omega (arith, landed c.in-Some.unit there, c.if-progress-end.true, c.progress.ensures, c.end_of-end.ensures)
+
+-- none is left
+pub returns-clause-landed : goal.returns-clause-landed
+returns-clause-landed c = λ same u there.
+    let low = unit_below (mission_of c.args.mission.now) c.args.self.now u c.requires there in
+    let below : u < c.loop-number.number = omega (arith, low, c.loop-number-test.false) in
+    omega (arith, c.loop-number.invariant.1 u below, c.end_of-end.ensures)

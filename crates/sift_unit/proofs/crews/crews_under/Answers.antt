@@ -1,0 +1,19 @@
+use Rattle.std.proofs.Common.{◌-◌, ◌<◌, length, arith}
+use Rattle.std.proofs.lemmas.List.{length-map}
+use Rattle.sift_lang.specs.Tree.{tree_of}
+use Rattle.sift_unit.specs.Data.{data_of}
+use Rattle.sift_unit.proofs.FitTables.{placed-rows, table-low}
+use Rattle.sift_unit.proofs.crews.crews_under.Goals as goal
+
+-- the table has a row for each task
+pub crews_by-requires-clause-rows : goal.crews_by-requires-clause-rows
+crews_by-requires-clause-rows c =
+    let d = data_of c.args.parts.now in
+    let low : c.len-place.result - 4 < length d.tables = omega (arith, c.if-place-len.true, c.len.ensures, c.args.parts.now.tables.ok.0) in
+    let rows = placed-rows d c.requires (c.len-place.result - 4) c.index.result.now low c.index.ensures in
+    omega (arith, rows, c.len-then-place-len.ensures, length-map c.args.parts.now.program.tasks.items tree_of, c.args.parts.now.program.tasks.ok.0)
+
+-- a configuration has a table
+pub returns : goal.returns
+returns c = λ config. absurd (let low = table-low (data_of c.args.parts.now) c.requires c.args.config.now config in
+    omega (arith, c.if-place-len.false, c.len.ensures, c.args.parts.now.tables.ok.0, c.len-place.ensures.length))

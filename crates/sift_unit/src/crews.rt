@@ -1,0 +1,105 @@
+//! Who runs which task under each configuration.
+
+ghost use Rattle.std.specs.Prelude.{◌≡◌, ◌<◌, ◌≤◌, length, slice_index_or};
+ghost use Rattle.sift_base.specs.Shapes.{task_limit};
+ghost use Rattle.sift_base.specs.Units.{members, units_of};
+ghost use Rattle.sift_unit.specs.Acts.{IsConfigOf};
+ghost use Rattle.sift_unit.specs.Crews.{AreAllCrews, AreCrewsBy, IsCrewBy};
+ghost use Rattle.sift_unit.specs.Data.{data_of};
+ghost use Rattle.sift_unit.specs.Flown.{mission_of, table_for};
+ghost use Rattle.sift_unit.specs.PartsFit.{PartsFit};
+
+use crate::parts::MissionParts;
+use sift_base::UnitSet;
+use sift_config::Config;
+use sift_table::GoodTable;
+
+/// By task, the units of one configuration that run it.
+#[derive(Clone, Copy)]
+pub(crate) struct Crews {
+    pub by_task: [UnitSet; 24],
+}
+
+impl Crews {
+    /// No unit for any task.
+    fn none() -> Crews
+        ensures { length result.by_task ≡ task_limit }
+    {
+        Crews {
+            by_task: [UnitSet::empty(); 24],
+        }
+    }
+
+    /// The units that run a task.
+    pub(crate) fn of_task(&self, t: usize) -> UnitSet
+        requires { t < task_limit }
+        ensures { result ≡ slice_index_or self.now.by_task t result }
+    {
+        self.by_task[t]
+    }
+}
+
+/// By the byte of a configuration's units, its crews.
+pub(crate) fn all_crews(parts: &MissionParts) -> [Crews; 256]
+    requires { PartsFit (data_of parts.now) }
+    ensures { AreAllCrews (data_of parts.now) result }
+{
+    let mut rows = [Crews::none(); 256];
+    for bits in 0..256 {
+        rows[bits] = crews_of(parts, bits as u8);
+    }
+    rows
+}
+
+/// The crews of the configuration whose units' bits the byte has, where it is one.
+fn crews_of(parts: &MissionParts, bits: u8) -> Crews
+    requires { PartsFit (data_of parts.now) }
+    ensures { let us = members (units_of bits) in
+        IsConfigOf (mission_of parts.now) us → AreCrewsBy (table_for (data_of parts.now) us) us (length (data_of parts.now).program.tasks) result }
+{
+    match Config::of_bits(bits) {
+        Some(config) => crews_under(parts, &config),
+        None => Crews::none(),
+    }
+}
+
+/// The crews of a configuration, by the table of its size, where there is one.
+fn crews_under(parts: &MissionParts, config: &Config) -> Crews
+    requires { PartsFit (data_of parts.now) }
+    ensures { IsConfigOf (mission_of parts.now) config.now →
+        AreCrewsBy (table_for (data_of parts.now) config.now) config.now (length (data_of parts.now).program.tasks) result }
+{
+    let place = config.len() - 4;
+    if place < parts.tables.len() {
+        return crews_by(&parts.tables[place], config, parts.program.tasks.len());
+    }
+    Crews::none()
+}
+
+/// The units of a configuration that run each of so many tasks, by a table.
+fn crews_by(table: &GoodTable, config: &Config, tasks: usize) -> Crews
+    requires rows { tasks ≤ length table.now.run }
+    requires few { tasks ≤ task_limit }
+    ensures { AreCrewsBy table.now config.now tasks result }
+{
+    let mut crews = Crews::none();
+    for t in 0..tasks {
+        crews.by_task[t] = crew_by(table, config, t);
+    }
+    crews
+}
+
+/// The units of a configuration that run a task, by a table.
+fn crew_by(table: &GoodTable, config: &Config, t: usize) -> UnitSet
+    requires { t < length table.now.run }
+    ensures { IsCrewBy table.now config.now t result }
+{
+    let mut crew = UnitSet::empty();
+    for position in 0..config.len() {
+        let unit = config.unit_at(position);
+        if table.runs(t, position) {
+            crew = crew.with(unit);
+        }
+    }
+    crew
+}
