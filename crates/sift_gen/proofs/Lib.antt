@@ -3,3 +3,5 @@ mod Placing
 mod Listing
 mod Shallow
 mod Trees
+mod OneText
+mod Floatless

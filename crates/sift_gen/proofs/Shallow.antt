@@ -1,5 +1,5 @@
 -- The tree of a scenario isn't deep.
-use Rattle.std.proofs.Common.{◌≡◌, ℕ, zero, suc, ◌+◌, ◌*◌, ◌≤◌, List, [], ◌∷◌, map, arith}
+use Rattle.std.proofs.Common.{ℕ, zero, suc, ◌+◌, ◌*◌, ◌≤◌, List, map, arith}
 use Rattle.std.specs.List.{range_with_len}
 use Rattle.toml.specs.Data.{Data, depth, items_depth, members_depth}
 use Rattle.sift_gen.specs.Draws.{after, draw_at}

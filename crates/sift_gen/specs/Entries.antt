@@ -2,7 +2,7 @@
 use Rattle.std.specs.Prelude.{ℕ, List, [], ◌∷◌, pos}
 use Rattle.std.specs.Cmp.Lexicographic.{slice_cmp}
 use Rattle.std.specs.Ordering.{match_ordering, nat_cmp}
-use Rattle.toml.specs.Data.{Data, Items, Members, array, integer, item, member, no_items, no_members, table}
+use Rattle.toml.specs.Data.{Data, Items, Members, array, integer, item, member, no_items, no_members}
 
 -- the members and one more entry, in the order of the keys; an equal key takes the value
 abbrev pub placed : List ℕ → Data → Members → Members

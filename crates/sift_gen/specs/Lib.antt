@@ -2,3 +2,4 @@ pub mod Draws
 pub mod Entries
 pub mod Tasks
 pub mod Scenario
+pub mod Text

@@ -1,5 +1,5 @@
 -- The scenario that is drawn from a number, as the tree of a document.
-use Rattle.std.specs.Prelude.{codes, ℕ, zero, suc, ◌+◌, ◌-◌, ◌*◌, List, [], ◌∷◌, map, nat_eq, not}
+use Rattle.std.specs.Prelude.{codes, ℕ, zero, suc, ◌+◌, ◌*◌, List, [], ◌∷◌, map, nat_eq, not}
 use Rattle.std.specs.Fmt.{decimal}
 use Rattle.std.specs.List.{filter, flat_map, range_with_len}
 use Rattle.toml.specs.Data.{Data, Members, no_members, string, table}

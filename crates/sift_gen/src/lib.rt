@@ -3,8 +3,10 @@
 
 mod entry;
 mod fault;
+mod law;
 mod scenario;
 mod sensor;
 mod task;
 
+pub use law::one_text_of_a_number;
 pub use scenario::{scenario_text, scenario_tree};

@@ -1,10 +1,10 @@
 //! The scenario of a number.
 
-ghost use Rattle.std.specs.Prelude.{◌≡◌, IfOk, Some, map, string_bytes};
+ghost use Rattle.std.specs.Prelude.{◌≡◌, IfOk, map, string_bytes};
 ghost use Rattle.toml.specs.Data.{table};
-ghost use Rattle.toml.specs.Parse.{parse_document};
 ghost use Rattle.toml.specs.View.{table_view, view};
 ghost use Rattle.sift_gen.specs.Scenario.{document_of, tree_of};
+ghost use Rattle.sift_gen.specs.Text.{IsTextOf};
 
 use crate::entry::{array, array_of_one, with, with_number};
 use crate::fault::fault_table;
@@ -56,7 +56,7 @@ fn document_of(
 
 /// The text of that tree, as `toml` prints it and reads it back.
 pub fn scenario_text(alloc: Global, number: u64) -> Result<String, NoMemory>
-    ensures { IfOk result (λ text. parse_document (string_bytes text) ≡ Some (tree_of number)) }
+    ensures { IfOk result (λ text. IsTextOf number (string_bytes text)) }
 {
     let tree = scenario_tree(alloc, number)?;
     match toml::table_to_string(alloc, &tree) {
