@@ -44,7 +44,8 @@ pub stored_there : (l : ℕ) (s : Machine.State) (w : ℕ) (stack : List ℕ) �
 stored_there l s w stack within =
     ap (λ (b : Bool). if b then Some (let t : Machine.State = record s { place = s.place + 1; stack = stack; locals = slice_set s.locals l w } in t) else None) (below l (length s.locals) within)
 
-pub put_there : (j : ℕ) (s : Machine.State) (w : ℕ) (stack : List ℕ) → j < length s.outs → put_out j s (w ∷ stack) ≡ Some (record s { place = s.place + 1; stack = stack; outs = slice_set s.outs j w })
+pub put_there : (j : ℕ) (s : Machine.State) (w : ℕ) (stack : List ℕ) → j < length s.outs
+    → put_out j s (w ∷ stack) ≡ Some (record s { place = s.place + 1; stack = stack; outs = slice_set s.outs j w })
 put_there j s w stack within =
     ap (λ (b : Bool). if b then Some (let t : Machine.State = record s { place = s.place + 1; stack = stack; outs = slice_set s.outs j w } in t) else None) (below j (length s.outs) within)
 

@@ -20,7 +20,8 @@ module _ (code : List Instr) (inputs : Inputs) where
   goes : (s t : State) (i : Instr) → slice_get code s.place ≡ Some i → effect i code inputs s ≡ Some t → (k : ℕ) → exec code inputs (suc k) s ≡ exec code inputs k t
   goes s t i at does k = by (eqb_tells s.place (length code))
     where
-      by : ((s.place == length code) ≡ true) × (s.place ≡ length code) ⊎ (((s.place == length code) ≡ false) × (s.place ≢ length code)) → exec code inputs (suc k) s ≡ exec code inputs k t
+      by : ((s.place == length code) ≡ true) × (s.place ≡ length code) ⊎ (((s.place == length code) ≡ false) × (s.place ≢ length code))
+          → exec code inputs (suc k) s ≡ exec code inputs k t
       by (inl e) = let within : s.place < length code = slice_get_within code s.place i at in absurd (omega (arith, within, e.1))
       by (inr d) =
           ap (λ (b : Bool). if b then Done s.outs else after (exec code inputs k) (step code inputs s)) d.0

@@ -90,7 +90,8 @@ module _ (program : Program) (p : ℕ) (i : Instr) (height : ℕ) (brought : Lis
       deep (inr bad) = room (subst (IsCrowdedAt (length (enclosing program.code p))) at bad)
 
   -- a calm instruction
-  pub calm_free : IsCalm i → All (λ x. x ≡ height) (brought_to p brought) → pops i ≤ height → height_after i height ≤ stack_limit → (IsBadOperandAt program.limits (Some i) → ⊥) → IsFree program p
+  pub calm_free : IsCalm i → All (λ x. x ≡ height) (brought_to p brought) → pops i ≤ height → height_after i height ≤ stack_limit
+      → (IsBadOperandAt program.limits (Some i) → ⊥) → IsFree program p
   calm_free calm meets filled shallow named =
       free_at (calm_jump program.code p i calm) meets (calm_end program.code p i calm) filled shallow (calm_begin (length (enclosing program.code p)) i calm) named
 

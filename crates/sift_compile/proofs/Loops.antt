@@ -36,7 +36,8 @@ pub keeps_more : (i : Instr) (b : List Instr) → IsPlain i → KeepsLoops b →
 keeps_more i b plain kb = keeps_both (i ∷ []) b (keeps_one i plain) kb
 
 -- a loop encloses its body
-pub loop_encloses : (code : List Instr) (p k : ℕ) (body : List Instr) → IsMatched body → Stands code p (Begin k ∷ (body ++ End ∷ [])) → enclosing code (p + 1) ≡ (p + 1) ∷ enclosing code p
+pub loop_encloses : (code : List Instr) (p k : ℕ) (body : List Instr) → IsMatched body → Stands code p (Begin k ∷ (body ++ End ∷ []))
+    → enclosing code (p + 1) ≡ (p + 1) ∷ enclosing code p
 loop_encloses code p k body matched stands =
     enclosing_here code p (Begin k) (stands_here code p (Begin k) _ stands)
     ∙ ap (λ o. opened_by o (p + 1) (enclosing code p)) (closes code (p + 1) body matched (stands_on code p (Begin k) _ stands))

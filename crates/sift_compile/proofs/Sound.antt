@@ -59,12 +59,14 @@ module _ (b : Bounds) (program : Program) (outputs : program.limits ≡ (let l :
   out_takes j within = record { calm = tt; pops_one = refl; pushes_none = refl; named = λ bad. omega (arith, bad, within, ap (λ (l : Code.Limits). l.outputs) outputs) }
 
   -- a jump is enclosed by the loops that enclose the place behind it
-  jumpz_loops : (p : ℕ) (t : Term) (rest : List Instr) (to : ℕ) → Stands program.code p (term_code t ++ JumpZ to ∷ rest) → enclosing program.code (behind p (term_code t)) ≡ enclosing program.code p
+  jumpz_loops : (p : ℕ) (t : Term) (rest : List Instr) (to : ℕ) → Stands program.code p (term_code t ++ JumpZ to ∷ rest)
+      → enclosing program.code (behind p (term_code t)) ≡ enclosing program.code p
   jumpz_loops p t rest to stands =
       enclosing_here program.code (p + length (term_code t)) (JumpZ to) (stands_next program.code p (term_code t) rest (JumpZ to) stands)
       ∙ (keeps_term t).by program.code p (stands_front program.code p (term_code t) _ stands)
 
-  jump_loops : (p : ℕ) (first rest : List Instr) (to : ℕ) → Stands program.code p (first ++ Jump to ∷ rest) → enclosing program.code (behind p first) ≡ enclosing program.code (p + length first)
+  jump_loops : (p : ℕ) (first rest : List Instr) (to : ℕ) → Stands program.code p (first ++ Jump to ∷ rest)
+      → enclosing program.code (behind p first) ≡ enclosing program.code (p + length first)
   jump_loops p first rest to stands =
       enclosing_here program.code (p + length first) (Jump to) (stands_next program.code p first rest (Jump to) stands)
 

@@ -30,7 +30,8 @@ module _ (code : List Instr) (inputs : Inputs) where
         term_runs code inputs (limits_of b) fits x t.locals (at p loops locals t.outs) (subst (λ n. NamesWithin b.sensors b.words n x) (sym holds.sizes.locals_are) sound.names) holds.begins stands
 
     -- a state in which a statement leaves as many locals
-    holds_on : (depth : ℕ) (s : Machine.State) (q : ℕ) (loops : List Loop) (t : State) → (run : Runs code inputs s q loops t) → HasSizes depth b.outputs t → Holds depth b.outputs run.locals t
+    holds_on : (depth : ℕ) (s : Machine.State) (q : ℕ) (loops : List Loop) (t : State) → (run : Runs code inputs s q loops t)
+        → HasSizes depth b.outputs t → Holds depth b.outputs run.locals t
     holds_on depth s q loops t run sizes = record { begins = run.begins; long = run.long; sizes = sizes }
 
     -- a block in a scope of its own

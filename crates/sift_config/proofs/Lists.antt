@@ -99,7 +99,8 @@ unfolding members
 has-members units u are = has-filter (holds units) unit_numbers u ∙ both (holds units u) (has unit_numbers u) (λ there. has_low u (are u there))
 
 -- a set without its first member, where it is what the list has from place i on
-pub next_members : (units : Units) (us : List ℕ) (i t : ℕ) → i < length us → members units ≡ drop i us → slice_get (members units) 0 ≡ Some t → members (set.remove units t) ≡ drop (i + 1) us
+pub next_members : (units : Units) (us : List ℕ) (i t : ℕ) → i < length us → members units ≡ drop i us → slice_get (members units) 0 ≡ Some t
+    → members (set.remove units t) ≡ drop (i + 1) us
 next_members units us i t within is first =
     let parts : members units ≡ get_or us i t ∷ drop (i + 1) us = is ∙ rw (add-one i) (drop-cons us i t within) in
     let front : Some (get_or us i t) ≡ Some t = rw parts at first in

@@ -34,7 +34,8 @@ accusers-cons names v us u = elim (cases_Bool (nat_eq v u)) [
 ]
 
 -- the accusers among the first units and one more
-pub accusers-front : (names : ℕ → ℕ → Bool) (us : List ℕ) (i t u : ℕ) → slice_get us i ≡ Some t → accusers names (take (suc i) us) u ≡ accusers names (take i us) u + accuses names t u
+pub accusers-front : (names : ℕ → ℕ → Bool) (us : List ℕ) (i t u : ℕ) → slice_get us i ≡ Some t
+    → accusers names (take (suc i) us) u ≡ accusers names (take i us) u + accuses names t u
 accusers-front names [] i t u at = absurd cc
 accusers-front names (v ∷ us) zero t u at =
     let e : v ≡ t = ap (λ o. unwrap_or o t) at in

@@ -27,7 +27,8 @@ abbrev byte : (ℕ → Bool) → ℕ
 byte p = digit (p 0) + 2 * digit (p 1) + 4 * digit (p 2) + 8 * digit (p 3) + 16 * digit (p 4) + 32 * digit (p 5) + 64 * digit (p 6) + 128 * digit (p 7)
 
 -- each of eight digits is at most 1
-all_low : (p : ℕ → Bool) → (digit (p 0) ≤ 1) × (digit (p 1) ≤ 1) × (digit (p 2) ≤ 1) × (digit (p 3) ≤ 1) × (digit (p 4) ≤ 1) × (digit (p 5) ≤ 1) × (digit (p 6) ≤ 1) × (digit (p 7) ≤ 1)
+all_low : (p : ℕ → Bool) → (digit (p 0) ≤ 1) × (digit (p 1) ≤ 1) × (digit (p 2) ≤ 1) × (digit (p 3) ≤ 1) × (digit (p 4) ≤ 1) × (digit (p 5) ≤ 1)
+    × (digit (p 6) ≤ 1) × (digit (p 7) ≤ 1)
 all_low p = (digit_low (p 0), digit_low (p 1), digit_low (p 2), digit_low (p 3), digit_low (p 4), digit_low (p 5), digit_low (p 6), digit_low (p 7))
 
 -- the byte of a set is made of its tests

@@ -68,8 +68,10 @@ module _ (c : Calm) where
   }
 
   pub has_margin : HasMarginAt (mission_of c) (flight_of (mission_of c) (core_of c) (λ u f. account_of c)) 0
-  has_margin g low = let z : 0 ≡ g = omega arith in
-      subst (λ g. HasMargin (λ u. (mission_of c).works u g) (config_at (mission_of c) (flight_of (mission_of c) (core_of c) (λ u f. account_of c)) g)) z (record { few = omega arith; enough = omega arith })
+  has_margin g low =
+      let z : 0 ≡ g = omega arith in
+      let flight = flight_of (mission_of c) (core_of c) (λ u f. account_of c) in
+      subst (λ g. HasMargin (λ u. (mission_of c).works u g) (config_at (mission_of c) flight g)) z (record { few = omega arith; enough = omega arith })
 
   -- each task runs when the sensors are agreed on, and is polled before reports are said
   pub record RunsInTime : Type 0 where

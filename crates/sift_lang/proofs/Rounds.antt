@@ -16,7 +16,8 @@ times-less n i round s t more is =
     ap (times (n - (i + 1)) round) is ∙ sym (ap (λ k. times k round s) left)
 
 -- the statements from i on are the one at i and then the rest
-pub block_of-drop : (statements : List Stmt) (i : ℕ) (statement : Stmt) → i < length statements → statement ≡ get_or statements i statement → block_of (drop i statements) ≡ step (statement_of statement) (block_of (drop (i + 1) statements))
+pub block_of-drop : (statements : List Stmt) (i : ℕ) (statement : Stmt) → i < length statements → statement ≡ get_or statements i statement
+    → block_of (drop i statements) ≡ step (statement_of statement) (block_of (drop (i + 1) statements))
 block_of-drop statements i statement within is =
     let here = drop-cons statements i statement within ∙ ap (λ first. first ∷ drop (suc i) statements) (sym is) in
     let front : drop i statements ≡ statement ∷ drop (i + 1) statements = rw add-one here in

@@ -24,7 +24,8 @@ sizes-chosen : (locals outs n : ℕ) (first second : State) → HasSizes locals 
 sizes-chosen locals outs zero first second p q = q
 sizes-chosen locals outs (suc n) first second p q = p
 
-pub sizes-times : (locals outs n : ℕ) (round : State → State) → ((s : State) → HasSizes locals outs s → HasSizes locals outs (round s)) → (s : State) → HasSizes locals outs s → HasSizes locals outs (times n round s)
+pub sizes-times : (locals outs n : ℕ) (round : State → State) → ((s : State) → HasSizes locals outs s → HasSizes locals outs (round s)) → (s : State)
+    → HasSizes locals outs s → HasSizes locals outs (times n round s)
 sizes-times locals outs zero round keeps s has = has
 sizes-times locals outs (suc n) round keeps s has = sizes-times locals outs n round keeps (round s) (keeps s has)
 

@@ -12,7 +12,8 @@ use Rattle.sift_pool.proofs.Live.{IsLive-newest}
 use Rattle.sift_pool.proofs.Laid.{Holds, spans_are, count_is, used_is, laid_region-spans}
 
 -- one more span, and zeros for it after the words that are there
-pub IsLaid-push : (ps : List Extent) (ws : List ℕ) (number start len : ℕ) → IsLaid ps ws → number ≡ length ps → start ≡ length ws → IsLaid (ps ++ extent number start len ∷ []) (ws ++ replicate len 0)
+pub IsLaid-push : (ps : List Extent) (ws : List ℕ) (number start len : ℕ) → IsLaid ps ws → number ≡ length ps → start ≡ length ws
+    → IsLaid (ps ++ extent number start len ∷ []) (ws ++ replicate len 0)
 IsLaid-push ps ws number start len laid next after =
     let lens = map_push (λ p. p.len) ps (extent number start len) in
     let more = extents_from-push 0 0 (lengths ps) len in

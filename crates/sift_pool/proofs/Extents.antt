@@ -26,7 +26,8 @@ take-extents_from (suc k) number start (n ∷ ns) =
     ap (λ rest. extent number start n ∷ rest) (take-extents_from k (number + 1) (start + n) ns)
 
 -- one more length is one more span, which starts where the others end
-pub extents_from-push : (number start : ℕ) (ns : List ℕ) (n : ℕ) → extents_from number start (ns ++ n ∷ []) ≡ extents_from number start ns ++ extent (number + length ns) (start + sum ns) n ∷ []
+pub extents_from-push : (number start : ℕ) (ns : List ℕ) (n : ℕ)
+    → extents_from number start (ns ++ n ∷ []) ≡ extents_from number start ns ++ extent (number + length ns) (start + sum ns) n ∷ []
 extents_from-push number start [] n =
     ap (λ last. last ∷ []) (same_extent _ _ _ _ n n (omega arith) (omega arith) refl)
 extents_from-push number start (m ∷ ns) n =
@@ -36,7 +37,8 @@ extents_from-push number start (m ∷ ns) n =
     cc
 
 -- the span at an index
-pub slice_get-extents_from : (k number start : ℕ) (ns : List ℕ) → k < length ns → slice_get (extents_from number start ns) k ≡ Some (extent (number + k) (start + sum (take k ns)) (get_or ns k 0))
+pub slice_get-extents_from : (k number start : ℕ) (ns : List ℕ) → k < length ns
+    → slice_get (extents_from number start ns) k ≡ Some (extent (number + k) (start + sum (take k ns)) (get_or ns k 0))
 slice_get-extents_from k number start [] there = absurd (omega arith)
 slice_get-extents_from zero number start (n ∷ ns) there =
     ap Some (same_extent _ _ _ _ n n (omega arith) (omega arith) refl)

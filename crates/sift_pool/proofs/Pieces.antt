@@ -68,7 +68,8 @@ get_or-pieces (suc k) (n ∷ ns) ws at there inside =
     ∙ ap (λ i. get_or ws i 0) (omega (arith, sum-cons n (take k ns)))
 
 -- a write to one word of a piece leaves the other pieces
-pub pieces-set : (k : ℕ) (ns ws : List ℕ) (at w : ℕ) → k < length ns → at < get_or ns k 0 → pieces ns (set ws (sum (take k ns) + at) w) ≡ set (pieces ns ws) k (set (get_or (pieces ns ws) k []) at w)
+pub pieces-set : (k : ℕ) (ns ws : List ℕ) (at w : ℕ) → k < length ns → at < get_or ns k 0
+    → pieces ns (set ws (sum (take k ns) + at) w) ≡ set (pieces ns ws) k (set (get_or (pieces ns ws) k []) at w)
 pieces-set k [] ws at w there inside = absurd (omega arith)
 pieces-set zero (n ∷ ns) ws at w there inside =
     let here : sum (take 0 (n ∷ ns)) + at ≡ at = omega arith in

@@ -24,7 +24,8 @@ Fits-choose b locals repeats made t first r s is_first =
     (λ y. let f = is_first.0 y in ((s.0, f.0), f.1, (s.1, f.2)), λ h. is_first.1 (h.0.1, h.1, h.2.1))
 
 -- the same, where the first block passed too
-pub Fits-choose_else : (b : Bounds) (locals repeats made : ℕ) (t : Term) (first second : Block) (r : Bool) → FitsTerm b locals made t → Fits b locals repeats made first → (IsTrue r ↔ Fits b locals repeats made second)
+pub Fits-choose_else : (b : Bounds) (locals repeats made : ℕ) (t : Term) (first second : Block) (r : Bool) → FitsTerm b locals made t
+    → Fits b locals repeats made first → (IsTrue r ↔ Fits b locals repeats made second)
     → IsTrue r ↔ FitsStatement b locals repeats made (choose_else t first second)
 Fits-choose_else b locals repeats made t first second r s f is_second =
     (λ y. let g = is_second.0 y in ((s.0, f.0, g.0), omega (arith, f.1, g.1), (s.1, f.2, g.2)), λ h. is_second.1 (h.0.2, omega (arith, h.1), h.2.2))

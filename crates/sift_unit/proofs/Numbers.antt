@@ -15,7 +15,10 @@ has-range a (suc n) u low high = elim (cases_Bool (nat_eq a u)) [
 ]
   where
     later : (x y : ℕ) → x ≤ y → nat_eq x y ≡ false → x + 1 ≤ y
-    later x y low' other = elim (cases_eq x y) [ inl same ↦ absurd (cc (eq-eqb x y same, other)) | inr differ ↦ elim (cases_lt x y) [ inl less ↦ omega arith | inr more ↦ absurd (differ (omega arith)) ] ]
+    later x y low' other = elim (cases_eq x y) [
+      | inl same ↦ absurd (cc (eq-eqb x y same, other))
+      | inr differ ↦ elim (cases_lt x y) [ inl less ↦ omega arith | inr more ↦ absurd (differ (omega arith)) ]
+    ]
 
 -- and no others
 pub range-has : (a n u : ℕ) → has (range_with_len a n) u ≡ true → (a ≤ u) × (u < a + n)

@@ -6,7 +6,8 @@ use Rattle.sift_reread.proofs.reread.reread.Goals as goal
 -- a line more is printed
 pub loop-lines-preserved : goal.loop-lines-preserved
 loop-lines-preserved c = (
-  rw c.in_ok-push_line.ensures (one_more c.args.report.now (string_bytes c.loop-lines.text) c.loop-lines.rest.now c.in-Some.later.now c.loop-lines.lines c.in-Some.line c.loop-lines.invariant.0 c.in-Some.ensures.begun),
+  rw c.in_ok-push_line.ensures (one_more c.args.report.now (string_bytes c.loop-lines.text) c.loop-lines.rest.now c.in-Some.later.now
+      c.loop-lines.lines c.in-Some.line c.loop-lines.invariant.0 c.in-Some.ensures.begun),
   search rules,
 )
 

@@ -14,7 +14,10 @@ run-loop-round-preserved t c =
     let ran : state_of c.run_block-in-loop-round.new.self ≡ round (state_of c.loop-round.self) = rw c.deref-in-loop-round.ensures.value at c.run_block-in-loop-round.ensures.means in
     record {
       left = times-less _ c.loop-round._round round _ _ c.loop-round-test.true ran ∙ c.loop-round.invariant.left;
-      sizes = record { locals_are = c.run_block-in-loop-round.ensures.locals ∙ c.loop-round.invariant.sizes.locals_are; outs_are = c.run_block-in-loop-round.ensures.outs ∙ c.loop-round.invariant.sizes.outs_are };
+      sizes = record {
+        locals_are = c.run_block-in-loop-round.ensures.locals ∙ c.loop-round.invariant.sizes.locals_are;
+        outs_are = c.run_block-in-loop-round.ensures.outs ∙ c.loop-round.invariant.sizes.outs_are;
+      };
     }
 
 pub run-returns-in-Set : goal.run-returns-in-Set

@@ -19,7 +19,8 @@ loop-position-preserved g c = λ v.
     let i = c.loop-position.position in
     let t = c.unit_at-executor.result in
     let seen = λ (u : ℕ). has (take i us) u in
-    let caught = λ (u : ℕ). (g.M.Duty.mission c.args.mission.now).executes us c.args.word u && differs (polled_at c.args.unit (memory_of c.args.self.now) c.args.places.now c.args.word u) c.args.vote.now in
+    let polled = λ (u : ℕ). polled_at c.args.unit (memory_of c.args.self.now) c.args.places.now c.args.word u in
+    let caught = λ (u : ℕ). (g.M.Duty.mission c.args.mission.now).executes us c.args.word u && differs (polled u) c.args.vote.now in
     let front = ap (λ b. b && caught v) (has_front us v i t (get-drop us i ∙ c.unit_at-executor.ensures)) in
     elim c.if-is_wrong.branch [
       | then-is_wrong w ↦ ap (λ units. holds units v) (w.wrong-is ∙ w.with-wrong.ensures)
