@@ -78,7 +78,7 @@ module _ (program : Program) where
       let other = behind (behind p ct) first in
       let end = other + length second in
       let whole : end ≡ p + length (choose_else_code p ct first second)
-          = omega (arith, length-append ct (JumpZ other ∷ (first ++ Jump end ∷ second)), length-append first (Jump end ∷ second)) in
+      = omega (arith, length-append ct (JumpZ other ∷ (first ++ Jump end ∷ second)), length-append first (Jump end ∷ second)) in
       let part = test_pushes program x all p to brought (stands_front program.code p ct _ stands) here clear (omega (arith, whole, before)) low in
       let at = stands_next program.code p ct _ (JumpZ other) stands in
       let meets : Meets q 1 brought = quiet_meets q 1 brought (some_quiet program x p to brought clear (omega (arith, whole, before))) in
