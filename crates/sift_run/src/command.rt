@@ -4,7 +4,7 @@ ghost use Rattle.std.specs.Prelude.{◌≡◌, ℕ, IfOk, IfSome, Some, map, str
 ghost use Rattle.sift_flight.specs.Told.{IsWhole, told};
 ghost use Rattle.sift_unit.specs.Data.{data_of};
 ghost use Rattle.sift_unit.specs.Flown.{mission_of};
-ghost use Rattle.sift_run.specs.Command.{Asks, GiveOrder, IsFlightOf, TextOf};
+ghost use Rattle.sift_run.specs.Command.{Asks, GiveNumber, GiveOrder, IsFlightOf, TextOf};
 
 use crate::options::Options;
 use sift_base::NoMemory;
@@ -17,6 +17,15 @@ use std::alloc::Global;
 /// What the words ask for.
 #[derive(Clone, Copy, Debug, PartialEq, Eq)]
 pub enum Command {
+    /// A text of the mission that the input states.
+    Read(Reading),
+    /// `gen`: writes the scenario that is drawn from this number, and reads nothing.
+    Gen { number: u64 },
+}
+
+/// What a command makes of the mission that it reads.
+#[derive(Clone, Copy, Debug, PartialEq, Eq)]
+pub enum Reading {
     /// `run`: flies the mission that the input states, its units stepping in this order, and reports on it.
     Run { order: u64 },
     /// `votes`: flies the mission likewise, and tells each vote with the words that were polled.
@@ -37,35 +46,40 @@ impl Command {
             return None;
         };
         match verb.as_str() {
-            "run" => Some(Command::Run {
+            "run" => Some(Command::Read(Reading::Run {
                 order: order_of(rest)?,
-            }),
-            "votes" => Some(Command::Votes {
+            })),
+            "votes" => Some(Command::Read(Reading::Votes {
                 order: order_of(rest)?,
+            })),
+            "ideal" if rest.is_empty() => Some(Command::Read(Reading::Ideal)),
+            "check" if rest.is_empty() => Some(Command::Read(Reading::Check)),
+            "gen" => Some(Command::Gen {
+                number: number_of(rest)?,
             }),
-            "ideal" if rest.is_empty() => Some(Command::Ideal),
-            "check" if rest.is_empty() => Some(Command::Check),
             _ => None,
         }
     }
+}
 
-    /// The text that the command makes of a mission.
+impl Reading {
+    /// The text that is made of a mission.
     pub fn text(self, alloc: Global, mission: &Mission) -> Result<String, NoMemory>
         ensures { IfOk result (λ text. TextOf self (data_of mission.now) (string_bytes text)) }
     {
         match self {
-            Command::Run { order } => report_text(
+            Reading::Run { order } => report_text(
                 alloc,
                 mission,
                 &flight_of(alloc, mission, order)?,
             ),
-            Command::Votes { order } => votes_text(
+            Reading::Votes { order } => votes_text(
                 alloc,
                 mission,
                 &flight_of(alloc, mission, order)?,
             ),
-            Command::Ideal => ideal_text(alloc, mission),
-            Command::Check => Ok(String::from_str(alloc, "ok\n")?),
+            Reading::Ideal => ideal_text(alloc, mission),
+            Reading::Check => Ok(String::from_str(alloc, "ok\n")?),
         }
     }
 }
@@ -90,4 +104,16 @@ fn order_of(words: &[String]) -> Option<u64>
         return None;
     }
     Some(options.order.unwrap_or(0))
+}
+
+/// The number that the option of `gen` gives, which has no other.
+fn number_of(words: &[String]) -> Option<u64>
+    ensures found { IfSome result (GiveNumber (map string_bytes words.now)) }
+    ensures exact { (number : ℕ) → GiveNumber (map string_bytes words.now) number → result ≡ Some number }
+{
+    let options = Options::NONE.and(words)?;
+    if options.order.is_some() || options.workers.is_some() {
+        return None;
+    }
+    options.number
 }

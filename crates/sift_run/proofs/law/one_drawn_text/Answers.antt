@@ -1,0 +1,5 @@
+use Rattle.sift_run.proofs.OneText.{one_drawn_text}
+use Rattle.sift_run.proofs.law.one_drawn_text.Goals as goal
+
+pub returns : goal.returns
+returns c = one_drawn_text c.one_text_of_a_number.ensures
