@@ -1,0 +1,90 @@
+-- The fault of a drawn document: what its table says, and the rules that it keeps.
+use Rattle.std.proofs.Common.{◌≡◌, ◌<◌, ◌≤◌, ℕ, [], ◌∷◌, Some, None, inl, inr, refl, arith}
+use Rattle.std.proofs.lemmas.List.Elements.{All-cons, All-from_recursion, All-nil}
+use Rattle.std.specs.List.{Contains}
+use Rattle.toml.specs.Data.{Data, Members, table}
+use Rattle.sift_gen.specs.Entries.{array_of}
+use Rattle.sift_gen.specs.Scenario.{fault_entries, fault_item}
+use Rattle.sift_scenario.specs.Document.{HasOnlyKeys, IsTableOf, keys_of, members_of}
+use Rattle.sift_scenario.specs.Fault.{IsFaultEntry, IsHeadless, IsSaying, changes_of, fault_in, fault_keys, fault_rules, from_of, unit_of}
+use Rattle.sift_scenario.specs.Item.{change_in, item_keys}
+use Rattle.sift_scenario.specs.Rules.{AreKept}
+use Rattle.sift_script.specs.Script.{Change, Fault, changing}
+use Rattle.sift_script.specs.declared.script.SlotKind.TheVariants.{Out}
+use Rattle.sift_trial.proofs.Digits.{other_units, others_read}
+use Rattle.sift_trial.proofs.Tables.{not_only}
+use Rattle.sift_trial.proofs.Values.{number_read, word_read}
+
+-- what an item of a task's word states
+abbrev pub drawn_change : (units unit task value : ℕ) → Change
+drawn_change units unit task value = record { kind = Out; index = task; word = 0; to = other_units units unit; frame = None; value = Some value }
+
+-- the fault of one such item
+abbrev pub drawn_fault : (units unit from task value : ℕ) → Fault
+drawn_fault units unit from task value = record { unit = unit; from = from; plan = changing (drawn_change units unit task value ∷ []) }
+
+module _
+    (units unit from task value : ℕ) (enough : 5 ≤ units) (few : units ≤ 8) (there : unit < units) (early : from < 200)
+    (among : task < 12) (word : value < 65536) where
+  -- the entries of the item, and those of the fault
+  abbrev item : Members
+  item = members_of (fault_item units unit task value)
+
+  abbrev entries : Members
+  entries = members_of (fault_entries units unit from task value)
+
+  -- the value of `fault`
+  abbrev pub faults_value : Data
+  faults_value = array_of (fault_entries units unit from task value ∷ [])
+
+  -- ---- what is stated
+
+  change_stated : change_in item ≡ Some (drawn_change units unit task value)
+  change_stated = rw (number_read 0 63 task (omega arith) (omega (arith, among)), others_read units unit enough few, word_read value word) refl
+
+  unit_stated : unit_of entries ≡ Some unit
+  unit_stated = number_read 0 7 unit (omega arith) (omega (arith, there, few))
+
+  from_stated : from_of entries ≡ Some from
+  from_stated = number_read 0 999 from (omega arith) (omega (arith, early))
+
+  changes_stated : changes_of entries ≡ Some (drawn_change units unit task value ∷ [])
+  changes_stated = rw change_stated refl
+
+  pub fault_stated : fault_in entries ≡ drawn_fault units unit from task value
+  fault_stated = rw (unit_stated, from_stated, changes_stated) refl
+
+  -- ---- the rules
+
+  item_known : HasOnlyKeys item_keys item
+  item_known = All-from_recursion (Contains item_keys) (keys_of item)
+      ((1, omega arith, refl), ((0, omega arith, refl), ((3, omega arith, refl), ((5, omega arith, refl), ((2, omega arith, refl), tt)))))
+
+  fault_known : HasOnlyKeys fault_keys entries
+  fault_known = All-from_recursion (Contains fault_keys) (keys_of entries) ((1, omega arith, refl), ((2, omega arith, refl), ((0, omega arith, refl), tt)))
+
+  saying : IsSaying entries
+  saying = record {
+    value = array_of (fault_item units unit task value ∷ []);
+    there = refl;
+    few = record { items = _; there = refl; enough = omega arith; few = omega arith };
+    known = All-cons (IsTableOf item_keys) (fault_item units unit task value) [] (item, refl, item_known) (All-nil (IsTableOf item_keys));
+  }
+
+  pub faults_kept : AreKept (fault_rules (Some faults_value))
+  faults_kept = (
+    λ place broken. elim broken [
+      | inl none ↦ none.1 (record { items = _; there = refl; enough = omega arith; few = omega arith })
+      | inr entry ↦ not_only (table entries) (λ k d. ¬ IsFaultEntry k d) (λ fails. fails (entries, refl, fault_known)) place entry
+    ],
+    (
+      not_only entries (λ k fault. IsHeadless fault) (λ headless. elim headless [
+        | inl none ↦ cc (unit_stated, none)
+        | inr none ↦ cc (from_stated, none)
+      ]),
+      (
+        not_only entries (λ k fault. ¬ IsSaying fault) (λ fails. fails saying),
+        (not_only entries (λ k fault. changes_of fault ≡ None) (λ none. cc (changes_stated, none)), tt),
+      ),
+    ),
+  )

@@ -1,0 +1,17 @@
+mod NumberedNames
+mod DrawnRoll
+mod DrawnTrees
+mod DrawnTexts
+mod Ranges
+mod Values
+mod Tables
+mod Root
+mod Sensors
+mod Tasks
+mod Digits
+mod Faults
+mod Script
+mod Shapes
+mod Program
+mod Mission
+mod EachNumber

@@ -1,0 +1,245 @@
+-- The mission that a drawn document states.
+use Rattle.std.proofs.Common.{◌≡◌, ◌≢◌, ◌<◌, ◌≤◌, ◌+◌, ◌-◌, ℕ, List, [], ◌∷◌, length, map, None, inl, inr, refl, sym, ap, subst, ◌∙◌, arith}
+use Rattle.std.proofs.lemmas.List.FromFn.{get_or-range_with_len, length-map-range_with_len, length-range_with_len}
+use Rattle.std.proofs.lemmas.List.{length-map}
+use Rattle.std.proofs.lemmas.List.Elements.{All-map}
+use Rattle.std.specs.List.{range_with_len, sum}
+use Rattle.std.specs.Prelude.{unwrap_or}
+use Rattle.toml.specs.Data.{Members}
+use Rattle.sift_base.specs.Name.{IsName}
+use Rattle.sift_base.specs.declared.layout.Layout.{Layout}
+use Rattle.sift_gen.specs.Scenario.{document_of, fault_entries, sensor_tables, task_tables}
+use Rattle.sift_gen.specs.Tasks.{sensor_name, task_name}
+use Rattle.sift_parse.specs.Roll.{Roll}
+use Rattle.sift_program.specs.Program.{ProgramTree}
+use Rattle.sift_scenario.proofs.Order.{kept_joined}
+use Rattle.sift_scenario.specs.Clock.{clocks_of}
+use Rattle.sift_scenario.specs.Fault.{faults_of}
+use Rattle.sift_scenario.specs.Lawful.{IsLawful, themes_for}
+use Rattle.sift_scenario.specs.Mission.{HasGoodTables, IsMission, IsStated}
+use Rattle.sift_scenario.specs.Program.{AreTreesOf, IsProgramOf, all_starts, roll_for}
+use Rattle.sift_scenario.specs.Root.{plain_period, units_of}
+use Rattle.sift_scenario.specs.Rules.{AreKept}
+use Rattle.sift_scenario.specs.Sensor.{sensor_names, sensor_value, sensor_words, sensors_in, words_of}
+use Rattle.sift_scenario.specs.Table.{schedules_of, table_rules}
+use Rattle.sift_scenario.specs.Task.{Form, counts_of, names_of, task_entries, tasks_of, text}
+use Rattle.sift_scenario.specs.TaskRules.{task_rules}
+use Rattle.sift_script.specs.Rules as scripts
+use Rattle.sift_script.specs.Script.{Fault, outputs_of}
+use Rattle.sift_table.specs.Laws.{PlainTablesAreGood}
+use Rattle.sift_table.specs.Rules as tables
+use Rattle.sift_table.specs.Schedule.{plain_of}
+use Rattle.sift_unit.specs.Data.{MissionData, shapes_in}
+use Rattle.sift_unit.specs.Needs.{program_shapes}
+use Rattle.sift_trial.proofs.Faults.{fault_stated, faults_kept}
+use Rattle.sift_trial.proofs.Program.{drawn_trees, trees_allowed, trees_are, trees_long, trees_of_one_word}
+use Rattle.sift_trial.proofs.Root.{frames_are, root_kept, units_are}
+use Rattle.sift_trial.proofs.Script.{script_good}
+use Rattle.sift_trial.proofs.Sensors.{sensors_are, sensors_kept}
+use Rattle.sift_trial.proofs.Shapes.{AreOfOneWord, are_shapes, output_is, outputs_long, shapes_long}
+use Rattle.sift_trial.proofs.Tables.{names_are}
+use Rattle.sift_trial.proofs.Tasks.{all_known, counts_are, each_kept, forms_are, tasks_are, tasks_long, text_at}
+use Rattle.sift_trial.proofs.Sensors as sensing
+use Rattle.sift_trial.proofs.Tasks as tasking
+use Rattle.sift_trial.specs.Texts.{DrawnTasksAreBrief, DrawnTextsAreTasks, drawn_roll, drawn_sensors, drawn_tasks}
+
+-- counts, and a fault, that may be drawn
+pub record MayBeDrawn (units frames sensors tasks unit from task value : ℕ) : Type 0 where
+  pub enough_units : 5 ≤ units
+  pub few_units : units ≤ 8
+  pub some_frames : 20 ≤ frames
+  pub few_frames : frames ≤ 200
+  pub some_sensor : 1 ≤ sensors
+  pub few_sensors : sensors ≤ 8
+  pub some_task : 1 ≤ tasks
+  pub few_tasks : tasks ≤ 12
+  pub a_unit : unit < units
+  pub a_frame : from < frames
+  pub a_task : task < tasks
+  pub a_word : value < 65536
+
+-- the names of the tasks and the sensors are names, and no two are one
+pub record AreGoodNames (name : ℕ → List ℕ) (most : ℕ) : Type 0 where
+  pub formed : (k : ℕ) → k < most → IsName (name k)
+  pub differ : (i k : ℕ) → i < k → k < most → name i ≢ name k
+
+-- what other laws tell
+pub record AreKnown : Type 0 where
+  pub texts : DrawnTextsAreTasks
+  pub brief : DrawnTasksAreBrief
+  pub plain : PlainTablesAreGood
+  pub sensors : AreGoodNames sensor_name 8
+  pub tasks : AreGoodNames task_name 12
+
+module _
+    (known : AreKnown) (units frames sensors tasks unit from task value y z : ℕ)
+    (may : MayBeDrawn units frames sensors tasks unit from task value) where
+  -- the document
+  abbrev d : Members
+  d = document_of units frames (sensor_tables sensors y) (task_tables tasks sensors z) (fault_entries units unit from task value)
+
+  -- ---- the rules
+
+  -- the rules of the tasks are kept
+  all_tasks_kept : AreKept (task_rules d)
+  all_tasks_kept =
+      let long = tasks_long tasks sensors z in (
+        λ place broken. elim broken [
+          | inl none ↦ none.1 (omega (arith, long, may.some_task), omega (arith, long, may.few_tasks))
+          | inr entry ↦ all_known tasks sensors z place entry
+        ],
+        each_kept tasks sensors z may.few_tasks (λ t low. known.tasks.formed t (omega (arith, low, may.few_tasks)))
+            (λ i k before low. known.tasks.differ i k before (omega (arith, low, may.few_tasks))),
+      )
+
+  -- there are no tables of which one could be bad
+  no_tables : (n : ℕ) → AreKept (table_rules n None)
+  no_tables n = (λ place broken. broken, (λ place found. absurd (cc found.there), (λ place found. absurd (cc found.there), tt)))
+
+  -- so all rules are kept
+  lawful : IsLawful d
+  lawful =
+      kept_joined (themes_for (unwrap_or (units_of d) 0) d) (
+        root_kept units frames (sensor_tables sensors y) (task_tables tasks sensors z) (fault_entries units unit from task value)
+            may.enough_units may.few_units may.some_frames may.few_frames,
+        (
+          tt,
+          (
+            sensors_kept sensors y may.few_sensors (λ k low. known.sensors.formed k (omega (arith, low, may.few_sensors)))
+                (λ i k before low. known.sensors.differ i k before (omega (arith, low, may.few_sensors))),
+            (
+              all_tasks_kept,
+              (
+                no_tables (unwrap_or (units_of d) 0),
+                (
+                  faults_kept units unit from task value may.enough_units may.few_units may.a_unit (omega (arith, may.a_frame, may.few_frames))
+                      (omega (arith, may.a_task, may.few_tasks)) may.a_word,
+                  tt,
+                ),
+              ),
+            ),
+          ),
+        ),
+      )
+
+  -- ---- the program
+
+  -- the names that the loader hands to the texts
+  sensors_named : sensor_names d ≡ drawn_sensors sensors
+  sensors_named =
+      ap names_of (sensors_are sensors y) ∙ names_are (sensing.entries_at sensors y) sensor_name sensors (λ k. refl)
+
+  tasks_named : names_of (tasks_of d) ≡ drawn_tasks tasks
+  tasks_named =
+      ap names_of (tasks_are tasks sensors z) ∙ names_are (tasking.entries_at tasks sensors z) task_name tasks (λ k. refl)
+
+  roll_is : roll_for (sensor_names d) (tasks_of d) ≡ drawn_roll sensors tasks 0
+  roll_is = rw (sensors_named, tasks_named, counts_are tasks sensors z) refl
+
+  -- the program
+  abbrev program : ProgramTree
+  program = record { tasks = drawn_trees known.texts known.brief tasks sensors z; starts = all_starts (tasks_of d) }
+
+  program_stated : IsProgramOf (sensor_names d) (tasks_of d) program
+  program_stated =
+      let forms : List Form = map (λ t. text (text_at tasks sensors z t)) (range_with_len 0 tasks) in record {
+        starts = refl;
+        forms = forms;
+        stated = forms_are tasks sensors z;
+        trees = subst (λ (r : Roll). AreTreesOf r forms program.tasks) (sym roll_is)
+            (trees_are known.texts known.brief tasks sensors z may.some_sensor may.few_sensors may.few_tasks);
+        allowed = trees_allowed known.texts known.brief tasks sensors z may.few_tasks;
+      }
+
+  -- ---- the mission
+
+  -- the data that the document states
+  abbrev pub mission : MissionData
+  mission =
+      let period = plain_period (length (task_entries d)) in
+      let layout : Layout = record { units = units; sensors = length (sensor_words d); words = sum (counts_of (tasks_of d)) } in record {
+        units = units;
+        frames = frames;
+        period = period;
+        layout = layout;
+        names = names_of (tasks_of d);
+        program = program;
+        code = [];
+        tables = schedules_of d units period;
+        sensors = sensor_words d;
+        clock = clocks_of units d;
+        script = record {
+          faults = faults_of d;
+          layout = layout;
+          outputs = outputs_of (program_shapes (length (sensor_words d)) program);
+          frames = frames;
+        };
+      }
+
+  stated : IsStated d mission
+  stated = record {
+    lawful = lawful;
+    units = units_are units frames (sensor_tables sensors y) (task_tables tasks sensors z) (fault_entries units unit from task value) may.enough_units may.few_units;
+    frames = frames_are units frames (sensor_tables sensors y) (task_tables tasks sensors z) (fault_entries units unit from task value) may.some_frames may.few_frames;
+    period = refl;
+    clock = refl;
+    sensors = refl;
+    names = refl;
+    program = program_stated;
+    layout = refl;
+    tables = refl;
+    script = refl;
+  }
+
+  -- ---- its tables and its script
+
+  -- as many sensors have words
+  sensors_long : length (sensor_words d) ≡ sensors
+  sensors_long =
+      length-map (sensors_in (sensor_value d)) (λ sensor. unwrap_or (words_of sensor) [])
+      ∙ ap length (sensors_are sensors y) ∙ length-map-range_with_len (sensing.entries_at sensors y) 0 sensors
+
+  -- there is a tree for each task
+  trees_here : length program.tasks ≡ tasks
+  trees_here = trees_long known.texts known.brief tasks sensors z
+
+  one_word : AreOfOneWord program.tasks
+  one_word = trees_of_one_word known.texts known.brief tasks sensors z
+
+  few_sensors : length (sensor_words d) ≤ 8
+  few_sensors = omega (arith, sensors_long, may.few_sensors)
+
+  few_trees : length program.tasks ≤ 24
+  few_trees = omega (arith, trees_here, may.few_tasks)
+
+  -- a shape for each task
+  as_many_shapes : length (shapes_in mission).tasks ≡ length (task_entries d)
+  as_many_shapes =
+      shapes_long (length (sensor_words d)) program few_sensors few_trees one_word ∙ trees_here ∙ sym (tasks_long tasks sensors z)
+
+  -- the plain table of a size is good
+  plain_good : (size : ℕ) → 3 ≤ size → tables.IsGood (plain_of size mission.period (length (task_entries d))) (shapes_in mission)
+  plain_good size enough =
+      subst (λ n. tables.IsGood (plain_of size mission.period n) (shapes_in mission)) as_many_shapes
+      (known.plain size mission.period (shapes_in mission) enough
+      (are_shapes (length (sensor_words d)) program few_sensors few_trees one_word) (omega (arith, as_many_shapes)))
+
+  good_tables : HasGoodTables mission
+  good_tables =
+      let count = units + 1 - 4 in
+      All-map (λ table. tables.IsGood table (shapes_in mission)) (λ size. plain_of size mission.period (length (task_entries d))) (range_with_len 4 count)
+      (λ k d low. rw (get_or-range_with_len 4 count k d (rw length-range_with_len at low)) (plain_good (4 + k) (omega arith)))
+
+  good_script : scripts.IsGood mission.script
+  good_script =
+      let outputs = mission.script.outputs in
+      let long = outputs_long (length (sensor_words d)) program few_sensors few_trees one_word in
+      let among : task < length program.tasks = omega (arith, may.a_task, trees_here) in
+      subst (λ (f : Fault). scripts.IsGood (record { faults = f ∷ []; layout = mission.layout; outputs = outputs; frames = frames }))
+      (sym (fault_stated units unit from task value may.enough_units may.few_units may.a_unit (omega (arith, may.a_frame, may.few_frames))
+      (omega (arith, may.a_task, may.few_tasks)) may.a_word))
+      (script_good mission.layout outputs frames unit from task value may.enough_units may.few_units may.a_unit may.a_frame
+      (omega (arith, among, long)) (omega (arith, output_is (length (sensor_words d)) program few_sensors few_trees one_word task among)))
+
+  pub is_mission : IsMission d mission
+  is_mission = record { stated = stated; good_tables = good_tables; good_script = good_script }

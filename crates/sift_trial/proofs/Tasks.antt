@@ -1,0 +1,117 @@
+-- The tasks of a drawn document: what their tables say, and the rules that they keep.
+use Rattle.std.proofs.Common.{◌≡◌, ◌≢◌, ◌<◌, ◌≤◌, ◌+◌, ℕ, List, [], ◌∷◌, length, map, take, Some, None, refl, sym, ap, subst, ◌∙◌, arith}
+use Rattle.std.proofs.lemmas.List.Elements.{All-from_recursion}
+use Rattle.std.proofs.lemmas.List.FromFn.{length-map-range_with_len, take-map-range_with_len}
+use Rattle.std.specs.List.{Contains, range_with_len, sum}
+use Rattle.std.specs.Prelude.{codes}
+use Rattle.toml.specs.Data.{Data, Members, no_members, string}
+use Rattle.sift_base.specs.Name.{IsName}
+use Rattle.sift_gen.specs.Draws.{after, draw_at}
+use Rattle.sift_gen.specs.Entries.{array_of, number, placed}
+use Rattle.sift_gen.specs.Scenario.{pattern_from, task_place, task_tables}
+use Rattle.sift_gen.specs.Tasks.{task_name, text_by, word_values}
+use Rattle.sift_scenario.specs.Document.{HasOnlyKeys, IsNoTableOf, IsTableOf, entries_of, keys_of, members_of}
+use Rattle.sift_scenario.specs.Entries.{HoldsOf}
+use Rattle.sift_scenario.specs.Rules.{AreKept}
+use Rattle.sift_scenario.specs.Task.{AreForms, Form, HasForm, counts_of, start_words, task_keys, task_outputs, text}
+use Rattle.sift_scenario.specs.TaskRules.{BreaksWords, each_task_rules}
+use Rattle.sift_trial.proofs.DrawnRoll.{words_sum}
+use Rattle.sift_trial.proofs.Ranges.{made_alike, made_of, matched, nowhere}
+use Rattle.sift_trial.proofs.Tables.{entries_kept, members_are, names_kept, tables_long}
+use Rattle.sift_trial.proofs.Values.{draw_below, word_read}
+
+-- ---- one task
+
+-- the text of task t, whose draws are those from x
+abbrev pub drawn_text : (t sensors x : ℕ) → List ℕ
+drawn_text t sensors x = text_by (pattern_from t x) t sensors (after x 2)
+
+-- the entries of the table of task t, whose draws are those from x
+abbrev pub drawn_entries : (t sensors x : ℕ) → Members
+drawn_entries t sensors x =
+    placed (codes "text") (string (drawn_text t sensors x)) (placed (codes "start") (array_of (number (draw_at x 0 word_values) ∷ []))
+    (placed (codes "name") (string (task_name t)) no_members))
+
+-- its start word is the first draw
+pub started : (t sensors x : ℕ) → start_words (drawn_entries t sensors x) ≡ Some (draw_at x 0 word_values ∷ [])
+started t sensors x = rw (word_read (draw_at x 0 word_values) (draw_below x 0 word_values (omega arith))) refl
+
+-- so it has one output word
+pub one_output : (t sensors x : ℕ) → task_outputs (drawn_entries t sensors x) ≡ 1
+one_output t sensors x = rw (started t sensors x) refl
+
+-- its form is its text
+pub formed : (t sensors x : ℕ) → HasForm (drawn_entries t sensors x) (text (drawn_text t sensors x))
+formed t sensors x = record { stated = refl; alone = refl }
+
+-- its keys are known
+keys_known : (t sensors x : ℕ) → HasOnlyKeys task_keys (drawn_entries t sensors x)
+keys_known t sensors x = All-from_recursion (Contains task_keys) (keys_of (drawn_entries t sensors x)) ((0, omega arith, refl), ((1, omega arith, refl), ((2, omega arith, refl), tt)))
+
+-- ---- all of them
+
+module _ (tasks sensors x : ℕ) where
+  -- the entries of each task's table, and its text
+  abbrev pub entries_at : ℕ → Members
+  entries_at t = drawn_entries t sensors (task_place t x)
+
+  abbrev pub text_at : ℕ → List ℕ
+  text_at t = drawn_text t sensors (task_place t x)
+
+  -- the value of `task`, and the members of its tables
+  abbrev pub tasks_value : Data
+  tasks_value = array_of (task_tables tasks sensors x)
+
+  abbrev pub task_members : List Members
+  task_members = map members_of (entries_of (Some tasks_value))
+
+  pub tasks_are : task_members ≡ map entries_at (range_with_len 0 tasks)
+  tasks_are = members_are entries_at tasks
+
+  -- each has one output word
+  pub counts_are : counts_of task_members ≡ map (λ t. 1) (range_with_len 0 tasks)
+  counts_are =
+      ap counts_of tasks_are ∙ made_of task_outputs entries_at (range_with_len 0 tasks)
+      ∙ made_alike (λ t. task_outputs (entries_at t)) (λ t. 1) 0 tasks (λ t from to. one_output t sensors (task_place t x))
+
+  -- the forms of the tasks are their texts
+  pub forms_are : AreForms task_members (map (λ t. text (text_at t)) (range_with_len 0 tasks))
+  forms_are =
+      subst (λ (ms : List Members). AreForms ms (map (λ t. text (text_at t)) (range_with_len 0 tasks))) (sym tasks_are)
+      (matched (λ place task form. HasForm task form) entries_at (λ t. text (text_at t)) tasks (λ t low. formed t sensors (task_place t x)))
+
+  -- with a task there are so many output words as tasks
+  words_few : tasks ≤ 12 → (place : ℕ) → ¬ BreaksWords (map (λ t. 1) (range_with_len 0 tasks)) place
+  words_few few place broken =
+      let long = length-map-range_with_len {X = ℕ} (λ t. 1) 0 tasks in
+      let so_far : sum (take (place + 1) (map (λ t. 1) (range_with_len 0 tasks))) ≡ place + 1 =
+      ap sum (take-map-range_with_len {X = ℕ} (λ t. 1) 0 tasks (place + 1) (omega (arith, broken.0, long))) ∙ words_sum (place + 1) in
+      omega (arith, broken.0, broken.1, long, so_far, few)
+
+  -- they keep the rules of each task
+  pub each_kept :
+      tasks ≤ 12 → ((t : ℕ) → t < tasks → IsName (task_name t)) → ((i k : ℕ) → i < k → k < tasks → task_name i ≢ task_name k)
+      → AreKept (each_task_rules task_members)
+  each_kept few named differ = rw (counts_are, tasks_are) (
+    names_kept entries_at task_name tasks (λ t. refl) named differ,
+    (
+      nowhere entries_at tasks (λ t task. start_words task ≡ None) (λ t low none. cc (started t sensors (task_place t x), none)),
+      (
+        words_few few,
+        (
+          nowhere entries_at tasks (λ t task. (form : Form) → ¬ HasForm task form)
+              (λ t low none. none (text (text_at t)) (formed t sensors (task_place t x))),
+          tt,
+        ),
+      ),
+    ),
+  )
+
+  -- there are so many tables with known keys
+  pub tasks_long : length (entries_of (Some tasks_value)) ≡ tasks
+  tasks_long = tables_long entries_at tasks
+
+  pub all_known : (place : ℕ) → ¬ HoldsOf (entries_of (Some tasks_value)) place (IsNoTableOf task_keys)
+  all_known =
+      entries_kept entries_at tasks (λ t entry. IsTableOf task_keys entry)
+      (λ t low. let y = task_place t x in (drawn_entries t sensors y, refl, keys_known t sensors y))

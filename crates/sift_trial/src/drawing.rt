@@ -1,0 +1,37 @@
+//! The mission of a number.
+
+ghost use Rattle.std.specs.Prelude.{◌≡◌, IfOk};
+ghost use Rattle.sift_gen.specs.Scenario.{tree_of};
+ghost use Rattle.sift_scenario.specs.Mission.{IsMission};
+ghost use Rattle.sift_unit.specs.Data.{data_of};
+
+use crate::law::drawn_trees_are_missions;
+use sift_base::NoMemory;
+use sift_gen::scenario_tree;
+use sift_scenario::{Refused, mission_of};
+use sift_unit::Mission;
+use std::alloc::Global;
+
+/// The mission of the scenario with this number.
+///
+/// No number is refused, since the tree of each states a mission: what can be wanting is memory alone.
+pub fn drawn_mission(alloc: Global, number: u64) -> Result<Mission, NoMemory>
+    ensures { IfOk result (λ mission. IsMission (tree_of number) (data_of mission)) }
+{
+    let tree = scenario_tree(alloc, number)?;
+    drawn_trees_are_missions();
+    match mission_of(alloc, &tree) {
+        Ok(mission) => Ok(mission),
+        Err(refused) => Err(wanting(refused)),
+    }
+}
+
+/// The want of memory that a refusal is, where it is no other.
+fn wanting(refused: Refused) -> NoMemory
+    requires { refused ≡ Refused.NoMemory }
+{
+    match refused {
+        Refused::NoMemory => NoMemory,
+        _ => unreachable!(),
+    }
+}
