@@ -1,10 +1,10 @@
 -- Words ask for one command at most.
 use Rattle.std.proofs.Common.{codes, ◌≡◌, ℕ, List, [], ◌∷◌, get_or, drop, unwrap_or, refl, sym, ap, ◌∙◌, subst, arith}
-use Rattle.sift_run.specs.Command.{Asks, GiveNumber, GiveOptions, GiveOrder, verb_of}
+use Rattle.sift_run.specs.Command.{Asks, GiveNumber, GiveOptions, GiveOrder, GiveTrial, verb_of}
 use Rattle.sift_run.specs.Options.{Adds, IsValue, Sets, more, no_options, none, with_given}
 use Rattle.sift_run.specs.Laws.{OneCommand}
 use Rattle.sift_run.specs.declared.command.Command.{Command}
-use Rattle.sift_run.specs.declared.command.Command.TheVariants.{Read, Gen}
+use Rattle.sift_run.specs.declared.command.Command.TheVariants.{Read, Gen, Trial}
 use Rattle.sift_run.specs.declared.command.Reading.TheVariants.{Run, Votes, Ideal, Check}
 use Rattle.sift_run.specs.declared.options.Flag.{Flag}
 use Rattle.sift_run.specs.declared.options.Flag.TheVariants.{Workers, Order, Number}
@@ -39,6 +39,14 @@ one_order words n k a b =
 one_number : (words : List (List ℕ)) (n k : ℕ) → GiveNumber words n → GiveNumber words k → n ≡ k
 one_number words n k a b = same_some n k (ap (λ (options : Options). options.number) (one_options no_options _ _ words a b))
 
+-- and one trial
+one_trial : (words : List (List ℕ)) (n k i j : ℕ) → GiveTrial words n i → GiveTrial words k j → Trial n i ≡ Trial k j
+one_trial words n k i j a b =
+    let same = one_options no_options a.options b.options words a.gives b.gives in
+    let number : n ≡ k = same_some n k (sym a.number_is ∙ (ap (λ (options : Options). options.number) same ∙ b.number_is)) in
+    let order : i ≡ j = a.order_is ∙ (ap (λ (options : Options). unwrap_or options.order 0) same ∙ sym b.order_is) in
+    ap (λ m. Trial m i) number ∙ ap (Trial k) order
+
 -- the first byte of its word tells a command from the others
 abbrev first_byte : List ℕ → ℕ
 first_byte word = get_or word 0 0
@@ -51,26 +59,37 @@ same_options rest (Read (Run n)) (Read (Votes k)) e a b = absurd (omega (arith, 
 same_options rest (Read (Run n)) (Read Ideal) e a b = absurd (omega (arith, e))
 same_options rest (Read (Run n)) (Read Check) e a b = absurd (omega (arith, e))
 same_options rest (Read (Run n)) (Gen k) e a b = absurd (omega (arith, e))
+same_options rest (Read (Run n)) (Trial k ki) e a b = absurd (omega (arith, e))
 same_options rest (Read (Votes n)) (Read (Run k)) e a b = absurd (omega (arith, e))
 same_options rest (Read (Votes n)) (Read (Votes k)) e a b = ap (λ (m : ℕ). Read (Votes m)) (one_order rest n k a b)
 same_options rest (Read (Votes n)) (Read Ideal) e a b = absurd (omega (arith, e))
 same_options rest (Read (Votes n)) (Read Check) e a b = absurd (omega (arith, e))
 same_options rest (Read (Votes n)) (Gen k) e a b = absurd (omega (arith, e))
+same_options rest (Read (Votes n)) (Trial k ki) e a b = absurd (omega (arith, e))
 same_options rest (Read Ideal) (Read (Run k)) e a b = absurd (omega (arith, e))
 same_options rest (Read Ideal) (Read (Votes k)) e a b = absurd (omega (arith, e))
 same_options rest (Read Ideal) (Read Ideal) e a b = refl
 same_options rest (Read Ideal) (Read Check) e a b = absurd (omega (arith, e))
 same_options rest (Read Ideal) (Gen k) e a b = absurd (omega (arith, e))
+same_options rest (Read Ideal) (Trial k ki) e a b = absurd (omega (arith, e))
 same_options rest (Read Check) (Read (Run k)) e a b = absurd (omega (arith, e))
 same_options rest (Read Check) (Read (Votes k)) e a b = absurd (omega (arith, e))
 same_options rest (Read Check) (Read Ideal) e a b = absurd (omega (arith, e))
 same_options rest (Read Check) (Read Check) e a b = refl
 same_options rest (Read Check) (Gen k) e a b = absurd (omega (arith, e))
+same_options rest (Read Check) (Trial k ki) e a b = absurd (omega (arith, e))
 same_options rest (Gen n) (Read (Run k)) e a b = absurd (omega (arith, e))
 same_options rest (Gen n) (Read (Votes k)) e a b = absurd (omega (arith, e))
 same_options rest (Gen n) (Read Ideal) e a b = absurd (omega (arith, e))
 same_options rest (Gen n) (Read Check) e a b = absurd (omega (arith, e))
 same_options rest (Gen n) (Gen k) e a b = ap Gen (one_number rest n k a b)
+same_options rest (Gen n) (Trial k ki) e a b = absurd (omega (arith, e))
+same_options rest (Trial n ni) (Read (Run k)) e a b = absurd (omega (arith, e))
+same_options rest (Trial n ni) (Read (Votes k)) e a b = absurd (omega (arith, e))
+same_options rest (Trial n ni) (Read Ideal) e a b = absurd (omega (arith, e))
+same_options rest (Trial n ni) (Read Check) e a b = absurd (omega (arith, e))
+same_options rest (Trial n ni) (Gen k) e a b = absurd (omega (arith, e))
+same_options rest (Trial n ni) (Trial k ki) e a b = one_trial rest n k ni ki a b
 
 pub one_command : OneCommand
 one_command words one other a b =
@@ -92,6 +111,7 @@ runs rest (Read (Votes k)) a = absurd (omega (arith, ap first_byte a.0))
 runs rest (Read Ideal) a = absurd (omega (arith, ap first_byte a.0))
 runs rest (Read Check) a = absurd (omega (arith, ap first_byte a.0))
 runs rest (Gen k) a = absurd (omega (arith, ap first_byte a.0))
+runs rest (Trial k ki) a = absurd (omega (arith, ap first_byte a.0))
 
 -- the options of `votes`
 pub votes : (rest : List (List ℕ)) (command : Command) → (verb_of command ≡ codes "votes") × GiveOptions rest command → (n : ℕ) × GiveOrder rest n
@@ -100,6 +120,7 @@ votes rest (Read (Votes k)) a = (k, a.1)
 votes rest (Read Ideal) a = absurd (omega (arith, ap first_byte a.0))
 votes rest (Read Check) a = absurd (omega (arith, ap first_byte a.0))
 votes rest (Gen k) a = absurd (omega (arith, ap first_byte a.0))
+votes rest (Trial k ki) a = absurd (omega (arith, ap first_byte a.0))
 
 -- the options of `gen`
 pub gens : (rest : List (List ℕ)) (command : Command) → (verb_of command ≡ codes "gen") × GiveOptions rest command → (n : ℕ) × GiveNumber rest n
@@ -108,3 +129,13 @@ gens rest (Read (Votes k)) a = absurd (omega (arith, ap first_byte a.0))
 gens rest (Read Ideal) a = absurd (omega (arith, ap first_byte a.0))
 gens rest (Read Check) a = absurd (omega (arith, ap first_byte a.0))
 gens rest (Gen k) a = (k, a.1)
+gens rest (Trial k ki) a = absurd (omega (arith, ap first_byte a.0))
+
+-- the options of `trial`
+pub trials : (rest : List (List ℕ)) (command : Command) → (verb_of command ≡ codes "trial") × GiveOptions rest command → (n : ℕ) × (i : ℕ) × GiveTrial rest n i
+trials rest (Read (Run k)) a = absurd (omega (arith, ap first_byte a.0))
+trials rest (Read (Votes k)) a = absurd (omega (arith, ap first_byte a.0))
+trials rest (Read Ideal) a = absurd (omega (arith, ap first_byte a.0))
+trials rest (Read Check) a = absurd (omega (arith, ap first_byte a.0))
+trials rest (Gen k) a = absurd (omega (arith, ap first_byte a.0))
+trials rest (Trial k ki) a = (k, ki, a.1)

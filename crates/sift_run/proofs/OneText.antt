@@ -1,26 +1,22 @@
 -- A command makes one text at most of an input, or of a number.
-use Rattle.std.proofs.Common.{◌≡◌, ℕ, ◌<◌, List, [], refl, sym, ap, ◌∙◌, subst, arith}
+use Rattle.std.proofs.Common.{◌≡◌, ℕ, ◌<◌, List, [], refl, sym, ◌∙◌, subst, arith}
 use Rattle.toml.specs.Data.{Members}
 use Rattle.sift_scenario.specs.Laws.{OneMission}
 use Rattle.sift_scenario.specs.Mission.{AreSame, IsMission}
 use Rattle.sift_unit.specs.Data.{MissionData}
 use Rattle.sift_unit.specs.Flown.{flown}
-use Rattle.sift_unit.specs.Mission.{Mission}
 use Rattle.sift_unit.specs.PartsFit.{PartsFit}
 use Rattle.sift_unit.specs.Premises.{PartsMakeItFlyable}
 use Rattle.sift_flight.specs.Alike.{RoundFlightsAreAlike}
 use Rattle.sift_flight.specs.Flight.{Flight}
 use Rattle.sift_flight.specs.Hearing.{no_strays}
-use Rattle.sift_flight.specs.Round.{HasNoStorms, IsRound}
+use Rattle.sift_flight.specs.Round.{HasNoStorms}
+use Rattle.sift_gen.specs.Scenario.{tree_of}
 use Rattle.sift_gen.specs.Text.{OneTextOfANumber}
-use Rattle.sift_report.specs.Ideal.{ideal_of}
 use Rattle.sift_report.specs.OneText.{AlikeFlightsHaveOneText, HaveOneText}
-use Rattle.sift_report.specs.Sheet.{report_of}
-use Rattle.sift_report.specs.Votes.{votes_of}
-use Rattle.sift_run.specs.Command.{IsFlightOf, Makes, MakesFit, TextOf}
+use Rattle.sift_run.specs.Command.{Draws, DrawsFit, IsFlightOf, IsLastLineOf, TextOf}
 use Rattle.sift_run.specs.Laws.{OneDrawnText, OneText}
-use Rattle.sift_run.specs.declared.command.Command.{Command}
-use Rattle.sift_run.specs.declared.command.Command.TheVariants.{Read, Gen}
+use Rattle.sift_run.specs.declared.command.Command.TheVariants.{Read, Gen, Trial}
 use Rattle.sift_run.specs.declared.command.Reading.{Reading}
 use Rattle.sift_run.specs.declared.command.Reading.TheVariants.{Run, Votes, Ideal, Check}
 use Rattle.sift_run.proofs.Inputs.{one_tree}
@@ -70,7 +66,17 @@ module _ (mission : OneMission) (flies : PartsMakeItFlyable) (alike : RoundFligh
       let here : TextOf reading (bare made.0) other = subst (λ d. TextOf reading d other) same (bare_text reading makes.0 other makes.2) in
       one_of reading made.0 text other made.1 made.3 (bare_text_back reading made.0 other here)
 
--- a command that reads nothing makes one text
-pub one_drawn_text : OneTextOfANumber → OneDrawnText
-one_drawn_text number (Read reading) text other draws draws' = absurd draws
-one_drawn_text number (Gen n) text other draws draws' = number n text other draws draws'
+  -- two missions of a tree fly to one last line
+  one_end : (number : ℕ) (one other : List ℕ) → DrawsFit (Trial number 0) one → Draws (Trial number 0) other → one ≡ other
+  one_end number one other draws draws' =
+      let d = draws.0 in
+      let same : AreSame draws'.0 d = mission (tree_of number) draws'.0 d draws'.1 draws.2 in
+      let line : IsLastLineOf (bare draws'.0) other = draws'.2 in
+      let here : IsLastLineOf (bare d) other = subst (λ e. IsLastLineOf e other) same line in
+      draws.3.2 ∙ ((one_flight d draws.3.0 here.0 draws.1 draws.3.1 here.1).end ∙ sym here.2)
+
+  -- a command that reads nothing makes one text
+  pub one_drawn_text : OneTextOfANumber → OneDrawnText
+  one_drawn_text texts_of (Read reading) text other draws draws' = absurd draws
+  one_drawn_text texts_of (Gen n) text other draws draws' = texts_of n text other draws draws'
+  one_drawn_text texts_of (Trial n order) text other draws draws' = one_end n text other draws draws'

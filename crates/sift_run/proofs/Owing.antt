@@ -1,17 +1,16 @@
 -- What may come of an input that is owed a refusal, and of one that states a mission.
-use Rattle.std.proofs.Common.{◌≡◌, ◌<◌, ◌≤◌, ◌⊎◌, inl, inr, ℕ, List, length, refl, sym, ap, ◌∙◌, subst, arith}
-use Rattle.toml.specs.Data.{Members}
+use Rattle.std.proofs.Common.{◌≡◌, ◌<◌, ◌≤◌, ◌⊎◌, inl, inr, ℕ, List, length, refl, ap, subst, arith}
 use Rattle.sift_scenario.specs.declared.refused.Refused.{Refused}
 use Rattle.sift_run.proofs.Coming.{IsFault, document_came, made_unowed, no_document_came, stated_alone}
 use Rattle.sift_run.proofs.Inputs.{long_input, only_input, short_input}
-use Rattle.sift_run.proofs.Asking.{draws_unread, line_of_reading}
+use Rattle.sift_run.proofs.Asking.{draws_unread, fits_draw, line_of_reading}
 use Rattle.sift_run.specs.Answer.{IsReported, Reports}
-use Rattle.sift_run.specs.Command.{AskToRead, Asks, Draws, IsCommandLine, Makes, MakesFit}
+use Rattle.sift_run.specs.Command.{AskToRead, Asks, Draws, DrawsFit, IsCommandLine, Makes, MakesFit}
 use Rattle.sift_run.specs.Laws.{OneCommand, OneDrawnText, OneText}
 use Rattle.sift_run.specs.Input.{Input, IsTold, StatesNone, document_limit}
 use Rattle.sift_run.specs.Refusal.{AreRefused, IsCause, IsOwed, status_of}
 use Rattle.sift_run.specs.declared.command.Command.{Command}
-use Rattle.sift_run.specs.declared.command.Command.TheVariants.{Read, Gen}
+use Rattle.sift_run.specs.declared.command.Command.TheVariants.{Read, Gen, Trial}
 use Rattle.sift_run.specs.declared.command.Reading.{Reading}
 use Rattle.sift_run.specs.declared.refusal.Refusal.{Refusal}
 use Rattle.sift_run.specs.declared.refusal.Refusal.TheVariants.{Usage, NotADocument, Document, ReadFault, NoMemory, TooLong}
@@ -69,12 +68,17 @@ module _ (words : List (List ℕ)) (input : Input) (bytes : List ℕ) (told : Is
   unread_unowed NotADocument line unread due = unread due.0
   unread_unowed (Document why) line unread due = unread due.0
 
+  -- where a text was made of a number alone none is owed
+  drawn_unowed : OneCommand → (owed : Refusal) (text : List ℕ) (command : Command) → Asks words command → DrawsFit command text → ¬ IsOwed words bytes owed
+  drawn_unowed one_command owed text command asks draws due =
+      unread_unowed owed (command, asks) (draws_unread one_command words command text asks (fits_draw command text draws)) due
+
   -- where a text was made none is owed
   made_none :
       OneCommand → (owed : Refusal) (text : List ℕ) (command : Command) → Asks words command → Reports command input text → ¬ IsOwed words bytes owed
   made_none one_command owed text (Read reading) asks report due = reading_unowed owed reading text asks report due
-  made_none one_command owed text (Gen number) asks report due =
-      unread_unowed owed (Gen number, asks) (draws_unread one_command words (Gen number) text asks report) due
+  made_none one_command owed text (Gen number) asks report due = drawn_unowed one_command owed text (Gen number) asks report due
+  made_none one_command owed text (Trial number order) asks report due = drawn_unowed one_command owed text (Trial number order) asks report due
 
   pub reported_unowed : OneCommand → (owed : Refusal) (text : List ℕ) → IsReported words input text → ¬ IsOwed words bytes owed
   reported_unowed one_command owed text report due = made_none one_command owed text report.0 report.1 report.2 due
@@ -106,9 +110,10 @@ module _ (words : List (List ℕ)) (input : Input) (bytes : List ℕ) (told : Is
       one_text reading bytes made text (subst (λ (bs : List ℕ). MakesFit reading bs made) same mine.2) makes
 
 -- what was made of a number alone is what the command makes
-drawn_alone : (input : Input) (command : Command) (text made : List ℕ) → Draws command text → Reports command input made → Draws command made
+drawn_alone : (input : Input) (command : Command) (text made : List ℕ) → Draws command text → Reports command input made → DrawsFit command made
 drawn_alone input (Read reading) text made draws report = absurd draws
 drawn_alone input (Gen number) text made draws report = report
+drawn_alone input (Trial number order) text made draws report = report
 
 -- the text that was made is the one that a command makes that reads nothing
 pub drawn_text :

@@ -7,12 +7,12 @@ use Rattle.sift_report.specs.Printed.{ReportHeadline}
 use Rattle.sift_report.specs.Sheet.{sheet_of}
 use Rattle.sift_unit.specs.Data.{MissionData}
 use Rattle.sift_unit.specs.Flown.{flown}
-use Rattle.sift_run.specs.Command.{AskToRead, Asks, Draws, IsCommandLine, IsFlightOf, Makes, MakesFit}
+use Rattle.sift_run.specs.Command.{AskToRead, Asks, Draws, DrawsFit, IsCommandLine, IsFlightOf, Makes, MakesFit}
 use Rattle.sift_run.specs.Input.{Input, IsBegun, IsInput, IsTold, States, document_limit}
 use Rattle.sift_run.specs.Output.{IsCut, IsWritten, Output, AnswersWith, sink_fault_status}
 use Rattle.sift_run.specs.Refusal.{IsCause, IsOwed, line_of, no_memory_status, status_of}
 use Rattle.sift_run.specs.declared.command.Command.{Command}
-use Rattle.sift_run.specs.declared.command.Command.TheVariants.{Read, Gen}
+use Rattle.sift_run.specs.declared.command.Command.TheVariants.{Read}
 use Rattle.sift_run.specs.declared.command.Reading.{Reading}
 use Rattle.sift_run.specs.declared.command.Reading.TheVariants.{Run}
 use Rattle.sift_run.specs.declared.refusal.Refusal.{Refusal}
@@ -23,7 +23,7 @@ use Rattle.sift_run.specs.declared.refusal.Refusal.TheVariants.{Usage, ReadFault
 -- the text is what the command makes: of the input, which was read to its end and states a mission whose parts fit, or of a number alone
 abbrev pub Reports : Command → Input → List ℕ → Type 0
 Reports (Read reading) input text = (bytes : List ℕ) × IsInput input bytes × MakesFit reading bytes text
-Reports (Gen number) input text = Draws (Gen number) text
+Reports command input text = DrawsFit command text
 
 -- the words ask for a command, and the text is what it makes
 abbrev pub IsReported : List (List ℕ) → Input → List ℕ → Type 0

@@ -1,6 +1,6 @@
 -- The laws of what is answered.
 use Rattle.std.specs.Prelude.{◌≡◌, ℕ, List}
-use Rattle.sift_run.specs.Command.{Asks, Draws, Makes, MakesFit}
+use Rattle.sift_run.specs.Command.{Asks, Draws, DrawsFit, Makes, MakesFit}
 use Rattle.sift_run.specs.declared.command.Command.{Command}
 use Rattle.sift_run.specs.declared.command.Reading.{Reading}
 
@@ -14,4 +14,4 @@ OneText = (reading : Reading) (bytes text other : List ℕ) → MakesFit reading
 
 -- what a command makes that reads nothing is the one text that it makes
 abbrev pub OneDrawnText : Type 0
-OneDrawnText = (command : Command) (text other : List ℕ) → Draws command text → Draws command other → text ≡ other
+OneDrawnText = (command : Command) (text other : List ℕ) → DrawsFit command text → Draws command other → text ≡ other

@@ -6,7 +6,7 @@ ghost use Rattle.sift_run.specs.Command.{AskToRead, MakesFit};
 ghost use Rattle.sift_run.specs.Input.{input};
 ghost use Rattle.sift_run.specs.Refusal.{AreRefused, IsCause};
 
-use crate::command::{Command, Reading};
+use crate::command::{Command, Reading, trial_text};
 use crate::refusal::Refusal;
 use sift_gen::scenario_text;
 use sift_io::{ReadStop, Source, read_all};
@@ -36,6 +36,7 @@ pub fn answer<S: Source>(alloc: Global, words: &[String], source: &mut S) -> Res
             Err(ReadStop::NoMemory) => Err(Refusal::NoMemory),
         },
         Command::Gen { number } => Ok(scenario_text(alloc, number)?),
+        Command::Trial { number, order } => Ok(trial_text(alloc, number, order)?),
     }
 }
 

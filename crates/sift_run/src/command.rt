@@ -4,13 +4,14 @@ ghost use Rattle.std.specs.Prelude.{◌≡◌, ℕ, IfOk, IfSome, Some, map, str
 ghost use Rattle.sift_flight.specs.Told.{IsWhole, told};
 ghost use Rattle.sift_unit.specs.Data.{data_of};
 ghost use Rattle.sift_unit.specs.Flown.{mission_of};
-ghost use Rattle.sift_run.specs.Command.{Asks, GiveNumber, GiveOrder, IsFlightOf, TextOf};
+ghost use Rattle.sift_run.specs.Command.{Asks, DrawsFit, GiveNumber, GiveOrder, GiveTrial, IsFlightOf, TextOf};
 
 use crate::options::Options;
 use sift_base::NoMemory;
 use sift_core::fly;
 use sift_flight::{Flight, round_flights_are_whole};
-use sift_report::{ideal_text, report_text, votes_text};
+use sift_report::{ideal_text, last_line_text, report_text, votes_text};
+use sift_trial::drawn_mission;
 use sift_unit::Mission;
 use std::alloc::Global;
 
@@ -21,6 +22,8 @@ pub enum Command {
     Read(Reading),
     /// `gen`: writes the scenario that is drawn from this number, and reads nothing.
     Gen { number: u64 },
+    /// `trial`: flies that scenario, its units stepping in this order, and writes the last line of its report. It reads nothing.
+    Trial { number: u64, order: u64 },
 }
 
 /// What a command makes of the mission that it reads.
@@ -57,6 +60,10 @@ impl Command {
             "gen" => Some(Command::Gen {
                 number: number_of(rest)?,
             }),
+            "trial" => {
+                let (number, order) = trial_of(rest)?;
+                Some(Command::Trial { number, order })
+            }
             _ => None,
         }
     }
@@ -82,6 +89,16 @@ impl Reading {
             Reading::Check => Ok(String::from_str(alloc, "ok\n")?),
         }
     }
+}
+
+/// The last line of the report on the scenario with this number.
+pub fn trial_text(alloc: Global, number: u64, order: u64) -> Result<String, NoMemory>
+    ensures { IfOk result (λ text. DrawsFit (Command.Trial number order) (string_bytes text)) }
+{
+    let mission = drawn_mission(alloc, number)?;
+    mission.parts();
+    let flight = flight_of(alloc, &mission, order)?;
+    last_line_text(alloc, &mission, &flight)
 }
 
 /// A flight of the mission. All orders of steps give flights that tell the same.
@@ -116,4 +133,13 @@ fn number_of(words: &[String]) -> Option<u64>
         return None;
     }
     options.number
+}
+
+/// The number that the options of `trial` give, and the order number, 0 where none is given.
+fn trial_of(words: &[String]) -> Option<(u64, u64)>
+    ensures found { IfSome result (λ trial. GiveTrial (map string_bytes words.now) trial.0 trial.1) }
+    ensures exact { (number order : ℕ) → GiveTrial (map string_bytes words.now) number order → result ≡ Some (number, order) }
+{
+    let options = Options::NONE.and(words)?;
+    Some((options.number?, options.order.unwrap_or(0)))
 }

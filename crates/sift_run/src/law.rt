@@ -28,4 +28,8 @@ pub fn one_drawn_text()
     ensures { OneDrawnText }
 {
     one_text_of_a_number();
+    one_mission();
+    fitting_parts_make_a_flight();
+    round_flights_are_alike();
+    alike_flights_have_one_text();
 }
