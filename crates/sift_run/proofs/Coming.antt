@@ -8,7 +8,8 @@ use Rattle.sift_scenario.specs.Refusal.{IsRefusedWith}
 use Rattle.sift_scenario.specs.declared.refused.Refused.{Refused}
 use Rattle.sift_scenario.specs.declared.refused.Refused.TheVariants as reason
 use Rattle.sift_run.proofs.Inputs.{one_tree}
-use Rattle.sift_run.specs.Command.{IsCommandLine}
+use Rattle.sift_run.proofs.Asking.{line_of_reading}
+use Rattle.sift_run.specs.Command.{AskToRead}
 use Rattle.sift_run.specs.Input.{States, StatesNone, document_limit}
 use Rattle.sift_run.specs.Refusal.{AreRefused, IsOwed, no_memory_status, status_of}
 use Rattle.sift_run.specs.declared.refusal.Refusal.{Refusal}
@@ -54,9 +55,9 @@ some_reason why other is = other (ap (λ (w : Refused). status_of (Document w)) 
 -- a document was refused, where a refusal is owed
 pub document_came :
     (words : List (List ℕ)) (bytes : List ℕ) (owed : Refusal) (came : Refused)
-    → IsCommandLine words → length bytes ≤ document_limit → StatesNone bytes came → IsOwed words bytes owed
+    → AskToRead words → length bytes ≤ document_limit → StatesNone bytes came → IsOwed words bytes owed
     → (Document came ≡ owed) ⊎ IsFault (Document came)
-document_came words bytes Usage came command short none due = absurd (due command)
+document_came words bytes Usage came command short none due = absurd (due (line_of_reading words command))
 document_came words bytes ReadFault came command short none due = absurd due.2
 document_came words bytes NoMemory came command short none due = absurd (due.3 refl)
 document_came words bytes TooLong came command short none due = absurd (omega (arith, short, due.1))
@@ -70,9 +71,9 @@ document_came words bytes (Document owed) came command short none due =
 -- bytes were no document, where a refusal is owed
 pub no_document_came :
     (words : List (List ℕ)) (bytes : List ℕ) (owed : Refusal)
-    → IsCommandLine words → length bytes ≤ document_limit → AreRefused bytes NotADocument → IsOwed words bytes owed
+    → AskToRead words → length bytes ≤ document_limit → AreRefused bytes NotADocument → IsOwed words bytes owed
     → (NotADocument ≡ owed) ⊎ IsFault NotADocument
-no_document_came words bytes Usage command short none due = absurd (due command)
+no_document_came words bytes Usage command short none due = absurd (due (line_of_reading words command))
 no_document_came words bytes ReadFault command short none due = absurd due.2
 no_document_came words bytes NoMemory command short none due = absurd (due.3 refl)
 no_document_came words bytes TooLong command short none due = absurd (omega (arith, short, due.1))
@@ -82,8 +83,8 @@ no_document_came words bytes (Document owed) command short none due = absurd (no
 -- a mission was stated, where a refusal is owed
 pub made_unowed :
     (words : List (List ℕ)) (bytes : List ℕ) (owed : Refusal) (mission : MissionData)
-    → IsCommandLine words → length bytes ≤ document_limit → States bytes mission → ¬ IsOwed words bytes owed
-made_unowed words bytes Usage mission command short states due = due command
+    → AskToRead words → length bytes ≤ document_limit → States bytes mission → ¬ IsOwed words bytes owed
+made_unowed words bytes Usage mission command short states due = due (line_of_reading words command)
 made_unowed words bytes ReadFault mission command short states due = due.2
 made_unowed words bytes NoMemory mission command short states due = due.3 refl
 made_unowed words bytes TooLong mission command short states due = omega (arith, short, due.1)

@@ -1,10 +1,11 @@
 -- The bytes of an input that are told.
-use Rattle.std.proofs.Common.{◌≡◌, ◌<◌, ◌≤◌, ◌+◌, ℕ, List, length, Option, Some, None, sym, ◌∙◌, ap, subst, arith}
+use Rattle.std.proofs.Common.{◌≡◌, ◌<◌, ◌≤◌, ◌+◌, ℕ, List, [], length, Option, Some, None, refl, sym, ◌∙◌, ap, subst, arith}
 use Rattle.std.proofs.lemmas.List.{append-nil, length-append}
 use Rattle.std.specs.Io.KnownBytes.{Consumes, IsAtEnd}
 use Rattle.toml.specs.Data.{Members}
+use Rattle.sift_io.specs.Flow.{Inflow}
 use Rattle.sift_io.specs.Reading.{TakesExactly}
-use Rattle.sift_run.specs.Input.{Input, IsDocument, IsInput, IsTold, document_limit}
+use Rattle.sift_run.specs.Input.{Input, IsBegun, IsDocument, IsInput, IsTold, document_limit}
 
 -- what was taken to the end of known bytes is these bytes
 all_taken :
@@ -26,6 +27,14 @@ taken_within (Some xs) (Some ys) bytes some told taken =
     let same : xs ≡ bytes = cc in
     let whole : length bytes ≡ length some + length ys = ap length (sym same ∙ taken) ∙ length-append some ys in
     omega arith
+
+-- where nothing was read, nothing was taken
+consumes_nothing : (left : Option (List ℕ)) → Consumes left left []
+consumes_nothing None = tt
+consumes_nothing (Some xs) = refl
+
+pub nothing_taken : (flow : Inflow) → IsBegun (record { before = flow; after = flow })
+nothing_taken flow = ([], consumes_nothing flow.left, omega arith)
 
 -- an input that was read to its end is the bytes that were told
 pub only_input : (input : Input) (bytes all : List ℕ) → IsTold input bytes → IsInput input all → all ≡ bytes

@@ -1,4 +1,5 @@
 pub mod AnswerLemmas
+pub mod Asking
 pub mod Answered
 pub mod Coming
 pub mod Inputs

@@ -1,25 +1,24 @@
--- A command makes one text at most of an input.
-use Rattle.std.proofs.Common.{◌≡◌, ℕ, ◌<◌, List, [], refl, sym, ap, ◌∙◌, subst, arith}
+-- A command makes one text at most of an input, or of a number.
+use Rattle.std.proofs.Common.{◌≡◌, ℕ, ◌<◌, List, [], refl, sym, ◌∙◌, subst, arith}
 use Rattle.toml.specs.Data.{Members}
 use Rattle.sift_scenario.specs.Laws.{OneMission}
 use Rattle.sift_scenario.specs.Mission.{AreSame, IsMission}
 use Rattle.sift_unit.specs.Data.{MissionData}
 use Rattle.sift_unit.specs.Flown.{flown}
-use Rattle.sift_unit.specs.Mission.{Mission}
 use Rattle.sift_unit.specs.PartsFit.{PartsFit}
 use Rattle.sift_unit.specs.Premises.{PartsMakeItFlyable}
 use Rattle.sift_flight.specs.Alike.{RoundFlightsAreAlike}
 use Rattle.sift_flight.specs.Flight.{Flight}
 use Rattle.sift_flight.specs.Hearing.{no_strays}
-use Rattle.sift_flight.specs.Round.{HasNoStorms, IsRound}
-use Rattle.sift_report.specs.Ideal.{ideal_of}
+use Rattle.sift_flight.specs.Round.{HasNoStorms}
+use Rattle.sift_gen.specs.Scenario.{tree_of}
+use Rattle.sift_gen.specs.Text.{OneTextOfANumber}
 use Rattle.sift_report.specs.OneText.{AlikeFlightsHaveOneText, HaveOneText}
-use Rattle.sift_report.specs.Sheet.{report_of}
-use Rattle.sift_report.specs.Votes.{votes_of}
-use Rattle.sift_run.specs.Command.{IsFlightOf, Makes, MakesFit, TextOf}
-use Rattle.sift_run.specs.Laws.{OneText}
-use Rattle.sift_run.specs.declared.command.Command.{Command}
-use Rattle.sift_run.specs.declared.command.Command.TheVariants.{Run, Votes, Ideal, Check}
+use Rattle.sift_run.specs.Command.{Draws, DrawsFit, IsFlightOf, IsLastLineOf, TextOf}
+use Rattle.sift_run.specs.Laws.{OneDrawnText, OneText}
+use Rattle.sift_run.specs.declared.command.Command.TheVariants.{Read, Gen, Trial}
+use Rattle.sift_run.specs.declared.command.Reading.{Reading}
+use Rattle.sift_run.specs.declared.command.Reading.TheVariants.{Run, Votes, Ideal, Check}
 use Rattle.sift_run.proofs.Inputs.{one_tree}
 
 -- a mission without its code
@@ -27,14 +26,14 @@ abbrev bare : MissionData → MissionData
 bare d = record d { code = [] }
 
 -- a text is made of a mission without its code
-bare_text : (command : Command) (d : MissionData) (text : List ℕ) → TextOf command d text → TextOf command (bare d) text
+bare_text : (reading : Reading) (d : MissionData) (text : List ℕ) → TextOf reading d text → TextOf reading (bare d) text
 bare_text (Run order) d text made = made
 bare_text (Votes order) d text made = made
 bare_text Ideal d text made = made
 bare_text Check d text made = made
 
 -- and back
-bare_text_back : (command : Command) (d : MissionData) (text : List ℕ) → TextOf command (bare d) text → TextOf command d text
+bare_text_back : (reading : Reading) (d : MissionData) (text : List ℕ) → TextOf reading (bare d) text → TextOf reading d text
 bare_text_back (Run order) d text made = made
 bare_text_back (Votes order) d text made = made
 bare_text_back Ideal d text made = made
@@ -52,17 +51,32 @@ module _ (mission : OneMission) (flies : PartsMakeItFlyable) (alike : RoundFligh
       texts d fl gl some (alike (flown d) no_strays no_strays fl gl (flies d fits).0 (calm d fits) some one other)
 
   -- so a command makes one text of a mission
-  one_of : (command : Command) (d : MissionData) (text other : List ℕ) → PartsFit d → TextOf command d text → TextOf command d other → text ≡ other
+  one_of : (reading : Reading) (d : MissionData) (text other : List ℕ) → PartsFit d → TextOf reading d text → TextOf reading d other → text ≡ other
   one_of (Run order) d text other fits a b = a.2 ∙ ((one_flight d a.0 b.0 fits a.1 b.1).report ∙ sym b.2)
   one_of (Votes order) d text other fits a b = a.2 ∙ ((one_flight d a.0 b.0 fits a.1 b.1).votes ∙ sym b.2)
   one_of Ideal d text other fits a b = a ∙ sym b
   one_of Check d text other fits a b = a ∙ sym b
 
   pub one_text : OneText
-  one_text command bytes text other made makes =
+  one_text reading bytes text other made makes =
       let document = made.2.0 in
       let theirs : IsMission document makes.0 =
       subst (λ (t : Members). IsMission t makes.0) (one_tree bytes makes.1.0 document makes.1.1 made.2.1) makes.1.2 in
       let same : AreSame makes.0 made.0 = mission document makes.0 made.0 theirs made.2.2 in
-      let here : TextOf command (bare made.0) other = subst (λ d. TextOf command d other) same (bare_text command makes.0 other makes.2) in
-      one_of command made.0 text other made.1 made.3 (bare_text_back command made.0 other here)
+      let here : TextOf reading (bare made.0) other = subst (λ d. TextOf reading d other) same (bare_text reading makes.0 other makes.2) in
+      one_of reading made.0 text other made.1 made.3 (bare_text_back reading made.0 other here)
+
+  -- two missions of a tree fly to one last line
+  one_end : (number : ℕ) (one other : List ℕ) → DrawsFit (Trial number 0) one → Draws (Trial number 0) other → one ≡ other
+  one_end number one other draws draws' =
+      let d = draws.0 in
+      let same : AreSame draws'.0 d = mission (tree_of number) draws'.0 d draws'.1 draws.2 in
+      let line : IsLastLineOf (bare draws'.0) other = draws'.2 in
+      let here : IsLastLineOf (bare d) other = subst (λ e. IsLastLineOf e other) same line in
+      draws.3.2 ∙ ((one_flight d draws.3.0 here.0 draws.1 draws.3.1 here.1).end ∙ sym here.2)
+
+  -- a command that reads nothing makes one text
+  pub one_drawn_text : OneTextOfANumber → OneDrawnText
+  one_drawn_text texts_of (Read reading) text other draws draws' = absurd draws
+  one_drawn_text texts_of (Gen n) text other draws draws' = texts_of n text other draws draws'
+  one_drawn_text texts_of (Trial n order) text other draws draws' = one_end n text other draws draws'

@@ -1,5 +1,5 @@
 -- Options in words: words begin with one option and one value at most.
-use Rattle.std.proofs.Common.{◌≡◌, ℕ, List, [], ◌∷◌, ◌++◌, length, get_or, drop, map, Option, Some, None, IfSome, refl, ap, sym, ◌∙◌, subst, arith, inl, inr, ◌⊎◌}
+use Rattle.std.proofs.Common.{◌≡◌, ℕ, List, [], ◌∷◌, length, get_or, drop, Some, None, refl, ap, sym, ◌∙◌, subst, arith, inl, inr}
 use Rattle.sift_run.specs.Options.{Adds, more, none, BeginWith, Sets, joined, name_of}
 use Rattle.sift_run.specs.declared.options.Flag.{Flag}
 use Rattle.sift_run.specs.declared.options.Flag.TheVariants.{Workers, Order, Number}

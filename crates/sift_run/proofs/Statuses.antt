@@ -3,7 +3,8 @@ use Rattle.std.proofs.Common.{◌≡◌, ◌≢◌, ℕ, lit<, List, Contains, r
 use Rattle.sift_io.specs.Fault.{Rose}
 use Rattle.sift_scenario.specs.declared.refused.Refused.TheVariants as reason
 use Rattle.sift_run.specs.Answer.{report_status, statuses}
-use Rattle.sift_run.specs.Command.{IsCommandLine}
+use Rattle.sift_run.proofs.Asking.{line_of_reading}
+use Rattle.sift_run.specs.Command.{AskToRead, IsCommandLine}
 use Rattle.sift_run.specs.Input.{Input, IsBegun}
 use Rattle.sift_run.specs.Output.{sink_fault_status}
 use Rattle.sift_run.specs.Refusal.{IsCause, NeedsMemory, no_memory_status, status_of}
@@ -40,15 +41,15 @@ module _ (words : List (List ℕ)) (input : Input) where
   -- only no command line is refused as one
   pub refused_words : (came : Refusal) → IsCause words input came → ¬ IsCommandLine words → came ≡ Usage
   refused_words Usage here other = refl
-  refused_words NotADocument here other = absurd (other here.0)
-  refused_words (Document why) here other = absurd (other here.0)
-  refused_words ReadFault here other = absurd (other here.0)
+  refused_words NotADocument here other = absurd (other (line_of_reading words here.0))
+  refused_words (Document why) here other = absurd (other (line_of_reading words here.0))
+  refused_words ReadFault here other = absurd (other (line_of_reading words here.0))
   refused_words NoMemory here other = absurd (other here.0)
-  refused_words TooLong here other = absurd (other here.0)
+  refused_words TooLong here other = absurd (other (line_of_reading words here.0))
 
   -- where a refusal needs memory a command line was given, and the input read
   pub begun_with_memory : (came : Refusal) → IsCause words input came → NeedsMemory came → IsCommandLine words × IsBegun input
-  begun_with_memory (Document why) here needs = (here.0, (here.1, here.2.0, here.2.2))
+  begun_with_memory (Document why) here needs = (line_of_reading words here.0, (here.1, here.2.0, here.2.2))
   begun_with_memory NoMemory here needs = here
   begun_with_memory Usage here needs = absurd needs
   begun_with_memory NotADocument here needs = absurd needs
@@ -63,6 +64,15 @@ module _ (words : List (List ℕ)) (input : Input) where
   wanting_needs NotADocument is = absurd (omega (arith, is))
   wanting_needs ReadFault is = absurd (omega (arith, is))
   wanting_needs TooLong is = absurd (omega (arith, is))
+
+  -- words that don't ask to read are refused as no command line, or for want of memory
+  pub unread_refused : (came : Refusal) → IsCause words input came → IsCommandLine words → ¬ AskToRead words → status_of came ≡ no_memory_status
+  unread_refused Usage here line unread = absurd (here line)
+  unread_refused NotADocument here line unread = absurd (unread here.0)
+  unread_refused (Document why) here line unread = absurd (unread here.0)
+  unread_refused ReadFault here line unread = absurd (unread here.0)
+  unread_refused NoMemory here line unread = refl
+  unread_refused TooLong here line unread = absurd (unread here.0)
 
   -- a refusal of this status has a fault of the source as its cause
   pub fault_rose : (came : Refusal) → IsCause words input came → status_of came ≡ 8 → Rose input.before.faults input.after.faults

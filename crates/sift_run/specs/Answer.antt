@@ -1,5 +1,5 @@
 -- What `sift` answers: when each status comes, and what is written with it.
-use Rattle.std.specs.Prelude.{codes, ℕ, ◌≡◌, ◌≤◌, ◌⊎◌, List, [], ◌∷◌, length, Contains}
+use Rattle.std.specs.Prelude.{ℕ, ◌≡◌, ◌≤◌, ◌⊎◌, List, [], ◌∷◌, length, Contains}
 use Rattle.sift_io.specs.Fault.{Rose}
 use Rattle.sift_flight.specs.Flight.{Flight}
 use Rattle.sift_report.specs.Line.{text_of_lines}
@@ -7,20 +7,27 @@ use Rattle.sift_report.specs.Printed.{ReportHeadline}
 use Rattle.sift_report.specs.Sheet.{sheet_of}
 use Rattle.sift_unit.specs.Data.{MissionData}
 use Rattle.sift_unit.specs.Flown.{flown}
-use Rattle.sift_run.specs.Command.{AskToFly, Asks, IsCommandLine, IsFlightOf, Makes, MakesFit}
+use Rattle.sift_run.specs.Command.{AskToRead, Asks, Draws, DrawsFit, IsCommandLine, IsFlightOf, Makes, MakesFit}
 use Rattle.sift_run.specs.Input.{Input, IsBegun, IsInput, IsTold, States, document_limit}
 use Rattle.sift_run.specs.Output.{IsCut, IsWritten, Output, AnswersWith, sink_fault_status}
 use Rattle.sift_run.specs.Refusal.{IsCause, IsOwed, line_of, no_memory_status, status_of}
 use Rattle.sift_run.specs.declared.command.Command.{Command}
+use Rattle.sift_run.specs.declared.command.Command.TheVariants.{Read}
+use Rattle.sift_run.specs.declared.command.Reading.{Reading}
+use Rattle.sift_run.specs.declared.command.Reading.TheVariants.{Run}
 use Rattle.sift_run.specs.declared.refusal.Refusal.{Refusal}
 use Rattle.sift_run.specs.declared.refusal.Refusal.TheVariants.{Usage, ReadFault}
 
 -- ---- the text that is due
 
--- the words ask for a command, and the text is what it makes of the input, which states a mission whose parts fit
+-- the text is what the command makes: of the input, which was read to its end and states a mission whose parts fit, or of a number alone
+abbrev pub Reports : Command → Input → List ℕ → Type 0
+Reports (Read reading) input text = (bytes : List ℕ) × IsInput input bytes × MakesFit reading bytes text
+Reports command input text = DrawsFit command text
+
+-- the words ask for a command, and the text is what it makes
 abbrev pub IsReported : List (List ℕ) → Input → List ℕ → Type 0
-IsReported words input text = (command : Command) × Asks words command
-    × (bytes : List ℕ) × IsInput input bytes × MakesFit command bytes text
+IsReported words input text = (command : Command) × Asks words command × Reports command input text
 
 -- the text that is due: that of the command, or the line of a refusal
 abbrev pub IsDue : List (List ℕ) → Input → List ℕ → Type 0
@@ -57,7 +64,7 @@ pub record IsAnswered (words : List (List ℕ)) (input : Input) (output : Output
   -- there was a report, and it was written
   pub reported : status ≡ report_status → (text : List ℕ) × IsReported words input text × IsWritten output text
   -- where it is the report of a flight, the headline holds of its lines
-  pub headline : status ≡ report_status → (order : ℕ) → AskToFly (codes "run") words order → IsHeadlineWritten input output
+  pub headline : status ≡ report_status → (order : ℕ) → Asks words (Read (Run order)) → IsHeadlineWritten input output
   -- at the status of a refusal, a refusal of this status had its cause, and its line was written
   pub refused : (one : Refusal) → status ≡ status_of one
       → (refusal : Refusal) × IsCause words input refusal × AnswersWith output refusal status
@@ -71,7 +78,13 @@ pub record IsAnswered (words : List (List ℕ)) (input : Input) (output : Output
   pub owed : (bytes : List ℕ) (refusal : Refusal) → IsTold input bytes → IsOwed words bytes refusal
       → AnswersWith output refusal status ⊎ Contains (status_of ReadFault ∷ sink_fault_status ∷ no_memory_status ∷ []) status
   -- an input that states a mission gets exactly the command's text, where neither side fails and memory is there
-  pub complete : (bytes text : List ℕ) (command : Command) → IsTold input bytes
-      → Asks words command → length bytes ≤ document_limit → Makes command bytes text
+  pub complete : (bytes text : List ℕ) (reading : Reading) → IsTold input bytes
+      → Asks words (Read reading) → length bytes ≤ document_limit → Makes reading bytes text
       → ¬ Rose input.before.faults input.after.faults → ¬ Rose output.before.faults output.after.faults
+      → ((status ≡ report_status) × IsWritten output text) ⊎ (status ≡ no_memory_status)
+  -- a command that reads nothing is answered with its text, or there is a fault of the sink or want of memory
+  pub drawn : IsCommandLine words → ¬ AskToRead words → Contains (report_status ∷ sink_fault_status ∷ no_memory_status ∷ []) status
+  -- it gets exactly its text, where the sink doesn't fail and memory is there
+  pub complete_drawn : (text : List ℕ) (command : Command) → Asks words command → Draws command text
+      → ¬ Rose output.before.faults output.after.faults
       → ((status ≡ report_status) × IsWritten output text) ⊎ (status ≡ no_memory_status)

@@ -6,7 +6,7 @@ use Rattle.toml.specs.Data.{Members}
 use Rattle.sift_io.specs.Fault.{Rose}
 use Rattle.sift_io.specs.Reading.{TakesExactly}
 use Rattle.sift_scenario.specs.declared.refused.Refused.TheVariants as document
-use Rattle.sift_run.specs.Command.{IsCommandLine}
+use Rattle.sift_run.specs.Command.{AskToRead, IsCommandLine}
 use Rattle.sift_run.specs.Input.{Input, IsBegun, IsDocument, IsInput, StatesNone, document_limit}
 use Rattle.sift_run.specs.declared.refusal.Refusal.{Refusal}
 use Rattle.sift_run.specs.declared.refusal.Refusal.TheVariants.{Usage, NotADocument, Document, ReadFault, NoMemory, TooLong}
@@ -63,17 +63,17 @@ AreRefused bytes (Document reason) = StatesNone bytes reason
 AreRefused bytes NoMemory = ⊤
 AreRefused bytes _ = ⊥
 
--- what stands where a refusal came
+-- what stands where a refusal came: but for want of memory, what refuses a command line is an input that it reads
 abbrev pub IsCause : List (List ℕ) → Input → Refusal → Type 0
 IsCause words input Usage = ¬ IsCommandLine words
-IsCause words input ReadFault = IsCommandLine words × Rose input.before.faults input.after.faults × IsBegun input
-IsCause words input TooLong = IsCommandLine words × TakesExactly input.before input.after (document_limit + 1)
+IsCause words input ReadFault = AskToRead words × Rose input.before.faults input.after.faults × IsBegun input
+IsCause words input TooLong = AskToRead words × TakesExactly input.before input.after (document_limit + 1)
 IsCause words input NoMemory = IsCommandLine words × IsBegun input
-IsCause words input refusal = IsCommandLine words × (bytes : List ℕ) × IsInput input bytes × AreRefused bytes refusal
+IsCause words input refusal = AskToRead words × (bytes : List ℕ) × IsInput input bytes × AreRefused bytes refusal
 
 -- which refusal is owed to the words and the bytes of an input; a fault of the source and want of memory are owed to none
 abbrev pub IsOwed : List (List ℕ) → List ℕ → Refusal → Type 0
 IsOwed words bytes Usage = ¬ IsCommandLine words
-IsOwed words bytes TooLong = IsCommandLine words × (document_limit < length bytes)
+IsOwed words bytes TooLong = AskToRead words × (document_limit < length bytes)
 IsOwed words bytes refusal =
-    IsCommandLine words × (length bytes ≤ document_limit) × AreRefused bytes refusal × (status_of refusal ≢ no_memory_status)
+    AskToRead words × (length bytes ≤ document_limit) × AreRefused bytes refusal × (status_of refusal ≢ no_memory_status)

@@ -4,19 +4,31 @@ ghost use Rattle.std.specs.Prelude.{◌≡◌, ℕ, IfOk, IfSome, Some, map, str
 ghost use Rattle.sift_flight.specs.Told.{IsWhole, told};
 ghost use Rattle.sift_unit.specs.Data.{data_of};
 ghost use Rattle.sift_unit.specs.Flown.{mission_of};
-ghost use Rattle.sift_run.specs.Command.{Asks, GiveOrder, IsFlightOf, TextOf};
+ghost use Rattle.sift_run.specs.Command.{Asks, DrawsFit, GiveNumber, GiveOrder, GiveTrial, IsFlightOf, TextOf};
 
 use crate::options::Options;
 use sift_base::NoMemory;
 use sift_core::fly;
 use sift_flight::{Flight, round_flights_are_whole};
-use sift_report::{ideal_text, report_text, votes_text};
+use sift_report::{ideal_text, last_line_text, report_text, votes_text};
+use sift_trial::drawn_mission;
 use sift_unit::Mission;
 use std::alloc::Global;
 
 /// What the words ask for.
 #[derive(Clone, Copy, Debug, PartialEq, Eq)]
 pub enum Command {
+    /// A text of the mission that the input states.
+    Read(Reading),
+    /// `gen`: writes the scenario that is drawn from this number, and reads nothing.
+    Gen { number: u64 },
+    /// `trial`: flies that scenario, its units stepping in this order, and writes the last line of its report. It reads nothing.
+    Trial { number: u64, order: u64 },
+}
+
+/// What a command makes of the mission that it reads.
+#[derive(Clone, Copy, Debug, PartialEq, Eq)]
+pub enum Reading {
     /// `run`: flies the mission that the input states, its units stepping in this order, and reports on it.
     Run { order: u64 },
     /// `votes`: flies the mission likewise, and tells each vote with the words that were polled.
@@ -37,37 +49,56 @@ impl Command {
             return None;
         };
         match verb.as_str() {
-            "run" => Some(Command::Run {
+            "run" => Some(Command::Read(Reading::Run {
                 order: order_of(rest)?,
-            }),
-            "votes" => Some(Command::Votes {
+            })),
+            "votes" => Some(Command::Read(Reading::Votes {
                 order: order_of(rest)?,
+            })),
+            "ideal" if rest.is_empty() => Some(Command::Read(Reading::Ideal)),
+            "check" if rest.is_empty() => Some(Command::Read(Reading::Check)),
+            "gen" => Some(Command::Gen {
+                number: number_of(rest)?,
             }),
-            "ideal" if rest.is_empty() => Some(Command::Ideal),
-            "check" if rest.is_empty() => Some(Command::Check),
+            "trial" => {
+                let (number, order) = trial_of(rest)?;
+                Some(Command::Trial { number, order })
+            }
             _ => None,
         }
     }
+}
 
-    /// The text that the command makes of a mission.
+impl Reading {
+    /// The text that is made of a mission.
     pub fn text(self, alloc: Global, mission: &Mission) -> Result<String, NoMemory>
         ensures { IfOk result (λ text. TextOf self (data_of mission.now) (string_bytes text)) }
     {
         match self {
-            Command::Run { order } => report_text(
+            Reading::Run { order } => report_text(
                 alloc,
                 mission,
                 &flight_of(alloc, mission, order)?,
             ),
-            Command::Votes { order } => votes_text(
+            Reading::Votes { order } => votes_text(
                 alloc,
                 mission,
                 &flight_of(alloc, mission, order)?,
             ),
-            Command::Ideal => ideal_text(alloc, mission),
-            Command::Check => Ok(String::from_str(alloc, "ok\n")?),
+            Reading::Ideal => ideal_text(alloc, mission),
+            Reading::Check => Ok(String::from_str(alloc, "ok\n")?),
         }
     }
+}
+
+/// The last line of the report on the scenario with this number.
+pub fn trial_text(alloc: Global, number: u64, order: u64) -> Result<String, NoMemory>
+    ensures { IfOk result (λ text. DrawsFit (Command.Trial number order) (string_bytes text)) }
+{
+    let mission = drawn_mission(alloc, number)?;
+    mission.parts();
+    let flight = flight_of(alloc, &mission, order)?;
+    last_line_text(alloc, &mission, &flight)
 }
 
 /// A flight of the mission. All orders of steps give flights that tell the same.
@@ -90,4 +121,25 @@ fn order_of(words: &[String]) -> Option<u64>
         return None;
     }
     Some(options.order.unwrap_or(0))
+}
+
+/// The number that the option of `gen` gives, which has no other.
+fn number_of(words: &[String]) -> Option<u64>
+    ensures found { IfSome result (GiveNumber (map string_bytes words.now)) }
+    ensures exact { (number : ℕ) → GiveNumber (map string_bytes words.now) number → result ≡ Some number }
+{
+    let options = Options::NONE.and(words)?;
+    if options.order.is_some() || options.workers.is_some() {
+        return None;
+    }
+    options.number
+}
+
+/// The number that the options of `trial` give, and the order number, 0 where none is given.
+fn trial_of(words: &[String]) -> Option<(u64, u64)>
+    ensures found { IfSome result (λ trial. GiveTrial (map string_bytes words.now) trial.0 trial.1) }
+    ensures exact { (number order : ℕ) → GiveTrial (map string_bytes words.now) number order → result ≡ Some (number, order) }
+{
+    let options = Options::NONE.and(words)?;
+    Some((options.number?, options.order.unwrap_or(0)))
 }

@@ -2,13 +2,13 @@
 
 ghost use Rattle.std.specs.Prelude.{◌≡◌, map, string_bytes};
 ghost use Rattle.sift_run.specs.Answer.{IsAnswered};
-ghost use Rattle.sift_run.specs.Command.{IsCommandLine};
+ghost use Rattle.sift_run.specs.Command.{AskToRead};
 ghost use Rattle.sift_run.specs.Input.{input};
 ghost use Rattle.sift_run.specs.Output.{Says, SaysRefusal, output};
 ghost use Rattle.sift_run.specs.Refusal.{no_memory_status};
 
 use crate::answer::answer;
-use crate::law::{one_command, one_text};
+use crate::law::{one_command, one_drawn_text, one_text};
 use crate::refusal::Refusal;
 use sift_io::{Sink, Source, WriteStop, write_all};
 use sift_report::the_headline_is_printed;
@@ -20,7 +20,7 @@ const REPORTED: u8 = 0;
 /// The status where the sink failed.
 const SINK_FAULT: u8 = 9;
 
-/// Does what the command words ask for, without the program's name: reads the source, writes a text or the line of a
+/// Does what the command words ask for, without the program's name: reads the source where the command does, writes a text or the line of a
 /// refusal to the sink, and answers the exit status. The whole text is made before any of it is written.
 ///
 /// The tests come in the order of the statuses 2, 8 or 11, 3, 4, 5, 6, 7 and 9. Words that are no command line never get 10.
@@ -30,12 +30,13 @@ pub fn sift<S: Source, K: Sink>(alloc: Global, words: &[String], source: &mut S,
         (input (S.inflow source.old) (S.inflow source.new))
         (output (K.outflow sink.old) (K.outflow sink.new)) result }
 
-    // No command line reads nothing, and want of memory writes nothing.
-    ensures unread { ¬ IsCommandLine (map string_bytes words.now) → source.new ≡ source.old }
+    // Only a command that reads it reads the source, and want of memory writes nothing.
+    ensures unread { ¬ AskToRead (map string_bytes words.now) → source.new ≡ source.old }
     ensures unwritten { result ≡ no_memory_status → sink.new ≡ sink.old }
 {
     one_command();
     one_text();
+    one_drawn_text();
     the_headline_is_printed();
     match answer(alloc, words, source) {
         Ok(text) => say(sink, text.as_str(), REPORTED),

@@ -1,4 +1,4 @@
-use Rattle.std.proofs.Common.{◌≡◌, ◌∷◌, map, drop, string_bytes, Global, arith, IfNone, ℕ, List}
+use Rattle.std.proofs.Common.{string_bytes, Global, arith}
 use Rattle.sift_run.proofs.Words.{map-first}
 use Rattle.sift_run.proofs.options.first_setting.Goals as goal
 

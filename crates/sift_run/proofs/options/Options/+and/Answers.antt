@@ -1,4 +1,4 @@
-use Rattle.std.proofs.Common.{◌≡◌, ℕ, List, [], ◌∷◌, length, map, string_bytes, Global, Option, Some, None, ◌≤◌, sym, subst, arith}
+use Rattle.std.proofs.Common.{◌≡◌, length, map, string_bytes, Global, ◌≤◌, sym, subst, arith}
 use Rattle.std.proofs.lemmas.Bool.Decides.{nat_tests}
 use Rattle.std.proofs.lemmas.Option.{IfSome_then}
 use Rattle.sift_run.specs.Options.{Adds, more, none}

@@ -1,5 +1,5 @@
 use Rattle.std.proofs.lemmas.Result.{IfOk-weaker}
-use Rattle.sift_run.proofs.command.Command.text.Goals as goal
+use Rattle.sift_run.proofs.command.Reading.text.Goals as goal
 
 -- the report of this flight
 pub returns-in_ok-flight_of-in-Run : goal.returns-in_ok-flight_of-in-Run
