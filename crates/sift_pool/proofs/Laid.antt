@@ -1,12 +1,14 @@
 -- A region whose spans lie one after another in the words of a pool.
-use Rattle.std.proofs.Common.{◌≡◌, ℕ, ◌+◌, ◌-◌, ◌<◌, ◌≤◌, ◌↔◌, List, length, map, sum, sum_by, get_or, set, Option, Some, sym, ap, subst, ◌∙◌, arith}
-use Rattle.std.specs.Prelude.{slice_get}
-use Rattle.std.proofs.lemmas.List.{length-map}
+use Rattle.std.proofs.Common.{◌≡◌, ℕ, ◌+◌, ◌-◌, ◌<◌, ◌≤◌, ◌↔◌, List, ◌++◌, length, map, take, drop, sum, sum_by, get_or, set, Option, Some, refl, sym, ap, subst, ◌∙◌, arith}
+use Rattle.std.specs.Prelude.{slice_get, slice_range}
+use Rattle.std.specs.List.{concat}
+use Rattle.std.proofs.lemmas.List.{length-map, take_at}
 use Rattle.std.proofs.lemmas.List.Sums.{sum-map, sum_by_more_le}
 use borrow.Rule.Slice.PartMut.{put_mid}
-use Rattle.sift_pool.specs.Region.{Region, Extent, IsLive, words_at, left_in}
+use Rattle.sift_pool.specs.Region.{Region, Extent, IsLive, words_at, left_in, start_of}
+use Rattle.sift_pool.specs.Lending.{written_from, with_words_from}
 use Rattle.sift_pool.specs.Layout.{lengths, pieces, IsLaid, laid_region}
-use Rattle.sift_pool.proofs.Pieces.{map-length-pieces, length-pieces, get_or-pieces, pieces-set, pieces-put_mid}
+use Rattle.sift_pool.proofs.Pieces.{map-length-pieces, length-pieces, get_or-pieces, pieces-set, pieces-put_mid, length-put_mid, concat-pieces, piece-get_or}
 use Rattle.sift_pool.proofs.Live.{IsAmong, IsAmong-from_live, IsLive-from_among, slice_get-among, IsAmong-from_slice_get}
 
 -- a pool of these spans and words is seen as the region
@@ -96,3 +98,31 @@ module _ (capacity room : ℕ) (ps : List Extent) (ws : List ℕ) (region : Regi
       let among = live_among p live in
       let written = pieces-put_mid p.number (lengths ps) ws ys among.present (long ∙ among.long) (omega (arith, holds.laid.whole)) in
       rw (among.starts, among.long, spans_are) written
+
+  -- the words of all spans are those of the pool
+  all_are : concat region.spans ≡ ws
+  all_are = ap concat spans_are ∙ concat-pieces (lengths ps) ws holds.laid.whole
+
+  -- the words of a live span
+  pub live_words : (own p : Extent) (end : ℕ) → own ≡ p → IsLive region p → end ≡ own.start + own.len → slice_range ws own.start end ≡ words_at region p.number
+  live_words own p end same live ends =
+      let among = live_among p live in
+      let size : end - own.start ≡ own.len = omega (arith, ends) in
+      let piece = piece-get_or p.number (lengths ps) ws among.present in
+      rw (size, same, among.starts, among.long, spans_are) (sym piece)
+
+  -- words that are written from the start of a live span on
+  pub live_from : (own p : Extent) (len : ℕ) (ys : List ℕ) → own ≡ p → IsLive region p → len ≡ length ws
+      → pieces (lengths ps) (take len (written_from own.start ws ys ++ drop (length (written_from own.start ws ys)) ws)) ≡ (with_words_from region p.number ys).spans
+  live_from own p len ys same live long =
+      let start : own.start ≡ start_of region p.number = ap (λ q. q.start) same ∙ live.starts in
+      rw (all_are, lengths_are, start, long) refl
+
+  -- as many words as a live span has
+  pub live_alone : (p : Extent) (ys : List ℕ) → IsLive region p → length ys ≡ p.len → (with_words_from region p.number ys).spans ≡ set region.spans p.number ys
+  live_alone p ys live long =
+      let within = live_within p p refl live in
+      let put : List ℕ = put_mid p.start p.len ws ys in
+      let as_many : length put ≡ length ws = length-put_mid p.start p.len ws ys long within.0 in
+      let whole : take (length ws) (put ++ drop (length put) ws) ≡ put = take_at put (drop (length put) ws) (length ws) as_many in
+      rw (all_are, lengths_are, sym live.starts, long) (ap (pieces (lengths ps)) whole ∙ live_put_mid p ys live long)

@@ -1,6 +1,7 @@
 -- Words that are cut into pieces of given lengths.
-use Rattle.std.proofs.Common.{◌≡◌, ℕ, suc, zero, ◌+◌, ◌-◌, ◌<◌, ◌≤◌, List, [], ◌∷◌, ◌++◌, length, map, take, drop, replicate, sum, get_or, set, refl, sym, ap, ◌∙◌, arith}
+use Rattle.std.proofs.Common.{◌≡◌, ℕ, suc, zero, ◌+◌, ◌-◌, ◌<◌, ◌≤◌, List, [], ◌∷◌, ◌++◌, length, map, take, drop, replicate, sum, get_or, set, take-append-drop, refl, sym, ap, ◌∙◌, arith}
 use Rattle.std.proofs.lemmas.List.{length-take-le, length-drop, length-append, take-take, drop-take, take-append-le, drop-append-le, nil_from_length, take_all, get_or-take, get_or-drop, take-set-le, drop-set-lt, drop-set-add, drop-drop, take_at, drop_at}
+use Rattle.std.specs.List.{concat}
 use Rattle.std.proofs.lemmas.Slice.{take-put_mid_below}
 use Rattle.std.proofs.Math.Seq.{take-set-lt}
 use Rattle.std.proofs.lemmas.List.Sums.{sum_by-cons, sum_by-take-le}
@@ -125,4 +126,21 @@ put_mid-filled ws part ys from size start len word same fills starts long within
     let size_is : from + size - from ≡ len = omega arith in
     let enough : len ≤ length (drop start ws) = omega (arith, length-drop start ws) in
     let all : length (take len (drop start ws)) ≡ len = length-take-le len (drop start ws) enough in
+    cc
+
+-- the pieces of words make up the words
+pub concat-pieces : (ns ws : List ℕ) → sum ns ≡ length ws → concat (pieces ns ws) ≡ ws
+concat-pieces [] ws whole = sym (nil_from_length ws (omega arith))
+concat-pieces (n ∷ ns) ws whole =
+    let rest = concat-pieces ns (drop n ws) (omega (arith, sum-cons n ns, length-drop n ws)) in
+    ap (λ l. take n ws ++ l) rest ∙ take-append-drop n ws
+
+-- a piece lies behind those before it
+pub piece-get_or : (k : ℕ) (ns ws : List ℕ) → k < length ns → get_or (pieces ns ws) k [] ≡ take (get_or ns k 0) (drop (sum (take k ns)) ws)
+piece-get_or k [] ws there = absurd (omega arith)
+piece-get_or zero (n ∷ ns) ws there = refl
+piece-get_or (suc k) (n ∷ ns) ws there =
+    let before = sum-cons n (take k ns) in
+    let rest = piece-get_or k ns (drop n ws) (omega arith) in
+    let back = drop-drop (sum (take k ns)) n ws in
     cc

@@ -2,6 +2,7 @@
 
 ghost use Rattle.std.specs.Prelude.{◌≡◌, ◌<◌, ◌≤◌, ◌↔◌, length, IsTrue, IsOk, IsErr, IfOk, IfErr, OnErr};
 ghost use Rattle.std.specs.Prelude.{slice_index, slice_set, replicate, ◌+◌, ◌++◌, vec_len, vec_capacity};
+ghost use Rattle.std.specs.Borrow.{sem};
 ghost use Rattle.sift_pool.specs.Region.{empty_region, words_at, with_words, first_spans, left_in};
 ghost use Rattle.sift_pool.specs.Region.{IsLive, KeepsLive, KeepsLiveBelow, Carves};
 
@@ -33,6 +34,8 @@ impl Model for Pool {
 }
 
 impl Pool {
+    ghost use Rattle.sift_pool.specs.Lending.{LendsWords, StaysWithin};
+
     /// A pool of so many words, with room for so many spans. It has no span yet.
     ///
     /// A pool without words and without room for a span takes no memory.
@@ -123,6 +126,16 @@ impl Pool {
         ensures live { KeepsLive self.old self.new }
     {
         self.words[span.start + at] = word;
+    }
+
+    /// Lends the words of a span, for writing.
+    pub fn words_mut(&mut self, span: &Span) -> &mut [u16]
+        requires { IsLive self.old span.now }
+        ensures* writes_back { sem 𝓛 (LendsWords self.entry span.now.number result) }
+        ensures lent { result.now ≡ words_at self.old span.now.number }
+        ensures alone { StaysWithin self.old span.now.number }
+    {
+        self.words.slice_mut(span.start..span.start + span.len)
     }
 
     /// Writes a word at each place of a span.
