@@ -1,5 +1,7 @@
-use Rattle.std.proofs.Common.{arith, refl, sym, ap, ◌∙◌}
-use Rattle.sift_pool.specs.Region.{Region}
+use Rattle.std.proofs.Common.{◌≡◌, ℕ, List, length, arith, refl, sym, ap, subst, ◌∙◌}
+use Rattle.sift_pool.specs.Region.{Region, KeepsLive, words_at, with_words}
+use Rattle.sift_pool.specs.Lending.{Rewrites, with_words_from}
+use Rattle.sift_pool.proofs.Live.{KeepsLive-with_words}
 use Rattle.sift_pool.proofs.Laid.{held, laid_region-spans, live_within, live_from, live_words, live_alone}
 use Rattle.sift_pool.proofs.pool.Pool.words_mut.Goals as goal
 
@@ -15,6 +17,13 @@ slice_mut-requires-clause-in_bounds c =
     let within = live_within _ _ _ _ _ holds _ _ c.span.view_is c.requires in
     omega (arith, within.0, within.1, c.self.inside.words.ok)
 
+-- the words of a span, written over it alone, leave each span live
+rewrites : (region : Region) (number : ℕ) (ws : List ℕ) → length ws ≡ length (words_at region number)
+    → with_words_from region number ws ≡ with_words region number ws → Rewrites number ws region (with_words_from region number ws)
+rewrites region number ws long written =
+    let Kept : Region → Type 0 = λ new. KeepsLive region new in
+    record { written = written; live = subst Kept (sym written) (KeepsLive-with_words region number ws long) }
+
 -- the pool ends as the words behind the slice say
 pub returns : goal.returns
 returns c =
@@ -28,6 +37,7 @@ returns c =
       record {
         writes_back = tt;
         lent = c.slice_mut.ensures.value ∙ live_words _ _ _ _ _ holds _ _ _ c.span.view_is c.requires refl;
-        alone = λ ws long. ap (λ spans. record c.args.self.now { spans = spans }) (live_alone _ _ _ _ _ holds span ws c.requires (long ∙ sym c.requires.long));
+        alone = λ ws long. rewrites c.args.self.now span.number ws long
+            (ap (λ spans. record c.args.self.now { spans = spans }) (live_alone _ _ _ _ _ holds span ws c.requires (long ∙ sym c.requires.long)));
       },
     )
