@@ -1,7 +1,6 @@
 -- A machine at an instruction of sound code.
-use Rattle.std.proofs.Common.{◌≡◌, ℕ, ◌+◌, ◌-◌, ◌≤◌, List, length, Some, sym, ap, ◌∙◌, subst, arith}
+use Rattle.std.proofs.Common.{◌≡◌, ℕ, ◌+◌, ◌-◌, ◌≤◌, List, length, Some, sym, ap, ◌∙◌}
 use Rattle.std.specs.Prelude.{slice_get}
-use Rattle.sift_pool.specs.Region.{Region, Extent, IsLive, words_at}
 use Rattle.sift_code.specs.declared.instr.Instr.{Instr}
 use Rattle.sift_code.specs.declared.machine.Machine.{Machine}
 use Rattle.sift_code.specs.Machine.{Loop, State, Inputs, effect, effect_of}
@@ -34,11 +33,10 @@ pub record Fetched (program : Program) (m : Machine) (ws outs : List ℕ) (i : I
   pub wide : 352 ≤ length ws
 
 -- it stands at the instruction that was fetched
-pub fetched : {region : Region} {span : Extent} {program : Program} {m : Machine} {outs : List ℕ} {nest : List Instr} {i j : Instr}
-    → IsLive region span → 352 ≤ span.len → Stands program m (words_at region span.number) outs → IsSound program → nest ≡ program.code
-    → slice_get nest m.place ≡ Some i → i ≡ j → Fetched program m (words_at region span.number) outs j
-fetched {m = m} {j = j} live room stands sound same at is =
-    record { sound = sound; stands = stands; at = subst (λ c. slice_get c m.place ≡ Some j) same (at ∙ ap Some is); wide = omega (arith, room, live.long) }
+pub fetched : {program : Program} {m : Machine} {ws outs : List ℕ} {i j : Instr} → 352 ≤ length ws → Stands program m ws outs
+    → IsSound program → slice_get program.code m.place ≡ Some i → i ≡ j → Fetched program m ws outs j
+fetched wide stands sound at is =
+    record { sound = sound; stands = stands; at = at ∙ ap Some is; wide = wide }
 
 -- there are enough words on the stack, and it has room for what comes
 pub heights : {program : Program} {m : Machine} {ws outs : List ℕ} {i : Instr} → Fetched program m ws outs i → (pops i ≤ m.height) × (m.height - pops i + pushes i ≤ 256)

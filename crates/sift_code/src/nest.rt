@@ -53,7 +53,8 @@ impl Nest {
 
     /// The instructions.
     pub fn code(&self) -> &[Instr]
-        ensures { result.now ≡ self.now }
+        ensures same { result.now ≡ self.now }
+        ensures short { length self.now < 2 ^ 32 }
     {
         &self.code
     }
@@ -64,15 +65,6 @@ impl Nest {
         ensures inside { IsSome result → at < length self.now }
     {
         self.code.get(at).copied()
-    }
-
-    /// The instruction at a place below the length.
-    pub fn fetch(&self, at: usize) -> Instr
-        requires { at < length self.now }
-        ensures read { slice_get self.now at ≡ Some result }
-        ensures short { length self.now < 2 ^ 32 }
-    {
-        self.code[at]
     }
 
     /// The place after the Begin of the innermost loop that encloses a place.

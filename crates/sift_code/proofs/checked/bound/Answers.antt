@@ -10,7 +10,7 @@ use Rattle.sift_code.proofs.checked.bound.Goals.{in-Begin, in-End, in_default}
 -- no more than 32 loops are open
 pub push-requires : goal.push-requires
 push-requires c =
-    let at = read_item c.code-instr-items.result.now c.args.nest.now c.loop-instr.instr-index c.instr-item.result c.code-instr-items.ensures (omega arith) c.instr-item.is in (
+    let at = read_item c.code-instr-items.result.now c.args.nest.now c.loop-instr.instr-index c.instr-item.result c.code-instr-items.ensures.same (omega arith) c.instr-item.is in (
       lit< tt,
       outside_room
           (within c.args.nest.now c.args.limits.now) c.requires c.loop-instr.instr-index c.in-Begin.rounds c.loop-instr.outside.items (at
@@ -20,7 +20,7 @@ push-requires c =
 -- the sum and the products behind one more instruction
 pub loop-instr-preserved : goal.loop-instr-preserved
 loop-instr-preserved c =
-    let at = read_item c.code-instr-items.result.now c.args.nest.now c.loop-instr.instr-index c.instr-item.result c.code-instr-items.ensures (omega arith) c.instr-item.is in
+    let at = read_item c.code-instr-items.result.now c.args.nest.now c.loop-instr.instr-index c.instr-item.result c.code-instr-items.ensures.same (omega arith) c.instr-item.is in
     let sum = c.saturating_add-bound.ensures ∙ sum_more c.args.nest.now c.loop-instr.instr-index c.loop-instr.bound c.loop-instr.product c.loop-instr.invariant.0 c.loop-instr.invariant.1 in
     elim c.match-instr.branch [
       | in-Begin w ↦ (
@@ -55,5 +55,5 @@ loop-instr-preserved c =
 -- the sum is whole
 pub returns : goal.returns
 returns c =
-    let same = ap length c.code-instr-items.ensures in
+    let same = ap length c.code-instr-items.ensures.same in
     c.loop-instr.invariant.0 ∙ ap kept (bound_whole c.args.nest.now c.loop-instr.instr-index (omega arith))

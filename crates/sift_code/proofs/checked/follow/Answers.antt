@@ -8,12 +8,12 @@ use Rattle.sift_code.proofs.checked.follow.Goals as goal
 -- a place in the loop is the first that offends
 pub returns-in_err-check-clause-refused : goal.returns-in_err-check-clause-refused
 returns-in_err-check-clause-refused c =
-    let same = ap length c.code-instr-items.ensures in
+    let same = ap length c.code-instr-items.ensures.same in
     let p = err_from_is_err_and c.from_residual-in_err-check.result c.from_residual-in_err-check.ensures.1 in
     rw (p.1, p.2) (λ other. first_at (within c.args.nest.now c.args.limits.now) c.loop-at.at c.in_err-check.field-0.0 (omega arith) c.loop-at.invariant.1 c.in_err-check.ensures.refused)
 
 pub pass-requires-clause-read : goal.pass-requires-clause-read
-pass-requires-clause-read c = read_item c.code-instr-items.result.now c.args.nest.now c.loop-at.at c.instr-item.result c.code-instr-items.ensures (omega arith) c.instr-item.is
+pass-requires-clause-read c = read_item c.code-instr-items.result.now c.args.nest.now c.loop-at.at c.instr-item.result c.code-instr-items.ensures.same (omega arith) c.instr-item.is
 
 -- one more place doesn't offend
 pub loop-at-preserved : goal.loop-at-preserved
@@ -22,7 +22,7 @@ loop-at-preserved c = (c.pass.ensures, below_more _ _ c.loop-at.invariant.1 (c.i
 -- the code's length is the first place that offends
 pub returns-in_err-check-2-clause-refused : goal.returns-in_err-check-2-clause-refused
 returns-in_err-check-2-clause-refused c =
-    let same = ap length c.code-instr-items.ensures in
+    let same = ap length c.code-instr-items.ensures.same in
     let p = err_from_is_err_and c.from_residual-in_err-check-2.result c.from_residual-in_err-check-2.ensures.1 in
     rw (p.1, p.2) (λ other. first_at (within c.args.nest.now c.args.limits.now) c.len.result c.in_err-check-2.field-0.0
     (omega (arith, c.len.ensures))
@@ -31,5 +31,5 @@ returns-in_err-check-2-clause-refused c =
 -- no place offends
 pub returns-clause-sound : goal.returns-clause-sound
 returns-clause-sound c =
-    let same = ap length c.code-instr-items.ensures in
+    let same = ap length c.code-instr-items.ensures.same in
     λ ok. free_through (within c.args.nest.now c.args.limits.now) c.loop-at.at c.len.result (omega arith) c.len.ensures c.loop-at.invariant.1 (c.in_ok-check-2.ensures.free refl)
