@@ -4,9 +4,10 @@ use Rattle.sift_base.specs.declared.layout.Layout.{Layout}
 use Rattle.sift_buffer.specs.Ranges.{Ranges, IsPlace}
 use Rattle.sift_buffer.specs.Conduct.{saying, hearing, put_at, with_said, with_heard}
 use Rattle.sift_buffer.specs.Tables.{ranges_of, IsEntry, entry_count, entry_number, entry_at}
-use Rattle.sift_buffer.specs.Journals.{Pages, ranges_in, said_in, heard_in, IsJournalOf, NotesSaid, NotesHeard}
+use Rattle.sift_buffer.specs.Journals.{Pages, ranges_in, said_in, heard_in, IsJournalOf, NotesSaid, NotesHeard, NotesSaidAt, NotesHeardAt}
 use Rattle.sift_buffer.specs.Ledgers.{Ledger, saying_of, hearing_of, sayings_by, hearings_by, conduct_in, Becomes}
 use Rattle.sift_buffer.specs.Sizes.{IsFull}
+use Rattle.sift_buffer.proofs.Notes.{entry_of}
 use Rattle.sift_buffer.proofs.Tables.{entry_set}
 
 -- three functions with new values at one place, seen through another function
@@ -65,6 +66,18 @@ module _ (l : Ledger) (layout : Layout) (frames : ℕ) (full : IsFull l layout f
   -- the entry is there
   entry : IsEntry r f k q
   entry = subst (λ (x : Ranges). IsEntry x f k q) ranges_are (record { frame = place.frame; slot = place.cell.slot; unit = place.cell.unit })
+
+  -- the journal counts it by the same number
+  number_is : entry_number r f k q ≡ entry_number (ranges_in l.pages) f k q
+  number_is i = entry_number (sym ranges_are i) f k q
+
+  -- what a note at this number notes as said
+  pub noted_said : (i : ℕ) → i ≡ entry_number r f k q → NotesSaidAt l.pages pages i w → NotesSaid l.pages pages f k q w
+  noted_said i is noted = noted f k q (entry_of l.pages f k q place) (is ∙ number_is)
+
+  -- and as heard
+  pub noted_heard : (i : ℕ) → i ≡ entry_number r f k q → NotesHeardAt l.pages pages i w → NotesHeard l.pages pages f k q w
+  noted_heard i is noted = noted f k q (entry_of l.pages f k q place) (is ∙ number_is)
 
   -- a list with another number there
   abbrev set : List ℕ → ℕ → List ℕ

@@ -10,12 +10,12 @@ use Rattle.sift_buffer.proofs.Tables.{entry_set}
 pub entry_of : (j : Pages) (f k q : ℕ) → IsPlace (ranges_in j) j.unit q k f → IsEntry (ranges_in j) f k q
 entry_of j f k q place = record { frame = place.frame; slot = place.cell.slot; unit = place.cell.unit }
 
-module _ (j : Pages) (f k q : ℕ) (word : Option ℕ) (sized : IsSized j) (place : IsPlace (ranges_in j) j.unit q k f) where
+module _ (j : Pages) (word : Option ℕ) (sized : IsSized j) (f k q : ℕ) (within : IsEntry (ranges_in j) f k q) where
   -- as said
   pub said_noted : NotesSaid j (record j { said = slice_set j.said (entry_number (ranges_in j) f k q) word }) f k q word
   said_noted = record {
     owner = record { layout_is = refl; unit_is = refl; frames_are = refl };
-    said = entry_set None (ranges_in j) j.said f k q word (entry_of j f k q place) sized.said;
+    said = entry_set None (ranges_in j) j.said f k q word within sized.said;
     heard = refl;
   }
 
@@ -24,5 +24,5 @@ module _ (j : Pages) (f k q : ℕ) (word : Option ℕ) (sized : IsSized j) (plac
   heard_noted = record {
     owner = record { layout_is = refl; unit_is = refl; frames_are = refl };
     said = refl;
-    heard = entry_set None (ranges_in j) j.heard f k q word (entry_of j f k q place) sized.heard;
+    heard = entry_set None (ranges_in j) j.heard f k q word within sized.heard;
   }

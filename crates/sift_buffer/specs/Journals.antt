@@ -3,7 +3,7 @@ use Rattle.std.specs.Prelude.{◌≡◌, ℕ, List, Option, None}
 use Rattle.sift_base.specs.declared.layout.Layout.{Layout}
 use Rattle.sift_buffer.specs.Ranges.{Ranges}
 use Rattle.sift_buffer.specs.Conduct.{put_at}
-use Rattle.sift_buffer.specs.Tables.{ranges_of, entry_at}
+use Rattle.sift_buffer.specs.Tables.{ranges_of, IsEntry, entry_number, entry_at}
 
 -- a journal: the layout, the unit, the number of frames, and the words said and heard, each for every frame, slot and unit
 pub record Pages : Type 0 where
@@ -48,3 +48,11 @@ pub record NotesHeard (old new : Pages) (f k p : ℕ) (word : Option ℕ) : Type
   pub owner : IsJournalOf new old.layout old.unit old.frames
   pub said : said_in new ≡ said_in old
   pub heard : heard_in new ≡ put_at (heard_in old) f k p word
+
+-- one word more was noted as said, in the frame and slot and to the unit whose entry has this number
+abbrev pub NotesSaidAt : Pages → Pages → ℕ → Option ℕ → Type 0
+NotesSaidAt old new entry word = (f k q : ℕ) → IsEntry (ranges_in old) f k q → entry ≡ entry_number (ranges_in old) f k q → NotesSaid old new f k q word
+
+-- and as heard
+abbrev pub NotesHeardAt : Pages → Pages → ℕ → Option ℕ → Type 0
+NotesHeardAt old new entry word = (f k p : ℕ) → IsEntry (ranges_in old) f k p → entry ≡ entry_number (ranges_in old) f k p → NotesHeard old new f k p word

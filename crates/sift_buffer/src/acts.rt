@@ -44,7 +44,7 @@ impl Acts {
         requires unit { unit < layout.units }
         ensures { IfOk result (λ acts. Tells acts layout unit frames fresh) }
     {
-        let grid = Grid { layout, frames };
+        let grid = Grid::of(layout, frames);
         Ok(Acts {
             grid,
             journal: Journal::make(alloc, layout, unit, frames)?,
@@ -77,9 +77,9 @@ impl Acts {
         requires stamp { 1 ≤ stamp }
         ensures { Becomes self.old self.new (with_said (conduct_in self.old) f slot to stamp word) }
     {
-        let place = self.grid.index(f, slot, to);
-        self.said[place] = stamp;
-        self.journal.note_said(f, slot, to, word);
+        let entry = self.grid.index(f, slot, to);
+        self.said[entry] = stamp;
+        self.journal.note_said_at(entry, word);
     }
 
     /// Notes a word, or absence, as heard with a stamp at the present progress.
@@ -88,10 +88,10 @@ impl Acts {
         requires stamp { 1 ≤ stamp }
         ensures { Becomes self.old self.new (with_heard (conduct_in self.old) f slot from stamp word) }
     {
-        let place = self.grid.index(f, slot, from);
-        self.asked[place] = stamp;
-        self.heard_at[place] = self.progress;
-        self.journal.note_heard(f, slot, from, word);
+        let entry = self.grid.index(f, slot, from);
+        self.asked[entry] = stamp;
+        self.heard_at[entry] = self.progress;
+        self.journal.note_heard_at(entry, word);
     }
 
     /// Notes that the unit entered the next subframe.

@@ -6,20 +6,37 @@ ghost use Rattle.sift_buffer.specs.Tables.{ranges_of, IsEntry, entry_count, entr
 
 use sift_base::{Layout, UnitId};
 
-/// The entries of a list with one for each frame, slot and unit.
+/// The entries of a list with one for each frame, slot and unit. The number of slots stands beside the
+/// layout, so that no entry counts them anew.
 #[derive(Clone, Copy)]
 pub struct Grid {
     pub layout: Layout,
     pub frames: u32,
+    slots: usize,
     ghost lawful: { IsLayout layout },
+    ghost counted: { slots ≡ slot_count layout },
 }
 
 impl Grid {
+    /// The grid of a layout and a number of frames.
+    pub fn of(layout: Layout, frames: u32) -> Grid
+        requires { IsLayout layout }
+        ensures layout { result.layout ≡ layout }
+        ensures frames { result.frames ≡ frames }
+    {
+        let slots = layout.count();
+        Grid {
+            layout,
+            frames,
+            slots,
+        }
+    }
+
     /// How many entries the list has.
     pub fn len(&self) -> usize
         ensures { result ≡ entry_count (ranges_of self.now.layout self.now.frames) }
     {
-        self.frames as usize * self.layout.count() * usize::from(self.layout.units)
+        self.frames as usize * self.slots * usize::from(self.layout.units)
     }
 
     /// The number of the entry of a frame, slot and unit.
@@ -28,7 +45,7 @@ impl Grid {
         ensures number { result ≡ entry_number (ranges_of self.now.layout self.now.frames) f slot unit }
         ensures below { result < entry_count (ranges_of self.now.layout self.now.frames) }
     {
-        let row = f as usize * self.layout.count() + slot;
+        let row = f as usize * self.slots + slot;
         row * usize::from(self.layout.units) + usize::from(unit.get())
     }
 
@@ -37,7 +54,7 @@ impl Grid {
         ensures { result ≡ shared_words (ranges_of self.now.layout self.now.frames) }
     {
         let units = usize::from(self.layout.units);
-        units + units * units * self.layout.count()
+        units + units * units * self.slots
     }
 
     /// Which of the shared words is a unit's cell for another in a slot.
@@ -50,6 +67,6 @@ impl Grid {
     {
         let units = usize::from(self.layout.units);
         let pair = usize::from(from.get()) * units + usize::from(to.get());
-        units + (pair * self.layout.count() + slot)
+        units + (pair * self.slots + slot)
     }
 }

@@ -2,7 +2,8 @@
 ghost use Rattle.std.specs.Prelude.{◌≡◌, ◌<◌, IfOk};
 ghost use Rattle.sift_base.specs.Layout.{IsLayout};
 ghost use Rattle.sift_buffer.specs.Ranges.{IsPlace};
-ghost use Rattle.sift_buffer.specs.Journals.{IsBlank, NotesSaid, NotesHeard, said_in, heard_in, ranges_in};
+ghost use Rattle.sift_buffer.specs.Tables.{entry_count};
+ghost use Rattle.sift_buffer.specs.Journals.{IsBlank, NotesSaid, NotesHeard, NotesSaidAt, NotesHeardAt, said_in, heard_in, ranges_in};
 
 use crate::grid::Grid;
 use sift_base::{Layout, NoMemory, UnitId, Word};
@@ -42,7 +43,7 @@ impl Journal {
         requires unit { unit < layout.units }
         ensures { IfOk result (λ journal. IsBlank journal layout unit frames) }
     {
-        let grid = Grid { layout, frames };
+        let grid = Grid::of(layout, frames);
         Ok(Journal {
             grid,
             unit,
@@ -74,8 +75,8 @@ impl Journal {
         requires { IsPlace (ranges_in self.old) self.old.unit to slot f }
         ensures { NotesSaid self.old self.new f slot to word }
     {
-        let place = self.grid.index(f, slot, to);
-        self.said[place] = word;
+        let entry = self.grid.index(f, slot, to);
+        self.note_said_at(entry, word);
     }
 
     /// Notes a word, or absence, as heard in this frame and slot from this unit.
@@ -83,7 +84,23 @@ impl Journal {
         requires { IsPlace (ranges_in self.old) self.old.unit from slot f }
         ensures { NotesHeard self.old self.new f slot from word }
     {
-        let place = self.grid.index(f, slot, from);
-        self.heard[place] = word;
+        let entry = self.grid.index(f, slot, from);
+        self.note_heard_at(entry, word);
+    }
+
+    /// Notes a word, or absence, as said at an entry.
+    pub(crate) fn note_said_at(&mut self, entry: usize, word: Option<Word>)
+        requires { entry < entry_count (ranges_in self.old) }
+        ensures { NotesSaidAt self.old self.new entry word }
+    {
+        self.said[entry] = word;
+    }
+
+    /// Notes a word, or absence, as heard at an entry.
+    pub(crate) fn note_heard_at(&mut self, entry: usize, word: Option<Word>)
+        requires { entry < entry_count (ranges_in self.old) }
+        ensures { NotesHeardAt self.old self.new entry word }
+    {
+        self.heard[entry] = word;
     }
 }

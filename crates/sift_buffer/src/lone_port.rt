@@ -31,7 +31,7 @@ impl LonePort {
         requires unit { unit < layout.units }
         ensures { IfOk result (λ port. IsNew port layout unit frames) }
     {
-        let grid = Grid { layout, frames };
+        let grid = Grid::of(layout, frames);
         let acts = Acts::make(alloc, layout, unit, frames)?;
         let words = vec![in alloc; 0; grid.shared_words()]?;
         Ok(LonePort {

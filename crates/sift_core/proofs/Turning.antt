@@ -39,10 +39,13 @@ module _ (m : Mission) (x : Machine) (n n' u : ℕ) (y : Machine) (flies : Flies
   pub own_nearer : GoesItself m u x y → distances m y < distances m x
   own_nearer goes = goes_nearer m x u goes.answer y flies flies_on unit goes.stepped goes.aloft goes.goes
 
-  -- who gives its turn away leaves all progress, and is no farther
+  -- who gives its turn away leaves all progress and the layout, and is no farther
   given_same : GivesAway m u x y → (p : ℕ) → progress_at y p ≡ progress_at x p
   given_same = ⊎_elim (λ landed p. ap (λ (z : Machine). progress_at z p) landed.1)
       (λ (w : Waits m u x y). waits_in_place m x u w.answer y flies flies_on unit w.stepped w.waits)
+
+  pub given_layout : GivesAway m u x y → layout_of y ≡ layout_of x
+  given_layout = ⊎_elim (λ landed. ap (λ (z : Machine). layout_of z) landed.1) (λ (w : Waits m u x y). w.stepped.layout)
 
   given_no_farther : GivesAway m u x y → distances m y ≤ distances m x
   given_no_farther = ⊎_elim (λ landed. let e = ap (λ (z : Machine). distances m z) landed.1 in omega arith)

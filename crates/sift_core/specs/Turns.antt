@@ -10,13 +10,17 @@ use Rattle.sift_core.specs.declared.machine.Machine.{Machine}
 
 -- ---- who has landed
 
+-- the progress of a unit that has landed: the subframe after the last
+abbrev pub end_in : Mission → ℕ
+end_in m = m.frames * m.period
+
 -- a unit has landed: it has come to the subframe after the last
 abbrev pub HasLandedIn : Mission → Machine → ℕ → Type 0
-HasLandedIn m x u = m.frames * m.period ≤ progress_at x u
+HasLandedIn m x u = end_in m ≤ progress_at x u
 
 -- or it has yet to
 abbrev pub IsAloft : Mission → Machine → ℕ → Type 0
-IsAloft m x u = progress_at x u < m.frames * m.period
+IsAloft m x u = progress_at x u < end_in m
 
 -- all units have landed
 abbrev pub HaveAllLanded : Mission → Machine → Type 0

@@ -3,7 +3,7 @@ ghost use Rattle.std.specs.Prelude.{◌≡◌, ◌<◌, ◌≤◌, ◌*◌, IfSo
 ghost use Rattle.sift_base.specs.Units.{has};
 ghost use Rattle.sift_unit.specs.Flown.{mission_of};
 ghost use Rattle.sift_core.specs.Machines.{Flies, layout_of, distances};
-ghost use Rattle.sift_core.specs.Turns.{IsLeast, IsDrawn, HaveAllLanded, Tries, TurnsAt, FliesInOrder};
+ghost use Rattle.sift_core.specs.Turns.{end_in, IsLeast, IsDrawn, HaveAllLanded, Tries, TurnsAt, FliesInOrder};
 
 use crate::machine::Machine;
 use sift_base::{Draw, UnitId};
@@ -11,7 +11,7 @@ use sift_unit::{Mission, Stepped};
 
 /// The progress of a unit that has landed.
 fn end_of(mission: &Mission) -> u64
-    ensures { result ≡ (mission_of mission.now).frames * (mission_of mission.now).period }
+    ensures { result ≡ end_in (mission_of mission.now) }
 {
     u64::from(mission.frames()) * u64::from(mission.period())
 }
@@ -19,16 +19,17 @@ fn end_of(mission: &Mission) -> u64
 impl Machine {
     /// The unit of least progress among those that have not landed, and the lowest-numbered of
     /// several.
-    fn least(&self, mission: &Mission) -> Option<UnitId>
-        requires { Flies (mission_of mission.now) self.now }
+    fn least(&self, mission: &Mission, end: u64) -> Option<UnitId>
+        requires flies { Flies (mission_of mission.now) self.now }
+        requires end { end ≡ end_in (mission_of mission.now) }
         ensures found { IfSome result (λ u. IsLeast (mission_of mission.now) self.now u) }
         ensures none { IfNone result (HaveAllLanded (mission_of mission.now) self.now) }
     {
         let mut least = None;
-        let mut below = end_of(mission);
+        let mut below = end;
         for number in 0..self.rack.grid.layout.units {
             if let Some(unit) = UnitId::of(number) {
-                let progress = self.progress(unit);
+                let progress = self.rack.number_of(unit);
                 if progress < below {
                     least = Some(unit);
                     below = progress;
@@ -39,15 +40,15 @@ impl Machine {
     }
 
     /// Whether all units have landed.
-    fn have_all_landed(&self, mission: &Mission) -> bool
-        requires { Flies (mission_of mission.now) self.now }
+    fn have_all_landed(&self, mission: &Mission, end: u64) -> bool
+        requires flies { Flies (mission_of mission.now) self.now }
+        requires end { end ≡ end_in (mission_of mission.now) }
         ensures landed { result ≡ true → HaveAllLanded (mission_of mission.now) self.now }
         ensures aloft { result ≡ false → ¬ HaveAllLanded (mission_of mission.now) self.now }
     {
-        let end = end_of(mission);
         for number in 0..self.rack.grid.layout.units {
             if let Some(unit) = UnitId::of(number) {
-                if self.progress(unit) < end {
+                if self.rack.number_of(unit) < end {
                     return false;
                 }
             }
@@ -67,13 +68,14 @@ impl Machine {
     }
 
     /// Steps a unit, if it has not landed. It answers whether it went on, and doesn't wait.
-    fn goes_itself(&mut self, mission: &Mission, u: UnitId) -> bool
+    fn goes_itself(&mut self, mission: &Mission, end: u64, u: UnitId) -> bool
         requires flies { Flies (mission_of mission.now) self.old }
+        requires end { end ≡ end_in (mission_of mission.now) }
         requires unit { has (mission_of mission.now).units u ≡ true }
         ensures flies { Flies (mission_of mission.now) self.new }
         ensures tried { Tries (mission_of mission.now) u self.old result self.new }
     {
-        if self.progress(u) < end_of(mission) {
+        if self.rack.number_of(u) < end {
             return !matches!(self.step(mission, u), Stepped::NotYet { .. });
         }
         false
@@ -88,14 +90,26 @@ impl Machine {
         ensures turn { TurnsAt (mission_of mission.now) drawer.old self.old result drawer.new self.new }
         ensures nearer { IfSome result (λ u. distances (mission_of mission.now) self.new < distances (mission_of mission.now) self.old) }
     {
-        if self.have_all_landed(mission) {
+        self.turn_before(mission, end_of(mission), drawer)
+    }
+
+    /// The next turn of a flight that ends at this progress.
+    fn turn_before(&mut self, mission: &Mission, end: u64, drawer: &mut Draw) -> Option<UnitId>
+        requires flies { Flies (mission_of mission.now) self.old }
+        requires end { end ≡ end_in (mission_of mission.now) }
+        ensures flies { Flies (mission_of mission.now) self.new }
+        ensures layout { layout_of self.new ≡ layout_of self.old }
+        ensures turn { TurnsAt (mission_of mission.now) drawer.old self.old result drawer.new self.new }
+        ensures nearer { IfSome result (λ u. distances (mission_of mission.now) self.new < distances (mission_of mission.now) self.old) }
+    {
+        if self.have_all_landed(mission, end) {
             return None;
         }
         let drawn = self.drawn_unit(drawer);
-        if self.goes_itself(mission, drawn) {
+        if self.goes_itself(mission, end, drawn) {
             return Some(drawn);
         }
-        if let Some(least) = self.least(mission) {
+        if let Some(least) = self.least(mission, end) {
             self.step(mission, least);
             return Some(least);
         }
@@ -110,6 +124,7 @@ impl Machine {
         ensures order { FliesInOrder (mission_of mission.now) order self.old self.new }
     {
         let mut drawer = Draw::of(order);
-        while self.turn(mission, &mut drawer).is_some() {}
+        let end = end_of(mission);
+        while self.turn_before(mission, end, &mut drawer).is_some() {}
     }
 }

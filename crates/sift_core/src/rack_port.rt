@@ -2,6 +2,7 @@
 ghost use Rattle.std.specs.Prelude.{◌≡◌, ◌<◌, ◌+◌, IfOk};
 ghost use Rattle.sift_base.specs.Layout.{IsLayout};
 ghost use Rattle.sift_buffer.specs.Conditions.{MayEnter, PassesGate};
+ghost use Rattle.sift_buffer.specs.Lawful.{Lawful};
 ghost use Rattle.sift_buffer.specs.Views.{view_with_entered};
 ghost use Rattle.sift_core.specs.Racks.{IsNewRack, IsChosen, Follows, Stands, view_of, ranges_for, core_of};
 ghost use Rattle.sift_core.specs.Crews.{IsCrew};
@@ -18,7 +19,7 @@ impl Rack {
         requires { IsLayout layout }
         ensures { IfOk result (λ rack. IsNewRack rack layout frames) }
     {
-        let grid = Grid { layout, frames };
+        let grid = Grid::of(layout, frames);
         let words = vec![in alloc; 0; grid.shared_words()]?;
         let acts = Rack::make_acts(alloc, layout, frames)?;
         Ok(Rack {
@@ -60,6 +61,15 @@ impl Rack {
         ensures { result ≡ ((core_of self.now).of unit).progress }
     {
         u64::from(self.acts[usize::from(unit.get())].progress())
+    }
+
+    /// The progress of a unit, as its number among the shared words tells it: these lie close together.
+    pub(crate) fn number_of(&self, unit: UnitId) -> u64
+        requires lawful { Lawful (ranges_for self.now) (core_of self.now) }
+        requires unit { unit < self.now.grid.layout.units }
+        ensures { result ≡ ((core_of self.now).of unit).progress }
+    {
+        self.words[usize::from(unit.get())]
     }
 
     /// The acts alone.

@@ -1,4 +1,4 @@
-use Rattle.std.proofs.Common.{replicate, length, refl, ap, ◌∙◌, arith}
+use Rattle.std.proofs.Common.{replicate, length, sym, refl, ap, ◌∙◌, arith}
 use Rattle.sift_buffer.specs.Ledgers.{Ledger}
 use Rattle.std.proofs.lemmas.List.{length-replicate}
 use Rattle.sift_buffer.proofs.NewLedgers.{ledger_fresh}
@@ -19,8 +19,8 @@ returns c = record {
       _ _ 8 refl refl (c.in_ok-vec.ensures.items_if_clones_equal (λ y e. e)) (c.in_ok-vec-2.ensures.items_if_clones_equal (λ y e. e));
 }
 
-pub invariant_of-result-2 : goal.invariant_of-result-2
-invariant_of-result-2 c =
+pub invariant_of-result : goal.invariant_of-result
+invariant_of-result c =
     let l : Ledger = record {
       pages = c.in_ok-make.field-0;
       progress = 0;
@@ -29,8 +29,8 @@ invariant_of-result-2 c =
       asked = c.in_ok-vec-2.field-0.items;
       heard_at = c.in_ok-vec-3.field-0.items;
     } in record {
-      layout_is = c.in_ok-make.ensures.owner.layout_is;
-      frames_are = c.in_ok-make.ensures.owner.frames_are;
+      layout_is = c.in_ok-make.ensures.owner.layout_is ∙ sym c.of-grid.ensures.layout;
+      frames_are = c.in_ok-make.ensures.owner.frames_are ∙ sym c.of-grid.ensures.frames;
       said = ap length (c.in_ok-vec.ensures.items_if_clones_equal (λ y e. e)) ∙ (length-replicate _ _ ∙ c.len.ensures);
       asked = ap length (c.in_ok-vec-2.ensures.items_if_clones_equal (λ y e. e)) ∙ (length-replicate _ _ ∙ c.len-2.ensures);
       heard_at = ap length (c.in_ok-vec-3.ensures.items_if_clones_equal (λ y e. e)) ∙ (length-replicate _ _ ∙ c.len-3.ensures);

@@ -1,30 +1,32 @@
 use Rattle.std.proofs.Common.{sym, subst, ◌∙◌, length-set}
 use Rattle.sift_buffer.specs.Ranges.{IsPlace}
-use Rattle.sift_buffer.specs.Journals.{ranges_in}
+use Rattle.sift_buffer.specs.Journals.{Pages, ranges_in}
 use Rattle.sift_buffer.specs.Ledgers.{Ledger}
-use Rattle.sift_buffer.proofs.LedgerLemmas.{ledger_heard}
+use Rattle.sift_buffer.proofs.LedgerLemmas.{ledger_heard, noted_heard}
 use Rattle.sift_buffer.proofs.Words.{words_heard}
 use Rattle.sift_buffer.proofs.acts.Acts.note_heard.Goals as goal
 
 pub returns : goal.returns
 returns c =
-    let a = c.args in
+    let a = c.args in let full = c.self.invariant in let pages : Pages = c.note_heard_at.new.self in
     let place = subst (λ (l : Ledger). IsPlace (ranges_in l.pages) l.pages.unit a.from a.slot a.f) (sym c.self.view_is) c.requires.place in
-    rw (← c.self.view_is, c.index-place.ensures.number)
-    (ledger_heard _ _ _ c.self.invariant a.f a.slot a.from a.stamp a.word c.note_heard.new.self place c.requires.stamp c.note_heard.ensures)
+    let noted = noted_heard _ _ _ full a.f a.slot a.from a.stamp a.word pages place c.requires.stamp _ c.index-entry.ensures.number c.note_heard_at.ensures in
+    rw (← c.self.view_is, c.index-entry.ensures.number)
+    (ledger_heard _ _ _ full a.f a.slot a.from a.stamp a.word pages place c.requires.stamp noted)
 
 pub invariant_of-self : goal.invariant_of-self
 invariant_of-self c =
-    let a = c.args in let full = c.self.invariant in
+    let a = c.args in let full = c.self.invariant in let pages : Pages = c.note_heard_at.new.self in
     let place = subst (λ (l : Ledger). IsPlace (ranges_in l.pages) l.pages.unit a.from a.slot a.f) (sym c.self.view_is) c.requires.place in
-    rw c.index-place.ensures.number (record {
-      layout_is = c.note_heard.ensures.owner.layout_is ∙ full.layout_is;
-      frames_are = c.note_heard.ensures.owner.frames_are ∙ full.frames_are;
+    let noted = noted_heard _ _ _ full a.f a.slot a.from a.stamp a.word pages place c.requires.stamp _ c.index-entry.ensures.number c.note_heard_at.ensures in
+    rw c.index-entry.ensures.number (record {
+      layout_is = noted.owner.layout_is ∙ full.layout_is;
+      frames_are = noted.owner.frames_are ∙ full.frames_are;
       said = full.said;
       asked = length-set _ _ _ ∙ full.asked;
       heard_at = length-set _ _ _ ∙ full.heard_at;
       seen = full.seen;
       progress = full.progress;
-      words = words_heard _ _ full.words a.f a.slot a.from a.stamp a.word c.note_heard.ensures
-          (ledger_heard _ _ _ full a.f a.slot a.from a.stamp a.word c.note_heard.new.self place c.requires.stamp c.note_heard.ensures).conduct;
+      words = words_heard _ _ full.words a.f a.slot a.from a.stamp a.word noted
+          (ledger_heard _ _ _ full a.f a.slot a.from a.stamp a.word pages place c.requires.stamp noted).conduct;
     })

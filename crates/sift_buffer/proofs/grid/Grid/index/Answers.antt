@@ -5,5 +5,5 @@ use Rattle.sift_buffer.proofs.grid.Grid.index.Goals as goal
 pub returns-clause-below : goal.returns-clause-below
 returns-clause-below c =
     let g = c.args.self.now in
-    rw (c.count.ensures, c.from.ensures, c.from-2.ensures, c.get.ensures.number)
+    rw (g.counted, c.from.ensures, c.from-2.ensures, c.get.ensures.number)
     (entry_low (ranges_of g.layout g.frames) c.args.f c.args.slot c.args.unit c.requires)

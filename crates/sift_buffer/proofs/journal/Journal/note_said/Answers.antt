@@ -1,11 +1,11 @@
-use Rattle.std.proofs.Common.{sym, subst}
-use Rattle.sift_buffer.specs.Ranges.{IsPlace}
-use Rattle.sift_buffer.specs.Journals.{Pages, ranges_in}
-use Rattle.sift_buffer.proofs.Notes.{said_noted}
+use Rattle.std.proofs.Common.{◌∙◌}
+use Rattle.sift_buffer.specs.Tables.{entry_number}
+use Rattle.sift_buffer.specs.Journals.{ranges_in}
+use Rattle.sift_buffer.proofs.Notes.{entry_of}
 use Rattle.sift_buffer.proofs.journal.Journal.note_said.Goals as goal
 
 pub returns : goal.returns
 returns c =
     let a = c.args in
-    let place = subst (λ (j : Pages). IsPlace (ranges_in j) j.unit a.to a.slot a.f) (sym c.self.view_is) c.requires in
-    rw (← c.self.view_is, c.index-place.ensures.number) (said_noted _ a.f a.slot a.to a.word c.self.invariant place)
+    let number = c.index-entry.ensures.number ∙ (λ i. entry_number (ranges_in (c.self.view_is i)) a.f a.slot a.to) in
+    c.note_said_at.ensures a.f a.slot a.to (entry_of a.self.now a.f a.slot a.to c.requires) number

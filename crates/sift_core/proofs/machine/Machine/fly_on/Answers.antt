@@ -5,14 +5,14 @@ use Rattle.sift_core.proofs.machine.Machine.fly_on.Goals as goal
 
 pub loop-drawer-preserved : goal.loop-drawer-preserved
 loop-drawer-preserved c = record {
-  flies = c.turn.ensures.flies;
-  layout = c.turn.ensures.layout ∙ c.loop-drawer.invariant.layout;
-  after = turns_more (mission_of c.args.mission.now) c.args.order c.args.self.now c.loop-drawer.drawer c.loop-drawer.self c.turn.new.drawer
-      c.turn.new.self
-      c.loop-drawer.invariant.after c.turn.result c.loop-drawer-test.ensures c.turn.ensures.turn;
+  flies = c.turn_before.ensures.flies;
+  layout = c.turn_before.ensures.layout ∙ c.loop-drawer.invariant.layout;
+  after = turns_more (mission_of c.args.mission.now) c.args.order c.args.self.now c.loop-drawer.drawer c.loop-drawer.self c.turn_before.new.drawer
+      c.turn_before.new.self
+      c.loop-drawer.invariant.after c.turn_before.result c.loop-drawer-test.ensures c.turn_before.ensures.turn;
 }
 
 pub returns-clause-order : goal.returns-clause-order
 returns-clause-order c =
-    turns_end (mission_of c.args.mission.now) c.args.order c.args.self.now c.loop-drawer.drawer c.loop-drawer.self c.turn.new.drawer c.turn.new.self
-    c.loop-drawer.invariant.after c.turn.result c.loop-drawer-test.ensures c.turn.ensures.turn
+    turns_end (mission_of c.args.mission.now) c.args.order c.args.self.now c.loop-drawer.drawer c.loop-drawer.self c.turn_before.new.drawer c.turn_before.new.self
+    c.loop-drawer.invariant.after c.turn_before.result c.loop-drawer-test.ensures c.turn_before.ensures.turn
