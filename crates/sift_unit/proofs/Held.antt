@@ -15,9 +15,9 @@ use Rattle.sift_unit.specs.declared.crews.Crews.{Crews}
 use Rattle.sift_unit.specs.declared.timetable.Timetable.{Timetable}
 
 -- what is held of the fields is held of the value that they are seen as
-pub held-as : (parts value : MissionParts) (tasks : List ℕ) (times : List Timetable) (crews : List Crews) → IsHeld parts tasks times crews → parts ≡ value →
-    IsHeld value tasks times crews
-held-as parts value tasks times crews held same = subst (λ p. IsHeld p tasks times crews) same held
+pub held-as : (parts value : MissionParts) (slots : ℕ) (tasks : List ℕ) (times : List Timetable) (crews : List Crews) → IsHeld parts slots tasks times crews →
+    parts ≡ value → IsHeld value slots tasks times crews
+held-as parts value slots tasks times crews held same = subst (λ p. IsHeld p slots tasks times crews) same held
 
 module _ (parts : MissionParts) (tasks : List ℕ) (fit : PartsFit (data_of parts)) (are : tasks ≡ by_word 0 (data_of parts).program.tasks)
     (w : ℕ) (low : w < (mission_of parts).words) where

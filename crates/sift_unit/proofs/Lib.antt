@@ -11,6 +11,7 @@ pub mod Exporting
 pub mod FitSlots
 pub mod FitTables
 pub mod FitTasks
+pub mod Finding
 pub mod Fitting
 pub mod Flown
 pub mod Flying
@@ -36,6 +37,7 @@ pub mod Positions
 mod Quiet
 pub mod Rows
 pub mod Running
+pub mod Sayers
 pub mod Saying
 pub mod Sets
 pub mod Skipping

@@ -1,5 +1,6 @@
 -- The task of each word, as a list.
 use Rattle.std.specs.Prelude.{◌≡◌, ℕ, suc, List, [], ◌∷◌, ◌++◌, replicate}
+use Rattle.sift_base.specs.Layout.{slot_count}
 use Rattle.sift_lang.specs.Tree.{TaskTree}
 use Rattle.sift_unit.specs.Crews.{AreAllCrews}
 use Rattle.sift_unit.specs.Data.{data_of}
@@ -14,9 +15,10 @@ abbrev pub by_word : ℕ → List TaskTree → List ℕ
 by_word t [] = []
 by_word t (task ∷ rest) = replicate task.outputs t ++ by_word (suc t) rest
 
--- what a mission holds: parts that fit, the task of each word, the timetables of its tables, and who runs which task
-pub record IsHeld (parts : MissionParts) (tasks : List ℕ) (times : List Timetable) (crews : List Crews) : Type 0 where
+-- what a mission holds: parts that fit, the count of its slots, the task of each word, the timetables of its tables, and who runs which task
+pub record IsHeld (parts : MissionParts) (slots : ℕ) (tasks : List ℕ) (times : List Timetable) (crews : List Crews) : Type 0 where
   pub fit : PartsFit (data_of parts)
+  pub slots_are : slots ≡ slot_count (data_of parts).layout
   pub tasks_are : tasks ≡ by_word 0 (data_of parts).program.tasks
   pub times_are : AreTimetables (data_of parts) times
   pub crews_are : AreAllCrews (data_of parts) crews

@@ -56,6 +56,7 @@ pub record IsFirstFrom (test : ℕ → Bool) (from first : ℕ) : Type 0 where
   pub after : from ≤ first
   pub within : first ≤ unit_limit
   pub passed : (p : ℕ) → from ≤ p → p < first → test p ≡ false
+  pub here : first < unit_limit → test first ≡ true
 
 -- no unit says a slot to itself
 abbrev pub NothingIsSaidToItself : Type 0

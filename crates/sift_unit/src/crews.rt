@@ -4,9 +4,9 @@ ghost use Rattle.std.specs.Prelude.{◌≡◌, ◌<◌, ◌≤◌, length, slice
 ghost use Rattle.sift_base.specs.Shapes.{task_limit};
 ghost use Rattle.sift_base.specs.Units.{members, units_of};
 ghost use Rattle.sift_unit.specs.Acts.{IsConfigOf};
-ghost use Rattle.sift_unit.specs.Crews.{AreAllCrews, AreCrewsBy, IsCrewBy};
+ghost use Rattle.sift_unit.specs.Crews.{AreAllCrews, AreCrewsBy, AreCrewsOf, IsCrewBy};
 ghost use Rattle.sift_unit.specs.Data.{data_of};
-ghost use Rattle.sift_unit.specs.Flown.{mission_of, table_for};
+ghost use Rattle.sift_unit.specs.Flown.{mission_of};
 ghost use Rattle.sift_unit.specs.PartsFit.{PartsFit};
 
 use crate::parts::MissionParts;
@@ -14,10 +14,11 @@ use sift_base::UnitSet;
 use sift_config::Config;
 use sift_table::GoodTable;
 
-/// By task, the units of one configuration that run it.
+/// By task, the units of one configuration that run it, and by which of the mission's tables they do.
 #[derive(Clone, Copy)]
 pub(crate) struct Crews {
     pub by_task: [UnitSet; 24],
+    pub table: usize,
 }
 
 impl Crews {
@@ -27,6 +28,7 @@ impl Crews {
     {
         Crews {
             by_task: [UnitSet::empty(); 24],
+            table: 0,
         }
     }
 
@@ -55,7 +57,7 @@ pub(crate) fn all_crews(parts: &MissionParts) -> [Crews; 256]
 fn crews_of(parts: &MissionParts, bits: u8) -> Crews
     requires { PartsFit (data_of parts.now) }
     ensures { let us = members (units_of bits) in
-        IsConfigOf (mission_of parts.now) us → AreCrewsBy (table_for (data_of parts.now) us) us (length (data_of parts.now).program.tasks) result }
+        IsConfigOf (mission_of parts.now) us → AreCrewsOf (data_of parts.now) us result }
 {
     match Config::of_bits(bits) {
         Some(config) => crews_under(parts, &config),
@@ -66,25 +68,28 @@ fn crews_of(parts: &MissionParts, bits: u8) -> Crews
 /// The crews of a configuration, by the table of its size, where there is one.
 fn crews_under(parts: &MissionParts, config: &Config) -> Crews
     requires { PartsFit (data_of parts.now) }
-    ensures { IsConfigOf (mission_of parts.now) config.now →
-        AreCrewsBy (table_for (data_of parts.now) config.now) config.now (length (data_of parts.now).program.tasks) result }
+    ensures { IsConfigOf (mission_of parts.now) config.now → AreCrewsOf (data_of parts.now) config.now result }
 {
     let place = config.len() - 4;
     if place < parts.tables.len() {
-        return crews_by(&parts.tables[place], config, parts.program.tasks.len());
+        let by_task = crews_by(&parts.tables[place], config, parts.program.tasks.len());
+        return Crews {
+            by_task,
+            table: place,
+        };
     }
     Crews::none()
 }
 
 /// The units of a configuration that run each of so many tasks, by a table.
-fn crews_by(table: &GoodTable, config: &Config, tasks: usize) -> Crews
+fn crews_by(table: &GoodTable, config: &Config, tasks: usize) -> [UnitSet; 24]
     requires rows { tasks ≤ length table.now.run }
     requires few { tasks ≤ task_limit }
     ensures { AreCrewsBy table.now config.now tasks result }
 {
-    let mut crews = Crews::none();
+    let mut crews = [UnitSet::empty(); 24];
     for t in 0..tasks {
-        crews.by_task[t] = crew_by(table, config, t);
+        crews[t] = crew_by(table, config, t);
     }
     crews
 }

@@ -6,7 +6,7 @@ use crate::duty::Duty;
 use crate::executor::Executor;
 use crate::mission::Mission;
 use crate::part::Part;
-use sift_base::{Slot, UnitId, Word};
+use sift_base::{Slot, UnitId, UnitSet, Word};
 use sift_config::Config;
 use sift_script::working_units_say_their_words;
 
@@ -83,10 +83,6 @@ impl Duty for Mission {
         self.run_in(config, task)
     }
 
-    fn is_called(&self, config: &Config, slot: usize, from: UnitId, to: UnitId) -> bool {
-        self.is_called(config, slot, from, to)
-    }
-
     fn next_caller(&self, config: &Config, slot: usize, from: u8, to: UnitId) -> u8 {
         self.next_caller(config, slot, from, to)
     }
@@ -115,8 +111,8 @@ impl Duty for Mission {
         self.drift(unit)
     }
 
-    fn executes(&self, config: &Config, word: u8, unit: UnitId) -> bool {
-        self.executes(config, word, unit)
+    fn executors(&self, config: &Config, word: u8) -> UnitSet {
+        self.crew(config, self.task_of(word))
     }
 
     fn runs(&self, config: &Config, task: usize, unit: UnitId) -> bool {

@@ -2,7 +2,7 @@
 
 ghost use Rattle.std.specs.Prelude.{◌≡◌, ◌<◌, ◌≤◌, ℕ, true, length, pos, ◌+ℤ◌};
 ghost use Rattle.sift_clock.specs.Distance.{IsWithin, error_limit};
-ghost use Rattle.sift_base.specs.Units.{has, unit_limit};
+ghost use Rattle.sift_base.specs.Units.{has, holds, unit_limit};
 ghost use Rattle.sift_base.specs.Layout.{word_limit};
 ghost use Rattle.sift_unit.specs.Mission.{Mission};
 ghost use Rattle.sift_unit.specs.Slots.{calls, IsFirstFrom};
@@ -16,7 +16,7 @@ ghost use Rattle.sift_unit.specs.Boards.{part_of};
 
 use crate::executor::Executor;
 use crate::part::Part;
-use sift_base::{Slot, UnitId, Word};
+use sift_base::{Slot, UnitId, UnitSet, Word};
 use sift_config::Config;
 
 /// A mission, as far as a board asks it. A clause sees no more of it than the definitions do.
@@ -93,11 +93,6 @@ pub(crate) trait Duty {
         requires { IsTaskOf (mission self.now) config.now task }
         ensures { result ≡ (mission self.now).run_in config.now task };
 
-    /// Whether a unit says a slot to another.
-    fn is_called(&self, config: &Config, slot: usize, from: UnitId, to: UnitId) -> bool
-        requires { IsSlotOf (mission self.now) config.now slot }
-        ensures { result ≡ calls (mission self.now) config.now ((mission self.now).kind slot) from to };
-
     /// From a number on the first unit that says a slot to a unit, and 8 where none does.
     fn next_caller(&self, config: &Config, slot: usize, from: u8, to: UnitId) -> u8
         requires slot { IsSlotOf (mission self.now) config.now slot }
@@ -136,11 +131,11 @@ pub(crate) trait Duty {
         requires { has (mission self.now).units unit ≡ true }
         ensures { result ≡ (mission self.now).drift unit };
 
-    /// Whether a unit puts out a word.
-    fn executes(&self, config: &Config, word: u8, unit: UnitId) -> bool
+    /// The units that put out a word.
+    fn executors(&self, config: &Config, word: u8) -> UnitSet
         requires config { IsConfigOf (mission self.now) config.now }
         requires word { word < (mission self.now).words }
-        ensures { result ≡ (mission self.now).executes config.now word unit };
+        ensures { (u : ℕ) → holds result u ≡ (mission self.now).executes config.now word u };
 
     /// Whether a unit runs a task.
     fn runs(&self, config: &Config, task: usize, unit: UnitId) -> bool

@@ -5,6 +5,7 @@ mod account;
 mod accounting;
 mod agenda;
 mod board;
+mod callers;
 mod clocks;
 mod crews;
 mod duties;

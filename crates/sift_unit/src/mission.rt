@@ -1,6 +1,7 @@
 //! A mission, whose parts fit.
 
-ghost use Rattle.std.specs.Prelude.{◌≡◌, ℕ, ◌+◌, ◌<◌, ◌≤◌, ◌++◌, length, map, replicate};
+ghost use Rattle.std.specs.Prelude.{◌≡◌, ℕ, ◌+◌, ◌-◌, ◌<◌, ◌≤◌, ◌++◌, length, map, replicate};
+ghost use Rattle.sift_base.specs.Layout.{least_units};
 ghost use Rattle.sift_base.specs.Shapes.{task_limit};
 ghost use Rattle.sift_lang.specs.Tree.{tree_of};
 ghost use Rattle.sift_program.specs.Sound.{output_count};
@@ -26,11 +27,13 @@ use std::marker::Model;
 #[derive(Drop)]
 pub struct Mission {
     parts: MissionParts,
+    /// How many slots there are.
+    slots: usize,
     /// The task of each word.
     tasks: ArrayVec<u8, 64>,
     /// By table, when slots are heard and said and tasks are run.
     times: [Timetable; 5],
-    /// By the byte of a configuration's units, who runs which task.
+    /// By the byte of a configuration's units, who runs which task, and by which table.
     crews: [Crews; 256],
 }
 
@@ -45,7 +48,7 @@ impl Model for Mission {
 
     ghost view = { λ mission. mission.parts };
 
-    ghost invariant = { λ mission. IsHeld mission.parts mission.tasks.items mission.times mission.crews };
+    ghost invariant = { λ mission. IsHeld mission.parts mission.slots mission.tasks.items mission.times mission.crews };
 }
 
 impl Mission {
@@ -54,11 +57,13 @@ impl Mission {
         requires { PartsFit (data_of parts) }
         ensures { result ≡ parts }
     {
+        let slots = parts.layout.count();
         let tasks = tasks_by_word(&parts.program.tasks);
         let times = timetables(&parts, &tasks);
         let crews = all_crews(&parts);
         Mission {
             parts,
+            slots,
             tasks,
             times,
             crews,
@@ -73,12 +78,19 @@ impl Mission {
         &self.parts
     }
 
+    /// How many slots there are, at most 90.
+    pub fn slots(&self) -> usize
+        ensures { result ≡ (mission_of self.now).slots }
+    {
+        self.slots
+    }
+
     /// When slots are heard and said and tasks are run under a configuration.
     pub(crate) fn timetable(&self, config: &Config) -> &Timetable
         requires { IsConfigOf (mission_of self.now) config.now }
         ensures { IsTimetableOf (data_of self.now) (table_for (data_of self.now) config.now) result.now }
     {
-        &self.times[config.len() - 4]
+        &self.times[self.crews_for(config).table]
     }
 
     /// The units of a configuration that run a task.
@@ -93,8 +105,10 @@ impl Mission {
     /// Who runs which task under a configuration.
     fn crews_for(&self, config: &Config) -> &Crews
         requires { IsConfigOf (mission_of self.now) config.now }
-        ensures crews { AreCrewsBy (table_for (data_of self.now) config.now) config.now (mission_of self.now).tasks result.now }
+        ensures crews { AreCrewsBy (table_for (data_of self.now) config.now) config.now (mission_of self.now).tasks result.now.by_task }
         ensures few { (mission_of self.now).tasks ≤ task_limit }
+        ensures table { result.now.table ≡ length config.now - least_units }
+        ensures low { result.now.table < 5 }
     {
         &self.crews[usize::from(config.units().bits())]
     }

@@ -151,10 +151,11 @@ impl Memory {
         requires word { word < (M.mission mission.now).words }
         ensures { result ≡ majority_of (poll_of (M.mission mission.now) config.now unit (memory_of self.now) places.now word) }
     {
+        let executors = mission.executors(config, word);
         let mut ballots = ArrayVec::<Option<Word>, 8>::new();
         for position in 0..config.len() {
             let executor = config.unit_at(position);
-            if mission.executes(config, word, executor) {
+            if executors.has(executor) {
                 ballots.push(self.ballot(unit, word, places, executor));
             }
         }
@@ -193,10 +194,11 @@ impl Memory {
         requires word { word < (M.mission mission.now).words }
         ensures { (v : ℕ) → holds result v ≡ (has config.now v && ((M.mission mission.now).executes config.now word v && is_other (polled_at unit (memory_of self.now) places.now word v) vote.now)) }
     {
+        let executors = mission.executors(config, word);
         let mut wrong = UnitSet::empty();
         for position in 0..config.len() {
             let executor = config.unit_at(position);
-            if self.is_wrong(mission, config, unit, word, places, vote, executor) {
+            if self.is_wrong(executors, unit, word, places, vote, executor) {
                 wrong = wrong.with(executor);
             }
         }
@@ -204,23 +206,19 @@ impl Memory {
     }
 
     /// Whether a unit is an executor whose word is absent, or differs from a vote that is there.
-    fn is_wrong<M: Duty>(
+    fn is_wrong(
         &self,
-        mission: &M,
-        config: &Config,
+        executors: UnitSet,
         unit: UnitId,
         word: u8,
         places: &[Option<Word>; 8],
         vote: &Option<Word>,
         executor: UnitId,
     ) -> bool
-        requires config { IsConfigOf (M.mission mission.now) config.now }
-        requires few { word < 64 }
-        requires word { word < (M.mission mission.now).words }
-        ensures { result ≡ ((M.mission mission.now).executes config.now word executor && is_other (polled_at unit (memory_of self.now) places.now word executor) vote.now) }
+        requires { word < 64 }
+        ensures { result ≡ (holds executors executor && is_other (polled_at unit (memory_of self.now) places.now word executor) vote.now) }
     {
-        let ballot = self.ballot(unit, word, places, executor);
-        mission.executes(config, word, executor) && differs(&ballot, vote)
+        executors.has(executor) && differs(&self.ballot(unit, word, places, executor), vote)
     }
 
     /// Notes the agreed report of a unit.

@@ -1,4 +1,4 @@
-//! When each slot of a mission is said and heard under a configuration, and by whom.
+//! When each slot of a mission is said and heard under a configuration, and who runs what.
 
 ghost use Rattle.std.specs.Prelude.{◌≡◌, ◌-◌, ◌<◌, ◌≤◌, length};
 ghost use Rattle.sift_base.specs.Layout.{IsLayout, slot_count};
@@ -6,8 +6,6 @@ ghost use Rattle.sift_unit.specs.Acts.{IsConfigOf};
 ghost use Rattle.sift_unit.specs.Data.{data_of};
 ghost use Rattle.sift_base.specs.Layout.{slot_kind};
 ghost use Rattle.sift_unit.specs.Flown.{mission_of, runs_in};
-ghost use Rattle.sift_unit.specs.Slots.{calls, is_senders, IsFirstFrom};
-ghost use Rattle.sift_base.specs.Units.{unit_limit};
 
 use crate::mission::Mission;
 use sift_base::{Layout, Slot, UnitId};
@@ -26,13 +24,6 @@ impl Mission {
         ensures { result ≡ (mission_of self.now).period }
     {
         u32::from(self.parts().period)
-    }
-
-    /// How many slots there are, at most 90.
-    pub fn slots(&self) -> usize
-        ensures { result ≡ (mission_of self.now).slots }
-    {
-        self.parts().layout.count()
     }
 
     /// How many tasks there are.
@@ -116,64 +107,6 @@ impl Mission {
     {
         self.runs(config, self.task_of(w), u)
     }
-
-    /// Whether it is for one unit to say the slot of a number to another, where both are in the configuration.
-    fn is_sender(&self, config: &Config, i: usize, from: UnitId, to: UnitId) -> bool
-        requires config { IsConfigOf (mission_of self.now) config.now }
-        requires slot { i < (mission_of self.now).slots }
-        ensures { result ≡ is_senders (mission_of self.now) config.now ((mission_of self.now).kind i) from to }
-    {
-        match self.kind(i) {
-            Slot::Clock | Slot::Report => true,
-            Slot::Sense(x) => from == config.reader_of(x),
-            Slot::RelaySense(x) => from != config.reader_of(x),
-            Slot::Out(w) => self.executes(config, w, from),
-            Slot::RelayReport(s) => config.has(s) && from != s && to != s,
-        }
-    }
-
-    /// Whether a unit says the slot of a number to another, which then hears it.
-    pub fn is_called(&self, config: &Config, i: usize, from: UnitId, to: UnitId) -> bool
-        requires config { IsConfigOf (mission_of self.now) config.now }
-        requires slot { i < (mission_of self.now).slots }
-        ensures { result ≡ calls (mission_of self.now) config.now ((mission_of self.now).kind i) from to }
-    {
-        config.has(from) && config.has(to) && from != to && self.is_sender(config, i, from, to)
-    }
-
-    /// From a number on the first unit that says the slot of a number to a unit, and 8 where none does.
-    pub(crate) fn next_caller(&self, config: &Config, i: usize, from: u8, to: UnitId) -> u8
-        requires config { IsConfigOf (mission_of self.now) config.now }
-        requires slot { i < (mission_of self.now).slots }
-        requires from { from ≤ unit_limit }
-        ensures { IsFirstFrom (λ p. calls (mission_of self.now) config.now ((mission_of self.now).kind i) p to) from result }
-    {
-        for number in from..8 {
-            if let Some(unit) = UnitId::of(number) {
-                if self.is_called(config, i, unit, to) {
-                    return number;
-                }
-            }
-        }
-        8
-    }
-
-    /// From a number on the first unit to which a unit says the slot of a number, and 8 where there is none.
-    pub(crate) fn next_called(&self, config: &Config, i: usize, from: UnitId, to: u8) -> u8
-        requires config { IsConfigOf (mission_of self.now) config.now }
-        requires slot { i < (mission_of self.now).slots }
-        requires to { to ≤ unit_limit }
-        ensures { IsFirstFrom (calls (mission_of self.now) config.now ((mission_of self.now).kind i) from) to result }
-    {
-        for number in to..8 {
-            if let Some(unit) = UnitId::of(number) {
-                if self.is_called(config, i, from, unit) {
-                    return number;
-                }
-            }
-        }
-        8
-    }
 }
 
 /// The slot of a number in a layout.
@@ -185,14 +118,14 @@ pub(crate) fn slot_of(layout: &Layout, i: usize) -> Slot
     let sensors = usize::from(layout.sensors);
     let first = 1 + 2 * sensors;
     let report = first + usize::from(layout.words);
-    if i == 0 {
+    if i >= first && i < report {
+        Slot::Out((i - first) as u8)
+    } else if i == 0 {
         Slot::Clock
     } else if i < 1 + sensors {
         Slot::Sense((i - 1) as u8)
     } else if i < first {
         Slot::RelaySense((i - (1 + sensors)) as u8)
-    } else if i < report {
-        Slot::Out((i - first) as u8)
     } else if i == report {
         Slot::Report
     } else {

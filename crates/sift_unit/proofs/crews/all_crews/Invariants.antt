@@ -2,9 +2,9 @@ use Rattle.std.proofs.Common.{◌≡◌, ◌<◌, ℕ, length}
 use Rattle.std.specs.Prelude.{slice_index_or}
 use Rattle.sift_base.specs.Units.{members, units_of}
 use Rattle.sift_unit.specs.Acts.{IsConfigOf}
-use Rattle.sift_unit.specs.Crews.{AreCrewsBy}
+use Rattle.sift_unit.specs.Crews.{AreCrewsOf}
 use Rattle.sift_unit.specs.Data.{data_of}
-use Rattle.sift_unit.specs.Flown.{mission_of, table_for}
+use Rattle.sift_unit.specs.Flown.{mission_of}
 use Rattle.sift_unit.specs.declared.crews.Crews.{Crews}
 use Rattle.sift_unit.proofs.crews.all_crews.Given as goal
 
@@ -13,4 +13,4 @@ abbrev pub invariant-loop-bits : goal.invariant-loop-bits
 invariant-loop-bits l =
     (length l.rows ≡ 256)
     × ((j : ℕ) (row : Crews) → j < l.bits → IsConfigOf (mission_of l.fn.parts) (members (units_of j)) →
-    AreCrewsBy (table_for (data_of l.fn.parts) (members (units_of j))) (members (units_of j)) (length (data_of l.fn.parts).program.tasks) (slice_index_or l.rows j row))
+    AreCrewsOf (data_of l.fn.parts) (members (units_of j)) (slice_index_or l.rows j row))

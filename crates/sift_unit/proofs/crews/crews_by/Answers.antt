@@ -11,9 +11,9 @@ loop-t-preserved c =
     let size = c.loop-t.invariant.0 in
     let low = c.loop-t-test.true in
     let few = c.requires.few in
-    let inside : t < length c.loop-t.crews.by_task = omega arith in (
-      length-set c.loop-t.crews.by_task t c.crew_by.result ∙ size,
+    let inside : t < length c.loop-t.crews = omega arith in (
+      length-set c.loop-t.crews t c.crew_by.result ∙ size,
       (λ j crew below. dite (ℕ_discrete j t)
-          (λ same. rw (same, get_or-set_same c.loop-t.crews.by_task t c.crew_by.result crew inside) c.crew_by.ensures)
-          (λ other. rw (get_or-set_other c.loop-t.crews.by_task t j c.crew_by.result crew other) (c.loop-t.invariant.1 j crew (omega arith)))),
+          (λ same. rw (same, get_or-set_same c.loop-t.crews t c.crew_by.result crew inside) c.crew_by.ensures)
+          (λ other. rw (get_or-set_other c.loop-t.crews t j c.crew_by.result crew other) (c.loop-t.invariant.1 j crew (omega arith)))),
     )

@@ -4,4 +4,4 @@ use Rattle.sift_unit.proofs.crews.crews_by.Given as goal
 
 -- the tasks so far have their crews
 abbrev pub invariant-loop-t : goal.invariant-loop-t
-invariant-loop-t l = (length l.crews.by_task ≡ 24) × AreCrewsBy l.fn.table l.fn.config l.t l.crews
+invariant-loop-t l = (length l.crews ≡ 24) × AreCrewsBy l.fn.table l.fn.config l.t l.crews

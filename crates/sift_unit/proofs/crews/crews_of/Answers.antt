@@ -1,15 +1,15 @@
 use Rattle.std.proofs.Common.{ℕ, List, subst, length, arith}
 use Rattle.sift_unit.specs.Acts.{IsConfigOf}
-use Rattle.sift_unit.specs.Crews.{AreCrewsBy}
+use Rattle.sift_unit.specs.Crews.{AreCrewsOf}
 use Rattle.sift_unit.specs.Data.{data_of}
-use Rattle.sift_unit.specs.Flown.{mission_of, table_for}
+use Rattle.sift_unit.specs.Flown.{mission_of}
 use Rattle.sift_unit.proofs.crews.crews_of.Goals as goal
 
 -- the byte's units are the configuration
 pub returns-in-Some : goal.returns-in-Some
 returns-in-Some c =
     let d = data_of c.args.parts.now in
-    subst (λ (us : List ℕ). IsConfigOf (mission_of c.args.parts.now) us → AreCrewsBy (table_for d us) us (length d.program.tasks) c.crews_under.result)
+    subst (λ (us : List ℕ). IsConfigOf (mission_of c.args.parts.now) us → AreCrewsOf d us c.crews_under.result)
     c.in-Some.ensures.found c.crews_under.ensures
 
 -- too few are none

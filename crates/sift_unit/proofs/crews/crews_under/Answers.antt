@@ -6,8 +6,8 @@ use Rattle.sift_unit.proofs.FitTables.{placed-rows, table-low}
 use Rattle.sift_unit.proofs.crews.crews_under.Goals as goal
 
 -- the table has a row for each task
-pub crews_by-requires-clause-rows : goal.crews_by-requires-clause-rows
-crews_by-requires-clause-rows c =
+pub crews_by-by_task-requires-clause-rows : goal.crews_by-by_task-requires-clause-rows
+crews_by-by_task-requires-clause-rows c =
     let d = data_of c.args.parts.now in
     let low : c.len-place.result - 4 < length d.tables = omega (arith, c.if-place-len.true, c.len.ensures, c.args.parts.now.tables.ok.0) in
     let rows = placed-rows d c.requires (c.len-place.result - 4) c.index.result.now low c.index.ensures in

@@ -3,10 +3,24 @@ use Rattle.sift_unit.specs.Boards.{desk_of}
 use Rattle.sift_unit.proofs.Passing.{passes_on}
 use Rattle.sift_unit.proofs.board.Board.find_call.Goals as goal
 
--- one move more
+-- past the slot, in which no unit was left, and what comes after it
 pub loop-self-preserved : goal.loop-self-preserved
-loop-self-preserved g c = (
-  passes_on _ (desk_of c.args.self.now) (desk_of c.loop-self.self) (desk_of c.pass.new.self) c.loop-self.invariant.0 c.pass.ensures.onward.passes,
-  (let near = c.loop-self.invariant.1 in let less = c.pass.ensures.onward.less in omega arith),
-  c.pass.ensures.accounts ∙ c.loop-self.invariant.2,
-)
+loop-self-preserved g c =
+    let start = desk_of c.args.self.now in
+    let here = desk_of c.loop-self.self in
+    let past = desk_of c.finds_unit.new.self in
+    let finds = c.finds_unit.ensures.finds in
+    let on = c.pass.ensures.onward in (
+      passes_on _ start past (desk_of c.pass.new.self) (passes_on _ start here past c.loop-self.invariant.0 finds.passes) on.passes,
+      (let near = c.loop-self.invariant.1 in let nearer = finds.nearer in let less = on.less in omega arith),
+      c.pass.ensures.accounts ∙ c.finds_unit.ensures.accounts ∙ c.loop-self.invariant.2,
+    )
+
+-- to a call, or to the end
+pub returns-after-loop-self-clause-passes : goal.returns-after-loop-self-clause-passes
+returns-after-loop-self-clause-passes g c = passes_on _ (desk_of c.args.self.now) (desk_of c.loop-self.self) (desk_of c.finds_unit.new.self)
+    c.loop-self.invariant.0 c.finds_unit.ensures.finds.passes
+
+pub returns-else-not-is_end-clause-passes : goal.returns-else-not-is_end-clause-passes
+returns-else-not-is_end-clause-passes g c = passes_on _ (desk_of c.args.self.now) (desk_of c.loop-self.self) (desk_of c.finds_unit.new.self)
+    c.loop-self.invariant.0 c.finds_unit.ensures.finds.passes

@@ -8,7 +8,7 @@ use Rattle.sift_unit.proofs.Memories.{majority_is}
 use Rattle.std.proofs.Common.{take_all, map}
 use Rattle.std.specs.List.{filter}
 use Rattle.sift_unit.proofs.memory.Memory.vote.Goals as goal
-use Rattle.sift_unit.proofs.memory.Memory.vote.Goals.{then-executes, else-executes}
+use Rattle.sift_unit.proofs.memory.Memory.vote.Goals.{then-has, else-has}
 
 -- there is room for one more
 pub push-requires : goal.push-requires
@@ -28,11 +28,11 @@ loop-position-preserved g c =
     let p : ℕ → Bool = (g.M.Duty.mission c.args.mission.now).executes c.args.config.now c.args.word in
     let i = c.loop-position.position in
     let t = c.unit_at-executor.result in
-    elim c.if-executes.branch [
-      | then-executes w ↦ (λ j. (w.ballots-is j).items) ∙ w.push.ensures.items ∙ (λ j. c.loop-position.invariant j ++ w.ballot.ensures j ∷ [])
-          ∙ sym (passing_yes f p us i t c.unit_at-executor.ensures (sym c.executes.ensures ∙ w.if-executes.true))
-      | else-executes w ↦ (λ j. (w.ballots-is j).items) ∙ c.loop-position.invariant
-          ∙ sym (passing_no f p us i t c.unit_at-executor.ensures (sym c.executes.ensures ∙ w.if-executes.false))
+    elim c.if-has.branch [
+      | then-has w ↦ (λ j. (w.ballots-is j).items) ∙ w.push.ensures.items ∙ (λ j. c.loop-position.invariant j ++ w.ballot.ensures j ∷ [])
+          ∙ sym (passing_yes f p us i t c.unit_at-executor.ensures (sym (c.executors-executors.ensures t) ∙ sym c.has.ensures ∙ w.if-has.true))
+      | else-has w ↦ (λ j. (w.ballots-is j).items) ∙ c.loop-position.invariant
+          ∙ sym (passing_no f p us i t c.unit_at-executor.ensures (sym (c.executors-executors.ensures t) ∙ sym c.has.ensures ∙ w.if-has.false))
     ]
 
 -- the majority of all of them

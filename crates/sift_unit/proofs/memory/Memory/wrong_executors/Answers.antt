@@ -1,4 +1,4 @@
-use Rattle.std.proofs.Common.{ℕ, ◌&&◌, take, nat_cmp, ap, ◌∙◌, sym}
+use Rattle.std.proofs.Common.{◌≡◌, ℕ, ◌&&◌, take, nat_cmp, ap, ◌∙◌, sym}
 use Rattle.std.specs.FinSet as set
 use Rattle.sift_base.specs.Units.{holds, has}
 use Rattle.sift_vote.specs.Differing.{differs}
@@ -21,10 +21,12 @@ loop-position-preserved g c = λ v.
     let seen = λ (u : ℕ). has (take i us) u in
     let polled = λ (u : ℕ). polled_at c.args.unit (memory_of c.args.self.now) c.args.places.now c.args.word u in
     let caught = λ (u : ℕ). (g.M.Duty.mission c.args.mission.now).executes us c.args.word u && differs (polled u) c.args.vote.now in
+    let told : c.is_wrong.result ≡ caught t =
+    c.is_wrong.ensures ∙ ap (λ b. b && differs (polled t) c.args.vote.now) (c.executors-executors.ensures t) in
     let front = ap (λ b. b && caught v) (has_front us v i t (get-drop us i ∙ c.unit_at-executor.ensures)) in
     elim c.if-is_wrong.branch [
       | then-is_wrong w ↦ ap (λ units. holds units v) (w.wrong-is ∙ w.with-wrong.ensures)
-          ∙ guilty_joins c.loop-position.wrong seen caught t c.loop-position.invariant (sym c.is_wrong.ensures ∙ w.if-is_wrong.true) v ∙ sym front
+          ∙ guilty_joins c.loop-position.wrong seen caught t c.loop-position.invariant (sym told ∙ w.if-is_wrong.true) v ∙ sym front
       | else-is_wrong w ↦ ap (λ units. holds units v) w.wrong-is
-          ∙ innocent_stays c.loop-position.wrong seen caught t c.loop-position.invariant (sym c.is_wrong.ensures ∙ w.if-is_wrong.false) v ∙ sym front
+          ∙ innocent_stays c.loop-position.wrong seen caught t c.loop-position.invariant (sym told ∙ w.if-is_wrong.false) v ∙ sym front
     ]

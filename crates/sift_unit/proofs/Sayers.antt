@@ -1,0 +1,143 @@
+-- The sets of the units that say a slot to a unit, and of those that hear it from one.
+use Rattle.std.proofs.Common.{◌≡◌, ◌≢◌, ℕ, ◌+◌, ◌-◌, ◌/◌, ◌^◌, ◌<◌, ◌≤◌, ◌==◌, List, Bool, true, false, not, ◌&&◌, ◌||◌, nat_eq, refl, sym, ap, ◌∙◌, inl, inr, arith, ⊎_elim, eq-eqb, eqb-true, ne_eqb, ◌%◌}
+use Rattle.std.specs.Int.{bit_at, trailing_zeros, w16}
+use Rattle.std.specs.Ordering.{nat_cmp}
+use Rattle.std.specs.Cmp.{nat_cmp_total, unsigned_tied}
+use Rattle.std.specs.FinSet as set
+use Rattle.std.proofs.lemmas.Bool.{cases_Bool, cases_lt, cases_eq}
+use Rattle.std.proofs.lemmas.Nat.{shr-shr}
+use Rattle.std.proofs.lemmas.Nat.Bits.{bit_at-zero, bit_at_above, bit_at-trailing_zeros}
+use Rattle.sift_base.specs.Units.{Units, AreUnits, has, holds, units_of, unit_limit, members}
+use Rattle.sift_base.proofs.Sets.{holds_low, holds-insert}
+use Rattle.sift_config.proofs.Lists.{has-members}
+use Rattle.sift_base.specs.declared.slot.Slot.{Slot}
+use Rattle.sift_unit.specs.Mission.{Mission}
+use Rattle.sift_unit.specs.Slots.{is_slot, calls, is_senders, IsFirstFrom}
+use Rattle.sift_unit.proofs.Tests.{apart}
+
+-- ---- the first unit of a set
+
+-- what a number shifted down has at a place, it has so much higher
+bit_at_shr : (n k j : ℕ) → bit_at (n / 2 ^ k) j ≡ bit_at n (k + j)
+bit_at_shr n k j = ap (λ x. x % 2) (shr-shr n k j)
+
+module _ (bits from : ℕ) (fits : bits < 2 ^ 8) (few : from ≤ 8) where
+  -- from a place on a byte has the bits of what is left of it
+  rest_at : (p : ℕ) → from ≤ p → bit_at bits p ≡ bit_at (bits / 2 ^ from) (p - from)
+  rest_at p up = let e : p ≡ from + (p - from) = omega arith in ap (bit_at bits) e ∙ sym (bit_at_shr bits from (p - from))
+
+  -- where nothing is left there is no unit
+  pub none_from : bits / 2 ^ from ≡ 0 → IsFirstFrom (holds (units_of bits)) from 8
+  none_from nothing = record {
+    after = few;
+    within = omega arith;
+    passed = λ p up low. holds_low bits p low ∙ ap (λ n. n == 1) (rest_at p up ∙ ap (λ n. bit_at n (p - from)) nothing ∙ bit_at-zero (p - from));
+    here = λ low. absurd (omega arith);
+  }
+
+  -- where something is, its lowest bit is that of the first unit
+  pub first_of_rest : 0 < bits / 2 ^ from → bits / 2 ^ from < 2 ^ 16 → IsFirstFrom (holds (units_of bits)) from (from + trailing_zeros w16 (bits / 2 ^ from))
+  first_of_rest some small =
+      let rest = bits / 2 ^ from in
+      let t = trailing_zeros w16 rest in
+      let at = bit_at-trailing_zeros w16 rest some small in
+      let here : bit_at bits (from + t) ≡ 1 = sym (bit_at_shr bits from t) ∙ at.1 in
+      let low : from + t < 8 = ⊎_elim (λ l. l) (λ h. absurd (let z = bit_at_above bits 8 (from + t) fits h in omega arith)) (cases_lt (from + t) 8) in
+      record {
+        after = omega arith;
+        within = omega arith;
+        passed = λ p up below. holds_low bits p (omega arith) ∙ ap (λ n. n == 1) (rest_at p up ∙ at.2 (p - from) (omega arith));
+        here = λ _. holds_low bits (from + t) low ∙ ap (λ n. n == 1) here;
+      }
+
+-- the first that passes a test is the first that passes another, where the tests are the same
+pub first_by : (f g : ℕ → Bool) (from first : ℕ) → ((p : ℕ) → f p ≡ g p) → IsFirstFrom f from first → IsFirstFrom g from first
+first_by f g from first same is = record {
+  after = is.after;
+  within = is.within;
+  passed = λ p up low. sym (same p) ∙ is.passed p up low;
+  here = λ low. sym (same first) ∙ is.here low;
+}
+
+-- ---- units of a configuration
+
+-- a set of units whose members are a list holds what the list has
+pub holds_members : (units : Units) (us : List ℕ) → AreUnits units → members units ≡ us → (u : ℕ) → holds units u ≡ has us u
+holds_members units us are is u = sym (has-members units u are) ∙ ap (λ vs. has vs u) is
+
+-- a test that passes stands beside none
+pub beside_true : (t : Bool) → t ≡ (t && true)
+beside_true true = refl
+beside_true false = refl
+
+-- one that fails leaves nothing
+pub beside_false : (t : Bool) → false ≡ (t && false)
+beside_false true = refl
+beside_false false = refl
+
+-- a set of one unit of the list
+pub just_one : (us : List ℕ) (r u : ℕ) → has us r ≡ true → holds (set.insert (set.empty {R = nat_cmp}) r) u ≡ (has us u && nat_eq u r)
+just_one us r u there = holds-insert set.empty r u ∙ ap (λ t. nat_eq u r || t) (set.contains-empty nat_cmp u) ∙ elim (cases_Bool (nat_eq u r)) [
+  | inl same ↦ rw (same, eqb-true u r same, there) refl
+  | inr other ↦ rw other (beside_false (has us u))
+]
+
+-- a set without a unit holds the others that it held
+pub holds_removed : (units : Units) (u q : ℕ) → holds (set.remove units u) q ≡ (not (nat_eq q u) && holds units q)
+holds_removed units u q = set.contains-remove nat_cmp_total units u q ∙ ap (λ t. not t && holds units q) (unsigned_tied q u)
+
+-- all units of the list but one
+pub all_but : (units : Units) (us : List ℕ) (r u : ℕ) → holds units u ≡ (has us u && true) → holds (set.remove units r) u ≡ (has us u && not (nat_eq u r))
+all_but units us r u are = holds_removed units r u ∙ ap (λ t. not (nat_eq u r) && t) are ∙ turned (not (nat_eq u r)) (has us u)
+  where
+    turned : (a b : Bool) → (a && (b && true)) ≡ (b && a)
+    turned true true = refl
+    turned true false = refl
+    turned false true = refl
+    turned false false = refl
+
+-- a test beside itself
+pub twice : (a b : Bool) → (a && b) ≡ (a && (a && b))
+twice true b = refl
+twice false b = refl
+
+-- a test of two numbers is the same the other way round
+same_test : (a b : ℕ) → nat_eq a b ≡ nat_eq b a
+same_test a b = elim (cases_Bool (nat_eq a b)) [
+  | inl same ↦ rw (same, eq-eqb b a (sym (eqb-true a b same))) refl
+  | inr other ↦ rw (other, ne_eqb b a (λ e. apart a b other (sym e))) refl
+]
+
+-- of units that pass some tests, all but one
+pub relaying : (a b c d : Bool) → (c && (a && (b && d))) ≡ (a && (b && (c && d)))
+relaying true true true d = refl
+relaying true true false d = refl
+relaying true false true d = refl
+relaying true false false d = refl
+relaying false b true d = refl
+relaying false b false d = refl
+
+-- ---- who says a slot to whom
+
+-- of three tests the last fails
+none_last : (a b : Bool) → false ≡ (a && (b && false))
+none_last true true = refl
+none_last true false = refl
+none_last false b = refl
+
+module _ (m : Mission) (us : List ℕ) (k : Slot) (p q : ℕ) (slot : is_slot m k ≡ true) where
+  -- the other units that are to say a slot to a unit of the configuration say it
+  pub calls_from : has us q ≡ true → (not (nat_eq p q) && (has us p && is_senders m us k p q)) ≡ calls m us k p q
+  calls_from there = rw (slot, there) (relaying (has us p) true (not (nat_eq p q)) (is_senders m us k p q))
+
+  -- those to which a unit of the configuration is to say it hear it
+  pub calls_to : has us p ≡ true → (not (nat_eq q p) && (has us q && is_senders m us k p q)) ≡ calls m us k p q
+  calls_to there = rw (slot, there, same_test q p) (relaying (has us q) true (not (nat_eq p q)) (is_senders m us k p q))
+
+-- nothing is said to a unit that is outside the configuration
+pub calls_none_out : (m : Mission) (us : List ℕ) (k : Slot) (p q : ℕ) → has us q ≡ false → false ≡ calls m us k p q
+calls_none_out m us k p q out = rw out (none_last (is_slot m k) (has us p))
+
+-- and it says nothing
+pub calls_no_out : (m : Mission) (us : List ℕ) (k : Slot) (p q : ℕ) → has us p ≡ false → false ≡ calls m us k p q
+calls_no_out m us k p q out = rw out (beside_false (is_slot m k))

@@ -1,0 +1,129 @@
+//! Who says a slot to a unit, and who hears it from one, as sets of units.
+
+ghost use Rattle.std.specs.Prelude.{◌≡◌, ◌<◌, ◌≤◌, ◌&&◌, Bool, ℕ, nat_eq, not};
+ghost use Rattle.sift_base.specs.Units.{has, holds, unit_limit};
+ghost use Rattle.sift_unit.specs.Acts.{IsConfigOf};
+ghost use Rattle.sift_unit.specs.Flown.{mission_of};
+ghost use Rattle.sift_unit.specs.Slots.{calls, is_senders, IsFirstFrom};
+
+use crate::laws::a_mission_fits;
+use crate::mission::Mission;
+use sift_base::{Slot, UnitId, UnitSet};
+use sift_config::Config;
+
+impl Mission {
+    /// Whether a unit says the slot of a number to another, which then hears it.
+    pub fn is_called(&self, config: &Config, i: usize, from: UnitId, to: UnitId) -> bool
+        requires config { IsConfigOf (mission_of self.now) config.now }
+        requires slot { i < (mission_of self.now).slots }
+        ensures { result ≡ calls (mission_of self.now) config.now ((mission_of self.now).kind i) from to }
+    {
+        self.callers(config, i, to).has(from)
+    }
+
+    /// From a number on the first unit that says the slot of a number to a unit, and 8 where none does.
+    pub(crate) fn next_caller(&self, config: &Config, i: usize, from: u8, to: UnitId) -> u8
+        requires config { IsConfigOf (mission_of self.now) config.now }
+        requires slot { i < (mission_of self.now).slots }
+        requires from { from ≤ unit_limit }
+        ensures { IsFirstFrom (λ p. calls (mission_of self.now) config.now ((mission_of self.now).kind i) p to) from result }
+    {
+        first_from(self.callers(config, i, to), from)
+    }
+
+    /// From a number on the first unit to which a unit says the slot of a number, and 8 where there is none.
+    pub(crate) fn next_called(&self, config: &Config, i: usize, from: UnitId, to: u8) -> u8
+        requires config { IsConfigOf (mission_of self.now) config.now }
+        requires slot { i < (mission_of self.now).slots }
+        requires to { to ≤ unit_limit }
+        ensures { IsFirstFrom (calls (mission_of self.now) config.now ((mission_of self.now).kind i) from) to result }
+    {
+        first_from(self.called(config, i, from), to)
+    }
+
+    /// The units that say the slot of a number to a unit.
+    fn callers(&self, config: &Config, i: usize, to: UnitId) -> UnitSet
+        requires config { IsConfigOf (mission_of self.now) config.now }
+        requires slot { i < (mission_of self.now).slots }
+        ensures { (p : ℕ) → holds result p ≡ calls (mission_of self.now) config.now ((mission_of self.now).kind i) p to }
+    {
+        a_mission_fits(self);
+        if !config.has(to) {
+            return UnitSet::empty();
+        }
+        self.senders(config, i, to).without(to)
+    }
+
+    /// The units to which a unit says the slot of a number.
+    fn called(&self, config: &Config, i: usize, from: UnitId) -> UnitSet
+        requires config { IsConfigOf (mission_of self.now) config.now }
+        requires slot { i < (mission_of self.now).slots }
+        ensures { (q : ℕ) → holds result q ≡ calls (mission_of self.now) config.now ((mission_of self.now).kind i) from q }
+    {
+        a_mission_fits(self);
+        if !config.has(from) {
+            return UnitSet::empty();
+        }
+        self.receivers(config, i, from).without(from)
+    }
+
+    /// The units of a configuration for which it is to say the slot of a number to a unit.
+    fn senders(&self, config: &Config, i: usize, to: UnitId) -> UnitSet
+        requires config { IsConfigOf (mission_of self.now) config.now }
+        requires slot { i < (mission_of self.now).slots }
+        ensures { (p : ℕ) → holds result p ≡ (has config.now p && is_senders (mission_of self.now) config.now ((mission_of self.now).kind i) p to) }
+    {
+        match self.kind(i) {
+            Slot::Clock | Slot::Report => units_if(config, true),
+            Slot::Sense(x) => UnitSet::empty().with(config.reader_of(x)),
+            Slot::RelaySense(x) => units_if(config, true).without(config.reader_of(x)),
+            Slot::Out(w) => self.crew(config, self.task_of(w)),
+            Slot::RelayReport(s) => relayers(config, s, to),
+        }
+    }
+
+    /// The units of a configuration to which it is for a unit to say the slot of a number.
+    fn receivers(&self, config: &Config, i: usize, from: UnitId) -> UnitSet
+        requires config { IsConfigOf (mission_of self.now) config.now }
+        requires slot { i < (mission_of self.now).slots }
+        ensures { (q : ℕ) → holds result q ≡ (has config.now q && is_senders (mission_of self.now) config.now ((mission_of self.now).kind i) from q) }
+    {
+        match self.kind(i) {
+            Slot::Clock | Slot::Report => units_if(config, true),
+            Slot::Sense(x) => units_if(config, from == config.reader_of(x)),
+            Slot::RelaySense(x) => units_if(config, from != config.reader_of(x)),
+            Slot::Out(w) => units_if(config, self.executes(config, w, from)),
+            Slot::RelayReport(s) => relayers(config, s, from),
+        }
+    }
+}
+
+/// All units of a configuration, or none.
+fn units_if(config: &Config, all: bool) -> UnitSet
+    ensures { (u : ℕ) → holds result u ≡ (has config.now u && all) }
+{
+    if all {
+        UnitSet::of_bits(config.units().bits())
+    } else {
+        UnitSet::empty()
+    }
+}
+
+/// The units of a configuration that relay a unit's report to another unit, or to which that one relays it.
+fn relayers(config: &Config, of: UnitId, other: UnitId) -> UnitSet
+    ensures { (u : ℕ) → holds result u ≡ (has config.now u && (has config.now of && (not (nat_eq u of) && not (nat_eq other of)))) }
+{
+    units_if(config, config.has(of) && other != of).without(of)
+}
+
+/// From a number on the first unit of a set, and 8 where there is none.
+fn first_from(units: UnitSet, from: u8) -> u8
+    requires { from ≤ unit_limit }
+    ensures { IsFirstFrom (holds units) from result }
+{
+    let rest = u16::from(units.bits()) >> from;
+    if rest == 0 {
+        return 8;
+    }
+    from + rest.trailing_zeros() as u8
+}
