@@ -1,13 +1,13 @@
 -- The sets of the units that say a slot to a unit, and of those that hear it from one.
-use Rattle.std.proofs.Common.{◌≡◌, ◌≢◌, ℕ, ◌+◌, ◌-◌, ◌/◌, ◌^◌, ◌<◌, ◌≤◌, ◌==◌, List, Bool, true, false, not, ◌&&◌, ◌||◌, nat_eq, refl, sym, ap, ◌∙◌, inl, inr, arith, ⊎_elim, eq-eqb, eqb-true, ne_eqb, ◌%◌}
+use Rattle.std.proofs.Common.{◌≡◌, ℕ, ◌+◌, ◌-◌, ◌/◌, ◌^◌, ◌<◌, ◌≤◌, ◌==◌, List, Bool, true, false, not, ◌&&◌, ◌||◌, nat_eq, refl, sym, ap, ◌∙◌, inl, inr, arith, ⊎_elim, eq-eqb, eqb-true, ne_eqb, ◌%◌}
 use Rattle.std.specs.Int.{bit_at, trailing_zeros, w16}
 use Rattle.std.specs.Ordering.{nat_cmp}
 use Rattle.std.specs.Cmp.{nat_cmp_total, unsigned_tied}
 use Rattle.std.specs.FinSet as set
-use Rattle.std.proofs.lemmas.Bool.{cases_Bool, cases_lt, cases_eq}
+use Rattle.std.proofs.lemmas.Bool.{cases_Bool, cases_lt}
 use Rattle.std.proofs.lemmas.Nat.{shr-shr}
 use Rattle.std.proofs.lemmas.Nat.Bits.{bit_at-zero, bit_at_above, bit_at-trailing_zeros}
-use Rattle.sift_base.specs.Units.{Units, AreUnits, has, holds, units_of, unit_limit, members}
+use Rattle.sift_base.specs.Units.{Units, AreUnits, has, holds, units_of, members}
 use Rattle.sift_base.proofs.Sets.{holds_low, holds-insert}
 use Rattle.sift_config.proofs.Lists.{has-members}
 use Rattle.sift_base.specs.declared.slot.Slot.{Slot}

@@ -1,4 +1,4 @@
-use Rattle.std.proofs.Common.{◌≡◌, ◌/◌, ◌^◌, ◌+◌, ◌<◌, ◌∙◌, ap, sym, subst, arith}
+use Rattle.std.proofs.Common.{◌≡◌, ◌/◌, ◌^◌, ◌+◌, ◌∙◌, ap, sym, subst, arith}
 use Rattle.std.specs.Int.{trailing_zeros, w16}
 use Rattle.std.proofs.lemmas.Nat.{shr_le}
 use Rattle.sift_base.specs.Units.{Units, holds}

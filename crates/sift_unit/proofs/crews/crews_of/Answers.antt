@@ -1,4 +1,4 @@
-use Rattle.std.proofs.Common.{ℕ, List, subst, length, arith}
+use Rattle.std.proofs.Common.{ℕ, List, subst, arith}
 use Rattle.sift_unit.specs.Acts.{IsConfigOf}
 use Rattle.sift_unit.specs.Crews.{AreCrewsOf}
 use Rattle.sift_unit.specs.Data.{data_of}

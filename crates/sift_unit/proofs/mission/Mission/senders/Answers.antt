@@ -2,7 +2,6 @@ use Rattle.std.proofs.Common.{◌≡◌, ap, ◌∙◌, sym, subst, true, ◌&&�
 use Rattle.std.specs.FinSet as set
 use Rattle.sift_base.specs.Units.{holds, has}
 use Rattle.sift_base.specs.declared.slot.Slot.TheVariants.{Sense, RelaySense}
-use Rattle.sift_config.specs.Config.{reader_of}
 use Rattle.sift_unit.specs.Flown.{mission_of}
 use Rattle.sift_unit.specs.Slots.{is_senders}
 use Rattle.sift_unit.proofs.Calls.{has-reader}
