@@ -1,4 +1,4 @@
--- How a pool lays out its spans: one after another, from the first word to the last. No public clause cites this module.
+-- How a pool lays out its spans: one after another, from the first word to the last. Of this module public clauses cite `pieces` alone.
 use Rattle.std.specs.Prelude.{◌≡◌, ℕ, ◌+◌, List, [], ◌∷◌, length, map, take, drop, sum}
 use Rattle.sift_pool.specs.Region.{Region, Extent}
 
