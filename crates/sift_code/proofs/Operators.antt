@@ -1,5 +1,5 @@
 -- Instructions of two operands.
-use Rattle.std.proofs.Common.{◌≡◌, ℕ, List, refl}
+use Rattle.std.proofs.Common.{◌≡◌, ℕ, List, refl, arith}
 use Rattle.sift_code.specs.declared.instr.Instr.{Instr}
 use Rattle.sift_code.specs.declared.instr.Instr.TheVariants.{Push, Load, Store, Sense, Now, Last, Out, Add, Sub, Mul, Div, Rem, And, Or, Xor, Shl, Shr, Lt, Eq, Mid, JumpZ, Jump, Begin, End}
 use Rattle.sift_code.specs.Machine.{State, Inputs, on_with, combined, effect}
@@ -14,100 +14,98 @@ pub record IsCombining (i : Instr) : Type 0 where
   pub pushes_one : pushes i ≡ 1
   pub combines_so : (code : List Instr) (inputs : Inputs) (s : State) → effect i code inputs s ≡ on_with s (combined (op_of i) s.stack)
 
--- none of the others is left
-pub combining : (i : Instr) → ((x : ℕ) → i ≡ Push x → ⊥) → ((x : ℕ) → i ≡ Load x → ⊥) → ((x : ℕ) → i ≡ Store x → ⊥)
-    → ((x : ℕ) → i ≡ Sense x → ⊥) → ((x : ℕ) → i ≡ Now x → ⊥) → ((x : ℕ) → i ≡ Last x → ⊥) → ((x : ℕ) → i ≡ Out x → ⊥) → (i ≡ Mid → ⊥)
-    → ((x : ℕ) → i ≡ JumpZ x → ⊥) → ((x : ℕ) → i ≡ Jump x → ⊥) → ((x : ℕ) → i ≡ Begin x → ⊥) → (i ≡ End → ⊥) → IsCombining i
-combining (Push x) n0 n1 n2 n3 n4 n5 n6 n7 n8 n9 n10 n11 = absurd (n0 x refl)
-combining (Load x) n0 n1 n2 n3 n4 n5 n6 n7 n8 n9 n10 n11 = absurd (n1 x refl)
-combining (Store x) n0 n1 n2 n3 n4 n5 n6 n7 n8 n9 n10 n11 = absurd (n2 x refl)
-combining (Sense x) n0 n1 n2 n3 n4 n5 n6 n7 n8 n9 n10 n11 = absurd (n3 x refl)
-combining (Now x) n0 n1 n2 n3 n4 n5 n6 n7 n8 n9 n10 n11 = absurd (n4 x refl)
-combining (Last x) n0 n1 n2 n3 n4 n5 n6 n7 n8 n9 n10 n11 = absurd (n5 x refl)
-combining (Out x) n0 n1 n2 n3 n4 n5 n6 n7 n8 n9 n10 n11 = absurd (n6 x refl)
-combining Mid n0 n1 n2 n3 n4 n5 n6 n7 n8 n9 n10 n11 = absurd (n7 refl)
-combining (JumpZ x) n0 n1 n2 n3 n4 n5 n6 n7 n8 n9 n10 n11 = absurd (n8 x refl)
-combining (Jump x) n0 n1 n2 n3 n4 n5 n6 n7 n8 n9 n10 n11 = absurd (n9 x refl)
-combining (Begin x) n0 n1 n2 n3 n4 n5 n6 n7 n8 n9 n10 n11 = absurd (n10 x refl)
-combining End n0 n1 n2 n3 n4 n5 n6 n7 n8 n9 n10 n11 = absurd (n11 refl)
-combining Add n0 n1 n2 n3 n4 n5 n6 n7 n8 n9 n10 n11 =
+-- what pops two is an instruction of two operands
+pub combining : (i : Instr) → pops i ≡ 2 → IsCombining i
+combining (Push x) two = absurd (omega (arith, two))
+combining (Load x) two = absurd (omega (arith, two))
+combining (Store x) two = absurd (omega (arith, two))
+combining (Sense x) two = absurd (omega (arith, two))
+combining (Now x) two = absurd (omega (arith, two))
+combining (Last x) two = absurd (omega (arith, two))
+combining (Out x) two = absurd (omega (arith, two))
+combining Mid two = absurd (omega (arith, two))
+combining (JumpZ x) two = absurd (omega (arith, two))
+combining (Jump x) two = absurd (omega (arith, two))
+combining (Begin x) two = absurd (omega (arith, two))
+combining End two = absurd (omega (arith, two))
+combining Add two =
     record {
       plainly = (record { nests = λ next loops. refl; costs = λ cs. refl; heights = λ next trail. refl });
       pops_two = refl;
       pushes_one = refl;
       combines_so = λ code inputs s. refl;
     }
-combining Sub n0 n1 n2 n3 n4 n5 n6 n7 n8 n9 n10 n11 =
+combining Sub two =
     record {
       plainly = (record { nests = λ next loops. refl; costs = λ cs. refl; heights = λ next trail. refl });
       pops_two = refl;
       pushes_one = refl;
       combines_so = λ code inputs s. refl;
     }
-combining Mul n0 n1 n2 n3 n4 n5 n6 n7 n8 n9 n10 n11 =
+combining Mul two =
     record {
       plainly = (record { nests = λ next loops. refl; costs = λ cs. refl; heights = λ next trail. refl });
       pops_two = refl;
       pushes_one = refl;
       combines_so = λ code inputs s. refl;
     }
-combining Div n0 n1 n2 n3 n4 n5 n6 n7 n8 n9 n10 n11 =
+combining Div two =
     record {
       plainly = (record { nests = λ next loops. refl; costs = λ cs. refl; heights = λ next trail. refl });
       pops_two = refl;
       pushes_one = refl;
       combines_so = λ code inputs s. refl;
     }
-combining Rem n0 n1 n2 n3 n4 n5 n6 n7 n8 n9 n10 n11 =
+combining Rem two =
     record {
       plainly = (record { nests = λ next loops. refl; costs = λ cs. refl; heights = λ next trail. refl });
       pops_two = refl;
       pushes_one = refl;
       combines_so = λ code inputs s. refl;
     }
-combining And n0 n1 n2 n3 n4 n5 n6 n7 n8 n9 n10 n11 =
+combining And two =
     record {
       plainly = (record { nests = λ next loops. refl; costs = λ cs. refl; heights = λ next trail. refl });
       pops_two = refl;
       pushes_one = refl;
       combines_so = λ code inputs s. refl;
     }
-combining Or n0 n1 n2 n3 n4 n5 n6 n7 n8 n9 n10 n11 =
+combining Or two =
     record {
       plainly = (record { nests = λ next loops. refl; costs = λ cs. refl; heights = λ next trail. refl });
       pops_two = refl;
       pushes_one = refl;
       combines_so = λ code inputs s. refl;
     }
-combining Xor n0 n1 n2 n3 n4 n5 n6 n7 n8 n9 n10 n11 =
+combining Xor two =
     record {
       plainly = (record { nests = λ next loops. refl; costs = λ cs. refl; heights = λ next trail. refl });
       pops_two = refl;
       pushes_one = refl;
       combines_so = λ code inputs s. refl;
     }
-combining Shl n0 n1 n2 n3 n4 n5 n6 n7 n8 n9 n10 n11 =
+combining Shl two =
     record {
       plainly = (record { nests = λ next loops. refl; costs = λ cs. refl; heights = λ next trail. refl });
       pops_two = refl;
       pushes_one = refl;
       combines_so = λ code inputs s. refl;
     }
-combining Shr n0 n1 n2 n3 n4 n5 n6 n7 n8 n9 n10 n11 =
+combining Shr two =
     record {
       plainly = (record { nests = λ next loops. refl; costs = λ cs. refl; heights = λ next trail. refl });
       pops_two = refl;
       pushes_one = refl;
       combines_so = λ code inputs s. refl;
     }
-combining Lt n0 n1 n2 n3 n4 n5 n6 n7 n8 n9 n10 n11 =
+combining Lt two =
     record {
       plainly = (record { nests = λ next loops. refl; costs = λ cs. refl; heights = λ next trail. refl });
       pops_two = refl;
       pushes_one = refl;
       combines_so = λ code inputs s. refl;
     }
-combining Eq n0 n1 n2 n3 n4 n5 n6 n7 n8 n9 n10 n11 =
+combining Eq two =
     record {
       plainly = (record { nests = λ next loops. refl; costs = λ cs. refl; heights = λ next trail. refl });
       pops_two = refl;
