@@ -1,11 +1,27 @@
 -- Instructions of two operands.
 use Rattle.std.proofs.Common.{◌≡◌, ℕ, List, refl, arith}
+use Rattle.sift_base.specs.Word.{add, sub, mul, div, rem, and, or, xor, shl, shr, lt, eq}
 use Rattle.sift_code.specs.declared.instr.Instr.{Instr}
 use Rattle.sift_code.specs.declared.instr.Instr.TheVariants.{Push, Load, Store, Sense, Now, Last, Out, Add, Sub, Mul, Div, Rem, And, Or, Xor, Shl, Shr, Lt, Eq, Mid, JumpZ, Jump, Begin, End}
 use Rattle.sift_code.specs.Machine.{State, Inputs, on_with, combined, effect}
 use Rattle.sift_code.specs.Heights.{pops, pushes}
-use Rattle.sift_code.specs.Work.{op_of}
 use Rattle.sift_code.proofs.Progress.{IsPlain}
+
+-- what an instruction of two operands makes of them, and the first for another instruction
+abbrev pub op_of : Instr → ℕ → ℕ → ℕ
+op_of Add = add
+op_of Sub = sub
+op_of Mul = mul
+op_of Div = div
+op_of Rem = rem
+op_of And = and
+op_of Or = or
+op_of Xor = xor
+op_of Shl = shl
+op_of Shr = shr
+op_of Lt = lt
+op_of Eq = eq
+op_of _ = λ a b. a
 
 -- an instruction of two operands
 pub record IsCombining (i : Instr) : Type 0 where

@@ -9,9 +9,9 @@ use Rattle.sift_code.specs.declared.machine.Machine.{Machine}
 use Rattle.sift_code.specs.Machine.{State, Inputs, on_with, pushed, combined, middled, stored, put_out, effect}
 use Rattle.sift_code.specs.Enclosing.{enclosing}
 use Rattle.sift_code.specs.Refusal.{Program}
-use Rattle.sift_code.specs.Work.{Steps, stack_of, locals_of, loops_of, state_of, op_of}
+use Rattle.sift_code.specs.Work.{Steps, stack_of, locals_of, loops_of, state_of}
 use Rattle.sift_code.proofs.Progress.{IsPlain}
-use Rattle.sift_code.proofs.Operators.{IsCombining}
+use Rattle.sift_code.proofs.Operators.{IsCombining, op_of}
 use Rattle.sift_code.proofs.Places.{stack_of-set, stack_of-top, stack_of-two, stack_of-three, stack_of-push, stack_of-put, locals_of-below, locals_of-set, length-locals_of, loops_of-set}
 use Rattle.sift_code.proofs.Standing.{machine, state, Fetched, heights, operand, plain}
 

@@ -1,8 +1,6 @@
 -- How the state of a run lies in the words of a span. No public clause cites this module.
 use Rattle.std.specs.Prelude.{◌≡◌, ℕ, zero, suc, ◌+◌, ◌-◌, ◌≤◌, List, [], ◌∷◌, length, map, take, drop, Some, slice_index, slice_set, ⊤}
-use Rattle.sift_base.specs.Word.{add, sub, mul, div, rem, and, or, xor, shl, shr, lt, eq}
 use Rattle.sift_code.specs.declared.instr.Instr.{Instr}
-use Rattle.sift_code.specs.declared.instr.Instr.TheVariants.{Add, Sub, Mul, Div, Rem, And, Or, Xor, Shl, Shr, Lt, Eq}
 use Rattle.sift_code.specs.declared.machine.Machine.{Machine}
 use Rattle.sift_code.specs.declared.machine.Readings.{Readings}
 use Rattle.sift_code.specs.Machine.{Loop, State, Inputs, local_count, step}
@@ -82,22 +80,6 @@ at_height h m = record m { height = h }
 -- the same machine with so many open loops
 abbrev pub at_depth : ℕ → Machine → Machine
 at_depth d m = record m { depth = d }
-
--- what an instruction of two operands makes of them, and the first for another instruction
-abbrev pub op_of : Instr → ℕ → ℕ → ℕ
-op_of Add = add
-op_of Sub = sub
-op_of Mul = mul
-op_of Div = div
-op_of Rem = rem
-op_of And = and
-op_of Or = or
-op_of Xor = xor
-op_of Shl = shl
-op_of Shr = shr
-op_of Lt = lt
-op_of Eq = eq
-op_of _ = λ a b. a
 
 -- behind a Begin of no rounds: past the End of its loop, with the same words
 pub record Passes (code : List Instr) (m n : Machine) (ws vs : List ℕ) : Type 0 where
