@@ -40,7 +40,8 @@ module _ {program : Program} (inputs : Inputs) {m : Machine} {ws outs : List ℕ
       let some : 2 ≤ m.height = omega (arith, h.0, two.pops_two) in
       let low : m.height ≤ 257 = omega (arith, h.1, two.pops_two, two.pushes_one) in
       let w = op_of i (slice_index ws (m.height - 2)) (slice_index ws (m.height - 1)) in
-      rw (machine_is, words, made_is) (plain inputs f (machine (m.place + 1) (m.height - 1) m.depth) (slice_set ws (m.height - 2) w) outs (w ∷ stack_of (m.height - 2) ws) (locals_of ws) outs two.plainly
+      let next = machine (m.place + 1) (m.height - 1) m.depth in
+      rw (machine_is, words, made_is) (plain inputs f next (slice_set ws (m.height - 2) w) outs (w ∷ stack_of (m.height - 2) ws) (locals_of ws) outs two.plainly
       (two.combines_so program.code inputs (state_of program.code m ws outs) ∙ ap (λ x. on_with (state_of program.code m ws outs) (combined (op_of i) x)) (stack_of-two m.height ws some)) refl refl
       (sym (stack_of-put (m.height - 1) (m.height - 2) ws w (omega arith) (omega arith))) (loops_of-set (enclosing program.code m.place) ws (m.height - 2) w (λ j less e. omega arith))
       (sym (locals_of-below ws (m.height - 2) w (omega arith))) refl)
