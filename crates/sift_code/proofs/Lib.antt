@@ -15,6 +15,7 @@ pub mod Places
 pub mod Standing
 pub mod Operators
 pub mod Steps
+pub mod Reading
 pub mod Turns
 pub mod Runs
 pub mod Changing

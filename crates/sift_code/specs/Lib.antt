@@ -4,6 +4,7 @@ pub mod Heights
 pub mod Bound
 pub mod Refusal
 pub mod Ends
+pub mod Sources
 pub mod Nest
 pub mod Walk
 pub mod Kept

@@ -1,7 +1,9 @@
 -- How code is kept with its loops. No public clause cites this module.
-use Rattle.std.specs.Prelude.{◌≡◌, ℕ, ◌+◌, ◌<◌, ◌≤◌, ◌^◌, List, length, Option, Some, None, drop, slice_index_or}
+use Rattle.std.specs.Prelude.{◌≡◌, ℕ, ◌+◌, ◌<◌, ◌≤◌, ◌^◌, List, length, Option, Some, None, map, drop, slice_index_or}
 use Rattle.sift_code.specs.declared.instr.Instr.{Instr}
+use Rattle.sift_code.specs.declared.source.Source.{Source}
 use Rattle.sift_code.specs.Machine.{through_end}
+use Rattle.sift_code.specs.Sources.{source_of}
 use Rattle.sift_code.specs.Enclosing.{enclosing, innermost}
 
 -- the place so many on
@@ -27,8 +29,9 @@ pub record AreStarts (code : List Instr) (starts : List (Option ℕ)) : Type 0 w
   pub long : length starts ≡ length code + 1
   pub entries : (p : ℕ) → p ≤ length code → slice_index_or starts p None ≡ start_at code p
 
--- code of a length that a place fits, and its two tables
-pub record IsNest (code : List Instr) (starts pasts : List (Option ℕ)) : Type 0 where
+-- code of a length that a place fits, and its three tables
+pub record IsNest (code : List Instr) (sources : List Source) (starts pasts : List (Option ℕ)) : Type 0 where
   pub short : length code < 2 ^ 32
   pub starts_tell : AreStarts code starts
   pub pasts_tell : ArePasts code pasts
+  pub sources_tell : sources ≡ map source_of code

@@ -2,7 +2,6 @@
 use Rattle.std.specs.Prelude.{◌≡◌, ℕ, zero, suc, ◌+◌, ◌-◌, ◌≤◌, List, [], ◌∷◌, length, map, take, drop, Some, slice_index, slice_set, ⊤}
 use Rattle.sift_code.specs.declared.instr.Instr.{Instr}
 use Rattle.sift_code.specs.declared.machine.Machine.{Machine}
-use Rattle.sift_code.specs.declared.machine.Readings.{Readings}
 use Rattle.sift_code.specs.Machine.{Loop, State, Inputs, local_count, step}
 use Rattle.sift_code.specs.Enclosing.{enclosing}
 use Rattle.sift_code.specs.Heights.{height_at}
@@ -36,10 +35,6 @@ loops_of (start ∷ outer) ws =
 abbrev pub state_of : List Instr → Machine → List ℕ → List ℕ → State
 state_of code m ws outs =
     record { place = m.place; stack = stack_of m.height ws; loops = loops_of (enclosing code m.place) ws; locals = locals_of ws; outs = outs }
-
--- the three lists
-abbrev pub inputs_of : Readings → Inputs
-inputs_of r = record { sensed = r.sensed.now; made = r.made.now; last = r.last.now }
 
 -- rounds are left in each loop
 abbrev pub AreGoing : List Loop → Type 0

@@ -11,6 +11,7 @@ mod limits;
 mod machine;
 mod nest;
 mod refusal;
+mod source;
 mod walk;
 mod work;
 

@@ -1,18 +1,21 @@
 //! Code with its loops: where each Begin has its End.
 
-ghost use Rattle.std.specs.Prelude.{◌↔◌, Some, IsTrue, IsSome, IfSome, ◌≡◌, ◌+◌, ◌<◌, ◌≤◌, ◌^◌, length, slice_get, IfOk};
+ghost use Rattle.std.specs.Prelude.{◌↔◌, Some, IsTrue, IsSome, IfSome, ◌≡◌, ◌+◌, ◌<◌, ◌≤◌, ◌^◌, length, map, slice_get, IfOk};
 ghost use Rattle.sift_code.specs.Enclosing.{enclosing};
+ghost use Rattle.sift_code.specs.Sources.{source_of};
 ghost use Rattle.sift_code.specs.Nest.{AreStarts, ArePasts, start_at, past_at};
 
 use crate::instr::Instr;
+use crate::source::Source;
 use sift_base::NoMemory;
 use std::alloc::Global;
 use std::marker::Model;
 
-/// Code, with where its loops begin and end. A clause sees the code.
+/// Code, with where its instructions read, and where its loops begin and end. A clause sees the code.
 #[derive(Drop)]
 pub(crate) struct Nest {
     code: Vec<Instr>,
+    sources: Vec<Source>,
     starts: Vec<Option<u32>>,
     pasts: Vec<Option<u32>>,
 }
@@ -26,19 +29,21 @@ impl Model for Nest {
 
     ghost view = { λ n. n.code.items };
 
-    ghost invariant = { λ n. IsNest n.code.items n.starts.items n.pasts.items };
+    ghost invariant = { λ n. IsNest n.code.items n.sources.items n.starts.items n.pasts.items };
 }
 
 impl Nest {
-    /// Finds the loops of the code.
+    /// Finds where the code reads, and its loops.
     pub fn of(alloc: Global, code: Vec<Instr>) -> Result<Nest, NoMemory>
         requires { length code.items < 2 ^ 32 }
         ensures { IfOk result (λ nest. nest ≡ code.items) }
     {
+        let sources = sources_of(alloc, &code)?;
         let pasts = pasts_of(alloc, &code)?;
         let starts = starts_of(alloc, &code, &pasts)?;
         Ok(Nest {
             code,
+            sources,
             starts,
             pasts,
         })
@@ -57,6 +62,13 @@ impl Nest {
         ensures short { length self.now < 2 ^ 32 }
     {
         &self.code
+    }
+
+    /// Where each instruction reads.
+    pub fn sources(&self) -> &[Source]
+        ensures { result.now ≡ map source_of self.now }
+    {
+        &self.sources
     }
 
     /// The instruction at a place, and None at the code's length.
@@ -92,6 +104,17 @@ impl Nest {
     {
         self.pasts[at]
     }
+}
+
+/// Where each instruction reads.
+fn sources_of(alloc: Global, code: &[Instr]) -> Result<Vec<Source>, NoMemory>
+    ensures { IfOk result (λ sources. sources.items ≡ map source_of code.now) }
+{
+    let mut sources = Vec::with_capacity(alloc, code.len())?;
+    for instr in code {
+        sources.push_reserved(Source::of(instr));
+    }
+    Ok(sources)
 }
 
 /// For each place, the place after the End that closes the loop open before it.
