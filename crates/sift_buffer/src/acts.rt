@@ -1,6 +1,6 @@
 //! Acts: a unit's journal with the stamps of its words, and what the unit knows. A port in plain
 //! memory keeps them.
-ghost use Rattle.std.specs.Prelude.{◌≡◌, ◌<◌, ◌≤◌, ◌+◌, IfOk};
+ghost use Rattle.std.specs.Prelude.{◌≡◌, ◌<◌, ◌≤◌, ◌+◌, ◌^◌, IfOk};
 ghost use Rattle.sift_base.specs.Layout.{IsLayout};
 ghost use Rattle.sift_base.specs.Units.{unit_limit};
 ghost use Rattle.sift_buffer.specs.Ranges.{IsPlace};
@@ -21,9 +21,9 @@ pub struct Acts {
     journal: Journal,
     progress: u32,
     seen: [u64; 8],
-    said: Vec<u32>,
-    asked: Vec<u32>,
-    heard_at: Vec<u32>,
+    said: Vec<u16>,
+    asked: Vec<u16>,
+    heard_at: Vec<u16>,
 }
 
 impl Model for Acts {
@@ -75,10 +75,11 @@ impl Acts {
     pub fn note_said(&mut self, f: u32, slot: usize, to: UnitId, stamp: u32, word: Option<Word>)
         requires place { IsPlace (ranges_in self.old.pages) self.old.pages.unit to slot f }
         requires stamp { 1 ≤ stamp }
+        requires near { stamp ≤ self.old.progress + 1 }
         ensures { Becomes self.old self.new (with_said (conduct_in self.old) f slot to stamp word) }
     {
         let entry = self.grid.index(f, slot, to);
-        self.said[entry] = stamp;
+        self.said[entry] = kept(stamp);
         self.journal.note_said_at(entry, word);
     }
 
@@ -86,11 +87,12 @@ impl Acts {
     pub fn note_heard(&mut self, f: u32, slot: usize, from: UnitId, stamp: u32, word: Option<Word>)
         requires place { IsPlace (ranges_in self.old.pages) self.old.pages.unit from slot f }
         requires stamp { 1 ≤ stamp }
+        requires past { stamp ≤ self.old.progress }
         ensures { Becomes self.old self.new (with_heard (conduct_in self.old) f slot from stamp word) }
     {
         let entry = self.grid.index(f, slot, from);
-        self.asked[entry] = stamp;
-        self.heard_at[entry] = self.progress;
+        self.asked[entry] = kept(stamp);
+        self.heard_at[entry] = kept(self.progress);
         self.journal.note_heard_at(entry, word);
     }
 
@@ -109,4 +111,12 @@ impl Acts {
     {
         self.journal
     }
+}
+
+/// A stamp or a progress number as the lists keep it: none is above 64,001.
+fn kept(number: u32) -> u16
+    requires { number < 2 ^ 16 }
+    ensures { result ≡ number }
+{
+    number as u16
 }
