@@ -12,7 +12,10 @@ use Rattle.sift_base.proofs.Sets.{holds_low, holds-insert}
 use Rattle.sift_config.proofs.Lists.{has-members}
 use Rattle.sift_base.specs.declared.slot.Slot.{Slot}
 use Rattle.sift_unit.specs.Mission.{Mission}
+use Rattle.sift_base.specs.declared.slot.Slot.TheVariants.{Clock, Sense, RelaySense, Out, Report, RelayReport}
+use Rattle.sift_config.specs.Config.{reader_of}
 use Rattle.sift_unit.specs.Slots.{is_slot, calls, is_senders, IsFirstFrom}
+use Rattle.sift_unit.specs.Crews.{is_sayer, is_hearer}
 use Rattle.sift_unit.proofs.Tests.{apart}
 
 -- ---- the first unit of a set
@@ -108,36 +111,77 @@ same_test a b = elim (cases_Bool (nat_eq a b)) [
   | inr other ↦ rw (other, ne_eqb b a (λ e. apart a b other (sym e))) refl
 ]
 
--- of units that pass some tests, all but one
-pub relaying : (a b c d : Bool) → (c && (a && (b && d))) ≡ (a && (b && (c && d)))
-relaying true true true d = refl
-relaying true true false d = refl
-relaying true false true d = refl
-relaying true false false d = refl
-relaying false b true d = refl
-relaying false b false d = refl
+-- three tests in another order
+pub rotated : (a b c : Bool) → (a && (b && c)) ≡ (b && (c && a))
+rotated true true true = refl
+rotated true true false = refl
+rotated true false c = refl
+rotated false true true = refl
+rotated false true false = refl
+rotated false false c = refl
 
 -- ---- who says a slot to whom
 
--- of three tests the last fails
-none_last : (a b : Bool) → false ≡ (a && (b && false))
-none_last true true = refl
-none_last true false = refl
-none_last false b = refl
+-- a slot is said by its sayers to its hearers
+joined : (a b c : Bool) → (a && (b && c)) ≡ ((a && b) && c)
+joined true b c = refl
+joined false b c = refl
+
+pub sent : (m : Mission) (us : List ℕ) (k : Slot) (p q : ℕ) → is_senders m us k p q ≡ (is_sayer m us k p && is_hearer k q)
+sent m us Clock p q = refl
+sent m us (Sense x) p q = beside_true (nat_eq p (reader_of us x))
+sent m us (RelaySense x) p q = beside_true (not (nat_eq p (reader_of us x)))
+sent m us (Out w) p q = beside_true (m.executes us w p)
+sent m us Report p q = refl
+sent m us (RelayReport s) p q = joined (has us s) (not (nat_eq p s)) (not (nat_eq q s))
+
+-- of five tests two pass
+heard_by : (p q n y h : Bool) → (q && h) ≡ true → (n && (p && y)) ≡ (p && (q && (n && (y && h))))
+heard_by true true true true true both = refl
+heard_by true true true false true both = refl
+heard_by true true false y true both = refl
+heard_by false true true y true both = refl
+heard_by false true false y true both = refl
+heard_by p false n y h both = cc
+heard_by p true n y false both = cc
+
+-- or one of the two fails
+unheard : (p q n y h : Bool) → (q && h) ≡ false → false ≡ (p && (q && (n && (y && h))))
+unheard false q n y h fails = refl
+unheard true false n y h fails = refl
+unheard true true false y h fails = refl
+unheard true true true false h fails = refl
+unheard true true true true false fails = refl
+unheard true true true true true fails = cc
+
+said_by : (p q n y h : Bool) → (p && y) ≡ true → (n && (q && h)) ≡ (p && (q && (n && (y && h))))
+said_by true true true true h both = refl
+said_by true true false true h both = refl
+said_by true false true true h both = refl
+said_by true false false true h both = refl
+said_by false q n y h both = cc
+said_by true q n false h both = cc
+
+unsaid : (p q n y h : Bool) → (p && y) ≡ false → false ≡ (p && (q && (n && (y && h))))
+unsaid false q n y h fails = refl
+unsaid true false n y h fails = refl
+unsaid true true false y h fails = refl
+unsaid true true true false h fails = refl
+unsaid true true true true h fails = cc
 
 module _ (m : Mission) (us : List ℕ) (k : Slot) (p q : ℕ) (slot : is_slot m k ≡ true) where
-  -- the other units that are to say a slot to a unit of the configuration say it
-  pub calls_from : has us q ≡ true → (not (nat_eq p q) && (has us p && is_senders m us k p q)) ≡ calls m us k p q
-  calls_from there = rw (slot, there) (relaying (has us p) true (not (nat_eq p q)) (is_senders m us k p q))
+  -- the others that say a slot say it to a unit that hears it
+  pub calls_from : (has us q && is_hearer k q) ≡ true → (not (nat_eq p q) && (has us p && is_sayer m us k p)) ≡ calls m us k p q
+  calls_from hears = rw (slot, sent m us k p q) (heard_by (has us p) (has us q) (not (nat_eq p q)) (is_sayer m us k p) (is_hearer k q) hears)
 
-  -- those to which a unit of the configuration is to say it hear it
-  pub calls_to : has us p ≡ true → (not (nat_eq q p) && (has us q && is_senders m us k p q)) ≡ calls m us k p q
-  calls_to there = rw (slot, there, same_test q p) (relaying (has us q) true (not (nat_eq p q)) (is_senders m us k p q))
+  -- none says it to a unit that doesn't hear it
+  pub calls_unheard : (has us q && is_hearer k q) ≡ false → false ≡ calls m us k p q
+  calls_unheard fails = rw (slot, sent m us k p q) (unheard (has us p) (has us q) (not (nat_eq p q)) (is_sayer m us k p) (is_hearer k q) fails)
 
--- nothing is said to a unit that is outside the configuration
-pub calls_none_out : (m : Mission) (us : List ℕ) (k : Slot) (p q : ℕ) → has us q ≡ false → false ≡ calls m us k p q
-calls_none_out m us k p q out = rw out (none_last (is_slot m k) (has us p))
+  -- the others that hear a slot hear it from a unit that says it
+  pub calls_to : (has us p && is_sayer m us k p) ≡ true → (not (nat_eq q p) && (has us q && is_hearer k q)) ≡ calls m us k p q
+  calls_to says = rw (slot, sent m us k p q, same_test q p) (said_by (has us p) (has us q) (not (nat_eq p q)) (is_sayer m us k p) (is_hearer k q) says)
 
--- and it says nothing
-pub calls_no_out : (m : Mission) (us : List ℕ) (k : Slot) (p q : ℕ) → has us p ≡ false → false ≡ calls m us k p q
-calls_no_out m us k p q out = rw out (beside_false (is_slot m k))
+  -- none hears it from a unit that doesn't say it
+  pub calls_unsaid : (has us p && is_sayer m us k p) ≡ false → false ≡ calls m us k p q
+  calls_unsaid fails = rw (slot, sent m us k p q) (unsaid (has us p) (has us q) (not (nat_eq p q)) (is_sayer m us k p) (is_hearer k q) fails)

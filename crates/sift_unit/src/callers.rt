@@ -1,14 +1,14 @@
 //! Who says a slot to a unit, and who hears it from one, as sets of units.
 
-ghost use Rattle.std.specs.Prelude.{◌≡◌, ◌<◌, ◌≤◌, ◌&&◌, Bool, ℕ, nat_eq, not};
+ghost use Rattle.std.specs.Prelude.{◌≡◌, ◌<◌, ◌≤◌, ℕ};
 ghost use Rattle.sift_base.specs.Units.{has, holds, unit_limit};
 ghost use Rattle.sift_unit.specs.Acts.{IsConfigOf};
 ghost use Rattle.sift_unit.specs.Flown.{mission_of};
-ghost use Rattle.sift_unit.specs.Slots.{calls, is_senders, IsFirstFrom};
+ghost use Rattle.sift_unit.specs.Slots.{calls, IsFirstFrom};
 
 use crate::laws::a_mission_fits;
 use crate::mission::Mission;
-use sift_base::{Slot, UnitId, UnitSet};
+use sift_base::{UnitId, UnitSet};
 use sift_config::Config;
 
 impl Mission {
@@ -48,10 +48,11 @@ impl Mission {
         ensures { (p : ℕ) → holds result p ≡ calls (mission_of self.now) config.now ((mission_of self.now).kind i) p to }
     {
         a_mission_fits(self);
-        if !config.has(to) {
+        let crews = self.crews_for(config);
+        if !crews.hearers[i].has(to) {
             return UnitSet::empty();
         }
-        self.senders(config, i, to).without(to)
+        crews.sayers[i].without(to)
     }
 
     /// The units to which a unit says the slot of a number.
@@ -61,59 +62,12 @@ impl Mission {
         ensures { (q : ℕ) → holds result q ≡ calls (mission_of self.now) config.now ((mission_of self.now).kind i) from q }
     {
         a_mission_fits(self);
-        if !config.has(from) {
+        let crews = self.crews_for(config);
+        if !crews.sayers[i].has(from) {
             return UnitSet::empty();
         }
-        self.receivers(config, i, from).without(from)
+        crews.hearers[i].without(from)
     }
-
-    /// The units of a configuration for which it is to say the slot of a number to a unit.
-    fn senders(&self, config: &Config, i: usize, to: UnitId) -> UnitSet
-        requires config { IsConfigOf (mission_of self.now) config.now }
-        requires slot { i < (mission_of self.now).slots }
-        ensures { (p : ℕ) → holds result p ≡ (has config.now p && is_senders (mission_of self.now) config.now ((mission_of self.now).kind i) p to) }
-    {
-        match self.kind(i) {
-            Slot::Clock | Slot::Report => units_if(config, true),
-            Slot::Sense(x) => UnitSet::empty().with(config.reader_of(x)),
-            Slot::RelaySense(x) => units_if(config, true).without(config.reader_of(x)),
-            Slot::Out(w) => self.crew(config, self.task_of(w)),
-            Slot::RelayReport(s) => relayers(config, s, to),
-        }
-    }
-
-    /// The units of a configuration to which it is for a unit to say the slot of a number.
-    fn receivers(&self, config: &Config, i: usize, from: UnitId) -> UnitSet
-        requires config { IsConfigOf (mission_of self.now) config.now }
-        requires slot { i < (mission_of self.now).slots }
-        ensures { (q : ℕ) → holds result q ≡ (has config.now q && is_senders (mission_of self.now) config.now ((mission_of self.now).kind i) from q) }
-    {
-        match self.kind(i) {
-            Slot::Clock | Slot::Report => units_if(config, true),
-            Slot::Sense(x) => units_if(config, from == config.reader_of(x)),
-            Slot::RelaySense(x) => units_if(config, from != config.reader_of(x)),
-            Slot::Out(w) => units_if(config, self.executes(config, w, from)),
-            Slot::RelayReport(s) => relayers(config, s, from),
-        }
-    }
-}
-
-/// All units of a configuration, or none.
-fn units_if(config: &Config, all: bool) -> UnitSet
-    ensures { (u : ℕ) → holds result u ≡ (has config.now u && all) }
-{
-    if all {
-        UnitSet::of_bits(config.units().bits())
-    } else {
-        UnitSet::empty()
-    }
-}
-
-/// The units of a configuration that relay a unit's report to another unit, or to which that one relays it.
-fn relayers(config: &Config, of: UnitId, other: UnitId) -> UnitSet
-    ensures { (u : ℕ) → holds result u ≡ (has config.now u && (has config.now of && (not (nat_eq u of) && not (nat_eq other of)))) }
-{
-    units_if(config, config.has(of) && other != of).without(of)
 }
 
 /// From a number on the first unit of a set, and 8 where there is none.

@@ -1,23 +1,28 @@
-//! Who runs which task under each configuration.
+//! Who runs which task, and who says and hears which slot, under each configuration.
 
 ghost use Rattle.std.specs.Prelude.{◌≡◌, ◌<◌, ◌≤◌, length, slice_index_or};
 ghost use Rattle.sift_base.specs.Shapes.{task_limit};
 ghost use Rattle.sift_base.specs.Units.{members, units_of};
 ghost use Rattle.sift_unit.specs.Acts.{IsConfigOf};
+ghost use Rattle.sift_unit.specs.ByWord.{by_word};
 ghost use Rattle.sift_unit.specs.Crews.{AreAllCrews, AreCrewsBy, AreCrewsOf, IsCrewBy};
 ghost use Rattle.sift_unit.specs.Data.{data_of};
 ghost use Rattle.sift_unit.specs.Flown.{mission_of};
 ghost use Rattle.sift_unit.specs.PartsFit.{PartsFit};
 
 use crate::parts::MissionParts;
+use crate::roles::{hearers_by, sayers_by};
 use sift_base::UnitSet;
 use sift_config::Config;
 use sift_table::GoodTable;
 
-/// By task, the units of one configuration that run it, and by which of the mission's tables they do.
+/// By task, the units of one configuration that run it; by slot, those that say it and those that hear it; and by which
+/// of the mission's tables they do.
 #[derive(Clone, Copy)]
 pub(crate) struct Crews {
     pub by_task: [UnitSet; 24],
+    pub sayers: [UnitSet; 90],
+    pub hearers: [UnitSet; 90],
     pub table: usize,
 }
 
@@ -28,6 +33,8 @@ impl Crews {
     {
         Crews {
             by_task: [UnitSet::empty(); 24],
+            sayers: [UnitSet::empty(); 90],
+            hearers: [UnitSet::empty(); 90],
             table: 0,
         }
     }
@@ -42,32 +49,35 @@ impl Crews {
 }
 
 /// By the byte of a configuration's units, its crews.
-pub(crate) fn all_crews(parts: &MissionParts) -> [Crews; 256]
-    requires { PartsFit (data_of parts.now) }
+pub(crate) fn all_crews(parts: &MissionParts, tasks: &[u8]) -> [Crews; 256]
+    requires fit { PartsFit (data_of parts.now) }
+    requires tasks { tasks.now ≡ by_word 0 (data_of parts.now).program.tasks }
     ensures { AreAllCrews (data_of parts.now) result }
 {
     let mut rows = [Crews::none(); 256];
     for bits in 0..256 {
-        rows[bits] = crews_of(parts, bits as u8);
+        rows[bits] = crews_of(parts, tasks, bits as u8);
     }
     rows
 }
 
 /// The crews of the configuration whose units' bits the byte has, where it is one.
-fn crews_of(parts: &MissionParts, bits: u8) -> Crews
-    requires { PartsFit (data_of parts.now) }
+fn crews_of(parts: &MissionParts, tasks: &[u8], bits: u8) -> Crews
+    requires fit { PartsFit (data_of parts.now) }
+    requires tasks { tasks.now ≡ by_word 0 (data_of parts.now).program.tasks }
     ensures { let us = members (units_of bits) in
         IsConfigOf (mission_of parts.now) us → AreCrewsOf (data_of parts.now) us result }
 {
     match Config::of_bits(bits) {
-        Some(config) => crews_under(parts, &config),
+        Some(config) => crews_under(parts, tasks, &config),
         None => Crews::none(),
     }
 }
 
 /// The crews of a configuration, by the table of its size, where there is one.
-fn crews_under(parts: &MissionParts, config: &Config) -> Crews
-    requires { PartsFit (data_of parts.now) }
+fn crews_under(parts: &MissionParts, tasks: &[u8], config: &Config) -> Crews
+    requires fit { PartsFit (data_of parts.now) }
+    requires tasks { tasks.now ≡ by_word 0 (data_of parts.now).program.tasks }
     ensures { IsConfigOf (mission_of parts.now) config.now → AreCrewsOf (data_of parts.now) config.now result }
 {
     let place = config.len() - 4;
@@ -75,6 +85,8 @@ fn crews_under(parts: &MissionParts, config: &Config) -> Crews
         let by_task = crews_by(&parts.tables[place], config, parts.program.tasks.len());
         return Crews {
             by_task,
+            sayers: sayers_by(parts, tasks, config, &by_task),
+            hearers: hearers_by(&parts.layout, config),
             table: place,
         };
     }

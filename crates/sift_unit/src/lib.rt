@@ -21,6 +21,7 @@ mod noted;
 mod part;
 mod parts;
 mod readings;
+mod roles;
 mod schedule;
 mod stepped;
 mod stepping;

@@ -1,12 +1,11 @@
 //! A mission, whose parts fit.
 
 ghost use Rattle.std.specs.Prelude.{◌≡◌, ℕ, ◌+◌, ◌-◌, ◌<◌, ◌≤◌, ◌++◌, length, map, replicate};
-ghost use Rattle.sift_base.specs.Layout.{least_units};
 ghost use Rattle.sift_base.specs.Shapes.{task_limit};
 ghost use Rattle.sift_lang.specs.Tree.{tree_of};
 ghost use Rattle.sift_program.specs.Sound.{output_count};
 ghost use Rattle.sift_unit.specs.ByWord.{by_word};
-ghost use Rattle.sift_unit.specs.Crews.{AreCrewsBy};
+ghost use Rattle.sift_unit.specs.Crews.{AreCrewsOf};
 ghost use Rattle.sift_unit.specs.Data.{data_of};
 ghost use Rattle.sift_unit.specs.Acts.{IsConfigOf};
 ghost use Rattle.sift_unit.specs.Flown.{mission_of, table_for, runs_in};
@@ -33,7 +32,7 @@ pub struct Mission {
     tasks: ArrayVec<u8, 64>,
     /// By table, when slots are heard and said and tasks are run.
     times: [Timetable; 5],
-    /// By the byte of a configuration's units, who runs which task, and by which table.
+    /// By the byte of a configuration's units, who runs which task, who says and hears which slot, and by which table.
     crews: [Crews; 256],
 }
 
@@ -60,7 +59,7 @@ impl Mission {
         let slots = parts.layout.count();
         let tasks = tasks_by_word(&parts.program.tasks);
         let times = timetables(&parts, &tasks);
-        let crews = all_crews(&parts);
+        let crews = all_crews(&parts, &tasks);
         Mission {
             parts,
             slots,
@@ -102,12 +101,11 @@ impl Mission {
         self.crews_for(config).of_task(t)
     }
 
-    /// Who runs which task under a configuration.
-    fn crews_for(&self, config: &Config) -> &Crews
+    /// Who runs which task, and who says and hears which slot, under a configuration.
+    pub(crate) fn crews_for(&self, config: &Config) -> &Crews
         requires { IsConfigOf (mission_of self.now) config.now }
-        ensures crews { AreCrewsBy (table_for (data_of self.now) config.now) config.now (mission_of self.now).tasks result.now.by_task }
+        ensures crews { AreCrewsOf (data_of self.now) config.now result.now }
         ensures few { (mission_of self.now).tasks ≤ task_limit }
-        ensures table { result.now.table ≡ length config.now - least_units }
         ensures low { result.now.table < 5 }
     {
         &self.crews[usize::from(config.units().bits())]

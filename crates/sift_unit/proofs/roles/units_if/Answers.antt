@@ -2,7 +2,7 @@ use Rattle.std.proofs.Common.{ap, ◌∙◌, nat_cmp, sym, ◌&&◌}
 use Rattle.std.specs.FinSet as set
 use Rattle.sift_base.specs.Units.{holds, has}
 use Rattle.sift_unit.proofs.Sayers.{holds_members, beside_true, beside_false}
-use Rattle.sift_unit.proofs.callers.units_if.Goals as goal
+use Rattle.sift_unit.proofs.roles.units_if.Goals as goal
 
 pub returns-then-all : goal.returns-then-all
 returns-then-all c = λ u.
