@@ -15,7 +15,7 @@ use Rattle.sift_unit.specs.Mission.{Mission}
 use Rattle.sift_base.specs.declared.slot.Slot.TheVariants.{Clock, Sense, RelaySense, Out, Report, RelayReport}
 use Rattle.sift_config.specs.Config.{reader_of}
 use Rattle.sift_unit.specs.Slots.{is_slot, calls, is_senders, IsFirstFrom}
-use Rattle.sift_unit.specs.Crews.{is_sayer, is_hearer}
+use Rattle.sift_unit.specs.Crews.{sends, receives}
 use Rattle.sift_unit.proofs.Tests.{apart}
 
 -- ---- the first unit of a set
@@ -122,12 +122,12 @@ rotated false false c = refl
 
 -- ---- who says a slot to whom
 
--- a slot is said by its sayers to its hearers
+-- a slot is said by its senders to its receivers
 joined : (a b c : Bool) → (a && (b && c)) ≡ ((a && b) && c)
 joined true b c = refl
 joined false b c = refl
 
-pub sent : (m : Mission) (us : List ℕ) (k : Slot) (p q : ℕ) → is_senders m us k p q ≡ (is_sayer m us k p && is_hearer k q)
+pub sent : (m : Mission) (us : List ℕ) (k : Slot) (p q : ℕ) → is_senders m us k p q ≡ (sends m us k p && receives k q)
 sent m us Clock p q = refl
 sent m us (Sense x) p q = beside_true (nat_eq p (reader_of us x))
 sent m us (RelaySense x) p q = beside_true (not (nat_eq p (reader_of us x)))
@@ -171,17 +171,17 @@ unsaid true true true true h fails = cc
 
 module _ (m : Mission) (us : List ℕ) (k : Slot) (p q : ℕ) (slot : is_slot m k ≡ true) where
   -- the others that say a slot say it to a unit that hears it
-  pub calls_from : (has us q && is_hearer k q) ≡ true → (not (nat_eq p q) && (has us p && is_sayer m us k p)) ≡ calls m us k p q
-  calls_from hears = rw (slot, sent m us k p q) (heard_by (has us p) (has us q) (not (nat_eq p q)) (is_sayer m us k p) (is_hearer k q) hears)
+  pub calls_from : (has us q && receives k q) ≡ true → (not (nat_eq p q) && (has us p && sends m us k p)) ≡ calls m us k p q
+  calls_from hears = rw (slot, sent m us k p q) (heard_by (has us p) (has us q) (not (nat_eq p q)) (sends m us k p) (receives k q) hears)
 
   -- none says it to a unit that doesn't hear it
-  pub calls_unheard : (has us q && is_hearer k q) ≡ false → false ≡ calls m us k p q
-  calls_unheard fails = rw (slot, sent m us k p q) (unheard (has us p) (has us q) (not (nat_eq p q)) (is_sayer m us k p) (is_hearer k q) fails)
+  pub calls_unheard : (has us q && receives k q) ≡ false → false ≡ calls m us k p q
+  calls_unheard fails = rw (slot, sent m us k p q) (unheard (has us p) (has us q) (not (nat_eq p q)) (sends m us k p) (receives k q) fails)
 
   -- the others that hear a slot hear it from a unit that says it
-  pub calls_to : (has us p && is_sayer m us k p) ≡ true → (not (nat_eq q p) && (has us q && is_hearer k q)) ≡ calls m us k p q
-  calls_to says = rw (slot, sent m us k p q, same_test q p) (said_by (has us p) (has us q) (not (nat_eq p q)) (is_sayer m us k p) (is_hearer k q) says)
+  pub calls_to : (has us p && sends m us k p) ≡ true → (not (nat_eq q p) && (has us q && receives k q)) ≡ calls m us k p q
+  calls_to says = rw (slot, sent m us k p q, same_test q p) (said_by (has us p) (has us q) (not (nat_eq p q)) (sends m us k p) (receives k q) says)
 
   -- none hears it from a unit that doesn't say it
-  pub calls_unsaid : (has us p && is_sayer m us k p) ≡ false → false ≡ calls m us k p q
-  calls_unsaid fails = rw (slot, sent m us k p q) (unsaid (has us p) (has us q) (not (nat_eq p q)) (is_sayer m us k p) (is_hearer k q) fails)
+  pub calls_unsaid : (has us p && sends m us k p) ≡ false → false ≡ calls m us k p q
+  calls_unsaid fails = rw (slot, sent m us k p q) (unsaid (has us p) (has us q) (not (nat_eq p q)) (sends m us k p) (receives k q) fails)

@@ -22,35 +22,35 @@ abbrev pub AreCrewsBy : Schedule → List ℕ → ℕ → List Units → Type 0
 AreCrewsBy table us tasks crews = (t : ℕ) (crew : Units) → t < tasks → IsCrewBy table us t (slice_index_or crews t crew)
 
 -- a unit says the slot, to whoever hears it: another than the one whose report is relayed, if that is a slot's
-abbrev pub is_sayer : Mission → List ℕ → Slot → ℕ → Bool
-is_sayer m us (RelayReport s) p = has us s && not (nat_eq p s)
-is_sayer m us k p = is_senders m us k p p
+abbrev pub sends : Mission → List ℕ → Slot → ℕ → Bool
+sends m us (RelayReport s) p = has us s && not (nat_eq p s)
+sends m us k p = is_senders m us k p p
 
 -- a unit hears the slot, from whoever says it
-abbrev pub is_hearer : Slot → ℕ → Bool
-is_hearer (RelayReport s) q = not (nat_eq q s)
-is_hearer k q = true
+abbrev pub receives : Slot → ℕ → Bool
+receives (RelayReport s) q = not (nat_eq q s)
+receives k q = true
 
 -- the units of a configuration that say a slot
-abbrev pub IsSlotsSayers : MissionData → List ℕ → ℕ → Units → Type 0
-IsSlotsSayers d us i units = (p : ℕ) → holds units p ≡ (has us p && is_sayer (flown d) us (slot_kind d.layout i) p)
+abbrev pub AreSendersOf : MissionData → List ℕ → ℕ → Units → Type 0
+AreSendersOf d us i units = (p : ℕ) → holds units p ≡ (has us p && sends (flown d) us (slot_kind d.layout i) p)
 
 -- those that hear it
-abbrev pub IsSlotsHearers : Layout → List ℕ → ℕ → Units → Type 0
-IsSlotsHearers layout us i units = (q : ℕ) → holds units q ≡ (has us q && is_hearer (slot_kind layout i) q)
+abbrev pub AreReceiversOf : Layout → List ℕ → ℕ → Units → Type 0
+AreReceiversOf layout us i units = (q : ℕ) → holds units q ≡ (has us q && receives (slot_kind layout i) q)
 
 -- the same of each of so many slots
-abbrev pub AreSayers : MissionData → List ℕ → ℕ → List Units → Type 0
-AreSayers d us count sayers = (i : ℕ) (units : Units) → i < count → IsSlotsSayers d us i (slice_index_or sayers i units)
+abbrev pub AreAllSenders : MissionData → List ℕ → ℕ → List Units → Type 0
+AreAllSenders d us count senders = (i : ℕ) (units : Units) → i < count → AreSendersOf d us i (slice_index_or senders i units)
 
-abbrev pub AreHearers : Layout → List ℕ → ℕ → List Units → Type 0
-AreHearers layout us count hearers = (i : ℕ) (units : Units) → i < count → IsSlotsHearers layout us i (slice_index_or hearers i units)
+abbrev pub AreAllReceivers : Layout → List ℕ → ℕ → List Units → Type 0
+AreAllReceivers layout us count receivers = (i : ℕ) (units : Units) → i < count → AreReceiversOf layout us i (slice_index_or receivers i units)
 
 -- the crews of a configuration by its table, who says and hears each slot, and the place of the table among the mission's
 pub record AreCrewsOf (d : MissionData) (us : List ℕ) (row : Crews) : Type 0 where
   pub crews : AreCrewsBy (table_for d us) us (length d.program.tasks) row.by_task
-  pub sayers : AreSayers d us (slot_count d.layout) row.sayers
-  pub hearers : AreHearers d.layout us (slot_count d.layout) row.hearers
+  pub senders : AreAllSenders d us (slot_count d.layout) row.senders
+  pub receivers : AreAllReceivers d.layout us (slot_count d.layout) row.receivers
   pub table : row.table ≡ length us - least_units
 
 -- for each byte whose units are a configuration of the mission, what is kept of that configuration

@@ -49,10 +49,10 @@ impl Mission {
     {
         a_mission_fits(self);
         let crews = self.crews_for(config);
-        if !crews.hearers[i].has(to) {
+        if !crews.receivers[i].has(to) {
             return UnitSet::empty();
         }
-        crews.sayers[i].without(to)
+        crews.senders[i].without(to)
     }
 
     /// The units to which a unit says the slot of a number.
@@ -63,10 +63,10 @@ impl Mission {
     {
         a_mission_fits(self);
         let crews = self.crews_for(config);
-        if !crews.sayers[i].has(from) {
+        if !crews.senders[i].has(from) {
             return UnitSet::empty();
         }
-        crews.hearers[i].without(from)
+        crews.receivers[i].without(from)
     }
 }
 

@@ -11,7 +11,7 @@ ghost use Rattle.sift_unit.specs.Flown.{mission_of};
 ghost use Rattle.sift_unit.specs.PartsFit.{PartsFit};
 
 use crate::parts::MissionParts;
-use crate::roles::{hearers_by, sayers_by};
+use crate::roles::{receivers_by, senders_by};
 use sift_base::UnitSet;
 use sift_config::Config;
 use sift_table::GoodTable;
@@ -21,8 +21,8 @@ use sift_table::GoodTable;
 #[derive(Clone, Copy)]
 pub(crate) struct Crews {
     pub by_task: [UnitSet; 24],
-    pub sayers: [UnitSet; 90],
-    pub hearers: [UnitSet; 90],
+    pub senders: [UnitSet; 90],
+    pub receivers: [UnitSet; 90],
     pub table: usize,
 }
 
@@ -33,8 +33,8 @@ impl Crews {
     {
         Crews {
             by_task: [UnitSet::empty(); 24],
-            sayers: [UnitSet::empty(); 90],
-            hearers: [UnitSet::empty(); 90],
+            senders: [UnitSet::empty(); 90],
+            receivers: [UnitSet::empty(); 90],
             table: 0,
         }
     }
@@ -85,8 +85,8 @@ fn crews_under(parts: &MissionParts, tasks: &[u8], config: &Config) -> Crews
         let by_task = crews_by(&parts.tables[place], config, parts.program.tasks.len());
         return Crews {
             by_task,
-            sayers: sayers_by(parts, tasks, config, &by_task),
-            hearers: hearers_by(&parts.layout, config),
+            senders: senders_by(parts, tasks, config, &by_task),
+            receivers: receivers_by(&parts.layout, config),
             table: place,
         };
     }

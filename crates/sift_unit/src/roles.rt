@@ -5,7 +5,7 @@ ghost use Rattle.sift_base.specs.Layout.{IsLayout, slot_count};
 ghost use Rattle.sift_base.specs.Units.{has, holds};
 ghost use Rattle.sift_unit.specs.Acts.{IsConfigOf};
 ghost use Rattle.sift_unit.specs.ByWord.{by_word};
-ghost use Rattle.sift_unit.specs.Crews.{AreCrewsBy, AreHearers, AreSayers, IsSlotsSayers, IsSlotsHearers};
+ghost use Rattle.sift_unit.specs.Crews.{AreCrewsBy, AreAllReceivers, AreAllSenders, AreSendersOf, AreReceiversOf};
 ghost use Rattle.sift_unit.specs.Data.{data_of};
 ghost use Rattle.sift_unit.specs.Flown.{mission_of, table_for};
 ghost use Rattle.sift_unit.specs.PartsFit.{PartsFit};
@@ -16,7 +16,7 @@ use sift_base::{Layout, Slot, UnitId, UnitSet};
 use sift_config::Config;
 
 /// By slot, the units of a configuration that say it, where these crews run the tasks.
-pub(crate) fn sayers_by(
+pub(crate) fn senders_by(
     parts: &MissionParts,
     tasks: &[u8],
     config: &Config,
@@ -25,17 +25,17 @@ pub(crate) fn sayers_by(
     requires fit { PartsFit (data_of parts.now) }
     requires tasks { tasks.now ≡ by_word 0 (data_of parts.now).program.tasks }
     requires crews { let d = data_of parts.now in AreCrewsBy (table_for d config.now) config.now (length d.program.tasks) crews.now }
-    ensures { IsConfigOf (mission_of parts.now) config.now → AreSayers (data_of parts.now) config.now (slot_count parts.now.layout) result }
+    ensures { IsConfigOf (mission_of parts.now) config.now → AreAllSenders (data_of parts.now) config.now (slot_count parts.now.layout) result }
 {
-    let mut sayers = [UnitSet::empty(); 90];
+    let mut senders = [UnitSet::empty(); 90];
     for slot in 0..parts.layout.count() {
-        sayers[slot] = sayers_of(parts, tasks, config, crews, slot);
+        senders[slot] = senders_of(parts, tasks, config, crews, slot);
     }
-    sayers
+    senders
 }
 
 /// The units of a configuration that say a slot.
-fn sayers_of(
+fn senders_of(
     parts: &MissionParts,
     tasks: &[u8],
     config: &Config,
@@ -46,7 +46,7 @@ fn sayers_of(
     requires tasks { tasks.now ≡ by_word 0 (data_of parts.now).program.tasks }
     requires crews { let d = data_of parts.now in AreCrewsBy (table_for d config.now) config.now (length d.program.tasks) crews.now }
     requires slot { slot < slot_count parts.now.layout }
-    ensures { IsConfigOf (mission_of parts.now) config.now → IsSlotsSayers (data_of parts.now) config.now slot result }
+    ensures { IsConfigOf (mission_of parts.now) config.now → AreSendersOf (data_of parts.now) config.now slot result }
 {
     match slot_of(&parts.layout, slot) {
         Slot::Clock | Slot::Report => units_if(config, true),
@@ -58,22 +58,22 @@ fn sayers_of(
 }
 
 /// By slot, the units of a configuration that hear it.
-pub(crate) fn hearers_by(layout: &Layout, config: &Config) -> [UnitSet; 90]
+pub(crate) fn receivers_by(layout: &Layout, config: &Config) -> [UnitSet; 90]
     requires { IsLayout layout.now }
-    ensures { AreHearers layout.now config.now (slot_count layout.now) result }
+    ensures { AreAllReceivers layout.now config.now (slot_count layout.now) result }
 {
-    let mut hearers = [UnitSet::empty(); 90];
+    let mut receivers = [UnitSet::empty(); 90];
     for slot in 0..layout.count() {
-        hearers[slot] = hearers_of(layout, config, slot);
+        receivers[slot] = receivers_of(layout, config, slot);
     }
-    hearers
+    receivers
 }
 
 /// The units of a configuration that hear a slot.
-fn hearers_of(layout: &Layout, config: &Config, slot: usize) -> UnitSet
+fn receivers_of(layout: &Layout, config: &Config, slot: usize) -> UnitSet
     requires layout { IsLayout layout.now }
     requires slot { slot < slot_count layout.now }
-    ensures { IsSlotsHearers layout.now config.now slot result }
+    ensures { AreReceiversOf layout.now config.now slot result }
 {
     match slot_of(layout, slot) {
         Slot::RelayReport(s) => units_if(config, true).without(s),

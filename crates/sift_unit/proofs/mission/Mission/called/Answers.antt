@@ -10,7 +10,7 @@ pub returns-then-not-has : goal.returns-then-not-has
 returns-then-not-has c = λ q.
     let m = mission_of c.args.self.now in
     let slot = c.a_mission_fits.ensures.fits.numbered.slot c.args.i c.requires.slot in
-    let says = c.crews_for-crews.ensures.crews.sayers c.args.i c.index-crews-i.result c.requires.slot c.args.from in
+    let says = c.crews_for-crews.ensures.crews.senders c.args.i c.index-crews-i.result c.requires.slot c.args.from in
     ap (λ units. holds units q) c.empty.ensures ∙ set.contains-empty nat_cmp q
     ∙ calls_unsaid m c.args.config.now (m.kind c.args.i) c.args.from q slot (sym says ∙ sym c.has.ensures ∙ c.if-not-has.true)
 
@@ -20,7 +20,7 @@ returns c = λ q.
     let m = mission_of c.args.self.now in
     let slot = c.a_mission_fits.ensures.fits.numbered.slot c.args.i c.requires.slot in
     let crews = c.crews_for-crews.ensures.crews in
-    let says = crews.sayers c.args.i c.index-crews-i.result c.requires.slot c.args.from in
+    let says = crews.senders c.args.i c.index-crews-i.result c.requires.slot c.args.from in
     ap (λ units. holds units q) c.without.ensures ∙ holds_removed _ c.args.from q
-    ∙ ap (λ t. not (nat_eq q c.args.from) && t) (crews.hearers c.args.i c.index-crews-i-2.result c.requires.slot q)
+    ∙ ap (λ t. not (nat_eq q c.args.from) && t) (crews.receivers c.args.i c.index-crews-i-2.result c.requires.slot q)
     ∙ calls_to m c.args.config.now (m.kind c.args.i) c.args.from q slot (sym says ∙ sym c.has.ensures ∙ c.if-not-has.false)

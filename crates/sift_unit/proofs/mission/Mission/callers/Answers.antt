@@ -10,7 +10,7 @@ pub returns-then-not-has : goal.returns-then-not-has
 returns-then-not-has c = λ p.
     let m = mission_of c.args.self.now in
     let slot = c.a_mission_fits.ensures.fits.numbered.slot c.args.i c.requires.slot in
-    let hears = c.crews_for-crews.ensures.crews.hearers c.args.i c.index-crews-i.result c.requires.slot c.args.to in
+    let hears = c.crews_for-crews.ensures.crews.receivers c.args.i c.index-crews-i.result c.requires.slot c.args.to in
     ap (λ units. holds units p) c.empty.ensures ∙ set.contains-empty nat_cmp p
     ∙ calls_unheard m c.args.config.now (m.kind c.args.i) p c.args.to slot (sym hears ∙ sym c.has.ensures ∙ c.if-not-has.true)
 
@@ -20,7 +20,7 @@ returns c = λ p.
     let m = mission_of c.args.self.now in
     let slot = c.a_mission_fits.ensures.fits.numbered.slot c.args.i c.requires.slot in
     let crews = c.crews_for-crews.ensures.crews in
-    let hears = crews.hearers c.args.i c.index-crews-i.result c.requires.slot c.args.to in
+    let hears = crews.receivers c.args.i c.index-crews-i.result c.requires.slot c.args.to in
     ap (λ units. holds units p) c.without.ensures ∙ holds_removed _ c.args.to p
-    ∙ ap (λ t. not (nat_eq p c.args.to) && t) (crews.sayers c.args.i c.index-crews-i-2.result c.requires.slot p)
+    ∙ ap (λ t. not (nat_eq p c.args.to) && t) (crews.senders c.args.i c.index-crews-i-2.result c.requires.slot p)
     ∙ calls_from m c.args.config.now (m.kind c.args.i) p c.args.to slot (sym hears ∙ sym c.has.ensures ∙ c.if-not-has.false)

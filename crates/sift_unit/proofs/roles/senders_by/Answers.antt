@@ -2,7 +2,7 @@ use Rattle.std.proofs.Common.{◌<◌, ◌∙◌, length, arith}
 use mathlib.Core.Logic.{dite}
 use native.Mathlib.Decide.{ℕ_discrete}
 use Rattle.std.proofs.lemmas.List.{get_or-set_other, get_or-set_same, length-set}
-use Rattle.sift_unit.proofs.roles.sayers_by.Goals as goal
+use Rattle.sift_unit.proofs.roles.senders_by.Goals as goal
 
 -- one slot more
 pub loop-slot-preserved : goal.loop-slot-preserved
@@ -10,7 +10,7 @@ loop-slot-preserved c =
     let i = c.loop-slot.slot in
     let size = c.loop-slot.invariant.0 in
     let low = c.loop-slot-test.true in
-    let inside : i < length c.loop-slot.sayers =
+    let inside : i < length c.loop-slot.senders =
     omega (
       arith,
       size,
@@ -23,10 +23,10 @@ loop-slot-preserved c =
       c.requires.fit.limits.few_sensors,
       c.requires.fit.program.few_words,
     ) in (
-      length-set c.loop-slot.sayers i c.sayers_of.result ∙ size,
+      length-set c.loop-slot.senders i c.senders_of.result ∙ size,
       (λ config j units below. dite (ℕ_discrete j i)
-          (λ same. rw (same, get_or-set_same c.loop-slot.sayers i c.sayers_of.result units inside) (c.sayers_of.ensures config))
-          (λ other. rw (get_or-set_other c.loop-slot.sayers i j c.sayers_of.result units other) (c.loop-slot.invariant.1 config j units (omega arith)))),
+          (λ same. rw (same, get_or-set_same c.loop-slot.senders i c.senders_of.result units inside) (c.senders_of.ensures config))
+          (λ other. rw (get_or-set_other c.loop-slot.senders i j c.senders_of.result units other) (c.loop-slot.invariant.1 config j units (omega arith)))),
     )
 
 -- all slots have theirs

@@ -1,13 +1,13 @@
 use Rattle.std.proofs.Common.{◌≡◌, ◌<◌, ◌∙◌, ap, sym, subst, true, not, nat_eq, ◌&&◌, slice_index, slice_index_or, arith}
 use Rattle.std.specs.FinSet as set
 use Rattle.sift_base.specs.Units.{holds, has}
-use Rattle.sift_unit.specs.Crews.{is_sayer}
+use Rattle.sift_unit.specs.Crews.{sends}
 use Rattle.sift_unit.specs.Data.{data_of}
 use Rattle.sift_unit.specs.Flown.{mission_of}
 use Rattle.sift_unit.proofs.Calls.{has-reader}
 use Rattle.sift_unit.proofs.Held.{held-place, held-task, held-there, out_low}
 use Rattle.sift_unit.proofs.Sayers.{just_one, all_but, twice, rotated, holds_removed}
-use Rattle.sift_unit.proofs.roles.sayers_of.Goals as goal
+use Rattle.sift_unit.proofs.roles.senders_of.Goals as goal
 
 -- the word's task stands in the list
 pub bounds-tasks-from : goal.bounds-tasks-from
@@ -38,7 +38,7 @@ returns-in-Sense c = λ config p.
     let there : has us c.reader_of.result ≡ true = subst (λ r. has us r ≡ true) (sym c.reader_of.ensures) (has-reader m us c.in-Sense.x config) in
     ap (λ units. holds units p) (c.with.ensures ∙ ap (λ units. set.insert units c.reader_of.result) c.empty.ensures)
     ∙ just_one us c.reader_of.result p there ∙ ap (λ r. has us p && nat_eq p r) c.reader_of.ensures
-    ∙ ap (λ k. has us p && is_sayer m us k p) c.in-Sense.ensures
+    ∙ ap (λ k. has us p && sends m us k p) c.in-Sense.ensures
 
 -- the others relay it
 pub returns-in-RelaySense : goal.returns-in-RelaySense
@@ -48,7 +48,7 @@ returns-in-RelaySense c = λ config p.
     ap (λ units. holds units p) c.without.ensures
     ∙ all_but c.units_if-in-RelaySense.result us c.reader_of-in-RelaySense.result p (c.units_if-in-RelaySense.ensures p)
     ∙ ap (λ r. has us p && not (nat_eq p r)) c.reader_of-in-RelaySense.ensures
-    ∙ ap (λ k. has us p && is_sayer m us k p) c.in-RelaySense.ensures
+    ∙ ap (λ k. has us p && sends m us k p) c.in-RelaySense.ensures
 
 -- its crew says a task's word
 pub returns-in-Out : goal.returns-in-Out
@@ -63,7 +63,7 @@ returns-in-Out c = λ config p.
     ap (λ t. holds (slice_index_or c.args.crews.now t c.index-crews-from.result) p) task
     ∙ c.requires.crews (m.task c.in-Out.w) c.index-crews-from.result there p
     ∙ twice (has us p) _
-    ∙ ap (λ k. has us p && is_sayer m us k p) c.in-Out.ensures
+    ∙ ap (λ k. has us p && sends m us k p) c.in-Out.ensures
 
 -- the others of the configuration relay the report of one of its units
 pub returns-in-RelayReport : goal.returns-in-RelayReport
@@ -75,4 +75,4 @@ returns-in-RelayReport c = λ config p.
     ∙ holds_removed c.units_if-in-RelayReport.result of p
     ∙ ap (λ t. not (nat_eq p of) && t) (c.units_if-in-RelayReport.ensures p ∙ ap (λ t. has us p && t) c.has.ensures)
     ∙ rotated (not (nat_eq p of)) (has us p) (has us of)
-    ∙ ap (λ k. has us p && is_sayer m us k p) c.in-RelayReport.ensures
+    ∙ ap (λ k. has us p && sends m us k p) c.in-RelayReport.ensures

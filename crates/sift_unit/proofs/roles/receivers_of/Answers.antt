@@ -1,8 +1,8 @@
 use Rattle.std.proofs.Common.{◌∙◌, ap, ◌&&◌}
 use Rattle.sift_base.specs.Units.{holds, has}
-use Rattle.sift_unit.specs.Crews.{is_hearer}
+use Rattle.sift_unit.specs.Crews.{receives}
 use Rattle.sift_unit.proofs.Sayers.{all_but}
-use Rattle.sift_unit.proofs.roles.hearers_of.Goals as goal
+use Rattle.sift_unit.proofs.roles.receivers_of.Goals as goal
 
 -- a relayed report isn't heard by the unit that it is of
 pub returns-in-RelayReport : goal.returns-in-RelayReport
@@ -10,4 +10,4 @@ returns-in-RelayReport c = λ q.
     let us = c.args.config.now in
     ap (λ units. holds units q) c.without.ensures
     ∙ all_but c.units_if.result us c.in-RelayReport.s q (c.units_if.ensures q)
-    ∙ ap (λ k. has us q && is_hearer k q) c.in-RelayReport.ensures
+    ∙ ap (λ k. has us q && receives k q) c.in-RelayReport.ensures
