@@ -10,7 +10,6 @@ use Rattle.sift_code.specs.Ends.{Fits}
 use Rattle.sift_code.specs.Refusal.{Program}
 use Rattle.sift_code.specs.Sources.{source_of, words_at, inputs_of, AreLists, IsWordAt}
 use Rattle.sift_code.specs.Work.{Steps}
-use Rattle.sift_code.proofs.Progress.{IsPlain}
 use Rattle.sift_code.proofs.Standing.{machine, Fetched, heights, operand}
 use Rattle.sift_code.proofs.Steps.{pushes_word}
 

@@ -6,8 +6,12 @@ ghost use Rattle.sift_code.specs.Sources.{source_of, words_at, IsWordAt};
 use crate::instr::Instr;
 use sift_base::Word;
 
+/// How many lists there are to read: a 0 alone, the words sensed, those voted in this frame, and those voted in the
+/// frame before.
+pub(crate) const LISTS: u8 = 4;
+
 /// Where an instruction reads the word that it pushes: the number of a list, a place in it, and what is added to the
-/// word there. An instruction that does anything else names no list.
+/// word there. An instruction that does anything else names a list that isn't there.
 #[derive(Clone, Copy)]
 pub(crate) struct Source {
     list: u8,
@@ -16,32 +20,47 @@ pub(crate) struct Source {
 }
 
 impl Source {
-    /// Where the instruction reads. A word of its own is added to the 0 of the first list.
+    /// Where the instruction reads.
     pub fn of(instr: &Instr) -> Source
         ensures { result ≡ source_of instr.now }
     {
         match *instr {
-            Instr::Push(word) => Source::plus(0, 0, word),
-            Instr::Sense(sensor) => Source::plus(1, sensor, Word::of(0)),
-            Instr::Now(word) => Source::plus(2, word, Word::of(0)),
-            Instr::Last(word) => Source::plus(3, word, Word::of(0)),
-            _ => Source::plus(4, 0, Word::of(0)),
+            Instr::Push(word) => Source::own(word),
+            Instr::Sense(sensor) => Source::listed(1, sensor),
+            Instr::Now(word) => Source::listed(2, word),
+            Instr::Last(word) => Source::listed(3, word),
+            _ => Source::listed(LISTS, 0),
         }
     }
 
-    /// A place of a list, with what is added to the word there.
-    fn plus(list: u8, at: u8, plus: Word) -> Source
-        ensures { result ≡ record { list = list; at = at; plus = plus } }
+    /// A word of the instruction's own, added to the 0.
+    fn own(word: Word) -> Source
+        ensures { result ≡ record { list = 0; at = 0; plus = word } }
     {
-        Source { list, at, plus }
+        Source {
+            list: 0,
+            at: 0,
+            plus: word,
+        }
     }
 
-    /// Whether there is a list to read.
-    pub fn is_read(&self) -> bool
-        ensures some { result ≡ true → self.now.list < 4 }
-        ensures none { result ≡ false → 4 ≤ self.now.list }
+    /// The word at a place of a list.
+    fn listed(list: u8, at: u8) -> Source
+        ensures { result ≡ record { list = list; at = at; plus = 0 } }
     {
-        self.list < 4
+        Source {
+            list,
+            at,
+            plus: Word::of(0),
+        }
+    }
+
+    /// Whether its list is there.
+    pub fn is_there(&self) -> bool
+        ensures there { result ≡ true → self.now.list < 4 }
+        ensures nowhere { result ≡ false → 4 ≤ self.now.list }
+    {
+        self.list < LISTS
     }
 
     /// The word that is read there.

@@ -1,5 +1,6 @@
 //! The order of steps: for each turn a unit is drawn.
 ghost use Rattle.std.specs.Prelude.{◌≡◌, ◌<◌, ◌≤◌, ◌*◌, IfSome, IfNone, true, false, length};
+ghost use Rattle.sift_base.specs.Draw.{drawn, next_number};
 ghost use Rattle.sift_base.specs.Units.{has};
 ghost use Rattle.sift_unit.specs.Flown.{mission_of};
 ghost use Rattle.sift_core.specs.Machines.{Flies, layout_of, distances};
@@ -14,6 +15,20 @@ fn end_of(mission: &Mission) -> u64
     ensures { result ≡ end_in (mission_of mission.now) }
 {
     u64::from(mission.frames()) * u64::from(mission.period())
+}
+
+/// Draws a number below a number of units. Four and eight are told apart, since a computer divides by a number that it
+/// doesn't know beforehand in many times the time.
+fn drawn_below(drawer: &mut Draw, units: u8) -> u64
+    requires { 0 < units }
+    ensures next { drawer.new ≡ next_number drawer.old }
+    ensures drawn { result ≡ drawn drawer.new units }
+{
+    match units {
+        4 => drawer.draw(4),
+        8 => drawer.draw(8),
+        _ => drawer.draw(u64::from(units)),
+    }
 }
 
 impl Machine {
@@ -60,7 +75,7 @@ impl Machine {
     fn drawn_unit(&self, drawer: &mut Draw) -> UnitId
         ensures { IsDrawn (layout_of self.now).units drawer.old drawer.new result }
     {
-        let number = drawer.draw(u64::from(self.rack.grid.layout.units));
+        let number = drawn_below(drawer, self.rack.grid.layout.units);
         if let Some(unit) = UnitId::of(number as u8) {
             return unit;
         }

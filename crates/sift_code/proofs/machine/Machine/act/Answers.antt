@@ -1,5 +1,4 @@
-use Rattle.std.proofs.Common.{◌∙◌, Some, arith, ap, length, refl, sym}
-use Rattle.std.proofs.lemmas.Option.{slice_get-get_or}
+use Rattle.std.proofs.Common.{◌∙◌, arith, ap, length, refl, sym}
 use Rattle.sift_code.specs.declared.instr.Instr.TheVariants.{Add, Sub, Mul, Div, Rem, And, Or, Xor, Shl, Shr, Lt, Eq}
 use Rattle.sift_code.proofs.Sound.{braced, uncrowded}
 use Rattle.sift_code.proofs.Places.{locals_of-get, refill-set}

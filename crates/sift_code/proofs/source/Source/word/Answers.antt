@@ -1,7 +1,7 @@
-use Rattle.std.proofs.Common.{◌≡◌, ◌<◌, ◌+◌, ◌%◌, List, length, refl, sym, ap, ◌∙◌, arith}
+use Rattle.std.proofs.Common.{◌≡◌, length, refl, sym, ap, ◌∙◌, arith}
 use Rattle.std.specs.Prelude.{slice_index}
 use Rattle.std.proofs.lemmas.List.{get_or-map, get_or_read_under}
-use Rattle.sift_code.specs.Sources.{words_at, IsWordAt}
+use Rattle.sift_code.specs.Sources.{words_at}
 use Rattle.sift_code.proofs.source.Source.word.Goals as goal
 
 -- the word is a sum of two
