@@ -1,4 +1,4 @@
-//! Rows of tests of missions, boards, machines and the texts of flights.
+//! Rows of tests of missions, boards, machines, the texts of flights, and the top call.
 #![tactic(auto)]
 
 #[cfg(test)]
@@ -9,5 +9,7 @@ mod flying;
 mod stated;
 #[cfg(test)]
 mod texts;
+#[cfg(test)]
+mod top;
 #[cfg(test)]
 mod unit;

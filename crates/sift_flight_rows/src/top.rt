@@ -1,6 +1,7 @@
-//! A source and a sink that fail at any one of their calls. What the program answers else is in cases/.
-use crate::top::sift;
+//! The top call, over a source and a sink that fail at any one of their calls. What it answers else is in cases/.
+
 use sift_io::{BytesIn, BytesOut};
+use sift_run::sift;
 use std::alloc::{AllocError, Global};
 use std::test::Fail;
 

@@ -1,33 +1,24 @@
 //! `sift`: a simulator of SIFT, the fault-tolerant computer for aircraft control.
 //!
-//! It reads a mission, flies it, and reports what every unit did. The top call is `top::sift`, whose contract says
-//! what each exit status means; `exit::exit_code` ends the program with it, and `main` hands on the real words, input
-//! and output.
+//! It reads a mission, flies it, and reports what every unit did. The top call is `sift_run::sift`, whose contract says
+//! what each exit status means; `sift_run::exit_code` ends the program with it, and `main` hands on the real words,
+//! input and output.
 #![tactic(auto)]
-
-mod answer;
-mod command;
-mod exit;
-mod law;
-mod options;
-mod refusal;
-#[cfg(test)]
-mod tests;
-mod top;
 
 use sift_base::NoMemory;
 use sift_io::{StdIn, StdOut};
+use sift_run::exit_code;
 use std::env;
 use std::io::ErrorKind;
 use std::process::ExitCode;
 use std::rt::Env;
 
-/// Hands the real words, input and output to `exit::exit_code`, whose contract says how the program ends.
+/// Hands the real words, input and output to `exit_code`, whose contract says how the program ends.
 fn main(rt: HostRuntime) -> ExitCode {
     let words = command_words(&rt);
     let mut source = StdIn::new(rt.stdin());
     let mut sink = StdOut::new(rt.stdout());
-    exit::exit_code(rt.alloc(), words, &mut source, &mut sink)
+    exit_code(rt.alloc(), words, &mut source, &mut sink)
 }
 
 /// The words after the program's name. Where one of them isn't UTF-8 there are none, and no words are no command line.
