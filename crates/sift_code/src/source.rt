@@ -7,8 +7,16 @@ use crate::instr::Instr;
 use sift_base::Word;
 
 /// How many lists there are to read: a 0 alone, the words sensed, those voted in this frame, and those voted in the
-/// frame before.
+/// frame before. By these numbers they stand in the list of lists.
 pub(crate) const LISTS: u8 = 4;
+
+const ZERO: u8 = 0;
+
+const SENSED: u8 = 1;
+
+const VOTED: u8 = 2;
+
+const VOTED_BEFORE: u8 = 3;
 
 /// Where an instruction reads the word that it pushes: the number of a list, a place in it, and what is added to the
 /// word there. An instruction that does anything else names a list that isn't there.
@@ -26,9 +34,9 @@ impl Source {
     {
         match *instr {
             Instr::Push(word) => Source::own(word),
-            Instr::Sense(sensor) => Source::listed(1, sensor),
-            Instr::Now(word) => Source::listed(2, word),
-            Instr::Last(word) => Source::listed(3, word),
+            Instr::Sense(sensor) => Source::listed(SENSED, sensor),
+            Instr::Now(word) => Source::listed(VOTED, word),
+            Instr::Last(word) => Source::listed(VOTED_BEFORE, word),
             _ => Source::listed(LISTS, 0),
         }
     }
@@ -38,7 +46,7 @@ impl Source {
         ensures { result ≡ record { list = 0; at = 0; plus = word } }
     {
         Source {
-            list: 0,
+            list: ZERO,
             at: 0,
             plus: word,
         }

@@ -2,7 +2,7 @@
 
 ghost use Rattle.std.specs.Prelude.{◌≡◌, ℕ, ◌<◌, ◌≤◌, List, length, false, slice_get, slice_index, Some, IfSome, IfNone, true};
 ghost use Rattle.std.specs.FinSet as set;
-ghost use Rattle.sift_base.specs.Units.{AreUnits, members, units_of, unit_limit, has};
+ghost use Rattle.sift_base.specs.Units.{AreUnits, members, units_of, unit_limit, has, holds};
 ghost use Rattle.sift_base.specs.Layout.{least_units};
 ghost use Rattle.sift_base.specs.ReadBack.{set-members};
 ghost use Rattle.sift_config.specs.Config.{IsConfig, first_units, reader_of, remaining};
@@ -49,7 +49,8 @@ impl Config {
 
     /// The units as a set.
     pub fn units(&self) -> UnitSet
-        ensures { members result ≡ self.now }
+        ensures members { members result ≡ self.now }
+        ensures set { (u : ℕ) → holds result u ≡ has self.now u }
     {
         self.units
     }

@@ -11,7 +11,7 @@ use sift_lang::Stmt;
 use std::alloc::Global;
 
 /// Why tokens are no task.
-#[derive(Clone, Copy, Debug, PartialEq, Eq)]
+#[derive(Clone, Copy)]
 pub(crate) enum Offence {
     /// The tokens before this one begin some task, and with it they don't; or the tokens end here and are no task.
     Syntax { at: usize },

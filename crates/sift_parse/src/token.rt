@@ -5,7 +5,7 @@ use sift_lang::Op;
 pub const LEVEL_LIMIT: usize = 32;
 
 /// A word that the language keeps for itself.
-#[derive(Clone, Copy, Debug, PartialEq, Eq)]
+#[derive(Clone, Copy, PartialEq, Eq)]
 pub(crate) enum Keyword {
     Let,
     Out,
@@ -19,7 +19,7 @@ pub(crate) enum Keyword {
 }
 
 /// A sign that is no operator.
-#[derive(Clone, Copy, Debug, PartialEq, Eq)]
+#[derive(Clone, Copy, PartialEq, Eq)]
 pub(crate) enum Sign {
     /// `=`
     Assign,
@@ -40,7 +40,7 @@ pub(crate) enum Sign {
 }
 
 /// A token, with each name taken for the number of what it names in its place.
-#[derive(Clone, Copy, Debug, PartialEq, Eq)]
+#[derive(Clone, Copy)]
 pub(crate) enum Token {
     Keyword(Keyword),
     /// A local, a sensor or a task.

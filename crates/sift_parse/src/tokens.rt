@@ -9,7 +9,7 @@ use sift_lang::Op;
 use std::alloc::{AllocError, AllocFailed};
 
 /// Why reading stopped.
-#[derive(Clone, Copy, Debug, PartialEq, Eq)]
+#[derive(Clone, Copy)]
 pub(crate) enum ReadStop {
     /// The first token that is left offends, or the tokens end where one is missing.
     Syntax,

@@ -7,9 +7,8 @@ use Rattle.std.specs.FinSet as set
 use Rattle.std.proofs.lemmas.Bool.{cases_Bool, cases_lt}
 use Rattle.std.proofs.lemmas.Nat.{shr-shr}
 use Rattle.std.proofs.lemmas.Nat.Bits.{bit_at-zero, bit_at_above, bit_at-trailing_zeros}
-use Rattle.sift_base.specs.Units.{Units, AreUnits, has, holds, units_of, members}
+use Rattle.sift_base.specs.Units.{Units, has, holds, units_of}
 use Rattle.sift_base.proofs.Sets.{holds_low, holds-insert}
-use Rattle.sift_config.proofs.Lists.{has-members}
 use Rattle.sift_base.specs.declared.slot.Slot.{Slot}
 use Rattle.sift_unit.specs.Mission.{Mission}
 use Rattle.sift_base.specs.declared.slot.Slot.TheVariants.{Clock, Sense, RelaySense, Out, Report, RelayReport}
@@ -63,10 +62,6 @@ first_by f g from first same is = record {
 }
 
 -- ---- units of a configuration
-
--- a set of units whose members are a list holds what the list has
-pub holds_members : (units : Units) (us : List ℕ) → AreUnits units → members units ≡ us → (u : ℕ) → holds units u ≡ has us u
-holds_members units us are is u = sym (has-members units u are) ∙ ap (λ vs. has vs u) is
 
 -- a test that passes stands beside none
 pub beside_true : (t : Bool) → t ≡ (t && true)
@@ -135,53 +130,34 @@ sent m us (Out w) p q = beside_true (m.executes us w p)
 sent m us Report p q = refl
 sent m us (RelayReport s) p q = joined (has us s) (not (nat_eq p s)) (not (nat_eq q s))
 
--- of five tests two pass
-heard_by : (p q n y h : Bool) → (q && h) ≡ true → (n && (p && y)) ≡ (p && (q && (n && (y && h))))
-heard_by true true true true true both = refl
-heard_by true true true false true both = refl
-heard_by true true false y true both = refl
-heard_by false true true y true both = refl
-heard_by false true false y true both = refl
-heard_by p false n y h both = cc
-heard_by p true n y false both = cc
+-- five tests in another order
+heard_by : (p q n y h : Bool) → ((q && h) && (n && (p && y))) ≡ (p && (q && (n && (y && h))))
+heard_by false false n y h = refl
+heard_by false true n y false = refl
+heard_by false true true y true = refl
+heard_by false true false y true = refl
+heard_by true false n y h = refl
+heard_by true true true true true = refl
+heard_by true true true true false = refl
+heard_by true true true false true = refl
+heard_by true true true false false = refl
+heard_by true true false y true = refl
+heard_by true true false y false = refl
 
--- or one of the two fails
-unheard : (p q n y h : Bool) → (q && h) ≡ false → false ≡ (p && (q && (n && (y && h))))
-unheard false q n y h fails = refl
-unheard true false n y h fails = refl
-unheard true true false y h fails = refl
-unheard true true true false h fails = refl
-unheard true true true true false fails = refl
-unheard true true true true true fails = cc
-
-said_by : (p q n y h : Bool) → (p && y) ≡ true → (n && (q && h)) ≡ (p && (q && (n && (y && h))))
-said_by true true true true h both = refl
-said_by true true false true h both = refl
-said_by true false true true h both = refl
-said_by true false false true h both = refl
-said_by false q n y h both = cc
-said_by true q n false h both = cc
-
-unsaid : (p q n y h : Bool) → (p && y) ≡ false → false ≡ (p && (q && (n && (y && h))))
-unsaid false q n y h fails = refl
-unsaid true false n y h fails = refl
-unsaid true true false y h fails = refl
-unsaid true true true false h fails = refl
-unsaid true true true true h fails = cc
+said_by : (p q n y h : Bool) → ((p && y) && (n && (q && h))) ≡ (p && (q && (n && (y && h))))
+said_by false q n y h = refl
+said_by true true n true h = refl
+said_by true false true true h = refl
+said_by true false false true h = refl
+said_by true false n false h = refl
+said_by true true true false h = refl
+said_by true true false false h = refl
 
 module _ (m : Mission) (us : List ℕ) (k : Slot) (p q : ℕ) (slot : is_slot m k ≡ true) where
-  -- the others that say a slot say it to a unit that hears it
-  pub calls_from : (has us q && receives k q) ≡ true → (not (nat_eq p q) && (has us p && sends m us k p)) ≡ calls m us k p q
-  calls_from hears = rw (slot, sent m us k p q) (heard_by (has us p) (has us q) (not (nat_eq p q)) (sends m us k p) (receives k q) hears)
+  -- a unit that hears a slot hears it from the others that say it
+  pub calls_to : ((has us q && receives k q) && (not (nat_eq p q) && (has us p && sends m us k p))) ≡ calls m us k p q
+  calls_to = rw (slot, sent m us k p q) (heard_by (has us p) (has us q) (not (nat_eq p q)) (sends m us k p) (receives k q))
 
-  -- none says it to a unit that doesn't hear it
-  pub calls_unheard : (has us q && receives k q) ≡ false → false ≡ calls m us k p q
-  calls_unheard fails = rw (slot, sent m us k p q) (unheard (has us p) (has us q) (not (nat_eq p q)) (sends m us k p) (receives k q) fails)
-
-  -- the others that hear a slot hear it from a unit that says it
-  pub calls_to : (has us p && sends m us k p) ≡ true → (not (nat_eq q p) && (has us q && receives k q)) ≡ calls m us k p q
-  calls_to says = rw (slot, sent m us k p q, same_test q p) (said_by (has us p) (has us q) (not (nat_eq p q)) (sends m us k p) (receives k q) says)
-
-  -- none hears it from a unit that doesn't say it
-  pub calls_unsaid : (has us p && sends m us k p) ≡ false → false ≡ calls m us k p q
-  calls_unsaid fails = rw (slot, sent m us k p q) (unsaid (has us p) (has us q) (not (nat_eq p q)) (sends m us k p) (receives k q) fails)
+  -- and one that says it says it to the others that hear it
+  pub calls_from : ((has us p && sends m us k p) && (not (nat_eq q p) && (has us q && receives k q))) ≡ calls m us k p q
+  calls_from = rw (slot, sent m us k p q, same_test q p) (said_by (has us p) (has us q) (not (nat_eq p q)) (sends m us k p) (receives k q))

@@ -12,6 +12,7 @@ use Rattle.sift_unit.specs.Flown.{flown, position_in, table_for}
 use Rattle.sift_unit.specs.Mission.{Mission}
 use Rattle.sift_unit.specs.Slots.{is_senders}
 use Rattle.sift_unit.specs.declared.crews.Crews.{Crews}
+use Rattle.sift_unit.specs.declared.roles.Roles.{Roles}
 
 -- the units of a configuration that run a task by a table: those at the task's positions
 abbrev pub IsCrewBy : Schedule → List ℕ → ℕ → Units → Type 0
@@ -21,12 +22,12 @@ IsCrewBy table us t crew = (u : ℕ) → holds crew u ≡ (has us u && runs_at t
 abbrev pub AreCrewsBy : Schedule → List ℕ → ℕ → List Units → Type 0
 AreCrewsBy table us tasks crews = (t : ℕ) (crew : Units) → t < tasks → IsCrewBy table us t (slice_index_or crews t crew)
 
--- a unit says the slot, to whoever hears it: another than the one whose report is relayed, if that is a slot's
+-- a unit says the slot, whoever hears it; the report of a unit is relayed by the others
 abbrev pub sends : Mission → List ℕ → Slot → ℕ → Bool
 sends m us (RelayReport s) p = has us s && not (nat_eq p s)
 sends m us k p = is_senders m us k p p
 
--- a unit hears the slot, from whoever says it
+-- a unit hears the slot, whoever says it; the relays of a report are for all but the unit whose report it was
 abbrev pub receives : Slot → ℕ → Bool
 receives (RelayReport s) q = not (nat_eq q s)
 receives k q = true
@@ -39,18 +40,19 @@ AreSendersOf d us i units = (p : ℕ) → holds units p ≡ (has us p && sends (
 abbrev pub AreReceiversOf : Layout → List ℕ → ℕ → Units → Type 0
 AreReceiversOf layout us i units = (q : ℕ) → holds units q ≡ (has us q && receives (slot_kind layout i) q)
 
--- the same of each of so many slots
-abbrev pub AreAllSenders : MissionData → List ℕ → ℕ → List Units → Type 0
-AreAllSenders d us count senders = (i : ℕ) (units : Units) → i < count → AreSendersOf d us i (slice_index_or senders i units)
+-- both are what they are for the slot
+pub record AreRolesOf (d : MissionData) (us : List ℕ) (i : ℕ) (roles : Roles) : Type 0 where
+  pub senders : AreSendersOf d us i roles.senders
+  pub receivers : AreReceiversOf d.layout us i roles.receivers
 
-abbrev pub AreAllReceivers : Layout → List ℕ → ℕ → List Units → Type 0
-AreAllReceivers layout us count receivers = (i : ℕ) (units : Units) → i < count → AreReceiversOf layout us i (slice_index_or receivers i units)
+-- and so for each of so many slots
+abbrev pub AreAllRoles : MissionData → List ℕ → ℕ → List Roles → Type 0
+AreAllRoles d us count rows = (i : ℕ) (roles : Roles) → i < count → AreRolesOf d us i (slice_index_or rows i roles)
 
 -- the crews of a configuration by its table, who says and hears each slot, and the place of the table among the mission's
 pub record AreCrewsOf (d : MissionData) (us : List ℕ) (row : Crews) : Type 0 where
   pub crews : AreCrewsBy (table_for d us) us (length d.program.tasks) row.by_task
-  pub senders : AreAllSenders d us (slot_count d.layout) row.senders
-  pub receivers : AreAllReceivers d.layout us (slot_count d.layout) row.receivers
+  pub roles : AreAllRoles d us (slot_count d.layout) row.roles
   pub table : row.table ≡ length us - least_units
 
 -- for each byte whose units are a configuration of the mission, what is kept of that configuration

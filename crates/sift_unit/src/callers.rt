@@ -1,6 +1,6 @@
 //! Who says a slot to a unit, and who hears it from one, as sets of units.
 
-ghost use Rattle.std.specs.Prelude.{◌≡◌, ◌<◌, ◌≤◌, ℕ};
+ghost use Rattle.std.specs.Prelude.{◌≡◌, ◌<◌, ◌≤◌, ◌&&◌, ℕ, nat_eq, not};
 ghost use Rattle.sift_base.specs.Units.{has, holds, unit_limit};
 ghost use Rattle.sift_unit.specs.Acts.{IsConfigOf};
 ghost use Rattle.sift_unit.specs.Flown.{mission_of};
@@ -48,11 +48,8 @@ impl Mission {
         ensures { (p : ℕ) → holds result p ≡ calls (mission_of self.now) config.now ((mission_of self.now).kind i) p to }
     {
         a_mission_fits(self);
-        let crews = self.crews_for(config);
-        if !crews.receivers[i].has(to) {
-            return UnitSet::empty();
-        }
-        crews.senders[i].without(to)
+        let roles = self.crews_for(config).roles[i];
+        partners(to, roles.receivers, roles.senders)
     }
 
     /// The units to which a unit says the slot of a number.
@@ -62,12 +59,19 @@ impl Mission {
         ensures { (q : ℕ) → holds result q ≡ calls (mission_of self.now) config.now ((mission_of self.now).kind i) from q }
     {
         a_mission_fits(self);
-        let crews = self.crews_for(config);
-        if !crews.senders[i].has(from) {
-            return UnitSet::empty();
-        }
-        crews.receivers[i].without(from)
+        let roles = self.crews_for(config).roles[i];
+        partners(from, roles.senders, roles.receivers)
     }
+}
+
+/// The partners of a unit of one side: all other units of the other side. A unit that isn't of its side has none.
+fn partners(unit: UnitId, side: UnitSet, other: UnitSet) -> UnitSet
+    ensures { (u : ℕ) → holds result u ≡ (holds side unit && (not (nat_eq u unit) && holds other u)) }
+{
+    if !side.has(unit) {
+        return UnitSet::empty();
+    }
+    other.without(unit)
 }
 
 /// From a number on the first unit of a set, and 8 where there is none.

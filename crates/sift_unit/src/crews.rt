@@ -11,18 +11,17 @@ ghost use Rattle.sift_unit.specs.Flown.{mission_of};
 ghost use Rattle.sift_unit.specs.PartsFit.{PartsFit};
 
 use crate::parts::MissionParts;
-use crate::roles::{receivers_by, senders_by};
+use crate::roles::{Roles, all_roles};
 use sift_base::UnitSet;
 use sift_config::Config;
 use sift_table::GoodTable;
 
-/// By task, the units of one configuration that run it; by slot, those that say it and those that hear it; and by which
-/// of the mission's tables they do.
+/// By task, the units of one configuration that run it; by slot, who says and who hears it; and by which of the mission's
+/// tables they do.
 #[derive(Clone, Copy)]
 pub(crate) struct Crews {
     pub by_task: [UnitSet; 24],
-    pub senders: [UnitSet; 90],
-    pub receivers: [UnitSet; 90],
+    pub roles: [Roles; 90],
     pub table: usize,
 }
 
@@ -33,8 +32,7 @@ impl Crews {
     {
         Crews {
             by_task: [UnitSet::empty(); 24],
-            senders: [UnitSet::empty(); 90],
-            receivers: [UnitSet::empty(); 90],
+            roles: [Roles::none(); 90],
             table: 0,
         }
     }
@@ -85,8 +83,7 @@ fn crews_under(parts: &MissionParts, tasks: &[u8], config: &Config) -> Crews
         let by_task = crews_by(&parts.tables[place], config, parts.program.tasks.len());
         return Crews {
             by_task,
-            senders: senders_by(parts, tasks, config, &by_task),
-            receivers: receivers_by(&parts.layout, config),
+            roles: all_roles(parts, tasks, config, &by_task),
             table: place,
         };
     }

@@ -5,7 +5,7 @@ ghost use Rattle.sift_base.specs.Layout.{IsLayout, slot_count};
 ghost use Rattle.sift_base.specs.Units.{has, holds};
 ghost use Rattle.sift_unit.specs.Acts.{IsConfigOf};
 ghost use Rattle.sift_unit.specs.ByWord.{by_word};
-ghost use Rattle.sift_unit.specs.Crews.{AreCrewsBy, AreAllReceivers, AreAllSenders, AreSendersOf, AreReceiversOf};
+ghost use Rattle.sift_unit.specs.Crews.{AreAllRoles, AreCrewsBy, AreReceiversOf, AreRolesOf, AreSendersOf};
 ghost use Rattle.sift_unit.specs.Data.{data_of};
 ghost use Rattle.sift_unit.specs.Flown.{mission_of, table_for};
 ghost use Rattle.sift_unit.specs.PartsFit.{PartsFit};
@@ -15,23 +15,60 @@ use crate::schedule::slot_of;
 use sift_base::{Layout, Slot, UnitId, UnitSet};
 use sift_config::Config;
 
-/// By slot, the units of a configuration that say it, where these crews run the tasks.
-pub(crate) fn senders_by(
+/// The units of a configuration that say a slot, and those that hear it.
+#[derive(Clone, Copy)]
+pub(crate) struct Roles {
+    pub senders: UnitSet,
+    pub receivers: UnitSet,
+}
+
+impl Roles {
+    /// No unit says or hears the slot.
+    pub fn none() -> Roles {
+        Roles {
+            senders: UnitSet::empty(),
+            receivers: UnitSet::empty(),
+        }
+    }
+}
+
+/// By slot, who says and who hears it under a configuration, where these crews run the tasks.
+pub(crate) fn all_roles(
     parts: &MissionParts,
     tasks: &[u8],
     config: &Config,
     crews: &[UnitSet; 24],
-) -> [UnitSet; 90]
+) -> [Roles; 90]
     requires fit { PartsFit (data_of parts.now) }
     requires tasks { tasks.now ≡ by_word 0 (data_of parts.now).program.tasks }
     requires crews { let d = data_of parts.now in AreCrewsBy (table_for d config.now) config.now (length d.program.tasks) crews.now }
-    ensures { IsConfigOf (mission_of parts.now) config.now → AreAllSenders (data_of parts.now) config.now (slot_count parts.now.layout) result }
+    ensures { IsConfigOf (mission_of parts.now) config.now → AreAllRoles (data_of parts.now) config.now (slot_count parts.now.layout) result }
 {
-    let mut senders = [UnitSet::empty(); 90];
+    let mut roles = [Roles::none(); 90];
     for slot in 0..parts.layout.count() {
-        senders[slot] = senders_of(parts, tasks, config, crews, slot);
+        roles[slot] = roles_of(parts, tasks, config, crews, slot);
     }
-    senders
+    roles
+}
+
+/// Who says and who hears a slot.
+fn roles_of(
+    parts: &MissionParts,
+    tasks: &[u8],
+    config: &Config,
+    crews: &[UnitSet; 24],
+    slot: usize,
+) -> Roles
+    requires fit { PartsFit (data_of parts.now) }
+    requires tasks { tasks.now ≡ by_word 0 (data_of parts.now).program.tasks }
+    requires crews { let d = data_of parts.now in AreCrewsBy (table_for d config.now) config.now (length d.program.tasks) crews.now }
+    requires slot { slot < slot_count parts.now.layout }
+    ensures { IsConfigOf (mission_of parts.now) config.now → AreRolesOf (data_of parts.now) config.now slot result }
+{
+    Roles {
+        senders: senders_of(parts, tasks, config, crews, slot),
+        receivers: receivers_of(&parts.layout, config, slot),
+    }
 }
 
 /// The units of a configuration that say a slot.
@@ -57,18 +94,6 @@ fn senders_of(
     }
 }
 
-/// By slot, the units of a configuration that hear it.
-pub(crate) fn receivers_by(layout: &Layout, config: &Config) -> [UnitSet; 90]
-    requires { IsLayout layout.now }
-    ensures { AreAllReceivers layout.now config.now (slot_count layout.now) result }
-{
-    let mut receivers = [UnitSet::empty(); 90];
-    for slot in 0..layout.count() {
-        receivers[slot] = receivers_of(layout, config, slot);
-    }
-    receivers
-}
-
 /// The units of a configuration that hear a slot.
 fn receivers_of(layout: &Layout, config: &Config, slot: usize) -> UnitSet
     requires layout { IsLayout layout.now }
@@ -86,7 +111,7 @@ fn units_if(config: &Config, all: bool) -> UnitSet
     ensures { (u : ℕ) → holds result u ≡ (has config.now u && all) }
 {
     if all {
-        UnitSet::of_bits(config.units().bits())
+        config.units()
     } else {
         UnitSet::empty()
     }

@@ -1,4 +1,5 @@
 use Rattle.std.proofs.Common.{◌-◌, ◌<◌, length, arith}
+use Rattle.std.proofs.lemmas.Grind.{common_steps}
 use Rattle.std.proofs.lemmas.List.{length-map}
 use Rattle.sift_lang.specs.Tree.{tree_of}
 use Rattle.sift_unit.specs.Data.{data_of}
@@ -17,3 +18,11 @@ crews_by-by_task-requires-clause-rows c =
 pub returns : goal.returns
 returns c = λ config. absurd (let low = table-low (data_of c.args.parts.now) c.requires.fit c.args.config.now config in
     omega (arith, c.if-place-len.false, c.len.ensures, c.args.parts.now.tables.ok.0, c.len-place.ensures.length))
+
+-- and by it the crews and the roles of its size
+pub returns-then-place-len : goal.returns-then-place-len
+returns-then-place-len c = λ config. record {
+  crews = grind (arith, common_steps, c.crews_by-by_task.ensures);
+  roles = c.all_roles.ensures config;
+  table = omega (arith, c.len-place.ensures.length);
+}

@@ -1,13 +1,12 @@
 use Rattle.std.proofs.Common.{ap, ◌∙◌, nat_cmp, sym, ◌&&◌}
 use Rattle.std.specs.FinSet as set
 use Rattle.sift_base.specs.Units.{holds, has}
-use Rattle.sift_unit.proofs.Sayers.{holds_members, beside_true, beside_false}
+use Rattle.sift_unit.proofs.Sayers.{beside_true, beside_false}
 use Rattle.sift_unit.proofs.roles.units_if.Goals as goal
 
 pub returns-then-all : goal.returns-then-all
 returns-then-all c = λ u.
-    ap (λ units. holds units u) (c.of_bits.ensures ∙ c.bits.ensures.back)
-    ∙ holds_members c.units.result c.args.config.now c.bits.ensures.units c.units.ensures u ∙ beside_true (has c.args.config.now u)
+    c.units.ensures.set u ∙ beside_true (has c.args.config.now u)
     ∙ ap (λ t. has c.args.config.now u && t) (sym c.if-all.true)
 
 pub returns-else-all : goal.returns-else-all

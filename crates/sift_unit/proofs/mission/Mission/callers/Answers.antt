@@ -1,26 +1,21 @@
-use Rattle.std.proofs.Common.{◌∙◌, ap, sym, nat_cmp, not, nat_eq, ◌&&◌}
-use Rattle.std.specs.FinSet as set
-use Rattle.sift_base.specs.Units.{holds}
-use Rattle.sift_unit.proofs.Sayers.{holds_removed, calls_from, calls_unheard}
+use Rattle.std.proofs.Common.{◌∙◌, ap, not, nat_eq, ◌&&◌, slice_index_or}
+use Rattle.sift_base.specs.Units.{has, holds}
+use Rattle.sift_unit.specs.Crews.{receives}
 use Rattle.sift_unit.specs.Flown.{mission_of}
+use Rattle.sift_unit.proofs.Sayers.{calls_to}
 use Rattle.sift_unit.proofs.mission.Mission.callers.Goals as goal
 
--- who doesn't hear the slot hears it from none
-pub returns-then-not-has : goal.returns-then-not-has
-returns-then-not-has c = λ p.
-    let m = mission_of c.args.self.now in
-    let slot = c.a_mission_fits.ensures.fits.numbered.slot c.args.i c.requires.slot in
-    let hears = c.crews_for-crews.ensures.crews.receivers c.args.i c.index-crews-i.result c.requires.slot c.args.to in
-    ap (λ units. holds units p) c.empty.ensures ∙ set.contains-empty nat_cmp p
-    ∙ calls_unheard m c.args.config.now (m.kind c.args.i) p c.args.to slot (sym hears ∙ sym c.has.ensures ∙ c.if-not-has.true)
-
--- who hears it hears it from the others that say it
+-- who hears the slot hears it from the others that say it
 pub returns : goal.returns
 returns c = λ p.
     let m = mission_of c.args.self.now in
-    let slot = c.a_mission_fits.ensures.fits.numbered.slot c.args.i c.requires.slot in
-    let crews = c.crews_for-crews.ensures.crews in
-    let hears = crews.receivers c.args.i c.index-crews-i.result c.requires.slot c.args.to in
-    ap (λ units. holds units p) c.without.ensures ∙ holds_removed _ c.args.to p
-    ∙ ap (λ t. not (nat_eq p c.args.to) && t) (crews.senders c.args.i c.index-crews-i-2.result c.requires.slot p)
-    ∙ calls_from m c.args.config.now (m.kind c.args.i) p c.args.to slot (sym hears ∙ sym c.has.ensures ∙ c.if-not-has.false)
+    let us = c.args.config.now in
+    let k = m.kind c.args.i in
+    let to = c.args.to in
+    let rows = c.crews_for.result.now.roles in
+    let row = slice_index_or rows c.args.i c.index-crews_for-i.result in
+    let roles = c.crews_for.ensures.crews.roles c.args.i c.index-crews_for-i.result c.requires.slot in
+    c.partners.ensures p
+    ∙ ap (λ t. t && (not (nat_eq p to) && holds row.senders p)) (roles.receivers to)
+    ∙ ap (λ t. (has us to && receives k to) && (not (nat_eq p to) && t)) (roles.senders p)
+    ∙ calls_to m us k p to (c.a_mission_fits.ensures.fits.numbered.slot c.args.i c.requires.slot)
