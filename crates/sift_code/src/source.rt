@@ -6,17 +6,20 @@ ghost use Rattle.sift_code.specs.Sources.{source_of, words_at, IsWordAt};
 use crate::instr::Instr;
 use sift_base::Word;
 
-/// How many lists there are to read: a 0 alone, the words sensed, those voted in this frame, and those voted in the
-/// frame before. By these numbers they stand in the list of lists.
-pub(crate) const LISTS: u8 = 4;
-
+/// The list of a 0 alone. The lists that a run reads stand in a list, each at its number.
 const ZERO: u8 = 0;
 
+/// The list of the words sensed.
 const SENSED: u8 = 1;
 
+/// The list of the words voted in this frame.
 const VOTED: u8 = 2;
 
+/// The list of the words voted in the frame before.
 const VOTED_BEFORE: u8 = 3;
+
+/// How many lists there are.
+pub(crate) const LISTS: u8 = 4;
 
 /// Where an instruction reads the word that it pushes: the number of a list, a place in it, and what is added to the
 /// word there. An instruction that does anything else names a list that isn't there.
