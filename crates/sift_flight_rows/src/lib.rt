@@ -1,4 +1,4 @@
-//! Rows of tests of missions, boards, machines, the texts of flights, and the top call.
+//! Rows of tests of missions, boards, machines, the texts of flights, missions of numbers, and the top call.
 #![tactic(auto)]
 
 #[cfg(test)]
@@ -11,5 +11,7 @@ mod stated;
 mod texts;
 #[cfg(test)]
 mod top;
+#[cfg(test)]
+mod trial;
 #[cfg(test)]
 mod unit;

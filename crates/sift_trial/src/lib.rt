@@ -3,8 +3,6 @@
 
 mod drawing;
 mod law;
-#[cfg(test)]
-mod tests;
 mod texts;
 
 pub use drawing::drawn_mission;

@@ -1,6 +1,6 @@
 //! The mission of number 0, whose draws were worked out by the formula in another language.
 
-use crate::drawing::drawn_mission;
+use sift_trial::drawn_mission;
 use std::test::Fail;
 
 #[test]
