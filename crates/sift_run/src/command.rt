@@ -16,7 +16,7 @@ use sift_unit::Mission;
 use std::alloc::Global;
 
 /// What the words ask for.
-#[derive(Clone, Copy, Debug, PartialEq, Eq)]
+#[derive(Clone, Copy)]
 pub enum Command {
     /// A text of the mission that the input states.
     Read(Reading),
@@ -27,7 +27,7 @@ pub enum Command {
 }
 
 /// What a command makes of the mission that it reads.
-#[derive(Clone, Copy, Debug, PartialEq, Eq)]
+#[derive(Clone, Copy)]
 pub enum Reading {
     /// `run`: flies the mission that the input states, its units stepping in this order, and reports on it.
     Run { order: u64 },

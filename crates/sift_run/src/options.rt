@@ -4,7 +4,7 @@ ghost use Rattle.std.specs.Prelude.{◌≡◌, ◌≢◌, ◌↔◌, ℕ, List, 
 ghost use Rattle.sift_run.specs.Options.{Adds, BeginWith, BeginsWithDigit, IsNumber, IsValue, IsWorkerCount, Sets, joined, name_of};
 
 /// The name of an option.
-#[derive(Clone, Copy, Debug, PartialEq, Eq)]
+#[derive(Clone, Copy)]
 pub enum Flag {
     /// `--workers`: how many workers fly.
     Workers,
@@ -15,7 +15,7 @@ pub enum Flag {
 }
 
 /// The options of a command: the number of each one that is given.
-#[derive(Clone, Copy, Debug, PartialEq, Eq)]
+#[derive(Clone, Copy)]
 pub struct Options {
     pub workers: Option<u64>,
     pub order: Option<u64>,

@@ -11,7 +11,7 @@ use std::alloc::Global;
 use std::borrow::CowStr;
 
 /// Why there is no report.
-#[derive(Clone, Copy, Debug, PartialEq, Eq)]
+#[derive(Clone, Copy)]
 pub enum Refusal {
     /// The words are no command line.
     Usage,
