@@ -5,9 +5,9 @@ use Rattle.std.proofs.lemmas.Bool.{cases_Bool}
 use Rattle.std.proofs.lemmas.Bool.Decides.{nat_tests}
 use Rattle.sift_base.specs.Units.{has}
 use Rattle.sift_base.proofs.Counts.{has-head, has-tail}
-use Rattle.sift_unit.specs.Account.{Account}
-use Rattle.sift_unit.specs.Mission.{Mission}
-use Rattle.sift_unit.specs.Premises.{IsFlyable}
+use Rattle.sift_conduct.specs.Account.{Account}
+use Rattle.sift_mission.specs.Mission.{FlownMission}
+use Rattle.sift_mission.specs.Premises.{IsFlyable}
 use Rattle.sift_flight.specs.Alike.{AreAlike, AreSameFrame, RoundFlightsAreAlike}
 use Rattle.sift_flight.specs.Flight.{Flight, config_of}
 use Rattle.sift_flight.specs.Hearing.{Strays}
@@ -25,7 +25,7 @@ map-same f g [] same = refl
 map-same f g (u ∷ us) same =
     ap (λ x. x ∷ map f us) (same u (has-head u us)) ∙ ap (λ xs. g u ∷ xs) (map-same f g us (λ v h. same v (has-tail u us v h)))
 
-module _ (m : Mission) (s s' : Strays) (fl gl : Flight) (flyable : IsFlyable m) (calm : HasNoStorms m) (some : 0 < m.frames)
+module _ (m : FlownMission) (s s' : Strays) (fl gl : Flight) (flyable : IsFlyable m) (calm : HasNoStorms m) (some : 0 < m.frames)
     (R : IsRound m s fl) (S : IsRound m s' gl) where
   -- each unit tells the same in each frame
   same_unit : (u f : ℕ) → has m.units u ≡ true → f < m.frames → AreSameAt fl gl u f

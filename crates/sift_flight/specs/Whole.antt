@@ -1,7 +1,7 @@
 -- Round flights are whole: what a report wants of a flight holds of each that is flown as it ought to be.
-use Rattle.sift_unit.specs.Data.{MissionData}
-use Rattle.sift_unit.specs.Flown.{flown}
-use Rattle.sift_unit.specs.PartsFit.{PartsFit}
+use Rattle.sift_mission.specs.Data.{MissionData}
+use Rattle.sift_mission.specs.Flown.{flown}
+use Rattle.sift_mission.specs.PartsFit.{PartsFit}
 use Rattle.sift_flight.specs.Hearing.{Strays}
 use Rattle.sift_flight.specs.Round.{IsRound}
 use Rattle.sift_flight.specs.Told.{IsLogged, IsWhole, told}

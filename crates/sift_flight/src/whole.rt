@@ -3,7 +3,7 @@
 ghost use Rattle.sift_flight.specs.Figures.{MarginIsTold, SkewIsTold, SlackIsTold};
 ghost use Rattle.sift_flight.specs.Whole.{RoundFlightsAreWhole};
 
-use sift_unit::fitting_parts_make_a_flight;
+use sift_mission::fitting_parts_make_a_flight;
 
 /// A round flight of a mission whose parts fit is whole.
 pub fn round_flights_are_whole()

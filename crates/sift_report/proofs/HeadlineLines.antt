@@ -7,11 +7,11 @@ use Rattle.std.proofs.lemmas.List.{length-append}
 use Rattle.std.proofs.lemmas.List.FromFn.{length-map-range_with_len}
 use Rattle.sift_base.specs.Units.{has}
 use Rattle.sift_skew.specs.Figures.{IsSkew, IsSlack}
-use Rattle.sift_unit.specs.Account.{Account}
-use Rattle.sift_unit.specs.Data.{MissionData}
-use Rattle.sift_unit.specs.Flown.{flown}
-use Rattle.sift_unit.specs.PartsFit.{PartsFit}
-use Rattle.sift_unit.specs.Premises.{PartsMakeItFlyable}
+use Rattle.sift_conduct.specs.Account.{Account}
+use Rattle.sift_mission.specs.Data.{MissionData}
+use Rattle.sift_mission.specs.Flown.{flown}
+use Rattle.sift_mission.specs.PartsFit.{PartsFit}
+use Rattle.sift_mission.specs.Premises.{PartsMakeItFlyable}
 use Rattle.sift_flight.specs.Configuration.{HasMarginAt, Works, config_at, lead_of, offsets_at, next_offsets_at, working_at}
 use Rattle.sift_flight.specs.Figures.{MarginIsTold, SkewIsTold, SlackIsTold, margin_at, skew_at, skew_of, slack_at, slack_of}
 use Rattle.sift_flight.specs.Flight.{Flight}

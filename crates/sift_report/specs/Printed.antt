@@ -6,9 +6,9 @@ use Rattle.sift_config.specs.Config.{reader_of}
 use Rattle.sift_exec.specs.Conviction.{working_accusers}
 use Rattle.sift_program.specs.Ideal.{ideal_words}
 use Rattle.sift_skew.specs.Figures.{IsSkew}
-use Rattle.sift_unit.specs.Data.{MissionData}
-use Rattle.sift_unit.specs.Flown.{flown}
-use Rattle.sift_unit.specs.PartsFit.{PartsFit}
+use Rattle.sift_mission.specs.Data.{MissionData}
+use Rattle.sift_mission.specs.Flown.{flown}
+use Rattle.sift_mission.specs.PartsFit.{PartsFit}
 use Rattle.sift_flight.specs.Configuration.{HasMarginAt, Works, config_at, working_at}
 use Rattle.sift_flight.specs.Flight.{Flight}
 use Rattle.sift_flight.specs.Headline.{agreed_at}

@@ -4,7 +4,7 @@ ghost use Rattle.sift_report.specs.OneText.{AlikeFlightsHaveOneText};
 ghost use Rattle.sift_report.specs.Printed.{HeadlineIsPrinted};
 
 use sift_flight::{headline_holds, margin_is_told, skew_is_told, slack_is_told};
-use sift_unit::fitting_parts_make_a_flight;
+use sift_mission::fitting_parts_make_a_flight;
 
 /// Flights that tell the same have one report, one text of votes and one last line.
 pub fn alike_flights_have_one_text()
