@@ -12,8 +12,8 @@ use crate::flight::Flight;
 use crate::told::account_at;
 use arrayvec::ArrayVec;
 use sift_base::UnitId;
-use sift_skew::{skew, slack};
 use sift_mission::Mission;
+use sift_skew::{skew, slack};
 
 /// The skew of a frame: the largest difference of two working clocks of its configuration. There is none where no unit of it works.
 pub fn skew_at(mission: &Mission, flight: &Flight, f: u32) -> Option<i64>

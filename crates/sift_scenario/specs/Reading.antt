@@ -5,7 +5,7 @@ use Rattle.sift_compile.specs.Tasks.{AreCodesOf}
 use Rattle.sift_program.specs.Program.{program_of}
 use Rattle.sift_script.specs.Script.{faults_of}
 use Rattle.sift_table.specs.Schedule.{schedule_of}
-use Rattle.sift_mission.specs.Data as unit
+use Rattle.sift_mission.specs.Parts as unit
 use Rattle.sift_scenario.specs.declared.document.Entries.{Entries}
 use Rattle.sift_scenario.specs.declared.program.Running.{Running}
 use Rattle.sift_scenario.specs.declared.sensor.Sensors.{Sensors}
