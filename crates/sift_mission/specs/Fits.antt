@@ -7,7 +7,8 @@ use Rattle.sift_base.specs.declared.slot.Slot.TheVariants.{Clock, Sense, RelaySe
 use Rattle.sift_clock.specs.Distance.{IsWithin}
 use Rattle.sift_mission.specs.Mission.{FlownMission, IsConfigOf}
 use Rattle.sift_mission.specs.Slots.{is_slot, executors}
-use Rattle.sift_mission.specs.PartsFit.{start_limit}
+use Rattle.sift_mission.specs.PartsFit.{frame_limit, longest_period, start_limit}
+use Rattle.sift_table.specs.Laws.{shortest_period}
 
 -- by how many ticks an offset changes in a frame at most
 abbrev pub change_limit : ℕ
@@ -64,9 +65,9 @@ pub record IsCounted (m : FlownMission) : Type 0 where
   pub words : m.words ≤ m.slots
   pub few_words : m.words ≤ word_limit
   pub sensors : m.sensors ≤ sensor_limit
-  pub period : 12 ≤ m.period
-  pub short : m.period ≤ 64
-  pub frames : m.frames ≤ 1000
+  pub period : shortest_period ≤ m.period
+  pub short : m.period ≤ longest_period
+  pub frames : m.frames ≤ frame_limit
   pub starts : length m.starts ≡ m.words
 
 -- each word has at least three executors, all in the configuration

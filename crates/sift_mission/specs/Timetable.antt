@@ -4,6 +4,7 @@ use Rattle.sift_base.specs.Layout.{slot_count, slot_kind}
 use Rattle.sift_table.specs.Schedule.{Schedule, run_in}
 use Rattle.sift_table.specs.Timing.{due_in, heard_in}
 use Rattle.sift_mission.specs.Data.{MissionData, shapes_in}
+use Rattle.sift_mission.specs.Fits.{slot_limit}
 use Rattle.sift_mission.specs.PartsFit.{table_at}
 use Rattle.sift_mission.specs.declared.agenda.Agenda.{Agenda}
 use Rattle.sift_mission.specs.declared.timetable.Timetable.{Timetable}
@@ -17,7 +18,7 @@ pub record IsNext (count : ℕ) (times : List ℕ) (time from next : ℕ) : Type
 
 -- an agenda links each number to the next that has its time, and each time to the first that has it
 pub record IsLinked (a : Agenda) : Type 0 where
-  pub few : a.count ≤ 90
+  pub few : a.count ≤ slot_limit
   pub next : (i : ℕ) → i < a.count → IsNext a.count a.times (slice_index a.times i) (i + 1) (slice_index a.next i)
   pub first : (time : ℕ) → time < 256 → IsNext a.count a.times time 0 (slice_index a.first time)
 
