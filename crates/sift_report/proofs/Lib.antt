@@ -10,7 +10,13 @@ pub mod Fields
 pub mod Printed
 mod SameTexts
 mod Places
+mod SheetPlaces
+mod Alike
+mod SheetForm
+mod SheetConfigs
 mod HeadlineLines
+mod OldHeadline
+mod TwoCatchers
 pub mod Machine
 pub mod Polls
 pub mod Heard

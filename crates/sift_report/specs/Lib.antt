@@ -7,4 +7,10 @@ pub mod Poll
 pub mod Sheet
 pub mod Votes
 pub mod OneText
+pub mod Working
+pub mod Told
+pub mod Form
+pub mod Headline
 pub mod Printed
+pub mod OldPrinted
+pub mod TwoCatchers
