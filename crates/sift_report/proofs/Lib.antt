@@ -15,7 +15,6 @@ mod Alike
 mod SheetForm
 mod SheetConfigs
 mod HeadlineLines
-mod OldHeadline
 mod TwoCatchers
 pub mod Machine
 pub mod Polls

@@ -12,5 +12,4 @@ pub mod Told
 pub mod Form
 pub mod Headline
 pub mod Printed
-pub mod OldPrinted
 pub mod TwoCatchers

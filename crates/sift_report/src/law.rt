@@ -3,7 +3,6 @@
 ghost use Rattle.sift_report.specs.OneText.{AlikeFlightsHaveOneText};
 ghost use Rattle.sift_report.specs.Printed.{HeadlineIsPrinted, SheetsTellTheirFlights};
 ghost use Rattle.sift_report.specs.TwoCatchers.{FaultIsWithinTheHeadline};
-ghost use Rattle.sift_report.specs.OldPrinted.{OldHeadlineIsPrinted};
 
 use sift_flight::{
     headline_holds, margin_is_told, round_flights_have_accounts, skew_is_told, slack_is_told,
@@ -34,16 +33,6 @@ pub fn sheets_tell_their_flights()
 {
     fitting_parts_make_a_flight();
     headline_holds();
-}
-
-/// The earlier headline follows.
-pub fn the_old_headline_follows()
-    ensures { OldHeadlineIsPrinted }
-{
-    fitting_parts_make_a_flight();
-    headline_holds();
-    the_headline_is_printed();
-    sheets_tell_their_flights();
 }
 
 /// A report with a faulty unit, which is configured out within the margin, has the headline; and other lines lack its items.

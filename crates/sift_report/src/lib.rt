@@ -21,7 +21,7 @@ mod word;
 pub use ideal::ideal_text;
 pub use law::{
     alike_flights_have_one_text, fault_is_within_the_headline, sheets_tell_their_flights,
-    the_headline_is_printed, the_old_headline_follows,
+    the_headline_is_printed,
 };
 pub use line::ReportLine;
 pub use print::push_line;
