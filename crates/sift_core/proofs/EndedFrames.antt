@@ -1,8 +1,8 @@
 -- The frames that all units have ended are those of a round flight.
 use Rattle.std.proofs.Common.{◌≡◌, ℕ, ◌+◌, ◌<◌, ◌≤◌, inl, Some, None, true, sym, ◌∙◌, subst, arith}
 use Rattle.sift_base.specs.Units.{has}
-use Rattle.sift_unit.specs.Mission.{Mission}
-use Rattle.sift_unit.specs.Acts.{BoardKeeps}
+use Rattle.sift_mission.specs.Mission.{FlownMission}
+use Rattle.sift_conduct.specs.Acts.{BoardKeeps}
 use Rattle.sift_unit.specs.BoardLaws.{KeepLaw}
 use Rattle.sift_unit.specs.Boards.{desk_of, Drives}
 use Rattle.sift_unit.specs.Keeping.{Flying}
@@ -20,7 +20,7 @@ some_none : {A : Type 0} {P : Type 0} (x : A) → None ≡ Some x → P
 some_none x e = absurd cc
 
 -- the board of a unit has kept its conduct in all frames that it has ended
-pub board_keeps : KeepLaw → (m : Mission) (x : Machine) (d : Board) (u n : ℕ) → Flies m x → has m.units u ≡ true → n ≤ (board_at x d u).frame →
+pub board_keeps : KeepLaw → (m : FlownMission) (x : Machine) (d : Board) (u n : ℕ) → Flies m x → has m.units u ≡ true → n ≤ (board_at x d u).frame →
     BoardKeeps m u ((core_of x.rack).of u) (accounts_at m x d u) n
 board_keeps keep m x d u n flies there ended =
     let b : Board = board_at x d u in
@@ -35,7 +35,7 @@ pub first_low : (x : Machine) → 0 < (layout_of x).units
 first_low x = let enough = x.rack.grid.lawful.enough_units in omega arith
 
 -- and its core has a place for each unit and slot
-pub has_places : (m : Mission) (x : Machine) (d : Board) → Flies m x → HasPlacesFor m (ranges_for x.rack)
+pub has_places : (m : FlownMission) (x : Machine) (d : Board) → Flies m x → HasPlacesFor m (ranges_for x.rack)
 has_places m x d flies = record { units = λ u there. unit_below m x u flies there; slots = (flies.drives 0 d (first_low x)).ranges.slots }
 
 pub ended_round : KeepLaw → LawfulCoresHearLawfully → LandedFramesAreRound → EndedFramesAreRound

@@ -2,14 +2,14 @@
 use Rattle.std.proofs.Common.{◌≡◌, ℕ, zero, suc, ◌<◌, ◌≤◌, true, false, ◌∙◌, subst, arith}
 use Rattle.sift_base.specs.Units.{has}
 use Rattle.sift_buffer.specs.Conduct.{Conduct as Acts}
-use Rattle.sift_unit.specs.Mission.{Mission}
-use Rattle.sift_unit.specs.Account.{Account, Places}
-use Rattle.sift_unit.specs.Acts.{BoardKeeps, ActsAre, IsConfigOf}
-use Rattle.sift_unit.specs.Conduct.{said_of}
-use Rattle.sift_unit.specs.Frames.{FrameConduct, FirstConduct, LaterConduct, BusyConduct, IdleConduct}
+use Rattle.sift_mission.specs.Mission.{FlownMission, IsConfigOf}
+use Rattle.sift_conduct.specs.Account.{Account, Places}
+use Rattle.sift_conduct.specs.Acts.{BoardKeeps, ActsAre}
+use Rattle.sift_conduct.specs.Conduct.{said_of}
+use Rattle.sift_conduct.specs.Frames.{FrameConduct, FirstConduct, LaterConduct, BusyConduct, IdleConduct}
 
 -- the conduct of a frame reads the accounts of this frame and the one before
-conduct_by : (m : Mission) (u : ℕ) (a b : ℕ → Account) (h s : ℕ → Places) (f : ℕ) → ((g : ℕ) → g ≤ f → a g ≡ b g) → FrameConduct m u a h s f →
+conduct_by : (m : FlownMission) (u : ℕ) (a b : ℕ → Account) (h s : ℕ → Places) (f : ℕ) → ((g : ℕ) → g ≤ f → a g ≡ b g) → FrameConduct m u a h s f →
     FrameConduct m u b h s f
 conduct_by m u a b h s zero same c =
     let e : a 0 ≡ b 0 = same 0 (omega arith) in record {
@@ -30,7 +30,7 @@ conduct_by m u a b h s (suc f) same c =
     }
 
 -- and so what a board has kept in n frames those of these frames
-pub keeps_by : (m : Mission) (u : ℕ) (d : Acts) (a b : ℕ → Account) (n : ℕ) → ((f : ℕ) → f < n → a f ≡ b f) → BoardKeeps m u d a n →
+pub keeps_by : (m : FlownMission) (u : ℕ) (d : Acts) (a b : ℕ → Account) (n : ℕ) → ((f : ℕ) → f < n → a f ≡ b f) → BoardKeeps m u d a n →
     BoardKeeps m u d b n
 keeps_by m u d a b n same k = record {
   stamps = k.stamps;

@@ -8,11 +8,11 @@ use native.Mathlib.Decide.{ℕ_discrete}
 use Rattle.sift_base.specs.Units.{has}
 use Rattle.sift_buffer.specs.Journals.{Pages, said_in, heard_in, IsJournalOf}
 use Rattle.sift_buffer.specs.Ledgers.{Ledger, HasItsWords}
-use Rattle.sift_unit.specs.Mission.{Mission}
-use Rattle.sift_unit.specs.Slots.{is_slot}
-use Rattle.sift_unit.specs.Account.{Account}
+use Rattle.sift_mission.specs.Mission.{FlownMission}
+use Rattle.sift_mission.specs.Slots.{is_slot}
+use Rattle.sift_conduct.specs.Account.{Account, account_of}
 use Rattle.sift_unit.specs.BoardLaws.{KeepLaw}
-use Rattle.sift_unit.specs.Boards.{account_of, desk_of, Drives}
+use Rattle.sift_unit.specs.Boards.{desk_of, Drives}
 use Rattle.sift_unit.specs.Desk.{account_now}
 use Rattle.sift_unit.specs.declared.board.Board.{Board}
 use Rattle.sift_flight.specs.Flight.{Flight, flight_of}
@@ -45,14 +45,14 @@ all_ended frames period frame subframe few low end = dite (ℕ_discrete frame fr
     (λ ne. absurd (let under = mul-add-lt frame period subframe frames (omega arith) low in omega (arith, mul_comm period frames)))
 
 -- what is known of the machine, and of what was made of it
-pub record Lands (m : Mission) (x : Machine) (fl : TheFlight) : Type 0 where
+pub record Lands (m : FlownMission) (x : Machine) (fl : TheFlight) : Type 0 where
   pub flies : Flies m x
   pub landed : HaveAllLanded m x
   pub words : All HasItsWords x.rack.acts.items
   pub journals : fl.journals.items ≡ map (λ ledger. ledger.pages) x.rack.acts.items
   pub accounts : map (λ accounts. map account_of accounts.items) fl.accounts.items ≡ map (λ board. (desk_of board).accounts) x.boards.items
 
-module _ (m : Mission) (x : Machine) (fl : TheFlight) (lands : Lands m x fl) where
+module _ (m : FlownMission) (x : Machine) (fl : TheFlight) (lands : Lands m x fl) where
   -- the first board
   first : Board
   first = first_of x.boards.items 0 (rw lands.flies.count (first_low x))

@@ -3,7 +3,7 @@ use Rattle.std.proofs.Common.{◌≡◌, ℕ, ◌+◌, ◌*◌, ◌<◌, ◌≤�
 use mathlib.Core.Logic.{dite}
 use native.Mathlib.Decide.{ℕ_discrete}
 use Rattle.sift_base.specs.Units.{has}
-use Rattle.sift_unit.specs.Mission.{Mission}
+use Rattle.sift_mission.specs.Mission.{FlownMission}
 use Rattle.sift_core.specs.Machines.{Flies, layout_of, progress_at}
 use Rattle.sift_core.specs.Turns.{IsLeast, HaveAllLanded}
 use Rattle.sift_core.specs.declared.machine.Machine.{Machine}
@@ -11,17 +11,17 @@ use Rattle.sift_core.proofs.FirstUnits.{low_unit}
 use Rattle.sift_core.proofs.MachineSteps.{unit_below}
 
 -- none was found yet, and the bound is the end; or this one, and the bound is its progress
-abbrev pub IsFound : Mission → Machine → ℕ → ℕ → Option ℕ → Type 0
+abbrev pub IsFound : FlownMission → Machine → ℕ → ℕ → Option ℕ → Type 0
 IsFound m x n below None = below ≡ m.frames * m.period
 IsFound m x n below (Some v) = (v < n) × (below ≡ progress_at x v) × (below < m.frames * m.period) × ((p : ℕ) → p < v → below < progress_at x p)
 
 -- and no unit below n has less progress than the bound
-pub record IsLeastBelow (m : Mission) (x : Machine) (n below : ℕ) (found : Option ℕ) : Type 0 where
+pub record IsLeastBelow (m : FlownMission) (x : Machine) (n below : ℕ) (found : Option ℕ) : Type 0 where
   pub found_is : IsFound m x n below found
   pub none_less : (p : ℕ) → p < n → below ≤ progress_at x p
 
 -- a unit more, that has no less progress than the bound
-pub least_same : (m : Mission) (x : Machine) (n below : ℕ) (found : Option ℕ) → IsLeastBelow m x n below found → below ≤ progress_at x n →
+pub least_same : (m : FlownMission) (x : Machine) (n below : ℕ) (found : Option ℕ) → IsLeastBelow m x n below found → below ≤ progress_at x n →
     IsLeastBelow m x (n + 1) below found
 least_same m x n below found l high = record {
   found_is = keeps found l.found_is;
@@ -33,12 +33,12 @@ least_same m x n below found l high = record {
     keeps (Some v) f = (let a = f.0 in omega arith, f.1, f.2, f.3)
 
 -- the bound is the end at most
-bound_low : (m : Mission) (x : Machine) (n below : ℕ) (found : Option ℕ) → IsFound m x n below found → below ≤ m.frames * m.period
+bound_low : (m : FlownMission) (x : Machine) (n below : ℕ) (found : Option ℕ) → IsFound m x n below found → below ≤ m.frames * m.period
 bound_low m x n below None f = omega arith
 bound_low m x n below (Some v) f = let a = f.2 in omega arith
 
 -- a unit more, that has less
-pub least_less : (m : Mission) (x : Machine) (n below : ℕ) (found : Option ℕ) → IsLeastBelow m x n below found → progress_at x n < below →
+pub least_less : (m : FlownMission) (x : Machine) (n below : ℕ) (found : Option ℕ) → IsLeastBelow m x n below found → progress_at x n < below →
     IsLeastBelow m x (n + 1) (progress_at x n) (Some n)
 least_less m x n below found l less = record {
   found_is = (omega arith, refl, (let b = bound_low m x n below found l.found_is in omega arith), λ p low. let a = l.none_less p low in omega arith);
@@ -46,7 +46,7 @@ least_less m x n below found l less = record {
 }
 
 -- the least of all
-pub least_found : (m : Mission) (x : Machine) (n below v : ℕ) → Flies m x → n ≡ (layout_of x).units → IsLeastBelow m x n below (Some v) →
+pub least_found : (m : FlownMission) (x : Machine) (n below v : ℕ) → Flies m x → n ≡ (layout_of x).units → IsLeastBelow m x n below (Some v) →
     IsLeast m x v
 least_found m x n below v flies all l = record {
   unit = subst (λ (us : List ℕ). has us v ≡ true) (sym flies.units) (low_unit (layout_of x).units v (let a = l.found_is.0 in omega arith));
@@ -56,12 +56,12 @@ least_found m x n below v flies all l = record {
 }
 
 -- or none is left
-pub least_none : (m : Mission) (x : Machine) (n below : ℕ) → Flies m x → n ≡ (layout_of x).units → IsLeastBelow m x n below None → HaveAllLanded m x
+pub least_none : (m : FlownMission) (x : Machine) (n below : ℕ) → Flies m x → n ≡ (layout_of x).units → IsLeastBelow m x n below None → HaveAllLanded m x
 least_none m x n below flies all l u there = let low = unit_below m x u flies there in let a = l.found_is in let b = l.none_less u
     (omega arith) in omega arith
 
 -- what was found in the end
-pub least_ends : (m : Mission) (x : Machine) (n below : ℕ) (found : Option ℕ) → Flies m x → n ≡ (layout_of x).units → IsLeastBelow m x n below found →
+pub least_ends : (m : FlownMission) (x : Machine) (n below : ℕ) (found : Option ℕ) → Flies m x → n ≡ (layout_of x).units → IsLeastBelow m x n below found →
     IfSome found (λ v. IsLeast m x v) × IfNone found (HaveAllLanded m x)
 least_ends m x n below None flies all l = (tt, least_none m x n below flies all l)
 least_ends m x n below (Some v) flies all l = (least_found m x n below v flies all l, tt)

@@ -15,7 +15,7 @@ use Rattle.sift_buffer.specs.Lawful.{Lawful}
 use Rattle.sift_buffer.specs.Laws.{EventsKeepLawful}
 use Rattle.sift_buffer.specs.Reaches.{Reaches}
 use Rattle.sift_buffer.specs.Views.{View}
-use Rattle.sift_unit.specs.Mission.{Mission}
+use Rattle.sift_mission.specs.Mission.{FlownMission}
 use Rattle.sift_unit.specs.Boards.{desk_of, Drives, IsPortOf}
 use Rattle.sift_unit.specs.Going.{Going}
 use Rattle.sift_unit.specs.Stepping.{Steps}
@@ -31,7 +31,7 @@ use Rattle.sift_core.proofs.FirstUnits.{unit_low}
 use Rattle.sift_core.proofs.Others.{others_stay, reached_lawful}
 
 -- the unit is one of the rack's
-pub unit_below : (m : Mission) (x : Machine) (u : ℕ) → Flies m x → has m.units u ≡ true → u < (layout_of x).units
+pub unit_below : (m : FlownMission) (x : Machine) (u : ℕ) → Flies m x → has m.units u ≡ true → u < (layout_of x).units
 unit_below m x u flies there = unit_low (layout_of x).units u (subst (λ (us : List ℕ). has us u ≡ true) flies.units there)
 
 -- another choice of the unit leaves ranges, core and, for the unit, the view
@@ -52,7 +52,7 @@ module _ (x : Rack) (u : ℕ) (c : Rack) (chosen : IsChosen x u c) where
   }
 
 -- a board drives on another view of the same unit, ranges and conduct
-drives_by : (m : Mission) (b : Board) (v w : View) → w.unit ≡ v.unit → w.ranges ≡ v.ranges → w.conduct ≡ v.conduct → Drives m b v → Drives m b w
+drives_by : (m : FlownMission) (b : Board) (v w : View) → w.unit ≡ v.unit → w.ranges ≡ v.ranges → w.conduct ≡ v.conduct → Drives m b v → Drives m b w
 drives_by m b v w unit ranges conduct d = record {
   fits = d.fits;
   unit = unit ∙ d.unit;
@@ -63,7 +63,7 @@ drives_by m b v w unit ranges conduct d = record {
 }
 
 -- before the step: the unit's board drives on the rack whose unit it is now
-pub drives_chosen : (m : Mission) (x : Machine) (u : ℕ) (c : Rack) (at : ℕ) (b : Board) → Flies m x → has m.units u ≡ true → IsChosen x.rack u c →
+pub drives_chosen : (m : FlownMission) (x : Machine) (u : ℕ) (c : Rack) (at : ℕ) (b : Board) → Flies m x → has m.units u ≡ true → IsChosen x.rack u c →
     at ≡ u → b ≡ slice_index_or x.boards.items at b → Drives m b (view_of c)
 drives_chosen m x u c at b flies there chosen here is =
     let mine : b ≡ board_at x b u = is ∙ ap (λ (i : ℕ). slice_index_or x.boards.items i b) here in
@@ -71,7 +71,7 @@ drives_chosen m x u c at b flies there chosen here is =
     (subst (λ (z : Board). Drives m z (view_at x.rack u)) (sym mine) (flies.drives u b (unit_below m x u flies there)))
 
 -- what is known after the step of the unit's board
-pub record Stepping (m : Mission) (x : Machine) (u : ℕ) (c : Rack) (at : ℕ) (b : Board) (r : Stepped) (d : Rack) (b' : Board) : Type 0 where
+pub record Stepping (m : FlownMission) (x : Machine) (u : ℕ) (c : Rack) (at : ℕ) (b : Board) (r : Stepped) (d : Rack) (b' : Board) : Type 0 where
   pub keep : EventsKeepLawful
   pub flies : Flies m x
   pub unit : has m.units u ≡ true
@@ -82,7 +82,7 @@ pub record Stepping (m : Mission) (x : Machine) (u : ℕ) (c : Rack) (at : ℕ) 
   pub steps : Steps m (desk_of b) (view_of c) r (desk_of b') (view_of d) (Stands d)
   pub follows : Follows c d
 
-module _ (m : Mission) (x : Machine) (u : ℕ) (c : Rack) (at : ℕ) (b : Board) (r : Stepped) (d : Rack) (b' : Board)
+module _ (m : FlownMission) (x : Machine) (u : ℕ) (c : Rack) (at : ℕ) (b : Board) (r : Stepped) (d : Rack) (b' : Board)
     (s : Stepping m x u c at b r d b') (bs : Vec Board Global) (is : bs.items ≡ slice_set x.boards.items at b') where
   low : u < (layout_of x).units
   low = unit_below m x u s.flies s.unit

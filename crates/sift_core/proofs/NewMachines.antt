@@ -13,11 +13,11 @@ use Rattle.sift_buffer.specs.Core.{Core}
 use Rattle.sift_buffer.specs.Tables.{ranges_of}
 use Rattle.sift_buffer.specs.Lawful.{Lawful}
 use Rattle.sift_buffer.specs.Laws.{FreshIsLawful}
-use Rattle.sift_unit.specs.Mission.{Mission}
-use Rattle.sift_unit.specs.Data.{MissionData}
-use Rattle.sift_unit.specs.Flown.{flown}
+use Rattle.sift_mission.specs.Mission.{FlownMission}
+use Rattle.sift_mission.specs.Data.{MissionData}
+use Rattle.sift_mission.specs.Flown.{flown}
 use Rattle.sift_unit.specs.Keeping.{IsFresh}
-use Rattle.sift_unit.specs.PartsFit.{PartsFit}
+use Rattle.sift_mission.specs.PartsFit.{PartsFit}
 use Rattle.sift_unit.specs.Boards.{IsNewBoard, NewBoardLaw, IsPortOf}
 use Rattle.sift_unit.specs.declared.board.Board.{Board}
 use Rattle.sift_core.specs.Racks.{IsNewRack, ranges_for, core_of, view_at}
@@ -26,7 +26,7 @@ use Rattle.sift_core.specs.declared.machine.Machine.{Machine}
 use Rattle.sift_core.proofs.FirstUnits.{unit_low, low_unit}
 
 -- one board more
-pub boards_push : (m : Mission) (n u : ℕ) (xs : List Board) (b : Board) → AreNewBoards m n xs → u ≡ n → IsNewBoard m u b → AreNewBoards m (n + 1)
+pub boards_push : (m : FlownMission) (n u : ℕ) (xs : List Board) (b : Board) → AreNewBoards m n xs → u ≡ n → IsNewBoard m u b → AreNewBoards m (n + 1)
     (xs ++ b ∷ [])
 boards_push m n u xs b boards here new = record {
   count = length-append xs (b ∷ []) ∙ ap (λ (i : ℕ). i + 1) boards.count;

@@ -5,7 +5,7 @@ use native.Mathlib.Decide.{ℕ_discrete}
 use Rattle.sift_base.specs.Units.{has}
 use Rattle.sift_base.specs.declared.layout.Layout.{Layout}
 use Rattle.sift_buffer.specs.Conduct.{Conduct}
-use Rattle.sift_unit.specs.Mission.{Mission}
+use Rattle.sift_mission.specs.Mission.{FlownMission}
 use Rattle.sift_unit.specs.Desk.{Desk}
 use Rattle.sift_unit.specs.Passing.{distance}
 use Rattle.sift_unit.specs.Boards.{desk_of, Drives}
@@ -29,7 +29,7 @@ first_of [] u low = absurd (omega arith)
 first_of (b ∷ bs) u low = b
 
 -- a board that has landed is nearer than one that has not
-landed_nearer : (m : Mission) (b b' : Desk) → b'.frame ≡ m.frames → b.frame * m.period + b.subframe < m.frames * m.period →
+landed_nearer : (m : FlownMission) (b b' : Desk) → b'.frame ≡ m.frames → b.frame * m.period + b.subframe < m.frames * m.period →
     b.part ≤ 2 → b.slot ≤ 90 → b.other ≤ 8 → distance m b' < distance m b
 landed_nearer m b b' ended aloft part slot other =
     let whole : b'.frame * m.period ≡ m.frames * m.period = ap (λ (f : ℕ). f * m.period) ended in
@@ -37,7 +37,7 @@ landed_nearer m b b' ended aloft part slot other =
     let some : 1 ≤ m.frames * m.period - (b.frame * m.period + b.subframe) = omega arith in
     omega arith
 
-module _ (m : Mission) (x : Machine) (u : ℕ) (r : Stepped) (x' : Machine)
+module _ (m : FlownMission) (x : Machine) (u : ℕ) (r : Stepped) (x' : Machine)
     (flies : Flies m x) (flies' : Flies m x') (unit : has m.units u ≡ true) (s : StepsUnit m u x r x') where
   -- a board for where there is none
   some_board : Board

@@ -4,7 +4,7 @@ use Rattle.std.specs.Option.{is_some}
 use Rattle.std.proofs.lemmas.List.FromFn.{length-range_with_len}
 use Rattle.sift_base.specs.Draw.{drawn}
 use Rattle.sift_base.specs.Units.{has}
-use Rattle.sift_unit.specs.Mission.{Mission}
+use Rattle.sift_mission.specs.Mission.{FlownMission}
 use Rattle.sift_unit.specs.declared.stepped.Stepped.{Stepped}
 use Rattle.sift_core.specs.Machines.{Flies, layout_of, progress_at, distances}
 use Rattle.sift_core.specs.Steps.{StepsUnit}
@@ -14,18 +14,18 @@ use Rattle.sift_core.proofs.FirstUnits.{low_unit}
 use Rattle.sift_core.proofs.Progress.{goes_nearer, waits_no_farther, waits_in_place, least_goes}
 
 -- a mission has as many units as the machine
-pub unit_count : (m : Mission) (x : Machine) → Flies m x → length m.units ≡ (layout_of x).units
+pub unit_count : (m : FlownMission) (x : Machine) → Flies m x → length m.units ≡ (layout_of x).units
 unit_count m x flies = ap (λ (us : List ℕ). length us) flies.units ∙ length-range_with_len 0 (layout_of x).units
 
 -- and these are its units
-pub unit_there : (m : Mission) (x : Machine) (u : ℕ) → Flies m x → u < (layout_of x).units → has m.units u ≡ true
+pub unit_there : (m : FlownMission) (x : Machine) (u : ℕ) → Flies m x → u < (layout_of x).units → has m.units u ≡ true
 unit_there m x u flies low = subst (λ (us : List ℕ). has us u ≡ true) (sym flies.units) (low_unit (layout_of x).units u low)
 
 -- the unit that was drawn of the mission's is that drawn of the machine's
-drawn_same : (m : Mission) (x : Machine) (n u : ℕ) → Flies m x → u ≡ drawn n (layout_of x).units → u ≡ drawn n (length m.units)
+drawn_same : (m : FlownMission) (x : Machine) (n u : ℕ) → Flies m x → u ≡ drawn n (layout_of x).units → u ≡ drawn n (length m.units)
 drawn_same m x n u flies is = is ∙ ap (drawn n) (sym (unit_count m x flies))
 
-module _ (m : Mission) (x : Machine) (n n' u : ℕ) (y : Machine) (flies : Flies m x) (flies_on : Flies m y)
+module _ (m : FlownMission) (x : Machine) (n n' u : ℕ) (y : Machine) (flies : Flies m x) (flies_on : Flies m y)
     (d : IsDrawn (layout_of x).units n n' u) where
   is : u ≡ drawn n' (length m.units)
   is = drawn_same m x n' u flies d.drawn_is
@@ -69,7 +69,7 @@ module _ (m : Mission) (x : Machine) (n n' u : ℕ) (y : Machine) (flies : Flies
         let second = goes_nearer m y v r z flies_on flies_then least.unit stepped least.aloft
         (least_goes m y v r z flies_on flies_then least.unit stepped least) in omega arith
 
-module _ (m : Mission) (order : ℕ) (x : Machine) (n : ℕ) (y : Machine) (n' : ℕ) (z : Machine) (so_far : (k : ℕ) × AfterTurns m order x k n y) where
+module _ (m : FlownMission) (order : ℕ) (x : Machine) (n : ℕ) (y : Machine) (n' : ℕ) (z : Machine) (so_far : (k : ℕ) × AfterTurns m order x k n y) where
   -- some turns, and this one more
   pub turns_more : (r : Option ℕ) → true ≡ is_some r → TurnsAt m n y r n' z → (k : ℕ) × AfterTurns m order x k n' z
   turns_more None some turn = absurd (let e : true ≡ false = some in cc)

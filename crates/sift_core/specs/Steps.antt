@@ -1,7 +1,7 @@
 -- What one step of one unit came to.
 use Rattle.std.specs.Prelude.{◌≡◌, ◌≢◌, ℕ, ⊤}
 use Rattle.sift_buffer.specs.Reaches.{Reaches}
-use Rattle.sift_unit.specs.Mission.{Mission}
+use Rattle.sift_mission.specs.Mission.{FlownMission}
 use Rattle.sift_unit.specs.Boards.{desk_of}
 use Rattle.sift_unit.specs.Stepping.{Steps}
 use Rattle.sift_unit.specs.declared.board.Board.{Board}
@@ -13,7 +13,7 @@ use Rattle.sift_core.specs.declared.machine.Machine.{Machine}
 
 -- unit u stepped, with this answer: all that changed of the core is by its events, each other board is as it was, and its own board tells
 -- what the answer says
-pub record StepsUnit (m : Mission) (u : ℕ) (x : Machine) (r : Stepped) (x' : Machine) : Type 0 where
+pub record StepsUnit (m : FlownMission) (u : ℕ) (x : Machine) (r : Stepped) (x' : Machine) : Type 0 where
   pub layout : layout_of x' ≡ layout_of x
   pub reaches : Reaches (ranges_for x.rack) u (core_of x.rack) (core_of x'.rack)
   pub others : (p : ℕ) (d : Board) → p ≢ u → board_at x' d p ≡ board_at x d p

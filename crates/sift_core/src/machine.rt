@@ -1,14 +1,15 @@
 //! All units of a mission, stepped one at a time in any order.
 ghost use Rattle.std.specs.Prelude.{◌≡◌, ◌<◌, ◌≤◌, IfOk, true};
 ghost use Rattle.sift_base.specs.Units.{has};
-ghost use Rattle.sift_unit.specs.Flown.{mission_of};
+ghost use Rattle.sift_mission.specs.Parts.{flown_of};
 ghost use Rattle.sift_core.specs.Machines.{Flies, AreNewBoards, layout_of, progress_at};
 ghost use Rattle.sift_core.specs.Steps.{StepsUnit};
 
 use crate::rack::Rack;
 use sift_base::{NoMemory, UnitId};
 use sift_buffer::{events_keep_the_core_lawful, fresh_is_lawful};
-use sift_unit::{Board, Mission, Stepped, a_mission_fits, new_boards_may_step};
+use sift_mission::{Mission, a_mission_fits};
+use sift_unit::{Board, Stepped, new_boards_may_step};
 use std::alloc::Global;
 
 /// All units of a mission: the boards, and the words and acts over which they step.
@@ -21,7 +22,7 @@ pub struct Machine {
 impl Machine {
     /// All units before their first step. It takes all memory of their flight.
     pub fn make(alloc: Global, mission: &Mission) -> Result<Machine, NoMemory>
-        ensures flies { IfOk result (λ machine. Flies (mission_of mission.now) machine) }
+        ensures flies { IfOk result (λ machine. Flies (flown_of mission.now) machine) }
         ensures layout { IfOk result (λ machine. layout_of machine ≡ mission.now.layout) }
     {
         a_mission_fits(mission);
@@ -35,7 +36,7 @@ impl Machine {
 
     /// The boards of all units, in their order.
     fn make_boards(alloc: Global, mission: &Mission) -> Result<Vec<Board>, NoMemory>
-        ensures { IfOk result (λ boards. AreNewBoards (mission_of mission.now) mission.now.units boards.items) }
+        ensures { IfOk result (λ boards. AreNewBoards (flown_of mission.now) mission.now.units boards.items) }
     {
         let units = mission.parts().units;
         let mut boards = Vec::with_capacity(alloc, usize::from(units))?;
@@ -49,10 +50,10 @@ impl Machine {
 
     /// The next step of a unit. All else of the other units stays as it was.
     pub fn step(&mut self, mission: &Mission, u: UnitId) -> Stepped
-        requires flies { Flies (mission_of mission.now) self.old }
-        requires unit { has (mission_of mission.now).units u ≡ true }
-        ensures flies { Flies (mission_of mission.now) self.new }
-        ensures stepped { StepsUnit (mission_of mission.now) u self.old result self.new }
+        requires flies { Flies (flown_of mission.now) self.old }
+        requires unit { has (flown_of mission.now).units u ≡ true }
+        ensures flies { Flies (flown_of mission.now) self.new }
+        ensures stepped { StepsUnit (flown_of mission.now) u self.old result self.new }
     {
         events_keep_the_core_lawful();
         self.rack.choose(u);

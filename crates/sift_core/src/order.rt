@@ -2,17 +2,18 @@
 ghost use Rattle.std.specs.Prelude.{◌≡◌, ◌<◌, ◌≤◌, ◌*◌, IfSome, IfNone, true, false, length};
 ghost use Rattle.sift_base.specs.Draw.{drawn, next_number};
 ghost use Rattle.sift_base.specs.Units.{has};
-ghost use Rattle.sift_unit.specs.Flown.{mission_of};
+ghost use Rattle.sift_mission.specs.Parts.{flown_of};
 ghost use Rattle.sift_core.specs.Machines.{Flies, layout_of, distances};
 ghost use Rattle.sift_core.specs.Turns.{end_in, IsLeast, IsDrawn, HaveAllLanded, Tries, TurnsAt, FliesInOrder};
 
 use crate::machine::Machine;
 use sift_base::{Draw, UnitId};
-use sift_unit::{Mission, Stepped};
+use sift_mission::Mission;
+use sift_unit::Stepped;
 
 /// The progress of a unit that has landed.
 fn end_of(mission: &Mission) -> u64
-    ensures { result ≡ end_in (mission_of mission.now) }
+    ensures { result ≡ end_in (flown_of mission.now) }
 {
     u64::from(mission.frames()) * u64::from(mission.period())
 }
@@ -35,10 +36,10 @@ impl Machine {
     /// The unit of least progress among those that have not landed, and the lowest-numbered of
     /// several.
     fn least(&self, mission: &Mission, end: u64) -> Option<UnitId>
-        requires flies { Flies (mission_of mission.now) self.now }
-        requires end { end ≡ end_in (mission_of mission.now) }
-        ensures found { IfSome result (λ u. IsLeast (mission_of mission.now) self.now u) }
-        ensures none { IfNone result (HaveAllLanded (mission_of mission.now) self.now) }
+        requires flies { Flies (flown_of mission.now) self.now }
+        requires end { end ≡ end_in (flown_of mission.now) }
+        ensures found { IfSome result (λ u. IsLeast (flown_of mission.now) self.now u) }
+        ensures none { IfNone result (HaveAllLanded (flown_of mission.now) self.now) }
     {
         let mut least = None;
         let mut below = end;
@@ -56,10 +57,10 @@ impl Machine {
 
     /// Whether all units have landed.
     fn have_all_landed(&self, mission: &Mission, end: u64) -> bool
-        requires flies { Flies (mission_of mission.now) self.now }
-        requires end { end ≡ end_in (mission_of mission.now) }
-        ensures landed { result ≡ true → HaveAllLanded (mission_of mission.now) self.now }
-        ensures aloft { result ≡ false → ¬ HaveAllLanded (mission_of mission.now) self.now }
+        requires flies { Flies (flown_of mission.now) self.now }
+        requires end { end ≡ end_in (flown_of mission.now) }
+        ensures landed { result ≡ true → HaveAllLanded (flown_of mission.now) self.now }
+        ensures aloft { result ≡ false → ¬ HaveAllLanded (flown_of mission.now) self.now }
     {
         for number in 0..self.rack.grid.layout.units {
             if let Some(unit) = UnitId::of(number) {
@@ -84,11 +85,11 @@ impl Machine {
 
     /// Steps a unit, if it has not landed. It answers whether it went on, and doesn't wait.
     fn goes_itself(&mut self, mission: &Mission, end: u64, u: UnitId) -> bool
-        requires flies { Flies (mission_of mission.now) self.old }
-        requires end { end ≡ end_in (mission_of mission.now) }
-        requires unit { has (mission_of mission.now).units u ≡ true }
-        ensures flies { Flies (mission_of mission.now) self.new }
-        ensures tried { Tries (mission_of mission.now) u self.old result self.new }
+        requires flies { Flies (flown_of mission.now) self.old }
+        requires end { end ≡ end_in (flown_of mission.now) }
+        requires unit { has (flown_of mission.now).units u ≡ true }
+        ensures flies { Flies (flown_of mission.now) self.new }
+        ensures tried { Tries (flown_of mission.now) u self.old result self.new }
     {
         if self.rack.number_of(u) < end {
             return !matches!(self.step(mission, u), Stepped::NotYet { .. });
@@ -99,23 +100,23 @@ impl Machine {
     /// The next turn: a unit is drawn and steps, and where it has landed or waits, the unit of least
     /// progress steps. It answers who stepped last, or nobody, where all units have landed.
     pub fn turn(&mut self, mission: &Mission, drawer: &mut Draw) -> Option<UnitId>
-        requires { Flies (mission_of mission.now) self.old }
-        ensures flies { Flies (mission_of mission.now) self.new }
+        requires { Flies (flown_of mission.now) self.old }
+        ensures flies { Flies (flown_of mission.now) self.new }
         ensures layout { layout_of self.new ≡ layout_of self.old }
-        ensures turn { TurnsAt (mission_of mission.now) drawer.old self.old result drawer.new self.new }
-        ensures nearer { IfSome result (λ u. distances (mission_of mission.now) self.new < distances (mission_of mission.now) self.old) }
+        ensures turn { TurnsAt (flown_of mission.now) drawer.old self.old result drawer.new self.new }
+        ensures nearer { IfSome result (λ u. distances (flown_of mission.now) self.new < distances (flown_of mission.now) self.old) }
     {
         self.turn_before(mission, end_of(mission), drawer)
     }
 
     /// The next turn of a flight that ends at this progress.
     fn turn_before(&mut self, mission: &Mission, end: u64, drawer: &mut Draw) -> Option<UnitId>
-        requires flies { Flies (mission_of mission.now) self.old }
-        requires end { end ≡ end_in (mission_of mission.now) }
-        ensures flies { Flies (mission_of mission.now) self.new }
+        requires flies { Flies (flown_of mission.now) self.old }
+        requires end { end ≡ end_in (flown_of mission.now) }
+        ensures flies { Flies (flown_of mission.now) self.new }
         ensures layout { layout_of self.new ≡ layout_of self.old }
-        ensures turn { TurnsAt (mission_of mission.now) drawer.old self.old result drawer.new self.new }
-        ensures nearer { IfSome result (λ u. distances (mission_of mission.now) self.new < distances (mission_of mission.now) self.old) }
+        ensures turn { TurnsAt (flown_of mission.now) drawer.old self.old result drawer.new self.new }
+        ensures nearer { IfSome result (λ u. distances (flown_of mission.now) self.new < distances (flown_of mission.now) self.old) }
     {
         if self.have_all_landed(mission, end) {
             return None;
@@ -133,10 +134,10 @@ impl Machine {
 
     /// Flies to the end, turn by turn, as the order number draws them.
     pub(crate) fn fly_on(&mut self, mission: &Mission, order: u64)
-        requires { Flies (mission_of mission.now) self.old }
-        ensures flies { Flies (mission_of mission.now) self.new }
+        requires { Flies (flown_of mission.now) self.old }
+        ensures flies { Flies (flown_of mission.now) self.new }
         ensures layout { layout_of self.new ≡ layout_of self.old }
-        ensures order { FliesInOrder (mission_of mission.now) order self.old self.new }
+        ensures order { FliesInOrder (flown_of mission.now) order self.old self.new }
     {
         let mut drawer = Draw::of(order);
         let end = end_of(mission);

@@ -5,14 +5,8 @@ use Rattle.std.proofs.lemmas.Bool.{cases_Bool, eqb-true, eq-eqb, ne_eqb}
 use Rattle.sift_base.specs.Units.{Units, holds, has, others, IsAscending}
 use Rattle.sift_base.proofs.Counts.{count-cons, has-tail, has-head, apart}
 use Rattle.sift_base.proofs.Sets.{below_has, holds-insert}
-use Rattle.sift_base.specs.ReadBack.{false_last}
+use Rattle.sift_config.proofs.Joining.{has_at}
 use Rattle.sift_exec.specs.Conviction.{accusers, report_by}
-
--- the unit at a position is in the list
-pub has_at : (us : List ℕ) (i t : ℕ) → slice_get us i ≡ Some t → has us t ≡ true
-has_at [] i t at = absurd cc
-has_at (u ∷ us) zero t at = let e : u ≡ t = ap (λ o. unwrap_or o t) at in rw e (has-head t us)
-has_at (u ∷ us) (suc i) t at = has-tail u us t (has_at us i t at)
 
 -- the report of the unit at a position is the one at that position
 pub report_at : (us reports : List ℕ) (i t d : ℕ) → IsAscending us → length reports ≡ length us → slice_get us i ≡ Some t → report_by us reports t ≡ get_or reports i d
@@ -42,28 +36,3 @@ accusers-front names (v ∷ us) zero t u at =
     rw e (accusers-cons names t [] u ∙ omega arith)
 accusers-front names (v ∷ us) (suc i) t u at =
     omega (arith, accusers-cons names v (take (suc i) us) u, accusers-cons names v (take i us) u, accusers-front names us i t u at)
-
--- ---- the convicted, unit by unit
-
-or_false : (b : Bool) → (b || false) ≡ b
-or_false true = refl
-or_false false = refl
-
-module _ (convicted : Units) (seen guilty : ℕ → Bool) (t : ℕ) (are : (u : ℕ) → holds convicted u ≡ (seen u && guilty u)) where
-  -- one unit more that is guilty
-  pub guilty_joins : guilty t ≡ true → (u : ℕ) → holds (set.insert convicted t) u ≡ ((seen u || nat_eq t u) && guilty u)
-  guilty_joins is_guilty u = holds-insert convicted t u ∙ elim (cases_Bool (nat_eq t u)) [
-    | inl same ↦ let e : t ≡ u = eqb-true t u same in rw (same, eq-eqb u t (sym e), sym (ap guilty e) ∙ is_guilty) (sym (or_true (seen u)))
-    | inr other ↦ rw (other, ne_eqb u t (λ e. apart t u other (sym e))) (are u ∙ rw (or_false (seen u)) refl)
-  ]
-    where
-      or_true : (b : Bool) → ((b || true) && true) ≡ true
-      or_true true = refl
-      or_true false = refl
-
-  -- one unit more that isn't
-  pub innocent_stays : guilty t ≡ false → (u : ℕ) → holds convicted u ≡ ((seen u || nat_eq t u) && guilty u)
-  innocent_stays is_innocent u = are u ∙ elim (cases_Bool (nat_eq t u)) [
-    | inl same ↦ let f : guilty u ≡ false = sym (ap guilty (eqb-true t u same)) ∙ is_innocent in rw f (false_last (seen u) ∙ sym (false_last (seen u || nat_eq t u)))
-    | inr other ↦ rw (other) (ap (λ b. b && guilty u) (sym (or_false (seen u))))
-  ]

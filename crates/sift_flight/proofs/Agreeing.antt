@@ -8,8 +8,8 @@ use Rattle.sift_base.proofs.Others.{not_same}
 use Rattle.sift_agree.specs.Agreement.{RelaysWell}
 use Rattle.sift_agree.proofs.Taking.{faulty_unit_is_agreed_on, working_unit_is_agreed_on}
 use Rattle.sift_config.specs.Config.{reader_of}
-use Rattle.sift_unit.specs.Mission.{Mission}
-use Rattle.sift_unit.specs.Conduct.{report_in, report_of}
+use Rattle.sift_mission.specs.Mission.{FlownMission}
+use Rattle.sift_conduct.specs.Conduct.{report_in, report_of}
 use Rattle.sift_flight.specs.Flight.{Flight}
 use Rattle.sift_flight.specs.Hearing.{Strays}
 use Rattle.sift_flight.proofs.Working.{InFrame, Member, conduct_here, hears, sense_call, relay_call, report_call, relayed_call}
@@ -18,7 +18,7 @@ use Rattle.sift_flight.proofs.Working.{InFrame, Member, conduct_here, hears, sen
 differs_in_work : (works : ℕ → Bool) (s u : ℕ) → works s ≡ false → works u ≡ true → nat_eq s u ≡ false
 differs_in_work works s u fs wu = not_same s u (λ e. let t = ap works e in cc)
 
-module _ (m : Mission) (strays : Strays) (fl : Flight) (f : ℕ) (us : List ℕ) (here : InFrame m strays fl f us) where
+module _ (m : FlownMission) (strays : Strays) (fl : Flight) (f : ℕ) (us : List ℕ) (here : InFrame m strays fl f us) where
   -- ---- sensors
 
   sensor_relays : (x : ℕ) → x < m.sensors

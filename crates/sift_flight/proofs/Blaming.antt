@@ -5,9 +5,9 @@ use Rattle.std.specs.Ordering.{nat_cmp}
 use Rattle.sift_base.specs.Units.{has, holds}
 use Rattle.sift_exec.specs.Record.{everyone_in, nobody}
 use Rattle.sift_exec.specs.declared.catches.Catches.{Catches}
-use Rattle.sift_unit.specs.Account.{Account, Places, caught}
-use Rattle.sift_unit.specs.Conduct.{CatchConduct}
-use Rattle.sift_unit.specs.Mission.{Mission}
+use Rattle.sift_conduct.specs.Account.{Account, Places, caught}
+use Rattle.sift_conduct.specs.Conduct.{CatchConduct}
+use Rattle.sift_mission.specs.Mission.{FlownMission}
 use Rattle.sift_flight.proofs.Calls.{and_both}
 use Rattle.sift_flight.proofs.Naming.{holds-everyone}
 
@@ -19,7 +19,7 @@ one_of false false true P t in_a in_b in_c = in_c refl
 one_of false false false P t in_a in_b in_c = absurd cc
 
 -- a unit of its configuration caught only units of it
-pub caught_inside : (m : Mission) (us : List ℕ) (u f : ℕ) (a : Account) (h : Places) (last : List ℕ) → CatchConduct m us u f a h last
+pub caught_inside : (m : FlownMission) (us : List ℕ) (u f : ℕ) (a : Account) (h : Places) (last : List ℕ) → CatchConduct m us u f a h last
     → (v : ℕ) → caught a v ≡ true → has us v ≡ true
 caught_inside m us u f a h last c v t =
     one_of (holds a.bad.poll v) (holds a.bad.relay v) (holds a.bad.clock v) (has us v ≡ true) (sym (holds-everyone a.bad v) ∙ t)

@@ -12,7 +12,7 @@ use Rattle.sift_buffer.specs.Cell.{IsWord}
 use Rattle.sift_buffer.specs.Ranges.{shared_words, place}
 use Rattle.sift_buffer.specs.Conduct.{Saying, Hearing, saying, hearing}
 use Rattle.sift_buffer.specs.Lawful.{Lawful, IsLastSaid, silent, last}
-use Rattle.sift_unit.specs.Slots.{calls, stamp_of, heard_at}
+use Rattle.sift_mission.specs.Slots.{calls, stamp_of, heard_at}
 use Rattle.sift_flight.specs.Calm.{Calm, four_units, layout_of, mission_of}
 use Rattle.sift_flight.specs.CalmFlight.{word_in, acts_of, ranges_of, cell_of, shared_word, core_of}
 use Rattle.sift_flight.proofs.Calls.{and_both}

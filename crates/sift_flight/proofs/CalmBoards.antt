@@ -4,12 +4,12 @@ use Rattle.std.proofs.lemmas.Bool.{cases_Bool}
 use Rattle.sift_base.specs.Units.{has}
 use Rattle.sift_base.specs.declared.slot.Slot.{Slot}
 use Rattle.sift_buffer.specs.Conduct.{hearing}
-use Rattle.sift_unit.specs.Slots.{is_slot, calls, stamp_of, heard_at}
-use Rattle.sift_unit.specs.Account.{Places}
-use Rattle.sift_unit.specs.Conduct.{own_word, said_of, Conduct}
-use Rattle.sift_unit.specs.Frames.{FrameConduct}
-use Rattle.sift_unit.specs.Acts.{Turns, ActsAre, BoardKeeps, said_places, heard_places, stamp_and_moment}
-use Rattle.sift_unit.specs.Fits.{Fits}
+use Rattle.sift_mission.specs.Slots.{is_slot, calls, stamp_of, heard_at}
+use Rattle.sift_conduct.specs.Account.{Places}
+use Rattle.sift_conduct.specs.Conduct.{own_word, said_of, Conduct}
+use Rattle.sift_conduct.specs.Frames.{FrameConduct}
+use Rattle.sift_conduct.specs.Acts.{Turns, ActsAre, BoardKeeps, said_places, heard_places, stamp_and_moment}
+use Rattle.sift_mission.specs.Fits.{Fits}
 use Rattle.sift_flight.specs.Landing.{HaveLanded}
 use Rattle.sift_flight.specs.Calm.{Calm, four_units, mission_of}
 use Rattle.sift_flight.specs.CalmFlight.{word_in, account_of, acts_of, ranges_of, core_of}

@@ -12,8 +12,8 @@ use Rattle.sift_exec.specs.Record.{nobody, everyone_in}
 use Rattle.sift_exec.specs.Conviction.{next_by}
 use Rattle.sift_config.specs.Config.{reader_of}
 use Rattle.sift_clock.specs.Correction.{next_offset}
-use Rattle.sift_unit.specs.Slots.{executors, calls}
-use Rattle.sift_unit.specs.Conduct.{input_of, made, polled, poll_catches, relay_catches, clock_catches, reading_by, own_word, Conduct}
+use Rattle.sift_mission.specs.Slots.{executors, calls}
+use Rattle.sift_conduct.specs.Conduct.{input_of, made, polled, poll_catches, relay_catches, clock_catches, reading_by, own_word, Conduct}
 use Rattle.sift_flight.specs.Calm.{Calm, four_units, mission_of}
 use Rattle.sift_flight.specs.CalmFlight.{word_in, account_of}
 use Rattle.sift_flight.proofs.Calls.{Call, call_of, call_is, and_both, told_apart}

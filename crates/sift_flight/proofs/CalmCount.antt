@@ -6,9 +6,9 @@ use Rattle.sift_base.specs.Word.{word_count}
 use Rattle.sift_base.specs.declared.slot.Slot.{Slot}
 use Rattle.sift_base.specs.declared.slot.Slot.TheVariants.{Clock, Sense, RelaySense, Out, Report, RelayReport}
 use Rattle.sift_vote.specs.Agreed.{agreed_of}
-use Rattle.sift_unit.specs.Slots.{is_slot, executors}
-use Rattle.sift_unit.specs.Conduct.{made}
-use Rattle.sift_unit.specs.Fits.{Fits, IsNumbered}
+use Rattle.sift_mission.specs.Slots.{is_slot, executors}
+use Rattle.sift_conduct.specs.Conduct.{made}
+use Rattle.sift_mission.specs.Fits.{Fits, IsNumbered}
 use Rattle.sift_flight.specs.Calm.{four_units, due_in, heard_in, mission_of}
 use Rattle.sift_flight.specs.CalmFlight.{word_in, account_of}
 use Rattle.sift_flight.proofs.CalmStages.{IsPlain}

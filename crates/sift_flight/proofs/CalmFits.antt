@@ -9,12 +9,12 @@ use Rattle.sift_base.specs.declared.slot.Slot.TheVariants.{Clock, Sense, RelaySe
 use Rattle.sift_base.specs.ReadBack.{false_last}
 use Rattle.std.specs.Prelude.{not, nat_lt, ◌&&◌, Some, None, if◌then◌else◌}
 use Rattle.std.proofs.lemmas.Bool.{cases_Bool, lt-ltb}
-use Rattle.sift_unit.specs.Slots.{turned_by, is_slot}
-use Rattle.sift_unit.specs.Acts.{IsConfigOf}
-use Rattle.sift_unit.specs.Fits.{Fits, IsNumbered, IsRead, is_caught_in, HasExecutors}
+use Rattle.sift_mission.specs.Slots.{turned_by, is_slot}
+use Rattle.sift_mission.specs.Mission.{IsConfigOf}
+use Rattle.sift_mission.specs.Fits.{Fits, IsNumbered, IsRead, is_caught_in, HasExecutors}
 use Rattle.sift_flight.specs.Configuration.{config_at, HasMarginAt}
 use Rattle.sift_flight.specs.Flight.{flight_of}
-use Rattle.sift_unit.specs.Premises.{IsFlyable}
+use Rattle.sift_mission.specs.Premises.{IsFlyable}
 use Rattle.sift_flight.specs.Calm.{Calm, four_units, due_in, heard_in, mission_of}
 use Rattle.sift_flight.specs.CalmFlight.{account_of, core_of}
 use Rattle.sift_flight.proofs.CalmStages.{IsPlain}

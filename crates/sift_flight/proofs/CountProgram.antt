@@ -1,12 +1,12 @@
 -- The program of the calm mission `count`.
-use Rattle.std.proofs.Common.{◌≡◌, ℕ, zero, suc, ◌+◌, ◌<◌, List, [], ◌∷◌, slice_get, slice_index, Some, refl, subst, arith}
+use Rattle.std.proofs.Common.{◌≡◌, ℕ, zero, suc, ◌+◌, ◌<◌, List, [], ◌∷◌, slice_get, slice_index, Some, refl, ap, subst, arith}
 use Rattle.std.proofs.lemmas.List.Elements.{All-nil, All-cons}
 use Rattle.std.proofs.lemmas.Option.{same_Some}
 use Rattle.sift_lang.specs.Tree.{TaskTree}
 use Rattle.sift_lang.specs.Sound.{IsSound, AllNowsBelow}
 use Rattle.sift_lang.specs.Meaning.{meaning}
 use Rattle.sift_program.specs.Sound.{first_word}
-use Rattle.sift_unit.specs.Premises.{RunsProgram}
+use Rattle.sift_mission.specs.Premises.{IsAmong, RunsProgram}
 use Rattle.sift_flight.specs.Calm.{mission_of, program_of}
 use Rattle.sift_flight.specs.Calms.{count_task, count}
 
@@ -36,12 +36,21 @@ runs = record {
   };
   words = refl;
   starts = refl;
+  each = one_word (λ w. IsAmong (program_of count) w w) (record { task = count_task; at = refl; from = omega arith; below = omega arith });
+  task = λ t w own. among t w own;
   word = λ t i task ins now last at low. word t i task ins now last at low;
 }
   where
     earlier : (t : ℕ) (task : TaskTree) → slice_get (count_task ∷ []) t ≡ Some task → AllNowsBelow (first_word (count_task ∷ []) t) task
     earlier zero task at = subst (AllNowsBelow 0) (same_Some count_task task at) (((tt, tt), tt), tt)
     earlier (suc t) task at = absurd cc
+
+    among : (t w : ℕ) → IsAmong (program_of count) t w → w ≡ t
+    among zero w own =
+        let size : 1 ≡ own.task.outputs = ap (λ (tree : TaskTree). tree.outputs) (same_Some count_task own.task own.at) in
+        let below : w < 0 + own.task.outputs = own.below in
+        omega arith
+    among (suc t) w own = let at = own.at in absurd cc
 
     word : (t i : ℕ) (task : TaskTree) (ins now last : List ℕ) → slice_get (count_task ∷ []) t ≡ Some task → i < task.outputs
         → (mission_of count).word (first_word (count_task ∷ []) t + i) ins now last ≡ slice_index (meaning task ins now last) i

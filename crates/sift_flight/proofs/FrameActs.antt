@@ -6,9 +6,9 @@ use Rattle.std.proofs.Math.Nat.{mul-le-mul_left, mul-le-mul_right}
 use Rattle.sift_base.specs.declared.slot.Slot.{Slot}
 use Rattle.sift_buffer.specs.Conduct.{Hearing, hearing, never}
 use Rattle.sift_buffer.specs.Conduct.{Conduct as Acts}
-use Rattle.sift_unit.specs.Mission.{Mission}
-use Rattle.sift_unit.specs.Slots.{is_slot, turned_by}
-use Rattle.sift_unit.specs.Acts.{Turns, word_in_hearing, stamp_and_moment}
+use Rattle.sift_mission.specs.Mission.{FlownMission}
+use Rattle.sift_mission.specs.Slots.{is_slot, turned_by}
+use Rattle.sift_conduct.specs.Acts.{Turns, word_in_hearing, stamp_and_moment}
 
 -- ---- frames
 
@@ -54,7 +54,7 @@ late : (f from : ℕ) → turned_by (Some from) f ≡ true → from ≤ f
 late f from e = elim (cases_Bool (nat_lt f from)) [ inl z ↦ absurd (let w = rw z at e in cc) | inr z ↦ ltb-false f from z ]
 
 -- a unit doesn't leave before the last subframe of a frame by which it has not turned
-pub left_above : (m : Mission) (storm : Option ℕ) (d : Acts) (f h : ℕ) → Turns m storm d → turned_by storm f ≡ false
+pub left_above : (m : FlownMission) (storm : Option ℕ) (d : Acts) (f h : ℕ) → Turns m storm d → turned_by storm f ≡ false
     → h + 2 ≤ f * m.period + m.period → f * m.period + m.period < never → h < d.left
 left_above m None d f h t e low short = omega arith
 left_above m (Some from) d f h t e low short =
@@ -62,13 +62,13 @@ left_above m (Some from) d f h t e low short =
     ⊎_elim (λ z. omega (arith, z.0)) (λ (z : d.left ≡ from * m.period - 1). omega arith) t.left
 
 -- a unit that has turned by a frame says nothing in it
-pub hushed : (m : Mission) (storm : Option ℕ) (d : Acts) (f : ℕ) (k : Slot) (q : ℕ)
+pub hushed : (m : FlownMission) (storm : Option ℕ) (d : Acts) (f : ℕ) (k : Slot) (q : ℕ)
     → is_slot m k ≡ true → Turns m storm d → turned_by storm f ≡ true → d.said f (m.number k) q ≡ None
 hushed m None d f k q slot t e = absurd cc
 hushed m (Some from) d f k q slot t e = t.says_nothing f k q slot (late f from e)
 
 -- and hears nothing
-pub deafened : (m : Mission) (storm : Option ℕ) (d : Acts) (f : ℕ) (k : Slot) (p : ℕ)
+pub deafened : (m : FlownMission) (storm : Option ℕ) (d : Acts) (f : ℕ) (k : Slot) (p : ℕ)
     → is_slot m k ≡ true → Turns m storm d → turned_by storm f ≡ true → d.heard f (m.number k) p ≡ None
 deafened m None d f k p slot t e = absurd cc
 deafened m (Some from) d f k p slot t e = t.hears_nothing f k p slot (late f from e)

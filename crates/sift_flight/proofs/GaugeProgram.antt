@@ -1,12 +1,12 @@
 -- The program of the calm mission `gauge`.
-use Rattle.std.proofs.Common.{◌≡◌, ℕ, zero, suc, ◌+◌, ◌<◌, List, [], ◌∷◌, slice_get, slice_index, Some, refl, subst, arith}
+use Rattle.std.proofs.Common.{◌≡◌, ℕ, zero, suc, ◌+◌, ◌<◌, ◌≤◌, List, [], ◌∷◌, slice_get, slice_index, Some, refl, ap, subst, arith}
 use Rattle.std.proofs.lemmas.List.Elements.{All-nil, All-cons}
 use Rattle.std.proofs.lemmas.Option.{same_Some}
 use Rattle.sift_lang.specs.Tree.{TaskTree}
 use Rattle.sift_lang.specs.Sound.{IsSound, AllNowsBelow}
 use Rattle.sift_lang.specs.Meaning.{meaning}
 use Rattle.sift_program.specs.Sound.{first_word}
-use Rattle.sift_unit.specs.Premises.{RunsProgram}
+use Rattle.sift_mission.specs.Premises.{IsAmong, RunsProgram}
 use Rattle.sift_flight.specs.Calm.{mission_of, program_of}
 use Rattle.sift_flight.specs.Calms.{reading_task, adding_task, gauge}
 
@@ -58,6 +58,10 @@ runs = record {
   };
   words = refl;
   starts = refl;
+  each = two (λ w. IsAmong (program_of gauge) w w)
+      (record { task = reading_task; at = refl; from = omega arith; below = omega arith })
+      (record { task = adding_task; at = refl; from = omega arith; below = omega arith });
+  task = λ t w own. among t w own;
   word = λ t i task ins now last at low. word t i task ins now last at low;
 }
   where
@@ -65,6 +69,18 @@ runs = record {
     earlier zero task at = subst (AllNowsBelow 0) (same_Some reading_task task at) ((tt, tt), tt)
     earlier (suc zero) task at = subst (AllNowsBelow 1) (same_Some adding_task task at) (((tt, omega arith), tt), tt)
     earlier (suc (suc t)) task at = absurd cc
+
+    among : (t w : ℕ) → IsAmong (program_of gauge) t w → w ≡ t
+    among zero w own =
+        let size : 1 ≡ own.task.outputs = ap (λ (tree : TaskTree). tree.outputs) (same_Some reading_task own.task own.at) in
+        let below : w < 0 + own.task.outputs = own.below in
+        omega arith
+    among (suc zero) w own =
+        let size : 1 ≡ own.task.outputs = ap (λ (tree : TaskTree). tree.outputs) (same_Some adding_task own.task own.at) in
+        let from : 1 ≤ w = own.from in
+        let below : w < 1 + own.task.outputs = own.below in
+        omega arith
+    among (suc (suc t)) w own = let at = own.at in absurd cc
 
     word : (t i : ℕ) (task : TaskTree) (ins now last : List ℕ) → slice_get tasks t ≡ Some task → i < task.outputs
         → (mission_of gauge).word (first_word tasks t + i) ins now last ≡ slice_index (meaning task ins now last) i

@@ -8,18 +8,18 @@ use Rattle.sift_buffer.specs.Ranges.{Ranges}
 use Rattle.sift_buffer.specs.Conduct.{Saying, saying, hearing}
 use Rattle.sift_buffer.specs.Core.{Core}
 use Rattle.sift_buffer.specs.Lawful.{IsFromSayings, IsFromStrays, nothing, said, strayed}
-use Rattle.sift_unit.specs.Mission.{Mission}
-use Rattle.sift_unit.specs.Slots.{is_slot, calls, stamp_of, heard_at, has_turned}
-use Rattle.sift_unit.specs.Account.{Account}
-use Rattle.sift_unit.specs.Frames.{Flies}
-use Rattle.sift_unit.specs.Acts.{IsConfigOf, ActsAre, BoardKeeps, word_in_saying, word_in_hearing}
-use Rattle.sift_unit.specs.Fits.{Fits}
+use Rattle.sift_mission.specs.Mission.{FlownMission, IsConfigOf}
+use Rattle.sift_mission.specs.Slots.{is_slot, calls, stamp_of, heard_at, has_turned}
+use Rattle.sift_conduct.specs.Account.{Account}
+use Rattle.sift_conduct.specs.Frames.{Flies}
+use Rattle.sift_conduct.specs.Acts.{ActsAre, BoardKeeps, word_in_saying, word_in_hearing}
+use Rattle.sift_mission.specs.Fits.{Fits}
 use Rattle.sift_flight.specs.Hearing.{IsOfStray, absent, stray}
 use Rattle.sift_flight.specs.Landing.{HaveLanded, UnitsHearByTheEquations}
 use Rattle.sift_flight.proofs.Calls.{call_of}
 use Rattle.sift_flight.proofs.FrameActs.{frame_low, same_frame, never_reached, heard_is, heard_none, left_above, hushed}
 
-module _ (m : Mission) (r : Ranges) (c : Core) (accounts : ℕ → ℕ → Account) (n f : ℕ) (fits : Fits m) (landed : HaveLanded m r c accounts n) (low : f < n)
+module _ (m : FlownMission) (r : Ranges) (c : Core) (accounts : ℕ → ℕ → Account) (n f : ℕ) (fits : Fits m) (landed : HaveLanded m r c accounts n) (low : f < n)
     (q : ℕ) (k : Slot) (p : ℕ) (flies : Flies m q f) where
   abbrev word : Option ℕ
   word = word_in_hearing ((c.of q).heard f (m.number k) p)

@@ -8,11 +8,11 @@ use Rattle.sift_program.specs.Program.{ProgramTree}
 use Rattle.sift_program.specs.Sound.{output_count, first_word}
 use Rattle.sift_program.specs.Ideal.{ideal_frame}
 use Rattle.sift_program.proofs.Unique.{ideal_frame-unique}
-use Rattle.sift_unit.specs.Mission.{Mission}
-use Rattle.sift_unit.specs.Premises.{RunsProgram}
+use Rattle.sift_mission.specs.Mission.{FlownMission}
+use Rattle.sift_mission.specs.Premises.{RunsProgram}
 
 -- each word of a frame is the one that its task makes of the agreed words, the frame's own and those of the frame before
-pub record IsStep (m : Mission) (ins last outs : List ℕ) : Type 0 where
+pub record IsStep (m : FlownMission) (ins last outs : List ℕ) : Type 0 where
   pub count : length outs ≡ m.words
   pub makes : (w : ℕ) → w < m.words → slice_index outs w ≡ m.word w ins outs last
 
@@ -40,7 +40,7 @@ place_of (task ∷ tasks) w below =
     (cases_lt w task.outputs)
 
 -- so a frame of the ideal machine is a step
-pub ideal_step : (m : Mission) (program : ProgramTree) (ins last : List ℕ) → RunsProgram m program → IsStep m ins last (ideal_frame program last ins)
+pub ideal_step : (m : FlownMission) (program : ProgramTree) (ins last : List ℕ) → RunsProgram m program → IsStep m ins last (ideal_frame program last ins)
 ideal_step m program ins last runs =
     let outs : List ℕ = ideal_frame program last ins in
     let meets = (ideal_frame-unique m.sensors program last ins outs runs.sound).0 refl in

@@ -4,14 +4,13 @@ use Rattle.std.proofs.lemmas.Bool.{cases_lt, le-ltb}
 use Rattle.sift_base.specs.Units.{has}
 use Rattle.sift_program.specs.Program.{ProgramTree}
 use Rattle.sift_program.specs.Ideal.{words_before}
-use Rattle.sift_unit.specs.Mission.{Mission}
-use Rattle.sift_unit.specs.Acts.{IsConfigOf}
-use Rattle.sift_unit.specs.Frames.{last_of, FrameConduct}
+use Rattle.sift_mission.specs.Mission.{FlownMission, IsConfigOf}
+use Rattle.sift_conduct.specs.Frames.{last_of, FrameConduct}
 use Rattle.sift_flight.specs.Flight.{Flight, config_of}
 use Rattle.sift_flight.specs.Hearing.{Strays}
 use Rattle.sift_flight.specs.Round.{IsRound}
 use Rattle.sift_flight.specs.Configuration.{Works, lead_of, config_at, HasMarginAt}
-use Rattle.sift_unit.specs.Premises.{IsFlyable, RunsProgram}
+use Rattle.sift_mission.specs.Premises.{IsFlyable, RunsProgram}
 use Rattle.sift_flight.specs.Headline.{agreed_at, HeadlineHolds}
 use Rattle.sift_flight.proofs.Working.{InFrame, Member, member_of}
 use Rattle.sift_flight.proofs.Timing.{next_together}
@@ -19,11 +18,11 @@ use Rattle.sift_flight.proofs.Leading.{lead_works, config_within}
 use Rattle.sift_flight.proofs.OneFrame.{outputs, next, next_is, next_good, stays_in, headline_by}
 
 -- the induction's state: the configuration of all working units, and the words before
-record Stands (m : Mission) (program : ProgramTree) (strays : Strays) (fl : Flight) (f : ℕ) : Type 0 where
+record Stands (m : FlownMission) (program : ProgramTree) (strays : Strays) (fl : Flight) (f : ℕ) : Type 0 where
   frame : InFrame m strays fl f (config_at m fl f)
   last : (u : ℕ) → Works m u f → last_of m (fl.account u) f ≡ words_before program (agreed_at m fl) f
 
-module _ (m : Mission) (program : ProgramTree) (strays : Strays) (fl : Flight) (flyable : IsFlyable m) (runs : RunsProgram m program) (round : IsRound m strays fl) where
+module _ (m : FlownMission) (program : ProgramTree) (strays : Strays) (fl : Flight) (flyable : IsFlyable m) (runs : RunsProgram m program) (round : IsRound m strays fl) where
   -- what a working unit does in a frame
   conduct_of : (f : ℕ) → f < m.frames → (u : ℕ) → Works m u f → FrameConduct m u (fl.account u) (fl.heard u) (fl.said u) f
   conduct_of f low u w = (round f low).conduct u (record { unit = w.unit; whole = flyable.script.whole u f w.works })

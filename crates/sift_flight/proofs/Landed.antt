@@ -1,8 +1,8 @@
 -- The frames that boards have kept over a lawful core are those of a round flight.
 use Rattle.std.proofs.Common.{inl, inr, refl, ap}
 use Rattle.std.proofs.lemmas.Bool.{cases_Bool}
-use Rattle.sift_unit.specs.Slots.{is_slot}
-use Rattle.sift_unit.specs.Acts.{word_in_saying, word_in_hearing}
+use Rattle.sift_mission.specs.Slots.{is_slot}
+use Rattle.sift_conduct.specs.Acts.{word_in_saying, word_in_hearing}
 use Rattle.sift_flight.specs.Landing.{LandedFramesAreRound, LawfulCoresHearLawfully}
 use Rattle.sift_flight.proofs.FrameActs.{hushed, deafened}
 use Rattle.sift_flight.proofs.Hears.{units_hear_by_the_equations}

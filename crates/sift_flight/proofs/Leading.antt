@@ -5,10 +5,10 @@ use Rattle.std.proofs.lemmas.Bool.{cases_Bool}
 use Rattle.sift_base.specs.Units.{has}
 use Rattle.sift_base.proofs.Counts.{has-head, has-tail}
 use Rattle.sift_base.proofs.Others.{not_same}
-use Rattle.sift_unit.specs.Mission.{Mission}
+use Rattle.sift_mission.specs.Mission.{FlownMission}
 use Rattle.sift_flight.specs.Flight.{Flight, config_of}
 use Rattle.sift_flight.specs.Configuration.{Works, lead_of, config_at}
-use Rattle.sift_unit.specs.Premises.{IsFlyable}
+use Rattle.sift_mission.specs.Premises.{IsFlyable}
 
 -- where some unit of a list passes a test, the first that does is in the list, and passes
 first_passes : (p : ℕ → Bool) (us : List ℕ) (v : ℕ) → has us v ≡ true → p v ≡ true → (has us (unwrap_or (find p us) 0) ≡ true) × (p (unwrap_or (find p us) 0) ≡ true)
@@ -26,12 +26,12 @@ first_passes p (u ∷ us) v h t =
     ]
 
 -- the lead unit works
-pub lead_works : (m : Mission) → IsFlyable m → (f : ℕ) → Works m (lead_of m f) f
+pub lead_works : (m : FlownMission) → IsFlyable m → (f : ℕ) → Works m (lead_of m f) f
 lead_works m flyable f =
     let s = flyable.script.steady in
     let t = first_passes (λ u. m.works u f) m.units s.0 s.1 (s.2 f) in
     record { unit = t.0; works = t.1 }
 
 -- in the mission's frames the configuration is the lead unit's, and after them what the last lead unit found
-pub config_within : (m : Mission) (fl : Flight) (f : ℕ) → f < m.frames → config_at m fl f ≡ config_of fl (lead_of m f) f
+pub config_within : (m : FlownMission) (fl : Flight) (f : ℕ) → f < m.frames → config_at m fl f ≡ config_of fl (lead_of m f) f
 config_within m fl f low = rw (lt-ltb f m.frames low) refl

@@ -4,13 +4,13 @@ use Rattle.std.specs.declared.alloc.Global.{Global}
 use Rattle.std.proofs.lemmas.Bool.{cases_lt, le-ltb}
 use Rattle.std.proofs.lemmas.List.{get_or-map, length-map}
 use Rattle.std.proofs.lemmas.List.FromFn.{length-range_with_len}
-use Rattle.sift_unit.specs.Boards.{account_of}
-use Rattle.sift_unit.specs.Slots.{has_turned, turned_by}
-use Rattle.sift_unit.specs.declared.account.Account.{Account as TheAccount}
-use Rattle.sift_unit.specs.Flown.{mission_of}
-use Rattle.sift_unit.specs.Premises.{IsFlyable}
-use Rattle.sift_unit.specs.declared.parts.MissionParts.{MissionParts}
-use Rattle.sift_unit.proofs.Numbers.{range-has}
+use Rattle.sift_conduct.specs.Account.{account_of}
+use Rattle.sift_mission.specs.Slots.{has_turned, turned_by}
+use Rattle.sift_conduct.specs.declared.account.Account.{Account as TheAccount}
+use Rattle.sift_mission.specs.Parts.{flown_of}
+use Rattle.sift_mission.specs.Premises.{IsFlyable}
+use Rattle.sift_mission.specs.declared.parts.MissionParts.{MissionParts}
+use Rattle.sift_mission.proofs.Numbers.{range-has}
 use Rattle.sift_flight.specs.Configuration.{Works}
 use Rattle.sift_flight.specs.Told.{IsAccountOf, IsWhole, accounts_of, frames_before, no_account, told}
 use Rattle.sift_flight.specs.declared.flight.Flight.{Flight as TheFlight}
@@ -42,8 +42,8 @@ module _ (fl : TheFlight) (u : ℕ) (row : Vec TheAccount Global) (low : u < len
       ap account_of at ∙ sym (get_or-map account_of row.items f a no_account there) ∙ ap (λ accounts. get_or accounts f no_account) (sym row_is)
 
 -- a unit that works in a frame of a whole flight, and its row
-module _ (parts : MissionParts) (flyable : IsFlyable (mission_of parts)) (fl : TheFlight) (u f : ℕ) (whole : IsWhole (mission_of parts) parts.layout fl)
-    (works : Works (mission_of parts) u f) (low : f < parts.frames) (row : Vec TheAccount Global) (is : row ≡ get_or fl.accounts.items u row) where
+module _ (parts : MissionParts) (flyable : IsFlyable (flown_of parts)) (fl : TheFlight) (u f : ℕ) (whole : IsWhole (flown_of parts) parts.layout fl)
+    (works : Works (flown_of parts) u f) (low : f < parts.frames) (row : Vec TheAccount Global) (is : row ≡ get_or fl.accounts.items u row) where
   -- the unit has a row
   in_lists : u < length fl.accounts.items
   in_lists =
@@ -52,20 +52,20 @@ module _ (parts : MissionParts) (flyable : IsFlyable (mission_of parts)) (fl : T
       omega (arith, below.1, length-range_with_len 0 parts.units)
 
   -- it hasn't turned
-  still : has_turned (mission_of parts) u f ≡ false
+  still : has_turned (flown_of parts) u f ≡ false
   still = flyable.script.whole u f works.works
 
   -- so its row has a place for the frame
   pub has_place : f < length row.items
   has_place =
-      let few = frame_flown ((mission_of parts).storm u) parts.frames f low still in
+      let few = frame_flown ((flown_of parts).storm u) parts.frames f low still in
       let many = whole.logged.accounts u works.unit in
       in_row fl u row in_lists is f (omega arith)
 
   -- which holds the account that is told
-  pub place_told : (a : TheAccount) → a ≡ get_or row.items f a → account_of a ≡ (told (mission_of parts) fl).account u f
+  pub place_told : (a : TheAccount) → a ≡ get_or row.items f a → account_of a ≡ (told (flown_of parts) fl).account u f
   place_told a at = account_in_row fl u row in_lists is f a has_place at
 
   -- and this is one of the unit
-  pub place_account : (a : TheAccount) → a ≡ get_or row.items f a → IsAccountOf (mission_of parts) u (account_of a)
-  place_account a at = subst (IsAccountOf (mission_of parts) u) (sym (place_told a at)) (whole.accounts.each u f works.unit low still)
+  pub place_account : (a : TheAccount) → a ≡ get_or row.items f a → IsAccountOf (flown_of parts) u (account_of a)
+  place_account a at = subst (IsAccountOf (flown_of parts) u) (sym (place_told a at)) (whole.accounts.each u f works.unit low still)

@@ -8,10 +8,10 @@ use Rattle.sift_base.specs.declared.slot.Slot.TheVariants.{Sense, RelaySense}
 use Rattle.sift_exec.specs.Record.{everyone_in}
 use Rattle.sift_exec.specs.declared.catches.Catches.{Catches}
 use Rattle.sift_config.specs.Config.{reader_of}
-use Rattle.sift_unit.specs.Mission.{Mission}
-use Rattle.sift_unit.specs.Account.{caught}
-use Rattle.sift_unit.specs.Conduct.{relay_catches, clock_catches}
-use Rattle.sift_unit.specs.Frames.{last_of}
+use Rattle.sift_mission.specs.Mission.{FlownMission}
+use Rattle.sift_conduct.specs.Account.{caught}
+use Rattle.sift_conduct.specs.Conduct.{relay_catches, clock_catches}
+use Rattle.sift_conduct.specs.Frames.{last_of}
 use Rattle.sift_flight.specs.Flight.{Flight}
 use Rattle.sift_flight.specs.Hearing.{Strays}
 use Rattle.sift_flight.proofs.Calls.{and_both, told_apart}
@@ -25,7 +25,7 @@ pub holds-everyone : (c : Catches) (v : ℕ) → holds (everyone_in c) v ≡ ((h
 holds-everyone c v = set.contains-union nat_cmp_total (set.union c.poll c.relay) c.clock v
     ∙ ap (λ t. t || holds c.clock v) (set.contains-union nat_cmp_total c.poll c.relay v)
 
-module _ (m : Mission) (strays : Strays) (fl : Flight) (f : ℕ) (us : List ℕ) (here : InFrame m strays fl f us) where
+module _ (m : FlownMission) (strays : Strays) (fl : Flight) (f : ℕ) (us : List ℕ) (here : InFrame m strays fl f us) where
   -- no member catches a member for a relay: it hears the word that it said itself
   none_relayed : (u v : ℕ) → Member m f us u → Member m f us v → relay_catches m us u f (fl.heard u f) v ≡ false
   none_relayed u v wu wv = elim (cases_Bool (relay_catches m us u f (fl.heard u f) v)) [

@@ -5,14 +5,13 @@ use Rattle.sift_base.specs.Units.{has}
 use Rattle.sift_exec.specs.Conviction.{next_by}
 use Rattle.sift_program.specs.Program.{ProgramTree}
 use Rattle.sift_program.specs.Ideal.{ideal_words, words_before}
-use Rattle.sift_unit.specs.Mission.{Mission}
-use Rattle.sift_unit.specs.Account.{caught}
-use Rattle.sift_unit.specs.Acts.{IsConfigOf}
-use Rattle.sift_unit.specs.Frames.{last_of}
+use Rattle.sift_mission.specs.Mission.{FlownMission, IsConfigOf}
+use Rattle.sift_conduct.specs.Account.{caught}
+use Rattle.sift_conduct.specs.Frames.{last_of}
 use Rattle.sift_flight.specs.Flight.{Flight}
 use Rattle.sift_flight.specs.Hearing.{Strays}
 use Rattle.sift_flight.specs.Configuration.{Works, lead_of, config_at}
-use Rattle.sift_unit.specs.Premises.{RunsProgram}
+use Rattle.sift_mission.specs.Premises.{RunsProgram}
 use Rattle.sift_flight.specs.Headline.{agreed_at, Headline}
 use Rattle.sift_flight.proofs.Configs.{reader_in}
 use Rattle.sift_flight.proofs.Ideal.{IsStep, ideal_step}
@@ -24,7 +23,7 @@ use Rattle.sift_flight.proofs.Naming.{none_named}
 use Rattle.sift_flight.proofs.Removing.{names, next_one, next_exact, stays, next_is_config}
 use Rattle.sift_flight.proofs.Leading.{lead_works}
 
-module _ (m : Mission) (program : ProgramTree) (strays : Strays) (fl : Flight) (f : ℕ) (runs : RunsProgram m program) (here : InFrame m strays fl f (config_at m fl f))
+module _ (m : FlownMission) (program : ProgramTree) (strays : Strays) (fl : Flight) (f : ℕ) (runs : RunsProgram m program) (here : InFrame m strays fl f (config_at m fl f))
     (last_is : (u : ℕ) → Works m u f → last_of m (fl.account u) f ≡ words_before program (agreed_at m fl) f) where
   abbrev us : List ℕ
   us = config_at m fl f

@@ -10,13 +10,12 @@ use Rattle.sift_base.proofs.Sets.{passing_ascend}
 use Rattle.sift_clock.specs.Distance.{IsWithin}
 use Rattle.sift_exec.specs.Conviction.{is_convicted, kept_by, next_by}
 use Rattle.sift_skew.proofs.Changes.{offsets_change_little}
-use Rattle.sift_unit.specs.Acts.{IsConfigOf}
-use Rattle.sift_unit.specs.Conduct.{reading_by}
-use Rattle.sift_unit.specs.Flown.{flown}
-use Rattle.sift_unit.specs.Frames.{FrameConduct}
-use Rattle.sift_unit.specs.Mission.{Mission}
-use Rattle.sift_unit.specs.Premises.{IsFlyable, PartsMakeItFlyable}
-use Rattle.sift_unit.specs.Slots.{has_turned, turned_by}
+use Rattle.sift_mission.specs.Mission.{IsConfigOf, FlownMission}
+use Rattle.sift_conduct.specs.Conduct.{reading_by}
+use Rattle.sift_mission.specs.Flown.{flown}
+use Rattle.sift_conduct.specs.Frames.{FrameConduct}
+use Rattle.sift_mission.specs.Premises.{IsFlyable, PartsMakeItFlyable}
+use Rattle.sift_mission.specs.Slots.{has_turned, turned_by}
 use Rattle.sift_flight.specs.Flight.{Flight}
 use Rattle.sift_flight.specs.Hearing.{Strays}
 use Rattle.sift_flight.specs.Round.{IsRound}
@@ -47,7 +46,7 @@ still_before (Some from) g f early still = elim (cases_lt f from) [
 ]
 
 -- the next configuration is one of the mission
-next_is_config : (m : Mission) (names : ℕ → ℕ → Bool) (us : List ℕ) → IsConfigOf m us → IsConfigOf m (next_by names us)
+next_is_config : (m : FlownMission) (names : ℕ → ℕ → Bool) (us : List ℕ) → IsConfigOf m us → IsConfigOf m (next_by names us)
 next_is_config m names us config = record {
   enough = elim (cases_Bool (nat_le least_units (length (kept_by names us)))) [
     | inl many ↦ rw many (leb-true least_units (length (kept_by names us)) many)
@@ -61,13 +60,13 @@ next_is_config m names us config = record {
 }
 
 -- an account's configurations are the mission's, and its offsets within the reach of its frame
-record Reaches (m : Mission) (fl : Flight) (u f : ℕ) : Type 0 where
+record Reaches (m : FlownMission) (fl : Flight) (u f : ℕ) : Type 0 where
   pub config : IsConfigOf m (fl.account u f).cfg
   pub next_config : IsConfigOf m (fl.account u f).next_cfg
   pub clock : IsWithin (reach f) (fl.account u f).clk (pos 0)
   pub next_clock : IsWithin (reach (suc f)) (fl.account u f).next_clk (pos 0)
 
-module _ (m : Mission) (flyable : IsFlyable m) (near : (u : ℕ) → has m.units u ≡ true → IsWithin (pos change) (m.offset u) (pos 0))
+module _ (m : FlownMission) (flyable : IsFlyable m) (near : (u : ℕ) → has m.units u ≡ true → IsWithin (pos change) (m.offset u) (pos 0))
     (strays : Strays) (fl : Flight) (round : IsRound m strays fl) where
   conduct : (u f : ℕ) → has m.units u ≡ true → f < m.frames → has_turned m u f ≡ false → FrameConduct m u (fl.account u) (fl.heard u) (fl.said u) f
   conduct u f unit low still = (round f low).conduct u (record { unit = unit; whole = still })
@@ -178,7 +177,7 @@ module _ (m : Mission) (flyable : IsFlyable m) (near : (u : ℕ) → has m.units
   accounts_are = record { each = account_is; idle = idle_later }
 
 -- offsets at the start are near
-starts_near : (m : Mission) → IsFlyable m → (u : ℕ) → has m.units u ≡ true → IsWithin (pos change) (m.offset u) (pos 0)
+starts_near : (m : FlownMission) → IsFlyable m → (u : ℕ) → has m.units u ≡ true → IsWithin (pos change) (m.offset u) (pos 0)
 starts_near m flyable u unit =
     let start = flyable.fits.clocks.starts u unit in
     (omega (arith, ints, start.0, start.1), omega (arith, ints, start.0, start.1))

@@ -10,9 +10,8 @@ use Rattle.sift_base.proofs.Sets.{filter_same, passing_ascend}
 use Rattle.sift_exec.specs.Record.{everyone_in}
 use Rattle.sift_exec.specs.Conviction.{is_convicted, kept_by, next_by, IsJust, working_accusers}
 use Rattle.sift_exec.proofs.Justice.{conviction_holds, count_of_same}
-use Rattle.sift_unit.specs.Mission.{Mission}
-use Rattle.sift_unit.specs.Account.{caught}
-use Rattle.sift_unit.specs.Acts.{IsConfigOf}
+use Rattle.sift_mission.specs.Mission.{FlownMission, IsConfigOf}
+use Rattle.sift_conduct.specs.Account.{caught}
 use Rattle.sift_flight.specs.Flight.{Flight}
 use Rattle.sift_flight.specs.Hearing.{Strays}
 use Rattle.sift_flight.proofs.Bits.{has_bit-bits_of}
@@ -26,7 +25,7 @@ next_same one other us same = ap (λ k. if nat_le least_units (length k) then k 
     (filter_same (λ u. not (is_convicted one us u)) (λ u. not (is_convicted other us u)) us
     (λ v hv. ap (λ n. not (has us v && nat_lt 1 n)) (count_of_same (λ r. one r v) (λ r. other r v) (others v us) (λ r hr. same r v (has-others v us r hr).0))))
 
-module _ (m : Mission) (strays : Strays) (fl : Flight) (f : ℕ) (us : List ℕ) (here : InFrame m strays fl f us) where
+module _ (m : FlownMission) (strays : Strays) (fl : Flight) (f : ℕ) (us : List ℕ) (here : InFrame m strays fl f us) where
   -- whom q takes r's report to name
   abbrev pub names : ℕ → ℕ → ℕ → Bool
   names q r v = has_bit (report m strays fl f us here q r) v

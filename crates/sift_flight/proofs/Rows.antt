@@ -6,7 +6,7 @@ use Rattle.sift_base.specs.declared.slot.Slot.TheVariants.{Report}
 use Rattle.std.specs.FinSet as set
 use Rattle.sift_base.specs.Units.{has}
 use Rattle.sift_buffer.specs.Cell.{taken, packed}
-use Rattle.sift_unit.specs.Frames.{Flies}
+use Rattle.sift_conduct.specs.Frames.{Flies}
 use Rattle.std.specs.List.{Contains}
 use Rattle.std.proofs.lemmas.List.Elements.{Contains-append_cases}
 use Rattle.sift_base.specs.Units.{holds}

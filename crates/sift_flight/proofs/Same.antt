@@ -5,18 +5,18 @@ use mathlib.Core.Logic.{dite}
 use native.Mathlib.Decide.{ℕ_discrete}
 use Rattle.sift_base.specs.Units.{has}
 use Rattle.sift_base.specs.declared.slot.Slot.{Slot}
-use Rattle.sift_unit.specs.Mission.{Mission}
-use Rattle.sift_unit.specs.Slots.{calls, has_turned}
-use Rattle.sift_unit.specs.Conduct.{own_word, said_of}
-use Rattle.sift_unit.specs.Frames.{last_of, FrameConduct, IdleConduct, BusyConduct, Flies}
-use Rattle.sift_unit.specs.Fits.{Fits}
+use Rattle.sift_mission.specs.Mission.{FlownMission}
+use Rattle.sift_mission.specs.Slots.{calls, has_turned}
+use Rattle.sift_conduct.specs.Conduct.{own_word, said_of}
+use Rattle.sift_conduct.specs.Frames.{last_of, FrameConduct, IdleConduct, BusyConduct, Flies}
+use Rattle.sift_mission.specs.Fits.{Fits}
 use Rattle.sift_flight.specs.Flight.{Flight, config_of}
 use Rattle.sift_flight.specs.Hearing.{Strays}
 use Rattle.sift_flight.specs.Round.{RoundAt, HasNoStorms}
 use Rattle.sift_flight.proofs.Calls.{call_of}
 
 -- a frame of two round flights, without storms, that both begin alike
-pub record AreBothRound (m : Mission) (strays strays' : Strays) (fl gl : Flight) (f : ℕ) : Type 0 where
+pub record AreBothRound (m : FlownMission) (strays strays' : Strays) (fl gl : Flight) (f : ℕ) : Type 0 where
   pub fits : Fits m
   pub calm : HasNoStorms m
   pub one : RoundAt m strays fl f
@@ -27,22 +27,22 @@ pub record AreBothRound (m : Mission) (strays strays' : Strays) (fl gl : Flight)
   pub inside : (u p : ℕ) → has m.units u ≡ true → has (config_of gl u f) p ≡ true → has m.units p ≡ true
 
 -- a mission without storms has no unit that has turned
-pub whole_unit : (m : Mission) → HasNoStorms m → (u f : ℕ) → has m.units u ≡ true → has_turned m u f ≡ false
+pub whole_unit : (m : FlownMission) → HasNoStorms m → (u f : ℕ) → has m.units u ≡ true → has_turned m u f ≡ false
 whole_unit m calm u f hu = rw (calm u hu) refl
 
 -- so each of its units flies in each frame
-pub flies_always : (m : Mission) → HasNoStorms m → (u f : ℕ) → has m.units u ≡ true → Flies m u f
+pub flies_always : (m : FlownMission) → HasNoStorms m → (u f : ℕ) → has m.units u ≡ true → Flies m u f
 flies_always m calm u f hu = record { unit = hu; whole = whole_unit m calm u f hu }
 
 -- in a frame of two flights each unit says a slot alike
-abbrev pub SayAlike : Mission → Flight → Flight → ℕ → Slot → Type 0
+abbrev pub SayAlike : FlownMission → Flight → Flight → ℕ → Slot → Type 0
 SayAlike m fl gl f k = (u q : ℕ) → has m.units u ≡ true → fl.said u f k q ≡ gl.said u f k q
 
 -- and hears it alike
-abbrev pub HearAlike : Mission → Flight → Flight → ℕ → Slot → Type 0
+abbrev pub HearAlike : FlownMission → Flight → Flight → ℕ → Slot → Type 0
 HearAlike m fl gl f k = (u : ℕ) → has m.units u ≡ true → fl.heard u f k ≡ gl.heard u f k
 
-module _ (m : Mission) (strays strays' : Strays) (fl gl : Flight) (f : ℕ) (b : AreBothRound m strays strays' fl gl f) where
+module _ (m : FlownMission) (strays strays' : Strays) (fl gl : Flight) (f : ℕ) (b : AreBothRound m strays strays' fl gl f) where
   abbrev us : ℕ → List ℕ
   us u = config_of gl u f
 

@@ -15,10 +15,10 @@ use Rattle.sift_exec.specs.Conviction.{next_by}
 use Rattle.sift_config.specs.Config.{reader_of}
 use Rattle.sift_clock.specs.Correction.{next_offset}
 use Rattle.sift_clock.specs.Reading.{reading_of, is_too_far}
-use Rattle.sift_unit.specs.Mission.{Mission}
-use Rattle.sift_unit.specs.Slots.{executors}
-use Rattle.sift_unit.specs.Conduct.{polled, any_below, poll_catches, relay_catches, clock_catches, report_of, said_of}
-use Rattle.sift_unit.specs.Frames.{last_of, BusyConduct, IdleConduct}
+use Rattle.sift_mission.specs.Mission.{FlownMission}
+use Rattle.sift_mission.specs.Slots.{executors}
+use Rattle.sift_conduct.specs.Conduct.{polled, any_below, poll_catches, relay_catches, clock_catches, report_of, said_of}
+use Rattle.sift_conduct.specs.Frames.{last_of, BusyConduct, IdleConduct}
 use Rattle.sift_flight.specs.Flight.{Flight, config_of}
 use Rattle.sift_flight.specs.Hearing.{Strays}
 use Rattle.sift_flight.specs.Round.{AreSameAt}
@@ -34,7 +34,7 @@ any_same : (n : ℕ) (p q : ℕ → Bool) → ((x : ℕ) → x < n → p x ≡ q
 any_same zero p q same = refl
 any_same (suc n) p q same = rw (any_same n p q (λ x low. same x (omega arith)), same n (omega arith)) refl
 
-module _ (m : Mission) (strays strays' : Strays) (fl gl : Flight) (f : ℕ) (b : AreBothRound m strays strays' fl gl f) where
+module _ (m : FlownMission) (strays strays' : Strays) (fl gl : Flight) (f : ℕ) (b : AreBothRound m strays strays' fl gl f) where
   abbrev us : ℕ → List ℕ
   us u = config_of gl u f
 

@@ -8,16 +8,16 @@ use Rattle.sift_base.specs.declared.slot.Slot.TheVariants.{Clock, Sense, RelaySe
 use Rattle.sift_vote.specs.Agreed.{agreed_of}
 use Rattle.sift_agree.specs.Agreement.{taken}
 use Rattle.sift_config.specs.Config.{reader_of}
-use Rattle.sift_unit.specs.Mission.{Mission}
-use Rattle.sift_unit.specs.Slots.{executors}
-use Rattle.sift_unit.specs.Conduct.{input_of, made, polled}
-use Rattle.sift_unit.specs.Frames.{last_of, BusyConduct, IdleConduct}
+use Rattle.sift_mission.specs.Mission.{FlownMission}
+use Rattle.sift_mission.specs.Slots.{executors}
+use Rattle.sift_conduct.specs.Conduct.{input_of, made, polled}
+use Rattle.sift_conduct.specs.Frames.{last_of, BusyConduct, IdleConduct}
 use Rattle.sift_flight.specs.Flight.{Flight, config_of}
 use Rattle.sift_flight.specs.Hearing.{Strays}
 use Rattle.sift_flight.proofs.Calls.{call_of}
 use Rattle.sift_flight.proofs.Same.{AreBothRound, HearAlike, conduct_other, busy_one, idle_one, by_place, say, hear}
 
-module _ (m : Mission) (strays strays' : Strays) (fl gl : Flight) (f : ℕ) (b : AreBothRound m strays strays' fl gl f) where
+module _ (m : FlownMission) (strays strays' : Strays) (fl gl : Flight) (f : ℕ) (b : AreBothRound m strays strays' fl gl f) where
   abbrev us : ℕ → List ℕ
   us u = config_of gl u f
 

@@ -13,7 +13,7 @@ use Rattle.sift_clock.specs.Distance.{IsWithin}
 use Rattle.sift_skew.specs.Limits.{offset_limit}
 use Rattle.sift_skew.specs.Figures.{AreInRange, IsHighest, IsLowest, IsSkew, IsSlack}
 use Rattle.sift_skew.proofs.Extremes.{skew_from, slack_from}
-use Rattle.sift_unit.specs.Mission.{Mission}
+use Rattle.sift_mission.specs.Mission.{FlownMission}
 use Rattle.sift_flight.specs.Flight.{Flight}
 use Rattle.sift_flight.specs.Configuration.{config_at}
 use Rattle.sift_flight.specs.Figures.{MarginIsTold, SkewIsTold, SlackIsTold, is_sound_at, margin_before, skew_of, slack_of}
@@ -21,7 +21,7 @@ use Rattle.sift_flight.proofs.Calls.{and_both, both}
 
 -- ---- margin
 
-module _ (m : Mission) (fl : Flight) where
+module _ (m : FlownMission) (fl : Flight) where
   -- a sound configuration has margin, and one with margin is sound
   sound_has : (f : ℕ) → is_sound_at m fl f ≡ true → HasMargin (λ u. m.works u f) (config_at m fl f)
   sound_has f sound =

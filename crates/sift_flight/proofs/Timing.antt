@@ -13,8 +13,8 @@ use Rattle.sift_skew.proofs.Readings.{heard_clocks_are_read_well}
 use Rattle.sift_skew.proofs.Keeps.{skew_is_kept_with_margin}
 use Rattle.sift_skew.proofs.Changes.{offsets_change_little}
 use Rattle.sift_skew.proofs.Leads.{Contains-map, slack_is_positive}
-use Rattle.sift_unit.specs.Mission.{Mission}
-use Rattle.sift_unit.specs.Conduct.{reading_by}
+use Rattle.sift_mission.specs.Mission.{FlownMission}
+use Rattle.sift_conduct.specs.Conduct.{reading_by}
 use Rattle.sift_flight.specs.Flight.{Flight}
 use Rattle.sift_flight.specs.Headline.{HasLead}
 use Rattle.sift_flight.specs.Hearing.{Strays}
@@ -28,7 +28,7 @@ too_far_is (pos n) (negsuc k) near far = omega (arith, ints)
 too_far_is (negsuc n) (pos k) near far = omega (arith, ints)
 too_far_is (negsuc n) (negsuc k) near far = omega (arith, ints)
 
-module _ (m : Mission) (strays : Strays) (fl : Flight) (f : ℕ) (us : List ℕ) (here : InFrame m strays fl f us) where
+module _ (m : FlownMission) (strays : Strays) (fl : Flight) (f : ℕ) (us : List ℕ) (here : InFrame m strays fl f us) where
   abbrev clk : ℕ → ℤ
   clk u = (fl.account u f).clk
 

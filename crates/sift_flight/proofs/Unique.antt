@@ -2,9 +2,9 @@
 use Rattle.std.proofs.Common.{◌≡◌, ⊎_elim, ℕ, zero, suc, ◌<◌, true, refl, sym, ◌∙◌, subst, arith}
 use Rattle.std.proofs.lemmas.Bool.{cases_Bool}
 use Rattle.sift_base.specs.Units.{has}
-use Rattle.sift_unit.specs.Mission.{Mission}
-use Rattle.sift_unit.specs.Frames.{FrameConduct}
-use Rattle.sift_unit.specs.Fits.{Fits}
+use Rattle.sift_mission.specs.Mission.{FlownMission}
+use Rattle.sift_conduct.specs.Frames.{FrameConduct}
+use Rattle.sift_mission.specs.Fits.{Fits}
 use Rattle.sift_flight.specs.Flight.{Flight, config_of}
 use Rattle.sift_flight.specs.Hearing.{Strays}
 use Rattle.sift_flight.specs.Round.{IsRound, HasNoStorms, AtMostOneIsRound}
@@ -13,7 +13,7 @@ use Rattle.sift_flight.proofs.Same.{AreBothRound, flies_always}
 use Rattle.sift_flight.proofs.SameWords.{all_outs}
 use Rattle.sift_flight.proofs.SameFrame.{next_cfg_same, next_clk_same, same_here}
 
-module _ (m : Mission) (strays strays' : Strays) (fl gl : Flight) (fits : Fits m) (calm : HasNoStorms m) (R : IsRound m strays fl) (S : IsRound m strays' gl) where
+module _ (m : FlownMission) (strays strays' : Strays) (fl gl : Flight) (fits : Fits m) (calm : HasNoStorms m) (R : IsRound m strays fl) (S : IsRound m strays' gl) where
   -- the conduct of a unit in both
   conduct_one : (f : ℕ) → f < m.frames → (u : ℕ) → has m.units u ≡ true → FrameConduct m u (fl.account u) (fl.heard u) (fl.said u) f
   conduct_one f low u hu = (R f low).conduct u (flies_always m calm u f hu)

@@ -14,10 +14,10 @@ use Rattle.sift_vote.specs.Differing.{differs}
 use Rattle.sift_vote.proofs.Found.{majority_is_found}
 use Rattle.sift_agree.proofs.Taking.{votes-working}
 use Rattle.sift_agree.proofs.Winners.{won-agreed}
-use Rattle.sift_unit.specs.Mission.{Mission}
-use Rattle.sift_unit.specs.Slots.{executors}
-use Rattle.sift_unit.specs.Conduct.{made, polled, any_below, poll_catches}
-use Rattle.sift_unit.specs.Frames.{last_of}
+use Rattle.sift_mission.specs.Mission.{FlownMission}
+use Rattle.sift_mission.specs.Slots.{executors}
+use Rattle.sift_conduct.specs.Conduct.{made, polled, any_below, poll_catches}
+use Rattle.sift_conduct.specs.Frames.{last_of}
 use Rattle.sift_flight.specs.Flight.{Flight}
 use Rattle.sift_flight.specs.Hearing.{Strays}
 use Rattle.sift_flight.proofs.Calls.{and_both}
@@ -47,7 +47,7 @@ any_found (suc n) p e = elim (cases_Bool (any_below n p)) [
 pub same_not_differs : (w : ℕ) → differs (Some w) (Some w) ≡ true → ⊥
 same_not_differs w e = let z = rw (nat_eq-same w) at e in cc
 
-module _ (m : Mission) (strays : Strays) (fl : Flight) (f : ℕ) (us : List ℕ) (here : InFrame m strays fl f us)
+module _ (m : FlownMission) (strays : Strays) (fl : Flight) (f : ℕ) (us : List ℕ) (here : InFrame m strays fl f us)
     (ins before outs : List ℕ) (step : IsStep m ins before outs)
     (same_ins : (u : ℕ) → Member m f us u → (fl.account u f).ins ≡ ins)
     (same_last : (u : ℕ) → Member m f us u → last_of m (fl.account u) f ≡ before) where

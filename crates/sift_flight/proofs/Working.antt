@@ -6,20 +6,19 @@ use Rattle.sift_base.specs.declared.slot.Slot.{Slot}
 use Rattle.sift_base.specs.declared.slot.Slot.TheVariants.{Clock, Sense, RelaySense, Out, Report, RelayReport}
 use Rattle.sift_config.specs.Config.{reader_of}
 use Rattle.sift_skew.specs.Keeping.{AreTogether}
-use Rattle.sift_unit.specs.Mission.{Mission}
-use Rattle.sift_unit.specs.Slots.{calls}
-use Rattle.sift_unit.specs.Conduct.{own_word, said_of, Conduct}
-use Rattle.sift_unit.specs.Frames.{last_of, BusyConduct, Flies}
-use Rattle.sift_unit.specs.Acts.{IsConfigOf}
+use Rattle.sift_mission.specs.Mission.{FlownMission, IsConfigOf}
+use Rattle.sift_mission.specs.Slots.{calls}
+use Rattle.sift_conduct.specs.Conduct.{own_word, said_of, Conduct}
+use Rattle.sift_conduct.specs.Frames.{last_of, BusyConduct, Flies}
 use Rattle.sift_flight.specs.Flight.{Flight, config_of}
 use Rattle.sift_flight.specs.Hearing.{Strays}
 use Rattle.sift_flight.specs.Round.{RoundAt}
 use Rattle.sift_flight.specs.Configuration.{Works}
-use Rattle.sift_unit.specs.Premises.{IsFlyable}
+use Rattle.sift_mission.specs.Premises.{IsFlyable}
 use Rattle.sift_flight.proofs.Calls.{Call, call_is, both}
 
 -- frame f is one of a round flight, and us is the configuration of all units that work in it
-pub record InFrame (m : Mission) (strays : Strays) (fl : Flight) (f : ℕ) (us : List ℕ) : Type 0 where
+pub record InFrame (m : FlownMission) (strays : Strays) (fl : Flight) (f : ℕ) (us : List ℕ) : Type 0 where
   pub flyable : IsFlyable m
   pub round : RoundAt m strays fl f
   pub share : (u : ℕ) → Works m u f → (config_of fl u f ≡ us) × (has us u ≡ true)
@@ -28,11 +27,11 @@ pub record InFrame (m : Mission) (strays : Strays) (fl : Flight) (f : ℕ) (us :
   pub together : AreTogether m.skew us (λ u. m.works u f) (λ u. (fl.account u f).clk)
 
 -- a working unit of the configuration
-pub record Member (m : Mission) (f : ℕ) (us : List ℕ) (u : ℕ) : Type 0 where
+pub record Member (m : FlownMission) (f : ℕ) (us : List ℕ) (u : ℕ) : Type 0 where
   pub member : has us u ≡ true
   pub works : m.works u f ≡ true
 
-module _ (m : Mission) (strays : Strays) (fl : Flight) (f : ℕ) (us : List ℕ) (here : InFrame m strays fl f us) where
+module _ (m : FlownMission) (strays : Strays) (fl : Flight) (f : ℕ) (us : List ℕ) (here : InFrame m strays fl f us) where
   -- a member is a unit of the mission that works, and so it has not turned
   pub works_in : (u : ℕ) → Member m f us u → Works m u f
   works_in u w = record { unit = here.config.inside u w.member; works = w.works }

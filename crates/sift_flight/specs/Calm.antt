@@ -7,7 +7,7 @@ use Rattle.sift_base.specs.declared.slot.Slot.TheVariants.{Clock, Sense, RelaySe
 use Rattle.sift_lang.specs.Tree.{TaskTree, end}
 use Rattle.sift_lang.specs.Meaning.{meaning}
 use Rattle.sift_program.specs.Program.{ProgramTree}
-use Rattle.sift_unit.specs.Mission.{Mission}
+use Rattle.sift_mission.specs.Mission.{FlownMission}
 
 -- a calm mission: the length of its frame; its sensors' words; its tasks, each with one word, with the subframes in which they run, the
 -- words of this frame that they need, and their words before the frame and in it; the slot of each number; and which units turn after the frame
@@ -53,7 +53,7 @@ abbrev pub task_at : Calm → ℕ → TaskTree
 task_at c w = get_or c.tasks w (record { outputs = 1; body = end })
 
 -- the mission: each unit runs each task, no fault comes in the frame, and all clocks are right
-abbrev pub mission_of : Calm → Mission
+abbrev pub mission_of : Calm → FlownMission
 mission_of c = record {
   units = four_units;
   frames = 1;

@@ -10,8 +10,8 @@ use Rattle.sift_buffer.specs.Conduct.{saying, hearing, never}
 use Rattle.sift_buffer.specs.Conduct.{Conduct as Acts}
 use Rattle.sift_buffer.specs.Core.{Core}
 use Rattle.sift_exec.specs.Record.{nobody}
-use Rattle.sift_unit.specs.Slots.{calls, stamp_of, heard_at}
-use Rattle.sift_unit.specs.Account.{Account}
+use Rattle.sift_mission.specs.Slots.{calls, stamp_of, heard_at}
+use Rattle.sift_conduct.specs.Account.{Account}
 use Rattle.sift_flight.specs.Calm.{Calm, four_units, layout_of, mission_of}
 
 -- the word that each unit says in a slot

@@ -8,7 +8,7 @@ use Rattle.sift_buffer.specs.Lawful.{Lawful}
 use Rattle.sift_flight.specs.Configuration.{HasMarginAt}
 use Rattle.sift_flight.specs.Flight.{flight_of}
 use Rattle.sift_flight.specs.Landing.{HaveLanded}
-use Rattle.sift_unit.specs.Premises.{IsFlyable, RunsProgram}
+use Rattle.sift_mission.specs.Premises.{IsFlyable, RunsProgram}
 use Rattle.sift_flight.specs.Calm.{Calm, mission_of, program_of}
 use Rattle.sift_flight.specs.CalmFlight.{account_of, ranges_of, core_of}
 

@@ -8,59 +8,58 @@ use Rattle.sift_skew.specs.Figures.{lead_left}
 use Rattle.sift_skew.specs.Keeping.{AreTogether}
 use Rattle.sift_program.specs.Program.{ProgramTree}
 use Rattle.sift_program.specs.Ideal.{ideal_words}
-use Rattle.sift_unit.specs.Mission.{Mission}
-use Rattle.sift_unit.specs.Account.{caught}
-use Rattle.sift_unit.specs.Conduct.{report_in, report_of}
-use Rattle.sift_unit.specs.Acts.{IsConfigOf}
+use Rattle.sift_mission.specs.Mission.{FlownMission, IsConfigOf}
+use Rattle.sift_conduct.specs.Account.{caught}
+use Rattle.sift_conduct.specs.Conduct.{report_in, report_of}
 use Rattle.sift_flight.specs.Flight.{Flight, config_of}
 use Rattle.sift_flight.specs.Hearing.{Strays}
 use Rattle.sift_flight.specs.Round.{IsRound}
 use Rattle.sift_flight.specs.Configuration.{Works, lead_of, config_at, HasMarginAt, IsSkewAt, IsSlackAt}
-use Rattle.sift_unit.specs.Premises.{IsFlyable, RunsProgram}
+use Rattle.sift_mission.specs.Premises.{IsFlyable, RunsProgram}
 
 -- ---- words
 
 -- the agreed words of a frame: the lead unit's
-abbrev pub agreed_at : Mission → Flight → ℕ → List ℕ
+abbrev pub agreed_at : FlownMission → Flight → ℕ → List ℕ
 agreed_at m fl f = (fl.account (lead_of m f) f).ins
 
 -- same configuration: each working unit has the configuration at the frame, is in it, and so isn't idle
-pub record SameConfiguration (m : Mission) (fl : Flight) (f : ℕ) : Type 0 where
+pub record SameConfiguration (m : FlownMission) (fl : Flight) (f : ℕ) : Type 0 where
   pub same : (u : ℕ) → Works m u f → config_of fl u f ≡ config_at m fl f
   pub member : (u : ℕ) → Works m u f → has (config_at m fl f) u ≡ true
   pub busy : (u : ℕ) → Works m u f → (fl.account u f).idle ≡ false
 
 -- same inputs: all working units have the same agreed words, and the word of a sensor that a working unit reads is the mission's
-pub record SameInputs (m : Mission) (fl : Flight) (f : ℕ) : Type 0 where
+pub record SameInputs (m : FlownMission) (fl : Flight) (f : ℕ) : Type 0 where
   pub same : (u : ℕ) → Works m u f → (fl.account u f).ins ≡ agreed_at m fl f
   pub sensed : (x : ℕ) → x < m.sensors → m.works (reader_of (config_at m fl f) x) f ≡ true → slice_index (agreed_at m fl f) x ≡ m.sensed x f
 
 -- the report that u takes for r's in a frame
-abbrev pub report_at : Mission → Flight → ℕ → ℕ → ℕ → ℕ
+abbrev pub report_at : FlownMission → Flight → ℕ → ℕ → ℕ → ℕ
 report_at m fl f u r = report_of (config_at m fl f) u (fl.account u f) (fl.heard u f) r
 
 -- same reports: all working units take the same report for each unit's, and for a working unit's its own
-pub record SameReports (m : Mission) (fl : Flight) (f : ℕ) : Type 0 where
+pub record SameReports (m : FlownMission) (fl : Flight) (f : ℕ) : Type 0 where
   pub same : (u v r : ℕ) → Works m u f → Works m v f → has (config_at m fl f) r ≡ true → report_at m fl f u r ≡ report_at m fl f v r
   pub own : (u r : ℕ) → Works m u f → Works m r f → report_at m fl f u r ≡ report_in (fl.account r f)
 
 -- ideal outputs: each working unit has the ideal machine's words over the agreed words
-abbrev pub IdealOutputs : Mission → ProgramTree → Flight → ℕ → Type 0
+abbrev pub IdealOutputs : FlownMission → ProgramTree → Flight → ℕ → Type 0
 IdealOutputs m program fl f = (u : ℕ) → Works m u f → (fl.account u f).outs ≡ ideal_words program (agreed_at m fl) f
 
 -- ---- faults
 
 -- no false accusation: no working unit catches a working unit
-abbrev pub NoFalseAccusation : Mission → Flight → ℕ → Type 0
+abbrev pub NoFalseAccusation : FlownMission → Flight → ℕ → Type 0
 NoFalseAccusation m fl f = (u v : ℕ) → Works m u f → Works m v f → caught (fl.account u f) v ≡ false
 
 -- at least two working units of the configuration caught v
-abbrev pub two_caught : Mission → Flight → ℕ → ℕ → Bool
+abbrev pub two_caught : FlownMission → Flight → ℕ → ℕ → Bool
 two_caught m fl f v = nat_lt 1 (working_accusers (λ u. m.works u f) (λ u. caught (fl.account u f)) (config_at m fl f) v)
 
 -- exact removal: the next configuration is this one less exactly the units that two working units caught; each working unit finds it and
 -- stays in it
-pub record ExactRemoval (m : Mission) (fl : Flight) (f : ℕ) : Type 0 where
+pub record ExactRemoval (m : FlownMission) (fl : Flight) (f : ℕ) : Type 0 where
   pub exact : config_at m fl (suc f) ≡ filter (λ v. not (two_caught m fl f v)) (config_at m fl f)
   pub found : (u : ℕ) → Works m u f → (fl.account u f).next_cfg ≡ config_at m fl (suc f)
   pub stays : (u : ℕ) → Works m u f → has (config_at m fl (suc f)) u ≡ true
@@ -69,13 +68,13 @@ pub record ExactRemoval (m : Mission) (fl : Flight) (f : ℕ) : Type 0 where
 -- ---- clocks
 
 -- something is left of a subframe between the clocks of p and q, with q's offset of this frame and with that in force after it
-pub record HasLead (m : Mission) (fl : Flight) (f p q : ℕ) : Type 0 where
+pub record HasLead (m : FlownMission) (fl : Flight) (f p q : ℕ) : Type 0 where
   pub now : pos 1 ≤ℤ lead_left m.length (fl.account p f).clk (fl.account q f).clk
   pub next : pos 1 ≤ℤ lead_left m.length (fl.account p f).clk (fl.account q f).next_clk
 
 -- clock skew: working clocks differ by at most the skew, and so does the frame's figure; something is left of a subframe between any two
 -- of them, and the slack is at least 1
-pub record ClockSkew (m : Mission) (fl : Flight) (f : ℕ) : Type 0 where
+pub record ClockSkew (m : FlownMission) (fl : Flight) (f : ℕ) : Type 0 where
   pub together : AreTogether m.skew (config_at m fl f) (λ u. m.works u f) (λ u. (fl.account u f).clk)
   pub skew : (s : ℤ) → IsSkewAt m fl f s → s ≤ℤ m.skew
   pub lead : (p q : ℕ) → Works m p f → Works m q f → HasLead m fl f p q
@@ -84,7 +83,7 @@ pub record ClockSkew (m : Mission) (fl : Flight) (f : ℕ) : Type 0 where
 -- ---- all of it
 
 -- what holds of a frame with margin
-pub record Headline (m : Mission) (program : ProgramTree) (fl : Flight) (f : ℕ) : Type 0 where
+pub record Headline (m : FlownMission) (program : ProgramTree) (fl : Flight) (f : ℕ) : Type 0 where
   pub same_configuration : SameConfiguration m fl f
   pub same_inputs : SameInputs m fl f
   pub same_reports : SameReports m fl f
@@ -95,5 +94,5 @@ pub record Headline (m : Mission) (program : ProgramTree) (fl : Flight) (f : ℕ
 
 -- the headline holds of each frame with margin of each round flight of a mission that can be flown
 abbrev pub HeadlineHolds : Type 0
-HeadlineHolds = (m : Mission) (program : ProgramTree) (strays : Strays) (fl : Flight) → IsFlyable m → RunsProgram m program → IsRound m strays fl →
+HeadlineHolds = (m : FlownMission) (program : ProgramTree) (strays : Strays) (fl : Flight) → IsFlyable m → RunsProgram m program → IsRound m strays fl →
     (f : ℕ) → f < m.frames → HasMarginAt m fl f → Headline m program fl f

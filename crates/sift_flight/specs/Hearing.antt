@@ -4,8 +4,8 @@ use Rattle.sift_base.specs.declared.slot.Slot.{Slot}
 use Rattle.sift_buffer.specs.Cell.{taken}
 use Rattle.sift_buffer.specs.Conduct.{Stray, stray_to}
 use Rattle.sift_buffer.specs.Lawful.{IsAmong}
-use Rattle.sift_unit.specs.Mission.{Mission}
-use Rattle.sift_unit.specs.Slots.{calls, stamp_of, has_turned}
+use Rattle.sift_mission.specs.Mission.{FlownMission}
+use Rattle.sift_mission.specs.Slots.{calls, stamp_of, has_turned}
 use Rattle.sift_flight.specs.Flight.{Flight, config_of}
 
 -- the strays of each unit that has turned
@@ -23,12 +23,12 @@ pub data IsOfStray (strays : List Stray) (q k s : ℕ) (w : Option ℕ) : Type 0
 
 -- what q hears of p in a slot that p says to it under q's configuration: what p said, where both say the slot in one subframe;
 -- nothing, where they say it in two; and nothing or one of p's strays, where p has turned
-pub record CalledHearing (m : Mission) (strays : Strays) (fl : Flight) (q f : ℕ) (k : Slot) (p : ℕ) : Type 0 where
+pub record CalledHearing (m : FlownMission) (strays : Strays) (fl : Flight) (q f : ℕ) (k : Slot) (p : ℕ) : Type 0 where
   pub as_said : has_turned m p f ≡ false → m.due (config_of fl p f) k ≡ m.due (config_of fl q f) k → fl.heard q f k p ≡ fl.said p f k q
   pub apart : has_turned m p f ≡ false → m.due (config_of fl p f) k ≢ m.due (config_of fl q f) k → fl.heard q f k p ≡ None
   pub strayed : has_turned m p f ≡ true → IsOfStray (strays p) q (m.number k) (stamp_of m (config_of fl q f) f k) (fl.heard q f k p)
 
 -- the hearing equations of q for slot k and unit p in frame f: all that q need not hear is absent
-pub record Hears (m : Mission) (strays : Strays) (fl : Flight) (q f : ℕ) (k : Slot) (p : ℕ) : Type 0 where
+pub record Hears (m : FlownMission) (strays : Strays) (fl : Flight) (q f : ℕ) (k : Slot) (p : ℕ) : Type 0 where
   pub called : calls m (config_of fl q f) k p q ≡ true → CalledHearing m strays fl q f k p
   pub silent : calls m (config_of fl q f) k p q ≡ false → fl.heard q f k p ≡ None

@@ -6,17 +6,17 @@ use Rattle.sift_buffer.specs.Ranges.{Ranges}
 use Rattle.sift_buffer.specs.Core.{Core}
 use Rattle.sift_buffer.specs.Conduct.{hearing}
 use Rattle.sift_buffer.specs.Lawful.{Lawful, HearsSayings, IsFromStrays}
-use Rattle.sift_unit.specs.Mission.{Mission}
-use Rattle.sift_unit.specs.Account.{Account}
-use Rattle.sift_unit.specs.Frames.{Flies}
-use Rattle.sift_unit.specs.Acts.{BoardKeeps}
-use Rattle.sift_unit.specs.Fits.{Fits}
+use Rattle.sift_mission.specs.Mission.{FlownMission}
+use Rattle.sift_conduct.specs.Account.{Account}
+use Rattle.sift_conduct.specs.Frames.{Flies}
+use Rattle.sift_conduct.specs.Acts.{BoardKeeps}
+use Rattle.sift_mission.specs.Fits.{Fits}
 use Rattle.sift_flight.specs.Flight.{flight_of}
 use Rattle.sift_flight.specs.Hearing.{Strays, Hears}
 use Rattle.sift_flight.specs.Round.{RoundAt}
 
 -- the core has a place for each unit and slot of the mission
-pub record HasPlacesFor (m : Mission) (r : Ranges) : Type 0 where
+pub record HasPlacesFor (m : FlownMission) (r : Ranges) : Type 0 where
   pub units : (u : ℕ) → has m.units u ≡ true → u < r.units
   pub slots : m.slots ≤ r.slots
 
@@ -31,7 +31,7 @@ abbrev pub LawfulCoresHearLawfully : Type 0
 LawfulCoresHearLawfully = (r : Ranges) (c : Core) → Lawful r c → HearsLawfully r c
 
 -- units have heard lawfully, and each unit's board has kept all of its conduct in n frames, as far as the unit had not turned
-pub record HaveLanded (m : Mission) (r : Ranges) (c : Core) (accounts : ℕ → ℕ → Account) (n : ℕ) : Type 0 where
+pub record HaveLanded (m : FlownMission) (r : Ranges) (c : Core) (accounts : ℕ → ℕ → Account) (n : ℕ) : Type 0 where
   pub places : HasPlacesFor m r
   pub heard : HearsLawfully r c
   pub boards : (u : ℕ) → has m.units u ≡ true → BoardKeeps m u (c.of u) (accounts u) n
@@ -43,11 +43,11 @@ strays_in c p = (c.of p).strays
 
 -- what units hear lawfully while their boards keep n frames, they hear by the hearing equations, in each of these frames
 abbrev pub UnitsHearByTheEquations : Type 0
-UnitsHearByTheEquations = (m : Mission) (r : Ranges) (c : Core) (accounts : ℕ → ℕ → Account) (n f : ℕ) → Fits m →
+UnitsHearByTheEquations = (m : FlownMission) (r : Ranges) (c : Core) (accounts : ℕ → ℕ → Account) (n f : ℕ) → Fits m →
     HaveLanded m r c accounts n → f < n → (q : ℕ) (k : Slot) (p : ℕ) → Flies m q f →
     Hears m (strays_in c) (flight_of m c accounts) q f k p
 
 -- these frames are those of a round flight
 abbrev pub LandedFramesAreRound : Type 0
-LandedFramesAreRound = (m : Mission) (r : Ranges) (c : Core) (accounts : ℕ → ℕ → Account) (n f : ℕ) → Fits m →
+LandedFramesAreRound = (m : FlownMission) (r : Ranges) (c : Core) (accounts : ℕ → ℕ → Account) (n f : ℕ) → Fits m →
     HaveLanded m r c accounts n → f < n → RoundAt m (strays_in c) (flight_of m c accounts) f

@@ -10,8 +10,8 @@ use Rattle.sift_buffer.specs.Conduct.{stray_to}
 use Rattle.sift_exec.specs.Record.{nobody}
 use Rattle.sift_exec.specs.Conviction.{next_by}
 use Rattle.sift_clock.specs.Correction.{next_offset}
-use Rattle.sift_unit.specs.Mission.{Mission}
-use Rattle.sift_unit.specs.Account.{Account}
+use Rattle.sift_mission.specs.Mission.{FlownMission}
+use Rattle.sift_conduct.specs.Account.{Account}
 use Rattle.sift_flight.specs.Calm.{Calm, four_units, mission_of, program_of}
 use Rattle.sift_flight.specs.CalmFlight.{account_of, core_of}
 use Rattle.sift_flight.specs.Calms.{count, gauge}
@@ -49,7 +49,7 @@ first_report (RelayReport s) p = nat_eq s 0
 first_report k p = nat_eq 0 1
 
 -- the same mission, in which one unit fails below a frame, or from frame 0 on
-abbrev pub with_failing : Mission → ℕ → ℕ → Mission
+abbrev pub with_failing : FlownMission → ℕ → ℕ → FlownMission
 with_failing m u below = record m { works = λ v f. not (nat_eq v u && nat_lt f below) }
 
 -- five units

@@ -5,11 +5,9 @@ use Rattle.sift_base.specs.declared.layout.Layout.{Layout}
 use Rattle.sift_buffer.specs.Journals.{Pages, said_in, heard_in, IsJournalOf}
 use Rattle.sift_clock.specs.Distance.{IsWithin}
 use Rattle.sift_exec.specs.Record.{nobody}
-use Rattle.sift_unit.specs.Mission.{Mission}
-use Rattle.sift_unit.specs.Slots.{is_slot, has_turned}
-use Rattle.sift_unit.specs.Account.{Account, caught}
-use Rattle.sift_unit.specs.Acts.{IsConfigOf}
-use Rattle.sift_unit.specs.Boards.{account_of}
+use Rattle.sift_mission.specs.Mission.{FlownMission, IsConfigOf}
+use Rattle.sift_mission.specs.Slots.{is_slot, has_turned}
+use Rattle.sift_conduct.specs.Account.{Account, caught, account_of}
 use Rattle.sift_flight.specs.Flight.{Flight}
 use Rattle.sift_flight.specs.declared.flight.Flight.{Flight as TheFlight}
 
@@ -32,7 +30,7 @@ abbrev pub accounts_of : TheFlight → ℕ → List Account
 accounts_of fl u = slice_index_or (map (λ accounts. map account_of accounts.items) fl.accounts.items) u []
 
 -- the flight that it tells
-abbrev pub told : Mission → TheFlight → Flight
+abbrev pub told : FlownMission → TheFlight → Flight
 told m fl = record {
   said = λ u f k q. if is_slot m k then said_in (journal_of fl u) f (m.number k) q else None;
   heard = λ u f k p. if is_slot m k then heard_in (journal_of fl u) f (m.number k) p else None;
@@ -47,7 +45,7 @@ frames_before None frames = frames
 frames_before (Some from) frames = min from frames
 
 -- there is a journal of the layout for each unit, and an account for each frame before the unit turned
-pub record IsLogged (m : Mission) (layout : Layout) (fl : TheFlight) : Type 0 where
+pub record IsLogged (m : FlownMission) (layout : Layout) (fl : TheFlight) : Type 0 where
   pub journals : length fl.journals.items ≡ length m.units
   pub journal : (u : ℕ) → has m.units u ≡ true → IsJournalOf (journal_of fl u) layout u m.frames
   pub lists : length fl.accounts.items ≡ length m.units
@@ -59,7 +57,7 @@ offset_limit = pos 100000000
 
 -- an account of a unit: its configurations are the mission's and its offsets near; it is idle just where its unit is outside its
 -- configuration, and else it has one word for each sensor and for each output; whom it caught is in its configuration
-pub record IsAccountOf (m : Mission) (u : ℕ) (a : Account) : Type 0 where
+pub record IsAccountOf (m : FlownMission) (u : ℕ) (a : Account) : Type 0 where
   pub config : IsConfigOf m a.cfg
   pub next_config : IsConfigOf m a.next_cfg
   pub clock : IsWithin offset_limit a.clk (pos 0)
@@ -70,12 +68,12 @@ pub record IsAccountOf (m : Mission) (u : ℕ) (a : Account) : Type 0 where
   pub caught_inside : (v : ℕ) → caught a v ≡ true → has a.cfg v ≡ true
 
 -- a unit that flies in a frame has such an account, and who is idle stays so
-pub record AreAccountsOf (m : Mission) (fl : Flight) : Type 0 where
+pub record AreAccountsOf (m : FlownMission) (fl : Flight) : Type 0 where
   pub each : (u f : ℕ) → has m.units u ≡ true → f < m.frames → has_turned m u f ≡ false → IsAccountOf m u (fl.account u f)
   pub idle : (u f later : ℕ) → has m.units u ≡ true → f ≤ later → later < m.frames → has_turned m u later ≡ false →
       (fl.account u f).idle ≡ true → (fl.account u later).idle ≡ true
 
 -- the flight is whole for the mission: what a report wants of it
-pub record IsWhole (m : Mission) (layout : Layout) (fl : TheFlight) : Type 0 where
+pub record IsWhole (m : FlownMission) (layout : Layout) (fl : TheFlight) : Type 0 where
   pub logged : IsLogged m layout fl
   pub accounts : AreAccountsOf m (told m fl)

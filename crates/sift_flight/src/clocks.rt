@@ -2,7 +2,7 @@
 
 ghost use Rattle.std.specs.Prelude.{◌≡◌, ◌<◌, ◌≤◌, [], All, MatchOption, length, map};
 ghost use Rattle.sift_skew.specs.Figures.{AreInRange};
-ghost use Rattle.sift_unit.specs.Flown.{mission_of};
+ghost use Rattle.sift_mission.specs.Parts.{flown_of};
 ghost use Rattle.sift_flight.specs.Configuration.{IsSkewAt, IsSlackAt, Works, working_at};
 ghost use Rattle.sift_flight.specs.Figures.{skew_at, slack_at};
 ghost use Rattle.sift_flight.specs.Told.{IsWhole, told};
@@ -12,16 +12,16 @@ use crate::flight::Flight;
 use crate::told::account_at;
 use arrayvec::ArrayVec;
 use sift_base::UnitId;
+use sift_mission::Mission;
 use sift_skew::{skew, slack};
-use sift_unit::Mission;
 
 /// The skew of a frame: the largest difference of two working clocks of its configuration. There is none where no unit of it works.
 pub fn skew_at(mission: &Mission, flight: &Flight, f: u32) -> Option<i64>
-    requires whole { IsWhole (mission_of mission.now) mission.now.layout flight.now }
-    requires frame { f < (mission_of mission.now).frames }
-    ensures told { result ≡ skew_at (mission_of mission.now) (told (mission_of mission.now) flight.now) f }
-    ensures skew { MatchOption result (working_at (mission_of mission.now) (told (mission_of mission.now) flight.now) f ≡ [])
-        (IsSkewAt (mission_of mission.now) (told (mission_of mission.now) flight.now) f) }
+    requires whole { IsWhole (flown_of mission.now) mission.now.layout flight.now }
+    requires frame { f < (flown_of mission.now).frames }
+    ensures told { result ≡ skew_at (flown_of mission.now) (told (flown_of mission.now) flight.now) f }
+    ensures skew { MatchOption result (working_at (flown_of mission.now) (told (flown_of mission.now) flight.now) f ≡ [])
+        (IsSkewAt (flown_of mission.now) (told (flown_of mission.now) flight.now) f) }
 {
     let working = working_at(mission, flight, f);
     skew(&offsets_of(mission, flight, f, &working))
@@ -30,11 +30,11 @@ pub fn skew_at(mission: &Mission, flight: &Flight, f: u32) -> Option<i64>
 /// The slack of a frame: the least that is left of a subframe between two working clocks of its configuration, with their offsets
 /// of this frame or the next. There is none where no unit of it works.
 pub fn slack_at(mission: &Mission, flight: &Flight, f: u32) -> Option<i64>
-    requires whole { IsWhole (mission_of mission.now) mission.now.layout flight.now }
-    requires frame { f < (mission_of mission.now).frames }
-    ensures told { result ≡ slack_at (mission_of mission.now) (told (mission_of mission.now) flight.now) f }
-    ensures slack { MatchOption result (working_at (mission_of mission.now) (told (mission_of mission.now) flight.now) f ≡ [])
-        (IsSlackAt (mission_of mission.now) (told (mission_of mission.now) flight.now) f) }
+    requires whole { IsWhole (flown_of mission.now) mission.now.layout flight.now }
+    requires frame { f < (flown_of mission.now).frames }
+    ensures told { result ≡ slack_at (flown_of mission.now) (told (flown_of mission.now) flight.now) f }
+    ensures slack { MatchOption result (working_at (flown_of mission.now) (told (flown_of mission.now) flight.now) f ≡ [])
+        (IsSlackAt (flown_of mission.now) (told (flown_of mission.now) flight.now) f) }
 {
     let working = working_at(mission, flight, f);
     let now = offsets_of(mission, flight, f, &working);
@@ -44,11 +44,11 @@ pub fn slack_at(mission: &Mission, flight: &Flight, f: u32) -> Option<i64>
 
 /// The offsets of units that work in a frame.
 fn offsets_of(mission: &Mission, flight: &Flight, f: u32, units: &[UnitId]) -> ArrayVec<i64, 8>
-    requires whole { IsWhole (mission_of mission.now) mission.now.layout flight.now }
-    requires frame { f < (mission_of mission.now).frames }
-    requires work { All (λ u. Works (mission_of mission.now) u f) units.now }
+    requires whole { IsWhole (flown_of mission.now) mission.now.layout flight.now }
+    requires frame { f < (flown_of mission.now).frames }
+    requires work { All (λ u. Works (flown_of mission.now) u f) units.now }
     requires few { length units.now ≤ 8 }
-    ensures offsets { result.items ≡ map (λ u. ((told (mission_of mission.now) flight.now).account u f).clk) units.now }
+    ensures offsets { result.items ≡ map (λ u. ((told (flown_of mission.now) flight.now).account u f).clk) units.now }
     ensures in_range { AreInRange result.items }
 {
     let mut offsets = ArrayVec::new();
@@ -60,11 +60,11 @@ fn offsets_of(mission: &Mission, flight: &Flight, f: u32, units: &[UnitId]) -> A
 
 /// The offsets in force after a frame of units that work in it.
 fn next_offsets_of(mission: &Mission, flight: &Flight, f: u32, units: &[UnitId]) -> ArrayVec<i64, 8>
-    requires whole { IsWhole (mission_of mission.now) mission.now.layout flight.now }
-    requires frame { f < (mission_of mission.now).frames }
-    requires work { All (λ u. Works (mission_of mission.now) u f) units.now }
+    requires whole { IsWhole (flown_of mission.now) mission.now.layout flight.now }
+    requires frame { f < (flown_of mission.now).frames }
+    requires work { All (λ u. Works (flown_of mission.now) u f) units.now }
     requires few { length units.now ≤ 8 }
-    ensures offsets { result.items ≡ map (λ u. ((told (mission_of mission.now) flight.now).account u f).next_clk) units.now }
+    ensures offsets { result.items ≡ map (λ u. ((told (flown_of mission.now) flight.now).account u f).next_clk) units.now }
     ensures in_range { AreInRange result.items }
 {
     let mut offsets = ArrayVec::new();

@@ -1,8 +1,8 @@
 //! The configuration at a frame, and its margin.
 
 ghost use Rattle.std.specs.Prelude.{◌≡◌, ◌<◌, ◌≤◌, ◌↔◌, All, IsTrue};
-ghost use Rattle.sift_unit.specs.Acts.{IsConfigOf};
-ghost use Rattle.sift_unit.specs.Flown.{mission_of};
+ghost use Rattle.sift_mission.specs.Mission.{IsConfigOf};
+ghost use Rattle.sift_mission.specs.Parts.{flown_of};
 ghost use Rattle.sift_flight.specs.Configuration.{HasMarginAt, Works, config_at, working_at};
 ghost use Rattle.sift_flight.specs.Figures.{is_sound_at, margin_at};
 ghost use Rattle.sift_flight.specs.Told.{IsWhole, told};
@@ -12,15 +12,15 @@ use crate::told::{account_at, lead_of};
 use arrayvec::ArrayVec;
 use sift_base::UnitId;
 use sift_config::Config;
-use sift_unit::Mission;
+use sift_mission::Mission;
 
 /// The configuration at a frame: that of the lowest-numbered unit that works in it. After the last frame it is the one that this unit
 /// found in the last frame.
 pub fn config_at(mission: &Mission, flight: &Flight, f: u32) -> Config
-    requires whole { IsWhole (mission_of mission.now) mission.now.layout flight.now }
-    requires frame { f ≤ (mission_of mission.now).frames }
-    ensures config { result ≡ config_at (mission_of mission.now) (told (mission_of mission.now) flight.now) f }
-    ensures units { IsConfigOf (mission_of mission.now) result }
+    requires whole { IsWhole (flown_of mission.now) mission.now.layout flight.now }
+    requires frame { f ≤ (flown_of mission.now).frames }
+    ensures config { result ≡ config_at (flown_of mission.now) (told (flown_of mission.now) flight.now) f }
+    ensures units { IsConfigOf (flown_of mission.now) result }
 {
     if f < mission.parts().frames {
         account_at(mission, flight, lead_of(mission, f), f).cfg
@@ -31,10 +31,10 @@ pub fn config_at(mission: &Mission, flight: &Flight, f: u32) -> Config
 
 /// The working units of the configuration at a frame, ascending.
 pub fn working_at(mission: &Mission, flight: &Flight, f: u32) -> ArrayVec<UnitId, 8>
-    requires whole { IsWhole (mission_of mission.now) mission.now.layout flight.now }
-    requires frame { f < (mission_of mission.now).frames }
-    ensures working { result.items ≡ working_at (mission_of mission.now) (told (mission_of mission.now) flight.now) f }
-    ensures work { All (λ u. Works (mission_of mission.now) u f) result.items }
+    requires whole { IsWhole (flown_of mission.now) mission.now.layout flight.now }
+    requires frame { f < (flown_of mission.now).frames }
+    ensures working { result.items ≡ working_at (flown_of mission.now) (told (flown_of mission.now) flight.now) f }
+    ensures work { All (λ u. Works (flown_of mission.now) u f) result.items }
 {
     let config = config_at(mission, flight, f);
     let mut working = ArrayVec::new();
@@ -49,9 +49,9 @@ pub fn working_at(mission: &Mission, flight: &Flight, f: u32) -> ArrayVec<UnitId
 
 /// Whether at most one unit of the configuration at a frame is faulty, and at least four work.
 pub fn is_sound_at(mission: &Mission, flight: &Flight, f: u32) -> bool
-    requires whole { IsWhole (mission_of mission.now) mission.now.layout flight.now }
-    requires frame { f < (mission_of mission.now).frames }
-    ensures { result ≡ is_sound_at (mission_of mission.now) (told (mission_of mission.now) flight.now) f }
+    requires whole { IsWhole (flown_of mission.now) mission.now.layout flight.now }
+    requires frame { f < (flown_of mission.now).frames }
+    ensures { result ≡ is_sound_at (flown_of mission.now) (told (flown_of mission.now) flight.now) f }
 {
     let working = working_at(mission, flight, f).len();
     let faulty = config_at(mission, flight, f).len() - working;
@@ -60,10 +60,10 @@ pub fn is_sound_at(mission: &Mission, flight: &Flight, f: u32) -> bool
 
 /// Whether a frame has margin: in it and in each frame before, at most one unit of the configuration is faulty, and at least four work.
 pub fn margin_at(mission: &Mission, flight: &Flight, f: u32) -> bool
-    requires whole { IsWhole (mission_of mission.now) mission.now.layout flight.now }
-    requires frame { f < (mission_of mission.now).frames }
-    ensures told { result ≡ margin_at (mission_of mission.now) (told (mission_of mission.now) flight.now) f }
-    ensures margin { IsTrue result ↔ HasMarginAt (mission_of mission.now) (told (mission_of mission.now) flight.now) f }
+    requires whole { IsWhole (flown_of mission.now) mission.now.layout flight.now }
+    requires frame { f < (flown_of mission.now).frames }
+    ensures told { result ≡ margin_at (flown_of mission.now) (told (flown_of mission.now) flight.now) f }
+    ensures margin { IsTrue result ↔ HasMarginAt (flown_of mission.now) (told (flown_of mission.now) flight.now) f }
 {
     for g in 0..f {
         if !is_sound_at(mission, flight, g) {

@@ -1,7 +1,7 @@
 //! A flight, as whoever flew it hands it on.
 
 use sift_buffer::Journal;
-use sift_unit::Account;
+use sift_conduct::Account;
 
 /// A flight of a mission: one journal and one list of accounts for each unit, in the order of the units.
 /// What it tells of words and accounts by slot, unit and frame is `told` in specs/Told.antt.

@@ -1,23 +1,24 @@
 //! What a whole flight tells of one unit in one frame.
 
 ghost use Rattle.std.specs.Prelude.{◌≡◌, ◌<◌};
-ghost use Rattle.sift_unit.specs.Boards.{account_of};
-ghost use Rattle.sift_unit.specs.Flown.{mission_of};
-ghost use Rattle.sift_unit.specs.Premises.{IsFlyable};
+ghost use Rattle.sift_conduct.specs.Account.{account_of};
+ghost use Rattle.sift_mission.specs.Parts.{flown_of};
+ghost use Rattle.sift_mission.specs.Premises.{IsFlyable};
 ghost use Rattle.sift_flight.specs.Configuration.{Works, lead_of};
 ghost use Rattle.sift_flight.specs.Told.{IsAccountOf, IsWhole, told};
 
 use crate::flight::Flight;
 use sift_base::UnitId;
-use sift_unit::{Account, Mission, fitting_parts_make_a_flight};
+use sift_conduct::Account;
+use sift_mission::{Mission, fitting_parts_make_a_flight};
 
 /// The account of a unit in a frame in which it works.
 pub fn account_at<'a>(mission: &Mission, flight: &'a Flight, u: UnitId, f: u32) -> &'a Account
-    requires whole { IsWhole (mission_of mission.now) mission.now.layout flight.now }
-    requires works { Works (mission_of mission.now) u f }
-    requires frame { f < (mission_of mission.now).frames }
-    ensures told { account_of result.now ≡ (told (mission_of mission.now) flight.now).account u f }
-    ensures account { IsAccountOf (mission_of mission.now) u (account_of result.now) }
+    requires whole { IsWhole (flown_of mission.now) mission.now.layout flight.now }
+    requires works { Works (flown_of mission.now) u f }
+    requires frame { f < (flown_of mission.now).frames }
+    ensures told { account_of result.now ≡ (told (flown_of mission.now) flight.now).account u f }
+    ensures account { IsAccountOf (flown_of mission.now) u (account_of result.now) }
 {
     can_be_flown(mission);
     &flight.accounts[usize::from(u.get())][f as usize]
@@ -25,7 +26,7 @@ pub fn account_at<'a>(mission: &Mission, flight: &'a Flight, u: UnitId, f: u32) 
 
 /// A mission can be flown: its parts fit.
 fn can_be_flown(mission: &Mission)
-    ensures { IsFlyable (mission_of mission.now) }
+    ensures { IsFlyable (flown_of mission.now) }
 {
     fitting_parts_make_a_flight();
     mission.parts();
@@ -33,8 +34,8 @@ fn can_be_flown(mission: &Mission)
 
 /// The lead unit of a frame: the lowest-numbered one that works in it. Some unit does.
 pub(crate) fn lead_of(mission: &Mission, f: u32) -> UnitId
-    ensures lead { result ≡ lead_of (mission_of mission.now) f }
-    ensures works { Works (mission_of mission.now) result f }
+    ensures lead { result ≡ lead_of (flown_of mission.now) f }
+    ensures works { Works (flown_of mission.now) result f }
 {
     can_be_flown(mission);
     let everyone = mission.everyone();

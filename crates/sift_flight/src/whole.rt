@@ -3,7 +3,7 @@
 ghost use Rattle.sift_flight.specs.Figures.{MarginIsTold, SkewIsTold, SlackIsTold};
 ghost use Rattle.sift_flight.specs.Whole.{RoundFlightsAreWhole, RoundFlightsHaveAccounts};
 
-use sift_unit::fitting_parts_make_a_flight;
+use sift_mission::fitting_parts_make_a_flight;
 
 /// The accounts of a round flight of a mission that can be flown are those of its units.
 pub fn round_flights_have_accounts()

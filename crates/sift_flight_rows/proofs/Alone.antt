@@ -6,10 +6,10 @@ use Rattle.sift_buffer.specs.Ranges.{IsCell}
 use Rattle.sift_buffer.specs.Views.{View, fresh_view}
 use Rattle.sift_buffer.specs.declared.lone.LonePort.{LonePort}
 use Rattle.sift_unit.specs.Boards.{Drives, IsNewBoard, NewBoardLaw}
-use Rattle.sift_unit.specs.Flown.{mission_of}
+use Rattle.sift_mission.specs.Parts.{flown_of}
 use Rattle.sift_unit.specs.declared.board.Board.{Board}
-use Rattle.sift_unit.specs.declared.parts.MissionParts.{MissionParts}
-use Rattle.sift_unit.proofs.Numbers.{range-has}
+use Rattle.sift_mission.specs.declared.parts.MissionParts.{MissionParts}
+use Rattle.sift_mission.proofs.Numbers.{range-has}
 use Rattle.sift_flight_rows.specs.Alone.{IsPortOfOne, few}
 
 pub stays_one : (p q : LonePort) → IsPortOfOne p → view_of q ≡ view_of p → IsPortOfOne q
@@ -29,14 +29,14 @@ pub follows_one : (p q : LonePort) → IsPortOfOne p → Follows p q → IsPortO
 follows_one p q one follows = record { unit = follows.unit ∙ one.unit; ranges = follows.ranges ∙ one.ranges }
 
 module _ (law : NewBoardLaw) (parts : MissionParts) (layout : parts.layout ≡ record { units = 4; sensors = 1; words = 2 }) (frames : parts.frames ≡ 1) (units : parts.units ≡ 4)
-    (calm : (u : ℕ) → (mission_of parts).storm u ≡ None) where
+    (calm : (u : ℕ) → (flown_of parts).storm u ≡ None) where
   -- unit 1 is one of the four
-  one_there : (u : ℕ) → u ≡ 1 → has (mission_of parts).units u ≡ true
+  one_there : (u : ℕ) → u ≡ 1 → has (flown_of parts).units u ≡ true
   one_there u is = rw (is, units) refl
 
   -- a new board of unit 1 drives on a fresh port of its own
-  pub new_drives : (b : Board) (u : ℕ) (v : View) → u ≡ 1 → IsNewBoard (mission_of parts) u b → v ≡ fresh_view few u → Drives (mission_of parts) b v
-  new_drives b u v is new fresh = law (mission_of parts) u b v (one_there u is) (calm u) new
+  pub new_drives : (b : Board) (u : ℕ) (v : View) → u ≡ 1 → IsNewBoard (flown_of parts) u b → v ≡ fresh_view few u → Drives (flown_of parts) b v
+  new_drives b u v is new fresh = law (flown_of parts) u b v (one_there u is) (calm u) new
       (ap (λ (w : View). w.unit) fresh)
       (record {
         units = λ n there. rw fresh (let low = range-has 0 parts.units n there in omega (arith, low.1));

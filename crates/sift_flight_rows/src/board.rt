@@ -4,15 +4,14 @@ ghost use Rattle.std.specs.Prelude.{◌≡◌, ◌<◌, ◌≢◌};
 ghost use Rattle.sift_buffer.specs.LonePorts.{view_of};
 ghost use Rattle.sift_flight_rows.specs.Alone.{IsPortOfOne};
 ghost use Rattle.sift_unit.specs.Boards.{Drives};
-ghost use Rattle.sift_unit.specs.Flown.{mission_of};
+ghost use Rattle.sift_mission.specs.Parts.{flown_of};
 
 use crate::stated::{LAYOUT, four_units};
 use sift_base::{UnitId, Word};
 use sift_buffer::{LonePort, pack};
-use sift_unit::{
-    Account, Board, Mission, Stepped, a_mission_fits, boards_account_for_their_frames,
-    new_boards_may_step,
-};
+use sift_conduct::Account;
+use sift_mission::{Mission, a_mission_fits};
+use sift_unit::{Board, Stepped, boards_account_for_their_frames, new_boards_may_step};
 use std::process::Abort;
 use std::test::Fail;
 
@@ -116,9 +115,9 @@ fn go_ahead(port: &mut LonePort)
 /// Steps a board as long as it moves, and tells how often it moved, and to what it came then.
 #[tactic(auto, using(crate::proofs::Alone::follows_one))]
 fn fly(board: &mut Board, mission: &Mission, port: &mut LonePort) -> (usize, Stepped)
-    requires drives { Drives (mission_of mission.now) board.old (view_of port.old) }
+    requires drives { Drives (flown_of mission.now) board.old (view_of port.old) }
     requires port { IsPortOfOne port.old }
-    ensures drives { Drives (mission_of mission.now) board.new (view_of port.new) }
+    ensures drives { Drives (flown_of mission.now) board.new (view_of port.new) }
     ensures port { IsPortOfOne port.new }
 {
     for moved in 0..100 {

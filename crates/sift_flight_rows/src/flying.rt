@@ -3,12 +3,13 @@
 ghost use Rattle.std.specs.Prelude.{◌≡◌, true};
 ghost use Rattle.sift_base.specs.Units.{has};
 ghost use Rattle.sift_core.specs.Machines.{Flies};
-ghost use Rattle.sift_unit.specs.Flown.{mission_of};
+ghost use Rattle.sift_mission.specs.Parts.{flown_of};
 
 use crate::stated::{FIVE, eight_units, stated};
 use sift_base::{Draw, UnitId};
 use sift_core::Machine;
-use sift_unit::{Mission, Stepped};
+use sift_mission::Mission;
+use sift_unit::Stepped;
 use std::alloc::Global;
 use std::process::Abort;
 use std::test::Fail;
@@ -72,7 +73,7 @@ fn the_order_number_draws_who_steps(rt: HostRuntime) -> Result<(), Fail> {
 /// Unit 0, which is one of eight.
 fn first_of(_mission: &Mission) -> UnitId
     requires { _mission.now.units ≡ 8 }
-    ensures { has (mission_of _mission.now).units result ≡ true }
+    ensures { has (flown_of _mission.now).units result ≡ true }
 {
     UnitId::default()
 }
@@ -86,9 +87,9 @@ fn expect_steps(
     times: u8,
     want: Stepped,
 )
-    requires flies { Flies (mission_of mission.now) machine.old }
-    requires unit { has (mission_of mission.now).units u ≡ true }
-    ensures { Flies (mission_of mission.now) machine.new }
+    requires flies { Flies (flown_of mission.now) machine.old }
+    requires unit { has (flown_of mission.now).units u ≡ true }
+    ensures { Flies (flown_of mission.now) machine.new }
 {
     for _ in 0..times {
         let stepped = machine.step(mission, u);
@@ -116,7 +117,7 @@ const COUNT: &str =
 /// Unit 0, which is one of four.
 fn first_of_four(_mission: &Mission) -> UnitId
     requires { _mission.now.units ≡ 4 }
-    ensures { has (mission_of _mission.now).units result ≡ true }
+    ensures { has (flown_of _mission.now).units result ≡ true }
 {
     UnitId::default()
 }

@@ -4,7 +4,7 @@ ghost use Rattle.std.specs.Prelude.{◌≡◌, IfOk};
 
 use sift_base::Layout;
 use sift_scenario::mission_of;
-use sift_unit::Mission;
+use sift_mission::Mission;
 use std::alloc::Global;
 use std::test::Fail;
 

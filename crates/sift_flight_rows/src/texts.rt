@@ -3,14 +3,14 @@
 
 ghost use Rattle.std.specs.Prelude.{IfOk};
 ghost use Rattle.sift_flight.specs.Told.{IsWhole};
-ghost use Rattle.sift_unit.specs.Flown.{mission_of};
+ghost use Rattle.sift_mission.specs.Parts.{flown_of};
 
 use crate::stated::four_units;
 use sift_base::NoMemory;
 use sift_core::fly;
 use sift_flight::{Flight, round_flights_are_whole};
 use sift_report::{ReportLine, ideal_text, last_line_text, read_line, report_text, votes_text};
-use sift_unit::Mission;
+use sift_mission::Mission;
 use std::alloc::Global;
 use std::process::Abort;
 use std::test::Fail;
@@ -25,7 +25,7 @@ const REPORT: &str = "f=0 u=0 cfg=0123 clk=0 in=0001 out=0001,0001 bad=-\n\
 
 /// A flight of the mission.
 fn flown(alloc: Global, mission: &Mission) -> Result<Flight, NoMemory>
-    ensures { IfOk result (IsWhole (mission_of mission.now) mission.now.layout) }
+    ensures { IfOk result (IsWhole (flown_of mission.now) mission.now.layout) }
 {
     mission.parts();
     round_flights_are_whole();

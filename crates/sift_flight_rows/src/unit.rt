@@ -1,13 +1,13 @@
 //! What a board asks of a mission.
 
 ghost use Rattle.std.specs.Prelude.{◌≡◌};
-ghost use Rattle.sift_unit.specs.Acts.{IsConfigOf};
-ghost use Rattle.sift_unit.specs.Flown.{mission_of};
+ghost use Rattle.sift_mission.specs.Mission.{IsConfigOf};
+ghost use Rattle.sift_mission.specs.Parts.{flown_of};
 
 use crate::stated::eight_units;
 use sift_base::{UnitId, UnitSet};
 use sift_config::Config;
-use sift_unit::Mission;
+use sift_mission::Mission;
 use std::process::Abort;
 use std::test::Fail;
 
@@ -81,7 +81,7 @@ fn unit(n: u8) -> UnitId {
 /// The units of a configuration of a mission with eight units are the mission's.
 fn belongs(mission: &Mission, config: &Config)
     requires { mission.now.units ≡ 8 }
-    ensures { IsConfigOf (mission_of mission.now) config.now }
+    ensures { IsConfigOf (flown_of mission.now) config.now }
 {
     let _count = config.len();
 }

@@ -5,11 +5,11 @@ use Rattle.std.proofs.lemmas.Bool.{cases_Bool}
 use Rattle.sift_base.specs.Units.{has, holds}
 use Rattle.sift_exec.specs.Record.{everyone_in}
 use Rattle.sift_program.specs.Ideal.{ideal_words}
-use Rattle.sift_unit.specs.Account.{caught}
-use Rattle.sift_unit.specs.Data.{MissionData}
-use Rattle.sift_unit.specs.Flown.{flown}
-use Rattle.sift_unit.specs.PartsFit.{PartsFit}
-use Rattle.sift_unit.specs.Premises.{IsFlyable, PartsMakeItFlyable}
+use Rattle.sift_conduct.specs.Account.{caught}
+use Rattle.sift_mission.specs.Data.{MissionData}
+use Rattle.sift_mission.specs.Flown.{flown}
+use Rattle.sift_mission.specs.PartsFit.{PartsFit}
+use Rattle.sift_mission.specs.Premises.{IsFlyable, PartsMakeItFlyable}
 use Rattle.sift_flight.specs.Configuration.{HasMarginAt, Works, config_at, lead_of, next_offsets_at, offsets_at, working_at}
 use Rattle.sift_flight.specs.Figures.{MarginIsTold, SkewIsTold, SlackIsTold, margin_at, skew_of, slack_of}
 use Rattle.sift_flight.specs.Flight.{Flight}

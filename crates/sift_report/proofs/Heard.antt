@@ -11,12 +11,11 @@ use Rattle.sift_base.proofs.Counts.{nat_eq-same}
 use Rattle.sift_base.proofs.Others.{not_same}
 use Rattle.sift_buffer.specs.Journals.{IsJournalOf, Pages, heard_in, ranges_in, said_in}
 use Rattle.sift_buffer.specs.Ranges.{IsPlace}
-use Rattle.sift_unit.specs.Data.{data_of}
-use Rattle.sift_unit.specs.Flown.{mission_of}
-use Rattle.sift_unit.specs.Mission.{Mission}
-use Rattle.sift_unit.specs.PartsFit.{PartsFit}
-use Rattle.sift_unit.specs.declared.parts.MissionParts.{MissionParts}
-use Rattle.sift_unit.proofs.Numbers.{range-has}
+use Rattle.sift_mission.specs.Parts.{data_of, flown_of}
+use Rattle.sift_mission.specs.Mission.{FlownMission}
+use Rattle.sift_mission.specs.PartsFit.{PartsFit}
+use Rattle.sift_mission.specs.declared.parts.MissionParts.{MissionParts}
+use Rattle.sift_mission.proofs.Numbers.{range-has}
 use Rattle.sift_flight.specs.Flight.{Flight}
 use Rattle.sift_flight.specs.Told.{IsWhole, journal_of, no_pages, told}
 use Rattle.sift_flight.specs.declared.flight.Flight.{Flight as TheFlight}
@@ -45,8 +44,8 @@ lowest_second (v ∷ w ∷ us) u b up e next =
 
 -- ---- journals
 
-module _ (parts : MissionParts) (fit : PartsFit (data_of parts)) (fl : TheFlight) (whole : IsWhole (mission_of parts) parts.layout fl)
-    (u : ℕ) (unit : has (mission_of parts).units u ≡ true) (journal : Pages) (is : journal ≡ get_or fl.journals.items u journal) where
+module _ (parts : MissionParts) (fit : PartsFit (data_of parts)) (fl : TheFlight) (whole : IsWhole (flown_of parts) parts.layout fl)
+    (u : ℕ) (unit : has (flown_of parts).units u ≡ true) (journal : Pages) (is : journal ≡ get_or fl.journals.items u journal) where
   -- the unit has a journal
   pub journal-there : u < length fl.journals.items
   journal-there =
@@ -60,7 +59,7 @@ module _ (parts : MissionParts) (fit : PartsFit (data_of parts)) (fl : TheFlight
   owner = subst (λ j. IsJournalOf j parts.layout u parts.frames) (sym journal-is) (whole.logged.journal u unit)
 
   -- with a place for each word, frame and other unit
-  pub journal-place : (w f v : ℕ) → w < parts.layout.words → f < parts.frames → has (mission_of parts).units v ≡ true → v ≢ u
+  pub journal-place : (w f v : ℕ) → w < parts.layout.words → f < parts.frames → has (flown_of parts).units v ≡ true → v ≢ u
       → IsPlace (ranges_in journal) journal.unit v (slot_number parts.layout (Out w)) f
   journal-place w f v low frame there other =
       let below = range-has 0 parts.units v there in
@@ -68,15 +67,15 @@ module _ (parts : MissionParts) (fit : PartsFit (data_of parts)) (fl : TheFlight
       (record { cell = record { unit = omega (arith, below.1, fit.layout.units); other = other; slot = omega arith }; frame = frame })
 
   -- and tells what was said and heard there
-  pub journal-said : (w f v : ℕ) → w < parts.layout.words → said_in journal f (slot_number parts.layout (Out w)) v ≡ (told (mission_of parts) fl).said u f (Out w) v
+  pub journal-said : (w f v : ℕ) → w < parts.layout.words → said_in journal f (slot_number parts.layout (Out w)) v ≡ (told (flown_of parts) fl).said u f (Out w) v
   journal-said w f v low = rw (lt-ltb w parts.layout.words low, journal-is) refl
 
-  pub journal-heard : (w f v : ℕ) → w < parts.layout.words → heard_in journal f (slot_number parts.layout (Out w)) v ≡ (told (mission_of parts) fl).heard u f (Out w) v
+  pub journal-heard : (w f v : ℕ) → w < parts.layout.words → heard_in journal f (slot_number parts.layout (Out w)) v ≡ (told (flown_of parts) fl).heard u f (Out w) v
   journal-heard w f v low = rw (lt-ltb w parts.layout.words low, journal-is) refl
 
 -- the place of the unit itself and that of another
-pub place-own : (m : Mission) (fl : Flight) (f u w v : ℕ) → v ≡ u → place_of m fl f u w v ≡ fl.said u f (Out w) (lowest_other ((fl.account u f).cfg) u)
+pub place-own : (m : FlownMission) (fl : Flight) (f u w v : ℕ) → v ≡ u → place_of m fl f u w v ≡ fl.said u f (Out w) (lowest_other ((fl.account u f).cfg) u)
 place-own m fl f u w v same = let test : nat_eq v u ≡ true = rw same (nat_eq-same u) in rw test refl
 
-pub place-other : (m : Mission) (fl : Flight) (f u w v : ℕ) → v ≢ u → place_of m fl f u w v ≡ fl.heard u f (Out w) v
+pub place-other : (m : FlownMission) (fl : Flight) (f u w v : ℕ) → v ≢ u → place_of m fl f u w v ≡ fl.heard u f (Out w) v
 place-other m fl f u w v other = rw (not_same v u other) refl

@@ -15,6 +15,7 @@ mod Alike
 mod SheetForm
 mod SheetConfigs
 mod HeadlineLines
+mod TwoCatchersFit
 mod TwoCatchers
 pub mod Machine
 pub mod Polls

@@ -12,12 +12,13 @@ use Rattle.std.proofs.lemmas.Simd.{map-map}
 use Rattle.sift_base.specs.Layout.{word_limit}
 use Rattle.sift_lang.specs.Tree.{TaskTree, tree_of}
 use Rattle.sift_program.specs.Sound.{first_word, output_count}
-use Rattle.sift_unit.specs.Data.{MissionData, data_of}
-use Rattle.sift_unit.specs.Flown.{flown}
-use Rattle.sift_unit.specs.Mission.{Mission}
-use Rattle.sift_unit.specs.Needs.{task_at}
-use Rattle.sift_unit.specs.PartsFit.{PartsFit}
-use Rattle.sift_unit.specs.declared.parts.MissionParts.{MissionParts}
+use Rattle.sift_mission.specs.Data.{MissionData}
+use Rattle.sift_mission.specs.Parts.{data_of}
+use Rattle.sift_mission.specs.Flown.{flown}
+use Rattle.sift_mission.specs.Mission.{FlownMission}
+use Rattle.sift_mission.specs.Needs.{task_at}
+use Rattle.sift_mission.specs.PartsFit.{PartsFit}
+use Rattle.sift_mission.specs.declared.parts.MissionParts.{MissionParts}
 use Rattle.sift_vote.specs.Agreed.{majority_of}
 use Rattle.sift_vote.specs.Majority.{HasNoMajority, IsMajority}
 use Rattle.sift_vote.proofs.Found.{majority_is_found}
@@ -33,10 +34,10 @@ abbrev Name : Type 0
 Name = ArrayString 16
 
 -- the words of polls, and their text
-pub polled_words : (m : Mission) (fl : Flight) (f u w : ℕ) → map (λ poll. poll.word) (polls_of m fl f u w) ≡ map (place_of m fl f u w) (polled_units m fl f u w)
+pub polled_words : (m : FlownMission) (fl : Flight) (f u w : ℕ) → map (λ poll. poll.word) (polls_of m fl f u w) ≡ map (place_of m fl f u w) (polled_units m fl f u w)
 polled_words m fl f u w = map-map (λ (poll : Poll). poll.word) (poll_of m fl f u w) (polled_units m fl f u w)
 
-pub polled_is : (m : Mission) (fl : Flight) (f u w : ℕ) → polled_text (polls_of m fl f u w) ≡ polls_text (polled_units m fl f u w) (place_of m fl f u w)
+pub polled_is : (m : FlownMission) (fl : Flight) (f u w : ℕ) → polled_text (polls_of m fl f u w) ≡ polls_text (polled_units m fl f u w) (place_of m fl f u w)
 polled_is m fl f u w = ap list_text (map-map (λ (poll : Poll). poll_text poll.unit poll.word) (poll_of m fl f u w) (polled_units m fl f u w))
 
 -- the majority that is found

@@ -12,7 +12,7 @@ use Rattle.sift_base.proofs.Counts.{has-head, has-tail}
 use Rattle.sift_base.proofs.Others.{not_same}
 use Rattle.sift_base.proofs.Sets.{filter_same, below_has, holds-insert}
 use Rattle.sift_config.specs.Config.{IsConfig}
-use Rattle.sift_unit.proofs.Numbers.{range-has}
+use Rattle.sift_mission.proofs.Numbers.{range-has}
 use Rattle.sift_report.specs.Part.{AscendFrom}
 
 -- ---- ascending lists

@@ -11,12 +11,16 @@ use Rattle.sift_base.specs.Units.{has, holds}
 use Rattle.sift_base.proofs.Sets.{holds-insert}
 use Rattle.sift_skew.specs.Figures.{IsSkew}
 use Rattle.sift_skew.proofs.Leads.{Contains-map, skew_is_unique}
+use Rattle.sift_table.specs.Laws.{PlainTablesAreGood}
+use Rattle.sift_mission.specs.PartsFit.{PartsFit}
+use Rattle.sift_flight.specs.Calms.{CalmMissionsFly}
 use Rattle.sift_report.specs.Form.{HasForm, IsUnitsLine, Stands}
 use Rattle.sift_report.specs.Headline.{TellsClockSkew, TellsExactRemoval, TellsIdealOutputs, TellsNoFalseAccusation, TellsSameConfiguration, TellsSameInputs, TellsTrueMargin, two_tell, working_clocks}
 use Rattle.sift_report.specs.Told.{HasMarginTold, IsSoundTold, agreed_told, caught_told, inputs_told, line_at, outputs_told, told_at}
 use Rattle.sift_report.specs.declared.line.ReportLine.TheVariants.{Unit as unit, Last}
 use Rattle.sift_report.specs.TwoCatchers.{FaultIsWithinTheHeadline, HeadlineOfAFault, OtherLinesAreRefused, all_five, four_left, lines, mission, no_unit, only, other}
 use Rattle.sift_report.specs.Working.{IsWorking, works_in}
+use Rattle.sift_report.proofs.TwoCatchersFit.{parts_fit}
 use Rattle.sift_report.proofs.Alike.{one_told}
 use Rattle.sift_report.proofs.SheetPlaces.{first_low}
 
@@ -192,8 +196,9 @@ true_margin (suc zero) low = record {
 }
 true_margin (suc (suc f)) low = absurd (omega arith)
 
-headline_holds : HeadlineOfAFault
-headline_holds = record {
+headline_holds : PartsFit mission → HeadlineOfAFault
+headline_holds fits = record {
+  fits = fits;
   margin = margin 1 (omega arith);
   faulty = faulty_in;
   before = refl;
@@ -255,5 +260,5 @@ other_lines_are_refused = record {
     sound_still (suc zero) up = (four_left, refl, record { few = omega arith; enough = omega arith })
     sound_still (suc (suc g)) up = absurd (omega arith)
 
-pub fault_is_within_the_headline : FaultIsWithinTheHeadline
-fault_is_within_the_headline = record { holds = headline_holds; refuses = other_lines_are_refused }
+pub fault_is_within_the_headline : PlainTablesAreGood → CalmMissionsFly → FaultIsWithinTheHeadline
+fault_is_within_the_headline plain calm = record { holds = headline_holds (parts_fit plain calm); refuses = other_lines_are_refused }

@@ -1,7 +1,7 @@
 -- The form of a report of a mission: which lines stand where, with which numbers, whatever they tell.
 use Rattle.std.specs.Prelude.{◌≡◌, ℕ, suc, ◌+◌, ◌*◌, ◌<◌, List, length, true, false, Option, None, Some}
 use Rattle.sift_base.specs.Units.{has, holds}
-use Rattle.sift_unit.specs.Data.{MissionData}
+use Rattle.sift_mission.specs.Data.{MissionData}
 use Rattle.sift_report.specs.Told.{line_at}
 use Rattle.sift_report.specs.Working.{works_in}
 use Rattle.sift_report.specs.declared.line.ReportLine.{ReportLine}

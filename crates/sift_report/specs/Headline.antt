@@ -8,8 +8,8 @@ use Rattle.sift_config.specs.Config.{first_units, reader_of}
 use Rattle.sift_exec.specs.Conviction.{working_accusers}
 use Rattle.sift_program.specs.Ideal.{ideal_words}
 use Rattle.sift_skew.specs.Figures.{IsSkew}
-use Rattle.sift_unit.specs.Data.{MissionData}
-use Rattle.sift_unit.specs.Flown.{word_sensed}
+use Rattle.sift_mission.specs.Data.{MissionData}
+use Rattle.sift_mission.specs.Flown.{word_sensed}
 use Rattle.sift_report.specs.Form.{HasForm}
 use Rattle.sift_report.specs.Told.{HadMarginTold, HasMarginTold, agreed_told, caught_told, clock_told, config_told, end_margin_told, inputs_told, margin_told, outputs_told, skew_told, slack_told, told_at}
 use Rattle.sift_report.specs.Working.{IsWorking, works_in}

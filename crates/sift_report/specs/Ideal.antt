@@ -3,13 +3,13 @@ use Rattle.std.specs.Prelude.{codes, ℕ, List, [], ◌∷◌, ◌++◌, map}
 use Rattle.std.specs.Fmt.{decimal}
 use Rattle.std.specs.List.{flat_map, join_with_byte, range_with_len}
 use Rattle.sift_program.specs.Ideal.{ideal_words}
-use Rattle.sift_unit.specs.Data.{MissionData}
-use Rattle.sift_unit.specs.Flown.{flown}
-use Rattle.sift_unit.specs.Mission.{Mission}
+use Rattle.sift_mission.specs.Data.{MissionData}
+use Rattle.sift_mission.specs.Flown.{flown}
+use Rattle.sift_mission.specs.Mission.{FlownMission}
 use Rattle.sift_report.specs.Part.{blank, words_text}
 
 -- the words of the mission's sensors in a frame
-abbrev pub sensed_in : Mission → ℕ → List ℕ
+abbrev pub sensed_in : FlownMission → ℕ → List ℕ
 sensed_in m f = map (λ x. m.sensed x f) (range_with_len 0 m.sensors)
 
 -- the line of a frame with these outputs, with its line feed

@@ -1,7 +1,7 @@
 -- The texts of flights that tell the same.
 use Rattle.std.specs.Prelude.{◌≡◌, ◌<◌}
-use Rattle.sift_unit.specs.Data.{MissionData}
-use Rattle.sift_unit.specs.Flown.{flown}
+use Rattle.sift_mission.specs.Data.{MissionData}
+use Rattle.sift_mission.specs.Flown.{flown}
 use Rattle.sift_flight.specs.Alike.{AreAlike}
 use Rattle.sift_flight.specs.Flight.{Flight}
 use Rattle.sift_report.specs.Sheet.{end_of, report_of}

@@ -1,8 +1,8 @@
 -- The poll of one output word by one unit, as the code holds it.
 use Rattle.std.specs.Prelude.{◌≡◌, ℕ, ◌<◌, List, map, length}
-use Rattle.sift_unit.specs.Data.{MissionData}
-use Rattle.sift_unit.specs.Mission.{Mission}
-use Rattle.sift_unit.specs.Needs.{task_at}
+use Rattle.sift_mission.specs.Data.{MissionData}
+use Rattle.sift_mission.specs.Mission.{FlownMission}
+use Rattle.sift_mission.specs.Needs.{task_at}
 use Rattle.sift_flight.specs.Flight.{Flight}
 use Rattle.sift_report.specs.Part.{list_text}
 use Rattle.sift_report.specs.Votes.{place_of, poll_text, polled_units, word_number}
@@ -16,11 +16,11 @@ pub record IsOutput (d : MissionData) (output : Output) : Type 0 where
   pub number : output.word ≡ word_number d output.t output.j
 
 -- an executor and its word, as a unit has it
-abbrev pub poll_of : Mission → Flight → ℕ → ℕ → ℕ → ℕ → Poll
+abbrev pub poll_of : FlownMission → Flight → ℕ → ℕ → ℕ → ℕ → Poll
 poll_of m fl f u w v = record { unit = v; word = place_of m fl f u w v }
 
 -- the executors of a word and their words, as a unit has them
-abbrev pub polls_of : Mission → Flight → ℕ → ℕ → ℕ → List Poll
+abbrev pub polls_of : FlownMission → Flight → ℕ → ℕ → ℕ → List Poll
 polls_of m fl f u w = map (poll_of m fl f u w) (polled_units m fl f u w)
 
 -- polls, as a vote tells them

@@ -1,8 +1,8 @@
 -- What the sheets of round flights tell: the headline, and their flights' configurations and margins.
 use Rattle.std.specs.Prelude.{◌≡◌, ◌↔◌, ℕ, ◌<◌, ◌≤◌, Some}
-use Rattle.sift_unit.specs.Data.{MissionData}
-use Rattle.sift_unit.specs.Flown.{flown}
-use Rattle.sift_unit.specs.PartsFit.{PartsFit}
+use Rattle.sift_mission.specs.Data.{MissionData}
+use Rattle.sift_mission.specs.Flown.{flown}
+use Rattle.sift_mission.specs.PartsFit.{PartsFit}
 use Rattle.sift_flight.specs.Configuration.{HasMarginAt, config_at}
 use Rattle.sift_flight.specs.Flight.{Flight}
 use Rattle.sift_flight.specs.Headline.{agreed_at}

@@ -3,8 +3,8 @@ use Rattle.std.specs.Prelude.{ℕ, ◌-◌, List, [], ◌∷◌, ◌++◌, map, 
 use Rattle.std.specs.List.{flat_map, range_with_len}
 use Rattle.sift_base.specs.Units.{has}
 use Rattle.sift_exec.specs.Record.{everyone_in}
-use Rattle.sift_unit.specs.Account.{Account}
-use Rattle.sift_unit.specs.Mission.{Mission}
+use Rattle.sift_conduct.specs.Account.{Account}
+use Rattle.sift_mission.specs.Mission.{FlownMission}
 use Rattle.sift_flight.specs.Flight.{Flight}
 use Rattle.sift_flight.specs.Configuration.{config_at}
 use Rattle.sift_flight.specs.Figures.{margin_at, skew_at, slack_at}
@@ -21,29 +21,29 @@ abbrev pub working_line : ℕ → ℕ → Account → ReportLine
 working_line f u a = if has a.cfg u then account_line f u a else Idle f u
 
 -- the line of a unit in a frame
-abbrev pub unit_line : Mission → Flight → ℕ → ℕ → ReportLine
+abbrev pub unit_line : FlownMission → Flight → ℕ → ℕ → ReportLine
 unit_line m fl f u = if m.works u f then working_line f u (fl.account u f) else Faulty f u
 
 -- what is told of a whole frame
-abbrev pub frame_line : Mission → Flight → ℕ → ReportLine
+abbrev pub frame_line : FlownMission → Flight → ℕ → ReportLine
 frame_line m fl f = Frame f (skew_at m fl f) (slack_at m fl f) (margin_at m fl f)
 
 -- the lines of a frame: one for each unit, and one for the whole frame
-abbrev pub frame_lines : Mission → Flight → ℕ → List ReportLine
+abbrev pub frame_lines : FlownMission → Flight → ℕ → List ReportLine
 frame_lines m fl f = map (unit_line m fl f) m.units ++ frame_line m fl f ∷ []
 
 -- the end: how many frames were flown, the configuration after them, and the margin of the last
-abbrev pub last_line : Mission → Flight → ReportLine
+abbrev pub last_line : FlownMission → Flight → ReportLine
 last_line m fl = Last m.frames (config_at m fl m.frames) (margin_at m fl (m.frames - 1))
 
 -- the lines of a flight's report
-abbrev pub sheet_of : Mission → Flight → List ReportLine
+abbrev pub sheet_of : FlownMission → Flight → List ReportLine
 sheet_of m fl = flat_map (frame_lines m fl) (range_with_len 0 m.frames) ++ last_line m fl ∷ []
 
 -- the report of a flight
-abbrev pub report_of : Mission → Flight → List ℕ
+abbrev pub report_of : FlownMission → Flight → List ℕ
 report_of m fl = text_of_lines (sheet_of m fl)
 
 -- the last line of the report, with its line feed
-abbrev pub end_of : Mission → Flight → List ℕ
+abbrev pub end_of : FlownMission → Flight → List ℕ
 end_of m fl = printed (last_line m fl)

@@ -4,7 +4,7 @@ use Rattle.std.specs.FinSet as set
 use Rattle.std.specs.List.{slice_get}
 use Rattle.sift_base.specs.Margin.{HasMargin}
 use Rattle.sift_base.specs.Units.{Units}
-use Rattle.sift_unit.specs.Data.{MissionData}
+use Rattle.sift_mission.specs.Data.{MissionData}
 use Rattle.sift_report.specs.Working.{lead_in, works_in}
 use Rattle.sift_report.specs.declared.line.ReportLine.{ReportLine}
 use Rattle.sift_report.specs.declared.line.ReportLine.TheVariants.{Unit as unit, Faulty, Idle, Frame, Last}

@@ -1,5 +1,6 @@
--- A small report with a fault in it: unit 4 of five says a wrong word to units 0 and 1 alone; both catch it, and it is out of the next
--- configuration. The headline holds of it while every frame has margin, and each item of the headline refuses other lines.
+-- The report of missions/two_catchers.toml, a small one with a fault in it: unit 4 of five says a wrong word to units 0 and 1 alone; both
+-- catch it, and it is out of the next configuration. The headline holds of it while every frame has margin, and each item of the headline
+-- refuses other lines.
 use Rattle.std.specs.Prelude.{codes, ◌≡◌, ℕ, List, [], ◌∷◌, ◌++◌, slice_set, true, false, None, Some, ℤ, pos}
 use Rattle.std.specs.FinSet as set
 use Rattle.sift_base.specs.Units.{Units}
@@ -7,7 +8,8 @@ use Rattle.sift_base.specs.declared.layout.Layout.{Layout}
 use Rattle.sift_script.specs.Script.{changing}
 use Rattle.sift_script.specs.declared.script.SlotKind.TheVariants.{Out}
 use Rattle.sift_table.specs.Schedule.{plain_of}
-use Rattle.sift_unit.specs.Data.{MissionData}
+use Rattle.sift_mission.specs.Data.{MissionData}
+use Rattle.sift_mission.specs.PartsFit.{PartsFit}
 use Rattle.sift_flight.specs.Calms.{count_task}
 use Rattle.sift_report.specs.Form.{HasForm}
 use Rattle.sift_report.specs.Headline.{ReportHeadline, TellsClockSkew, TellsExactRemoval, TellsIdealOutputs, TellsNoFalseAccusation, TellsSameConfiguration, TellsSameInputs, TellsTrueMargin}
@@ -35,7 +37,6 @@ mission = record {
   layout = layout;
   names = codes "count" ∷ [];
   program = record { tasks = count_task ∷ []; starts = 5 ∷ [] };
-  code = [];
   tables = plain_of 4 12 1 ∷ plain_of 5 12 1 ∷ [];
   sensors = [];
   clock = record {
@@ -105,8 +106,10 @@ other place line = slice_set lines place line
 
 -- ---- what is so
 
--- both frames have margin by what is told, though unit 4 is faulty in each; it is configured out after the first; and the headline holds
+-- the parts of the mission fit; both frames have margin by what is told, though unit 4 is faulty in each; it is configured out after the
+-- first; and the headline holds
 pub record HeadlineOfAFault : Type 0 where
+  pub fits : PartsFit mission
   pub margin : HasMarginTold mission lines 1
   pub faulty : (f : ℕ) → works_in mission 4 f ≡ false
   pub before : config_told mission lines 0 ≡ Some all_five

@@ -6,11 +6,11 @@ use Rattle.sift_base.specs.Units.{has, others}
 use Rattle.sift_base.specs.declared.slot.Slot.TheVariants.{Out}
 use Rattle.sift_program.specs.Sound.{first_word}
 use Rattle.sift_vote.specs.Agreed.{majority_of}
-use Rattle.sift_unit.specs.Data.{MissionData}
-use Rattle.sift_unit.specs.Flown.{flown}
-use Rattle.sift_unit.specs.Mission.{Mission}
-use Rattle.sift_unit.specs.Needs.{task_at}
-use Rattle.sift_unit.specs.Slots.{executors}
+use Rattle.sift_mission.specs.Data.{MissionData}
+use Rattle.sift_mission.specs.Flown.{flown}
+use Rattle.sift_mission.specs.Mission.{FlownMission}
+use Rattle.sift_mission.specs.Needs.{task_at}
+use Rattle.sift_mission.specs.Slots.{executors}
 use Rattle.sift_flight.specs.Flight.{Flight, config_of}
 use Rattle.sift_report.specs.Part.{blank, unit_digit, list_text, word_text}
 use Rattle.sift_report.specs.Sheet.{end_of}
@@ -20,12 +20,12 @@ abbrev pub lowest_other : List ℕ → ℕ → ℕ
 lowest_other us u = slice_index (others u us) 0
 
 -- the word of an executor as a unit has it: its own as it said it to the lowest other unit of its configuration, each other as it heard it
-abbrev pub place_of : Mission → Flight → ℕ → ℕ → ℕ → ℕ → Option ℕ
+abbrev pub place_of : FlownMission → Flight → ℕ → ℕ → ℕ → ℕ → Option ℕ
 place_of m fl f u w v =
     if nat_eq v u then fl.said u f (Out w) (lowest_other (config_of fl u f) u) else fl.heard u f (Out w) v
 
 -- the executors of a word, as a unit knows them
-abbrev pub polled_units : Mission → Flight → ℕ → ℕ → ℕ → List ℕ
+abbrev pub polled_units : FlownMission → Flight → ℕ → ℕ → ℕ → List ℕ
 polled_units m fl f u w = executors m (config_of fl u f) w
 
 -- a word, or `-` where there is none
@@ -66,7 +66,7 @@ abbrev pub task_votes : MissionData → Flight → ℕ → ℕ → ℕ → List 
 task_votes d fl f u t = flat_map (vote_text d fl f u t) (range_with_len 0 (task_at d.program.tasks t).outputs)
 
 -- a unit tells its account: it works in the frame, and is in its own configuration
-abbrev pub tells : Mission → Flight → ℕ → ℕ → Bool
+abbrev pub tells : FlownMission → Flight → ℕ → ℕ → Bool
 tells m fl f u = m.works u f && has (config_of fl u f) u
 
 -- the lines of a unit in a frame

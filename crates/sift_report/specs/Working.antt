@@ -4,7 +4,7 @@ use Rattle.std.specs.List.{find}
 use Rattle.sift_base.specs.Units.{has}
 use Rattle.sift_config.specs.Config.{first_units}
 use Rattle.sift_script.specs.Faults as faults
-use Rattle.sift_unit.specs.Data.{MissionData}
+use Rattle.sift_mission.specs.Data.{MissionData}
 
 -- no fault of the unit has come by the frame
 abbrev pub works_in : MissionData → (u f : ℕ) → Bool

@@ -2,15 +2,14 @@
 
 ghost use Rattle.std.specs.Prelude.{◌≡◌, ◌++◌, ◌≤◌, ◌<◌, IfOk, OnOk, length, string_bytes};
 ghost use Rattle.sift_base.specs.Layout.{sensor_limit};
-ghost use Rattle.sift_unit.specs.Data.{data_of};
-ghost use Rattle.sift_unit.specs.Flown.{mission_of};
+ghost use Rattle.sift_mission.specs.Parts.{data_of, flown_of};
 ghost use Rattle.sift_report.specs.Ideal.{frames_text, ideal_of, outputs_text, sensed_in};
 
 use crate::print::push_words;
 use arrayvec::ArrayVec;
 use sift_base::{NoMemory, Word};
+use sift_mission::Mission;
 use sift_program::Ideal;
-use sift_unit::Mission;
 use std::alloc::{AllocError, Global};
 
 /// The ideal machine's outputs in each frame, over the mission's own sensor words.
@@ -31,8 +30,8 @@ pub fn ideal_text(alloc: Global, mission: &Mission) -> Result<String, NoMemory>
 
 /// The words of the mission's sensors in a frame.
 fn sensed_in(mission: &Mission, f: u32) -> ArrayVec<Word, 8>
-    requires { f < (mission_of mission.now).frames }
-    ensures { result.items ≡ sensed_in (mission_of mission.now) f }
+    requires { f < (flown_of mission.now).frames }
+    ensures { result.items ≡ sensed_in (flown_of mission.now) f }
 {
     let mut words = ArrayVec::new();
     for x in 0..mission.parts().layout.sensors {

@@ -5,9 +5,11 @@ ghost use Rattle.sift_report.specs.Printed.{HeadlineIsPrinted, SheetsTellTheirFl
 ghost use Rattle.sift_report.specs.TwoCatchers.{FaultIsWithinTheHeadline};
 
 use sift_flight::{
-    headline_holds, margin_is_told, round_flights_have_accounts, skew_is_told, slack_is_told,
+    calm_missions_fly, headline_holds, margin_is_told, round_flights_have_accounts, skew_is_told,
+    slack_is_told,
 };
-use sift_unit::fitting_parts_make_a_flight;
+use sift_mission::fitting_parts_make_a_flight;
+use sift_table::plain_tables_are_good;
 
 /// Flights that tell the same have one report, one text of votes and one last line.
 pub fn alike_flights_have_one_text()
@@ -38,4 +40,7 @@ pub fn sheets_tell_their_flights()
 /// A report with a faulty unit, which is configured out within the margin, has the headline; and other lines lack its items.
 pub fn fault_is_within_the_headline()
     ensures { FaultIsWithinTheHeadline }
-{}
+{
+    plain_tables_are_good();
+    calm_missions_fly();
+}

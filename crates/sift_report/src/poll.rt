@@ -5,11 +5,10 @@ ghost use Rattle.std.specs.Fmt.{decimal};
 ghost use Rattle.sift_base.specs.Units.{has, IsAscending};
 ghost use Rattle.sift_vote.specs.Agreed.{majority_of};
 ghost use Rattle.sift_program.specs.Sound.{first_word};
-ghost use Rattle.sift_unit.specs.Acts.{IsConfigOf};
-ghost use Rattle.sift_unit.specs.Data.{data_of};
-ghost use Rattle.sift_unit.specs.Flown.{mission_of};
-ghost use Rattle.sift_unit.specs.Needs.{task_at};
-ghost use Rattle.sift_unit.specs.Slots.{executors};
+ghost use Rattle.sift_mission.specs.Mission.{IsConfigOf};
+ghost use Rattle.sift_mission.specs.Parts.{data_of, flown_of};
+ghost use Rattle.sift_mission.specs.Needs.{task_at};
+ghost use Rattle.sift_mission.specs.Slots.{executors};
 ghost use Rattle.sift_flight.specs.Flight.{config_of};
 ghost use Rattle.sift_flight.specs.Told.{IsWhole, told};
 ghost use Rattle.sift_report.specs.Poll.{IsOutput, poll_of, polled_text, polls_of};
@@ -20,7 +19,7 @@ use arrayvec::ArrayVec;
 use sift_base::{Slot, UnitId, Word};
 use sift_config::Config;
 use sift_flight::{Flight, account_at};
-use sift_unit::Mission;
+use sift_mission::Mission;
 use sift_vote::majority;
 use std::alloc::AllocError;
 
@@ -53,13 +52,13 @@ pub fn push_vote(
     u: UnitId,
     output: Output,
 ) -> Result<(), AllocError>
-    requires whole { IsWhole (mission_of mission.now) mission.now.layout flight.now }
-    requires tells { tells (mission_of mission.now) (told (mission_of mission.now) flight.now) f u ≡ true }
-    requires unit { has (mission_of mission.now).units u ≡ true }
-    requires frame { f < (mission_of mission.now).frames }
+    requires whole { IsWhole (flown_of mission.now) mission.now.layout flight.now }
+    requires tells { tells (flown_of mission.now) (told (flown_of mission.now) flight.now) f u ≡ true }
+    requires unit { has (flown_of mission.now).units u ≡ true }
+    requires frame { f < (flown_of mission.now).frames }
     requires output { IsOutput (data_of mission.now) output }
     ensures { OnOk result (string_bytes text.new ≡ string_bytes text.old
-        ++ vote_text (data_of mission.now) (told (mission_of mission.now) flight.now) f u output.t output.j) }
+        ++ vote_text (data_of mission.now) (told (flown_of mission.now) flight.now) f u output.t output.j) }
 {
     let name = mission.parts().names[output.t].as_str();
     let polls = polls_of(mission, flight, f, u, output.word);
@@ -100,12 +99,12 @@ fn vote_of(polls: &[Poll]) -> Option<Word>
 
 /// The words of a word's executors, as a unit has them.
 fn polls_of(mission: &Mission, flight: &Flight, f: u32, u: UnitId, word: u8) -> ArrayVec<Poll, 8>
-    requires whole { IsWhole (mission_of mission.now) mission.now.layout flight.now }
-    requires tells { tells (mission_of mission.now) (told (mission_of mission.now) flight.now) f u ≡ true }
-    requires unit { has (mission_of mission.now).units u ≡ true }
-    requires frame { f < (mission_of mission.now).frames }
-    requires word { word < (mission_of mission.now).words }
-    ensures { result.items ≡ polls_of (mission_of mission.now) (told (mission_of mission.now) flight.now) f u word }
+    requires whole { IsWhole (flown_of mission.now) mission.now.layout flight.now }
+    requires tells { tells (flown_of mission.now) (told (flown_of mission.now) flight.now) f u ≡ true }
+    requires unit { has (flown_of mission.now).units u ≡ true }
+    requires frame { f < (flown_of mission.now).frames }
+    requires word { word < (flown_of mission.now).words }
+    ensures { result.items ≡ polls_of (flown_of mission.now) (told (flown_of mission.now) flight.now) f u word }
 {
     let config = account_at(mission, flight, u, f).cfg;
     let mut polls = ArrayVec::new();
@@ -130,13 +129,13 @@ fn place_of(
     word: u8,
     from: UnitId,
 ) -> Option<Word>
-    requires whole { IsWhole (mission_of mission.now) mission.now.layout flight.now }
-    requires tells { tells (mission_of mission.now) (told (mission_of mission.now) flight.now) f u ≡ true }
-    requires unit { has (mission_of mission.now).units u ≡ true }
-    requires frame { f < (mission_of mission.now).frames }
-    requires word { word < (mission_of mission.now).words }
-    requires from { has (mission_of mission.now).units from ≡ true }
-    ensures { result ≡ place_of (mission_of mission.now) (told (mission_of mission.now) flight.now) f u word from }
+    requires whole { IsWhole (flown_of mission.now) mission.now.layout flight.now }
+    requires tells { tells (flown_of mission.now) (told (flown_of mission.now) flight.now) f u ≡ true }
+    requires unit { has (flown_of mission.now).units u ≡ true }
+    requires frame { f < (flown_of mission.now).frames }
+    requires word { word < (flown_of mission.now).words }
+    requires from { has (flown_of mission.now).units from ≡ true }
+    ensures { result ≡ place_of (flown_of mission.now) (told (flown_of mission.now) flight.now) f u word from }
 {
     let slot = mission.parts().layout.number(Slot::Out(word));
     let journal = &flight.journals[usize::from(u.get())];

@@ -1,7 +1,7 @@
 //! The report of a flight.
 
 ghost use Rattle.std.specs.Prelude.{◌≡◌, ◌<◌, ◌++◌, IfOk, OnOk, string_bytes};
-ghost use Rattle.sift_unit.specs.Flown.{mission_of};
+ghost use Rattle.sift_mission.specs.Parts.{flown_of};
 ghost use Rattle.sift_flight.specs.Figures.{margin_at};
 ghost use Rattle.sift_flight.specs.Told.{IsWhole, told};
 ghost use Rattle.sift_report.specs.Line.{text_of_lines};
@@ -11,14 +11,14 @@ use crate::print::push_line;
 use crate::sheet::{frame_line, last_line, unit_line};
 use sift_base::NoMemory;
 use sift_flight::{Flight, is_sound_at, margin_at};
-use sift_unit::Mission;
+use sift_mission::Mission;
 use std::alloc::{AllocError, Global};
 
 /// The report of a whole flight.
 pub fn report_text(alloc: Global, mission: &Mission, flight: &Flight) -> Result<String, NoMemory>
-    requires { IsWhole (mission_of mission.now) mission.now.layout flight.now }
+    requires { IsWhole (flown_of mission.now) mission.now.layout flight.now }
     ensures { IfOk result (λ text. string_bytes text
-        ≡ report_of (mission_of mission.now) (told (mission_of mission.now) flight.now)) }
+        ≡ report_of (flown_of mission.now) (told (flown_of mission.now) flight.now)) }
 {
     let mut text = String::new(alloc);
     let mut margin = true;
@@ -38,11 +38,11 @@ fn push_frame(
     f: u32,
     margin: bool,
 ) -> Result<(), AllocError>
-    requires whole { IsWhole (mission_of mission.now) mission.now.layout flight.now }
-    requires frame { f < (mission_of mission.now).frames }
-    requires margin { margin ≡ margin_at (mission_of mission.now) (told (mission_of mission.now) flight.now) f }
+    requires whole { IsWhole (flown_of mission.now) mission.now.layout flight.now }
+    requires frame { f < (flown_of mission.now).frames }
+    requires margin { margin ≡ margin_at (flown_of mission.now) (told (flown_of mission.now) flight.now) f }
     ensures { OnOk result (string_bytes text.new ≡ string_bytes text.old
-        ++ text_of_lines (frame_lines (mission_of mission.now) (told (mission_of mission.now) flight.now) f)) }
+        ++ text_of_lines (frame_lines (flown_of mission.now) (told (flown_of mission.now) flight.now) f)) }
 {
     let everyone = mission.everyone();
     for i in 0..everyone.len() {
@@ -53,9 +53,9 @@ fn push_frame(
 
 /// The last line of a whole flight's report, with its line feed.
 pub fn last_line_text(alloc: Global, mission: &Mission, flight: &Flight) -> Result<String, NoMemory>
-    requires { IsWhole (mission_of mission.now) mission.now.layout flight.now }
+    requires { IsWhole (flown_of mission.now) mission.now.layout flight.now }
     ensures { IfOk result (λ text. string_bytes text
-        ≡ end_of (mission_of mission.now) (told (mission_of mission.now) flight.now)) }
+        ≡ end_of (flown_of mission.now) (told (flown_of mission.now) flight.now)) }
 {
     let mut text = String::new(alloc);
     push_end(&mut text, mission, flight)?;
@@ -64,9 +64,9 @@ pub fn last_line_text(alloc: Global, mission: &Mission, flight: &Flight) -> Resu
 
 /// Appends the last line of a whole flight's report, with its line feed.
 pub fn push_end(text: &mut String, mission: &Mission, flight: &Flight) -> Result<(), AllocError>
-    requires { IsWhole (mission_of mission.now) mission.now.layout flight.now }
+    requires { IsWhole (flown_of mission.now) mission.now.layout flight.now }
     ensures { OnOk result (string_bytes text.new ≡ string_bytes text.old
-        ++ end_of (mission_of mission.now) (told (mission_of mission.now) flight.now)) }
+        ++ end_of (flown_of mission.now) (told (flown_of mission.now) flight.now)) }
 {
     let margin = margin_at(mission, flight, mission.parts().frames - 1);
     push_line(text, &last_line(mission, flight, margin))?;

@@ -3,8 +3,8 @@
 ghost use Rattle.std.specs.Prelude.{◌≡◌, ◌-◌, ◌<◌, true};
 ghost use Rattle.sift_base.specs.Units.{has};
 ghost use Rattle.sift_exec.specs.Record.{everyone_in};
-ghost use Rattle.sift_unit.specs.Boards.{account_of};
-ghost use Rattle.sift_unit.specs.Flown.{mission_of};
+ghost use Rattle.sift_conduct.specs.Account.{account_of};
+ghost use Rattle.sift_mission.specs.Parts.{flown_of};
 ghost use Rattle.sift_flight.specs.Figures.{margin_at};
 ghost use Rattle.sift_flight.specs.Told.{IsWhole, told};
 ghost use Rattle.sift_report.specs.Sheet.{account_line, frame_line, last_line, unit_line};
@@ -12,16 +12,17 @@ ghost use Rattle.sift_report.specs.Sheet.{account_line, frame_line, last_line, u
 use crate::line::ReportLine;
 use arrayvec::ArrayVec;
 use sift_base::{UnitId, UnitSet};
+use sift_conduct::Account;
 use sift_exec::Catches;
 use sift_flight::{Flight, account_at, config_at, skew_at, slack_at};
-use sift_unit::{Account, Mission};
+use sift_mission::Mission;
 
 /// The line of a unit in a frame.
 pub fn unit_line(mission: &Mission, flight: &Flight, f: u32, u: UnitId) -> ReportLine
-    requires whole { IsWhole (mission_of mission.now) mission.now.layout flight.now }
-    requires unit { has (mission_of mission.now).units u ≡ true }
-    requires frame { f < (mission_of mission.now).frames }
-    ensures { result ≡ unit_line (mission_of mission.now) (told (mission_of mission.now) flight.now) f u }
+    requires whole { IsWhole (flown_of mission.now) mission.now.layout flight.now }
+    requires unit { has (flown_of mission.now).units u ≡ true }
+    requires frame { f < (flown_of mission.now).frames }
+    ensures { result ≡ unit_line (flown_of mission.now) (told (flown_of mission.now) flight.now) f u }
 {
     if !mission.works(u, f) {
         return ReportLine::Faulty { f, u };
@@ -58,10 +59,10 @@ fn everyone_in(bad: Catches) -> UnitSet
 
 /// What is told of a whole frame that has this margin.
 pub fn frame_line(mission: &Mission, flight: &Flight, f: u32, margin: bool) -> ReportLine
-    requires whole { IsWhole (mission_of mission.now) mission.now.layout flight.now }
-    requires frame { f < (mission_of mission.now).frames }
-    requires margin { margin ≡ margin_at (mission_of mission.now) (told (mission_of mission.now) flight.now) f }
-    ensures { result ≡ frame_line (mission_of mission.now) (told (mission_of mission.now) flight.now) f }
+    requires whole { IsWhole (flown_of mission.now) mission.now.layout flight.now }
+    requires frame { f < (flown_of mission.now).frames }
+    requires margin { margin ≡ margin_at (flown_of mission.now) (told (flown_of mission.now) flight.now) f }
+    ensures { result ≡ frame_line (flown_of mission.now) (told (flown_of mission.now) flight.now) f }
 {
     ReportLine::Frame {
         f,
@@ -73,9 +74,9 @@ pub fn frame_line(mission: &Mission, flight: &Flight, f: u32, margin: bool) -> R
 
 /// The last line, where the last frame has this margin.
 pub fn last_line(mission: &Mission, flight: &Flight, margin: bool) -> ReportLine
-    requires whole { IsWhole (mission_of mission.now) mission.now.layout flight.now }
-    requires margin { margin ≡ margin_at (mission_of mission.now) (told (mission_of mission.now) flight.now) ((mission_of mission.now).frames - 1) }
-    ensures { result ≡ last_line (mission_of mission.now) (told (mission_of mission.now) flight.now) }
+    requires whole { IsWhole (flown_of mission.now) mission.now.layout flight.now }
+    requires margin { margin ≡ margin_at (flown_of mission.now) (told (flown_of mission.now) flight.now) ((flown_of mission.now).frames - 1) }
+    ensures { result ≡ last_line (flown_of mission.now) (told (flown_of mission.now) flight.now) }
 {
     let frames = mission.frames();
     ReportLine::Last {

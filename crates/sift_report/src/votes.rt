@@ -4,9 +4,8 @@ ghost use Rattle.std.specs.Prelude.{◌≡◌, ◌+◌, ◌<◌, ◌≤◌, ◌+
 ghost use Rattle.sift_base.specs.Layout.{word_limit};
 ghost use Rattle.sift_base.specs.Units.{has};
 ghost use Rattle.sift_program.specs.Sound.{first_word};
-ghost use Rattle.sift_unit.specs.Data.{data_of};
-ghost use Rattle.sift_unit.specs.Flown.{mission_of};
-ghost use Rattle.sift_unit.specs.Needs.{task_at};
+ghost use Rattle.sift_mission.specs.Parts.{data_of, flown_of};
+ghost use Rattle.sift_mission.specs.Needs.{task_at};
 ghost use Rattle.sift_flight.specs.Told.{IsWhole, told};
 ghost use Rattle.sift_report.specs.Votes.{frame_votes, task_votes, tells, unit_votes, vote_text, votes_of};
 
@@ -14,15 +13,15 @@ use crate::poll::{Output, push_vote};
 use crate::report::push_end;
 use sift_base::{NoMemory, UnitId};
 use sift_flight::{Flight, account_at};
-use sift_unit::Mission;
+use sift_mission::Mission;
 use std::alloc::{AllocError, Global};
 
 /// The votes of a whole flight: for each output word of a unit that tells its account the words that it polled, and their majority; and
 /// the last line of the report.
 pub fn votes_text(alloc: Global, mission: &Mission, flight: &Flight) -> Result<String, NoMemory>
-    requires { IsWhole (mission_of mission.now) mission.now.layout flight.now }
+    requires { IsWhole (flown_of mission.now) mission.now.layout flight.now }
     ensures { IfOk result (λ text. string_bytes text
-        ≡ votes_of (data_of mission.now) (told (mission_of mission.now) flight.now)) }
+        ≡ votes_of (data_of mission.now) (told (flown_of mission.now) flight.now)) }
 {
     let mut text = String::new(alloc);
     for f in 0..mission.frames() {
@@ -39,10 +38,10 @@ fn push_frame_votes(
     flight: &Flight,
     f: u32,
 ) -> Result<(), AllocError>
-    requires whole { IsWhole (mission_of mission.now) mission.now.layout flight.now }
-    requires frame { f < (mission_of mission.now).frames }
+    requires whole { IsWhole (flown_of mission.now) mission.now.layout flight.now }
+    requires frame { f < (flown_of mission.now).frames }
     ensures { OnOk result (string_bytes text.new ≡ string_bytes text.old
-        ++ frame_votes (data_of mission.now) (told (mission_of mission.now) flight.now) f) }
+        ++ frame_votes (data_of mission.now) (told (flown_of mission.now) flight.now) f) }
 {
     let everyone = mission.everyone();
     for i in 0..everyone.len() {
@@ -59,11 +58,11 @@ fn push_unit_votes(
     f: u32,
     u: UnitId,
 ) -> Result<(), AllocError>
-    requires whole { IsWhole (mission_of mission.now) mission.now.layout flight.now }
-    requires unit { has (mission_of mission.now).units u ≡ true }
-    requires frame { f < (mission_of mission.now).frames }
+    requires whole { IsWhole (flown_of mission.now) mission.now.layout flight.now }
+    requires unit { has (flown_of mission.now).units u ≡ true }
+    requires frame { f < (flown_of mission.now).frames }
     ensures { OnOk result (string_bytes text.new ≡ string_bytes text.old
-        ++ unit_votes (data_of mission.now) (told (mission_of mission.now) flight.now) f u) }
+        ++ unit_votes (data_of mission.now) (told (flown_of mission.now) flight.now) f u) }
 {
     if !tells(mission, flight, f, u) {
         return Ok(());
@@ -78,10 +77,10 @@ fn push_unit_votes(
 
 /// Whether a unit tells its account: it works in the frame, and is in its own configuration.
 fn tells(mission: &Mission, flight: &Flight, f: u32, u: UnitId) -> bool
-    requires whole { IsWhole (mission_of mission.now) mission.now.layout flight.now }
-    requires unit { has (mission_of mission.now).units u ≡ true }
-    requires frame { f < (mission_of mission.now).frames }
-    ensures { result ≡ tells (mission_of mission.now) (told (mission_of mission.now) flight.now) f u }
+    requires whole { IsWhole (flown_of mission.now) mission.now.layout flight.now }
+    requires unit { has (flown_of mission.now).units u ≡ true }
+    requires frame { f < (flown_of mission.now).frames }
+    ensures { result ≡ tells (flown_of mission.now) (told (flown_of mission.now) flight.now) f u }
 {
     mission.works(u, f) && account_at(mission, flight, u, f).cfg.has(u)
 }
@@ -96,15 +95,15 @@ fn push_task_votes(
     t: usize,
     first: u8,
 ) -> Result<(), AllocError>
-    requires whole { IsWhole (mission_of mission.now) mission.now.layout flight.now }
-    requires tells { tells (mission_of mission.now) (told (mission_of mission.now) flight.now) f u ≡ true }
-    requires unit { has (mission_of mission.now).units u ≡ true }
-    requires frame { f < (mission_of mission.now).frames }
-    requires task { t < (mission_of mission.now).tasks }
+    requires whole { IsWhole (flown_of mission.now) mission.now.layout flight.now }
+    requires tells { tells (flown_of mission.now) (told (flown_of mission.now) flight.now) f u ≡ true }
+    requires unit { has (flown_of mission.now).units u ≡ true }
+    requires frame { f < (flown_of mission.now).frames }
+    requires task { t < (flown_of mission.now).tasks }
     requires first { first ≡ first_word (data_of mission.now).program.tasks t }
     requires room { first + (task_at (data_of mission.now).program.tasks t).outputs ≤ word_limit }
     ensures { OnOk result (string_bytes text.new ≡ string_bytes text.old
-        ++ task_votes (data_of mission.now) (told (mission_of mission.now) flight.now) f u t) }
+        ++ task_votes (data_of mission.now) (told (flown_of mission.now) flight.now) f u t) }
 {
     for j in 0..mission.outputs(t) {
         let word = first + j;

@@ -1,7 +1,7 @@
 -- What may come of bytes that were read to their end.
 use Rattle.std.proofs.Common.{◌≡◌, ◌≢◌, ◌≤◌, ◌⊎◌, inl, inr, ℕ, List, length, refl, ap, subst, arith}
 use Rattle.toml.specs.Data.{Members}
-use Rattle.sift_unit.specs.Data.{MissionData}
+use Rattle.sift_mission.specs.Data.{MissionData}
 use Rattle.sift_scenario.proofs.UniqueRefusals.{missions_are_accepted, one_refusal}
 use Rattle.sift_scenario.specs.Mission.{IsMission}
 use Rattle.sift_scenario.specs.Refusal.{IsRefusedWith}

@@ -3,10 +3,10 @@ use Rattle.std.proofs.Common.{◌≡◌, ℕ, ◌<◌, List, [], refl, sym, ◌�
 use Rattle.toml.specs.Data.{Members}
 use Rattle.sift_scenario.specs.Laws.{OneMission}
 use Rattle.sift_scenario.specs.Mission.{AreSame, IsMission}
-use Rattle.sift_unit.specs.Data.{MissionData}
-use Rattle.sift_unit.specs.Flown.{flown}
-use Rattle.sift_unit.specs.PartsFit.{PartsFit}
-use Rattle.sift_unit.specs.Premises.{PartsMakeItFlyable}
+use Rattle.sift_mission.specs.Data.{MissionData}
+use Rattle.sift_mission.specs.Flown.{flown}
+use Rattle.sift_mission.specs.PartsFit.{PartsFit}
+use Rattle.sift_mission.specs.Premises.{PartsMakeItFlyable}
 use Rattle.sift_flight.specs.Alike.{RoundFlightsAreAlike}
 use Rattle.sift_flight.specs.Flight.{Flight}
 use Rattle.sift_flight.specs.Hearing.{no_strays}

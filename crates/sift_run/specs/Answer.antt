@@ -5,8 +5,8 @@ use Rattle.sift_flight.specs.Flight.{Flight}
 use Rattle.sift_report.specs.Line.{text_of_lines}
 use Rattle.sift_report.specs.Headline.{ReportHeadline}
 use Rattle.sift_report.specs.Sheet.{sheet_of}
-use Rattle.sift_unit.specs.Data.{MissionData}
-use Rattle.sift_unit.specs.Flown.{flown}
+use Rattle.sift_mission.specs.Data.{MissionData}
+use Rattle.sift_mission.specs.Flown.{flown}
 use Rattle.sift_run.specs.Command.{AskToRead, Asks, Draws, DrawsFit, IsCommandLine, IsFlightOf, Makes, MakesFit}
 use Rattle.sift_run.specs.Input.{Input, IsBegun, IsInput, IsTold, States, document_limit}
 use Rattle.sift_run.specs.Output.{IsCut, IsWritten, Output, AnswersWith, sink_fault_status}

@@ -9,9 +9,9 @@ use Rattle.sift_report.specs.Ideal.{ideal_of}
 use Rattle.sift_report.specs.Sheet.{end_of, report_of}
 use Rattle.sift_report.specs.Votes.{votes_of}
 use Rattle.sift_scenario.specs.Mission.{IsMission}
-use Rattle.sift_unit.specs.Data.{MissionData}
-use Rattle.sift_unit.specs.Flown.{flown}
-use Rattle.sift_unit.specs.PartsFit.{PartsFit}
+use Rattle.sift_mission.specs.Data.{MissionData}
+use Rattle.sift_mission.specs.Flown.{flown}
+use Rattle.sift_mission.specs.PartsFit.{PartsFit}
 use Rattle.sift_run.specs.Input.{States}
 use Rattle.sift_run.specs.Options.{Adds, no_options, with_given}
 use Rattle.sift_run.specs.declared.command.Command.{Command}

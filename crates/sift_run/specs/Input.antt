@@ -7,7 +7,7 @@ use Rattle.sift_io.specs.Reading.{TakesAll, TakesAtMost}
 use Rattle.sift_scenario.specs.Mission.{IsMission}
 use Rattle.sift_scenario.specs.Refusal.{IsRefusedWith}
 use Rattle.sift_scenario.specs.declared.refused.Refused.{Refused}
-use Rattle.sift_unit.specs.Data.{MissionData}
+use Rattle.sift_mission.specs.Data.{MissionData}
 
 -- the most bytes of a document
 abbrev pub document_limit : ℕ

@@ -2,8 +2,7 @@
 
 ghost use Rattle.std.specs.Prelude.{◌≡◌, ℕ, IfOk, IfSome, Some, map, string_bytes};
 ghost use Rattle.sift_flight.specs.Told.{IsWhole, told};
-ghost use Rattle.sift_unit.specs.Data.{data_of};
-ghost use Rattle.sift_unit.specs.Flown.{mission_of};
+ghost use Rattle.sift_mission.specs.Parts.{data_of, flown_of};
 ghost use Rattle.sift_run.specs.Command.{Asks, DrawsFit, GiveNumber, GiveOrder, GiveTrial, IsFlightOf, TextOf};
 
 use crate::options::Options;
@@ -12,7 +11,7 @@ use sift_core::fly;
 use sift_flight::{Flight, round_flights_are_whole};
 use sift_report::{ideal_text, last_line_text, report_text, votes_text};
 use sift_trial::drawn_mission;
-use sift_unit::Mission;
+use sift_mission::Mission;
 use std::alloc::Global;
 
 /// What the words ask for.
@@ -103,8 +102,8 @@ pub fn trial_text(alloc: Global, number: u64, order: u64) -> Result<String, NoMe
 
 /// A flight of the mission. All orders of steps give flights that tell the same.
 fn flight_of(alloc: Global, mission: &Mission, order: u64) -> Result<Flight, NoMemory>
-    ensures whole { IfOk result (IsWhole (mission_of mission.now) mission.now.layout) }
-    ensures round { IfOk result (λ flight. IsFlightOf (data_of mission.now) (told (mission_of mission.now) flight)) }
+    ensures whole { IfOk result (IsWhole (flown_of mission.now) mission.now.layout) }
+    ensures round { IfOk result (λ flight. IsFlightOf (data_of mission.now) (told (flown_of mission.now) flight)) }
 {
     mission.parts();
     round_flights_are_whole();

@@ -7,9 +7,9 @@ use Rattle.sift_base.specs.declared.layout.Layout.{Layout}
 use Rattle.sift_program.specs.Program.{program_of}
 use Rattle.sift_script.specs.Script.{FaultScript, outputs_of, script_for}
 use Rattle.sift_table.specs.Schedule.{Schedule, schedule_of}
-use Rattle.sift_unit.specs.Data as unit
-use Rattle.sift_unit.specs.Data.{MissionData, shapes_in}
-use Rattle.sift_unit.specs.Needs.{program_shapes}
+use Rattle.sift_mission.specs.Parts as unit
+use Rattle.sift_mission.specs.Data.{MissionData, shapes_in}
+use Rattle.sift_mission.specs.Needs.{program_shapes}
 use Rattle.sift_scenario.proofs.Starts.{names_from, starts_long}
 use Rattle.sift_scenario.specs.Mission.{HasGoodTables, IsStated}
 use Rattle.sift_scenario.specs.Reading.{IsReadOf, IsRunningOf}
@@ -30,7 +30,6 @@ made entries running layout tables script = record {
   layout = layout;
   names = map (λ name. name.bytes) entries.tasks.names.items;
   program = program_of running.program;
-  code = running.code.items;
   tables = tables;
   sensors = map (λ words. words.items) entries.sensors.words.items;
   clock = unit.clocks_of entries.clock;

@@ -6,7 +6,7 @@ use Rattle.std.specs.List.{All}
 use Rattle.std.specs.Prelude.{codes, ℤ, pos, option_and_then, unwrap_or, ◌≤ℤ◌, ◌+ℤ◌}
 use Rattle.sift_skew.specs.Limits.{AreNumbers, IsAdmitted}
 use Rattle.toml.specs.Data.{Data, Members, get_member}
-use Rattle.sift_unit.specs.PartsFit.{AreClocks}
+use Rattle.sift_mission.specs.PartsFit.{AreClocks}
 use Rattle.sift_scenario.proofs.KnownStarts.{together_in}
 use Rattle.sift_scenario.proofs.Numbers.{between, between_at}
 use Rattle.sift_scenario.proofs.Order.{kept_each}

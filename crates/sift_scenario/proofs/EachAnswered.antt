@@ -42,7 +42,7 @@ use Rattle.sift_script.proofs.Answered.{scripts_are_answered}
 use Rattle.sift_table.proofs.Answered.{tables_are_answered}
 use Rattle.sift_table.specs.Rules as tables
 use Rattle.sift_table.specs.Schedule.{Schedule}
-use Rattle.sift_unit.specs.Data.{MissionData, shapes_in}
+use Rattle.sift_mission.specs.Data.{MissionData, shapes_in}
 use Rattle.sift_scenario.specs.declared.refused.Refused.{Refused}
 use Rattle.sift_scenario.specs.declared.refused.Refused.TheVariants.{Scenario, Task, Table, Script, NoMemory}
 use Rattle.std.specs.List.{All}

@@ -7,14 +7,13 @@ use Rattle.toml.specs.Data.{Members, get_member}
 use Rattle.sift_base.specs.Layout.{least_units}
 use Rattle.sift_base.specs.Units.{unit_limit}
 use Rattle.sift_base.specs.declared.layout.Layout.{Layout}
-use Rattle.sift_compile.specs.Tasks.{AreCodesOf}
 use Rattle.sift_program.specs.Sound.{IsSoundProgram}
 use Rattle.sift_script.specs.Faults.{storm_of}
 use Rattle.sift_script.specs.Rules as scripts
 use Rattle.sift_script.specs.Script.{FaultScript}
 use Rattle.sift_table.specs.Schedule.{Schedule}
-use Rattle.sift_unit.specs.Data.{Clocks, MissionData}
-use Rattle.sift_unit.specs.PartsFit.{AreClocks, AreTables, HasWords, PartsFit, frame_limit, table_at}
+use Rattle.sift_mission.specs.Data.{Clocks, MissionData}
+use Rattle.sift_mission.specs.PartsFit.{AreClocks, AreTables, HasWords, PartsFit, frame_limit, table_at}
 use Rattle.sift_scenario.proofs.Clocks.{clocks_fit}
 use Rattle.sift_scenario.proofs.Faulting.{calm}
 use Rattle.sift_scenario.proofs.Numbers.{between_at}
@@ -22,17 +21,18 @@ use Rattle.sift_scenario.proofs.Order.{AreAllKept}
 use Rattle.sift_scenario.proofs.Periods.{period_between}
 use Rattle.sift_scenario.proofs.Sensing.{as_many_sensors, few_sensors, words_fit}
 use Rattle.sift_scenario.proofs.Sizes.{IsSized, schedule_at, schedules_long, schedules_sized}
+use Rattle.sift_scenario.proofs.SoundPrograms.{stated_is_sound}
 use Rattle.sift_scenario.proofs.Starts.{starts_long}
 use Rattle.sift_scenario.proofs.Themes.{kept_themes}
 use Rattle.sift_scenario.specs.Lawful.{themes_for}
+use Rattle.sift_scenario.specs.Laws.{StatedMissionsFit}
 use Rattle.sift_scenario.specs.Mission.{HasGoodTables, IsStated}
+use Rattle.sift_scenario.specs.Sensor.{sensor_names}
 use Rattle.sift_scenario.specs.Table.{table_value}
 use Rattle.sift_scenario.specs.Task.{counts_of, name_of, task_entries, tasks_of}
 
 module _
-    (document : Members) (d : MissionData) (stated : IsStated document d) (good_tables : HasGoodTables d) (good_script : scripts.IsGood d.script)
-    (sound : IsSoundProgram d.layout.sensors d.program)
-    (compiled : AreCodesOf d.layout.sensors d.layout.words d.program.tasks d.code) where
+    (document : Members) (d : MissionData) (stated : IsStated document d) (good_tables : HasGoodTables d) (good_script : scripts.IsGood d.script) where
   -- the rules of each theme are kept
   themes : AreAllKept (themes_for d.units document)
   themes = kept_themes document d.units stated.units stated.lawful
@@ -40,6 +40,14 @@ module _
   -- the numbers of units, frames and subframes
   units_between : (least_units ≤ d.units) × (d.units ≤ unit_limit)
   units_between = between_at least_units unit_limit (get_member (codes "units") document) d.units stated.units
+
+  -- there are as many sensors as the layout says
+  sensors_are : d.layout.sensors ≡ length (sensor_names document)
+  sensors_are = ap (λ (l : Layout). l.sensors) stated.layout ∙ ap length stated.sensors ∙ as_many_sensors document
+
+  -- the program is sound for them
+  sound : IsSoundProgram d.layout.sensors d.program
+  sound = rw sensors_are (stated_is_sound document d.units d.program stated.units stated.lawful stated.program)
 
   -- a table for each size
   sizes : (i : ℕ) → i < length d.tables → IsSized d.period (least_units + i) (table_at d i)
@@ -80,7 +88,6 @@ module _
         };
         names = names ∙ sym stated.program.stated.as_many ∙ sym stated.program.trees.as_many;
         program = sound;
-        code = compiled;
         sensors = subst (λ (ws : List (List ℕ)). All HasWords ws) (sym stated.sensors) (words_fit document d.units stated.units stated.lawful);
         tables = tables_fit;
         clock = subst (λ (clocks : Clocks). AreClocks d.units clocks) (sym stated.clock) (clocks_fit document d.units stated.units stated.lawful);
@@ -92,3 +99,7 @@ module _
           calm = λ u. ap (λ (s : FaultScript). storm_of s.faults u) stated.script ∙ calm document u;
         };
       }
+
+-- the mission that a document states has parts that fit
+pub stated_fit : StatedMissionsFit
+stated_fit document d is = fit document d is.stated is.good_tables is.good_script

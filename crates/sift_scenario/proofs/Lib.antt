@@ -28,6 +28,7 @@ pub mod Rolls
 pub mod Sensing
 pub mod ShapeLemmas
 pub mod Sizes
+pub mod SoundPrograms
 pub mod SoundShapes
 pub mod Starts
 pub mod TableReading

@@ -8,18 +8,20 @@ use Rattle.sift_base.specs.Layout.{IsLayout, least_units}
 use Rattle.sift_base.specs.Shapes.{AllShapes, AreShapes}
 use Rattle.sift_base.specs.Units.{unit_limit}
 use Rattle.sift_base.specs.declared.layout.Layout.{Layout}
+use Rattle.sift_compile.specs.Tasks.{AreCodesOf}
 use Rattle.sift_program.specs.Program.{program_of}
 use Rattle.sift_program.specs.Sound.{IsSoundProgram}
 use Rattle.sift_script.specs.Rules as scripts
 use Rattle.sift_script.specs.Script.{FaultScript}
 use Rattle.sift_table.specs.Rules.{IsGood}
 use Rattle.sift_table.specs.Schedule.{Schedule, schedule_of}
-use Rattle.sift_unit.specs.Needs.{program_shapes}
-use Rattle.sift_unit.specs.PartsFit.{PartsFit}
+use Rattle.sift_mission.specs.Needs.{program_shapes}
+use Rattle.sift_mission.specs.PartsFit.{PartsFit}
 use Rattle.sift_scenario.proofs.Assembling.{is_stated, layout_read, made, script_read, script_refused, table_refused}
 use Rattle.sift_scenario.proofs.Fitting.{fit}
 use Rattle.sift_scenario.proofs.Numbers.{between_at}
 use Rattle.sift_scenario.proofs.Sensing.{as_many_sensors, few_sensors}
+use Rattle.sift_scenario.proofs.SoundPrograms.{stated_is_sound}
 use Rattle.sift_scenario.proofs.SoundShapes.{sound_shapes}
 use Rattle.sift_scenario.specs.Mission.{HasGoodTables, IsMission, IsStated}
 use Rattle.sift_scenario.specs.Reading.{IsReadOf, IsRunningOf}
@@ -38,13 +40,24 @@ module _ (document : Members) (entries : Entries) (running : Running) (read : Is
   pub sensors_few : length entries.sensors.words.items ≤ 8
   sensors_few = omega (arith, sensors_are, few_sensors document entries.units read.units read.lawful)
 
+  sound : IsSoundProgram (length (sensor_names document)) (program_of running.program)
+  sound = stated_is_sound document entries.units (program_of running.program) read.units read.lawful runs.stated
+
+  -- there are few words
+  pub words_few : length running.program.starts.items ≤ 64
+  words_few = sound.few_words
+
   -- the program is sound for them
   pub program_sound : (sensors : ℕ) → sensors ≡ length entries.sensors.words.items → IsSoundProgram sensors (program_of running.program)
-  program_sound sensors is = rw (is ∙ sensors_are) runs.sound
+  program_sound sensors is = rw (is ∙ sensors_are) sound
 
   module _ (layout : Layout) (layout_is : layout ≡ layout_read entries running) where
     sensors_same : layout.sensors ≡ length entries.sensors.words.items
     sensors_same = ap (λ (l : Layout). l.sensors) layout_is
+
+    -- the code is that of the tasks, for this layout
+    pub compiled : AreCodesOf layout.sensors layout.words (program_of running.program).tasks running.code.items
+    compiled = rw (sensors_same ∙ sensors_are, ap (λ (l : Layout). l.words) layout_is) runs.codes
 
     -- the layout is one that a mission may have
     pub layout_fits : IsLayout layout
@@ -54,7 +67,7 @@ module _ (document : Members) (entries : Entries) (running : Running) (read : Is
           enough_units = units.0;
           few_units = units.1;
           few_sensors = sensors_few;
-          few_words = runs.sound.few_words;
+          few_words = sound.few_words;
         })
 
     module _ (shapes : AllShapes) (shapes_are : shapes ≡ program_shapes layout.sensors (program_of running.program)) where
@@ -93,5 +106,3 @@ module _ (document : Members) (entries : Entries) (running : Running) (read : Is
           -- its parts fit
           pub fits : PartsFit (made entries running layout tables script)
           fits = fit document (made entries running layout tables script) stated (good_tables script) good_script
-              (program_sound layout.sensors sensors_same)
-              (rw (sensors_same ∙ sensors_are, ap (λ (l : Layout). l.words) layout_is) runs.codes)

@@ -5,13 +5,13 @@ use Rattle.toml.specs.Data.{Members}
 use Rattle.sift_lang.specs.Tree.{TaskTree}
 use Rattle.sift_program.specs.Program.{ProgramTree}
 use Rattle.sift_script.specs.Script.{outputs_of}
-use Rattle.sift_unit.specs.Data.{MissionData}
-use Rattle.sift_unit.specs.Needs.{program_shapes}
+use Rattle.sift_mission.specs.Data.{MissionData}
+use Rattle.sift_mission.specs.Needs.{program_shapes}
 use Rattle.sift_scenario.proofs.UniqueForms.{one_forms, one_trees}
 use Rattle.sift_scenario.specs.Clock.{clocks_of}
 use Rattle.sift_scenario.specs.Fault.{faults_of}
 use Rattle.sift_scenario.specs.Laws.{OneMission}
-use Rattle.sift_scenario.specs.Mission.{AreSame, IsStated}
+use Rattle.sift_scenario.specs.Mission.{IsStated}
 use Rattle.sift_scenario.specs.Program.{AreTreesOf, IsProgramOf, roll_for}
 use Rattle.sift_scenario.specs.Sensor.{sensor_words}
 use Rattle.sift_scenario.specs.Table.{schedules_of}
@@ -37,7 +37,6 @@ data_from d units frames period program =
       layout = record { units = units; sensors = sensors; words = words };
       names = names_of (tasks_of d);
       program = program;
-      code = [];
       tables = schedules_of d units period;
       sensors = sensor_words d;
       clock = clocks_of units d;
@@ -49,12 +48,12 @@ data_from d units frames period program =
       };
     }
 
--- what is stated is these data, but for the code
-from_stated : (d : Members) (m : MissionData) → IsStated d m → AreSame m (data_from d m.units m.frames m.period m.program)
+-- what is stated is these data
+from_stated : (d : Members) (m : MissionData) → IsStated d m → m ≡ data_from d m.units m.frames m.period m.program
 from_stated d m stated = rw (stated.script, stated.layout, stated.sensors, stated.names, stated.clock, stated.tables) refl
 
--- so it is one, but for the code
-pub one_stated : (d : Members) (one other : MissionData) → IsStated d one → IsStated d other → AreSame one other
+-- so it is one
+pub one_stated : (d : Members) (one other : MissionData) → IsStated d one → IsStated d other → one ≡ other
 one_stated d one other a b =
     let units : Some one.units ≡ Some other.units = sym a.units ∙ b.units in
     let frames : Some one.frames ≡ Some other.frames = sym a.frames ∙ b.frames in

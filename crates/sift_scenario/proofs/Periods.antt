@@ -3,7 +3,7 @@ use Rattle.std.proofs.Common.{◌≡◌, ◌≤◌, ℕ, length, Option, Some, N
 use Rattle.std.specs.Prelude.{codes}
 use Rattle.toml.specs.Data.{Data, Members, get_member}
 use Rattle.sift_table.specs.Laws.{shortest_period}
-use Rattle.sift_unit.specs.PartsFit.{longest_period}
+use Rattle.sift_mission.specs.PartsFit.{longest_period}
 use Rattle.sift_scenario.proofs.Decided.{at_most, both, stable}
 use Rattle.sift_scenario.proofs.Numbers.{between}
 use Rattle.sift_scenario.specs.Document.{integer_between, read_by}

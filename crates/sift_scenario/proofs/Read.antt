@@ -6,8 +6,7 @@ use Rattle.toml.specs.Data.{Members}
 use Rattle.sift_compile.specs.Tasks.{AreCodesOf}
 use Rattle.sift_lang.specs.Tree.{tree_of}
 use Rattle.sift_parse.specs.Roll.{Roll}
-use Rattle.sift_scenario.proofs.Programs.{sound_program}
-use Rattle.sift_scenario.proofs.Rolls.{few_words, sized, turns}
+use Rattle.sift_scenario.proofs.Rolls.{few_words, turns}
 use Rattle.sift_scenario.proofs.Sensing.{few_sensors, sensors_differ}
 use Rattle.sift_scenario.proofs.Starts.{all_starts_from, counts_from, names_from, starts_long}
 use Rattle.sift_scenario.proofs.Themes.{kept_themes}
@@ -100,8 +99,6 @@ module _ (document : Members) (entries : Entries) (read : IsReadOf document entr
       sym (length-map entries.sensors.names.items (λ name. name.bytes)) ∙ ap length read.sensors.names in
       record {
         stated = record { starts = starts_are _ starts; forms = forms; stated = read.tasks.forms; trees = theirs; allowed = allowed };
-        sound = sound_program (sensor_names document) (tasks_of document) (sized (tasks_of document) (sensor_names document) tasks_kept.1.0) forms _
-            read.tasks.forms theirs running.program.starts.items (length_is _ starts) words_few read.tasks.few.0 read.tasks.few.1;
         codes = rw (← sensors) codes;
       }
 

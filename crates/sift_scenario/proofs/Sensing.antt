@@ -6,7 +6,7 @@ use Rattle.std.specs.List.{All}
 use Rattle.std.specs.Prelude.{codes, option_and_then, unwrap_or}
 use Rattle.toml.specs.Data.{Data, Members, get_member, no_members}
 use Rattle.sift_parse.specs.Outcome.{AreDistinct}
-use Rattle.sift_unit.specs.PartsFit.{HasWords, sensed_limit}
+use Rattle.sift_mission.specs.PartsFit.{HasWords, sensed_limit}
 use Rattle.sift_base.specs.Layout.{sensor_limit}
 use Rattle.sift_scenario.proofs.Decided.{stable}
 use Rattle.sift_scenario.proofs.DocumentLemmas.{array_entries}

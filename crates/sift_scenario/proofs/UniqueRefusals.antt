@@ -15,8 +15,9 @@ use Rattle.sift_script.specs.Rules as scripts
 use Rattle.sift_table.proofs.Refusals as table_laws
 use Rattle.sift_table.specs.Rules as tables
 use Rattle.sift_table.specs.Schedule.{Schedule}
-use Rattle.sift_unit.specs.Data.{MissionData, data_of, shapes_in}
-use Rattle.sift_unit.specs.declared.parts.MissionParts.{MissionParts}
+use Rattle.sift_mission.specs.Data.{MissionData, shapes_in}
+use Rattle.sift_mission.specs.Parts.{data_of}
+use Rattle.sift_mission.specs.declared.parts.MissionParts.{MissionParts}
 use Rattle.sift_scenario.proofs.OneMission.{one_stated}
 use Rattle.sift_scenario.proofs.UniqueForms.{one_forms, one_tree}
 use Rattle.sift_scenario.proofs.Unrefused.{first_trees, kept_unbroken, one_entry, tree_unrefused, unrefused_among}

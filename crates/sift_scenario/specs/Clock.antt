@@ -2,7 +2,7 @@
 use Rattle.std.specs.Prelude.{codes, ℕ, ◌≡◌, ◌<◌, ◌+◌, ◌*◌, ◌⊎◌, ℤ, pos, int_le, ◌-ℤ◌, ◌+ℤ◌, ◌≤ℤ◌, ◌&&◌, List, [], ◌∷◌, if◌then◌else◌, Option, Some, None, replicate, unwrap_or}
 use Rattle.std.specs.List.{All}
 use Rattle.toml.specs.Data.{Data, integer, Members, get_member}
-use Rattle.sift_unit.specs.Data.{Clocks}
+use Rattle.sift_mission.specs.Data.{Clocks}
 use Rattle.sift_scenario.specs.Document.{IsNoTableOf, array_between, integer_between, members_of, read_at, read_or}
 use Rattle.sift_scenario.specs.Rules.{OfNoEntry, Rule, joined, rule}
 

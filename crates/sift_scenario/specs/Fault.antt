@@ -4,7 +4,7 @@ use Rattle.std.specs.List.{All}
 use Rattle.toml.specs.Data.{Data, Members, get_member}
 use Rattle.sift_base.specs.Units.{unit_limit}
 use Rattle.sift_script.specs.Script.{Change, Fault, changing}
-use Rattle.sift_unit.specs.PartsFit.{frame_limit}
+use Rattle.sift_mission.specs.PartsFit.{frame_limit}
 use Rattle.sift_scenario.specs.Document.{IsArrayOf, IsTableOf, each_read, entries_of, integer_between, members_of, read_at}
 use Rattle.sift_scenario.specs.Entries.{HoldsOf}
 use Rattle.sift_scenario.specs.Item.{change_in, item_keys}

@@ -9,9 +9,10 @@ use Rattle.sift_parse.specs.Roll.{Roll}
 use Rattle.sift_scenario.specs.declared.refused.Refused.{Refused}
 use Rattle.sift_scenario.specs.declared.refused.Refused.TheVariants.{NoMemory}
 use Rattle.sift_scenario.specs.Lawful.{IsFirstBroken, IsLawful}
-use Rattle.sift_scenario.specs.Mission.{AreSame, IsMission}
+use Rattle.sift_scenario.specs.Mission.{IsMission}
 use Rattle.sift_scenario.specs.Refusal.{IsRefusedWith}
-use Rattle.sift_unit.specs.Data.{MissionData}
+use Rattle.sift_mission.specs.Data.{MissionData}
+use Rattle.sift_mission.specs.PartsFit.{PartsFit}
 
 -- a document that states a mission isn't refused, where memory is not wanting
 abbrev pub MissionsAreAccepted : Type 0
@@ -21,9 +22,13 @@ MissionsAreAccepted = (document : Members) (mission : MissionData) (refused : Re
 abbrev pub OneRefusal : Type 0
 OneRefusal = (document : Members) (one other : Refused) → one ≢ NoMemory → other ≢ NoMemory → IsRefusedWith document one → IsRefusedWith document other → one ≡ other
 
--- a document states at most one mission, whatever code is said to be that of its tasks
+-- a document states at most one mission
 abbrev pub OneMission : Type 0
-OneMission = (document : Members) (one other : MissionData) → IsMission document one → IsMission document other → AreSame one other
+OneMission = (document : Members) (one other : MissionData) → IsMission document one → IsMission document other → one ≡ other
+
+-- the parts of the mission that a document states fit
+abbrev pub StatedMissionsFit : Type 0
+StatedMissionsFit = (document : Members) (mission : MissionData) → IsMission document mission → PartsFit mission
 
 -- a document keeps all rules, or one is the first that it breaks, at a first place
 abbrev pub RulesAreKeptOrBroken : Type 0

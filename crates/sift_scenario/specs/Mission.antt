@@ -1,12 +1,12 @@
 -- The mission that a document states.
-use Rattle.std.specs.Prelude.{◌≡◌, [], Some, length, sum}
+use Rattle.std.specs.Prelude.{◌≡◌, Some, length, sum}
 use Rattle.std.specs.List.{All}
 use Rattle.toml.specs.Data.{Members}
 use Rattle.sift_base.specs.declared.layout.Layout.{Layout}
 use Rattle.sift_script.specs.Rules as scripts
 use Rattle.sift_script.specs.Script.{FaultScript, outputs_of}
 use Rattle.sift_table.specs.Rules as tables
-use Rattle.sift_unit.specs.Data.{MissionData, shapes_in}
+use Rattle.sift_mission.specs.Data.{MissionData, shapes_in}
 use Rattle.sift_scenario.specs.Clock.{clocks_of}
 use Rattle.sift_scenario.specs.Fault.{faults_of}
 use Rattle.sift_scenario.specs.Lawful.{IsLawful}
@@ -29,8 +29,7 @@ script_in document mission = record {
   frames = mission.frames;
 }
 
--- the document keeps all rules, its texts are tasks, and this is the data that it states. The code of the tasks is no part of what it
--- says: that comes of the program.
+-- the document keeps all rules, its texts are tasks, and this is the data that it states
 pub record IsStated (document : Members) (mission : MissionData) : Type 0 where
   pub lawful : IsLawful document
   pub units : units_of document ≡ Some mission.units
@@ -53,7 +52,3 @@ pub record IsMission (document : Members) (mission : MissionData) : Type 0 where
   pub stated : IsStated document mission
   pub good_tables : HasGoodTables mission
   pub good_script : scripts.IsGood mission.script
-
--- the two missions are the same, but for the code of the tasks
-abbrev pub AreSame : MissionData → MissionData → Type 0
-AreSame one other = record one { code = [] } ≡ record other { code = [] }

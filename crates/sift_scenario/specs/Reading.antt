@@ -3,10 +3,9 @@ use Rattle.std.specs.Prelude.{◌≡◌, ◌⊎◌, List, [], Some, None, length
 use Rattle.toml.specs.Data.{Members}
 use Rattle.sift_compile.specs.Tasks.{AreCodesOf}
 use Rattle.sift_program.specs.Program.{program_of}
-use Rattle.sift_program.specs.Sound.{IsSoundProgram}
 use Rattle.sift_script.specs.Script.{faults_of}
 use Rattle.sift_table.specs.Schedule.{schedule_of}
-use Rattle.sift_unit.specs.Data as unit
+use Rattle.sift_mission.specs.Parts as unit
 use Rattle.sift_scenario.specs.declared.document.Entries.{Entries}
 use Rattle.sift_scenario.specs.declared.program.Running.{Running}
 use Rattle.sift_scenario.specs.declared.sensor.Sensors.{Sensors}
@@ -66,8 +65,7 @@ pub record IsReadOf (document : Members) (entries : Entries) : Type 0 where
   pub tables : map schedule_of entries.tables.items ≡ schedules_of document entries.units entries.period
   pub faults : faults_of entries.script ≡ fault.faults_of document
 
--- this is the program of the document's tasks; it is sound, and this is its code
+-- this is the program of the document's tasks, and this is its code
 pub record IsRunningOf (document : Members) (running : Running) : Type 0 where
   pub stated : IsProgramOf (sensor_names document) (tasks_of document) (program_of running.program)
-  pub sound : IsSoundProgram (length (sensor_names document)) (program_of running.program)
   pub codes : AreCodesOf (length (sensor_names document)) (length running.program.starts.items) (program_of running.program).tasks running.code.items

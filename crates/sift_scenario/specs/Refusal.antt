@@ -12,7 +12,7 @@ use Rattle.sift_parse.specs.Roll.{Roll}
 use Rattle.sift_script.specs.Rules as scripts
 use Rattle.sift_table.specs.Rules as tables
 use Rattle.sift_table.specs.Schedule.{Schedule}
-use Rattle.sift_unit.specs.Data.{MissionData, shapes_in}
+use Rattle.sift_mission.specs.Data.{MissionData, shapes_in}
 use Rattle.sift_scenario.specs.declared.refused.Refused.{Refused}
 use Rattle.sift_scenario.specs.declared.refused.Refused.TheVariants.{Scenario, Task, Table, Script, NoMemory}
 use Rattle.sift_scenario.specs.Entries.{EachMatches, HoldsOf}

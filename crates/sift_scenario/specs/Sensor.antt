@@ -2,7 +2,7 @@
 use Rattle.std.specs.Prelude.{codes, ℕ, ◌≡◌, List, [], ◌∷◌, map, Option, None, unwrap_or}
 use Rattle.toml.specs.Data.{Data, Members, get_member}
 use Rattle.sift_base.specs.Layout.{sensor_limit}
-use Rattle.sift_unit.specs.PartsFit.{sensed_limit}
+use Rattle.sift_mission.specs.PartsFit.{sensed_limit}
 use Rattle.sift_scenario.specs.Document.{IsTableOf, entries_of, members_of, read_at, word_array}
 use Rattle.sift_scenario.specs.Entries.{HoldsOf}
 use Rattle.sift_scenario.specs.Rules.{BreaksEntries, Rule, rule}

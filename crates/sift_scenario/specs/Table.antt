@@ -5,7 +5,7 @@ use Rattle.toml.specs.Data.{Data, Members, get_member}
 use Rattle.sift_base.specs.Layout.{least_units}
 use Rattle.sift_base.specs.Units.{unit_limit}
 use Rattle.sift_table.specs.Schedule.{Schedule, plain_of}
-use Rattle.sift_unit.specs.PartsFit.{longest_period}
+use Rattle.sift_mission.specs.PartsFit.{longest_period}
 use Rattle.sift_scenario.specs.Document.{IsTableOf, array_of, digits_of, entries_of, integer_between, members_of, read_at}
 use Rattle.sift_scenario.specs.Entries.{HoldsOf}
 use Rattle.sift_scenario.specs.Rules.{BreaksEntries, Rule, rule}

@@ -3,7 +3,8 @@
 ghost use Rattle.std.specs.Prelude.{◌≡◌, ◌≢◌, IfErr, IfOk};
 ghost use Rattle.toml.specs.Data.{Members};
 ghost use Rattle.toml.specs.View.{table_view};
-ghost use Rattle.sift_unit.specs.Data.{MissionData, data_of};
+ghost use Rattle.sift_mission.specs.Data.{MissionData};
+ghost use Rattle.sift_mission.specs.Parts.{data_of};
 ghost use Rattle.sift_scenario.specs.Mission.{IsMission};
 ghost use Rattle.sift_scenario.specs.Reading.{IsReadOf, IsRunningOf};
 ghost use Rattle.sift_scenario.specs.Refusal.{IsRefusedWith, OnlyRefuses};
@@ -14,7 +15,7 @@ use crate::program::{Running, run_entries};
 use crate::refused::Refused;
 use crate::shapes::shapes_of;
 use sift_base::Layout;
-use sift_unit::{Mission, MissionParts};
+use sift_mission::{Mission, MissionParts};
 use std::alloc::Global;
 use toml::Table;
 

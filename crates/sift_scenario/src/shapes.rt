@@ -6,7 +6,7 @@ ghost use Rattle.sift_base.specs.Shapes.{shapes_of};
 ghost use Rattle.sift_lang.specs.Tree.{block_of, statement_of, term_of, tree_of};
 ghost use Rattle.sift_program.specs.Program.{program_of};
 ghost use Rattle.sift_program.specs.Sound.{IsSoundProgram, output_count};
-ghost use Rattle.sift_unit.specs.Needs.{block_reads, program_shapes, reads_task, reads_word, statement_reads, task_at, term_reads};
+ghost use Rattle.sift_mission.specs.Needs.{block_reads, program_shapes, reads_task, reads_word, statement_reads, task_at, term_reads};
 
 use sift_base::{NoMemory, Shapes, TaskShape};
 use sift_lang::{Expr, Stmt, Task};

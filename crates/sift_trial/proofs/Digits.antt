@@ -14,7 +14,7 @@ use Rattle.sift_base.specs.Units.{has, others}
 use Rattle.sift_gen.specs.Scenario.{other_digits}
 use Rattle.sift_scenario.specs.Document.{digit_of, digits_of, each_read}
 use Rattle.sift_script.specs.Rules.{AreReceivers}
-use Rattle.sift_unit.proofs.Numbers.{range-ascends}
+use Rattle.sift_mission.proofs.Numbers.{range-ascends}
 
 -- ---- digits
 

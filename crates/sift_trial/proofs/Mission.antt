@@ -29,8 +29,8 @@ use Rattle.sift_script.specs.Script.{Fault, outputs_of}
 use Rattle.sift_table.specs.Laws.{PlainTablesAreGood}
 use Rattle.sift_table.specs.Rules as tables
 use Rattle.sift_table.specs.Schedule.{plain_of}
-use Rattle.sift_unit.specs.Data.{MissionData, shapes_in}
-use Rattle.sift_unit.specs.Needs.{program_shapes}
+use Rattle.sift_mission.specs.Data.{MissionData, shapes_in}
+use Rattle.sift_mission.specs.Needs.{program_shapes}
 use Rattle.sift_trial.proofs.Faults.{fault_stated, faults_kept}
 use Rattle.sift_trial.proofs.Program.{drawn_trees, trees_allowed, trees_are, trees_long, trees_of_one_word}
 use Rattle.sift_trial.proofs.Root.{frames_are, root_kept, units_are}
@@ -164,7 +164,6 @@ module _
         layout = layout;
         names = names_of (tasks_of d);
         program = program;
-        code = [];
         tables = schedules_of d units period;
         sensors = sensor_words d;
         clock = clocks_of units d;

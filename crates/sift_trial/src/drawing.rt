@@ -3,13 +3,13 @@
 ghost use Rattle.std.specs.Prelude.{◌≡◌, IfOk};
 ghost use Rattle.sift_gen.specs.Scenario.{tree_of};
 ghost use Rattle.sift_scenario.specs.Mission.{IsMission};
-ghost use Rattle.sift_unit.specs.Data.{data_of};
+ghost use Rattle.sift_mission.specs.Parts.{data_of};
 
 use crate::law::drawn_trees_are_missions;
 use sift_base::NoMemory;
 use sift_gen::scenario_tree;
 use sift_scenario::{Refused, mission_of};
-use sift_unit::Mission;
+use sift_mission::Mission;
 use std::alloc::Global;
 
 /// The mission of the scenario with this number.

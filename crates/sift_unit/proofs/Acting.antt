@@ -4,10 +4,10 @@ use Rattle.sift_base.specs.Units.{unit_limit}
 use Rattle.sift_base.specs.declared.slot.Slot.{Slot}
 use Rattle.sift_buffer.specs.Conduct.{Saying, Hearing, saying, hearing, with_said, with_heard}
 use Rattle.sift_buffer.specs.Conduct.{Conduct as Acts}
-use Rattle.sift_unit.specs.Mission.{Mission}
-use Rattle.sift_unit.specs.Slots.{is_slot, calls, stamp_of, heard_at}
-use Rattle.sift_unit.specs.Acts.{IsConfigOf, stamp_and_moment}
-use Rattle.sift_unit.specs.Fits.{Fits}
+use Rattle.sift_mission.specs.Mission.{FlownMission, IsConfigOf}
+use Rattle.sift_mission.specs.Slots.{is_slot, calls, stamp_of, heard_at}
+use Rattle.sift_conduct.specs.Acts.{stamp_and_moment}
+use Rattle.sift_mission.specs.Fits.{Fits}
 use Rattle.sift_unit.specs.Desk.{hear_spot, say_spot, is_past}
 use Rattle.sift_unit.specs.Going.{Accounts, Words, word_in_frame, said_by, heard_by, ActsTo}
 use Rattle.sift_unit.proofs.Tests.{choice_same, choice_none}
@@ -15,7 +15,7 @@ use Rattle.sift_unit.proofs.Calls.{call_of}
 use Rattle.sift_unit.proofs.Past.{past_same, past_next, past_here, not_past_here, put_cases, spot_same}
 
 -- the numbers of a call are in range
-pub record Small (m : Mission) (k : Slot) (p q : ℕ) : Type 0 where
+pub record Small (m : FlownMission) (k : Slot) (p q : ℕ) : Type 0 where
   pub few : m.slots ≤ 90
   pub slot : is_slot m k ≡ true
   pub number : m.number k < m.slots
@@ -25,14 +25,14 @@ pub record Small (m : Mission) (k : Slot) (p q : ℕ) : Type 0 where
   pub other : p ≢ q
 
 -- those of each call are
-pub small_of : (m : Mission) (us : List ℕ) (k : Slot) (p q : ℕ) → Fits m → IsConfigOf m us → calls m us k p q ≡ true → Small m k p q
+pub small_of : (m : FlownMission) (us : List ℕ) (k : Slot) (p q : ℕ) → Fits m → IsConfigOf m us → calls m us k p q ≡ true → Small m k p q
 small_of m us k p q fit config call =
     let c = call_of m us k p q call in
     let n = fit.numbered in
     let low = fit.counted.units in
     record { few = n.few; slot = c.slot; number = n.low k c.slot; kind = n.back k c.slot; from = low p (config.inside p c.from); to = low q (config.inside q c.to); other = c.other }
 
-module _ (m : Mission) (fit : Fits m) (u : ℕ) (a : Accounts) (h : Words) (frame : ℕ) (us : List ℕ) (config : IsConfigOf m us) (mine : (a frame).cfg ≡ us) where
+module _ (m : FlownMission) (fit : Fits m) (u : ℕ) (a : Accounts) (h : Words) (frame : ℕ) (us : List ℕ) (config : IsConfigOf m us) (mine : (a frame).cfg ≡ us) where
   cfg_at : (f : ℕ) → f ≡ frame → (a f).cfg ≡ us
   cfg_at f e = ap (λ z. (a z).cfg) e ∙ mine
 

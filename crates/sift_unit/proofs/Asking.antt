@@ -7,9 +7,9 @@ use Rattle.sift_buffer.specs.Conduct.{saying}
 use Rattle.sift_buffer.specs.Conduct.{Conduct as Acts}
 use Rattle.sift_buffer.specs.Ranges.{Ranges}
 use Rattle.sift_buffer.specs.Conditions.{MaySay, MayHear}
-use Rattle.sift_unit.specs.Mission.{Mission}
-use Rattle.sift_unit.specs.Slots.{stamp_of}
-use Rattle.sift_unit.specs.Fits.{Fits}
+use Rattle.sift_mission.specs.Mission.{FlownMission}
+use Rattle.sift_mission.specs.Slots.{stamp_of}
+use Rattle.sift_mission.specs.Fits.{Fits}
 use Rattle.sift_unit.specs.Desk.{Desk}
 use Rattle.sift_unit.specs.Going.{Going}
 use Rattle.sift_unit.specs.Boards.{IsPortOf}
@@ -20,7 +20,7 @@ use Rattle.sift_unit.proofs.Hearing.{AtHearing, hear_none}
 use Rattle.sift_unit.proofs.Saying.{AtSaying, say_none}
 use Rattle.sift_unit.proofs.Exporting.{stamps}
 
-module _ (m : Mission) (fit : Fits m) (r : Ranges) (of : IsPortOf m r) (b : Desk) (c : Acts) (g : Going m b c) (flies : b.frame < m.frames) where
+module _ (m : FlownMission) (fit : Fits m) (r : Ranges) (of : IsPortOf m r) (b : Desk) (c : Acts) (g : Going m b c) (flies : b.frame < m.frames) where
   -- it may hear where it stands
   pub may_hear : AtHearing m fit b → MayHear r c b.unit b.other b.slot b.frame (stamp_of m b.cfg b.frame (m.kind b.slot))
   may_hear at =

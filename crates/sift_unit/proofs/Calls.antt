@@ -8,14 +8,13 @@ use Rattle.sift_base.proofs.Counts.{has-head, has-tail}
 use Rattle.sift_base.proofs.Sets.{passing_ascend}
 use Rattle.sift_config.specs.Config.{reader_of}
 use Rattle.sift_exec.specs.Conviction.{is_convicted, kept_by, next_by}
-use Rattle.sift_unit.specs.Mission.{Mission}
-use Rattle.sift_unit.specs.Slots.{is_slot, calls, is_senders}
-use Rattle.sift_unit.specs.Acts.{IsConfigOf}
+use Rattle.sift_mission.specs.Mission.{FlownMission, IsConfigOf}
+use Rattle.sift_mission.specs.Slots.{is_slot, calls, is_senders}
 use Rattle.sift_unit.proofs.Tests.{both}
 use Rattle.sift_unit.proofs.Sets.{filter_has}
 
 -- what a call tells, part by part
-pub record Call (m : Mission) (us : List ℕ) (k : Slot) (p q : ℕ) : Type 0 where
+pub record Call (m : FlownMission) (us : List ℕ) (k : Slot) (p q : ℕ) : Type 0 where
   pub slot : is_slot m k ≡ true
   pub from : has us p ≡ true
   pub to : has us q ≡ true
@@ -23,7 +22,7 @@ pub record Call (m : Mission) (us : List ℕ) (k : Slot) (p q : ℕ) : Type 0 wh
   pub sender : is_senders m us k p q ≡ true
 
 -- a call has these parts
-pub call_of : (m : Mission) (us : List ℕ) (k : Slot) (p q : ℕ) → calls m us k p q ≡ true → Call m us k p q
+pub call_of : (m : FlownMission) (us : List ℕ) (k : Slot) (p q : ℕ) → calls m us k p q ≡ true → Call m us k p q
 call_of m us k p q t =
     let s = and_parts (is_slot m k) (has us p && (has us q && (not (nat_eq p q) && is_senders m us k p q))) t in
     let a = and_parts (has us p) (has us q && (not (nat_eq p q) && is_senders m us k p q)) s.1 in
@@ -32,23 +31,13 @@ call_of m us k p q t =
     record { slot = s.0; from = a.0; to = b.0; other = λ e. let w = rw (eq-eqb p q e) at c.0 in let z : ⊥ = cc in z; sender = c.1 }
 
 -- and they make a call
-pub call_is : (m : Mission) (us : List ℕ) (k : Slot) (p q : ℕ) → Call m us k p q → calls m us k p q ≡ true
+pub call_is : (m : FlownMission) (us : List ℕ) (k : Slot) (p q : ℕ) → Call m us k p q → calls m us k p q ≡ true
 call_is m us k p q c = both _ _ c.slot (both _ _ c.from (both _ _ c.to (both _ _ (ap not (ne_eqb p q c.other)) c.sender)))
 
 -- ---- configurations
 
--- a list has what stands at its places
-has-at : (us : List ℕ) (i : ℕ) → i < length us → has us (slice_index us i) ≡ true
-has-at [] i low = absurd (omega arith)
-has-at (u ∷ us) zero low = has-head u us
-has-at (u ∷ us) (suc i) low = has-tail u us (slice_index us i) (has-at us i (omega arith))
-
--- a sensor's reader is a unit of the configuration
-pub has-reader : (m : Mission) (us : List ℕ) (x : ℕ) → IsConfigOf m us → has us (reader_of us x) ≡ true
-has-reader m us x config = let long = config.enough in has-at us (x % length us) (omega arith)
-
 -- the next configuration is one
-pub next_is_config : (m : Mission) (names : ℕ → ℕ → Bool) (us : List ℕ) → IsConfigOf m us → IsConfigOf m (next_by names us)
+pub next_is_config : (m : FlownMission) (names : ℕ → ℕ → Bool) (us : List ℕ) → IsConfigOf m us → IsConfigOf m (next_by names us)
 next_is_config m names us config = elim (cases_Bool (nat_le 4 (length (kept_by names us)))) [
   | inl t ↦ rw t (record {
     enough = leb-true 4 (length (kept_by names us)) t;

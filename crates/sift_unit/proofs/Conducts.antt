@@ -6,19 +6,18 @@ use Rattle.sift_base.specs.Units.{has, has_bit, holds}
 use Rattle.sift_base.specs.declared.slot.Slot.{Slot}
 use Rattle.sift_base.specs.declared.slot.Slot.TheVariants.{Clock, RelaySense, Out, RelayReport}
 use Rattle.sift_clock.specs.Correction.{next_offset}
-use Rattle.sift_unit.specs.Mission.{Mission}
-use Rattle.sift_unit.specs.Slots.{is_slot}
-use Rattle.sift_unit.specs.Account.{Account, Places}
-use Rattle.sift_unit.specs.Conduct.{Conduct, report_in, report_of, reading_by}
-use Rattle.sift_unit.specs.Frames.{BusyConduct, IdleConduct}
-use Rattle.sift_unit.specs.Acts.{IsConfigOf}
+use Rattle.sift_mission.specs.Mission.{FlownMission, IsConfigOf}
+use Rattle.sift_mission.specs.Slots.{is_slot}
+use Rattle.sift_conduct.specs.Account.{Account, Places}
+use Rattle.sift_conduct.specs.Conduct.{Conduct, report_in, report_of, reading_by}
+use Rattle.sift_conduct.specs.Frames.{BusyConduct, IdleConduct}
 use Rattle.sift_unit.specs.Memory.{Memory}
 use Rattle.sift_unit.specs.Tidings.{busy_account, idle_account, names_now}
 use Rattle.sift_unit.specs.Remembered.{Heard, IsShaped}
 use Rattle.sift_unit.proofs.Tests.{apart, and_in, any-same, any-and}
 use Rattle.sift_unit.proofs.Sets.{holds-gathered, next-same}
 
-module _ (m : Mission) (us : List ℕ) (u f : ℕ) (clk : ℤ) (a : Account) (h : Places) (last : List ℕ) (config : IsConfigOf m us) where
+module _ (m : FlownMission) (us : List ℕ) (u f : ℕ) (clk : ℤ) (a : Account) (h : Places) (last : List ℕ) (config : IsConfigOf m us) where
   -- the conduct of the frame
   conducts : (b : Memory) → IsShaped m b → a ≡ busy_account m us u clk b →
       ((k : Slot) → is_slot m k ≡ true → Heard m us u f clk a h last b k) → Conduct m us u f a h last

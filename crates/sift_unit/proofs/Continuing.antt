@@ -5,9 +5,9 @@ use Rattle.sift_skew.specs.Leading.{OffsetsChangeLittle}
 use Rattle.sift_buffer.specs.Conduct.{with_entered}
 use Rattle.sift_buffer.specs.Conduct.{Conduct as Acts}
 use Rattle.sift_buffer.specs.Views.{View, view_with_said, view_with_heard, EntersAfterRound}
-use Rattle.sift_unit.specs.Mission.{Mission}
-use Rattle.sift_unit.specs.Account.{Account}
-use Rattle.sift_unit.specs.Fits.{Fits}
+use Rattle.sift_mission.specs.Mission.{FlownMission}
+use Rattle.sift_conduct.specs.Account.{Account}
+use Rattle.sift_mission.specs.Fits.{Fits}
 use Rattle.sift_unit.specs.Desk.{Desk, is_end, account_now, moved}
 use Rattle.sift_unit.specs.Going.{InRange, Going}
 use Rattle.sift_unit.specs.Passing.{Passes, distance, left}
@@ -20,7 +20,7 @@ use Rattle.sift_unit.proofs.Ending.{frame_going}
 use Rattle.sift_unit.proofs.Found.{AtFrameEnd}
 use Rattle.sift_unit.proofs.Standing.{next_mul, frame_low}
 
-module _ (m : Mission) (fit : Fits m) (b : Desk) (end : is_end m b ≡ true) where
+module _ (m : FlownMission) (fit : Fits m) (b : Desk) (end : is_end m b ≡ true) where
   -- to the next subframe
   pub subframe_on : b.subframe + 1 < m.period → (c : Acts) → Going m b c → Going m (moved b (b.subframe + 1) 0 0 0 b.places) (with_entered c)
   subframe_on low c g = let t = end_is m b end in subframe_going m fit b c g t.1 t.0 low
@@ -64,7 +64,7 @@ module _ (m : Mission) (fit : Fits m) (b : Desk) (end : is_end m b ≡ true) whe
 
 -- ---- a step from a place before
 
-module _ (m : Mission) (b b1 b' : Desk) (v v' : View) (p : Passes m b b1) (near : left b1 ≤ left b) where
+module _ (m : FlownMission) (b b1 b' : Desk) (v v' : View) (p : Passes m b b1) (near : left b1 ≤ left b) where
   -- it is no farther from the flight's end
   no_farther : distance m b1 ≤ distance m b
   no_farther = let f = p.frame in let s = p.subframe in let same : b1.frame * m.period ≡ b.frame * m.period = ap (λ n. n * m.period) f in omega arith

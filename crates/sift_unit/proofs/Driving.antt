@@ -5,8 +5,8 @@ use Rattle.std.specs.Vec.{vec_capacity}
 use Rattle.sift_buffer.specs.Conduct.{Conduct as Acts}
 use Rattle.sift_buffer.specs.Conditions.{MaySay, MayHear}
 use Rattle.sift_buffer.specs.Views.{View, view_with_said, view_with_heard, KeepsOwn, EntersAfterRound}
-use Rattle.sift_unit.specs.Mission.{Mission}
-use Rattle.sift_unit.specs.Fits.{Fits}
+use Rattle.sift_mission.specs.Mission.{FlownMission}
+use Rattle.sift_mission.specs.Fits.{Fits}
 use Rattle.sift_unit.specs.Tidings.{word_to}
 use Rattle.sift_unit.specs.Desk.{Desk, is_hearing, is_saying}
 use Rattle.sift_unit.specs.Going.{Going}
@@ -19,7 +19,7 @@ use Rattle.sift_unit.proofs.Saying.{saying_is, say_going}
 use Rattle.sift_unit.proofs.Asking.{may_hear, may_say}
 
 -- what a unit has seen is nothing that its board knows of
-pub seen_going : (m : Mission) (b : Desk) (c : Acts) (s : ℕ → ℕ) → Going m b c → Going m b (record c { seen = s })
+pub seen_going : (m : FlownMission) (b : Desk) (c : Acts) (s : ℕ → ℕ) → Going m b c → Going m b (record c { seen = s })
 seen_going m b c s g = record {
   range = g.range;
   progress = g.progress;
@@ -37,7 +37,7 @@ seen_going m b c s g = record {
 }
 
 -- a round of looks leaves a board what it was
-pub looks_drive : (m : Mission) (b : TheBoard) (v v' : View) → Drives m b v → KeepsOwn v v' → Drives m b v'
+pub looks_drive : (m : FlownMission) (b : TheBoard) (v v' : View) → Drives m b v → KeepsOwn v v' → Drives m b v'
 looks_drive m b v v' d own = record {
   fits = d.fits;
   unit = own.unit ∙ d.unit;
@@ -48,7 +48,7 @@ looks_drive m b v v' d own = record {
 }
 
 -- a board that goes on after a round of looks has entered the next subframe
-pub enter_drives : (m : Mission) (b b' : TheBoard) (v v' : View) → Drives m b v → GoesOn m b b' → EntersAfterRound v v' → Drives m b' v'
+pub enter_drives : (m : FlownMission) (b b' : TheBoard) (v v' : View) → Drives m b v → GoesOn m b b' → EntersAfterRound v v' → Drives m b' v'
 enter_drives m b b' v v' d on e =
     let d1 = looks_drive m b v e.before d e.round.own in
     subst (λ z. Drives m b' z) (sym e.after) (record {
@@ -60,7 +60,7 @@ enter_drives m b b' v v' d on e =
       going = on.going e.before.conduct d1.going;
     })
 
-module _ (m : Mission) (fit : Fits m) (b : TheBoard) (v : View) (d : Drives m b v) (low : b.frame < m.frames) where
+module _ (m : FlownMission) (fit : Fits m) (b : TheBoard) (v : View) (d : Drives m b v) (low : b.frame < m.frames) where
   -- the stamp of the slot at which the board stands
   abbrev pub stamp_here : ℕ
   stamp_here = b.frame * m.period + m.due b.cfg (m.kind b.slot) + 1
@@ -119,7 +119,7 @@ module _ (m : Mission) (fit : Fits m) (b : TheBoard) (v : View) (d : Drives m b 
       record { call = said b.slot q s w ev refl refl; unfinished = low; nearer = omega arith }
 
 -- a board that has passed places drives on
-pub pass_drives : (m : Mission) (b b' : TheBoard) (v : View) → Drives m b v → Passes m (desk_of b) (desk_of b') → b'.accounts ≡ b.accounts → Drives m b' v
+pub pass_drives : (m : FlownMission) (b b' : TheBoard) (v : View) → Drives m b v → Passes m (desk_of b) (desk_of b') → b'.accounts ≡ b.accounts → Drives m b' v
 pass_drives m b b' v d p same = record {
   fits = d.fits;
   unit = d.unit ∙ sym p.unit;

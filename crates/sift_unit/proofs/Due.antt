@@ -1,12 +1,12 @@
 -- Between two slots of which nothing is due in a subframe there is no stop.
 use Rattle.std.proofs.Common.{◌≡◌, ◌≢◌, ℕ, ◌<◌, ◌≤◌, List, ap, ◌∙◌, arith}
-use Rattle.sift_unit.specs.Mission.{Mission}
-use Rattle.sift_unit.specs.Fits.{Fits}
+use Rattle.sift_mission.specs.Mission.{FlownMission}
+use Rattle.sift_mission.specs.Fits.{Fits}
 use Rattle.sift_unit.specs.Desk.{spot}
 use Rattle.sift_unit.specs.Stops.{IsNothingBetween, hearing, running, saying}
 use Rattle.sift_unit.proofs.Moving.{few_tasks}
 
-module _ (m : Mission) (fit : Fits m) (us : List ℕ) (subframe from to : ℕ) (most : to ≤ m.slots) where
+module _ (m : FlownMission) (fit : Fits m) (us : List ℕ) (subframe from to : ℕ) (most : to ≤ m.slots) where
   -- where none of the slots is heard
   pub none_heard : ((i : ℕ) → from ≤ i → i < to → m.heard_in us (m.kind i) ≢ subframe) → IsNothingBetween m us (spot subframe 0 from 0) (spot subframe 0 to 0)
   none_heard passed place (hearing k slot at) low high =

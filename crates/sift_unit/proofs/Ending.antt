@@ -8,12 +8,11 @@ use Rattle.sift_base.specs.Units.{has}
 use Rattle.sift_skew.specs.Leading.{OffsetsChangeLittle}
 use Rattle.sift_buffer.specs.Conduct.{with_entered}
 use Rattle.sift_buffer.specs.Conduct.{Conduct as Acts}
-use Rattle.sift_unit.specs.Mission.{Mission}
-use Rattle.sift_unit.specs.Account.{Account}
-use Rattle.sift_unit.specs.Frames.{last_of, BusyConduct}
-use Rattle.sift_unit.specs.Acts.{IsConfigOf}
+use Rattle.sift_mission.specs.Mission.{FlownMission, IsConfigOf}
+use Rattle.sift_conduct.specs.Account.{Account}
+use Rattle.sift_conduct.specs.Frames.{last_of, BusyConduct}
 use Rattle.sift_unit.specs.Reach.{IsNearIn}
-use Rattle.sift_unit.specs.Fits.{Fits}
+use Rattle.sift_mission.specs.Fits.{Fits}
 use Rattle.sift_unit.specs.Memory.{Memory}
 use Rattle.sift_unit.specs.Remembered.{IsShaped}
 use Rattle.sift_unit.specs.Desk.{Desk, cursor, account_now, ended_desk}
@@ -23,7 +22,7 @@ use Rattle.sift_unit.proofs.Conducts.{busy_is, idle_is}
 use Rattle.sift_unit.proofs.Acting.{small_of, acts_next}
 use Rattle.sift_unit.proofs.Standing.{agrees_own, now_in, now_out, now_cfg, now_clk, next_mul, begins_next, last_next, pushed_at}
 
-module _ (m : Mission) (fit : Fits m) where
+module _ (m : FlownMission) (fit : Fits m) where
   module _ (b : Desk) (memory : Memory) (accounts : List Account) (shape : IsShaped m memory) (pushed : accounts ≡ b.accounts ++ account_now m b ∷ []) where
     -- the frame's account is the last
     there : InRange m b → (d : Account) → slice_index_or accounts b.frame d ≡ account_now m b

@@ -5,11 +5,11 @@ use Rattle.std.proofs.lemmas.Bool.{cases_Bool, cases_lt}
 use Rattle.sift_base.specs.declared.slot.Slot.{Slot}
 use Rattle.sift_buffer.specs.Conduct.{Saying, Hearing, saying}
 use Rattle.sift_buffer.specs.Conduct.{Conduct as Acts}
-use Rattle.sift_unit.specs.Mission.{Mission}
-use Rattle.sift_unit.specs.Slots.{is_slot, calls, stamp_of, heard_at}
-use Rattle.sift_unit.specs.Frames.{FrameConduct, Flies}
-use Rattle.sift_unit.specs.Acts.{word_in_saying, word_in_hearing, said_places, heard_places, StampsAreOfTheirFrames, Turns, stamp_and_moment, ActsAre, BoardKeeps}
-use Rattle.sift_unit.specs.Fits.{Fits}
+use Rattle.sift_mission.specs.Mission.{FlownMission}
+use Rattle.sift_mission.specs.Slots.{is_slot, calls, stamp_of, heard_at}
+use Rattle.sift_conduct.specs.Frames.{FrameConduct, Flies}
+use Rattle.sift_conduct.specs.Acts.{word_in_saying, word_in_hearing, said_places, heard_places, StampsAreOfTheirFrames, Turns, stamp_and_moment, ActsAre, BoardKeeps}
+use Rattle.sift_mission.specs.Fits.{Fits}
 use Rattle.sift_unit.specs.Desk.{Desk, cursor, hear_spot, say_spot, is_past, accounts_of}
 use Rattle.sift_unit.specs.Going.{word_in_frame, Meets, Going}
 use Rattle.sift_unit.proofs.Tests.{some_none, choice_past, choice_none, not_both}
@@ -48,7 +48,7 @@ no_stamp (Some x) e = absurd (some_none e)
 some_same : {A : Type 0} {x y : A} → Some x ≡ Some y → x ≡ y
 some_same e = cc
 
-module _ (m : Mission) (fit : Fits m) (b : Desk) (c : Acts) (g : Going m b c) where
+module _ (m : FlownMission) (fit : Fits m) (b : Desk) (c : Acts) (g : Going m b c) where
   -- the accounts and words as they stand meet the equations
   meets : Meets m b c (accounts_of m b) (heard_places m c)
   meets = g.meets (accounts_of m b) (heard_places m c) (stands m b c g.range)

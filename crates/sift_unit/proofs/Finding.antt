@@ -4,9 +4,9 @@ use Rattle.std.proofs.lemmas.Bool.{cases_Bool}
 use mathlib.Core.Logic.{dite}
 use native.Mathlib.Decide.{ℕ_discrete}
 use Rattle.sift_base.specs.Units.{unit_limit}
-use Rattle.sift_unit.specs.Mission.{Mission}
-use Rattle.sift_unit.specs.Slots.{calls, IsFirstFrom}
-use Rattle.sift_unit.specs.Fits.{Fits}
+use Rattle.sift_mission.specs.Mission.{FlownMission}
+use Rattle.sift_mission.specs.Slots.{calls, IsFirstFrom}
+use Rattle.sift_mission.specs.Fits.{Fits}
 use Rattle.sift_unit.specs.Desk.{Desk, is_hearing, is_saying, is_call, moved}
 use Rattle.sift_unit.specs.Going.{InRange}
 use Rattle.sift_unit.specs.Passing.{Passes, Finds, left}
@@ -21,7 +21,7 @@ fails true never = absurd (never refl)
 fails false never = refl
 
 -- there is no call where there is neither a hearing nor a saying
-no_call : (m : Mission) (b : Desk) → (is_hearing m b ≡ true → ⊥) → (is_saying m b ≡ true → ⊥) → is_call m b ≡ false
+no_call : (m : FlownMission) (b : Desk) → (is_hearing m b ≡ true → ⊥) → (is_saying m b ≡ true → ⊥) → is_call m b ≡ false
 no_call m b h s = rw (fails (is_hearing m b) h, fails (is_saying m b) s) refl
 
 -- of two tests the second passes
@@ -29,7 +29,7 @@ second_passes : (t : Bool) → (t || true) ≡ true
 second_passes true = refl
 second_passes false = refl
 
-module _ (m : Mission) (fit : Fits m) (b : Desk) (r : InRange m b) where
+module _ (m : FlownMission) (fit : Fits m) (b : Desk) (r : InRange m b) where
   -- a board that stays where it is
   stays : Passes m b b
   stays = record { range = r; going = λ c g. g; unit = refl; frame = refl; subframe = refl }

@@ -4,11 +4,11 @@ use Rattle.std.specs.Prelude.{slice_index_or}
 use Rattle.std.proofs.lemmas.List.{length-map}
 use Rattle.sift_unit.specs.Desk.{Desk}
 use Rattle.sift_unit.specs.Going.{Going}
-use Rattle.sift_unit.specs.Account.{Account}
+use Rattle.sift_conduct.specs.Account.{Account, account_of}
 use Rattle.sift_unit.specs.Reach.{IsNearIn}
-use Rattle.sift_unit.specs.Boards.{desk_of, account_of, account_at, memory_of, NewBoardLaw, DriveLaw, AccountLaw}
-use Rattle.sift_unit.specs.declared.account.Account.{Account as TheAccount}
-use Rattle.sift_unit.proofs.ByWords.{get_or-map}
+use Rattle.sift_unit.specs.Boards.{desk_of, account_at, memory_of, NewBoardLaw, DriveLaw, AccountLaw}
+use Rattle.sift_conduct.specs.declared.account.Account.{Account as TheAccount}
+use Rattle.sift_mission.proofs.ByWords.{get_or-map}
 use Rattle.sift_unit.proofs.Nearness.{near_enough}
 use Rattle.sift_unit.proofs.Standing.{stands}
 use Rattle.sift_unit.proofs.Tests.{some_none}

@@ -6,13 +6,13 @@ use Rattle.sift_base.specs.declared.slot.Slot.{Slot}
 use Rattle.sift_base.specs.declared.slot.Slot.TheVariants.{Clock}
 use Rattle.sift_skew.specs.Leading.{OffsetsChangeLittle}
 use Rattle.sift_buffer.specs.Conduct.{Conduct as Acts}
-use Rattle.sift_unit.specs.Mission.{Mission}
-use Rattle.sift_unit.specs.Slots.{is_slot}
-use Rattle.sift_unit.specs.Account.{Account}
-use Rattle.sift_unit.specs.Acts.{IsConfigOf, heard_places}
-use Rattle.sift_unit.specs.Conduct.{reading_by}
+use Rattle.sift_mission.specs.Mission.{FlownMission, IsConfigOf}
+use Rattle.sift_mission.specs.Slots.{is_slot}
+use Rattle.sift_conduct.specs.Account.{Account}
+use Rattle.sift_conduct.specs.Acts.{heard_places}
+use Rattle.sift_conduct.specs.Conduct.{reading_by}
 use Rattle.sift_unit.specs.Reach.{IsNearIn}
-use Rattle.sift_unit.specs.Fits.{Fits}
+use Rattle.sift_mission.specs.Fits.{Fits}
 use Rattle.sift_unit.specs.Tidings.{names_now}
 use Rattle.sift_unit.specs.Desk.{Desk, cursor, heard_mark, account_now, accounts_of}
 use Rattle.sift_unit.specs.Going.{InRange, Going}
@@ -21,7 +21,7 @@ use Rattle.sift_unit.proofs.Nearness.{near_still, next_near}
 use Rattle.sift_unit.proofs.Tests.{not_both}
 use Rattle.sift_unit.proofs.Standing.{stands, now_in, now_out}
 
-module _ (m : Mission) (fit : Fits m) where
+module _ (m : FlownMission) (fit : Fits m) where
   -- the next configuration is one of the mission
   pub next_config_is : (b : Desk) → IsConfigOf m b.cfg → IsConfigOf m (account_now m b).next_cfg
   next_config_is b config = elim (cases_Bool (has b.cfg b.unit)) [

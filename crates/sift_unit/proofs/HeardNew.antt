@@ -15,19 +15,19 @@ use Rattle.sift_agree.specs.Agreement.{taken}
 use Rattle.sift_config.specs.Config.{reader_of}
 use Rattle.sift_clock.specs.Reading.{reading_of, is_too_far}
 use Rattle.sift_clock.specs.Correction.{correction_of}
-use Rattle.sift_unit.specs.Mission.{Mission}
-use Rattle.sift_unit.specs.Slots.{executors, is_slot, is_senders, calls}
-use Rattle.sift_unit.specs.Account.{Account, Places}
-use Rattle.sift_unit.specs.Conduct.{polled, reading_by}
-use Rattle.sift_unit.specs.Acts.{IsConfigOf}
-use Rattle.sift_unit.specs.Fits.{Fits}
+use Rattle.sift_mission.specs.Mission.{FlownMission, IsConfigOf}
+use Rattle.sift_mission.specs.Slots.{executors, is_slot, is_senders, calls}
+use Rattle.sift_conduct.specs.Account.{Account, Places}
+use Rattle.sift_conduct.specs.Conduct.{polled, reading_by}
+use Rattle.sift_mission.specs.Fits.{Fits}
 use Rattle.sift_unit.specs.Memory.{Memory, place_at, reading_at, polled_at, poll_of, note}
 use Rattle.sift_unit.specs.Remembered.{Heard, Ran, IsShaped, polled_words}
 use Rattle.sift_unit.proofs.Tests.{apart, and_in, both, not_true}
 use Rattle.sift_unit.proofs.Sets.{holds-gathered, filter_has, map-same}
-use Rattle.sift_unit.proofs.Calls.{call_is, has-reader}
+use Rattle.sift_unit.proofs.Calls.{call_is}
+use Rattle.sift_mission.proofs.Configs.{has-reader}
 
-module _ (m : Mission) (us : List ℕ) (u f : ℕ) (clk : ℤ) (a : Account) (h : Places) (last : List ℕ) (fit : Fits m) (config : IsConfigOf m us) (member : has us u ≡ true) where
+module _ (m : FlownMission) (us : List ℕ) (u f : ℕ) (clk : ℤ) (a : Account) (h : Places) (last : List ℕ) (fit : Fits m) (config : IsConfigOf m us) (member : has us u ≡ true) where
   -- what was heard of a slot stands in the places
   abbrev AreHeard : Slot → List (Option ℕ) → Type 0
   AreHeard k heard = (p : ℕ) → calls m us k p u ≡ true → place_at heard p ≡ h k p

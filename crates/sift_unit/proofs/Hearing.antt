@@ -7,10 +7,10 @@ use mathlib.Core.Logic.{dite}
 use native.Mathlib.Decide.{ℕ_discrete}
 use Rattle.sift_buffer.specs.Conduct.{Hearing, hearing, with_heard}
 use Rattle.sift_buffer.specs.Conduct.{Conduct as Acts}
-use Rattle.sift_unit.specs.Mission.{Mission}
-use Rattle.sift_unit.specs.Slots.{calls, stamp_of}
-use Rattle.sift_unit.specs.Acts.{stamp_and_moment, heard_places}
-use Rattle.sift_unit.specs.Fits.{Fits}
+use Rattle.sift_mission.specs.Mission.{FlownMission}
+use Rattle.sift_mission.specs.Slots.{calls, stamp_of}
+use Rattle.sift_conduct.specs.Acts.{stamp_and_moment, heard_places}
+use Rattle.sift_mission.specs.Fits.{Fits}
 use Rattle.sift_unit.specs.Desk.{Desk, spot, cursor, hear_spot, is_hearing, accounts_of, moved}
 use Rattle.sift_unit.specs.Going.{Accounts, Words, ActsTo, Going}
 use Rattle.sift_unit.proofs.Tests.{both, some_none}
@@ -24,7 +24,7 @@ no_stamp : (x : Option Hearing) → option_map stamp_and_moment x ≡ None → x
 no_stamp None e = refl
 no_stamp (Some x) e = absurd (some_none e)
 
-module _ (m : Mission) (fit : Fits m) where
+module _ (m : FlownMission) (fit : Fits m) where
   -- where a board stands that hears
   pub record AtHearing (b : Desk) : Type 0 where
     pub part : b.part ≡ 0

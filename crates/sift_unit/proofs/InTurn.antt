@@ -7,7 +7,7 @@ use Rattle.std.proofs.lemmas.Bool.{cases_Bool}
 use Rattle.sift_base.specs.Units.{has, others, IsAscending, IsBelowAll}
 use Rattle.sift_base.proofs.Counts.{has-head, has-tail}
 use Rattle.sift_config.specs.Config.{IsConfig}
-use Rattle.sift_unit.specs.Mission.{Mission}
+use Rattle.sift_mission.specs.Mission.{FlownMission}
 use Rattle.sift_unit.specs.Memory.{renewed, is_made_by}
 use Rattle.sift_unit.proofs.Tests.{and_in}
 
@@ -49,7 +49,7 @@ pub renewed-none : (test : ℕ → Bool) (value : ℕ → ℕ) (xs : List ℕ) (
 renewed-none test value [] i none = refl
 renewed-none test value (x ∷ xs) i none = rw (none i) (ap (λ ys. x ∷ ys) (renewed-none test value xs (suc i) none))
 
-module _ (m : Mission) (us : List ℕ) (u t : ℕ) (runs : Bool) (tells : (w : ℕ) → w < m.words → m.task w ≡ t → m.executes us w u ≡ runs) where
+module _ (m : FlownMission) (us : List ℕ) (u t : ℕ) (runs : Bool) (tells : (w : ℕ) → w < m.words → m.task w ≡ t → m.executes us w u ≡ runs) where
   -- a word of the task is made where the unit runs it
   made_where : (w : ℕ) → is_made_by m us u t w ≡ (nat_lt w m.words && (nat_eq (m.task w) t && runs))
   made_where w = and_in (nat_lt w m.words) _ _ (λ few. and_in (nat_eq (m.task w) t) _ _ (λ is. tells w (ltb-true w m.words few) (eqb-true (m.task w) t is)))

@@ -2,8 +2,8 @@
 use Rattle.std.proofs.Common.{◌≡◌, inl, inr, ℕ, ◌≤◌, false, refl, arith}
 use Rattle.std.proofs.lemmas.Bool.{cases_lt}
 use Rattle.sift_base.specs.Units.{has}
-use Rattle.sift_unit.specs.Mission.{Mission}
-use Rattle.sift_unit.specs.Fits.{Fits}
+use Rattle.sift_mission.specs.Mission.{FlownMission}
+use Rattle.sift_mission.specs.Fits.{Fits}
 use Rattle.sift_unit.specs.Desk.{Desk, spot, cursor, hear_spot, say_spot, heard_mark, run_mark}
 use Rattle.sift_unit.specs.Going.{InRange}
 use Rattle.sift_unit.specs.Stops.{IsNothingBetween, hearing, running, saying}
@@ -13,7 +13,7 @@ use Rattle.sift_unit.proofs.Calls.{call_of}
 use Rattle.sift_unit.proofs.Acting.{small_of}
 use Rattle.sift_unit.proofs.Moving.{Skips, few_tasks, skip_going}
 
-module _ (m : Mission) (fit : Fits m) where
+module _ (m : FlownMission) (fit : Fits m) where
   -- from the start of a slot to the next stop, or the subframe's end
   pub jump_skips : (b : Desk) (t k : ℕ) → InRange m b → b.other ≡ 0 → t ≤ 2 → k ≤ m.slots → cursor b ≤ spot b.subframe t k 0 →
       IsNothingBetween m b.cfg (cursor b) (spot b.subframe t k 0) → Skips m fit b b.subframe t k 0

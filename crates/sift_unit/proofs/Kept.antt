@@ -6,15 +6,15 @@ use Rattle.sift_base.specs.Units.{holds}
 use Rattle.sift_base.specs.ReadBack.{false_last}
 use Rattle.sift_base.specs.declared.slot.Slot.{Slot}
 use Rattle.sift_base.specs.declared.slot.Slot.TheVariants.{Clock, Sense, RelaySense, Out, Report, RelayReport}
-use Rattle.sift_unit.specs.Mission.{Mission}
-use Rattle.sift_unit.specs.Account.{Account, Places}
-use Rattle.sift_unit.specs.Fits.{is_caught_in}
+use Rattle.sift_mission.specs.Mission.{FlownMission}
+use Rattle.sift_conduct.specs.Account.{Account, Places}
+use Rattle.sift_mission.specs.Fits.{is_caught_in}
 use Rattle.sift_unit.specs.Memory.{Memory, note, run, is_made_by}
 use Rattle.sift_unit.specs.Tidings.{busy_account}
 use Rattle.sift_unit.specs.Remembered.{Heard, Ran, Matches, Settled, IsShaped}
 use Rattle.sift_unit.proofs.Sets.{renewed-other, length-renewed}
 
-module _ (m : Mission) (us : List ℕ) (u f : ℕ) (clk : ℤ) (a : Account) (h : Places) (last : List ℕ) where
+module _ (m : FlownMission) (us : List ℕ) (u f : ℕ) (clk : ℤ) (a : Account) (h : Places) (last : List ℕ) where
   -- what comes of another slot stays
   pub heard_kept : (k k' : Slot) (heard : List (Option ℕ)) (b : Memory) → k' ≢ k → Heard m us u f clk a h last b k' →
       Heard m us u f clk a h last (note m us u f clk k heard b) k'
@@ -77,7 +77,7 @@ module _ (m : Mission) (us : List ℕ) (u f : ℕ) (clk : ℤ) (a : Account) (h 
 -- ---- the own account
 
 -- what a board would account for now matches what it settled
-pub matches_own : (m : Mission) (us : List ℕ) (u : ℕ) (clk : ℤ) (b : Memory) (k : Slot) → Matches b (busy_account m us u clk b) k
+pub matches_own : (m : FlownMission) (us : List ℕ) (u : ℕ) (clk : ℤ) (b : Memory) (k : Slot) → Matches b (busy_account m us u clk b) k
 matches_own m us u clk b Clock = tt
 matches_own m us u clk b (Sense x) = tt
 matches_own m us u clk b (RelaySense x) = refl
@@ -87,7 +87,7 @@ matches_own m us u clk b (RelayReport s) = tt
 
 -- ---- lengths
 
-module _ (m : Mission) where
+module _ (m : FlownMission) where
   -- a slot that is heard keeps the lengths
   pub shape_noted : (us : List ℕ) (u f : ℕ) (clk : ℤ) (k : Slot) (heard : List (Option ℕ)) (b : Memory) → IsShaped m b →
       IsShaped m (note m us u f clk k heard b)

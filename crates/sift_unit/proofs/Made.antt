@@ -7,12 +7,11 @@ use Rattle.sift_base.specs.declared.slot.Slot.{Slot}
 use Rattle.sift_base.specs.declared.slot.Slot.TheVariants.{Clock, Sense, RelaySense, Out, Report, RelayReport}
 use Rattle.sift_exec.specs.Record.{everyone_in}
 use Rattle.sift_config.specs.Config.{reader_of}
-use Rattle.sift_unit.specs.Mission.{Mission}
-use Rattle.sift_unit.specs.Slots.{is_slot, calls}
-use Rattle.sift_unit.specs.Account.{Account, Places}
-use Rattle.sift_unit.specs.Conduct.{own_word}
-use Rattle.sift_unit.specs.Acts.{IsConfigOf}
-use Rattle.sift_unit.specs.Fits.{Fits}
+use Rattle.sift_mission.specs.Mission.{FlownMission, IsConfigOf}
+use Rattle.sift_mission.specs.Slots.{is_slot, calls}
+use Rattle.sift_conduct.specs.Account.{Account, Places}
+use Rattle.sift_conduct.specs.Conduct.{own_word}
+use Rattle.sift_mission.specs.Fits.{Fits}
 use Rattle.sift_unit.specs.Memory.{Memory, run, is_made_by}
 use Rattle.sift_unit.specs.Tidings.{word_now}
 use Rattle.sift_unit.specs.Remembered.{Heard, Ran, Matches, Settled, IsShaped}
@@ -20,7 +19,7 @@ use Rattle.sift_unit.proofs.Tests.{apart, not_true}
 use Rattle.sift_unit.proofs.Sets.{renewed-here}
 use Rattle.sift_unit.proofs.Calls.{call_of}
 
-module _ (m : Mission) (us : List ℕ) (u f : ℕ) (clk : ℤ) (a : Account) (h : Places) (last : List ℕ) (fit : Fits m) (config : IsConfigOf m us) where
+module _ (m : FlownMission) (us : List ℕ) (u f : ℕ) (clk : ℤ) (a : Account) (h : Places) (last : List ℕ) (fit : Fits m) (config : IsConfigOf m us) where
   -- a task's words, once it was run with all that it reads
   pub ran_new : (t : ℕ) (b : Memory) → IsShaped m b
       → ((k' : Slot) → is_slot m k' ≡ true → m.heard_in us k' ≤ m.run_in us t → Matches b a k')

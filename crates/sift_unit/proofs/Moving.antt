@@ -6,24 +6,24 @@ use Rattle.sift_base.specs.Units.{has, unit_limit}
 use Rattle.sift_base.specs.declared.slot.Slot.{Slot}
 use Rattle.sift_buffer.specs.Conduct.{Hearing}
 use Rattle.sift_buffer.specs.Conduct.{Conduct as Acts}
-use Rattle.sift_unit.specs.Mission.{Mission}
-use Rattle.sift_unit.specs.Slots.{is_slot, calls}
-use Rattle.sift_unit.specs.Fits.{Fits}
+use Rattle.sift_mission.specs.Mission.{FlownMission}
+use Rattle.sift_mission.specs.Slots.{is_slot, calls}
+use Rattle.sift_mission.specs.Fits.{Fits}
 use Rattle.sift_unit.specs.Desk.{Desk, spot, cursor, hear_spot, say_spot, heard_mark, run_mark, moved}
 use Rattle.sift_unit.specs.Going.{Accounts, Words, ActsTo, Fate, Meets, InRange, Going, HasHeard}
 use Rattle.sift_unit.proofs.Acting.{acts_on}
 
 -- no mark lies between two places
-pub record Free (m : Mission) (us : List ℕ) (u at at' : ℕ) : Type 0 where
+pub record Free (m : FlownMission) (us : List ℕ) (u at at' : ℕ) : Type 0 where
   pub up : at ≤ at'
   pub heard : has us u ≡ true → (k : Slot) → is_slot m k ≡ true → heard_mark m us k ≤ at' → heard_mark m us k ≤ at
   pub ran : has us u ≡ true → (t : ℕ) → t < m.tasks → run_mark m us t ≤ at' → run_mark m us t ≤ at
 
 -- what was heard is still known
-abbrev pub Grows : Mission → Acts → Acts → Type 0
+abbrev pub Grows : FlownMission → Acts → Acts → Type 0
 Grows m c c' = (f : ℕ) (k : Slot) (p : ℕ) (x : Hearing) → is_slot m k ≡ true → c.heard f (m.number k) p ≡ Some x → c'.heard f (m.number k) p ≡ Some x
 
-module _ (m : Mission) (fit : Fits m) where
+module _ (m : FlownMission) (fit : Fits m) where
   -- a fate of the board further on is one of the board before
   pub fate_back : (b : Desk) (i t k o : ℕ) (ps : List (Option ℕ)) (c c' : Acts) (a : Accounts) (h : Words) → cursor b ≤ spot i t k o → Grows m c c' →
       Fate m (moved b i t k o ps) c' a h → Fate m b c a h

@@ -6,10 +6,10 @@ use Rattle.sift_clock.specs.Distance.{IsWithin}
 use Rattle.sift_clock.specs.Correction.{correction_of, next_offset}
 use Rattle.sift_skew.specs.Limits.{offset_limit}
 use Rattle.sift_skew.specs.Leading.{OffsetsChangeLittle}
-use Rattle.sift_unit.specs.Mission.{Mission}
-use Rattle.sift_unit.specs.Fits.{Fits}
-use Rattle.sift_unit.specs.PartsFit.{start_limit}
-use Rattle.sift_unit.specs.Reach.{change_limit, IsNearIn}
+use Rattle.sift_mission.specs.Mission.{FlownMission}
+use Rattle.sift_mission.specs.Fits.{Fits, change_limit}
+use Rattle.sift_mission.specs.PartsFit.{start_limit}
+use Rattle.sift_unit.specs.Reach.{IsNearIn}
 
 -- at the start a clock is near enough
 pub near_start : (clk : ℤ) → IsWithin start_limit clk (pos 0) → IsNearIn 0 clk
@@ -36,7 +36,7 @@ advanced next own mean drift is near change small = omega (arith, ints)
 pub advanced_fits : (next own : ℤ) → IsWithin offset_limit own (pos 0) → IsWithin (pos change_limit) next own → FitsSigned w64 next
 advanced_fits next own near change = omega (arith, ints)
 
-module _ (m : Mission) (fit : Fits m) (little : OffsetsChangeLittle) (us : List ℕ) (read : ℕ → Option ℤ) (own : ℤ) (u : ℕ)
+module _ (m : FlownMission) (fit : Fits m) (little : OffsetsChangeLittle) (us : List ℕ) (read : ℕ → Option ℤ) (own : ℤ) (u : ℕ)
     (member : has us u ≡ true) (unit : has m.units u ≡ true) where
   -- the next offset is not far from the own one, whatever is read
   pub next_little : IsWithin (pos change_limit) (next_offset (m.skew +ℤ m.error) us read own u (m.drift u)) own

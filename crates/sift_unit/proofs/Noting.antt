@@ -6,9 +6,9 @@ use native.Mathlib.Decide.{ℕ_discrete}
 use Rattle.sift_base.specs.Units.{unit_limit}
 use Rattle.sift_base.specs.declared.slot.Slot.{Slot}
 use Rattle.sift_buffer.specs.Conduct.{Conduct as Acts}
-use Rattle.sift_unit.specs.Mission.{Mission}
-use Rattle.sift_unit.specs.Slots.{is_slot}
-use Rattle.sift_unit.specs.Fits.{Fits, is_caught_in}
+use Rattle.sift_mission.specs.Mission.{FlownMission}
+use Rattle.sift_mission.specs.Slots.{is_slot}
+use Rattle.sift_mission.specs.Fits.{Fits, is_caught_in}
 use Rattle.sift_unit.specs.Memory.{Memory, note}
 use Rattle.sift_unit.specs.Remembered.{Heard, IsShaped}
 use Rattle.sift_unit.specs.Desk.{Desk, spot, cursor, heard_mark, run_mark}
@@ -19,7 +19,7 @@ use Rattle.sift_unit.proofs.Acting.{small_of, acts_on}
 use Rattle.sift_unit.proofs.Moving.{few_tasks}
 use Rattle.sift_unit.proofs.Skipping.{kind_is}
 
-module _ (m : Mission) (fit : Fits m) where
+module _ (m : FlownMission) (fit : Fits m) where
   -- the board at the next slot, with another memory
   abbrev pub onto : Desk → Memory → Desk
   onto b memory = record b { slot = b.slot + 1; other = 0; memory = memory }

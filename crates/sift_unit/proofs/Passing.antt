@@ -3,8 +3,8 @@ use Rattle.std.proofs.Common.{◌≡◌, ◌⊎◌, inl, inr, ℕ, ◌+◌, ◌<
 use mathlib.Core.Logic.{dite}
 use native.Mathlib.Decide.{ℕ_discrete}
 use Rattle.sift_base.specs.Units.{has, unit_limit}
-use Rattle.sift_unit.specs.Mission.{Mission}
-use Rattle.sift_unit.specs.Fits.{Fits}
+use Rattle.sift_mission.specs.Mission.{FlownMission}
+use Rattle.sift_mission.specs.Fits.{Fits}
 use Rattle.sift_unit.specs.Memory.{Memory}
 use Rattle.sift_unit.specs.Desk.{Desk, spot, cursor, is_hearing, is_saying, is_call, is_end, moved}
 use Rattle.sift_unit.specs.Going.{InRange}
@@ -18,7 +18,7 @@ use Rattle.sift_unit.proofs.Noting.{onto, noted, AtNote, note_range, note_going}
 use Rattle.sift_unit.proofs.Running.{ran_on, AtRun, run_range, run_going}
 
 -- one move after another
-pub passes_on : (m : Mission) (a b d : Desk) → Passes m a b → Passes m b d → Passes m a d
+pub passes_on : (m : FlownMission) (a b d : Desk) → Passes m a b → Passes m b d → Passes m a d
 passes_on m a b d p q = record {
   range = q.range;
   going = λ c g. q.going c (p.going c g);
@@ -28,14 +28,14 @@ passes_on m a b d p q = record {
 }
 
 -- a board that isn't at its subframe's end is in an earlier part, or at an earlier slot
-pub inside_is : (m : Mission) (b : Desk) → InRange m b → is_end m b ≡ false → (b.part < 2) ⊎ (b.slot < m.slots)
+pub inside_is : (m : FlownMission) (b : Desk) → InRange m b → is_end m b ≡ false → (b.part < 2) ⊎ (b.slot < m.slots)
 inside_is m b r inside = let part = r.part in let slot = r.slot in dite (ℕ_discrete b.part 2)
     (λ e. dite (ℕ_discrete b.slot m.slots)
     (λ s. absurd (not_both _ inside (rw (eq-eqb b.part 2 e, eq-eqb b.slot m.slots s) refl)))
     (λ s. inr (omega arith)))
     (λ n. inl (omega arith))
 
-module _ (m : Mission) (fit : Fits m) (b : Desk) (r : InRange m b) where
+module _ (m : FlownMission) (fit : Fits m) (b : Desk) (r : InRange m b) where
   -- a board in range elsewhere in its subframe
   range_moved : (t k o : ℕ) → t ≤ 2 → k ≤ m.slots → o ≤ unit_limit → InRange m (moved b b.subframe t k o b.places)
   range_moved t k o ht hk ho = range_at m fit b b.subframe t k o b.places r r.subframe ht hk ho r.places

@@ -3,8 +3,8 @@ use Rattle.std.proofs.Common.{◌≡◌, ◌<◌, arith}
 use mathlib.Core.Logic.{dite}
 use native.Mathlib.Decide.{ℕ_discrete}
 use Rattle.sift_buffer.specs.Conduct.{Conduct as Acts}
-use Rattle.sift_unit.specs.Mission.{Mission}
-use Rattle.sift_unit.specs.Fits.{Fits}
+use Rattle.sift_mission.specs.Mission.{FlownMission}
+use Rattle.sift_mission.specs.Fits.{Fits}
 use Rattle.sift_unit.specs.Memory.{Memory, run}
 use Rattle.sift_unit.specs.Desk.{Desk}
 use Rattle.sift_unit.specs.Going.{Accounts, Words, Fate, InRange, Going}
@@ -13,7 +13,7 @@ use Rattle.sift_unit.proofs.Made.{ran_new}
 use Rattle.sift_unit.proofs.Moving.{few_tasks}
 use Rattle.sift_unit.proofs.Noting.{onto, range_onto, slot_acts, heard_below, ran_below}
 
-module _ (m : Mission) (fit : Fits m) where
+module _ (m : FlownMission) (fit : Fits m) where
   -- the memory after the task was run at whose number the board stands
   abbrev pub ran_on : Desk → Memory
   ran_on b = run m b.cfg b.unit b.last b.slot b.memory

@@ -5,11 +5,11 @@ use Rattle.std.proofs.lemmas.Bool.{and_parts}
 use Rattle.sift_base.specs.Units.{has}
 use Rattle.sift_buffer.specs.Conduct.{with_said}
 use Rattle.sift_buffer.specs.Conduct.{Conduct as Acts}
-use Rattle.sift_unit.specs.Mission.{Mission}
-use Rattle.sift_unit.specs.Slots.{calls, stamp_of}
-use Rattle.sift_unit.specs.Conduct.{own_word}
-use Rattle.sift_unit.specs.Acts.{heard_places}
-use Rattle.sift_unit.specs.Fits.{Fits}
+use Rattle.sift_mission.specs.Mission.{FlownMission}
+use Rattle.sift_mission.specs.Slots.{calls, stamp_of}
+use Rattle.sift_conduct.specs.Conduct.{own_word}
+use Rattle.sift_conduct.specs.Acts.{heard_places}
+use Rattle.sift_mission.specs.Fits.{Fits}
 use Rattle.sift_unit.specs.Tidings.{word_now, word_to}
 use Rattle.sift_unit.specs.Desk.{Desk, spot, cursor, say_spot, is_saying, accounts_of, moved}
 use Rattle.sift_unit.specs.Going.{Accounts, Words, word_in_frame, ActsTo, Fate, Meets, Going}
@@ -20,7 +20,7 @@ use Rattle.sift_unit.proofs.Acting.{small_of, acts_said, said_none}
 use Rattle.sift_unit.proofs.Standing.{stands}
 use Rattle.sift_unit.proofs.Moving.{fate_back, meets_on, free_place, range_place, few_tasks}
 
-module _ (m : Mission) (fit : Fits m) where
+module _ (m : FlownMission) (fit : Fits m) where
   -- where a board stands that says
   pub record AtSaying (b : Desk) : Type 0 where
     pub part : b.part ≡ 2

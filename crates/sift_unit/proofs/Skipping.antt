@@ -6,9 +6,9 @@ use native.Mathlib.Decide.{ℕ_discrete}
 use Rattle.sift_base.specs.Units.{unit_limit}
 use Rattle.sift_base.specs.declared.slot.Slot.{Slot}
 use Rattle.sift_buffer.specs.Conduct.{Conduct as Acts}
-use Rattle.sift_unit.specs.Mission.{Mission}
-use Rattle.sift_unit.specs.Slots.{is_slot, calls}
-use Rattle.sift_unit.specs.Fits.{Fits}
+use Rattle.sift_mission.specs.Mission.{FlownMission}
+use Rattle.sift_mission.specs.Slots.{is_slot, calls}
+use Rattle.sift_mission.specs.Fits.{Fits}
 use Rattle.sift_unit.specs.Desk.{Desk, cursor, hear_spot, say_spot, is_hearing, is_saying, moved}
 use Rattle.sift_unit.specs.Going.{Going}
 use Rattle.sift_unit.proofs.Tests.{not_both}
@@ -18,7 +18,7 @@ use Rattle.sift_unit.proofs.Moving.{few_tasks, free_place, skip_going}
 use Rattle.sift_unit.proofs.Hearing.{hearing_at}
 use Rattle.sift_unit.proofs.Saying.{said_on, saying_at}
 
-module _ (m : Mission) (fit : Fits m) where
+module _ (m : FlownMission) (fit : Fits m) where
   -- the slot whose number is the one at which a board stands
   pub kind_is : (b : Desk) (k : Slot) → is_slot m k ≡ true → m.number k ≡ b.slot → m.kind b.slot ≡ k
   kind_is b k slot e = ap m.kind (sym e) ∙ fit.numbered.back k slot

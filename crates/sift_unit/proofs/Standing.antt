@@ -8,10 +8,10 @@ use mathlib.Core.Logic.{dite}
 use native.Mathlib.Decide.{ℕ_discrete}
 use Rattle.sift_base.specs.Units.{has}
 use Rattle.sift_buffer.specs.Conduct.{Conduct as Acts}
-use Rattle.sift_unit.specs.Mission.{Mission}
-use Rattle.sift_unit.specs.Account.{Account}
-use Rattle.sift_unit.specs.Frames.{last_of, BeginConduct}
-use Rattle.sift_unit.specs.Acts.{IsConfigOf, heard_places}
+use Rattle.sift_mission.specs.Mission.{FlownMission, IsConfigOf}
+use Rattle.sift_conduct.specs.Account.{Account}
+use Rattle.sift_conduct.specs.Frames.{last_of, BeginConduct}
+use Rattle.sift_conduct.specs.Acts.{heard_places}
 use Rattle.sift_unit.specs.Memory.{Memory}
 use Rattle.sift_unit.specs.Tidings.{busy_account, idle_account}
 use Rattle.sift_unit.specs.Desk.{Desk, cursor, account_now, accounts_of}
@@ -19,31 +19,31 @@ use Rattle.sift_unit.specs.Going.{Accounts, Agrees, Fate, InRange}
 use Rattle.sift_unit.proofs.Kept.{matches_own}
 
 -- what the board would account for agrees with what it settled
-pub agrees_own : (m : Mission) (us : List ℕ) (u : ℕ) (clk : ℤ) (b : Memory) (at : ℕ) → Agrees m us (busy_account m us u clk b) b at
+pub agrees_own : (m : FlownMission) (us : List ℕ) (u : ℕ) (clk : ℤ) (b : Memory) (at : ℕ) → Agrees m us (busy_account m us u clk b) b at
 agrees_own m us u clk b at = record { matches = λ k slot low. matches_own m us u clk b k; settled = λ low. refl }
 
 -- the account of the board's frame, where its unit is in its configuration
-pub now_in : (m : Mission) (b : Desk) → has b.cfg b.unit ≡ true → account_now m b ≡ busy_account m b.cfg b.unit b.clk b.memory
+pub now_in : (m : FlownMission) (b : Desk) → has b.cfg b.unit ≡ true → account_now m b ≡ busy_account m b.cfg b.unit b.clk b.memory
 now_in m b t = rw t refl
 
 -- and where it isn't
-pub now_out : (m : Mission) (b : Desk) → has b.cfg b.unit ≡ false → account_now m b ≡ idle_account b.cfg b.clk
+pub now_out : (m : FlownMission) (b : Desk) → has b.cfg b.unit ≡ false → account_now m b ≡ idle_account b.cfg b.clk
 now_out m b t = rw t refl
 
 -- it has the board's configuration
-pub now_cfg : (m : Mission) (b : Desk) → (account_now m b).cfg ≡ b.cfg
+pub now_cfg : (m : FlownMission) (b : Desk) → (account_now m b).cfg ≡ b.cfg
 now_cfg m b = elim (cases_Bool (has b.cfg b.unit)) [ inl t ↦ rw t refl | inr t ↦ rw t refl ]
 
 -- and its offset
-pub now_clk : (m : Mission) (b : Desk) → (account_now m b).clk ≡ b.clk
+pub now_clk : (m : FlownMission) (b : Desk) → (account_now m b).clk ≡ b.clk
 now_clk m b = elim (cases_Bool (has b.cfg b.unit)) [ inl t ↦ rw t refl | inr t ↦ rw t refl ]
 
 -- the board's frame has it
-pub at_frame : (m : Mission) (b : Desk) → accounts_of m b b.frame ≡ account_now m b
+pub at_frame : (m : FlownMission) (b : Desk) → accounts_of m b b.frame ≡ account_now m b
 at_frame m b = rw (le-ltb b.frame b.frame (omega arith)) refl
 
 -- the words and accounts as they stand are a fate
-pub stands : (m : Mission) (b : Desk) (c : Acts) → InRange m b → Fate m b c (accounts_of m b) (heard_places m c)
+pub stands : (m : FlownMission) (b : Desk) (c : Acts) → InRange m b → Fate m b c (accounts_of m b) (heard_places m c)
 stands m b c r = record {
   heard = λ f k p x slot e. rw (slot, e) refl;
   accounts = λ f d low. let count = r.count in rw (lt-ltb f b.frame low) (get_or_default b.accounts f (account_now m b) d (omega arith));
@@ -63,14 +63,14 @@ pub frame_low : (n f f' : ℕ) → f < f' → f * n + n ≤ f' * n
 frame_low n f f' low = let d = f' - suc f in let e : f' ≡ f + suc d = omega arith in rw e (grind arith)
 
 -- a frame begins with what was found in the one before
-pub begins_next : (m : Mission) (u : ℕ) (a : Accounts) (f : ℕ) → (a (f + 1)).cfg ≡ (a f).next_cfg → (a (f + 1)).clk ≡ (a f).next_clk →
+pub begins_next : (m : FlownMission) (u : ℕ) (a : Accounts) (f : ℕ) → (a (f + 1)).cfg ≡ (a f).next_cfg → (a (f + 1)).clk ≡ (a f).next_clk →
     BeginConduct m u a (f + 1)
 begins_next m u a f =
     let e : suc f ≡ f + 1 = omega arith in
     subst (λ n. (a n).cfg ≡ (a f).next_cfg → (a n).clk ≡ (a f).next_clk → BeginConduct m u a n) e (λ x y. record { cfg = x; clk = y })
 
 -- and has the words voted in it
-pub last_next : (m : Mission) (a : Accounts) (f : ℕ) → (a f).outs ≡ last_of m a (f + 1)
+pub last_next : (m : FlownMission) (a : Accounts) (f : ℕ) → (a f).outs ≡ last_of m a (f + 1)
 last_next m a f = let e : suc f ≡ f + 1 = omega arith in subst (λ n. (a f).outs ≡ last_of m a n) e refl
 
 -- what is put at a list's end stands there
@@ -80,7 +80,7 @@ pushed_at xs x d n e = rw (← e) (get_or-append_seam xs x [] d)
 -- ---- configurations
 
 -- each configuration of a board, up to its frame's, is one of the mission
-pub config_at : (m : Mission) (b : Desk) → InRange m b → (f : ℕ) → f ≤ b.frame → IsConfigOf m (accounts_of m b f).cfg
+pub config_at : (m : FlownMission) (b : Desk) → InRange m b → (f : ℕ) → f ≤ b.frame → IsConfigOf m (accounts_of m b f).cfg
 config_at m b r f low = dite (ℕ_discrete f b.frame)
     (λ e. rw (e, at_frame m b) (subst (λ z. IsConfigOf m z) (sym (now_cfg m b)) r.config))
     (λ ne. let before : f < b.frame = omega arith in rw (lt-ltb f b.frame before) (r.configs f (account_now m b) before))

@@ -4,10 +4,10 @@ use Rattle.std.proofs.lemmas.Bool.{and_parts, cases_lt}
 use Rattle.sift_base.specs.Units.{has, unit_limit}
 use Rattle.sift_buffer.specs.Conduct.{Saying}
 use Rattle.sift_buffer.specs.Conduct.{Conduct as Acts}
-use Rattle.sift_unit.specs.Mission.{Mission}
-use Rattle.sift_unit.specs.Slots.{calls}
-use Rattle.sift_unit.specs.Acts.{stamp_and_moment}
-use Rattle.sift_unit.specs.Fits.{Fits}
+use Rattle.sift_mission.specs.Mission.{FlownMission}
+use Rattle.sift_mission.specs.Slots.{calls}
+use Rattle.sift_conduct.specs.Acts.{stamp_and_moment}
+use Rattle.sift_mission.specs.Fits.{Fits}
 use Rattle.sift_unit.specs.Memory.{Memory}
 use Rattle.sift_unit.specs.Remembered.{IsShaped}
 use Rattle.sift_unit.specs.Desk.{Desk, say_spot, hear_spot, is_end, first_desk, ended_desk}
@@ -22,7 +22,7 @@ use Rattle.sift_unit.proofs.Standing.{next_mul}
 use Rattle.sift_unit.proofs.Ending.{frame_going}
 
 -- what holds of a new board
-pub start_going : (m : Mission) (u : ℕ) (places : List (Option ℕ)) (memory : Memory) (c : Acts) → Fits m → has m.units u ≡ true →
+pub start_going : (m : FlownMission) (u : ℕ) (places : List (Option ℕ)) (memory : Memory) (c : Acts) → Fits m → has m.units u ≡ true →
     length places ≡ unit_limit → IsShaped m memory → IsFresh c → Going m (first_desk m u places memory) c
 start_going m u places memory c fit unit wide shape fresh = record {
   range = record {
@@ -66,7 +66,7 @@ start_law m u places memory c fit unit wide shape fresh = inl (record {
 })
 
 -- the end of a subframe is where its last slot was said
-pub end_is : (m : Mission) (b : Desk) → is_end m b ≡ true → (b.part ≡ 2) × (b.slot ≡ m.slots)
+pub end_is : (m : FlownMission) (b : Desk) → is_end m b ≡ true → (b.part ≡ 2) × (b.slot ≡ m.slots)
 end_is m b e = let t = and_parts _ _ e in (eqb-true b.part 2 t.0, eqb-true b.slot m.slots t.1)
 
 -- a board turns at a frame's end

@@ -1,7 +1,7 @@
 -- Tests of numbers, joined.
 use Rattle.std.proofs.Common.{◌≡◌, ◌≢◌, ℕ, zero, suc, ◌+◌, ◌<◌, ap, Bool, true, false, not, ◌&&◌, ◌||◌, nat_eq, Option, Some, None, refl, sym, ◌∙◌, arith, eq-eqb}
 use Rattle.std.specs.Prelude.{if◌then◌else◌}
-use Rattle.sift_unit.specs.Conduct.{any_below}
+use Rattle.sift_conduct.specs.Conduct.{any_below}
 
 -- two tests that pass
 pub both : (a b : Bool) → a ≡ true → b ≡ true → a && b ≡ true

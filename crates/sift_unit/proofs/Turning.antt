@@ -2,11 +2,11 @@
 use Rattle.std.proofs.Common.{◌≡◌, ◌⊎◌, inl, inr, ℕ, ◌+◌, ◌*◌, ◌-◌, ◌<◌, ◌≤◌, false, Option, Some, None, nat_lt, refl, sym, ap, ◌∙◌, subst, arith, ltb-true}
 use Rattle.std.proofs.lemmas.Bool.{cases_Bool}
 use Rattle.sift_buffer.specs.Conduct.{Conduct as Acts}
-use Rattle.sift_unit.specs.Mission.{Mission}
-use Rattle.sift_unit.specs.Slots.{turned_by}
-use Rattle.sift_unit.specs.Frames.{Flies}
-use Rattle.sift_unit.specs.Acts.{Turns}
-use Rattle.sift_unit.specs.Fits.{Fits}
+use Rattle.sift_mission.specs.Mission.{FlownMission}
+use Rattle.sift_mission.specs.Slots.{turned_by}
+use Rattle.sift_conduct.specs.Frames.{Flies}
+use Rattle.sift_conduct.specs.Acts.{Turns}
+use Rattle.sift_mission.specs.Fits.{Fits}
 use Rattle.sift_unit.specs.Desk.{Desk, cursor}
 use Rattle.sift_unit.specs.Keeping.{Flying, Keeps, HasFlown, as_flying}
 use Rattle.sift_unit.specs.BoardLaws.{KeepLaw}
@@ -18,7 +18,7 @@ some_same : {A : Type 0} {x y : A} → Some x ≡ Some y → x ≡ y
 some_same e = cc
 
 -- a unit that flies is before the frame from which on it is stray, or at progress 0
-progress_before : (m : Mission) (b : Desk) (c : Acts) (from : ℕ) → Flying m b c → m.storm b.unit ≡ Some from →
+progress_before : (m : FlownMission) (b : Desk) (c : Acts) (from : ℕ) → Flying m b c → m.storm b.unit ≡ Some from →
     (c.progress < from * m.period) ⊎ (c.progress ≡ 0)
 progress_before m b c from k storm =
     let p = k.going.progress in
@@ -29,14 +29,14 @@ progress_before m b c from k storm =
     ]
 
 -- it has not come to that frame
-to_come : (m : Mission) (b : Desk) (c : Acts) (from f : ℕ) → Flying m b c → m.storm b.unit ≡ Some from → from ≤ f → (b.frame < f) ⊎ ((b.frame ≤ f) × (cursor b ≡ 0))
+to_come : (m : FlownMission) (b : Desk) (c : Acts) (from f : ℕ) → Flying m b c → m.storm b.unit ≡ Some from → from ≤ f → (b.frame < f) ⊎ ((b.frame ≤ f) × (cursor b ≡ 0))
 to_come m b c from f k storm low = elim (k.before from storm) [
   | inl z ↦ inl (omega arith)
   | inr z ↦ inr (let z1 = z.1 in (omega arith, z.2))
 ]
 
 -- a unit turns by its script
-turns_by : (m : Mission) (fit : Fits m) (b : Desk) (c : Acts) → Keeps m b c → (o : Option ℕ) → m.storm b.unit ≡ o → Turns m o c
+turns_by : (m : FlownMission) (fit : Fits m) (b : Desk) (c : Acts) → Keeps m b c → (o : Option ℕ) → m.storm b.unit ≡ o → Turns m o c
 turns_by m fit b c (inl k) None e = k.going.left
 turns_by m fit b c (inr k) None e = absurd (some_none (sym k.storm ∙ e))
 turns_by m fit b c (inl k) (Some from) e = record {
@@ -55,7 +55,7 @@ early : (f from : ℕ) → turned_by (Some from) f ≡ false → f < from
 early f from e = elim (cases_Bool (nat_lt f from)) [ inl z ↦ ltb-true f from z | inr z ↦ absurd (let w = rw z at e in cc) ]
 
 -- and so one that it has ended
-far_enough : (m : Mission) (b : Desk) (c : Acts) (n : ℕ) → HasFlown m b c n → (f : ℕ) → f < n → Flies m b.unit f → f < b.frame
+far_enough : (m : FlownMission) (b : Desk) (c : Acts) (n : ℕ) → HasFlown m b c n → (f : ℕ) → f < n → Flies m b.unit f → f < b.frame
 far_enough m b c n (inl far) f low fly = omega arith
 far_enough m b c n (inr t) f low fly = early f b.frame (subst (λ o. turned_by o f ≡ false) t.storm fly.whole)
 

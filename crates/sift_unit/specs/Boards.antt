@@ -8,16 +8,16 @@ use Rattle.sift_buffer.specs.Ranges.{Ranges}
 use Rattle.sift_buffer.specs.Views.{View}
 use Rattle.sift_clock.specs.Distance.{IsWithin}
 use Rattle.sift_skew.specs.Limits.{offset_limit}
-use Rattle.sift_unit.specs.Mission.{Mission}
-use Rattle.sift_unit.specs.Account.{Account}
+use Rattle.sift_mission.specs.Mission.{FlownMission}
+use Rattle.sift_conduct.specs.Account.{Account, account_of}
 use Rattle.sift_unit.specs.Memory.{Memory}
-use Rattle.sift_unit.specs.Acts.{BoardKeeps}
-use Rattle.sift_unit.specs.Fits.{Fits}
+use Rattle.sift_conduct.specs.Acts.{BoardKeeps}
+use Rattle.sift_mission.specs.Fits.{Fits}
 use Rattle.sift_unit.specs.Remembered.{IsShaped}
 use Rattle.sift_unit.specs.Keeping.{IsFresh}
 use Rattle.sift_unit.specs.Desk.{Desk, first_desk, accounts_of}
 use Rattle.sift_unit.specs.Going.{Going}
-use Rattle.sift_unit.specs.declared.account.Account.{Account as TheAccount}
+use Rattle.sift_conduct.specs.declared.account.Account.{Account as TheAccount}
 use Rattle.sift_unit.specs.declared.memory.Memory.{Memory as TheMemory}
 use Rattle.sift_unit.specs.declared.board.Board.{Board as TheBoard}
 use Rattle.sift_unit.specs.declared.part.Part.{Part}
@@ -28,19 +28,6 @@ abbrev pub part_of : Part → ℕ
 part_of Hearing = 0
 part_of Running = 1
 part_of Saying = 2
-
--- an account
-abbrev pub account_of : TheAccount → Account
-account_of a = record {
-  cfg = a.cfg;
-  idle = a.idle;
-  clk = a.clk;
-  ins = a.ins.items;
-  outs = a.outs.items;
-  bad = a.bad;
-  next_cfg = a.next_cfg;
-  next_clk = a.next_clk;
-}
 
 -- a memory
 abbrev pub memory_of : TheMemory → Memory
@@ -75,13 +62,13 @@ desk_of b = record {
 }
 
 -- the port has the units, slots and frames of the mission
-pub record IsPortOf (m : Mission) (r : Ranges) : Type 0 where
+pub record IsPortOf (m : FlownMission) (r : Ranges) : Type 0 where
   pub units : (u : ℕ) → has m.units u ≡ true → u < r.units
   pub slots : m.slots ≤ r.slots
   pub frames : m.frames ≤ r.frames
 
 -- a board steps on its own port: all that a step wants and keeps
-pub record Drives (m : Mission) (b : TheBoard) (v : View) : Type 0 where
+pub record Drives (m : FlownMission) (b : TheBoard) (v : View) : Type 0 where
   pub fits : Fits m
   pub unit : v.unit ≡ b.unit
   pub ranges : IsPortOf m v.ranges
@@ -90,14 +77,14 @@ pub record Drives (m : Mission) (b : TheBoard) (v : View) : Type 0 where
   pub going : Going m (desk_of b) v.conduct
 
 -- the board has begun the next subframe, or the next frame, with all that holds of it, whatever its unit did
-pub record GoesOn (m : Mission) (b b' : TheBoard) : Type 0 where
+pub record GoesOn (m : FlownMission) (b b' : TheBoard) : Type 0 where
   pub going : (c : Acts) → Going m (desk_of b) c → Going m (desk_of b') (with_entered c)
   pub unit : b'.unit ≡ b.unit
   pub room : m.frames ≤ vec_capacity b'.accounts
   pub frame : b'.frame * m.period + b'.subframe ≡ b.frame * m.period + b.subframe + 1
 
 -- the board of unit u before the flight: in shape, and with room for all its accounts; and the mission is one that boards can fly
-pub record IsNewBoard (m : Mission) (u : ℕ) (b : TheBoard) : Type 0 where
+pub record IsNewBoard (m : FlownMission) (u : ℕ) (b : TheBoard) : Type 0 where
   pub fits : Fits m
   pub desk : desk_of b ≡ first_desk m u b.places (memory_of b.memory)
   pub places : length b.places ≡ unit_limit
@@ -106,19 +93,19 @@ pub record IsNewBoard (m : Mission) (u : ℕ) (b : TheBoard) : Type 0 where
 
 -- a new board drives on a port of its unit on which nothing was done, where the unit is never stray
 abbrev pub NewBoardLaw : Type 0
-NewBoardLaw = (m : Mission) (u : ℕ) (b : TheBoard) (v : View) → has m.units u ≡ true → m.storm u ≡ None → IsNewBoard m u b →
+NewBoardLaw = (m : FlownMission) (u : ℕ) (b : TheBoard) (v : View) → has m.units u ≡ true → m.storm u ≡ None → IsNewBoard m u b →
     v.unit ≡ u → IsPortOf m v.ranges → IsFresh v.conduct → Drives m b v
 
 -- a board that has driven, whatever words its port gave, guarantees its acts and accounts in all frames that it has ended
 abbrev pub DriveLaw : Type 0
-DriveLaw = (m : Mission) (b : TheBoard) (v : View) → Drives m b v → BoardKeeps m b.unit v.conduct (accounts_of m (desk_of b)) b.frame
+DriveLaw = (m : FlownMission) (b : TheBoard) (v : View) → Drives m b v → BoardKeeps m b.unit v.conduct (accounts_of m (desk_of b)) b.frame
 
 -- the account of frame f that a board has, and d where it has none
 abbrev pub account_at : TheBoard → ℕ → TheAccount → TheAccount
 account_at b f d = slice_index_or b.accounts.items f d
 
 -- a board has one account for each frame that it has ended: that of the frame, with offsets of which figures can be told
-pub record HasAccounts (m : Mission) (b : TheBoard) : Type 0 where
+pub record HasAccounts (m : FlownMission) (b : TheBoard) : Type 0 where
   pub frames : b.frame ≤ m.frames
   pub count : length b.accounts.items ≡ b.frame
   pub each : (f : ℕ) (d : TheAccount) → f < b.frame → account_of (account_at b f d) ≡ accounts_of m (desk_of b) f
@@ -127,4 +114,4 @@ pub record HasAccounts (m : Mission) (b : TheBoard) : Type 0 where
 
 -- a board that has driven has them, and so one that has landed has the accounts of all frames
 abbrev pub AccountLaw : Type 0
-AccountLaw = (m : Mission) (b : TheBoard) (v : View) → Drives m b v → HasAccounts m b
+AccountLaw = (m : FlownMission) (b : TheBoard) (v : View) → Drives m b v → HasAccounts m b

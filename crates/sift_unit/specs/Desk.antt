@@ -2,9 +2,9 @@
 use Rattle.std.specs.Prelude.{ℕ, ◌+◌, ◌*◌, ◌&&◌, ◌||◌, nat_lt, nat_eq, Bool, List, [], Option, if◌then◌else◌, slice_index_or, ℤ}
 use Rattle.sift_base.specs.declared.slot.Slot.{Slot}
 use Rattle.sift_base.specs.declared.slot.Slot.TheVariants.{Report}
-use Rattle.sift_unit.specs.Mission.{Mission}
-use Rattle.sift_unit.specs.Slots.{calls}
-use Rattle.sift_unit.specs.Account.{Account}
+use Rattle.sift_mission.specs.Mission.{FlownMission}
+use Rattle.sift_mission.specs.Slots.{calls}
+use Rattle.sift_conduct.specs.Account.{Account}
 use Rattle.sift_unit.specs.Memory.{Memory}
 use Rattle.sift_unit.specs.Tidings.{frame_account}
 
@@ -37,23 +37,23 @@ abbrev pub cursor : Desk → ℕ
 cursor b = spot b.subframe b.part b.slot b.other
 
 -- where a slot is heard from p
-abbrev pub hear_spot : Mission → List ℕ → Slot → ℕ → ℕ
+abbrev pub hear_spot : FlownMission → List ℕ → Slot → ℕ → ℕ
 hear_spot m us k p = spot (m.heard_in us k) 0 (m.number k) p
 
 -- where a slot is said to q
-abbrev pub say_spot : Mission → List ℕ → Slot → ℕ → ℕ
+abbrev pub say_spot : FlownMission → List ℕ → Slot → ℕ → ℕ
 say_spot m us k q = spot (m.due us k) 2 (m.number k) q
 
 -- from where on all of a slot was heard
-abbrev pub heard_mark : Mission → List ℕ → Slot → ℕ
+abbrev pub heard_mark : FlownMission → List ℕ → Slot → ℕ
 heard_mark m us k = spot (m.heard_in us k) 0 (m.number k + 1) 0
 
 -- from where on a task was run
-abbrev pub run_mark : Mission → List ℕ → ℕ → ℕ
+abbrev pub run_mark : FlownMission → List ℕ → ℕ → ℕ
 run_mark m us t = spot (m.run_in us t) 1 (t + 1) 0
 
 -- from where on the catches of the frame are settled
-abbrev pub settled_mark : Mission → List ℕ → ℕ
+abbrev pub settled_mark : FlownMission → List ℕ → ℕ
 settled_mark m us = spot (m.due us Report) 2 0 0
 
 -- a place of frame f is past, where a board stands at a place of its frame: it is one of a frame that has ended, or one before
@@ -63,37 +63,37 @@ is_past frame at f place = nat_lt f frame || (nat_eq f frame && nat_lt place at)
 -- ---- calls of the port
 
 -- the board stands where it hears a word
-abbrev pub is_hearing : Mission → Desk → Bool
+abbrev pub is_hearing : FlownMission → Desk → Bool
 is_hearing m b =
     nat_eq b.part 0 && (nat_lt b.slot m.slots && (nat_eq b.subframe (m.heard_in b.cfg (m.kind b.slot)) && calls m b.cfg (m.kind b.slot) b.other b.unit))
 
 -- the board stands where it says a word
-abbrev pub is_saying : Mission → Desk → Bool
+abbrev pub is_saying : FlownMission → Desk → Bool
 is_saying m b =
     nat_eq b.part 2 && (nat_lt b.slot m.slots && (nat_eq b.subframe (m.due b.cfg (m.kind b.slot)) && calls m b.cfg (m.kind b.slot) b.unit b.other))
 
 -- the board stands where it hears or says a word
-abbrev pub is_call : Mission → Desk → Bool
+abbrev pub is_call : FlownMission → Desk → Bool
 is_call m b = is_hearing m b || is_saying m b
 
 -- the board stands at the end of its subframe
-abbrev pub is_end : Mission → Desk → Bool
+abbrev pub is_end : FlownMission → Desk → Bool
 is_end m b = nat_eq b.part 2 && nat_eq b.slot m.slots
 
 -- ---- accounts
 
 -- the account of the board's frame, as it would be if the frame ended now
-abbrev pub account_now : Mission → Desk → Account
+abbrev pub account_now : FlownMission → Desk → Account
 account_now m b = frame_account m b.cfg b.unit b.clk b.memory
 
 -- the accounts of the frames that have ended, and of its frame
-abbrev pub accounts_of : Mission → Desk → ℕ → Account
+abbrev pub accounts_of : FlownMission → Desk → ℕ → Account
 accounts_of m b f = if nat_lt f b.frame then slice_index_or b.accounts f (account_now m b) else account_now m b
 
 -- ---- how a board begins, and how it ends a frame
 
 -- the board of unit u before it did anything, with these places and this memory
-abbrev pub first_desk : Mission → ℕ → List (Option ℕ) → Memory → Desk
+abbrev pub first_desk : FlownMission → ℕ → List (Option ℕ) → Memory → Desk
 first_desk m u places memory = record {
   unit = u;
   frame = 0;
@@ -110,7 +110,7 @@ first_desk m u places memory = record {
 }
 
 -- the board at the start of the next frame, with this memory and these accounts
-abbrev pub ended_desk : Mission → Desk → Memory → List Account → Desk
+abbrev pub ended_desk : FlownMission → Desk → Memory → List Account → Desk
 ended_desk m b memory accounts = record b {
   frame = b.frame + 1;
   subframe = 0;

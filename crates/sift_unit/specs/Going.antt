@@ -4,12 +4,12 @@ use Rattle.sift_base.specs.Units.{has, unit_limit}
 use Rattle.sift_base.specs.declared.slot.Slot.{Slot}
 use Rattle.sift_buffer.specs.Conduct.{Saying, Hearing, saying, never}
 use Rattle.sift_buffer.specs.Conduct.{Conduct as Acts}
-use Rattle.sift_unit.specs.Mission.{Mission}
-use Rattle.sift_unit.specs.Slots.{is_slot, calls, stamp_of, heard_at}
-use Rattle.sift_unit.specs.Account.{Account, Places}
-use Rattle.sift_unit.specs.Conduct.{word_said}
-use Rattle.sift_unit.specs.Frames.{last_of, BeginConduct, BusyConduct, IdleConduct}
-use Rattle.sift_unit.specs.Acts.{IsConfigOf, stamp_and_moment}
+use Rattle.sift_mission.specs.Mission.{FlownMission, IsConfigOf}
+use Rattle.sift_mission.specs.Slots.{is_slot, calls, stamp_of, heard_at}
+use Rattle.sift_conduct.specs.Account.{Account, Places}
+use Rattle.sift_conduct.specs.Conduct.{word_said}
+use Rattle.sift_conduct.specs.Frames.{last_of, BeginConduct, BusyConduct, IdleConduct}
+use Rattle.sift_conduct.specs.Acts.{stamp_and_moment}
 use Rattle.sift_unit.specs.Memory.{Memory, place_at}
 use Rattle.sift_unit.specs.Remembered.{Heard, Ran, Matches, Settled, IsShaped}
 use Rattle.sift_unit.specs.Reach.{IsNearIn, IsNear}
@@ -26,23 +26,23 @@ Words = ℕ → Places
 -- ---- acts: one equation a place
 
 -- the word that u says to q in frame f, by these accounts and these heard words
-abbrev pub word_in_frame : Mission → ℕ → Accounts → Words → ℕ → Slot → ℕ → Option ℕ
+abbrev pub word_in_frame : FlownMission → ℕ → Accounts → Words → ℕ → Slot → ℕ → Option ℕ
 word_in_frame m u a h f k q = word_said m (a f).cfg u f (a f) (h f) (last_of m a f) k q
 
 -- what u has said to q, where it stands at a place of a frame
-abbrev pub said_by : Mission → ℕ → Accounts → Words → ℕ → ℕ → ℕ → Slot → ℕ → Option Saying
+abbrev pub said_by : FlownMission → ℕ → Accounts → Words → ℕ → ℕ → ℕ → Slot → ℕ → Option Saying
 said_by m u a h frame at f k q =
     if calls m (a f).cfg k u q && is_past frame at f (say_spot m (a f).cfg k q)
     then Some (saying (stamp_of m (a f).cfg f k) (word_in_frame m u a h f k q)) else None
 
 -- with which stamp, and at which progress, u has heard from p, where it stands at a place of a frame
-abbrev pub heard_by : Mission → ℕ → Accounts → ℕ → ℕ → ℕ → Slot → ℕ → Option (ℕ × ℕ)
+abbrev pub heard_by : FlownMission → ℕ → Accounts → ℕ → ℕ → ℕ → Slot → ℕ → Option (ℕ × ℕ)
 heard_by m u a frame at f k p =
     if calls m (a f).cfg k p u && is_past frame at f (hear_spot m (a f).cfg k p)
     then Some (stamp_of m (a f).cfg f k, heard_at m (a f).cfg f k) else None
 
 -- all that u has said and heard is what the accounts and the heard words make of it, in each frame
-pub record ActsTo (m : Mission) (u : ℕ) (c : Acts) (a : Accounts) (h : Words) (frame at : ℕ) : Type 0 where
+pub record ActsTo (m : FlownMission) (u : ℕ) (c : Acts) (a : Accounts) (h : Words) (frame at : ℕ) : Type 0 where
   pub said : (f : ℕ) (k : Slot) (q : ℕ) → is_slot m k ≡ true → c.said f (m.number k) q ≡ said_by m u a h frame at f k q
   pub heard : (f : ℕ) (k : Slot) (p : ℕ) → is_slot m k ≡ true →
       option_map stamp_and_moment (c.heard f (m.number k) p) ≡ heard_by m u a frame at f k p
@@ -50,19 +50,19 @@ pub record ActsTo (m : Mission) (u : ℕ) (c : Acts) (a : Accounts) (h : Words) 
 -- ---- memory
 
 -- at a place of frame f the memory holds what was heard and made so far
-pub record Remembers (m : Mission) (us : List ℕ) (u f : ℕ) (clk : ℤ) (a : Account) (h : Places) (last : List ℕ) (b : Memory) (at : ℕ) : Type 0 where
+pub record Remembers (m : FlownMission) (us : List ℕ) (u f : ℕ) (clk : ℤ) (a : Account) (h : Places) (last : List ℕ) (b : Memory) (at : ℕ) : Type 0 where
   pub heard : (k : Slot) → is_slot m k ≡ true → heard_mark m us k ≤ at → Heard m us u f clk a h last b k
   pub ran : (w : ℕ) → w < m.words → run_mark m us (m.task w) ≤ at → Ran m us u a last b w
 
 -- the account has what the memory has settled so far
-pub record Agrees (m : Mission) (us : List ℕ) (a : Account) (b : Memory) (at : ℕ) : Type 0 where
+pub record Agrees (m : FlownMission) (us : List ℕ) (a : Account) (b : Memory) (at : ℕ) : Type 0 where
   pub matches : (k : Slot) → is_slot m k ≡ true → heard_mark m us k ≤ at → Matches b a k
   pub settled : settled_mark m us ≤ at → Settled m us b a
 
 -- ---- the invariant
 
 -- words h that may come to be heard and accounts a that may come about: they agree with all that the board knows
-pub record Fate (m : Mission) (b : Desk) (c : Acts) (a : Accounts) (h : Words) : Type 0 where
+pub record Fate (m : FlownMission) (b : Desk) (c : Acts) (a : Accounts) (h : Words) : Type 0 where
   pub heard : (f : ℕ) (k : Slot) (p : ℕ) (x : Hearing) → is_slot m k ≡ true → c.heard f (m.number k) p ≡ Some x → h f k p ≡ x.word
   pub accounts : (f : ℕ) (d : Account) → f < b.frame → a f ≡ slice_index_or b.accounts f d
   pub cfg : (a b.frame).cfg ≡ b.cfg
@@ -70,18 +70,18 @@ pub record Fate (m : Mission) (b : Desk) (c : Acts) (a : Accounts) (h : Words) :
   pub agrees : has b.cfg b.unit ≡ true → Agrees m b.cfg (a b.frame) b.memory (cursor b)
 
 -- a frame that has ended began with what the frame before it found, and is as its unit was in its configuration or not
-pub record Ended (m : Mission) (u : ℕ) (a : Accounts) (h : Words) (f : ℕ) : Type 0 where
+pub record Ended (m : FlownMission) (u : ℕ) (a : Accounts) (h : Words) (f : ℕ) : Type 0 where
   pub begins : BeginConduct m u a f
   pub busy : has (a f).cfg u ≡ true → BusyConduct m (a f).cfg u f (a f) (h f) (last_of m a f)
   pub idle : has (a f).cfg u ≡ false → IdleConduct (a f)
 
 -- the board has heard this of the slot at which it stands, from the units before the one at which it stands
-abbrev pub HasHeard : Mission → Desk → Words → Type 0
+abbrev pub HasHeard : FlownMission → Desk → Words → Type 0
 HasHeard m b h = b.part ≡ 0 → b.slot < m.slots → b.subframe ≡ m.heard_in b.cfg (m.kind b.slot) →
     (p : ℕ) → p < b.other → calls m b.cfg (m.kind b.slot) p b.unit ≡ true → place_at b.places p ≡ h b.frame (m.kind b.slot) p
 
 -- what then holds
-pub record Meets (m : Mission) (b : Desk) (c : Acts) (a : Accounts) (h : Words) : Type 0 where
+pub record Meets (m : FlownMission) (b : Desk) (c : Acts) (a : Accounts) (h : Words) : Type 0 where
   pub acts : ActsTo m b.unit c a h b.frame (cursor b)
   pub ended : (f : ℕ) → f < b.frame → Ended m b.unit a h f
   pub begins : BeginConduct m b.unit a b.frame
@@ -91,7 +91,7 @@ pub record Meets (m : Mission) (b : Desk) (c : Acts) (a : Accounts) (h : Words) 
       Remembers m b.cfg b.unit b.frame b.clk (a b.frame) (h b.frame) b.last b.memory (cursor b)
 
 -- the board's numbers are in range, and its lists have their lengths
-pub record InRange (m : Mission) (b : Desk) : Type 0 where
+pub record InRange (m : FlownMission) (b : Desk) : Type 0 where
   pub unit : has m.units b.unit ≡ true
   pub frame : b.frame ≤ m.frames
   pub subframe : b.subframe < m.period
@@ -108,7 +108,7 @@ pub record InRange (m : Mission) (b : Desk) : Type 0 where
   pub shape : IsShaped m b.memory
 
 -- a board that flies has kept to its conduct so far, whatever it will hear
-pub record Going (m : Mission) (b : Desk) (c : Acts) : Type 0 where
+pub record Going (m : FlownMission) (b : Desk) (c : Acts) : Type 0 where
   pub range : InRange m b
   pub progress : c.progress ≡ b.frame * m.period + b.subframe
   pub left : c.left ≡ never

@@ -2,7 +2,7 @@
 use Rattle.std.specs.Prelude.{◌≡◌, ◌⊎◌, ℕ, ◌+◌, ◌*◌, ◌-◌, ◌<◌, ◌≤◌, Some, None}
 use Rattle.sift_buffer.specs.Conduct.{never}
 use Rattle.sift_buffer.specs.Conduct.{Conduct as Acts}
-use Rattle.sift_unit.specs.Mission.{Mission}
+use Rattle.sift_mission.specs.Mission.{FlownMission}
 use Rattle.sift_unit.specs.Desk.{Desk, cursor}
 use Rattle.sift_unit.specs.Going.{Going}
 
@@ -11,7 +11,7 @@ abbrev pub as_flying : Acts → ℕ → Acts
 as_flying c n = record c { progress = n; left = never }
 
 -- a unit that is stray from its frame on has turned in place of entering that frame; its acts are those of a unit that flies
-pub record Turned (m : Mission) (b : Desk) (c : Acts) : Type 0 where
+pub record Turned (m : FlownMission) (b : Desk) (c : Acts) : Type 0 where
   pub storm : m.storm b.unit ≡ Some b.frame
   pub at : cursor b ≡ 0
   pub left : c.left ≡ b.frame * m.period - 1
@@ -19,16 +19,16 @@ pub record Turned (m : Mission) (b : Desk) (c : Acts) : Type 0 where
   pub going : Going m b (as_flying c (b.frame * m.period + b.subframe))
 
 -- a unit that flies has not come to the frame from which on it is stray; one that is stray from frame 0 on may stand before anything else
-pub record Flying (m : Mission) (b : Desk) (c : Acts) : Type 0 where
+pub record Flying (m : FlownMission) (b : Desk) (c : Acts) : Type 0 where
   pub before : (from : ℕ) → m.storm b.unit ≡ Some from → (b.frame < from) ⊎ ((from ≡ 0) × (b.frame ≡ 0) × (cursor b ≡ 0))
   pub going : Going m b c
 
 -- a board that has kept to its conduct, and flies or has turned
-abbrev pub Keeps : Mission → Desk → Acts → Type 0
+abbrev pub Keeps : FlownMission → Desk → Acts → Type 0
 Keeps m b c = Flying m b c ⊎ Turned m b c
 
 -- its unit has ended n frames, or has turned before
-abbrev pub HasFlown : Mission → Desk → Acts → ℕ → Type 0
+abbrev pub HasFlown : FlownMission → Desk → Acts → ℕ → Type 0
 HasFlown m b c n = (n ≤ b.frame) ⊎ Turned m b c
 
 -- nothing was done yet

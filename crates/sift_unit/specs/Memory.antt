@@ -11,8 +11,8 @@ use Rattle.sift_agree.specs.Agreement.{taken}
 use Rattle.sift_config.specs.Config.{reader_of}
 use Rattle.sift_clock.specs.Reading.{reading_of, is_too_far}
 use Rattle.sift_clock.specs.Correction.{next_offset}
-use Rattle.sift_unit.specs.Mission.{Mission}
-use Rattle.sift_unit.specs.Slots.{executors}
+use Rattle.sift_mission.specs.Mission.{FlownMission}
+use Rattle.sift_mission.specs.Slots.{executors}
 
 -- what a board remembers: whom it caught by their clocks, and its next offset; by sensor, the word that its reader said, the agreed word,
 -- and whom it caught by their relays; by word, the word that it made, the voted word, and whom it caught in the poll; by unit, the report
@@ -44,7 +44,7 @@ gathered test us = set.from_list (filter test us)
 -- ---- what was heard of a slot
 
 -- u's reading of p's clock, where these words were heard of the clocks
-abbrev pub reading_at : Mission → ℕ → ℤ → List (Option ℕ) → ℕ → Option ℤ
+abbrev pub reading_at : FlownMission → ℕ → ℤ → List (Option ℕ) → ℕ → Option ℤ
 reading_at m u clk heard p = reading_of (place_at heard p) clk (m.errors u p)
 
 -- the word of executor v in a poll: u's own as it made it, each other as it was heard
@@ -52,25 +52,25 @@ abbrev pub polled_at : ℕ → Memory → List (Option ℕ) → ℕ → ℕ → 
 polled_at u b heard w v = if nat_eq v u then Some (slice_index b.made w) else place_at heard v
 
 -- all words of the poll
-abbrev pub poll_of : Mission → List ℕ → ℕ → Memory → List (Option ℕ) → ℕ → List (Option ℕ)
+abbrev pub poll_of : FlownMission → List ℕ → ℕ → Memory → List (Option ℕ) → ℕ → List (Option ℕ)
 poll_of m us u b heard w = map (polled_at u b heard w) (executors m us w)
 
 -- the word that u has for sensor x, where these relays were heard
-abbrev pub input_at : Mission → List ℕ → ℕ → ℕ → Memory → List (Option ℕ) → ℕ → ℕ
+abbrev pub input_at : FlownMission → List ℕ → ℕ → ℕ → Memory → List (Option ℕ) → ℕ → ℕ
 input_at m us u f b heard x =
     if nat_eq (reader_of us x) u then m.sensed x f
     else agreed_of (taken us (reader_of us x) u (λ q. place_at b.direct x) (λ q p. place_at heard p))
 
 -- the other units whose clock is absent or too far away, where these words were heard of the clocks
-abbrev pub caught_by_clock : Mission → List ℕ → ℕ → ℤ → List (Option ℕ) → Units
+abbrev pub caught_by_clock : FlownMission → List ℕ → ℕ → ℤ → List (Option ℕ) → Units
 caught_by_clock m us u clk heard = gathered (λ v. not (nat_eq v u) && is_too_far (m.skew +ℤ m.error) (reading_at m u clk heard v)) us
 
 -- the next offset, by these words
-abbrev pub offset_after : Mission → List ℕ → ℕ → ℤ → List (Option ℕ) → ℤ
+abbrev pub offset_after : FlownMission → List ℕ → ℕ → ℤ → List (Option ℕ) → ℤ
 offset_after m us u clk heard = next_offset (m.skew +ℤ m.error) us (reading_at m u clk heard) clk u (m.drift u)
 
 -- the memory after all that is to be heard of a slot was heard
-abbrev pub note : Mission → List ℕ → ℕ → ℕ → ℤ → Slot → List (Option ℕ) → Memory → Memory
+abbrev pub note : FlownMission → List ℕ → ℕ → ℕ → ℤ → Slot → List (Option ℕ) → Memory → Memory
 note m us u f clk Clock heard b = record b { clock = caught_by_clock m us u clk heard; next_clk = offset_after m us u clk heard }
 note m us u f clk (Sense x) heard b = record b { direct = slice_set b.direct x (place_at heard (reader_of us x)) }
 note m us u f clk (RelaySense x) heard b = record b {
@@ -93,13 +93,13 @@ renewed test value [] i = []
 renewed test value (x ∷ xs) i = (if test i then value i else x) ∷ renewed test value xs (suc i)
 
 -- the mission has the word, as one of task t
-abbrev pub is_word_of : Mission → ℕ → ℕ → Bool
+abbrev pub is_word_of : FlownMission → ℕ → ℕ → Bool
 is_word_of m t w = nat_lt w m.words && nat_eq (m.task w) t
 
 -- a word of the mission is one of task t, and u executes it
-abbrev pub is_made_by : Mission → List ℕ → ℕ → ℕ → ℕ → Bool
+abbrev pub is_made_by : FlownMission → List ℕ → ℕ → ℕ → ℕ → Bool
 is_made_by m us u t w = nat_lt w m.words && (nat_eq (m.task w) t && m.executes us w u)
 
 -- the memory after task t was run
-abbrev pub run : Mission → List ℕ → ℕ → List ℕ → ℕ → Memory → Memory
+abbrev pub run : FlownMission → List ℕ → ℕ → List ℕ → ℕ → Memory → Memory
 run m us u last t b = record b { made = renewed (is_made_by m us u t) (λ w. m.word w b.ins b.outs last) b.made 0 }

@@ -1,12 +1,9 @@
 -- How far from 0 the clock of a unit may be.
 use Rattle.std.specs.Prelude.{ℕ, ◌+◌, ◌*◌, ℤ, pos, ◌+ℤ◌}
 use Rattle.sift_clock.specs.Distance.{IsWithin}
-use Rattle.sift_unit.specs.Account.{Account}
-use Rattle.sift_unit.specs.PartsFit.{start_limit}
-
--- by how many ticks an offset changes in a frame at most
-abbrev pub change_limit : ℕ
-change_limit = 9600
+use Rattle.sift_conduct.specs.Account.{Account}
+use Rattle.sift_mission.specs.Fits.{change_limit}
+use Rattle.sift_mission.specs.PartsFit.{start_limit}
 
 -- how far from 0 an offset is in a frame at most: so far at the start, and so much farther in each frame
 abbrev pub reach : ℕ → ℤ

@@ -8,19 +8,19 @@ use Rattle.sift_vote.specs.Differing.{differs}
 use Rattle.sift_agree.specs.Agreement.{taken}
 use Rattle.sift_config.specs.Config.{reader_of}
 use Rattle.sift_clock.specs.Correction.{next_offset}
-use Rattle.sift_unit.specs.Mission.{Mission}
-use Rattle.sift_unit.specs.Slots.{executors}
-use Rattle.sift_unit.specs.Account.{Account, Places}
-use Rattle.sift_unit.specs.Conduct.{input_of, made, polled, reading_by, clock_catches}
+use Rattle.sift_mission.specs.Mission.{FlownMission}
+use Rattle.sift_mission.specs.Slots.{executors}
+use Rattle.sift_conduct.specs.Account.{Account, Places}
+use Rattle.sift_conduct.specs.Conduct.{input_of, made, polled, reading_by, clock_catches}
 use Rattle.sift_unit.specs.Memory.{Memory, place_at, units_at}
 use Rattle.sift_unit.specs.Tidings.{bad_now}
 
 -- the words of a poll, as the equations of conduct have them
-abbrev pub polled_words : Mission → List ℕ → ℕ → Account → Places → List ℕ → ℕ → List (Option ℕ)
+abbrev pub polled_words : FlownMission → List ℕ → ℕ → Account → Places → List ℕ → ℕ → List (Option ℕ)
 polled_words m us u a h last w = map (polled m u a h last w) (executors m us w)
 
 -- the memory holds what comes of a slot, all of which was heard
-abbrev pub Heard : Mission → List ℕ → ℕ → ℕ → ℤ → Account → Places → List ℕ → Memory → Slot → Type 0
+abbrev pub Heard : FlownMission → List ℕ → ℕ → ℕ → ℤ → Account → Places → List ℕ → Memory → Slot → Type 0
 Heard m us u f clk a h last b Clock =
     ((v : ℕ) → holds b.clock v ≡ clock_catches m us u clk h v)
     × (b.next_clk ≡ next_offset (m.skew +ℤ m.error) us (reading_by m u clk h) clk u (m.drift u))
@@ -39,7 +39,7 @@ Heard m us u f clk a h last b (RelayReport s) =
     has us s ≡ true → s ≢ u → slice_index b.agreed s ≡ agreed_of (taken us s u (λ q. h Report s) (λ q p. h (RelayReport s) p))
 
 -- the memory holds the word that u made, where its task was run
-abbrev pub Ran : Mission → List ℕ → ℕ → Account → List ℕ → Memory → ℕ → Type 0
+abbrev pub Ran : FlownMission → List ℕ → ℕ → Account → List ℕ → Memory → ℕ → Type 0
 Ran m us u a last b w = m.executes us w u ≡ true → slice_index b.made w ≡ made m a last w
 
 -- the account has what the memory settled when the slot was heard
@@ -52,11 +52,11 @@ Matches b a Report = Unit {0}
 Matches b a (RelayReport s) = Unit {0}
 
 -- the account has the catches of the memory, all of which are known
-abbrev pub Settled : Mission → List ℕ → Memory → Account → Type 0
+abbrev pub Settled : FlownMission → List ℕ → Memory → Account → Type 0
 Settled m us b a = bad_now m us b ≡ a.bad
 
 -- the lists of the memory have a place for each sensor, word and unit; those that the account takes have no more
-pub record IsShaped (m : Mission) (b : Memory) : Type 0 where
+pub record IsShaped (m : FlownMission) (b : Memory) : Type 0 where
   pub direct : m.sensors ≤ length b.direct
   pub ins : length b.ins ≡ m.sensors
   pub relay : m.sensors ≤ length b.relay

@@ -1,7 +1,7 @@
 -- What a step of a board came to.
 use Rattle.std.specs.Prelude.{◌≡◌, ◌⊎◌, ℕ, ◌<◌, ◌≤◌, Option}
 use Rattle.sift_buffer.specs.Views.{View, view_with_said, view_with_heard, EntersAfterRound, FindsBehind}
-use Rattle.sift_unit.specs.Mission.{Mission}
+use Rattle.sift_mission.specs.Mission.{FlownMission}
 use Rattle.sift_unit.specs.Desk.{Desk}
 use Rattle.sift_unit.specs.Passing.{distance}
 use Rattle.sift_unit.specs.declared.stepped.Stepped.{Stepped}
@@ -14,13 +14,13 @@ pub data OneCall (b : Desk) (v : View) (b' : Desk) (v' : View) : Type 0 where
   entered : EntersAfterRound v v' → OneCall b v b' v'
 
 -- the unit moved: by one call, nearer to the flight's end, and not to it
-pub record HasMoved (m : Mission) (b : Desk) (v : View) (b' : Desk) (v' : View) : Type 0 where
+pub record HasMoved (m : FlownMission) (b : Desk) (v : View) (b' : Desk) (v' : View) : Type 0 where
   pub call : OneCall b v b' v'
   pub unfinished : b'.frame < m.frames
   pub nearer : distance m b' < distance m b
 
 -- the unit stays in its subframe, since another was found behind it
-pub record HasWaited (m : Mission) (b : Desk) (v : View) (p n : ℕ) (b' : Desk) (v' : View) : Type 0 where
+pub record HasWaited (m : FlownMission) (b : Desk) (v : View) (p n : ℕ) (b' : Desk) (v' : View) : Type 0 where
   pub behind : FindsBehind v p n v'
   pub frame : b'.frame ≡ b.frame
   pub subframe : b'.subframe ≡ b.subframe
@@ -28,12 +28,12 @@ pub record HasWaited (m : Mission) (b : Desk) (v : View) (p n : ℕ) (b' : Desk)
   pub no_farther : distance m b' ≤ distance m b
 
 -- the unit has entered the end: before, and then nothing has changed, or by this one call
-pub record HasLanded (m : Mission) (b : Desk) (v : View) (b' : Desk) (v' : View) : Type 0 where
+pub record HasLanded (m : FlownMission) (b : Desk) (v : View) (b' : Desk) (v' : View) : Type 0 where
   pub ended : b'.frame ≡ m.frames
   pub cause : ((b' ≡ b) × (v' ≡ v)) ⊎ ((b.frame < m.frames) × EntersAfterRound v v')
 
 -- what the answer tells; stands says of a unit's number that it is now this one, where the port can tell
-abbrev pub Steps : Mission → Desk → View → Stepped → Desk → View → (ℕ → ℕ → Type 0) → Type 0
+abbrev pub Steps : FlownMission → Desk → View → Stepped → Desk → View → (ℕ → ℕ → Type 0) → Type 0
 Steps m b v Moved b' v' stands = HasMoved m b v b' v'
 Steps m b v (NotYet p n) b' v' stands = HasWaited m b v p n b' v' × stands p n
 Steps m b v Landed b' v' stands = HasLanded m b v b' v'

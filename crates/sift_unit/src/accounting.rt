@@ -1,19 +1,20 @@
 //! The account of a frame, of what a board remembers of it.
 
 ghost use Rattle.std.specs.Prelude.{◌≡◌, map, nat_eq, slice_index, if◌then◌else◌};
-ghost use Rattle.sift_unit.specs.Fits.{Fits};
-ghost use Rattle.sift_unit.specs.Acts.{IsConfigOf};
+ghost use Rattle.sift_mission.specs.Fits.{Fits};
+ghost use Rattle.sift_mission.specs.Mission.{IsConfigOf};
 ghost use Rattle.sift_unit.specs.Tidings.{report_taken, busy_account, idle_account, frame_account, names_now};
 ghost use Rattle.sift_unit.specs.Remembered.{IsShaped};
-ghost use Rattle.sift_unit.specs.Boards.{memory_of, account_of};
+ghost use Rattle.sift_unit.specs.Boards.{memory_of};
+ghost use Rattle.sift_conduct.specs.Account.{account_of};
 ghost use Rattle.sift_exec.specs.Conviction.{next_by};
 
-use crate::account::Account;
 use crate::duty::Duty;
 use crate::lists::copy_of;
 use crate::memory::Memory;
 use arrayvec::ArrayVec;
 use sift_base::{UnitId, Word};
+use sift_conduct::Account;
 use sift_config::Config;
 use sift_exec::{Recorder, convict, next_config};
 

@@ -2,19 +2,18 @@
 
 ghost use Rattle.std.specs.Prelude.{◌≡◌, ◌<◌, IfOk, true, length, slice_index_or};
 ghost use Rattle.sift_base.specs.Units.{has};
-ghost use Rattle.sift_unit.specs.Flown.{mission_of};
+ghost use Rattle.sift_mission.specs.Parts.{flown_of};
 ghost use Rattle.sift_unit.specs.Boards.{IsNewBoard};
 
-use crate::account::Account;
 use crate::executor::Executor;
-use crate::laws::a_mission_fits;
 use crate::lists::copy_of;
 use crate::memory::Memory;
-use crate::mission::Mission;
 use crate::part::Part;
 use arrayvec::ArrayVec;
 use sift_base::{NoMemory, UnitId, Word};
+use sift_conduct::Account;
 use sift_config::Config;
+use sift_mission::{Mission, a_mission_fits};
 use std::alloc::Global;
 
 /// One unit in a flight: where it stands, what it remembers of the frame, and its accounts of the
@@ -40,8 +39,8 @@ impl Board {
     /// The board of a unit of the mission before the flight, with the memory for all its accounts and
     /// for the runs of its tasks.
     pub fn make(alloc: Global, mission: &Mission, unit: UnitId) -> Result<Board, NoMemory>
-        requires { has (mission_of mission.now).units unit ≡ true }
-        ensures { IfOk result (λ board. IsNewBoard (mission_of mission.now) unit board) }
+        requires { has (flown_of mission.now).units unit ≡ true }
+        ensures { IfOk result (λ board. IsNewBoard (flown_of mission.now) unit board) }
     {
         a_mission_fits(mission);
         let accounts = Vec::with_capacity(alloc, mission.frames() as usize)?;

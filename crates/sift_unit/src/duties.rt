@@ -1,17 +1,18 @@
 //! What a mission has its units do.
 
-ghost use Rattle.sift_unit.specs.Flown.{mission_of};
+ghost use Rattle.sift_mission.specs.Parts.{flown_of};
 
 use crate::duty::Duty;
 use crate::executor::Executor;
-use crate::mission::Mission;
+use crate::lists::put_at;
 use crate::part::Part;
 use sift_base::{Slot, UnitId, UnitSet, Word};
 use sift_config::Config;
+use sift_mission::{Mission, a_mission_flies};
 use sift_script::working_units_say_their_words;
 
 impl Duty for Mission {
-    ghost mission = { mission_of };
+    ghost mission = { flown_of };
 
     fn frames(&self) -> u32 {
         self.frames()
@@ -128,6 +129,8 @@ impl Duty for Mission {
         last: &[Word],
         made: &mut [Word; 64],
     ) {
-        self.put_words(task, executor, ins, now, last, made);
+        a_mission_flies(self);
+        let words = executor.run(self.code(task), ins, now, last);
+        put_at(&mut made[..], self.first_word(task), &words);
     }
 }

@@ -4,10 +4,9 @@ ghost use Rattle.std.specs.Prelude.{◌≡◌, ◌<◌, ◌≤◌, ℕ, true, le
 ghost use Rattle.sift_clock.specs.Distance.{IsWithin, error_limit};
 ghost use Rattle.sift_base.specs.Units.{has, holds, unit_limit};
 ghost use Rattle.sift_base.specs.Layout.{word_limit};
-ghost use Rattle.sift_unit.specs.Mission.{Mission};
-ghost use Rattle.sift_unit.specs.Slots.{calls, IsFirstFrom};
-ghost use Rattle.sift_unit.specs.Acts.{IsConfigOf};
-ghost use Rattle.sift_unit.specs.Fits.{Fits};
+ghost use Rattle.sift_mission.specs.Mission.{FlownMission, IsConfigOf};
+ghost use Rattle.sift_mission.specs.Slots.{calls, IsFirstFrom};
+ghost use Rattle.sift_mission.specs.Fits.{Fits};
 ghost use Rattle.sift_unit.specs.Memory.{renewed, is_word_of};
 ghost use Rattle.sift_unit.specs.Desk.{spot};
 ghost use Rattle.sift_unit.specs.Stops.{IsNothingBetween};
@@ -22,7 +21,7 @@ use sift_config::Config;
 /// A mission, as far as a board asks it. A clause sees no more of it than the definitions do.
 pub(crate) trait Duty {
     /// The mission, as the definitions see it.
-    ghost mission: { Self → Mission };
+    ghost mission: { Self → FlownMission };
 
     /// How many frames there are.
     fn frames(&self) -> u32

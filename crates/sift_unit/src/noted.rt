@@ -7,9 +7,8 @@ ghost use Rattle.sift_vote.specs.Agreed.{majority_of};
 ghost use Rattle.sift_vote.specs.Differing.{differs as is_other};
 ghost use Rattle.sift_clock.specs.Distance.{IsWithin};
 ghost use Rattle.sift_skew.specs.Limits.{offset_limit};
-ghost use Rattle.sift_unit.specs.Mission.{Mission};
-ghost use Rattle.sift_unit.specs.Fits.{Fits};
-ghost use Rattle.sift_unit.specs.Acts.{IsConfigOf};
+ghost use Rattle.sift_mission.specs.Mission.{FlownMission, IsConfigOf};
+ghost use Rattle.sift_mission.specs.Fits.{Fits};
 ghost use Rattle.sift_unit.specs.Memory.{place_at, polled_at, poll_of, note as note_of};
 ghost use Rattle.sift_unit.specs.Remembered.{IsShaped};
 ghost use Rattle.sift_unit.specs.Passing.{IsSlotOf};
@@ -223,7 +222,7 @@ impl Memory {
 
     /// Notes the agreed report of a unit.
     fn note_report(&mut self, config: &Config, unit: UnitId, of: UnitId, places: &[Option<Word>; 8])
-        ensures { (m : Mission) (f : ℕ) (clk : ℤ) → memory_of self.new ≡ note_of m config.now unit f clk (RelayReport of) places.now (memory_of self.old) }
+        ensures { (m : FlownMission) (f : ℕ) (clk : ℤ) → memory_of self.new ≡ note_of m config.now unit f clk (RelayReport of) places.now (memory_of self.old) }
     {
         let relays = relays_of(places, config, of, unit);
         self.agreed[usize::from(of.get())] = agree(place_of(&self.reports, of), &relays);

@@ -5,8 +5,8 @@ ghost use Rattle.sift_base.specs.Units.{has, holds, others};
 ghost use Rattle.sift_clock.specs.Distance.{IsWithin};
 ghost use Rattle.sift_clock.specs.Reading.{is_too_far};
 ghost use Rattle.sift_skew.specs.Limits.{offset_limit};
-ghost use Rattle.sift_unit.specs.Acts.{IsConfigOf};
-ghost use Rattle.sift_unit.specs.Fits.{Fits};
+ghost use Rattle.sift_mission.specs.Mission.{IsConfigOf};
+ghost use Rattle.sift_mission.specs.Fits.{Fits};
 ghost use Rattle.sift_unit.specs.Memory.{reading_at, offset_after};
 
 use crate::duty::Duty;

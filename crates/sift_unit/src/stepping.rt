@@ -3,8 +3,8 @@
 ghost use Rattle.std.specs.Prelude.{◌≡◌, ◌<◌, ◌≤◌, ◌+◌, ◌*◌, ℕ, true};
 ghost use Rattle.std.specs.Vec.{vec_capacity};
 ghost use Rattle.sift_unit.specs.Desk.{is_hearing as at_hearing, is_saying as at_saying, is_end as at_end};
-ghost use Rattle.sift_unit.specs.Fits.{Fits};
-ghost use Rattle.sift_unit.specs.Flown.{mission_of};
+ghost use Rattle.sift_mission.specs.Fits.{Fits};
+ghost use Rattle.sift_mission.specs.Parts.{flown_of};
 ghost use Rattle.sift_unit.specs.Going.{InRange};
 ghost use Rattle.sift_unit.specs.Passing.{IsSlotOf};
 ghost use Rattle.sift_unit.specs.Stepping.{Steps, HasMoved};
@@ -13,19 +13,19 @@ ghost use Rattle.sift_unit.specs.Boards.{desk_of, Drives, GoesOn};
 use crate::board::Board;
 use crate::duty::Duty;
 use crate::lists::copy_of;
-use crate::mission::Mission;
 use crate::part::Part;
 use crate::stepped::Stepped;
 use sift_base::UnitId;
 use sift_buffer::{Entering, Port};
+use sift_mission::Mission;
 use sift_skew::offsets_change_little;
 
 impl Board {
     /// Does the work up to the board's next call on the port, and makes that one call.
     pub fn step<T: Port>(&mut self, mission: &Mission, port: &mut T) -> Stepped
-        requires { Drives (mission_of mission.now) self.old (T.view port.old) }
-        ensures drives { Drives (mission_of mission.now) self.new (T.view port.new) }
-        ensures steps { Steps (mission_of mission.now) (desk_of self.old) (T.view port.old) result (desk_of self.new) (T.view port.new) (T.stands port.new) }
+        requires { Drives (flown_of mission.now) self.old (T.view port.old) }
+        ensures drives { Drives (flown_of mission.now) self.new (T.view port.new) }
+        ensures steps { Steps (flown_of mission.now) (desk_of self.old) (T.view port.old) result (desk_of self.new) (T.view port.new) (T.stands port.new) }
         ensures follows { T.follows port.old port.new }
     {
         self.step_by(mission, port)

@@ -2,9 +2,9 @@
 
 ghost use Rattle.std.specs.Prelude.{◌≡◌, ◌<◌, ◌≤◌, ◌&&◌, ℕ, length, true};
 ghost use Rattle.sift_base.specs.Units.{has, holds};
-ghost use Rattle.sift_unit.specs.Fits.{Fits};
-ghost use Rattle.sift_unit.specs.Slots.{is_slot};
-ghost use Rattle.sift_unit.specs.Conduct.{any_below};
+ghost use Rattle.sift_mission.specs.Fits.{Fits};
+ghost use Rattle.sift_mission.specs.Slots.{is_slot};
+ghost use Rattle.sift_conduct.specs.Conduct.{any_below};
 ghost use Rattle.sift_unit.specs.Memory.{units_at};
 ghost use Rattle.sift_unit.specs.Tidings.{bad_now, report_now, word_now, word_to as word_for};
 ghost use Rattle.sift_unit.specs.Remembered.{IsShaped};

@@ -3,7 +3,7 @@
 ghost use Rattle.std.specs.Prelude.{◌≡◌, ◌⊎◌, ◌<◌, ◌≤◌, true, false, nat_eq};
 ghost use Rattle.sift_base.specs.Units.{has};
 ghost use Rattle.sift_unit.specs.Desk.{is_call as at_call, is_end as at_end};
-ghost use Rattle.sift_unit.specs.Fits.{Fits};
+ghost use Rattle.sift_mission.specs.Fits.{Fits};
 ghost use Rattle.sift_unit.specs.Going.{InRange};
 ghost use Rattle.sift_unit.specs.Passing.{Passes, Onward, Finds, IsWhole, left};
 ghost use Rattle.sift_unit.specs.Boards.{desk_of};

@@ -4,7 +4,7 @@ use Rattle.std.proofs.lemmas.Bool.{lt-ltb, le-ltb}
 use Rattle.sift_base.specs.Units.{holds, has}
 use Rattle.sift_config.proofs.Lists.{has_front, get-drop}
 use Rattle.sift_exec.specs.Conviction.{accusers, names_by}
-use Rattle.sift_exec.proofs.Accusing.{guilty_joins, innocent_stays}
+use Rattle.sift_config.proofs.Joining.{passing_joins, failing_stays}
 use Rattle.sift_exec.proofs.conviction.convict.Goals as goal
 use Rattle.sift_exec.proofs.conviction.convict.Goals.{then-accusers_of-ge-ENOUGH_ACCUSERS, else-accusers_of-ge-ENOUGH_ACCUSERS}
 
@@ -22,8 +22,8 @@ loop-position-preserved c = λ u.
     elim c.if-accusers_of-ge-ENOUGH_ACCUSERS.branch [
       | then-accusers_of-ge-ENOUGH_ACCUSERS w ↦
           let joins : guilty t ≡ true = lt-ltb 1 (accusers (names_by us c.args.masks.now) us t) (omega (arith, c.accusers_of.ensures, w.if-accusers_of-ge-ENOUGH_ACCUSERS.true)) in
-          ap (λ units. holds units u) (w.convicted-is ∙ w.with-convicted.ensures) ∙ guilty_joins c.loop-position.convicted seen guilty t c.loop-position.invariant joins u ∙ sym front
+          ap (λ units. holds units u) (w.convicted-is ∙ w.with-convicted.ensures) ∙ passing_joins c.loop-position.convicted seen guilty t c.loop-position.invariant joins u ∙ sym front
       | else-accusers_of-ge-ENOUGH_ACCUSERS w ↦
           let stays : guilty t ≡ false = le-ltb 1 (accusers (names_by us c.args.masks.now) us t) (omega (arith, c.accusers_of.ensures, w.if-accusers_of-ge-ENOUGH_ACCUSERS.false)) in
-          ap (λ units. holds units u) w.convicted-is ∙ innocent_stays c.loop-position.convicted seen guilty t c.loop-position.invariant stays u ∙ sym front
+          ap (λ units. holds units u) w.convicted-is ∙ failing_stays c.loop-position.convicted seen guilty t c.loop-position.invariant stays u ∙ sym front
     ]

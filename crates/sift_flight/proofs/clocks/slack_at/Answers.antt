@@ -2,18 +2,18 @@ use Rattle.std.proofs.Common.{◌≡◌, [], map, ◌∙◌, subst, ap, ℕ, ℤ
 use Rattle.std.proofs.lemmas.Int.{ints}
 use Rattle.std.specs.Prelude.{MatchOption}
 use Rattle.sift_skew.specs.Figures.{IsSlack}
-use Rattle.sift_unit.specs.Flown.{mission_of}
+use Rattle.sift_mission.specs.Parts.{flown_of}
 use Rattle.sift_flight.specs.Configuration.{next_offsets_at, offsets_at, working_at}
 use Rattle.sift_flight.specs.Told.{told}
 use Rattle.sift_flight.proofs.Telling.{slack_found, slack_of_units}
 use Rattle.sift_flight.proofs.clocks.slack_at.Goals as goal
 
 -- the slack that is found is that of the offsets
-found : (c : goal.After-slack) → let m = mission_of c.args.mission.now in
+found : (c : goal.After-slack) → let m = flown_of c.args.mission.now in
     let now = offsets_at m (told m c.args.flight.now) c.args.f in
     let next = next_offsets_at m (told m c.args.flight.now) c.args.f in MatchOption c.slack.result (now ≡ []) (IsSlack m.length now next)
 found c =
-    let m = mission_of c.args.mission.now in
+    let m = flown_of c.args.mission.now in
     let clk : ℕ → ℤ = λ u. ((told m c.args.flight.now).account u c.args.f).clk in
     let next_clk : ℕ → ℤ = λ u. ((told m c.args.flight.now).account u c.args.f).next_clk in
     let now = c.deref-3.ensures.0 ∙ c.offsets_of-now.ensures.offsets ∙ ap (map clk) (c.deref.ensures.0 ∙ c.working_at-working.ensures.working) in
@@ -27,12 +27,12 @@ found c =
 
 pub returns-clause-told : goal.returns-clause-told
 returns-clause-told c =
-    let m = mission_of c.args.mission.now in
+    let m = flown_of c.args.mission.now in
     slack_found (λ u. ((told m c.args.flight.now).account u c.args.f).clk) (working_at m (told m c.args.flight.now) c.args.f) c.slack.result
     m.length (next_offsets_at m (told m c.args.flight.now) c.args.f) (found c)
 
 pub returns-clause-slack : goal.returns-clause-slack
 returns-clause-slack c =
-    let m = mission_of c.args.mission.now in
+    let m = flown_of c.args.mission.now in
     slack_of_units (λ u. ((told m c.args.flight.now).account u c.args.f).clk) (working_at m (told m c.args.flight.now) c.args.f) c.slack.result
     m.length (next_offsets_at m (told m c.args.flight.now) c.args.f) (found c)

@@ -1,5 +1,5 @@
 use Rattle.std.proofs.Common.{◌∙◌, length, ap, arith}
-use Rattle.sift_unit.specs.Flown.{mission_of}
+use Rattle.sift_mission.specs.Parts.{flown_of}
 use Rattle.sift_flight.specs.Configuration.{config_at}
 use Rattle.sift_flight.specs.Told.{told}
 use Rattle.sift_flight.proofs.Counted.{enough_decides, few_decides, filter-≤}
@@ -7,7 +7,7 @@ use Rattle.sift_flight.proofs.figures.is_sound_at.Goals as goal
 
 pub overflow_sub-faulty : goal.overflow_sub-faulty
 overflow_sub-faulty c =
-    let m = mission_of c.args.mission.now in
+    let m = flown_of c.args.mission.now in
     let us = config_at m (told m c.args.flight.now) c.args.f in
     let all = c.len.ensures.length ∙ ap length c.config_at.ensures.config in
     let working = c.len-working.ensures.value ∙ ap length c.working_at.ensures.working in
@@ -15,7 +15,7 @@ overflow_sub-faulty c =
 
 pub returns-then-faulty-le1 : goal.returns-then-faulty-le1
 returns-then-faulty-le1 c =
-    let m = mission_of c.args.mission.now in
+    let m = flown_of c.args.mission.now in
     let us = config_at m (told m c.args.flight.now) c.args.f in
     let all = c.len.ensures.length ∙ ap length c.config_at.ensures.config in
     let working = c.len-working.ensures.value ∙ ap length c.working_at.ensures.working in
@@ -23,7 +23,7 @@ returns-then-faulty-le1 c =
 
 pub returns-else-faulty-le1 : goal.returns-else-faulty-le1
 returns-else-faulty-le1 c =
-    let m = mission_of c.args.mission.now in
+    let m = flown_of c.args.mission.now in
     let us = config_at m (told m c.args.flight.now) c.args.f in
     let all = c.len.ensures.length ∙ ap length c.config_at.ensures.config in
     let working = c.len-working.ensures.value ∙ ap length c.working_at.ensures.working in

@@ -1,5 +1,5 @@
 use Rattle.std.proofs.Common.{◌≡◌, false, true, suc, ◌∙◌, sym, subst, add-one, refl, arith}
-use Rattle.sift_unit.specs.Flown.{mission_of}
+use Rattle.sift_mission.specs.Parts.{flown_of}
 use Rattle.sift_flight.specs.Figures.{is_sound_at, margin_before}
 use Rattle.sift_flight.specs.Told.{told}
 use Rattle.sift_flight.proofs.Calls.{both}
@@ -8,7 +8,7 @@ use Rattle.sift_flight.proofs.figures.margin_at.Goals as goal
 
 pub returns-then-not-is_sound_at-clause-told : goal.returns-then-not-is_sound_at-clause-told
 returns-then-not-is_sound_at-clause-told c =
-    let m = mission_of c.args.mission.now in
+    let m = flown_of c.args.mission.now in
     let fl = told m c.args.flight.now in
     let lost : is_sound_at m fl c.loop-g.g ≡ false = sym c.is_sound_at.ensures ∙ c.if-not-is_sound_at.true in
     let here : margin_before m fl (suc c.loop-g.g) ≡ false = rw (lost, c.loop-g.invariant) refl in
@@ -16,7 +16,7 @@ returns-then-not-is_sound_at-clause-told c =
 
 pub returns-then-not-is_sound_at-clause-margin : goal.returns-then-not-is_sound_at-clause-margin
 returns-then-not-is_sound_at-clause-margin c =
-    let m = mission_of c.args.mission.now in
+    let m = flown_of c.args.mission.now in
     let fl = told m c.args.flight.now in
     let same = returns-then-not-is_sound_at-clause-told c in
     let law = margin_is_told m fl c.args.f in
@@ -27,7 +27,7 @@ loop-g-preserved c = rw (add-one c.loop-g.g) (both _ _ c.loop-g.invariant (sym c
 
 pub returns-clause-told : goal.returns-clause-told
 returns-clause-told c =
-    let m = mission_of c.args.mission.now in
+    let m = flown_of c.args.mission.now in
     let fl = told m c.args.flight.now in
     let end : c.loop-g.g ≡ c.args.f = omega arith in
     let before : margin_before m fl c.args.f ≡ true = subst (λ g. margin_before m fl g ≡ true) end c.loop-g.invariant in
@@ -35,7 +35,7 @@ returns-clause-told c =
 
 pub returns-clause-margin : goal.returns-clause-margin
 returns-clause-margin c =
-    let m = mission_of c.args.mission.now in
+    let m = flown_of c.args.mission.now in
     let fl = told m c.args.flight.now in
     let same = returns-clause-told c in
     let law = margin_is_told m fl c.args.f in

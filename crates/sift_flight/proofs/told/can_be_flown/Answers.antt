@@ -1,4 +1,4 @@
-use Rattle.sift_unit.specs.Data.{data_of}
+use Rattle.sift_mission.specs.Parts.{data_of}
 use Rattle.sift_flight.proofs.told.can_be_flown.Goals as goal
 
 pub returns : goal.returns

@@ -1,7 +1,7 @@
 use Rattle.std.proofs.Common.{sym, ◌∙◌, subst}
 use Rattle.sift_buffer.specs.LonePorts.{view_of}
 use Rattle.sift_unit.specs.Boards.{Drives}
-use Rattle.sift_unit.specs.Flown.{mission_of}
+use Rattle.sift_mission.specs.Parts.{flown_of}
 use Rattle.sift_flight_rows.proofs.Alone.{follows_one, new_drives, new_one, stays_one}
 use Rattle.sift_flight_rows.proofs.board.a_board_flies_a_frame_beside_one_that_errs.Goals as goal
 
@@ -19,7 +19,7 @@ fly-moved-requires-clause-port g c =
 -- it drives on where the others have gone ahead
 pub fly-moved-requires-2-clause-drives : goal.fly-moved-requires-2-clause-drives
 fly-moved-requires-2-clause-drives g c =
-    subst (λ v. Drives (mission_of c.in_ok-mission.mission) c.fly-moved.new.board v) (sym c.go_ahead.ensures) c.fly-moved.ensures.drives
+    subst (λ v. Drives (flown_of c.in_ok-mission.mission) c.fly-moved.new.board v) (sym c.go_ahead.ensures) c.fly-moved.ensures.drives
 
 pub fly-moved-requires-2-clause-port : goal.fly-moved-requires-2-clause-port
 fly-moved-requires-2-clause-port g c = stays_one c.fly-moved.new.port c.go_ahead.new.port c.fly-moved.ensures.port c.go_ahead.ensures

@@ -1,4 +1,4 @@
-use Rattle.sift_unit.specs.Data.{data_of}
+use Rattle.sift_mission.specs.Parts.{data_of}
 use Rattle.sift_flight.specs.Hearing.{no_strays}
 use Rattle.sift_flight_rows.proofs.Both.{both_ok}
 use Rattle.sift_flight_rows.proofs.texts.flown.Goals as goal

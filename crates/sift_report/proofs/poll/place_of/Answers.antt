@@ -4,7 +4,7 @@ use Rattle.sift_base.specs.Layout.{slot_number}
 use Rattle.sift_base.specs.declared.slot.Slot.TheVariants.{Out}
 use Rattle.sift_base.proofs.Counts.{apart}
 use Rattle.sift_buffer.specs.Journals.{heard_in, said_in}
-use Rattle.sift_unit.specs.Flown.{mission_of}
+use Rattle.sift_mission.specs.Parts.{flown_of}
 use Rattle.sift_flight.specs.Told.{told}
 use Rattle.sift_report.specs.Votes.{lowest_other}
 use Rattle.sift_report.proofs.Heard.{journal-heard, journal-place, journal-said, place-other, place-own}
@@ -29,7 +29,7 @@ heard-requires c =
 
 pub returns-then-eq : goal.returns-then-eq
 returns-then-eq c =
-    let m = mission_of c.args.mission.now in
+    let m = flown_of c.args.mission.now in
     let fl = told m c.args.flight.now in
     let at = c.index-journal.ensures ∙ ap (λ i. get_or c.args.flight.now.journals.items i c.index-journal.result.now) (c.from.ensures ∙ c.get.ensures.number) in
     let slot : c.number-slot.result ≡ slot_number c.args.mission.now.layout (Out c.args.word) =
@@ -43,7 +43,7 @@ returns-then-eq c =
 
 pub returns-else-eq : goal.returns-else-eq
 returns-else-eq c =
-    let m = mission_of c.args.mission.now in
+    let m = flown_of c.args.mission.now in
     let fl = told m c.args.flight.now in
     let at = c.index-journal.ensures ∙ ap (λ i. get_or c.args.flight.now.journals.items i c.index-journal.result.now) (c.from.ensures ∙ c.get.ensures.number) in
     let slot : c.number-slot.result ≡ slot_number c.args.mission.now.layout (Out c.args.word) =

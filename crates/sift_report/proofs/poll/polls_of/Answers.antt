@@ -1,7 +1,7 @@
 use Rattle.std.proofs.Common.{◌≡◌, ℕ, Option, ◌++◌, ◌∷◌, [], ◌∙◌, length, map, take, sym, ap, arith}
 use Rattle.std.specs.List.{filter}
 use Rattle.std.proofs.lemmas.List.{length-map}
-use Rattle.sift_unit.specs.Flown.{mission_of}
+use Rattle.sift_mission.specs.Parts.{flown_of}
 use Rattle.sift_flight.specs.Told.{told}
 use Rattle.sift_flight.proofs.Counted.{filter-yes, filter-no, filter-room}
 use Rattle.sift_report.specs.Poll.{poll_of}
@@ -12,7 +12,7 @@ use Rattle.sift_report.proofs.poll.polls_of.Goals as goal
 
 pub push-requires : goal.push-requires
 push-requires c =
-    let m = mission_of c.args.mission.now in
+    let m = flown_of c.args.mission.now in
     let us = c.account_at.result.now.cfg in
     let room = filter-room (m.executes us c.args.word) us c.loop-i.i c.unit_at-unit.result c.unit_at-unit.ensures c.len-i-end.ensures.config in
     let count = length-map (filter (m.executes us c.args.word) (take c.loop-i.i us)) (poll_of m (told m c.args.flight.now) c.args.f c.args.u c.args.word) in
@@ -20,7 +20,7 @@ push-requires c =
 
 pub loop-i-preserved : goal.loop-i-preserved
 loop-i-preserved c =
-    let m = mission_of c.args.mission.now in
+    let m = flown_of c.args.mission.now in
     let us = c.account_at.result.now.cfg in
     let poll = poll_of m (told m c.args.flight.now) c.args.f c.args.u c.args.word in
     elim c.if-executes.branch [

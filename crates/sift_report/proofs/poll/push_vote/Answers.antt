@@ -1,6 +1,5 @@
 use Rattle.std.proofs.Common.{◌++◌, ◌∙◌, ap, arith, map, get_or, string_bytes}
-use Rattle.sift_unit.specs.Data.{data_of}
-use Rattle.sift_unit.specs.Flown.{mission_of}
+use Rattle.sift_mission.specs.Parts.{data_of, flown_of}
 use Rattle.sift_flight.specs.Told.{told}
 use Rattle.sift_vote.specs.Agreed.{majority_of}
 use Rattle.sift_report.specs.Poll.{polled_text}
@@ -19,7 +18,7 @@ returns c =
     let d = data_of c.args.mission.now in
     let at = c.index.ensures ∙ ap (λ parts. get_or parts.names.items c.args.output.t c.index.result.now) c.parts.ensures.same in
     let name = c.as_str-name.ensures.value ∙ name_is c.args.mission.now c.parts.ensures.fit c.args.output.t c.index.result.now c.requires.output.task at in
-    vote_ends d (told (mission_of c.args.mission.now) c.args.flight.now) c.args.f c.args.u c.args.output.t c.args.output.j
+    vote_ends d (told (flown_of c.args.mission.now) c.args.flight.now) c.args.f c.args.u c.args.output.t c.args.output.j
     c.args.output.word _ c.polls_of-polls.result.items c.vote_of-vote.result _ _ _ _ _ _
     name c.requires.output.number c.polls_of-polls.ensures
     (c.vote_of-vote.ensures ∙ ap (λ ps. majority_of (map (λ (poll : Poll). poll.word) ps)) c.deref.ensures.0)

@@ -1,5 +1,5 @@
 use Rattle.std.proofs.Common.{◌-◌, ◌++◌, ◌∙◌, ap, string_bytes}
-use Rattle.sift_unit.specs.Flown.{mission_of}
+use Rattle.sift_mission.specs.Parts.{flown_of}
 use Rattle.sift_flight.specs.Figures.{margin_at}
 use Rattle.sift_flight.specs.Told.{told}
 use Rattle.sift_report.specs.Line.{printed}
@@ -7,7 +7,7 @@ use Rattle.sift_report.proofs.report.push_end.Goals as goal
 
 pub last_line-requires-clause-margin : goal.last_line-requires-clause-margin
 last_line-requires-clause-margin c =
-    let m = mission_of c.args.mission.now in
+    let m = flown_of c.args.mission.now in
     c.margin_at-margin.ensures.told ∙ ap (λ parts. margin_at m (told m c.args.flight.now) (parts.frames - 1)) c.parts.ensures.same
 
 pub returns : goal.returns

@@ -1,5 +1,5 @@
 use Rattle.std.proofs.Common.{◌≡◌, ◌++◌, map, take, string_bytes}
-use Rattle.sift_unit.specs.Flown.{mission_of}
+use Rattle.sift_mission.specs.Parts.{flown_of}
 use Rattle.sift_flight.specs.Told.{told}
 use Rattle.sift_report.specs.Line.{text_of_lines}
 use Rattle.sift_report.specs.Sheet.{unit_line}
@@ -9,4 +9,4 @@ use Rattle.sift_report.proofs.report.push_frame.Given as goal
 abbrev pub invariant-loop-i : goal.invariant-loop-i
 invariant-loop-i l =
     string_bytes l.text ≡ string_bytes l.initial.text
-    ++ text_of_lines (map (unit_line (mission_of l.mission) (told (mission_of l.mission) l.flight) l.f) (take l.i l.everyone))
+    ++ text_of_lines (map (unit_line (flown_of l.mission) (told (flown_of l.mission) l.flight) l.f) (take l.i l.everyone))

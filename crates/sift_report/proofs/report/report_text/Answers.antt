@@ -1,6 +1,6 @@
 use Rattle.std.proofs.Common.{◌≡◌, [], ◌++◌, ◌∙◌, suc, ◌-◌, true, false, add-one, sym, ap, arith, string_bytes}
 use Rattle.std.specs.List.{flat_map, range_with_len}
-use Rattle.sift_unit.specs.Flown.{mission_of}
+use Rattle.sift_mission.specs.Parts.{flown_of}
 use Rattle.sift_flight.specs.Figures.{margin_before}
 use Rattle.sift_flight.specs.Told.{told}
 use Rattle.sift_report.specs.Line.{printed, text_of_lines}
@@ -12,7 +12,7 @@ use Rattle.sift_report.proofs.report.report_text.Goals as goal
 -- the lines and the margin of one frame more
 pub loop-f-preserved : goal.loop-f-preserved
 loop-f-preserved c =
-    let m = mission_of c.args.mission.now in
+    let m = flown_of c.args.mission.now in
     let fl = told m c.args.flight.now in (
       lines_more (frame_lines m fl) c.loop-f.f _ _ c.loop-f.invariant.0 c.in_ok-push_frame.ensures,
       rw (add-one c.loop-f.f) (elim c.if-margin.branch [
@@ -27,7 +27,7 @@ loop-f-preserved c =
 
 pub last_line-requires-clause-margin : goal.last_line-requires-clause-margin
 last_line-requires-clause-margin c =
-    let m = mission_of c.args.mission.now in
+    let m = flown_of c.args.mission.now in
     let fl = told m c.args.flight.now in
     let frames = ap (λ parts. parts.frames) c.parts.ensures.same in
     let some = c.parts.ensures.fit.limits.some_frame in
@@ -36,7 +36,7 @@ last_line-requires-clause-margin c =
 
 pub returns : goal.returns
 returns c =
-    let m = mission_of c.args.mission.now in
+    let m = flown_of c.args.mission.now in
     let fl = told m c.args.flight.now in
     let frames = ap (λ parts. parts.frames) c.parts.ensures.same in
     let end : c.loop-f.f ≡ m.frames = omega (arith, c.loop-f-test.false, c.loop-f.auto.f-end, frames) in

@@ -1,5 +1,4 @@
-use Rattle.sift_unit.specs.Data.{data_of}
-use Rattle.sift_unit.specs.Flown.{mission_of}
+use Rattle.sift_mission.specs.Parts.{data_of, flown_of}
 use Rattle.sift_flight.specs.Told.{told}
 use Rattle.sift_report.specs.Votes.{unit_votes}
 use Rattle.sift_flight.proofs.Counted.{has_place}
@@ -12,5 +11,5 @@ push_unit_votes-requires-clause-unit c =
 
 pub loop-i-preserved : goal.loop-i-preserved
 loop-i-preserved c =
-    unit_more (unit_votes (data_of c.args.mission.now) (told (mission_of c.args.mission.now) c.args.flight.now) c.args.f) c.everyone-everyone.result
+    unit_more (unit_votes (data_of c.args.mission.now) (told (flown_of c.args.mission.now) c.args.flight.now) c.args.f) c.everyone-everyone.result
     c.loop-i.i c.unit_at.result _ _ _ c.unit_at.ensures c.loop-i.invariant c.in_ok-push_unit_votes.ensures

@@ -1,5 +1,4 @@
-use Rattle.sift_unit.specs.Data.{data_of}
-use Rattle.sift_unit.specs.Flown.{mission_of}
+use Rattle.sift_mission.specs.Parts.{data_of, flown_of}
 use Rattle.sift_flight.specs.Told.{told}
 use Rattle.sift_report.specs.Votes.{vote_text}
 use Rattle.sift_report.proofs.Printed.{text_more}
@@ -7,5 +6,5 @@ use Rattle.sift_report.proofs.votes.push_task_votes.Goals as goal
 
 pub loop-j-preserved : goal.loop-j-preserved
 loop-j-preserved c =
-    text_more (vote_text (data_of c.args.mission.now) (told (mission_of c.args.mission.now) c.args.flight.now) c.args.f c.args.u c.args.t) c.loop-j.j _ _ _
+    text_more (vote_text (data_of c.args.mission.now) (told (flown_of c.args.mission.now) c.args.flight.now) c.args.f c.args.u c.args.t) c.loop-j.j _ _ _
     c.loop-j.invariant c.in_ok-push_vote.ensures

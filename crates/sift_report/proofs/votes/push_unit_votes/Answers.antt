@@ -1,6 +1,5 @@
 use Rattle.std.proofs.Common.{arith}
-use Rattle.sift_unit.specs.Data.{data_of}
-use Rattle.sift_unit.specs.Flown.{mission_of}
+use Rattle.sift_mission.specs.Parts.{data_of, flown_of}
 use Rattle.sift_flight.specs.Told.{told}
 use Rattle.sift_report.specs.Votes.{task_votes}
 use Rattle.sift_report.proofs.Polls.{next_first, task_there, word_room}
@@ -17,7 +16,7 @@ pub loop-t-preserved : goal.loop-t-preserved
 loop-t-preserved c =
     let d = data_of c.args.mission.now in
     let there = task_there c.parts.result.now c.args.mission.now c.parts.ensures.same c.loop-t.t c.len-t-end.result c.loop-t-test.true c.len-t-end.ensures in (
-      text_more (task_votes (data_of c.args.mission.now) (told (mission_of c.args.mission.now) c.args.flight.now) c.args.f c.args.u) c.loop-t.t _ _ _
+      text_more (task_votes (data_of c.args.mission.now) (told (flown_of c.args.mission.now) c.args.flight.now) c.args.f c.args.u) c.loop-t.t _ _ _
           c.loop-t.invariant.0 c.in_ok-push_task_votes.ensures,
       omega (arith, next_first d.program.tasks c.loop-t.t there, c.loop-t.invariant.1, c.outputs-first.ensures),
     )

@@ -7,7 +7,7 @@ use Rattle.toml.specs.View.{table_view}
 use Rattle.sift_base.specs.Layout.{least_units}
 use Rattle.sift_base.specs.Units.{unit_limit}
 use Rattle.sift_table.specs.Laws.{shortest_period}
-use Rattle.sift_unit.specs.PartsFit.{longest_period}
+use Rattle.sift_mission.specs.PartsFit.{longest_period}
 use Rattle.sift_scenario.proofs.Numbers.{between_at, between_or}
 use Rattle.sift_scenario.proofs.Read.{count_is}
 use Rattle.sift_scenario.proofs.Themes.{root_refused, theme_refused, themes_kept}

@@ -2,7 +2,7 @@ use Rattle.std.proofs.Common.{◌≡◌, ℕ, Err, rules, length, refl, ◌∙�
 use Rattle.sift_base.specs.Shapes.{shapes_of}
 use Rattle.sift_base.specs.declared.layout.Layout.{Layout}
 use Rattle.sift_scenario.proofs.Assembling.{layout_read}
-use Rattle.sift_scenario.proofs.Made.{fits, layout_fits, mission_is, program_sound, refused_script, refused_table, sensors_few, shapes_fit}
+use Rattle.sift_scenario.proofs.Made.{compiled, fits, layout_fits, mission_is, program_sound, refused_script, refused_table, sensors_few, shapes_fit, words_few}
 use Rattle.sift_scenario.specs.declared.document.Entries.{Entries}
 use Rattle.sift_scenario.specs.declared.program.Running.{Running}
 use Rattle.sift_scenario.proofs.mission.assemble.Goals as goal
@@ -18,7 +18,7 @@ overflow_cast-layout c =
     omega (arith, c.len.ensures, c.args.entries.sensors.words.ok.0, sensors_few c.requires.0 c.args.entries c.args.running c.requires.1 c.requires.2)
 
 pub overflow_cast-layout-2 : goal.overflow_cast-layout-2
-overflow_cast-layout-2 c = omega (arith, c.len-2.ensures, c.args.running.program.starts.ok.0, c.requires.2.sound.few_words)
+overflow_cast-layout-2 c = omega (arith, c.len-2.ensures, c.args.running.program.starts.ok.0, words_few c.requires.0 c.args.entries c.args.running c.requires.1 c.requires.2)
 
 pub shapes_of-requires : goal.shapes_of-requires
 shapes_of-requires c =
@@ -58,9 +58,15 @@ returns-in_err-script-clause-refused c =
     (shapes_of c.in_ok-shapes.shapes) c.in_ok-shapes.ensures c.in_ok-tables.tables.items c.in_ok-tables.ensures.same c.in_ok-tables.ensures.good
     c.in_err-script.field-0.0 c.in_err-script.ensures.refused)
 
+-- the code is that of the tasks
+pub of-requires-clause-compiled : goal.of-requires-clause-compiled
+of-requires-clause-compiled c =
+    compiled c.requires.0 c.args.entries c.args.running c.requires.1 c.requires.2 _
+    (laid_out c.args.entries c.args.running c.len.result c.len-2.result (c.len.ensures ∙ c.args.entries.sensors.words.ok.0) (c.len-2.ensures ∙ c.args.running.program.starts.ok.0))
+
 -- the parts fit
-pub of-requires : goal.of-requires
-of-requires c =
+pub of-requires-clause-fit : goal.of-requires-clause-fit
+of-requires-clause-fit c =
     fits c.requires.0 c.args.entries c.args.running c.requires.1 c.requires.2 _
     (laid_out c.args.entries c.args.running c.len.result c.len-2.result (c.len.ensures ∙ c.args.entries.sensors.words.ok.0) (c.len-2.ensures ∙ c.args.running.program.starts.ok.0))
     (shapes_of c.in_ok-shapes.shapes) c.in_ok-shapes.ensures c.in_ok-tables.tables.items c.in_ok-tables.ensures.same c.in_ok-tables.ensures.good

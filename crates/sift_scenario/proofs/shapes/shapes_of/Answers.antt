@@ -2,8 +2,8 @@ use Rattle.std.proofs.Common.{◌<◌, ◌∙◌, length, map, sym, ap, arith}
 use Rattle.std.proofs.lemmas.List.{length-map, map-append, take_all}
 use Rattle.sift_base.specs.Shapes.{AllShapes}
 use Rattle.sift_lang.specs.Tree.{tree_of}
-use Rattle.sift_unit.proofs.Tasks.{length-shapes}
-use Rattle.sift_unit.specs.Needs.{shapes_from}
+use Rattle.sift_mission.proofs.Tasks.{length-shapes}
+use Rattle.sift_mission.specs.Needs.{shapes_from}
 use Rattle.sift_scenario.proofs.ShapeLemmas.{shapes_next}
 use Rattle.sift_scenario.proofs.shapes.shapes_of.Goals as goal
 

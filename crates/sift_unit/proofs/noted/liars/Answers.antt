@@ -4,7 +4,7 @@ use Rattle.std.specs.FinSet as set
 use Rattle.sift_base.specs.Units.{holds, has}
 use Rattle.sift_vote.specs.Differing.{differs}
 use Rattle.sift_config.proofs.Lists.{has_front, get-drop}
-use Rattle.sift_exec.proofs.Accusing.{guilty_joins, innocent_stays}
+use Rattle.sift_config.proofs.Joining.{passing_joins, failing_stays}
 use Rattle.sift_unit.specs.Memory.{place_at}
 use Rattle.sift_unit.proofs.noted.liars.Goals as goal
 use Rattle.sift_unit.proofs.noted.liars.Goals.{then-lies, else-lies}
@@ -23,7 +23,7 @@ loop-position-preserved c = λ v.
     let front = ap (λ b. b && caught v) (has_front us v i t (get-drop us i ∙ c.unit_at-other.ensures)) in
     elim c.if-lies.branch [
       | then-lies w ↦ ap (λ units. holds units v) (w.liars-is ∙ w.with-liars.ensures)
-          ∙ guilty_joins c.loop-position.liars seen caught t c.loop-position.invariant (sym c.lies.ensures ∙ w.if-lies.true) v ∙ sym front
+          ∙ passing_joins c.loop-position.liars seen caught t c.loop-position.invariant (sym c.lies.ensures ∙ w.if-lies.true) v ∙ sym front
       | else-lies w ↦ ap (λ units. holds units v) w.liars-is
-          ∙ innocent_stays c.loop-position.liars seen caught t c.loop-position.invariant (sym c.lies.ensures ∙ w.if-lies.false) v ∙ sym front
+          ∙ failing_stays c.loop-position.liars seen caught t c.loop-position.invariant (sym c.lies.ensures ∙ w.if-lies.false) v ∙ sym front
     ]

@@ -4,9 +4,8 @@ use Rattle.std.specs.FinSet as set
 use Rattle.sift_base.specs.Units.{holds, has}
 use Rattle.sift_clock.specs.Reading.{is_too_far}
 use Rattle.sift_config.proofs.Lists.{has_front, get-drop}
-use Rattle.sift_exec.proofs.Accusing.{guilty_joins, innocent_stays}
+use Rattle.sift_config.proofs.Joining.{failing_stays, has_at, passing_joins}
 use Rattle.sift_unit.specs.Memory.{reading_at}
-use Rattle.sift_unit.proofs.Positions.{position-found}
 use Rattle.sift_unit.proofs.readings.far_clocks.Goals as goal
 use Rattle.sift_unit.proofs.readings.far_clocks.Goals.{then-is_far, else-is_far}
 
@@ -16,7 +15,7 @@ loop-position-init g c = λ v. ap (λ units. holds units v) c.empty-far.ensures 
 -- the other unit is one of the mission
 pub is_far-requires-clause-other : goal.is_far-requires-clause-other
 is_far-requires-clause-other g c =
-    c.requires.config.inside c.unit_at-other.result (position-found c.args.config.now c.loop-position.position c.unit_at-other.result c.requires.config.ascending c.unit_at-other.ensures).0
+    c.requires.config.inside c.unit_at-other.result (has_at c.args.config.now c.loop-position.position c.unit_at-other.result c.unit_at-other.ensures)
 
 -- one unit more
 pub loop-position-preserved : goal.loop-position-preserved
@@ -30,7 +29,7 @@ loop-position-preserved g c = λ v.
     let front = ap (λ b. b && caught v) (has_front us v i t (get-drop us i ∙ c.unit_at-other.ensures)) in
     elim c.if-is_far.branch [
       | then-is_far w ↦ ap (λ units. holds units v) (w.far-is ∙ w.with-far.ensures)
-          ∙ guilty_joins c.loop-position.far seen caught t c.loop-position.invariant (sym c.is_far.ensures ∙ w.if-is_far.true) v ∙ sym front
+          ∙ passing_joins c.loop-position.far seen caught t c.loop-position.invariant (sym c.is_far.ensures ∙ w.if-is_far.true) v ∙ sym front
       | else-is_far w ↦ ap (λ units. holds units v) w.far-is
-          ∙ innocent_stays c.loop-position.far seen caught t c.loop-position.invariant (sym c.is_far.ensures ∙ w.if-is_far.false) v ∙ sym front
+          ∙ failing_stays c.loop-position.far seen caught t c.loop-position.invariant (sym c.is_far.ensures ∙ w.if-is_far.false) v ∙ sym front
     ]

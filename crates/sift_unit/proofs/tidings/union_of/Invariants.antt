@@ -1,6 +1,6 @@
 use Rattle.std.proofs.Common.{◌≡◌, ℕ}
 use Rattle.sift_base.specs.Units.{holds}
-use Rattle.sift_unit.specs.Conduct.{any_below}
+use Rattle.sift_conduct.specs.Conduct.{any_below}
 use Rattle.sift_unit.specs.Memory.{units_at}
 use Rattle.sift_unit.proofs.tidings.union_of.Given as goal
 

@@ -2,7 +2,7 @@ use Rattle.std.proofs.Common.{ℕ, ◌&&◌, take, nat_cmp, ap, ◌∙◌, sym}
 use Rattle.std.specs.FinSet as set
 use Rattle.sift_base.specs.Units.{holds, has}
 use Rattle.sift_config.proofs.Lists.{has_front, get-drop}
-use Rattle.sift_exec.proofs.Accusing.{guilty_joins, innocent_stays}
+use Rattle.sift_config.proofs.Joining.{passing_joins, failing_stays}
 use Rattle.sift_unit.proofs.tidings.within.Goals as goal
 use Rattle.sift_unit.proofs.tidings.within.Goals.{then-has, else-has}
 
@@ -20,7 +20,7 @@ loop-position-preserved c = λ v.
     let front = ap (λ b. b && member v) (has_front us v i t (get-drop us i ∙ c.unit_at-unit.ensures)) in
     elim c.if-has.branch [
       | then-has w ↦ ap (λ units. holds units v) (w.found-is ∙ w.with-found.ensures)
-          ∙ guilty_joins c.loop-position.found seen member t c.loop-position.invariant (sym c.has.ensures ∙ w.if-has.true) v ∙ sym front
+          ∙ passing_joins c.loop-position.found seen member t c.loop-position.invariant (sym c.has.ensures ∙ w.if-has.true) v ∙ sym front
       | else-has w ↦ ap (λ units. holds units v) w.found-is
-          ∙ innocent_stays c.loop-position.found seen member t c.loop-position.invariant (sym c.has.ensures ∙ w.if-has.false) v ∙ sym front
+          ∙ failing_stays c.loop-position.found seen member t c.loop-position.invariant (sym c.has.ensures ∙ w.if-has.false) v ∙ sym front
     ]

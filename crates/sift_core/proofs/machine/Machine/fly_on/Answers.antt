@@ -1,5 +1,5 @@
 use Rattle.std.proofs.Common.{◌∙◌}
-use Rattle.sift_unit.specs.Flown.{mission_of}
+use Rattle.sift_mission.specs.Parts.{flown_of}
 use Rattle.sift_core.proofs.Turning.{turns_more, turns_end}
 use Rattle.sift_core.proofs.machine.Machine.fly_on.Goals as goal
 
@@ -7,12 +7,12 @@ pub loop-drawer-preserved : goal.loop-drawer-preserved
 loop-drawer-preserved c = record {
   flies = c.turn_before.ensures.flies;
   layout = c.turn_before.ensures.layout ∙ c.loop-drawer.invariant.layout;
-  after = turns_more (mission_of c.args.mission.now) c.args.order c.args.self.now c.loop-drawer.drawer c.loop-drawer.self c.turn_before.new.drawer
+  after = turns_more (flown_of c.args.mission.now) c.args.order c.args.self.now c.loop-drawer.drawer c.loop-drawer.self c.turn_before.new.drawer
       c.turn_before.new.self
       c.loop-drawer.invariant.after c.turn_before.result c.loop-drawer-test.ensures c.turn_before.ensures.turn;
 }
 
 pub returns-clause-order : goal.returns-clause-order
 returns-clause-order c =
-    turns_end (mission_of c.args.mission.now) c.args.order c.args.self.now c.loop-drawer.drawer c.loop-drawer.self c.turn_before.new.drawer c.turn_before.new.self
+    turns_end (flown_of c.args.mission.now) c.args.order c.args.self.now c.loop-drawer.drawer c.loop-drawer.self c.turn_before.new.drawer c.turn_before.new.self
     c.loop-drawer.invariant.after c.turn_before.result c.loop-drawer-test.ensures c.turn_before.ensures.turn

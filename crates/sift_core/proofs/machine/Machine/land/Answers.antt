@@ -1,12 +1,12 @@
 use Rattle.std.proofs.Common.{◌∙◌, ap, map, List, subst}
 use Rattle.std.specs.List.{All}
 use Rattle.sift_buffer.specs.Ledgers.{Ledger, HasItsWords}
-use Rattle.sift_unit.specs.Flown.{mission_of}
+use Rattle.sift_mission.specs.Parts.{flown_of}
 use Rattle.sift_core.proofs.Home.{landed_round, landed_logged}
 use Rattle.sift_core.proofs.machine.Machine.land.Goals as goal
 
 pub returns-clause-round : goal.returns-clause-round
-returns-clause-round c = landed_round (mission_of c.args.mission.now) c.args.self (record {
+returns-clause-round c = landed_round (flown_of c.args.mission.now) c.args.self (record {
   journals = c.journals_of.result;
   accounts =
       c.accounts_of.result;
@@ -20,7 +20,7 @@ returns-clause-round c = landed_round (mission_of c.args.mission.now) c.args.sel
     c.boards_keep_to_their_conduct.ensures c.lawful_cores_hear_lawfully.ensures c.landed_frames_are_round.ensures
 
 pub returns-clause-logged : goal.returns-clause-logged
-returns-clause-logged c = landed_logged (mission_of c.args.mission.now) c.args.self (record {
+returns-clause-logged c = landed_logged (flown_of c.args.mission.now) c.args.self (record {
   journals = c.journals_of.result;
   accounts =
       c.accounts_of.result;

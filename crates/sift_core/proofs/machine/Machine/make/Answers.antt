@@ -1,6 +1,6 @@
 use Rattle.std.proofs.Common.{subst}
-use Rattle.sift_unit.specs.Data.{data_of}
-use Rattle.sift_unit.specs.declared.parts.MissionParts.{MissionParts}
+use Rattle.sift_mission.specs.Parts.{data_of}
+use Rattle.sift_mission.specs.declared.parts.MissionParts.{MissionParts}
 use Rattle.sift_core.specs.Racks.{IsNewRack}
 use Rattle.sift_core.proofs.NewMachines.{new_flies}
 use Rattle.sift_core.proofs.machine.Machine.make.Goals as goal

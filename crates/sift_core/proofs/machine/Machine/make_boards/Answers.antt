@@ -1,5 +1,5 @@
 use Rattle.std.proofs.Common.{◌≡◌, ℕ, ap, subst, arith}
-use Rattle.sift_unit.specs.Flown.{mission_of}
+use Rattle.sift_mission.specs.Parts.{flown_of}
 use Rattle.sift_core.specs.Machines.{AreNewBoards}
 use Rattle.sift_core.proofs.FirstUnits.{low_unit}
 use Rattle.sift_core.proofs.NewMachines.{boards_push}
@@ -19,7 +19,7 @@ loop-number-preserved c =
       | in-Some+in_ok-make w ↦ rw w.boards-is (record {
         within = omega arith;
         room = (let r = inv.room in let k = w.push_reserved.ensures.capacity in omega arith);
-        boards = rw w.push_reserved.ensures.items (boards_push (mission_of c.args.mission.now) c.loop-number.number w.in-Some.unit
+        boards = rw w.push_reserved.ensures.items (boards_push (flown_of c.args.mission.now) c.loop-number.number w.in-Some.unit
             c.loop-number.boards.items _ inv.boards
             w.in-Some.ensures.found.0 w.in_ok-make.ensures);
       })
@@ -34,4 +34,4 @@ returns c =
     let units : c.parts.result.now.units ≡ c.args.mission.now.units = ap (λ parts. parts.units) c.parts.ensures.same in
     let all : c.loop-number.number ≡ c.args.mission.now.units = let w = c.loop-number.invariant.within in let t =
     c.loop-number-test.false in omega arith in
-    subst (λ (n : ℕ). AreNewBoards (mission_of c.args.mission.now) n c.loop-number.boards.items) all c.loop-number.invariant.boards
+    subst (λ (n : ℕ). AreNewBoards (flown_of c.args.mission.now) n c.loop-number.boards.items) all c.loop-number.invariant.boards

@@ -1,5 +1,5 @@
 use Rattle.std.proofs.Common.{◌∙◌, refl}
-use Rattle.sift_unit.specs.Flown.{mission_of}
+use Rattle.sift_mission.specs.Parts.{flown_of}
 use Rattle.sift_core.proofs.MachineSteps.{unit_below, drives_chosen, step_flies, step_stepped}
 use Rattle.sift_core.proofs.machine.Machine.step.Goals as goal
 
@@ -7,11 +7,11 @@ pub choose-requires : goal.choose-requires
 choose-requires c = unit_below _ c.args.self.now c.args.u c.requires.flies c.requires.unit
 
 pub step-requires : goal.step-requires
-step-requires c = drives_chosen (mission_of c.args.mission.now) c.args.self.now c.args.u c.choose.new.self c.from.result c.index_mut.result.now
+step-requires c = drives_chosen (flown_of c.args.mission.now) c.args.self.now c.args.u c.choose.new.self c.from.result c.index_mut.result.now
     c.requires.flies c.requires.unit c.choose.ensures (c.from.ensures ∙ c.get.ensures.number) c.index_mut.ensures.value
 
 pub returns-clause-flies : goal.returns-clause-flies
-returns-clause-flies c = step_flies (mission_of c.args.mission.now) c.args.self.now c.args.u c.choose.new.self c.from.result c.index_mut.result.now
+returns-clause-flies c = step_flies (flown_of c.args.mission.now) c.args.self.now c.args.u c.choose.new.self c.from.result c.index_mut.result.now
     c.step.result c.step.new.port c.step.new.self (record {
       keep = c.events_keep_the_core_lawful.ensures;
       flies = c.requires.flies;
@@ -25,7 +25,7 @@ returns-clause-flies c = step_flies (mission_of c.args.mission.now) c.args.self.
     }) _ refl
 
 pub returns-clause-stepped : goal.returns-clause-stepped
-returns-clause-stepped c = step_stepped (mission_of c.args.mission.now) c.args.self.now c.args.u c.choose.new.self c.from.result
+returns-clause-stepped c = step_stepped (flown_of c.args.mission.now) c.args.self.now c.args.u c.choose.new.self c.from.result
     c.index_mut.result.now
     c.step.result c.step.new.port c.step.new.self (record {
       keep = c.events_keep_the_core_lawful.ensures;

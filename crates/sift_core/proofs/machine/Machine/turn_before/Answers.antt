@@ -1,10 +1,10 @@
 use Rattle.std.proofs.Common.{◌∙◌}
-use Rattle.sift_unit.specs.Flown.{mission_of}
+use Rattle.sift_mission.specs.Parts.{flown_of}
 use Rattle.sift_core.proofs.Turning.{unit_there, own_turn, own_nearer, given_layout, given_aloft, least_turn, least_nearer}
 use Rattle.sift_core.proofs.machine.Machine.turn_before.Goals as goal
 
 pub goes_itself-requires-clause-unit : goal.goes_itself-requires-clause-unit
-goes_itself-requires-clause-unit c = unit_there (mission_of c.args.mission.now) c.args.self.now c.drawn_unit-drawn.result c.requires.flies
+goes_itself-requires-clause-unit c = unit_there (flown_of c.args.mission.now) c.args.self.now c.drawn_unit-drawn.result c.requires.flies
     c.drawn_unit-drawn.ensures.there
 
 -- the drawn unit went itself
@@ -13,13 +13,13 @@ returns-then-goes_itself-clause-layout c = c.if-goes_itself.ensures.tried.steppe
 
 pub returns-then-goes_itself-clause-turn : goal.returns-then-goes_itself-clause-turn
 returns-then-goes_itself-clause-turn c =
-    own_turn (mission_of c.args.mission.now) c.args.self.now c.args.drawer.now c.drawn_unit-drawn.new.drawer c.drawn_unit-drawn.result
+    own_turn (flown_of c.args.mission.now) c.args.self.now c.args.drawer.now c.drawn_unit-drawn.new.drawer c.drawn_unit-drawn.result
     c.goes_itself.new.self
     c.requires.flies c.goes_itself.ensures.flies c.drawn_unit-drawn.ensures c.if-goes_itself.ensures.tried
 
 pub returns-then-goes_itself-clause-nearer : goal.returns-then-goes_itself-clause-nearer
 returns-then-goes_itself-clause-nearer c =
-    own_nearer (mission_of c.args.mission.now) c.args.self.now c.args.drawer.now c.drawn_unit-drawn.new.drawer c.drawn_unit-drawn.result
+    own_nearer (flown_of c.args.mission.now) c.args.self.now c.args.drawer.now c.drawn_unit-drawn.new.drawer c.drawn_unit-drawn.result
     c.goes_itself.new.self
     c.requires.flies c.goes_itself.ensures.flies c.drawn_unit-drawn.ensures c.if-goes_itself.ensures.tried
 
@@ -27,20 +27,20 @@ returns-then-goes_itself-clause-nearer c =
 pub returns-in-Some-clause-layout : goal.returns-in-Some-clause-layout
 returns-in-Some-clause-layout c =
     c.step.ensures.stepped.layout
-    ∙ given_layout (mission_of c.args.mission.now) c.args.self.now c.args.drawer.now c.drawn_unit-drawn.new.drawer c.drawn_unit-drawn.result
+    ∙ given_layout (flown_of c.args.mission.now) c.args.self.now c.args.drawer.now c.drawn_unit-drawn.new.drawer c.drawn_unit-drawn.result
     c.goes_itself.new.self
     c.requires.flies c.goes_itself.ensures.flies c.drawn_unit-drawn.ensures c.if-goes_itself.ensures.tried
 
 pub returns-in-Some-clause-turn : goal.returns-in-Some-clause-turn
 returns-in-Some-clause-turn c =
-    least_turn (mission_of c.args.mission.now) c.args.self.now c.args.drawer.now c.drawn_unit-drawn.new.drawer c.drawn_unit-drawn.result
+    least_turn (flown_of c.args.mission.now) c.args.self.now c.args.drawer.now c.drawn_unit-drawn.new.drawer c.drawn_unit-drawn.result
     c.goes_itself.new.self
     c.requires.flies c.goes_itself.ensures.flies c.drawn_unit-drawn.ensures c.if-goes_itself.ensures.tried
     c.in-Some.least c.step.result c.step.new.self c.in-Some.ensures.found c.step.ensures.flies c.step.ensures.stepped
 
 pub returns-in-Some-clause-nearer : goal.returns-in-Some-clause-nearer
 returns-in-Some-clause-nearer c =
-    least_nearer (mission_of c.args.mission.now) c.args.self.now c.args.drawer.now c.drawn_unit-drawn.new.drawer c.drawn_unit-drawn.result
+    least_nearer (flown_of c.args.mission.now) c.args.self.now c.args.drawer.now c.drawn_unit-drawn.new.drawer c.drawn_unit-drawn.result
     c.goes_itself.new.self
     c.requires.flies c.goes_itself.ensures.flies c.drawn_unit-drawn.ensures c.if-goes_itself.ensures.tried
     c.in-Some.least c.step.result c.step.new.self c.in-Some.ensures.found c.step.ensures.flies c.step.ensures.stepped
@@ -48,6 +48,6 @@ returns-in-Some-clause-nearer c =
 -- who gives its turn away leaves a unit that has yet to land
 pub unreachable-requires : goal.unreachable-requires
 unreachable-requires c =
-    c.have_all_landed.ensures.aloft c.if-have_all_landed.false (given_aloft (mission_of c.args.mission.now) c.args.self.now c.args.drawer.now
+    c.have_all_landed.ensures.aloft c.if-have_all_landed.false (given_aloft (flown_of c.args.mission.now) c.args.self.now c.args.drawer.now
     c.drawn_unit-drawn.new.drawer c.drawn_unit-drawn.result c.goes_itself.new.self c.requires.flies c.goes_itself.ensures.flies c.drawn_unit-drawn.ensures
     c.if-goes_itself.ensures.tried c.in_default.ensures.none)

@@ -1,6 +1,6 @@
 use Rattle.std.proofs.Common.{◌∙◌, ap}
-use Rattle.sift_unit.specs.Data.{data_of}
-use Rattle.sift_unit.specs.Flown.{runs_in}
+use Rattle.sift_mission.specs.Parts.{data_of}
+use Rattle.sift_mission.specs.Flown.{runs_in}
 use Rattle.sift_unit.proofs.duties.MissionDuty.executors.Goals as goal
 
 pub returns : goal.returns

@@ -1,6 +1,6 @@
 use Rattle.std.proofs.Common.{◌≡◌, ◌&&◌, ap, ◌∙◌}
 use Rattle.sift_base.specs.Units.{has, holds}
-use Rattle.sift_unit.specs.Conduct.{any_below}
+use Rattle.sift_conduct.specs.Conduct.{any_below}
 use Rattle.sift_unit.specs.Memory.{units_at}
 use Rattle.sift_unit.specs.Tidings.{poll_now, relay_now}
 use Rattle.sift_unit.specs.Boards.{memory_of}

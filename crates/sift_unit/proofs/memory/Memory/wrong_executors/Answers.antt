@@ -3,7 +3,7 @@ use Rattle.std.specs.FinSet as set
 use Rattle.sift_base.specs.Units.{holds, has}
 use Rattle.sift_vote.specs.Differing.{differs}
 use Rattle.sift_config.proofs.Lists.{has_front, get-drop}
-use Rattle.sift_exec.proofs.Accusing.{guilty_joins, innocent_stays}
+use Rattle.sift_config.proofs.Joining.{passing_joins, failing_stays}
 use Rattle.sift_unit.specs.Memory.{polled_at}
 use Rattle.sift_unit.specs.Boards.{memory_of}
 use Rattle.sift_unit.proofs.memory.Memory.wrong_executors.Goals as goal
@@ -26,7 +26,7 @@ loop-position-preserved g c = λ v.
     let front = ap (λ b. b && caught v) (has_front us v i t (get-drop us i ∙ c.unit_at-executor.ensures)) in
     elim c.if-is_wrong.branch [
       | then-is_wrong w ↦ ap (λ units. holds units v) (w.wrong-is ∙ w.with-wrong.ensures)
-          ∙ guilty_joins c.loop-position.wrong seen caught t c.loop-position.invariant (sym told ∙ w.if-is_wrong.true) v ∙ sym front
+          ∙ passing_joins c.loop-position.wrong seen caught t c.loop-position.invariant (sym told ∙ w.if-is_wrong.true) v ∙ sym front
       | else-is_wrong w ↦ ap (λ units. holds units v) w.wrong-is
-          ∙ innocent_stays c.loop-position.wrong seen caught t c.loop-position.invariant (sym told ∙ w.if-is_wrong.false) v ∙ sym front
+          ∙ failing_stays c.loop-position.wrong seen caught t c.loop-position.invariant (sym told ∙ w.if-is_wrong.false) v ∙ sym front
     ]

@@ -1,0 +1,4 @@
+pub mod Account
+pub mod Acts
+pub mod Conduct
+pub mod Frames

@@ -1,0 +1,106 @@
+-- The tables of a mission whose parts fit: when slots are said and heard, and by whom.
+use Rattle.std.proofs.Common.{◌≡◌, ℕ, ◌+◌, ◌-◌, ◌<◌, ◌≤◌, List, length, get_or, true, refl, ap, sym, ◌∙◌, subst, arith, count_by}
+use Rattle.std.specs.List.{range_with_len}
+use Rattle.std.proofs.lemmas.List.{get_or_default}
+use Rattle.sift_base.specs.Layout.{least_units}
+use Rattle.sift_base.specs.Shapes.{words_in}
+use Rattle.sift_base.specs.declared.slot.Slot.{Slot}
+use Rattle.sift_base.specs.declared.slot.Slot.TheVariants.{Clock, Sense, RelaySense, Out, Report, RelayReport}
+use Rattle.sift_table.specs.Laws.{SlotsAreHeardInTime, TasksHaveThreeExecutors}
+use Rattle.sift_table.specs.Rules.{MeetsEach, row_rules}
+use Rattle.sift_table.specs.Schedule.{Schedule, runs_at}
+use Rattle.sift_table.specs.Timing.{due_in, heard_in, task_of}
+use Rattle.sift_mission.specs.Mission.{IsConfigOf}
+use Rattle.sift_mission.specs.Data.{MissionData, shapes_in}
+use Rattle.sift_mission.specs.Fits.{IsTimed, HasExecutors, is_caught_in}
+use Rattle.sift_mission.specs.Flown.{flown, table_for}
+use Rattle.sift_mission.specs.PartsFit.{IsTableFor, PartsFit, table_at}
+use Rattle.sift_mission.specs.Slots.{is_slot}
+use Rattle.sift_mission.proofs.FitSlots.{is-slot}
+use Rattle.sift_mission.proofs.Numbers.{range-has}
+use Rattle.sift_mission.proofs.Positions.{length-ascending, positions-filtered}
+use Rattle.sift_mission.proofs.Tasks.{among-below, length-shapes, words-shapes}
+
+module _ (d : MissionData) (fit : PartsFit d) where
+  -- a configuration of the mission has no more units than the mission
+  pub size-low : (us : List ℕ) → IsConfigOf (flown d) us → length us ≤ d.units
+  size-low us config =
+      omega (arith, length-ascending us 0 d.units config.ascending (omega arith) (λ u there. (omega arith, omega (arith, (range-has 0 d.units u (config.inside u there)).1))))
+
+  -- there is a table for its size
+  pub table-low : (us : List ℕ) → IsConfigOf (flown d) us → length us - least_units < length d.tables
+  table-low us config =
+      let count = fit.tables.count in let enough = config.enough in let few = size-low us config in omega arith
+
+  -- its table is one for its size
+  pub table-is : (us : List ℕ) → IsConfigOf (flown d) us → IsTableFor d (length us) (table_for d us)
+  table-is us config =
+      let enough = config.enough in
+      let size : least_units + (length us - least_units) ≡ length us = omega arith in
+      subst (λ n. IsTableFor d n (table_for d us)) size (fit.tables.each (length us - least_units) (table-low us config))
+
+  -- it has a row for each task
+  pub table-rows : (us : List ℕ) → IsConfigOf (flown d) us → length (table_for d us).run ≡ length d.program.tasks
+  table-rows us config = (table-is us config).good.whole.0.0 ∙ length-shapes d.program.tasks 0 d.program.tasks
+
+  -- a table that stands at a place is the one there, and has a row for each task
+  pub table-placed : (i : ℕ) (table : Schedule) → i < length d.tables → table ≡ get_or d.tables i table → table_at d i ≡ table
+  table-placed i table low is = get_or_default d.tables i _ table low ∙ sym is
+
+  pub placed-rows : (i : ℕ) (table : Schedule) → i < length d.tables → table ≡ get_or d.tables i table → length table.run ≡ length d.program.tasks
+  placed-rows i table low is =
+      ap (λ (t : Schedule). length t.run) (sym (table-placed i table low is))
+      ∙ ((fit.tables.each i low).good.whole.0.0 ∙ length-shapes d.program.tasks 0 d.program.tasks)
+
+  -- the shapes have the mission's words
+  pub words-are : d.layout.words ≡ words_in (shapes_in d).tasks
+  words-are = fit.layout.words ∙ sym (words-shapes d.program.tasks 0 d.program.tasks)
+
+  -- each word's task has a shape
+  pub task-below : (w : ℕ) → w < d.layout.words → task_of (shapes_in d) w < length (shapes_in d).tasks
+  task-below w low = let words = words-are in among-below (shapes_in d).tasks w (omega arith)
+
+  -- a word's task meets the rules of the table's rows
+  row-of : (us : List ℕ) (w : ℕ) → IsConfigOf (flown d) us → w < d.layout.words → MeetsEach row_rules (table_for d us) (shapes_in d) (task_of (shapes_in d) w)
+  row-of us w config low = (table-is us config).good.rows (task_of (shapes_in d) w) (task-below w low)
+
+  module _ (in_time : SlotsAreHeardInTime) where
+    -- a slot's word is heard in time
+    heard-in-time : (us : List ℕ) (k : Slot) → IsConfigOf (flown d) us → is_slot (flown d) k ≡ true
+        → (due_in (table_for d us) (shapes_in d) k + 2 ≤ heard_in (table_for d us) (shapes_in d) k) × (heard_in (table_for d us) (shapes_in d) k + 2 ≤ d.period)
+    heard-in-time us k config there =
+        let table = table-is us config in
+        let long = fit.limits.long in
+        let times = in_time (table_for d us) (shapes_in d) d.layout k table.good (omega (arith, table.timed)) words-are (is-slot d fit k there) in
+        (times.0, omega (arith, times.1, table.timed))
+
+    -- what goes into a report is heard when it is said, or earlier
+    caught-in-time : (us : List ℕ) (k : Slot) → IsConfigOf (flown d) us → is_slot (flown d) k ≡ true → is_caught_in k ≡ true
+        → heard_in (table_for d us) (shapes_in d) k ≤ due_in (table_for d us) (shapes_in d) Report
+    caught-in-time us Clock config there caught = let long = fit.limits.long in let table = table-is us config in omega (arith, table.timed)
+    caught-in-time us (Sense x) config there caught = absurd cc
+    caught-in-time us (RelaySense x) config there caught = let long = fit.limits.long in let table = table-is us config in omega (arith, table.timed)
+    caught-in-time us (Out w) config there caught =
+        let row = row-of us w config (is-slot d fit (Out w) there) in
+        omega (arith, row.1.0)
+    caught-in-time us Report config there caught = absurd cc
+    caught-in-time us (RelayReport s) config there caught = absurd cc
+
+    pub timed : IsTimed (flown d)
+    timed = record {
+      run = λ us w config low. refl;
+      apart = λ us k config there. (heard-in-time us k config there).0;
+      within = λ us k config there. (heard-in-time us k config there).1;
+      relayed = λ us x config low. omega arith;
+      agreed = λ us x w config low task. (row-of us w config task).0;
+      caught = caught-in-time;
+      reported = λ us s config there. omega arith;
+    }
+
+  pub executors : TasksHaveThreeExecutors → HasExecutors (flown d)
+  executors three us w config low =
+      let t = task_of (shapes_in d) w in
+      let table = table-is us config in
+      let enough = (three (table_for d us) (shapes_in d) t table.good (task-below w low)).0 in
+      let sized : 3 ≤ count_by (runs_at (table_for d us) t) (range_with_len 0 (length us)) = subst (λ n. 3 ≤ count_by (runs_at (table_for d us) t) (range_with_len 0 n)) table.sized enough in
+      omega (arith, positions-filtered (runs_at (table_for d us) t) us config.ascending, sized)

@@ -1,0 +1,15 @@
+pub mod ByWords
+pub mod Configs
+pub mod FitSlots
+pub mod FitTables
+pub mod FitTasks
+pub mod Fitting
+pub mod Flying
+pub mod Held
+pub mod Links
+pub mod Meanings
+pub mod Numbers
+pub mod Positions
+pub mod Rows
+pub mod Sayers
+pub mod Tasks

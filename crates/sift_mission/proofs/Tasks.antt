@@ -1,0 +1,129 @@
+-- The shapes of a program's tasks, and which words belong to which task.
+use Rattle.std.proofs.Common.{◌≡◌, ℕ, zero, suc, ◌+◌, ◌-◌, ◌<◌, ◌≤◌, List, [], ◌∷◌, length, take, get_or, Bool, true, inl, inr, refl, sym, ap, ◌∙◌, arith, nat_eq}
+use Rattle.std.specs.List.{Contains, filter, list_any}
+use Rattle.std.proofs.lemmas.Bool.{cases_Bool, cases_lt, eqb-true, lt-ltb, le-ltb, or_left, or_right}
+use Rattle.std.proofs.lemmas.List.Sums.{sum_by-cons}
+use Rattle.sift_base.specs.Shapes.{Shape, words_in}
+use Rattle.sift_base.specs.Units.{has}
+use Rattle.sift_lang.specs.Tree.{TaskTree}
+use Rattle.sift_program.specs.Sound.{output_count}
+use Rattle.sift_table.specs.Timing.{task_among}
+use Rattle.sift_mission.specs.Needs.{shape_in, shapes_from, task_at}
+
+-- the words of one task more
+words_in-cons : (task : Shape) (tasks : List Shape) → words_in (task ∷ tasks) ≡ task.outputs + words_in tasks
+words_in-cons task tasks = sum_by-cons (λ t. t.outputs) task tasks
+
+-- the outputs of one task more
+pub output_count-cons : (task : TaskTree) (tasks : List TaskTree) → output_count (task ∷ tasks) ≡ task.outputs + output_count tasks
+output_count-cons task tasks = sum_by-cons (λ t. t.outputs) task tasks
+
+-- ---- shapes
+
+module _ (all : List TaskTree) where
+  -- there is a shape for each task
+  pub length-shapes : (t : ℕ) (rest : List TaskTree) → length (shapes_from all t rest) ≡ length rest
+  length-shapes t [] = refl
+  length-shapes t (task ∷ rest) = ap suc (length-shapes (suc t) rest)
+
+  -- they have the tasks' words
+  pub words-shapes : (t : ℕ) (rest : List TaskTree) → words_in (shapes_from all t rest) ≡ output_count rest
+  words-shapes t [] = refl
+  words-shapes t (task ∷ rest) =
+      words_in-cons (shape_in all t task) (shapes_from all (suc t) rest)
+      ∙ (ap (λ n. task.outputs + n) (words-shapes (suc t) rest) ∙ sym (output_count-cons task rest))
+
+  -- the shapes of the first tasks
+  pub take-shapes : (n t : ℕ) (rest : List TaskTree) → take n (shapes_from all t rest) ≡ shapes_from all t (take n rest)
+  take-shapes zero t rest = refl
+  take-shapes (suc n) t [] = refl
+  take-shapes (suc n) t (task ∷ rest) = ap (λ shapes. shape_in all t task ∷ shapes) (take-shapes n (suc t) rest)
+
+  -- the shape of a task that is there
+  pub shape-there : (i t : ℕ) (rest : List TaskTree) (d : Shape) → i < length rest → get_or (shapes_from all t rest) i d ≡ shape_in all (t + i) (task_at rest i)
+  shape-there i t [] d low = absurd (omega arith)
+  shape-there zero t (task ∷ rest) d low = let e : t + 0 ≡ t = omega arith in rw e refl
+  shape-there (suc i) t (task ∷ rest) d low = let e : t + suc i ≡ suc t + i = omega arith in rw e (shape-there i (suc t) rest d (omega arith))
+
+-- ---- words of tasks
+
+-- a word below those of a task is one of an earlier task
+pub among-before : (tasks : List Shape) (t w : ℕ) → w < words_in (take t tasks) → task_among tasks w < t
+among-before tasks zero w low = absurd (omega arith)
+among-before [] (suc t) w low = absurd (omega arith)
+among-before (task ∷ tasks) (suc t) w low = elim (cases_lt w task.outputs) [
+  | inl own ↦ rw (lt-ltb w task.outputs own) (omega arith)
+  | inr past ↦ rw (le-ltb w task.outputs past)
+      (omega (arith, among-before tasks t (w - task.outputs) (omega (arith, words_in-cons task (take t tasks)))))
+]
+
+-- each word is one of a task that is there
+pub among-below : (tasks : List Shape) (w : ℕ) → w < words_in tasks → task_among tasks w < length tasks
+among-below [] w low = absurd (omega arith)
+among-below (task ∷ tasks) w low = elim (cases_lt w task.outputs) [
+  | inl own ↦ rw (lt-ltb w task.outputs own) (omega arith)
+  | inr past ↦ rw (le-ltb w task.outputs past) (omega (arith, among-below tasks (w - task.outputs) (omega (arith, words_in-cons task tasks))))
+]
+
+-- a word is one of its task's
+pub among-own : (d : Shape) (tasks : List Shape) (w : ℕ) → w < words_in tasks
+    → (words_in (take (task_among tasks w) tasks) ≤ w) × (w < words_in (take (task_among tasks w) tasks) + (get_or tasks (task_among tasks w) d).outputs)
+among-own d [] w low = absurd (omega arith)
+among-own d (task ∷ tasks) w low = elim (cases_lt w task.outputs) [
+  | inl own ↦ rw (lt-ltb w task.outputs own) (omega arith, omega arith)
+  | inr past ↦
+      let rest = among-own d tasks (w - task.outputs) (omega (arith, words_in-cons task tasks)) in
+      let more = words_in-cons task (take (task_among tasks (w - task.outputs)) tasks) in
+      rw (le-ltb w task.outputs past) (omega (arith, rest.0, more), omega (arith, rest.1, more))
+]
+
+-- a word of an earlier task is an earlier word
+pub among-earlier : (tasks : List Shape) (v w : ℕ) → task_among tasks v < task_among tasks w → v < w
+among-earlier tasks v w less = elim (cases_lt v w) [ inl low ↦ low | inr high ↦ absurd (omega (arith, in_order tasks w v high)) ]
+  where
+    in_order : (shapes : List Shape) (x y : ℕ) → x ≤ y → task_among shapes x ≤ task_among shapes y
+    in_order [] x y low = omega arith
+    in_order (task ∷ rest) x y low = elim (cases_lt x task.outputs) [
+      | inl own ↦ rw (lt-ltb x task.outputs own) (omega arith)
+      | inr past ↦ rw (le-ltb x task.outputs past, le-ltb y task.outputs (omega arith)) (omega (arith, in_order rest (x - task.outputs) (y - task.outputs) (omega arith)))
+    ]
+
+-- ---- lists of tasks
+
+-- a number that is left by a test is one of the list, and passes
+pub has-filter : (test : ℕ → Bool) (xs : List ℕ) (x : ℕ) → has (filter test xs) x ≡ true → (has xs x ≡ true) × (test x ≡ true)
+has-filter test [] x there = absurd cc
+has-filter test (y ∷ xs) x there = elim (cases_Bool (test y)) [
+  | inl passes ↦ elim (cases_Bool (nat_eq y x)) [
+    | inl same ↦ (rw same refl, ap test (sym (eqb-true y x same)) ∙ passes)
+    | inr other ↦ let rest = has-filter test xs x (rw (passes, other) at there) in (rw other rest.0, rest.1)
+  ]
+  | inr fails ↦ let rest = has-filter test xs x (rw fails at there) in (or_right (nat_eq y x) (has xs x) rest.0, rest.1)
+]
+
+-- and such a number is left
+pub filter-has : (test : ℕ → Bool) (xs : List ℕ) (x : ℕ) → has xs x ≡ true → test x ≡ true → has (filter test xs) x ≡ true
+filter-has test [] x there passes = absurd cc
+filter-has test (y ∷ xs) x there passes = elim (cases_Bool (nat_eq y x)) [
+  | inl same ↦ rw (ap test (eqb-true y x same) ∙ passes) (or_left (nat_eq y x) (has (filter test xs) x) same)
+  | inr other ↦ elim (cases_Bool (test y)) [
+    | inl kept ↦ rw kept (or_right (nat_eq y x) (has (filter test xs) x) (filter-has test xs x (rw other at there) passes))
+    | inr gone ↦ rw gone (filter-has test xs x (rw other at there) passes)
+  ]
+]
+
+-- some number of a list passes a test that one of its numbers passes
+pub any-has : (test : ℕ → Bool) (xs : List ℕ) (x : ℕ) → has xs x ≡ true → test x ≡ true → list_any test xs ≡ true
+any-has test [] x there passes = absurd cc
+any-has test (y ∷ xs) x there passes = elim (cases_Bool (nat_eq y x)) [
+  | inl same ↦ or_left (test y) (list_any test xs) (ap test (eqb-true y x same) ∙ passes)
+  | inr other ↦ or_right (test y) (list_any test xs) (any-has test xs x (rw other at there) passes)
+]
+
+-- a number that a list has stands at a place of it
+pub contains-has : (xs : List ℕ) (x : ℕ) → has xs x ≡ true → Contains xs x
+contains-has [] x there = absurd cc
+contains-has (y ∷ xs) x there = elim (cases_Bool (nat_eq y x)) [
+  | inl same ↦ (0, omega arith, eqb-true y x same)
+  | inr other ↦ let rest = contains-has xs x (rw other at there) in (suc rest.0, omega (arith, rest.1), rest.2)
+]

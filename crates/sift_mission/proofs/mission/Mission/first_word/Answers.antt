@@ -1,0 +1,12 @@
+use Rattle.std.proofs.Common.{◌≡◌, ◌∙◌, ap, sym, take, take_all, map}
+use Rattle.std.proofs.lemmas.List.{take-map}
+use Rattle.sift_lang.specs.Tree.{tree_of}
+use Rattle.sift_program.specs.Sound.{output_count}
+use Rattle.sift_mission.proofs.mission.Mission.first_word.Goals as goal
+
+pub returns : goal.returns
+returns c =
+    let tasks = c.args.self.now.program.tasks.items in
+    let all : take c.loop-task.task-index (take c.args.t tasks) ≡ take c.args.t tasks
+    = take_all c.loop-task.task-index (take c.args.t tasks) (rw (c.deref.ensures.value, c.parts.ensures.same) at c.loop-task-test.false) in
+    c.loop-task.invariant.0 ∙ ap (λ ts. output_count (map tree_of ts)) all ∙ ap output_count (sym (take-map tree_of c.args.t tasks))

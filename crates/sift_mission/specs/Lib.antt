@@ -1,0 +1,12 @@
+pub mod ByWord
+pub mod Crews
+pub mod Data
+pub mod Fits
+pub mod Flown
+pub mod Mission
+pub mod Needs
+pub mod Parts
+pub mod PartsFit
+pub mod Premises
+pub mod Slots
+pub mod Timetable

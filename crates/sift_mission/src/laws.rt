@@ -1,0 +1,61 @@
+//! Laws about missions, and about who speaks to whom.
+
+ghost use Rattle.std.specs.Prelude.{◌≡◌, ℕ, None};
+ghost use Rattle.sift_mission.specs.Fits.{Fits};
+ghost use Rattle.sift_mission.specs.Parts.{flown_of, data_of};
+ghost use Rattle.sift_mission.specs.Premises.{IsFlyable, RunsProgram, PartsMakeItFit, PartsMakeItFlyable};
+ghost use Rattle.sift_mission.specs.Slots.{NothingIsSaidToItself};
+
+use crate::mission::Mission;
+use sift_script::{
+    faults_are_for_good, one_unit_is_steady, working_units_have_not_turned,
+    working_units_say_their_words,
+};
+use sift_table::{
+    slots_are_heard_in_time, tasks_have_three_executors, tasks_run_after_their_needs,
+    words_have_their_task,
+};
+
+/// No unit says anything to itself.
+pub fn a_unit_says_nothing_to_itself()
+    ensures { NothingIsSaidToItself }
+{}
+
+/// A mission whose parts fit has the slots, times, tasks and executors that boards stand on.
+pub fn fitting_parts_make_a_mission()
+    ensures { PartsMakeItFit }
+{
+    slots_are_heard_in_time();
+    tasks_run_after_their_needs();
+    tasks_have_three_executors();
+}
+
+/// So has each mission. No unit of it turns.
+pub fn a_mission_fits(mission: &Mission)
+    ensures fits { Fits (flown_of mission.now) }
+    ensures calm { (u : ℕ) → (flown_of mission.now).storm u ≡ None }
+{
+    fitting_parts_make_a_mission();
+    let _parts = mission.parts();
+}
+
+/// Flights can stand on each mission, whose words are those of its program.
+pub fn a_mission_flies(mission: &Mission)
+    ensures flyable { IsFlyable (flown_of mission.now) }
+    ensures program { RunsProgram (flown_of mission.now) (data_of mission.now).program }
+{
+    fitting_parts_make_a_flight();
+    let _parts = mission.parts();
+}
+
+/// Its script of faults and its clocks are such as flights stand on, too.
+pub fn fitting_parts_make_a_flight()
+    ensures { PartsMakeItFlyable }
+{
+    fitting_parts_make_a_mission();
+    one_unit_is_steady();
+    faults_are_for_good();
+    working_units_say_their_words();
+    working_units_have_not_turned();
+    words_have_their_task();
+}

@@ -1,0 +1,134 @@
+//! When each slot of a mission is said and heard under a configuration, and who runs what.
+
+ghost use Rattle.std.specs.Prelude.{◌≡◌, ◌-◌, ◌<◌, ◌≤◌, length};
+ghost use Rattle.sift_base.specs.Layout.{IsLayout, slot_count};
+ghost use Rattle.sift_mission.specs.Mission.{IsConfigOf};
+ghost use Rattle.sift_mission.specs.Parts.{data_of, flown_of};
+ghost use Rattle.sift_base.specs.Layout.{slot_kind};
+ghost use Rattle.sift_mission.specs.Flown.{runs_in};
+
+use crate::mission::Mission;
+use sift_base::{Layout, Slot, UnitId};
+use sift_config::Config;
+
+impl Mission {
+    /// How many frames are flown, 1 to 1,000.
+    pub fn frames(&self) -> u32
+        ensures { result ≡ (flown_of self.now).frames }
+    {
+        self.parts().frames
+    }
+
+    /// How many subframes a frame has, 12 to 64.
+    pub fn period(&self) -> u32
+        ensures { result ≡ (flown_of self.now).period }
+    {
+        u32::from(self.parts().period)
+    }
+
+    /// How many tasks there are.
+    pub fn tasks(&self) -> usize
+        ensures count { result ≡ (flown_of self.now).tasks }
+        ensures few { result ≤ (flown_of self.now).slots }
+    {
+        self.parts().program.tasks.len()
+    }
+
+    /// How many sensors there are.
+    pub fn sensors(&self) -> usize
+        ensures { result ≡ (flown_of self.now).sensors }
+    {
+        usize::from(self.parts().layout.sensors)
+    }
+
+    /// How many output words there are.
+    pub fn words(&self) -> usize
+        ensures { result ≡ (flown_of self.now).words }
+    {
+        usize::from(self.parts().layout.words)
+    }
+
+    /// All units, which are the first configuration.
+    pub fn everyone(&self) -> Config
+        ensures { result ≡ (flown_of self.now).units }
+    {
+        Config::all(self.parts().units)
+    }
+
+    /// The slot of a number.
+    pub fn kind(&self, i: usize) -> Slot
+        requires { i < (flown_of self.now).slots }
+        ensures { result ≡ (flown_of self.now).kind i }
+    {
+        slot_of(&self.parts().layout, i)
+    }
+
+    /// The subframe in which a task is run.
+    pub fn run_in(&self, config: &Config, t: usize) -> u32
+        requires config { IsConfigOf (flown_of self.now) config.now }
+        requires task { t < (flown_of self.now).tasks }
+        ensures { result ≡ (flown_of self.now).run_in config.now t }
+    {
+        self.timetable(config).run.time(t)
+    }
+
+    /// The subframe in which the slot of a number is said.
+    pub fn due(&self, config: &Config, i: usize) -> u32
+        requires config { IsConfigOf (flown_of self.now) config.now }
+        requires slot { i < (flown_of self.now).slots }
+        ensures { result ≡ (flown_of self.now).due config.now ((flown_of self.now).kind i) }
+    {
+        self.timetable(config).said.time(i)
+    }
+
+    /// The subframe in which the slot of a number is heard.
+    pub fn heard_in(&self, config: &Config, i: usize) -> u32
+        requires config { IsConfigOf (flown_of self.now) config.now }
+        requires slot { i < (flown_of self.now).slots }
+        ensures { result ≡ (flown_of self.now).heard_in config.now ((flown_of self.now).kind i) }
+    {
+        self.timetable(config).heard.time(i)
+    }
+
+    /// Whether a unit runs a task: it is at one of the task's positions of the configuration.
+    pub fn runs(&self, config: &Config, t: usize, u: UnitId) -> bool
+        requires config { IsConfigOf (flown_of self.now) config.now }
+        requires task { t < (flown_of self.now).tasks }
+        ensures { result ≡ runs_in (data_of self.now) config.now t u }
+    {
+        self.crew(config, t).has(u)
+    }
+
+    /// Whether a unit runs the task of a word.
+    pub fn executes(&self, config: &Config, w: u8, u: UnitId) -> bool
+        requires config { IsConfigOf (flown_of self.now) config.now }
+        requires word { w < (flown_of self.now).words }
+        ensures { result ≡ (flown_of self.now).executes config.now w u }
+    {
+        self.runs(config, self.task_of(w), u)
+    }
+}
+
+/// The slot of a number in a layout.
+pub(crate) fn slot_of(layout: &Layout, i: usize) -> Slot
+    requires layout { IsLayout layout.now }
+    requires there { i < slot_count layout.now }
+    ensures { result ≡ slot_kind layout.now i }
+{
+    let sensors = usize::from(layout.sensors);
+    let first = 1 + 2 * sensors;
+    let report = first + usize::from(layout.words);
+    if i >= first && i < report {
+        Slot::Out((i - first) as u8)
+    } else if i == 0 {
+        Slot::Clock
+    } else if i < 1 + sensors {
+        Slot::Sense((i - 1) as u8)
+    } else if i < first {
+        Slot::RelaySense((i - (1 + sensors)) as u8)
+    } else if i == report {
+        Slot::Report
+    } else {
+        Slot::RelayReport(UnitId::of((i - (report + 1)) as u8).unwrap())
+    }
+}

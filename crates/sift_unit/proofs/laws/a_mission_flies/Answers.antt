@@ -1,8 +1,0 @@
-use Rattle.sift_unit.specs.Data.{data_of}
-use Rattle.sift_unit.proofs.laws.a_mission_flies.Goals as goal
-
-pub returns-clause-flyable : goal.returns-clause-flyable
-returns-clause-flyable c = (c.fitting_parts_make_a_flight.ensures (data_of c.args.mission.now) c.parts-parts.ensures.fit).0
-
-pub returns-clause-program : goal.returns-clause-program
-returns-clause-program c = (c.fitting_parts_make_a_flight.ensures (data_of c.args.mission.now) c.parts-parts.ensures.fit).1
