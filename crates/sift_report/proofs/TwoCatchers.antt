@@ -5,7 +5,7 @@ use Rattle.std.specs.List.{Contains, filter}
 use Rattle.std.specs.Ordering.{nat_cmp}
 use Rattle.std.proofs.lemmas.Bool.{le-leb}
 use Rattle.std.proofs.lemmas.Int.{ints}
-use Rattle.std.proofs.lemmas.Option.{same_Some}
+use Rattle.std.proofs.lemmas.Option.{none-some, same_Some}
 use Rattle.sift_base.specs.Margin.{HasMargin}
 use Rattle.sift_base.specs.Units.{has, holds}
 use Rattle.sift_base.proofs.Sets.{holds-insert}
@@ -232,6 +232,8 @@ other_lines_are_refused = record {
       let e : 4 ≡ 5 = ap length (same_Some _ _ (h.same (subst (HasMargin (λ u. works_in mission u 0)) all here) 2 (working 2 0 refl refl)) ∙ sym all) in
       omega (arith, e);
   all_at_first = λ h. let e : 4 ≡ 5 = ap length (same_Some _ _ h.told ∙ h.all_at_first refl) in omega (arith, e);
+  idle_lead = λ h. none-some h.config h.told;
+  true_inputs = λ h. let e : 6 ≡ 7 = h.sensed all_five 0 refl (omega arith) refl in omega (arith, e);
   same_inputs = λ h. let e : 1 ≡ 0 = ap length (h.same 2 (working 2 0 refl refl)) in omega (arith, e);
   ideal_outputs = λ h. let e : 17 ≡ 16 = ap (λ ws. slice_index ws 0) (h 2 (working 2 0 refl refl)) in omega (arith, e);
   no_false_accusation = λ h. let e = sym (holds-only 1 1) ∙ h 2 1 (working 2 0 refl refl) (working 1 0 refl refl) in absurd cc;
@@ -242,6 +244,7 @@ other_lines_are_refused = record {
       let apart = (h.skew all_five refl).0.largest (pos 1) (pos 0) (2, omega arith, refl) (0, omega arith, refl) in
       omega (arith, ints, apart);
   told_skew = λ h. let e = skew_is_unique _ (pos 1) (pos 0) (h.skew all_five refl).0 no_skew in omega (arith, ints, e);
+  far_clocks = λ h. let far = (h.skew all_five refl).1 in omega (arith, ints, far);
   slack = λ h. omega (arith, ints, h.slack);
   true_margin = λ h. let e = h.frame.1 (λ g up. let early : g ≡ 0 = omega (arith, up) in rw early (all_five, refl, record { few = omega arith; enough = omega arith })) in absurd cc;
   true_end = λ h. let e = (h.end refl).1 sound_still in absurd cc;

@@ -16,7 +16,7 @@ use Rattle.sift_report.specs.Headline.{ReportHeadline, TellsClockSkew, TellsExac
 use Rattle.sift_report.specs.Told.{HasMarginTold, config_told}
 use Rattle.sift_report.specs.Working.{works_in}
 use Rattle.sift_report.specs.declared.line.ReportLine.{ReportLine}
-use Rattle.sift_report.specs.declared.line.ReportLine.TheVariants.{Unit as unit, Faulty, Frame, Last}
+use Rattle.sift_report.specs.declared.line.ReportLine.TheVariants.{Unit as unit, Faulty, Idle, Frame, Last}
 
 -- ---- the mission
 
@@ -104,6 +104,14 @@ lines = first_frame ++ (second_frame ++ Last 2 four_left true ∷ [])
 abbrev pub other : ℕ → ReportLine → List ReportLine
 other place line = slice_set lines place line
 
+-- the report in which unit 2's clock is a tick ahead in frame 0
+abbrev pub unit_2_ahead : List ReportLine
+unit_2_ahead = other 2 (unit 0 2 all_five (pos 1) (record { items = [] }) (record { items = 16 ∷ [] }) no_unit)
+
+-- the mission with a sensor, which says 7
+abbrev pub sensing : MissionData
+sensing = record mission { layout = record { units = 5; sensors = 1; words = 1 }; sensors = (7 ∷ []) ∷ [] }
+
 -- ---- what is so
 
 -- the parts of the mission fit; both frames have margin by what is told, though unit 4 is faulty in each; it is configured out after the
@@ -125,8 +133,12 @@ pub record OtherLinesAreRefused : Type 0 where
   -- unit 2 has another configuration in frame 0; so has the lead unit, which all units should be in
   pub same_configuration : ¬ TellsSameConfiguration mission (other 2 (tells 0 2 four_left 16 no_unit)) 0
   pub all_at_first : ¬ TellsSameConfiguration mission (other 0 (tells 0 0 four_left 16 (only 4))) 0
+  -- the lead unit is idle
+  pub idle_lead : ¬ TellsSameConfiguration mission (other 0 (Idle 0 0)) 0
   -- unit 2 has a word of a sensor that isn't there
   pub same_inputs : ¬ TellsSameInputs mission (other 2 (unit 0 2 all_five (pos 0) (record { items = 7 ∷ [] }) (record { items = 16 ∷ [] }) no_unit)) 0
+  -- the sensor says 7 to unit 0, which tells 6
+  pub true_inputs : ¬ TellsSameInputs sensing (other 0 (unit 0 0 all_five (pos 0) (record { items = 6 ∷ [] }) (record { items = 16 ∷ [] }) (only 4))) 0
   -- unit 2 votes 17
   pub ideal_outputs : ¬ TellsIdealOutputs mission (other 2 (tells 0 2 all_five 17 no_unit)) 0
   -- unit 2 catches unit 1, or itself
@@ -135,9 +147,10 @@ pub record OtherLinesAreRefused : Type 0 where
   -- unit 1 doesn't catch unit 4, which yet is out; or both do, and it stays
   pub exact_removal : ¬ TellsExactRemoval mission (other 1 (tells 0 1 all_five 16 no_unit)) 0
   pub no_removal : ¬ TellsExactRemoval mission (other 6 (tells 1 0 all_five 49 no_unit)) 0
-  -- unit 2's clock is a tick ahead; or it isn't, and the frame's line says so; or there is no slack
-  pub clock_skew : ¬ TellsClockSkew mission (other 2 (unit 0 2 all_five (pos 1) (record { items = [] }) (record { items = 16 ∷ [] }) no_unit)) 0
+  -- unit 2's clock is a tick ahead; or it isn't, and the frame's line says so; or it is, and the line says so; or there is no slack
+  pub clock_skew : ¬ TellsClockSkew mission unit_2_ahead 0
   pub told_skew : ¬ TellsClockSkew mission (other 5 (Frame 0 (Some (pos 1)) (Some (pos 1)) true)) 0
+  pub far_clocks : ¬ TellsClockSkew mission (slice_set unit_2_ahead 5 (Frame 0 (Some (pos 1)) (Some (pos 1)) true)) 0
   pub slack : ¬ TellsClockSkew mission (other 5 (Frame 0 (Some (pos 0)) (Some (pos 0)) true)) 0
   -- the margin is told to be lost
   pub true_margin : ¬ TellsTrueMargin mission (other 5 (Frame 0 (Some (pos 0)) (Some (pos 1)) false)) 0
