@@ -4,18 +4,14 @@ use Rattle.std.proofs.lemmas.Bool.{cases_Bool}
 use Rattle.sift_base.specs.Units.{has}
 use Rattle.sift_mission.specs.Data.{MissionData}
 use Rattle.sift_mission.specs.Flown.{flown}
-use Rattle.sift_mission.specs.PartsFit.{PartsFit}
-use Rattle.sift_mission.specs.Premises.{IsFlyable, PartsMakeItFlyable}
 use Rattle.sift_flight.specs.Configuration.{Works}
 use Rattle.sift_flight.specs.Flight.{Flight}
-use Rattle.sift_flight.specs.Hearing.{Strays}
-use Rattle.sift_flight.specs.Round.{IsRound}
 use Rattle.sift_flight.specs.Told.{IsAccountOf}
-use Rattle.sift_flight.specs.Whole.{RoundFlightsHaveAccounts}
 use Rattle.sift_report.specs.Form.{HasForm, IsFramesLine, IsLastLine, IsUnitsLine, Stands}
 use Rattle.sift_report.specs.Sheet.{account_line, sheet_of, unit_line, working_line}
 use Rattle.sift_report.specs.Working.{IsWorking}
 use Rattle.sift_report.specs.declared.line.ReportLine.TheVariants.{Faulty, Idle}
+use Rattle.sift_report.proofs.RoundFlights.{IsLawful}
 use Rattle.sift_report.proofs.SheetPlaces.{end_at, first_low, frame_at, length-sheet, low_first, unit_at}
 
 -- who works by the mission's data works in flights
@@ -34,26 +30,24 @@ module _ (d : MissionData) (fl : Flight) (f u : ℕ) where
   pub line_of_idle : (flown d).works u f ≡ true → has (fl.account u f).cfg u ≡ false → unit_line (flown d) fl f u ≡ Idle f u
   line_of_idle works outside = line_of_working works ∙ ap (λ b. if b then account_line f u (fl.account u f) else Idle f u) outside
 
-  pub line_of_member : (flown d).works u f ≡ true → has (fl.account u f).cfg u ≡ true → unit_line (flown d) fl f u ≡ account_line f u (fl.account u f)
+  pub line_of_member : (flown d).works u f ≡ true → has (fl.account u f).cfg u ≡ true →
+      unit_line (flown d) fl f u ≡ account_line f u (fl.account u f)
   line_of_member works member = line_of_working works ∙ ap (λ b. if b then account_line f u (fl.account u f) else Idle f u) member
 
 -- ---- its form
 
-module _ (flies : PartsMakeItFlyable) (accounts : RoundFlightsHaveAccounts)
-    (d : MissionData) (s : Strays) (fl : Flight) (fits : PartsFit d) (round : IsRound (flown d) s fl) where
-  abbrev flyable : IsFlyable (flown d)
-  flyable = (flies d fits).0
-
+module _ (d : MissionData) (fl : Flight) (lawful : IsLawful d fl) where
   -- the account of a working unit
   pub account_is : (u f : ℕ) → f < d.frames → Works (flown d) u f → IsAccountOf (flown d) u (fl.account u f)
-  account_is u f within w = (accounts (flown d) s fl flyable round).each u f w.unit within (flyable.script.whole u f w.works)
+  account_is u f within w = lawful.accounts.each u f w.unit within (lawful.flyable.script.whole u f w.works)
 
   -- the units of its configuration have numbers below the mission's count
   below : (u f : ℕ) → f < d.frames → Works (flown d) u f → (v : ℕ) → has (fl.account u f).cfg v ≡ true → v < d.units
   below u f within w v there = let x = first_low 0 d.units v ((account_is u f within w).config.inside v there) in omega (arith, x)
 
   -- the line of a unit in a frame is one of that unit
-  member_line : (f u : ℕ) → f < d.frames → Works (flown d) u f → has (fl.account u f).cfg u ≡ true → IsUnitsLine d f u (account_line f u (fl.account u f))
+  member_line : (f u : ℕ) → f < d.frames → Works (flown d) u f → has (fl.account u f).cfg u ≡ true
+      → IsUnitsLine d f u (account_line f u (fl.account u f))
   member_line f u within w member =
       let account = account_is u f within w in
       let busy : (fl.account u f).idle ≡ false =

@@ -1,26 +1,20 @@
--- The report with a fault in it: its headline holds, and each item refuses other lines.
-use Rattle.std.proofs.Common.{◌≡◌, ℕ, zero, suc, ◌<◌, ◌≤◌, List, [], ◌∷◌, length, slice_index, Bool, true, false, not, ◌||◌, nat_eq, Some, ℤ, pos, ◌≤ℤ◌, refl, sym, ap, ◌∙◌, subst, arith, eqb-true}
+-- The headline holds of the report with a fault in it.
+use Rattle.std.proofs.Common.{◌≡◌, ℕ, zero, suc, ◌<◌, ◌≤◌, List, [], ◌∷◌, Bool, true, false, not, ◌||◌, nat_eq, Some, ℤ, pos, ◌≤ℤ◌, refl, sym, ap, ◌∙◌, subst, arith, eqb-true}
 use Rattle.std.specs.FinSet as set
 use Rattle.std.specs.List.{Contains, filter}
 use Rattle.std.specs.Ordering.{nat_cmp}
 use Rattle.std.proofs.lemmas.Bool.{le-leb}
 use Rattle.std.proofs.lemmas.Int.{ints}
-use Rattle.std.proofs.lemmas.Option.{none-some, same_Some}
-use Rattle.sift_base.specs.Margin.{HasMargin}
 use Rattle.sift_base.specs.Units.{has, holds}
 use Rattle.sift_base.proofs.Sets.{holds-insert}
 use Rattle.sift_skew.specs.Figures.{IsSkew}
-use Rattle.sift_skew.proofs.Leads.{Contains-map, skew_is_unique}
-use Rattle.sift_table.specs.Laws.{PlainTablesAreGood}
+use Rattle.sift_skew.proofs.Leads.{Contains-map}
 use Rattle.sift_mission.specs.PartsFit.{PartsFit}
-use Rattle.sift_flight.specs.Calms.{CalmMissionsFly}
 use Rattle.sift_report.specs.Form.{HasForm, IsUnitsLine, Stands}
 use Rattle.sift_report.specs.Headline.{TellsClockSkew, TellsExactRemoval, TellsIdealOutputs, TellsNoFalseAccusation, TellsSameConfiguration, TellsSameInputs, TellsTrueMargin, two_tell, working_clocks}
 use Rattle.sift_report.specs.Told.{HasMarginTold, IsSoundTold, agreed_told, caught_told, inputs_told, line_at, outputs_told, told_at}
-use Rattle.sift_report.specs.declared.line.ReportLine.TheVariants.{Unit as unit, Last}
-use Rattle.sift_report.specs.TwoCatchers.{FaultIsWithinTheHeadline, HeadlineOfAFault, OtherLinesAreRefused, all_five, four_left, lines, mission, no_unit, only, other}
+use Rattle.sift_report.specs.TwoCatchers.{HeadlineOfAFault, all_five, four_left, lines, mission, no_unit, only}
 use Rattle.sift_report.specs.Working.{IsWorking, works_in}
-use Rattle.sift_report.proofs.TwoCatchersFit.{parts_fit}
 use Rattle.sift_report.proofs.Alike.{one_told}
 use Rattle.sift_report.proofs.SheetPlaces.{first_low}
 
@@ -47,10 +41,10 @@ each_working P a b c d f u w =
 
 -- ---- sets
 
-holds-none : (v : ℕ) → holds no_unit v ≡ false
+pub holds-none : (v : ℕ) → holds no_unit v ≡ false
 holds-none v = set.contains-empty nat_cmp v
 
-holds-only : (u v : ℕ) → holds (only u) v ≡ (nat_eq v u || false)
+pub holds-only : (u v : ℕ) → holds (only u) v ≡ (nat_eq v u || false)
 holds-only u v = holds-insert set.empty u v ∙ ap (λ b. nat_eq v u || b) (holds-none v)
 
 -- a set of units of the mission has low members
@@ -144,7 +138,8 @@ no_false_accusation (suc (suc f)) low u v w x = absurd (omega arith)
 -- who is left where two units name unit 4
 removed : filter (λ v. not (two_tell mission lines 0 all_five v)) all_five ≡ four_left
 removed =
-    rw (holds-only 4 0, holds-only 4 1, holds-only 4 2, holds-only 4 3, holds-only 4 4, holds-none 0, holds-none 1, holds-none 2, holds-none 3, holds-none 4) refl
+    rw (holds-only 4 0, holds-only 4 1, holds-only 4 2, holds-only 4 3, holds-only 4 4)
+    (rw (holds-none 0, holds-none 1, holds-none 2, holds-none 3, holds-none 4) refl)
 
 stayed : filter (λ v. not (two_tell mission lines 1 four_left v)) four_left ≡ four_left
 stayed = rw (holds-none 0, holds-none 1, holds-none 2, holds-none 3) refl
@@ -167,7 +162,7 @@ four_right = pos 0 ∷ pos 0 ∷ pos 0 ∷ pos 0 ∷ []
 right : (z : ℤ) → Contains four_right z → z ≡ pos 0
 right z among = (Contains-map (λ u. pos 0) four_left z among).2
 
-no_skew : IsSkew four_right (pos 0)
+pub no_skew : IsSkew four_right (pos 0)
 no_skew = record {
   attained = (pos 0, pos 0, (0, omega arith, refl), (0, omega arith, refl), refl);
   largest = λ p q hp hq. let a = right p hp in let b = right q hq in omega (arith, ints, a, b);
@@ -196,7 +191,7 @@ true_margin (suc zero) low = record {
 }
 true_margin (suc (suc f)) low = absurd (omega arith)
 
-headline_holds : PartsFit mission → HeadlineOfAFault
+pub headline_holds : PartsFit mission → HeadlineOfAFault
 headline_holds fits = record {
   fits = fits;
   margin = margin 1 (omega arith);
@@ -216,52 +211,3 @@ headline_holds fits = record {
     true_margin = true_margin;
   };
 }
-
--- ---- other lines
-
-working : (u f : ℕ) → has all_five u ≡ true → works_in mission u f ≡ true → IsWorking mission u f
-working u f there works = record { unit = there; works = works }
-
-other_lines_are_refused : OtherLinesAreRefused
-other_lines_are_refused = record {
-  form = λ h. let e : 3 ≡ 2 = (h.units 2 (omega arith)).1 in omega (arith, e);
-  end = λ h. let e : 14 ≡ 13 = (h.end refl).nothing_more in omega (arith, e);
-  same_configuration = λ h.
-      let all : all_five ≡ h.config = same_Some _ _ h.told in
-      let here : HasMargin (λ u. works_in mission u 0) all_five = record { few = omega arith; enough = omega arith } in
-      let e : 4 ≡ 5 = ap length (same_Some _ _ (h.same (subst (HasMargin (λ u. works_in mission u 0)) all here) 2 (working 2 0 refl refl)) ∙ sym all) in
-      omega (arith, e);
-  all_at_first = λ h. let e : 4 ≡ 5 = ap length (same_Some _ _ h.told ∙ h.all_at_first refl) in omega (arith, e);
-  idle_lead = λ h. none-some h.config h.told;
-  true_inputs = λ h. let e : 6 ≡ 7 = h.sensed all_five 0 refl (omega arith) refl in omega (arith, e);
-  same_inputs = λ h. let e : 1 ≡ 0 = ap length (h.same 2 (working 2 0 refl refl)) in omega (arith, e);
-  ideal_outputs = λ h. let e : 17 ≡ 16 = ap (λ ws. slice_index ws 0) (h 2 (working 2 0 refl refl)) in omega (arith, e);
-  no_false_accusation = λ h. let e = sym (holds-only 1 1) ∙ h 2 1 (working 2 0 refl refl) (working 1 0 refl refl) in absurd cc;
-  no_own_accusation = λ h. let e = sym (holds-only 2 2) ∙ h 2 2 (working 2 0 refl refl) (working 2 0 refl refl) in absurd cc;
-  exact_removal = λ h. let e : 4 ≡ 5 = ap length (h all_five four_left refl refl ∙ one_names) in omega (arith, e);
-  no_removal = λ h. let e : 5 ≡ 4 = ap length (h all_five all_five refl refl ∙ two_name) in omega (arith, e);
-  clock_skew = λ h.
-      let apart = (h.skew all_five refl).0.largest (pos 1) (pos 0) (2, omega arith, refl) (0, omega arith, refl) in
-      omega (arith, ints, apart);
-  told_skew = λ h. let e = skew_is_unique _ (pos 1) (pos 0) (h.skew all_five refl).0 no_skew in omega (arith, ints, e);
-  far_clocks = λ h. let far = (h.skew all_five refl).1 in omega (arith, ints, far);
-  slack = λ h. omega (arith, ints, h.slack);
-  true_margin = λ h. let e = h.frame.1 (λ g up. let early : g ≡ 0 = omega (arith, up) in rw early (all_five, refl, record { few = omega arith; enough = omega arith })) in absurd cc;
-  true_end = λ h. let e = (h.end refl).1 sound_still in absurd cc;
-}
-  where
-    one_names : filter (λ v. not (two_tell mission (other 1 (unit 0 1 all_five (pos 0) (record { items = [] }) (record { items = 16 ∷ [] }) no_unit)) 0 all_five v)) all_five ≡ all_five
-    one_names =
-        rw (holds-only 4 0, holds-only 4 1, holds-only 4 2, holds-only 4 3, holds-only 4 4, holds-none 0, holds-none 1, holds-none 2, holds-none 3, holds-none 4) refl
-
-    two_name : filter (λ v. not (two_tell mission (other 6 (unit 1 0 all_five (pos 0) (record { items = [] }) (record { items = 49 ∷ [] }) no_unit)) 0 all_five v)) all_five ≡ four_left
-    two_name =
-        rw (holds-only 4 0, holds-only 4 1, holds-only 4 2, holds-only 4 3, holds-only 4 4, holds-none 0, holds-none 1, holds-none 2, holds-none 3, holds-none 4) refl
-
-    sound_still : HasMarginTold mission (other 12 (Last 2 four_left false)) 1
-    sound_still zero up = (all_five, refl, record { few = omega arith; enough = omega arith })
-    sound_still (suc zero) up = (four_left, refl, record { few = omega arith; enough = omega arith })
-    sound_still (suc (suc g)) up = absurd (omega arith)
-
-pub fault_is_within_the_headline : PlainTablesAreGood → CalmMissionsFly → FaultIsWithinTheHeadline
-fault_is_within_the_headline plain calm = record { holds = headline_holds (parts_fit plain calm); refuses = other_lines_are_refused }

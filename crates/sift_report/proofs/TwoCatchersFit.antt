@@ -99,7 +99,8 @@ receivers : AreReceivers 5 4 (0 ∷ 1 ∷ [])
 receivers = record {
   some = omega arith;
   ascend = ((omega arith, tt), (tt, tt));
-  inside = All-cons (λ receiver. receiver < 5) 0 (1 ∷ []) (omega arith) (All-cons (λ receiver. receiver < 5) 1 [] (omega arith) (All-nil (λ receiver. receiver < 5)));
+  inside = All-cons (λ receiver. receiver < 5) 0 (1 ∷ []) (omega arith)
+      (All-cons (λ receiver. receiver < 5) 1 [] (omega arith) (All-nil (λ receiver. receiver < 5)));
   others = refl;
 }
 

@@ -80,6 +80,10 @@ only u = set.insert set.empty u
 abbrev pub tells : (f u : ℕ) → (config : List ℕ) → (word : ℕ) → (caught : Units) → ReportLine
 tells f u config word caught = unit f u config (pos 0) (record { items = [] }) (record { items = word ∷ [] }) caught
 
+-- what a unit tells of frame 0, where it has a word of a sensor
+abbrev pub tells_input : (u : ℕ) → (input : ℕ) → (caught : Units) → ReportLine
+tells_input u input caught = unit 0 u all_five (pos 0) (record { items = input ∷ [] }) (record { items = 16 ∷ [] }) caught
+
 -- the line of a frame whose clocks are together
 abbrev pub together : ℕ → ReportLine
 together f = Frame f (Some (pos 0)) (Some (pos 1)) true
@@ -107,6 +111,13 @@ other place line = slice_set lines place line
 -- the report in which unit 2's clock is a tick ahead in frame 0
 abbrev pub unit_2_ahead : List ReportLine
 unit_2_ahead = other 2 (unit 0 2 all_five (pos 1) (record { items = [] }) (record { items = 16 ∷ [] }) no_unit)
+
+-- the report in which unit 1 doesn't catch unit 4, and that in which unit 4 stays
+abbrev pub one_catcher : List ReportLine
+one_catcher = other 1 (tells 0 1 all_five 16 no_unit)
+
+abbrev pub unit_4_stays : List ReportLine
+unit_4_stays = other 6 (tells 1 0 all_five 49 no_unit)
 
 -- the mission with a sensor, which says 7
 abbrev pub sensing : MissionData
@@ -136,17 +147,17 @@ pub record OtherLinesAreRefused : Type 0 where
   -- the lead unit is idle
   pub idle_lead : ¬ TellsSameConfiguration mission (other 0 (Idle 0 0)) 0
   -- unit 2 has a word of a sensor that isn't there
-  pub same_inputs : ¬ TellsSameInputs mission (other 2 (unit 0 2 all_five (pos 0) (record { items = 7 ∷ [] }) (record { items = 16 ∷ [] }) no_unit)) 0
+  pub same_inputs : ¬ TellsSameInputs mission (other 2 (tells_input 2 7 no_unit)) 0
   -- the sensor says 7 to unit 0, which tells 6
-  pub true_inputs : ¬ TellsSameInputs sensing (other 0 (unit 0 0 all_five (pos 0) (record { items = 6 ∷ [] }) (record { items = 16 ∷ [] }) (only 4))) 0
+  pub true_inputs : ¬ TellsSameInputs sensing (other 0 (tells_input 0 6 (only 4))) 0
   -- unit 2 votes 17
   pub ideal_outputs : ¬ TellsIdealOutputs mission (other 2 (tells 0 2 all_five 17 no_unit)) 0
   -- unit 2 catches unit 1, or itself
   pub no_false_accusation : ¬ TellsNoFalseAccusation mission (other 2 (tells 0 2 all_five 16 (only 1))) 0
   pub no_own_accusation : ¬ TellsNoFalseAccusation mission (other 2 (tells 0 2 all_five 16 (only 2))) 0
   -- unit 1 doesn't catch unit 4, which yet is out; or both do, and it stays
-  pub exact_removal : ¬ TellsExactRemoval mission (other 1 (tells 0 1 all_five 16 no_unit)) 0
-  pub no_removal : ¬ TellsExactRemoval mission (other 6 (tells 1 0 all_five 49 no_unit)) 0
+  pub exact_removal : ¬ TellsExactRemoval mission one_catcher 0
+  pub no_removal : ¬ TellsExactRemoval mission unit_4_stays 0
   -- unit 2's clock is a tick ahead; or it isn't, and the frame's line says so; or it is, and the line says so; or there is no slack
   pub clock_skew : ¬ TellsClockSkew mission unit_2_ahead 0
   pub told_skew : ¬ TellsClockSkew mission (other 5 (Frame 0 (Some (pos 1)) (Some (pos 1)) true)) 0

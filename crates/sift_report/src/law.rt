@@ -35,6 +35,10 @@ pub fn sheets_tell_their_flights()
 {
     fitting_parts_make_a_flight();
     headline_holds();
+    round_flights_have_accounts();
+    margin_is_told();
+    skew_is_told();
+    slack_is_told();
 }
 
 /// A report with a faulty unit, which is configured out within the margin, has the headline; and other lines lack its items.

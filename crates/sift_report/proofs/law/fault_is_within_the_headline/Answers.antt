@@ -1,4 +1,4 @@
-use Rattle.sift_report.proofs.TwoCatchers.{fault_is_within_the_headline}
+use Rattle.sift_report.proofs.OtherLines.{fault_is_within_the_headline}
 use Rattle.sift_report.proofs.law.fault_is_within_the_headline.Goals as goal
 
 pub returns : goal.returns
