@@ -32,5 +32,6 @@ pub mod TellingAlike
 pub mod Listed
 pub mod Firsts
 pub mod Telling
+pub mod Blaming
 pub mod Reaching
 pub mod Counted

@@ -12,18 +12,16 @@ use Rattle.sift_exec.specs.Conviction.{is_convicted, kept_by, next_by}
 use Rattle.sift_skew.proofs.Changes.{offsets_change_little}
 use Rattle.sift_mission.specs.Mission.{IsConfigOf, FlownMission}
 use Rattle.sift_conduct.specs.Conduct.{reading_by}
-use Rattle.sift_mission.specs.Data.{MissionData}
 use Rattle.sift_mission.specs.Flown.{flown}
 use Rattle.sift_conduct.specs.Frames.{FrameConduct}
-use Rattle.sift_mission.specs.PartsFit.{PartsFit}
 use Rattle.sift_mission.specs.Premises.{IsFlyable, PartsMakeItFlyable}
 use Rattle.sift_mission.specs.Slots.{has_turned, turned_by}
-use Rattle.sift_mission.proofs.Rows.{start-low}
 use Rattle.sift_flight.specs.Flight.{Flight}
 use Rattle.sift_flight.specs.Hearing.{Strays}
 use Rattle.sift_flight.specs.Round.{IsRound}
 use Rattle.sift_flight.specs.Told.{AreAccountsOf, IsAccountOf, told}
-use Rattle.sift_flight.specs.Whole.{RoundFlightsAreWhole}
+use Rattle.sift_flight.specs.Whole.{RoundFlightsAreWhole, RoundFlightsHaveAccounts}
+use Rattle.sift_flight.proofs.Blaming.{caught_inside, nobody_caught}
 use Rattle.sift_flight.proofs.Configs.{next_inside}
 
 -- a test isn't passed and failed
@@ -148,6 +146,10 @@ module _ (m : FlownMission) (flyable : IsFlyable m) (near : (u : ℕ) → has m.
           | inl there ↦ (c.busy there).conduct.tasks.count
           | inr away ↦ absurd (never_both _ (c.idle away).idle busy)
         ];
+        caught_inside = elim (cases_Bool (has (fl.account u f).cfg u)) [
+          | inl there ↦ caught_inside m _ u f _ _ _ (c.busy there).conduct.catches
+          | inr away ↦ (λ v t. absurd (never_both _ t (nobody_caught _ v (c.idle away).bad)))
+        ];
       }
 
   -- who is idle is outside its configuration in the next frame too
@@ -171,17 +173,20 @@ module _ (m : FlownMission) (flyable : IsFlyable m) (near : (u : ℕ) → has m.
         (idle_later u f later unit (omega arith) (omega arith) (still_before (m.storm u) later (suc later) (omega arith) still) idle)
   ]
 
-  pub accounts_are : AreAccountsOf m fl
+  accounts_are : AreAccountsOf m fl
   accounts_are = record { each = account_is; idle = idle_later }
 
 -- offsets at the start are near
-starts_near : (d : MissionData) (fit : PartsFit d) (u : ℕ) → has (flown d).units u ≡ true → IsWithin (pos change) ((flown d).offset u) (pos 0)
-starts_near d fit u unit =
-    let near = fit.clock.near u (pos 0) (start-low d fit u unit) in
-    (omega (arith, ints, near.0, near.1), omega (arith, ints, near.0, near.1))
+starts_near : (m : FlownMission) → IsFlyable m → (u : ℕ) → has m.units u ≡ true → IsWithin (pos change) (m.offset u) (pos 0)
+starts_near m flyable u unit =
+    let start = flyable.fits.clocks.starts u unit in
+    (omega (arith, ints, start.0, start.1), omega (arith, ints, start.0, start.1))
+
+pub round_flights_have_accounts : RoundFlightsHaveAccounts
+round_flights_have_accounts m strays fl flyable round = accounts_are m flyable (starts_near m flyable) strays fl round
 
 pub round_flights_are_whole : PartsMakeItFlyable → RoundFlightsAreWhole
 round_flights_are_whole flies d strays fl fit logged round = record {
   logged = logged;
-  accounts = accounts_are (flown d) (flies d fit).0 (starts_near d fit) strays (told (flown d) fl) round;
+  accounts = round_flights_have_accounts (flown d) strays (told (flown d) fl) (flies d fit).0 round;
 }

@@ -1,5 +1,5 @@
 -- Two round flights of a mission tell the same of each frame.
-use Rattle.std.proofs.Common.{◌≡◌, ℕ, zero, suc, ◌+◌, ◌-◌, ◌<◌, ◌≤◌, List, [], ◌∷◌, ◌++◌, map, ℤ, Bool, true, false, ◌&&◌, nat_lt, if◌then◌else◌, refl, sym, ap, ◌∙◌, subst, arith, inl, inr}
+use Rattle.std.proofs.Common.{◌≡◌, ℕ, zero, suc, ◌-◌, ◌<◌, ◌≤◌, List, [], ◌∷◌, map, ℤ, true, false, ◌&&◌, nat_lt, refl, sym, ap, ◌∙◌, subst, arith, inl, inr}
 use Rattle.std.specs.List.{filter}
 use Rattle.std.proofs.lemmas.Bool.{cases_Bool}
 use Rattle.std.proofs.lemmas.Bool.Decides.{nat_tests}
@@ -8,12 +8,12 @@ use Rattle.sift_base.proofs.Counts.{has-head, has-tail}
 use Rattle.sift_conduct.specs.Account.{Account}
 use Rattle.sift_mission.specs.Mission.{FlownMission}
 use Rattle.sift_mission.specs.Premises.{IsFlyable}
-use Rattle.sift_flight.specs.Alike.{AreAlike, AreSameFrame, RoundFlightsAreAlike}
-use Rattle.sift_flight.specs.Flight.{Flight, config_of}
+use Rattle.sift_flight.specs.Alike.{AreSameFrame, RoundFlightsAreAlike}
+use Rattle.sift_flight.specs.Flight.{Flight}
 use Rattle.sift_flight.specs.Hearing.{Strays}
 use Rattle.sift_flight.specs.Round.{AreSameAt, HasNoStorms, IsRound}
 use Rattle.sift_flight.specs.Configuration.{config_at, lead_of, working_at, offsets_at, next_offsets_at}
-use Rattle.sift_flight.specs.Figures.{is_sound_at, margin_before, margin_at, skew_of, slack_of}
+use Rattle.sift_flight.specs.Figures.{is_sound_at, margin_before, skew_of, slack_of}
 use Rattle.sift_flight.proofs.Configs.{filter_has}
 use Rattle.sift_flight.proofs.Leading.{lead_works, config_within}
 use Rattle.sift_flight.proofs.Unique.{both_round}

@@ -7,7 +7,7 @@ use Rattle.sift_clock.specs.Distance.{IsWithin}
 use Rattle.sift_exec.specs.Record.{nobody}
 use Rattle.sift_mission.specs.Mission.{FlownMission, IsConfigOf}
 use Rattle.sift_mission.specs.Slots.{is_slot, has_turned}
-use Rattle.sift_conduct.specs.Account.{Account, account_of}
+use Rattle.sift_conduct.specs.Account.{Account, caught, account_of}
 use Rattle.sift_flight.specs.Flight.{Flight}
 use Rattle.sift_flight.specs.declared.flight.Flight.{Flight as TheFlight}
 
@@ -56,7 +56,7 @@ abbrev pub offset_limit : ℤ
 offset_limit = pos 100000000
 
 -- an account of a unit: its configurations are the mission's and its offsets near; it is idle just where its unit is outside its
--- configuration, and else it has one word for each sensor and for each output
+-- configuration, and else it has one word for each sensor and for each output; whom it caught is in its configuration
 pub record IsAccountOf (m : FlownMission) (u : ℕ) (a : Account) : Type 0 where
   pub config : IsConfigOf m a.cfg
   pub next_config : IsConfigOf m a.next_cfg
@@ -65,6 +65,7 @@ pub record IsAccountOf (m : FlownMission) (u : ℕ) (a : Account) : Type 0 where
   pub idle : (a.idle ≡ true → has a.cfg u ≡ false) × (has a.cfg u ≡ false → a.idle ≡ true)
   pub inputs : a.idle ≡ false → length a.ins ≡ m.sensors
   pub outputs : a.idle ≡ false → length a.outs ≡ m.words
+  pub caught_inside : (v : ℕ) → caught a v ≡ true → has a.cfg v ≡ true
 
 -- a unit that flies in a frame has such an account, and who is idle stays so
 pub record AreAccountsOf (m : FlownMission) (fl : Flight) : Type 0 where

@@ -19,4 +19,7 @@ pub use laws::{
     lawful_cores_hear_lawfully, rows_hold, units_hear_by_the_equations,
 };
 pub use told::account_at;
-pub use whole::{margin_is_told, round_flights_are_whole, skew_is_told, slack_is_told};
+pub use whole::{
+    margin_is_told, round_flights_are_whole, round_flights_have_accounts, skew_is_told,
+    slack_is_told,
+};

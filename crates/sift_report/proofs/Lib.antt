@@ -10,7 +10,16 @@ pub mod Fields
 pub mod Printed
 mod SameTexts
 mod Places
+mod SheetPlaces
+mod RoundFlights
+mod Alike
+mod SheetForm
+mod SheetConfigs
+mod FrameLines
 mod HeadlineLines
+mod TwoCatchersFit
+mod TwoCatchers
+mod OtherLines
 pub mod Machine
 pub mod Polls
 pub mod Heard

@@ -1,6 +1,7 @@
 -- What stands at a place of a list that is made of lists of one length.
-use Rattle.std.proofs.Common.{◌≡◌, ℕ, zero, suc, ◌+◌, ◌-◌, ◌*◌, ◌<◌, ◌≤◌, List, [], ◌∷◌, ◌++◌, length, map, Option, Some, refl, sym, ap, ◌∙◌, subst, arith, add-one, append_assoc}
+use Rattle.std.proofs.Common.{◌≡◌, ℕ, zero, suc, ◌+◌, ◌*◌, ◌<◌, List, [], ◌∷◌, ◌++◌, length, map, Some, refl, ap, ◌∙◌, arith, append_assoc}
 use Rattle.std.specs.List.{flat_map, range_with_len, slice_get}
+use Rattle.std.proofs.lemmas.List.{length-append}
 
 -- a place within the first of two lists
 pub get-left : {A : Type 0} (xs ys : List A) (i : ℕ) → i < length xs → slice_get (xs ++ ys) i ≡ slice_get xs i
@@ -34,6 +35,12 @@ module _ {A : Type 0} (g : ℕ → List A) (k : ℕ) (each : (f : ℕ) → lengt
   get-behind a (suc n) i j e =
       rw (append_assoc (g a) (flat_map g (range_with_len (a + 1) n)) rest)
       (get-right (g a) (flat_map g (range_with_len (a + 1) n) ++ rest) (n * k + i) j (rw (each a) (grind arith)) ∙ get-behind (a + 1) n i (n * k + i) refl)
+
+  -- how many elements there are
+  pub length-chunks : (a n : ℕ) → length (flat_map g (range_with_len a n)) ≡ n * k
+  length-chunks a zero = omega arith
+  length-chunks a (suc n) =
+      length-append (g a) (flat_map g (range_with_len (a + 1) n)) ∙ rw (each a, length-chunks (a + 1) n) (grind arith)
 
 -- what a list of the first numbers makes at a place
 pub get-first : {A : Type 0} (g : ℕ → A) (a n i : ℕ) → i < n → slice_get (map g (range_with_len a n)) i ≡ Some (g (a + i))

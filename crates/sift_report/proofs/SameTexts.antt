@@ -1,23 +1,21 @@
 -- Flights that tell the same have one text of each kind.
-use Rattle.std.proofs.Common.{◌≡◌, ℕ, zero, suc, ◌+◌, ◌-◌, ◌<◌, ◌≤◌, List, [], ◌∷◌, ◌++◌, map, true, if◌then◌else◌, refl, sym, ap, ◌∙◌, arith}
+use Rattle.std.proofs.Common.{◌≡◌, ℕ, zero, suc, ◌+◌, ◌-◌, ◌<◌, List, [], ◌∷◌, ◌++◌, map, true, if◌then◌else◌, refl, ap, ◌∙◌, arith}
 use Rattle.std.specs.List.{flat_map, range_with_len}
 use Rattle.sift_base.specs.Units.{has}
 use Rattle.sift_base.proofs.Counts.{has-head, has-tail}
 use Rattle.sift_conduct.specs.Account.{Account, Places}
 use Rattle.sift_mission.specs.Data.{MissionData}
 use Rattle.sift_mission.specs.Flown.{flown}
-use Rattle.sift_mission.specs.Mission.{FlownMission}
 use Rattle.sift_flight.specs.Alike.{AreAlike}
 use Rattle.sift_flight.specs.Configuration.{config_at}
 use Rattle.sift_flight.specs.Figures.{margin_at}
 use Rattle.sift_flight.specs.Flight.{Flight}
 use Rattle.sift_flight.proofs.TellingAlike.{map-same}
 use Rattle.sift_report.specs.Line.{printed, text_of_lines}
-use Rattle.sift_report.specs.OneText.{AlikeFlightsHaveOneText, HaveOneText}
-use Rattle.sift_report.specs.Sheet.{end_of, frame_line, frame_lines, last_line, report_of, sheet_of, unit_line, working_line}
+use Rattle.sift_report.specs.OneText.{AlikeFlightsHaveOneText}
+use Rattle.sift_report.specs.Sheet.{end_of, frame_line, frame_lines, last_line, sheet_of, unit_line, working_line}
 use Rattle.sift_report.specs.Votes.{frame_votes, unit_votes, votes_of}
-use Rattle.sift_report.specs.declared.line.ReportLine.{ReportLine}
-use Rattle.sift_report.specs.declared.line.ReportLine.TheVariants.{Faulty, Frame, Last}
+use Rattle.sift_report.specs.declared.line.ReportLine.TheVariants.{Faulty, Last}
 
 -- what is the same at each number from a on is the same of all of them
 flat-same : {A : Type 0} (f g : ℕ → List A) (a n : ℕ) → ((i : ℕ) → i < a + n → f i ≡ g i) → flat_map f (range_with_len a n) ≡ flat_map g (range_with_len a n)

@@ -7,4 +7,9 @@ pub mod Poll
 pub mod Sheet
 pub mod Votes
 pub mod OneText
+pub mod Working
+pub mod Told
+pub mod Form
+pub mod Headline
 pub mod Printed
+pub mod TwoCatchers

@@ -8,8 +8,8 @@ ghost use Rattle.sift_report.specs.Ideal.{frames_text, ideal_of, outputs_text, s
 use crate::print::push_words;
 use arrayvec::ArrayVec;
 use sift_base::{NoMemory, Word};
-use sift_program::Ideal;
 use sift_mission::Mission;
+use sift_program::Ideal;
 use std::alloc::{AllocError, Global};
 
 /// The ideal machine's outputs in each frame, over the mission's own sensor words.

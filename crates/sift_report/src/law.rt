@@ -1,24 +1,50 @@
 //! The laws of the texts: flights that tell the same have one text of each kind, and the headline is printed.
 
 ghost use Rattle.sift_report.specs.OneText.{AlikeFlightsHaveOneText};
-ghost use Rattle.sift_report.specs.Printed.{HeadlineIsPrinted};
+ghost use Rattle.sift_report.specs.Printed.{HeadlineIsPrinted, SheetsTellTheirFlights};
+ghost use Rattle.sift_report.specs.TwoCatchers.{FaultIsWithinTheHeadline};
 
-use sift_flight::{headline_holds, margin_is_told, skew_is_told, slack_is_told};
+use sift_flight::{
+    calm_missions_fly, headline_holds, margin_is_told, round_flights_have_accounts, skew_is_told,
+    slack_is_told,
+};
 use sift_mission::fitting_parts_make_a_flight;
+use sift_table::plain_tables_are_good;
 
 /// Flights that tell the same have one report, one text of votes and one last line.
 pub fn alike_flights_have_one_text()
     ensures { AlikeFlightsHaveOneText }
 {}
 
-/// What the lines of the report of a round flight tell: in each frame with margin one configuration, the same
-/// words, the ideal machine's outputs, no false accusation, exact removal and clocks within the skew; and true margins.
+/// The lines of the report of a round flight have the headline: the form of a report, one configuration, the same words, the
+/// ideal machine's outputs, no false accusation, exact removal, clocks within the skew, and true margins.
 pub fn the_headline_is_printed()
     ensures { HeadlineIsPrinted }
 {
     fitting_parts_make_a_flight();
     headline_holds();
+    round_flights_have_accounts();
     margin_is_told();
     skew_is_told();
     slack_is_told();
+}
+
+/// What those lines tell of margins, configurations and agreed words is the flight's.
+pub fn sheets_tell_their_flights()
+    ensures { SheetsTellTheirFlights }
+{
+    fitting_parts_make_a_flight();
+    headline_holds();
+    round_flights_have_accounts();
+    margin_is_told();
+    skew_is_told();
+    slack_is_told();
+}
+
+/// A report with a faulty unit, which is configured out within the margin, has the headline; and other lines lack its items.
+pub fn fault_is_within_the_headline()
+    ensures { FaultIsWithinTheHeadline }
+{
+    plain_tables_are_good();
+    calm_missions_fly();
 }

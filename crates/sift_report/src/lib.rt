@@ -19,7 +19,10 @@ mod votes;
 mod word;
 
 pub use ideal::ideal_text;
-pub use law::{alike_flights_have_one_text, the_headline_is_printed};
+pub use law::{
+    alike_flights_have_one_text, fault_is_within_the_headline, sheets_tell_their_flights,
+    the_headline_is_printed,
+};
 pub use line::ReportLine;
 pub use print::push_line;
 pub use read::read_line;

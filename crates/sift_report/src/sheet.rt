@@ -12,9 +12,9 @@ ghost use Rattle.sift_report.specs.Sheet.{account_line, frame_line, last_line, u
 use crate::line::ReportLine;
 use arrayvec::ArrayVec;
 use sift_base::{UnitId, UnitSet};
+use sift_conduct::Account;
 use sift_exec::Catches;
 use sift_flight::{Flight, account_at, config_at, skew_at, slack_at};
-use sift_conduct::Account;
 use sift_mission::Mission;
 
 /// The line of a unit in a frame.

@@ -3,7 +3,7 @@ use Rattle.std.specs.Prelude.{ℕ, ◌≡◌, ◌≤◌, ◌⊎◌, List, [], �
 use Rattle.sift_io.specs.Fault.{Rose}
 use Rattle.sift_flight.specs.Flight.{Flight}
 use Rattle.sift_report.specs.Line.{text_of_lines}
-use Rattle.sift_report.specs.Printed.{ReportHeadline}
+use Rattle.sift_report.specs.Headline.{ReportHeadline}
 use Rattle.sift_report.specs.Sheet.{sheet_of}
 use Rattle.sift_mission.specs.Data.{MissionData}
 use Rattle.sift_mission.specs.Flown.{flown}
@@ -45,7 +45,7 @@ pub record IsHeadlineWritten (input : Input) (output : Output) : Type 0 where
   pub stated : States bytes mission
   pub round : IsFlightOf mission flight
   pub written : IsWritten output (text_of_lines (sheet_of (flown mission) flight))
-  pub headline : ReportHeadline mission flight (sheet_of (flown mission) flight)
+  pub headline : ReportHeadline mission (sheet_of (flown mission) flight)
 
 -- ---- the whole answer
 

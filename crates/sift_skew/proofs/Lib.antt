@@ -1,6 +1,7 @@
 pub mod Changes
 pub mod Extremes
 pub mod Keeps
+pub mod Ceilings
 pub mod Leads
 pub mod Limits
 pub mod Products

@@ -9,7 +9,7 @@ scaled-add zero a b = omega (arith, ints)
 scaled-add (suc n) a b = let rest = scaled-add n a b in omega (arith, ints)
 
 -- so many times a difference
-scaled-sub : (n : ℕ) (a b : ℤ) → pos n *ℤ (a -ℤ b) ≡ pos n *ℤ a -ℤ pos n *ℤ b
+pub scaled-sub : (n : ℕ) (a b : ℤ) → pos n *ℤ (a -ℤ b) ≡ pos n *ℤ a -ℤ pos n *ℤ b
 scaled-sub zero a b = omega (arith, ints)
 scaled-sub (suc n) a b = let rest = scaled-sub n a b in omega (arith, ints)
 
@@ -19,7 +19,7 @@ pub room : (n m s e r : ℕ) → (pos (2 * n) *ℤ (pos e +ℤ pos r)) ≤ℤ (p
 room n m s e r wide = let split = scaled-sub s (pos n) (pos (3 * m)) in omega (arith, ints)
 
 -- so many times a number grows with it
-scaled-≤ : (n : ℕ) (a b : ℤ) → a ≤ℤ b → (pos n *ℤ a) ≤ℤ (pos n *ℤ b)
+pub scaled-≤ : (n : ℕ) (a b : ℤ) → a ≤ℤ b → (pos n *ℤ a) ≤ℤ (pos n *ℤ b)
 scaled-≤ zero a b most = omega (arith, ints)
 scaled-≤ (suc n) a b most = let rest = scaled-≤ n a b most in omega (arith, ints)
 

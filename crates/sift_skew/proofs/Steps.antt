@@ -10,7 +10,7 @@ use Rattle.sift_clock.specs.Distance.{IsWithin}
 use Rattle.sift_clock.specs.Reading.{counted}
 use Rattle.sift_clock.specs.Correction.{counted_sum, correction_of}
 use Rattle.sift_clock.proofs.Floors.{floor_is}
-use Rattle.sift_skew.specs.Keeping.{AreTogether, AreWithin, next_offsets}
+use Rattle.sift_skew.specs.Keeping.{AreTogether, AreWithin, DriftsAddTwice, corrected_offsets, next_offsets}
 use Rattle.sift_skew.proofs.Changes.{counted_within, counted_is}
 use Rattle.sift_skew.proofs.Products.{scaled-add, scaled-cancel}
 use Rattle.sift_skew.proofs.Shares.{total, seen, total-seen, total-≤}
@@ -54,12 +54,12 @@ corrected n rest gap a b sum_a sum_b seen_a seen_b some is_a is_b apart_by most 
     let split_rest = scaled-add n (b +ℤ d) (pos rest) in
     scaled-cancel n (a +ℤ c) (b +ℤ d +ℤ pos rest) (omega (arith, ints))
 
--- the step, where the errors and the faulty clocks' shares leave room
-pub step_by_room : (skew error rate rest : ℕ) (us : List ℕ) (works : ℕ → Bool) (clock drift : ℕ → ℤ) (read : ℕ → ℕ → Option ℤ)
-    → AreWithin (pos skew) (pos error) (pos rate) us works clock drift read → rest + 2 * rate ≡ skew
+-- the correction, where the errors and the faulty clocks' shares leave room
+pub corrected_by_room : (skew error rate rest : ℕ) (us : List ℕ) (works : ℕ → Bool) (clock drift : ℕ → ℤ) (read : ℕ → ℕ → Option ℤ)
+    → AreWithin (pos skew) (pos error) (pos rate) us works clock drift read
     → length us * (2 * error) + faulty_count works us * (3 * skew) ≤ length us * rest
-    → AreTogether (pos skew) us works (next_offsets (pos (skew + error)) us clock drift read)
-step_by_room skew error rate rest us works clock drift read within tight fits p q p_in p_works q_in q_works =
+    → AreTogether (pos rest) us works (corrected_offsets (pos (skew + error)) us clock read)
+corrected_by_room skew error rate rest us works clock drift read within fits p q p_in p_works q_in q_works =
     let limit : ℤ = pos (skew + error) in
     let some = length-has p us p_in in
     let sums = total-≤ works (2 * error) (3 * skew) (seen limit (read p) (clock p) p) (seen limit (read q) (clock q) q) us
@@ -80,6 +80,22 @@ step_by_room skew error rate rest us works clock drift read within tight fits p 
     (total (seen limit (read p) (clock p) p) us) (total (seen limit (read q) (clock q) q) us) some
     (total-seen limit (read p) (clock p) p us) (total-seen limit (read q) (clock q) q us) sums fits
     (correction_of limit (length us) readings_p) (correction_of limit (length us) readings_q) floor_p.0 floor_q.1 in
-    let drift_p = within.drifts p p_in p_works in
-    let drift_q = within.drifts q q_in q_works in
-    omega (arith, ints, close, drift_p, drift_q, tight)
+    omega (arith, ints, close)
+
+-- two drifts are added to it
+pub drifts_add_twice : DriftsAddTwice
+drifts_add_twice rate far limit us works clock drift read drifts together p q p_in p_works q_in q_works =
+    let close = together p q p_in p_works q_in q_works in
+    let drift_p = drifts p p_in p_works in
+    let drift_q = drifts q q_in q_works in
+    omega (arith, ints, close, drift_p, drift_q)
+
+-- so the skew is kept, where they have room
+pub step_by_room : (skew error rate rest : ℕ) (us : List ℕ) (works : ℕ → Bool) (clock drift : ℕ → ℤ) (read : ℕ → ℕ → Option ℤ)
+    → AreWithin (pos skew) (pos error) (pos rate) us works clock drift read → rest + 2 * rate ≡ skew
+    → length us * (2 * error) + faulty_count works us * (3 * skew) ≤ length us * rest
+    → AreTogether (pos skew) us works (next_offsets (pos (skew + error)) us clock drift read)
+step_by_room skew error rate rest us works clock drift read within tight fits p q p_in p_works q_in q_works =
+    let corrected_here = corrected_by_room skew error rate rest us works clock drift read within fits in
+    let close = drifts_add_twice (pos rate) (pos rest) (pos (skew + error)) us works clock drift read within.drifts corrected_here p q p_in p_works q_in q_works in
+    omega (arith, ints, close, tight)

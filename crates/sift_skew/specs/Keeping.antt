@@ -1,5 +1,5 @@
 -- The correction of clocks keeps their skew, whatever is read of the faulty ones.
-use Rattle.std.specs.Prelude.{◌≡◌, ◌≢◌, ℕ, ◌*◌, ◌≤◌, List, length, Bool, true, Option, Some, ℤ, pos, ◌+ℤ◌, ◌-ℤ◌, ◌*ℤ◌, ◌≤ℤ◌}
+use Rattle.std.specs.Prelude.{◌≡◌, ◌≢◌, ◌↔◌, ℕ, ◌*◌, ◌≤◌, List, length, Bool, true, Option, Some, ℤ, pos, ◌+ℤ◌, ◌-ℤ◌, ◌*ℤ◌, ◌≤ℤ◌}
 use Rattle.sift_base.specs.Word.{word_of}
 use Rattle.sift_base.specs.Units.{has}
 use Rattle.sift_base.specs.Margin.{faulty_count, HasMargin}
@@ -25,9 +25,47 @@ pub record AreWithin (skew error rate : ℤ) (us : List ℕ) (works : ℕ → Bo
   pub readings : (u : ℕ) → has us u ≡ true → works u ≡ true → ReadsWell error us works clock u (read u)
   pub drifts : (u : ℕ) → has us u ≡ true → works u ≡ true → IsWithin rate (drift u) (pos 0)
 
+-- each unit's offset when it is corrected, before the drift
+abbrev pub corrected_offsets : ℤ → List ℕ → (ℕ → ℤ) → (ℕ → ℕ → Option ℤ) → ℕ → ℤ
+corrected_offsets limit us clock read u = next_offset limit us (read u) (clock u) u (pos 0)
+
 -- each unit's offset in the next frame
 abbrev pub next_offsets : ℤ → List ℕ → (ℕ → ℤ) → (ℕ → ℤ) → (ℕ → ℕ → Option ℤ) → ℕ → ℤ
 next_offsets limit us clock drift read u = next_offset limit us (read u) (clock u) u (drift u)
+
+-- what the corrections of n clocks, m of them faulty, leave between two of the others, n times: 2nE for the reading errors and 3S for each
+-- faulty clock
+abbrev pub left_apart : (skew error : ℤ) → (n m : ℕ) → ℤ
+left_apart skew error n m = pos (2 * n) *ℤ error +ℤ pos (3 * m) *ℤ skew
+
+-- the ceiling of a sum divided by n: the least whole number that isn't below the quotient
+pub record IsCeiling (sum : ℤ) (n : ℕ) (ceiling : ℤ) : Type 0 where
+  pub enough : sum ≤ℤ (pos n *ℤ ceiling)
+  pub least : (k : ℤ) → sum ≤ℤ (pos n *ℤ k) → ceiling ≤ℤ k
+
+-- corrected offsets of n clocks, at most m of them faulty, differ by at most the ceiling of (2nE + 3mS) / n, with the skew S and the reading
+-- error E
+abbrev pub CorrectedOffsetsAreClose : Type 0
+CorrectedOffsetsAreClose =
+    (skew error : ℤ) (us : List ℕ) (works : ℕ → Bool) (clock : ℕ → ℤ) (read : ℕ → ℕ → Option ℤ) (m : ℕ) (ceiling : ℤ) →
+    pos 0 ≤ℤ error → AreTogether skew us works clock →
+    ((u : ℕ) → has us u ≡ true → works u ≡ true → ReadsWell error us works clock u (read u)) → faulty_count works us ≤ m →
+    IsCeiling (left_apart skew error (length us) m) (length us) ceiling →
+    AreTogether ceiling us works (corrected_offsets (skew +ℤ error) us clock read)
+
+-- drifts add at most 2R
+abbrev pub DriftsAddTwice : Type 0
+DriftsAddTwice =
+    (rate far limit : ℤ) (us : List ℕ) (works : ℕ → Bool) (clock drift : ℕ → ℤ) (read : ℕ → ℕ → Option ℤ) →
+    ((u : ℕ) → has us u ≡ true → works u ≡ true → IsWithin rate (drift u) (pos 0)) →
+    AreTogether far us works (corrected_offsets limit us clock read) →
+    AreTogether (far +ℤ pos 2 *ℤ rate) us works (next_offsets limit us clock drift read)
+
+-- the ceiling and two drifts are at most S exactly where S * (n - 3m) >= 2n * (E + R)
+abbrev pub CeilingFitsExactlyWhere : Type 0
+CeilingFitsExactlyWhere =
+    (skew error rate : ℤ) (n m : ℕ) (ceiling : ℤ) → IsCeiling (left_apart skew error n m) n ceiling →
+    ((ceiling +ℤ pos 2 *ℤ rate) ≤ℤ skew) ↔ ((pos (2 * n) *ℤ (error +ℤ rate)) ≤ℤ (skew *ℤ (pos n -ℤ pos (3 * m))))
 
 -- among n clocks, at most m of them faulty, S * (n - 3m) >= 2n * (E + R) keeps the skew S, with the reading error E and the
 -- drift R

@@ -1,6 +1,9 @@
 //! The laws of the clocks: their correction keeps the skew, and no clock leads by too much.
 
 ghost use Rattle.sift_skew.specs.Keeping.{
+  CorrectedOffsetsAreClose,
+  DriftsAddTwice,
+  CeilingFitsExactlyWhere,
   SkewIsKept,
   SkewIsKeptWithoutFaults,
   SkewIsKeptWithMargin,
@@ -14,6 +17,21 @@ ghost use Rattle.sift_skew.specs.Leading.{
   SkewIsUnique,
   SlackIsUnique,
 };
+
+/// Corrected offsets of n clocks, at most m of them faulty, differ by at most the ceiling of `(2nE + 3mS) / n`.
+pub fn corrected_offsets_are_close()
+    ensures { CorrectedOffsetsAreClose }
+{}
+
+/// Drifts add at most 2R.
+pub fn drifts_add_twice()
+    ensures { DriftsAddTwice }
+{}
+
+/// The ceiling and two drifts are at most S exactly where `S * (n - 3m) >= 2n * (E + R)`.
+pub fn ceiling_fits_exactly_where()
+    ensures { CeilingFitsExactlyWhere }
+{}
 
 /// Among n clocks, at most m of them faulty, `S * (n - 3m) >= 2n * (E + R)` keeps the skew S.
 pub fn skew_is_kept()

@@ -1,0 +1,80 @@
+-- The sheet of a round flight has the form of a report.
+use Rattle.std.proofs.Common.{◌≡◌, ℕ, ◌<◌, true, false, if◌then◌else◌, inl, inr, refl, sym, ap, ◌∙◌, subst, arith}
+use Rattle.std.proofs.lemmas.Bool.{cases_Bool}
+use Rattle.sift_base.specs.Units.{has}
+use Rattle.sift_mission.specs.Data.{MissionData}
+use Rattle.sift_mission.specs.Flown.{flown}
+use Rattle.sift_flight.specs.Configuration.{Works}
+use Rattle.sift_flight.specs.Flight.{Flight}
+use Rattle.sift_flight.specs.Told.{IsAccountOf}
+use Rattle.sift_report.specs.Form.{HasForm, IsFramesLine, IsLastLine, IsUnitsLine, Stands}
+use Rattle.sift_report.specs.Sheet.{account_line, sheet_of, unit_line, working_line}
+use Rattle.sift_report.specs.Working.{IsWorking}
+use Rattle.sift_report.specs.declared.line.ReportLine.TheVariants.{Faulty, Idle}
+use Rattle.sift_report.proofs.RoundFlights.{IsLawful}
+use Rattle.sift_report.proofs.SheetPlaces.{end_at, first_low, frame_at, length-sheet, low_first, unit_at}
+
+-- who works by the mission's data works in flights
+pub works_flying : (d : MissionData) (u f : ℕ) → IsWorking d u f → Works (flown d) u f
+works_flying d u f w = record { unit = w.unit; works = w.works }
+
+-- ---- the line of a unit
+
+module _ (d : MissionData) (fl : Flight) (f u : ℕ) where
+  pub line_of_faulty : (flown d).works u f ≡ false → unit_line (flown d) fl f u ≡ Faulty f u
+  line_of_faulty faulty = ap (λ b. if b then working_line f u (fl.account u f) else Faulty f u) faulty
+
+  pub line_of_working : (flown d).works u f ≡ true → unit_line (flown d) fl f u ≡ working_line f u (fl.account u f)
+  line_of_working works = ap (λ b. if b then working_line f u (fl.account u f) else Faulty f u) works
+
+  pub line_of_idle : (flown d).works u f ≡ true → has (fl.account u f).cfg u ≡ false → unit_line (flown d) fl f u ≡ Idle f u
+  line_of_idle works outside = line_of_working works ∙ ap (λ b. if b then account_line f u (fl.account u f) else Idle f u) outside
+
+  pub line_of_member : (flown d).works u f ≡ true → has (fl.account u f).cfg u ≡ true →
+      unit_line (flown d) fl f u ≡ account_line f u (fl.account u f)
+  line_of_member works member = line_of_working works ∙ ap (λ b. if b then account_line f u (fl.account u f) else Idle f u) member
+
+-- ---- its form
+
+module _ (d : MissionData) (fl : Flight) (lawful : IsLawful d fl) where
+  -- the account of a working unit
+  pub account_is : (u f : ℕ) → f < d.frames → Works (flown d) u f → IsAccountOf (flown d) u (fl.account u f)
+  account_is u f within w = lawful.accounts.each u f w.unit within (lawful.flyable.script.whole u f w.works)
+
+  -- the units of its configuration have numbers below the mission's count
+  below : (u f : ℕ) → f < d.frames → Works (flown d) u f → (v : ℕ) → has (fl.account u f).cfg v ≡ true → v < d.units
+  below u f within w v there = let x = first_low 0 d.units v ((account_is u f within w).config.inside v there) in omega (arith, x)
+
+  -- the line of a unit in a frame is one of that unit
+  member_line : (f u : ℕ) → f < d.frames → Works (flown d) u f → has (fl.account u f).cfg u ≡ true
+      → IsUnitsLine d f u (account_line f u (fl.account u f))
+  member_line f u within w member =
+      let account = account_is u f within w in
+      let busy : (fl.account u f).idle ≡ false =
+      elim (cases_Bool (fl.account u f).idle) [ inl idle ↦ (let outside = account.idle.0 idle in absurd cc) | inr busy ↦ busy ] in (
+        refl,
+        refl,
+        w.works,
+        below u f within w,
+        (λ v caught. below u f within w v (account.caught_inside v caught)),
+        account.inputs busy,
+        account.outputs busy,
+      )
+
+  units_line : (f u : ℕ) → f < d.frames → u < d.units → IsUnitsLine d f u (unit_line (flown d) fl f u)
+  units_line f u within low = elim (cases_Bool ((flown d).works u f)) [
+    | inr faulty ↦ subst (IsUnitsLine d f u) (sym (line_of_faulty d fl f u faulty)) (refl, refl, faulty)
+    | inl works ↦
+        let w : Works (flown d) u f = record { unit = low_first 0 d.units u (omega arith) (omega arith); works = works } in
+        elim (cases_Bool (has (fl.account u f).cfg u)) [
+          | inr outside ↦ subst (IsUnitsLine d f u) (sym (line_of_idle d fl f u works outside)) (refl, refl, works)
+          | inl member ↦ subst (IsUnitsLine d f u) (sym (line_of_member d fl f u works member)) (member_line f u within w member)
+        ]
+  ]
+
+  pub form_told : (f : ℕ) → f < d.frames → HasForm d (sheet_of (flown d) fl) f
+  form_told f within = record {
+    units = λ u low. subst (Stands (IsUnitsLine d f u)) (sym (unit_at d fl f u within low)) (units_line f u within low);
+    whole = subst (Stands (IsFramesLine f)) (sym (frame_at d fl f within)) refl;
+    end = λ e. record { last = subst (Stands (IsLastLine d)) (sym (end_at d fl)) refl; nothing_more = length-sheet d fl };
+  }

@@ -1,0 +1,102 @@
+-- The headline of a report: what its lines tell of each frame with margin, whatever faulty units do. It is said of the lines and the mission
+-- alone, one item a definition, each of one frame.
+use Rattle.std.specs.Prelude.{◌≡◌, ◌↔◌, ℕ, suc, ◌<◌, List, map, slice_index, nat_lt, not, Bool, true, false, Option, None, Some, ℤ, pos, ◌≤ℤ◌}
+use Rattle.std.specs.List.{filter}
+use Rattle.sift_base.specs.Margin.{HasMargin}
+use Rattle.sift_base.specs.Units.{holds}
+use Rattle.sift_config.specs.Config.{first_units, reader_of}
+use Rattle.sift_exec.specs.Conviction.{working_accusers}
+use Rattle.sift_program.specs.Ideal.{ideal_words}
+use Rattle.sift_skew.specs.Figures.{IsSkew}
+use Rattle.sift_mission.specs.Data.{MissionData}
+use Rattle.sift_mission.specs.Flown.{word_sensed}
+use Rattle.sift_report.specs.Form.{HasForm}
+use Rattle.sift_report.specs.Told.{HadMarginTold, HasMarginTold, agreed_told, caught_told, clock_told, config_told, end_margin_told, inputs_told, margin_told, outputs_told, skew_told, slack_told, told_at}
+use Rattle.sift_report.specs.Working.{IsWorking, works_in}
+use Rattle.sift_report.specs.declared.line.ReportLine.{ReportLine}
+
+-- ---- configurations
+
+-- the lead unit tells a configuration, in frame 0 that of all units; where it gives margin, each working unit tells the same
+pub record TellsSameConfiguration (d : MissionData) (lines : List ReportLine) (f : ℕ) : Type 0 where
+  pub config : List ℕ
+  pub told : config_told d lines f ≡ Some config
+  pub all_at_first : f ≡ 0 → config ≡ first_units d.units
+  pub same : HasMargin (λ u. works_in d u f) config → (u : ℕ) → IsWorking d u f → (told_at d lines f u).config ≡ Some config
+
+-- ---- words
+
+-- each working unit tells the same agreed words, and the word of a sensor that a working unit of the configuration reads is the mission's
+pub record TellsSameInputs (d : MissionData) (lines : List ReportLine) (f : ℕ) : Type 0 where
+  pub same : (u : ℕ) → IsWorking d u f → inputs_told d lines f u ≡ agreed_told d lines f
+  pub sensed : (us : List ℕ) (x : ℕ) → config_told d lines f ≡ Some us → x < d.layout.sensors →
+      works_in d (reader_of us x) f ≡ true → slice_index (agreed_told d lines f) x ≡ word_sensed d x f
+
+-- each working unit tells the ideal machine's words, over the agreed words told so far
+abbrev pub TellsIdealOutputs : MissionData → List ReportLine → ℕ → Type 0
+TellsIdealOutputs d lines f =
+    (u : ℕ) → IsWorking d u f → outputs_told d lines f u ≡ ideal_words d.program (agreed_told d lines) f
+
+-- ---- faults
+
+-- no working unit tells that it caught a working unit, and none that it caught itself
+abbrev pub TellsNoFalseAccusation : MissionData → List ReportLine → ℕ → Type 0
+TellsNoFalseAccusation d lines f =
+    (u v : ℕ) → IsWorking d u f → IsWorking d v f → holds (caught_told d lines f u) v ≡ false
+
+-- at least two working units of a configuration tell that they caught v
+abbrev pub two_tell : MissionData → List ReportLine → ℕ → List ℕ → ℕ → Bool
+two_tell d lines f us v = nat_lt 1 (working_accusers (λ u. works_in d u f) (λ u. holds (caught_told d lines f u)) us v)
+
+-- the configuration told at the next frame is the one told at this less exactly the units that two working units tell that they caught
+abbrev pub TellsExactRemoval : MissionData → List ReportLine → ℕ → Type 0
+TellsExactRemoval d lines f =
+    (us next : List ℕ) → config_told d lines f ≡ Some us → config_told d lines (suc f) ≡ Some next →
+    next ≡ filter (λ v. not (two_tell d lines f us v)) us
+
+-- ---- clocks
+
+-- the offsets that the working units of a configuration tell
+abbrev pub working_clocks : MissionData → List ReportLine → ℕ → List ℕ → List ℤ
+working_clocks d lines f us = map (clock_told d lines f) (filter (λ u. works_in d u f) us)
+
+-- a skew is told, it is the largest difference of two of these offsets, and at most the mission's
+abbrev pub IsTrueSkew : MissionData → List ℤ → Option ℤ → Type 0
+IsTrueSkew d clocks None = ⊥
+IsTrueSkew d clocks (Some skew) = IsSkew clocks skew × (skew ≤ℤ d.clock.skew)
+
+-- a slack is told, and it is at least 1
+abbrev pub IsSomeSlack : Option ℤ → Type 0
+IsSomeSlack None = ⊥
+IsSomeSlack (Some slack) = pos 1 ≤ℤ slack
+
+-- the frame's line tells the largest difference of two working clocks of the configuration, which is at most the mission's skew, and a slack
+-- of at least 1
+pub record TellsClockSkew (d : MissionData) (lines : List ReportLine) (f : ℕ) : Type 0 where
+  pub skew : (us : List ℕ) → config_told d lines f ≡ Some us → IsTrueSkew d (working_clocks d lines f us) (skew_told d lines f)
+  pub slack : IsSomeSlack (slack_told d lines f)
+
+-- ---- margin
+
+-- the frame's line tells whether the frame has margin by what is told; so does the last line of the last frame
+pub record TellsTrueMargin (d : MissionData) (lines : List ReportLine) (f : ℕ) : Type 0 where
+  pub frame : (margin_told d lines f ≡ true) ↔ HasMarginTold d lines f
+  pub end : suc f ≡ d.frames → (end_margin_told d lines ≡ true) ↔ HasMarginTold d lines f
+
+-- ---- the whole report
+
+-- what the lines of a frame with margin tell
+pub record FrameHeadline (d : MissionData) (lines : List ReportLine) (f : ℕ) : Type 0 where
+  pub same_inputs : TellsSameInputs d lines f
+  pub ideal_outputs : TellsIdealOutputs d lines f
+  pub no_false_accusation : TellsNoFalseAccusation d lines f
+  pub exact_removal : TellsExactRemoval d lines f
+  pub clock_skew : TellsClockSkew d lines f
+
+-- the headline of a report of these lines: each frame has its form and tells its margin as it is; one configuration is told wherever each
+-- frame before has margin, and all else in each frame with margin
+pub record ReportHeadline (d : MissionData) (lines : List ReportLine) : Type 0 where
+  pub form : (f : ℕ) → f < d.frames → HasForm d lines f
+  pub same_configuration : (f : ℕ) → f < d.frames → HadMarginTold d lines f → TellsSameConfiguration d lines f
+  pub frames : (f : ℕ) → f < d.frames → HasMarginTold d lines f → FrameHeadline d lines f
+  pub true_margin : (f : ℕ) → f < d.frames → TellsTrueMargin d lines f

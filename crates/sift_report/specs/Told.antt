@@ -1,0 +1,104 @@
+-- What the lines of a report tell of a mission, read off the lines and the mission alone.
+use Rattle.std.specs.Prelude.{◌≡◌, ℕ, ◌+◌, ◌*◌, ◌<◌, ◌≤◌, List, [], Bool, false, Option, None, Some, nat_lt, if◌then◌else◌, ℤ, pos}
+use Rattle.std.specs.FinSet as set
+use Rattle.std.specs.List.{slice_get}
+use Rattle.sift_base.specs.Margin.{HasMargin}
+use Rattle.sift_base.specs.Units.{Units}
+use Rattle.sift_mission.specs.Data.{MissionData}
+use Rattle.sift_report.specs.Working.{lead_in, works_in}
+use Rattle.sift_report.specs.declared.line.ReportLine.{ReportLine}
+use Rattle.sift_report.specs.declared.line.ReportLine.TheVariants.{Unit as unit, Faulty, Idle, Frame, Last}
+
+-- ---- one line
+
+-- what a line tells: a configuration, a clock's offset, the agreed words, the voted words and whom its unit caught; a skew, a slack and a
+-- margin
+pub record Telling : Type 0 where
+  pub config : Option (List ℕ)
+  pub clock : ℤ
+  pub inputs : List ℕ
+  pub outputs : List ℕ
+  pub caught : Units
+  pub skew : Option ℤ
+  pub slack : Option ℤ
+  pub margin : Bool
+
+-- nothing is told: no configuration, the offset 0, no word, no unit, no figure and no margin
+abbrev pub nothing : Telling
+nothing = record { config = None; clock = pos 0; inputs = []; outputs = []; caught = set.empty; skew = None; slack = None; margin = false }
+
+-- what a line tells is what it prints, and of all else nothing
+abbrev pub told_by : ReportLine → Telling
+told_by (unit f u cfg clk ins outs bad) =
+    record nothing { config = Some cfg; clock = clk; inputs = ins.items; outputs = outs.items; caught = bad }
+told_by (Faulty f u) = nothing
+told_by (Idle f u) = nothing
+told_by (Frame f skew slack margin) = record nothing { skew = skew; slack = slack; margin = margin }
+told_by (Last frames cfg margin) = record nothing { config = Some cfg; margin = margin }
+
+-- a line that isn't there tells nothing
+abbrev pub told_in : Option ReportLine → Telling
+told_in None = nothing
+told_in (Some line) = told_by line
+
+-- ---- the lines of a frame
+
+-- line i of frame f: each frame has a line for each unit of the mission, in their order, and then one for the whole frame
+abbrev pub line_at : MissionData → List ReportLine → (f i : ℕ) → Option ReportLine
+line_at d lines f i = slice_get lines (f * (d.units + 1) + i)
+
+-- what it tells
+abbrev pub told_at : MissionData → List ReportLine → (f i : ℕ) → Telling
+told_at d lines f i = told_in (line_at d lines f i)
+
+-- the configuration told at a frame: the lead unit's; after the last frame, that of the last line
+abbrev pub config_told : MissionData → List ReportLine → ℕ → Option (List ℕ)
+config_told d lines f = (told_at d lines f (if nat_lt f d.frames then lead_in d f else 0)).config
+
+-- the agreed words that a unit tells in a frame
+abbrev pub inputs_told : MissionData → List ReportLine → (f u : ℕ) → List ℕ
+inputs_told d lines f u = (told_at d lines f u).inputs
+
+-- the agreed words told in a frame: the lead unit's
+abbrev pub agreed_told : MissionData → List ReportLine → ℕ → List ℕ
+agreed_told d lines f = inputs_told d lines f (lead_in d f)
+
+-- the voted words that a unit tells
+abbrev pub outputs_told : MissionData → List ReportLine → (f u : ℕ) → List ℕ
+outputs_told d lines f u = (told_at d lines f u).outputs
+
+-- the offset of its clock
+abbrev pub clock_told : MissionData → List ReportLine → (f u : ℕ) → ℤ
+clock_told d lines f u = (told_at d lines f u).clock
+
+-- and whom it caught
+abbrev pub caught_told : MissionData → List ReportLine → (f u : ℕ) → Units
+caught_told d lines f u = (told_at d lines f u).caught
+
+-- the skew, the slack and the margin that the line of the whole frame tells
+abbrev pub skew_told : MissionData → List ReportLine → ℕ → Option ℤ
+skew_told d lines f = (told_at d lines f d.units).skew
+
+abbrev pub slack_told : MissionData → List ReportLine → ℕ → Option ℤ
+slack_told d lines f = (told_at d lines f d.units).slack
+
+abbrev pub margin_told : MissionData → List ReportLine → ℕ → Bool
+margin_told d lines f = (told_at d lines f d.units).margin
+
+-- the margin that the last line tells
+abbrev pub end_margin_told : MissionData → List ReportLine → Bool
+end_margin_told d lines = (told_at d lines d.frames 0).margin
+
+-- ---- margin
+
+-- a configuration is told at a frame, and it has at most one faulty unit and at least four working ones
+abbrev pub IsSoundTold : MissionData → List ReportLine → ℕ → Type 0
+IsSoundTold d lines f = (us : List ℕ) × (config_told d lines f ≡ Some us) × HasMargin (λ u. works_in d u f) us
+
+-- so it is at each frame before this one
+abbrev pub HadMarginTold : MissionData → List ReportLine → ℕ → Type 0
+HadMarginTold d lines f = (g : ℕ) → g < f → IsSoundTold d lines g
+
+-- a frame has margin by what is told: so it is at this frame and at each before
+abbrev pub HasMarginTold : MissionData → List ReportLine → ℕ → Type 0
+HasMarginTold d lines f = (g : ℕ) → g ≤ f → IsSoundTold d lines g
