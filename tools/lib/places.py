@@ -18,13 +18,14 @@ KINDS = {
 
 
 class NotADocument(Exception):
-    """Why a text is no document, and where it shows: from a place up to an end."""
+    """Why a text is no document, where it shows, from a place up to an end, and what to do."""
 
-    def __init__(self, place, end, why):
+    def __init__(self, place, end, why, mend):
         super().__init__(why)
         self.place = place
         self.end = end
         self.why = why
+        self.mend = mend
 
 
 class Value:
@@ -77,7 +78,8 @@ def read(raw):
         text = raw.decode()
     except UnicodeDecodeError as fault:
         before = raw[: fault.start].decode()
-        raise NotADocument(len(before), len(before) + 1, f"the byte 0x{raw[fault.start]:02x} here is no UTF-8") from None
+        why = f"the byte 0x{raw[fault.start]:02x} here is no UTF-8"
+        raise NotADocument(len(before), len(before) + 1, why, "let the editor save the file as UTF-8") from None
     return text, Reader(text).document()
 
 
@@ -140,17 +142,17 @@ def scalar_of(word):
     if word in ("true", "false"):
         return "boolean", word == "true"
     if re.match(r"\d+[-:]", word):
-        return ("date", word) if is_date(word) else (None, f"`{word}` is no date and no time")
+        return ("date", word) if is_date(word) else (None, (f"`{word}` is no date and no time", "a mission has none: a number, or a string in quotes"))
     if len(word) > 1 and word[0] == "0" and word[1] in PREFIXED:
         base, form = PREFIXED[word[1]]
-        return integer_of(word, int(word.replace("_", ""), base)) if form.fullmatch(word) else (None, f"`{word}` is no number")
+        return integer_of(word, int(word.replace("_", ""), base)) if form.fullmatch(word) else (None, (f"`{word}` is no number", f"digits of base {base} behind the `{word[:2]}`"))
     if INTEGER.fullmatch(word):
         return integer_of(word, int(word.replace("_", "")))
     if SPECIAL_FLOAT.fullmatch(word):
         return "float", float(word)
     if FLOAT.fullmatch(word):
         number = float(word.replace("_", ""))
-        return ("float", number) if abs(number) != float("inf") else (None, f"`{word}` is too large for a number")
+        return ("float", number) if abs(number) != float("inf") else (None, (f"`{word}` is too large for a number", "a smaller one"))
     return None, why_no_value(word)
 
 
@@ -158,20 +160,20 @@ def integer_of(word, number):
     """An integer of 64 bits, or why it is none."""
     if -(2**63) <= number < 2**63:
         return "integer", number
-    return None, f"`{word}` doesn't fit an integer of 64 bits"
+    return None, (f"`{word}` doesn't fit an integer of 64 bits", "a smaller one: words of missions have 16 bits")
 
 
 def why_no_value(word):
-    """Why a word is no value."""
+    """Why a word is no value, and what to do."""
     if word.lower() in ("true", "false"):
-        return f"`{word}` is written in small letters: `{word.lower()}`"
+        return f"`{word}` is no value: small letters", f"`{word.lower()}`"
     if re.fullmatch(r"[+-]?0[0-9_]+", word):
-        return f"a number has no leading zeros: `{word.lstrip('+-').lstrip('0_') or '0'}`"
+        return "a number has no leading zeros", f"`{word.lstrip('+-').lstrip('0_') or '0'}`"
     if re.fullmatch(r"[+-]?(\.[0-9]+|[0-9]+\.)", word):
-        return f"a point stands between digits, as in `1.5`; `{word}` is no number"
+        return f"`{word}` is no number: a point stands between digits", "`0.5`, as an example"
     if re.match(r"[A-Za-z_]", word):
-        return f"`{word}` has no quotes: a string stands in them, and a number is digits"
-    return f"`{word}` is no number"
+        return f"`{word}` has no quotes, and is no number", f"a number; or a string: \"{word}\""
+    return f"`{word}` is no number", "digits, with a sign before them where it is needed"
 
 
 class Reader:
@@ -194,9 +196,9 @@ class Reader:
             self.at = found.end()
         return found[0] if found else ""
 
-    def refuse(self, why, place=None, end=None):
+    def refuse(self, why, mend, place=None, end=None):
         place = self.at if place is None else place
-        raise NotADocument(place, end or place + 1, why)
+        raise NotADocument(place, end or place + 1, why, mend)
 
     def found_here(self):
         """What stands here, in words."""
@@ -216,7 +218,7 @@ class Reader:
         while self.next() and self.next() in "#\r\n":
             self.take(COMMENT)
             if self.next() and not self.take(NEW_LINE):
-                self.refuse(f"{self.found_here()} in a comment, or a line feed is missing behind a carriage return")
+                self.refuse(f"{self.found_here()}, which can't stand in a comment or between lines", "take it out; a line ends with LF, or with CR LF")
             self.blanks()
 
     def first_place(self, at):
@@ -247,12 +249,12 @@ class Reader:
         if not self.next() or self.next() in "#\n" or self.text.startswith("\r\n", self.at):
             return
         if self.next() == ",":
-            self.refuse("a comma stands behind the value: each key has a line of its own")
+            self.refuse("a comma stands behind the value", "a new line: each key has a line of its own")
         if self.text.startswith("//", self.at):
-            self.refuse("a comment begins with `#`", self.at, self.at + 2)
+            self.refuse("no comment begins so", "`#`", self.at, self.at + 2)
         if self.text[self.at - 1] in "'\"":
-            self.refuse("the string has ended before here: a quote within it is written `\\\"`, or the string stands in other quotes")
-        self.refuse(f"the line should end here, but {self.found_here()}: each key has a line of its own")
+            self.refuse("the string has ended before here", "a quote within a string is written `\\\"`; or put the string into other quotes")
+        self.refuse(f"the line should end here, and {self.found_here()}", "a new line: each key has a line of its own")
 
     # Tables.
 
@@ -265,7 +267,7 @@ class Reader:
         parts = self.key()
         close = "]]" if double else "]"
         if not self.text.startswith(close, self.at):
-            self.refuse(f"`{close}` is due here, and {self.found_here()}")
+            self.refuse(f"`{close}` is due here, and {self.found_here()}", f"`{close}`")
         self.at += len(close)
         table = root
         for name, place, end in parts[:-1]:
@@ -281,7 +283,7 @@ class Reader:
             table.data[name] = Entry(place, end, inner)
             return inner
         if entry.value.origin == "value":
-            self.refuse(f"`{name}` is the value of a key already, in {self.first_place(entry.start)}", place, end)
+            self.refuse(f"`{name}` is the value of a key already, in {self.first_place(entry.start)}", "another name", place, end)
         return entry.value.data[-1] if entry.value.kind == "array" else entry.value
 
     def at_header(self, table, part, double, start):
@@ -302,22 +304,22 @@ class Reader:
         if not double and old.kind == "table" and old.origin == "implicit":
             old.origin, old.start, old.end = "header", start, self.at
             return old
-        self.refuse(self.why_twice(name, old, double, entry.start), start, self.at)
+        self.refuse(*self.why_twice(name, old, double, entry.start), start, self.at)
 
     def why_twice(self, name, old, double, place):
-        """Why a header can't name what it names."""
+        """Why a header can't name what it names, and what to do."""
         where = self.first_place(place)
         if double and old.kind == "table":
-            return f"`[[{name}]]` makes a list, and `{name}` is a table already, in {where}: write `[[{name}]]` there too"
+            return f"`[[{name}]]` makes a list, and `{name}` is a table already, in {where}", f"`[[{name}]]` there too"
         if old.kind == "array" and old.origin == "header":
-            return f"`{name}` is a list already, in {where}: write `[[{name}]]`, with double brackets"
-        return f"`{name}` stands twice: it is there already, in {where}"
+            return f"`{name}` is a list already, in {where}", f"`[[{name}]]`, with double brackets"
+        return f"`{name}` stands twice: it is there already, in {where}", "put both into one"
 
     def pair(self, table):
         """A key and its value, into a table."""
         parts = self.key()
         if self.next() != "=":
-            self.refuse(self.why_no_equals())
+            self.refuse(*self.why_no_equals())
         self.at += 1
         self.blanks()
         value = self.value(DEEPEST)
@@ -325,15 +327,14 @@ class Reader:
             table = self.through_dot(table, name, place, end)
         name, place, end = parts[-1]
         if name in table.data:
-            self.refuse(f"the key `{name}` stands twice: it is there already, in {self.first_place(table.data[name].start)}", place, end)
+            why = f"the key `{name}` stands twice: it is there already, in {self.first_place(table.data[name].start)}"
+            self.refuse(why, "keep one of the two", place, end)
         table.data[name] = Entry(place, end, value)
 
     def why_no_equals(self):
         if self.next() == ":":
-            return "`=` stands between a key and its value, and no colon"
-        if self.next() in "'\"" or self.next().isalnum():
-            return f"`=` is due behind the key, and {self.found_here()}: a key with blanks stands in quotes"
-        return f"`=` is due behind the key, and {self.found_here()}"
+            return "a colon stands behind the key", "`=`"
+        return f"`=` is due behind the key, and {self.found_here()}", "`=` and a value"
 
     def through_dot(self, table, name, place, end):
         """The table at a part of a dotted key that isn't its last."""
@@ -345,7 +346,7 @@ class Reader:
             return inner
         inner = entry.value
         if inner.kind != "table" or inner.origin not in ("implicit", "dotted"):
-            self.refuse(f"`{name}` can't get a key by a dot: it is there already, in {self.first_place(entry.start)}", place, end)
+            self.refuse(f"`{name}` can't get a key by a dot: it is there already, in {self.first_place(entry.start)}", "put both into one", place, end)
         inner.origin = "dotted"
         return inner
 
@@ -355,13 +356,13 @@ class Reader:
         while True:
             start = self.at
             if len(parts) == DEEPEST:
-                self.refuse(f"a key has at most {DEEPEST} parts")
+                self.refuse(f"a key has at most {DEEPEST} parts", "keys of a mission have one")
             if self.next() and self.next() in "'\"":
                 name = self.string(lines=False).data
             else:
                 name = self.take(BARE)
                 if not name:
-                    self.refuse(f"a key is due here, and {self.found_here()}")
+                    self.refuse(f"a key is due here, and {self.found_here()}", "`key = value`, or a comment behind `#`")
             parts.append((name, start, self.at))
             self.blanks()
             if self.next() != ".":
@@ -378,23 +379,21 @@ class Reader:
             return self.string(lines=True)
         if here and here in "[{":
             if depth == 0:
-                self.refuse(f"arrays and inline tables are nested deeper than {DEEPEST}")
+                self.refuse(f"arrays and inline tables are nested deeper than {DEEPEST}", "those of a mission go three deep")
             return self.array(depth - 1) if here == "[" else self.inline_table(depth - 1)
         word = self.take(WORD)
         if not word:
-            self.refuse(self.why_nothing(here))
+            self.refuse(*self.why_nothing(here))
         kind, data = scalar_of(word)
         if kind is None:
-            self.refuse(data, start, self.at)
+            self.refuse(*data, start, self.at)
         return Value(kind, data, start, self.at)
 
     def why_nothing(self, here):
-        """Why no value begins here."""
+        """Why no value begins here, and what to do."""
         if here and here in CURLY:
-            return f"`{here}` is no quote of TOML: straight ones are, as in \"pitch\""
-        if here == ",":
-            return "a value is missing before the comma"
-        return f"a value is due here, and {self.found_here()}"
+            return f"`{here}` is no quote of TOML", "straight ones, as in \"pitch\""
+        return f"a value is due here, and {self.found_here()}", "a number, a string in quotes, or `[` and `]` round a list"
 
     def array(self, depth):
         start = self.at
@@ -429,7 +428,7 @@ class Reader:
     def inline_pair(self, table, depth):
         parts = self.key()
         if self.next() != "=":
-            self.refuse(self.why_no_equals())
+            self.refuse(*self.why_no_equals())
         self.at += 1
         self.blanks()
         value = self.value(depth)
@@ -437,7 +436,7 @@ class Reader:
             table = self.through_dot(table, name, place, end)
         name, place, end = parts[-1]
         if name in table.data:
-            self.refuse(f"the key `{name}` stands twice in its table", place, end)
+            self.refuse(f"the key `{name}` stands twice in its table", "keep one of the two", place, end)
         table.data[name] = Entry(place, end, value)
 
     def goes_on(self, bracket, what, start):
@@ -448,7 +447,7 @@ class Reader:
             return True
         if self.next() != bracket:
             begun = "" if line_and_column(self.text, start)[0] == line_and_column(self.text, self.at)[0] else f" that begins in {self.first_place(start)}"
-            self.refuse(f"a comma or `{bracket}` is due in the {what}{begun}, and {self.found_here()}")
+            self.refuse(f"a comma or `{bracket}` is due in the {what}{begun}, and {self.found_here()}", f"`{bracket}` at its end, or a comma between two values")
         return False
 
     # Strings.
@@ -476,17 +475,17 @@ class Reader:
         """The next characters of a string, or None at its end, behind which it goes."""
         here = self.next()
         if not here:
-            self.refuse("the string that begins here isn't closed", start)
+            self.refuse("the string that begins here isn't closed", "close it", start)
         if here == quote:
             return self.quotes(quote, many)
         if here == "\\" and quote == '"':
             return self.escape(many)
         if here == "\n" or self.text.startswith("\r\n", self.at):
             if not many:
-                self.refuse(f"the string that begins here isn't closed on its line; one over many lines stands in {quote * 3}", start)
+                self.refuse("the string that begins here isn't closed on its line", f"close it; one over many lines stands in {quote * 3}", start)
             return self.take(NEW_LINE)
         if here != "\t" and (here < " " or here == "\x7f"):
-            self.refuse(f"the character 0x{ord(here):02x} can't stand in a string as it is")
+            self.refuse(f"the character 0x{ord(here):02x} can't stand in a string as it is", f"`\\u{ord(here):04x}` in double quotes")
         self.at += 1
         return here
 
@@ -497,7 +496,7 @@ class Reader:
             self.at += 3 if many else 1
             return None
         if count > 5:
-            self.refuse("six quotes in a row: a string ends with three of them")
+            self.refuse("six quotes stand in a row", "a string of many lines ends with three")
         self.at += 1
         return quote
 
@@ -516,7 +515,7 @@ class Reader:
             digits = self.take(re.compile(f"[0-9A-Fa-f]{{{HEX_ESCAPES[letter]}}}"))
             if digits and (int(digits, 16) < 0xD800 or 0xE000 <= int(digits, 16) <= 0x10FFFF):
                 return chr(int(digits, 16))
-        self.refuse("a backslash and what follows stand for no character; in single quotes a backslash is one", start)
+        self.refuse("a backslash and what follows stand for no character", "`\\\\` is a backslash; in single quotes it stands for itself", start)
 
 
 def close(table):

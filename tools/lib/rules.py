@@ -136,7 +136,7 @@ def wrong_integer(name, value, low, high):
     """Why a value is no integer between two bounds, and what to do; or None."""
     bounds = f"an integer from {low:,} to {high:,}" if low != high else f"the integer {low}"
     if value.kind == "string" and re.fullmatch(r"[+-]?[0-9]+", value.data):
-        return f"`{name}` is the string \"{value.data}\", and is {bounds}", "a number has no quotes"
+        return f"`{name}` is the string \"{value.data}\", and is to be {bounds}", "a number has no quotes"
     if value.kind != "integer":
         return f"`{name}` is {KINDS[value.kind]}, and is to be {bounds}", None
     if not low <= value.data <= high:
@@ -268,7 +268,7 @@ def unknown_keys(table, header):
 
 def unknown_root(name, value, owners, like):
     """Why a key can't stand at the root, and what to do."""
-    known = f"it has {choice(ROOT_KEYS)}"
+    known = f"the document has {choice(ROOT_KEYS)}"
     written = f"`[[{name}]]`" if value.kind == "array" and value.origin == "header" else f"`{name}`"
     if owners and not like:
         return f"`{name}` is no key of the document: it is one of {owners[0]}", f"move it below its `{owners[0]}` line"
