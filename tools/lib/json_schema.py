@@ -5,14 +5,6 @@ it isn't about, as `maximum` of a string, it leaves open.
 """
 import re
 
-TYPES = {
-    "integer": lambda value: not isinstance(value, bool) and (isinstance(value, int) or isinstance(value, float) and value.is_integer()),
-    "string": lambda value: isinstance(value, str),
-    "array": lambda value: isinstance(value, list),
-    "object": lambda value: isinstance(value, dict),
-}
-
-
 def is_number(value):
     return not isinstance(value, bool) and isinstance(value, (int, float))
 
@@ -20,6 +12,14 @@ def is_number(value):
 def same(value, other):
     """Whether two values are the same: true is no 1."""
     return value == other and isinstance(value, bool) == isinstance(other, bool)
+
+
+TYPES = {
+    "integer": lambda value: is_number(value) and float(value).is_integer(),
+    "string": lambda value: isinstance(value, str),
+    "array": lambda value: isinstance(value, list),
+    "object": lambda value: isinstance(value, dict),
+}
 
 
 class Schema:
@@ -89,7 +89,8 @@ class Schema:
         return not isinstance(value, dict) or all(name in value for name in told)
 
     def word_properties(self, told, _schema, value):
-        return not isinstance(value, dict) or all(self.holds(value[name], inner) for name, inner in told.items() if name in value)
+        inner = {name: schema for name, schema in told.items() if isinstance(value, dict) and name in value}
+        return all(self.holds(value[name], schema) for name, schema in inner.items())
 
     def word_additionalProperties(self, told, schema, value):
         if not isinstance(value, dict):

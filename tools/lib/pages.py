@@ -27,8 +27,8 @@ def sort_and_rule(line):
 
 def cells(line):
     """The cells of a line of a table of a page, with each link as the file that it names."""
-    inner = line.strip().strip("|")
-    return [re.sub(r"\[[^]]*\]\(([a-z-]+\.md)\)", r"docs/\1", cell.strip().replace("\\|", "|")) for cell in re.split(r"(?<!\\)\|", inner)]
+    linked = re.sub(r"\[[^]]*\]\(([a-z-]+\.md)\)", r"docs/\1", line.strip().strip("|"))
+    return [cell.strip().replace("\\|", "|") for cell in re.split(r"(?<!\\)\|", linked)]
 
 
 def rows(page, heading=None):

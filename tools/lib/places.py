@@ -115,7 +115,14 @@ DATE = r"(?P<year>\d{4})-(?P<month>\d\d)-(?P<day>\d\d)"
 TIME = r"(?P<hour>\d\d):(?P<minute>\d\d)(?::(?P<second>\d\d)(?:\.\d+)?)?"
 OFFSET = r"(?:[Zz]|[+-](?P<offset_hour>\d\d):(?P<offset_minute>\d\d))"
 DATES = [re.compile(form) for form in (f"{DATE}(?:[Tt ]{TIME}{OFFSET}?)?", TIME)]
-BOUNDS = {"month": (1, 12), "hour": (0, 23), "minute": (0, 59), "second": (0, 60), "offset_hour": (0, 23), "offset_minute": (0, 59)}
+BOUNDS = {
+    "month": (1, 12),
+    "hour": (0, 23),
+    "minute": (0, 59),
+    "second": (0, 60),
+    "offset_hour": (0, 23),
+    "offset_minute": (0, 59),
+}
 ESCAPES = {"b": "\b", "e": "\x1b", "f": "\f", "n": "\n", "r": "\r", "t": "\t", '"': '"', "\\": "\\"}
 HEX_ESCAPES = {"x": 2, "u": 4, "U": 8}
 CURLY = "\u201c\u201d\u201e\u2018\u2019"
@@ -142,17 +149,23 @@ def scalar_of(word):
     if word in ("true", "false"):
         return "boolean", word == "true"
     if re.match(r"\d+[-:]", word):
-        return ("date", word) if is_date(word) else (None, (f"`{word}` is no date and no time", "a mission has none: a number, or a string in quotes"))
+        if is_date(word):
+            return "date", word
+        return None, (f"`{word}` is no date and no time", "a mission has none: a number, or a string in quotes")
     if len(word) > 1 and word[0] == "0" and word[1] in PREFIXED:
         base, form = PREFIXED[word[1]]
-        return integer_of(word, int(word.replace("_", ""), base)) if form.fullmatch(word) else (None, (f"`{word}` is no number", f"digits of base {base} behind the `{word[:2]}`"))
+        if form.fullmatch(word):
+            return integer_of(word, int(word.replace("_", ""), base))
+        return None, (f"`{word}` is no number", f"digits of base {base} behind the `{word[:2]}`")
     if INTEGER.fullmatch(word):
         return integer_of(word, int(word.replace("_", "")))
     if SPECIAL_FLOAT.fullmatch(word):
         return "float", float(word)
     if FLOAT.fullmatch(word):
         number = float(word.replace("_", ""))
-        return ("float", number) if abs(number) != float("inf") else (None, (f"`{word}` is too large for a number", "a smaller one"))
+        if abs(number) != float("inf"):
+            return "float", number
+        return None, (f"`{word}` is too large for a number", "a smaller one")
     return None, why_no_value(word)
 
 
@@ -218,7 +231,8 @@ class Reader:
         while self.next() and self.next() in "#\r\n":
             self.take(COMMENT)
             if self.next() and not self.take(NEW_LINE):
-                self.refuse(f"{self.found_here()}, which can't stand in a comment or between lines", "take it out; a line ends with LF, or with CR LF")
+                why = f"{self.found_here()}, which can't stand in a comment or between lines"
+                self.refuse(why, "take it out; a line ends with LF, or with CR LF")
             self.blanks()
 
     def first_place(self, at):
@@ -253,7 +267,8 @@ class Reader:
         if self.text.startswith("//", self.at):
             self.refuse("no comment begins so", "`#`", self.at, self.at + 2)
         if self.text[self.at - 1] in "'\"":
-            self.refuse("the string has ended before here", "a quote within a string is written `\\\"`; or put the string into other quotes")
+            mend = "a quote within a string is written `\\\"`; or put the string into other quotes"
+            self.refuse("the string has ended before here", mend)
         self.refuse(f"the line should end here, and {self.found_here()}", "a new line: each key has a line of its own")
 
     # Tables.
@@ -346,7 +361,8 @@ class Reader:
             return inner
         inner = entry.value
         if inner.kind != "table" or inner.origin not in ("implicit", "dotted"):
-            self.refuse(f"`{name}` can't get a key by a dot: it is there already, in {self.first_place(entry.start)}", "put both into one", place, end)
+            why = f"`{name}` can't get a key by a dot: it is there already, in {self.first_place(entry.start)}"
+            self.refuse(why, "put both into one", place, end)
         inner.origin = "dotted"
         return inner
 
@@ -446,8 +462,9 @@ class Reader:
             self.at += 1
             return True
         if self.next() != bracket:
-            begun = "" if line_and_column(self.text, start)[0] == line_and_column(self.text, self.at)[0] else f" that begins in {self.first_place(start)}"
-            self.refuse(f"a comma or `{bracket}` is due in the {what}{begun}, and {self.found_here()}", f"`{bracket}` at its end, or a comma between two values")
+            begun = f" that begins in {self.first_place(start)}" if "\n" in self.text[start : self.at] else ""
+            why = f"a comma or `{bracket}` is due in the {what}{begun}, and {self.found_here()}"
+            self.refuse(why, f"`{bracket}` at its end, or a comma between two values")
         return False
 
     # Strings.
@@ -482,18 +499,23 @@ class Reader:
             return self.escape(many)
         if here == "\n" or self.text.startswith("\r\n", self.at):
             if not many:
-                self.refuse("the string that begins here isn't closed on its line", f"close it; one over many lines stands in {quote * 3}", start)
+                mend = f"close it; one over many lines stands in {quote * 3}"
+                self.refuse("the string that begins here isn't closed on its line", mend, start)
             return self.take(NEW_LINE)
         if here != "\t" and (here < " " or here == "\x7f"):
-            self.refuse(f"the character 0x{ord(here):02x} can't stand in a string as it is", f"`\\u{ord(here):04x}` in double quotes")
+            why = f"the character 0x{ord(here):02x} can't stand in a string as it is"
+            self.refuse(why, f"`\\u{ord(here):04x}` in double quotes")
         self.at += 1
         return here
 
     def quotes(self, quote, many):
         """A quote within a string of many lines, or None for the end of the string."""
-        count = len(self.text[self.at : self.at + 6]) - len(self.text[self.at : self.at + 6].lstrip(quote)) if many else 1
-        if not many or count == 3:
-            self.at += 3 if many else 1
+        if not many:
+            self.at += 1
+            return None
+        count = 6 - len(self.text[self.at : self.at + 6].ljust(6).lstrip(quote))
+        if count == 3:
+            self.at += 3
             return None
         if count > 5:
             self.refuse("six quotes stand in a row", "a string of many lines ends with three")
@@ -515,7 +537,8 @@ class Reader:
             digits = self.take(re.compile(f"[0-9A-Fa-f]{{{HEX_ESCAPES[letter]}}}"))
             if digits and (int(digits, 16) < 0xD800 or 0xE000 <= int(digits, 16) <= 0x10FFFF):
                 return chr(int(digits, 16))
-        self.refuse("a backslash and what follows stand for no character", "`\\\\` is a backslash; in single quotes it stands for itself", start)
+        mend = "`\\\\` is a backslash; in single quotes it stands for itself"
+        self.refuse("a backslash and what follows stand for no character", mend, start)
 
 
 def close(table):

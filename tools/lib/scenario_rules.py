@@ -2,7 +2,7 @@
 from mission import KEYS, ROOT_KEYS, Broken, spot
 from places import KINDS
 from texts import choice, nearest
-from values import wrong_array, wrong_digits, wrong_integer, wrong_name, wrong_word
+from values import counted, wrong_array, wrong_digits, wrong_integer, wrong_name, wrong_word
 
 SLOTS = ("clock", "sense", "relay", "out", "report", "relay-report")
 INDEXED = {"sense": "the sensor", "relay": "the sensor", "out": "the task", "relay-report": "the unit whose report it is"}
@@ -23,9 +23,9 @@ def stray(mission, name):
 
 def headed(root):
     """The tables that stand in a document, each with how its header is written."""
-    for name, header in (("clock", "[clock]"), ("sensor", "[[sensor]]"), ("task", "[[task]]"), ("table", "[[table]]"), ("fault", "[[fault]]")):
-        value = root.get(name)
-        for table in tables_of(value):
+    for header in list(KEYS)[1:-1]:
+        name = header.strip("[]")
+        for table in tables_of(root.get(name)):
             yield header, table
             if name == "fault":
                 for item in tables_of(table.get("say")):
@@ -43,7 +43,8 @@ def tables_of(value):
 
 def misplaced(name, header):
     """Why a key of the root can't stand below a header, and what to do."""
-    return f"`{name}` stands below `{header}`, and so belongs to it", f"move it above the first `[..]` line, where the keys of the document stand"
+    mend = "move it above the first `[..]` line, where the keys of the document stand"
+    return f"`{name}` stands below `{header}`, and so belongs to it", mend
 
 
 def missing_root(mission, name):
@@ -75,7 +76,8 @@ def unknown_keys(table, header):
         if header == "the document":
             yield spot(entry), unknown_root(name, entry.value, owners, like)
         elif header == "[[fault]]" and name in ("until", "end", "duration"):
-            yield spot(entry), (f"`{name}` is no key of {header}: a fault lasts to the end", "an item with a `frame` for each frame in which it lies")
+            why = f"`{name}` is no key of {header}: a fault lasts to the end"
+            yield spot(entry), (why, "an item with a `frame` for each frame in which it lies")
         elif name in ROOT_KEYS and name not in ("clock", "sensor", "task", "table", "fault"):
             yield spot(entry), misplaced(name, header)
         elif like:
@@ -116,9 +118,11 @@ def list_faults(mission, name, least, most):
     if value is None:
         return
     if value.kind == "table" and value.origin in ("header", "implicit"):
-        yield 0, spot(value), (f"`[{name}]` makes one table, and `{name}` is a list of them", f"`{header}`, with double brackets")
+        why = f"`[{name}]` makes one table, and `{name}` is a list of them"
+        yield 0, spot(value), (why, f"`{header}`, with double brackets")
     elif value.kind != "array":
-        yield 0, spot(value), (f"`{name}` is {KINDS[value.kind]}, and is to be a list of tables", f"`{header}`, with double brackets")
+        why = f"`{name}` is {KINDS[value.kind]}, and is to be a list of tables"
+        yield 0, spot(value), (why, f"`{header}`, with double brackets")
     elif not least <= len(value.data) <= most:
         yield 0, spot(value), (f"there are {len(value.data)} {header} tables, and {least} to {most} can be", None)
     else:
@@ -128,7 +132,8 @@ def list_faults(mission, name, least, most):
 def entry_faults(entries, name, header):
     for number, entry in enumerate(entries):
         if entry.kind != "table":
-            yield number, spot(entry), (f"`{name}` has {KINDS[entry.kind]} here, and is to have tables alone", f"`{header}`, with double brackets")
+            why = f"`{name}` has {KINDS[entry.kind]} here, and is to have tables alone"
+            yield number, spot(entry), (why, f"`{header}`, with double brackets")
         else:
             for place, fault in unknown_keys(entry, header):
                 yield number, place, fault
@@ -160,7 +165,7 @@ def word_list_faults(entry, name, header, least, most):
         return
     fault = wrong_array(name, value, least, most, "words")
     if fault:
-        yield spot(value), fault if value.kind == "array" else (fault[0], f"`[{value.data}]`" if value.kind == "integer" else fault[1])
+        yield spot(value), (fault[0], f"`[{value.data}]`") if value.kind == "integer" else fault
         return
     for word in value.data:
         if wrong_word(name, word):
@@ -201,9 +206,11 @@ def rule_6(mission):
     if clock is None:
         return
     if clock.kind == "array" and clock.origin == "header":
-        yield 0, spot(clock), ("`[[clock]]` makes a list, and there is one table of clocks", "`[clock]`, with single brackets"), False
+        why = "`[[clock]]` makes a list, and there is one table of clocks"
+        yield 0, spot(clock), (why, "`[clock]`, with single brackets"), False
     elif clock.kind != "table":
-        yield 0, spot(clock), (f"`clock` is {KINDS[clock.kind]}, and is to be a table", "`[clock]`, with single brackets"), False
+        why = f"`clock` is {KINDS[clock.kind]}, and is to be a table"
+        yield 0, spot(clock), (why, "`[clock]`, with single brackets"), False
     else:
         for place, fault in unknown_keys(clock, "[clock]"):
             yield 0, place, fault, False
@@ -241,7 +248,8 @@ def rule_10(mission):
     skew, error, rate = (mission.clock(name) for name in ("skew", "error", "rate"))
     if 5 * (error + rate) > skew:
         why = f"`skew` is {skew}, and 5 * (`error` + `rate`) = 5 * ({error} + {rate}) = {5 * (error + rate)} is more"
-        yield 0, spot(mission.root.get("clock").get("skew")), (why, f"`skew = {5 * (error + rate)}`, or a smaller `error` or `rate`"), True
+        mend = f"`skew = {5 * (error + rate)}`, or a smaller `error` or `rate`"
+        yield 0, spot(mission.root.get("clock").get("skew")), (why, mend), True
 
 
 def rule_11(mission):
@@ -250,7 +258,8 @@ def rule_11(mission):
     skew, error, rate, length = (mission.clock(name) for name in ("skew", "error", "rate", "length"))
     least = 2 * skew + error + rate + 1
     if length < least:
-        why = f"`length` is {length}, and 2 * `skew` + `error` + `rate` + 1 = 2 * {skew} + {error} + {rate} + 1 = {least} is more"
+        figures = f"2 * `skew` + `error` + `rate` + 1 = 2 * {skew} + {error} + {rate} + 1 = {least}"
+        why = f"`length` is {length}, and {figures} is more"
         yield 0, spot(mission.root.get("clock").get("length")), (why, f"`length = {least}`, or more"), True
 
 
@@ -350,7 +359,8 @@ def rule_21(mission):
         start = task.get("start")
         words += len(start.data)
         if words > 64:
-            yield number, spot(start), (f"with this task there are {words} words, and all tasks together have at most 64", None), True
+            why = f"with this task there are {words} words, and all tasks together have at most 64"
+            yield number, spot(start), (why, None), True
 
 
 def rule_22(mission):
@@ -368,7 +378,8 @@ def work_faults(task):
         later = max(task.data["text"], task.data["linear"], key=lambda entry: entry.start)
         yield spot(later), ("the task has a `text` and a `linear`", "keep one of the two"), False
     elif text is not None and text.kind != "string":
-        yield spot(text), (f"`text` is {KINDS[text.kind]}, and is to be a string", "one string; over many lines it stands in '''"), False
+        why = f"`text` is {KINDS[text.kind]}, and is to be a string"
+        yield spot(text), (why, "one string; over many lines it stands in '''"), False
     elif linear is not None and wrong_array("linear", linear, 2, 2, "words, as in `[1, 5]`"):
         yield spot(linear), wrong_array("linear", linear, 2, 2, "words, as in `[1, 5]`"), False
     elif linear is not None:
@@ -389,7 +400,8 @@ def rule_23(mission):
         for number, place, fault in list_faults(mission, "table", 0, 8):
             yield number, place, fault, False
     else:
-        why = f"{len(value.data)} [[table]] {'stands' if len(value.data) == 1 else 'stand'} here, and {units} units ask for {units - 3}: of the sizes {sizes}"
+        stand = counted(len(value.data), "[[table]] stands", "[[table]] stand")
+        why = f"{stand} here, and {units} units ask for {units - 3}: of the sizes {sizes}"
         yield 0, spot(value), (why, "all of them, in this order, or no table at all"), 1 <= len(value.data) <= 5
     for number, table in enumerate(tables_of(value)):
         yield from size_faults(number, table)
@@ -400,7 +412,8 @@ def size_faults(number, table):
     if size is None:
         yield number, *missing_key(table, "size", "[[table]]"), False
     elif size.kind != "integer" or size.data != 4 + number:
-        why = f"`size` is {size.data if size.kind == 'integer' else KINDS[size.kind]}, and table number {number} is that for {4 + number} units"
+        shown = size.data if size.kind == "integer" else KINDS[size.kind]
+        why = f"`size` is {shown}, and table number {number} is that for {4 + number} units"
         yield number, spot(size), (why, f"`size = {4 + number}`"), size.kind == "integer" and 4 <= size.data <= 8
 
 
@@ -416,7 +429,8 @@ def subframe_faults(table, name):
     if value is None:
         yield missing_key(table, name, "[[table]]")
     elif value.kind != "array":
-        yield spot(value), (f"`{name}` is {KINDS[value.kind]}, and is to be an array: one subframe for each task", "`[` and `]` make an array")
+        why = f"`{name}` is {KINDS[value.kind]}, and is to be an array: one subframe for each task"
+        yield spot(value), (why, "`[` and `]` make an array")
     else:
         for entry in value.data:
             if wrong_integer(name, entry, 0, 63):
@@ -468,11 +482,14 @@ def item_list_faults(fault):
     """The faults of a fault's list of items."""
     say = fault.get("say")
     if say is None:
-        yield spot(fault), ("`say` is missing here: what does the unit say?", "`[[fault.say]]` with its keys, right behind the `[[fault]]`")
+        mend = "`[[fault.say]]` with its keys, right behind the `[[fault]]`"
+        yield spot(fault), ("`say` is missing here: what does the unit say?", mend)
     elif say.kind == "table" and say.origin in ("header", "implicit"):
-        yield spot(say), ("`[fault.say]` makes one table, and `say` is a list of them", "`[[fault.say]]`, with double brackets")
+        why = "`[fault.say]` makes one table, and `say` is a list of them"
+        yield spot(say), (why, "`[[fault.say]]`, with double brackets")
     elif say.kind != "array":
-        yield spot(say), (f"`say` is {KINDS[say.kind]}, and is to be a list of tables", "`[[fault.say]]`, with double brackets")
+        why = f"`say` is {KINDS[say.kind]}, and is to be a list of tables"
+        yield spot(say), (why, "`[[fault.say]]`, with double brackets")
     elif not 1 <= len(say.data) <= 64:
         yield spot(say), (f"`say` has {len(say.data)} items, and 1 to 64 can be", None)
     else:
@@ -534,7 +551,8 @@ def rest_faults(item):
         yield spot(frame), wrong_integer("frame", frame, 0, 999)
     if value is not None and wrong_word("value", value):
         why, mend = wrong_word("value", value)
-        yield spot(value), (why, "to say nothing, leave `value` out" if value.kind in ("string", "boolean") and not mend else mend)
+        silence = "to say nothing, leave `value` out" if value.kind in ("string", "boolean") else None
+        yield spot(value), (why, mend or silence)
 
 
 SCENARIO_RULES = [

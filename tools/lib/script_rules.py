@@ -20,9 +20,11 @@ def script_faults(mission, number):
     if unit.data >= mission.units:
         yield 1, spot(unit), f"there is no unit {unit.data}: the {mission.units} units are 0 to {mission.units - 1}", None
     if unit.data in before:
-        yield 2, spot(unit), f"fault {before.index(unit.data)} is one of unit {unit.data} already", "put its items into that one, with `frame` where they differ in time"
+        why = f"fault {before.index(unit.data)} is one of unit {unit.data} already"
+        yield 2, spot(unit), why, "put its items into that one, with `frame` where they differ in time"
     if begin.data >= mission.frames:
-        yield 3, spot(begin), f"the fault begins in frame {begin.data}, and the last frame is {mission.frames - 1}", f"an earlier frame, or `frames = {begin.data + 1}`" if begin.data < 1000 else None
+        why = f"the fault begins in frame {begin.data}, and the last frame is {mission.frames - 1}"
+        yield 3, spot(begin), why, f"an earlier frame, or `frames = {begin.data + 1}`"
     if len({*before, unit.data}) >= mission.units:
         yield 4, spot(unit), f"with this fault each of the {mission.units} units has one", "let one work"
     for item, table in enumerate(fault.get("say").data):
@@ -34,18 +36,21 @@ def script_faults(mission, number):
 def named_faults(mission, fault, item, table):
     """What an item names that isn't there."""
     slot, index, word, frame = (table.get(name) for name in ("slot", "index", "word", "frame"))
-    counts = {"sense": ("sensor", len(mission.sensors)), "relay": ("sensor", len(mission.sensors)), "out": ("task", len(mission.tasks)), "relay-report": ("unit", mission.units)}
+    sensors = "sensor", len(mission.sensors)
+    counts = {"out": ("task", len(mission.tasks)), "relay-report": ("unit", mission.units)}
     if index is not None:
-        what, count = counts[slot.data]
+        what, count = counts.get(slot.data, sensors)
         if index.data >= count:
             there = f"{what}s are counted from 0, and the last is {count - 1}" if count else f"the mission has no {what}s"
             yield 5, spot(index), f"item {item}: there is no {what} {index.data}: {there}", None
             return
     if word is not None and word.data >= mission.words_of(index.data):
         name, last = mission.tasks[index.data].get("name").data, mission.words_of(index.data) - 1
-        yield 5, spot(word), f"item {item}: task {index.data}, {name}, has no word {word.data}: words are counted from 0, and its last is {last}", None
+        why = f"task {index.data}, {name}, has no word {word.data}: words are counted from 0, and its last is {last}"
+        yield 5, spot(word), f"item {item}: {why}", None
     if frame is not None and frame.data < fault.get("from").data:
-        yield 5, spot(frame), f"item {item}: frame {frame.data} is before the fault, which begins in {fault.get('from').data}", "a frame from there on, or an earlier `from`"
+        why = f"item {item}: frame {frame.data} is before the fault, which begins in {fault.get('from').data}"
+        yield 5, spot(frame), why, "a frame from there on, or an earlier `from`"
     if frame is not None and frame.data >= mission.frames:
         yield 5, spot(frame), f"item {item}: there is no frame {frame.data}: the last is {mission.frames - 1}", None
 
@@ -54,14 +59,17 @@ def receiver_faults(mission, unit, item, to):
     """What is wrong with an item's receivers."""
     digits = [int(digit) for digit in to.data]
     others = "".join(str(other) for other in range(mission.units) if other != unit)
+    everybody = f"to all others: \"{others}\""
     if not digits:
-        yield 6, spot(to), f"item {item}: `to` is empty, and so nobody hears it", f"to all others: \"{others}\""
+        yield 6, spot(to), f"item {item}: `to` is empty, and so nobody hears it", everybody
     for place, digit in enumerate(digits):
         where = to.places[place], to.places[place + 1]
         if digit >= mission.units:
-            yield 6, where, f"item {item}: there is no unit {digit}: the {mission.units} units are 0 to {mission.units - 1}", f"to all others: \"{others}\""
+            why = f"there is no unit {digit}: the {mission.units} units are 0 to {mission.units - 1}"
+            yield 6, where, f"item {item}: {why}", everybody
         elif digit == unit:
-            yield 6, where, f"item {item}: {digit} is the faulty unit itself, which says nothing to itself", f"to all others: \"{others}\""
+            why = f"item {item}: {digit} is the faulty unit itself, which says nothing to itself"
+            yield 6, where, why, everybody
         elif place and digit <= digits[place - 1]:
-            sorted_digits = "".join(map(str, sorted(set(digits))))
-            yield 6, where, f"item {item}: {digit} stands behind {digits[place - 1]}, and receivers ascend, each once", f"\"{sorted_digits}\""
+            why = f"item {item}: {digit} stands behind {digits[place - 1]}, and receivers ascend, each once"
+            yield 6, where, why, f"\"{''.join(map(str, sorted(set(digits))))}\""

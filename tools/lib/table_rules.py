@@ -19,7 +19,8 @@ def table_faults(mission, size):
     for name in ("run", "poll", "at") if table else ():
         entries = table.get(name)
         if len(entries.data) != len(mission.tasks):
-            why = f"`{name}` has {counted(len(entries.data), 'entry', 'entries')}, and there {counted(len(mission.tasks), 'task', 'tasks', 'is', 'are')}"
+            tasks = counted(len(mission.tasks), "task", "tasks", "is", "are")
+            why = f"`{name}` has {counted(len(entries.data), 'entry', 'entries')}, and there {tasks}"
             yield Broken(f"table {size} row 0 rule 1", *spot(entries), why, "one for each task, in their order")
             return
     for row in range(len(mission.tasks)):
@@ -35,28 +36,32 @@ def row_rules(mission, size, row):
     table = mission.tables[size - 4] if mission.tables else None
     place = {key: spot(table.get(key).data[row]) if table else None for key in ("run", "poll", "at")}
     if run < 4:
-        yield 2, name, place["run"], f"it runs in subframe {run}, and the sensors' words are agreed on in 4", "4, or later"
+        why = f"it runs in subframe {run}, and the sensors' words are agreed on in 4"
+        yield 2, name, place["run"], why, "4, or later"
     if poll > last:
         yield 3, name, place["poll"], *late_poll(mission, poll, last)
     if poll < run + 2:
-        yield 4, name, place["poll"], f"it runs in {run} and is polled in {poll}, where its words aren't there yet", f"{run + 2}, or later"
+        why = f"it runs in {run} and is polled in {poll}, where its words aren't there yet"
+        yield 4, name, place["poll"], why, f"{run + 2}, or later"
     if len(at) < 3:
-        yield 5, name, place["at"], f"{len(at)} {'position runs' if len(at) == 1 else 'positions run'} it, and two can't outvote a liar", "three positions, or more"
+        why = f"{counted(len(at), 'position runs', 'positions run')} it, and two can't outvote a liar"
+        yield 5, name, place["at"], why, "three positions, or more"
     for digit, position in enumerate(at):
         if position >= size:
             why = f"a configuration of {size} has the positions 0 to {size - 1}, and no {position}"
             yield 6, name, digit_spot(table, row, digit), why, "positions, and no unit numbers"
     for digit in range(1, len(at)):
         if at[digit] <= at[digit - 1]:
-            yield 7, name, digit_spot(table, row, digit), f"{at[digit]} stands behind {at[digit - 1]}, and positions ascend", f"\"{''.join(map(str, sorted(set(at))))}\""
+            why = f"{at[digit]} stands behind {at[digit - 1]}, and positions ascend"
+            yield 7, name, digit_spot(table, row, digit), why, f"\"{''.join(map(str, sorted(set(at))))}\""
     yield from shared_rules(mission, size, row, place)
 
 
 def late_poll(mission, poll, last):
     """Why a poll comes too late, and what to do."""
     least = max(row[1] for size in range(4, mission.units + 1) for row in mission.rows_of(size)) + 6
-    why = f"it is polled in subframe {poll}, and the reports are said in {last}, the sixth from the end of {mission.subframes}"
-    return why, f"`subframes = {least}`, or more" if least <= 64 else "poll it earlier"
+    reports = f"the reports are said in {last}, the sixth from the end of {mission.subframes}"
+    return f"it is polled in subframe {poll}, and {reports}", f"`subframes = {least}`, or more" if least <= 64 else "poll it earlier"
 
 
 def digit_spot(table, row, digit):
@@ -70,7 +75,8 @@ def shared_rules(mission, size, row, place):
     rows = mission.rows_of(size)
     run, _, at = rows[row]
     name = mission.tasks[row].get("name").data
-    for read in sorted({part.task for part in texts.parts_of(mission.statements(row)) if isinstance(part, texts.Read) and part.now}):
+    parts = texts.parts_of(mission.statements(row))
+    for read in sorted({part.task for part in parts if isinstance(part, texts.Read) and part.now}):
         if rows[read][1] > run:
             other = mission.tasks[read].get("name").data
             why = f"it runs in {run} and reads `now {other}.0`, which is voted in {rows[read][1]}"

@@ -12,7 +12,8 @@ def refused_tasks(mission):
         except texts.RefusedText as refused:
             text = task.get("text")
             line = f"task {number} kind {refused.kind} at {refused.place}"
-            yield Broken(line, text.place_of_byte(refused.place), text.place_of_byte(refused.end), refused.why, refused.mend)
+            start, end = text.place_of_byte(refused.place), text.place_of_byte(refused.end)
+            yield Broken(line, start, end, refused.why, refused.mend)
             return
         size = texts.size_of(statements)
         if size.length > texts.LONGEST_CODE:
@@ -43,5 +44,6 @@ def too_many_steps(mission, number, statements, size, before):
     bound = min(size.steps, texts.COUNTED_STEPS)
     left = texts.MOST_STEPS - before
     taken = f", of which the tasks before it leave {left:,}" if before else ""
-    why = f"task {number} may take {size.steps:,} steps in a frame, and all tasks together have {texts.MOST_STEPS:,}{taken}"
+    all_have = f"all tasks together have {texts.MOST_STEPS:,}{taken}"
+    why = f"task {number} may take {size.steps:,} steps in a frame, and {all_have}"
     return Broken(f"task {number} kind 7 at {bound}", start, end, why, "fewer rounds")

@@ -266,13 +266,16 @@ class Parser:
         elif here in "\"'":
             why = "there are no strings in a task text"
         elif word:
-            why, mend = f"a name has small letters, digits and `_`, and begins with a letter: `{word[0]}` is none", f"`{word[0].lower().lstrip('_') or 'x'}`"
+            why = f"a name has small letters, digits and `_`, and begins with a letter: `{word[0]}` is none"
+            mend = f"`{word[0].lower().lstrip('_') or 'x'}`"
         elif not 32 < ord(here) < 127:
             why = f"the byte 0x{ord(here):02x} stands outside a comment: a text has the letters, digits and signs of ASCII"
         raise RefusedText(1, self.at, end, why, mend)
 
     def refuse_number(self, word, end):
-        mend = f"`{word[:2].lower()}` and hexadecimal digits" if word[:2] in ("0x", "0X") else "a product is written with its `*`, as in `2 * x`"
+        mend = "a product is written with its `*`, as in `2 * x`"
+        if word[:2] in ("0x", "0X"):
+            mend = "`0x` and hexadecimal digits"
         raise RefusedText(1, self.at, end, f"`{word}` is no number: a letter or `_` follows it directly", mend)
 
     def refuse_token(self, due):
@@ -338,7 +341,8 @@ class Parser:
     def read_let(self):
         name = self.name("the name of a new local")
         if len(self.locals) == MOST_LOCALS:
-            why = f"`{name.text}` is local number {MOST_LOCALS + 1}, and at most {MOST_LOCALS} live at once, hidden ones counted"
+            most = f"at most {MOST_LOCALS} live at once, hidden ones counted"
+            why = f"`{name.text}` is local number {MOST_LOCALS + 1}, and {most}"
             raise RefusedText(5, name.place, name.end, why, "end blocks sooner, or use a local again")
         self.expect("=", "`=` and the word of the local")
         value = self.expression()
@@ -535,8 +539,8 @@ class Parser:
 SLIPS = {
     "<=": ("there is no `<=`", "`a <= b` is `(b < a) == 0`"),
     "===": ("there is no `===`", "`a == b`"),
-    "&&": ("there is no `&&`", "`a & b`, where both are 0 or 1, as comparisons are; `&` binds tighter than `<`, so put them in parentheses"),
-    "||": ("there is no `||`", "`a | b`, where both are 0 or 1, as comparisons are; `|` binds tighter than `<`, so put them in parentheses"),
+    "&&": ("there is no `&&`", "`(a < b) & (c < d)`: comparisons are 0 or 1, and `&` binds tighter than they do"),
+    "||": ("there is no `||`", "`(a < b) | (c < d)`: comparisons are 0 or 1, and `|` binds tighter than they do"),
     "**": ("there is no `**`", "multiply, or shift 1 left"),
     "//": ("a comment begins with `#`", "`#` in place of `//`"),
     "/*": ("a comment begins with `#`, and ends with its line", "`#` in place of `/*`"),

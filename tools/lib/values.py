@@ -68,4 +68,5 @@ def wrong_name(name):
     if len(name.encode()) > texts.LONGEST_NAME:
         return f"\"{name}\" has {len(name.encode())} bytes, and a name has at most {texts.LONGEST_NAME}", "a shorter name"
     made = re.sub("[^a-z0-9_]", "_", name.lower()).lstrip("0123456789_")
-    return f"\"{name}\" is no name: a small letter, then small letters, digits and `_`", f"`{made}`" if NAME.fullmatch(made) and made not in texts.KEYWORDS else None
+    mend = f"`{made}`" if NAME.fullmatch(made) and made not in texts.KEYWORDS else None
+    return f"\"{name}\" is no name: a small letter, then small letters, digits and `_`", mend
