@@ -72,6 +72,23 @@ def plain(value):
     return value.data
 
 
+def headers(table):
+    """The tables below a table that headers begin."""
+    for entry in table.data.values():
+        value = entry.value
+        inner = value.data if value.kind == "array" and value.origin == "header" else [value]
+        for each in inner:
+            if each.kind == "table" and each.origin != "value":
+                yield each
+                yield from headers(each)
+
+
+def header_above(root, place):
+    """The table whose header is the last one up to a place, or None."""
+    above = [table for table in headers(root) if table.origin == "header" and table.start <= place]
+    return max(above, key=lambda table: table.start, default=None)
+
+
 def read(raw):
     """The text and the root table of a document's bytes."""
     try:

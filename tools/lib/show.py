@@ -16,15 +16,22 @@ def window(line, column, width):
     return shown_part + ("…" if begin + WIDTH < len(line) else ""), column - begin, min(width, WIDTH - (column - begin))
 
 
-def shown(name, text, start, end, why, told):
-    """The place, why, the line with a mark under it, and more in lines of their own."""
+def shown(name, text, start, end, why, told, root=None):
+    """The place, why, the header of its table, the line with a mark under it, and more in lines of their own."""
     number, column = places.line_and_column(text, start)
     whole = places.line_at(text, start)
     width = max(1, min(end - start, len(whole) - column + 1))
     line, at, width = window(whole, column - 1, width)
     blanks = "".join("\t" if letter == "\t" else " " for letter in line[:at])
-    head = f"{name}:{number}:{column}: {why}\n{number:>5} | {line}\n      | {blanks}{'^' * width}\n"
-    return head + lines_of(told)
+    head = f"{name}:{number}:{column}: {why}\n{header_line(text, root, number, start)}"
+    return head + f"{number:>5} | {line}\n      | {blanks}{'^' * width}\n" + lines_of(told)
+
+
+def header_line(text, root, number, place):
+    """The line of the header above a place, unless it is the line of the place itself."""
+    header = places.header_above(root, place) if root else None
+    above = places.line_and_column(text, header.start)[0] if header else number
+    return f"{above:>5} | {places.line_at(text, header.start)}\n" if above != number else ""
 
 
 def lines_of(told):
