@@ -1,0 +1,24 @@
+"""The rules of missions, over a document with places: what a document breaks, where, and why.
+
+They are written once more from docs/, beside the proved program, which alone decides what is refused: tools/explain takes
+the program's line, and finds here the place that it speaks of. `tools/test-explain` compares both on every document of
+cases/.
+"""
+from mission import Mission
+from scenario_rules import broken_rules
+from script_rules import broken_scripts
+from table_rules import broken_tables
+from task_rules import refused_tasks
+
+
+def refusals(root):
+    """What a document breaks, in the order in which the program tests: the first is what it answers.
+
+    Each step is only looked at where the steps before it find nothing.
+    """
+    mission = Mission(root)
+    for step in (broken_rules, refused_tasks, broken_tables, broken_scripts):
+        found = list(step(mission))
+        if found:
+            return found
+    return []

@@ -1,0 +1,89 @@
+"""The rules on schedule tables, 1 to 9: docs/tables.md has them."""
+import texts
+from mission import Broken, spot
+from values import counted
+
+
+def broken_tables(mission):
+    """The first table that breaks a rule."""
+    for size in range(4, mission.units + 1):
+        found = list(table_faults(mission, size))
+        if found:
+            yield from found[:1]
+            return
+
+
+def table_faults(mission, size):
+    """What breaks a rule in the table of a size."""
+    table = mission.tables[size - 4] if mission.tables else None
+    for name in ("run", "poll", "at") if table else ():
+        entries = table.get(name)
+        if len(entries.data) != len(mission.tasks):
+            tasks = counted(len(mission.tasks), "task", "tasks", "is", "are")
+            why = f"`{name}` has {counted(len(entries.data), 'entry', 'entries')}, and there {tasks}"
+            yield Broken(f"table {size} row 0 rule 1", *spot(entries), why, "one for each task, in their order")
+            return
+    for row in range(len(mission.tasks)):
+        for rule, name, place, why, mend in row_rules(mission, size, row):
+            start, end = place if table else spot(mission.root.get("subframes"))
+            yield Broken(f"table {size} row {row} rule {rule}", start, end, f"task {row}, {name}: {why}", mend)
+
+
+def row_rules(mission, size, row):
+    """What breaks a rule in a row: the rule, the task's name, the place, why and what to do."""
+    run, poll, at = mission.rows_of(size)[row]
+    name, last = mission.tasks[row].get("name").data, mission.subframes - 6
+    table = mission.tables[size - 4] if mission.tables else None
+    place = {key: spot(table.get(key).data[row]) if table else None for key in ("run", "poll", "at")}
+    if run < 4:
+        why = f"it runs in subframe {run}, and the sensors' words are agreed on in 4"
+        yield 2, name, place["run"], why, "4, or later"
+    if poll > last:
+        yield 3, name, place["poll"], *late_poll(mission, poll, last)
+    if poll < run + 2:
+        why = f"it runs in {run} and is polled in {poll}, where its words aren't there yet"
+        yield 4, name, place["poll"], why, f"{run + 2}, or later"
+    if len(at) < 3:
+        why = f"{counted(len(at), 'position runs', 'positions run')} it, and two can't outvote a liar"
+        yield 5, name, place["at"], why, "three positions, or more"
+    for digit, position in enumerate(at):
+        if position >= size:
+            why = f"a configuration of {size} has the positions 0 to {size - 1}, and no {position}"
+            yield 6, name, digit_spot(table, row, digit), why, "positions, and no unit numbers"
+    for digit in range(1, len(at)):
+        if at[digit] <= at[digit - 1]:
+            why = f"{at[digit]} stands behind {at[digit - 1]}, and positions ascend"
+            yield 7, name, digit_spot(table, row, digit), why, f"\"{''.join(map(str, sorted(set(at))))}\""
+    yield from shared_rules(mission, size, row, place)
+
+
+def late_poll(mission, poll, last):
+    """Why a poll comes too late, and what to do."""
+    least = max(row[1] for size in range(4, mission.units + 1) for row in mission.rows_of(size)) + 6
+    reports = f"the reports are said in {last}, the sixth from the end of {mission.subframes}"
+    return f"it is polled in subframe {poll}, and {reports}", f"`subframes = {least}`, or more" if least <= 64 else "poll it earlier"
+
+
+def digit_spot(table, row, digit):
+    """The place of a position of a table."""
+    value = table.get("at").data[row]
+    return value.places[digit], value.places[digit + 1]
+
+
+def shared_rules(mission, size, row, place):
+    """What breaks the rules on two tasks."""
+    rows = mission.rows_of(size)
+    run, _, at = rows[row]
+    name = mission.tasks[row].get("name").data
+    parts = texts.parts_of(mission.statements(row))
+    for read in sorted({part.task for part in parts if isinstance(part, texts.Read) and part.now}):
+        if rows[read][1] > run:
+            other = mission.tasks[read].get("name").data
+            why = f"it runs in {run} and reads `now {other}.0`, which is voted in {rows[read][1]}"
+            yield 8, name, place["run"], why, f"run it in {rows[read][1]} or later, or read `last {other}.0`"
+    for before in range(row):
+        shared = sorted(set(at) & set(rows[before][2]))
+        if rows[before][0] == run and shared:
+            other = mission.tasks[before].get("name").data
+            why = f"position {shared[0]} runs task {before}, {other}, in subframe {run} too"
+            yield 9, name, place["at"], why, "other positions, or another subframe"
