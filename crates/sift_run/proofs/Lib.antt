@@ -5,8 +5,6 @@ pub mod Coming
 pub mod Inputs
 pub mod Owing
 pub mod Statuses
-mod Words
-mod Settings
 mod OneCommand
 mod OneText
 mod Both

@@ -1,48 +1,28 @@
 -- Words ask for one command at most.
 use Rattle.std.proofs.Common.{codes, ◌≡◌, ℕ, List, [], ◌∷◌, get_or, drop, unwrap_or, refl, sym, ap, ◌∙◌, subst, arith}
 use Rattle.sift_run.specs.Command.{Asks, GiveNumber, GiveOptions, GiveOrder, GiveTrial, verb_of}
-use Rattle.sift_run.specs.Options.{Adds, IsValue, Sets, more, no_options, none, with_given}
+use Rattle.sift_options.specs.Options.{no_options}
 use Rattle.sift_run.specs.Laws.{OneCommand}
 use Rattle.sift_run.specs.declared.command.Command.{Command}
 use Rattle.sift_run.specs.declared.command.Command.TheVariants.{Read, Gen, Trial}
 use Rattle.sift_run.specs.declared.command.Reading.TheVariants.{Run, Votes, Ideal, Check}
-use Rattle.sift_run.specs.declared.options.Flag.{Flag}
-use Rattle.sift_run.specs.declared.options.Flag.TheVariants.{Workers, Order, Number}
-use Rattle.sift_run.specs.declared.options.Options.{Options}
-use Rattle.sift_run.proofs.Settings.{adds_nothing, begins, no_words, same_some}
+use Rattle.sift_options.specs.declared.setting.Options.{Options}
+use Rattle.sift_options.proofs.One.{one_list}
+use Rattle.sift_options.proofs.Settings.{same_some}
 
--- a text is one value of an option at most
-one_value : (flag : Flag) (text : List ℕ) (n k : ℕ) → IsValue flag text n → IsValue flag text k → n ≡ k
-one_value Workers text n k a b = omega (arith, ap (λ xs. get_or xs 0 0) (sym a.0 ∙ b.0))
-one_value Order text n k a b = sym a.value ∙ b.value
-one_value Number text n k a b = sym a.value ∙ b.value
-
--- it sets an option in one way
-one_setting : (options : Options) (flag : Flag) (text : List ℕ) (one other : Options) → Sets options flag text one →
-    Sets options flag text other → one ≡ other
-one_setting options flag text one other a b = a.3 ∙ (ap (with_given options flag) (one_value flag text a.0 b.0 a.1 b.1) ∙ sym b.3)
-
--- words give one list of options at most
-one_options : (options one other : Options) (words : List (List ℕ)) → Adds options words one → Adds options words other → one ≡ other
-one_options options one other words (none o) b = sym (adds_nothing o other [] no_words b).1
-one_options options one other words (more o after all flag value ws rest begin sets adds) b =
-    let there = begins o other ws flag value rest begin b in
-    let same = one_setting o flag value after there.after sets there.sets in
-    one_options after all other rest adds (subst (λ x. Adds x rest other) (sym same) there.adds)
-
--- and one order number
+-- words give one order number
 one_order : (words : List (List ℕ)) (n k : ℕ) → GiveOrder words n → GiveOrder words k → n ≡ k
 one_order words n k a b =
-    a.order_is ∙ (ap (λ options. unwrap_or options.order 0) (one_options _ a.options b.options words a.gives b.gives) ∙ sym b.order_is)
+    a.order_is ∙ (ap (λ options. unwrap_or options.order 0) (one_list _ a.options b.options words a.gives b.gives) ∙ sym b.order_is)
 
 -- and one number
 one_number : (words : List (List ℕ)) (n k : ℕ) → GiveNumber words n → GiveNumber words k → n ≡ k
-one_number words n k a b = same_some n k (ap (λ (options : Options). options.number) (one_options no_options _ _ words a b))
+one_number words n k a b = same_some n k (ap (λ (options : Options). options.number) (one_list no_options _ _ words a b))
 
 -- and one trial
 one_trial : (words : List (List ℕ)) (n k i j : ℕ) → GiveTrial words n i → GiveTrial words k j → Trial n i ≡ Trial k j
 one_trial words n k i j a b =
-    let same = one_options no_options a.options b.options words a.gives b.gives in
+    let same = one_list no_options a.options b.options words a.gives b.gives in
     let number : n ≡ k = same_some n k (sym a.number_is ∙ (ap (λ (options : Options). options.number) same ∙ b.number_is)) in
     let order : i ≡ j = a.order_is ∙ (ap (λ (options : Options). unwrap_or options.order 0) same ∙ sym b.order_is) in
     ap (λ m. Trial m i) number ∙ ap (Trial k) order

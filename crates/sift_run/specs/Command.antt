@@ -13,13 +13,13 @@ use Rattle.sift_mission.specs.Data.{MissionData}
 use Rattle.sift_mission.specs.Flown.{flown}
 use Rattle.sift_mission.specs.PartsFit.{PartsFit}
 use Rattle.sift_run.specs.Input.{States}
-use Rattle.sift_run.specs.Options.{Adds, no_options, with_given}
+use Rattle.sift_options.specs.Options.{Adds, no_options, with_given}
 use Rattle.sift_run.specs.declared.command.Command.{Command}
 use Rattle.sift_run.specs.declared.command.Command.TheVariants.{Read, Gen, Trial}
 use Rattle.sift_run.specs.declared.command.Reading.{Reading}
 use Rattle.sift_run.specs.declared.command.Reading.TheVariants.{Run, Votes, Ideal, Check}
-use Rattle.sift_run.specs.declared.options.Flag.TheVariants.{Number}
-use Rattle.sift_run.specs.declared.options.Options.{Options}
+use Rattle.sift_options.specs.declared.setting.Flag.TheVariants.{Number}
+use Rattle.sift_options.specs.declared.setting.Options.{Options}
 
 -- ---- words
 

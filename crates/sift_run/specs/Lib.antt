@@ -3,5 +3,4 @@ pub mod Command
 pub mod Input
 pub mod Output
 pub mod Refusal
-pub mod Options
 pub mod Laws

@@ -5,10 +5,10 @@ ghost use Rattle.sift_flight.specs.Told.{IsWhole, told};
 ghost use Rattle.sift_mission.specs.Parts.{data_of, flown_of};
 ghost use Rattle.sift_run.specs.Command.{Asks, DrawsFit, GiveNumber, GiveOrder, GiveTrial, IsFlightOf, TextOf};
 
-use crate::options::Options;
 use sift_base::NoMemory;
 use sift_core::fly;
 use sift_flight::{Flight, round_flights_are_whole};
+use sift_options::Options;
 use sift_report::{ideal_text, last_line_text, report_text, votes_text};
 use sift_trial::drawn_mission;
 use sift_mission::Mission;

@@ -6,7 +6,6 @@ mod answer;
 mod command;
 mod exit;
 mod law;
-mod options;
 mod refusal;
 mod top;
 

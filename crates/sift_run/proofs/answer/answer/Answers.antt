@@ -1,7 +1,7 @@
 use Rattle.std.proofs.Common.{String, Global, map, string_bytes}
 use Rattle.sift_run.specs.Input.{input}
 use Rattle.sift_run.proofs.AnswerLemmas.{cause_from}
-use Rattle.sift_run.proofs.Settings.{some_or_none}
+use Rattle.sift_options.proofs.Settings.{some_or_none}
 use Rattle.sift_run.proofs.answer.answer.Goals as goal
 
 -- the bytes that were read are refused

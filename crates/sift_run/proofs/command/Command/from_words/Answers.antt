@@ -2,8 +2,8 @@ use Rattle.std.proofs.Common.{codes, Some, ap, sym, ◌∙◌, arith}
 use Rattle.sift_run.specs.declared.command.Command.TheVariants.{Read, Gen}
 use Rattle.sift_run.specs.declared.command.Reading.TheVariants.{Run, Votes}
 use Rattle.sift_run.proofs.OneCommand.{gens, one_command, runs, verb_behind, votes}
-use Rattle.sift_run.proofs.Settings.{some_or_none}
-use Rattle.sift_run.proofs.Words.{first-word}
+use Rattle.sift_options.proofs.Settings.{some_or_none}
+use Rattle.sift_options.proofs.Words.{first-word}
 use Rattle.sift_run.proofs.command.Command.from_words.Goals as goal
 
 -- the options behind `run` give no order, so the words ask for nothing

@@ -1,6 +1,6 @@
 use Rattle.std.proofs.Common.{string_bytes, Global, arith}
-use Rattle.sift_run.proofs.Words.{map-first}
-use Rattle.sift_run.proofs.options.first_setting.Goals as goal
+use Rattle.sift_options.proofs.Words.{map-first}
+use Rattle.sift_options.proofs.setting.first_setting.Goals as goal
 
 -- the words are the first one and the rest
 pub returns-in-len1-up-clause-none : goal.returns-in-len1-up-clause-none

@@ -1,5 +1,5 @@
 use Rattle.std.proofs.Common.{length}
-use Rattle.sift_run.proofs.options.Options.+and.Given as goal
+use Rattle.sift_options.proofs.setting.Options.+and.Given as goal
 
 -- the words that are left
 abbrev pub decreases-and : goal.decreases-and

@@ -1,9 +1,9 @@
 -- The options of a command: how words give them.
 use Rattle.std.specs.Prelude.{codes, ℕ, ◌≡◌, ◌≤◌, ◌<◌, ◌+◌, ◌^◌, List, [], ◌∷◌, ◌++◌, ◌⊎◌, length, Option, Some, None}
 use Rattle.std.specs.Str.Parse.{AllDigits, digits_value}
-use Rattle.sift_run.specs.declared.options.Flag.{Flag}
-use Rattle.sift_run.specs.declared.options.Flag.TheVariants.{Workers, Order, Number}
-use Rattle.sift_run.specs.declared.options.Options.{Options}
+use Rattle.sift_options.specs.declared.setting.Flag.{Flag}
+use Rattle.sift_options.specs.declared.setting.Flag.TheVariants.{Workers, Order, Number}
+use Rattle.sift_options.specs.declared.setting.Options.{Options}
 
 -- ---- one option
 

@@ -1,7 +1,7 @@
 //! The options of a command, as the words after the command give them.
 
 ghost use Rattle.std.specs.Prelude.{◌≡◌, ◌≢◌, ◌↔◌, ℕ, List, ◌∷◌, IfNone, IfSome, IsTrue, Some, map, string_bytes};
-ghost use Rattle.sift_run.specs.Options.{Adds, BeginWith, BeginsWithDigit, IsNumber, IsValue, IsWorkerCount, Sets, joined, name_of};
+ghost use Rattle.sift_options.specs.Options.{Adds, BeginWith, BeginsWithDigit, IsNumber, IsValue, IsWorkerCount, Sets, joined, name_of};
 
 /// The name of an option.
 #[derive(Clone, Copy)]

@@ -1,9 +1,9 @@
 -- Options in words: words begin with one option and one value at most.
 use Rattle.std.proofs.Common.{◌≡◌, ℕ, List, [], ◌∷◌, length, get_or, drop, Some, None, refl, ap, sym, ◌∙◌, subst, arith, inl, inr}
-use Rattle.sift_run.specs.Options.{Adds, more, none, BeginWith, Sets, joined, name_of}
-use Rattle.sift_run.specs.declared.options.Flag.{Flag}
-use Rattle.sift_run.specs.declared.options.Flag.TheVariants.{Workers, Order, Number}
-use Rattle.sift_run.specs.declared.options.Options.{Options}
+use Rattle.sift_options.specs.Options.{Adds, more, none, BeginWith, Sets, joined, name_of}
+use Rattle.sift_options.specs.declared.setting.Flag.{Flag}
+use Rattle.sift_options.specs.declared.setting.Flag.TheVariants.{Workers, Order, Number}
+use Rattle.sift_options.specs.declared.setting.Options.{Options}
 
 -- different options have different names
 pub names_differ : (f g : Flag) → name_of f ≡ name_of g → f ≡ g

@@ -1,10 +1,10 @@
 use Rattle.std.proofs.Common.{◌≡◌, length, map, string_bytes, Global, ◌≤◌, sym, subst, arith}
 use Rattle.std.proofs.lemmas.Bool.Decides.{nat_tests}
 use Rattle.std.proofs.lemmas.Option.{IfSome_then}
-use Rattle.sift_run.specs.Options.{Adds, more, none}
-use Rattle.sift_run.proofs.Settings.{begins, adds_nothing, same_some, some_or_none}
-use Rattle.sift_run.proofs.Words.{map-nothing, map-something}
-use Rattle.sift_run.proofs.options.Options.+and.Goals as goal
+use Rattle.sift_options.specs.Options.{Adds, more, none}
+use Rattle.sift_options.proofs.Settings.{begins, adds_nothing, same_some, some_or_none}
+use Rattle.sift_options.proofs.Words.{map-nothing, map-something}
+use Rattle.sift_options.proofs.setting.Options.+and.Goals as goal
 
 -- the first option sets nothing, so the words add nothing
 pub returns-in_err-with-in-Some-clause-exact : goal.returns-in_err-with-in-Some-clause-exact
