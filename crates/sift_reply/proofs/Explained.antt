@@ -2,7 +2,7 @@
 use Rattle.std.proofs.Common.{◌≡◌, ◌≢◌, ◌⊎◌, inl, inr, ℕ, List, [], Option, None, Some, Contains, lit<, refl, sym, ap, ◌∙◌, subst, arith}
 use Rattle.sift_reply.specs.Duty.{GivesOne, IsOwedWithin, IsWhole, MayEndWith, Owes, OwesOneTo, OwesWithin, shared_endings}
 use Rattle.sift_reply.specs.Input.{Input}
-use Rattle.sift_reply.specs.Laws.{AsksOne, HaveOwnStatuses, IsExplained, StatusesAreExplained}
+use Rattle.sift_reply.specs.Laws.{AsksOne, ShareNoStatus, IsExplained, StatusesAreExplained}
 use Rattle.sift_reply.specs.Output.{IsCut, IsGiven, IsWritten, Output}
 use Rattle.sift_reply.specs.Promise.{Commands, IsAnswered, IsCommandLine, IsDue, IsOwed, MayWant}
 use Rattle.sift_reply.specs.Reply.{Reply, no_memory_status, read_fault, shared_statuses, sink_fault_status, too_long, usage}
@@ -65,7 +65,7 @@ given_unread (Some limit) gives input reply none owes = absurd (cc)
 
 -- ---- all commands
 
-module _ {Command : Type 0} (commands : Commands Command) (one : AsksOne commands) (own : HaveOwnStatuses commands)
+module _ {Command : Type 0} (commands : Commands Command) (one : AsksOne commands) (own : ShareNoStatus commands)
     (words : List (List ℕ)) (input : Input) (output : Output) (ended : ℕ) where
   -- what is owed to words is owed by the command that they ask for
   owed_by : (command : Command) (reply : Reply) → commands.asks words command → IsOwed commands words input reply → Owes (commands.duty command) input reply

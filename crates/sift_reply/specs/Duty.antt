@@ -64,13 +64,14 @@ MayEndWith duty status =
 
 -- ---- laws of a command
 
--- the statuses of the replies that it gives are among these
-abbrev pub GivesStatuses : Duty → (statuses : List ℕ) → Type 0
-GivesStatuses duty statuses = (bytes : List ℕ) (reply : Reply) → duty.gives bytes reply → Contains statuses reply.status
+-- no reply that it gives has a shared status
+abbrev pub SharesNoStatus : Duty → Type 0
+SharesNoStatus duty = (bytes : List ℕ) (reply : Reply) → duty.gives bytes reply → ¬ Contains shared_statuses reply.status
 
--- no reply that it gives has a status that is shared
-abbrev pub HasOwnStatuses : Duty → Type 0
-HasOwnStatuses duty = (bytes : List ℕ) (reply : Reply) → duty.gives bytes reply → ¬ Contains shared_statuses reply.status
+-- the replies that it gives have these statuses, and none of them is shared
+pub record HasOwnStatuses (duty : Duty) (statuses : List ℕ) : Type 0 where
+  pub among : (bytes : List ℕ) (reply : Reply) → duty.gives bytes reply → Contains statuses reply.status
+  pub apart : SharesNoStatus duty
 
 -- it gives one reply at most to an input
 abbrev pub GivesOne : Duty → Type 0

@@ -1,7 +1,7 @@
 -- What each status says: laws of the promise, whatever the commands are.
 use Rattle.std.specs.Prelude.{ℕ, ◌≡◌, ◌≢◌, ◌⊎◌, List, [], ◌∷◌, Contains, None}
 use Rattle.sift_io.specs.Fault.{Rose}
-use Rattle.sift_reply.specs.Duty.{Duty, GivesOne, HasOwnStatuses, IsWhole, MayEndWith, OwesOneTo}
+use Rattle.sift_reply.specs.Duty.{Duty, GivesOne, SharesNoStatus, IsWhole, MayEndWith, OwesOneTo}
 use Rattle.sift_reply.specs.Input.{Input, IsTold}
 use Rattle.sift_reply.specs.Output.{IsCut, IsGiven, IsWritten, Output}
 use Rattle.sift_reply.specs.Promise.{Commands, IsAnswered, IsCommandLine, IsDue, IsOwed, MayWant}
@@ -12,9 +12,9 @@ module _ {Command : Type 0} (commands : Commands Command) where
   abbrev pub AsksOne : Type 0
   AsksOne = (words : List (List ℕ)) (one other : Command) → commands.asks words one → commands.asks words other → one ≡ other
 
-  -- no command gives a shared status of its own
-  abbrev pub HaveOwnStatuses : Type 0
-  HaveOwnStatuses = (command : Command) → HasOwnStatuses (commands.duty command)
+  -- no command gives a reply with a shared status
+  abbrev pub ShareNoStatus : Type 0
+  ShareNoStatus = (command : Command) → SharesNoStatus (commands.duty command)
 
   -- a status says all this of the words, the input and the output
   pub record IsExplained (words : List (List ℕ)) (input : Input) (output : Output) (status : ℕ) : Type 0 where
@@ -48,7 +48,7 @@ module _ {Command : Type 0} (commands : Commands Command) where
 
   -- each answer is explained, where words ask for one command and no command gives a shared status
   abbrev pub StatusesAreExplained : Type 0
-  StatusesAreExplained = AsksOne → HaveOwnStatuses
+  StatusesAreExplained = AsksOne → ShareNoStatus
       → (words : List (List ℕ)) (input : Input) (output : Output) (status : ℕ) → IsAnswered commands words input output status
       → IsExplained words input output status
 

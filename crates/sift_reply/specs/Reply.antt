@@ -1,4 +1,4 @@
--- Replies, and those that every command shares.
+-- Replies.
 use Rattle.std.specs.Prelude.{codes, ℕ, List, [], ◌∷◌}
 
 -- an exit status, and the text that is written with it
@@ -10,15 +10,25 @@ pub record Reply : Type 0 where
 abbrev pub reply : (status : ℕ) → (text : List ℕ) → Reply
 reply status text = record { status = status; text = text }
 
--- to words that are no command line
+-- the status of a command that has done what was asked
+abbrev pub done_status : ℕ
+done_status = 0
+
+-- the reply of such a command: the text that was asked for
+abbrev pub done : (text : List ℕ) → Reply
+done text = reply done_status text
+
+-- ---- what every command shares
+
+-- the reply to words that are no command line
 abbrev pub usage : Reply
 usage = reply 2 (codes "usage\n")
 
--- to an input that can't be read to its end
+-- the reply to an input that can't be read to its end
 abbrev pub read_fault : Reply
 read_fault = reply 8 (codes "read fault\n")
 
--- to an input with more bytes than the command reads
+-- the reply to an input with more bytes than the command reads
 abbrev pub too_long : Reply
 too_long = reply 11 (codes "too long\n")
 

@@ -1,9 +1,9 @@
 //! The whole call: what the words ask for is read, done and written.
 
 ghost use Rattle.std.specs.Prelude.{◌≡◌, ◌≢◌, ◌⊎◌, IfErr, IfOk, None, map, string_bytes};
-ghost use Rattle.sift_reply.specs.Duty.{HasOwnStatuses, Owes, ReadsWithin};
+ghost use Rattle.sift_reply.specs.Duty.{SharesNoStatus, Owes, ReadsWithin};
 ghost use Rattle.sift_reply.specs.Input.{input};
-ghost use Rattle.sift_reply.specs.Laws.{HaveOwnStatuses};
+ghost use Rattle.sift_reply.specs.Laws.{ShareNoStatus};
 ghost use Rattle.sift_reply.specs.Output.{IsBroken, IsGiven, output};
 ghost use Rattle.sift_reply.specs.Promise.{AskForNoInput, IsAnswered, IsCertain, IsOwed, MayWant, commands_of};
 ghost use Rattle.sift_reply.specs.Reply.{no_memory_status};
@@ -25,7 +25,7 @@ pub fn answer<C: Asked, S: Source, K: Sink>(
     source: &mut S,
     sink: &mut K,
 ) -> u8
-    requires own { HaveOwnStatuses (commands_of C.asks C.duty) }
+    requires own { ShareNoStatus (commands_of C.asks C.duty) }
     ensures answered { IsAnswered (commands_of C.asks C.duty) (map string_bytes words.now)
         (input (S.inflow source.old) (S.inflow source.new))
         (output (K.outflow sink.old) (K.outflow sink.new)) result }
@@ -49,7 +49,7 @@ fn owed<C: Asked, S: Source>(
     words: &[String],
     source: &mut S,
 ) -> Result<Reply, NoMemory>
-    requires own { HaveOwnStatuses (commands_of C.asks C.duty) }
+    requires own { ShareNoStatus (commands_of C.asks C.duty) }
     ensures owed { IfOk result (IsOwed (commands_of C.asks C.duty) (map string_bytes words.now)
         (input (S.inflow source.old) (S.inflow source.new))) }
     ensures wanting { IfErr result (λ _. MayWant (commands_of C.asks C.duty) (map string_bytes words.now)
@@ -65,7 +65,7 @@ fn owed<C: Asked, S: Source>(
 
 /// A reply that a job owes to what is read: it reads the source where it has a limit.
 fn owed_by<J: Job, S: Source>(alloc: Global, job: J, source: &mut S) -> Result<Reply, NoMemory>
-    requires own { HasOwnStatuses (J.duty job) }
+    requires own { SharesNoStatus (J.duty job) }
     ensures owed { IfOk result (Owes (J.duty job) (input (S.inflow source.old) (S.inflow source.new))) }
     ensures wanting { IfErr result (λ _. ReadsWithin (J.duty job).limit (input (S.inflow source.old) (S.inflow source.new))) }
     ensures other { IfOk result (λ reply. reply.status ≢ no_memory_status) }

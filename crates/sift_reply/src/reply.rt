@@ -50,6 +50,13 @@ impl Reply {
         }
     }
 
+    /// The reply of a command that has done what was asked: the status 0, with this text.
+    pub fn done(text: String) -> Reply
+        ensures { result ≡ spec.done (string_bytes text) }
+    {
+        Reply::made(0, text)
+    }
+
     /// The reply to words that are no command line.
     pub(crate) fn usage() -> Reply
         ensures { result ≡ spec.usage }
