@@ -4,5 +4,6 @@ pub mod Margin
 pub mod Name
 pub mod ReadBack
 pub mod Shapes
+pub mod Stop
 pub mod Units
 pub mod Word

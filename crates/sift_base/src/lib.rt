@@ -1,5 +1,5 @@
 //! The values that every layer shares: words of the computer's memory, units and sets of them, slots and their
-//! numbers, the shapes of tasks, draws, names, and want of memory.
+//! numbers, the shapes of tasks, draws, names, want of memory, and why a call has no value.
 //!
 //! Word arithmetic has its meaning here and nowhere else.
 #![tactic(auto)]
@@ -11,6 +11,7 @@ mod name;
 mod order;
 mod shapes;
 mod slot;
+mod stop;
 mod unit;
 mod unit_set;
 mod word;
@@ -22,6 +23,7 @@ pub use name::{NAME_LIMIT, Name, is_name, is_name_byte};
 pub use order::is_ascending;
 pub use shapes::{Shapes, TaskShape};
 pub use slot::Slot;
+pub use stop::Stop;
 pub use unit::UnitId;
 pub use unit_set::{UnitSet, members_are_the_set};
 pub use word::Word;

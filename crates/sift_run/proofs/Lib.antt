@@ -1,12 +1,6 @@
-pub mod AnswerLemmas
 pub mod Asking
-pub mod Answered
-pub mod Coming
-pub mod Inputs
-pub mod Owing
+pub mod Before
+pub mod Each
+pub mod Headline
+pub mod One
 pub mod Statuses
-mod Words
-mod Settings
-mod OneCommand
-mod OneText
-mod Both

@@ -1,7 +1,5 @@
-pub mod Answer
+pub mod Verb
 pub mod Command
-pub mod Input
-pub mod Output
-pub mod Refusal
-pub mod Options
-pub mod Laws
+pub mod Headline
+pub mod Statuses
+pub mod Before

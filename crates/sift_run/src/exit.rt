@@ -2,15 +2,16 @@
 
 ghost use Rattle.std.specs.Prelude.{◌≡◌, IfOk, IsErr, map, string_bytes};
 ghost use Rattle.std.specs.Process.{exit_status};
-ghost use Rattle.sift_run.specs.Answer.{IsAnswered};
-ghost use Rattle.sift_run.specs.Input.{input};
-ghost use Rattle.sift_run.specs.Output.{output};
-ghost use Rattle.sift_run.specs.Refusal.{no_memory_status};
+ghost use Rattle.sift_reply.specs.Input.{input};
+ghost use Rattle.sift_reply.specs.Output.{output};
+ghost use Rattle.sift_reply.specs.Promise.{IsAnswered};
+ghost use Rattle.sift_reply.specs.Reply.{no_memory_status};
+ghost use Rattle.sift_run.specs.Command.{commands};
 
-use crate::refusal::Refusal;
 use crate::top::sift;
 use sift_base::NoMemory;
 use sift_io::{Sink, Source};
+use sift_reply::NO_MEMORY_STATUS;
 use std::alloc::Global;
 use std::process::ExitCode;
 
@@ -22,7 +23,7 @@ pub fn exit_code<S: Source, K: Sink>(
     source: &mut S,
     sink: &mut K,
 ) -> ExitCode
-    ensures answered { IfOk words (λ words. IsAnswered (map string_bytes words.items)
+    ensures answered { IfOk words (λ words. IsAnswered commands (map string_bytes words.items)
         (input (S.inflow source.old) (S.inflow source.new))
         (output (K.outflow sink.old) (K.outflow sink.new)) (exit_status result)) }
     ensures no_memory { IsErr words → exit_status result ≡ no_memory_status }
@@ -31,6 +32,6 @@ pub fn exit_code<S: Source, K: Sink>(
 {
     match words {
         Ok(words) => ExitCode::from(sift(alloc, &words, source, sink)),
-        Err(_) => ExitCode::from(Refusal::NoMemory.status()),
+        Err(NoMemory) => ExitCode::from(NO_MEMORY_STATUS),
     }
 }

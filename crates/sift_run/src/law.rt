@@ -1,35 +1,97 @@
-//! The laws of what is answered.
+//! The laws of the commands.
 
-ghost use Rattle.sift_run.specs.Laws.{OneCommand, OneDrawnText, OneText};
+ghost use Rattle.sift_reply.specs.Duty.{GivesOne};
+ghost use Rattle.sift_reply.specs.Laws.{ShareNoStatus};
+ghost use Rattle.sift_run.specs.Before.{ItWasAnswered, OneDrawnText, OneText};
+ghost use Rattle.sift_run.specs.Command.{OneCommand, commands, duty_of};
+ghost use Rattle.sift_run.specs.Headline.{HeadlineIsWritten};
+ghost use Rattle.sift_run.specs.Statuses.{CommandsHaveOwnStatuses, StatusesAreKnown};
+ghost use Rattle.sift_run.specs.declared.command.Command.{Command as Any};
 
-use sift_flight::round_flights_are_alike;
-use sift_gen::one_text_of_a_number;
-use sift_report::alike_flights_have_one_text;
-use sift_scenario::one_mission;
-use sift_mission::fitting_parts_make_a_flight;
+use crate::command::Command;
+use sift_jobs::{
+    check_gives_one, check_has_own_statuses, gen_gives_one, gen_has_own_statuses, ideal_gives_one,
+    ideal_has_own_statuses, run_gives_one, run_has_own_statuses, run_is_headlined, trial_gives_one,
+    trial_has_own_statuses, votes_gives_one, votes_has_own_statuses,
+};
+use sift_options::one_list_of_options;
+use sift_reply::{gives_one_owes_one, statuses_are_explained};
+use sift_scenario::stated_missions_fit;
 
 /// Words ask for one command at most.
 pub fn one_command()
     ensures { OneCommand }
-{}
+{
+    one_list_of_options();
+}
 
-/// A command that reads makes at most one text of an input: the order of steps, and all else that a flight leaves open, shows in no text.
+/// The statuses of each command's replies are its own.
+pub fn commands_have_own_statuses()
+    ensures own { CommandsHaveOwnStatuses }
+    ensures apart { ShareNoStatus commands }
+{
+    run_has_own_statuses();
+    votes_has_own_statuses();
+    ideal_has_own_statuses();
+    check_has_own_statuses();
+    gen_has_own_statuses();
+    trial_has_own_statuses();
+}
+
+/// Each command gives one reply at most to an input: no order of steps shows.
+pub fn commands_give_one()
+    ensures { (command : Any) → GivesOne (duty_of command) }
+{
+    run_gives_one();
+    votes_gives_one();
+    ideal_gives_one();
+    check_gives_one();
+    gen_gives_one();
+    trial_gives_one();
+}
+
+/// The headline is a consequence of the promise.
+pub fn the_headline_is_written()
+    ensures { HeadlineIsWritten }
+{
+    one_command();
+    commands_have_own_statuses();
+    statuses_are_explained::<Command>();
+    run_is_headlined();
+}
+
+/// Which command may end with which status.
+pub fn statuses_are_known()
+    ensures { StatusesAreKnown }
+{
+    one_command();
+    commands_have_own_statuses();
+    statuses_are_explained::<Command>();
+}
+
+/// What each status said before follows from the promise.
+pub fn it_was_answered()
+    ensures { ItWasAnswered }
+{
+    stated_missions_fit();
+    one_command();
+    commands_have_own_statuses();
+    commands_give_one();
+    gives_one_owes_one::<Command>();
+    statuses_are_explained::<Command>();
+    the_headline_is_written();
+}
+
+/// A command that reads made one text of an input.
 pub fn one_text()
     ensures { OneText }
 {
-    one_mission();
-    fitting_parts_make_a_flight();
-    round_flights_are_alike();
-    alike_flights_have_one_text();
+    commands_give_one();
 }
 
-/// A command that reads nothing makes one text at most.
+/// A command that reads nothing made one text.
 pub fn one_drawn_text()
     ensures { OneDrawnText }
 {
-    one_text_of_a_number();
-    one_mission();
-    fitting_parts_make_a_flight();
-    round_flights_are_alike();
-    alike_flights_have_one_text();
+    commands_give_one();
 }

@@ -1,14 +1,12 @@
-//! The top call: what the words ask for, and the text or the line that is written. Its contract says what each exit
-//! status means.
+//! The top call: the commands that words ask for, and what is done for each. Its contract says what each exit status
+//! means.
 #![tactic(auto)]
 
-mod answer;
 mod command;
 mod exit;
 mod law;
-mod options;
-mod refusal;
 mod top;
+mod verb;
 
 pub use exit::exit_code;
 pub use top::sift;

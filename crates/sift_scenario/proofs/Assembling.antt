@@ -1,5 +1,8 @@
 -- The data that entries and their program make.
 use Rattle.std.proofs.Common.{ℕ, List, length, map, sym, ap, ◌∙◌}
+use Rattle.sift_base.specs.Stop.{IfRefused}
+use Rattle.sift_base.specs.declared.stop.Stop.{Stop}
+use Rattle.sift_base.specs.declared.stop.Stop.TheVariants as stop
 use Rattle.std.proofs.lemmas.List.{length-map}
 use Rattle.toml.specs.Data.{Members}
 use Rattle.sift_base.specs.Shapes.{AllShapes}
@@ -19,7 +22,7 @@ use Rattle.sift_scenario.specs.Testing.{RefusesScript, RefusesTable}
 use Rattle.sift_scenario.specs.declared.document.Entries.{Entries}
 use Rattle.sift_scenario.specs.declared.program.Running.{Running}
 use Rattle.sift_scenario.specs.declared.refused.Refused.{Refused}
-use Rattle.sift_scenario.specs.declared.refused.Refused.TheVariants.{Scenario, Task, Table, Script, NoMemory}
+use Rattle.sift_scenario.specs.declared.refused.Refused.TheVariants.{Scenario, Task, Table, Script}
 
 -- the data of entries, their program, and a layout, tables and a script
 abbrev pub made : Entries → Running → Layout → List Schedule → FaultScript → MissionData
@@ -79,17 +82,17 @@ module _ (document : Members) (entries : Entries) (running : Running) (read : Is
 
 module _ (document : Members) (mission : MissionData) (stated : IsStated document mission) where
   -- a table
-  pub table_refused : (e : Refused) → RefusesTable mission.tables (shapes_in mission) e → IsRefusedWith document e
-  table_refused (Scenario n place) bad = absurd bad
-  table_refused (Task t k at) bad = absurd bad
-  table_refused (Table size row rule) bad = record { mission = mission; stated = stated; bad = bad }
-  table_refused (Script entry rule) bad = absurd bad
-  table_refused NoMemory bad = tt
+  pub table_refused : (e : Stop Refused) → RefusesTable mission.tables (shapes_in mission) e → IfRefused (IsRefusedWith document) e
+  table_refused (stop.Refused (Scenario n place)) bad = absurd bad
+  table_refused (stop.Refused (Task t k at)) bad = absurd bad
+  table_refused (stop.Refused (Table size row rule)) bad = record { mission = mission; stated = stated; bad = bad }
+  table_refused (stop.Refused (Script entry rule)) bad = absurd bad
+  table_refused stop.NoMemory bad = tt
 
   -- the script, where the tables are good
-  pub script_refused : HasGoodTables mission → (e : Refused) → RefusesScript mission.script e → IsRefusedWith document e
-  script_refused good (Scenario n place) bad = absurd bad
-  script_refused good (Task t k at) bad = absurd bad
-  script_refused good (Table size row rule) bad = absurd bad
-  script_refused good (Script entry rule) bad = record { mission = mission; stated = stated; good_tables = good; bad = bad }
-  script_refused good NoMemory bad = absurd bad
+  pub script_refused : HasGoodTables mission → (e : Stop Refused) → RefusesScript mission.script e → IfRefused (IsRefusedWith document) e
+  script_refused good (stop.Refused (Scenario n place)) bad = absurd bad
+  script_refused good (stop.Refused (Task t k at)) bad = absurd bad
+  script_refused good (stop.Refused (Table size row rule)) bad = absurd bad
+  script_refused good (stop.Refused (Script entry rule)) bad = record { mission = mission; stated = stated; good_tables = good; bad = bad }
+  script_refused good stop.NoMemory bad = absurd bad

@@ -1,5 +1,6 @@
 -- Where each text is a task or refused, each document states a mission or is refused.
 use Rattle.std.proofs.Common.{◌≡◌, ◌≢◌, ◌<◌, ◌≤◌, ◌⊎◌, inl, inr, ℕ, zero, suc, List, [], length, Option, Some, None, refl, sym, ◌∷◌, ◌++◌, get_or, take, arith, length-append}
+use Rattle.sift_base.specs.declared.stop.Stop.TheVariants as stop
 use Rattle.std.proofs.lemmas.Bool.{cases_lt}
 use Rattle.std.proofs.lemmas.List.{length-map}
 use Rattle.std.proofs.lemmas.Option.{slice_get-get_or}
@@ -44,7 +45,7 @@ use Rattle.sift_table.specs.Rules as tables
 use Rattle.sift_table.specs.Schedule.{Schedule}
 use Rattle.sift_mission.specs.Data.{MissionData, shapes_in}
 use Rattle.sift_scenario.specs.declared.refused.Refused.{Refused}
-use Rattle.sift_scenario.specs.declared.refused.Refused.TheVariants.{Scenario, Task, Table, Script, NoMemory}
+use Rattle.sift_scenario.specs.declared.refused.Refused.TheVariants.{Scenario, Task, Table, Script}
 use Rattle.std.specs.List.{All}
 use Rattle.sift_scenario.specs.Refusal.{IsFirstBadTable, IsRefusedWith}
 
@@ -69,33 +70,24 @@ matched R others none each (suc n) low =
     )
 
 -- a stop that isn't want of memory refuses the task
-stop_some : (task : ℕ) (stop : ParseStop) → stop ≢ parse.NoMemory → refusal_of task stop ≢ NoMemory
-stop_some task (parse.Lex at) some e = cc
-stop_some task (parse.Syntax at) some e = cc
-stop_some task (parse.UnknownName at) some e = cc
-stop_some task (parse.Later at) some e = cc
-stop_some task (parse.Limit which at) some e = cc
-stop_some task parse.NoMemory some e = some refl
+stop_refuses : (task : ℕ) (parsed : ParseStop) → parsed ≢ parse.NoMemory → (e : Refused) × (refusal_of task parsed ≡ stop.Refused e)
+stop_refuses task (parse.Lex at) some = (Task task 1 at, refl)
+stop_refuses task (parse.Syntax at) some = (Task task 2 at, refl)
+stop_refuses task (parse.UnknownName at) some = (Task task 3 at, refl)
+stop_refuses task (parse.Later at) some = (Task task 4 at, refl)
+stop_refuses task (parse.Limit which at) some = (Task task 5 at, refl)
+stop_refuses task parse.NoMemory some = absurd (some refl)
 
 -- a task has a tree, or its text is none
 tree_or_stop :
     TextsAreAnswered → (roll : Roll) (task : ℕ) (form : Form) → AreNames roll
-    → ((tree : TaskTree) × IsTreeOf roll form tree) ⊎ ((e : Refused) × (e ≢ NoMemory) × IsNoTask roll task form e)
+    → ((tree : TaskTree) × IsTreeOf roll form tree) ⊎ ((e : Refused) × IsNoTask roll task form e)
 tree_or_stop texts roll task (linear factor addend) names = inl (linear_tree (first_word roll roll.this) factor addend, refl)
 tree_or_stop texts roll task (text bytes) names = elim (texts roll bytes names) [
   | inl is ↦ inl (is.0, is.1)
-  | inr stopped ↦ inr (
-    refusal_of task stopped.0,
-    stop_some task stopped.0 stopped.1,
-    record {
-      bytes = bytes;
-      form_is = refl;
-      stop = stopped.0;
-      some_stop = stopped.1;
-      told = stopped.2;
-      refused_is = refl;
-    },
-  )
+  | inr stopped ↦
+      let refused = stop_refuses task stopped.0 stopped.1 in
+      inr (refused.0, record { bytes = bytes; form_is = refl; parsed = stopped.0; told = stopped.2; refused_is = refused.1 })
 ]
 
 -- what isn't within is over
@@ -103,19 +95,17 @@ over_of : (n limit : ℕ) → (n ≤ limit → ⊥) → limit < n
 over_of n limit over = elim (cases_lt limit n) [ inl more ↦ more | inr within ↦ absurd (over within) ]
 
 -- a tree is within the limits, or over one
-within_or_over : (left task : ℕ) (tree : TaskTree) → IsWithin left tree ⊎ ((e : Refused) × (e ≢ NoMemory) × IsOver left task tree e)
+within_or_over : (left task : ℕ) (tree : TaskTree) → IsWithin left tree ⊎ ((e : Refused) × IsOver left task tree e)
 within_or_over left task tree = elim (at_most (task_length tree) code_limit) [
   | inl short ↦ elim (at_most (task_steps tree) left) [
     | inl quick ↦ inl (record { short = short; quick = quick })
     | inr slow ↦ inr (
       Task task 7 (told_number (task_steps tree)),
-      λ e. cc,
       inr (record { short = short; slow = over_of (task_steps tree) left slow; refused_is = refl }),
     )
   ]
   | inr long ↦ inr (
     Task task 6 (told_number (task_length tree)),
-    λ e. cc,
     inl (record { long = over_of (task_length tree) code_limit long; refused_is = refl }),
   )
 ]
@@ -127,7 +117,7 @@ module _
   trees_or_refused :
       (n : ℕ) → n ≤ length forms
       → ((trees : List TaskTree) × (length trees ≡ n) × EachMatches (λ t form tree. IsTreeOf (turn_of t roll) form tree) forms trees × AreAllowed trees)
-      ⊎ ((e : Refused) × (e ≢ NoMemory) × IsFirstRefused roll forms e)
+      ⊎ ((e : Refused) × IsFirstRefused roll forms e)
   trees_or_refused zero low = inl ([], refl, λ place entry there. cc, λ t tree there. cc)
   trees_or_refused (suc n) low = elim (trees_or_refused n (omega (arith, low))) [
     | inr refused ↦ inr refused
@@ -135,13 +125,9 @@ module _
         let there = slice_get-get_or forms n (text []) (omega (arith, low)) in
         let form = get_or forms n (text []) in
         elim (tree_or_stop texts (turn_of n roll) n form (names n (omega (arith, low)))) [
-          | inr stopped ↦ inr (stopped.0, stopped.1, text_first roll forms so.0 n form stopped.0 so.1 so.2 so.3 there stopped.2)
+          | inr stopped ↦ inr (stopped.0, text_first roll forms so.0 n form stopped.0 so.1 so.2 so.3 there stopped.1)
           | inl has ↦ elim (within_or_over (steps_left so.0) n has.0) [
-            | inr over ↦ inr (
-              over.0,
-              over.1,
-              code_first roll forms so.0 n form over.0 so.1 so.2 so.3 there has.0 has.1 over.1 (λ some. over.2),
-            )
+            | inr over ↦ inr (over.0, code_first roll forms so.0 n form over.0 so.1 so.2 so.3 there has.0 has.1 over.1)
             | inl within ↦ inl (
               so.0 ++ has.0 ∷ [],
               omega (arith, so.1, length-append so.0 (has.0 ∷ [])),
@@ -162,7 +148,7 @@ lawful_form tasks kept k task there = elim (form_known task) [
 -- the tasks of a lawful document state a program, or one of them is refused
 program_or_refused :
     TextsAreAnswered → (d : Members) (units : ℕ) → units_of d ≡ Some units → IsLawful d
-    → ((program : ProgramTree) × IsProgramOf (sensor_names d) (tasks_of d) program) ⊎ ((e : Refused) × (e ≢ NoMemory) × IsRefusedWith d e)
+    → ((program : ProgramTree) × IsProgramOf (sensor_names d) (tasks_of d) program) ⊎ ((e : Refused) × IsRefusedWith d e)
 program_or_refused texts d units is lawful =
     let tasks = tasks_of d in
     let kept : AreKept (task_rules d) = (kept_themes d units is lawful).1.1.1.0 in
@@ -176,7 +162,7 @@ program_or_refused texts d units is lawful =
     turns (sensor_names d) tasks (sensors_differ d units is lawful) (few_sensors d units is lawful) kept.1.0 kept.1.1.0 kept.1.1.1.0
     (omega (arith, number.0, long)) (omega (arith, number.1, long)) task (omega (arith, low, found.1)) in
     elim (trees_or_refused texts roll forms names (length forms) (omega arith)) [
-      | inr refused ↦ inr (refused.0, refused.1, text_refused_by d refused.0 lawful (λ some. (forms, stated, refused.2)))
+      | inr refused ↦ inr (refused.0, text_refused_by d refused.0 lawful (forms, stated, refused.1))
       | inl trees ↦ inl (
         record { tasks = trees.0; starts = all_starts tasks },
         record { starts = refl; forms = forms; stated = stated; trees = record { as_many = trees.1; each = trees.2 }; allowed = trees.3 },
@@ -221,13 +207,13 @@ data_for d units frames period program = data_from d units frames period program
 pub each_answered : DocumentsAreAnswered
 unfolding data_for
 each_answered texts d = elim (kept_or_broken d) [
-  | inr broken ↦ inr (Scenario broken.0 broken.1, λ e. cc, broken.2)
+  | inr broken ↦ inr (Scenario broken.0 broken.1, broken.2)
   | inl lawful ↦
       let units = value_of (units_of d) (λ none. lawful.1.0 0 (refl, none)) in
       let frames = value_of (frames_of d) (λ none. lawful.1.1.0 0 (refl, none)) in
       let period = value_of (period_of d) (λ none. lawful.1.1.1.1.0 0 (refl, none)) in
       elim (program_or_refused texts d units.0 units.1 lawful) [
-        | inr refused ↦ inr (refused.0, refused.1, refused.2)
+        | inr refused ↦ inr refused
         | inl program ↦
             let mission = data_for d units.0 frames.0 period.0 program.0 in
             let stated : IsStated d mission = record {
@@ -244,9 +230,9 @@ each_answered texts d = elim (kept_or_broken d) [
               script = refl;
             } in
             elim (tables_known (shapes_in mission) mission.tables) [
-              | inr bad ↦ inr (Table bad.0 bad.1 bad.2, λ e. cc, record { mission = mission; stated = stated; bad = bad.3 })
+              | inr bad ↦ inr (Table bad.0 bad.1 bad.2, record { mission = mission; stated = stated; bad = bad.3 })
               | inl good ↦ elim (scripts_are_answered mission.script) [
-                | inr bad ↦ inr (Script bad.1 bad.0, λ e. cc, record { mission = mission; stated = stated; good_tables = good; bad = bad.2 })
+                | inr bad ↦ inr (Script bad.1 bad.0, record { mission = mission; stated = stated; good_tables = good; bad = bad.2 })
                 | inl fine ↦ inl (mission, record { stated = stated; good_tables = good; good_script = fine })
               ]
             ]

@@ -1,5 +1,7 @@
 -- The rule of an array whose entries are tested one by one.
 use Rattle.std.proofs.Common.{◌≡◌, ◌∙◌, inl, inr, ℕ, List, Result, Ok, Err, Some, ap, length, map, refl, subst, sym, arith}
+use Rattle.sift_base.specs.declared.stop.Stop.{Stop}
+use Rattle.sift_base.specs.declared.stop.Stop.TheVariants as stop
 use Rattle.std.proofs.lemmas.List.{length-map}
 use Rattle.toml.specs.Data.{Data, Members}
 use Rattle.toml.specs.View.{view}
@@ -10,7 +12,7 @@ use Rattle.sift_scenario.specs.Entries.{HoldsOf}
 use Rattle.sift_scenario.specs.Rules.{BreaksEntries}
 use Rattle.sift_scenario.specs.Testing.{RefusesBy, Tests}
 use Rattle.sift_scenario.specs.declared.refused.Refused.{Refused}
-use Rattle.sift_scenario.specs.declared.refused.Refused.TheVariants.{Scenario, Task, Table, Script, NoMemory}
+use Rattle.sift_scenario.specs.declared.refused.Refused.TheVariants.{Scenario, Task, Table, Script}
 
 -- the tables of entries are those that the data of the entries are
 pub of_entries :
@@ -27,7 +29,7 @@ as_many_entries shown tables entries so =
 
 module _ (number low high : ℕ) (IsEntry : ℕ → Data → Type 0) (value : Data) where
   -- the value is no array of so many
-  pub refused_whole : (e : Refused) → (e ≡ Scenario number 0) × (IsArrayOf low high value → ⊥) → RefusesBy number (BreaksEntries low high IsEntry (Some value)) e
+  pub refused_whole : (e : Stop Refused) → (e ≡ stop.Refused (Scenario number 0)) × (IsArrayOf low high value → ⊥) → RefusesBy number (BreaksEntries low high IsEntry (Some value)) e
   refused_whole e wrong = rw wrong.0 (
     refl,
     record {
@@ -45,29 +47,29 @@ module _ (number low high : ℕ) (IsEntry : ℕ → Data → Type 0) (value : Da
 
   -- it is one, and an entry breaks the rule first
   refused_entry :
-      IsArrayOf low high value → (e : Refused) → RefusesBy number (λ place. HoldsOf (entries_of (Some value)) place (λ entry. IsEntry place entry → ⊥)) e
+      IsArrayOf low high value → (e : Stop Refused) → RefusesBy number (λ place. HoldsOf (entries_of (Some value)) place (λ entry. IsEntry place entry → ⊥)) e
       → RefusesBy number (BreaksEntries low high IsEntry (Some value)) e
-  refused_entry right (Scenario n place) refused = (
+  refused_entry right (stop.Refused (Scenario n place)) refused = (
     refused.0,
     record {
       broken = inr refused.1.broken;
       first = λ at low. kept_entries right at (refused.1.first at low);
     },
   )
-  refused_entry right (Task t k at) refused = refused
-  refused_entry right (Table size row n) refused = refused
-  refused_entry right (Script entry n) refused = refused
-  refused_entry right NoMemory refused = tt
+  refused_entry right (stop.Refused (Task t k at)) refused = refused
+  refused_entry right (stop.Refused (Table size row n)) refused = refused
+  refused_entry right (stop.Refused (Script entry n)) refused = refused
+  refused_entry right stop.NoMemory refused = tt
 
   tested_entries :
-      {A : Type 0} → IsArrayOf low high value → (r : Result A Refused)
+      {A : Type 0} → IsArrayOf low high value → (r : Result A (Stop Refused))
       → Tests number (λ place. HoldsOf (entries_of (Some value)) place (λ entry. IsEntry place entry → ⊥)) r → Tests number (BreaksEntries low high IsEntry (Some value)) r
   tested_entries right (Ok x) tests = λ place. kept_entries right place (tests place)
   tested_entries right (Err e) tests = refused_entry right e tests
 
   -- what tests the entries of the array tests the rule
   pub tested :
-      {A : Type 0} (entries : List Data) → entries ≡ entries_of (Some value) → IsArrayOf low high value → (r : Result A Refused)
+      {A : Type 0} (entries : List Data) → entries ≡ entries_of (Some value) → IsArrayOf low high value → (r : Result A (Stop Refused))
       → Tests number (λ place. HoldsOf entries place (λ entry. IsEntry place entry → ⊥)) r → Tests number (BreaksEntries low high IsEntry (Some value)) r
   tested entries same right r tests =
       tested_entries right r (subst (λ (es : List Data). Tests number (λ place. HoldsOf es place (λ entry. IsEntry place entry → ⊥)) r) same tests)

@@ -1,5 +1,5 @@
 -- What the compiler answers, as the limits of a task's tree.
-use Rattle.std.proofs.Common.{ℕ, inl, inr, refl, ap, ◌∙◌, arith}
+use Rattle.std.proofs.Common.{ℕ, inl, inr, ap, ◌∙◌, arith}
 use Rattle.sift_compile.specs.Code.{task_code}
 use Rattle.sift_compile.specs.Correct.{IsMeasured}
 use Rattle.sift_compile.specs.Stop.{IsAllowed, Stops}
@@ -22,13 +22,13 @@ within_limits left tree measured allowed = record {
 pub over_limits :
     (left task : ℕ) (tree : TaskTree) (stop : CompileStop) → IsMeasured tree → Stops left (task_code tree) stop
     → IsCodeStop left task tree (code_refusal_of task stop)
-over_limits left task tree (CodeTooLong len) measured stops some = inl (record {
+over_limits left task tree (CodeTooLong len) measured stops = inl (record {
   long = omega (arith, measured.long, stops.0);
   refused_is = ap (Task task 6) (stops.1 ∙ ap told_number measured.long);
 })
-over_limits left task tree (TooManySteps bound) measured stops some = inr (record {
+over_limits left task tree (TooManySteps bound) measured stops = inr (record {
   short = omega (arith, measured.long, stops.0);
   slow = omega (arith, measured.quick, stops.1);
   refused_is = ap (Task task 7) (stops.2 ∙ ap told_number measured.quick);
 })
-over_limits left task tree NoMemory measured stops some = absurd (some refl)
+over_limits left task tree NoMemory measured stops = tt

@@ -1,5 +1,7 @@
 -- The mission that entries, their program, tables and a script make.
 use Rattle.std.proofs.Common.{◌≡◌, ◌≤◌, ℕ, List, length, map, sym, ap, subst, ◌∙◌, arith}
+use Rattle.sift_base.specs.Stop.{IfRefused}
+use Rattle.sift_base.specs.declared.stop.Stop.{Stop}
 use Rattle.std.proofs.lemmas.List.{length-map}
 use Rattle.std.specs.List.{All}
 use Rattle.std.specs.Prelude.{codes}
@@ -80,7 +82,7 @@ module _ (document : Members) (entries : Entries) (running : Running) (read : Is
       made_stated = rw (shapes_are, layout_is) (is_stated document entries running read runs)
 
       -- a table is refused
-      pub refused_table : (e : Refused) → RefusesTable (map schedule_of entries.tables.items) shapes e → IsRefusedWith document e
+      pub refused_table : (e : Stop Refused) → RefusesTable (map schedule_of entries.tables.items) shapes e → IfRefused (IsRefusedWith document) e
       refused_table e bad =
           table_refused document (made entries running layout (map schedule_of entries.tables.items) (script_read entries layout shapes)) made_stated e
           (subst (λ (s : AllShapes). RefusesTable (map schedule_of entries.tables.items) s e) shapes_are bad)
@@ -90,7 +92,7 @@ module _ (document : Members) (entries : Entries) (running : Running) (read : Is
         good_tables script = subst (λ (s : AllShapes). All (λ table. IsGood table s) tables) shapes_are good
 
         -- the script is refused
-        pub refused_script : (e : Refused) → RefusesScript (script_read entries layout shapes) e → IsRefusedWith document e
+        pub refused_script : (e : Stop Refused) → RefusesScript (script_read entries layout shapes) e → IfRefused (IsRefusedWith document) e
         refused_script e bad =
             script_refused document (made entries running layout tables (script_read entries layout shapes)) (rw same made_stated)
             (good_tables (script_read entries layout shapes)) e bad

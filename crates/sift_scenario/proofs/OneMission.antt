@@ -1,5 +1,5 @@
 -- A document states at most one mission.
-use Rattle.std.proofs.Common.{◌≡◌, ℕ, List, [], length, Some, refl, sym, ap, subst, ◌∙◌}
+use Rattle.std.proofs.Common.{◌≡◌, ℕ, List, length, Some, refl, sym, ap, subst, ◌∙◌}
 use Rattle.std.specs.List.{sum}
 use Rattle.toml.specs.Data.{Members}
 use Rattle.sift_lang.specs.Tree.{TaskTree}

@@ -1,27 +1,30 @@
 -- Rules one after another, in the order of a list.
 use Rattle.std.proofs.Common.{◌≡◌, inl, inr, List, [], ◌∷◌, ℕ, zero, suc, Result, Ok, Err, IfOk, IfErr, refl}
+use Rattle.sift_base.specs.Stop.{IfRefused}
+use Rattle.sift_base.specs.declared.stop.Stop.{Stop}
+use Rattle.sift_base.specs.declared.stop.Stop.TheVariants as stop
 use Rattle.sift_scenario.specs.Rules.{AreKept, BreaksFirst, IsKept, Rule, followed_by, joined}
 use Rattle.sift_scenario.specs.Testing.{RefusesBy, RefusesFirst, TestsEach}
 use Rattle.sift_scenario.specs.declared.refused.Refused.{Refused}
-use Rattle.sift_scenario.specs.declared.refused.Refused.TheVariants.{Scenario, Task, Table, Script, NoMemory}
+use Rattle.sift_scenario.specs.declared.refused.Refused.TheVariants.{Scenario, Task, Table, Script}
 
 -- ---- the first of some rules
 
 -- the first of some rules is refused
-here : (rule : Rule) (rest : List Rule) (e : Refused) → RefusesBy rule.number rule.BrokenAt e → RefusesFirst (rule ∷ rest) e
-here rule rest (Scenario n place) refused = inl refused
-here rule rest (Task t k at) refused = refused
-here rule rest (Table size row n) refused = refused
-here rule rest (Script entry n) refused = refused
-here rule rest NoMemory refused = tt
+here : (rule : Rule) (rest : List Rule) (e : Stop Refused) → RefusesBy rule.number rule.BrokenAt e → RefusesFirst (rule ∷ rest) e
+here rule rest (stop.Refused (Scenario n place)) refused = inl refused
+here rule rest (stop.Refused (Task t k at)) refused = refused
+here rule rest (stop.Refused (Table size row n)) refused = refused
+here rule rest (stop.Refused (Script entry n)) refused = refused
+here rule rest stop.NoMemory refused = tt
 
 -- the first of some rules is kept, and one of the others is refused
-pub later : (rule : Rule) (rest : List Rule) (e : Refused) → IsKept rule → RefusesFirst rest e → RefusesFirst (rule ∷ rest) e
-later rule rest (Scenario n place) kept refused = inr (kept, refused)
-later rule rest (Task t k at) kept refused = refused
-later rule rest (Table size row n) kept refused = refused
-later rule rest (Script entry n) kept refused = refused
-later rule rest NoMemory kept refused = tt
+pub later : (rule : Rule) (rest : List Rule) (e : Stop Refused) → IsKept rule → RefusesFirst rest e → RefusesFirst (rule ∷ rest) e
+later rule rest (stop.Refused (Scenario n place)) kept refused = inr (kept, refused)
+later rule rest (stop.Refused (Task t k at)) kept refused = refused
+later rule rest (stop.Refused (Table size row n)) kept refused = refused
+later rule rest (stop.Refused (Script entry n)) kept refused = refused
+later rule rest stop.NoMemory kept refused = tt
 
 -- ---- some rules, and others
 
@@ -50,19 +53,19 @@ broken_second [] those n place kept broken = broken
 broken_second (rule ∷ rest) those n place kept broken = inr (kept.0, broken_second rest those n place kept.1 broken)
 
 -- the same, of what is refused
-refused_first : (these those : List Rule) (e : Refused) → RefusesFirst these e → RefusesFirst (followed_by these those) e
-refused_first these those (Scenario n place) refused = broken_first these those n place refused
-refused_first these those (Task t k at) refused = refused
-refused_first these those (Table size row n) refused = refused
-refused_first these those (Script entry n) refused = refused
-refused_first these those NoMemory refused = tt
+refused_first : (these those : List Rule) (e : Stop Refused) → RefusesFirst these e → RefusesFirst (followed_by these those) e
+refused_first these those (stop.Refused (Scenario n place)) refused = broken_first these those n place refused
+refused_first these those (stop.Refused (Task t k at)) refused = refused
+refused_first these those (stop.Refused (Table size row n)) refused = refused
+refused_first these those (stop.Refused (Script entry n)) refused = refused
+refused_first these those stop.NoMemory refused = tt
 
-refused_second : (these those : List Rule) (e : Refused) → AreKept these → RefusesFirst those e → RefusesFirst (followed_by these those) e
-refused_second these those (Scenario n place) kept refused = broken_second these those n place kept refused
-refused_second these those (Task t k at) kept refused = refused
-refused_second these those (Table size row n) kept refused = refused
-refused_second these those (Script entry n) kept refused = refused
-refused_second these those NoMemory kept refused = tt
+refused_second : (these those : List Rule) (e : Stop Refused) → AreKept these → RefusesFirst those e → RefusesFirst (followed_by these those) e
+refused_second these those (stop.Refused (Scenario n place)) kept refused = broken_second these those n place kept refused
+refused_second these those (stop.Refused (Task t k at)) kept refused = refused
+refused_second these those (stop.Refused (Table size row n)) kept refused = refused
+refused_second these those (stop.Refused (Script entry n)) kept refused = refused
+refused_second these those stop.NoMemory kept refused = tt
 
 -- ---- lists of rules, one after the other
 
@@ -80,13 +83,13 @@ kept_each [] kept = tt
 kept_each (rules ∷ rest) kept = (kept_first rules (joined rest) kept, kept_each rest (kept_second rules (joined rest) kept))
 
 -- a rule of the list so many places on is refused, and the lists before it are kept
-abbrev pub StopsIn : ℕ → List (List Rule) → Refused → Type 0
+abbrev pub StopsIn : ℕ → List (List Rule) → Stop Refused → Type 0
 StopsIn k [] e = ⊥
 StopsIn zero (rules ∷ rest) e = RefusesFirst rules e
 StopsIn (suc k) (rules ∷ rest) e = AreKept rules × StopsIn k rest e
 
 -- so it is the first that is broken
-pub stopped_in : (k : ℕ) (themes : List (List Rule)) (e : Refused) → StopsIn k themes e → RefusesFirst (joined themes) e
+pub stopped_in : (k : ℕ) (themes : List (List Rule)) (e : Stop Refused) → StopsIn k themes e → RefusesFirst (joined themes) e
 stopped_in k [] e stops = absurd stops
 stopped_in zero (rules ∷ rest) e stops = refused_first rules (joined rest) e stops
 stopped_in (suc k) (rules ∷ rest) e stops = refused_second rules (joined rest) e stops.0 (stopped_in k rest e stops.1)
@@ -94,21 +97,21 @@ stopped_in (suc k) (rules ∷ rest) e stops = refused_second rules (joined rest)
 -- ---- where a test stops
 
 -- the rule so many places on is refused, and those before it are kept
-abbrev pub StopsAt : ℕ → List Rule → Refused → Type 0
+abbrev pub StopsAt : ℕ → List Rule → Stop Refused → Type 0
 StopsAt k [] e = ⊥
 StopsAt zero (rule ∷ rest) e = RefusesBy rule.number rule.BrokenAt e
 StopsAt (suc k) (rule ∷ rest) e = IsKept rule × StopsAt k rest e
 
 -- so it is the first that is broken
-pub stopped : (k : ℕ) (rules : List Rule) (e : Refused) → StopsAt k rules e → RefusesFirst rules e
+pub stopped : (k : ℕ) (rules : List Rule) (e : Stop Refused) → StopsAt k rules e → RefusesFirst rules e
 stopped k [] e stops = absurd stops
 stopped zero (rule ∷ rest) e stops = here rule rest e stops
 stopped (suc k) (rule ∷ rest) e stops = later rule rest e stops.0 (stopped k rest e stops.1)
 
 -- what a call answers tests the rules, where it does so in either case
 pub ended :
-    {A : Type 0} (rules : List Rule) (r : Result A Refused)
-    → ((x : A) → r ≡ Ok x → AreKept rules) → ((e : Refused) → r ≡ Err e → RefusesFirst rules e) → TestsEach rules r
+    {A : Type 0} (rules : List Rule) (r : Result A (Stop Refused))
+    → ((x : A) → r ≡ Ok x → AreKept rules) → ((e : Stop Refused) → r ≡ Err e → RefusesFirst rules e) → TestsEach rules r
 ended rules (Ok x) kept refused = kept x refl
 ended rules (Err e) kept refused = refused e refl
 
@@ -117,7 +120,12 @@ pub ok_from : {A E : Type 0} (P Q : A → Type 0) (r : Result A E) → ((x : A) 
 ok_from P Q (Ok x) so holds = so x holds
 ok_from P Q (Err e) so holds = tt
 
--- and where it is refused
+-- where something is refused, of what follows
+pub refused_from : {E : Type 0} (P Q : E → Type 0) (why : Stop E) → ((e : E) → P e → Q e) → IfRefused P why → IfRefused Q why
+refused_from P Q (stop.Refused e) so holds = so e holds
+refused_from P Q stop.NoMemory so holds = tt
+
+-- and where a call isn't done
 pub err_from : {A E : Type 0} (P Q : E → Type 0) (r : Result A E) → ((e : E) → P e → Q e) → IfErr r P → IfErr r Q
 err_from P Q (Ok x) so holds = tt
 err_from P Q (Err e) so holds = so e holds

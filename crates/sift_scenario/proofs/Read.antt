@@ -1,5 +1,5 @@
 -- What follows from what was read of a document.
-use Rattle.std.proofs.Common.{◌≡◌, ◌≢◌, ◌≤◌, ℕ, List, length, map, sym, ap, subst, ◌∙◌, arith}
+use Rattle.std.proofs.Common.{◌≡◌, ◌≤◌, ℕ, List, length, map, sym, ap, subst, ◌∙◌, arith}
 use Rattle.std.proofs.lemmas.List.{length-map}
 use Rattle.std.specs.List.{flat_map, sum}
 use Rattle.toml.specs.Data.{Members}
@@ -24,7 +24,6 @@ use Rattle.sift_scenario.specs.declared.document.Entries.{Entries}
 use Rattle.sift_scenario.specs.declared.program.Running.{Running}
 use Rattle.sift_scenario.specs.declared.task.Tasks.{Tasks}
 use Rattle.sift_scenario.specs.declared.refused.Refused.{Refused}
-use Rattle.sift_scenario.specs.declared.refused.Refused.TheVariants.{NoMemory}
 
 -- there are as many forms as entries of `task`
 pub count_is : (document : Members) (tasks : Tasks) → AreTasksOf document tasks → length tasks.forms.items ≡ length (task_entries document)
@@ -103,10 +102,10 @@ module _ (document : Members) (entries : Entries) (read : IsReadOf document entr
       }
 
   -- the first task that is refused is the document's
-  pub refused_from :
-      (e : Refused) → (e ≢ NoMemory → IsFirstRefused (roll_read entries) (map form_of entries.tasks.forms.items) e) → IsRefusedWith document e
-  refused_from e first = text_refused_by document e read.lawful (λ some. (
+  pub task_refused :
+      (e : Refused) → IsFirstRefused (roll_read entries) (map form_of entries.tasks.forms.items) e → IsRefusedWith document e
+  task_refused e first = text_refused_by document e read.lawful (
     map form_of entries.tasks.forms.items,
     read.tasks.forms,
-    subst (λ (r : Roll). IsFirstRefused r (map form_of entries.tasks.forms.items) e) roll_is (first some),
-  ))
+    subst (λ (r : Roll). IsFirstRefused r (map form_of entries.tasks.forms.items) e) roll_is first,
+  )

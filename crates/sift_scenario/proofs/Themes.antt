@@ -1,5 +1,6 @@
 -- The rules of a document by what they speak of.
 use Rattle.std.proofs.Common.{◌≡◌, ℕ, Some, sym, ap, subst}
+use Rattle.sift_base.specs.declared.stop.Stop.{Stop}
 use Rattle.std.specs.Prelude.{unwrap_or}
 use Rattle.toml.specs.Data.{Members}
 use Rattle.sift_scenario.proofs.Order.{AreAllKept, StopsIn, kept_each, kept_joined, stopped_in}
@@ -14,7 +15,7 @@ module _ (document : Members) (units : ℕ) (is : units_of document ≡ Some uni
   units_are = ap (λ o. unwrap_or o 0) is
 
   -- a rule of a theme is the first that is broken
-  pub theme_refused : (k : ℕ) (e : Refused) → StopsIn k (themes_for units document) e → RefusesFirst (rules_of document) e
+  pub theme_refused : (k : ℕ) (e : Stop Refused) → StopsIn k (themes_for units document) e → RefusesFirst (rules_of document) e
   theme_refused k e stops =
       stopped_in k (themes_for (unwrap_or (units_of document) 0) document) e (subst (λ (n : ℕ). StopsIn k (themes_for n document) e) (sym units_are) stops)
 
@@ -28,5 +29,5 @@ module _ (document : Members) (units : ℕ) (is : units_of document ≡ Some uni
       subst (λ (n : ℕ). AreAllKept (themes_for n document)) units_are (kept_each (themes_for (unwrap_or (units_of document) 0) document) lawful)
 
 -- a rule of the root is the first that is broken, however many units there are
-pub root_refused : (document : Members) (e : Refused) → RefusesFirst (root_rules document) e → RefusesFirst (rules_of document) e
+pub root_refused : (document : Members) (e : Stop Refused) → RefusesFirst (root_rules document) e → RefusesFirst (rules_of document) e
 root_refused document e refused = stopped_in 0 (themes_for (unwrap_or (units_of document) 0) document) e refused

@@ -1,16 +1,14 @@
 -- Tasks in their turns.
-use Rattle.std.proofs.Common.{◌≡◌, ◌≢◌, ℕ, List, length, Some, inl, inr, refl}
+use Rattle.std.proofs.Common.{◌≡◌, ℕ, List, length, Some, inl, inr, refl}
 use Rattle.std.specs.List.{slice_get}
 use Rattle.sift_lang.specs.Tree.{TaskTree}
 use Rattle.sift_parse.specs.Roll.{Roll, roll_of}
 use Rattle.sift_parse.specs.declared.names.Names.{Names}
 use Rattle.sift_scenario.specs.Entries.{EachMatches}
 use Rattle.sift_scenario.specs.Program.{AreAllowed, IsTreeOf, steps_left, turn_of}
-use Rattle.sift_scenario.specs.Refusal.{IsFirstRefused, IsNoTask}
+use Rattle.sift_scenario.specs.Refusal.{IsFirstRefused, IsNoTask, IsOver}
 use Rattle.sift_scenario.specs.Task.{Form}
-use Rattle.sift_scenario.specs.Testing.{IsCodeStop}
 use Rattle.sift_scenario.specs.declared.refused.Refused.{Refused}
-use Rattle.sift_scenario.specs.declared.refused.Refused.TheVariants.{NoMemory}
 
 -- names that differ in the turn alone are the same at a task's turn
 pub same_turn :
@@ -35,13 +33,13 @@ module _
 
   -- a task whose code isn't allowed
   pub code_first :
-      (tree : TaskTree) → IsTreeOf (turn_of task roll) form tree → refused ≢ NoMemory
-      → IsCodeStop (steps_left trees) task tree refused → IsFirstRefused roll forms refused
-  code_first tree is some stops = record {
+      (tree : TaskTree) → IsTreeOf (turn_of task roll) form tree → IsOver (steps_left trees) task tree refused
+      → IsFirstRefused roll forms refused
+  code_first tree is over = record {
     task = task;
     trees = trees;
     as_many = long;
     earlier = each;
     allowed = allowed;
-    here = record { entry = form; there = there; holds = inr (record { tree = tree; tree_is = is; over = stops some }) };
+    here = record { entry = form; there = there; holds = inr (record { tree = tree; tree_is = is; over = over }) };
   }

@@ -1,5 +1,8 @@
 -- A document that states a mission isn't refused, and one that is refused is refused in one way.
-use Rattle.std.proofs.Common.{◌≡◌, ◌≢◌, ◌<◌, ◌⊎◌, inl, inr, ℕ, List, [], ◌∷◌, length, get_or, take, Some, Result, Ok, Err, IfOk, IfErr, refl, sym, ap, subst, ◌∙◌, arith}
+use Rattle.std.proofs.Common.{◌≡◌, ◌<◌, inl, inr, ℕ, List, [], ◌∷◌, length, get_or, take, Some, Result, Ok, Err, IfOk, IfErr, refl, sym, ap, subst, ◌∙◌, arith}
+use Rattle.sift_base.specs.Stop.{IfRefused}
+use Rattle.sift_base.specs.declared.stop.Stop.{Stop}
+use Rattle.sift_base.specs.declared.stop.Stop.TheVariants as stop
 use Rattle.std.proofs.lemmas.Bool.{cases_order}
 use Rattle.std.proofs.lemmas.List.{get_or-take, length-take, take_all}
 use Rattle.std.proofs.lemmas.Option.{get_or_from_slice_get, slice_get_within}
@@ -20,7 +23,7 @@ use Rattle.sift_mission.specs.Parts.{data_of}
 use Rattle.sift_mission.specs.declared.parts.MissionParts.{MissionParts}
 use Rattle.sift_scenario.proofs.OneMission.{one_stated}
 use Rattle.sift_scenario.proofs.UniqueForms.{one_forms, one_tree}
-use Rattle.sift_scenario.proofs.Unrefused.{first_trees, kept_unbroken, one_entry, tree_unrefused, unrefused_among}
+use Rattle.sift_scenario.proofs.Unrefused.{first_trees, kept_unbroken, no_want, one_entry, tree_unrefused, unrefused_among}
 use Rattle.sift_scenario.specs.Lawful.{rules_of}
 use Rattle.sift_scenario.specs.Laws.{MissionsAreAccepted, OneRefusal}
 use Rattle.sift_scenario.specs.Mission.{HasGoodTables, IsMission, IsStated}
@@ -30,7 +33,7 @@ use Rattle.sift_scenario.specs.Rules.{BreaksFirst, IsFirstPlace, Rule}
 use Rattle.sift_scenario.specs.Sensor.{sensor_names}
 use Rattle.sift_scenario.specs.Task.{Form, text, tasks_of}
 use Rattle.sift_scenario.specs.declared.refused.Refused.{Refused}
-use Rattle.sift_scenario.specs.declared.refused.Refused.TheVariants.{Scenario, Task, Table, Script, NoMemory}
+use Rattle.sift_scenario.specs.declared.refused.Refused.TheVariants.{Scenario, Task, Table, Script}
 
 -- ---- what is stated isn't refused
 
@@ -71,11 +74,10 @@ stated_script d m entry rule states good refused =
     (script_laws.one_broken_rule m.script rule entry bad).0 good
 
 pub missions_are_accepted : MissionsAreAccepted
-missions_are_accepted d mission (Scenario n at) states refused = absurd (kept_unbroken (rules_of d) n at states.stated.lawful refused)
-missions_are_accepted d mission (Task t k at) states refused = absurd (stated_tasks d mission (Task t k at) states.stated refused.1)
-missions_are_accepted d mission (Table size row rule) states refused = absurd (stated_tables d mission size row rule states.stated states.good_tables refused)
-missions_are_accepted d mission (Script entry rule) states refused = absurd (stated_script d mission entry rule states.stated states.good_script refused)
-missions_are_accepted d mission NoMemory states refused = refl
+missions_are_accepted d mission (Scenario n at) states refused = kept_unbroken (rules_of d) n at states.stated.lawful refused
+missions_are_accepted d mission (Task t k at) states refused = stated_tasks d mission (Task t k at) states.stated refused.1
+missions_are_accepted d mission (Table size row rule) states refused = stated_tables d mission size row rule states.stated states.good_tables refused
+missions_are_accepted d mission (Script entry rule) states refused = stated_script d mission entry rule states.stated states.good_script refused
 
 -- ---- a broken rule
 
@@ -97,15 +99,19 @@ one_broken (rule ∷ rest) n m at other (inr a) (inr b) = one_broken rest n m at
 
 -- ---- a text, or its code
 
+-- two stops that are one refuse for one reason
+same_refused : (a b : Refused) → stop.Refused a ≡ stop.Refused b → a ≡ b
+same_refused a b same = cc
+
 -- a text stops in one way
 one_stop : (roll : Roll) (task : ℕ) (form : Form) (a b : Refused) → IsNoTask roll task form a → IsNoTask roll task form b → a ≡ b
 one_stop roll task form a b one other =
     let form_is : text one.bytes ≡ text other.bytes = sym one.form_is ∙ other.form_is in
     let bytes : one.bytes ≡ other.bytes = cc form_is in
-    let told : Tells roll other.bytes (Err one.stop) = subst (λ (bs : List ℕ). Tells roll bs (Err one.stop)) bytes one.told in
-    let stop : one.stop ≡ other.stop = one_answer roll other.bytes (Err one.stop) (Err other.stop)
-    (λ e. one.some_stop (cc e)) (λ e. other.some_stop (cc e)) told other.told in
-    one.refused_is ∙ ap (refusal_of task) stop ∙ sym other.refused_is
+    let told : Tells roll other.bytes (Err one.parsed) = subst (λ (bs : List ℕ). Tells roll bs (Err one.parsed)) bytes one.told in
+    let parsed : one.parsed ≡ other.parsed = one_answer roll other.bytes (Err one.parsed) (Err other.parsed)
+    (λ e. no_want roll task form a one (cc e)) (λ e. no_want roll task form b other (cc e)) told other.told in
+    same_refused a b (sym one.refused_is ∙ ap (refusal_of task) parsed ∙ other.refused_is)
 
 -- a task is over a limit in one way
 one_over : (left task : ℕ) (tree : TaskTree) (a b : Refused) → IsOver left task tree a → IsOver left task tree b → a ≡ b
@@ -197,56 +203,45 @@ one_script_refusal d entry rule other_entry other one two =
 -- ---- all of them
 
 pub one_refusal : OneRefusal
-one_refusal d (Scenario n at) (Scenario m other) some some' one two =
+one_refusal d (Scenario n at) (Scenario m other) one two =
     let same = one_broken (rules_of d) n m at other one two in rw (same.0, same.1) refl
-one_refusal d (Scenario n at) (Task t k x) some some' one two = absurd (kept_unbroken (rules_of d) n at two.0 one)
-one_refusal d (Scenario n at) (Table size row rule) some some' one two = absurd (kept_unbroken (rules_of d) n at two.stated.lawful one)
-one_refusal d (Scenario n at) (Script entry rule) some some' one two = absurd (kept_unbroken (rules_of d) n at two.stated.lawful one)
-one_refusal d (Task t k x) (Scenario n at) some some' one two = absurd (kept_unbroken (rules_of d) n at one.0 two)
-one_refusal d (Task t k x) (Task u l y) some some' one two =
+one_refusal d (Scenario n at) (Task t k x) one two = absurd (kept_unbroken (rules_of d) n at two.0 one)
+one_refusal d (Scenario n at) (Table size row rule) one two = absurd (kept_unbroken (rules_of d) n at two.stated.lawful one)
+one_refusal d (Scenario n at) (Script entry rule) one two = absurd (kept_unbroken (rules_of d) n at two.stated.lawful one)
+one_refusal d (Task t k x) (Scenario n at) one two = absurd (kept_unbroken (rules_of d) n at one.0 two)
+one_refusal d (Task t k x) (Task u l y) one two =
     let roll = roll_for (sensor_names d) (tasks_of d) in
     let same : one.1.0 ≡ two.1.0 = one_forms (tasks_of d) one.1.0 two.1.0 one.1.1 two.1.1 in
     one_task_refusal roll two.1.0 (Task t k x) (Task u l y)
     (subst (λ (fs : List Form). IsFirstRefused roll fs (Task t k x)) same one.1.2) two.1.2
-one_refusal d (Task t k x) (Table size row rule) some some' one two = absurd (stated_tasks d two.mission (Task t k x) two.stated one.1)
-one_refusal d (Task t k x) (Script entry rule) some some' one two = absurd (stated_tasks d two.mission (Task t k x) two.stated one.1)
-one_refusal d (Table size row rule) (Scenario n at) some some' one two = absurd (kept_unbroken (rules_of d) n at one.stated.lawful two)
-one_refusal d (Table size row rule) (Task t k x) some some' one two = absurd (stated_tasks d one.mission (Task t k x) one.stated two.1)
-one_refusal d (Table size row rule) (Table other_size other_row other) some some' one two =
+one_refusal d (Task t k x) (Table size row rule) one two = absurd (stated_tasks d two.mission (Task t k x) two.stated one.1)
+one_refusal d (Task t k x) (Script entry rule) one two = absurd (stated_tasks d two.mission (Task t k x) two.stated one.1)
+one_refusal d (Table size row rule) (Scenario n at) one two = absurd (kept_unbroken (rules_of d) n at one.stated.lawful two)
+one_refusal d (Table size row rule) (Task t k x) one two = absurd (stated_tasks d one.mission (Task t k x) one.stated two.1)
+one_refusal d (Table size row rule) (Table other_size other_row other) one two =
     let same = one_table_refusal d size row rule other_size other_row other one two in rw (same.0, same.1.0, same.1.1) refl
-one_refusal d (Table size row rule) (Script entry other) some some' one two = absurd (stated_tables d two.mission size row rule two.stated two.good_tables one)
-one_refusal d (Script entry rule) (Scenario n at) some some' one two = absurd (kept_unbroken (rules_of d) n at one.stated.lawful two)
-one_refusal d (Script entry rule) (Task t k x) some some' one two = absurd (stated_tasks d one.mission (Task t k x) one.stated two.1)
-one_refusal d (Script entry rule) (Table size row other) some some' one two = absurd (stated_tables d one.mission size row other one.stated one.good_tables two)
-one_refusal d (Script entry rule) (Script other_entry other) some some' one two =
+one_refusal d (Table size row rule) (Script entry other) one two = absurd (stated_tables d two.mission size row rule two.stated two.good_tables one)
+one_refusal d (Script entry rule) (Scenario n at) one two = absurd (kept_unbroken (rules_of d) n at one.stated.lawful two)
+one_refusal d (Script entry rule) (Task t k x) one two = absurd (stated_tasks d one.mission (Task t k x) one.stated two.1)
+one_refusal d (Script entry rule) (Table size row other) one two = absurd (stated_tables d one.mission size row other one.stated one.good_tables two)
+one_refusal d (Script entry rule) (Script other_entry other) one two =
     let same = one_script_refusal d entry rule other_entry other one two in rw (same.0, same.1) refl
-one_refusal d NoMemory other some some' one two = absurd (some refl)
-one_refusal d (Scenario n at) NoMemory some some' one two = absurd (some' refl)
-one_refusal d (Task t k x) NoMemory some some' one two = absurd (some' refl)
-one_refusal d (Table size row rule) NoMemory some some' one two = absurd (some' refl)
-one_refusal d (Script entry rule) NoMemory some some' one two = absurd (some' refl)
 
 -- ---- what a call answers
 
 -- where a mission is stated only want of memory refuses it
 pub complete_of :
-    (d : Members) (result : Result MissionParts Refused) → IfErr result (IsRefusedWith d)
-    → (mission : MissionData) → IsMission d mission → IfErr result (λ e. e ≡ NoMemory)
+    (d : Members) (result : Result MissionParts (Stop Refused)) → IfErr result (IfRefused (IsRefusedWith d))
+    → (mission : MissionData) → IsMission d mission → IfErr result (λ why. why ≡ stop.NoMemory)
 complete_of d (Ok held) refused mission states = tt
-complete_of d (Err e) refused mission states = missions_are_accepted d mission e states refused
-
--- a refusal that stands is the one that is owed
-one_or_none : (d : Members) (e owed : Refused) → IsRefusedWith d e → owed ≢ NoMemory → IsRefusedWith d owed → (e ≡ owed) ⊎ (e ≡ NoMemory)
-one_or_none d (Scenario n at) owed refused some stands = inl (one_refusal d (Scenario n at) owed (λ same. cc) some refused stands)
-one_or_none d (Task t k at) owed refused some stands = inl (one_refusal d (Task t k at) owed (λ same. cc) some refused stands)
-one_or_none d (Table size row rule) owed refused some stands = inl (one_refusal d (Table size row rule) owed (λ same. cc) some refused stands)
-one_or_none d (Script entry rule) owed refused some stands = inl (one_refusal d (Script entry rule) owed (λ same. cc) some refused stands)
-one_or_none d NoMemory owed refused some stands = inr refl
+complete_of d (Err (stop.Refused e)) refused mission states = absurd (missions_are_accepted d mission e states refused)
+complete_of d (Err stop.NoMemory) refused mission states = refl
 
 -- where a refusal is owed it comes, or want of memory
 pub exact_of :
-    (d : Members) (result : Result MissionParts Refused)
-    → IfOk result (λ mission. IsMission d (data_of mission)) → IfErr result (IsRefusedWith d)
-    → (owed : Refused) → owed ≢ NoMemory → IsRefusedWith d owed → OnlyRefuses owed result
-exact_of d (Ok held) accepted refused owed some stands = absurd (some (missions_are_accepted d (data_of held) owed accepted stands))
-exact_of d (Err e) accepted refused owed some stands = (refl, one_or_none d e owed refused some stands)
+    (d : Members) (result : Result MissionParts (Stop Refused))
+    → IfOk result (λ mission. IsMission d (data_of mission)) → IfErr result (IfRefused (IsRefusedWith d))
+    → (owed : Refused) → IsRefusedWith d owed → OnlyRefuses owed result
+exact_of d (Ok held) accepted refused owed stands = absurd (missions_are_accepted d (data_of held) owed accepted stands)
+exact_of d (Err (stop.Refused e)) accepted refused owed stands = (refl, inl (ap stop.Refused (one_refusal d e owed refused stands)))
+exact_of d (Err stop.NoMemory) accepted refused owed stands = (refl, inr refl)

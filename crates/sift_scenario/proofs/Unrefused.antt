@@ -1,5 +1,6 @@
 -- A task that has an allowed tree isn't refused.
 use Rattle.std.proofs.Common.{◌≡◌, ◌≢◌, ◌<◌, ◌≤◌, inl, inr, ℕ, List, [], ◌∷◌, length, get_or, take, Some, Err, refl, sym, ap, subst, ◌∙◌, arith}
+use Rattle.sift_base.specs.declared.stop.Stop.TheVariants as stop
 use Rattle.std.proofs.lemmas.List.{get_or-take, length-take-le}
 use Rattle.std.proofs.lemmas.Option.{get_or_from_slice_get, slice_get-get_or, slice_get_read, slice_get_within}
 use Rattle.std.specs.List.{slice_get}
@@ -12,7 +13,7 @@ use Rattle.sift_parse.specs.declared.stop.ParseStop.TheVariants as parse
 use Rattle.sift_scenario.proofs.UniqueForms.{one_tree, same_entries}
 use Rattle.sift_scenario.specs.Entries.{EachMatches}
 use Rattle.sift_scenario.specs.Program.{AreAllowed, IsTreeOf, IsWithin, steps_left, turn_of}
-use Rattle.sift_scenario.specs.Refusal.{IsFirstRefused, IsFormRefused, IsNoTask, IsOver}
+use Rattle.sift_scenario.specs.Refusal.{IsFirstRefused, IsFormRefused, IsNoTask, IsOver, refusal_of}
 use Rattle.sift_scenario.specs.Rules.{AreKept, BreaksFirst, Rule}
 use Rattle.sift_scenario.specs.Task.{Form}
 use Rattle.sift_scenario.specs.declared.refused.Refused.{Refused}
@@ -24,17 +25,21 @@ kept_unbroken (rule ∷ rest) n at kept (inl broken) = kept.0 at broken.1.broken
 kept_unbroken (rule ∷ rest) n at kept (inr broken) = kept_unbroken rest n at kept.1 broken.1
 
 -- a text that is a task isn't refused
-task_unrefused : (roll : Roll) (bytes : List ℕ) (tree : TaskTree) (stop : ParseStop) → stop ≢ parse.NoMemory → IsTaskOf roll bytes tree → Tells roll bytes (Err stop) → ⊥
-task_unrefused roll bytes tree stop some task told = task_is_answered roll bytes tree (Err stop) (λ same. some (cc same)) task told
+task_unrefused : (roll : Roll) (bytes : List ℕ) (tree : TaskTree) (parsed : ParseStop) → parsed ≢ parse.NoMemory → IsTaskOf roll bytes tree → Tells roll bytes (Err parsed) → ⊥
+task_unrefused roll bytes tree parsed some task told = task_is_answered roll bytes tree (Err parsed) (λ same. some (cc same)) task told
 
 -- what stands at one place of forms is one form
 pub one_entry : (forms : List Form) (t : ℕ) (a b : Form) → slice_get forms t ≡ Some a → slice_get forms t ≡ Some b → a ≡ b
 one_entry forms t a b one other = let both : Some a ≡ Some b = sym one ∙ other in cc both
 
+-- a text that is no task isn't so for want of memory
+pub no_want : (roll : Roll) (task : ℕ) (form : Form) (e : Refused) (fault : IsNoTask roll task form e) → fault.parsed ≢ parse.NoMemory
+no_want roll task form e fault want = let none : refusal_of task parse.NoMemory ≡ stop.Refused e = rw want at fault.refused_is in cc none
+
 -- what may not be isn't refused for its text, where it has a tree
 pub tree_unrefused : (roll : Roll) (task : ℕ) (form : Form) (tree : TaskTree) (e : Refused) → IsTreeOf roll form tree → IsNoTask roll task form e → ⊥
 tree_unrefused roll task form tree e is fault =
-    task_unrefused roll fault.bytes tree fault.stop fault.some_stop (subst (λ (f : Form). IsTreeOf roll f tree) fault.form_is is) fault.told
+    task_unrefused roll fault.bytes tree fault.parsed (no_want roll task form e fault) (subst (λ (f : Form). IsTreeOf roll f tree) fault.form_is is) fault.told
 
 -- what is within the limits isn't over one
 within_unrefused : (left task : ℕ) (tree : TaskTree) (e : Refused) → IsWithin left tree → IsOver left task tree e → ⊥

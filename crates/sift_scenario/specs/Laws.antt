@@ -7,20 +7,19 @@ use Rattle.sift_parse.specs.declared.stop.ParseStop.TheVariants as parse
 use Rattle.sift_parse.specs.Outcome.{AreNames, IsTaskOf, Tells}
 use Rattle.sift_parse.specs.Roll.{Roll}
 use Rattle.sift_scenario.specs.declared.refused.Refused.{Refused}
-use Rattle.sift_scenario.specs.declared.refused.Refused.TheVariants.{NoMemory}
 use Rattle.sift_scenario.specs.Lawful.{IsFirstBroken, IsLawful}
 use Rattle.sift_scenario.specs.Mission.{IsMission}
 use Rattle.sift_scenario.specs.Refusal.{IsRefusedWith}
 use Rattle.sift_mission.specs.Data.{MissionData}
 use Rattle.sift_mission.specs.PartsFit.{PartsFit}
 
--- a document that states a mission isn't refused, where memory is not wanting
+-- a document that states a mission isn't refused
 abbrev pub MissionsAreAccepted : Type 0
-MissionsAreAccepted = (document : Members) (mission : MissionData) (refused : Refused) → IsMission document mission → IsRefusedWith document refused → refused ≡ NoMemory
+MissionsAreAccepted = (document : Members) (mission : MissionData) (refused : Refused) → IsMission document mission → ¬ IsRefusedWith document refused
 
--- a document is refused in one way, where memory is not wanting
+-- a document is refused in one way
 abbrev pub OneRefusal : Type 0
-OneRefusal = (document : Members) (one other : Refused) → one ≢ NoMemory → other ≢ NoMemory → IsRefusedWith document one → IsRefusedWith document other → one ≡ other
+OneRefusal = (document : Members) (one other : Refused) → IsRefusedWith document one → IsRefusedWith document other → one ≡ other
 
 -- a document states at most one mission
 abbrev pub OneMission : Type 0
@@ -43,4 +42,4 @@ TextsAreAnswered = (roll : Roll) (bytes : List ℕ) → AreNames roll
 abbrev pub DocumentsAreAnswered : Type 0
 DocumentsAreAnswered = TextsAreAnswered → (document : Members)
     → ((mission : MissionData) × IsMission document mission)
-    ⊎ ((refused : Refused) × (refused ≢ NoMemory) × IsRefusedWith document refused)
+    ⊎ ((refused : Refused) × IsRefusedWith document refused)

@@ -1,8 +1,10 @@
 -- Why a document states no mission.
-use Rattle.std.specs.Prelude.{◌≡◌, ◌≢◌, ◌<◌, ◌≤◌, ◌⊎◌, ℕ, min, List, Err, IsErr, IfErr, Result, length, take, ⊤}
+use Rattle.std.specs.Prelude.{◌≡◌, ◌<◌, ◌≤◌, ◌⊎◌, ℕ, min, List, Err, IsErr, IfErr, Result, length, take}
 use Rattle.std.specs.List.{All}
 use Rattle.toml.specs.Data.{Members}
 use Rattle.sift_base.specs.Shapes.{AllShapes}
+use Rattle.sift_base.specs.declared.stop.Stop.{Stop}
+use Rattle.sift_base.specs.declared.stop.Stop.TheVariants as stop
 use Rattle.sift_compile.specs.Length.{code_limit, task_length, task_steps}
 use Rattle.sift_lang.specs.Tree.{TaskTree}
 use Rattle.sift_parse.specs.declared.stop.ParseStop.{ParseStop}
@@ -14,7 +16,7 @@ use Rattle.sift_table.specs.Rules as tables
 use Rattle.sift_table.specs.Schedule.{Schedule}
 use Rattle.sift_mission.specs.Data.{MissionData, shapes_in}
 use Rattle.sift_scenario.specs.declared.refused.Refused.{Refused}
-use Rattle.sift_scenario.specs.declared.refused.Refused.TheVariants.{Scenario, Task, Table, Script, NoMemory}
+use Rattle.sift_scenario.specs.declared.refused.Refused.TheVariants.{Scenario, Task, Table, Script}
 use Rattle.sift_scenario.specs.Entries.{EachMatches, HoldsOf}
 use Rattle.sift_scenario.specs.Lawful.{IsFirstBroken, IsLawful}
 use Rattle.sift_scenario.specs.Mission.{HasGoodTables, IsStated}
@@ -24,23 +26,22 @@ use Rattle.sift_scenario.specs.Task.{AreForms, Form, text, tasks_of}
 
 -- ---- a text, or its code
 
--- the refusal of a task whose text is no task, with its kind and its place in the text
-abbrev pub refusal_of : ℕ → ParseStop → Refused
-refusal_of task (parse.Lex at) = Task task 1 at
-refusal_of task (parse.Syntax at) = Task task 2 at
-refusal_of task (parse.UnknownName at) = Task task 3 at
-refusal_of task (parse.Later at) = Task task 4 at
-refusal_of task (parse.Limit which at) = Task task 5 at
-refusal_of task parse.NoMemory = NoMemory
+-- the refusal of a task whose text is no task, with its kind and its place in the text; or want of memory
+abbrev pub refusal_of : ℕ → ParseStop → Stop Refused
+refusal_of task (parse.Lex at) = stop.Refused (Task task 1 at)
+refusal_of task (parse.Syntax at) = stop.Refused (Task task 2 at)
+refusal_of task (parse.UnknownName at) = stop.Refused (Task task 3 at)
+refusal_of task (parse.Later at) = stop.Refused (Task task 4 at)
+refusal_of task (parse.Limit which at) = stop.Refused (Task task 5 at)
+refusal_of task parse.NoMemory = stop.NoMemory
 
 -- a text that is no task
 pub record IsNoTask (roll : Roll) (task : ℕ) (form : Form) (refused : Refused) : Type 0 where
   pub bytes : List ℕ
   pub form_is : form ≡ text bytes
-  pub stop : ParseStop
-  pub some_stop : stop ≢ parse.NoMemory
-  pub told : Tells roll bytes (Err stop)
-  pub refused_is : refused ≡ refusal_of task stop
+  pub parsed : ParseStop
+  pub told : Tells roll bytes (Err parsed)
+  pub refused_is : refusal_of task parsed ≡ stop.Refused refused
 
 -- a number as it is told: one above the last of 32 bits is told as that
 abbrev pub told_number : ℕ → ℕ
@@ -107,15 +108,14 @@ pub record ScriptIsRefused (document : Members) (entry rule : ℕ) : Type 0 wher
 
 -- ---- all of them
 
--- what stands where a document is refused; want of memory says nothing else
+-- what stands where a document is refused
 abbrev pub IsRefusedWith : Members → Refused → Type 0
 IsRefusedWith document (Scenario rule place) = IsFirstBroken document rule place
 IsRefusedWith document (Task task kind at) =
     IsLawful document × TasksAreRefused (sensor_names document) (tasks_of document) (Task task kind at)
 IsRefusedWith document (Table size row rule) = TablesAreRefused document size row rule
 IsRefusedWith document (Script entry rule) = ScriptIsRefused document entry rule
-IsRefusedWith document NoMemory = ⊤
 
 -- the document is refused so, unless memory was wanting
-abbrev pub OnlyRefuses : {A : Type 0} → Refused → Result A Refused → Type 0
-OnlyRefuses owed result = IsErr result × IfErr result (λ e. (e ≡ owed) ⊎ (e ≡ NoMemory))
+abbrev pub OnlyRefuses : {A : Type 0} → Refused → Result A (Stop Refused) → Type 0
+OnlyRefuses owed result = IsErr result × IfErr result (λ why. (why ≡ stop.Refused owed) ⊎ (why ≡ stop.NoMemory))

@@ -1,7 +1,10 @@
 -- What the tests of rules answer. No public clause cites this module.
-use Rattle.std.specs.Prelude.{◌≡◌, ◌≢◌, ◌<◌, ℕ, List, [], ◌∷◌, Some, Result, Ok, Err, ⊤}
+use Rattle.std.specs.Prelude.{◌≡◌, ◌<◌, ℕ, List, [], ◌∷◌, Some, Result, Ok, Err, ⊤}
 use Rattle.toml.specs.Data.{Data}
 use Rattle.sift_base.specs.Shapes.{AllShapes}
+use Rattle.sift_base.specs.declared.stop.Stop.{Stop}
+use Rattle.sift_base.specs.declared.stop.Stop.TheVariants as stop
+use Rattle.sift_base.specs.Stop.{IfRefused}
 use Rattle.sift_compile.specs.declared.stop.CompileStop.{CompileStop}
 use Rattle.sift_compile.specs.declared.stop.CompileStop.TheVariants as compile
 use Rattle.sift_lang.specs.Tree.{TaskTree}
@@ -12,7 +15,7 @@ use Rattle.sift_script.specs.Script.{FaultScript}
 use Rattle.sift_table.specs.Rules as tables
 use Rattle.sift_table.specs.Schedule.{Schedule}
 use Rattle.sift_scenario.specs.declared.refused.Refused.{Refused}
-use Rattle.sift_scenario.specs.declared.refused.Refused.TheVariants.{Scenario, Task, Table, Script, NoMemory}
+use Rattle.sift_scenario.specs.declared.refused.Refused.TheVariants.{Scenario, Task, Table, Script}
 use Rattle.sift_scenario.specs.declared.task.Form as held
 use Rattle.sift_scenario.specs.declared.task.Form.TheVariants as variant
 use Rattle.sift_scenario.specs.Document.{word_array}
@@ -24,26 +27,26 @@ use Rattle.sift_scenario.specs.Task.{Form, linear, text}
 -- ---- rules
 
 -- the rule is refused, at the first place at which it is broken; or memory was wanting
-abbrev pub RefusesBy : ℕ → (ℕ → Type 0) → Refused → Type 0
-RefusesBy number BrokenAt (Scenario rule place) = (rule ≡ number) × IsFirstPlace BrokenAt place
-RefusesBy number BrokenAt NoMemory = ⊤
-RefusesBy number BrokenAt refused = ⊥
+abbrev pub RefusesBy : ℕ → (ℕ → Type 0) → Stop Refused → Type 0
+RefusesBy number BrokenAt (stop.Refused (Scenario rule place)) = (rule ≡ number) × IsFirstPlace BrokenAt place
+RefusesBy number BrokenAt stop.NoMemory = ⊤
+RefusesBy number BrokenAt other = ⊥
 
 -- the rule is broken nowhere, or it is refused
-abbrev pub Tests : {A : Type 0} → ℕ → (ℕ → Type 0) → Result A Refused → Type 0
+abbrev pub Tests : {A : Type 0} → ℕ → (ℕ → Type 0) → Result A (Stop Refused) → Type 0
 Tests number BrokenAt (Ok value) = (place : ℕ) → ¬ BrokenAt place
-Tests number BrokenAt (Err refused) = RefusesBy number BrokenAt refused
+Tests number BrokenAt (Err why) = RefusesBy number BrokenAt why
 
 -- the first of the rules that is broken is refused; or memory was wanting
-abbrev pub RefusesFirst : List Rule → Refused → Type 0
-RefusesFirst rules (Scenario number place) = BreaksFirst rules number place
-RefusesFirst rules NoMemory = ⊤
-RefusesFirst rules refused = ⊥
+abbrev pub RefusesFirst : List Rule → Stop Refused → Type 0
+RefusesFirst rules (stop.Refused (Scenario number place)) = BreaksFirst rules number place
+RefusesFirst rules stop.NoMemory = ⊤
+RefusesFirst rules other = ⊥
 
 -- each of the rules is kept, or the first that is broken is refused
-abbrev pub TestsEach : {A : Type 0} → List Rule → Result A Refused → Type 0
+abbrev pub TestsEach : {A : Type 0} → List Rule → Result A (Stop Refused) → Type 0
 TestsEach rules (Ok value) = AreKept rules
-TestsEach rules (Err refused) = RefusesFirst rules refused
+TestsEach rules (Err why) = RefusesFirst rules why
 
 -- ---- the forms of tasks
 
@@ -64,29 +67,29 @@ abbrev pub AreTurns : ℕ → Roll → Type 0
 AreTurns count roll = (task : ℕ) → task < count → AreNames (turn_of task roll)
 
 -- compiling stopped for want of memory, or over a limit
-abbrev pub IsCodeStop : (left task : ℕ) → TaskTree → Refused → Type 0
-IsCodeStop left task tree refused = refused ≢ NoMemory → IsOver left task tree refused
+abbrev pub IsCodeStop : (left task : ℕ) → TaskTree → Stop Refused → Type 0
+IsCodeStop left task tree why = IfRefused (IsOver left task tree) why
 
--- the refusal of a task whose code is too long, or takes too many steps
-abbrev pub code_refusal_of : ℕ → CompileStop → Refused
-code_refusal_of task (compile.CodeTooLong len) = Task task 6 len
-code_refusal_of task (compile.TooManySteps bound) = Task task 7 bound
-code_refusal_of task compile.NoMemory = NoMemory
+-- the refusal of a task whose code is too long, or takes too many steps; or want of memory
+abbrev pub code_refusal_of : ℕ → CompileStop → Stop Refused
+code_refusal_of task (compile.CodeTooLong len) = stop.Refused (Task task 6 len)
+code_refusal_of task (compile.TooManySteps bound) = stop.Refused (Task task 7 bound)
+code_refusal_of task compile.NoMemory = stop.NoMemory
 
 -- ---- tables and scripts
 
 -- the table isn't good, and is refused so
-abbrev pub IsBadTable : Schedule → AllShapes → Refused → Type 0
-IsBadTable schedule shapes (Table size row rule) = (schedule.size ≡ size) × tables.IsFirstBroken schedule shapes rule row
-IsBadTable schedule shapes refused = ⊥
+abbrev pub IsBadTable : Schedule → AllShapes → Stop Refused → Type 0
+IsBadTable schedule shapes (stop.Refused (Table size row rule)) = (schedule.size ≡ size) × tables.IsFirstBroken schedule shapes rule row
+IsBadTable schedule shapes other = ⊥
 
 -- the first of the tables that isn't good is refused; or memory was wanting
-abbrev pub RefusesTable : List Schedule → AllShapes → Refused → Type 0
-RefusesTable schedules shapes (Table size row rule) = IsFirstBadTable schedules shapes size row rule
-RefusesTable schedules shapes NoMemory = ⊤
-RefusesTable schedules shapes refused = ⊥
+abbrev pub RefusesTable : List Schedule → AllShapes → Stop Refused → Type 0
+RefusesTable schedules shapes (stop.Refused (Table size row rule)) = IsFirstBadTable schedules shapes size row rule
+RefusesTable schedules shapes stop.NoMemory = ⊤
+RefusesTable schedules shapes other = ⊥
 
 -- the first rule that the script breaks is refused
-abbrev pub RefusesScript : FaultScript → Refused → Type 0
-RefusesScript script (Script entry rule) = scripts.IsFirstBroken script rule entry
-RefusesScript script refused = ⊥
+abbrev pub RefusesScript : FaultScript → Stop Refused → Type 0
+RefusesScript script (stop.Refused (Script entry rule)) = scripts.IsFirstBroken script rule entry
+RefusesScript script other = ⊥

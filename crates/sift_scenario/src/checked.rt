@@ -11,7 +11,7 @@ ghost use Rattle.sift_table.specs.Schedule.{schedule_of};
 ghost use Rattle.sift_scenario.specs.Testing.{IsBadTable, RefusesScript, RefusesTable};
 
 use crate::refused::Refused;
-use sift_base::{Layout, Shapes};
+use sift_base::{Layout, Shapes, Stop};
 use sift_script::{GoodScript, Script};
 use sift_table::{GoodTable, Table};
 use std::alloc::Global;
@@ -21,7 +21,7 @@ pub(crate) fn check_tables(
     alloc: Global,
     tables: Vec<Table>,
     shapes: &Shapes,
-) -> Result<Vec<GoodTable>, Refused>
+) -> Result<Vec<GoodTable>, Stop<Refused>>
     requires { AreShapes (shapes_of shapes.now) }
     ensures same { IfOk result (λ goods. goods.items ≡ map schedule_of tables.items) }
     ensures good { IfOk result (λ goods. All (λ table. IsGoodTable table (shapes_of shapes.now)) goods.items) }
@@ -35,7 +35,7 @@ pub(crate) fn check_tables(
 }
 
 /// A table, which has to be good for tasks of these shapes.
-fn good_table(table: Table, shapes: &Shapes) -> Result<GoodTable, Refused>
+fn good_table(table: Table, shapes: &Shapes) -> Result<GoodTable, Stop<Refused>>
     requires { AreShapes (shapes_of shapes.now) }
     ensures same { IfOk result (λ good. good ≡ schedule_of table) }
     ensures good { IfOk result (λ good. IsGoodTable good (shapes_of shapes.now)) }
@@ -44,11 +44,11 @@ fn good_table(table: Table, shapes: &Shapes) -> Result<GoodTable, Refused>
     let size = u32::from(table.size);
     match sift_table::check(table, shapes) {
         Ok(good) => Ok(good),
-        Err(broken) => Err(Refused::Table {
+        Err(broken) => Err(Stop::Refused(Refused::Table {
             size,
             row: u32::from(broken.row),
             rule: u32::from(broken.rule),
-        }),
+        })),
     }
 }
 
@@ -58,7 +58,7 @@ pub(crate) fn check_script(
     layout: &Layout,
     shapes: &Shapes,
     frames: u32,
-) -> Result<GoodScript, Refused>
+) -> Result<GoodScript, Stop<Refused>>
     requires layout { IsLayout layout.now }
     requires shapes { AreShapes (shapes_of shapes.now) }
     ensures same { IfOk result (λ good. good ≡ script_for script layout.now (shapes_of shapes.now) frames) }
@@ -67,9 +67,9 @@ pub(crate) fn check_script(
 {
     match sift_script::check(script, layout, shapes, frames) {
         Ok(good) => Ok(good),
-        Err(broken) => Err(Refused::Script {
+        Err(broken) => Err(Stop::Refused(Refused::Script {
             entry: u32::from(broken.entry),
             rule: u32::from(broken.rule),
-        }),
+        })),
     }
 }

@@ -13,6 +13,7 @@ ghost use Rattle.sift_scenario.specs.Testing.{Tests, TestsEach};
 use crate::refused::{Refused, broken};
 use crate::value::{member_of, number_at, optional_between, table_of};
 use arrayvec::ArrayVec;
+use sift_base::Stop;
 use sift_skew::ClockPlan;
 use toml::{Table, Value};
 
@@ -30,7 +31,7 @@ struct Figures {
 }
 
 /// The clocks of a document, for so many units.
-pub(crate) fn plan_of(document: &Table, units: u8) -> Result<ClockPlan, Refused>
+pub(crate) fn plan_of(document: &Table, units: u8) -> Result<ClockPlan, Stop<Refused>>
     requires { units ≤ unit_limit }
     ensures read { IfOk result (λ plan. clocks_of plan ≡ clocks_in units (clock_value (table_view document.now))) }
     ensures tests { TestsEach (clock_rules units (clock_value (table_view document.now))) result }
@@ -42,7 +43,7 @@ pub(crate) fn plan_of(document: &Table, units: u8) -> Result<ClockPlan, Refused>
 }
 
 /// The clocks that the value of `clock` states.
-fn stated_plan(value: &Value, units: u8) -> Result<ClockPlan, Refused>
+fn stated_plan(value: &Value, units: u8) -> Result<ClockPlan, Stop<Refused>>
     requires { units ≤ unit_limit }
     ensures read { IfOk result (λ plan. clocks_of plan ≡ clocks_in units (Some (view value.now))) }
     ensures tests { TestsEach (clock_rules units (Some (view value.now))) result }
@@ -64,7 +65,7 @@ fn stated_plan(value: &Value, units: u8) -> Result<ClockPlan, Refused>
 }
 
 /// The table of a clock.
-fn clock_table(value: &Value) -> Result<&Table, Refused>
+fn clock_table(value: &Value) -> Result<&Table, Stop<Refused>>
     ensures read { IfOk result (λ clock. table_view clock.now ≡ members_of (view value.now)) }
     ensures tests { Tests 6 (BreaksClock (view value.now)) result }
 {
@@ -80,7 +81,7 @@ fn clock_table(value: &Value) -> Result<&Table, Refused>
 }
 
 /// The four figures of a clock.
-fn figures_of(clock: &Table) -> Result<Figures, Refused>
+fn figures_of(clock: &Table) -> Result<Figures, Stop<Refused>>
     ensures skew { IfOk result (λ figures. skew_of (table_view clock.now) ≡ Some figures.skew) }
     ensures error { IfOk result (λ figures. error_of (table_view clock.now) ≡ Some figures.error) }
     ensures rate { IfOk result (λ figures. rate_of (table_view clock.now) ≡ Some figures.rate) }
@@ -101,7 +102,7 @@ fn figures_of(clock: &Table) -> Result<Figures, Refused>
 }
 
 /// The most that working clocks differ by.
-fn skew_of(clock: &Table) -> Result<u32, Refused>
+fn skew_of(clock: &Table) -> Result<u32, Stop<Refused>>
     ensures read { IfOk result (λ skew. skew_of (table_view clock.now) ≡ Some skew) }
     ensures tests { Tests 7 (BreaksSkew (table_view clock.now)) result }
 {
@@ -109,7 +110,7 @@ fn skew_of(clock: &Table) -> Result<u32, Refused>
 }
 
 /// The most that a reading is wrong by, and the most that a clock drifts by in a frame.
-fn error_and_rate(clock: &Table) -> Result<(u32, u32), Refused>
+fn error_and_rate(clock: &Table) -> Result<(u32, u32), Stop<Refused>>
     ensures error { IfOk result (λ both. error_of (table_view clock.now) ≡ Some both.0) }
     ensures rate { IfOk result (λ both. rate_of (table_view clock.now) ≡ Some both.1) }
     ensures tests { Tests 8 (BreaksErrorOrRate (table_view clock.now)) result }
@@ -131,7 +132,7 @@ fn number_or_zero(clock: &Table, key: &str) -> Option<u32>
 }
 
 /// The length of a subframe.
-fn length_of(clock: &Table) -> Result<u32, Refused>
+fn length_of(clock: &Table) -> Result<u32, Stop<Refused>>
     ensures read { IfOk result (λ length. length_of (table_view clock.now) ≡ Some length) }
     ensures tests { Tests 9 (BreaksLength (table_view clock.now)) result }
 {
@@ -139,7 +140,7 @@ fn length_of(clock: &Table) -> Result<u32, Refused>
 }
 
 /// Tests that the correction of the clocks keeps the skew.
-fn check_skew(skew: u32, error: u32, rate: u32) -> Result<(), Refused>
+fn check_skew(skew: u32, error: u32, rate: u32) -> Result<(), Stop<Refused>>
     requires error { error ≤ tick_limit }
     requires rate { rate ≤ tick_limit }
     ensures { Tests 10 (IsSkewSmall skew error rate) result }
@@ -152,7 +153,7 @@ fn check_skew(skew: u32, error: u32, rate: u32) -> Result<(), Refused>
 }
 
 /// Tests that a subframe is longer than any clock leads another.
-fn check_length(skew: u32, error: u32, rate: u32, length: u32) -> Result<(), Refused>
+fn check_length(skew: u32, error: u32, rate: u32, length: u32) -> Result<(), Stop<Refused>>
     requires skew { skew ≤ tick_limit }
     requires error { error ≤ tick_limit }
     requires rate { rate ≤ tick_limit }
@@ -166,7 +167,7 @@ fn check_length(skew: u32, error: u32, rate: u32, length: u32) -> Result<(), Ref
 }
 
 /// The offset of each unit's clock at the start.
-fn starts_of(clock: &Table, units: u8, skew: u32) -> Result<ArrayVec<i32, 8>, Refused>
+fn starts_of(clock: &Table, units: u8, skew: u32) -> Result<ArrayVec<i32, 8>, Stop<Refused>>
     requires units { units ≤ unit_limit }
     requires skew { skew ≤ tick_limit }
     ensures read { IfOk result (λ starts. starts_of units (table_view clock.now) ≡ Some starts.items) }
@@ -179,7 +180,7 @@ fn starts_of(clock: &Table, units: u8, skew: u32) -> Result<ArrayVec<i32, 8>, Re
 }
 
 /// The drift of each unit's clock in a frame.
-fn drifts_of(clock: &Table, units: u8, rate: u32) -> Result<ArrayVec<i32, 8>, Refused>
+fn drifts_of(clock: &Table, units: u8, rate: u32) -> Result<ArrayVec<i32, 8>, Stop<Refused>>
     requires units { units ≤ unit_limit }
     requires rate { rate ≤ tick_limit }
     ensures read { IfOk result (λ drifts. drifts_of units rate (table_view clock.now) ≡ Some drifts.items) }
@@ -189,7 +190,11 @@ fn drifts_of(clock: &Table, units: u8, rate: u32) -> Result<ArrayVec<i32, 8>, Re
 }
 
 /// By how much each unit misreads the clock of each unit.
-fn errors_of(clock: &Table, units: u8, error: u32) -> Result<ArrayVec<ArrayVec<i32, 8>, 8>, Refused>
+fn errors_of(
+    clock: &Table,
+    units: u8,
+    error: u32,
+) -> Result<ArrayVec<ArrayVec<i32, 8>, 8>, Stop<Refused>>
     requires units { units ≤ unit_limit }
     requires error { error ≤ tick_limit }
     ensures read { IfOk result (λ rows. errors_of units error (table_view clock.now) ≡ Some (map (λ row. row.items) rows.items)) }

@@ -16,6 +16,7 @@ use crate::root::root_of;
 use crate::sensor::{Sensors, sensors_of};
 use crate::table::tables_of;
 use crate::task::{Tasks, tasks_of};
+use sift_base::Stop;
 use sift_script::Script;
 use sift_skew::ClockPlan;
 use sift_table::Table;
@@ -37,7 +38,10 @@ pub(crate) struct Entries<'a> {
 }
 
 /// What a document states, where it breaks no rule.
-pub(crate) fn entries_of(alloc: Global, document: &toml::Table) -> Result<Entries<'_>, Refused>
+pub(crate) fn entries_of(
+    alloc: Global,
+    document: &toml::Table,
+) -> Result<Entries<'_>, Stop<Refused>>
     ensures read { IfOk result (IsReadOf (table_view document.now)) }
     ensures refused { IfErr result (RefusesFirst (rules_of (table_view document.now))) }
 {

@@ -10,7 +10,7 @@ ghost use Rattle.sift_scenario.specs.Testing.{Tests};
 
 use crate::refused::{Refused, broken};
 use crate::value::{member_of, table_of};
-use sift_base::{Name, is_name};
+use sift_base::{Name, Stop, is_name};
 use std::alloc::Global;
 use toml::{Table, Value};
 
@@ -20,11 +20,11 @@ pub(crate) fn entries_between(
     low: usize,
     high: usize,
     rule: u32,
-) -> Result<&[Value], Refused>
+) -> Result<&[Value], Stop<Refused>>
     ensures entries { IfOk result (λ entries. map (λ entry. view entry) entries.now ≡ entries_of (Some (view value.now))) }
     ensures few { IfOk result (λ entries. length entries.now ≤ high) }
     ensures right { IfOk result (λ _. IsArrayOf low high (view value.now)) }
-    ensures wrong { IfErr result (λ refused. (refused ≡ Refused.Scenario rule 0) × (IsArrayOf low high (view value.now) → ⊥)) }
+    ensures wrong { IfErr result (λ why. (why ≡ Stop.Refused (Refused.Scenario rule 0)) × (IsArrayOf low high (view value.now) → ⊥)) }
 {
     let Some(array) = value.as_array() else {
         return Err(broken(rule, 0));
@@ -43,7 +43,7 @@ pub(crate) fn tables_in<'a>(
     entries: &'a [Value],
     known: &[&str],
     rule: u32,
-) -> Result<Vec<&'a Table>, Refused>
+) -> Result<Vec<&'a Table>, Stop<Refused>>
     requires { length entries.now < 2 ^ 32 }
     ensures tables { IfOk result (λ tables.
         map (λ table. table_view table.now) tables.items ≡ map (λ entry. members_of (view entry)) entries.now) }
@@ -61,7 +61,11 @@ pub(crate) fn tables_in<'a>(
 }
 
 /// The names of the entries in these tables, by the rule of this number.
-pub(crate) fn names_in(alloc: Global, tables: &[&Table], rule: u32) -> Result<Vec<Name>, Refused>
+pub(crate) fn names_in(
+    alloc: Global,
+    tables: &[&Table],
+    rule: u32,
+) -> Result<Vec<Name>, Stop<Refused>>
     requires { length tables.now < 2 ^ 32 }
     ensures names { IfOk result (λ names.
         map (λ name. Some name.bytes) names.items ≡ map (λ entry. name_of (table_view entry.now)) tables.now) }

@@ -15,13 +15,13 @@ use crate::entries::{entries_between, tables_in};
 use crate::item::item_of;
 use crate::refused::{Refused, broken};
 use crate::value::{member_of, number_at, table_of};
-use sift_base::NoMemory;
+use sift_base::{NoMemory, Stop};
 use sift_script::{Entry, Item, Plan, Script};
 use std::alloc::Global;
 use toml::{Table, Value};
 
 /// The script of the faults of a document, which may have none.
-pub(crate) fn script_of(alloc: Global, document: &Table) -> Result<Script, Refused>
+pub(crate) fn script_of(alloc: Global, document: &Table) -> Result<Script, Stop<Refused>>
     ensures read { IfOk result (λ script.
         faults_of script ≡ map fault_in (faults_in (fault_value (table_view document.now)))) }
     ensures tests { TestsEach (fault_rules (fault_value (table_view document.now))) result }
@@ -35,7 +35,7 @@ pub(crate) fn script_of(alloc: Global, document: &Table) -> Result<Script, Refus
 }
 
 /// The script that the value of `fault` states.
-fn stated_script(alloc: Global, value: &Value) -> Result<Script, Refused>
+fn stated_script(alloc: Global, value: &Value) -> Result<Script, Stop<Refused>>
     ensures read { IfOk result (λ script.
         faults_of script ≡ map fault_in (faults_in (Some (view value.now)))) }
     ensures tests { TestsEach (fault_rules (Some (view value.now))) result }
@@ -48,7 +48,7 @@ fn stated_script(alloc: Global, value: &Value) -> Result<Script, Refused>
 }
 
 /// The tables of the faults.
-fn fault_tables(alloc: Global, value: &Value) -> Result<Vec<&Table>, Refused>
+fn fault_tables(alloc: Global, value: &Value) -> Result<Vec<&Table>, Stop<Refused>>
     ensures tables { IfOk result (λ tables.
         map (λ fault. table_view fault.now) tables.items ≡ faults_in (Some (view value.now))) }
     ensures few { IfOk result (λ tables. length tables.items ≤ fault_limit) }
@@ -66,7 +66,7 @@ struct Head {
 }
 
 /// Which unit of each fault fails, and from which frame on.
-fn fault_heads(alloc: Global, tables: &[&Table]) -> Result<Vec<Head>, Refused>
+fn fault_heads(alloc: Global, tables: &[&Table]) -> Result<Vec<Head>, Stop<Refused>>
     requires { length tables.now ≤ fault_limit }
     ensures units { IfOk result (λ heads.
         map (λ head. Some head.unit) heads.items ≡ map (λ fault. unit_of (table_view fault.now)) tables.now) }
@@ -103,7 +103,7 @@ fn head_of(fault: &Table) -> Option<Head>
 }
 
 /// The items of each fault.
-fn said_items<'a>(alloc: Global, tables: &[&'a Table]) -> Result<Vec<Vec<&'a Table>>, Refused>
+fn said_items<'a>(alloc: Global, tables: &[&'a Table]) -> Result<Vec<Vec<&'a Table>>, Stop<Refused>>
     requires { length tables.now ≤ fault_limit }
     ensures items { IfOk result (λ said.
         map (λ items. map (λ item. table_view item.now) items.items) said.items
@@ -156,7 +156,11 @@ fn known_items(alloc: Global, entries: &[Value]) -> Result<Option<Vec<&Table>>, 
 }
 
 /// The entries of faults, where these are their heads and their items.
-fn fault_entries(alloc: Global, heads: &[Head], said: &[Vec<&Table>]) -> Result<Vec<Entry>, Refused>
+fn fault_entries(
+    alloc: Global,
+    heads: &[Head],
+    said: &[Vec<&Table>],
+) -> Result<Vec<Entry>, Stop<Refused>>
     requires few { length said.now ≤ fault_limit }
     requires read { (faults : List Members)
         × AreFaultsRead faults heads.now (map (λ items. map (λ item. table_view item.now) items.items) said.now) }

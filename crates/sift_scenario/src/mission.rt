@@ -1,6 +1,7 @@
 //! The mission that a document states.
 
-ghost use Rattle.std.specs.Prelude.{◌≡◌, ◌≢◌, IfErr, IfOk};
+ghost use Rattle.std.specs.Prelude.{◌≡◌, IfErr, IfOk};
+ghost use Rattle.sift_base.specs.Stop.{IfRefused};
 ghost use Rattle.toml.specs.Data.{Members};
 ghost use Rattle.toml.specs.View.{table_view};
 ghost use Rattle.sift_mission.specs.Data.{MissionData};
@@ -14,7 +15,7 @@ use crate::document::{Entries, entries_of};
 use crate::program::{Running, run_entries};
 use crate::refused::Refused;
 use crate::shapes::shapes_of;
-use sift_base::Layout;
+use sift_base::{Layout, Stop};
 use sift_mission::{Mission, MissionParts};
 use std::alloc::Global;
 use toml::Table;
@@ -24,23 +25,22 @@ use toml::Table;
 /// The rules are tested in the order of their numbers, and each for the entries in their order. Then
 /// the tasks are parsed and compiled, one after the other. Then the tables are checked in ascending
 /// size, and then the script of faults.
-pub fn mission_of(alloc: Global, document: &Table) -> Result<Mission, Refused>
+pub fn mission_of(alloc: Global, document: &Table) -> Result<Mission, Stop<Refused>>
     ensures accepted { IfOk result (λ mission. IsMission (table_view document.now) (data_of mission)) }
-    ensures refused { IfErr result (IsRefusedWith (table_view document.now)) }
+    ensures refused { IfErr result (IfRefused (IsRefusedWith (table_view document.now))) }
 
     // A document that states a mission, or is owed a refusal, gets it, unless memory is wanting.
     ensures complete { (mission : MissionData) → IsMission (table_view document.now) mission
-        → IfErr result (λ e. e ≡ Refused.NoMemory) }
-    ensures exact { (owed : Refused) → owed ≢ Refused.NoMemory → IsRefusedWith (table_view document.now) owed
-        → OnlyRefuses owed result }
+        → IfErr result (λ why. why ≡ Stop.NoMemory) }
+    ensures exact { (owed : Refused) → IsRefusedWith (table_view document.now) owed → OnlyRefuses owed result }
 {
     read_mission(alloc, document)
 }
 
 /// The mission that a document states, or what refuses it.
-fn read_mission(alloc: Global, document: &Table) -> Result<Mission, Refused>
+fn read_mission(alloc: Global, document: &Table) -> Result<Mission, Stop<Refused>>
     ensures accepted { IfOk result (λ mission. IsMission (table_view document.now) (data_of mission)) }
-    ensures refused { IfErr result (IsRefusedWith (table_view document.now)) }
+    ensures refused { IfErr result (IfRefused (IsRefusedWith (table_view document.now))) }
 {
     let entries = entries_of(alloc, document)?;
     let running = run_entries(alloc, &entries)?;
@@ -48,12 +48,12 @@ fn read_mission(alloc: Global, document: &Table) -> Result<Mission, Refused>
 }
 
 /// The mission of these entries and their program, where its tables and its script are good.
-fn assemble(alloc: Global, entries: Entries<'_>, running: Running) -> Result<Mission, Refused>
+fn assemble(alloc: Global, entries: Entries<'_>, running: Running) -> Result<Mission, Stop<Refused>>
     requires { (document : Members) × IsReadOf document entries × IsRunningOf document running }
     ensures accepted { IfOk result (λ mission. (document : Members) → IsReadOf document entries.entry
         → IsRunningOf document running → IsMission document (data_of mission)) }
-    ensures refused { IfErr result (λ refused. (document : Members) → IsReadOf document entries.entry
-        → IsRunningOf document running → IsRefusedWith document refused) }
+    ensures refused { IfErr result (λ why. (document : Members) → IsReadOf document entries.entry
+        → IsRunningOf document running → IfRefused (IsRefusedWith document) why) }
 {
     let Entries {
         units,

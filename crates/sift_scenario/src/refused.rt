@@ -4,10 +4,9 @@ ghost use Rattle.std.specs.Prelude.{◌≡◌, ◌<◌, ◌^◌};
 ghost use Rattle.sift_scenario.specs.Refusal.{refusal_of};
 ghost use Rattle.sift_scenario.specs.Testing.{code_refusal_of};
 
-use sift_base::NoMemory;
+use sift_base::Stop;
 use sift_compile::CompileStop;
 use sift_parse::ParseStop;
-use std::alloc::{AllocError, AllocFailed};
 
 /// Why a document states no mission.
 #[derive(Clone, Copy, Debug, PartialEq, Eq)]
@@ -27,56 +26,21 @@ pub enum Refused {
     /// The script of faults isn't good: this entry is the first to break a script rule, and that has
     /// this number.
     Script { entry: u32, rule: u32 },
-    /// An allocation failed.
-    NoMemory,
-}
-
-impl From<NoMemory> for Refused {
-    ghost use Rattle.std.specs.Prelude.{◌≡◌};
-    ghost use Rattle.sift_scenario.specs.declared.refused.Refused.TheVariants as refused;
-
-    ghost from_gives = { λ _ e. e ≡ refused.NoMemory };
-
-    fn from(_: NoMemory) -> Self {
-        Refused::NoMemory
-    }
-}
-
-impl From<AllocError> for Refused {
-    ghost use Rattle.std.specs.Prelude.{◌≡◌};
-    ghost use Rattle.sift_scenario.specs.declared.refused.Refused.TheVariants as refused;
-
-    ghost from_gives = { λ _ e. e ≡ refused.NoMemory };
-
-    fn from(_: AllocError) -> Self {
-        Refused::NoMemory
-    }
-}
-
-impl<T: Drop> From<AllocFailed<T>> for Refused {
-    ghost use Rattle.std.specs.Prelude.{◌≡◌};
-    ghost use Rattle.sift_scenario.specs.declared.refused.Refused.TheVariants as refused;
-
-    ghost from_gives = { λ _ e. e ≡ refused.NoMemory };
-
-    fn from(_: AllocFailed<T>) -> Self {
-        Refused::NoMemory
-    }
 }
 
 /// The refusal of a rule that is broken at an entry.
-pub(crate) fn broken(rule: u32, entry: usize) -> Refused
+pub(crate) fn broken(rule: u32, entry: usize) -> Stop<Refused>
     requires { entry < 2 ^ 32 }
-    ensures { result ≡ Refused.Scenario rule entry }
+    ensures { result ≡ Stop.Refused (Refused.Scenario rule entry) }
 {
-    Refused::Scenario {
+    Stop::Refused(Refused::Scenario {
         rule,
         place: entry as u32,
-    }
+    })
 }
 
-/// The refusal of a task's text.
-pub(crate) fn text_refused(task: usize, stop: ParseStop) -> Refused
+/// The refusal of a task's text, or want of memory.
+pub(crate) fn text_refused(task: usize, stop: ParseStop) -> Stop<Refused>
     requires { task < 2 ^ 32 }
     ensures { result ≡ refusal_of task stop }
 {
@@ -86,28 +50,28 @@ pub(crate) fn text_refused(task: usize, stop: ParseStop) -> Refused
         ParseStop::UnknownName { at } => (3, at),
         ParseStop::Later { at } => (4, at),
         ParseStop::Limit { at, .. } => (5, at),
-        ParseStop::NoMemory => return Refused::NoMemory,
+        ParseStop::NoMemory => return Stop::NoMemory,
     };
-    Refused::Task {
+    Stop::Refused(Refused::Task {
         task: task as u32,
         kind,
         at,
-    }
+    })
 }
 
-/// The refusal of a task's code.
-pub(crate) fn code_refused(task: usize, stop: CompileStop) -> Refused
+/// The refusal of a task's code, or want of memory.
+pub(crate) fn code_refused(task: usize, stop: CompileStop) -> Stop<Refused>
     requires { task < 2 ^ 32 }
     ensures { result ≡ code_refusal_of task stop }
 {
     let (kind, at) = match stop {
         CompileStop::CodeTooLong { len } => (6, len),
         CompileStop::TooManySteps { bound } => (7, bound),
-        CompileStop::NoMemory => return Refused::NoMemory,
+        CompileStop::NoMemory => return Stop::NoMemory,
     };
-    Refused::Task {
+    Stop::Refused(Refused::Task {
         task: task as u32,
         kind,
         at,
-    }
+    })
 }

@@ -7,6 +7,7 @@ ghost use Rattle.sift_scenario.specs.Testing.{Tests, TestsEach};
 
 use crate::refused::{Refused, broken};
 use crate::value::{has_only_keys, number_at, optional_between};
+use sift_base::Stop;
 use toml::Table;
 
 /// How many units fly how many frames, and of how many subframes.
@@ -19,7 +20,7 @@ pub(crate) struct Root {
 }
 
 /// What the root states beside its entries.
-pub(crate) fn root_of(document: &Table) -> Result<Root, Refused>
+pub(crate) fn root_of(document: &Table) -> Result<Root, Stop<Refused>>
     ensures units { IfOk result (λ root. units_of (table_view document.now) ≡ Some root.units) }
     ensures frames { IfOk result (λ root. frames_of (table_view document.now) ≡ Some root.frames) }
     ensures subframes { IfOk result (λ root. (unstated : ℕ) →
@@ -39,7 +40,7 @@ pub(crate) fn root_of(document: &Table) -> Result<Root, Refused>
 }
 
 /// Tests the keys of the root.
-fn check_keys(document: &Table) -> Result<(), Refused>
+fn check_keys(document: &Table) -> Result<(), Stop<Refused>>
     ensures { Tests 1 (BreaksRootKeys (table_view document.now)) result }
 {
     if has_only_keys(
@@ -63,7 +64,7 @@ fn check_keys(document: &Table) -> Result<(), Refused>
 }
 
 /// How many units fly.
-fn units_of(document: &Table) -> Result<u8, Refused>
+fn units_of(document: &Table) -> Result<u8, Stop<Refused>>
     ensures units { IfOk result (λ units. units_of (table_view document.now) ≡ Some units) }
     ensures tests { Tests 2 (BreaksUnits (table_view document.now)) result }
 {
@@ -74,7 +75,7 @@ fn units_of(document: &Table) -> Result<u8, Refused>
 }
 
 /// How many frames are flown.
-fn frames_of(document: &Table) -> Result<u32, Refused>
+fn frames_of(document: &Table) -> Result<u32, Stop<Refused>>
     ensures frames { IfOk result (λ frames. frames_of (table_view document.now) ≡ Some frames) }
     ensures tests { Tests 3 (BreaksFrames (table_view document.now)) result }
 {
@@ -82,7 +83,7 @@ fn frames_of(document: &Table) -> Result<u32, Refused>
 }
 
 /// Tests the version, where it is stated.
-fn check_version(document: &Table) -> Result<(), Refused>
+fn check_version(document: &Table) -> Result<(), Stop<Refused>>
     ensures { Tests 4 (BreaksVersion (table_view document.now)) result }
 {
     match optional_between(document, "version", 1, 1) {
@@ -92,7 +93,7 @@ fn check_version(document: &Table) -> Result<(), Refused>
 }
 
 /// How many subframes a frame has, where it is stated.
-fn subframes_of(document: &Table) -> Result<Option<u32>, Refused>
+fn subframes_of(document: &Table) -> Result<Option<u32>, Stop<Refused>>
     ensures subframes { IfOk result (λ subframes. (unstated : ℕ) →
         period_or unstated (table_view document.now) ≡ Some (unwrap_or subframes unstated)) }
     ensures tests { Tests 5 (BreaksSubframes (table_view document.now)) result }

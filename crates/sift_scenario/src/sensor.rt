@@ -11,7 +11,7 @@ ghost use Rattle.sift_scenario.specs.Testing.{Tests, TestsEach};
 use crate::entries::{entries_between, names_in, tables_in};
 use crate::refused::{Refused, broken};
 use crate::value::{member_of, word_value};
-use sift_base::{Name, NoMemory, Word};
+use sift_base::{Name, NoMemory, Stop, Word};
 use std::alloc::Global;
 use toml::{Table, Value};
 
@@ -23,7 +23,7 @@ pub(crate) struct Sensors {
 }
 
 /// The sensors of a document, which may have none.
-pub(crate) fn sensors_of(alloc: Global, document: &Table) -> Result<Sensors, Refused>
+pub(crate) fn sensors_of(alloc: Global, document: &Table) -> Result<Sensors, Stop<Refused>>
     ensures read { IfOk result (AreSensorsOf (table_view document.now)) }
     ensures tests { TestsEach (sensor_rules (sensor_value (table_view document.now))) result }
 {
@@ -37,7 +37,7 @@ pub(crate) fn sensors_of(alloc: Global, document: &Table) -> Result<Sensors, Ref
 }
 
 /// The sensors that the value of `sensor` states.
-fn stated_sensors(alloc: Global, value: &Value) -> Result<Sensors, Refused>
+fn stated_sensors(alloc: Global, value: &Value) -> Result<Sensors, Stop<Refused>>
     ensures read { IfOk result (AreSensorsIn (sensors_in (Some (view value.now)))) }
     ensures tests { TestsEach (sensor_rules (Some (view value.now))) result }
 {
@@ -48,7 +48,7 @@ fn stated_sensors(alloc: Global, value: &Value) -> Result<Sensors, Refused>
 }
 
 /// The tables of the sensors.
-fn sensor_tables(alloc: Global, value: &Value) -> Result<Vec<&Table>, Refused>
+fn sensor_tables(alloc: Global, value: &Value) -> Result<Vec<&Table>, Stop<Refused>>
     ensures tables { IfOk result (λ tables.
         map (λ sensor. table_view sensor.now) tables.items ≡ sensors_in (Some (view value.now))) }
     ensures few { IfOk result (λ tables. length tables.items ≤ sensor_limit) }
@@ -59,7 +59,7 @@ fn sensor_tables(alloc: Global, value: &Value) -> Result<Vec<&Table>, Refused>
 }
 
 /// The words of each sensor.
-fn sensed_words(alloc: Global, tables: &[&Table]) -> Result<Vec<Vec<Word>>, Refused>
+fn sensed_words(alloc: Global, tables: &[&Table]) -> Result<Vec<Vec<Word>>, Stop<Refused>>
     requires { length tables.now < 2 ^ 32 }
     ensures words { IfOk result (λ words.
         map (λ list. Some list.items) words.items ≡ map (λ sensor. words_of (table_view sensor.now)) tables.now) }

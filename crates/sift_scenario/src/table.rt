@@ -17,7 +17,7 @@ ghost use Rattle.sift_scenario.specs.Testing.{Tests, TestsEach};
 use crate::entries::entries_between;
 use crate::refused::{Refused, broken};
 use crate::value::{digit_lists, member_of, number_at, subframes, table_of};
-use sift_base::NoMemory;
+use sift_base::{NoMemory, Stop};
 use sift_table::{Table, plain_table};
 use std::alloc::Global;
 use toml::Value;
@@ -30,7 +30,7 @@ pub(crate) fn tables_of(
     units: u8,
     period: u8,
     tasks: u8,
-) -> Result<Vec<Table>, Refused>
+) -> Result<Vec<Table>, Stop<Refused>>
     requires enough_units { least_units ≤ units }
     requires few_units { units ≤ unit_limit }
     requires few_tasks { tasks ≤ task_limit }
@@ -59,7 +59,12 @@ fn all_plain(alloc: Global, units: u8, period: u8, tasks: u8) -> Result<Vec<Tabl
 }
 
 /// The tables that the value of `table` states.
-fn stated_tables(alloc: Global, value: &Value, units: u8, period: u8) -> Result<Vec<Table>, Refused>
+fn stated_tables(
+    alloc: Global,
+    value: &Value,
+    units: u8,
+    period: u8,
+) -> Result<Vec<Table>, Stop<Refused>>
     requires enough_units { least_units ≤ units }
     requires few_units { units ≤ unit_limit }
     ensures read { IfOk result (λ tables.
@@ -72,7 +77,7 @@ fn stated_tables(alloc: Global, value: &Value, units: u8, period: u8) -> Result<
 }
 
 /// The tables in the value of `table`, one for each size.
-fn sized_tables(alloc: Global, value: &Value, units: u8) -> Result<Vec<&toml::Table>, Refused>
+fn sized_tables(alloc: Global, value: &Value, units: u8) -> Result<Vec<&toml::Table>, Stop<Refused>>
     requires enough_units { least_units ≤ units }
     requires few_units { units ≤ unit_limit }
     ensures tables { IfOk result (λ tables.
@@ -87,7 +92,7 @@ fn sized_tables(alloc: Global, value: &Value, units: u8) -> Result<Vec<&toml::Ta
 }
 
 /// The tables that these entries are, each of the size that its place tells.
-fn entries_by_size(alloc: Global, entries: &[Value]) -> Result<Vec<&toml::Table>, Refused>
+fn entries_by_size(alloc: Global, entries: &[Value]) -> Result<Vec<&toml::Table>, Stop<Refused>>
     requires { length entries.now ≤ unit_limit }
     ensures tables { IfOk result (λ tables.
         map (λ table. table_view table.now) tables.items ≡ map (λ entry. members_of (view entry)) entries.now) }
@@ -120,7 +125,7 @@ fn sized_table(entry: &Value, place: usize) -> Option<&toml::Table>
 }
 
 /// Tests that each table says when the tasks are run and polled.
-fn check_times(alloc: Global, tables: &[&toml::Table]) -> Result<(), Refused>
+fn check_times(alloc: Global, tables: &[&toml::Table]) -> Result<(), Stop<Refused>>
     requires { length tables.now ≤ unit_limit }
     ensures { Tests 24 (BreaksTimes (map (λ table. table_view table.now) tables.now)) result }
 {
@@ -143,7 +148,11 @@ fn is_timeless(alloc: Global, table: &toml::Table) -> Result<bool, NoMemory>
 }
 
 /// The schedules that these tables state, for frames of so many subframes.
-fn read_tables(alloc: Global, tables: &[&toml::Table], period: u8) -> Result<Vec<Table>, Refused>
+fn read_tables(
+    alloc: Global,
+    tables: &[&toml::Table],
+    period: u8,
+) -> Result<Vec<Table>, Stop<Refused>>
     requires few { length tables.now ≤ unit_limit }
     requires sized { All (λ table. size_of (table_view table.now) ≢ None) tables.now }
     requires timed { IsKept (rule 24 (BreaksTimes (map (λ table. table_view table.now) tables.now))) }

@@ -1,6 +1,7 @@
 //! The trees, the code and the start words of the tasks.
 
 ghost use Rattle.std.specs.Prelude.{◌≡◌, ◌≢◌, ◌<◌, ◌≤◌, ◌^◌, IfErr, IfOk, IsOk, length, map};
+ghost use Rattle.sift_base.specs.Stop.{IfRefused};
 ghost use Rattle.std.specs.List.{flat_map, sum};
 ghost use Rattle.sift_code.specs.Bound.{bound_of};
 ghost use Rattle.sift_compile.specs.Length.{task_steps};
@@ -18,7 +19,7 @@ ghost use Rattle.sift_scenario.specs.Testing.{AreTurns, IsCodeStop, form_of};
 
 use crate::refused::{Refused, code_refused, text_refused};
 use crate::task::{Form, Starts};
-use sift_base::{Name, NoMemory, Word};
+use sift_base::{Name, NoMemory, Stop, Word};
 use sift_code::Checked;
 use sift_compile::compile;
 use sift_lang::{Expr, Op, Stmt, Task};
@@ -81,7 +82,7 @@ pub(crate) fn compile_tasks(
     names: &mut Names,
     sensors: u8,
     words: u8,
-) -> Result<Compiled, Refused>
+) -> Result<Compiled, Stop<Refused>>
     requires few { length forms.now ≤ task_limit }
     requires turns { AreTurns (length forms.now) (roll_of names.old) }
     requires words { words ≡ sum (roll_of names.old).sizes }
@@ -91,8 +92,8 @@ pub(crate) fn compile_tasks(
     ensures allowed { IfOk result (λ compiled. AreAllowed (map tree_of compiled.trees.items)) }
     ensures codes { IfOk result (λ compiled.
         AreCodesOf sensors words (map tree_of compiled.trees.items) compiled.codes.items) }
-    ensures refused { IfErr result (λ refused. refused ≢ Refused.NoMemory →
-        IsFirstRefused (roll_of names.old) (map form_of forms.now) refused) }
+    ensures refused { IfErr result (IfRefused (
+        IsFirstRefused (roll_of names.old) (map form_of forms.now))) }
 {
     let mut trees = Vec::new(alloc);
     let mut codes = Vec::new(alloc);
@@ -126,7 +127,7 @@ struct Room {
 }
 
 /// The code of a tree that has so much room.
-fn tree_code(alloc: Global, tree: &Task, task: usize, room: Room) -> Result<Checked, Refused>
+fn tree_code(alloc: Global, tree: &Task, task: usize, room: Room) -> Result<Checked, Stop<Refused>>
     requires task { task < 2 ^ 32 }
     requires sound { IsSound room.sensors room.words (tree_of tree.now) }
     requires left { room.left ≤ step_limit }
@@ -142,11 +143,11 @@ fn tree_code(alloc: Global, tree: &Task, task: usize, room: Room) -> Result<Chec
 }
 
 /// The tree of a task of this form, where it is its turn.
-fn form_tree(alloc: Global, form: &Form<'_>, names: &Names) -> Result<Task, Refused>
+fn form_tree(alloc: Global, form: &Form<'_>, names: &Names) -> Result<Task, Stop<Refused>>
     requires { AreNames (roll_of names.now) }
     ensures tree { IfOk result (λ task. IsTreeOf (roll_of names.now) (form_of form.now) (tree_of task)) }
-    ensures refused { IfErr result (λ refused. refused ≢ Refused.NoMemory
-        → IsNoTask (roll_of names.now) (roll_of names.now).this (form_of form.now) refused) }
+    ensures refused { IfErr result (IfRefused (
+        IsNoTask (roll_of names.now) (roll_of names.now).this (form_of form.now))) }
 {
     match form {
         Form::Linear { factor, addend } => {

@@ -6,7 +6,7 @@ ghost use Rattle.sift_scenario.specs.Mission.{IsMission};
 ghost use Rattle.sift_mission.specs.Parts.{data_of};
 
 use crate::law::drawn_trees_are_missions;
-use sift_base::NoMemory;
+use sift_base::{NoMemory, Stop};
 use sift_gen::scenario_tree;
 use sift_scenario::{Refused, mission_of};
 use sift_mission::Mission;
@@ -22,16 +22,16 @@ pub fn drawn_mission(alloc: Global, number: u64) -> Result<Mission, NoMemory>
     drawn_trees_are_missions();
     match mission_of(alloc, &tree) {
         Ok(mission) => Ok(mission),
-        Err(refused) => Err(wanting(refused)),
+        Err(why) => Err(wanting(why)),
     }
 }
 
-/// The want of memory that a refusal is, where it is no other.
-fn wanting(refused: Refused) -> NoMemory
-    requires { refused ≡ Refused.NoMemory }
+/// The want of memory for which there is no mission, where nothing is refused.
+fn wanting(why: Stop<Refused>) -> NoMemory
+    requires { why ≡ Stop.NoMemory }
 {
-    match refused {
-        Refused::NoMemory => NoMemory,
-        _ => unreachable!(),
+    match why {
+        Stop::NoMemory => NoMemory,
+        Stop::Refused(_) => unreachable!(),
     }
 }

@@ -1,7 +1,5 @@
-use Rattle.sift_run.proofs.OneText.{one_text}
+use Rattle.sift_run.proofs.Before.{one_text}
 use Rattle.sift_run.proofs.law.one_text.Goals as goal
 
 pub returns : goal.returns
-returns c =
-    one_text c.one_mission.ensures c.fitting_parts_make_a_flight.ensures c.round_flights_are_alike.ensures
-    c.alike_flights_have_one_text.ensures
+returns c = one_text c.commands_give_one.ensures

@@ -2,7 +2,8 @@ use Rattle.std.proofs.Common.{◌≡◌, Err, rules, map, length, sym, subst, �
 use Rattle.std.proofs.lemmas.List.{length-map}
 use Rattle.sift_lang.specs.Tree.{tree_of}
 use Rattle.sift_parse.specs.Roll.{Roll, roll_of}
-use Rattle.sift_scenario.proofs.Read.{length_is, refused_from, roll_read, running_from, sensors_few, turns_are, words_are, words_few}
+use Rattle.sift_scenario.proofs.Order.{refused_from}
+use Rattle.sift_scenario.proofs.Read.{length_is, roll_read, running_from, sensors_few, task_refused, turns_are, words_are, words_few}
 use Rattle.sift_scenario.specs.Program.{AreTreesOf}
 use Rattle.sift_scenario.specs.Refusal.{IsFirstRefused}
 use Rattle.sift_scenario.specs.Testing.{AreTurns, form_of}
@@ -47,9 +48,9 @@ returns-in_err-compiled-clause-refused c =
     let same : c.from_residual-in_err-compiled.result ≡ Err c.in_err-compiled.field-0.0 = search rules in
     let roll : roll_of c.in_ok-names.names ≡ roll_read c.args.entries.now =
     rw (c.deref.ensures.value, c.deref-2.ensures.value, c.deref-3.ensures.value) at c.in_ok-names.ensures in
-    rw same (λ document read. refused_from document c.args.entries.now read _
-    (λ some. subst (λ (r : Roll). IsFirstRefused r (map form_of c.args.entries.now.tasks.forms.items) c.in_err-compiled.field-0.0) roll
-    (rw c.deref-5.ensures.value at c.in_err-compiled.ensures.refused some)))
+    rw same (λ document read. refused_from _ _ c.in_err-compiled.field-0.0 (λ refused first. task_refused document c.args.entries.now read refused
+    (subst (λ (r : Roll). IsFirstRefused r (map form_of c.args.entries.now.tasks.forms.items) refused) roll first))
+    (rw c.deref-5.ensures.value at c.in_err-compiled.ensures.refused))
 
 -- there is a program
 pub returns-clause-running : goal.returns-clause-running

@@ -6,6 +6,7 @@ use Rattle.sift_parse.specs.Outcome.{AreNames}
 use Rattle.sift_parse.specs.Roll.{Roll, roll_of}
 use Rattle.sift_parse.specs.declared.names.Names.{Names}
 use Rattle.sift_scenario.proofs.Codes.{allowed_more, codes_more, left_more, sound_form}
+use Rattle.sift_scenario.proofs.Order.{refused_from}
 use Rattle.sift_scenario.proofs.Places.{matches_more, taken}
 use Rattle.sift_scenario.proofs.Turns.{code_first, same_turn, text_first}
 use Rattle.sift_scenario.specs.Program.{IsTreeOf, turn_of}
@@ -24,11 +25,11 @@ pub returns-in_err-tree-clause-refused : goal.returns-in_err-tree-clause-refused
 returns-in_err-tree-clause-refused c =
     let same : c.from_residual.result ≡ Err c.in_err-tree.field-0.0 = search rules in
     let turn = same_turn c.loop-task.names c.args.names.now c.loop-task.task c.loop-task.invariant.1 c.loop-task.invariant.2 in
-    rw same (λ some. text_first (roll_of c.args.names.now) (map form_of c.args.forms.now) (map tree_of c.loop-task.trees.items)
-    c.loop-task.task (form_of c.index-forms-task.result) _ (length-map c.loop-task.trees.items tree_of ∙ c.loop-task.invariant.0)
+    rw same (refused_from _ _ c.in_err-tree.field-0.0 (λ refused none. text_first (roll_of c.args.names.now) (map form_of c.args.forms.now) (map tree_of c.loop-task.trees.items)
+    c.loop-task.task (form_of c.index-forms-task.result) refused (length-map c.loop-task.trees.items tree_of ∙ c.loop-task.invariant.0)
     c.loop-task.invariant.3 c.loop-task.invariant.4
     (taken form_of c.args.forms.now c.loop-task.task _ c.loop-task-test.true c.index-forms-task.is)
-    (subst (λ (roll : Roll). IsNoTask roll c.loop-task.task (form_of c.index-forms-task.result) c.in_err-tree.field-0.0) turn (c.in_err-tree.ensures.refused some)))
+    (subst (λ (roll : Roll). IsNoTask roll c.loop-task.task (form_of c.index-forms-task.result) refused) turn none)) c.in_err-tree.ensures.refused)
 
 -- its tree is sound
 pub tree_code-requires-clause-sound : goal.tree_code-requires-clause-sound
@@ -46,13 +47,13 @@ pub returns-in_err-code-clause-refused : goal.returns-in_err-code-clause-refused
 returns-in_err-code-clause-refused c =
     let same : c.from_residual-in_err-code.result ≡ Err c.in_err-code.field-0.0 = search rules in
     let turn = same_turn c.loop-task.names c.args.names.now c.loop-task.task c.loop-task.invariant.1 c.loop-task.invariant.2 in
-    rw same (λ some. code_first (roll_of c.args.names.now) (map form_of c.args.forms.now) (map tree_of c.loop-task.trees.items)
-    c.loop-task.task (form_of c.index-forms-task.result) _ (length-map c.loop-task.trees.items tree_of ∙ c.loop-task.invariant.0)
+    rw same (refused_from _ _ c.in_err-code.field-0.0 (λ refused over. code_first (roll_of c.args.names.now) (map form_of c.args.forms.now) (map tree_of c.loop-task.trees.items)
+    c.loop-task.task (form_of c.index-forms-task.result) refused (length-map c.loop-task.trees.items tree_of ∙ c.loop-task.invariant.0)
     c.loop-task.invariant.3 c.loop-task.invariant.4
     (taken form_of c.args.forms.now c.loop-task.task _ c.loop-task-test.true c.index-forms-task.is)
     (tree_of c.in_ok-tree.tree)
     (subst (λ (roll : Roll). IsTreeOf roll (form_of c.index-forms-task.result) (tree_of c.in_ok-tree.tree)) turn c.in_ok-tree.ensures.tree)
-    some (rw c.loop-task.invariant.5 at c.in_err-code.ensures.refused))
+    over) (rw c.loop-task.invariant.5 at c.in_err-code.ensures.refused))
 
 -- a task more has a tree, and code that is allowed
 pub loop-task-preserved : goal.loop-task-preserved

@@ -1,0 +1,58 @@
+-- All flights of a mission have one text of each kind.
+use Rattle.std.proofs.Common.{◌≡◌, ℕ, ◌<◌, List, refl, sym, ◌∙◌, ap, subst, arith}
+use Rattle.sift_flight.specs.Alike.{RoundFlightsAreAlike}
+use Rattle.sift_flight.specs.Flight.{Flight}
+use Rattle.sift_flight.specs.Hearing.{no_strays}
+use Rattle.sift_flight.specs.Round.{HasNoStorms}
+use Rattle.sift_gen.specs.Scenario.{tree_of}
+use Rattle.sift_gen.specs.Text.{OneTextOfANumber}
+use Rattle.sift_mission.specs.Data.{MissionData}
+use Rattle.sift_mission.specs.Flown.{flown}
+use Rattle.sift_mission.specs.PartsFit.{PartsFit}
+use Rattle.sift_mission.specs.Premises.{PartsMakeItFlyable}
+use Rattle.sift_reply.specs.Duty.{GivesOne}
+use Rattle.sift_reply.specs.Reply.{Reply, done}
+use Rattle.sift_report.specs.OneText.{AlikeFlightsHaveOneText, HaveOneText}
+use Rattle.sift_report.specs.Sheet.{end_of}
+use Rattle.sift_scenario.specs.Laws.{OneMission, StatedMissionsFit}
+use Rattle.sift_scenario.specs.Mission.{IsMission}
+use Rattle.sift_jobs.specs.Flights.{IsFlightOf}
+use Rattle.sift_jobs.specs.Gen.{gen_duty}
+use Rattle.sift_jobs.specs.Run.{RunGives}
+use Rattle.sift_jobs.specs.Trial.{TrialGives, trial_duty}
+use Rattle.sift_jobs.specs.Votes.{VotesGives}
+use Rattle.sift_jobs.specs.declared.run.RunJob.{RunJob}
+use Rattle.sift_jobs.specs.declared.scenario.GenJob.{GenJob}
+use Rattle.sift_jobs.specs.declared.trial.TrialJob.{TrialJob}
+use Rattle.sift_jobs.specs.declared.votes.VotesJob.{VotesJob}
+
+-- a mission whose parts fit has no storm
+calm : (d : MissionData) → PartsFit d → HasNoStorms (flown d)
+calm d fits u there = rw (fits.script.calm u) refl
+
+module _ (flies : PartsMakeItFlyable) (alike : RoundFlightsAreAlike) (texts : AlikeFlightsHaveOneText) where
+  -- two flights of a mission have one text of each kind
+  one_flight : (d : MissionData) (fl gl : Flight) → PartsFit d → IsFlightOf d fl → IsFlightOf d gl → HaveOneText d fl gl
+  one_flight d fl gl fits one other =
+      let some : 0 < d.frames = omega (arith, fits.limits.some_frame) in
+      texts d fl gl some (alike (flown d) no_strays no_strays fl gl (flies d fits).0 (calm d fits) some one other)
+
+  -- so `run` gives one report for a mission that fits
+  pub one_report : (job : RunJob) (d : MissionData) (one other : Reply) → PartsFit d → RunGives job d one → RunGives job d other → one ≡ other
+  one_report job d one other fits (fl, flies, is) (gl, flies', is') = is ∙ (ap done (one_flight d fl gl fits flies flies').report ∙ sym is')
+
+  -- and `votes` one text of votes
+  pub one_votes : (job : VotesJob) (d : MissionData) (one other : Reply) → PartsFit d → VotesGives job d one → VotesGives job d other → one ≡ other
+  one_votes job d one other fits (fl, flies, is) (gl, flies', is') = is ∙ (ap done (one_flight d fl gl fits flies flies').votes ∙ sym is')
+
+  -- and `trial` one last line for a number
+  pub one_end : OneMission → StatedMissionsFit → (job : TrialJob) → GivesOne (trial_duty job)
+  one_end mission fit job bytes one other (d, fl, states, flies, is) (e, gl, states', flies', is') =
+      let same : e ≡ d = mission (tree_of job.number) e d states' states in
+      let here : IsFlightOf d gl = subst (λ (m : MissionData). IsFlightOf m gl) same flies' in
+      let theirs : other ≡ done (end_of (flown d) gl) = subst (λ (m : MissionData). other ≡ done (end_of (flown m) gl)) same is' in
+      is ∙ (ap done (one_flight d fl gl (fit (tree_of job.number) d states) flies here).end ∙ sym theirs)
+
+-- a number has one text
+pub one_scenario : OneTextOfANumber → (job : GenJob) → GivesOne (gen_duty job)
+one_scenario texts job bytes one other (text, is_text, is) (text', is_text', is') = is ∙ (ap done (texts job.number text text' is_text is_text') ∙ sym is')

@@ -1,0 +1,31 @@
+-- The headline holds of the report that `run` gives.
+use Rattle.std.proofs.Common.{◌≡◌, inl, inr, ℕ, List, sym, ap, ◌∙◌, arith}
+use Rattle.sift_flight.specs.Hearing.{no_strays}
+use Rattle.sift_load.specs.NoMission.{reply_to}
+use Rattle.sift_load.specs.declared.no_mission.NoMission.{NoMission}
+use Rattle.sift_load.specs.declared.no_mission.NoMission.TheVariants.{NotADocument, Refused}
+use Rattle.sift_reply.specs.Reply.{Reply, done_status}
+use Rattle.sift_report.specs.Printed.{HeadlineIsPrinted}
+use Rattle.sift_scenario.specs.Laws.{StatedMissionsFit}
+use Rattle.sift_scenario.specs.declared.refused.Refused.TheVariants.{Scenario, Task, Table, Script}
+use Rattle.sift_jobs.specs.Headline.{IsHeadlined, RunIsHeadlined}
+
+-- no reply to bytes that state no mission has the status 0
+not_done : (why : NoMission) → (reply_to why).status ≡ done_status → ⊥
+not_done NotADocument is = omega (arith, is)
+not_done (Refused (Scenario rule place)) is = omega (arith, is)
+not_done (Refused (Task task kind at)) is = omega (arith, is)
+not_done (Refused (Table size row rule)) is = omega (arith, is)
+not_done (Refused (Script entry rule)) is = omega (arith, is)
+
+pub headlined : StatedMissionsFit → HeadlineIsPrinted → RunIsHeadlined
+headlined fit printed job bytes reply (inl (mission, states, (flight, flies, is))) status = record {
+  mission = mission;
+  flight = flight;
+  stated = states;
+  flies = flies;
+  told = ap (λ (r : Reply). r.text) is;
+  headline = printed mission no_strays flight (fit states.0 mission states.2) flies;
+}
+headlined fit printed job bytes reply (inr (why, none, is)) status =
+    absurd (not_done why (sym (ap (λ (r : Reply). r.status) is) ∙ status))

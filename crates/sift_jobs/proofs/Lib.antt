@@ -1,0 +1,4 @@
+pub mod Alike
+pub mod Both
+pub mod Headlined
+pub mod Statuses

@@ -1,0 +1,7 @@
+use Rattle.sift_jobs.proofs.Alike.{one_report}
+use Rattle.sift_jobs.proofs.law.run_gives_one.Goals as goal
+
+pub returns : goal.returns
+returns c = λ job.
+    c.loading_gives_one.ensures job
+    (one_report c.fitting_parts_make_a_flight.ensures c.round_flights_are_alike.ensures c.alike_flights_have_one_text.ensures job)

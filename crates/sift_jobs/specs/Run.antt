@@ -1,0 +1,28 @@
+-- The command `run`: the report of a flight.
+use Rattle.std.specs.Prelude.{ℕ, ◌≡◌, Option, option_map}
+use Rattle.sift_flight.specs.Flight.{Flight}
+use Rattle.sift_load.specs.Loads.{mission_duty}
+use Rattle.sift_mission.specs.Data.{MissionData}
+use Rattle.sift_mission.specs.Flown.{flown}
+use Rattle.sift_options.specs.declared.setting.Options.{Options}
+use Rattle.sift_reply.specs.Duty.{Duty}
+use Rattle.sift_reply.specs.Reply.{Reply, done}
+use Rattle.sift_report.specs.Sheet.{report_of}
+use Rattle.sift_jobs.specs.Flights.{IsFlightOf, order_of}
+use Rattle.sift_jobs.specs.declared.run.RunJob.{RunJob}
+
+-- a run whose units step in this order
+abbrev pub run_in : (order : ℕ) → RunJob
+run_in order = record { order = order }
+
+-- what options ask for
+abbrev pub run_job_of : Options → Option RunJob
+run_job_of options = option_map run_in (order_of options)
+
+-- the report of a flight of the mission, whatever the order
+abbrev pub RunGives : RunJob → MissionData → Reply → Type 0
+RunGives job mission came = (flight : Flight) × IsFlightOf mission flight × (came ≡ done (report_of (flown mission) flight))
+
+-- what it has to do
+abbrev pub run_duty : RunJob → Duty
+run_duty job = mission_duty (RunGives job)

@@ -1,0 +1,33 @@
+//! Flights of missions, and the options that ask for one.
+
+ghost use Rattle.std.specs.Prelude.{◌≡◌, IfOk};
+ghost use Rattle.sift_flight.specs.Told.{IsWhole, told};
+ghost use Rattle.sift_jobs.specs.Flights.{IsFlightOf, order_of};
+ghost use Rattle.sift_mission.specs.Parts.{data_of, flown_of};
+
+use sift_base::NoMemory;
+use sift_core::fly;
+use sift_flight::{Flight, round_flights_are_whole};
+use sift_mission::Mission;
+use sift_options::Options;
+use std::alloc::Global;
+
+/// The order number that the options of a flight give, 0 where none does.
+pub(crate) fn order_of(options: Options) -> Option<u64>
+    ensures { result ≡ order_of options }
+{
+    match options.number {
+        None => Some(options.order.unwrap_or(0)),
+        Some(_) => None,
+    }
+}
+
+/// A flight of the mission. All orders of steps give flights that tell the same.
+pub(crate) fn flight_of(alloc: Global, mission: &Mission, order: u64) -> Result<Flight, NoMemory>
+    ensures whole { IfOk result (IsWhole (flown_of mission.now) mission.now.layout) }
+    ensures round { IfOk result (λ flight. IsFlightOf (data_of mission.now) (told (flown_of mission.now) flight)) }
+{
+    mission.parts();
+    round_flights_are_whole();
+    fly(alloc, mission, order)
+}

@@ -1,0 +1,129 @@
+//! The laws of the commands: each gives one reply, whose status is its own.
+
+ghost use Rattle.std.specs.Prelude.{[], ◌∷◌, ◌++◌};
+ghost use Rattle.sift_jobs.specs.Check.{check_duty};
+ghost use Rattle.sift_jobs.specs.Gen.{gen_duty};
+ghost use Rattle.sift_jobs.specs.Headline.{RunIsHeadlined};
+ghost use Rattle.sift_jobs.specs.Ideal.{ideal_duty};
+ghost use Rattle.sift_jobs.specs.Run.{run_duty};
+ghost use Rattle.sift_jobs.specs.Trial.{trial_duty};
+ghost use Rattle.sift_jobs.specs.Votes.{votes_duty};
+ghost use Rattle.sift_jobs.specs.declared.check.CheckJob.{CheckJob as Check};
+ghost use Rattle.sift_jobs.specs.declared.ideal.IdealJob.{IdealJob as Ideal};
+ghost use Rattle.sift_jobs.specs.declared.run.RunJob.{RunJob as Run};
+ghost use Rattle.sift_jobs.specs.declared.scenario.GenJob.{GenJob as Gen};
+ghost use Rattle.sift_jobs.specs.declared.trial.TrialJob.{TrialJob as Trial};
+ghost use Rattle.sift_jobs.specs.declared.votes.VotesJob.{VotesJob as Votes};
+ghost use Rattle.sift_load.specs.NoMission.{no_mission_statuses};
+ghost use Rattle.sift_reply.specs.Duty.{GivesOne, HasOwnStatuses};
+ghost use Rattle.sift_reply.specs.Reply.{done_status};
+
+use crate::check::CheckJob;
+use crate::ideal::IdealJob;
+use crate::run::RunJob;
+use crate::votes::VotesJob;
+use sift_flight::round_flights_are_alike;
+use sift_gen::one_text_of_a_number;
+use sift_load::{loading_gives_one, loading_has_own_statuses};
+use sift_mission::fitting_parts_make_a_flight;
+use sift_report::{alike_flights_have_one_text, the_headline_is_printed};
+use sift_scenario::{one_mission, stated_missions_fit};
+
+/// `run` ends with 0, or with the status of bytes that state no mission.
+pub fn run_has_own_statuses()
+    ensures { (job : Run) → HasOwnStatuses (run_duty job) (done_status ∷ no_mission_statuses) }
+{
+    loading_has_own_statuses::<RunJob>();
+}
+
+/// So does `votes`.
+pub fn votes_has_own_statuses()
+    ensures { (job : Votes) → HasOwnStatuses (votes_duty job) (done_status ∷ no_mission_statuses) }
+{
+    loading_has_own_statuses::<VotesJob>();
+}
+
+/// So does `ideal`.
+pub fn ideal_has_own_statuses()
+    ensures { (job : Ideal) → HasOwnStatuses (ideal_duty job) (done_status ∷ no_mission_statuses) }
+{
+    loading_has_own_statuses::<IdealJob>();
+}
+
+/// So does `check`.
+pub fn check_has_own_statuses()
+    ensures { (job : Check) → HasOwnStatuses (check_duty job) (done_status ∷ no_mission_statuses) }
+{
+    loading_has_own_statuses::<CheckJob>();
+}
+
+/// `gen` ends with 0.
+pub fn gen_has_own_statuses()
+    ensures { (job : Gen) → HasOwnStatuses (gen_duty job) (done_status ∷ []) }
+{}
+
+/// So does `trial`.
+pub fn trial_has_own_statuses()
+    ensures { (job : Trial) → HasOwnStatuses (trial_duty job) (done_status ∷ []) }
+{}
+
+/// `run` gives one reply to an input: the order of steps, and all else that a flight leaves open, shows in no report.
+pub fn run_gives_one()
+    ensures { (job : Run) → GivesOne (run_duty job) }
+{
+    loading_gives_one::<RunJob>();
+    fitting_parts_make_a_flight();
+    round_flights_are_alike();
+    alike_flights_have_one_text();
+}
+
+/// So does `votes`.
+pub fn votes_gives_one()
+    ensures { (job : Votes) → GivesOne (votes_duty job) }
+{
+    loading_gives_one::<VotesJob>();
+    fitting_parts_make_a_flight();
+    round_flights_are_alike();
+    alike_flights_have_one_text();
+}
+
+/// So does `ideal`.
+pub fn ideal_gives_one()
+    ensures { (job : Ideal) → GivesOne (ideal_duty job) }
+{
+    loading_gives_one::<IdealJob>();
+}
+
+/// So does `check`.
+pub fn check_gives_one()
+    ensures { (job : Check) → GivesOne (check_duty job) }
+{
+    loading_gives_one::<CheckJob>();
+}
+
+/// `gen` gives one reply: a number has one text.
+pub fn gen_gives_one()
+    ensures { (job : Gen) → GivesOne (gen_duty job) }
+{
+    one_text_of_a_number();
+}
+
+/// `trial` gives one reply: a number has one mission, of which all flights end alike.
+pub fn trial_gives_one()
+    ensures { (job : Trial) → GivesOne (trial_duty job) }
+{
+    one_mission();
+    stated_missions_fit();
+    fitting_parts_make_a_flight();
+    round_flights_are_alike();
+    alike_flights_have_one_text();
+}
+
+/// Where `run` ends with 0 its text is the report of a flight of the mission that the input states, and the headline holds
+/// of its lines.
+pub fn run_is_headlined()
+    ensures { RunIsHeadlined }
+{
+    stated_missions_fit();
+    the_headline_is_printed();
+}

@@ -1,0 +1,53 @@
+//! The command `run`.
+
+ghost use Rattle.std.specs.Prelude.{◌≡◌};
+ghost use Rattle.sift_jobs.specs.Run.{run_job_of};
+
+use crate::flight::{flight_of, order_of};
+use sift_base::NoMemory;
+use sift_load::{DOCUMENT_LIMIT, MissionJob, reply_for_bytes};
+use sift_mission::Mission;
+use sift_options::Options;
+use sift_reply::{Job, Reply};
+use sift_report::report_text;
+use std::alloc::Global;
+
+/// `run`: flies the mission that the input states, its units stepping in this order, and reports on it.
+#[derive(Clone, Copy)]
+pub struct RunJob {
+    pub order: u64,
+}
+
+impl RunJob {
+    /// What the options ask for.
+    pub fn of(options: Options) -> Option<RunJob>
+        ensures { result ≡ run_job_of options }
+    {
+        order_of(options).map(|order| RunJob { order })
+    }
+}
+
+impl MissionJob for RunJob {
+    ghost use Rattle.sift_jobs.specs.Run.{RunGives};
+
+    ghost gives_for = { RunGives };
+
+    fn reply_for(self, alloc: Global, mission: &Mission) -> Result<Reply, NoMemory> {
+        let flight = flight_of(alloc, mission, self.order)?;
+        Ok(Reply::done(report_text(alloc, mission, &flight)?))
+    }
+}
+
+impl Job for RunJob {
+    ghost use Rattle.sift_jobs.specs.Run.{run_duty};
+
+    ghost duty = { run_duty };
+
+    fn limit(self) -> Option<u32> {
+        Some(DOCUMENT_LIMIT)
+    }
+
+    fn reply(self, alloc: Global, bytes: &[u8]) -> Result<Reply, NoMemory> {
+        reply_for_bytes(alloc, self, bytes)
+    }
+}

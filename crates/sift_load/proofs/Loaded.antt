@@ -1,0 +1,83 @@
+-- Bytes state one mission, or none for one reason.
+use Rattle.std.proofs.Common.{◌≡◌, inl, inr, ℕ, List, ◌++◌, Contains, lit<, refl, sym, ap, ◌∙◌, subst, arith}
+use Rattle.std.proofs.lemmas.List.Elements.{Contains-append_left, Contains-append_right}
+use Rattle.toml.specs.Data.{Members}
+use Rattle.sift_mission.specs.Data.{MissionData}
+use Rattle.sift_reply.specs.Reply.{Reply, shared_statuses}
+use Rattle.sift_scenario.specs.Laws.{MissionsAreAccepted, OneMission, OneRefusal, StatedMissionsFit}
+use Rattle.sift_scenario.specs.Mission.{IsMission}
+use Rattle.sift_scenario.specs.Refusal.{IsRefusedWith}
+use Rattle.sift_scenario.specs.declared.refused.Refused.TheVariants.{Scenario, Task, Table, Script}
+use Rattle.sift_load.specs.Laws.{OneReplyIsGiven, StatusesAreOwn}
+use Rattle.sift_load.specs.Loads.{LoadsThen}
+use Rattle.sift_load.specs.Mission.{IsDocument, States, StatesNone}
+use Rattle.sift_load.specs.NoMission.{no_mission_statuses, reply_to}
+use Rattle.sift_load.specs.declared.no_mission.NoMission.{NoMission}
+use Rattle.sift_load.specs.declared.no_mission.NoMission.TheVariants.{NotADocument, Refused}
+
+-- a document has one tree
+one_tree : (bytes : List ℕ) (one other : Members) → IsDocument bytes one → IsDocument bytes other → one ≡ other
+one_tree bytes one other reads reads' = cc (reads.1, reads'.1)
+
+module _ (one_mission : OneMission) (fit : StatedMissionsFit) (accepted : MissionsAreAccepted) (one_refusal : OneRefusal) where
+  -- bytes state one mission
+  one_stated : (bytes : List ℕ) (one other : MissionData) → States bytes one → States bytes other → one ≡ other
+  one_stated bytes one other (tree, reads, states) (tree', reads', states') =
+      one_mission tree' one other (subst (λ (t : Members). IsMission t one) (one_tree bytes tree tree' reads reads') states) states'
+
+  -- bytes that state one aren't refused
+  stated_unrefused : (bytes : List ℕ) (mission : MissionData) (why : NoMission) → States bytes mission → ¬ StatesNone bytes why
+  stated_unrefused bytes mission NotADocument (tree, reads, states) none = none tree reads
+  stated_unrefused bytes mission (Refused reason) (tree, reads, states) (tree', reads', refused) =
+      accepted tree' mission reason (subst (λ (t : Members). IsMission t mission) (one_tree bytes tree tree' reads reads') states) refused
+
+  -- bytes are refused for one reason
+  one_reason : (bytes : List ℕ) (one other : NoMission) → StatesNone bytes one → StatesNone bytes other → one ≡ other
+  one_reason bytes NotADocument NotADocument none none' = refl
+  one_reason bytes NotADocument (Refused reason) none (tree, reads, refused) = absurd (none tree reads)
+  one_reason bytes (Refused reason) NotADocument (tree, reads, refused) none = absurd (none tree reads)
+  one_reason bytes (Refused one) (Refused other) (tree, reads, refused) (tree', reads', refused') =
+      ap Refused (one_refusal tree' one other (subst (λ (t : Members). IsRefusedWith t one) (one_tree bytes tree tree' reads reads') refused) refused')
+
+  -- so one reply is given
+  pub one_reply : (gives : MissionData → Reply → Type 0) → OneReplyIsGiven gives
+  one_reply gives alone bytes one other (inl (mission, states, given)) (inl (mission', states', given')) =
+      alone mission' one other (fit states'.0 mission' states'.2) (subst (λ (m : MissionData). gives m one) (one_stated bytes mission mission' states states') given) given'
+  one_reply gives alone bytes one other (inl (mission, states, given)) (inr (why, none, is)) = absurd (stated_unrefused bytes mission why states none)
+  one_reply gives alone bytes one other (inr (why, none, is)) (inl (mission, states, given)) = absurd (stated_unrefused bytes mission why states none)
+  one_reply gives alone bytes one other (inr (why, none, is)) (inr (why', none', is')) =
+      is ∙ (ap reply_to (one_reason bytes why why' none none') ∙ sym is')
+
+-- ---- statuses
+
+-- the reply to bytes that state no mission has one of its five statuses
+known : (why : NoMission) → Contains no_mission_statuses (reply_to why).status
+known NotADocument = (0, lit< tt, refl)
+known (Refused (Scenario rule place)) = (1, lit< tt, refl)
+known (Refused (Task task kind at)) = (2, lit< tt, refl)
+known (Refused (Table size row rule)) = (3, lit< tt, refl)
+known (Refused (Script entry rule)) = (4, lit< tt, refl)
+
+-- which aren't shared
+apart : (why : NoMission) → ¬ Contains shared_statuses (reply_to why).status
+apart NotADocument = grind arith
+apart (Refused (Scenario rule place)) = grind arith
+apart (Refused (Task task kind at)) = grind arith
+apart (Refused (Table size row rule)) = grind arith
+apart (Refused (Script entry rule)) = grind arith
+
+module _ (gives : MissionData → Reply → Type 0) (statuses : List ℕ)
+    (own : (mission : MissionData) (reply : Reply) → gives mission reply → Contains statuses reply.status × ¬ Contains shared_statuses reply.status) where
+  -- the reply that came is one for a mission, or to bytes that state none
+  among : (bytes : List ℕ) (reply : Reply) → LoadsThen gives bytes reply → Contains (statuses ++ no_mission_statuses) reply.status
+  among bytes reply (inl (mission, states, given)) = Contains-append_left statuses no_mission_statuses reply.status (own mission reply given).0
+  among bytes reply (inr (why, none, is)) =
+      Contains-append_right statuses no_mission_statuses reply.status
+      (subst (λ (r : Reply). Contains no_mission_statuses r.status) (sym is) (known why))
+
+  other : (bytes : List ℕ) (reply : Reply) → LoadsThen gives bytes reply → ¬ Contains shared_statuses reply.status
+  other bytes reply (inl (mission, states, given)) = (own mission reply given).1
+  other bytes reply (inr (why, none, is)) = subst (λ (r : Reply). ¬ Contains shared_statuses r.status) (sym is) (apart why)
+
+pub statuses_are_own : (gives : MissionData → Reply → Type 0) → StatusesAreOwn gives
+statuses_are_own gives statuses own = record { among = among gives statuses own; apart = other gives statuses own }

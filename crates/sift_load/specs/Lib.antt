@@ -1,0 +1,4 @@
+pub mod Mission
+pub mod NoMission
+pub mod Loads
+pub mod Laws

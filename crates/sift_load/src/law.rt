@@ -1,0 +1,21 @@
+//! The laws of loading.
+
+ghost use Rattle.sift_load.specs.Laws.{OneReplyIsGiven, StatusesAreOwn};
+
+use crate::mission_job::MissionJob;
+use sift_scenario::{missions_are_accepted, one_mission, one_refusal, stated_missions_fit};
+
+/// A job that gives one reply at most for a mission gives one to each input.
+pub fn loading_gives_one<J: MissionJob>()
+    ensures { (job : J) → OneReplyIsGiven (J.gives_for job) }
+{
+    one_mission();
+    stated_missions_fit();
+    missions_are_accepted();
+    one_refusal();
+}
+
+/// The statuses of a job are those that it gives for missions, and those of bytes that state none.
+pub fn loading_has_own_statuses<J: MissionJob>()
+    ensures { (job : J) → StatusesAreOwn (J.gives_for job) }
+{}

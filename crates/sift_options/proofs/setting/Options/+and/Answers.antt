@@ -1,0 +1,37 @@
+use Rattle.std.proofs.Common.{◌≡◌, length, map, string_bytes, Global, ◌≤◌, sym, subst, arith}
+use Rattle.std.proofs.lemmas.Bool.Decides.{nat_tests}
+use Rattle.std.proofs.lemmas.Option.{IfSome_then}
+use Rattle.sift_options.specs.Options.{Adds, more, none}
+use Rattle.sift_options.proofs.Settings.{begins, adds_nothing, same_some, some_or_none}
+use Rattle.sift_options.proofs.Words.{map-nothing, map-something}
+use Rattle.sift_options.proofs.setting.Options.+and.Goals as goal
+
+-- the first option sets nothing, so the words add nothing
+pub returns-in_err-with-in-Some-clause-exact : goal.returns-in_err-with-in-Some-clause-exact
+returns-in_err-with-in-Some-clause-exact n c = λ options adds.
+    let one = begins c.args.self options _ _ _ _ c.in-Some.ensures.found adds in
+    absurd (some_or_none _ (c.in_err-with-in-Some.ensures.exact one.after one.sets))
+
+-- the first option is set, and then the rest adds
+pub returns-in_ok-with-in-Some-clause-found : goal.returns-in_ok-with-in-Some-clause-found
+returns-in_ok-with-in-Some-clause-found n c =
+    IfSome_then c.and.result c.and.ensures.found (λ all adds. more _ _ _ _ _ _ _ c.in-Some.ensures.found c.in_ok-with-in-Some.ensures.found adds)
+
+pub returns-in_ok-with-in-Some-clause-exact : goal.returns-in_ok-with-in-Some-clause-exact
+returns-in_ok-with-in-Some-clause-exact n c = λ options adds.
+    let one = begins c.args.self options _ _ _ _ c.in-Some.ensures.found adds in
+    let set = same_some _ _ (c.in_ok-with-in-Some.ensures.exact one.after one.sets) in
+    c.and.ensures.exact options (subst (λ after. Adds after (map (string_bytes {Z = Global}) c.in-Some.setting.rest.now) options) (sym set) one.adds)
+
+-- there is no word
+pub returns-in-None-clause-found : goal.returns-in-None-clause-found
+returns-in-None-clause-found n c =
+    let empty : length c.args.words.now ≡ 0 = grind (arith, nat_tests, c.is_empty.ensures, c.if-is_empty.true) in
+    subst (λ words. Adds c.args.self words c.args.self) (sym (map-nothing (string_bytes {Z = Global}) c.args.words.now empty)) (none c.args.self)
+
+-- words that begin with no option add nothing
+pub returns-in-None-2-clause-exact : goal.returns-in-None-2-clause-exact
+returns-in-None-2-clause-exact n c = λ options adds.
+    let nothing = adds_nothing c.args.self options _ c.in-None-2.ensures.none adds in
+    let some : 1 ≤ length c.args.words.now = grind (arith, nat_tests, c.is_empty.ensures, c.if-is_empty.false) in
+    absurd (map-something (string_bytes {Z = Global}) c.args.words.now some nothing.0)

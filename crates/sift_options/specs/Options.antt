@@ -1,0 +1,81 @@
+-- The options of a command: how words give them.
+use Rattle.std.specs.Prelude.{codes, ℕ, ◌≡◌, ◌≤◌, ◌<◌, ◌+◌, ◌^◌, List, [], ◌∷◌, ◌++◌, ◌⊎◌, length, Option, Some, None}
+use Rattle.std.specs.Str.Parse.{AllDigits, digits_value}
+use Rattle.sift_options.specs.declared.setting.Flag.{Flag}
+use Rattle.sift_options.specs.declared.setting.Flag.TheVariants.{Workers, Order, Number}
+use Rattle.sift_options.specs.declared.setting.Options.{Options}
+
+-- ---- one option
+
+-- the name of an option
+abbrev pub name_of : Flag → List ℕ
+name_of Workers = codes "--workers"
+name_of Order = codes "--order"
+name_of Number = codes "--number"
+
+-- the most workers
+abbrev pub worker_limit : ℕ
+worker_limit = 1
+
+-- the most digits of a number
+abbrev pub digit_limit : ℕ
+digit_limit = 20
+
+-- the text is one digit that counts workers
+abbrev pub IsWorkerCount : List ℕ → ℕ → Type 0
+IsWorkerCount text n = (text ≡ (48 + n) ∷ []) × (1 ≤ n) × (n ≤ worker_limit)
+
+-- the text is the number in decimal digits, of which the first ones may be 0
+pub record IsNumber (text : List ℕ) (n : ℕ) : Type 0 where
+  pub digits : AllDigits 10 text
+  pub some : 1 ≤ length text
+  pub few : length text ≤ digit_limit
+  pub value : digits_value 10 text ≡ n
+  pub low : n < 2 ^ 64
+
+-- the text begins with a digit
+abbrev pub BeginsWithDigit : List ℕ → Type 0
+BeginsWithDigit [] = ⊥
+BeginsWithDigit (c ∷ cs) = (48 ≤ c) × (c ≤ 57)
+
+-- the text is a value of an option
+abbrev pub IsValue : Flag → List ℕ → ℕ → Type 0
+IsValue Workers text n = IsWorkerCount text n
+IsValue Order text n = IsNumber text n
+IsValue Number text n = IsNumber text n
+
+-- ---- options
+
+-- the number of an option, where it is given
+abbrev pub given : Options → Flag → Option ℕ
+given options Workers = options.workers
+given options Order = options.order
+given options Number = options.number
+
+-- no option is given
+abbrev pub no_options : Options
+no_options = record { workers = None; order = None; number = None }
+
+-- these options with the number of one
+abbrev pub with_given : Options → Flag → ℕ → Options
+with_given options Workers n = record options { workers = Some n }
+with_given options Order n = record options { order = Some n }
+with_given options Number n = record options { number = Some n }
+
+-- an option that wasn't given is set to what the text says, and the others stay
+abbrev pub Sets : Options → Flag → (value : List ℕ) → Options → Type 0
+Sets options flag value after = (n : ℕ) × IsValue flag value n × (given options flag ≡ None) × (after ≡ with_given options flag n)
+
+-- an option in one word, with its value behind an equality sign
+abbrev pub joined : Flag → (value : List ℕ) → List ℕ
+joined flag value = name_of flag ++ codes "=" ++ value
+
+-- the words begin with an option and its value, in two words or in one, and these are the words behind it
+abbrev pub BeginWith : (words : List (List ℕ)) → Flag → (value : List ℕ) → (rest : List (List ℕ)) → Type 0
+BeginWith words flag value rest = (words ≡ name_of flag ∷ value ∷ rest) ⊎ (words ≡ joined flag value ∷ rest)
+
+-- the words give options beside those that stand already, none of them a second time
+pub data Adds : Options → List (List ℕ) → Options → Type 0 where
+  none : (options : Options) → Adds options [] options
+  more : (options after all : Options) (flag : Flag) (value : List ℕ) (words rest : List (List ℕ)) →
+      BeginWith words flag value rest → Sets options flag value after → Adds after rest all → Adds options words all

@@ -1,0 +1,8 @@
+//! The options of a command line: how the words behind a command give them.
+#![tactic(auto)]
+
+mod law;
+mod setting;
+
+pub use law::one_list_of_options;
+pub use setting::Options;

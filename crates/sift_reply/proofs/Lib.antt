@@ -1,0 +1,4 @@
+pub mod Inputs
+pub mod Certain
+pub mod Own
+pub mod Explained

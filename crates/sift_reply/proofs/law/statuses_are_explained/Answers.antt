@@ -1,0 +1,6 @@
+use Rattle.sift_reply.specs.Promise.{commands_of}
+use Rattle.sift_reply.proofs.Explained.{statuses_are_explained}
+use Rattle.sift_reply.proofs.law.statuses_are_explained.Goals as goal
+
+pub returns : goal.returns
+returns g c = statuses_are_explained (commands_of g.C.Asked.asks g.C.Job.duty)

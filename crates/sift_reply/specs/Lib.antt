@@ -1,0 +1,6 @@
+pub mod Reply
+pub mod Duty
+pub mod Input
+pub mod Output
+pub mod Promise
+pub mod Laws

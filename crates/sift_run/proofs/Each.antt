@@ -1,0 +1,50 @@
+-- What holds of each command holds of all.
+use Rattle.std.proofs.Common.{[], ◌∷◌}
+use Rattle.sift_jobs.specs.Check.{check_duty}
+use Rattle.sift_jobs.specs.Gen.{gen_duty}
+use Rattle.sift_jobs.specs.Ideal.{ideal_duty}
+use Rattle.sift_jobs.specs.Run.{run_duty}
+use Rattle.sift_jobs.specs.Trial.{trial_duty}
+use Rattle.sift_jobs.specs.Votes.{votes_duty}
+use Rattle.sift_jobs.specs.declared.check.CheckJob.{CheckJob}
+use Rattle.sift_jobs.specs.declared.ideal.IdealJob.{IdealJob}
+use Rattle.sift_jobs.specs.declared.run.RunJob.{RunJob}
+use Rattle.sift_jobs.specs.declared.scenario.GenJob.{GenJob}
+use Rattle.sift_jobs.specs.declared.trial.TrialJob.{TrialJob}
+use Rattle.sift_jobs.specs.declared.votes.VotesJob.{VotesJob}
+use Rattle.sift_load.specs.NoMission.{no_mission_statuses}
+use Rattle.sift_reply.specs.Duty.{GivesOne, HasOwnStatuses}
+use Rattle.sift_reply.specs.Reply.{done_status}
+use Rattle.sift_run.specs.Command.{duty_of}
+use Rattle.sift_run.specs.Statuses.{CommandsHaveOwnStatuses}
+use Rattle.sift_run.specs.declared.command.Command.{Command}
+use Rattle.sift_run.specs.declared.command.Command.TheVariants as command
+
+module _
+    (run : (job : RunJob) → HasOwnStatuses (run_duty job) (done_status ∷ no_mission_statuses))
+    (votes : (job : VotesJob) → HasOwnStatuses (votes_duty job) (done_status ∷ no_mission_statuses))
+    (ideal : (job : IdealJob) → HasOwnStatuses (ideal_duty job) (done_status ∷ no_mission_statuses))
+    (check : (job : CheckJob) → HasOwnStatuses (check_duty job) (done_status ∷ no_mission_statuses))
+    (scenario : (job : GenJob) → HasOwnStatuses (gen_duty job) (done_status ∷ []))
+    (trial : (job : TrialJob) → HasOwnStatuses (trial_duty job) (done_status ∷ [])) where
+  -- the statuses of each command are its own
+  pub own_statuses : CommandsHaveOwnStatuses
+  own_statuses (command.Run job) = run job
+  own_statuses (command.Votes job) = votes job
+  own_statuses (command.Ideal job) = ideal job
+  own_statuses (command.Check job) = check job
+  own_statuses (command.Gen job) = scenario job
+  own_statuses (command.Trial job) = trial job
+
+module _
+    (run : (job : RunJob) → GivesOne (run_duty job)) (votes : (job : VotesJob) → GivesOne (votes_duty job))
+    (ideal : (job : IdealJob) → GivesOne (ideal_duty job)) (check : (job : CheckJob) → GivesOne (check_duty job))
+    (scenario : (job : GenJob) → GivesOne (gen_duty job)) (trial : (job : TrialJob) → GivesOne (trial_duty job)) where
+  -- each command gives one reply
+  pub gives_one : (one : Command) → GivesOne (duty_of one)
+  gives_one (command.Run job) = run job
+  gives_one (command.Votes job) = votes job
+  gives_one (command.Ideal job) = ideal job
+  gives_one (command.Check job) = check job
+  gives_one (command.Gen job) = scenario job
+  gives_one (command.Trial job) = trial job

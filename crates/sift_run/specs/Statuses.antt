@@ -1,0 +1,35 @@
+-- Which command may end with which status.
+use Rattle.std.specs.Prelude.{ℕ, List, [], ◌∷◌, ◌++◌, Contains}
+use Rattle.sift_load.specs.NoMission.{no_mission_statuses}
+use Rattle.sift_reply.specs.Duty.{HasOwnStatuses, shared_endings}
+use Rattle.sift_reply.specs.Input.{Input}
+use Rattle.sift_reply.specs.Output.{Output}
+use Rattle.sift_reply.specs.Promise.{IsAnswered, IsCommandLine}
+use Rattle.sift_reply.specs.Reply.{done_status, sink_fault_status, usage}
+use Rattle.sift_run.specs.Command.{Asks, commands, duty_of}
+use Rattle.sift_run.specs.declared.command.Command.{Command}
+use Rattle.sift_run.specs.declared.command.Command.TheVariants.{Run, Votes, Ideal, Check, Gen, Trial}
+
+-- the statuses of the replies that a command gives
+abbrev pub own_statuses : Command → List ℕ
+own_statuses (Run job) = done_status ∷ no_mission_statuses
+own_statuses (Votes job) = done_status ∷ no_mission_statuses
+own_statuses (Ideal job) = done_status ∷ no_mission_statuses
+own_statuses (Check job) = done_status ∷ no_mission_statuses
+own_statuses (Gen job) = done_status ∷ []
+own_statuses (Trial job) = done_status ∷ []
+
+-- they are its own
+abbrev pub CommandsHaveOwnStatuses : Type 0
+CommandsHaveOwnStatuses = (command : Command) → HasOwnStatuses (duty_of command) (own_statuses command)
+
+-- a command ends with a status of its own, or a shared one: one that reads also with those of a reader; words that are no command line
+-- end with `usage`, or a fault of the sink
+pub record IsKnown (words : List (List ℕ)) (status : ℕ) : Type 0 where
+  pub asked : (command : Command) → Asks words command → Contains (own_statuses command ++ shared_endings (duty_of command).limit) status
+  pub other : ¬ IsCommandLine commands words → Contains (usage.status ∷ sink_fault_status ∷ []) status
+
+-- so it is with each answer
+abbrev pub StatusesAreKnown : Type 0
+StatusesAreKnown = (words : List (List ℕ)) (input : Input) (output : Output) (status : ℕ) → IsAnswered commands words input output status
+    → IsKnown words status
