@@ -1,5 +1,3 @@
-pub mod Asking
-pub mod Before
 pub mod Each
 pub mod Headline
 pub mod One

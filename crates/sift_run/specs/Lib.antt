@@ -2,4 +2,3 @@ pub mod Verb
 pub mod Command
 pub mod Headline
 pub mod Statuses
-pub mod Before

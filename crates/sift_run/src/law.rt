@@ -2,7 +2,6 @@
 
 ghost use Rattle.sift_reply.specs.Duty.{GivesOne};
 ghost use Rattle.sift_reply.specs.Laws.{ShareNoStatus};
-ghost use Rattle.sift_run.specs.Before.{ItWasAnswered, OneDrawnText, OneText};
 ghost use Rattle.sift_run.specs.Command.{OneCommand, commands, duty_of};
 ghost use Rattle.sift_run.specs.Headline.{HeadlineIsWritten};
 ghost use Rattle.sift_run.specs.Statuses.{CommandsHaveOwnStatuses, StatusesAreKnown};
@@ -15,8 +14,7 @@ use sift_jobs::{
     trial_has_own_statuses, votes_gives_one, votes_has_own_statuses,
 };
 use sift_options::one_list_of_options;
-use sift_reply::{gives_one_owes_one, statuses_are_explained};
-use sift_scenario::stated_missions_fit;
+use sift_reply::statuses_are_explained;
 
 /// Words ask for one command at most.
 pub fn one_command()
@@ -67,31 +65,4 @@ pub fn statuses_are_known()
     one_command();
     commands_have_own_statuses();
     statuses_are_explained::<Command>();
-}
-
-/// What each status said before follows from the promise.
-pub fn it_was_answered()
-    ensures { ItWasAnswered }
-{
-    stated_missions_fit();
-    one_command();
-    commands_have_own_statuses();
-    commands_give_one();
-    gives_one_owes_one::<Command>();
-    statuses_are_explained::<Command>();
-    the_headline_is_written();
-}
-
-/// A command that reads made one text of an input.
-pub fn one_text()
-    ensures { OneText }
-{
-    commands_give_one();
-}
-
-/// A command that reads nothing made one text.
-pub fn one_drawn_text()
-    ensures { OneDrawnText }
-{
-    commands_give_one();
 }
