@@ -1,0 +1,6 @@
+pub mod Laboratory
+pub mod Conditions
+pub mod Rounds
+pub mod Showing
+pub mod Skew
+pub mod Pages

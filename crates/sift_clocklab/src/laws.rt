@@ -1,0 +1,9 @@
+//! The laws of a laboratory's clocks.
+
+ghost use Rattle.sift_clocklab.specs.Skew.{OffsetsAreKept};
+
+/// Whatever faulty clocks show, two working ones differ by at most the skew in every round, and none goes
+/// farther from 0 than the rounds let it.
+pub fn offsets_are_kept()
+    ensures { OffsetsAreKept }
+{}
