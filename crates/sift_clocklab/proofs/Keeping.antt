@@ -10,7 +10,7 @@ use Rattle.sift_skew.specs.Keeping.{AreWithin}
 use Rattle.sift_skew.proofs.Keeps.{skew_is_kept}
 use Rattle.sift_skew.proofs.Changes.{offsets_change_little}
 use Rattle.sift_clocklab.specs.Laboratory.{Laboratory, clocks_of, working_of, works, drift_of, noise_of, reading_limit}
-use Rattle.sift_clocklab.specs.Conditions.{AreOfClocks, AreTogether, IsReady, tick_limit}
+use Rattle.sift_clocklab.specs.Conditions.{AreOfClocks, AreTicks, AreTogether, IsReady, tick_limit}
 use Rattle.sift_clocklab.specs.Rounds.{offset_of, ticks_ahead, reading_of, offset_after, offsets_after, offsets_from}
 use Rattle.sift_clocklab.specs.Skew.{AreKept, farthest_after, OffsetsAreKept}
 use Rattle.sift_clocklab.proofs.Clocks.{has-range, few_faulty}
@@ -30,13 +30,22 @@ pub apart_near : (lab : Laboratory) (far : ℕ) (offsets : List ℤ) (q p : ℕ)
     → IsWithin lab.skew (offset_of offsets p) (offset_of offsets q)
 apart_near lab far offsets q p kept q_low p_low = (kept.together p q p_low q_low, kept.together q p q_low p_low)
 
--- and one reads the other no farther ahead than the limit of readings
-pub ticks_near : (lab : Laboratory) (far : ℕ) (offsets : List ℤ) (q p : ℕ) → IsReady lab → AreKept lab far offsets
-    → q < working_of lab → p < working_of lab → IsWithin (reading_limit lab) (ticks_ahead lab offsets q p) (pos 0)
-ticks_near lab far offsets q p ready kept q_low p_low =
-    let apart = apart_near lab far offsets q p kept q_low p_low in
-    let noise = noise_near lab q p ready q_low p_low in
-    (omega (arith, ints, apart, noise), omega (arith, ints, apart, noise))
+-- what a pair of working clocks differs by, and by how much one misreads the other
+pub record AreNear (lab : Laboratory) (offsets : List ℤ) (q p : ℕ) : Type 0 where
+  pub apart : IsWithin lab.skew (offset_of offsets p) (offset_of offsets q)
+  pub misread : IsWithin lab.error (noise_of lab q p) (pos 0)
+  pub small_skew : AreTicks lab.skew
+  pub small_error : AreTicks lab.error
+
+-- they are near, where the clocks are kept
+pub are_near : (lab : Laboratory) (far : ℕ) (offsets : List ℤ) (q p : ℕ) → IsReady lab → AreKept lab far offsets
+    → q < working_of lab → p < working_of lab → AreNear lab offsets q p
+are_near lab far offsets q p ready kept q_low p_low = record {
+  apart = apart_near lab far offsets q p kept q_low p_low;
+  misread = noise_near lab q p ready q_low p_low;
+  small_skew = ready.in_range.small_skew;
+  small_error = ready.in_range.small_error;
+}
 
 -- the offset of a working clock after a round is the one that it comes to
 pub offset-after : (lab : Laboratory) (offsets : List ℤ) (shown : List (Option ℤ)) (q : ℕ) → q < working_of lab

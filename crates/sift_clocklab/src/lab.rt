@@ -66,3 +66,24 @@ impl Lab {
         self.noise[usize::from(own)][usize::from(other)]
     }
 }
+
+impl LabRun {
+    ghost use Rattle.std.specs.Prelude.{[], length, slice_index_or};
+    ghost use Rattle.sift_clocklab.specs.Laboratory.{run_of};
+
+    /// How many rounds were run.
+    pub(crate) fn rounds(&self) -> usize
+        ensures { result ≡ length (run_of self.now).shown }
+    {
+        self.shown.len()
+    }
+
+    /// The offsets after the latest round, or at the start.
+    pub(crate) fn latest(&self) -> &[i64]
+        requires { length (run_of self.now).shown < length (run_of self.now).offsets }
+        ensures { result.now
+            ≡ slice_index_or (run_of self.now).offsets (length (run_of self.now).shown) [] }
+    {
+        &self.offsets[self.rounds()]
+    }
+}

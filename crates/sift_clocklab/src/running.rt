@@ -26,9 +26,8 @@ pub fn run_lab<F: Face>(alloc: Global, lab: &Lab, face: &mut F) -> Result<LabRun
     let mut run = starting_run(alloc, lab)?;
     let mut pages = blank_pages(alloc, lab)?;
     while let Some(page) = pages.pop() {
-        let round = run.shown.len();
-        let shown = show_round(lab, face, round as u32, page.shown);
-        let offsets = offsets_after(lab, &run.offsets[round], &shown, page.offsets);
+        let shown = show_round(lab, face, run.rounds() as u32, page.shown);
+        let offsets = offsets_after(lab, run.latest(), &shown, page.offsets);
         run.shown.push_reserved(shown);
         run.offsets.push_reserved(offsets);
     }

@@ -1,15 +1,30 @@
-use Rattle.std.proofs.Common.{pos, arith}
+use Rattle.std.proofs.Common.{ap, arith}
 use Rattle.std.proofs.lemmas.Int.{ints}
 use Rattle.sift_clocklab.specs.Laboratory.{laboratory_of}
+use Rattle.sift_clocklab.specs.Rounds.{offset_of}
 use Rattle.sift_clocklab.specs.Skew.{farthest_after}
-use Rattle.sift_clocklab.proofs.Keeping.{near_of, ticks_near}
+use Rattle.sift_clocklab.proofs.Keeping.{are_near}
 use Rattle.sift_clocklab.proofs.reading.ahead.Goals as goal
 
--- both offsets are near 0
-pub overflow_sub-difference : goal.overflow_sub-difference
-overflow_sub-difference c =
-    let lab = laboratory_of c.args.lab.now in
-    let of_clocks = c.requires.kept.of_clocks in
-    let other = near_of lab (pos (farthest_after 1000)) c.args.offsets.now c.args.other of_clocks c.requires.other in
-    let own = near_of lab (pos (farthest_after 1000)) c.args.offsets.now c.args.own of_clocks c.requires.own in
-    ?
+-- the clocks are no farther apart than the skew, and the noise is small
+pub overflow_add-result : goal.overflow_add-result
+overflow_add-result c =
+    let offset = offset_of c.args.offsets.now in
+    let near = are_near (laboratory_of c.args.lab.now) (farthest_after 1000) c.args.offsets.now c.args.own c.args.other
+    c.requires.ready c.requires.kept c.requires.own c.requires.other in
+    omega (arith, ints, near, ap offset c.from.ensures, ap offset c.from-2.ensures)
+
+-- so what is read fits as well
+pub overflow_cast-result : goal.overflow_cast-result
+overflow_cast-result c =
+    let offset = offset_of c.args.offsets.now in
+    let near = are_near (laboratory_of c.args.lab.now) (farthest_after 1000) c.args.offsets.now c.args.own c.args.other
+    c.requires.ready c.requires.kept c.requires.own c.requires.other in
+    omega (arith, ints, near, ap offset c.from.ensures, ap offset c.from-2.ensures)
+
+pub returns : goal.returns
+returns c =
+    let offset = offset_of c.args.offsets.now in
+    let near = are_near (laboratory_of c.args.lab.now) (farthest_after 1000) c.args.offsets.now c.args.own c.args.other
+    c.requires.ready c.requires.kept c.requires.own c.requires.other in
+    omega (arith, ints, near, ap offset c.from.ensures, ap offset c.from-2.ensures)

@@ -1,4 +1,4 @@
-use Rattle.std.proofs.Common.{◌≡◌, ◌+◌, ◌≤◌, vec_len, vec_capacity}
+use Rattle.std.proofs.Common.{◌≡◌, ◌+◌, ◌≤◌, length, vec_len, vec_capacity}
 use Rattle.std.specs.List.{All}
 use Rattle.sift_clocklab.specs.Laboratory.{laboratory_of, run_of}
 use Rattle.sift_clocklab.specs.Rounds.{run_offsets}
@@ -15,6 +15,8 @@ invariant-loop-page g l =
       blank : All (IsBlank lab) l.pages.items;
       left : vec_len l.pages + vec_len l.run.shown ≡ lab.rounds;
       one_more : vec_len l.run.offsets ≡ vec_len l.run.shown + 1;
+      rounds : length (run_of l.run).shown ≡ vec_len l.run.shown;
+      lists : length (run_of l.run).offsets ≡ vec_len l.run.offsets;
       room_for_offsets : lab.rounds + 1 ≤ vec_capacity l.run.offsets;
       room_for_shown : lab.rounds ≤ vec_capacity l.run.shown;
     }

@@ -1,0 +1,25 @@
+-- Lists of rows, and of elements that share a fact.
+use Rattle.std.proofs.Common.{◌≡◌, ℕ, ◌<◌, List, [], ◌∷◌, ◌++◌, length, map, get_or, sym, ap, ◌∙◌}
+use Rattle.std.specs.List.{All}
+use Rattle.std.proofs.lemmas.List.{get_or-map, map-append}
+use Rattle.std.proofs.lemmas.List.Elements.{All-nil, All-cons, All-head, All-tail}
+
+-- what a row holds, among what all hold
+pub row_at : {X Y : Type 0} (f : X → List Y) (rows : List X) (i : ℕ) (row : X) → i < length rows → row ≡ get_or rows i row
+    → f row ≡ get_or (map f rows) i []
+row_at f rows i row below is = ap f is ∙ sym (get_or-map f rows i row [] below)
+
+-- one row more
+pub rows_more : {X Y : Type 0} (f : X → List Y) (rows more_rows : List X) (row : X) → more_rows ≡ rows ++ row ∷ []
+    → map f more_rows ≡ map f rows ++ f row ∷ []
+rows_more f rows more_rows row one = ap (map f) one ∙ map-append f rows (row ∷ [])
+
+-- what all share the last has
+pub All-last : {X : Type 0} (P : X → Type 0) (xs : List X) (x : X) → All P (xs ++ x ∷ []) → P x
+All-last P [] x all = All-head P x [] all
+All-last P (y ∷ xs) x all = All-last P xs x (All-tail P y (xs ++ x ∷ []) all)
+
+-- and so have those before others
+pub All-front : {X : Type 0} (P : X → Type 0) (xs ys : List X) → All P (xs ++ ys) → All P xs
+All-front P [] ys all = All-nil P
+All-front P (x ∷ xs) ys all = All-cons P x xs (All-head P x (xs ++ ys) all) (All-front P xs ys (All-tail P x (xs ++ ys) all))
