@@ -1,6 +1,9 @@
 pub mod Clocks
 pub mod Keeping
+pub mod DrawnRounds
 pub mod Lists
+pub mod Numbers
+pub mod Products
 pub mod Ranges
 pub mod Rounds
 pub mod Turns

@@ -1,6 +1,7 @@
 -- Lists of rows, and of elements that share a fact.
-use Rattle.std.proofs.Common.{◌≡◌, ℕ, ◌<◌, List, [], ◌∷◌, ◌++◌, length, map, get_or, sym, ap, ◌∙◌}
-use Rattle.std.specs.List.{All}
+use Rattle.std.proofs.Common.{◌≡◌, ℕ, ◌+◌, ◌<◌, List, [], ◌∷◌, ◌++◌, length, map, get_or, sym, ap, ◌∙◌, arith}
+use Rattle.std.specs.List.{All, range_with_len}
+use Rattle.std.proofs.lemmas.List.FromFn.{map-range_with_len_more}
 use Rattle.std.proofs.lemmas.List.{get_or-map, map-append}
 use Rattle.std.proofs.lemmas.List.Elements.{All-nil, All-cons, All-head, All-tail}
 
@@ -23,3 +24,9 @@ All-last P (y ∷ xs) x all = All-last P xs x (All-tail P y (xs ++ x ∷ []) all
 pub All-front : {X : Type 0} (P : X → Type 0) (xs ys : List X) → All P (xs ++ ys) → All P xs
 All-front P [] ys all = All-nil P
 All-front P (x ∷ xs) ys all = All-cons P x xs (All-head P x (xs ++ ys) all) (All-front P xs ys (All-tail P x (xs ++ ys) all))
+
+-- one more of the values of numbers in a row
+pub values_more : {Y : Type 0} (f : ℕ → Y) (n : ℕ) (ys more_ys : List Y) (y : Y) → ys ≡ map f (range_with_len 0 n) → more_ys ≡ ys ++ y ∷ []
+    → y ≡ f n → more_ys ≡ map f (range_with_len 0 (n + 1))
+values_more f n ys more_ys y are one is =
+    one ∙ ((λ i. are i ++ is i ∷ []) ∙ sym (map-range_with_len_more f 0 n n (omega arith)))

@@ -1,5 +1,5 @@
 -- Which laboratories are run.
-use Rattle.std.specs.Prelude.{◌≡◌, ℕ, ◌+◌, ◌*◌, ◌<◌, ◌≤◌, List, length, get_or, ℤ, pos, ◌+ℤ◌, ◌-ℤ◌, ◌*ℤ◌, ◌≤ℤ◌}
+use Rattle.std.specs.Prelude.{◌≡◌, ℕ, ◌+◌, ◌*◌, ◌<◌, ◌≤◌, ◌⊎◌, List, length, get_or, ℤ, pos, ◌+ℤ◌, ◌-ℤ◌, ◌*ℤ◌, ◌≤ℤ◌, ◌<ℤ◌}
 use Rattle.std.specs.List.{All}
 use Rattle.sift_clock.specs.Distance.{IsWithin}
 use Rattle.sift_clocklab.specs.Laboratory.{Laboratory, working_of}
@@ -9,6 +9,11 @@ use Rattle.sift_clocklab.specs.Laboratory.{Laboratory, working_of}
 pub record IsAdmitted (n m : ℕ) (skew error rate : ℤ) : Type 0 where
   pub enough : 3 * m + 1 ≤ n
   pub room : (pos (2 * n) *ℤ (error +ℤ rate)) ≤ℤ (skew *ℤ (pos n -ℤ pos (3 * m)))
+
+-- they are refused: too few clocks work, or the skew has too little room
+abbrev pub IsRefused : (n m : ℕ) (skew error rate : ℤ) → Type 0
+IsRefused n m skew error rate =
+    (n < 3 * m + 1) ⊎ ((skew *ℤ (pos n -ℤ pos (3 * m))) <ℤ (pos (2 * n) *ℤ (error +ℤ rate)))
 
 -- the most ticks of a skew, an error, a drift and a start
 abbrev pub tick_limit : ℤ

@@ -4,3 +4,5 @@ pub mod Rounds
 pub mod Showing
 pub mod Skew
 pub mod Pages
+pub mod Draws
+pub mod DrawnRuns

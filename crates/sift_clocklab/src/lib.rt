@@ -4,15 +4,21 @@
 //! show, the working ones stay together.
 #![tactic(auto)]
 
+mod admitting;
 mod correcting;
+mod drawing;
+mod drawn_lab;
 mod face;
 mod lab;
 mod laws;
 mod reading;
 mod running;
 
+pub use admitting::admits;
 pub use correcting::correct;
+pub use drawing::Drawn;
+pub use drawn_lab::{LabStop, drawn};
 pub use face::Face;
 pub use lab::{Lab, LabRun};
-pub use laws::offsets_are_kept;
+pub use laws::{drawn_runs_are_of_the_draws, offsets_are_kept};
 pub use running::run_lab;
