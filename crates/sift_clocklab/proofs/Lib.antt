@@ -1,5 +1,6 @@
 pub mod Clocks
 pub mod Keeping
+pub mod DrawnLabs
 pub mod DrawnRounds
 pub mod Lists
 pub mod Numbers

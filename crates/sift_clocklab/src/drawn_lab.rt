@@ -82,10 +82,15 @@ fn make_drawn(
     ensures face { IfOk result (λ it. it.1 ≡ drawn_face n m skew error number) }
 {
     let working = n - m;
+    let (apart, misread, change) = (
+        skew.unsigned_abs(),
+        error.unsigned_abs(),
+        rate.unsigned_abs(),
+    );
     let mut draw = Draw::of(number);
-    let (start, drift) = drawn_clocks(alloc, &mut draw, working, skew.unsigned_abs(), rate.unsigned_abs())?;
-    let noise = drawn_noise(alloc, &mut draw, working, error.unsigned_abs())?;
-    let limit = (skew + error) as u16;
+    let (start, drift) = drawn_clocks(alloc, &mut draw, working, apart, change)?;
+    let noise = drawn_noise(alloc, &mut draw, working, misread)?;
+    let limit = (apart + misread) as u16;
     let lab = Lab { n, m, skew, error, rate, rounds, start, drift, noise };
     Ok((lab, Drawn { draw, limit }))
 }
