@@ -3,6 +3,8 @@ pub mod Keeping
 pub mod DrawnLabs
 pub mod DrawnRounds
 pub mod Lists
+pub mod Figures
+pub mod Margins
 pub mod Numbers
 pub mod Products
 pub mod Ranges

@@ -5,7 +5,7 @@ use Rattle.std.proofs.lemmas.List.Elements.{All-same}
 use Rattle.sift_clocklab.specs.Laboratory.{Laboratory}
 use Rattle.sift_clocklab.specs.Conditions.{IsReady}
 use Rattle.sift_clocklab.specs.Rounds.{offsets_after, offsets_from, run_offsets}
-use Rattle.sift_clocklab.specs.Skew.{AreKept, farthest_after}
+use Rattle.sift_clocklab.specs.Skew.{AreKept, IsKept, farthest, farthest_after}
 use Rattle.sift_clocklab.proofs.Keeping.{kept_farther, offsets_are_kept}
 
 -- after one round more there is one list of offsets more
@@ -36,19 +36,21 @@ run_more lab lists more_lists rounds more_rounds offsets after shown are one_rou
 -- the last list of offsets of a run of so many rounds is kept
 pub latest_kept : (lab : Laboratory) (lists : List (List ℤ)) (shown : List (List (Option ℤ))) (offsets : List ℤ) → IsReady lab
     → length shown ≤ lab.rounds → lists ≡ run_offsets lab shown → offsets ≡ get_or lists (length shown) []
-    → AreKept lab (farthest_after 1000) offsets
+    → AreKept lab farthest offsets
 latest_kept lab lists shown offsets ready few are is =
     let all = offsets_are_kept lab shown ready (length shown) [] (omega (arith, length-offsets_from lab lab.start shown)) in
     let rounds = ready.in_range.few_rounds in
-    subst (AreKept lab (farthest_after 1000)) (sym (is ∙ ap (λ ls. get_or ls (length shown) []) are))
-    (kept_farther lab (farthest_after (length shown)) (farthest_after 1000) (get_or (run_offsets lab shown) (length shown) []) (omega arith) all)
+    subst (AreKept lab farthest) (sym (is ∙ ap (λ ls. get_or ls (length shown) []) are))
+    (kept_farther lab (farthest_after (length shown)) farthest (get_or (run_offsets lab shown) (length shown) []) (omega arith) all)
 
 -- so are all lists of offsets of a whole run
 pub run_kept : (lab : Laboratory) (shown : List (List (Option ℤ))) (offsets : List (List ℤ)) → IsReady lab → length shown ≡ lab.rounds
-    → offsets ≡ run_offsets lab shown → All (AreKept lab (farthest_after 1000)) offsets
-run_kept lab shown offsets ready whole is =
-    All-same (AreKept lab (farthest_after 1000)) offsets (run_offsets lab shown) is
-    (λ k d below.
-    let few = ready.in_range.few_rounds in
-    kept_farther lab (farthest_after (length shown)) (farthest_after 1000) (get_or (run_offsets lab shown) k d) (omega arith)
-    (offsets_are_kept lab shown ready k d below))
+    → offsets ≡ run_offsets lab shown → IsKept lab offsets
+run_kept lab shown offsets ready whole is = record {
+  lists = ap length is ∙ (length-offsets_from lab lab.start shown ∙ ap (λ k. k + 1) whole);
+  each = All-same (AreKept lab farthest) offsets (run_offsets lab shown) is
+      (λ k d below.
+      let few = ready.in_range.few_rounds in
+      kept_farther lab (farthest_after (length shown)) farthest (get_or (run_offsets lab shown) k d) (omega arith)
+      (offsets_are_kept lab shown ready k d below));
+}

@@ -47,5 +47,4 @@ module _ {F : Type 0} (allows : F → Showing → F → Type 0) where
   pub record Runs (lab : Laboratory) (x : F) (run : Run) (y : F) : Type 0 where
     pub rounds : length run.shown ≡ lab.rounds
     pub shown : ShowsRounds (pairs_of lab) 0 x run.shown y
-    pub lists : length run.offsets ≡ lab.rounds + 1
     pub offsets : run.offsets ≡ run_offsets lab run.shown

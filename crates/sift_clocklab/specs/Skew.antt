@@ -16,6 +16,15 @@ pub record AreKept (lab : Laboratory) (far : ℕ) (offsets : List ℤ) : Type 0 
 abbrev pub farthest_after : ℕ → ℕ
 farthest_after rounds = 8000 + rounds * 24000
 
+-- how far it may be after the most rounds that a laboratory runs
+abbrev pub farthest : ℕ
+farthest = farthest_after 1000
+
+-- each list of offsets of a run is kept, one for the start and one for each round
+pub record IsKept (lab : Laboratory) (offsets : List (List ℤ)) : Type 0 where
+  pub lists : length offsets ≡ lab.rounds + 1
+  pub each : All (AreKept lab farthest) offsets
+
 -- in each round of a laboratory that can be run, whatever is shown in it, the offsets are kept
 abbrev pub OffsetsAreKept : Type 0
 OffsetsAreKept =
@@ -26,5 +35,5 @@ OffsetsAreKept =
 -- something
 pub record IsRound (lab : Laboratory) (offsets : List ℤ) (shown : List (Option ℤ)) : Type 0 where
   pub ready : IsReady lab
-  pub kept : AreKept lab (farthest_after 1000) offsets
+  pub kept : AreKept lab farthest offsets
   pub each_shown : length shown ≡ working_of lab * lab.m

@@ -5,7 +5,7 @@ ghost use Rattle.sift_base.specs.Units.{others};
 ghost use Rattle.sift_clocklab.specs.Laboratory.{laboratory_of, clocks_of, working_of};
 ghost use Rattle.sift_clocklab.specs.Rounds.{offset_after, reading_of, ticks_ahead};
 ghost use Rattle.sift_clocklab.specs.Conditions.{IsReady};
-ghost use Rattle.sift_clocklab.specs.Skew.{AreKept, IsRound, farthest_after};
+ghost use Rattle.sift_clocklab.specs.Skew.{AreKept, IsRound, farthest};
 
 use crate::correcting::correct;
 use crate::lab::Lab;
@@ -15,7 +15,7 @@ use sift_clock::advance;
 /// What the working clock `own` reads of another one that works: how far it is ahead, misread.
 fn ahead(lab: &Lab, offsets: &[i64], own: u8, other: u8) -> i32
     requires ready { IsReady (laboratory_of lab.now) }
-    requires kept { AreKept (laboratory_of lab.now) (farthest_after 1000) offsets.now }
+    requires kept { AreKept (laboratory_of lab.now) farthest offsets.now }
     requires own { own < working_of (laboratory_of lab.now) }
     requires other { other < working_of (laboratory_of lab.now) }
     ensures { result ≡ ticks_ahead (laboratory_of lab.now) offsets.now own other }

@@ -6,7 +6,7 @@ ghost use Rattle.sift_clocklab.specs.Laboratory.{laboratory_of, run_of, working_
 ghost use Rattle.sift_clocklab.specs.Conditions.{IsReady};
 ghost use Rattle.sift_clocklab.specs.Rounds.{offsets_after};
 ghost use Rattle.sift_clocklab.specs.Showing.{Runs, ShowsInTurn, pairs_of};
-ghost use Rattle.sift_clocklab.specs.Skew.{AreKept, IsRound, farthest_after};
+ghost use Rattle.sift_clocklab.specs.Skew.{IsKept, IsRound};
 ghost use Rattle.sift_clocklab.specs.Pages.{IsBlank, IsStarting};
 
 use crate::face::Face;
@@ -20,7 +20,7 @@ use std::alloc::Global;
 pub fn run_lab<F: Face>(alloc: Global, lab: &Lab, face: &mut F) -> Result<LabRun, NoMemory>
     requires { IsReady (laboratory_of lab.now) }
     ensures ran { IfOk result (λ run. Runs F.allows (laboratory_of lab.now) face.old (run_of run) face.new) }
-    ensures kept { IfOk result (λ run. All (AreKept (laboratory_of lab.now) (farthest_after 1000)) (run_of run).offsets) }
+    ensures kept { IfOk result (λ run. IsKept (laboratory_of lab.now) (run_of run).offsets) }
     ensures untouched { OnErr result (face.new ≡ face.old) }
 {
     let mut run = starting_run(alloc, lab)?;

@@ -2,7 +2,7 @@ use Rattle.std.proofs.Common.{ap, arith}
 use Rattle.std.proofs.lemmas.Int.{ints}
 use Rattle.sift_clocklab.specs.Laboratory.{laboratory_of}
 use Rattle.sift_clocklab.specs.Rounds.{offset_of}
-use Rattle.sift_clocklab.specs.Skew.{farthest_after}
+use Rattle.sift_clocklab.specs.Skew.{farthest}
 use Rattle.sift_clocklab.proofs.Keeping.{are_near}
 use Rattle.sift_clocklab.proofs.reading.ahead.Goals as goal
 
@@ -10,7 +10,7 @@ use Rattle.sift_clocklab.proofs.reading.ahead.Goals as goal
 pub overflow_add-result : goal.overflow_add-result
 overflow_add-result c =
     let offset = offset_of c.args.offsets.now in
-    let near = are_near (laboratory_of c.args.lab.now) (farthest_after 1000) c.args.offsets.now c.args.own c.args.other
+    let near = are_near (laboratory_of c.args.lab.now) farthest c.args.offsets.now c.args.own c.args.other
     c.requires.ready c.requires.kept c.requires.own c.requires.other in
     omega (arith, ints, near, ap offset c.from.ensures, ap offset c.from-2.ensures)
 
@@ -18,13 +18,13 @@ overflow_add-result c =
 pub overflow_cast-result : goal.overflow_cast-result
 overflow_cast-result c =
     let offset = offset_of c.args.offsets.now in
-    let near = are_near (laboratory_of c.args.lab.now) (farthest_after 1000) c.args.offsets.now c.args.own c.args.other
+    let near = are_near (laboratory_of c.args.lab.now) farthest c.args.offsets.now c.args.own c.args.other
     c.requires.ready c.requires.kept c.requires.own c.requires.other in
     omega (arith, ints, near, ap offset c.from.ensures, ap offset c.from-2.ensures)
 
 pub returns : goal.returns
 returns c =
     let offset = offset_of c.args.offsets.now in
-    let near = are_near (laboratory_of c.args.lab.now) (farthest_after 1000) c.args.offsets.now c.args.own c.args.other
+    let near = are_near (laboratory_of c.args.lab.now) farthest c.args.offsets.now c.args.own c.args.other
     c.requires.ready c.requires.kept c.requires.own c.requires.other in
     omega (arith, ints, near, ap offset c.from.ensures, ap offset c.from-2.ensures)

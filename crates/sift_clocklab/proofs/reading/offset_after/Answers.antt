@@ -6,7 +6,7 @@ use Rattle.sift_base.specs.Units.{others}
 use Rattle.sift_clock.specs.Correction.{correction_of}
 use Rattle.sift_clocklab.specs.Laboratory.{Laboratory, clocks_of, drift_of, laboratory_of, reading_limit}
 use Rattle.sift_clocklab.specs.Rounds.{offset_after, offset_of, reading_of}
-use Rattle.sift_clocklab.specs.Skew.{farthest_after}
+use Rattle.sift_clocklab.specs.Skew.{farthest}
 use Rattle.sift_clocklab.proofs.Keeping.{near_after}
 use Rattle.sift_clocklab.proofs.Ranges.{length-others-range}
 use Rattle.sift_clocklab.proofs.reading.offset_after.Goals as goal
@@ -44,7 +44,7 @@ advance-requires c =
     c.deref.result.now c.correct-correction.ensures limit (c.deref.ensures.0 ∙ c.readings.ensures) in
     let offset = ap (offset_of c.args.offsets.now) c.from-at.ensures in
     let drift = drift_is lab own c.from-at.result c.index.result.now (omega (arith, c.requires.round.ready.drift.each)) c.index.ensures c.from-at.ensures in
-    let near = near_after lab (farthest_after 1000) c.args.offsets.now c.args.shown.now own c.requires.round.ready c.requires.round.kept c.requires.own in
+    let near = near_after lab farthest c.args.offsets.now c.args.shown.now own c.requires.round.ready c.requires.round.kept c.requires.own in
     omega (arith, ints, sum, offset, drift, near)
 
 pub returns : goal.returns
@@ -56,5 +56,5 @@ returns c =
     c.deref.result.now c.correct-correction.ensures limit (c.deref.ensures.0 ∙ c.readings.ensures) in
     let offset = ap (offset_of c.args.offsets.now) c.from-at.ensures in
     let drift = drift_is lab own c.from-at.result c.index.result.now (omega (arith, c.requires.round.ready.drift.each)) c.index.ensures c.from-at.ensures in
-    let near = near_after lab (farthest_after 1000) c.args.offsets.now c.args.shown.now own c.requires.round.ready c.requires.round.kept c.requires.own in
+    let near = near_after lab farthest c.args.offsets.now c.args.shown.now own c.requires.round.ready c.requires.round.kept c.requires.own in
     omega (arith, ints, sum, offset, drift, near, c.advance.ensures)
