@@ -1,7 +1,7 @@
 -- A drawn laboratory can be run.
-use Rattle.std.proofs.Common.{◌≡◌, ℕ, zero, suc, ◌+◌, ◌-◌, ◌*◌, ◌/◌, ◌^◌, ◌<◌, ◌≤◌, inl, inr, List, length, map, get_or, nat_eq, ℤ, pos, negsuc, ◌+ℤ◌, ◌-ℤ◌, refl, subst, arith}
+use Rattle.std.proofs.Common.{◌≡◌, ℕ, ◌+◌, ◌-◌, ◌*◌, ◌<◌, inl, inr, List, map, get_or, nat_eq, ℤ, pos, negsuc, ◌+ℤ◌, refl, subst, arith}
 use Rattle.std.specs.Prelude.{◌≤ℤ◌, unsigned_abs}
-use Rattle.std.specs.List.{All, range_with_len}
+use Rattle.std.specs.List.{range_with_len}
 use Rattle.std.proofs.lemmas.Int.{ints}
 use Rattle.std.proofs.lemmas.Bool.{cases_Bool}
 use Rattle.std.proofs.lemmas.List.FromFn.{get_or-map-range_with_len, length-map-range_with_len}

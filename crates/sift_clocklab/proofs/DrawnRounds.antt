@@ -1,14 +1,14 @@
 -- What is shown by drawing is what is drawn.
-use Rattle.std.proofs.Common.{◌≡◌, ℕ, zero, suc, ◌+◌, ◌-◌, ◌*◌, List, [], ◌∷◌, ◌++◌, length, map, ap, refl, ◌∙◌, ℤ, Option, sym, subst, arith}
+use Rattle.std.proofs.Common.{◌≡◌, ℕ, zero, suc, ◌+◌, ◌-◌, ◌*◌, List, [], ◌∷◌, length, ap, refl, ◌∙◌, ℤ, Option, arith}
 use Rattle.std.specs.Fn.{iterate}
 use Rattle.std.specs.List.{flat_map, range_with_len}
 use Rattle.std.proofs.lemmas.List.{length-append, length-map}
 use Rattle.std.proofs.lemmas.List.FromFn.{length-range_with_len}
 use Rattle.sift_clocklab.specs.declared.drawing.Drawn.{Drawn}
-use Rattle.sift_clocklab.specs.Laboratory.{Laboratory, Run, faulty_clocks, working_of}
+use Rattle.sift_clocklab.specs.Laboratory.{faulty_clocks}
 use Rattle.sift_clocklab.specs.Rounds.{run_offsets}
-use Rattle.sift_clocklab.specs.Showing.{Pair, Runs, ShowsInTurn, ShowsRounds, pairs_of, pairs_to}
-use Rattle.sift_clocklab.specs.Draws.{AllowsDrawn, drawn_face, drawn_lab, drawn_run, face_after, reading_drawn, readings_drawn, rounds_drawn}
+use Rattle.sift_clocklab.specs.Showing.{Pair, ShowsInTurn, ShowsRounds, pairs_of, pairs_to}
+use Rattle.sift_clocklab.specs.Draws.{AllowsDrawn, drawn_face, drawn_lab, face_after, readings_drawn, rounds_drawn}
 use Rattle.sift_clocklab.specs.DrawnRuns.{DrawnRunsAreOfTheDraws}
 
 -- in turn each pair shows what is drawn next

@@ -1,7 +1,7 @@
 -- The figures of a run's text.
-use Rattle.std.proofs.Common.{◌≡◌, ℕ, ◌+◌, ◌<◌, suc, List, [], ◌∷◌, ◌++◌, length, map, take, get_or, ℤ, pos, ◌-ℤ◌, refl, sym, ap, subst, ◌∙◌, append_assoc, arith}
-use Rattle.std.specs.Prelude.{◌≤ℤ◌, ⊤}
-use Rattle.std.specs.List.{All, AllZip, Contains}
+use Rattle.std.proofs.Common.{◌≡◌, ℕ, ◌+◌, ◌<◌, suc, List, [], ◌∷◌, ◌++◌, length, map, take, get_or, ℤ, pos, refl, sym, ap, subst, ◌∙◌, append_assoc, arith}
+use Rattle.std.specs.Prelude.{◌≤ℤ◌}
+use Rattle.std.specs.List.{All, AllZip}
 use Rattle.std.proofs.lemmas.Int.{ints}
 use Rattle.std.proofs.lemmas.List.{append-nil, get_or_default, length-map, length-take, take_more}
 use Rattle.std.proofs.lemmas.List.Elements.{All-nil, All-cons, All-head, All-tail, All-contains}
@@ -10,10 +10,10 @@ use Rattle.sift_clock.specs.Distance.{IsWithin}
 use Rattle.sift_skew.specs.Limits.{offset_limit}
 use Rattle.sift_skew.specs.Figures.{IsHighest, IsSkew}
 use Rattle.sift_skew.proofs.Leads.{skew_is_unique}
-use Rattle.sift_clocklab.specs.Laboratory.{Laboratory, working_of}
+use Rattle.sift_clocklab.specs.Laboratory.{Laboratory}
 use Rattle.sift_clocklab.specs.Conditions.{IsReady}
-use Rattle.sift_clocklab.specs.Skew.{AreKept, IsKept, farthest}
-use Rattle.sift_clocklab.specs.Text.{HasSkew, IsTextOf, MostIsWithinTheBound, OneTextOfARun, last_line, round_line, round_lines}
+use Rattle.sift_clocklab.specs.Skew.{AreKept, farthest}
+use Rattle.sift_clocklab.specs.Text.{HasSkew, MostIsWithinTheBound, OneTextOfARun, last_line, round_line, round_lines}
 use Rattle.sift_clocklab.proofs.Lists.{row_at, rows_more}
 
 -- ---- lists of figures

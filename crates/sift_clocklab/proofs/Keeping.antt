@@ -1,18 +1,17 @@
 -- The offsets of working clocks are kept, round by round.
-use Rattle.std.proofs.Common.{◌≡◌, ◌≢◌, ℕ, zero, suc, ◌+◌, ◌*◌, ◌<◌, ◌≤◌, List, [], ◌∷◌, length, get_or, true, ℤ, pos, ◌+ℤ◌, ◌-ℤ◌, Option, Some, arith}
+use Rattle.std.proofs.Common.{◌≡◌, ℕ, zero, suc, ◌+◌, ◌*◌, ◌<◌, ◌≤◌, List, [], ◌∷◌, length, get_or, ℤ, pos, Option, arith}
 use Rattle.std.specs.List.{All}
 use Rattle.std.proofs.lemmas.Int.{ints}
 use Rattle.std.proofs.lemmas.Bool.{lt-ltb, ltb-true}
 use Rattle.std.proofs.lemmas.List.FromFn.{length-map-range_with_len, length-range_with_len, get_or-map-range_with_len}
-use Rattle.sift_base.specs.Units.{has}
 use Rattle.sift_clock.specs.Distance.{IsWithin}
 use Rattle.sift_skew.specs.Keeping.{AreWithin}
 use Rattle.sift_skew.proofs.Keeps.{skew_is_kept}
 use Rattle.sift_skew.proofs.Changes.{offsets_change_little}
 use Rattle.sift_clocklab.specs.Laboratory.{Laboratory, clocks_of, working_of, works, drift_of, noise_of, reading_limit}
-use Rattle.sift_clocklab.specs.Conditions.{AreOfClocks, AreTicks, AreTogether, IsReady, tick_limit}
+use Rattle.sift_clocklab.specs.Conditions.{AreOfClocks, AreTicks, AreTogether, IsReady}
 use Rattle.sift_clocklab.specs.Rounds.{offset_of, ticks_ahead, reading_of, offset_after, offsets_after, offsets_from}
-use Rattle.sift_clocklab.specs.Skew.{AreKept, farthest_after, OffsetsAreKept}
+use Rattle.sift_clocklab.specs.Skew.{AreKept, OffsetsAreKept}
 use Rattle.sift_clocklab.proofs.Clocks.{has-range, few_faulty}
 
 -- the number of a working clock is as near as all are
@@ -84,9 +83,10 @@ near_after lab far offsets shown q ready kept low =
     let drift = near_of lab lab.rate lab.drift q ready.drift low in
     let sizes = ready.in_range in
     let moves = offsets_change_little (reading_limit lab) lab.rate (clocks_of lab) (reading_of lab offsets shown q) (offset_of offsets q)
-    (drift_of lab q) q (has-range 0 lab.n q (omega arith) (omega arith)) (omega (arith, ints, sizes.small_skew, sizes.small_error)) drift in
-    (omega (arith, ints, before, moves, sizes.small_skew, sizes.small_error, sizes.small_rate),
-      omega (arith, ints, before, moves, sizes.small_skew, sizes.small_error, sizes.small_rate))
+    (drift_of lab q) q (has-range 0 lab.n q (omega arith) (omega arith)) (omega (arith, ints, sizes.small_skew, sizes.small_error)) drift in (
+      omega (arith, ints, before, moves, sizes.small_skew, sizes.small_error, sizes.small_rate),
+      omega (arith, ints, before, moves, sizes.small_skew, sizes.small_error, sizes.small_rate),
+    )
 
 -- the offsets after a round are kept
 pub kept_after : (lab : Laboratory) (far : ℕ) (offsets : List ℤ) (shown : List (Option ℤ)) → IsReady lab → AreKept lab far offsets

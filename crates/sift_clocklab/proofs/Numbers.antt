@@ -1,5 +1,5 @@
 -- Numbers drawn one after the other.
-use Rattle.std.proofs.Common.{◌≡◌, ◌≢◌, ℕ, ◌-◌, ◌<◌, nat_eq, nat_lt, true, cond, pos, eq-eqb, zero, suc, ◌+◌, ap, refl, ◌∙◌, add-one, zero-add, add-zero, sym, arith}
+use Rattle.std.proofs.Common.{◌≡◌, ◌≢◌, ℕ, nat_eq, true, pos, eq-eqb, zero, suc, ◌+◌, ap, refl, ◌∙◌, add-one, zero-add, sym, arith}
 use Rattle.std.specs.Fn.{iterate}
 use Rattle.std.proofs.lemmas.Bool.Decides.{nat_tests}
 use Rattle.sift_base.specs.Draw.{next_number}

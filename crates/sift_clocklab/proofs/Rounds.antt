@@ -1,6 +1,5 @@
 -- One round more, and whole runs.
-use Rattle.std.proofs.Common.{◌≡◌, ℕ, ◌+◌, ◌≤◌, List, [], ◌∷◌, ◌++◌, length, get_or, ℤ, Option, refl, ap, sym, subst, ◌∙◌, arith}
-use Rattle.std.specs.List.{All}
+use Rattle.std.proofs.Common.{◌≡◌, ◌+◌, ◌≤◌, List, [], ◌∷◌, ◌++◌, length, get_or, ℤ, Option, refl, ap, sym, subst, ◌∙◌, arith}
 use Rattle.std.proofs.lemmas.List.Elements.{All-same}
 use Rattle.sift_clocklab.specs.Laboratory.{Laboratory}
 use Rattle.sift_clocklab.specs.Conditions.{IsReady}

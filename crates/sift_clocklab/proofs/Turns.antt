@@ -1,5 +1,5 @@
 -- One showing more, and one round of showings more.
-use Rattle.std.proofs.Common.{◌≡◌, ℕ, zero, suc, ◌+◌, List, [], ◌∷◌, ◌++◌, length, ℤ, Option, refl, subst, ap, sym, arith}
+use Rattle.std.proofs.Common.{◌≡◌, ℕ, suc, ◌+◌, List, [], ◌∷◌, ◌++◌, length, ℤ, Option, refl, subst, ap, sym, arith}
 use Rattle.sift_clocklab.specs.Showing.{Showing, showing, Pair, ShowsInTurn, ShowsRounds}
 
 module _ {F : Type 0} (allows : F → Showing → F → Type 0) where
@@ -36,12 +36,18 @@ module _ {F : Type 0} (allows : F → Showing → F → Type 0) where
   pub round_more : (pairs : List Pair) (first : ℕ) (x : F) (rounds : List (List (Option ℤ))) (y : F) (shown : List (Option ℤ)) (z : F)
       → ShowsRounds allows pairs first x rounds y → ShowsInTurn allows (first + length rounds) y pairs shown z
       → ShowsRounds allows pairs first x (rounds ++ shown ∷ []) z
-  round_more pairs first x [] y shown z same shows =
-      (z, subst (λ (v : F). ShowsInTurn allows first v pairs shown z) same
-      (subst (λ (k : ℕ). ShowsInTurn allows k y pairs shown z) (omega arith) shows), refl)
-  round_more pairs first x (readings ∷ rounds) y shown z before shows =
-      (before.0, before.1, round_more pairs (first + 1) before.0 rounds y shown z before.2
-      (subst (λ (k : ℕ). ShowsInTurn allows k y pairs shown z) (omega arith) shows))
+  round_more pairs first x [] y shown z same shows = (
+    z,
+    subst (λ (v : F). ShowsInTurn allows first v pairs shown z) same
+        (subst (λ (k : ℕ). ShowsInTurn allows k y pairs shown z) (omega arith) shows),
+    refl,
+  )
+  round_more pairs first x (readings ∷ rounds) y shown z before shows = (
+    before.0,
+    before.1,
+    round_more pairs (first + 1) before.0 rounds y shown z before.2
+        (subst (λ (k : ℕ). ShowsInTurn allows k y pairs shown z) (omega arith) shows),
+  )
 
   -- so, where the longer list and the number of the round are given
   pub round_more_as : (pairs : List Pair) (x : F) (rounds more_rounds : List (List (Option ℤ))) (y : F) (round : ℕ) (shown : List (Option ℤ))

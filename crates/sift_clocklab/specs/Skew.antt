@@ -1,5 +1,5 @@
 -- Whatever faulty clocks show, the working ones stay together.
-use Rattle.std.specs.Prelude.{◌≡◌, ℕ, ◌+◌, ◌*◌, ◌<◌, ◌≤◌, List, length, Option, ℤ, pos}
+use Rattle.std.specs.Prelude.{◌≡◌, ℕ, ◌+◌, ◌*◌, List, length, Option, ℤ, pos}
 use Rattle.std.specs.List.{All}
 use Rattle.sift_clocklab.specs.Laboratory.{Laboratory, working_of}
 use Rattle.sift_clocklab.specs.Conditions.{AreOfClocks, AreTogether, IsReady}

@@ -1,7 +1,7 @@
 -- The text of a run: how far apart its working clocks were in each round.
 use Rattle.std.specs.Prelude.{codes, ◌≡◌, ℕ, ◌+◌, ◌<◌, List, [], ◌∷◌, ◌++◌, length, ℤ, ◌≤ℤ◌}
 use Rattle.std.specs.Fmt.{decimal, signed_decimal}
-use Rattle.std.specs.List.{All, AllZip}
+use Rattle.std.specs.List.{AllZip}
 use Rattle.sift_skew.specs.Figures.{AreInRange, IsHighest, IsSkew}
 use Rattle.sift_clocklab.specs.Laboratory.{Laboratory}
 use Rattle.sift_clocklab.specs.Skew.{IsKept}

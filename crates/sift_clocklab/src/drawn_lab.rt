@@ -91,7 +91,17 @@ fn make_drawn(
     let (start, drift) = drawn_clocks(alloc, &mut draw, working, apart, change)?;
     let noise = drawn_noise(alloc, &mut draw, working, misread)?;
     let limit = (apart + misread) as u16;
-    let lab = Lab { n, m, skew, error, rate, rounds, start, drift, noise };
+    let lab = Lab {
+        n,
+        m,
+        skew,
+        error,
+        rate,
+        rounds,
+        start,
+        drift,
+        noise,
+    };
     Ok((lab, Drawn { draw, limit }))
 }
 
@@ -119,7 +129,12 @@ fn drawn_clocks(
 }
 
 /// By how much each working clock misreads each.
-fn drawn_noise(alloc: Global, draw: &mut Draw, working: u8, error: u32) -> Result<Vec<Vec<i32>>, NoMemory>
+fn drawn_noise(
+    alloc: Global,
+    draw: &mut Draw,
+    working: u8,
+    error: u32,
+) -> Result<Vec<Vec<i32>>, NoMemory>
     requires { error < 2 ^ 30 }
     ensures noise { IfOk result (λ rows. map (λ row. row.items) rows.items
         ≡ map (λ q. noises_drawn error working (after draw.old (q * (working - 1))) q) (range_with_len 0 working)) }

@@ -1,6 +1,6 @@
 use Rattle.std.proofs.Common.{◌≡◌, sym, subst, ◌∙◌, arith}
 use Rattle.std.proofs.lemmas.Int.{ints}
-use Rattle.sift_clocklab.specs.Conditions.{IsAdmitted, IsReady}
+use Rattle.sift_clocklab.specs.Conditions.{IsReady}
 use Rattle.sift_clocklab.specs.Draws.{drawn_lab}
 use Rattle.sift_clocklab.proofs.DrawnLabs.{admitted_as_given, drawn_ready, not_both}
 use Rattle.sift_clocklab.proofs.Products.{held}

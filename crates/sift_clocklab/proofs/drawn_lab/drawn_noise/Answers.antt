@@ -1,4 +1,4 @@
-use Rattle.std.proofs.Common.{◌≡◌, ℕ, ◌+◌, ◌-◌, ◌*◌, Vec, Global, ℤ, refl, ap, ◌∙◌, arith}
+use Rattle.std.proofs.Common.{ℕ, ◌+◌, ◌-◌, ◌*◌, Vec, Global, ℤ, ap, ◌∙◌, arith}
 use Rattle.sift_clocklab.specs.Draws.{after, noises_drawn}
 use Rattle.sift_clocklab.proofs.Lists.{rows_more, values_more}
 use Rattle.sift_clocklab.proofs.Numbers.{after-after}

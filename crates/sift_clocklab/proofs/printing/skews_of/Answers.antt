@@ -1,8 +1,6 @@
-use Rattle.std.proofs.Common.{◌≡◌, ℕ, ◌<◌, List, [], ◌∷◌, ◌++◌, length, get_or, map, Vec, Global, ℤ, ap, sym, subst, ◌∙◌, w64, to_z, of_z, arith}
+use Rattle.std.proofs.Common.{◌≡◌, ℕ, ◌<◌, List, [], ◌∷◌, ◌++◌, length, Vec, Global, ℤ, sym, subst, ◌∙◌, w64, to_z, of_z, arith}
 use Rattle.std.proofs.lemmas.Int.{ints}
-use Rattle.std.proofs.lemmas.List.{length-map}
 use Rattle.sift_skew.specs.Figures.{AreInRange, IsSkew}
-use Rattle.sift_clocklab.specs.Text.{HasSkew}
 use Rattle.sift_clocklab.proofs.Figures.{row_has_skew, skew_small, skew_there, skews_more}
 use Rattle.sift_clocklab.proofs.printing.skews_of.Goals as goal
 use Rattle.sift_clocklab.proofs.printing.skews_of.Goals.{in-Some+in_ok-push, in_default}

@@ -1,8 +1,8 @@
-use Rattle.std.proofs.Common.{◌≡◌, ◌+◌, ◌∷◌, ◌++◌, [], List, Vec, Global, ℤ, Option, length, map, ap, sym, ◌∙◌, arith}
+use Rattle.std.proofs.Common.{◌≡◌, ◌∷◌, ◌++◌, [], Vec, Global, ℤ, Option, length, ap, sym, ◌∙◌, arith}
 use Rattle.std.proofs.lemmas.List.{length-map}
 use Rattle.std.proofs.lemmas.List.Elements.{All-same}
 use Rattle.sift_clocklab.specs.Laboratory.{laboratory_of, run_of}
-use Rattle.sift_clocklab.specs.Rounds.{offsets_after, run_offsets}
+use Rattle.sift_clocklab.specs.Rounds.{offsets_after}
 use Rattle.sift_clocklab.specs.Showing.{pairs_of}
 use Rattle.sift_clocklab.specs.Pages.{IsBlank}
 use Rattle.sift_clocklab.proofs.Lists.{All-front, All-last, rows_more}

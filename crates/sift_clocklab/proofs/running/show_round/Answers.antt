@@ -1,8 +1,8 @@
-use Rattle.std.proofs.Common.{◌≡◌, ℕ, suc, ◌+◌, ◌-◌, ◌*◌, List, [], ◌∷◌, ◌++◌, map, refl, ap, sym, ◌∙◌, subst, add-one, add_assoc, append_assoc, arith}
+use Rattle.std.proofs.Common.{◌≡◌, ℕ, ◌+◌, ◌-◌, List, [], ◌∷◌, ◌++◌, ap, sym, ◌∙◌, subst, add-one, append_assoc, arith}
 use Rattle.std.specs.List.{flat_map, range_with_len}
 use Rattle.std.proofs.lemmas.List.{append-nil, map-append}
 use Rattle.std.proofs.lemmas.Grind.{flat_map-append}
-use Rattle.sift_clocklab.specs.Laboratory.{Laboratory, faulty_clocks, laboratory_of, working_of}
+use Rattle.sift_clocklab.specs.Laboratory.{faulty_clocks, laboratory_of, working_of}
 use Rattle.sift_clocklab.specs.Showing.{Pair, ShowsInTurn, pairs_to}
 use Rattle.sift_clocklab.proofs.Ranges.{range-more}
 use Rattle.sift_clocklab.proofs.Turns.{turn_more_as}
