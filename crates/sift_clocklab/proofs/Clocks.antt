@@ -33,5 +33,6 @@ from_on w a (suc n) most =
     ]
 
 -- in an admitted laboratory no more than m clocks are faulty
-pub few_faulty : (lab : Laboratory) → IsAdmitted lab.n lab.m lab.skew lab.error lab.rate → faulty_count (works lab) (clocks_of lab) ≤ lab.m
+pub few_faulty : (lab : Laboratory) → IsAdmitted lab.n lab.m lab.skew lab.error lab.rate
+    → faulty_count (works lab) (clocks_of lab) ≤ lab.m
 few_faulty lab admitted = omega (arith, from_on (working_of lab) 0 lab.n (omega arith), admitted.enough)

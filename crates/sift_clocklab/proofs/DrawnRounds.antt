@@ -33,7 +33,8 @@ by_rounds pairs round x (readings ∷ shown) y shows =
     λ i. first.0 i ∷ (rest ∙ ap (rounds_drawn (length shown) (length pairs)) first.1) i
 
 -- each clock is shown something by each faulty one
-length-pairs : (faulty : List ℕ) (a n : ℕ) → length (flat_map (pairs_to faulty) (range_with_len a n)) ≡ n * length faulty
+length-pairs : (faulty : List ℕ) (a n : ℕ)
+    → length (flat_map (pairs_to faulty) (range_with_len a n)) ≡ n * length faulty
 length-pairs faulty a zero = omega arith
 length-pairs faulty a (suc n) =
     omega (

@@ -27,8 +27,10 @@ zip_more R (a ∷ xs) [] x y all one = absurd all
 zip_more R (a ∷ xs) (b ∷ ys) x y all one = (all.0, zip_more R xs ys x y all.1 one)
 
 -- one row more, and its skew
-pub skews_more : {X : Type 0} (f : X → List ℤ) (rows : List X) (i : ℕ) (row : X) (skews more : List ℤ) (skew : ℤ) → i < length rows
-    → row ≡ get_or rows i row → AllZip IsSkew (map f (take i rows)) skews → more ≡ skews ++ skew ∷ [] → IsSkew (f row) skew
+pub skews_more : {X : Type 0} (f : X → List ℤ) (rows : List X) (i : ℕ) (row : X) (skews more : List ℤ) (skew : ℤ)
+    → i < length rows
+    → row ≡ get_or rows i row → AllZip IsSkew (map f (take i rows)) skews → more ≡ skews ++ skew ∷ []
+    → IsSkew (f row) skew
     → AllZip IsSkew (map f (take (i + 1) rows)) more
 skews_more f rows i row skews more skew below is so_far one figure =
     let rows_are : map f (take (i + 1) rows) ≡ map f (take i rows) ++ f row ∷ [] =
@@ -69,7 +71,8 @@ kept_has_skew lab offsets ready kept = record {
 }
 
 -- it is at most the skew that they keep
-skew_kept : (lab : Laboratory) (far : ℕ) (offsets : List ℤ) (skew : ℤ) → AreKept lab far offsets → IsSkew offsets skew → skew ≤ℤ lab.skew
+skew_kept : (lab : Laboratory) (far : ℕ) (offsets : List ℤ) (skew : ℤ) → AreKept lab far offsets → IsSkew offsets skew
+    → skew ≤ℤ lab.skew
 skew_kept lab far offsets skew kept figure =
     let at = figure.attained in
     let p_in = at.2 in
@@ -85,7 +88,8 @@ skew_kept lab far offsets skew kept figure =
     )
 
 -- so are the skews of all lists
-skews_kept : (lab : Laboratory) (far : ℕ) (lists : List (List ℤ)) (skews : List ℤ) → All (AreKept lab far) lists → AllZip IsSkew lists skews
+skews_kept : (lab : Laboratory) (far : ℕ) (lists : List (List ℤ)) (skews : List ℤ) → All (AreKept lab far) lists
+    → AllZip IsSkew lists skews
     → All (λ skew. skew ≤ℤ lab.skew) skews
 skews_kept lab far [] [] kept figures = All-nil (λ skew. skew ≤ℤ lab.skew)
 skews_kept lab far [] (s ∷ skews) kept figures = absurd figures
@@ -126,13 +130,15 @@ one_text_of_a_run lab offsets a b told_a told_b =
 -- ---- rows
 
 -- the skew of a row is told where that of each is
-pub row_has_skew : {X : Type 0} (f : X → List ℤ) (rows : List X) (i : ℕ) (row : X) → i < length rows → row ≡ get_or rows i row
+pub row_has_skew : {X : Type 0} (f : X → List ℤ) (rows : List X) (i : ℕ) (row : X) → i < length rows
+    → row ≡ get_or rows i row
     → All HasSkew (map f rows) → HasSkew (f row)
 row_has_skew f rows i row below is told =
     subst HasSkew (sym (row_at f rows i row below is)) (told i [] (omega (arith, length-map rows f)))
 
 -- a skew that is told fits a variable
-pub skew_small : (offsets : List ℤ) (skew : ℤ) → HasSkew offsets → IsSkew offsets skew → IsWithin (pos 200000000) skew (pos 0)
+pub skew_small : (offsets : List ℤ) (skew : ℤ) → HasSkew offsets → IsSkew offsets skew
+    → IsWithin (pos 200000000) skew (pos 0)
 skew_small offsets skew told figure =
     let at = figure.attained in
     let p_near = All-contains (λ offset. IsWithin offset_limit offset (pos 0)) offsets at.0 told.in_range at.2 in

@@ -20,12 +20,14 @@ pub near_of : (lab : Laboratory) (far : ℤ) (numbers : List ℤ) (q : ℕ) → 
 near_of lab far numbers q of_clocks low = of_clocks.near q (pos 0) (omega (arith, of_clocks.each))
 
 -- so is the noise of its reading of another
-pub noise_near : (lab : Laboratory) (q p : ℕ) → IsReady lab → q < working_of lab → p < working_of lab → IsWithin lab.error (noise_of lab q p) (pos 0)
+pub noise_near : (lab : Laboratory) (q p : ℕ) → IsReady lab → q < working_of lab → p < working_of lab
+    → IsWithin lab.error (noise_of lab q p) (pos 0)
 noise_near lab q p ready q_low p_low =
     near_of lab lab.error (get_or lab.noise q []) p (ready.noise q [] (omega (arith, ready.noise_of_each))) p_low
 
 -- two working clocks that are kept are no farther apart than the skew
-pub apart_near : (lab : Laboratory) (far : ℕ) (offsets : List ℤ) (q p : ℕ) → AreKept lab far offsets → q < working_of lab → p < working_of lab
+pub apart_near : (lab : Laboratory) (far : ℕ) (offsets : List ℤ) (q p : ℕ) → AreKept lab far offsets
+    → q < working_of lab → p < working_of lab
     → IsWithin lab.skew (offset_of offsets p) (offset_of offsets q)
 apart_near lab far offsets q p kept q_low p_low = (kept.together p q p_low q_low, kept.together q p q_low p_low)
 
@@ -53,7 +55,8 @@ offset-after lab offsets shown q low =
     get_or-map-range_with_len (offset_after lab offsets shown) 0 (working_of lab) q q (pos 0) low (omega arith)
 
 -- clocks that are kept are within the limits of their laboratory
-within : (lab : Laboratory) (far : ℕ) (offsets : List ℤ) (shown : List (Option ℤ)) → IsReady lab → AreKept lab far offsets
+within : (lab : Laboratory) (far : ℕ) (offsets : List ℤ) (shown : List (Option ℤ)) → IsReady lab
+    → AreKept lab far offsets
     → AreWithin lab.skew lab.error lab.rate (clocks_of lab) (works lab) (offset_of offsets) (drift_of lab) (reading_of lab offsets shown)
 within lab far offsets shown ready kept = record {
   together = λ p q p_in p_works q_in q_works.
@@ -65,7 +68,8 @@ within lab far offsets shown ready kept = record {
 }
 
 -- so two of them are at most the skew apart after a round too
-together_after : (lab : Laboratory) (far : ℕ) (offsets : List ℤ) (shown : List (Option ℤ)) → IsReady lab → AreKept lab far offsets
+together_after : (lab : Laboratory) (far : ℕ) (offsets : List ℤ) (shown : List (Option ℤ)) → IsReady lab
+    → AreKept lab far offsets
     → AreTogether lab (offsets_after lab offsets shown)
 together_after lab far offsets shown ready kept p q p_low q_low =
     rw (offset-after lab offsets shown p p_low, offset-after lab offsets shown q q_low)
@@ -76,7 +80,8 @@ together_after lab far offsets shown ready kept p q p_low q_low =
     (has-range 0 lab.n q (omega arith) (omega arith)) (lt-ltb q (working_of lab) q_low))
 
 -- and each moves by no more than a skew, an error and a drift
-pub near_after : (lab : Laboratory) (far : ℕ) (offsets : List ℤ) (shown : List (Option ℤ)) (q : ℕ) → IsReady lab → AreKept lab far offsets
+pub near_after : (lab : Laboratory) (far : ℕ) (offsets : List ℤ) (shown : List (Option ℤ)) (q : ℕ) → IsReady lab
+    → AreKept lab far offsets
     → q < working_of lab → IsWithin (pos (far + 24000)) (offset_after lab offsets shown q) (pos 0)
 near_after lab far offsets shown q ready kept low =
     let before = near_of lab (pos far) offsets q kept.of_clocks low in
@@ -89,7 +94,8 @@ near_after lab far offsets shown q ready kept low =
     )
 
 -- the offsets after a round are kept
-pub kept_after : (lab : Laboratory) (far : ℕ) (offsets : List ℤ) (shown : List (Option ℤ)) → IsReady lab → AreKept lab far offsets
+pub kept_after : (lab : Laboratory) (far : ℕ) (offsets : List ℤ) (shown : List (Option ℤ)) → IsReady lab
+    → AreKept lab far offsets
     → AreKept lab (far + 24000) (offsets_after lab offsets shown)
 kept_after lab far offsets shown ready kept = record {
   together = together_after lab far offsets shown ready kept;
@@ -104,7 +110,8 @@ kept_after lab far offsets shown ready kept = record {
 }
 
 -- what is kept within some distance is kept within a greater one
-pub kept_farther : (lab : Laboratory) (far farther : ℕ) (offsets : List ℤ) → far ≤ farther → AreKept lab far offsets → AreKept lab farther offsets
+pub kept_farther : (lab : Laboratory) (far farther : ℕ) (offsets : List ℤ) → far ≤ farther → AreKept lab far offsets
+    → AreKept lab farther offsets
 kept_farther lab far farther offsets more kept = record {
   together = kept.together;
   of_clocks = record {
@@ -114,7 +121,8 @@ kept_farther lab far farther offsets more kept = record {
 }
 
 -- from offsets that are kept on all are
-all_kept : (lab : Laboratory) (shown : List (List (Option ℤ))) (far : ℕ) (offsets : List ℤ) → IsReady lab → AreKept lab far offsets
+all_kept : (lab : Laboratory) (shown : List (List (Option ℤ))) (far : ℕ) (offsets : List ℤ) → IsReady lab
+    → AreKept lab far offsets
     → All (AreKept lab (far + length shown * 24000)) (offsets_from lab offsets shown)
 all_kept lab [] far offsets ready kept zero d below = kept_farther lab far (far + 0 * 24000) offsets (omega arith) kept
 all_kept lab [] far offsets ready kept (suc k) d below = absurd (omega arith)

@@ -13,7 +13,8 @@ times_difference zero a b = omega (arith, ints)
 times_difference (suc n) a b = let rest = times_difference n a b in omega (arith, ints)
 
 -- room among natural numbers is room
-room_from : (n m s t : ℕ) → 2 * n * t + s * (3 * m) ≤ s * n → (pos (2 * n) *ℤ pos t) ≤ℤ (pos s *ℤ (pos n -ℤ pos (3 * m)))
+room_from : (n m s t : ℕ) → 2 * n * t + s * (3 * m) ≤ s * n
+    → (pos (2 * n) *ℤ pos t) ≤ℤ (pos s *ℤ (pos n -ℤ pos (3 * m)))
 room_from n m s t wide = let split = times_difference s (pos n) (pos (3 * m)) in omega (arith, ints)
 
 -- with no faulty clock twice the errors and drifts have room

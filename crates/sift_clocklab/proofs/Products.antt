@@ -18,7 +18,8 @@ pub record AreSmall (most_a most_b : ℕ) (a b : ℤ) : Type 0 where
   pub second : (pos 0 ≤ℤ b) × (b ≤ℤ pos most_b)
 
 -- their product is small
-product_small : (most_a most_b : ℕ) (a b : ℤ) → AreSmall most_a most_b a b → (pos 0 ≤ℤ (a *ℤ b)) × ((a *ℤ b) ≤ℤ pos (most_a * most_b))
+product_small : (most_a most_b : ℕ) (a b : ℤ) → AreSmall most_a most_b a b
+    → (pos 0 ≤ℤ (a *ℤ b)) × ((a *ℤ b) ≤ℤ pos (most_a * most_b))
 product_small most_a most_b (pos a) (pos b) small =
     let least : a * b ≤ most_a * most_b = mul-le-mul (omega (arith, ints, small.first)) (omega (arith, ints, small.second)) in
     (omega (arith, ints), omega (arith, ints))
@@ -26,14 +27,16 @@ product_small most_a most_b (negsuc a) b small = absurd (omega (arith, ints, sma
 product_small most_a most_b a (negsuc b) small = absurd (omega (arith, ints, small.second))
 
 -- so it fits a variable of 32 bits
-pub product_fits : (most_a most_b : ℕ) (x y a b : ℤ) → most_a * most_b < 2 ^ 31 → AreSmall most_a most_b a b → x ≡ a → y ≡ b
+pub product_fits : (most_a most_b : ℕ) (x y a b : ℤ) → most_a * most_b < 2 ^ 31 → AreSmall most_a most_b a b → x ≡ a
+    → y ≡ b
     → FitsSigned w32 (x *ℤ y)
 product_fits most_a most_b x y a b few small first second =
     let product = product_small most_a most_b a b small in
     rw (first, second) (omega (arith, ints, product))
 
 -- which holds it
-pub product_held : (most_a most_b : ℕ) (x y a b : ℤ) → most_a * most_b < 2 ^ 31 → AreSmall most_a most_b a b → x ≡ a → y ≡ b
+pub product_held : (most_a most_b : ℕ) (x y a b : ℤ) → most_a * most_b < 2 ^ 31 → AreSmall most_a most_b a b → x ≡ a
+    → y ≡ b
     → held (x *ℤ y) ≡ a *ℤ b
 product_held most_a most_b x y a b few small first second =
     let product = product_small most_a most_b a b small in

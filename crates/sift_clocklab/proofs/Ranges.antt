@@ -15,7 +15,8 @@ range-more a (suc n) =
     ap (λ us. a ∷ us) (range-more (a + 1) n ∙ ap (λ u. range_with_len (a + 1) n ++ u ∷ []) (omega arith))
 
 -- a number more that is another one
-pub others-more_other : (u n : ℕ) → n ≢ u → others u (range_with_len 0 (suc n)) ≡ others u (range_with_len 0 n) ++ n ∷ []
+pub others-more_other : (u n : ℕ) → n ≢ u
+    → others u (range_with_len 0 (suc n)) ≡ others u (range_with_len 0 n) ++ n ∷ []
 others-more_other u n differ =
     ap (others u) (range-more 0 n) ∙ (filter-append (λ v. not (nat_eq v u)) (range_with_len 0 n) ((0 + n) ∷ [])
     ∙ (let same : 0 + n ≡ n = omega arith in rw (same, not_same n u differ) refl))

@@ -24,8 +24,10 @@ length-offsets_from lab offsets (readings ∷ rounds) =
 
 -- so, where the longer lists are given
 pub run_more : (lab : Laboratory) (lists more_lists : List (List ℤ)) (rounds more_rounds : List (List (Option ℤ))) (offsets after : List ℤ)
-    (shown : List (Option ℤ)) → lists ≡ run_offsets lab rounds → more_rounds ≡ rounds ++ shown ∷ [] → more_lists ≡ lists ++ after ∷ []
-    → offsets ≡ get_or lists (length rounds) [] → after ≡ offsets_after lab offsets shown → more_lists ≡ run_offsets lab more_rounds
+    (shown : List (Option ℤ)) → lists ≡ run_offsets lab rounds → more_rounds ≡ rounds ++ shown ∷ []
+    → more_lists ≡ lists ++ after ∷ []
+    → offsets ≡ get_or lists (length rounds) [] → after ≡ offsets_after lab offsets shown
+    → more_lists ≡ run_offsets lab more_rounds
 run_more lab lists more_lists rounds more_rounds offsets after shown are one_round one_list is_last is_next =
     let latest : offsets ≡ get_or (run_offsets lab rounds) (length rounds) [] = is_last ∙ ap (λ ls. get_or ls (length rounds) []) are in
     let next : after ≡ offsets_after lab (get_or (run_offsets lab rounds) (length rounds) []) shown =
@@ -33,7 +35,8 @@ run_more lab lists more_lists rounds more_rounds offsets after shown are one_rou
     one_list ∙ ((λ i. are i ++ next i ∷ []) ∙ (sym (offsets_from-more lab lab.start rounds shown) ∙ ap (run_offsets lab) (sym one_round)))
 
 -- the last list of offsets of a run of so many rounds is kept
-pub latest_kept : (lab : Laboratory) (lists : List (List ℤ)) (shown : List (List (Option ℤ))) (offsets : List ℤ) → IsReady lab
+pub latest_kept : (lab : Laboratory) (lists : List (List ℤ)) (shown : List (List (Option ℤ))) (offsets : List ℤ)
+    → IsReady lab
     → length shown ≤ lab.rounds → lists ≡ run_offsets lab shown → offsets ≡ get_or lists (length shown) []
     → AreKept lab farthest offsets
 latest_kept lab lists shown offsets ready few are is =
@@ -43,7 +46,8 @@ latest_kept lab lists shown offsets ready few are is =
     (kept_farther lab (farthest_after (length shown)) farthest (get_or (run_offsets lab shown) (length shown) []) (omega arith) all)
 
 -- so are all lists of offsets of a whole run
-pub run_kept : (lab : Laboratory) (shown : List (List (Option ℤ))) (offsets : List (List ℤ)) → IsReady lab → length shown ≡ lab.rounds
+pub run_kept : (lab : Laboratory) (shown : List (List (Option ℤ))) (offsets : List (List ℤ)) → IsReady lab
+    → length shown ≡ lab.rounds
     → offsets ≡ run_offsets lab shown → IsKept lab offsets
 run_kept lab shown offsets ready whole is = record {
   lists = ap length is ∙ (length-offsets_from lab lab.start shown ∙ ap (λ k. k + 1) whole);

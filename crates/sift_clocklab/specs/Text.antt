@@ -39,10 +39,12 @@ pub record HasSkew (offsets : List ℤ) : Type 0 where
 -- a run has one text
 abbrev pub OneTextOfARun : Type 0
 OneTextOfARun =
-    (lab : Laboratory) (offsets : List (List ℤ)) (a b : List ℕ) → IsTextOf lab offsets a → IsTextOf lab offsets b → a ≡ b
+    (lab : Laboratory) (offsets : List (List ℤ)) (a b : List ℕ) → IsTextOf lab offsets a → IsTextOf lab offsets b
+    → a ≡ b
 
 -- where a run is kept, the largest skew is no more than the bound
 abbrev pub MostIsWithinTheBound : Type 0
 MostIsWithinTheBound =
-    (lab : Laboratory) (offsets : List (List ℤ)) (text : List ℕ) → IsKept lab offsets → (told : IsTextOf lab offsets text) →
+    (lab : Laboratory) (offsets : List (List ℤ)) (text : List ℕ) → IsKept lab offsets
+    → (told : IsTextOf lab offsets text) →
     told.most ≤ℤ lab.skew

@@ -1,6 +1,5 @@
-use Rattle.std.proofs.Common.{◌≡◌, ◌∷◌, ◌++◌, [], Vec, Global, ℤ, Option, length, ap, sym, ◌∙◌, arith}
+use Rattle.std.proofs.Common.{◌≡◌, Vec, Global, ℤ, Option, length, ap, ◌∙◌, arith}
 use Rattle.std.proofs.lemmas.List.{length-map}
-use Rattle.std.proofs.lemmas.List.Elements.{All-same}
 use Rattle.sift_clocklab.specs.Laboratory.{laboratory_of, run_of}
 use Rattle.sift_clocklab.specs.Rounds.{offsets_after}
 use Rattle.sift_clocklab.specs.Showing.{pairs_of}
@@ -13,26 +12,29 @@ use Rattle.sift_clocklab.proofs.running.run_lab.Goals as goal
 -- the latest offsets are kept, and each faulty clock showed each working one something
 pub offsets_after-offsets-requires-clause-round : goal.offsets_after-offsets-requires-clause-round
 offsets_after-offsets-requires-clause-round g c =
+    let lab = laboratory_of c.args.lab.now in
     let run = run_of c.loop-page.run in
     let inv = c.loop-page.invariant in
     record {
       ready = c.requires;
-      kept = latest_kept (laboratory_of c.args.lab.now) run.offsets run.shown c.latest.result.now c.requires (omega (arith, inv.rounds, inv.left)) inv.offsets c.latest.ensures;
+      kept =
+          latest_kept lab run.offsets run.shown c.latest.result.now c.requires (omega (arith, inv.rounds, inv.left)) inv.offsets
+          c.latest.ensures;
       each_shown = ap length c.deref.ensures.value ∙ c.show_round-shown.ensures.each;
     }
 
 -- the page of a round is blank
 pub offsets_after-offsets-requires-clause-empty : goal.offsets_after-offsets-requires-clause-empty
 offsets_after-offsets-requires-clause-empty g c =
-    let lab = laboratory_of c.args.lab.now in
-    let all = All-same (IsBlank lab) (c.pop.new.self.items ++ c.in-Some.page ∷ []) c.loop-page.pages.items (sym c.in-Some.ensures.items) c.loop-page.invariant.blank in
-    (All-last (IsBlank lab) c.pop.new.self.items c.in-Some.page all).no_offsets
+    let blank = All-last (IsBlank (laboratory_of c.args.lab.now)) c.loop-page.pages.items c.pop.new.self.items c.in-Some.page
+    c.in-Some.ensures.items c.loop-page.invariant.blank in
+    blank.no_offsets
 
 pub offsets_after-offsets-requires-clause-room : goal.offsets_after-offsets-requires-clause-room
 offsets_after-offsets-requires-clause-room g c =
-    let lab = laboratory_of c.args.lab.now in
-    let all = All-same (IsBlank lab) (c.pop.new.self.items ++ c.in-Some.page ∷ []) c.loop-page.pages.items (sym c.in-Some.ensures.items) c.loop-page.invariant.blank in
-    (All-last (IsBlank lab) c.pop.new.self.items c.in-Some.page all).room_for_offsets
+    let blank = All-last (IsBlank (laboratory_of c.args.lab.now)) c.loop-page.pages.items c.pop.new.self.items c.in-Some.page
+    c.in-Some.ensures.items c.loop-page.invariant.blank in
+    blank.room_for_offsets
 
 -- one round more was run
 pub loop-page-preserved : goal.loop-page-preserved
@@ -42,27 +44,38 @@ loop-page-preserved g c =
     let inv = c.loop-page.invariant in
     let shown = c.show_round-shown.result in
     let offsets = c.offsets_after-offsets.result in
-    let one_round = rows_more (λ (row : Vec (Option ℤ) Global). row.items) c.loop-page.run.shown.items c.push_reserved.new.self.items shown c.push_reserved.ensures.items in
-    let one_list = rows_more (λ (row : Vec ℤ Global). row.items) c.loop-page.run.offsets.items c.push_reserved-in-Some.new.self.items offsets c.push_reserved-in-Some.ensures.items in
+    let rounds = c.push_reserved in
+    let lists = c.push_reserved-in-Some in
+    let one_round = rows_more (λ (row : Vec (Option ℤ) Global). row.items) c.loop-page.run.shown.items rounds.new.self.items shown
+    rounds.ensures.items in
+    let one_list = rows_more (λ (row : Vec ℤ Global). row.items) c.loop-page.run.offsets.items lists.new.self.items offsets
+    lists.ensures.items in
     let next : offsets.items ≡ offsets_after lab c.latest.result.now shown.items =
     c.offsets_after-offsets.ensures ∙ ap (offsets_after lab c.latest.result.now) c.deref.ensures.value in
-    let all = All-same (IsBlank lab) (c.pop.new.self.items ++ c.in-Some.page ∷ []) c.loop-page.pages.items (sym c.in-Some.ensures.items) inv.blank in
     record {
       shown =
-          round_more_as g.F.Face.allows (pairs_of lab) c.args.face.now run.shown _ c.loop-page.face c.rounds.result
-          shown.items c.show_round-shown.new.face one_round c.rounds.ensures inv.shown c.show_round-shown.ensures.shown;
+          round_more_as g.F.Face.allows (pairs_of lab) c.args.face.now run.shown _ c.loop-page.face c.rounds.result shown.items
+          c.show_round-shown.new.face one_round c.rounds.ensures inv.shown c.show_round-shown.ensures.shown;
       offsets =
-          run_more lab run.offsets _ run.shown _ c.latest.result.now offsets.items shown.items inv.offsets one_round one_list c.latest.ensures next;
-      blank = All-front (IsBlank lab) c.pop.new.self.items (c.in-Some.page ∷ []) all;
-      left = (let fewer = c.in-Some.ensures.cases in let more = c.push_reserved.ensures.len in let left = inv.left in omega arith);
-      one_more = (let longer = c.push_reserved-in-Some.ensures.len in let more = c.push_reserved.ensures.len in let one = inv.one_more in omega arith);
-      rounds = length-map c.push_reserved.new.self.items (λ (row : Vec (Option ℤ) Global). row.items) ∙ (let ok = c.push_reserved.new.self.ok in omega arith);
-      lists = length-map c.push_reserved-in-Some.new.self.items (λ (row : Vec ℤ Global). row.items) ∙ (let ok = c.push_reserved-in-Some.new.self.ok in omega arith);
-      room_for_offsets = (let same = c.push_reserved-in-Some.ensures.capacity in let room = inv.room_for_offsets in omega arith);
-      room_for_shown = (let same = c.push_reserved.ensures.capacity in let room = inv.room_for_shown in omega arith);
+          run_more lab run.offsets _ run.shown _ c.latest.result.now offsets.items shown.items inv.offsets one_round one_list
+          c.latest.ensures next;
+      blank =
+          All-front (IsBlank lab) c.loop-page.pages.items c.pop.new.self.items c.in-Some.page c.in-Some.ensures.items inv.blank;
+      left = (let fewer = c.in-Some.ensures.cases in let more = rounds.ensures.len in let left = inv.left in omega arith);
+      one_more = (let longer = lists.ensures.len in let more = rounds.ensures.len in let one = inv.one_more in omega arith);
+      rounds =
+          length-map rounds.new.self.items (λ (row : Vec (Option ℤ) Global). row.items)
+          ∙ (let ok = rounds.new.self.ok in omega arith);
+      lists =
+          length-map lists.new.self.items (λ (row : Vec ℤ Global). row.items)
+          ∙ (let ok = lists.new.self.ok in omega arith);
+      room_for_offsets = (let same = lists.ensures.capacity in let room = inv.room_for_offsets in omega arith);
+      room_for_shown = (let same = rounds.ensures.capacity in let room = inv.room_for_shown in omega arith);
     }
 
 pub returns-clause-kept : goal.returns-clause-kept
 returns-clause-kept g c =
+    let run = run_of c.loop-page.run in
     let inv = c.loop-page.invariant in
-    run_kept (laboratory_of c.args.lab.now) (run_of c.loop-page.run).shown (run_of c.loop-page.run).offsets c.requires (omega (arith, inv.left, inv.rounds, c.in_default.ensures.cases)) inv.offsets
+    run_kept (laboratory_of c.args.lab.now) run.shown run.offsets c.requires
+    (omega (arith, inv.left, inv.rounds, c.in_default.ensures.cases)) inv.offsets
