@@ -62,8 +62,8 @@ of_clocks : (lab : Laboratory) (far : ℤ) (f : ℕ → ℤ) → ((q : ℕ) → 
 of_clocks lab far f near = record {
   each = length-map-range_with_len f 0 (working_of lab);
   near = λ q d below.
-      rw (get_or-map-range_with_len f 0 (working_of lab) q q d (omega (arith, below, length-map-range_with_len f 0 (working_of lab))) (omega arith))
-      (near q);
+      let low : q < working_of lab = omega (arith, below, length-map-range_with_len f 0 (working_of lab)) in
+      rw (get_or-map-range_with_len f 0 (working_of lab) q q d low (omega arith)) (near q);
 }
 
 -- the starts are together
@@ -93,10 +93,12 @@ drawn_ready n m skew error rate rounds number sizes admitted =
       together = λ p q p_low q_low.
           omega (arith, ints, starts_together lab far number p q p_low q_low, abs_is skew sizes.small_skew.0);
       drift = of_clocks lab rate (drift_drawn (unsigned_abs rate) number) (λ q.
-          within_size rate (drift_drawn (unsigned_abs rate) number q) sizes.small_rate.0 (spread_within (unsigned_abs rate) (after number (2 * q + 2))));
+          within_size rate (drift_drawn (unsigned_abs rate) number q) sizes.small_rate.0
+          (spread_within (unsigned_abs rate) (after number (2 * q + 2))));
       noise_of_each = length-map-range_with_len rows 0 (n - m);
       noise = λ q d below.
-          rw (get_or-map-range_with_len rows 0 (n - m) q q d (omega (arith, below, length-map-range_with_len rows 0 (n - m))) (omega arith))
+          let low : q < n - m = omega (arith, below, length-map-range_with_len rows 0 (n - m)) in
+          rw (get_or-map-range_with_len rows 0 (n - m) q q d low (omega arith))
           (of_clocks lab error (noise_drawn (unsigned_abs error) (row_place (n - m) number q) q) (λ p.
           within_size error (noise_drawn (unsigned_abs error) (row_place (n - m) number q) q p) sizes.small_error.0
           (noise_within (unsigned_abs error) (row_place (n - m) number q) q p)));

@@ -11,7 +11,6 @@ use Rattle.sift_skew.specs.Limits.{offset_limit}
 use Rattle.sift_skew.specs.Figures.{IsHighest, IsSkew}
 use Rattle.sift_skew.proofs.Leads.{skew_is_unique}
 use Rattle.sift_clocklab.specs.Laboratory.{Laboratory}
-use Rattle.sift_clocklab.specs.Conditions.{IsReady}
 use Rattle.sift_clocklab.specs.Skew.{AreKept, farthest}
 use Rattle.sift_clocklab.specs.Text.{HasSkew, MostIsWithinTheBound, OneTextOfARun, last_line, round_line, round_lines}
 use Rattle.sift_clocklab.proofs.Lists.{row_at, rows_more}
@@ -36,7 +35,8 @@ skews_more f rows i row skews more skew below is so_far one figure =
     let rows_are : map f (take (i + 1) rows) ≡ map f (take i rows) ++ f row ∷ [] =
     rows_more f (take i rows) (take (i + 1) rows) row (take_more rows i row below ∙ (λ k. take i rows ++ sym is k ∷ [])) in
     subst (λ (ls : List (List ℤ)). AllZip IsSkew ls more) (sym rows_are)
-    (subst (AllZip IsSkew (map f (take i rows) ++ f row ∷ [])) (sym one) (zip_more IsSkew (map f (take i rows)) skews (f row) skew so_far figure))
+    (subst (AllZip IsSkew (map f (take i rows) ++ f row ∷ [])) (sym one)
+    (zip_more IsSkew (map f (take i rows)) skews (f row) skew so_far figure))
 
 -- there are as many figures as lists
 pub length-skews : (lists : List (List ℤ)) (skews : List ℤ) → AllZip IsSkew lists skews → length skews ≡ length lists
@@ -59,25 +59,20 @@ lines_more skews round skew below is =
     let seen : take (round + 1) skews ≡ take round skews ++ skew ∷ [] =
     take_more skews round (pos 0) below ∙ (λ i. take round skews ++ sym is i ∷ []) in
     let place : 0 + length (take round skews) ≡ round = omega (arith, length-take round skews) in
-    ap (round_lines 0) seen ∙ (round_lines-more 0 (take round skews) skew ∙ ap (λ r. round_lines 0 (take round skews) ++ round_line r skew) place)
+    ap (round_lines 0) seen ∙ (round_lines-more 0 (take round skews) skew
+    ∙ ap (λ r. round_lines 0 (take round skews) ++ round_line r skew) place)
 
 -- ---- kept offsets
 
--- their skew is told
-pub kept_has_skew : (lab : Laboratory) (offsets : List ℤ) → IsReady lab → AreKept lab farthest offsets → HasSkew offsets
-kept_has_skew lab offsets ready kept = record {
-  some = (let enough = ready.admitted.enough in omega (arith, kept.of_clocks.each));
-  in_range = λ k d below. let near = kept.of_clocks.near k d below in (omega (arith, ints, near), omega (arith, ints, near));
-}
-
--- it is at most the skew that they keep
+-- the skew of kept offsets is at most the one that they keep
 skew_kept : (lab : Laboratory) (far : ℕ) (offsets : List ℤ) (skew : ℤ) → AreKept lab far offsets → IsSkew offsets skew
     → skew ≤ℤ lab.skew
 skew_kept lab far offsets skew kept figure =
     let at = figure.attained in
     let p_in = at.2 in
     let q_in = at.3 in
-    let together = kept.together p_in.0 q_in.0 (omega (arith, kept.of_clocks.each, p_in.1)) (omega (arith, kept.of_clocks.each, q_in.1)) in
+    let each = kept.of_clocks.each in
+    let together = kept.together p_in.0 q_in.0 (omega (arith, each, p_in.1)) (omega (arith, each, q_in.1)) in
     omega (
       arith,
       ints,
@@ -100,7 +95,8 @@ skews_kept lab far (l ∷ lists) (s ∷ skews) kept figures =
 
 pub most_is_within_the_bound : MostIsWithinTheBound
 most_is_within_the_bound lab offsets text kept told =
-    All-contains (λ skew. skew ≤ℤ lab.skew) told.skews told.most (skews_kept lab farthest offsets told.skews kept.each told.of_rounds) told.largest.among
+    All-contains (λ skew. skew ≤ℤ lab.skew) told.skews told.most
+    (skews_kept lab farthest offsets told.skews kept.each told.of_rounds) told.largest.among
 
 -- ---- one text
 

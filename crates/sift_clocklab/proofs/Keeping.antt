@@ -88,7 +88,8 @@ near_after lab far offsets shown q ready kept low =
     let drift = near_of lab lab.rate lab.drift q ready.drift low in
     let sizes = ready.in_range in
     let moves = offsets_change_little (reading_limit lab) lab.rate (clocks_of lab) (reading_of lab offsets shown q) (offset_of offsets q)
-    (drift_of lab q) q (has-range 0 lab.n q (omega arith) (omega arith)) (omega (arith, ints, sizes.small_skew, sizes.small_error)) drift in (
+    (drift_of lab q) q (has-range 0 lab.n q (omega arith) (omega arith))
+    (omega (arith, ints, sizes.small_skew, sizes.small_error)) drift in (
       omega (arith, ints, before, moves, sizes.small_skew, sizes.small_error, sizes.small_rate),
       omega (arith, ints, before, moves, sizes.small_skew, sizes.small_error, sizes.small_rate),
     )
@@ -131,7 +132,8 @@ all_kept lab (readings ∷ rounds) far offsets ready kept zero d below =
 all_kept lab (readings ∷ rounds) far offsets ready kept (suc k) d below =
     kept_farther lab (far + 24000 + length rounds * 24000) (far + suc (length rounds) * 24000)
     (get_or (offsets_from lab (offsets_after lab offsets readings) rounds) k d) (omega arith)
-    (all_kept lab rounds (far + 24000) (offsets_after lab offsets readings) ready (kept_after lab far offsets readings ready kept) k d (omega arith))
+    (all_kept lab rounds (far + 24000) (offsets_after lab offsets readings) ready (kept_after lab far offsets readings ready kept) k d
+    (omega arith))
 
 -- the starts are kept
 pub starts_kept : (lab : Laboratory) → IsReady lab → AreKept lab 8000 lab.start

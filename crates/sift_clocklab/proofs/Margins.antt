@@ -46,6 +46,10 @@ with_margin n faulty working s t all few enough wide =
       | inr one ↦ rw one (one_faulty n s t (omega (arith, one)) wide)
     ]
 
+-- a skew has room for errors and drifts that come to so much
+abbrev pub HasRoomFor : (n m : ℕ) (skew changes : ℤ) → Type 0
+HasRoomFor n m skew changes = (pos (2 * n) *ℤ changes) ≤ℤ (skew *ℤ (pos n -ℤ pos (3 * m)))
+
 -- errors and drifts of at least 0, and a skew of at least so many times as much, are natural numbers
 pub by_size : (P : ℤ → ℤ → Type 0) (k : ℕ) (skew changes : ℤ) → pos 0 ≤ℤ changes → (pos k *ℤ changes) ≤ℤ skew
     → ((s t : ℕ) → k * t ≤ s → P (pos s) (pos t)) → P skew changes
@@ -55,11 +59,12 @@ by_size P k skew (negsuc t) some wide at = absurd (omega (arith, ints))
 
 pub margin_leaves_room : MarginLeavesRoom
 margin_leaves_room skew error rate us works some margin wide =
-    by_size (λ s c. (pos (2 * length us) *ℤ c) ≤ℤ (s *ℤ (pos (length us) -ℤ pos (3 * faulty_count works us)))) 5 skew (error +ℤ rate) some wide
+    by_size (HasRoomFor (length us) (faulty_count works us)) 5 skew (error +ℤ rate) some wide
     (λ s t five. room_from (length us) (faulty_count works us) s t
-    (with_margin (length us) (faulty_count works us) (working_count works us) s t (both_counts works us) margin.few margin.enough five))
+    (with_margin (length us) (faulty_count works us) (working_count works us) s t (both_counts works us)
+    margin.few margin.enough five))
 
 pub no_fault_leaves_room : NoFaultLeavesRoom
 no_fault_leaves_room skew error rate us works some none wide =
-    by_size (λ s c. (pos (2 * length us) *ℤ c) ≤ℤ (s *ℤ (pos (length us) -ℤ pos (3 * faulty_count works us)))) 2 skew (error +ℤ rate) some wide
+    by_size (HasRoomFor (length us) (faulty_count works us)) 2 skew (error +ℤ rate) some wide
     (λ s t two. room_from (length us) (faulty_count works us) s t (rw none (none_faulty (length us) s t two)))

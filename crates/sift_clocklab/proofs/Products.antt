@@ -64,6 +64,9 @@ pub room_decides : (n m : ℕ) (skew error rate needed room : ℤ) → 3 * m + 1
     → MatchBool (le_z needed room) (IsAdmitted n m skew error rate) (IsRefused n m skew error rate)
 room_decides n m skew error rate needed room enough needed_is room_is =
     elim (cases_Bool (le_z needed room)) [
-      | inl t ↦ rw t (record { enough = enough; room = (let fits : needed ≤ℤ room = grind (arith, ints) in rw (← needed_is, ← room_is) fits) })
+      | inl t ↦ rw t (record {
+        enough = enough;
+        room = (let fits : needed ≤ℤ room = grind (arith, ints) in rw (← needed_is, ← room_is) fits);
+      })
       | inr f ↦ rw f (inr (let short : room <ℤ needed = grind (arith, ints) in rw (← needed_is, ← room_is) short))
     ]

@@ -13,7 +13,8 @@ returns-clause-ready c =
     let skew : held a.skew ≡ a.skew = omega (arith, ints) in
     let error : held a.error ≡ a.error = omega (arith, ints) in
     let rate : held a.rate ≡ a.rate = omega (arith, ints) in
-    let admitted = admitted_as_given a.n a.m (held a.skew) (held a.error) (held a.rate) a.skew a.error a.rate skew error rate c.if-not-admits.ensures in
+    let admitted = admitted_as_given a.n a.m (held a.skew) (held a.error) (held a.rate) a.skew a.error a.rate skew error rate
+    c.if-not-admits.ensures in
     let lab = c.in_ok-make_drawn.ensures.lab ∙ (λ i. drawn_lab a.n a.m (skew i) (error i) (rate i) a.rounds a.number) in
     subst IsReady (sym lab) (drawn_ready a.n a.m a.skew a.error a.rate a.rounds a.number c.requires admitted)
 
@@ -24,5 +25,6 @@ returns-clause-not_admitted c =
     let skew : held a.skew ≡ a.skew = omega (arith, ints) in
     let error : held a.error ≡ a.error = omega (arith, ints) in
     let rate : held a.rate ≡ a.rate = omega (arith, ints) in
-    let admitted = admitted_as_given a.n a.m (held a.skew) (held a.error) (held a.rate) a.skew a.error a.rate skew error rate c.if-not-admits.ensures in
+    let admitted = admitted_as_given a.n a.m (held a.skew) (held a.error) (held a.rate) a.skew a.error a.rate skew error rate
+    c.if-not-admits.ensures in
     (λ ends. cc, λ refused. absurd (not_both a.n a.m a.skew a.error a.rate admitted refused))

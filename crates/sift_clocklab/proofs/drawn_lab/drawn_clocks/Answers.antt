@@ -20,8 +20,11 @@ loop-preserved c =
     let held : to_z w32 (of_z w32 c.spread.result) ≡ c.spread.result = omega (arith, ints) in
     let places : 2 * k + 2 ≡ 2 * (k + 1) = omega arith in
     record {
-      start = values_more (start_drawn c.args.skew x) k c.loop.start.items c.push.new.self.items _ inv.start c.in_ok-push.ensures.items start;
-      drift = values_more (drift_drawn c.args.rate x) k c.loop.drift.items c.push-in-loop.new.self.items _ inv.drift c.in_ok-push-2.ensures.items
-          (held ∙ (c.spread.ensures.drawn ∙ ap (spread c.args.rate) two));
+      start =
+          values_more (start_drawn c.args.skew x) k c.loop.start.items c.push.new.self.items _ inv.start
+          c.in_ok-push.ensures.items start;
+      drift =
+          values_more (drift_drawn c.args.rate x) k c.loop.drift.items c.push-in-loop.new.self.items _ inv.drift
+          c.in_ok-push-2.ensures.items (held ∙ (c.spread.ensures.drawn ∙ ap (spread c.args.rate) two));
       next = two ∙ ap (after x) places;
     }

@@ -13,7 +13,8 @@ loop-other-preserved c =
     let own = c.args.own in
     let other = c.loop-other.other in
     let inv = c.loop-other.invariant in record {
-      row = values_more (noise_drawn c.args.error x own) other c.loop-other.row.items c.push.new.self.items _ inv.row c.in_ok-push.ensures.items
+      row = values_more (noise_drawn c.args.error x own) other c.loop-other.row.items c.push.new.self.items _ inv.row
+          c.in_ok-push.ensures.items
           (elim c.if-other-own.branch [
             | then-other-own w ↦ w.noise-is ∙ sym (noise-same c.args.error x own other w.if-other-own.true)
             | else-other-own w ↦

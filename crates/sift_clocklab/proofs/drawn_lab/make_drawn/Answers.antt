@@ -18,7 +18,8 @@ returns-clause-lab c =
     let misread : c.unsigned_abs-misread.result ≡ unsigned_abs a.error = c.unsigned_abs-misread.ensures.value ∙ ap unsigned_abs error in
     let change : c.unsigned_abs-change.result ≡ unsigned_abs a.rate = c.unsigned_abs-change.ensures.value ∙ ap unsigned_abs rate in
     let first = c.of-draw.ensures in
-    let next : c.drawn_clocks.new.draw ≡ noise_place (a.n - a.m) a.number = c.in_ok-start.ensures.next ∙ ap (noise_place (a.n - a.m)) first in
+    let next : c.drawn_clocks.new.draw ≡ noise_place (a.n - a.m) a.number =
+    c.in_ok-start.ensures.next ∙ ap (noise_place (a.n - a.m)) first in
     let start = c.in_ok-start.ensures.start ∙ (λ i. map (start_drawn (apart i) (first i)) clocks) in
     let drift = c.in_ok-start.ensures.drift ∙ (λ i. map (drift_drawn (change i) (first i)) clocks) in
     let noise = c.in_ok-noise.ensures.noise
@@ -42,7 +43,8 @@ returns-clause-face c =
     let error : held a.error ≡ a.error = omega (arith, ints) in
     let apart : c.unsigned_abs-apart.result ≡ unsigned_abs a.skew = c.unsigned_abs-apart.ensures.value ∙ ap unsigned_abs skew in
     let misread : c.unsigned_abs-misread.result ≡ unsigned_abs a.error = c.unsigned_abs-misread.ensures.value ∙ ap unsigned_abs error in
-    let next : c.drawn_clocks.new.draw ≡ noise_place (a.n - a.m) a.number = c.in_ok-start.ensures.next ∙ ap (noise_place (a.n - a.m)) c.of-draw.ensures in
+    let next : c.drawn_clocks.new.draw ≡ noise_place (a.n - a.m) a.number =
+    c.in_ok-start.ensures.next ∙ ap (noise_place (a.n - a.m)) c.of-draw.ensures in
     let draw = c.in_ok-noise.ensures.next ∙ ap (λ y. after y ((a.n - a.m) * (a.n - a.m - 1))) next in
     let limit : c.unsigned_abs-apart.result + c.unsigned_abs-misread.result ≡ unsigned_abs (a.skew +ℤ a.error) =
     (λ i. apart i + misread i) ∙ abs_sum a.skew a.error c.requires.in_range.small_skew.0 c.requires.in_range.small_error.0 in

@@ -9,7 +9,8 @@ use Rattle.sift_clocklab.proofs.printing.skews_of.Goals.{in-Some+in_ok-push, in_
 pub skew-requires : goal.skew-requires
 skew-requires c =
     let row = c.row-item.result in
-    let told = row_has_skew (λ (r : Vec ℤ Global). r.items) c.args.rows.now c.loop-row.row-index row (omega arith) c.row-item.is c.requires in
+    let told = row_has_skew (λ (r : Vec ℤ Global). r.items) c.args.rows.now c.loop-row.row-index row (omega arith) c.row-item.is
+    c.requires in
     subst AreInRange (sym c.deref.ensures.value) told.in_range
 
 -- one list more, and its skew
@@ -22,7 +23,8 @@ loop-row-preserved c =
     let below : at < length rows = omega arith in
     elim c.match-skew.branch [
       | in-Some+in_ok-push w ↦
-          let figure : IsSkew row.items w.in-Some.apart = subst (λ (os : List ℤ). IsSkew os w.in-Some.apart) c.deref.ensures.value w.in-Some.ensures in
+          let figure : IsSkew row.items w.in-Some.apart =
+          subst (λ (os : List ℤ). IsSkew os w.in-Some.apart) c.deref.ensures.value w.in-Some.ensures in
           let small = skew_small row.items w.in-Some.apart told figure in
           let held : to_z w64 (of_z w64 w.in-Some.apart) ≡ w.in-Some.apart = omega (arith, ints, small) in
           let one = (λ i. (w.skews-is i).items) ∙ (w.in_ok-push.ensures.items ∙ (λ i. c.loop-row.skews.items ++ held i ∷ [])) in

@@ -30,8 +30,10 @@ sum_is lab offsets shown own at limit correction drift round low parts =
     parts.correction_is ∙ (λ i. correction_of (parts.limit_is i) (sym (length-range_with_len 0 lab.n) i) readings) in
     let drifts : drift ≡ drift_of lab own =
     parts.drift_is ∙ (get_or_default lab.drift at drift (pos 0) (omega (arith, round.ready.drift.each, parts.place))
-    ∙ ap (drift_of lab) parts.place) in
-    ((λ i. offset_of offsets (parts.place i) +ℤ corrected i +ℤ drifts i), near_after lab farthest offsets shown own round.ready round.kept low)
+    ∙ ap (drift_of lab) parts.place) in (
+      (λ i. offset_of offsets (parts.place i) +ℤ corrected i +ℤ drifts i),
+      near_after lab farthest offsets shown own round.ready round.kept low,
+    )
 
 -- a clock reads all but itself
 pub correct-correction-requires-clause-others : goal.correct-correction-requires-clause-others

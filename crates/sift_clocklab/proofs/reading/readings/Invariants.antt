@@ -9,6 +9,7 @@ use Rattle.sift_clocklab.proofs.reading.readings.Given as goal
 -- what it reads of the clocks so far
 abbrev pub invariant-loop-other : goal.invariant-loop-other
 invariant-loop-other l = record {
-  read : l.readings.items ≡ map (reading_of (laboratory_of l.lab) l.offsets l.shown l.own) (others l.own (range_with_len 0 l.other));
+  read : l.readings.items
+      ≡ map (reading_of (laboratory_of l.lab) l.offsets l.shown l.own) (others l.own (range_with_len 0 l.other));
   few : array_vec_len l.readings ≤ l.other;
 }

@@ -10,7 +10,8 @@ use Rattle.sift_clocklab.proofs.running.show_round.Goals as goal
 
 -- the pairs so far, and one more
 more_pairs : (before : List Pair) (w k clock to : ℕ) → w + k ≡ clock
-    → before ++ pairs_to (range_with_len w (k + 1)) to ≡ (before ++ pairs_to (range_with_len w k) to) ++ record { clock = clock; to = to } ∷ []
+    → before ++ pairs_to (range_with_len w (k + 1)) to
+    ≡ (before ++ pairs_to (range_with_len w k) to) ++ record { clock = clock; to = to } ∷ []
 more_pairs before w k clock to place =
     let one : Pair = record { clock = clock; to = to } in
     let same : range_with_len w (k + 1) ≡ range_with_len w k ++ clock ∷ [] =
@@ -59,8 +60,10 @@ loop-to-preserved g c =
     let all : c.loop-clock.clock - working_of lab ≡ lab.m = omega arith in
     let inv = c.loop-clock.invariant in record {
       shown =
-          subst (λ (pairs : List Pair). ShowsInTurn g.F.Face.allows c.args.round c.args.face.now pairs c.loop-clock.shown.items c.loop-clock.face)
-          (ap (λ (n : ℕ). before ++ pairs_to (range_with_len (working_of lab) n) to) all ∙ sym (more_clocks (faulty_clocks lab) to)) inv.shown;
+          subst (λ (pairs : List Pair). ShowsInTurn g.F.Face.allows c.args.round c.args.face.now pairs c.loop-clock.shown.items
+          c.loop-clock.face)
+          (ap (λ (n : ℕ). before ++ pairs_to (range_with_len (working_of lab) n) to) all
+          ∙ sym (more_clocks (faulty_clocks lab) to)) inv.shown;
       each = (let each = inv.each in omega (arith, all));
       room = inv.room;
     }

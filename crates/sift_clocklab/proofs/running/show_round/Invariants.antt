@@ -18,7 +18,8 @@ invariant-loop-clock g l =
 abbrev pub invariant-loop-to : goal.invariant-loop-to
 invariant-loop-to g l =
     let lab = laboratory_of l.lab in record {
-      shown : ShowsInTurn g.F.Face.allows l.round l.fn.face (flat_map (pairs_to (faulty_clocks lab)) (range_with_len 0 l.to)) l.shown.items l.face;
+      shown : ShowsInTurn g.F.Face.allows l.round l.fn.face (flat_map (pairs_to (faulty_clocks lab)) (range_with_len 0 l.to))
+          l.shown.items l.face;
       each : vec_len l.shown ≡ l.to * lab.m;
       room : working_of lab * lab.m ≤ vec_capacity l.shown;
     }

@@ -12,5 +12,6 @@ index-requires-2 c =
     let rows : length lab.noise ≡ length c.args.self.now.noise.items = length-map c.args.self.now.noise.items _ in
     let row : c.index.result.now.items ≡ get_or lab.noise c.from.result [] =
     row_at _ c.args.self.now.noise.items c.from.result c.index.result.now (omega (arith, ready.noise_of_each, rows)) c.index.ensures in
-    let each : length (get_or lab.noise c.from.result []) ≡ working_of lab = (ready.noise c.from.result [] (omega (arith, ready.noise_of_each))).each in
+    let each : length (get_or lab.noise c.from.result []) ≡ working_of lab =
+    (ready.noise c.from.result [] (omega (arith, ready.noise_of_each))).each in
     omega (arith, c.index.result.now.ok, ap length row ∙ each)
