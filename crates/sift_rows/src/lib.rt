@@ -11,6 +11,8 @@ mod buffer;
 #[cfg(test)]
 mod clock;
 #[cfg(test)]
+mod clocklab;
+#[cfg(test)]
 mod config;
 #[cfg(test)]
 mod exec;

@@ -1,0 +1,12 @@
+pub mod Clocks
+pub mod Keeping
+pub mod DrawnLabs
+pub mod DrawnRounds
+pub mod Lists
+pub mod Figures
+pub mod Margins
+pub mod Numbers
+pub mod Products
+pub mod Ranges
+pub mod Rounds
+pub mod Turns

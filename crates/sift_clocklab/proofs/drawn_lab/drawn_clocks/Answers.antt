@@ -1,0 +1,30 @@
+use Rattle.std.proofs.Common.{◌≡◌, ℕ, ◌+◌, ◌*◌, refl, ap, ◌∙◌, w32, w64, to_z, of_z, arith}
+use Rattle.std.proofs.lemmas.Int.{ints}
+use Rattle.sift_base.specs.Draw.{drawn}
+use Rattle.sift_clocklab.specs.Draws.{after, drift_drawn, spread, start_drawn}
+use Rattle.sift_clocklab.proofs.Lists.{values_more}
+use Rattle.sift_clocklab.proofs.Numbers.{after-next}
+use Rattle.sift_clocklab.proofs.drawn_lab.drawn_clocks.Goals as goal
+
+-- one clock more, and two draws
+pub loop-preserved : goal.loop-preserved
+loop-preserved c =
+    let x = c.args.draw.now in
+    let k : ℕ = c.loop.counter in
+    let inv = c.loop.invariant in
+    let one = after-next x c.loop.draw c.draw.new.self (2 * k) (2 * k + 1) inv.next c.draw.ensures.next refl in
+    let two = after-next x c.draw.new.self c.spread.new.draw (2 * k + 1) (2 * k + 2) one c.spread.ensures.next (omega arith) in
+    let number : c.draw.result ≡ drawn (after x (2 * k + 1)) (c.args.skew + 1) =
+    c.draw.ensures.drawn ∙ (λ i. drawn (one i) (c.from.ensures i + 1)) in
+    let start : to_z w64 c.draw.result ≡ start_drawn c.args.skew x k = omega (arith, ints, number) in
+    let held : to_z w32 (of_z w32 c.spread.result) ≡ c.spread.result = omega (arith, ints) in
+    let places : 2 * k + 2 ≡ 2 * (k + 1) = omega arith in
+    record {
+      start =
+          values_more (start_drawn c.args.skew x) k c.loop.start.items c.push.new.self.items _ inv.start
+          c.in_ok-push.ensures.items start;
+      drift =
+          values_more (drift_drawn c.args.rate x) k c.loop.drift.items c.push-in-loop.new.self.items _ inv.drift
+          c.in_ok-push-2.ensures.items (held ∙ (c.spread.ensures.drawn ∙ ap (spread c.args.rate) two));
+      next = two ∙ ap (after x) places;
+    }

@@ -1,0 +1,74 @@
+use Rattle.std.proofs.Common.{◌≡◌, ℕ, ◌+◌, ◌<◌, List, length, map, get_or, Option, ℤ, pos, ◌+ℤ◌, ap, sym, ◌∙◌, w32, to_z, of_z, arith}
+use Rattle.std.proofs.lemmas.Int.{ints}
+use Rattle.std.proofs.lemmas.List.{get_or_default, length-map}
+use Rattle.std.proofs.lemmas.List.FromFn.{length-range_with_len}
+use Rattle.sift_base.specs.Units.{others}
+use Rattle.sift_clock.specs.Distance.{IsWithin}
+use Rattle.sift_clock.specs.Correction.{correction_of}
+use Rattle.sift_clocklab.specs.Laboratory.{Laboratory, clocks_of, drift_of, laboratory_of, reading_limit, working_of}
+use Rattle.sift_clocklab.specs.Rounds.{offset_after, offset_of, reading_of}
+use Rattle.sift_clocklab.specs.Skew.{IsRound, farthest}
+use Rattle.sift_clocklab.proofs.Keeping.{near_after}
+use Rattle.sift_clocklab.proofs.Ranges.{length-others-range}
+use Rattle.sift_clocklab.proofs.reading.offset_after.Goals as goal
+
+-- the parts of the next offset, as they are read: the own offset, the correction, and the drift
+record AreParts (lab : Laboratory) (offsets : List ℤ) (shown : List (Option ℤ)) (own at : ℕ) (limit correction drift : ℤ) : Type 0 where
+  place : at ≡ own
+  limit_is : limit ≡ reading_limit lab
+  correction_is : correction ≡ correction_of limit lab.n (map (reading_of lab offsets shown own) (others own (clocks_of lab)))
+  drift_is : drift ≡ get_or lab.drift at drift
+
+-- their sum is the next offset, and that is near enough to 0
+sum_is : (lab : Laboratory) (offsets : List ℤ) (shown : List (Option ℤ)) (own at : ℕ) (limit correction drift : ℤ)
+    → IsRound lab offsets shown → own < working_of lab → AreParts lab offsets shown own at limit correction drift
+    → (offset_of offsets at +ℤ correction +ℤ drift ≡ offset_after lab offsets shown own)
+    × IsWithin (pos (farthest + 24000)) (offset_after lab offsets shown own) (pos 0)
+sum_is lab offsets shown own at limit correction drift round low parts =
+    let readings = map (reading_of lab offsets shown own) (others own (clocks_of lab)) in
+    let corrected : correction ≡ correction_of (reading_limit lab) (length (clocks_of lab)) readings =
+    parts.correction_is ∙ (λ i. correction_of (parts.limit_is i) (sym (length-range_with_len 0 lab.n) i) readings) in
+    let drifts : drift ≡ drift_of lab own =
+    parts.drift_is ∙ (get_or_default lab.drift at drift (pos 0) (omega (arith, round.ready.drift.each, parts.place))
+    ∙ ap (drift_of lab) parts.place) in (
+      (λ i. offset_of offsets (parts.place i) +ℤ corrected i +ℤ drifts i),
+      near_after lab farthest offsets shown own round.ready round.kept low,
+    )
+
+-- a clock reads all but itself
+pub correct-correction-requires-clause-others : goal.correct-correction-requires-clause-others
+correct-correction-requires-clause-others c =
+    let lab = laboratory_of c.args.lab.now in
+    let all = length-others-range c.args.own 0 lab.n (omega arith) (omega arith) in
+    let read = ap length c.readings.ensures
+    ∙ length-map (others c.args.own (clocks_of lab)) (reading_of lab c.args.offsets.now c.args.shown.now c.args.own) in
+    omega (arith, all, read, ap length c.deref.ensures.0)
+
+-- the next offset is near enough to 0
+pub advance-requires : goal.advance-requires
+advance-requires c =
+    let a = c.args in
+    let limit : to_z w32 (of_z w32 c.limit.result) ≡ reading_limit (laboratory_of a.lab.now) = omega (arith, ints, c.limit.ensures) in
+    let sum = sum_is (laboratory_of a.lab.now) a.offsets.now a.shown.now a.own c.from-at.result (to_z w32 (of_z w32 c.limit.result))
+    c.correct-correction.result c.index.result.now c.requires.round c.requires.own (record {
+      place = c.from-at.ensures;
+      limit_is = limit;
+      correction_is = c.correct-correction.ensures
+          ∙ ap (correction_of (to_z w32 (of_z w32 c.limit.result)) a.lab.now.n) (c.deref.ensures.0 ∙ c.readings.ensures);
+      drift_is = c.index.ensures;
+    }) in
+    omega (arith, ints, sum)
+
+pub returns : goal.returns
+returns c =
+    let a = c.args in
+    let limit : to_z w32 (of_z w32 c.limit.result) ≡ reading_limit (laboratory_of a.lab.now) = omega (arith, ints, c.limit.ensures) in
+    let sum = sum_is (laboratory_of a.lab.now) a.offsets.now a.shown.now a.own c.from-at.result (to_z w32 (of_z w32 c.limit.result))
+    c.correct-correction.result c.index.result.now c.requires.round c.requires.own (record {
+      place = c.from-at.ensures;
+      limit_is = limit;
+      correction_is = c.correct-correction.ensures
+          ∙ ap (correction_of (to_z w32 (of_z w32 c.limit.result)) a.lab.now.n) (c.deref.ensures.0 ∙ c.readings.ensures);
+      drift_is = c.index.ensures;
+    }) in
+    omega (arith, ints, sum, c.advance.ensures)

@@ -1,0 +1,10 @@
+pub mod Laboratory
+pub mod Conditions
+pub mod Rounds
+pub mod Showing
+pub mod Skew
+pub mod Text
+pub mod Margin
+pub mod Pages
+pub mod Draws
+pub mod DrawnRuns
