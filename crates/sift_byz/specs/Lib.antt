@@ -1,0 +1,5 @@
+pub mod Charts
+pub mod Laws
+pub mod Plan
+pub mod Relaying
+pub mod Rows

@@ -1,0 +1,33 @@
+//! The vectors that the units make.
+
+ghost use Rattle.std.specs.Prelude.{◌≡◌, ◌<◌, ℕ, List, [], get_or, length};
+ghost use Rattle.sift_byz.specs.Plan.{entry_in};
+
+use arrayvec::ArrayVec;
+use sift_base::Word;
+use std::marker::Model;
+
+/// A vector for each unit: the value that it takes for each unit's. A clause sees the list of the vectors.
+#[derive(Debug, Drop)]
+pub struct Vectors {
+    pub(crate) rows: Vec<ArrayVec<Word, 10>>,
+}
+
+impl Model for Vectors {
+    ghost use Rattle.std.specs.Prelude.{ℕ, List, map};
+
+    ghost Value = { List (List ℕ) };
+
+    ghost view = { λ vectors. map (λ row. row.items) vectors.rows.items };
+}
+
+impl Vectors {
+    /// The entry of unit `s` in the vector of unit `q`.
+    pub fn get(&self, q: u8, s: u8) -> Word
+        requires unit { q < length self.now }
+        requires entry { s < length (get_or self.now q []) }
+        ensures { result ≡ entry_in self.now q s }
+    {
+        self.rows[usize::from(q)][usize::from(s)]
+    }
+}
