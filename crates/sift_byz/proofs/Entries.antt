@@ -11,10 +11,11 @@ use Rattle.sift_base.specs.Units.{has, others, IsAscending}
 use Rattle.sift_base.proofs.Counts.{apart, count-no, count-yes, nat_eq-same}
 use Rattle.sift_vote.specs.Agreed.{agreed_of}
 use Rattle.sift_byz.specs.Laws.{LoyalValuesAreKept, OneTraitorIsAsInFlights, VectorsAreEqual, VectorsHoldTheEntries}
-use Rattle.sift_byz.specs.Plan.{LieData, PlanData, TraitorsAreFew, all_units, entry, first_lie, heard, is_loyal, is_told, stands_last, tells_some, value_of, vector}
+use Rattle.sift_byz.specs.Plan.{LieData, PlanData, TraitorsAreFew, all_units, entry, first_lie, heard, is_loyal, is_told, is_traitor, stands_last, tells_some, traitor_count, value_of, vector}
 use Rattle.sift_byz.specs.Relaying.{LoyalUnitsRelay, outside, result_of}
 use Rattle.sift_byz.proofs.Outside.{map_same, no_more, one_fewer, outside-cons, outside-nil, row_ascends, row_has, row_low, still_outside, traitor_gone}
 use Rattle.sift_byz.proofs.Places.{agreed_one}
+use Rattle.sift_byz.proofs.Tellers.{count-same}
 use Rattle.sift_byz.proofs.Results.{any_unit_is_agreed_on, loyal_unit_is_believed}
 
 -- ---- lies
@@ -58,6 +59,14 @@ relays : (plan : PlanData) → LoyalUnitsRelay (is_loyal plan) (heard plan)
 relays plan r path q r_loyal = rw (no_lie plan.lies r path q (not_true _ r_loyal))
 
 -- ---- the laws
+
+-- the traitors are those that aren't loyal
+traitors_are : (plan : PlanData) → faulty_count (is_loyal plan) (all_units plan) ≡ traitor_count plan
+traitors_are plan = count-same (is_traitor plan) (λ u. not (is_loyal plan u)) (all_units plan) (λ u. twice (is_traitor plan u))
+  where
+    twice : (b : Bool) → not (not b) ≡ b
+    twice true = refl
+    twice false = refl
 
 -- q's result for the path of s
 abbrev result_for : PlanData → (q s : ℕ) → Option ℕ
@@ -103,7 +112,7 @@ believed :
 believed plan q s few q_low s_low q_loyal s_loyal other =
     rw other (agreed_one (result_for plan q s)
     ∙ loyal_unit_is_believed (all_units plan) (is_loyal plan) (heard plan) plan.m s [] q (row_ascends 0 plan.units) (relays plan)
-    (omega (arith, one_left plan s s_low, traitors_left plan s, few.enough, few.few))
+    (omega (arith, one_left plan s s_low, traitors_left plan s, traitors_are plan, few.enough, few.few))
     s_loyal (other_left plan s q q_low other) q_loyal)
 
 pub loyal_values_are_kept : LoyalValuesAreKept
@@ -120,7 +129,7 @@ agreed_on :
 agreed_on plan p q s few p_low q_low s_low p_loyal q_loyal not_p not_q =
     rw (not_p, not_q) (agreed_one (result_for plan p s)
     ∙ any_unit_is_agreed_on (all_units plan) (is_loyal plan) (heard plan) plan.m s [] p q (row_ascends 0 plan.units) (relays plan)
-    (omega (arith, traitors_with plan s s_low, few.few))
+    (omega (arith, traitors_with plan s s_low, traitors_are plan, few.few))
     (omega (arith, one_left plan s s_low, few.enough))
     (other_left plan s p p_low not_p) p_loyal (other_left plan s q q_low not_q) q_loyal
     ∙ sym (agreed_one (result_for plan q s)))

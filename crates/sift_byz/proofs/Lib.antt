@@ -1,3 +1,4 @@
+pub mod Answered
 pub mod Charts
 pub mod Digits
 pub mod Entries
@@ -6,3 +7,7 @@ pub mod Outside
 pub mod Places
 pub mod Results
 pub mod Searches
+pub mod Stopping
+pub mod Tellers
+pub mod Testing
+pub mod Values

@@ -1,9 +1,8 @@
 -- Units with values, the lies of the traitors among them, and the vectors that the units make.
-use Rattle.std.specs.Prelude.{◌≡◌, ℕ, ◌+◌, ◌*◌, ◌<◌, ◌≤◌, List, [], ◌∷◌, map, length, reverse, get_or, Bool, false, not, ◌&&◌, nat_eq, if◌then◌else◌, Option, Some, unwrap_or}
+use Rattle.std.specs.Prelude.{◌≡◌, ℕ, ◌+◌, ◌*◌, ◌<◌, ◌≤◌, List, [], ◌∷◌, map, length, count_by, reverse, get_or, Bool, false, not, ◌&&◌, nat_eq, if◌then◌else◌, Option, Some, unwrap_or}
 use Rattle.std.specs.List.{find, list_any, range_with_len}
 use Rattle.std.specs.Option.{option_map}
 use Rattle.std.specs.Str.{bytes_eq}
-use Rattle.sift_base.specs.Margin.{faulty_count}
 use Rattle.sift_base.specs.Units.{has}
 use Rattle.sift_vote.specs.Agreed.{agreed_of}
 use Rattle.sift_byz.specs.declared.plan.ByzPlan.{ByzPlan}
@@ -61,6 +60,10 @@ stands_last u (v ∷ w ∷ rest) = stands_last u (w ∷ rest)
 abbrev pub tells_some : List LieData → ℕ → Bool
 tells_some lies u = list_any (λ (lie : LieData). stands_last u lie.path) lies
 
+-- how many units below a number tell some of these lies
+abbrev pub teller_count : (units : ℕ) → List LieData → ℕ
+teller_count units lies = count_by (tells_some lies) (range_with_len 0 units)
+
 -- traitors tell lies, and all other units are loyal
 abbrev pub is_traitor : PlanData → ℕ → Bool
 is_traitor plan u = tells_some plan.lies u
@@ -70,7 +73,7 @@ is_loyal plan u = not (is_traitor plan u)
 
 -- how many traitors there are
 abbrev pub traitor_count : PlanData → ℕ
-traitor_count plan = faulty_count (is_loyal plan) (all_units plan)
+traitor_count plan = teller_count plan.units plan.lies
 
 -- ---- what is heard
 

@@ -1,7 +1,28 @@
-//! The laws of oral messages.
+//! The laws of documents and of oral messages.
 
 ghost use Rattle.sift_byz.specs.Laws.{AnyUnitIsAgreedOn, LoyalUnitIsBelieved, LoyalValuesAreKept, OneTraitorIsAsInFlights, VectorsAreEqual, VectorsHoldTheEntries};
+ghost use Rattle.sift_byz.specs.Lawful.{OnePlan, OneRefusal, PlansAreAccepted, StatedPlansAreLawful};
 ghost use Rattle.sift_byz.specs.Rows.{PremisesAreMet, Rows, ThreeAreTooFew};
+
+/// A document states at most one plan.
+pub fn one_plan()
+    ensures { OnePlan }
+{}
+
+/// A document that states a plan is refused by no rule.
+pub fn plans_are_accepted()
+    ensures { PlansAreAccepted }
+{}
+
+/// A document is refused in one way: by one rule, at one place.
+pub fn one_refusal()
+    ensures { OneRefusal }
+{}
+
+/// A plan that a document states is within the limits, and its traitors are few.
+pub fn stated_plans_are_lawful()
+    ensures { StatedPlansAreLawful }
+{}
 
 /// What a loyal unit holds is the result of each other loyal unit.
 pub fn loyal_unit_is_believed()

@@ -28,6 +28,14 @@ impl Vectors {
         requires entry { s < length (get_or self.now q []) }
         ensures { result ≡ entry_in self.now q s }
     {
-        self.rows[usize::from(q)][usize::from(s)]
+        self.of(q)[usize::from(s)]
+    }
+
+    /// The vector of unit `q`.
+    pub(crate) fn of(&self, q: u8) -> &[Word]
+        requires { q < length self.now }
+        ensures { result.now ≡ get_or self.now q [] }
+    {
+        &self.rows[usize::from(q)]
     }
 }
