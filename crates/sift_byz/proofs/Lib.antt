@@ -3,6 +3,7 @@ pub mod Charts
 pub mod Digits
 pub mod Entries
 pub mod Growing
+pub mod Lists
 pub mod Outside
 pub mod Places
 pub mod Results

@@ -97,7 +97,7 @@ row_low a (suc n) u u_in = elim (or_cases (nat_eq a u) (has (range_with_len (a +
 ]
 
 -- a number more in a row
-row_more : (a n : ℕ) → range_with_len a (suc n) ≡ range_with_len a n ++ (a + n) ∷ []
+pub row_more : (a n : ℕ) → range_with_len a (suc n) ≡ range_with_len a n ++ (a + n) ∷ []
 row_more a zero = ap (λ x. x ∷ []) (omega arith)
 row_more a (suc n) = ap (λ xs. a ∷ xs) (row_more (a + 1) n ∙ ap (λ x. range_with_len (a + 1) n ++ x ∷ []) (omega arith))
 

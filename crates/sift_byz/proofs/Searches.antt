@@ -1,6 +1,6 @@
 -- The first of what is made of a list's elements, and lists that are written anew.
-use Rattle.std.proofs.Common.{◌≡◌, List, [], ◌∷◌, ◌++◌, length, take, drop, map, Bool, ap, refl, inl, inr, Option, Some, None, arith}
-use Rattle.std.specs.List.{find}
+use Rattle.std.proofs.Common.{◌≡◌, List, [], ◌∷◌, ◌++◌, length, take, drop, map, Bool, ◌||◌, ap, refl, inl, inr, Option, Some, None, arith}
+use Rattle.std.specs.List.{find, list_any}
 use Rattle.std.specs.Option.{option_map}
 use Rattle.std.proofs.lemmas.Bool.{cases_Bool}
 
@@ -19,3 +19,8 @@ refilled [] [] same = refl
 refilled [] (w ∷ ws) same = absurd (omega arith)
 refilled (x ∷ xs) [] same = absurd (omega arith)
 refilled (x ∷ xs) (w ∷ ws) same = ap (λ l. w ∷ l) (refilled xs ws (omega arith))
+
+-- a test of what is made of some elements
+pub list_any-map : {X Y : Type 0} (f : X → Y) (p : Y → Bool) (xs : List X) → list_any p (map f xs) ≡ list_any (λ x. p (f x)) xs
+list_any-map f p [] = refl
+list_any-map f p (x ∷ xs) = ap (λ b. p (f x) || b) (list_any-map f p xs)
