@@ -4,14 +4,14 @@ use Rattle.std.specs.List.{list_any}
 use Rattle.std.specs.Str.{bytes_eq}
 use Rattle.std.proofs.lemmas.Bool.{and_parts, cases_Bool, eqb-true}
 use Rattle.std.proofs.lemmas.List.{reverse-append}
-use Rattle.std.proofs.lemmas.List.FromFn.{get_or-map-range_with_len, length-range_with_len}
+use Rattle.std.proofs.lemmas.List.FromFn.{get_or-map-range_with_len, length-map-range_with_len, length-range_with_len}
 use Rattle.std.proofs.lemmas.Slice.Eq.{bytes_eq-Decides}
 use Rattle.sift_base.specs.Margin.{faulty_count}
 use Rattle.sift_base.specs.Units.{has, others, IsAscending}
 use Rattle.sift_base.proofs.Counts.{apart, count-no, count-yes, nat_eq-same}
 use Rattle.sift_vote.specs.Agreed.{agreed_of}
 use Rattle.sift_byz.specs.Laws.{LoyalValuesAreKept, OneTraitorIsAsInFlights, VectorsAreEqual, VectorsHoldTheEntries}
-use Rattle.sift_byz.specs.Plan.{LieData, PlanData, TraitorsAreFew, all_units, entry, first_lie, heard, is_loyal, is_told, is_traitor, stands_last, tells_some, traitor_count, value_of, vector}
+use Rattle.sift_byz.specs.Plan.{IsSquare, LieData, PlanData, TraitorsAreFew, all_units, entry, first_lie, heard, is_loyal, is_told, is_traitor, stands_last, tells_some, traitor_count, value_of, vector, vectors_of}
 use Rattle.sift_byz.specs.Relaying.{LoyalUnitsRelay, outside, result_of}
 use Rattle.sift_byz.proofs.Outside.{map_same, no_more, one_fewer, outside-cons, outside-nil, row_ascends, row_has, row_low, still_outside, traitor_gone}
 use Rattle.sift_byz.proofs.Places.{agreed_one}
@@ -168,3 +168,10 @@ pub vectors_hold_the_entries : VectorsHoldTheEntries
 vectors_hold_the_entries plan q s q_low s_low =
     ap (λ (row : List ℕ). get_or row s 0) (get_or-map-range_with_len (vector plan) 0 plan.units q q [] q_low (omega arith))
     ∙ get_or-map-range_with_len (entry plan q) 0 plan.units s s 0 s_low (omega arith)
+
+-- each of a plan's vectors has an entry for each unit
+pub vectors_are_square : (plan : PlanData) → IsSquare (vectors_of plan)
+vectors_are_square plan i d low =
+    let many : length (vectors_of plan) ≡ plan.units = length-map-range_with_len (vector plan) 0 plan.units in
+    ap length (get_or-map-range_with_len (vector plan) 0 plan.units i i d (omega (arith, many, low)) (omega arith))
+    ∙ length-map-range_with_len (entry plan i) 0 plan.units ∙ sym many

@@ -1,6 +1,6 @@
 -- Units with values, the lies of the traitors among them, and the vectors that the units make.
 use Rattle.std.specs.Prelude.{◌≡◌, ℕ, ◌+◌, ◌*◌, ◌<◌, ◌≤◌, List, [], ◌∷◌, map, length, count_by, reverse, get_or, Bool, false, not, ◌&&◌, nat_eq, if◌then◌else◌, Option, Some, unwrap_or}
-use Rattle.std.specs.List.{find, list_any, range_with_len}
+use Rattle.std.specs.List.{All, find, list_any, range_with_len}
 use Rattle.std.specs.Option.{option_map}
 use Rattle.std.specs.Str.{bytes_eq}
 use Rattle.sift_base.specs.Units.{has}
@@ -106,6 +106,10 @@ vector plan q = map (entry plan q) (all_units plan)
 -- the vectors of all units
 abbrev pub vectors_of : PlanData → List (List ℕ)
 vectors_of plan = map (vector plan) (all_units plan)
+
+-- each of some vectors is as long as there are vectors
+abbrev pub IsSquare : List (List ℕ) → Type 0
+IsSquare vectors = All (λ vector. length vector ≡ length vectors) vectors
 
 -- the entry of s in the vector of q, among some vectors
 abbrev pub entry_in : List (List ℕ) → (q s : ℕ) → ℕ

@@ -1,8 +1,8 @@
 -- The text of vectors: a line for each unit, which says that it lies or has its vector.
-use Rattle.std.specs.Prelude.{codes, ℕ, ◌/◌, ◌%◌, List, [], ◌∷◌, ◌++◌, map, get_or, if◌then◌else◌, false}
+use Rattle.std.specs.Prelude.{codes, ℕ, ◌/◌, ◌%◌, List, [], ◌∷◌, ◌++◌, map, if◌then◌else◌, false}
 use Rattle.std.specs.Fmt.{decimal, digit_glyph}
 use Rattle.std.specs.List.{flat_map, join_with_byte}
-use Rattle.sift_byz.specs.Plan.{PlanData, all_units, is_traitor}
+use Rattle.sift_byz.specs.Plan.{PlanData, all_units, is_traitor, vector}
 
 -- the byte between the words of a vector
 abbrev pub comma : ℕ
@@ -24,6 +24,6 @@ told_text plan u vector = if is_traitor plan u then codes " liar" else codes " v
 abbrev pub line_text : PlanData → (u : ℕ) → (vector : List ℕ) → List ℕ
 line_text plan u vector = codes "u=" ++ decimal u ++ told_text plan u vector ++ codes "\n"
 
--- the lines of all units
-abbrev pub vectors_text : PlanData → List (List ℕ) → List ℕ
-vectors_text plan vectors = flat_map (λ u. line_text plan u (get_or vectors u [])) (all_units plan)
+-- the lines of all units, with their vectors
+abbrev pub text_of : PlanData → List ℕ
+text_of plan = flat_map (λ u. line_text plan u (vector plan u)) (all_units plan)

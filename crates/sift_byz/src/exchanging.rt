@@ -21,7 +21,8 @@ use std::alloc::Global;
 /// Generals Problem", ACM Transactions on Programming Languages and Systems 4(3), 1982, run for each unit's value.
 pub fn exchange(alloc: Global, plan: &ByzPlan) -> Result<Vectors, NoMemory>
     requires { IsInRange (plan_of plan.now) }
-    ensures { IfOk result (λ vectors. vectors ≡ vectors_of (plan_of plan.now)) }
+    ensures vectors { IfOk result (λ vectors. vectors ≡ vectors_of (plan_of plan.now)) }
+    ensures units { IfOk result (λ vectors. length vectors ≡ plan.now.units) }
 {
     let own = own_values(alloc, plan)?;
     let heard = hear(alloc, plan, 0, &own)?;

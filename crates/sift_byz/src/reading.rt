@@ -6,7 +6,7 @@ ghost use Rattle.toml.specs.Data.{get_member};
 ghost use Rattle.toml.specs.View.{table_view};
 ghost use Rattle.sift_byz.specs.Document.{integer_between, words_of};
 ghost use Rattle.sift_byz.specs.Lawful.{BreaksFew, BreaksKeys, BreaksM, BreaksUnits, BreaksValues, IsPlanOf, IsRefusedWith, OnlyRefuses};
-ghost use Rattle.sift_byz.specs.Plan.{PlanData, lie_of, plan_of, traitor_limit, unit_limit};
+ghost use Rattle.sift_byz.specs.Plan.{IsInRange, PlanData, TraitorsAreFew, lie_of, plan_of, traitor_limit, unit_limit};
 ghost use Rattle.sift_byz.specs.Stated.{IsPath, lie_limit, m_of, units_of, values_of};
 ghost use Rattle.sift_byz.specs.Testing.{Tests};
 
@@ -24,6 +24,8 @@ use toml::Table;
 /// The nine rules are tested in the order of their numbers, and each for the entries of `lie` in their order.
 pub fn read_byz(alloc: Global, document: &Table) -> Result<ByzPlan, ByzStop>
     ensures accepted { IfOk result (λ plan. IsPlanOf (table_view document.now) (plan_of plan)) }
+    ensures within { IfOk result (λ plan. IsInRange (plan_of plan)) }
+    ensures few { IfOk result (λ plan. TraitorsAreFew (plan_of plan)) }
     ensures refused { IfErr result (IsRefusedWith (table_view document.now)) }
 
     // A document that states a plan, or is owed a refusal, gets it, unless memory is wanting.

@@ -1,20 +1,22 @@
 //! The text of vectors.
 
-ghost use Rattle.std.specs.Prelude.{◌≡◌, ◌<◌, ◌++◌, IfOk, OnOk, length, string_bytes, false};
+ghost use Rattle.std.specs.Prelude.{◌≡◌, ◌<◌, ◌++◌, IfOk, OnOk, string_bytes, false};
 ghost use Rattle.std.specs.Fmt.{digit_glyph};
-ghost use Rattle.sift_byz.specs.Plan.{is_traitor, plan_of, stands_last};
-ghost use Rattle.sift_byz.specs.Text.{line_text, told_text, vectors_text, word_text, words_text};
+ghost use Rattle.sift_byz.specs.Plan.{is_traitor, plan_of, stands_last, vectors_of};
+ghost use Rattle.sift_byz.specs.Text.{line_text, text_of, told_text, word_text, words_text};
 
 use crate::plan::{ByzPlan, Lie};
 use crate::vectors::Vectors;
 use sift_base::{NoMemory, Word};
 use std::alloc::{AllocError, Global};
 
-/// A line for each unit: `u=U liar` for a traitor, and for each other unit `u=U vector=LIST`, where the words stand in the
+/// The text of a plan's vectors.
+///
+/// It has a line for each unit: `u=U liar` for a traitor, and for each other unit `u=U vector=LIST`, where the words stand in the
 /// order of the units, each as four hexadecimal digits, with commas between them.
 pub fn vectors_text(alloc: Global, plan: &ByzPlan, vectors: &Vectors) -> Result<String, NoMemory>
-    requires { length vectors.now ≡ plan.now.units }
-    ensures { IfOk result (λ text. string_bytes text ≡ vectors_text (plan_of plan.now) vectors.now) }
+    requires { vectors.now ≡ vectors_of (plan_of plan.now) }
+    ensures { IfOk result (λ text. string_bytes text ≡ text_of (plan_of plan.now)) }
 {
     let mut text = String::new(alloc);
     for unit in 0..plan.units {

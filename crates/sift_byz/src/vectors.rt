@@ -1,6 +1,6 @@
 //! The vectors that the units make.
 
-ghost use Rattle.std.specs.Prelude.{◌≡◌, ◌<◌, ℕ, List, [], get_or, length};
+ghost use Rattle.std.specs.Prelude.{◌≡◌, ◌<◌, [], get_or, length};
 ghost use Rattle.sift_byz.specs.Plan.{entry_in};
 
 use arrayvec::ArrayVec;
@@ -15,17 +15,20 @@ pub struct Vectors {
 
 impl Model for Vectors {
     ghost use Rattle.std.specs.Prelude.{ℕ, List, map};
+    ghost use Rattle.sift_byz.specs.Plan.{IsSquare};
 
     ghost Value = { List (List ℕ) };
 
     ghost view = { λ vectors. map (λ row. row.items) vectors.rows.items };
+
+    ghost invariant = { λ vectors. IsSquare (map (λ row. row.items) vectors.rows.items) };
 }
 
 impl Vectors {
     /// The entry of unit `s` in the vector of unit `q`.
     pub fn get(&self, q: u8, s: u8) -> Word
         requires unit { q < length self.now }
-        requires entry { s < length (get_or self.now q []) }
+        requires other { s < length self.now }
         ensures { result ≡ entry_in self.now q s }
     {
         self.of(q)[usize::from(s)]
@@ -34,7 +37,8 @@ impl Vectors {
     /// The vector of unit `q`.
     pub(crate) fn of(&self, q: u8) -> &[Word]
         requires { q < length self.now }
-        ensures { result.now ≡ get_or self.now q [] }
+        ensures vector { result.now ≡ get_or self.now q [] }
+        ensures long { length result.now ≡ length self.now }
     {
         &self.rows[usize::from(q)]
     }

@@ -1,6 +1,9 @@
-use Rattle.std.proofs.Common.{◌≡◌, map, arith, ap, ◌∙◌}
+use Rattle.std.proofs.Common.{◌≡◌, ◌∙◌, ℕ, length, map, arith, ap, sym, subst}
 use Rattle.std.specs.List.{range_with_len}
-use Rattle.sift_byz.specs.Plan.{plan_of, vector}
+use Rattle.std.proofs.lemmas.List.{length-map}
+use Rattle.std.proofs.lemmas.List.FromFn.{length-map-range_with_len}
+use Rattle.sift_byz.specs.Plan.{IsSquare, plan_of, vector, vectors_of}
+use Rattle.sift_byz.proofs.Entries.{vectors_are_square}
 use Rattle.sift_byz.proofs.Growing.{grown_in_part}
 use Rattle.sift_byz.proofs.exchanging.exchange.Goals as goal
 
@@ -10,7 +13,18 @@ loop-q-preserved c =
     record { filled = grown_in_part (λ row. row.items) (vector (plan_of c.args.plan.now)) _ _ _ _ c.loop-q.invariant.filled c.in_ok-push.ensures.items c.vector_of.ensures }
 
 -- all vectors
-pub returns : goal.returns
-returns c =
+pub invariant_of-result : goal.invariant_of-result
+invariant_of-result c =
+    let all : c.loop-q.q ≡ c.args.plan.now.units = omega (arith, c.loop-q.auto, c.loop-q-test.false) in
+    let vectors = c.loop-q.invariant.filled ∙ ap (λ n. map (vector (plan_of c.args.plan.now)) (range_with_len 0 n)) all in
+    subst IsSquare (sym vectors) (vectors_are_square (plan_of c.args.plan.now))
+
+pub returns-clause-vectors : goal.returns-clause-vectors
+returns-clause-vectors c =
     let all : c.loop-q.q ≡ c.args.plan.now.units = omega (arith, c.loop-q.auto, c.loop-q-test.false) in
     c.loop-q.invariant.filled ∙ ap (λ n. map (vector (plan_of c.args.plan.now)) (range_with_len 0 n)) all
+
+pub returns-clause-units : goal.returns-clause-units
+returns-clause-units c =
+    let all : c.loop-q.q ≡ c.args.plan.now.units = omega (arith, c.loop-q.auto, c.loop-q-test.false) in
+    ap length c.loop-q.invariant.filled ∙ length-map-range_with_len (vector (plan_of c.args.plan.now)) 0 c.loop-q.q ∙ all
