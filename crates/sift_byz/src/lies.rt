@@ -122,7 +122,12 @@ fn has_receivers(entry: &Value, units: u8, m: u8) -> bool
 // ---- a lie
 
 /// The lies that the entries state, by rule 8.
-pub(crate) fn lies_in(alloc: Global, entries: &[Value], units: u8, m: u8) -> Result<Vec<Lie>, ByzStop>
+pub(crate) fn lies_in(
+    alloc: Global,
+    entries: &[Value],
+    units: u8,
+    m: u8,
+) -> Result<Vec<Lie>, ByzStop>
     requires few { length entries.now ≤ lie_limit }
     requires units { units ≤ unit_limit }
     requires traitors { m ≤ traitor_limit }
@@ -225,10 +230,7 @@ fn are_different(list: &[u8]) -> bool
 fn are_receivers(to: &[u8], units: u8, path: &[u8]) -> bool
     ensures { IsTrue result ↔ AreReceivers units path.now to.now }
 {
-    !to.is_empty()
-        && is_ascending(to)
-        && to.iter().all(|unit| *unit < units)
-        && !has_any(path, to)
+    !to.is_empty() && is_ascending(to) && to.iter().all(|unit| *unit < units) && !has_any(path, to)
 }
 
 /// Whether some of these units are in a path.

@@ -26,12 +26,7 @@ pub fn vectors_text(alloc: Global, plan: &ByzPlan, vectors: &Vectors) -> Result<
 }
 
 /// Appends the line of a unit.
-fn push_line(
-    text: &mut String,
-    plan: &ByzPlan,
-    unit: u8,
-    vector: &[Word],
-) -> Result<(), AllocError>
+fn push_line(text: &mut String, plan: &ByzPlan, unit: u8, vector: &[Word]) -> Result<(), AllocError>
     ensures { OnOk result (string_bytes text.new ≡ string_bytes text.old ++ line_text (plan_of plan.now) unit vector.now) }
 {
     write!(text, "u={unit}")?;
@@ -40,12 +35,7 @@ fn push_line(
 }
 
 /// Appends what is said of a unit.
-fn push_told(
-    text: &mut String,
-    plan: &ByzPlan,
-    unit: u8,
-    vector: &[Word],
-) -> Result<(), AllocError>
+fn push_told(text: &mut String, plan: &ByzPlan, unit: u8, vector: &[Word]) -> Result<(), AllocError>
     ensures { OnOk result (string_bytes text.new ≡ string_bytes text.old ++ told_text (plan_of plan.now) unit vector.now) }
 {
     if is_traitor(plan, unit) {

@@ -11,9 +11,22 @@ pub returns-in_err-check_each-clause-refused : goal.returns-in_err-check_each-cl
 returns-in_err-check_each-clause-refused c =
     let document = table_view c.args.document.now in
     let same : c.from_residual-in_err-check_each.result ≡ Err c.in_err-check_each.field-0.0 = search rules in
-    rw same (stopped_with_units document c.in_ok-m.m c.in_ok-m.ensures.m c.in_ok-units.units c.in_ok-units.ensures.units 5 c.in_err-check_each.field-0.0
-    (c.in_ok-check_keys.ensures, (c.in_ok-m.ensures.tests, (c.in_ok-units.ensures.tests, (c.in_ok-values.ensures.tests, (c.in_ok-entries.ensures.tests,
-    rw c.in_ok-entries.ensures.entries at c.in_err-check_each.ensures))))))
+    rw same (stopped_with_units document c.in_ok-m.m c.in_ok-m.ensures.m c.in_ok-units.units c.in_ok-units.ensures.units 5 c.in_err-check_each.field-0.0 (
+      c.in_ok-check_keys.ensures,
+      (
+        c.in_ok-m.ensures.tests,
+        (
+          c.in_ok-units.ensures.tests,
+          (
+            c.in_ok-values.ensures.tests,
+            (
+              c.in_ok-entries.ensures.tests,
+              rw c.in_ok-entries.ensures.entries at c.in_err-check_each.ensures,
+            ),
+          ),
+        ),
+      ),
+    ))
 
 -- an entry has no receivers
 pub returns-in_err-check_each-2-clause-refused : goal.returns-in_err-check_each-2-clause-refused
@@ -21,9 +34,22 @@ returns-in_err-check_each-2-clause-refused c =
     let document = table_view c.args.document.now in
     let same : c.from_residual-in_err-check_each-2.result ≡ Err c.in_err-check_each-2.field-0.0 = search rules in
     let paths = rw c.in_ok-entries.ensures.entries at c.in_ok-check_each.ensures in
-    rw same (stopped_with_units document c.in_ok-m.m c.in_ok-m.ensures.m c.in_ok-units.units c.in_ok-units.ensures.units 6 c.in_err-check_each-2.field-0.0
-    (c.in_ok-check_keys.ensures, (c.in_ok-m.ensures.tests, (c.in_ok-units.ensures.tests, (c.in_ok-values.ensures.tests, (c.in_ok-entries.ensures.tests,
-    (paths, rw c.in_ok-entries.ensures.entries at c.in_err-check_each-2.ensures)))))))
+    rw same (stopped_with_units document c.in_ok-m.m c.in_ok-m.ensures.m c.in_ok-units.units c.in_ok-units.ensures.units 6 c.in_err-check_each-2.field-0.0 (
+      c.in_ok-check_keys.ensures,
+      (
+        c.in_ok-m.ensures.tests,
+        (
+          c.in_ok-units.ensures.tests,
+          (
+            c.in_ok-values.ensures.tests,
+            (
+              c.in_ok-entries.ensures.tests,
+              (paths, rw c.in_ok-entries.ensures.entries at c.in_err-check_each-2.ensures),
+            ),
+          ),
+        ),
+      ),
+    ))
 
 -- an entry has a value that is no word value
 pub returns-in_err-lies-clause-refused : goal.returns-in_err-lies-clause-refused
@@ -32,9 +58,22 @@ returns-in_err-lies-clause-refused c =
     let same : c.from_residual-in_err-lies.result ≡ Err c.in_err-lies.field-0.0 = search rules in
     let paths = rw c.in_ok-entries.ensures.entries at c.in_ok-check_each.ensures in
     let received = rw c.in_ok-entries.ensures.entries at c.in_ok-check_each-2.ensures in
-    rw same (stopped_with_units document c.in_ok-m.m c.in_ok-m.ensures.m c.in_ok-units.units c.in_ok-units.ensures.units 7 c.in_err-lies.field-0.0
-    (c.in_ok-check_keys.ensures, (c.in_ok-m.ensures.tests, (c.in_ok-units.ensures.tests, (c.in_ok-values.ensures.tests, (c.in_ok-entries.ensures.tests,
-    (paths, (received, rw c.in_ok-entries.ensures.entries at c.in_err-lies.ensures.tests))))))))
+    rw same (stopped_with_units document c.in_ok-m.m c.in_ok-m.ensures.m c.in_ok-units.units c.in_ok-units.ensures.units 7 c.in_err-lies.field-0.0 (
+      c.in_ok-check_keys.ensures,
+      (
+        c.in_ok-m.ensures.tests,
+        (
+          c.in_ok-units.ensures.tests,
+          (
+            c.in_ok-values.ensures.tests,
+            (
+              c.in_ok-entries.ensures.tests,
+              (paths, (received, rw c.in_ok-entries.ensures.entries at c.in_err-lies.ensures.tests)),
+            ),
+          ),
+        ),
+      ),
+    ))
 
 -- the lies are as many as the entries
 pub check_few-requires-clause-few : goal.check_few-requires-clause-few
@@ -54,9 +93,22 @@ returns-in_err-check_few-clause-refused c =
     let received = rw c.in_ok-entries.ensures.entries at c.in_ok-check_each-2.ensures in
     let words = rw c.in_ok-entries.ensures.entries at c.in_ok-lies.ensures.tests in
     let few = rw (c.deref.ensures.value, c.in_ok-lies.ensures.lies, c.in_ok-entries.ensures.entries) at c.in_err-check_few.ensures in
-    rw same (stopped_with_units document c.in_ok-m.m c.in_ok-m.ensures.m c.in_ok-units.units c.in_ok-units.ensures.units 8 c.in_err-check_few.field-0.0
-    (c.in_ok-check_keys.ensures, (c.in_ok-m.ensures.tests, (c.in_ok-units.ensures.tests, (c.in_ok-values.ensures.tests, (c.in_ok-entries.ensures.tests,
-    (paths, (received, (words, few)))))))))
+    rw same (stopped_with_units document c.in_ok-m.m c.in_ok-m.ensures.m c.in_ok-units.units c.in_ok-units.ensures.units 8 c.in_err-check_few.field-0.0 (
+      c.in_ok-check_keys.ensures,
+      (
+        c.in_ok-m.ensures.tests,
+        (
+          c.in_ok-units.ensures.tests,
+          (
+            c.in_ok-values.ensures.tests,
+            (
+              c.in_ok-entries.ensures.tests,
+              (paths, (received, (words, few))),
+            ),
+          ),
+        ),
+      ),
+    ))
 
 -- all rules are kept, and this is what is stated
 pub returns-clause-accepted : goal.returns-clause-accepted
@@ -67,9 +119,22 @@ returns-clause-accepted c =
     let words = rw c.in_ok-entries.ensures.entries at c.in_ok-lies.ensures.tests in
     let few = rw (c.deref.ensures.value, c.in_ok-lies.ensures.lies, c.in_ok-entries.ensures.entries) at c.in_ok-check_few.ensures in
     record {
-      lawful = kept_with_units document c.in_ok-m.m c.in_ok-m.ensures.m c.in_ok-units.units c.in_ok-units.ensures.units
-          (c.in_ok-check_keys.ensures, (c.in_ok-m.ensures.tests, (c.in_ok-units.ensures.tests, (c.in_ok-values.ensures.tests, (c.in_ok-entries.ensures.tests,
-          (paths, (received, (words, (few, tt)))))))));
+      lawful = kept_with_units document c.in_ok-m.m c.in_ok-m.ensures.m c.in_ok-units.units c.in_ok-units.ensures.units (
+        c.in_ok-check_keys.ensures,
+        (
+          c.in_ok-m.ensures.tests,
+          (
+            c.in_ok-units.ensures.tests,
+            (
+              c.in_ok-values.ensures.tests,
+              (
+                c.in_ok-entries.ensures.tests,
+                (paths, (received, (words, (few, tt)))),
+              ),
+            ),
+          ),
+        ),
+      );
       m = c.in_ok-m.ensures.m;
       units = c.in_ok-units.ensures.units;
       values = c.in_ok-values.ensures.values;
