@@ -1,5 +1,5 @@
 -- Charts, one after another: those of what was heard, and those of results.
-use Rattle.std.proofs.Common.{◌≡◌, ℕ, suc, ◌+◌, ◌-◌, ◌*◌, ◌/◌, ◌%◌, ◌^◌, ◌<◌, ◌≤◌, List, [], ◌∷◌, length, map, reverse, get_or, Option, None, Some, sym, ap, ◌∙◌, subst, arith}
+use Rattle.std.proofs.Common.{◌≡◌, ℕ, suc, ◌+◌, ◌-◌, ◌*◌, ◌/◌, ◌%◌, ◌^◌, ◌<◌, List, [], ◌∷◌, length, map, reverse, get_or, Option, None, Some, sym, ap, ◌∙◌, subst, arith}
 use Rattle.std.specs.Prelude.{unwrap_or}
 use Rattle.std.specs.List.{range_with_len}
 use Rattle.std.proofs.lemmas.Nat.{div-mul-add, mod-mul-add, mod_below}
@@ -7,7 +7,7 @@ use Rattle.std.proofs.lemmas.List.FromFn.{get_or-map-range_with_len, length-map-
 use Rattle.std.proofs.Math.Nat.{pow-suc}
 use Rattle.sift_vote.specs.Agreed.{agreed_of}
 use Rattle.sift_byz.specs.Charts.{Shows, ShowsHeard, ShowsResults, heard_at, path_in, places_at, relay_at}
-use Rattle.sift_byz.specs.Plan.{PlanData, all_units, entry, first_lie, heard, value_of}
+use Rattle.sift_byz.specs.Plan.{PlanData, all_units, first_lie, heard, value_of}
 use Rattle.sift_byz.specs.Relaying.{outside, result_of}
 use Rattle.sift_byz.proofs.Digits.{digit_below, longer, one_digit, pow-one, shorter, square}
 use Rattle.sift_byz.proofs.Outside.{map_same, outside_has, row_low}

@@ -1,13 +1,12 @@
 -- The vectors of a plan.
-use Rattle.std.proofs.Common.{◌≡◌, ℕ, suc, ◌+◌, ◌*◌, ◌<◌, ◌≤◌, ◌||◌, inl, inr, List, [], ◌∷◌, ◌++◌, length, map, reverse, get_or, Bool, true, false, not, nat_eq, Option, None, refl, sym, ap, ◌∙◌, arith}
-use Rattle.std.specs.List.{list_any}
+use Rattle.std.proofs.Common.{◌≡◌, ℕ, suc, ◌<◌, ◌≤◌, ◌||◌, inl, inr, List, [], ◌∷◌, ◌++◌, length, map, reverse, get_or, Bool, true, false, not, nat_eq, Option, None, refl, sym, ap, ◌∙◌, arith}
 use Rattle.std.specs.Str.{bytes_eq}
 use Rattle.std.proofs.lemmas.Bool.{and_parts, cases_Bool, eqb-true}
 use Rattle.std.proofs.lemmas.List.{reverse-append}
 use Rattle.std.proofs.lemmas.List.FromFn.{get_or-map-range_with_len, length-map-range_with_len, length-range_with_len}
 use Rattle.std.proofs.lemmas.Slice.Eq.{bytes_eq-Decides}
 use Rattle.sift_base.specs.Margin.{faulty_count}
-use Rattle.sift_base.specs.Units.{has, others, IsAscending}
+use Rattle.sift_base.specs.Units.{has, others}
 use Rattle.sift_base.proofs.Counts.{apart, count-no, count-yes, nat_eq-same}
 use Rattle.sift_vote.specs.Agreed.{agreed_of}
 use Rattle.sift_byz.specs.Laws.{LoyalValuesAreKept, OneTraitorIsAsInFlights, VectorsAreEqual, VectorsHoldTheEntries}

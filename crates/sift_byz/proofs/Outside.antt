@@ -1,12 +1,11 @@
 -- The units outside of a path.
-use Rattle.std.proofs.Common.{◌≡◌, ◌≢◌, ℕ, zero, suc, ◌+◌, ◌<◌, ◌≤◌, ◌||◌, inl, inr, List, [], ◌∷◌, ◌++◌, length, map, Bool, true, false, not, nat_eq, cond, refl, sym, ap, ◌∙◌, arith}
-use Rattle.std.specs.Prelude.{count_by, filter}
+use Rattle.std.proofs.Common.{◌≡◌, ◌≢◌, ℕ, zero, suc, ◌+◌, ◌<◌, ◌≤◌, inl, inr, List, [], ◌∷◌, ◌++◌, length, map, Bool, true, false, not, nat_eq, refl, sym, ap, ◌∙◌, arith}
 use Rattle.std.specs.List.{range_with_len}
 use Rattle.std.proofs.lemmas.Bool.{cases_Bool, eq-eqb, eqb-true, or_cases}
 use Rattle.std.proofs.lemmas.List.Elements.{filter-append}
 use Rattle.sift_base.specs.Margin.{faulty_count}
 use Rattle.sift_base.specs.Units.{has, others, IsAscending, IsBelowAll}
-use Rattle.sift_base.proofs.Counts.{apart, count-no, count-yes, has-head, has-tail, nat_eq-same}
+use Rattle.sift_base.proofs.Counts.{apart, has-head, has-tail, nat_eq-same}
 use Rattle.sift_base.proofs.Others.{count-others-<, count-others-≤, has-others, length-others, not_same, others-has, times_in, times_in-ascending}
 use Rattle.sift_byz.specs.Relaying.{outside}
 

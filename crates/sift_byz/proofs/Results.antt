@@ -1,9 +1,9 @@
 -- The laws of oral messages, by induction over the rounds of relaying that are left.
-use Rattle.std.proofs.Common.{◌≡◌, ◌≢◌, ℕ, zero, suc, ◌*◌, ◌<◌, ◌≤◌, inl, inr, List, ◌∷◌, length, map, Bool, true, false, not, nat_eq, Option, Some, refl, sym, ap, ◌∙◌, arith}
+use Rattle.std.proofs.Common.{◌≡◌, ◌≢◌, ℕ, zero, suc, ◌*◌, ◌≤◌, inl, inr, List, ◌∷◌, length, map, Bool, true, false, not, nat_eq, Option, Some, refl, sym, ap, ◌∙◌, arith}
 use Rattle.std.specs.Prelude.{unwrap_or, if◌then◌else◌}
 use Rattle.std.proofs.lemmas.Bool.{cases_Bool}
 use Rattle.sift_base.specs.Margin.{faulty_count}
-use Rattle.sift_base.specs.Units.{has, others, IsAscending}
+use Rattle.sift_base.specs.Units.{has, IsAscending}
 use Rattle.sift_base.proofs.Counts.{apart, count-no, count-yes, nat_eq-same}
 use Rattle.sift_base.proofs.Others.{not_same}
 use Rattle.sift_vote.specs.Agreed.{agreed_of}

@@ -1,5 +1,5 @@
 -- The nine rules of a document, in the order in which they are tested, and the plan that a document states.
-use Rattle.std.specs.Prelude.{ℕ, ◌≡◌, ◌≢◌, ◌+◌, ◌<◌, ◌⊎◌, List, [], ◌∷◌, length, map, take, Some, None, Option, Result, Err, IsErr, IfErr, unwrap_or, ⊤}
+use Rattle.std.specs.Prelude.{ℕ, ◌≡◌, ◌≢◌, ◌+◌, ◌<◌, ◌⊎◌, List, [], ◌∷◌, length, map, take, Some, None, Result, IsErr, IfErr, unwrap_or, ⊤}
 use Rattle.toml.specs.Data.{Data, Members}
 use Rattle.sift_byz.specs.declared.stop.ByzStop.{ByzStop}
 use Rattle.sift_byz.specs.declared.stop.ByzStop.TheVariants as stop

@@ -1,5 +1,5 @@
 -- What a document states: how many units there are and how many of them may lie, their values, and the lies.
-use Rattle.std.specs.Prelude.{codes, ℕ, ◌≡◌, ◌+◌, ◌*◌, ◌<◌, ◌≤◌, List, [], ◌∷◌, length, Bool, false, Option, Some, None, option_and_then, unwrap_or, ⊤}
+use Rattle.std.specs.Prelude.{codes, ℕ, ◌≡◌, ◌+◌, ◌*◌, ◌<◌, ◌≤◌, List, [], ◌∷◌, length, false, Option, Some, None, option_and_then, unwrap_or, ⊤}
 use Rattle.std.specs.List.{All, list_any}
 use Rattle.std.specs.Option.{option_map}
 use Rattle.toml.specs.Data.{Data, Members, get_member}

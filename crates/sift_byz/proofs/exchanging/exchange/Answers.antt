@@ -1,8 +1,7 @@
-use Rattle.std.proofs.Common.{◌≡◌, ◌∙◌, ℕ, length, map, arith, ap, sym, subst}
+use Rattle.std.proofs.Common.{◌≡◌, ◌∙◌, length, map, arith, ap, sym, subst}
 use Rattle.std.specs.List.{range_with_len}
-use Rattle.std.proofs.lemmas.List.{length-map}
 use Rattle.std.proofs.lemmas.List.FromFn.{length-map-range_with_len}
-use Rattle.sift_byz.specs.Plan.{IsSquare, plan_of, vector, vectors_of}
+use Rattle.sift_byz.specs.Plan.{IsSquare, plan_of, vector}
 use Rattle.sift_byz.proofs.Entries.{vectors_are_square}
 use Rattle.sift_byz.proofs.Growing.{grown_in_part}
 use Rattle.sift_byz.proofs.exchanging.exchange.Goals as goal

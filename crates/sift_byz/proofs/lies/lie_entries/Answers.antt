@@ -1,6 +1,5 @@
 use Rattle.std.proofs.Common.{◌≡◌, Err, rules}
 use Rattle.toml.specs.View.{table_view}
-use Rattle.sift_byz.specs.Stated.{lies_of}
 use Rattle.sift_byz.proofs.Testing.{entries_broken, entries_kept}
 use Rattle.sift_byz.proofs.lies.lie_entries.Goals as goal
 

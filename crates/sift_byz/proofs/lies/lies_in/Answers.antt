@@ -1,4 +1,4 @@
-use Rattle.std.proofs.Common.{◌≡◌, ◌∙◌, below_more, map, arith}
+use Rattle.std.proofs.Common.{◌∙◌, below_more, map, arith}
 use Rattle.std.proofs.lemmas.List.{length-map, take_all}
 use Rattle.std.proofs.lemmas.List.Elements.{All-push}
 use Rattle.toml.specs.View.{view}

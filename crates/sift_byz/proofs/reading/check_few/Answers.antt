@@ -1,8 +1,8 @@
-use Rattle.std.proofs.Common.{◌≡◌, ◌<◌, ◌≤◌, ◌+◌, ◌-◌, ◌∷◌, ◌++◌, [], ℕ, List, length, length-append, get_or, map, take, below_more, refl, sym, ap, subst, ◌∙◌, arith, true, false}
+use Rattle.std.proofs.Common.{◌≡◌, ◌≤◌, ◌+◌, ◌-◌, ◌∷◌, ◌++◌, [], ℕ, List, length, length-append, get_or, map, take, below_more, refl, sym, ap, subst, ◌∙◌, arith}
 use Rattle.std.proofs.lemmas.List.{length-map}
 use Rattle.sift_base.specs.Units.{has}
 use Rattle.sift_byz.specs.Lawful.{BreaksFew}
-use Rattle.sift_byz.specs.Plan.{LieData, lie_of, teller_count}
+use Rattle.sift_byz.specs.Plan.{LieData, lie_of}
 use Rattle.sift_byz.proofs.Tellers.{AreTellers, no_tellers, told_again, told_first}
 use Rattle.sift_byz.proofs.reading.check_few.Goals.{then-not-contains+else-len-from, else-not-contains}
 use Rattle.sift_byz.proofs.reading.check_few.Goals as goal

@@ -1,6 +1,6 @@
-use Rattle.std.proofs.Common.{◌≡◌, ◌<◌, ◌∙◌, None, Some, List, ℕ, length, arith, sym}
+use Rattle.std.proofs.Common.{◌≡◌, ◌∙◌, None, Some, List, ℕ, arith, sym}
 use Rattle.sift_byz.specs.Document.{digit_of, each_read}
-use Rattle.sift_byz.proofs.Values.{each_read-none, length-each_read, read_all, read_more}
+use Rattle.sift_byz.proofs.Values.{each_read-none, length-each_read, read_more}
 use Rattle.sift_byz.proofs.value.digits_in.Goals as goal
 
 -- a text of more bytes is none of fewer digits
