@@ -8,8 +8,6 @@ mod lies;
 mod plan;
 mod reading;
 mod stop;
-#[cfg(test)]
-mod tests;
 mod text;
 mod value;
 mod vectors;

@@ -4,7 +4,7 @@ use arrayvec::ArrayVec;
 use sift_base::Word;
 
 /// A lie: what the last unit of a path tells in place of what it heard by the path before it.
-#[derive(Debug, Drop)]
+#[derive(Drop)]
 pub struct Lie {
     /// The units that the word came through, in the order in which they told it.
     pub path: ArrayVec<u8, 3>,
@@ -15,7 +15,7 @@ pub struct Lie {
 }
 
 /// Units with values, and the lies of the traitors among them.
-#[derive(Debug, Drop)]
+#[derive(Drop)]
 pub struct ByzPlan {
     /// How many units there are, at most 10.
     pub units: u8,

@@ -8,7 +8,7 @@ use sift_base::Word;
 use std::marker::Model;
 
 /// A vector for each unit: the value that it takes for each unit's. A clause sees the list of the vectors.
-#[derive(Debug, Drop)]
+#[derive(Drop)]
 pub struct Vectors {
     pub(crate) rows: Vec<ArrayVec<Word, 10>>,
 }

@@ -9,6 +9,8 @@ mod base;
 #[cfg(test)]
 mod buffer;
 #[cfg(test)]
+mod byz;
+#[cfg(test)]
 mod clock;
 #[cfg(test)]
 mod config;

@@ -1,6 +1,6 @@
-//! Documents, with the texts of their vectors or the rules that they break, which were worked out by hand.
+//! Rows of documents of lies: the texts of their vectors, or the rules that they break.
 
-use crate::{ByzPlan, ByzStop, exchange, read_byz, vectors_text};
+use sift_byz::{ByzPlan, ByzStop, exchange, read_byz, vectors_text};
 use std::alloc::Global;
 use std::process::Abort;
 use std::test::Fail;
