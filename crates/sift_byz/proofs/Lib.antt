@@ -1,0 +1,14 @@
+pub mod Answered
+pub mod Charts
+pub mod Digits
+pub mod Entries
+pub mod Growing
+pub mod Lists
+pub mod Outside
+pub mod Places
+pub mod Results
+pub mod Searches
+pub mod Stopping
+pub mod Tellers
+pub mod Testing
+pub mod Values

@@ -1,0 +1,29 @@
+use Rattle.std.proofs.Common.{◌≡◌, ◌∙◌, length, map, arith, ap, sym, subst}
+use Rattle.std.specs.List.{range_with_len}
+use Rattle.std.proofs.lemmas.List.FromFn.{length-map-range_with_len}
+use Rattle.sift_byz.specs.Plan.{IsSquare, plan_of, vector}
+use Rattle.sift_byz.proofs.Entries.{vectors_are_square}
+use Rattle.sift_byz.proofs.Growing.{grown_in_part}
+use Rattle.sift_byz.proofs.exchanging.exchange.Goals as goal
+
+-- one vector more
+pub loop-q-preserved : goal.loop-q-preserved
+loop-q-preserved c =
+    record { filled = grown_in_part (λ row. row.items) (vector (plan_of c.args.plan.now)) _ _ _ _ c.loop-q.invariant.filled c.in_ok-push.ensures.items c.vector_of.ensures }
+
+-- all vectors
+pub invariant_of-result : goal.invariant_of-result
+invariant_of-result c =
+    let all : c.loop-q.q ≡ c.args.plan.now.units = omega (arith, c.loop-q.auto, c.loop-q-test.false) in
+    let vectors = c.loop-q.invariant.filled ∙ ap (λ n. map (vector (plan_of c.args.plan.now)) (range_with_len 0 n)) all in
+    subst IsSquare (sym vectors) (vectors_are_square (plan_of c.args.plan.now))
+
+pub returns-clause-vectors : goal.returns-clause-vectors
+returns-clause-vectors c =
+    let all : c.loop-q.q ≡ c.args.plan.now.units = omega (arith, c.loop-q.auto, c.loop-q-test.false) in
+    c.loop-q.invariant.filled ∙ ap (λ n. map (vector (plan_of c.args.plan.now)) (range_with_len 0 n)) all
+
+pub returns-clause-units : goal.returns-clause-units
+returns-clause-units c =
+    let all : c.loop-q.q ≡ c.args.plan.now.units = omega (arith, c.loop-q.auto, c.loop-q-test.false) in
+    ap length c.loop-q.invariant.filled ∙ length-map-range_with_len (vector (plan_of c.args.plan.now)) 0 c.loop-q.q ∙ all

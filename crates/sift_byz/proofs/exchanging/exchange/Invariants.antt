@@ -1,0 +1,8 @@
+use Rattle.std.proofs.Common.{◌≡◌, map}
+use Rattle.std.specs.List.{range_with_len}
+use Rattle.sift_byz.specs.Plan.{plan_of, vector}
+use Rattle.sift_byz.proofs.exchanging.exchange.Given as goal
+
+-- the vectors so far
+abbrev pub invariant-loop-q : goal.invariant-loop-q
+invariant-loop-q l = record { filled : map (λ row. row.items) l.rows.items ≡ map (vector (plan_of l.plan)) (range_with_len 0 l.q) }

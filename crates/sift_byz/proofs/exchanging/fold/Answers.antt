@@ -1,0 +1,22 @@
+use Rattle.std.proofs.Common.{◌≡◌, ℕ, length, map, Option, Some, arith, ap, ◌∙◌}
+use Rattle.std.specs.List.{range_with_len}
+use Rattle.sift_vote.specs.Agreed.{agreed_of}
+use Rattle.sift_byz.specs.Charts.{places_at}
+use Rattle.sift_byz.specs.Plan.{plan_of}
+use Rattle.sift_byz.proofs.Charts.{folded_shown}
+use Rattle.sift_byz.proofs.Growing.{grown}
+use Rattle.sift_byz.proofs.exchanging.fold.Goals as goal
+
+-- one place more
+pub loop-place-preserved : goal.loop-place-preserved
+loop-place-preserved c =
+    let next : ℕ → Option ℕ = λ i. Some (agreed_of (places_at (plan_of c.args.plan.now) c.args.count c.args.heard.now c.args.longer.now i)) in
+    record { filled = grown next _ _ _ _ c.loop-place.invariant.filled c.in_ok-push.ensures.items (ap Some c.agreed_at.ensures) }
+
+-- all places
+pub returns : goal.returns
+returns c rounds shown =
+    let next : ℕ → Option ℕ = λ i. Some (agreed_of (places_at (plan_of c.args.plan.now) c.args.count c.args.heard.now c.args.longer.now i)) in
+    let all : c.loop-place.place ≡ length c.args.heard.now = omega (arith, c.loop-place.auto, c.loop-place-test.false) in
+    folded_shown (plan_of c.args.plan.now) c.requires.range.some c.args.count rounds c.args.heard.now c.args.longer.now c.loop-place.chart.items
+    c.requires.heard shown (c.loop-place.invariant.filled ∙ ap (λ n. map next (range_with_len 0 n)) all)

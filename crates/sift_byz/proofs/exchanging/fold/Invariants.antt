@@ -1,0 +1,12 @@
+use Rattle.std.proofs.Common.{◌≡◌, Some, map}
+use Rattle.std.specs.List.{range_with_len}
+use Rattle.sift_vote.specs.Agreed.{agreed_of}
+use Rattle.sift_byz.specs.Charts.{places_at}
+use Rattle.sift_byz.specs.Plan.{plan_of}
+use Rattle.sift_byz.proofs.exchanging.fold.Given as goal
+
+-- the places so far
+abbrev pub invariant-loop-place : goal.invariant-loop-place
+invariant-loop-place l = record {
+  filled : l.chart.items ≡ map (λ i. Some (agreed_of (places_at (plan_of l.plan) l.count l.heard l.longer i))) (range_with_len 0 l.place);
+}

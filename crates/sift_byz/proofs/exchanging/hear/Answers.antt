@@ -1,0 +1,31 @@
+use Rattle.std.proofs.Common.{◌≡◌, ◌*◌, ◌≤◌, length, map, arith, ap, ◌∙◌}
+use Rattle.std.specs.List.{range_with_len}
+use Rattle.std.proofs.Math.Nat.{mul-le-mul}
+use Rattle.sift_byz.specs.Charts.{heard_at}
+use Rattle.sift_byz.specs.Plan.{plan_of}
+use Rattle.sift_byz.proofs.Charts.{heard_shown}
+use Rattle.sift_byz.proofs.Digits.{few_places}
+use Rattle.sift_byz.proofs.Growing.{grown}
+use Rattle.sift_byz.proofs.exchanging.hear.Goals as goal
+
+-- the next chart is small
+pub overflow_mul-places : goal.overflow_mul-places
+overflow_mul-places c =
+    let few : length c.args.before.now ≤ 10000 =
+    rw c.requires.heard.long (few_places c.args.plan.now.units c.args.count c.requires.range.few (omega (arith, c.requires.short))) in
+    let ten : c.from.result ≤ 10 = omega (arith, c.from.ensures, c.requires.range.few) in
+    let most : length c.args.before.now * c.from.result ≤ 10000 * 10 = mul-le-mul few ten in
+    omega arith
+
+-- one place more
+pub loop-place-preserved : goal.loop-place-preserved
+loop-place-preserved c =
+    record { filled = grown (heard_at (plan_of c.args.plan.now) c.args.count c.args.before.now) _ _ _ _ c.loop-place.invariant.filled c.in_ok-push.ensures.items c.heard_at.ensures }
+
+-- all places
+pub returns : goal.returns
+returns c =
+    let end : c.loop-place.place ≡ length c.args.before.now * c.from.result = omega (arith, c.loop-place.auto, c.loop-place-test.false) in
+    let all : c.loop-place.place ≡ length c.args.before.now * c.args.plan.now.units = end ∙ ap (λ n. length c.args.before.now * n) c.from.ensures in
+    heard_shown (plan_of c.args.plan.now) c.requires.range.some c.args.count c.args.before.now c.loop-place.chart.items c.requires.heard
+    (c.loop-place.invariant.filled ∙ ap (λ n. map (heard_at (plan_of c.args.plan.now) c.args.count c.args.before.now) (range_with_len 0 n)) all)

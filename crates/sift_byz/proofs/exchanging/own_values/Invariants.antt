@@ -1,0 +1,8 @@
+use Rattle.std.proofs.Common.{◌≡◌, Some, map}
+use Rattle.std.specs.List.{range_with_len}
+use Rattle.sift_byz.specs.Plan.{plan_of, value_of}
+use Rattle.sift_byz.proofs.exchanging.own_values.Given as goal
+
+-- the values so far
+abbrev pub invariant-loop-unit : goal.invariant-loop-unit
+invariant-loop-unit l = record { filled : l.chart.items ≡ map (λ u. Some (value_of (plan_of l.plan) u)) (range_with_len 0 l.unit) }

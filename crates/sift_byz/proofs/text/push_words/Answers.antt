@@ -1,0 +1,10 @@
+use Rattle.std.proofs.Common.{◌≡◌, ◌∷◌, rules}
+use Rattle.sift_byz.specs.Text.{word_text}
+use Rattle.sift_byz.proofs.Lists.{all_joined}
+use Rattle.sift_byz.proofs.text.push_words.Goals as goal
+
+-- all words
+pub returns : goal.returns
+returns c =
+    let cut : c.args.words.now ≡ c.in-Some.first.now ∷ c.in-Some.others.now = search rules in
+    all_joined word_text _ _ _ _ _ _ _ cut c.loop-word-test.false c.in_ok-push_word.ensures c.loop-word.invariant

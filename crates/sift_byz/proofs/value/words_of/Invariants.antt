@@ -1,0 +1,11 @@
+use Rattle.std.proofs.Common.{◌≡◌, Some, map, take, length}
+use Rattle.toml.specs.View.{view}
+use Rattle.sift_byz.specs.Document.{each_read, word_value}
+use Rattle.sift_byz.proofs.value.words_of.Given as goal
+
+-- the words so far
+abbrev pub invariant-loop-entry : goal.invariant-loop-entry
+invariant-loop-entry l = record {
+  read : each_read word_value (take l.entry-index (map view l.entries)) ≡ Some l.words.items;
+  long : length l.words.items ≡ l.entry-index;
+}

@@ -1,0 +1,130 @@
+-- Units with values, the lies of the traitors among them, and the vectors that the units make.
+use Rattle.std.specs.Prelude.{◌≡◌, ℕ, ◌+◌, ◌*◌, ◌<◌, ◌≤◌, List, [], ◌∷◌, map, length, count_by, reverse, get_or, Bool, false, not, ◌&&◌, nat_eq, if◌then◌else◌, Option, Some, unwrap_or}
+use Rattle.std.specs.List.{All, find, list_any, range_with_len}
+use Rattle.std.specs.Option.{option_map}
+use Rattle.std.specs.Str.{bytes_eq}
+use Rattle.sift_base.specs.Units.{has}
+use Rattle.sift_vote.specs.Agreed.{agreed_of}
+use Rattle.sift_byz.specs.declared.plan.ByzPlan.{ByzPlan}
+use Rattle.sift_byz.specs.declared.plan.Lie.{Lie}
+use Rattle.sift_byz.specs.Relaying.{Hearing, result_of}
+
+-- ---- plans
+
+-- the most units
+abbrev pub unit_limit : ℕ
+unit_limit = 10
+
+-- the most traitors
+abbrev pub traitor_limit : ℕ
+traitor_limit = 2
+
+-- a lie: the last unit of the path tells the receivers this word, or nothing, as what it heard by the path before it. The
+-- path is written in the order in which its units spoke
+pub record LieData : Type 0 where
+  pub path : List ℕ
+  pub to : List ℕ
+  pub value : Option ℕ
+
+-- so many units, each with its value, of which m at most may lie, and what is told in place of what was heard
+pub record PlanData : Type 0 where
+  pub units : ℕ
+  pub m : ℕ
+  pub values : List ℕ
+  pub lies : List LieData
+
+-- the lie, and the plan, that the code holds
+abbrev pub lie_of : Lie → LieData
+lie_of lie = record { path = lie.path.items; to = lie.to.items; value = lie.value }
+
+abbrev pub plan_of : ByzPlan → PlanData
+plan_of plan = record { units = plan.units; m = plan.m; values = plan.values.items; lies = map lie_of plan.lies.items }
+
+-- its units, in ascending order
+abbrev pub all_units : PlanData → List ℕ
+all_units plan = range_with_len 0 plan.units
+
+-- a unit's own value
+abbrev pub value_of : PlanData → ℕ → ℕ
+value_of plan u = get_or plan.values u 0
+
+-- ---- traitors
+
+-- the unit stands last in a path as it is written
+abbrev pub stands_last : (u : ℕ) → (written : List ℕ) → Bool
+stands_last u [] = false
+stands_last u (v ∷ []) = nat_eq v u
+stands_last u (v ∷ w ∷ rest) = stands_last u (w ∷ rest)
+
+-- the unit stands last in the path of some lie
+abbrev pub tells_some : List LieData → ℕ → Bool
+tells_some lies u = list_any (λ (lie : LieData). stands_last u lie.path) lies
+
+-- how many units below a number tell some of these lies
+abbrev pub teller_count : (units : ℕ) → List LieData → ℕ
+teller_count units lies = count_by (tells_some lies) (range_with_len 0 units)
+
+-- traitors tell lies, and all other units are loyal
+abbrev pub is_traitor : PlanData → ℕ → Bool
+is_traitor plan u = tells_some plan.lies u
+
+abbrev pub is_loyal : PlanData → ℕ → Bool
+is_loyal plan u = not (is_traitor plan u)
+
+-- how many traitors there are
+abbrev pub traitor_count : PlanData → ℕ
+traitor_count plan = teller_count plan.units plan.lies
+
+-- ---- what is heard
+
+-- the lie comes by the path that is written so, and goes to q
+abbrev pub is_told : (written : List ℕ) → (q : ℕ) → LieData → Bool
+is_told written q lie = bytes_eq lie.path written && has lie.to q
+
+-- what the first lie by the path that is written so tells q, if there is one
+abbrev pub first_lie : List LieData → (written : List ℕ) → (q : ℕ) → Option (Option ℕ)
+first_lie lies written q = option_map (λ (lie : LieData). lie.value) (find (is_told written q) lies)
+
+-- what q heard by a path: what the first lie tells, or else what the path's last unit heard by the path before it. On the
+-- empty path a unit holds its own value
+abbrev pub heard : PlanData → Hearing
+heard plan [] q = Some (value_of plan q)
+heard plan (r ∷ path) q = unwrap_or (first_lie plan.lies (reverse (r ∷ path)) q) (heard plan path r)
+
+-- ---- vectors
+
+-- the entry of s in the vector of q: its own value where it is q, or else the agreed word of q's result for the path of s
+abbrev pub entry : PlanData → (q s : ℕ) → ℕ
+entry plan q s =
+    if nat_eq s q then value_of plan s
+    else agreed_of (result_of (all_units plan) (heard plan) plan.m (s ∷ []) q ∷ [])
+
+-- the vector of q: its entry of each unit
+abbrev pub vector : PlanData → (q : ℕ) → List ℕ
+vector plan q = map (entry plan q) (all_units plan)
+
+-- the vectors of all units
+abbrev pub vectors_of : PlanData → List (List ℕ)
+vectors_of plan = map (vector plan) (all_units plan)
+
+-- each of some vectors is as long as there are vectors
+abbrev pub IsSquare : List (List ℕ) → Type 0
+IsSquare vectors = All (λ vector. length vector ≡ length vectors) vectors
+
+-- the entry of s in the vector of q, among some vectors
+abbrev pub entry_in : List (List ℕ) → (q s : ℕ) → ℕ
+entry_in vectors q s = get_or (get_or vectors q []) s 0
+
+-- ---- conditions
+
+-- the numbers are within their limits, and each unit has a value
+pub record IsInRange (plan : PlanData) : Type 0 where
+  pub some : 0 < plan.units
+  pub few : plan.units ≤ unit_limit
+  pub traitors : plan.m ≤ traitor_limit
+  pub valued : length plan.values ≡ plan.units
+
+-- at most m units lie, and there are more than three times as many units as m
+pub record TraitorsAreFew (plan : PlanData) : Type 0 where
+  pub few : traitor_count plan ≤ plan.m
+  pub enough : 3 * plan.m + 1 ≤ plan.units

@@ -1,0 +1,43 @@
+-- What the tests of rules answer. No public clause cites this module.
+use Rattle.std.specs.Prelude.{◌≡◌, ◌≤◌, ℕ, List, Result, Ok, Err, ⊤}
+use Rattle.toml.specs.Data.{Data}
+use Rattle.sift_byz.specs.declared.lies.EntryRule.{EntryRule}
+use Rattle.sift_byz.specs.declared.lies.EntryRule.TheVariants.{Keys, Path, Receivers}
+use Rattle.sift_byz.specs.declared.stop.ByzStop.{ByzStop}
+use Rattle.sift_byz.specs.declared.stop.ByzStop.TheVariants as stop
+use Rattle.sift_byz.specs.Document.{IsTableOf}
+use Rattle.sift_byz.specs.Plan.{traitor_limit, unit_limit}
+use Rattle.sift_byz.specs.Rules.{HoldsOf, IsFirstPlace}
+use Rattle.sift_byz.specs.Stated.{HasPath, HasReceivers, lie_keys}
+
+-- the rule is refused, at the first place at which it is broken; or memory was wanting
+abbrev pub RefusesBy : ℕ → (ℕ → Type 0) → ByzStop → Type 0
+RefusesBy number BrokenAt (stop.Rule broken place) = (broken ≡ number) × IsFirstPlace BrokenAt place
+RefusesBy number BrokenAt stop.NoMemory = ⊤
+
+-- the rule is broken nowhere, or it is refused
+abbrev pub Tests : {A : Type 0} → ℕ → (ℕ → Type 0) → Result A ByzStop → Type 0
+Tests number BrokenAt (Ok value) = (place : ℕ) → ¬ BrokenAt place
+Tests number BrokenAt (Err refused) = RefusesBy number BrokenAt refused
+
+-- what a rule asks of each entry of `lie`
+abbrev pub Keeps : EntryRule → Data → Type 0
+Keeps Keys lie = IsTableOf lie_keys lie
+Keeps (Path units m) lie = HasPath units m lie
+Keeps (Receivers units m) lie = HasReceivers units m lie
+
+-- the number of that rule
+abbrev pub number_of : EntryRule → ℕ
+number_of Keys = 5
+number_of (Path units m) = 6
+number_of (Receivers units m) = 7
+
+-- the numbers that it speaks of are within their limits
+abbrev pub IsLimited : EntryRule → Type 0
+IsLimited Keys = ⊤
+IsLimited (Path units m) = m ≤ traitor_limit
+IsLimited (Receivers units m) = (units ≤ unit_limit) × (m ≤ traitor_limit)
+
+-- an entry doesn't keep the rule
+abbrev pub BreaksEntry : EntryRule → List Data → ℕ → Type 0
+BreaksEntry rule lies place = HoldsOf lies place (λ lie. ¬ Keeps rule lie)

@@ -1,0 +1,25 @@
+//! Interactive consistency: units tell one another their values, and relay what they heard, until all loyal units have one
+//! vector of values, whatever up to two traitors say.
+#![tactic(auto)]
+
+mod exchanging;
+mod law;
+mod lies;
+mod plan;
+mod reading;
+mod stop;
+mod text;
+mod value;
+mod vectors;
+
+pub use exchanging::exchange;
+pub use law::{
+    any_unit_is_agreed_on, loyal_unit_is_believed, loyal_values_are_kept, one_plan, one_refusal,
+    one_traitor_is_as_in_flights, plans_are_accepted, premises_are_met, rows,
+    stated_plans_are_lawful, three_are_too_few, vectors_are_equal, vectors_hold_the_entries,
+};
+pub use plan::{ByzPlan, Lie};
+pub use reading::read_byz;
+pub use stop::ByzStop;
+pub use text::vectors_text;
+pub use vectors::Vectors;

@@ -1,0 +1,241 @@
+//! The entries of `lie`, and the lies that they state.
+
+ghost use Rattle.std.specs.Prelude.{◌≡◌, ◌≤◌, ◌↔◌, ℕ, List, IfOk, IfSome, IfNone, IsTrue, Some, length, map};
+ghost use Rattle.std.specs.List.{All, list_any};
+ghost use Rattle.toml.specs.View.{table_view, view};
+ghost use Rattle.sift_base.specs.Units.{has};
+ghost use Rattle.sift_byz.specs.Lawful.{BreaksLies, BreaksReceivers, BreaksWords, HasNoLies};
+ghost use Rattle.sift_byz.specs.Plan.{lie_of, traitor_limit, unit_limit};
+ghost use Rattle.sift_byz.specs.Stated.{AreDifferent, AreReceivers, HasPath, HasReceivers, HasWord, IsPath, lie_in, lie_limit, lies_of, path_of, said_of, to_of};
+ghost use Rattle.sift_byz.specs.Testing.{BreaksEntry, IsLimited, Keeps, Tests, number_of};
+
+use crate::plan::Lie;
+use crate::stop::{ByzStop, broken};
+use crate::value::{digits_of, is_table_of, member_in, member_of, word_value};
+use arrayvec::ArrayVec;
+use sift_base::{Word, is_ascending};
+use std::alloc::Global;
+use toml::{Table, Value};
+
+/// The entries of `lie`, by rule 5. There are none where it is missing.
+pub(crate) fn lie_entries(document: &Table) -> Result<&[Value], ByzStop>
+    ensures entries { IfOk result (λ entries. map (λ entry. view entry) entries.now ≡ lies_of (table_view document.now)) }
+    ensures few { IfOk result (λ entries. length entries.now ≤ lie_limit) }
+    ensures tests { Tests 5 (BreaksLies (table_view document.now)) result }
+{
+    let Some(entries) = entries_of(document) else {
+        return Err(broken(5, 0));
+    };
+    check_each(entries, EntryRule::Keys)?;
+    Ok(entries)
+}
+
+/// The entries of `lie`, where it has no more than it may have.
+fn entries_of(document: &Table) -> Option<&[Value]>
+    ensures entries { IfSome result (λ entries. map (λ entry. view entry) entries.now ≡ lies_of (table_view document.now)) }
+    ensures few { IfSome result (λ entries. length entries.now ≤ lie_limit) }
+    ensures right { IfSome result (λ _. ¬ HasNoLies (table_view document.now)) }
+    ensures none { IfNone result (HasNoLies (table_view document.now)) }
+{
+    let Some(value) = member_of(document, "lie") else {
+        return Some(&[]);
+    };
+    let entries = value.as_array()?.as_slice();
+    if entries.len() > 6_000 {
+        return None;
+    }
+    Some(entries)
+}
+
+/// A rule that asks something of each entry.
+#[derive(Clone, Copy)]
+pub(crate) enum EntryRule {
+    /// It is a table with no other keys than it may have.
+    Keys,
+    /// It has a path of at most `m + 1` units.
+    Path { units: u8, m: u8 },
+    /// It has receivers of what comes by its path.
+    Receivers { units: u8, m: u8 },
+}
+
+/// Tests each entry by a rule.
+pub(crate) fn check_each(entries: &[Value], rule: EntryRule) -> Result<(), ByzStop>
+    requires few { length entries.now ≤ lie_limit }
+    requires limited { IsLimited rule }
+    ensures { Tests (number_of rule) (BreaksEntry rule (map (λ entry. view entry) entries.now)) result }
+{
+    for (place, entry) in entries.iter().enumerate() {
+        if !keeps(entry, rule) {
+            return Err(broken(number_of(rule), place));
+        }
+    }
+    Ok(())
+}
+
+/// The number of a rule.
+fn number_of(rule: EntryRule) -> u32
+    ensures { result ≡ number_of rule }
+{
+    match rule {
+        EntryRule::Keys => 5,
+        EntryRule::Path { .. } => 6,
+        EntryRule::Receivers { .. } => 7,
+    }
+}
+
+/// Whether an entry keeps a rule.
+fn keeps(entry: &Value, rule: EntryRule) -> bool
+    requires { IsLimited rule }
+    ensures { IsTrue result ↔ Keeps rule (view entry.now) }
+{
+    match rule {
+        EntryRule::Keys => is_table_of(entry, &["path", "to", "value"]),
+        EntryRule::Path { units, m } => has_path(entry, units, m),
+        EntryRule::Receivers { units, m } => has_receivers(entry, units, m),
+    }
+}
+
+fn has_path(entry: &Value, units: u8, m: u8) -> bool
+    requires { m ≤ traitor_limit }
+    ensures { IsTrue result ↔ HasPath units m (view entry.now) }
+{
+    match path_of(entry, units, m) {
+        Some(_) => true,
+        None => false,
+    }
+}
+
+fn has_receivers(entry: &Value, units: u8, m: u8) -> bool
+    requires few { units ≤ unit_limit }
+    requires traitors { m ≤ traitor_limit }
+    ensures { IsTrue result ↔ HasReceivers units m (view entry.now) }
+{
+    match path_of(entry, units, m) {
+        Some(path) => match receivers_of(entry, units, &path) {
+            Some(_) => true,
+            None => false,
+        },
+        None => false,
+    }
+}
+
+// ---- a lie
+
+/// The lies that the entries state, by rule 8.
+pub(crate) fn lies_in(
+    alloc: Global,
+    entries: &[Value],
+    units: u8,
+    m: u8,
+) -> Result<Vec<Lie>, ByzStop>
+    requires few { length entries.now ≤ lie_limit }
+    requires units { units ≤ unit_limit }
+    requires traitors { m ≤ traitor_limit }
+    requires received { (place : ℕ) → ¬ BreaksReceivers units m (map (λ entry. view entry) entries.now) place }
+    ensures lies { IfOk result (λ lies. map lie_of lies.items ≡ map lie_in (map (λ entry. view entry) entries.now)) }
+    ensures paths { IfOk result (λ lies. All (λ lie. IsPath units m lie.path.items) lies.items) }
+    ensures tests { Tests 8 (BreaksWords (map (λ entry. view entry) entries.now)) result }
+{
+    let mut lies = Vec::new(alloc);
+    for (place, entry) in entries.iter().enumerate() {
+        match lie_in(entry, units, m) {
+            Some(lie) => lies.push(lie)?,
+            None => return Err(broken(8, place)),
+        }
+    }
+    Ok(lies)
+}
+
+/// The lie that an entry states.
+fn lie_in(entry: &Value, units: u8, m: u8) -> Option<Lie>
+    requires few { units ≤ unit_limit }
+    requires traitors { m ≤ traitor_limit }
+    ensures found { IfSome result (λ lie. lie_of lie ≡ lie_in (view entry.now)) }
+    ensures path { IfSome result (λ lie. IsPath units m lie.path.items) }
+    ensures word { IfSome result (λ _. HasWord (view entry.now)) }
+    ensures none { IfNone result (HasReceivers units m (view entry.now) → ¬ HasWord (view entry.now)) }
+{
+    let path = path_of(entry, units, m)?;
+    let to = receivers_of(entry, units, &path)?;
+    let value = said_of(entry)?;
+    Some(Lie { path, to, value })
+}
+
+/// The path of an entry, in the order in which its units spoke.
+fn path_of(entry: &Value, units: u8, m: u8) -> Option<ArrayVec<u8, 3>>
+    requires { m ≤ traitor_limit }
+    ensures found { IfSome result (λ path. path_of (view entry.now) ≡ Some path.items) }
+    ensures path { IfSome result (λ path. IsPath units m path.items) }
+    ensures none { IfNone result (¬ HasPath units m (view entry.now)) }
+{
+    let path = digits_of(member_in(entry, "path")?)?;
+    if is_path(&path, units, m) {
+        Some(path)
+    } else {
+        None
+    }
+}
+
+/// The receivers of what an entry tells by a path.
+fn receivers_of(entry: &Value, units: u8, path: &[u8]) -> Option<ArrayVec<u8, 10>>
+    requires { units ≤ unit_limit }
+    ensures found { IfSome result (λ to. to_of (view entry.now) ≡ Some to.items) }
+    ensures receivers { IfSome result (λ to. AreReceivers units path.now to.items) }
+    ensures none { IfNone result ((to : List ℕ) → to_of (view entry.now) ≡ Some to → ¬ AreReceivers units path.now to) }
+{
+    let to = digits_of(member_in(entry, "to")?)?;
+    if are_receivers(&to, units, path) {
+        Some(to)
+    } else {
+        None
+    }
+}
+
+/// The word that an entry tells, if it tells one: `None` where what is there is no word value.
+fn said_of(entry: &Value) -> Option<Option<Word>>
+    ensures { result ≡ said_of (view entry.now) }
+{
+    match member_in(entry, "value") {
+        Some(value) => match word_value(value) {
+            Some(word) => Some(Some(word)),
+            None => None,
+        },
+        None => Some(None),
+    }
+}
+
+// ---- lists of units
+
+/// Whether these are 1 to `m + 1` different units, each below `units`.
+fn is_path(path: &[u8], units: u8, m: u8) -> bool
+    ensures { IsTrue result ↔ IsPath units m path.now }
+{
+    !path.is_empty()
+        && path.len() <= usize::from(m) + 1
+        && path.iter().all(|unit| *unit < units)
+        && are_different(path)
+}
+
+/// Whether no unit stands in a list twice.
+fn are_different(list: &[u8]) -> bool
+    ensures { IsTrue result ↔ AreDifferent list.now }
+{
+    match list {
+        [first, rest @ ..] => !rest.contains(first) && are_different(rest),
+        [] => true,
+    }
+}
+
+/// Whether these are receivers of what comes by a path.
+fn are_receivers(to: &[u8], units: u8, path: &[u8]) -> bool
+    ensures { IsTrue result ↔ AreReceivers units path.now to.now }
+{
+    !to.is_empty() && is_ascending(to) && to.iter().all(|unit| *unit < units) && !has_any(path, to)
+}
+
+/// Whether some of these units are in a path.
+fn has_any(path: &[u8], units: &[u8]) -> bool
+    ensures { result ≡ list_any (has path.now) units.now }
+{
+    units.iter().any(|unit| path.contains(unit))
+}

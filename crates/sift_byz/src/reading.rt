@@ -1,0 +1,143 @@
+//! The plan that a document states.
+
+ghost use Rattle.std.specs.Prelude.{◌≡◌, ◌≢◌, ◌≤◌, IfErr, IfOk, Some, length, map, option_and_then, option_map};
+ghost use Rattle.std.specs.List.{All};
+ghost use Rattle.toml.specs.Data.{get_member};
+ghost use Rattle.toml.specs.View.{table_view};
+ghost use Rattle.sift_byz.specs.Document.{integer_between, words_of};
+ghost use Rattle.sift_byz.specs.Lawful.{BreaksFew, BreaksKeys, BreaksM, BreaksUnits, BreaksValues, IsPlanOf, IsRefusedWith, OnlyRefuses};
+ghost use Rattle.sift_byz.specs.Plan.{IsInRange, PlanData, TraitorsAreFew, lie_of, plan_of, traitor_limit, unit_limit};
+ghost use Rattle.sift_byz.specs.Stated.{IsPath, lie_limit, m_of, units_of, values_of};
+ghost use Rattle.sift_byz.specs.Testing.{Tests};
+
+use crate::lies::{EntryRule, check_each, lie_entries, lies_in};
+use crate::plan::{ByzPlan, Lie};
+use crate::stop::{ByzStop, broken};
+use crate::value::{has_only_keys, integer_between, member_of, words_of};
+use arrayvec::ArrayVec;
+use sift_base::Word;
+use std::alloc::Global;
+use toml::Table;
+
+/// The plan that a document states.
+///
+/// The nine rules are tested in the order of their numbers, and each for the entries of `lie` in their order.
+pub fn read_byz(alloc: Global, document: &Table) -> Result<ByzPlan, ByzStop>
+    ensures accepted { IfOk result (λ plan. IsPlanOf (table_view document.now) (plan_of plan)) }
+    ensures within { IfOk result (λ plan. IsInRange (plan_of plan)) }
+    ensures few { IfOk result (λ plan. TraitorsAreFew (plan_of plan)) }
+    ensures refused { IfErr result (IsRefusedWith (table_view document.now)) }
+
+    // A document that states a plan, or is owed a refusal, gets it, unless memory is wanting.
+    ensures complete { (plan : PlanData) → IsPlanOf (table_view document.now) plan → IfErr result (λ e. e ≡ ByzStop.NoMemory) }
+    ensures exact { (owed : ByzStop) → owed ≢ ByzStop.NoMemory → IsRefusedWith (table_view document.now) owed
+        → OnlyRefuses owed result }
+{
+    read_plan(alloc, document)
+}
+
+/// The plan that a document states, or the first rule that it breaks.
+fn read_plan(alloc: Global, document: &Table) -> Result<ByzPlan, ByzStop>
+    ensures accepted { IfOk result (λ plan. IsPlanOf (table_view document.now) (plan_of plan)) }
+    ensures refused { IfErr result (IsRefusedWith (table_view document.now)) }
+{
+    check_keys(document)?;
+    let m = m_of(document)?;
+    let units = units_of(document, m)?;
+    let values = values_of(document, units)?;
+    let entries = lie_entries(document)?;
+    check_each(entries, EntryRule::Path { units, m })?;
+    check_each(entries, EntryRule::Receivers { units, m })?;
+    let lies = lies_in(alloc, entries, units, m)?;
+    check_few(&lies, units, m)?;
+    Ok(ByzPlan {
+        units,
+        m,
+        values,
+        lies,
+    })
+}
+
+/// Tests the keys of the root.
+fn check_keys(document: &Table) -> Result<(), ByzStop>
+    ensures { Tests 1 (BreaksKeys (table_view document.now)) result }
+{
+    if has_only_keys(document, &["units", "m", "values", "lie"]) {
+        Ok(())
+    } else {
+        Err(broken(1, 0))
+    }
+}
+
+/// How many units may lie.
+fn m_of(document: &Table) -> Result<u8, ByzStop>
+    ensures m { IfOk result (λ m. m_of (table_view document.now) ≡ Some m) }
+    ensures few { IfOk result (λ m. m ≤ traitor_limit) }
+    ensures tests { Tests 2 (BreaksM (table_view document.now)) result }
+{
+    match number_at(document, "m", 0, 2) {
+        Some(m) => Ok(m as u8),
+        None => Err(broken(2, 0)),
+    }
+}
+
+/// How many units there are, where so many may lie.
+fn units_of(document: &Table, m: u8) -> Result<u8, ByzStop>
+    requires { m ≤ traitor_limit }
+    ensures units { IfOk result (λ units. units_of m (table_view document.now) ≡ Some units) }
+    ensures few { IfOk result (λ units. units ≤ unit_limit) }
+    ensures tests { Tests 3 (BreaksUnits m (table_view document.now)) result }
+{
+    match number_at(document, "units", 3 * u32::from(m) + 1, 10) {
+        Some(units) => Ok(units as u8),
+        None => Err(broken(3, 0)),
+    }
+}
+
+/// The number at a key that is there and is an integer from `low` to `high`.
+fn number_at(document: &Table, key: &str, low: u32, high: u32) -> Option<u32>
+    ensures { result ≡ option_and_then (integer_between low high) (get_member key.now (table_view document.now)) }
+{
+    integer_between(member_of(document, key)?, low, high)
+}
+
+/// The values of so many units.
+fn values_of(document: &Table, units: u8) -> Result<ArrayVec<Word, 10>, ByzStop>
+    requires { units ≤ unit_limit }
+    ensures values { IfOk result (λ values. values_of units (table_view document.now) ≡ Some values.items) }
+    ensures tests { Tests 4 (BreaksValues units (table_view document.now)) result }
+{
+    match words_at(document, "values", usize::from(units)) {
+        Some(values) => Ok(values),
+        None => Err(broken(4, 0)),
+    }
+}
+
+/// The words at a key that is there and is an array of so many word values.
+fn words_at(document: &Table, key: &str, count: usize) -> Option<ArrayVec<Word, 10>>
+    requires { count ≤ unit_limit }
+    ensures { option_map (λ words. words.items) result
+        ≡ option_and_then (words_of count) (get_member key.now (table_view document.now)) }
+{
+    words_of(member_of(document, key)?, count)
+}
+
+/// Tests that at most `m` units stand last in a path.
+fn check_few(lies: &[Lie], units: u8, m: u8) -> Result<(), ByzStop>
+    requires few { length lies.now ≤ lie_limit }
+    requires traitors { m ≤ traitor_limit }
+    requires paths { All (λ lie. IsPath units m lie.path.items) lies.now }
+    ensures { Tests 9 (BreaksFew units m (map lie_of lies.now)) result }
+{
+    let mut tellers = ArrayVec::<u8, 2>::new();
+    for (place, lie) in lies.iter().enumerate() {
+        let last = lie.path[lie.path.len() - 1];
+        if !tellers.contains(&last) {
+            if tellers.len() == usize::from(m) {
+                return Err(broken(9, place));
+            }
+            tellers.push(last);
+        }
+    }
+    Ok(())
+}

@@ -1,0 +1,104 @@
+//! The text of vectors.
+
+ghost use Rattle.std.specs.Prelude.{◌≡◌, ◌<◌, ◌++◌, IfOk, OnOk, string_bytes, false};
+ghost use Rattle.std.specs.Fmt.{digit_glyph};
+ghost use Rattle.sift_byz.specs.Plan.{is_traitor, plan_of, stands_last, vectors_of};
+ghost use Rattle.sift_byz.specs.Text.{line_text, text_of, told_text, word_text, words_text};
+
+use crate::plan::{ByzPlan, Lie};
+use crate::vectors::Vectors;
+use sift_base::{NoMemory, Word};
+use std::alloc::{AllocError, Global};
+
+/// The text of a plan's vectors.
+///
+/// It has a line for each unit: `u=U liar` for a traitor, and for each other unit `u=U vector=LIST`, where the words stand in the
+/// order of the units, each as four hexadecimal digits, with commas between them.
+pub fn vectors_text(alloc: Global, plan: &ByzPlan, vectors: &Vectors) -> Result<String, NoMemory>
+    requires { vectors.now ≡ vectors_of (plan_of plan.now) }
+    ensures { IfOk result (λ text. string_bytes text ≡ text_of (plan_of plan.now)) }
+{
+    let mut text = String::new(alloc);
+    for unit in 0..plan.units {
+        push_line(&mut text, plan, unit, vectors.of(unit))?;
+    }
+    Ok(text)
+}
+
+/// Appends the line of a unit.
+fn push_line(text: &mut String, plan: &ByzPlan, unit: u8, vector: &[Word]) -> Result<(), AllocError>
+    ensures { OnOk result (string_bytes text.new ≡ string_bytes text.old ++ line_text (plan_of plan.now) unit vector.now) }
+{
+    write!(text, "u={unit}")?;
+    push_told(text, plan, unit, vector)?;
+    text.push('\n')
+}
+
+/// Appends what is said of a unit.
+fn push_told(text: &mut String, plan: &ByzPlan, unit: u8, vector: &[Word]) -> Result<(), AllocError>
+    ensures { OnOk result (string_bytes text.new ≡ string_bytes text.old ++ told_text (plan_of plan.now) unit vector.now) }
+{
+    if is_traitor(plan, unit) {
+        text.push_str(" liar")
+    } else {
+        text.push_str(" vector=")?;
+        push_words(text, vector)
+    }
+}
+
+/// Whether a unit stands last in the path of a lie.
+fn is_traitor(plan: &ByzPlan, unit: u8) -> bool
+    ensures { result ≡ is_traitor (plan_of plan.now) unit }
+{
+    plan.lies.iter().any(|lie| tells(lie, unit))
+}
+
+/// Whether a unit stands last in the path of this lie.
+fn tells(lie: &Lie, unit: u8) -> bool
+    ensures { result ≡ stands_last unit lie.now.path.items }
+{
+    match lie.path.as_slice() {
+        [.., last] => *last == unit,
+        [] => false,
+    }
+}
+
+/// Appends words, with commas between them.
+fn push_words(text: &mut String, words: &[Word]) -> Result<(), AllocError>
+    ensures { OnOk result (string_bytes text.new ≡ string_bytes text.old ++ words_text words.now) }
+{
+    let Some((first, others)) = words.split_first() else {
+        return Ok(());
+    };
+    push_word(text, *first)?;
+    for word in others {
+        text.push(',')?;
+        push_word(text, *word)?;
+    }
+    Ok(())
+}
+
+/// Appends a word as four hexadecimal digits.
+fn push_word(text: &mut String, word: Word) -> Result<(), AllocError>
+    ensures { OnOk result (string_bytes text.new ≡ string_bytes text.old ++ word_text word) }
+{
+    let bits = word.get();
+    text.push(hex_digit(bits / 4096))?;
+    text.push(hex_digit(bits / 256 % 16))?;
+    text.push(hex_digit(bits / 16 % 16))?;
+    text.push(hex_digit(bits % 16))
+}
+
+/// The hexadecimal digit of a value.
+fn hex_digit(value: u16) -> char
+    requires { value < 16 }
+    ensures below { result < 128 }
+    ensures digit { result ≡ digit_glyph false value }
+{
+    let value = value as u8;
+    char::from(if value < 10 {
+        b'0' + value
+    } else {
+        b'a' + (value - 10)
+    })
+}

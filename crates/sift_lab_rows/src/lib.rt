@@ -1,0 +1,7 @@
+//! Rows of tests of the laboratories beside the program: of oral messages, and of clocks.
+#![tactic(auto)]
+
+#[cfg(test)]
+mod byz;
+#[cfg(test)]
+mod clocklab;
