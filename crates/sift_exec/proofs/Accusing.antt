@@ -1,10 +1,9 @@
 -- Counting accusers: unit by unit, with the report at each position.
-use Rattle.std.proofs.Common.{◌≡◌, ℕ, zero, suc, ◌+◌, Bool, true, false, not, ◌&&◌, ◌||◌, cond, nat_eq, List, [], ◌∷◌, length, take, get_or, slice_get, Some, unwrap_or, arith, ap, ◌∙◌, sym, refl, inl, inr}
-use Rattle.std.specs.FinSet as set
-use Rattle.std.proofs.lemmas.Bool.{cases_Bool, eqb-true, eq-eqb, ne_eqb}
-use Rattle.sift_base.specs.Units.{Units, holds, has, others, IsAscending}
-use Rattle.sift_base.proofs.Counts.{count-cons, has-tail, has-head, apart}
-use Rattle.sift_base.proofs.Sets.{below_has, holds-insert}
+use Rattle.std.proofs.Common.{◌≡◌, ℕ, zero, suc, ◌+◌, Bool, not, ◌&&◌, cond, nat_eq, List, [], ◌∷◌, length, take, get_or, slice_get, Some, unwrap_or, arith, ap, ◌∙◌, refl, inl, inr}
+use Rattle.std.proofs.lemmas.Bool.{cases_Bool, eq-eqb, ne_eqb}
+use Rattle.sift_base.specs.Units.{others, IsAscending}
+use Rattle.sift_base.proofs.Counts.{count-cons}
+use Rattle.sift_base.proofs.Sets.{below_has}
 use Rattle.sift_config.proofs.Joining.{has_at}
 use Rattle.sift_exec.specs.Conviction.{accusers, report_by}
 

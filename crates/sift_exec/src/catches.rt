@@ -1,5 +1,8 @@
 //! What a unit catches others at in a frame.
 
+ghost use Rattle.std.specs.Prelude.{◌≡◌};
+ghost use Rattle.sift_exec.specs.Record.{nobody};
+
 use sift_base::UnitSet;
 
 /// In which way a unit was caught.
@@ -22,4 +25,17 @@ pub struct Catches {
     pub relay: UnitSet,
     /// Caught when clocks were read.
     pub clock: UnitSet,
+}
+
+impl Catches {
+    /// Nobody, in any way.
+    pub fn none() -> Catches
+        ensures { result ≡ nobody }
+    {
+        Catches {
+            poll: UnitSet::empty(),
+            relay: UnitSet::empty(),
+            clock: UnitSet::empty(),
+        }
+    }
 }

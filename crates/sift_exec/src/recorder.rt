@@ -32,11 +32,7 @@ impl Recorder {
         ensures { result ≡ nobody }
     {
         Recorder {
-            caught: Catches {
-                poll: UnitSet::empty(),
-                relay: UnitSet::empty(),
-                clock: UnitSet::empty(),
-            },
+            caught: Catches::none(),
         }
     }
 

@@ -16,7 +16,7 @@ use arrayvec::ArrayVec;
 use sift_base::{UnitId, Word};
 use sift_conduct::Account;
 use sift_config::Config;
-use sift_exec::{Recorder, convict, next_config};
+use sift_exec::{Catches, convict, next_config};
 
 impl Memory {
     /// The account of a unit in a frame.
@@ -106,7 +106,7 @@ fn idle(config: &Config, clk: &i64) -> Account
         clk: *clk,
         ins: ArrayVec::new(),
         outs: ArrayVec::new(),
-        bad: Recorder::new().catches(),
+        bad: Catches::none(),
         next_cfg: *config,
         next_clk: *clk,
     }
