@@ -2,7 +2,7 @@
 use Rattle.std.proofs.Common.{◌≡◌, ℕ, ◌<◌, List, [], refl, sym, ◌∙◌, subst, arith}
 use Rattle.toml.specs.Data.{Members}
 use Rattle.sift_scenario.specs.Laws.{OneMission}
-use Rattle.sift_scenario.specs.Mission.{AreSame, IsMission}
+use Rattle.sift_scenario.specs.Mission.{IsMission}
 use Rattle.sift_mission.specs.Data.{MissionData}
 use Rattle.sift_mission.specs.Flown.{flown}
 use Rattle.sift_mission.specs.PartsFit.{PartsFit}
@@ -20,24 +20,6 @@ use Rattle.sift_run.specs.declared.command.Command.TheVariants.{Read, Gen, Trial
 use Rattle.sift_run.specs.declared.command.Reading.{Reading}
 use Rattle.sift_run.specs.declared.command.Reading.TheVariants.{Run, Votes, Ideal, Check}
 use Rattle.sift_run.proofs.Inputs.{one_tree}
-
--- a mission without its code
-abbrev bare : MissionData → MissionData
-bare d = record d { code = [] }
-
--- a text is made of a mission without its code
-bare_text : (reading : Reading) (d : MissionData) (text : List ℕ) → TextOf reading d text → TextOf reading (bare d) text
-bare_text (Run order) d text made = made
-bare_text (Votes order) d text made = made
-bare_text Ideal d text made = made
-bare_text Check d text made = made
-
--- and back
-bare_text_back : (reading : Reading) (d : MissionData) (text : List ℕ) → TextOf reading (bare d) text → TextOf reading d text
-bare_text_back (Run order) d text made = made
-bare_text_back (Votes order) d text made = made
-bare_text_back Ideal d text made = made
-bare_text_back Check d text made = made
 
 -- a mission whose parts fit has no storm
 calm : (d : MissionData) → PartsFit d → HasNoStorms (flown d)
@@ -62,17 +44,16 @@ module _ (mission : OneMission) (flies : PartsMakeItFlyable) (alike : RoundFligh
       let document = made.2.0 in
       let theirs : IsMission document makes.0 =
       subst (λ (t : Members). IsMission t makes.0) (one_tree bytes makes.1.0 document makes.1.1 made.2.1) makes.1.2 in
-      let same : AreSame makes.0 made.0 = mission document makes.0 made.0 theirs made.2.2 in
-      let here : TextOf reading (bare made.0) other = subst (λ d. TextOf reading d other) same (bare_text reading makes.0 other makes.2) in
-      one_of reading made.0 text other made.1 made.3 (bare_text_back reading made.0 other here)
+      let same : makes.0 ≡ made.0 = mission document makes.0 made.0 theirs made.2.2 in
+      let here : TextOf reading made.0 other = subst (λ d. TextOf reading d other) same makes.2 in
+      one_of reading made.0 text other made.1 made.3 here
 
   -- two missions of a tree fly to one last line
   one_end : (number : ℕ) (one other : List ℕ) → DrawsFit (Trial number 0) one → Draws (Trial number 0) other → one ≡ other
   one_end number one other draws draws' =
       let d = draws.0 in
-      let same : AreSame draws'.0 d = mission (tree_of number) draws'.0 d draws'.1 draws.2 in
-      let line : IsLastLineOf (bare draws'.0) other = draws'.2 in
-      let here : IsLastLineOf (bare d) other = subst (λ e. IsLastLineOf e other) same line in
+      let same : draws'.0 ≡ d = mission (tree_of number) draws'.0 d draws'.1 draws.2 in
+      let here : IsLastLineOf d other = subst (λ e. IsLastLineOf e other) same draws'.2 in
       draws.3.2 ∙ ((one_flight d draws.3.0 here.0 draws.1 draws.3.1 here.1).end ∙ sym here.2)
 
   -- a command that reads nothing makes one text

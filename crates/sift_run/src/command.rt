@@ -9,9 +9,9 @@ use crate::options::Options;
 use sift_base::NoMemory;
 use sift_core::fly;
 use sift_flight::{Flight, round_flights_are_whole};
+use sift_mission::Mission;
 use sift_report::{ideal_text, last_line_text, report_text, votes_text};
 use sift_trial::drawn_mission;
-use sift_mission::Mission;
 use std::alloc::Global;
 
 /// What the words ask for.

@@ -4,9 +4,9 @@ ghost use Rattle.sift_run.specs.Laws.{OneCommand, OneDrawnText, OneText};
 
 use sift_flight::round_flights_are_alike;
 use sift_gen::one_text_of_a_number;
+use sift_mission::fitting_parts_make_a_flight;
 use sift_report::alike_flights_have_one_text;
 use sift_scenario::one_mission;
-use sift_mission::fitting_parts_make_a_flight;
 
 /// Words ask for one command at most.
 pub fn one_command()
