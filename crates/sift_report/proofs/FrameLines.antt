@@ -1,5 +1,6 @@
 -- What the lines of a round flight's report tell of a frame with margin.
 use Rattle.std.proofs.Common.{◌≡◌, ℕ, suc, ◌<◌, List, [], ◌∷◌, length, map, true, not, ◌&&◌, nat_lt, Some, ℤ, inl, inr, refl, sym, ap, ◌∙◌, subst, arith}
+use Rattle.std.specs.Prelude.{IsSomeAnd, pos, ◌≤ℤ◌}
 use Rattle.std.specs.List.{filter}
 use Rattle.std.proofs.lemmas.Bool.{cases_Bool}
 use Rattle.sift_base.specs.Units.{has, holds}
@@ -13,12 +14,12 @@ use Rattle.sift_flight.specs.Flight.{Flight}
 use Rattle.sift_flight.specs.Headline.{Headline, agreed_at, two_caught}
 use Rattle.sift_flight.proofs.Configs.{filter_has, has_filter}
 use Rattle.sift_flight.proofs.Leading.{config_within, lead_works}
-use Rattle.sift_report.specs.Headline.{IsSomeSlack, IsTrueSkew, TellsClockSkew, TellsExactRemoval, TellsNoFalseAccusation, TellsSameInputs, two_tell, working_clocks}
+use Rattle.sift_report.specs.Headline.{IsTrueSkew, TellsClockSkew, TellsExactRemoval, TellsNoFalseAccusation, TellsSameInputs, two_tell, working_clocks}
 use Rattle.sift_report.specs.Sheet.{account_line, sheet_of}
 use Rattle.sift_report.specs.Told.{agreed_told, caught_told, clock_told, config_told, skew_told, slack_told, told_at, told_by, told_in}
 use Rattle.sift_report.specs.declared.line.ReportLine.{ReportLine}
 use Rattle.sift_report.proofs.Alike.{count_alike, map_alike, one_told}
-use Rattle.sift_report.proofs.RoundFlights.{IsLawful}
+use Rattle.sift_report.proofs.RoundFlights.{HasLaws}
 use Rattle.sift_report.proofs.SheetConfigs.{agreed_is, config_is}
 use Rattle.sift_report.proofs.SheetForm.{account_is, line_of_member, works_flying}
 use Rattle.sift_report.proofs.SheetPlaces.{first_low, frame_at, unit_at}
@@ -40,16 +41,16 @@ some_slack length (p ∷ ps) next some = (_, refl)
 
 -- ---- a frame with margin
 
-module _ (d : MissionData) (fl : Flight) (lawful : IsLawful d fl) where
+module _ (d : MissionData) (fl : Flight) (laws : HasLaws d fl) where
   abbrev sheet : List ReportLine
   sheet = sheet_of (flown d) fl
 
   module _ (f : ℕ) (within : f < d.frames) (at : HasMarginAt (flown d) fl f) where
     pub holds_here : Headline (flown d) d.program fl f
-    holds_here = lawful.headline f within at
+    holds_here = laws.headline f within at
 
     lead : Works (flown d) (lead_of (flown d) f) f
-    lead = lead_works (flown d) lawful.flyable f
+    lead = lead_works (flown d) laws.flyable f
 
     -- a working unit tells its account
     pub tells_account : (u : ℕ) → Works (flown d) u f → told_at d sheet f u ≡ told_by (account_line f u (fl.account u f))
@@ -66,19 +67,19 @@ module _ (d : MissionData) (fl : Flight) (lawful : IsLawful d fl) where
     -- which is the one that is told
     is_told : (us : List ℕ) → config_told d sheet f ≡ Some us → us ≡ config_at (flown d) fl f
     is_told us told =
-        one_told us (config_at (flown d) fl f) _ told (config_is d fl lawful f (omega arith) (λ g early. at g (omega arith)))
+        one_told us (config_at (flown d) fl f) _ told (config_is d fl laws f (omega arith) (λ g early. at g (omega arith)))
 
     -- a working unit of the configuration is one of the mission
     member_works : (u : ℕ) → has (config_at (flown d) fl f) u ≡ true → (flown d).works u f ≡ true → Works (flown d) u f
     member_works u member works =
         let l = lead_of (flown d) f in
-        let config = (account_is d fl lawful l f within lead).config in
+        let config = (account_is d fl laws l f within lead).config in
         record { unit = config.inside u (subst (λ us. has us u ≡ true) (config_within (flown d) fl f within) member); works = works }
 
     -- ---- words
 
     pub agrees : agreed_told d sheet f ≡ agreed_at (flown d) fl f
-    agrees = agreed_is d fl lawful f within (λ g early. at g (omega arith))
+    agrees = agreed_is d fl laws f within (λ g early. at g (omega arith))
 
     pub same_inputs : TellsSameInputs d sheet f
     same_inputs = record {
@@ -108,7 +109,7 @@ module _ (d : MissionData) (fl : Flight) (lawful : IsLawful d fl) where
     pub exact_removal : TellsExactRemoval d sheet f
     exact_removal us next told told_next =
         let then_is : next ≡ config_at (flown d) fl (suc f) =
-        one_told next (config_at (flown d) fl (suc f)) _ told_next (config_is d fl lawful (suc f) (omega arith) (λ g early. at g (omega arith))) in
+        one_told next (config_at (flown d) fl (suc f)) _ told_next (config_is d fl laws (suc f) (omega arith) (λ g early. at g (omega arith))) in
         let tests : (λ v. not (two_caught (flown d) fl f v)) ≡ (λ v. not (two_tell d sheet f (config_at (flown d) fl f) v)) =
         (λ i v. not (sym (two_alike v) i)) in
         subst (λ c. next ≡ filter (λ v. not (two_tell d sheet f c v)) c) (sym (is_told us told))
@@ -128,22 +129,23 @@ module _ (d : MissionData) (fl : Flight) (lawful : IsLawful d fl) where
         some_offsets (λ u. (fl.account u f).clk) (working_at (flown d) fl f) l
         (has_filter (λ u. (flown d).works u f) (config_at (flown d) fl f) l (holds_here.same_configuration.member l lead) lead.works)
 
-    true_skew : IsTrueSkew d (offsets_at (flown d) fl f) (skew_told d sheet f)
+    true_skew : IsSomeAnd (skew_told d sheet f) (IsTrueSkew d (offsets_at (flown d) fl f))
     true_skew =
         let a = some_skew (offsets_at (flown d) fl f) some_clock in
-        let is_skew = ((lawful.skew (offsets_at (flown d) fl f)).0 a.0).0 a.1 in
-        subst (IsTrueSkew d (offsets_at (flown d) fl f)) (sym (ap (λ o. (told_in o).skew) (frame_at d fl f within) ∙ a.1))
+        let is_skew = ((laws.skew (offsets_at (flown d) fl f)).0 a.0).0 a.1 in
+        subst (λ o. IsSomeAnd o (IsTrueSkew d (offsets_at (flown d) fl f))) (sym (ap (λ o. (told_in o).skew) (frame_at d fl f within) ∙ a.1))
         (is_skew, holds_here.clock_skew.skew a.0 is_skew)
 
-    true_slack : IsSomeSlack (slack_told d sheet f)
+    true_slack : IsSomeAnd (slack_told d sheet f) (λ slack. pos 1 ≤ℤ slack)
     true_slack =
         let b = some_slack (flown d).length (offsets_at (flown d) fl f) (next_offsets_at (flown d) fl f) some_clock in
-        let is_slack = ((lawful.slack (flown d).length (offsets_at (flown d) fl f) (next_offsets_at (flown d) fl f)).0 b.0).0 b.1 in
-        subst IsSomeSlack (sym (ap (λ o. (told_in o).slack) (frame_at d fl f within) ∙ b.1)) (holds_here.clock_skew.slack b.0 is_slack)
+        let is_slack = ((laws.slack (flown d).length (offsets_at (flown d) fl f) (next_offsets_at (flown d) fl f)).0 b.0).0 b.1 in
+        subst (λ o. IsSomeAnd o (λ slack. pos 1 ≤ℤ slack)) (sym (ap (λ o. (told_in o).slack) (frame_at d fl f within) ∙ b.1)) (holds_here.clock_skew.slack b.0 is_slack)
 
     pub clock_skew : TellsClockSkew d sheet f
     clock_skew = record {
-      skew = λ us told. subst (λ c. IsTrueSkew d (working_clocks d sheet f c) (skew_told d sheet f)) (sym (is_told us told))
-          (subst (λ clocks. IsTrueSkew d clocks (skew_told d sheet f)) (sym clocks_alike) true_skew);
+      skew = λ us told.
+          subst (λ c. IsSomeAnd (skew_told d sheet f) (IsTrueSkew d (working_clocks d sheet f c))) (sym (is_told us told))
+          (subst (λ clocks. IsSomeAnd (skew_told d sheet f) (IsTrueSkew d clocks)) (sym clocks_alike) true_skew);
       slack = true_slack;
     }

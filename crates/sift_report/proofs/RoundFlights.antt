@@ -14,7 +14,7 @@ use Rattle.sift_flight.specs.Told.{AreAccountsOf}
 use Rattle.sift_flight.specs.Whole.{RoundFlightsHaveAccounts}
 
 -- the mission can be flown, its first configurations have all units, and accounts, frames with margin and figures are as the laws say
-pub record IsLawful (d : MissionData) (fl : Flight) : Type 0 where
+pub record HasLaws (d : MissionData) (fl : Flight) : Type 0 where
   pub flyable : IsFlyable (flown d)
   pub begins : (u : ℕ) → 0 < d.frames → Works (flown d) u 0 → config_of fl u 0 ≡ (flown d).units
   pub accounts : AreAccountsOf (flown d) fl
@@ -23,9 +23,9 @@ pub record IsLawful (d : MissionData) (fl : Flight) : Type 0 where
   pub skew : SkewIsTold
   pub slack : SlackIsTold
 
-pub round_flight_is_lawful : PartsMakeItFlyable → HeadlineHolds → RoundFlightsHaveAccounts → MarginIsTold → SkewIsTold → SlackIsTold
-    → (d : MissionData) (s : Strays) (fl : Flight) → PartsFit d → IsRound (flown d) s fl → IsLawful d fl
-round_flight_is_lawful flies holds accounts margin skew slack d s fl fits round =
+pub round_flight_has_laws : PartsMakeItFlyable → HeadlineHolds → RoundFlightsHaveAccounts → MarginIsTold → SkewIsTold → SlackIsTold
+    → (d : MissionData) (s : Strays) (fl : Flight) → PartsFit d → IsRound (flown d) s fl → HasLaws d fl
+round_flight_has_laws flies holds accounts margin skew slack d s fl fits round =
     let flyable = (flies d fits).0 in
     record {
       flyable = flyable;

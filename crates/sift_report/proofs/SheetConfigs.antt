@@ -15,11 +15,11 @@ use Rattle.sift_report.specs.Sheet.{account_line, sheet_of}
 use Rattle.sift_report.specs.Told.{HadMarginTold, HasMarginTold, IsSoundTold, agreed_told, config_told, told_at, told_by, told_in}
 use Rattle.sift_report.specs.declared.line.ReportLine.{ReportLine}
 use Rattle.sift_report.proofs.Alike.{one_told}
-use Rattle.sift_report.proofs.RoundFlights.{IsLawful}
+use Rattle.sift_report.proofs.RoundFlights.{HasLaws}
 use Rattle.sift_report.proofs.SheetForm.{line_of_member, works_flying}
 use Rattle.sift_report.proofs.SheetPlaces.{end_at, first_low, unit_at}
 
-module _ (d : MissionData) (fl : Flight) (lawful : IsLawful d fl) where
+module _ (d : MissionData) (fl : Flight) (laws : HasLaws d fl) where
   abbrev sheet : List ReportLine
   sheet = sheet_of (flown d) fl
 
@@ -34,7 +34,7 @@ module _ (d : MissionData) (fl : Flight) (lawful : IsLawful d fl) where
   -- ---- the lead unit
 
   leads : (f : ℕ) → Works (flown d) (lead_of (flown d) f) f
-  leads f = lead_works (flown d) lawful.flyable f
+  leads f = lead_works (flown d) laws.flyable f
 
   low : (u f : ℕ) → Works (flown d) u f → u < d.units
   low u f w = let x = first_low 0 d.units u w.unit in omega (arith, x)
@@ -43,14 +43,14 @@ module _ (d : MissionData) (fl : Flight) (lawful : IsLawful d fl) where
   lead_inside : (f : ℕ) → f < d.frames → HadMargin f → has (config_of fl (lead_of (flown d) f) f) (lead_of (flown d) f) ≡ true
   lead_inside zero within had =
       let l = lead_of (flown d) 0 in
-      subst (λ us. has us l ≡ true) (sym (lawful.begins l within (leads 0))) (leads 0).unit
+      subst (λ us. has us l ≡ true) (sym (laws.begins l within (leads 0))) (leads 0).unit
   lead_inside (suc f) within had =
       let l = lead_of (flown d) (suc f) in
       let before : Works (flown d) l f = record {
         unit = (leads (suc f)).unit;
-        works = lawful.flyable.script.for_good l f (suc f) (omega arith) (leads (suc f)).works;
+        works = laws.flyable.script.for_good l f (suc f) (omega arith) (leads (suc f)).works;
       } in
-      let h = lawful.headline f (omega arith) (λ g up. had g (omega arith)) in
+      let h = laws.headline f (omega arith) (λ g up. had g (omega arith)) in
       subst (λ us. has us l ≡ true) (config_within (flown d) fl (suc f) within) (h.exact_removal.stays l before)
 
   -- ---- configurations
@@ -125,16 +125,16 @@ module _ (d : MissionData) (fl : Flight) (lawful : IsLawful d fl) where
         all_at_first = λ e.
             let some : 0 < d.frames = omega (arith, e, within) in
             subst (λ g. config_at (flown d) fl g ≡ (flown d).units) (sym e)
-            (config_within (flown d) fl 0 some ∙ lawful.begins (lead_of (flown d) 0) some (leads 0));
+            (config_within (flown d) fl 0 some ∙ laws.begins (lead_of (flown d) 0) some (leads 0));
         same = λ margin u w. tells f within (λ g up. elim (cases_lt g f) [
           | inl small ↦ had g small
           | inr over ↦ (let e : f ≡ g = omega (arith, up, over) in subst IsSound e margin)
         ]) u (works_flying d u f w);
       }
 
-pub tells_its_flight : (d : MissionData) (fl : Flight) → IsLawful d fl → TellsItsFlight d fl
-tells_its_flight d fl lawful = record {
-  margin = λ f within. (at_from d fl lawful f within, told_from d fl lawful f within);
-  config = λ f up had. config_is d fl lawful f up (λ g early. had g early g (omega arith));
-  agreed = λ f within at. agreed_is d fl lawful f within (λ g early. at g (omega arith));
+pub tells_its_flight : (d : MissionData) (fl : Flight) → HasLaws d fl → TellsItsFlight d fl
+tells_its_flight d fl laws = record {
+  margin = λ f within. (at_from d fl laws f within, told_from d fl laws f within);
+  config = λ f up had. config_is d fl laws f up (λ g early. had g early g (omega arith));
+  agreed = λ f within at. agreed_is d fl laws f within (λ g early. at g (omega arith));
 }

@@ -1,5 +1,6 @@
 -- The sheet of a round flight has the form of a report.
 use Rattle.std.proofs.Common.{◌≡◌, ℕ, ◌<◌, true, false, if◌then◌else◌, inl, inr, refl, sym, ap, ◌∙◌, subst, arith}
+use Rattle.std.specs.Prelude.{IsSomeAnd}
 use Rattle.std.proofs.lemmas.Bool.{cases_Bool}
 use Rattle.sift_base.specs.Units.{has}
 use Rattle.sift_mission.specs.Data.{MissionData}
@@ -7,11 +8,11 @@ use Rattle.sift_mission.specs.Flown.{flown}
 use Rattle.sift_flight.specs.Configuration.{Works}
 use Rattle.sift_flight.specs.Flight.{Flight}
 use Rattle.sift_flight.specs.Told.{IsAccountOf}
-use Rattle.sift_report.specs.Form.{HasForm, IsFramesLine, IsLastLine, IsUnitsLine, Stands}
+use Rattle.sift_report.specs.Form.{HasForm, IsFramesLine, IsLastLine, IsUnitsLine}
 use Rattle.sift_report.specs.Sheet.{account_line, sheet_of, unit_line, working_line}
 use Rattle.sift_report.specs.Working.{IsWorking}
 use Rattle.sift_report.specs.declared.line.ReportLine.TheVariants.{Faulty, Idle}
-use Rattle.sift_report.proofs.RoundFlights.{IsLawful}
+use Rattle.sift_report.proofs.RoundFlights.{HasLaws}
 use Rattle.sift_report.proofs.SheetPlaces.{end_at, first_low, frame_at, length-sheet, low_first, unit_at}
 
 -- who works by the mission's data works in flights
@@ -36,10 +37,10 @@ module _ (d : MissionData) (fl : Flight) (f u : ℕ) where
 
 -- ---- its form
 
-module _ (d : MissionData) (fl : Flight) (lawful : IsLawful d fl) where
+module _ (d : MissionData) (fl : Flight) (laws : HasLaws d fl) where
   -- the account of a working unit
   pub account_is : (u f : ℕ) → f < d.frames → Works (flown d) u f → IsAccountOf (flown d) u (fl.account u f)
-  account_is u f within w = lawful.accounts.each u f w.unit within (lawful.flyable.script.whole u f w.works)
+  account_is u f within w = laws.accounts.each u f w.unit within (laws.flyable.script.whole u f w.works)
 
   -- the units of its configuration have numbers below the mission's count
   below : (u f : ℕ) → f < d.frames → Works (flown d) u f → (v : ℕ) → has (fl.account u f).cfg v ≡ true → v < d.units
@@ -74,7 +75,7 @@ module _ (d : MissionData) (fl : Flight) (lawful : IsLawful d fl) where
 
   pub form_told : (f : ℕ) → f < d.frames → HasForm d (sheet_of (flown d) fl) f
   form_told f within = record {
-    units = λ u low. subst (Stands (IsUnitsLine d f u)) (sym (unit_at d fl f u within low)) (units_line f u within low);
-    whole = subst (Stands (IsFramesLine f)) (sym (frame_at d fl f within)) refl;
-    end = λ e. record { last = subst (Stands (IsLastLine d)) (sym (end_at d fl)) refl; nothing_more = length-sheet d fl };
+    units = λ u low. subst (λ o. IsSomeAnd o (IsUnitsLine d f u)) (sym (unit_at d fl f u within low)) (units_line f u within low);
+    whole = subst (λ o. IsSomeAnd o (IsFramesLine f)) (sym (frame_at d fl f within)) refl;
+    end = λ e. record { last = subst (λ o. IsSomeAnd o (IsLastLine d)) (sym (end_at d fl)) refl; nothing_more = length-sheet d fl };
   }

@@ -1,5 +1,6 @@
 -- The headline holds of the report with a fault in it.
 use Rattle.std.proofs.Common.{◌≡◌, ℕ, zero, suc, ◌<◌, ◌≤◌, List, [], ◌∷◌, Bool, true, false, not, ◌||◌, nat_eq, Some, ℤ, pos, ◌≤ℤ◌, refl, sym, ap, ◌∙◌, subst, arith, eqb-true}
+use Rattle.std.specs.Prelude.{IsSomeAnd}
 use Rattle.std.specs.FinSet as set
 use Rattle.std.specs.List.{Contains, filter}
 use Rattle.std.specs.Ordering.{nat_cmp}
@@ -10,7 +11,7 @@ use Rattle.sift_base.proofs.Sets.{holds-insert}
 use Rattle.sift_skew.specs.Figures.{IsSkew}
 use Rattle.sift_skew.proofs.Leads.{Contains-map}
 use Rattle.sift_mission.specs.PartsFit.{PartsFit}
-use Rattle.sift_report.specs.Form.{HasForm, IsUnitsLine, Stands}
+use Rattle.sift_report.specs.Form.{HasForm, IsUnitsLine}
 use Rattle.sift_report.specs.Headline.{TellsClockSkew, TellsExactRemoval, TellsIdealOutputs, TellsNoFalseAccusation, TellsSameConfiguration, TellsSameInputs, TellsTrueMargin, two_tell, working_clocks}
 use Rattle.sift_report.specs.Told.{HasMarginTold, IsSoundTold, agreed_told, caught_told, inputs_told, line_at, outputs_told, told_at}
 use Rattle.sift_report.specs.TwoCatchers.{HeadlineOfAFault, all_five, four_left, lines, mission, no_unit, only}
@@ -78,14 +79,14 @@ margin f low = λ g up. sound g (omega arith)
 
 form : (f : ℕ) → f < 2 → HasForm mission lines f
 form zero low = record {
-  units = each_below (λ u. Stands (IsUnitsLine mission 0 u) (line_at mission lines 0 u))
+  units = each_below (λ u. IsSomeAnd (line_at mission lines 0 u) (IsUnitsLine mission 0 u))
       (refl, refl, refl, five_low, four_low, refl, refl) (refl, refl, refl, five_low, four_low, refl, refl)
       (refl, refl, refl, five_low, none_low, refl, refl) (refl, refl, refl, five_low, none_low, refl, refl) (refl, refl, refl);
   whole = refl;
   end = λ e. absurd (omega (arith, e));
 }
 form (suc zero) low = record {
-  units = each_below (λ u. Stands (IsUnitsLine mission 1 u) (line_at mission lines 1 u))
+  units = each_below (λ u. IsSomeAnd (line_at mission lines 1 u) (IsUnitsLine mission 1 u))
       (refl, refl, refl, left_low, none_low, refl, refl) (refl, refl, refl, left_low, none_low, refl, refl)
       (refl, refl, refl, left_low, none_low, refl, refl) (refl, refl, refl, left_low, none_low, refl, refl) (refl, refl, refl);
   whole = refl;

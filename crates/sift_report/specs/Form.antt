@@ -1,5 +1,5 @@
 -- The form of a report of a mission: which lines stand where, with which numbers, whatever they tell.
-use Rattle.std.specs.Prelude.{◌≡◌, ℕ, suc, ◌+◌, ◌*◌, ◌<◌, List, length, true, false, Option, None, Some}
+use Rattle.std.specs.Prelude.{◌≡◌, ℕ, suc, ◌+◌, ◌*◌, ◌<◌, List, length, true, false, IsSomeAnd}
 use Rattle.sift_base.specs.Units.{has, holds}
 use Rattle.sift_mission.specs.Data.{MissionData}
 use Rattle.sift_report.specs.Told.{line_at}
@@ -39,18 +39,13 @@ IsLastLine d (Idle f u) = ⊥
 IsLastLine d (Frame f skew slack margin) = ⊥
 IsLastLine d (Last frames cfg margin) = frames ≡ d.frames
 
--- such a line stands there
-abbrev pub Stands : (ReportLine → Type 0) → Option ReportLine → Type 0
-Stands IsOne None = ⊥
-Stands IsOne (Some line) = IsOne line
-
 -- the last line stands behind the last frame, and nothing behind it
 pub record HasEnd (d : MissionData) (lines : List ReportLine) : Type 0 where
-  pub last : Stands (IsLastLine d) (line_at d lines d.frames 0)
+  pub last : IsSomeAnd (line_at d lines d.frames 0) (IsLastLine d)
   pub nothing_more : length lines ≡ line_count d
 
 -- the lines of a frame stand in their places: one for each unit and one for the frame, and behind the last frame the end
 pub record HasForm (d : MissionData) (lines : List ReportLine) (f : ℕ) : Type 0 where
-  pub units : (u : ℕ) → u < d.units → Stands (IsUnitsLine d f u) (line_at d lines f u)
-  pub whole : Stands (IsFramesLine f) (line_at d lines f d.units)
+  pub units : (u : ℕ) → u < d.units → IsSomeAnd (line_at d lines f u) (IsUnitsLine d f u)
+  pub whole : IsSomeAnd (line_at d lines f d.units) (IsFramesLine f)
   pub end : suc f ≡ d.frames → HasEnd d lines

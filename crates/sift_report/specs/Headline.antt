@@ -1,6 +1,6 @@
 -- The headline of a report: what its lines tell of each frame with margin, whatever faulty units do. It is said of the lines and the mission
 -- alone, one item a definition, each of one frame.
-use Rattle.std.specs.Prelude.{◌≡◌, ◌↔◌, ℕ, suc, ◌<◌, List, map, slice_index, nat_lt, not, Bool, true, false, Option, None, Some, ℤ, pos, ◌≤ℤ◌}
+use Rattle.std.specs.Prelude.{◌≡◌, ◌↔◌, ℕ, suc, ◌<◌, List, map, slice_index, nat_lt, not, Bool, true, false, Some, IsSomeAnd, ℤ, pos, ◌≤ℤ◌}
 use Rattle.std.specs.List.{filter}
 use Rattle.sift_base.specs.Margin.{HasMargin}
 use Rattle.sift_base.specs.Units.{holds}
@@ -60,21 +60,16 @@ TellsExactRemoval d lines f =
 abbrev pub working_clocks : MissionData → List ReportLine → ℕ → List ℕ → List ℤ
 working_clocks d lines f us = map (clock_told d lines f) (filter (λ u. works_in d u f) us)
 
--- a skew is told, it is the largest difference of two of these offsets, and at most the mission's
-abbrev pub IsTrueSkew : MissionData → List ℤ → Option ℤ → Type 0
-IsTrueSkew d clocks None = ⊥
-IsTrueSkew d clocks (Some skew) = IsSkew clocks skew × (skew ≤ℤ d.clock.skew)
-
--- a slack is told, and it is at least 1
-abbrev pub IsSomeSlack : Option ℤ → Type 0
-IsSomeSlack None = ⊥
-IsSomeSlack (Some slack) = pos 1 ≤ℤ slack
+-- the largest difference of two of these offsets, and at most the mission's skew
+abbrev pub IsTrueSkew : MissionData → List ℤ → ℤ → Type 0
+IsTrueSkew d clocks skew = IsSkew clocks skew × (skew ≤ℤ d.clock.skew)
 
 -- the frame's line tells the largest difference of two working clocks of the configuration, which is at most the mission's skew, and a slack
 -- of at least 1
 pub record TellsClockSkew (d : MissionData) (lines : List ReportLine) (f : ℕ) : Type 0 where
-  pub skew : (us : List ℕ) → config_told d lines f ≡ Some us → IsTrueSkew d (working_clocks d lines f us) (skew_told d lines f)
-  pub slack : IsSomeSlack (slack_told d lines f)
+  pub skew : (us : List ℕ) → config_told d lines f ≡ Some us →
+      IsSomeAnd (skew_told d lines f) (IsTrueSkew d (working_clocks d lines f us))
+  pub slack : IsSomeAnd (slack_told d lines f) (λ slack. pos 1 ≤ℤ slack)
 
 -- ---- margin
 
