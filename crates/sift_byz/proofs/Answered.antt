@@ -7,7 +7,7 @@ use Rattle.sift_byz.specs.declared.stop.ByzStop.{ByzStop}
 use Rattle.sift_byz.specs.declared.stop.ByzStop.TheVariants as stop
 use Rattle.sift_byz.specs.Document.{each_read, integer_between, list_of, of_length, word_value, words_of}
 use Rattle.sift_byz.specs.Lawful.{IsPlanOf, IsRefusedWith, OnePlan, OneRefusal, OnlyRefuses, PlansAreAccepted, StatedPlansAreLawful, rules_of}
-use Rattle.sift_byz.specs.Plan.{LieData, PlanData, teller_count, traitor_limit, unit_limit}
+use Rattle.sift_byz.specs.Plan.{LieData, PlanData, teller_count, most_traitors, most_units}
 use Rattle.sift_byz.specs.Rules.{AreKept, BreaksFirst, IsFirstPlace, Rule}
 use Rattle.sift_byz.specs.Stated.{lie_in, lies_of}
 use Rattle.sift_byz.proofs.Stopping.{kept_for_units}
@@ -128,8 +128,8 @@ values_long count ys (Some d) is = words_long count ys d is
 
 pub stated_plans_are_lawful : StatedPlansAreLawful
 stated_plans_are_lawful document plan stated =
-    let m = between 0 traitor_limit plan.m (get_member (codes "m") document) stated.m in
-    let units = between (3 * plan.m + 1) unit_limit plan.units (get_member (codes "units") document) stated.units in
+    let m = between 0 most_traitors plan.m (get_member (codes "m") document) stated.m in
+    let units = between (3 * plan.m + 1) most_units plan.units (get_member (codes "units") document) stated.units in
     let kept = kept_for_units document plan.m stated.m plan.units stated.units stated.lawful in
     let few : teller_count plan.units (map lie_in (lies_of document)) ≤ plan.m =
     few_tellers plan.units plan.m (map lie_in (lies_of document)) kept.1.1.1.1.1.1.1.1.0 in (

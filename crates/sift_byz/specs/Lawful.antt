@@ -107,7 +107,9 @@ OnePlan = (document : Members) (one other : PlanData) → IsPlanOf document one 
 
 -- a document that states a plan isn't refused, where memory is not wanting
 abbrev pub PlansAreAccepted : Type 0
-PlansAreAccepted = (document : Members) (plan : PlanData) (refused : ByzStop) → IsPlanOf document plan → IsRefusedWith document refused → refused ≡ stop.NoMemory
+PlansAreAccepted =
+    (document : Members) (plan : PlanData) (refused : ByzStop) → IsPlanOf document plan → IsRefusedWith document refused →
+    refused ≡ stop.NoMemory
 
 -- a document is refused in one way, where memory is not wanting
 abbrev pub OneRefusal : Type 0

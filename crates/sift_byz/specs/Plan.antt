@@ -12,12 +12,12 @@ use Rattle.sift_byz.specs.Relaying.{Hearing, result_of}
 -- ---- plans
 
 -- the most units
-abbrev pub unit_limit : ℕ
-unit_limit = 10
+abbrev pub most_units : ℕ
+most_units = 10
 
 -- the most traitors
-abbrev pub traitor_limit : ℕ
-traitor_limit = 2
+abbrev pub most_traitors : ℕ
+most_traitors = 2
 
 -- a lie: the last unit of the path tells the receivers this word, or nothing, as what it heard by the path before it. The
 -- path is written in the order in which its units spoke
@@ -120,8 +120,8 @@ entry_in vectors q s = get_or (get_or vectors q []) s 0
 -- the numbers are within their limits, and each unit has a value
 pub record IsInRange (plan : PlanData) : Type 0 where
   pub some : 0 < plan.units
-  pub few : plan.units ≤ unit_limit
-  pub traitors : plan.m ≤ traitor_limit
+  pub few : plan.units ≤ most_units
+  pub traitors : plan.m ≤ most_traitors
   pub valued : length plan.values ≡ plan.units
 
 -- at most m units lie, and there are more than three times as many units as m

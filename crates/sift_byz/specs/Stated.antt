@@ -5,7 +5,7 @@ use Rattle.std.specs.Option.{option_map}
 use Rattle.toml.specs.Data.{Data, Members, get_member}
 use Rattle.sift_base.specs.Units.{has, IsAscending}
 use Rattle.sift_byz.specs.Document.{digits_of, entries_of, integer_between, member_in, word_value, words_of}
-use Rattle.sift_byz.specs.Plan.{LieData, traitor_limit, unit_limit}
+use Rattle.sift_byz.specs.Plan.{LieData, most_traitors, most_units}
 
 -- ---- the root
 
@@ -15,11 +15,11 @@ root_keys = codes "units" ∷ codes "m" ∷ codes "values" ∷ codes "lie" ∷ [
 
 -- how many units may lie
 abbrev pub m_of : Members → Option ℕ
-m_of document = option_and_then (integer_between 0 traitor_limit) (get_member (codes "m") document)
+m_of document = option_and_then (integer_between 0 most_traitors) (get_member (codes "m") document)
 
 -- how many units there are, where m may lie
 abbrev pub units_of : (m : ℕ) → Members → Option ℕ
-units_of m document = option_and_then (integer_between (3 * m + 1) unit_limit) (get_member (codes "units") document)
+units_of m document = option_and_then (integer_between (3 * m + 1) most_units) (get_member (codes "units") document)
 
 -- the values of so many units
 abbrev pub values_of : (units : ℕ) → Members → Option (List ℕ)

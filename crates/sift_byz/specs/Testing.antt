@@ -6,7 +6,7 @@ use Rattle.sift_byz.specs.declared.lies.EntryRule.TheVariants.{Keys, Path, Recei
 use Rattle.sift_byz.specs.declared.stop.ByzStop.{ByzStop}
 use Rattle.sift_byz.specs.declared.stop.ByzStop.TheVariants as stop
 use Rattle.sift_byz.specs.Document.{IsTableOf}
-use Rattle.sift_byz.specs.Plan.{traitor_limit, unit_limit}
+use Rattle.sift_byz.specs.Plan.{most_traitors, most_units}
 use Rattle.sift_byz.specs.Rules.{HoldsOf, IsFirstPlace}
 use Rattle.sift_byz.specs.Stated.{HasPath, HasReceivers, lie_keys}
 
@@ -35,8 +35,8 @@ number_of (Receivers units m) = 7
 -- the numbers that it speaks of are within their limits
 abbrev pub IsLimited : EntryRule → Type 0
 IsLimited Keys = ⊤
-IsLimited (Path units m) = m ≤ traitor_limit
-IsLimited (Receivers units m) = (units ≤ unit_limit) × (m ≤ traitor_limit)
+IsLimited (Path units m) = m ≤ most_traitors
+IsLimited (Receivers units m) = (units ≤ most_units) × (m ≤ most_traitors)
 
 -- an entry doesn't keep the rule
 abbrev pub BreaksEntry : EntryRule → List Data → ℕ → Type 0

@@ -5,7 +5,7 @@ ghost use Rattle.std.specs.List.{All, list_any};
 ghost use Rattle.toml.specs.View.{table_view, view};
 ghost use Rattle.sift_base.specs.Units.{has};
 ghost use Rattle.sift_byz.specs.Lawful.{BreaksLies, BreaksReceivers, BreaksWords, HasNoLies};
-ghost use Rattle.sift_byz.specs.Plan.{lie_of, traitor_limit, unit_limit};
+ghost use Rattle.sift_byz.specs.Plan.{lie_of, most_traitors, most_units};
 ghost use Rattle.sift_byz.specs.Stated.{AreDifferent, AreReceivers, HasPath, HasReceivers, HasWord, IsPath, lie_in, lie_limit, lies_of, path_of, said_of, to_of};
 ghost use Rattle.sift_byz.specs.Testing.{BreaksEntry, IsLimited, Keeps, Tests, number_of};
 
@@ -96,7 +96,7 @@ fn keeps(entry: &Value, rule: EntryRule) -> bool
 }
 
 fn has_path(entry: &Value, units: u8, m: u8) -> bool
-    requires { m ≤ traitor_limit }
+    requires { m ≤ most_traitors }
     ensures { IsTrue result ↔ HasPath units m (view entry.now) }
 {
     match path_of(entry, units, m) {
@@ -106,8 +106,8 @@ fn has_path(entry: &Value, units: u8, m: u8) -> bool
 }
 
 fn has_receivers(entry: &Value, units: u8, m: u8) -> bool
-    requires few { units ≤ unit_limit }
-    requires traitors { m ≤ traitor_limit }
+    requires few { units ≤ most_units }
+    requires traitors { m ≤ most_traitors }
     ensures { IsTrue result ↔ HasReceivers units m (view entry.now) }
 {
     match path_of(entry, units, m) {
@@ -129,8 +129,8 @@ pub(crate) fn lies_in(
     m: u8,
 ) -> Result<Vec<Lie>, ByzStop>
     requires few { length entries.now ≤ lie_limit }
-    requires units { units ≤ unit_limit }
-    requires traitors { m ≤ traitor_limit }
+    requires units { units ≤ most_units }
+    requires traitors { m ≤ most_traitors }
     requires received { (place : ℕ) → ¬ BreaksReceivers units m (map (λ entry. view entry) entries.now) place }
     ensures lies { IfOk result (λ lies. map lie_of lies.items ≡ map lie_in (map (λ entry. view entry) entries.now)) }
     ensures paths { IfOk result (λ lies. All (λ lie. IsPath units m lie.path.items) lies.items) }
@@ -148,8 +148,8 @@ pub(crate) fn lies_in(
 
 /// The lie that an entry states.
 fn lie_in(entry: &Value, units: u8, m: u8) -> Option<Lie>
-    requires few { units ≤ unit_limit }
-    requires traitors { m ≤ traitor_limit }
+    requires few { units ≤ most_units }
+    requires traitors { m ≤ most_traitors }
     ensures found { IfSome result (λ lie. lie_of lie ≡ lie_in (view entry.now)) }
     ensures path { IfSome result (λ lie. IsPath units m lie.path.items) }
     ensures word { IfSome result (λ _. HasWord (view entry.now)) }
@@ -163,7 +163,7 @@ fn lie_in(entry: &Value, units: u8, m: u8) -> Option<Lie>
 
 /// The path of an entry, in the order in which its units spoke.
 fn path_of(entry: &Value, units: u8, m: u8) -> Option<ArrayVec<u8, 3>>
-    requires { m ≤ traitor_limit }
+    requires { m ≤ most_traitors }
     ensures found { IfSome result (λ path. path_of (view entry.now) ≡ Some path.items) }
     ensures path { IfSome result (λ path. IsPath units m path.items) }
     ensures none { IfNone result (¬ HasPath units m (view entry.now)) }
@@ -178,7 +178,7 @@ fn path_of(entry: &Value, units: u8, m: u8) -> Option<ArrayVec<u8, 3>>
 
 /// The receivers of what an entry tells by a path.
 fn receivers_of(entry: &Value, units: u8, path: &[u8]) -> Option<ArrayVec<u8, 10>>
-    requires { units ≤ unit_limit }
+    requires { units ≤ most_units }
     ensures found { IfSome result (λ to. to_of (view entry.now) ≡ Some to.items) }
     ensures receivers { IfSome result (λ to. AreReceivers units path.now to.items) }
     ensures none { IfNone result ((to : List ℕ) → to_of (view entry.now) ≡ Some to → ¬ AreReceivers units path.now to) }

@@ -6,7 +6,7 @@ ghost use Rattle.toml.specs.Data.{get_member};
 ghost use Rattle.toml.specs.View.{table_view};
 ghost use Rattle.sift_byz.specs.Document.{integer_between, words_of};
 ghost use Rattle.sift_byz.specs.Lawful.{BreaksFew, BreaksKeys, BreaksM, BreaksUnits, BreaksValues, IsPlanOf, IsRefusedWith, OnlyRefuses};
-ghost use Rattle.sift_byz.specs.Plan.{IsInRange, PlanData, TraitorsAreFew, lie_of, plan_of, traitor_limit, unit_limit};
+ghost use Rattle.sift_byz.specs.Plan.{IsInRange, PlanData, TraitorsAreFew, lie_of, plan_of, most_traitors, most_units};
 ghost use Rattle.sift_byz.specs.Stated.{IsPath, lie_limit, m_of, units_of, values_of};
 ghost use Rattle.sift_byz.specs.Testing.{Tests};
 
@@ -72,7 +72,7 @@ fn check_keys(document: &Table) -> Result<(), ByzStop>
 /// How many units may lie.
 fn m_of(document: &Table) -> Result<u8, ByzStop>
     ensures m { IfOk result (λ m. m_of (table_view document.now) ≡ Some m) }
-    ensures few { IfOk result (λ m. m ≤ traitor_limit) }
+    ensures few { IfOk result (λ m. m ≤ most_traitors) }
     ensures tests { Tests 2 (BreaksM (table_view document.now)) result }
 {
     match number_at(document, "m", 0, 2) {
@@ -83,9 +83,9 @@ fn m_of(document: &Table) -> Result<u8, ByzStop>
 
 /// How many units there are, where so many may lie.
 fn units_of(document: &Table, m: u8) -> Result<u8, ByzStop>
-    requires { m ≤ traitor_limit }
+    requires { m ≤ most_traitors }
     ensures units { IfOk result (λ units. units_of m (table_view document.now) ≡ Some units) }
-    ensures few { IfOk result (λ units. units ≤ unit_limit) }
+    ensures few { IfOk result (λ units. units ≤ most_units) }
     ensures tests { Tests 3 (BreaksUnits m (table_view document.now)) result }
 {
     match number_at(document, "units", 3 * u32::from(m) + 1, 10) {
@@ -103,7 +103,7 @@ fn number_at(document: &Table, key: &str, low: u32, high: u32) -> Option<u32>
 
 /// The values of so many units.
 fn values_of(document: &Table, units: u8) -> Result<ArrayVec<Word, 10>, ByzStop>
-    requires { units ≤ unit_limit }
+    requires { units ≤ most_units }
     ensures values { IfOk result (λ values. values_of units (table_view document.now) ≡ Some values.items) }
     ensures tests { Tests 4 (BreaksValues units (table_view document.now)) result }
 {
@@ -115,7 +115,7 @@ fn values_of(document: &Table, units: u8) -> Result<ArrayVec<Word, 10>, ByzStop>
 
 /// The words at a key that is there and is an array of so many word values.
 fn words_at(document: &Table, key: &str, count: usize) -> Option<ArrayVec<Word, 10>>
-    requires { count ≤ unit_limit }
+    requires { count ≤ most_units }
     ensures { option_map (λ words. words.items) result
         ≡ option_and_then (words_of count) (get_member key.now (table_view document.now)) }
 {
@@ -125,7 +125,7 @@ fn words_at(document: &Table, key: &str, count: usize) -> Option<ArrayVec<Word, 
 /// Tests that at most `m` units stand last in a path.
 fn check_few(lies: &[Lie], units: u8, m: u8) -> Result<(), ByzStop>
     requires few { length lies.now ≤ lie_limit }
-    requires traitors { m ≤ traitor_limit }
+    requires traitors { m ≤ most_traitors }
     requires paths { All (λ lie. IsPath units m lie.path.items) lies.now }
     ensures { Tests 9 (BreaksFew units m (map lie_of lies.now)) result }
 {

@@ -20,7 +20,7 @@ pub fn vectors_text(alloc: Global, plan: &ByzPlan, vectors: &Vectors) -> Result<
 {
     let mut text = String::new(alloc);
     for unit in 0..plan.units {
-        push_line(&mut text, plan, unit, vectors.of(unit))?;
+        push_line(&mut text, plan, unit, vectors.row(unit))?;
     }
     Ok(text)
 }

@@ -31,11 +31,11 @@ impl Vectors {
         requires other { s < length self.now }
         ensures { result ≡ entry_in self.now q s }
     {
-        self.of(q)[usize::from(s)]
+        self.row(q)[usize::from(s)]
     }
 
     /// The vector of unit `q`.
-    pub(crate) fn of(&self, q: u8) -> &[Word]
+    pub(crate) fn row(&self, q: u8) -> &[Word]
         requires { q < length self.now }
         ensures vector { result.now ≡ get_or self.now q [] }
         ensures long { length result.now ≡ length self.now }

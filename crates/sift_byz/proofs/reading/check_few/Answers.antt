@@ -17,7 +17,9 @@ loop-place-init c =
     }
 
 -- where at most m tell, the rule isn't broken
-few_tell : (units m place : ℕ) (lies : List LieData) (tellers : List ℕ) → AreTellers units (take (place + 1) lies) tellers → length tellers ≤ m → ¬ BreaksFew units m lies place
+few_tell :
+    (units m place : ℕ) (lies : List LieData) (tellers : List ℕ) → AreTellers units (take (place + 1) lies) tellers → length tellers ≤ m
+    → ¬ BreaksFew units m lies place
 few_tell units m place lies tellers are few broken = omega (arith, are.count, few, broken.many)
 
 -- the last unit of one lie more told before, or is one more
@@ -28,18 +30,29 @@ loop-place-preserved c =
     let t_is : t ≡ get_or lie.path.items (length lie.path.items - 1) 0 = rw (c.len.ensures.value, c.deref.ensures.0) in
     let old : List ℕ = c.loop-place.tellers.items in
     let found : has old t ≡ c.contains.result = sym (rw c.deref-in-loop-place.ensures.0 at c.contains.ensures.value) in
-    let next : AreTellers c.args.units (take (c.loop-place.place + 1) (map lie_of c.args.lies.now)) c.if-not-contains.tellers.items × (length c.if-not-contains.tellers.items ≤ c.args.m) =
+    let lies : List LieData = map lie_of c.args.lies.now in
+    let so_far : List LieData = take (c.loop-place.place + 1) lies in
+    let now : List ℕ = c.if-not-contains.tellers.items in
+    let next : AreTellers c.args.units so_far now × (length now ≤ c.args.m) =
     elim c.if-not-contains.branch [
       | then-not-contains+else-len-from w ↦
-          let items : c.if-not-contains.tellers.items ≡ old ++ t ∷ [] = ap (λ v. v.items) w.tellers-is ∙ w.push.ensures.items in (
-            subst (λ (ts : List ℕ). AreTellers c.args.units (take (c.loop-place.place + 1) (map lie_of c.args.lies.now)) ts) (sym items)
+          let items : now ≡ old ++ t ∷ [] = ap (λ v. v.items) w.tellers-is ∙ w.push.ensures.items in (
+            subst (λ (ts : List ℕ). AreTellers c.args.units so_far ts) (sym items)
                 (told_first c.args.units c.args.m c.args.lies.now c.requires.paths c.loop-place.place lie c.loop-place-test.true c.index-lies-place.is t t_is old
                 c.loop-place.invariant.tellers (found ∙ w.if-not-contains.true)),
-            omega (arith, ap length items, length-append old (t ∷ []), c.loop-place.invariant.few, w.if-len-from.false, w.len-then-not-contains.ensures.value, w.from.ensures),
+            omega (
+              arith,
+              ap length items,
+              length-append old (t ∷ []),
+              c.loop-place.invariant.few,
+              w.if-len-from.false,
+              w.len-then-not-contains.ensures.value,
+              w.from.ensures,
+            ),
           )
       | else-not-contains w ↦
-          let items : c.if-not-contains.tellers.items ≡ old = ap (λ v. v.items) w.tellers-is in (
-            subst (λ (ts : List ℕ). AreTellers c.args.units (take (c.loop-place.place + 1) (map lie_of c.args.lies.now)) ts) (sym items)
+          let items : now ≡ old = ap (λ v. v.items) w.tellers-is in (
+            subst (λ (ts : List ℕ). AreTellers c.args.units so_far ts) (sym items)
                 (told_again c.args.units c.args.m c.args.lies.now c.requires.paths c.loop-place.place lie c.loop-place-test.true c.index-lies-place.is t t_is old
                 c.loop-place.invariant.tellers (found ∙ w.if-not-contains.false)),
             omega (arith, ap length items, c.loop-place.invariant.few),
@@ -47,7 +60,7 @@ loop-place-preserved c =
     ] in record {
       tellers = next.0;
       few = next.1;
-      kept = below_more _ _ c.loop-place.invariant.kept (few_tell c.args.units c.args.m c.loop-place.place (map lie_of c.args.lies.now) c.if-not-contains.tellers.items next.0 next.1);
+      kept = below_more _ _ c.loop-place.invariant.kept (few_tell c.args.units c.args.m c.loop-place.place lies now next.0 next.1);
     }
 
 -- one unit more is one too many

@@ -6,8 +6,8 @@ use Rattle.sift_byz.proofs.Lists.{text_more}
 use Rattle.sift_byz.proofs.text.vectors_text.Goals as goal
 
 -- each unit has a vector
-pub of-requires : goal.of-requires
-of-requires c =
+pub row-requires : goal.row-requires
+row-requires c =
     let long : length c.args.vectors.now ≡ c.args.plan.now.units = ap length c.requires ∙ length-map-range_with_len (vector (plan_of c.args.plan.now)) 0 c.args.plan.now.units in
     omega (arith, long, c.loop-unit-test.true)
 
@@ -16,7 +16,7 @@ pub loop-unit-preserved : goal.loop-unit-preserved
 loop-unit-preserved c =
     let plan = plan_of c.args.plan.now in
     let unit : ℕ = c.loop-unit.unit in
-    let there : c.of.result.now ≡ vector plan unit =
-    c.of.ensures.vector ∙ ap (λ (vectors : List (List ℕ)). get_or vectors unit []) c.requires
+    let there : c.row.result.now ≡ vector plan unit =
+    c.row.ensures.vector ∙ ap (λ (vectors : List (List ℕ)). get_or vectors unit []) c.requires
     ∙ get_or-map-range_with_len (vector plan) 0 c.args.plan.now.units unit unit [] c.loop-unit-test.true (omega arith) in
     text_more (λ u. line_text plan u (vector plan u)) unit _ _ c.loop-unit.invariant (rw there at c.in_ok-push_line.ensures)

@@ -1,7 +1,7 @@
 use Rattle.std.proofs.Common.{◌≡◌, ◌∙◌, [], length, get_or, ap, arith, subst}
 use Rattle.std.proofs.lemmas.Grind.{common_steps}
 use Rattle.sift_byz.specs.Plan.{IsSquare}
-use Rattle.sift_byz.proofs.vectors.Vectors.of.Goals as goal
+use Rattle.sift_byz.proofs.vectors.Vectors.row.Goals as goal
 
 -- each vector is as long as there are vectors
 pub returns-clause-long : goal.returns-clause-long
