@@ -8,8 +8,8 @@ pub trait Face {
     /// promises nothing allows every step.
     ghost allows: { Self → Showing → Self → Type 0 };
 
-    /// What the faulty clock shows the working clock `to` in a round: how far it is ahead, in ticks, or
-    /// nothing.
+    /// What a faulty clock shows the working clock `to` in a round, of which the first is 0: how far it is
+    /// ahead, in ticks, or nothing.
     fn show(&mut self, round: u32, clock: u8, to: u8) -> Option<i32>
         ensures { allows self.old (showing round clock to result) self.new };
 }
