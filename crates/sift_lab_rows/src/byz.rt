@@ -52,6 +52,21 @@ fn loyal_units_have_one_vector(rt: HostRuntime) -> Result<(), Fail> {
     Ok(())
 }
 
+#[test]
+fn a_vector_has_an_entry_of_each_unit(rt: HostRuntime) -> Result<(), Fail> {
+    let table = toml::table_from_str(rt.alloc(), FOUR)?;
+    let plan = read_byz(rt.alloc(), &table)?;
+    let vectors = exchange(rt.alloc(), &plan)?;
+    assert_eq!(rt; plan.units, 4, "units");
+    let loyal = vectors.get(3, 1).get();
+    assert_eq!(rt; loyal, 2, "of a loyal unit");
+    let own = vectors.get(3, 3).get();
+    assert_eq!(rt; own, 4, "of the unit itself");
+    let liar = vectors.get(3, 0).get();
+    assert_eq!(rt; liar, 0, "of the liar");
+    Ok(())
+}
+
 /// Checks the rule that a document breaks, and its place.
 fn expect(
     rt: &impl Abort,
