@@ -1,5 +1,5 @@
 -- All flights of a mission have one text of each kind.
-use Rattle.std.proofs.Common.{◌≡◌, ℕ, ◌<◌, List, refl, sym, ◌∙◌, ap, subst, arith}
+use Rattle.std.proofs.Common.{◌≡◌, ◌<◌, refl, sym, ◌∙◌, ap, subst, arith}
 use Rattle.sift_flight.specs.Alike.{RoundFlightsAreAlike}
 use Rattle.sift_flight.specs.Flight.{Flight}
 use Rattle.sift_flight.specs.Hearing.{no_strays}
@@ -15,11 +15,10 @@ use Rattle.sift_reply.specs.Reply.{Reply, done}
 use Rattle.sift_report.specs.OneText.{AlikeFlightsHaveOneText, HaveOneText}
 use Rattle.sift_report.specs.Sheet.{end_of}
 use Rattle.sift_scenario.specs.Laws.{OneMission, StatedMissionsFit}
-use Rattle.sift_scenario.specs.Mission.{IsMission}
 use Rattle.sift_jobs.specs.Flights.{IsFlightOf}
 use Rattle.sift_jobs.specs.Gen.{gen_duty}
 use Rattle.sift_jobs.specs.Run.{RunGives}
-use Rattle.sift_jobs.specs.Trial.{TrialGives, trial_duty}
+use Rattle.sift_jobs.specs.Trial.{trial_duty}
 use Rattle.sift_jobs.specs.Votes.{VotesGives}
 use Rattle.sift_jobs.specs.declared.run.RunJob.{RunJob}
 use Rattle.sift_jobs.specs.declared.scenario.GenJob.{GenJob}

@@ -34,7 +34,8 @@ impl MissionJob for RunJob {
 
     fn reply_for(self, alloc: Global, mission: &Mission) -> Result<Reply, NoMemory> {
         let flight = flight_of(alloc, mission, self.order)?;
-        Ok(Reply::done(report_text(alloc, mission, &flight)?))
+        let report = report_text(alloc, mission, &flight)?;
+        Ok(Reply::done(report))
     }
 }
 

@@ -42,6 +42,7 @@ impl Job for TrialJob {
     fn reply(self, alloc: Global, _bytes: &[u8]) -> Result<Reply, NoMemory> {
         let mission = drawn_mission(alloc, self.number)?;
         let flight = flight_of(alloc, &mission, self.order)?;
-        Ok(Reply::done(last_line_text(alloc, &mission, &flight)?))
+        let end = last_line_text(alloc, &mission, &flight)?;
+        Ok(Reply::done(end))
     }
 }

@@ -35,7 +35,8 @@ impl MissionJob for VotesJob {
 
     fn reply_for(self, alloc: Global, mission: &Mission) -> Result<Reply, NoMemory> {
         let flight = flight_of(alloc, mission, self.order)?;
-        Ok(Reply::done(votes_text(alloc, mission, &flight)?))
+        let votes = votes_text(alloc, mission, &flight)?;
+        Ok(Reply::done(votes))
     }
 }
 

@@ -4,4 +4,4 @@ use Rattle.sift_jobs.proofs.votes.VotesJobMissionJob.reply_for.Goals as goal
 
 -- the votes of this flight
 pub returns : goal.returns
-returns c = (_, c.in_ok-flight.ensures.round, c.done.ensures ∙ ap done c.in_ok-votes_text.ensures)
+returns c = (_, c.in_ok-flight.ensures.round, c.done.ensures ∙ ap done c.in_ok-votes.ensures)
