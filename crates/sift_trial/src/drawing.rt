@@ -8,8 +8,8 @@ ghost use Rattle.sift_mission.specs.Parts.{data_of};
 use crate::law::drawn_trees_are_missions;
 use sift_base::{NoMemory, Stop};
 use sift_gen::scenario_tree;
-use sift_scenario::{Refused, mission_of};
 use sift_mission::Mission;
+use sift_scenario::{Refused, mission_of};
 use std::alloc::Global;
 
 /// The mission of the scenario with this number.
