@@ -5,7 +5,7 @@ ghost use Rattle.sift_reply.specs.Laws.{ShareNoStatus};
 ghost use Rattle.sift_run.specs.Command.{OneCommand, commands, duty_of};
 ghost use Rattle.sift_run.specs.Headline.{HeadlineIsWritten};
 ghost use Rattle.sift_run.specs.Statuses.{CommandsHaveOwnStatuses, StatusesAreKnown};
-ghost use Rattle.sift_run.specs.declared.command.Command.{Command as Any};
+ghost use Rattle.sift_run.specs.declared.command.Command.{Command as TheCommand};
 
 use crate::command::Command;
 use sift_jobs::{
@@ -38,7 +38,7 @@ pub fn commands_have_own_statuses()
 
 /// Each command gives one reply at most to an input: no order of steps shows.
 pub fn commands_give_one()
-    ensures { (command : Any) → GivesOne (duty_of command) }
+    ensures { (command : TheCommand) → GivesOne (duty_of command) }
 {
     run_gives_one();
     votes_gives_one();
