@@ -3,8 +3,8 @@
 ghost use Rattle.std.specs.Prelude.{◌≡◌, IfOk};
 
 use sift_base::Layout;
-use sift_scenario::mission_of;
 use sift_mission::Mission;
+use sift_scenario::mission_of;
 use std::alloc::Global;
 use std::test::Fail;
 
