@@ -2,15 +2,16 @@
 use Rattle.std.specs.Prelude.{◌≡◌, ℕ, ◌==◌, if◌then◌else◌, List, [], slice_index, Option, Some, None, option_and_then}
 use Rattle.sift_base.specs.declared.layout.Layout.{Layout}
 use Rattle.sift_buffer.specs.Ranges.{Ranges}
-use Rattle.sift_buffer.specs.Conduct.{Saying, Hearing, Conduct, never, saying, hearing}
+use Rattle.sift_buffer.specs.Conduct.{Saying, Hearing, Stray, Conduct, saying, hearing}
 use Rattle.sift_buffer.specs.Tables.{entry_at}
 use Rattle.sift_buffer.specs.Journals.{Pages, ranges_in, said_in, heard_in, IsJournalOf}
 
--- a ledger: the journal; the progress; the numbers seen; and for each frame, slot and unit the stamp said, the stamp asked for and
--- the progress at that hearing, each 0 where there was none
+-- a ledger: the journal; the progress number, and where the unit turned the progress at which it left; the numbers seen; and for each frame,
+-- slot and unit the stamp said, the stamp asked for and the progress at that hearing, each 0 where there was none. It keeps no strays
 pub record Ledger : Type 0 where
   pub pages : Pages
   pub progress : ℕ
+  pub left : ℕ
   pub seen : List ℕ
   pub said : List ℕ
   pub asked : List ℕ
@@ -32,16 +33,20 @@ sayings_by r stamps words f k q = saying_of (entry_at 0 r stamps f k q) (words f
 abbrev pub hearings_by : Ranges → List ℕ → List ℕ → (ℕ → ℕ → ℕ → Option ℕ) → ℕ → ℕ → ℕ → Option Hearing
 hearings_by r asked at words f k p = hearing_of (entry_at 0 r asked f k p) (entry_at 0 r at f k p) (words f k p)
 
--- the conduct that the ledger tells: a unit that has not turned
+-- the conduct that the ledger tells, and no strays
 abbrev pub conduct_in : Ledger → Conduct
 conduct_in l = record {
   progress = l.progress;
-  left = never;
+  left = l.left;
   seen = slice_index l.seen;
   said = sayings_by (ranges_in l.pages) l.said (said_in l.pages);
   heard = hearings_by (ranges_in l.pages) l.asked l.heard_at (heard_in l.pages);
   strays = [];
 }
+
+-- the conduct that the ledger tells, with these strays of its unit
+abbrev pub conduct_with : Ledger → List Stray → Conduct
+conduct_with l strays = record (conduct_in l) { strays = strays }
 
 -- a ledger of this layout, unit and number of frames, that tells this conduct
 pub record Tells (l : Ledger) (layout : Layout) (unit frames : ℕ) (d : Conduct) : Type 0 where

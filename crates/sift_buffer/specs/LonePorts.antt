@@ -1,12 +1,12 @@
 -- A port in plain memory, as a port and as a part of a core.
-use Rattle.std.specs.Prelude.{◌≡◌, ℕ, slice_index, slice_set, replicate}
+use Rattle.std.specs.Prelude.{◌≡◌, ℕ, List, ◌++◌, slice_index, slice_set, replicate}
 use Rattle.sift_base.specs.declared.layout.Layout.{Layout}
 use Rattle.sift_buffer.specs.Ranges.{Ranges, shared_words, place}
-use Rattle.sift_buffer.specs.Conduct.{Conduct, put}
+use Rattle.sift_buffer.specs.Conduct.{Conduct, Stray, put}
 use Rattle.sift_buffer.specs.Core.{Core}
 use Rattle.sift_buffer.specs.Tables.{ranges_of}
 use Rattle.sift_buffer.specs.Journals.{Pages}
-use Rattle.sift_buffer.specs.Ledgers.{conduct_in}
+use Rattle.sift_buffer.specs.Ledgers.{conduct_in, conduct_with}
 use Rattle.sift_buffer.specs.Views.{View, fresh_view}
 use Rattle.sift_buffer.specs.Reaches.{Reaches}
 use Rattle.sift_buffer.specs.declared.lone.LonePort.{LonePort}
@@ -33,15 +33,16 @@ cell_in p u q k = slice_index p.words.items (place (ranges_for p) u q k)
 abbrev pub journal_of : LonePort → Pages
 journal_of p = p.acts.pages
 
--- the core of the port's words, in which the other units conduct themselves like this
-abbrev pub core_beside : LonePort → (ℕ → Conduct) → Core
-core_beside p others = record { words = p.words.items; of = put others p.unit (conduct_in p.acts) }
+-- the core of the port's words, in which its unit has stored these strays, and the other units conduct themselves like this
+abbrev pub core_beside : LonePort → List Stray → (ℕ → Conduct) → Core
+core_beside p strays others = record { words = p.words.items; of = put others p.unit (conduct_with p.acts strays) }
 
--- the same ranges and unit, and whatever the others did, all that changed is by allowed events of this unit
-pub record Follows (a b : LonePort) : Type 0 where
+-- the same ranges and unit, and whatever was stored before and the others did, all that changed is by allowed events of this unit, with these
+-- strays, the newest first
+pub record Follows (a : LonePort) (strays : List Stray) (b : LonePort) : Type 0 where
   pub ranges : ranges_for b ≡ ranges_for a
   pub unit : b.unit ≡ a.unit
-  pub reaches : (others : ℕ → Conduct) → Reaches (ranges_for a) a.unit (core_beside a others) (core_beside b others)
+  pub reaches : (before : List Stray) (others : ℕ → Conduct) → Reaches (ranges_for a) a.unit (core_beside a before others) (core_beside b (strays ++ before) others)
 
 -- the unit's number stands in the port's words
 abbrev pub Stands : LonePort → ℕ → ℕ → Type 0

@@ -2,8 +2,8 @@
 use Rattle.std.specs.Prelude.{◌≡◌, ◌≢◌, ℕ, ◌+◌, ◌<◌, ◌≤◌, ◌==◌, if◌then◌else◌, min, List, [], ◌∷◌, length, Option, Some, None, ⊤}
 use Rattle.sift_base.specs.Units.{unit_limit}
 use Rattle.sift_buffer.specs.Ranges.{Ranges}
-use Rattle.sift_buffer.specs.Conduct.{Conduct, fresh, with_seen, with_said, with_heard, with_entered}
-use Rattle.sift_buffer.specs.Conditions.{MaySay, MayHear, PassesGate}
+use Rattle.sift_buffer.specs.Conduct.{Conduct, fresh, with_seen, with_said, with_heard, with_entered, with_turned}
+use Rattle.sift_buffer.specs.Conditions.{MaySay, MayHear, MayStray, PassesGate}
 use Rattle.sift_buffer.specs.declared.port.Entering.{Entering}
 use Rattle.sift_buffer.specs.declared.port.Entering.TheVariants.{Entered, NotYet}
 
@@ -52,6 +52,14 @@ view_with_heard v f k p s w = record v { conduct = with_heard v.conduct f k p s 
 abbrev pub view_with_entered : View → View
 view_with_entered v = record v { conduct = with_entered v.conduct }
 
+-- having turned
+abbrev pub view_with_turned : View → View
+view_with_turned v = record v { conduct = with_turned v.conduct }
+
+-- the same but for the strays of its unit, which a port may keep or not
+abbrev pub IsButForStrays : View → View → Type 0
+IsButForStrays v v' = v' ≡ record v { conduct = record v.conduct { strays = v'.conduct.strays } }
+
 -- the port's unit may say in a slot to a unit, in a frame and with a stamp
 abbrev pub PortMaySay : View → ℕ → ℕ → ℕ → ℕ → Type 0
 PortMaySay v q k f s = MaySay v.ranges v.conduct v.unit q k f s
@@ -59,6 +67,10 @@ PortMaySay v q k f s = MaySay v.ranges v.conduct v.unit q k f s
 -- the port's unit may hear in a slot from a unit, in a frame and by a stamp
 abbrev pub PortMayHear : View → ℕ → ℕ → ℕ → ℕ → Type 0
 PortMayHear v p k f s = MayHear v.ranges v.conduct v.unit p k f s
+
+-- the port's unit may store a stray for a unit in a slot
+abbrev pub PortMayStray : View → ℕ → ℕ → Type 0
+PortMayStray v q k = MayStray v.ranges v.conduct v.unit q k
 
 -- it is a unit, and another than the port's
 abbrev pub IsOther : View → ℕ → Type 0
@@ -134,6 +146,16 @@ pub record EntersAfterRound (v v' : View) : Type 0 where
 abbrev pub Tries : View → Entering → View → Type 0
 Tries v Entered v' = EntersAfterRound v v'
 Tries v (NotYet p n) v' = FindsBehind v p n v'
+
+-- the unit turned: at progress 0 without a look, and else after a round that found all other units at the own progress or more
+pub data Turns (v v' : View) : Type 0 where
+  at_once : v.conduct.progress ≡ 0 → v' ≡ view_with_turned v → Turns v v'
+  after_round : (before : View) → 0 < v.conduct.progress → FindsNone v before → v' ≡ view_with_turned before → Turns v v'
+
+-- what a try to turn found and left
+abbrev pub TriesTurn : View → Entering → View → Type 0
+TriesTurn v Entered v' = Turns v v'
+TriesTurn v (NotYet p n) v' = FindsBehind v p n v'
 
 -- where a unit was found behind, what is said of it and its number
 abbrev pub Finds : Entering → (ℕ → ℕ → Type 0) → Type 0

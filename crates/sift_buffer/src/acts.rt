@@ -4,7 +4,7 @@ ghost use Rattle.std.specs.Prelude.{◌≡◌, ◌<◌, ◌≤◌, ◌+◌, ◌^
 ghost use Rattle.sift_base.specs.Layout.{IsLayout};
 ghost use Rattle.sift_base.specs.Units.{unit_limit};
 ghost use Rattle.sift_buffer.specs.Ranges.{IsPlace};
-ghost use Rattle.sift_buffer.specs.Conduct.{fresh, last_progress, with_seen, with_said, with_heard, with_entered};
+ghost use Rattle.sift_buffer.specs.Conduct.{fresh, never, last_progress, with_seen, with_said, with_heard, with_entered, with_turned};
 ghost use Rattle.sift_buffer.specs.Journals.{ranges_in};
 ghost use Rattle.sift_buffer.specs.Ledgers.{Tells, Becomes, HasItsWords, conduct_in};
 
@@ -14,12 +14,16 @@ use sift_base::{Layout, NoMemory, UnitId, Word};
 use std::alloc::Global;
 use std::marker::Model;
 
-/// What one unit did and knows. Its memory is taken once, for all frames.
+/// The progress number of a unit that has turned, and where a unit that has not turned is said to leave.
+const NEVER: u64 = u64::MAX;
+
+/// What one unit did and knows, but for strays, which nobody needs to remember. Its memory is taken once, for all frames.
 #[derive(Drop)]
 pub struct Acts {
     grid: Grid,
     journal: Journal,
-    progress: u32,
+    progress: u64,
+    left: u64,
     seen: [u64; 8],
     said: Vec<u16>,
     asked: Vec<u16>,
@@ -32,9 +36,9 @@ impl Model for Acts {
 
     ghost Value = { Ledger };
 
-    ghost view = { λ a. record { pages = a.journal; progress = a.progress; seen = a.seen; said = a.said.items; asked = a.asked.items; heard_at = a.heard_at.items } };
+    ghost view = { λ a. record { pages = a.journal; progress = a.progress; left = a.left; seen = a.seen; said = a.said.items; asked = a.asked.items; heard_at = a.heard_at.items } };
 
-    ghost invariant = { λ a. IsFull (record { pages = a.journal; progress = a.progress; seen = a.seen; said = a.said.items; asked = a.asked.items; heard_at = a.heard_at.items }) a.grid.layout a.grid.frames };
+    ghost invariant = { λ a. IsFull (record { pages = a.journal; progress = a.progress; left = a.left; seen = a.seen; said = a.said.items; asked = a.asked.items; heard_at = a.heard_at.items }) a.grid.layout a.grid.frames };
 }
 
 impl Acts {
@@ -49,6 +53,7 @@ impl Acts {
             grid,
             journal: Journal::make(alloc, layout, unit, frames)?,
             progress: 0,
+            left: NEVER,
             seen: [0; 8],
             said: vec![in alloc; 0; grid.len()]?,
             asked: vec![in alloc; 0; grid.len()]?,
@@ -56,10 +61,9 @@ impl Acts {
         })
     }
 
-    /// The progress of the unit.
-    pub fn progress(&self) -> u32
-        ensures progress { result ≡ self.now.progress }
-        ensures low { result ≤ last_progress }
+    /// The progress number of the unit.
+    pub fn progress(&self) -> u64
+        ensures { result ≡ self.now.progress }
     {
         self.progress
     }
@@ -75,6 +79,7 @@ impl Acts {
     pub fn note_said(&mut self, f: u32, slot: usize, to: UnitId, stamp: u32, word: Option<Word>)
         requires place { IsPlace (ranges_in self.old.pages) self.old.pages.unit to slot f }
         requires stamp { 1 ≤ stamp }
+        requires flies { self.old.left ≡ never }
         requires near { stamp ≤ self.old.progress + 1 }
         ensures { Becomes self.old self.new (with_said (conduct_in self.old) f slot to stamp word) }
     {
@@ -87,21 +92,32 @@ impl Acts {
     pub fn note_heard(&mut self, f: u32, slot: usize, from: UnitId, stamp: u32, word: Option<Word>)
         requires place { IsPlace (ranges_in self.old.pages) self.old.pages.unit from slot f }
         requires stamp { 1 ≤ stamp }
+        requires flies { self.old.left ≡ never }
         requires past { stamp ≤ self.old.progress }
         ensures { Becomes self.old self.new (with_heard (conduct_in self.old) f slot from stamp word) }
     {
         let entry = self.grid.index(f, slot, from);
         self.asked[entry] = kept(stamp);
-        self.heard_at[entry] = kept(self.progress);
+        self.heard_at[entry] = kept(self.progress as u32);
         self.journal.note_heard_at(entry, word);
     }
 
     /// Notes that the unit entered the next subframe.
     pub fn note_entered(&mut self)
-        requires { self.old.progress < last_progress }
+        requires flies { self.old.left ≡ never }
+        requires below { self.old.progress < last_progress }
         ensures { Becomes self.old self.new (with_entered (conduct_in self.old)) }
     {
         self.progress += 1;
+    }
+
+    /// Notes that the unit turned, at its present progress.
+    pub fn note_turned(&mut self)
+        requires { self.old.left ≡ never }
+        ensures { Becomes self.old self.new (with_turned (conduct_in self.old)) }
+    {
+        self.left = self.progress;
+        self.progress = NEVER;
     }
 
     /// The journal alone.

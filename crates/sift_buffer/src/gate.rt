@@ -1,16 +1,19 @@
 //! The gate: the round of looks that a unit makes before it goes on.
-ghost use Rattle.std.specs.Prelude.{◌≡◌, ◌≤◌, ℕ, IfSome};
+ghost use Rattle.std.specs.Prelude.{◌≡◌, ◌≤◌, ◌++◌, ℕ, List, [], IfSome};
+ghost use Rattle.sift_buffer.specs.Conduct.{Stray};
 ghost use Rattle.sift_buffer.specs.Views.{View, IsOther, AreOwn, Decides, view_with_look};
 
 use sift_base::UnitId;
 
-/// How a port looks at another unit's progress number, by one load.
+/// One unit's place among the cells and progress numbers that units share, from which it looks at another's progress
+/// number, by one load.
 pub trait Look {
-    /// The port as its unit, what this unit did and knows, and its looks.
+    /// The port as its unit, what this unit did and knows, and its looks. Whether it keeps strays is its own choice.
     ghost view: { Self → View };
 
-    /// What no look changes.
-    ghost follows: { Self → Self → Type 0 };
+    /// What no call changes: whose place it is, and what stands beside the unit. All that changed is by the unit's own
+    /// events, with these strays, the newest first.
+    ghost follows: { Self → List Stray → Self → Type 0 };
 
     /// That a unit's progress number is now this one, where the port can tell.
     ghost stands: { Self → ℕ → ℕ → Type 0 };
@@ -20,13 +23,13 @@ pub trait Look {
         requires { IsOther (view self.old) other }
         ensures looked { view self.new ≡ view_with_look (view self.old) other result }
         ensures stands { stands self.new other result }
-        ensures follows { follows self.old self.new };
+        ensures follows { follows self.old [] self.new };
 
     /// A port follows itself.
-    ghost follows_itself: { (x : Self) → follows x x };
+    ghost follows_itself: { (x : Self) → follows x [] x };
 
     /// What follows a port that follows another follows that one too.
-    ghost follows_on: { (x y z : Self) → follows x y → follows y z → follows x z };
+    ghost follows_on: { (x y z : Self) (earlier later : List Stray) → follows x earlier y → follows y later z → follows x (later ++ earlier) z };
 }
 
 /// Looks at the other units in ascending number, up to the first that is behind the own progress.
@@ -40,7 +43,7 @@ pub fn find_behind<L: Look>(
     requires { AreOwn (L.view port.old) units own progress }
     ensures round { Decides (L.view port.old) result (L.view port.new) }
     ensures stands { IfSome result (λ x. L.stands port.new x.0 x.1) }
-    ensures follows { L.follows port.old port.new }
+    ensures follows { L.follows port.old [] port.new }
 {
     for number in 0..units {
         if let Some(other) = UnitId::of(number) {

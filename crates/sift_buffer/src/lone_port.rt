@@ -1,10 +1,10 @@
 //! A port in plain memory as a port.
-ghost use Rattle.std.specs.Prelude.{◌≡◌, ◌≢◌, ◌<◌, ℕ, IfOk};
+ghost use Rattle.std.specs.Prelude.{◌≡◌, ◌≢◌, ◌<◌, ℕ, [], IfOk};
 ghost use Rattle.sift_base.specs.Layout.{IsLayout};
 ghost use Rattle.sift_buffer.specs.Ranges.{IsCell, place};
-ghost use Rattle.sift_buffer.specs.Conditions.{MayEnter, PassesGate};
+ghost use Rattle.sift_buffer.specs.Conditions.{MayEnter, MayTurn, PassesGate};
 ghost use Rattle.sift_buffer.specs.Tables.{ranges_of};
-ghost use Rattle.sift_buffer.specs.Views.{View, view_with_entered};
+ghost use Rattle.sift_buffer.specs.Views.{View, view_with_entered, view_with_turned};
 ghost use Rattle.sift_buffer.specs.Ledgers.{conduct_in};
 ghost use Rattle.sift_buffer.specs.LonePorts.{IsNew, Stored, Follows, Stands, view_of, ranges_for, journal_of, cell_in};
 ghost use Rattle.sift_buffer.specs.Following.{itself, further};
@@ -83,10 +83,21 @@ impl LonePort {
         requires may { MayEnter (conduct_in self.old.acts) }
         requires gate { PassesGate (ranges_for self.old) (conduct_in self.old.acts) self.old.unit }
         ensures entered { view_of self.new ≡ view_with_entered (view_of self.old) }
-        ensures follows { Follows self.old self.new }
+        ensures follows { Follows self.old [] self.new }
     {
-        self.words[usize::from(self.unit.get())] = u64::from(self.acts.progress()) + 1;
+        self.words[usize::from(self.unit.get())] = self.acts.progress() + 1;
         self.acts.note_entered();
+    }
+
+    /// Stores the progress number of a unit that has turned.
+    fn leave(&mut self)
+        requires may { MayTurn (conduct_in self.old.acts) }
+        requires gate { 0 < (conduct_in self.old.acts).progress → PassesGate (ranges_for self.old) (conduct_in self.old.acts) self.old.unit }
+        ensures turned { view_of self.new ≡ view_with_turned (view_of self.old) }
+        ensures follows { Follows self.old [] self.new }
+    {
+        self.acts.note_turned();
+        self.words[usize::from(self.unit.get())] = self.acts.progress();
     }
 }
 
@@ -112,24 +123,13 @@ impl Look for LonePort {
 }
 
 impl Port for LonePort {
-    ghost view = { view_of };
-
-    ghost follows = { Follows };
-
-    ghost stands = { Stands };
-
-    ghost follows_itself = { itself };
-
-    ghost follows_on = { further };
-
     fn progress(&self) -> u64 {
-        u64::from(self.acts.progress())
+        self.acts.progress()
     }
 
     fn say(&mut self, to: UnitId, slot: usize, f: u32, stamp: u32, word: Option<Word>) {
-        let stored = word;
         let place = self.grid.place(self.unit, to, slot);
-        self.words[place] = pack(stamp, stored);
+        self.words[place] = pack(stamp, word);
         self.acts.note_said(f, slot, to, stamp, word);
     }
 
@@ -142,11 +142,28 @@ impl Port for LonePort {
     }
 
     fn try_enter(&mut self) -> Entering {
-        let progress = u64::from(self.acts.progress());
+        let progress = self.acts.progress();
         if let Some((unit, seen)) = find_behind(self, self.grid.layout.units, self.unit, progress) {
             return Entering::NotYet { unit, seen };
         }
         self.go_on();
         Entering::Entered
+    }
+    fn turn(&mut self) -> Entering {
+        let progress = self.acts.progress();
+        if progress > 0 {
+            if let Some((unit, seen)) =
+                find_behind(self, self.grid.layout.units, self.unit, progress)
+            {
+                return Entering::NotYet { unit, seen };
+            }
+        }
+        self.leave();
+        Entering::Entered
+    }
+
+    fn stray(&mut self, to: UnitId, slot: usize, cell: u64) {
+        let place = self.grid.place(self.unit, to, slot);
+        self.words[place] = cell;
     }
 }

@@ -2,13 +2,13 @@
 use Rattle.std.proofs.Common.{◌≡◌, ℕ, [], Option, None, Some, option_map, inl, inr, refl, ap, ◌∙◌, arith, pos}
 use Rattle.std.proofs.lemmas.Bool.{cases_lt, le-leb, le-ltb, lt-leb, lt-ltb}
 use Rattle.sift_script.specs.Faults as faults
-use Rattle.sift_script.specs.Laws.{FaultsAreForGood, OneUnitIsSteady, WorkingUnitsHaveNotTurned, WorkingUnitsSayTheirWords}
+use Rattle.sift_script.specs.Laws.{FaultsAreForGood, OneUnitIsSteady, StormsComeInTheMission, WorkingUnitsHaveNotTurned, WorkingUnitsSayTheirWords}
 use Rattle.sift_table.specs.Laws.{WordsHaveTheirTask}
 use Rattle.sift_mission.specs.Data.{MissionData}
 use Rattle.sift_mission.specs.Flown.{flown}
 use Rattle.sift_mission.specs.PartsFit.{PartsFit}
 use Rattle.sift_mission.specs.Premises.{AreClocksSound, IsScriptSound, PartsMakeItFit, PartsMakeItFlyable}
-use Rattle.sift_mission.specs.Slots.{turned_by}
+use Rattle.sift_mission.specs.Slots.{turned_by, StormsCome}
 use Rattle.sift_mission.proofs.FitTasks.{program-is}
 use Rattle.sift_mission.proofs.Rows.{drift-low, error-low, errors-low, start-low}
 use Rattle.sift_mission.proofs.Numbers.{has-range}
@@ -20,6 +20,17 @@ turned-is (Some storm) f = elim (cases_lt f storm.0) [
   | inl before ↦ rw (lt-ltb f storm.0 before, lt-leb storm.0 f before) refl
   | inr from ↦ rw (le-ltb f storm.0 from, le-leb storm.0 f from) refl
 ]
+
+-- the first frame of a storm, and the storm
+first-frame : (storm : Option (ℕ × ℕ × ℕ)) (from : ℕ) → option_map (λ s. s.0) storm ≡ Some from → (s : ℕ × ℕ × ℕ) × (storm ≡ Some s) × (s.0 ≡ from)
+first-frame None from is = absurd cc
+first-frame (Some s) from is = (s, refl, cc)
+
+-- each storm comes in a frame of the mission
+pub storms-come : (d : MissionData) → PartsFit d → StormsComeInTheMission → StormsCome (flown d)
+storms-come d fit come u from is =
+    let t = first-frame (faults.storm_of d.script.faults u) from is in
+    omega (arith, fit.script.frames, t.2.1, come d.script u t.0.0 t.0.1.0 t.0.1.1 fit.script.good t.1)
 
 module _ (d : MissionData) (fit : PartsFit d) where
   -- the script is such as flights stand on

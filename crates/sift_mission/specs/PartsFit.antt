@@ -1,11 +1,10 @@
 -- The parts of a mission fit: the numbers are within the limits, and each part is one for the others.
-use Rattle.std.specs.Prelude.{◌≡◌, ℕ, ◌+◌, ◌<◌, ◌≤◌, List, [], length, None, slice_index_or, ℤ, pos, ◌≤ℤ◌, ◌+ℤ◌}
+use Rattle.std.specs.Prelude.{◌≡◌, ℕ, ◌+◌, ◌<◌, ◌≤◌, List, [], length, slice_index_or, ℤ, pos, ◌≤ℤ◌, ◌+ℤ◌}
 use Rattle.std.specs.List.{All}
 use Rattle.sift_base.specs.Layout.{least_units, sensor_limit}
 use Rattle.sift_base.specs.Units.{unit_limit}
 use Rattle.sift_clock.specs.Distance.{IsWithin}
 use Rattle.sift_program.specs.Sound.{IsSoundProgram, output_count}
-use Rattle.sift_script.specs.Faults.{storm_of}
 use Rattle.sift_script.specs.Rules as scripts
 use Rattle.sift_script.specs.Script.{outputs_of}
 use Rattle.sift_skew.specs.Limits.{AreNumbers, IsAdmitted}
@@ -83,13 +82,12 @@ pub record AreClocks (units : ℕ) (c : Clocks) : Type 0 where
   pub drifts_within : All (λ drift. IsWithin c.rate drift (pos 0)) c.drift
   pub errors_within : All (λ row. All (λ error. IsWithin c.error error (pos 0)) row) c.errors
 
--- the script was checked for this mission, and meets all rules; until units can turn, it has no storm
+-- the script was checked for this mission, and meets all rules
 pub record IsScripted (d : MissionData) : Type 0 where
   pub layout : d.script.layout ≡ d.layout
   pub outputs : d.script.outputs ≡ outputs_of (shapes_in d)
   pub frames : d.script.frames ≡ d.frames
   pub good : scripts.IsGood d.script
-  pub calm : (u : ℕ) → storm_of d.script.faults u ≡ None
 
 -- ---- all of it
 

@@ -51,6 +51,10 @@ turned_by (Some from) f = not (nat_lt f from)
 abbrev pub has_turned : FlownMission → ℕ → ℕ → Bool
 has_turned m u f = turned_by (m.storm u) f
 
+-- each storm comes in a frame of the mission
+abbrev pub StormsCome : FlownMission → Type 0
+StormsCome m = (u from : ℕ) → m.storm u ≡ Some from → from < m.frames
+
 -- of the units from a number on the first that passes a test, or the count of all units, where none does
 pub record IsFirstFrom (test : ℕ → Bool) (from first : ℕ) : Type 0 where
   pub after : from ≤ first

@@ -1,15 +1,14 @@
 //! Laws about missions, and about who speaks to whom.
 
-ghost use Rattle.std.specs.Prelude.{◌≡◌, ℕ, None};
 ghost use Rattle.sift_mission.specs.Fits.{Fits};
 ghost use Rattle.sift_mission.specs.Parts.{flown_of, data_of};
 ghost use Rattle.sift_mission.specs.Premises.{IsFlyable, RunsProgram, PartsMakeItFit, PartsMakeItFlyable};
-ghost use Rattle.sift_mission.specs.Slots.{NothingIsSaidToItself};
+ghost use Rattle.sift_mission.specs.Slots.{NothingIsSaidToItself, StormsCome};
 
 use crate::mission::Mission;
 use sift_script::{
-    faults_are_for_good, one_unit_is_steady, working_units_have_not_turned,
-    working_units_say_their_words,
+    faults_are_for_good, one_unit_is_steady, storms_come_in_the_mission,
+    working_units_have_not_turned, working_units_say_their_words,
 };
 use sift_table::{
     slots_are_heard_in_time, tasks_have_three_executors, tasks_run_after_their_needs,
@@ -30,12 +29,13 @@ pub fn fitting_parts_make_a_mission()
     tasks_have_three_executors();
 }
 
-/// So has each mission. No unit of it turns.
+/// So has each mission, and each storm of its script comes in one of its frames.
 pub fn a_mission_fits(mission: &Mission)
     ensures fits { Fits (flown_of mission.now) }
-    ensures calm { (u : ℕ) → (flown_of mission.now).storm u ≡ None }
+    ensures storms { StormsCome (flown_of mission.now) }
 {
     fitting_parts_make_a_mission();
+    storms_come_in_the_mission();
     let _parts = mission.parts();
 }
 
