@@ -1,12 +1,14 @@
 -- A ledger with one word more tells one saying or hearing more.
-use Rattle.std.proofs.Common.{◌≡◌, ℕ, ◌≤◌, ◌==◌, ◌&&◌, Bool, true, false, if◌then◌else◌, List, length, slice_set, Option, Some, sym, refl, ◌∙◌, subst, arith, ne_eqb}
+use Rattle.std.proofs.Common.{◌≡◌, ℕ, ◌≤◌, ◌==◌, ◌&&◌, Bool, true, false, if◌then◌else◌, List, length, slice_set, Option, Some, sym, refl, ap, ◌∙◌, subst, arith, ne_eqb}
 use Rattle.sift_base.specs.declared.layout.Layout.{Layout}
 use Rattle.sift_buffer.specs.Ranges.{Ranges, IsPlace}
-use Rattle.sift_buffer.specs.Conduct.{saying, hearing, put_at, with_said, with_heard}
+use Rattle.sift_buffer.specs.Conduct.{never, last_progress, saying, hearing, put_at, with_said, with_heard}
 use Rattle.sift_buffer.specs.Tables.{ranges_of, IsEntry, entry_count, entry_number, entry_at}
 use Rattle.sift_buffer.specs.Journals.{Pages, ranges_in, said_in, heard_in, IsJournalOf, NotesSaid, NotesHeard, NotesSaidAt, NotesHeardAt}
+use Rattle.sift_buffer.specs.Lawful.{HasStage}
 use Rattle.sift_buffer.specs.Ledgers.{Ledger, saying_of, hearing_of, sayings_by, hearings_by, conduct_in, Becomes}
 use Rattle.sift_buffer.specs.Sizes.{IsFull}
+use Rattle.sift_buffer.proofs.Sound.{flies_low}
 use Rattle.sift_buffer.proofs.Notes.{entry_of}
 use Rattle.sift_buffer.proofs.Tables.{entry_set}
 
@@ -48,6 +50,26 @@ hearings_put r asked at words f k q s h w entry long wide one i f' k' q' = (
     (λ j. hearing_of (entry_set 0 r asked f k q s entry long j f' k' q') (entry_set 0 r at f k q h entry wide j f' k' q') (put_at words f k q w f' k' q'))
     ∙ (put_all hearing_of (entry_at 0 r asked) (entry_at 0 r at) words f k q s h w f' k' q'
     ∙ (λ j. put_at (hearings_by r asked at words) f k q (hearing_is s h w one j) f' k' q'))) i
+
+-- a unit that flies, by a ledger or by one that is the same, is at the last progress or before
+pub flies_below : (l l' : Ledger) → l ≡ l' → HasStage (conduct_in l) → l'.left ≡ never → (l.progress ≤ last_progress) × (l'.progress ≤ last_progress)
+flies_below l l' same stage flies =
+    let low : l.progress ≤ last_progress = flies_low (conduct_in l) stage (ap (λ (x : Ledger). x.left) same ∙ flies) in
+    (low, subst (λ (x : Ledger). x.progress ≤ last_progress) same low)
+
+-- a full ledger at other numbers, which tell that the unit flies or has turned
+pub full_at : (l : Ledger) (layout : Layout) (frames : ℕ) → IsFull l layout frames → (progress left : ℕ) →
+    HasStage (record (conduct_in l) { progress = progress; left = left }) → IsFull (record l { progress = progress; left = left }) layout frames
+full_at l layout frames full progress left stage = record {
+  layout_is = full.layout_is;
+  frames_are = full.frames_are;
+  said = full.said;
+  asked = full.asked;
+  heard_at = full.heard_at;
+  seen = full.seen;
+  stage = stage;
+  words = record { said = full.words.said; heard = full.words.heard };
+}
 
 module _ (l : Ledger) (layout : Layout) (frames : ℕ) (full : IsFull l layout frames) (f k q s : ℕ) (w : Option ℕ) (pages : Pages)
     (place : IsPlace (ranges_in l.pages) l.pages.unit q k f) (one : 1 ≤ s) where

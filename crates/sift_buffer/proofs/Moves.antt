@@ -6,7 +6,7 @@ use Rattle.sift_buffer.specs.Ranges.{Ranges, place}
 use Rattle.sift_buffer.specs.Conduct.{Hearing, Conduct, never, last_progress, hearing, with_seen, with_heard, with_entered, with_turned}
 use Rattle.sift_buffer.specs.Core.{Core, look, hear, enter, turn, after, Allowed}
 use Rattle.sift_buffer.proofs.Puts.{some_same, put_cases, put_at_cases}
-use Rattle.sift_buffer.proofs.Sound.{GateIs, HeardIs, Sound, from_sayings}
+use Rattle.sift_buffer.proofs.Sound.{GateIs, HeardIs, Sound, flies_low, from_sayings}
 use Rattle.sift_buffer.proofs.Keep.{keep, same_shows, number_shows, same_holds, number_holds}
 use Rattle.sift_buffer.proofs.Heard.{sayings_same, strays_same, heard_same, load_is}
 
@@ -134,8 +134,7 @@ module _ (r : Ranges) (c : Core) (u : ℕ) (it : Sound r c) where
   pub turn_keeps : Allowed r c (turn u) → Sound r (after r c (turn u))
   turn_keeps may =
       let hu = may.0 in let me : Conduct = c.of u in let fl : me.left ≡ never = may.1.0 in let d : Conduct = with_turned me in
-      let low : me.progress ≤ last_progress = ⊎_elim (λ (f : (me.left ≡ never) × (me.progress ≤ last_progress)). f.1)
-      (λ (t : (me.left ≤ last_progress) × (me.progress ≡ never)). let t0 = t.0 in absurd (omega arith)) (it.formed.stage u hu) in
+      let low : me.progress ≤ last_progress = flies_low me (it.formed.stage u hu) fl in
       keep r c u d (slice_set c.words u never) hu it (record {
         wide = length-set c.words u never;
         shows = number_shows r c u d hu it never refl;

@@ -14,10 +14,10 @@ zeros (suc n) (suc i) = zeros n i
 
 -- a new ledger
 pub ledger_fresh : (l : Ledger) (m n p : ℕ) →
-    l.progress ≡ 0 → l.seen ≡ replicate p 0 → l.said ≡ replicate m 0 → l.asked ≡ replicate n 0 → conduct_in l ≡ fresh
-ledger_fresh l m n p progress seen said asked i = record {
+    l.progress ≡ 0 → l.left ≡ never → l.seen ≡ replicate p 0 → l.said ≡ replicate m 0 → l.asked ≡ replicate n 0 → conduct_in l ≡ fresh
+ledger_fresh l m n p progress left seen said asked i = record {
   progress = progress i;
-  left = never;
+  left = left i;
   seen = λ u. ((λ j. slice_index (seen j) u) ∙ zeros p u) i;
   said = λ f k q. ((λ j. saying_of (entry_at 0 (ranges_in l.pages) (said j) f k q) (said_in l.pages f k q))
       ∙ (λ j. saying_of (entry_none 0 (ranges_in l.pages) (replicate m 0) (zeros m) j f k q) (said_in l.pages f k q))) i;

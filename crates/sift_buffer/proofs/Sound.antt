@@ -1,7 +1,7 @@
 -- The lawful core in the form in which an event keeps it: whether a unit has turned stands inside each fact.
 use Rattle.std.proofs.Common.{◌≡◌, ◌≢◌, ◌⊎◌, inl, inr, ⊎_elim, ℕ, ◌<◌, ◌≤◌, slice_index, Option, Some, arith}
 use Rattle.sift_buffer.specs.Ranges.{Ranges, place}
-use Rattle.sift_buffer.specs.Conduct.{Conduct, never, hearing, stray_to}
+use Rattle.sift_buffer.specs.Conduct.{Conduct, never, last_progress, hearing, stray_to}
 use Rattle.sift_buffer.specs.Core.{Core}
 use Rattle.sift_buffer.specs.Lawful.{HasStage, IsLastSaid, IsAmong, HasStamps, IsNear, IsFromSayings, IsFromStrays, nothing, said, IsFormed, Lawful}
 
@@ -35,6 +35,10 @@ from_sayings d q k s h w it = ⊎_elim (λ n. nothing n) (λ (t : (f : ℕ) × (
 -- a unit flies, or it has turned
 pub flies_or_turned : {B : Type 0} (d : Conduct) → HasStage d → (d.left ≡ never → B) → (d.left < never → B) → B
 flies_or_turned d stage flies turned = ⊎_elim (λ f. flies f.0) (λ t. turned (let l = t.0 in omega arith)) stage
+
+-- a unit that flies is at the last progress or before
+pub flies_low : (d : Conduct) → HasStage d → d.left ≡ never → d.progress ≤ last_progress
+flies_low d stage fl = ⊎_elim (λ f. f.1) (λ t. let l = t.0 in absurd (omega arith)) stage
 
 -- a lawful core is sound
 pub sound_of : (r : Ranges) (c : Core) → Lawful r c → Sound r c

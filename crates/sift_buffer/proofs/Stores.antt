@@ -2,12 +2,12 @@
 use Rattle.std.proofs.Common.{◌≡◌, inl, inr, ⊎_elim, ℕ, ◌+◌, ◌≤◌, slice_set, Option, Some, sym, refl, ap, ◌∙◌, subst, arith, length-set}
 use Rattle.sift_buffer.specs.Cell.{packed, IsWord}
 use Rattle.sift_buffer.specs.Ranges.{Ranges, place}
-use Rattle.sift_buffer.specs.Conduct.{Saying, Conduct, never, last_progress, saying, with_said, with_stray}
+use Rattle.sift_buffer.specs.Conduct.{Saying, Conduct, saying, with_said, with_stray}
 use Rattle.sift_buffer.specs.Conditions.{MaySay}
 use Rattle.sift_buffer.specs.Core.{Core, say, stray, after, Allowed}
 use Rattle.sift_buffer.specs.Lawful.{IsLastSaid, silent, last, HasStamps, IsFromSayings, IsFromStrays, nothing, said, strayed}
 use Rattle.sift_buffer.proofs.Puts.{IsAt, some_same, moved, put_at_here, put_at_cases, put_at_keeps}
-use Rattle.sift_buffer.proofs.Sound.{CellIs, HeardIs, Sound}
+use Rattle.sift_buffer.proofs.Sound.{CellIs, HeardIs, Sound, flies_low}
 use Rattle.sift_buffer.proofs.Keep.{keep, cell_shows, cell_holds, cell_covered}
 use Rattle.sift_buffer.proofs.Heard.{heard_same}
 use Rattle.sift_buffer.proofs.Moves.{gate_same, gate_seen}
@@ -99,8 +99,7 @@ module _ (r : Ranges) (c : Core) (u : ℕ) (it : Sound r c) where
   say_keeps q k f s w may =
       let hu = may.0 in let m = may.1.0 in let word = may.1.1 in
       let me : Conduct = c.of u in let d' : Conduct = with_said me f k q s w in let st = it.stamps u hu in
-      let low : me.progress ≤ me.left = ⊎_elim (λ (x : (me.left ≡ never) × (me.progress ≤ last_progress)). let a = x.0 in let b = x.1 in omega arith)
-      (λ (x : (me.left ≤ last_progress) × (me.progress ≡ never)). let a = x.0 in let b = m.flies in absurd (omega arith)) (it.formed.stage u hu) in
+      let low : me.progress ≤ me.left = let b = flies_low me (it.formed.stage u hu) m.flies in let a = m.flies in omega arith in
       keep r c u d' (slice_set c.words (place r u q k) (packed s w)) hu it (record {
         wide = length-set c.words (place r u q k) (packed s w);
         shows = cell_shows r c u d' hu it q k (packed s w) refl;

@@ -1,5 +1,5 @@
 -- A port in plain memory follows itself, and what follows it further on.
-use Rattle.std.proofs.Common.{◌≡◌, ℕ, List, [], ◌∷◌, ◌++◌, sym, refl, ◌∙◌, subst}
+use Rattle.std.proofs.Common.{◌≡◌, ℕ, List, [], ◌∷◌, ◌++◌, append_assoc, sym, refl, ◌∙◌, subst}
 use Rattle.sift_buffer.specs.Ranges.{Ranges}
 use Rattle.sift_buffer.specs.Conduct.{Stray}
 use Rattle.sift_buffer.specs.Core.{Core, Event, doer, after, after_all, AllAllowed, Allowed}
@@ -38,16 +38,11 @@ reaches_on r u a b c p q = record {
 pub itself : (x : LonePort) → Follows x [] x
 itself x = record { ranges = refl; unit = refl; reaches = λ before others. reaches_itself (ranges_for x) x.unit (core_beside x before others) }
 
--- later strays before earlier ones, and these before those that were stored before
-strays_on : (later earlier before : List Stray) → later ++ (earlier ++ before) ≡ (later ++ earlier) ++ before
-strays_on [] earlier before = refl
-strays_on (s ∷ later) earlier before i = s ∷ strays_on later earlier before i
-
 pub further : (x y z : LonePort) (earlier later : List Stray) → Follows x earlier y → Follows y later z → Follows x (later ++ earlier) z
 further x y z earlier later a b = record {
   ranges = b.ranges ∙ a.ranges;
   unit = b.unit ∙ a.unit;
-  reaches = λ before others. subst (λ (ss : List Stray). Reaches (ranges_for x) x.unit (core_beside x before others) (core_beside z ss others)) (strays_on later earlier before)
+  reaches = λ before others. subst (λ (ss : List Stray). Reaches (ranges_for x) x.unit (core_beside x before others) (core_beside z ss others)) (sym (append_assoc later earlier before))
       (reaches_on (ranges_for x) x.unit (core_beside x before others) (core_beside y (earlier ++ before) others) (core_beside z (later ++ (earlier ++ before)) others)
       (a.reaches before others)
       (subst (λ (u : ℕ). Reaches (ranges_for x) u (core_beside y (earlier ++ before) others) (core_beside z (later ++ (earlier ++ before)) others)) a.unit

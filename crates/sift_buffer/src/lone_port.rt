@@ -128,8 +128,9 @@ impl Port for LonePort {
     }
 
     fn say(&mut self, to: UnitId, slot: usize, f: u32, stamp: u32, word: Option<Word>) {
+        let stored = word;
         let place = self.grid.place(self.unit, to, slot);
-        self.words[place] = pack(stamp, word);
+        self.words[place] = pack(stamp, stored);
         self.acts.note_said(f, slot, to, stamp, word);
     }
 
@@ -149,21 +150,21 @@ impl Port for LonePort {
         self.go_on();
         Entering::Entered
     }
+
     fn turn(&mut self) -> Entering {
         let progress = self.acts.progress();
-        if progress > 0 {
-            if let Some((unit, seen)) =
-                find_behind(self, self.grid.layout.units, self.unit, progress)
-            {
-                return Entering::NotYet { unit, seen };
-            }
+        if progress == 0 {
+            self.leave();
+            return Entering::Entered;
+        }
+        if let Some((unit, seen)) = find_behind(self, self.grid.layout.units, self.unit, progress) {
+            return Entering::NotYet { unit, seen };
         }
         self.leave();
         Entering::Entered
     }
 
     fn stray(&mut self, to: UnitId, slot: usize, cell: u64) {
-        let place = self.grid.place(self.unit, to, slot);
-        self.words[place] = cell;
+        self.words[self.grid.place(self.unit, to, slot)] = cell;
     }
 }

@@ -1,4 +1,4 @@
-use Rattle.std.proofs.Common.{◌≡◌, ◌≢◌, ◌≤◌, ◌<◌, ◌+◌, ℕ, sym, subst, ◌∙◌, arith}
+use Rattle.std.proofs.Common.{◌≡◌, ◌≢◌, ◌≤◌, ◌<◌, ◌+◌, ℕ, [], sym, subst, ◌∙◌, arith}
 use Rattle.sift_buffer.specs.Views.{View, LooksRound, view_with_look}
 use Rattle.sift_buffer.proofs.Rounds.{round_skip, round_look, round_none, round_behind, is_other, still_other, apart_by, same_by}
 use Rattle.sift_buffer.proofs.gate.find_behind.Goals.{in-Some+then-ne+else-seen-progress, in-Some+else-ne, in_default}
@@ -25,7 +25,7 @@ loop-number-preserved g c =
           subst (λ (x : View). LooksRound v (n + 1) x) (sym (w.look-seen.ensures.looked
           ∙ (λ i. view_with_look (g.L.Look.view c.loop-number.port) (w.in-Some.ensures.found.0 i) w.look-seen.result)))
           (round_look v _ n w.look-seen.result inv.round other up) in
-          rw w.port-is (record { follows = g.met.L.Look.follows_on _ _ _ inv.follows w.look-seen.ensures.follows; within = within; round = round })
+          rw w.port-is (record { follows = g.met.L.Look.follows_on _ _ _ [] [] inv.follows w.look-seen.ensures.follows; within = within; round = round })
       | in-Some+else-ne w ↦
           let own : n ≡ v.unit = sym w.in-Some.ensures.found.0 ∙ (same_by w.in-Some.other c.args.own w.if-ne.ensures ∙ c.requires.own_is) in
           rw w.port-is (record { follows = inv.follows; within = within; round = round_skip v _ n inv.round own })
@@ -48,3 +48,6 @@ returns-then-seen-progress-clause-round g c =
     let other = is_other v c.args.units c.args.own p c.requires.units_are c.requires.own_is low c.if-ne.ensures in
     let round = subst (λ (n : ℕ). LooksRound v n (g.L.Look.view c.loop-number.port)) (sym here) c.loop-number.invariant.round in
     rw c.look-seen.ensures.looked (round_behind v _ p c.look-seen.result round other (rw (← c.requires.progress_is) c.if-seen-progress.true))
+
+pub returns-then-seen-progress-clause-follows : goal.returns-then-seen-progress-clause-follows
+returns-then-seen-progress-clause-follows g c = g.met.L.Look.follows_on _ _ _ [] [] c.loop-number.invariant.follows c.look-seen.ensures.follows

@@ -1,17 +1,20 @@
-use Rattle.std.proofs.Common.{ap, arith, sym, subst, ◌∙◌, length-set}
+use Rattle.std.proofs.Common.{◌≤◌, arith, sym, subst, ◌∙◌, length-set}
 use Rattle.sift_buffer.specs.Ranges.{IsPlace}
+use Rattle.sift_buffer.specs.Conduct.{last_progress}
 use Rattle.sift_buffer.specs.Journals.{Pages, ranges_in}
 use Rattle.sift_buffer.specs.Ledgers.{Ledger}
-use Rattle.sift_buffer.proofs.LedgerLemmas.{ledger_heard, noted_heard}
+use Rattle.sift_buffer.proofs.LedgerLemmas.{flies_below, ledger_heard, noted_heard}
 use Rattle.sift_buffer.proofs.Words.{words_heard}
 use Rattle.sift_buffer.proofs.acts.Acts.note_heard.Goals as goal
 
 -- neither number is greater than a list keeps
 pub kept-requires : goal.kept-requires
-kept-requires c = omega (arith, c.requires.past, c.self.invariant.progress, ap (λ (l : Ledger). l.progress) c.self.view_is)
+kept-requires c =
+    let low : c.args.self.now.progress ≤ last_progress = (flies_below _ _ c.self.view_is c.self.invariant.stage c.requires.flies).1 in
+    let past = c.requires.past in omega arith
 
 pub kept-requires-2 : goal.kept-requires-2
-kept-requires-2 c = let low = c.self.invariant.progress in omega arith
+kept-requires-2 c = let low = (flies_below _ _ c.self.view_is c.self.invariant.stage c.requires.flies).0 in omega arith
 
 pub returns : goal.returns
 returns c =
@@ -33,7 +36,7 @@ invariant_of-self c =
       asked = length-set _ _ _ ∙ full.asked;
       heard_at = length-set _ _ _ ∙ full.heard_at;
       seen = full.seen;
-      progress = full.progress;
+      stage = full.stage;
       words = words_heard _ _ full.words a.f a.slot a.from a.stamp a.word noted
           (ledger_heard _ _ _ full a.f a.slot a.from a.stamp a.word pages place c.requires.stamp noted).conduct;
     })

@@ -1,14 +1,17 @@
-use Rattle.std.proofs.Common.{ap, arith, sym, subst, ◌∙◌, length-set}
+use Rattle.std.proofs.Common.{◌≤◌, arith, sym, subst, ◌∙◌, length-set}
 use Rattle.sift_buffer.specs.Ranges.{IsPlace}
+use Rattle.sift_buffer.specs.Conduct.{last_progress}
 use Rattle.sift_buffer.specs.Journals.{Pages, ranges_in}
 use Rattle.sift_buffer.specs.Ledgers.{Ledger}
-use Rattle.sift_buffer.proofs.LedgerLemmas.{ledger_said, noted_said}
+use Rattle.sift_buffer.proofs.LedgerLemmas.{flies_below, ledger_said, noted_said}
 use Rattle.sift_buffer.proofs.Words.{words_said}
 use Rattle.sift_buffer.proofs.acts.Acts.note_said.Goals as goal
 
 -- the stamp is no greater than a list keeps
 pub kept-requires : goal.kept-requires
-kept-requires c = omega (arith, c.requires.near, c.self.invariant.progress, ap (λ (l : Ledger). l.progress) c.self.view_is)
+kept-requires c =
+    let low : c.args.self.now.progress ≤ last_progress = (flies_below _ _ c.self.view_is c.self.invariant.stage c.requires.flies).1 in
+    let near = c.requires.near in omega arith
 
 pub returns : goal.returns
 returns c =
@@ -30,7 +33,7 @@ invariant_of-self c =
       asked = full.asked;
       heard_at = full.heard_at;
       seen = full.seen;
-      progress = full.progress;
+      stage = full.stage;
       words = words_said _ _ full.words a.f a.slot a.to a.stamp a.word noted
           (ledger_said _ _ _ full a.f a.slot a.to a.stamp a.word pages place c.requires.stamp noted).conduct;
     })

@@ -1,4 +1,4 @@
-use Rattle.std.proofs.Common.{◌≡◌, ◌<◌, ℕ, slice_index, length, sym, refl, ◌∙◌, arith}
+use Rattle.std.proofs.Common.{◌≡◌, ◌<◌, ℕ, [], slice_index, length, sym, refl, ◌∙◌, arith}
 use Rattle.sift_buffer.specs.Conduct.{put, with_seen}
 use Rattle.sift_buffer.specs.Core.{look}
 use Rattle.sift_buffer.specs.LonePorts.{core_beside}
@@ -13,9 +13,9 @@ returns-clause-follows c =
     let low : other < length p.words.items = rw p.wide (let h = c.requires.0 in omega arith) in
     let found : n ≡ slice_index p.words.items other =
     loaded p.words.items other c.from.result n (c.from.ensures ∙ c.get.ensures.number) low c.index-number.ensures in
-    follows_by p _ (with_seen (conduct_in p.acts) other n) (look p.unit other) refl refl c.note_seen.ensures.conduct (record {
+    follows_by p _ (with_seen (conduct_in p.acts) other n) [] (look p.unit other) refl refl c.note_seen.ensures.conduct (record {
       doer_is = refl;
-      may = λ others. (p.here, c.requires);
-      of = λ others i. put (core_beside p others).of p.unit (with_seen (here p others i) other (sym found i));
-      words = λ others. refl;
+      may = λ before others. (p.here, c.requires);
+      of = λ before others i. put (core_beside p before others).of p.unit (with_seen (here p before others i) other (sym found i));
+      words = λ before others. refl;
     })
