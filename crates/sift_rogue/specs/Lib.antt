@@ -1,0 +1,4 @@
+pub mod Calls
+pub mod Rogues
+pub mod Storms
+pub mod DrawnStorms

@@ -1,0 +1,46 @@
+-- The steps that the rogues of this crate allow.
+use Rattle.std.specs.Prelude.{◌≡◌, ℕ, ◌+◌, ◌*◌, nat_lt, if◌then◌else◌, length, slice_index_or, ⊤}
+use Rattle.std.specs.Fn.{iterate}
+use Rattle.sift_base.specs.Draw.{next_number, drawn}
+use Rattle.sift_buffer.specs.Cell.{stamp_weight, presence_weight}
+use Rattle.sift_rogue.specs.declared.act.Act.{Act}
+use Rattle.sift_rogue.specs.declared.act.Act.TheVariants.{Stray, Rest}
+use Rattle.sift_rogue.specs.declared.fixed.Fixed.{Fixed}
+use Rattle.sift_rogue.specs.declared.storm.Storm.{Storm}
+use Rattle.sift_rogue.specs.Calls.{Call, Started, Answered}
+
+-- ---- draws
+
+-- the drawer's number after so many draws from x
+abbrev pub after : ℕ → ℕ → ℕ
+after x n = iterate next_number n x
+
+-- a cell of any bits: stamp, presence and word
+abbrev pub cell_of : ℕ → ℕ → ℕ → ℕ
+cell_of stamp presence word = stamp * stamp_weight + presence * presence_weight + word
+
+-- the act that is drawn from x: receiver, slot, stamp, presence and word, in this order
+abbrev pub drawn_act : ℕ → Act
+drawn_act x =
+    Stray (drawn (after x 1) 8) (drawn (after x 2) 90) (cell_of (drawn (after x 3) 65536) (drawn (after x 4) 2) (drawn (after x 5) 65536))
+
+-- `start` gives the drawer its number, and `next` answers what is drawn
+abbrev pub AllowsDrawn : Storm → Call → Storm → Type 0
+AllowsDrawn x (Started number) y = y.drawer ≡ number
+AllowsDrawn x (Answered act) y = (act ≡ drawn_act x.drawer) × (y.drawer ≡ after x.drawer 5)
+
+-- ---- rest, and fixed acts
+
+-- `next` answers rest
+abbrev pub AllowsRest : Call → Type 0
+AllowsRest (Started number) = ⊤
+AllowsRest (Answered act) = act ≡ Rest
+
+-- the place of the next act: one further, but not beyond the last one
+abbrev pub place_after : Fixed → ℕ
+place_after x = if nat_lt x.at (length x.acts.items) then x.at + 1 else x.at
+
+-- `start` changes nothing, and `next` answers the act at the place, or rest where none is left, and goes on by one
+abbrev pub AllowsFixed : Fixed → Call → Fixed → Type 0
+AllowsFixed x (Started number) y = y ≡ x
+AllowsFixed x (Answered act) y = (act ≡ slice_index_or x.acts.items x.at Rest) × (y ≡ record x { at = place_after x })
