@@ -1,6 +1,5 @@
 -- The headline holds of the report that `run` gives.
 use Rattle.std.proofs.Common.{◌≡◌, inl, inr, sym, ap, ◌∙◌, arith}
-use Rattle.sift_flight.specs.Hearing.{no_strays}
 use Rattle.sift_load.specs.NoMission.{reply_to}
 use Rattle.sift_load.specs.declared.no_mission.NoMission.{NoMission}
 use Rattle.sift_load.specs.declared.no_mission.NoMission.TheVariants.{NotADocument, Refused}
@@ -25,7 +24,7 @@ headlined fit printed job bytes reply (inl (mission, states, (flight, flies, is)
   stated = states;
   flies = flies;
   told = ap (λ (r : Reply). r.text) is;
-  headline = printed mission no_strays flight (fit states.0 mission states.2) flies;
+  headline = printed mission flies.0 flight (fit states.0 mission states.2) flies.1;
 }
 headlined fit printed job bytes reply (inr (why, none, is)) status =
     absurd (not_done why (sym (ap (λ (r : Reply). r.status) is) ∙ status))

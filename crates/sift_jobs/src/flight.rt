@@ -10,6 +10,7 @@ use sift_core::fly;
 use sift_flight::{Flight, round_flights_are_whole};
 use sift_mission::Mission;
 use sift_options::Options;
+use sift_rogue::Silent;
 use std::alloc::Global;
 
 /// The order number that the options of a flight give, 0 where none does.
@@ -22,12 +23,15 @@ pub(crate) fn order_of(options: Options) -> Option<u64>
     }
 }
 
-/// A flight of the mission. All orders of steps give flights that tell the same.
+/// A flight of the mission. All orders of steps give flights that tell the same, where no unit turns stray.
 pub(crate) fn flight_of(alloc: Global, mission: &Mission, order: u64) -> Result<Flight, NoMemory>
     ensures whole { IfOk result (IsWhole (flown_of mission.now) mission.now.layout) }
     ensures round { IfOk result (λ flight. IsFlightOf (data_of mission.now) (told (flown_of mission.now) flight)) }
 {
     mission.parts();
     round_flights_are_whole();
-    fly(alloc, mission, order)
+    let mut rogues = [
+        Silent, Silent, Silent, Silent, Silent, Silent, Silent, Silent,
+    ];
+    fly(alloc, mission, order, &mut rogues)
 }

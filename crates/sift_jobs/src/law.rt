@@ -27,7 +27,7 @@ use sift_gen::one_text_of_a_number;
 use sift_load::{loading_gives_one, loading_has_own_statuses};
 use sift_mission::fitting_parts_make_a_flight;
 use sift_report::{alike_flights_have_one_text, the_headline_is_printed};
-use sift_scenario::{one_mission, stated_missions_fit};
+use sift_scenario::{one_mission, stated_missions_fit, stated_missions_have_no_storms};
 
 /// `run` ends with 0, or with the status of bytes that state no mission.
 pub fn run_has_own_statuses()
@@ -75,6 +75,8 @@ pub fn run_gives_one()
     fitting_parts_make_a_flight();
     round_flights_are_alike();
     alike_flights_have_one_text();
+    stated_missions_fit();
+    stated_missions_have_no_storms();
 }
 
 /// So does `votes`.
@@ -85,6 +87,8 @@ pub fn votes_gives_one()
     fitting_parts_make_a_flight();
     round_flights_are_alike();
     alike_flights_have_one_text();
+    stated_missions_fit();
+    stated_missions_have_no_storms();
 }
 
 /// So does `ideal`.
@@ -113,10 +117,11 @@ pub fn trial_gives_one()
     ensures { (job : Trial) → GivesOne (trial_duty job) }
 {
     one_mission();
-    stated_missions_fit();
     fitting_parts_make_a_flight();
     round_flights_are_alike();
     alike_flights_have_one_text();
+    stated_missions_fit();
+    stated_missions_have_no_storms();
 }
 
 /// Where `run` ends with 0 its text is the report of a flight of the mission that the input states, and the headline holds

@@ -4,7 +4,7 @@ use Rattle.std.proofs.lemmas.List.Elements.{Contains-append_left, Contains-appen
 use Rattle.toml.specs.Data.{Members}
 use Rattle.sift_mission.specs.Data.{MissionData}
 use Rattle.sift_reply.specs.Reply.{Reply, shared_statuses}
-use Rattle.sift_scenario.specs.Laws.{MissionsAreAccepted, OneMission, OneRefusal, StatedMissionsFit}
+use Rattle.sift_scenario.specs.Laws.{MissionsAreAccepted, OneMission, OneRefusal}
 use Rattle.sift_scenario.specs.Mission.{IsMission}
 use Rattle.sift_scenario.specs.Refusal.{IsRefusedWith}
 use Rattle.sift_scenario.specs.declared.refused.Refused.TheVariants.{Scenario, Task, Table, Script}
@@ -19,7 +19,7 @@ use Rattle.sift_load.specs.declared.no_mission.NoMission.TheVariants.{NotADocume
 one_tree : (bytes : List ℕ) (one other : Members) → IsDocument bytes one → IsDocument bytes other → one ≡ other
 one_tree bytes one other reads reads' = cc (reads.1, reads'.1)
 
-module _ (one_mission : OneMission) (fit : StatedMissionsFit) (accepted : MissionsAreAccepted) (one_refusal : OneRefusal) where
+module _ (one_mission : OneMission) (accepted : MissionsAreAccepted) (one_refusal : OneRefusal) where
   -- bytes state one mission
   one_stated : (bytes : List ℕ) (one other : MissionData) → States bytes one → States bytes other → one ≡ other
   one_stated bytes one other (tree, reads, states) (tree', reads', states') =
@@ -42,7 +42,7 @@ module _ (one_mission : OneMission) (fit : StatedMissionsFit) (accepted : Missio
   -- so one reply is given
   pub one_reply : (gives : MissionData → Reply → Type 0) → OneReplyIsGiven gives
   one_reply gives alone bytes one other (inl (mission, states, given)) (inl (mission', states', given')) =
-      alone mission' one other (fit states'.0 mission' states'.2) (subst (λ (m : MissionData). gives m one) (one_stated bytes mission mission' states states') given) given'
+      alone mission' one other (states'.0, states'.2) (subst (λ (m : MissionData). gives m one) (one_stated bytes mission mission' states states') given) given'
   one_reply gives alone bytes one other (inl (mission, states, given)) (inr (why, none, is)) = absurd (stated_unrefused bytes mission why states none)
   one_reply gives alone bytes one other (inr (why, none, is)) (inl (mission, states, given)) = absurd (stated_unrefused bytes mission why states none)
   one_reply gives alone bytes one other (inr (why, none, is)) (inr (why', none', is')) =

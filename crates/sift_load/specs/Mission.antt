@@ -12,6 +12,10 @@ use Rattle.sift_load.specs.declared.no_mission.NoMission.TheVariants.{NotADocume
 abbrev pub IsDocument : List ℕ → Members → Type 0
 IsDocument bytes document = IsUtf8 bytes × (parse_document bytes ≡ Some document)
 
+-- a document states the mission
+abbrev pub IsStated : MissionData → Type 0
+IsStated mission = (document : Members) × IsMission document mission
+
 -- the bytes are a document that states the mission
 abbrev pub States : List ℕ → MissionData → Type 0
 States bytes mission = (document : Members) × IsDocument bytes document × IsMission document mission

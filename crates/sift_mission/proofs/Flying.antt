@@ -30,7 +30,7 @@ first-frame (Some s) from is = (s, refl, cc)
 pub storms-come : (d : MissionData) → PartsFit d → StormsComeInTheMission → StormsCome (flown d)
 storms-come d fit come u from is =
     let t = first-frame (faults.storm_of d.script.faults u) from is in
-    omega (arith, fit.script.frames, t.2.1, come d.script u t.0.0 t.0.1.0 t.0.1.1 fit.script.good t.1)
+    omega (arith, fit.script.frames, t.2, come d.script u t.0.0 t.0.1 t.0.2 fit.script.good t.1)
 
 module _ (d : MissionData) (fit : PartsFit d) where
   -- the script is such as flights stand on

@@ -127,7 +127,7 @@ no_storm : (u : ℕ) → storm_of mission.script.faults u ≡ None
 no_storm u = elim (cases_Bool (4 == u)) [ inl t ↦ rw t refl | inr t ↦ rw t refl ]
 
 scripted : IsScripted mission
-scripted = record { layout = refl; outputs = refl; frames = refl; good = rules; calm = no_storm }
+scripted = record { layout = refl; outputs = refl; frames = refl; good = rules }
 
 -- ---- all of them
 

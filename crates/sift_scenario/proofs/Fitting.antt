@@ -25,7 +25,7 @@ use Rattle.sift_scenario.proofs.SoundPrograms.{stated_is_sound}
 use Rattle.sift_scenario.proofs.Starts.{starts_long}
 use Rattle.sift_scenario.proofs.Themes.{kept_themes}
 use Rattle.sift_scenario.specs.Lawful.{themes_for}
-use Rattle.sift_scenario.specs.Laws.{StatedMissionsFit}
+use Rattle.sift_scenario.specs.Laws.{StatedMissionsFit, StatedMissionsHaveNoStorms}
 use Rattle.sift_scenario.specs.Mission.{HasGoodTables, IsStated}
 use Rattle.sift_scenario.specs.Sensor.{sensor_names}
 use Rattle.sift_scenario.specs.Table.{table_value}
@@ -96,9 +96,12 @@ module _
           outputs = ap (λ (s : FaultScript). s.outputs) stated.script;
           frames = ap (λ (s : FaultScript). s.frames) stated.script;
           good = good_script;
-          calm = λ u. ap (λ (s : FaultScript). storm_of s.faults u) stated.script ∙ calm document u;
         };
       }
+
+-- the mission that a document states has no storm
+pub stated_calm : StatedMissionsHaveNoStorms
+stated_calm document d u is = ap (λ (s : FaultScript). storm_of s.faults u) is.stated.script ∙ calm document u
 
 -- the mission that a document states has parts that fit
 pub stated_fit : StatedMissionsFit

@@ -1,5 +1,5 @@
 -- The laws of what a document is answered with.
-use Rattle.std.specs.Prelude.{◌≡◌, ◌≢◌, ◌⊎◌, ℕ, List, Err}
+use Rattle.std.specs.Prelude.{◌≡◌, ◌≢◌, ◌⊎◌, ℕ, List, Err, None}
 use Rattle.toml.specs.Data.{Members}
 use Rattle.sift_lang.specs.Tree.{TaskTree}
 use Rattle.sift_parse.specs.declared.stop.ParseStop.{ParseStop}
@@ -12,6 +12,7 @@ use Rattle.sift_scenario.specs.Mission.{IsMission}
 use Rattle.sift_scenario.specs.Refusal.{IsRefusedWith}
 use Rattle.sift_mission.specs.Data.{MissionData}
 use Rattle.sift_mission.specs.PartsFit.{PartsFit}
+use Rattle.sift_script.specs.Faults.{storm_of}
 
 -- a document that states a mission isn't refused
 abbrev pub MissionsAreAccepted : Type 0
@@ -28,6 +29,11 @@ OneMission = (document : Members) (one other : MissionData) → IsMission docume
 -- the parts of the mission that a document states fit
 abbrev pub StatedMissionsFit : Type 0
 StatedMissionsFit = (document : Members) (mission : MissionData) → IsMission document mission → PartsFit mission
+
+-- no document states a storm
+abbrev pub StatedMissionsHaveNoStorms : Type 0
+StatedMissionsHaveNoStorms = (document : Members) (mission : MissionData) (u : ℕ) → IsMission document mission →
+    storm_of mission.script.faults u ≡ None
 
 -- a document keeps all rules, or one is the first that it breaks, at a first place
 abbrev pub RulesAreKeptOrBroken : Type 0

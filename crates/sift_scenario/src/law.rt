@@ -1,6 +1,6 @@
 //! The laws of what a document is answered with.
 
-ghost use Rattle.sift_scenario.specs.Laws.{DocumentsAreAnswered, MissionsAreAccepted, OneMission, OneRefusal, RulesAreKeptOrBroken, StatedMissionsFit};
+ghost use Rattle.sift_scenario.specs.Laws.{DocumentsAreAnswered, MissionsAreAccepted, OneMission, OneRefusal, RulesAreKeptOrBroken, StatedMissionsFit, StatedMissionsHaveNoStorms};
 
 /// A document that states a mission is refused by no rule, and none of its tasks is refused.
 pub fn missions_are_accepted()
@@ -20,6 +20,11 @@ pub fn one_mission()
 /// The parts of the mission that a document states fit, so flights can stand on it.
 pub fn stated_missions_fit()
     ensures { StatedMissionsFit }
+{}
+
+/// No unit of a mission that a document states turns stray.
+pub fn stated_missions_have_no_storms()
+    ensures { StatedMissionsHaveNoStorms }
 {}
 
 /// A document keeps all rules, or one is the first that it breaks, at a first place.
