@@ -1,5 +1,5 @@
 -- A storm, call by call.
-use Rattle.std.proofs.Common.{◌≡◌, ℕ, ◌+◌, List, [], ◌∷◌, ◌++◌, option_to_list, refl, arith}
+use Rattle.std.proofs.Common.{◌+◌, [], ◌∷◌, ◌++◌, option_to_list, refl, arith}
 use Rattle.sift_rogue.specs.Calls.{Call}
 use Rattle.sift_rogue.specs.Storms.{StormsAddUp}
 

@@ -1,5 +1,5 @@
 -- Storms that are drawn are the draws.
-use Rattle.std.proofs.Common.{◌≡◌, ℕ, zero, suc, ◌+◌, List, [], ◌∷◌, length, refl, ap, ◌∙◌, subst, arith}
+use Rattle.std.proofs.Common.{◌≡◌, ℕ, zero, suc, List, [], ◌∷◌, length, refl, ap, ◌∙◌}
 use Rattle.sift_buffer.specs.Conduct.{Stray}
 use Rattle.sift_rogue.specs.declared.act.Act.{Act}
 use Rattle.sift_rogue.specs.declared.storm.Storm.{Storm}

@@ -1,7 +1,7 @@
 //! Cells, journals, and a port among units that the test moves.
 ghost use Rattle.std.specs.Prelude.{◌≡◌, Some};
-ghost use Rattle.sift_buffer.specs.Conditions.{MayEnter};
-ghost use Rattle.sift_buffer.specs.Views.{PortMaySay, view_with_said};
+ghost use Rattle.sift_buffer.specs.Conditions.{MayEnter, MayTurn};
+ghost use Rattle.sift_buffer.specs.Views.{PortMaySay, view_with_said, view_with_turned};
 ghost use Rattle.sift_rows.specs.Ports.{KeepsActs};
 
 use crate::fixture::unit;
@@ -106,6 +106,16 @@ fn try_once<T: Port>(port: &mut T) -> Entering
     port.try_enter()
 }
 
+// Turns where the unit begins. Nobody is looked at, and so the count of looks stays.
+fn turn_at_once<T: Port>(port: &mut T) -> Entering
+    requires may { MayTurn (T.view port.old).conduct }
+    requires first { (T.view port.old).conduct.progress ≡ 0 }
+    ensures turned { T.view port.new ≡ view_with_turned (T.view port.old) }
+    ensures entered { result ≡ Entering.Entered }
+{
+    port.turn()
+}
+
 #[test]
 fn a_unit_says_by_one_store(rt: HostRuntime) -> Result<(), Fail> {
     let own = unit(0);
@@ -168,5 +178,49 @@ fn a_unit_hears_the_word_with_its_stamp(rt: HostRuntime) -> Result<(), Fail> {
     assert_eq!(rt; port.progress(), 2);
     let heard = port.hear(one, 8, 0, 1);
     assert_eq!(rt; heard, Some(Word::of(9)), "the word with this stamp");
+    Ok(())
+}
+
+#[test]
+fn a_unit_that_turned_stores_any_number(rt: HostRuntime) -> Result<(), Fail> {
+    let own = unit(2);
+    let one = unit(1);
+    let three = unit(3);
+    let mut port = LonePort::make(rt.alloc(), LAYOUT, own, 1)?;
+    let turned = turn_at_once(&mut port);
+    assert_eq!(rt; turned, Entering::Entered, "nobody is behind 0");
+    port.stray(three, 8, 7);
+    port.stray(three, 8, u64::MAX);
+    let progress = port.progress();
+    assert_eq!(rt; progress, u64::MAX, "the number of a unit that has turned");
+    let (cell, other_cell) = (port.cell(three, 8), port.cell(one, 8));
+    assert_eq!(rt; cell, u64::MAX, "the later of two, of all bits");
+    assert_eq!(rt; other_cell, 0, "another unit's cell");
+    Ok(())
+}
+
+#[test]
+fn a_unit_turns_where_none_is_behind(rt: HostRuntime) -> Result<(), Fail> {
+    let own = unit(0);
+    let one = unit(1);
+    let two = unit(2);
+    let three = unit(3);
+    let behind = Entering::NotYet { unit: two, seen: 0 };
+    let rows = [
+        (0, behind, 1, "unit 2 is behind"),
+        (1, Entering::Entered, u64::MAX, "nobody is behind 1"),
+    ];
+    for (number, want, progress, row) in rows {
+        let mut port = LonePort::make(rt.alloc(), LAYOUT, own, 1)?;
+        port.set_number(one, 1);
+        port.set_number(two, number);
+        port.set_number(three, u64::MAX);
+        let first = try_once(&mut port);
+        assert_eq!(rt; first, Entering::Entered, "nobody is behind 0");
+        let turned = port.turn();
+        assert_eq!(rt; turned, want, "{row}");
+        let last = port.progress();
+        assert_eq!(rt; last, progress, "its number, where {row}");
+    }
     Ok(())
 }

@@ -21,6 +21,8 @@ mod io;
 #[cfg(test)]
 mod pool;
 #[cfg(test)]
+mod rogue;
+#[cfg(test)]
 mod script;
 #[cfg(test)]
 mod shapes;

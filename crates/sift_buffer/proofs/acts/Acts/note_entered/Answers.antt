@@ -1,4 +1,4 @@
-use Rattle.std.proofs.Common.{◌≡◌, ◌<◌, inl, ap, ◌∙◌, arith}
+use Rattle.std.proofs.Common.{◌<◌, inl, ap, ◌∙◌, arith}
 use Rattle.sift_buffer.specs.Conduct.{last_progress}
 use Rattle.sift_buffer.specs.Ledgers.{Ledger}
 use Rattle.sift_buffer.proofs.LedgerLemmas.{full_at}

@@ -1,4 +1,4 @@
-use Rattle.std.proofs.Common.{◌≡◌, ◌<◌, ℕ, [], slice_set, sym, refl, ap, ◌∙◌, subst}
+use Rattle.std.proofs.Common.{◌≡◌, ◌<◌, [], slice_set, sym, refl, ap, ◌∙◌, subst}
 use Rattle.sift_buffer.specs.Conduct.{Conduct, never, put, with_turned}
 use Rattle.sift_buffer.specs.Conditions.{MayTurn, PassesGate}
 use Rattle.sift_buffer.specs.Core.{turn}

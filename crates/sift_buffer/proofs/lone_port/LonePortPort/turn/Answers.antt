@@ -1,4 +1,4 @@
-use Rattle.std.proofs.Common.{◌≡◌, ◌<◌, ◌≢◌, ℕ, [], arith}
+use Rattle.std.proofs.Common.{◌<◌, [], arith}
 use Rattle.sift_buffer.specs.Ledgers.{conduct_in}
 use Rattle.sift_buffer.specs.Views.{after_round}
 use Rattle.sift_buffer.specs.Following.{further}
