@@ -8,8 +8,10 @@ use Rattle.sift_clocklab.specs.declared.drawing.Drawn.{Drawn}
 use Rattle.sift_clocklab.specs.Laboratory.{faulty_clocks}
 use Rattle.sift_clocklab.specs.Rounds.{run_offsets}
 use Rattle.sift_clocklab.specs.Showing.{Pair, ShowsInTurn, ShowsRounds, pairs_of, pairs_to}
-use Rattle.sift_clocklab.specs.Draws.{AllowsDrawn, drawn_face, drawn_lab, face_after, readings_drawn, rounds_drawn}
-use Rattle.sift_clocklab.specs.DrawnRuns.{DrawnRunsAreOfTheDraws}
+use Rattle.sift_clocklab.specs.Draws.{AllowsDrawn, drawn_face, drawn_lab, face_after, readings_drawn, rounds_drawn, shown_drawn}
+use Rattle.sift_clocklab.specs.DrawnRuns.{DrawnRunsAreKept, DrawnRunsAreOfTheDraws}
+use Rattle.sift_clocklab.proofs.DrawnLabs.{drawn_ready}
+use Rattle.sift_clocklab.proofs.Rounds.{run_kept}
 
 -- in turn each pair shows what is drawn next
 in_turn : (round : ℕ) (x : Drawn) (pairs : List Pair) (readings : List (Option ℤ)) (y : Drawn)
@@ -53,3 +55,15 @@ drawn_runs_are_of_the_draws n m skew error rate rounds number run face ran =
     let shown : run.shown ≡ rounds_drawn rounds ((n - m) * m) first =
     by_rounds (pairs_of lab) 0 first run.shown face ran.shown ∙ (λ i. rounds_drawn (ran.rounds i) (pairs i) first) in
     λ i. record { offsets = (ran.offsets ∙ ap (run_offsets lab) shown) i; shown = shown i }
+
+-- as many rounds are drawn as are asked for
+length-rounds_drawn : (rounds count : ℕ) (face : Drawn) → length (rounds_drawn rounds count face) ≡ rounds
+length-rounds_drawn zero count face = refl
+length-rounds_drawn (suc rounds) count face = ap suc (length-rounds_drawn rounds count (iterate face_after count face))
+
+-- so the run of the draws is kept
+pub drawn_runs_are_kept : DrawnRunsAreKept
+drawn_runs_are_kept n m skew error rate rounds number in_range admitted =
+    run_kept (drawn_lab n m skew error rate rounds number) (shown_drawn n m skew error rounds number) _
+    (drawn_ready n m skew error rate rounds number in_range admitted)
+    (length-rounds_drawn rounds ((n - m) * m) (drawn_face n m skew error number)) refl

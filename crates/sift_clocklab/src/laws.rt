@@ -1,6 +1,6 @@
 //! The laws of a laboratory's clocks.
 
-ghost use Rattle.sift_clocklab.specs.DrawnRuns.{DrawnRunsAreOfTheDraws};
+ghost use Rattle.sift_clocklab.specs.DrawnRuns.{DrawnRunsAreKept, DrawnRunsAreOfTheDraws};
 ghost use Rattle.sift_clocklab.specs.Margin.{MarginLeavesRoom, NoFaultLeavesRoom};
 ghost use Rattle.sift_clocklab.specs.Skew.{OffsetsAreKept};
 ghost use Rattle.sift_clocklab.specs.Text.{MostIsWithinTheBound, OneTextOfARun};
@@ -14,6 +14,11 @@ pub fn offsets_are_kept()
 /// The laboratory of a number has one run with the faulty clocks that are drawn for it: that of the draws.
 pub fn drawn_runs_are_of_the_draws()
     ensures { DrawnRunsAreOfTheDraws }
+{}
+
+/// Where its numbers are in their ranges and admitted, the run of the draws is kept.
+pub fn drawn_runs_are_kept()
+    ensures { DrawnRunsAreKept }
 {}
 
 /// A run has one text.

@@ -22,7 +22,7 @@ pub use drawn_lab::{LabStop, drawn};
 pub use face::Face;
 pub use lab::{Lab, LabRun};
 pub use laws::{
-    drawn_runs_are_of_the_draws, margin_leaves_room, most_is_within_the_bound,
+    drawn_runs_are_kept, drawn_runs_are_of_the_draws, margin_leaves_room, most_is_within_the_bound,
     no_fault_leaves_room, offsets_are_kept, one_text_of_a_run,
 };
 pub use printing::lab_text;

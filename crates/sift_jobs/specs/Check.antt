@@ -1,20 +1,10 @@
 -- The command `check`: that the input states a mission.
-use Rattle.std.specs.Prelude.{codes, ℕ, ◌≡◌, Option, Some, None}
+use Rattle.std.specs.Prelude.{codes, ◌≡◌}
 use Rattle.sift_load.specs.Loads.{mission_duty}
 use Rattle.sift_mission.specs.Data.{MissionData}
-use Rattle.sift_options.specs.declared.setting.Options.{Options}
 use Rattle.sift_reply.specs.Duty.{Duty}
 use Rattle.sift_reply.specs.Reply.{Reply, done}
 use Rattle.sift_jobs.specs.declared.check.CheckJob.{CheckJob}
-
--- it has no options
-abbrev pub check_alone : (workers order number : Option ℕ) → Option CheckJob
-check_alone None None None = Some (record {})
-check_alone workers order number = None
-
--- what options ask for
-abbrev pub check_job_of : Options → Option CheckJob
-check_job_of options = check_alone options.workers options.order options.number
 
 -- that it is one
 abbrev pub CheckGives : CheckJob → MissionData → Reply → Type 0

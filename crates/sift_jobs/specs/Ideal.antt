@@ -1,21 +1,11 @@
 -- The command `ideal`: the outputs of the ideal machine.
-use Rattle.std.specs.Prelude.{ℕ, ◌≡◌, Option, Some, None}
+use Rattle.std.specs.Prelude.{◌≡◌}
 use Rattle.sift_load.specs.Loads.{mission_duty}
 use Rattle.sift_mission.specs.Data.{MissionData}
-use Rattle.sift_options.specs.declared.setting.Options.{Options}
 use Rattle.sift_reply.specs.Duty.{Duty}
 use Rattle.sift_reply.specs.Reply.{Reply, done}
 use Rattle.sift_report.specs.Ideal.{ideal_of}
 use Rattle.sift_jobs.specs.declared.ideal.IdealJob.{IdealJob}
-
--- it has no options
-abbrev pub ideal_alone : (workers order number : Option ℕ) → Option IdealJob
-ideal_alone None None None = Some (record {})
-ideal_alone workers order number = None
-
--- what options ask for
-abbrev pub ideal_job_of : Options → Option IdealJob
-ideal_job_of options = ideal_alone options.workers options.order options.number
 
 -- what the ideal machine puts out over the mission's own sensor words
 abbrev pub IdealGives : IdealJob → MissionData → Reply → Type 0

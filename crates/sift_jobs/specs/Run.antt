@@ -1,5 +1,5 @@
 -- The command `run`: the report of a flight.
-use Rattle.std.specs.Prelude.{ℕ, ◌≡◌, Option, option_map}
+use Rattle.std.specs.Prelude.{◌≡◌}
 use Rattle.sift_flight.specs.Flight.{Flight}
 use Rattle.sift_load.specs.Loads.{mission_duty}
 use Rattle.sift_mission.specs.Data.{MissionData}
@@ -11,13 +11,9 @@ use Rattle.sift_report.specs.Sheet.{report_of}
 use Rattle.sift_jobs.specs.Flights.{IsFlightOf, order_of}
 use Rattle.sift_jobs.specs.declared.run.RunJob.{RunJob}
 
--- a run whose units step in this order
-abbrev pub run_in : (order : ℕ) → RunJob
-run_in order = record { order = order }
-
--- what options ask for
-abbrev pub run_job_of : Options → Option RunJob
-run_job_of options = option_map run_in (order_of options)
+-- what options ask for: the order
+abbrev pub run_job_of : Options → RunJob
+run_job_of options = record { order = order_of options }
 
 -- the report of a flight of the mission, whatever the order
 abbrev pub RunGives : RunJob → MissionData → Reply → Type 0

@@ -1,5 +1,5 @@
 -- The command `trial`: the end of the report of a flight of the scenario with a number. It reads nothing.
-use Rattle.std.specs.Prelude.{ℕ, ◌≡◌, List, Option, Some, None, unwrap_or}
+use Rattle.std.specs.Prelude.{ℕ, ◌≡◌, List, Option, None, option_map}
 use Rattle.sift_flight.specs.Flight.{Flight}
 use Rattle.sift_gen.specs.Scenario.{tree_of}
 use Rattle.sift_mission.specs.Data.{MissionData}
@@ -9,17 +9,16 @@ use Rattle.sift_reply.specs.Duty.{Duty}
 use Rattle.sift_reply.specs.Reply.{Reply, done}
 use Rattle.sift_report.specs.Sheet.{end_of}
 use Rattle.sift_scenario.specs.Mission.{IsMission}
-use Rattle.sift_jobs.specs.Flights.{IsFlightOf}
+use Rattle.sift_jobs.specs.Flights.{IsFlightOf, order_of}
 use Rattle.sift_jobs.specs.declared.trial.TrialJob.{TrialJob}
 
--- its number is given, and the order is 0 where none is
-abbrev pub trial_in : (order number : Option ℕ) → Option TrialJob
-trial_in order None = None
-trial_in order (Some number) = Some (record { number = number; order = unwrap_or order 0 })
+-- the trial of a number whose units step in this order
+abbrev pub trial_in : (order number : ℕ) → TrialJob
+trial_in order number = record { number = number; order = order }
 
--- what options ask for
+-- what options ask for: the number has to be given
 abbrev pub trial_job_of : Options → Option TrialJob
-trial_job_of options = trial_in options.order options.number
+trial_job_of options = option_map (trial_in (order_of options)) options.number
 
 -- the last line of the report of a flight of the mission that the scenario with the number states, whatever the order
 abbrev pub TrialGives : TrialJob → List ℕ → Reply → Type 0

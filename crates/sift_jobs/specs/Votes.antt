@@ -1,5 +1,5 @@
 -- The command `votes`: the votes of a flight.
-use Rattle.std.specs.Prelude.{ℕ, ◌≡◌, Option, option_map}
+use Rattle.std.specs.Prelude.{◌≡◌}
 use Rattle.sift_flight.specs.Flight.{Flight}
 use Rattle.sift_load.specs.Loads.{mission_duty}
 use Rattle.sift_mission.specs.Data.{MissionData}
@@ -10,13 +10,9 @@ use Rattle.sift_report.specs.Votes.{votes_of}
 use Rattle.sift_jobs.specs.Flights.{IsFlightOf, order_of}
 use Rattle.sift_jobs.specs.declared.votes.VotesJob.{VotesJob}
 
--- votes of a flight whose units step in this order
-abbrev pub votes_in : (order : ℕ) → VotesJob
-votes_in order = record { order = order }
-
--- what options ask for
-abbrev pub votes_job_of : Options → Option VotesJob
-votes_job_of options = option_map votes_in (order_of options)
+-- what options ask for: the order
+abbrev pub votes_job_of : Options → VotesJob
+votes_job_of options = record { order = order_of options }
 
 -- the votes of a flight of the mission, whatever the order
 abbrev pub VotesGives : VotesJob → MissionData → Reply → Type 0

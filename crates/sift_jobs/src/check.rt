@@ -1,34 +1,14 @@
 //! The command `check`.
 
-ghost use Rattle.std.specs.Prelude.{◌≡◌};
-ghost use Rattle.sift_jobs.specs.Check.{check_job_of};
-
 use sift_base::NoMemory;
 use sift_load::{DOCUMENT_LIMIT, MissionJob, reply_for_bytes};
 use sift_mission::Mission;
-use sift_options::Options;
 use sift_reply::{Job, Reply};
 use std::alloc::Global;
 
 /// `check`: tells that the input states a mission.
 #[derive(Clone, Copy)]
 pub struct CheckJob;
-
-impl CheckJob {
-    /// What the options ask for: `check` has none.
-    pub fn of(options: Options) -> Option<CheckJob>
-        ensures { result ≡ check_job_of options }
-    {
-        match options {
-            Options {
-                workers: None,
-                order: None,
-                number: None,
-            } => Some(CheckJob),
-            _ => None,
-        }
-    }
-}
 
 impl MissionJob for CheckJob {
     ghost use Rattle.sift_jobs.specs.Check.{CheckGives};

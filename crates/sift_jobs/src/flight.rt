@@ -1,4 +1,4 @@
-//! Flights of missions, and the options that ask for one.
+//! Flights of missions, and the order in which options ask for one.
 
 ghost use Rattle.std.specs.Prelude.{◌≡◌, IfOk};
 ghost use Rattle.sift_flight.specs.Told.{IsWhole, told};
@@ -14,13 +14,10 @@ use sift_rogue::Silent;
 use std::alloc::Global;
 
 /// The order number that the options of a flight give, 0 where none does.
-pub(crate) fn order_of(options: Options) -> Option<u64>
+pub(crate) fn order_of(options: Options) -> u64
     ensures { result ≡ order_of options }
 {
-    match options.number {
-        None => Some(options.order.unwrap_or(0)),
-        Some(_) => None,
-    }
+    options.order.unwrap_or(0)
 }
 
 /// A flight of the mission. All orders of steps give flights that tell the same, where no unit turns stray.

@@ -1,12 +1,8 @@
 //! The command `ideal`.
 
-ghost use Rattle.std.specs.Prelude.{◌≡◌};
-ghost use Rattle.sift_jobs.specs.Ideal.{ideal_job_of};
-
 use sift_base::NoMemory;
 use sift_load::{DOCUMENT_LIMIT, MissionJob, reply_for_bytes};
 use sift_mission::Mission;
-use sift_options::Options;
 use sift_reply::{Job, Reply};
 use sift_report::ideal_text;
 use std::alloc::Global;
@@ -14,22 +10,6 @@ use std::alloc::Global;
 /// `ideal`: tells what the ideal machine puts out over the mission's own sensor words.
 #[derive(Clone, Copy)]
 pub struct IdealJob;
-
-impl IdealJob {
-    /// What the options ask for: `ideal` has none.
-    pub fn of(options: Options) -> Option<IdealJob>
-        ensures { result ≡ ideal_job_of options }
-    {
-        match options {
-            Options {
-                workers: None,
-                order: None,
-                number: None,
-            } => Some(IdealJob),
-            _ => None,
-        }
-    }
-}
 
 impl MissionJob for IdealJob {
     ghost use Rattle.sift_jobs.specs.Ideal.{IdealGives};

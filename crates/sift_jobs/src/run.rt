@@ -19,11 +19,13 @@ pub struct RunJob {
 }
 
 impl RunJob {
-    /// What the options ask for.
-    pub fn of(options: Options) -> Option<RunJob>
+    /// What the options ask for: the order, 0 where none is given.
+    pub fn of(options: Options) -> RunJob
         ensures { result ≡ run_job_of options }
     {
-        order_of(options).map(|order| RunJob { order })
+        RunJob {
+            order: order_of(options),
+        }
     }
 }
 

@@ -16,18 +16,13 @@ pub struct GenJob {
 }
 
 impl GenJob {
-    /// What the options ask for: the number alone.
+    /// What the options ask for: the number has to be given.
     pub fn of(options: Options) -> Option<GenJob>
         ensures { result ≡ gen_job_of options }
     {
-        match options {
-            Options {
-                workers: None,
-                order: None,
-                number: Some(number),
-            } => Some(GenJob { number }),
-            _ => None,
-        }
+        Some(GenJob {
+            number: options.number?,
+        })
     }
 }
 

@@ -3,7 +3,7 @@
 ghost use Rattle.std.specs.Prelude.{◌≡◌};
 ghost use Rattle.sift_jobs.specs.Trial.{trial_job_of};
 
-use crate::flight::flight_of;
+use crate::flight::{flight_of, order_of};
 use sift_base::NoMemory;
 use sift_options::Options;
 use sift_reply::{Job, Reply};
@@ -20,13 +20,14 @@ pub struct TrialJob {
 }
 
 impl TrialJob {
-    /// What the options ask for: a number, and the order, 0 where none is given.
+    /// What the options ask for: the number has to be given; the order is 0 where none is.
     pub fn of(options: Options) -> Option<TrialJob>
         ensures { result ≡ trial_job_of options }
     {
-        let number = options.number?;
-        let order = options.order.unwrap_or(0);
-        Some(TrialJob { number, order })
+        Some(TrialJob {
+            number: options.number?,
+            order: order_of(options),
+        })
     }
 }
 

@@ -20,11 +20,13 @@ pub struct VotesJob {
 }
 
 impl VotesJob {
-    /// What the options ask for.
-    pub fn of(options: Options) -> Option<VotesJob>
+    /// What the options ask for: the order, 0 where none is given.
+    pub fn of(options: Options) -> VotesJob
         ensures { result ≡ votes_job_of options }
     {
-        order_of(options).map(|order| VotesJob { order })
+        VotesJob {
+            order: order_of(options),
+        }
     }
 }
 

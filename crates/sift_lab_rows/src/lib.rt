@@ -1,7 +1,11 @@
-//! Rows of tests of the laboratories beside the program: of oral messages, and of clocks.
+//! Rows of tests of the laboratories: of oral messages, and of clocks.
 #![tactic(auto)]
 
 #[cfg(test)]
 mod byz;
 #[cfg(test)]
 mod clocklab;
+#[cfg(test)]
+mod drawn_plans;
+#[cfg(test)]
+mod plain;

@@ -12,6 +12,10 @@ use Rattle.sift_load.specs.declared.no_mission.NoMission.TheVariants.{NotADocume
 abbrev pub IsDocument : List ℕ → Members → Type 0
 IsDocument bytes document = IsUtf8 bytes × (parse_document bytes ≡ Some document)
 
+-- they are none
+abbrev pub IsNoDocument : List ℕ → Type 0
+IsNoDocument bytes = (document : Members) → ¬ IsDocument bytes document
+
 -- a document states the mission
 abbrev pub IsStated : MissionData → Type 0
 IsStated mission = (document : Members) × IsMission document mission
@@ -22,5 +26,5 @@ States bytes mission = (document : Members) × IsDocument bytes document × IsMi
 
 -- the bytes state no mission, for this reason: they are no document, or one that is refused so
 abbrev pub StatesNone : List ℕ → NoMission → Type 0
-StatesNone bytes NotADocument = (document : Members) → ¬ IsDocument bytes document
+StatesNone bytes NotADocument = IsNoDocument bytes
 StatesNone bytes (Refused reason) = (document : Members) × IsDocument bytes document × IsRefusedWith document reason

@@ -1,45 +1,107 @@
 -- Options in words: words begin with one option and one value at most.
-use Rattle.std.proofs.Common.{◌≡◌, ℕ, List, [], ◌∷◌, length, get_or, drop, Some, None, refl, ap, sym, ◌∙◌, subst, arith, inl, inr}
+use Rattle.std.proofs.Common.{◌≡◌, ℕ, List, [], ◌∷◌, length, get_or, drop, Bool, true, false, cond, nat_eq, bytes_eq, Some, None, refl, ap, sym, ◌∙◌, subst, arith, inl, inr}
+use Rattle.std.specs.List.{after_first, before_first, list_any}
 use Rattle.sift_options.specs.Options.{Adds, more, none, BeginWith, Sets, joined, name_of}
 use Rattle.sift_options.specs.declared.setting.Flag.{Flag}
-use Rattle.sift_options.specs.declared.setting.Flag.TheVariants.{Workers, Order, Number}
+use Rattle.sift_options.specs.declared.setting.Flag.TheVariants.{Workers, Order, Number, N, M, Skew, Error, Rate, Rounds}
 use Rattle.sift_options.specs.declared.setting.Options.{Options}
 
--- different options have different names
+-- ---- names
+
+-- the option with a name
+abbrev flag_with : List ℕ → Flag
+flag_with name =
+    cond (bytes_eq name (name_of Order)) Order
+    (cond (bytes_eq name (name_of Number)) Number
+    (cond (bytes_eq name (name_of N)) N
+    (cond (bytes_eq name (name_of M)) M
+    (cond (bytes_eq name (name_of Skew)) Skew
+    (cond (bytes_eq name (name_of Error)) Error
+    (cond (bytes_eq name (name_of Rate)) Rate
+    (cond (bytes_eq name (name_of Rounds)) Rounds Workers)))))))
+
+-- an option is known by its name
+named : (flag : Flag) → flag_with (name_of flag) ≡ flag
+named Workers = refl
+named Order = refl
+named Number = refl
+named N = refl
+named M = refl
+named Skew = refl
+named Error = refl
+named Rate = refl
+named Rounds = refl
+
+-- so different options have different names
 pub names_differ : (f g : Flag) → name_of f ≡ name_of g → f ≡ g
-names_differ Workers Workers e = refl
-names_differ Order Order e = refl
-names_differ Number Number e = refl
-names_differ Workers Order e = absurd (omega (arith, ap length e))
-names_differ Workers Number e = absurd (omega (arith, ap length e))
-names_differ Order Workers e = absurd (omega (arith, ap length e))
-names_differ Order Number e = absurd (omega (arith, ap length e))
-names_differ Number Workers e = absurd (omega (arith, ap length e))
-names_differ Number Order e = absurd (omega (arith, ap length e))
+names_differ f g e = sym (named f) ∙ (ap flag_with e ∙ named g)
+
+-- ---- a name with its value
+
+-- the byte is the sign between them
+abbrev pub is_sign : ℕ → Bool
+is_sign b = nat_eq b 61
+
+-- no name has the sign in it
+signless : (flag : Flag) → list_any is_sign (name_of flag) ≡ false
+signless Workers = refl
+signless Order = refl
+signless Number = refl
+signless N = refl
+signless M = refl
+signless Skew = refl
+signless Error = refl
+signless Rate = refl
+signless Rounds = refl
+
+-- a name with its value has it
+pub signed : (flag : Flag) (v : List ℕ) → list_any is_sign (joined flag v) ≡ true
+signed Workers v = refl
+signed Order v = refl
+signed Number v = refl
+signed N v = refl
+signed M v = refl
+signed Skew v = refl
+signed Error v = refl
+signed Rate v = refl
+signed Rounds v = refl
+
+-- the name stands before the first sign
+pub name_in : (flag : Flag) (v : List ℕ) → before_first is_sign (joined flag v) ≡ name_of flag
+name_in Workers v = refl
+name_in Order v = refl
+name_in Number v = refl
+name_in N v = refl
+name_in M v = refl
+name_in Skew v = refl
+name_in Error v = refl
+name_in Rate v = refl
+name_in Rounds v = refl
+
+-- and the value behind it
+value_in : (flag : Flag) (v : List ℕ) → after_first is_sign (joined flag v) ≡ v
+value_in Workers v = refl
+value_in Order v = refl
+value_in Number v = refl
+value_in N v = refl
+value_in M v = refl
+value_in Skew v = refl
+value_in Error v = refl
+value_in Rate v = refl
+value_in Rounds v = refl
 
 -- the name alone is not the name with a value
 pub alone : (f g : Flag) (v : List ℕ) → name_of f ≡ joined g v → ⊥
-alone Workers Workers v e = omega (arith, ap length e)
-alone Workers Order v e = omega (arith, ap (λ xs. get_or xs 2 0) e)
-alone Workers Number v e = omega (arith, ap (λ xs. get_or xs 2 0) e)
-alone Order Workers v e = omega (arith, ap (λ xs. get_or xs 2 0) e)
-alone Order Order v e = omega (arith, ap length e)
-alone Order Number v e = omega (arith, ap (λ xs. get_or xs 2 0) e)
-alone Number Workers v e = omega (arith, ap (λ xs. get_or xs 2 0) e)
-alone Number Order v e = omega (arith, ap (λ xs. get_or xs 2 0) e)
-alone Number Number v e = omega (arith, ap length e)
+alone f g v e = cc (signless f, signed g v, ap (list_any is_sign) e)
 
 -- one word is an option with its value in one way alone
 pub joined_once : (f g : Flag) (v w : List ℕ) → joined f v ≡ joined g w → (f ≡ g) × (v ≡ w)
-joined_once Workers Workers v w e = (refl, ap (drop 10) e)
-joined_once Order Order v w e = (refl, ap (drop 8) e)
-joined_once Number Number v w e = (refl, ap (drop 9) e)
-joined_once Workers Order v w e = absurd (omega (arith, ap (λ xs. get_or xs 2 0) e))
-joined_once Workers Number v w e = absurd (omega (arith, ap (λ xs. get_or xs 2 0) e))
-joined_once Order Workers v w e = absurd (omega (arith, ap (λ xs. get_or xs 2 0) e))
-joined_once Order Number v w e = absurd (omega (arith, ap (λ xs. get_or xs 2 0) e))
-joined_once Number Workers v w e = absurd (omega (arith, ap (λ xs. get_or xs 2 0) e))
-joined_once Number Order v w e = absurd (omega (arith, ap (λ xs. get_or xs 2 0) e))
+joined_once f g v w e = (
+  names_differ f g (sym (name_in f v) ∙ (ap (before_first is_sign) e ∙ name_in g w)),
+  sym (value_in f v) ∙ (ap (after_first is_sign) e ∙ value_in g w),
+)
+
+-- ---- words
 
 -- words begin with an option, its value and the words behind it in one way alone
 pub record AreSame (f g : Flag) (v w : List ℕ) (r s : List (List ℕ)) : Type 0 where
@@ -53,46 +115,46 @@ head_same x y xs ys e = ap (λ zs. get_or zs 0 x) e
 tail_same : {A : Type 0} (x y : A) (xs ys : List A) → x ∷ xs ≡ y ∷ ys → xs ≡ ys
 tail_same x y xs ys e = ap (drop 1) e
 
-pub begin_once : (words : List (List ℕ)) (f g : Flag) (v w : List ℕ) (r s : List (List ℕ)) →
-    BeginWith words f v r → BeginWith words g w s → AreSame f g v w r s
-begin_once words f g v w r s (inl a) (inl b) =
+pub begin_once : (flags : List Flag) (words : List (List ℕ)) (f g : Flag) (v w : List ℕ) (r s : List (List ℕ)) →
+    BeginWith flags words f v r → BeginWith flags words g w s → AreSame f g v w r s
+begin_once flags words f g v w r s (_, inl a) (_, inl b) =
     let e = sym a ∙ b in
     let t = tail_same _ _ _ _ e in
     record { flag = names_differ f g (head_same _ _ _ _ e); value = head_same _ _ _ _ t; rest = tail_same _ _ _ _ t }
-begin_once words f g v w r s (inl a) (inr b) = absurd (alone f g w (head_same _ _ _ _ (sym a ∙ b)))
-begin_once words f g v w r s (inr a) (inl b) = absurd (alone g f v (head_same _ _ _ _ (sym b ∙ a)))
-begin_once words f g v w r s (inr a) (inr b) =
+begin_once flags words f g v w r s (_, inl a) (_, inr b) = absurd (alone f g w (head_same _ _ _ _ (sym a ∙ b)))
+begin_once flags words f g v w r s (_, inr a) (_, inl b) = absurd (alone g f v (head_same _ _ _ _ (sym b ∙ a)))
+begin_once flags words f g v w r s (_, inr a) (_, inr b) =
     let e = sym a ∙ b in
     let one = joined_once f g v w (head_same _ _ _ _ e) in
     record { flag = one.0; value = one.1; rest = tail_same _ _ _ _ e }
 
 -- what words add that begin with an option: it is set, and then the rest adds
-pub record Begins (options all : Options) (flag : Flag) (value : List ℕ) (rest : List (List ℕ)) : Type 0 where
+pub record Begins (flags : List Flag) (options all : Options) (flag : Flag) (value : List ℕ) (rest : List (List ℕ)) : Type 0 where
   pub after : Options
   pub sets : Sets options flag value after
-  pub adds : Adds after rest all
+  pub adds : Adds flags after rest all
 
-pub no_words : (flag : Flag) (value : List ℕ) (rest : List (List ℕ)) → BeginWith [] flag value rest → ⊥
-no_words flag value rest (inl e) = omega (arith, ap length e)
-no_words flag value rest (inr e) = omega (arith, ap length e)
+pub no_words : (flags : List Flag) (flag : Flag) (value : List ℕ) (rest : List (List ℕ)) → BeginWith flags [] flag value rest → ⊥
+no_words flags flag value rest (_, inl e) = omega (arith, ap length e)
+no_words flags flag value rest (_, inr e) = omega (arith, ap length e)
 
-pub begins : (options all : Options) (words : List (List ℕ)) (flag : Flag) (value : List ℕ) (rest : List (List ℕ)) →
-    BeginWith words flag value rest → Adds options words all → Begins options all flag value rest
-begins options all words flag value rest begin (none o) = absurd (no_words flag value rest begin)
-begins options all words flag value rest begin (more o after a g w ws s begin' sets adds) =
-    let same = begin_once words g flag w value s rest begin' begin in
+pub begins : (flags : List Flag) (options all : Options) (words : List (List ℕ)) (flag : Flag) (value : List ℕ) (rest : List (List ℕ)) →
+    BeginWith flags words flag value rest → Adds flags options words all → Begins flags options all flag value rest
+begins flags options all words flag value rest begin (none o) = absurd (no_words flags flag value rest begin)
+begins flags options all words flag value rest begin (more o after a g w ws s begin' sets adds) =
+    let same = begin_once flags words g flag w value s rest begin' begin in
     record {
       after = after;
       sets = subst (λ x. Sets options x value after) same.flag (subst (λ x. Sets options g x after) same.value sets);
-      adds = subst (λ x. Adds after x all) same.rest adds;
+      adds = subst (λ x. Adds flags after x all) same.rest adds;
     }
 
 -- words that begin with no option add only where there is none
-pub adds_nothing : (options all : Options) (words : List (List ℕ)) →
-    ((flag : Flag) (value : List ℕ) (rest : List (List ℕ)) → ¬ BeginWith words flag value rest) → Adds options words all →
+pub adds_nothing : (flags : List Flag) (options all : Options) (words : List (List ℕ)) →
+    ((flag : Flag) (value : List ℕ) (rest : List (List ℕ)) → ¬ BeginWith flags words flag value rest) → Adds flags options words all →
     (words ≡ []) × (all ≡ options)
-adds_nothing options all words begin (none o) = (refl, refl)
-adds_nothing options all words begin (more o after a g w ws s begin' sets adds) = absurd (begin g w s begin')
+adds_nothing flags options all words begin (none o) = (refl, refl)
+adds_nothing flags options all words begin (more o after a g w ws s begin' sets adds) = absurd (begin g w s begin')
 
 -- ---- what is there
 

@@ -1,8 +1,10 @@
 -- The law of options.
 use Rattle.std.specs.Prelude.{◌≡◌, ℕ, List}
 use Rattle.sift_options.specs.Options.{Adds}
+use Rattle.sift_options.specs.declared.setting.Flag.{Flag}
 use Rattle.sift_options.specs.declared.setting.Options.{Options}
 
 -- words give one list of options at most, beside those that stand already
 abbrev pub OneListOfOptions : Type 0
-OneListOfOptions = (options one other : Options) (words : List (List ℕ)) → Adds options words one → Adds options words other → one ≡ other
+OneListOfOptions = (flags : List Flag) (options one other : Options) (words : List (List ℕ)) → Adds flags options words one
+    → Adds flags options words other → one ≡ other

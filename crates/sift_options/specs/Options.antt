@@ -1,8 +1,8 @@
 -- The options of a command: how words give them.
-use Rattle.std.specs.Prelude.{codes, ℕ, ◌≡◌, ◌≤◌, ◌<◌, ◌+◌, ◌^◌, List, [], ◌∷◌, ◌++◌, ◌⊎◌, length, Option, Some, None}
+use Rattle.std.specs.Prelude.{codes, ℕ, ◌≡◌, ◌≤◌, ◌<◌, ◌+◌, ◌^◌, List, [], ◌∷◌, ◌++◌, ◌⊎◌, length, Contains, Option, Some, None}
 use Rattle.std.specs.Str.Parse.{AllDigits, digits_value}
 use Rattle.sift_options.specs.declared.setting.Flag.{Flag}
-use Rattle.sift_options.specs.declared.setting.Flag.TheVariants.{Workers, Order, Number}
+use Rattle.sift_options.specs.declared.setting.Flag.TheVariants.{Workers, Order, Number, N, M, Skew, Error, Rate, Rounds}
 use Rattle.sift_options.specs.declared.setting.Options.{Options}
 
 -- ---- one option
@@ -12,6 +12,12 @@ abbrev pub name_of : Flag → List ℕ
 name_of Workers = codes "--workers"
 name_of Order = codes "--order"
 name_of Number = codes "--number"
+name_of N = codes "--n"
+name_of M = codes "--m"
+name_of Skew = codes "--skew"
+name_of Error = codes "--error"
+name_of Rate = codes "--rate"
+name_of Rounds = codes "--rounds"
 
 -- the most workers
 abbrev pub worker_limit : ℕ
@@ -43,6 +49,12 @@ abbrev pub IsValue : Flag → List ℕ → ℕ → Type 0
 IsValue Workers text n = IsWorkerCount text n
 IsValue Order text n = IsNumber text n
 IsValue Number text n = IsNumber text n
+IsValue N text n = IsNumber text n
+IsValue M text n = IsNumber text n
+IsValue Skew text n = IsNumber text n
+IsValue Error text n = IsNumber text n
+IsValue Rate text n = IsNumber text n
+IsValue Rounds text n = IsNumber text n
 
 -- ---- options
 
@@ -51,16 +63,38 @@ abbrev pub given : Options → Flag → Option ℕ
 given options Workers = options.workers
 given options Order = options.order
 given options Number = options.number
+given options N = options.n
+given options M = options.m
+given options Skew = options.skew
+given options Error = options.error
+given options Rate = options.rate
+given options Rounds = options.rounds
 
 -- no option is given
 abbrev pub no_options : Options
-no_options = record { workers = None; order = None; number = None }
+no_options = record {
+  workers = None;
+  order = None;
+  number = None;
+  n = None;
+  m = None;
+  skew = None;
+  error = None;
+  rate = None;
+  rounds = None;
+}
 
 -- these options with the number of one
 abbrev pub with_given : Options → Flag → ℕ → Options
 with_given options Workers n = record options { workers = Some n }
 with_given options Order n = record options { order = Some n }
 with_given options Number n = record options { number = Some n }
+with_given options N n = record options { n = Some n }
+with_given options M n = record options { m = Some n }
+with_given options Skew n = record options { skew = Some n }
+with_given options Error n = record options { error = Some n }
+with_given options Rate n = record options { rate = Some n }
+with_given options Rounds n = record options { rounds = Some n }
 
 -- an option that wasn't given is set to what the text says, and the others stay
 abbrev pub Sets : Options → Flag → (value : List ℕ) → Options → Type 0
@@ -70,12 +104,13 @@ Sets options flag value after = (n : ℕ) × IsValue flag value n × (given opti
 abbrev pub joined : Flag → (value : List ℕ) → List ℕ
 joined flag value = name_of flag ++ codes "=" ++ value
 
--- the words begin with an option and its value, in two words or in one, and these are the words behind it
-abbrev pub BeginWith : (words : List (List ℕ)) → Flag → (value : List ℕ) → (rest : List (List ℕ)) → Type 0
-BeginWith words flag value rest = (words ≡ name_of flag ∷ value ∷ rest) ⊎ (words ≡ joined flag value ∷ rest)
+-- the words begin with one of these options and its value, in two words or in one, and these are the words behind it
+abbrev pub BeginWith : List Flag → (words : List (List ℕ)) → Flag → (value : List ℕ) → (rest : List (List ℕ)) → Type 0
+BeginWith flags words flag value rest =
+    Contains flags flag × ((words ≡ name_of flag ∷ value ∷ rest) ⊎ (words ≡ joined flag value ∷ rest))
 
--- the words give options beside those that stand already, none of them a second time
-pub data Adds : Options → List (List ℕ) → Options → Type 0 where
-  none : (options : Options) → Adds options [] options
+-- the words give options beside those that stand already, each one of these flags, and none of them a second time
+pub data Adds (flags : List Flag) : Options → List (List ℕ) → Options → Type 0 where
+  none : (options : Options) → Adds flags options [] options
   more : (options after all : Options) (flag : Flag) (value : List ℕ) (words rest : List (List ℕ)) →
-      BeginWith words flag value rest → Sets options flag value after → Adds after rest all → Adds options words all
+      BeginWith flags words flag value rest → Sets options flag value after → Adds flags after rest all → Adds flags options words all

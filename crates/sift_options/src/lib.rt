@@ -5,4 +5,4 @@ mod law;
 mod setting;
 
 pub use law::one_list_of_options;
-pub use setting::Options;
+pub use setting::{Flag, Options};

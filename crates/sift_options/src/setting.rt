@@ -1,7 +1,7 @@
 //! The options of a command, as the words after the command give them.
 
-ghost use Rattle.std.specs.Prelude.{◌≡◌, ◌≢◌, ◌↔◌, ℕ, List, ◌∷◌, IfNone, IfSome, IsTrue, Some, map, string_bytes};
-ghost use Rattle.sift_options.specs.Options.{Adds, BeginWith, BeginsWithDigit, IsNumber, IsValue, IsWorkerCount, Sets, joined, name_of};
+ghost use Rattle.std.specs.Prelude.{◌≡◌, ◌≢◌, ◌↔◌, ℕ, List, ◌∷◌, Contains, IfNone, IfSome, IsTrue, Some, map, string_bytes};
+ghost use Rattle.sift_options.specs.Options.{Adds, BeginWith, BeginsWithDigit, IsNumber, IsValue, IsWorkerCount, Sets, given, joined, name_of, with_given};
 
 /// The name of an option.
 #[derive(Clone, Copy)]
@@ -10,8 +10,20 @@ pub enum Flag {
     Workers,
     /// `--order`: in which order one worker's units step.
     Order,
-    /// `--number`: from which number a mission is made.
+    /// `--number`: from which number something is drawn.
     Number,
+    /// `--n`: how many clocks there are.
+    N,
+    /// `--m`: how many of them are faulty.
+    M,
+    /// `--skew`: how far apart working clocks may be.
+    Skew,
+    /// `--error`: by how much a clock may be misread.
+    Error,
+    /// `--rate`: by how much a clock may drift in a round.
+    Rate,
+    /// `--rounds`: how many rounds clocks run.
+    Rounds,
 }
 
 /// The options of a command: the number of each one that is given.
@@ -20,6 +32,31 @@ pub struct Options {
     pub workers: Option<u64>,
     pub order: Option<u64>,
     pub number: Option<u64>,
+    pub n: Option<u64>,
+    pub m: Option<u64>,
+    pub skew: Option<u64>,
+    pub error: Option<u64>,
+    pub rate: Option<u64>,
+    pub rounds: Option<u64>,
+}
+
+impl Flag {
+    /// The word of the option.
+    fn name(self) -> &'static str
+        ensures { result.now ≡ name_of self }
+    {
+        match self {
+            Flag::Workers => "--workers",
+            Flag::Order => "--order",
+            Flag::Number => "--number",
+            Flag::N => "--n",
+            Flag::M => "--m",
+            Flag::Skew => "--skew",
+            Flag::Error => "--error",
+            Flag::Rate => "--rate",
+            Flag::Rounds => "--rounds",
+        }
+    }
 }
 
 impl Options {
@@ -28,7 +65,50 @@ impl Options {
         workers: None,
         order: None,
         number: None,
+        n: None,
+        m: None,
+        skew: None,
+        error: None,
+        rate: None,
+        rounds: None,
     };
+
+    /// The number of an option, where it is given.
+    fn given(self, flag: Flag) -> Option<u64>
+        ensures { result ≡ given self flag }
+    {
+        match flag {
+            Flag::Workers => self.workers,
+            Flag::Order => self.order,
+            Flag::Number => self.number,
+            Flag::N => self.n,
+            Flag::M => self.m,
+            Flag::Skew => self.skew,
+            Flag::Error => self.error,
+            Flag::Rate => self.rate,
+            Flag::Rounds => self.rounds,
+        }
+    }
+
+    /// These options with this number of one.
+    fn with_given(self, flag: Flag, number: u64) -> Options
+        ensures { result ≡ with_given self flag number }
+    {
+        let mut options = self;
+        let number = Some(number);
+        match flag {
+            Flag::Workers => options.workers = number,
+            Flag::Order => options.order = number,
+            Flag::Number => options.number = number,
+            Flag::N => options.n = number,
+            Flag::M => options.m = number,
+            Flag::Skew => options.skew = number,
+            Flag::Error => options.error = number,
+            Flag::Rate => options.rate = number,
+            Flag::Rounds => options.rounds = number,
+        }
+        options
+    }
 
     /// These options with one more, by its name and the text of its value. There are none where the
     /// option stands already, or the text is no value of it.
@@ -37,31 +117,22 @@ impl Options {
         ensures exact { (options : Options) → Sets self flag value.now options → result ≡ Some options }
     {
         let number = value_of(flag, value)?;
-        match flag {
-            Flag::Workers if self.workers.is_none() => Some(Options {
-                workers: Some(number),
-                ..self
-            }),
-            Flag::Order if self.order.is_none() => Some(Options {
-                order: Some(number),
-                ..self
-            }),
-            Flag::Number if self.number.is_none() => Some(Options {
-                number: Some(number),
-                ..self
-            }),
-            _ => None,
+        match self.given(flag) {
+            None => Some(self.with_given(flag, number)),
+            Some(_) => None,
         }
     }
 
-    /// These options and those that the words give, each at most once, or none where the words are
-    /// something else.
-    pub fn and(self, words: &[String]) -> Option<Options>
-        ensures found { IfSome result (Adds self (map string_bytes words.now)) }
-        ensures exact { (options : Options) → Adds self (map string_bytes words.now) options → result ≡ Some options }
+    /// These options and those that the words give, each one of these flags and at most once, or none where
+    /// the words are something else.
+    pub fn and(self, flags: &[Flag], words: &[String]) -> Option<Options>
+        ensures found { IfSome result (Adds flags.now self (map string_bytes words.now)) }
+        ensures exact { (options : Options) → Adds flags.now self (map string_bytes words.now) options → result ≡ Some options }
     {
-        match first_setting(words) {
-            Some(setting) => self.with(setting.flag, setting.value)?.and(setting.rest),
+        match first_setting(flags, words) {
+            Some(setting) => self
+                .with(setting.flag, setting.value)?
+                .and(flags, setting.rest),
             None if words.is_empty() => Some(self),
             None => None,
         }
@@ -76,26 +147,26 @@ struct Setting<'a> {
     rest: &'a [String],
 }
 
-/// The option with which the words begin.
-fn first_setting(words: &[String]) -> Option<Setting<'_>>
-    ensures found { IfSome result (λ setting. BeginWith (map string_bytes words.now) setting.flag setting.value.now (map string_bytes setting.rest.now)) }
-    ensures none { IfNone result ((flag : Flag) (value : List ℕ) (rest : List (List ℕ)) → ¬ BeginWith (map string_bytes words.now) flag value rest) }
+/// The option with which the words begin, one of these.
+fn first_setting<'a>(flags: &[Flag], words: &'a [String]) -> Option<Setting<'a>>
+    ensures found { IfSome result (λ setting. BeginWith flags.now (map string_bytes words.now) setting.flag setting.value.now (map string_bytes setting.rest.now)) }
+    ensures none { IfNone result ((flag : Flag) (value : List ℕ) (rest : List (List ℕ)) → ¬ BeginWith flags.now (map string_bytes words.now) flag value rest) }
 {
     match words {
         [] => None,
-        [first, rest @ ..] => setting_at(first.as_str(), rest),
+        [first, rest @ ..] => setting_at(flags, first.as_str(), rest),
     }
 }
 
 /// The option that this word gives, alone or with the next one.
-fn setting_at<'a>(first: &'a str, rest: &'a [String]) -> Option<Setting<'a>>
-    ensures found { IfSome result (λ setting. BeginWith (first.now ∷ map string_bytes rest.now) setting.flag setting.value.now (map string_bytes setting.rest.now)) }
-    ensures none { IfNone result ((flag : Flag) (value : List ℕ) (words : List (List ℕ)) → ¬ BeginWith (first.now ∷ map string_bytes rest.now) flag value words) }
+fn setting_at<'a>(flags: &[Flag], first: &'a str, rest: &'a [String]) -> Option<Setting<'a>>
+    ensures found { IfSome result (λ setting. BeginWith flags.now (first.now ∷ map string_bytes rest.now) setting.flag setting.value.now (map string_bytes setting.rest.now)) }
+    ensures none { IfNone result ((flag : Flag) (value : List ℕ) (words : List (List ℕ)) → ¬ BeginWith flags.now (first.now ∷ map string_bytes rest.now) flag value words) }
 {
-    if let Some((flag, value)) = one_word(first) {
+    if let Some((flag, value)) = one_word(flags, first) {
         return Some(Setting { flag, value, rest });
     }
-    let flag = flag_named(first)?;
+    let flag = flag_named(flags, first)?;
     match rest {
         [] => None,
         [value, rest @ ..] => Some(Setting {
@@ -106,32 +177,27 @@ fn setting_at<'a>(first: &'a str, rest: &'a [String]) -> Option<Setting<'a>>
     }
 }
 
-/// The option of a name.
-fn flag_named(word: &str) -> Option<Flag>
-    ensures found { IfSome result (λ flag. name_of flag ≡ word.now) }
-    ensures none { IfNone result ((flag : Flag) → name_of flag ≢ word.now) }
+/// The one of these options that has this name.
+fn flag_named(flags: &[Flag], word: &str) -> Option<Flag>
+    ensures found { IfSome result (λ flag. Contains flags.now flag × (name_of flag ≡ word.now)) }
+    ensures none { IfNone result ((flag : Flag) → Contains flags.now flag → name_of flag ≢ word.now) }
 {
-    match word {
-        "--workers" => Some(Flag::Workers),
-        "--order" => Some(Flag::Order),
-        "--number" => Some(Flag::Number),
-        _ => None,
+    for flag in flags {
+        if flag.name() == word {
+            return Some(*flag);
+        }
     }
+    None
 }
 
-/// The option and the text of its value that stand in one word.
-fn one_word(word: &str) -> Option<(Flag, &str)>
-    ensures found { IfSome result (λ setting. joined setting.0 setting.1.now ≡ word.now) }
-    ensures none { IfNone result ((flag : Flag) (value : List ℕ) → joined flag value ≢ word.now) }
+/// The one of these options that stands in a word with its value, and the text of that.
+fn one_word<'a>(flags: &[Flag], word: &'a str) -> Option<(Flag, &'a str)>
+    ensures found { IfSome result (λ setting. Contains flags.now setting.0 × (joined setting.0 setting.1.now ≡ word.now)) }
+    ensures none { IfNone result ((flag : Flag) (value : List ℕ) → Contains flags.now flag → joined flag value ≢ word.now) }
 {
-    if let Some(value) = word.strip_prefix("--workers=") {
-        return Some((Flag::Workers, value));
-    }
-    if let Some(value) = word.strip_prefix("--order=") {
-        return Some((Flag::Order, value));
-    }
-    let value = word.strip_prefix("--number=")?;
-    Some((Flag::Number, value))
+    let (name, value) = word.split_once('=')?;
+    let flag = flag_named(flags, name)?;
+    Some((flag, value))
 }
 
 /// The number that a text is as the value of an option.
@@ -141,7 +207,14 @@ fn value_of(flag: Flag, text: &str) -> Option<u64>
 {
     match flag {
         Flag::Workers => worker_count(text),
-        Flag::Order | Flag::Number => number(text),
+        Flag::Order
+        | Flag::Number
+        | Flag::N
+        | Flag::M
+        | Flag::Skew
+        | Flag::Error
+        | Flag::Rate
+        | Flag::Rounds => number(text),
     }
 }
 

@@ -12,6 +12,10 @@ use Rattle.sift_jobs.specs.declared.run.RunJob.{RunJob}
 use Rattle.sift_jobs.specs.declared.scenario.GenJob.{GenJob}
 use Rattle.sift_jobs.specs.declared.trial.TrialJob.{TrialJob}
 use Rattle.sift_jobs.specs.declared.votes.VotesJob.{VotesJob}
+use Rattle.sift_lab_jobs.specs.Byz.{byz_duty, byz_statuses}
+use Rattle.sift_lab_jobs.specs.Clocks.{clocks_duty, clocks_statuses}
+use Rattle.sift_lab_jobs.specs.declared.byz.ByzJob.{ByzJob}
+use Rattle.sift_lab_jobs.specs.declared.clocks.ClocksJob.{ClocksJob}
 use Rattle.sift_load.specs.NoMission.{no_mission_statuses}
 use Rattle.sift_reply.specs.Duty.{GivesOne, HasOwnStatuses}
 use Rattle.sift_reply.specs.Reply.{done_status}
@@ -26,7 +30,9 @@ module _
     (ideal : (job : IdealJob) → HasOwnStatuses (ideal_duty job) (done_status ∷ no_mission_statuses))
     (check : (job : CheckJob) → HasOwnStatuses (check_duty job) (done_status ∷ no_mission_statuses))
     (scenario : (job : GenJob) → HasOwnStatuses (gen_duty job) (done_status ∷ []))
-    (trial : (job : TrialJob) → HasOwnStatuses (trial_duty job) (done_status ∷ [])) where
+    (trial : (job : TrialJob) → HasOwnStatuses (trial_duty job) (done_status ∷ []))
+    (byz : (job : ByzJob) → HasOwnStatuses (byz_duty job) byz_statuses)
+    (clocks : (job : ClocksJob) → HasOwnStatuses (clocks_duty job) clocks_statuses) where
   -- the statuses of each command are its own
   pub own_statuses : CommandsHaveOwnStatuses
   own_statuses (command.Run job) = run job
@@ -35,11 +41,14 @@ module _
   own_statuses (command.Check job) = check job
   own_statuses (command.Gen job) = scenario job
   own_statuses (command.Trial job) = trial job
+  own_statuses (command.Byz job) = byz job
+  own_statuses (command.Clocks job) = clocks job
 
 module _
     (run : (job : RunJob) → GivesOne (run_duty job)) (votes : (job : VotesJob) → GivesOne (votes_duty job))
     (ideal : (job : IdealJob) → GivesOne (ideal_duty job)) (check : (job : CheckJob) → GivesOne (check_duty job))
-    (scenario : (job : GenJob) → GivesOne (gen_duty job)) (trial : (job : TrialJob) → GivesOne (trial_duty job)) where
+    (scenario : (job : GenJob) → GivesOne (gen_duty job)) (trial : (job : TrialJob) → GivesOne (trial_duty job))
+    (byz : (job : ByzJob) → GivesOne (byz_duty job)) (clocks : (job : ClocksJob) → GivesOne (clocks_duty job)) where
   -- each command gives one reply
   pub gives_one : (one : Command) → GivesOne (duty_of one)
   gives_one (command.Run job) = run job
@@ -48,3 +57,5 @@ module _
   gives_one (command.Check job) = check job
   gives_one (command.Gen job) = scenario job
   gives_one (command.Trial job) = trial job
+  gives_one (command.Byz job) = byz job
+  gives_one (command.Clocks job) = clocks job

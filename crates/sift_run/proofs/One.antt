@@ -3,9 +3,9 @@ use Rattle.std.proofs.Common.{◌≡◌, ℕ, List, [], get_or, drop, Some, cond
 use Rattle.sift_options.specs.Laws.{OneListOfOptions}
 use Rattle.sift_options.specs.Options.{Adds, no_options}
 use Rattle.sift_run.specs.Command.{OneCommand, asked}
-use Rattle.sift_run.specs.Verb.{name_of}
+use Rattle.sift_run.specs.Verb.{flags_of, name_of}
 use Rattle.sift_run.specs.declared.verb.Verb.{Verb}
-use Rattle.sift_run.specs.declared.verb.Verb.TheVariants.{Run, Votes, Ideal, Check, Gen, Trial}
+use Rattle.sift_run.specs.declared.verb.Verb.TheVariants.{Run, Votes, Ideal, Check, Gen, Trial, Byz, Clocks}
 
 -- the verb with a name
 abbrev verb_with : List ℕ → Verb
@@ -14,7 +14,9 @@ verb_with name =
     (cond (bytes_eq name (name_of Ideal)) Ideal
     (cond (bytes_eq name (name_of Check)) Check
     (cond (bytes_eq name (name_of Gen)) Gen
-    (cond (bytes_eq name (name_of Trial)) Trial Run))))
+    (cond (bytes_eq name (name_of Trial)) Trial
+    (cond (bytes_eq name (name_of Byz)) Byz
+    (cond (bytes_eq name (name_of Clocks)) Clocks Run))))))
 
 -- a verb is known by its name
 named : (verb : Verb) → verb_with (name_of verb) ≡ verb
@@ -24,6 +26,8 @@ named Ideal = refl
 named Check = refl
 named Gen = refl
 named Trial = refl
+named Byz = refl
+named Clocks = refl
 
 same_some : {A : Type 0} (x y : A) → Some x ≡ Some y → x ≡ y
 same_some x y e = cc
@@ -33,5 +37,7 @@ one_command one_list words one other a b =
     let e = sym a.words_are ∙ b.words_are in
     let verb : a.verb ≡ b.verb = sym (named a.verb) ∙ (ap (λ (ws : List (List ℕ)). verb_with (get_or ws 0 [])) e ∙ named b.verb) in
     let rest : a.rest ≡ b.rest = ap (drop 1) e in
-    let options = one_list no_options a.options b.options b.rest (subst (λ ws. Adds no_options ws a.options) rest a.gives) b.gives in
+    let adds = subst (λ ws. Adds (flags_of b.verb) no_options ws a.options) rest
+    (subst (λ v. Adds (flags_of v) no_options a.rest a.options) verb a.gives) in
+    let options = one_list (flags_of b.verb) no_options a.options b.options b.rest adds b.gives in
     same_some one other (sym a.asked_is ∙ (ap (λ (v : Verb). asked v a.options) verb ∙ (ap (asked b.verb) options ∙ b.asked_is)))

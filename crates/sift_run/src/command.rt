@@ -6,6 +6,7 @@ ghost use Rattle.sift_run.specs.Command.{asked};
 use crate::verb::Verb;
 use sift_base::NoMemory;
 use sift_jobs::{CheckJob, GenJob, IdealJob, RunJob, TrialJob, VotesJob};
+use sift_lab_jobs::{ByzJob, ClocksJob};
 use sift_options::Options;
 use sift_reply::{Asked, Job, Reply};
 use std::alloc::Global;
@@ -19,6 +20,8 @@ pub enum Command {
     Check(CheckJob),
     Gen(GenJob),
     Trial(TrialJob),
+    Byz(ByzJob),
+    Clocks(ClocksJob),
 }
 
 impl Job for Command {
@@ -34,6 +37,8 @@ impl Job for Command {
             Command::Check(job) => job.limit(),
             Command::Gen(job) => job.limit(),
             Command::Trial(job) => job.limit(),
+            Command::Byz(job) => job.limit(),
+            Command::Clocks(job) => job.limit(),
         }
     }
 
@@ -45,6 +50,8 @@ impl Job for Command {
             Command::Check(job) => job.reply(alloc, bytes),
             Command::Gen(job) => job.reply(alloc, bytes),
             Command::Trial(job) => job.reply(alloc, bytes),
+            Command::Byz(job) => job.reply(alloc, bytes),
+            Command::Clocks(job) => job.reply(alloc, bytes),
         }
     }
 }
@@ -55,23 +62,26 @@ impl Asked for Command {
     ghost asks = { Asks };
 
     fn from_words(words: &[String]) -> Option<Self> {
-        let [verb, rest @ ..] = words else {
+        let [word, rest @ ..] = words else {
             return None;
         };
-        asked(Verb::named(verb.as_str())?, Options::NONE.and(rest)?)
+        let verb = Verb::named(word.as_str())?;
+        asked(verb, Options::NONE.and(verb.flags(), rest)?)
     }
 }
 
-/// What a word and options ask for.
+/// What a verb and its options ask for.
 fn asked(verb: Verb, options: Options) -> Option<Command>
     ensures { result ≡ asked verb options }
 {
     match verb {
-        Verb::Run => RunJob::of(options).map(Command::Run),
-        Verb::Votes => VotesJob::of(options).map(Command::Votes),
-        Verb::Ideal => IdealJob::of(options).map(Command::Ideal),
-        Verb::Check => CheckJob::of(options).map(Command::Check),
+        Verb::Run => Some(Command::Run(RunJob::of(options))),
+        Verb::Votes => Some(Command::Votes(VotesJob::of(options))),
+        Verb::Ideal => Some(Command::Ideal(IdealJob)),
+        Verb::Check => Some(Command::Check(CheckJob)),
         Verb::Gen => GenJob::of(options).map(Command::Gen),
         Verb::Trial => TrialJob::of(options).map(Command::Trial),
+        Verb::Byz => Some(Command::Byz(ByzJob)),
+        Verb::Clocks => ClocksJob::of(options).map(Command::Clocks),
     }
 }

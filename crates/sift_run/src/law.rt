@@ -13,6 +13,9 @@ use sift_jobs::{
     ideal_has_own_statuses, run_gives_one, run_has_own_statuses, run_is_headlined, trial_gives_one,
     trial_has_own_statuses, votes_gives_one, votes_has_own_statuses,
 };
+use sift_lab_jobs::{
+    byz_gives_one, byz_has_own_statuses, clocks_give_one, clocks_have_own_statuses,
+};
 use sift_options::one_list_of_options;
 use sift_reply::statuses_are_explained;
 
@@ -34,6 +37,8 @@ pub fn commands_have_own_statuses()
     check_has_own_statuses();
     gen_has_own_statuses();
     trial_has_own_statuses();
+    byz_has_own_statuses();
+    clocks_have_own_statuses();
 }
 
 /// Each command gives one reply at most to an input: no order of steps shows.
@@ -46,6 +51,8 @@ pub fn commands_give_one()
     check_gives_one();
     gen_gives_one();
     trial_gives_one();
+    byz_gives_one();
+    clocks_give_one();
 }
 
 /// The headline is a consequence of the promise.

@@ -1,8 +1,10 @@
-//! The word of each command.
+//! The word of each command, and its options.
 
 ghost use Rattle.std.specs.Prelude.{◌≡◌, ◌≢◌, IfNone, IfSome};
-ghost use Rattle.sift_run.specs.Verb.{name_of};
+ghost use Rattle.sift_run.specs.Verb.{flags_of, name_of};
 ghost use Rattle.sift_run.specs.declared.verb.Verb.{Verb as Named};
+
+use sift_options::Flag;
 
 /// The word of a command.
 #[derive(Clone, Copy)]
@@ -13,6 +15,8 @@ pub enum Verb {
     Check,
     Gen,
     Trial,
+    Byz,
+    Clocks,
 }
 
 impl Verb {
@@ -28,7 +32,30 @@ impl Verb {
             "check" => Some(Verb::Check),
             "gen" => Some(Verb::Gen),
             "trial" => Some(Verb::Trial),
+            "byz" => Some(Verb::Byz),
+            "clocks" => Some(Verb::Clocks),
             _ => None,
+        }
+    }
+
+    /// The options that it may have.
+    pub fn flags(self) -> &'static [Flag]
+        ensures { result.now ≡ flags_of self }
+    {
+        match self {
+            Verb::Run | Verb::Votes => &[Flag::Workers, Flag::Order],
+            Verb::Ideal | Verb::Check | Verb::Byz => &[],
+            Verb::Gen => &[Flag::Number],
+            Verb::Trial => &[Flag::Workers, Flag::Order, Flag::Number],
+            Verb::Clocks => &[
+                Flag::N,
+                Flag::M,
+                Flag::Skew,
+                Flag::Error,
+                Flag::Rate,
+                Flag::Rounds,
+                Flag::Number,
+            ],
         }
     }
 }

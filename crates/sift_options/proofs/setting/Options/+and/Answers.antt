@@ -9,7 +9,7 @@ use Rattle.sift_options.proofs.setting.Options.+and.Goals as goal
 -- the first option sets nothing, so the words add nothing
 pub returns-in_err-with-in-Some-clause-exact : goal.returns-in_err-with-in-Some-clause-exact
 returns-in_err-with-in-Some-clause-exact n c = λ options adds.
-    let one = begins c.args.self options _ _ _ _ c.in-Some.ensures.found adds in
+    let one = begins c.args.flags.now c.args.self options _ _ _ _ c.in-Some.ensures.found adds in
     absurd (some_or_none _ (c.in_err-with-in-Some.ensures.exact one.after one.sets))
 
 -- the first option is set, and then the rest adds
@@ -19,19 +19,19 @@ returns-in_ok-with-in-Some-clause-found n c =
 
 pub returns-in_ok-with-in-Some-clause-exact : goal.returns-in_ok-with-in-Some-clause-exact
 returns-in_ok-with-in-Some-clause-exact n c = λ options adds.
-    let one = begins c.args.self options _ _ _ _ c.in-Some.ensures.found adds in
+    let one = begins c.args.flags.now c.args.self options _ _ _ _ c.in-Some.ensures.found adds in
     let set = same_some _ _ (c.in_ok-with-in-Some.ensures.exact one.after one.sets) in
-    c.and.ensures.exact options (subst (λ after. Adds after (map (string_bytes {Z = Global}) c.in-Some.setting.rest.now) options) (sym set) one.adds)
+    c.and.ensures.exact options (subst (λ after. Adds c.args.flags.now after (map (string_bytes {Z = Global}) c.in-Some.setting.rest.now) options) (sym set) one.adds)
 
 -- there is no word
 pub returns-in-None-clause-found : goal.returns-in-None-clause-found
 returns-in-None-clause-found n c =
     let empty : length c.args.words.now ≡ 0 = grind (arith, nat_tests, c.is_empty.ensures, c.if-is_empty.true) in
-    subst (λ words. Adds c.args.self words c.args.self) (sym (map-nothing (string_bytes {Z = Global}) c.args.words.now empty)) (none c.args.self)
+    subst (λ words. Adds c.args.flags.now c.args.self words c.args.self) (sym (map-nothing (string_bytes {Z = Global}) c.args.words.now empty)) (none c.args.self)
 
 -- words that begin with no option add nothing
 pub returns-in-None-2-clause-exact : goal.returns-in-None-2-clause-exact
 returns-in-None-2-clause-exact n c = λ options adds.
-    let nothing = adds_nothing c.args.self options _ c.in-None-2.ensures.none adds in
+    let nothing = adds_nothing c.args.flags.now c.args.self options _ c.in-None-2.ensures.none adds in
     let some : 1 ≤ length c.args.words.now = grind (arith, nat_tests, c.is_empty.ensures, c.if-is_empty.false) in
     absurd (map-something (string_bytes {Z = Global}) c.args.words.now some nothing.0)

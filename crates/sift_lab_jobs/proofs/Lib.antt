@@ -1,0 +1,3 @@
+pub mod OneReply
+pub mod Shown
+pub mod Statuses

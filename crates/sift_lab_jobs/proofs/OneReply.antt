@@ -1,0 +1,67 @@
+-- Each command about a laboratory gives one reply.
+use Rattle.std.proofs.Common.{◌≡◌, ◌≢◌, inl, inr, ℕ, ◌+◌, ◌*◌, List, ℤ, sym, ap, ◌∙◌, subst, arith}
+use Rattle.toml.specs.Data.{Members}
+use Rattle.sift_byz.specs.Lawful.{OnePlan, OneRefusal, PlansAreAccepted}
+use Rattle.sift_byz.specs.Plan.{PlanData}
+use Rattle.sift_byz.specs.Text.{text_of}
+use Rattle.sift_byz.specs.declared.stop.ByzStop.TheVariants.{NoMemory, Rule}
+use Rattle.sift_clocklab.specs.Conditions.{IsAdmitted, IsRefused}
+use Rattle.sift_clocklab.specs.Text.{OneTextOfARun}
+use Rattle.sift_load.specs.Mission.{IsDocument}
+use Rattle.sift_reply.specs.Duty.{GivesOne}
+use Rattle.sift_reply.specs.Reply.{Reply, done}
+use Rattle.sift_lab_jobs.specs.Byz.{ByzGivesFor, broken_rule, byz_duty}
+use Rattle.sift_lab_jobs.specs.Clocks.{LabNumbers, clocks_duty, lab_of, run_of}
+use Rattle.sift_lab_jobs.specs.declared.byz.ByzJob.{ByzJob}
+
+-- ---- `byz`
+
+-- a rule that is broken is no want of memory
+no_want : (rule place : ℕ) → Rule rule place ≢ NoMemory
+no_want rule place e = cc
+
+-- one refusal has one line
+one_line : (rule place rule' place' : ℕ) → Rule rule place ≡ Rule rule' place' → broken_rule rule place ≡ broken_rule rule' place'
+one_line rule place rule' place' e = cc
+
+-- a document has one tree
+one_tree : (bytes : List ℕ) (one other : Members) → IsDocument bytes one → IsDocument bytes other → one ≡ other
+one_tree bytes one other reads reads' = cc (reads.1, reads'.1)
+
+module _ (one_plan : OnePlan) (accepted : PlansAreAccepted) (one_refusal : OneRefusal) where
+  -- a document gets one reply
+  for_document : (document : Members) (one other : Reply) → ByzGivesFor document one → ByzGivesFor document other → one ≡ other
+  for_document document one other (inl (plan, states, is)) (inl (plan', states', is')) =
+      is ∙ (ap (λ (p : PlanData). done (text_of p)) (one_plan document plan plan' states states') ∙ sym is')
+  for_document document one other (inl (plan, states, is)) (inr (rule, place, breaks, is')) =
+      absurd (no_want rule place (accepted document plan (Rule rule place) states breaks))
+  for_document document one other (inr (rule, place, breaks, is)) (inl (plan, states, is')) =
+      absurd (no_want rule place (accepted document plan (Rule rule place) states breaks))
+  for_document document one other (inr (rule, place, breaks, is)) (inr (rule', place', breaks', is')) =
+      let same = one_refusal document (Rule rule place) (Rule rule' place') (no_want rule place) (no_want rule' place') breaks breaks' in
+      is ∙ (one_line rule place rule' place' same ∙ sym is')
+
+  -- and so do bytes
+  pub one_byz : (job : ByzJob) → GivesOne (byz_duty job)
+  one_byz job bytes one other (inl (document, read, gives)) (inl (document', read', gives')) =
+      for_document document' one other
+      (subst (λ (tree : Members). ByzGivesFor tree one) (one_tree bytes document document' read read') gives) gives'
+  one_byz job bytes one other (inl (document, read, gives)) (inr (none, is)) = absurd (none document read)
+  one_byz job bytes one other (inr (none, is)) (inl (document, read, gives)) = absurd (none document read)
+  one_byz job bytes one other (inr (none, is)) (inr (none', is')) = is ∙ sym is'
+
+-- ---- `clocks`
+
+-- what is admitted isn't refused
+unrefused : (n m : ℕ) (skew error rate : ℤ) → IsAdmitted n m skew error rate → ¬ IsRefused n m skew error rate
+unrefused n m skew error rate admitted (inl few) = omega (arith, few, admitted.enough)
+unrefused n m skew error rate admitted (inr tight) = omega (arith, tight, admitted.room)
+
+pub one_clocks : OneTextOfARun → (lab : LabNumbers) → GivesOne (clocks_duty lab)
+one_clocks one_text lab bytes one other (inl (text, admitted, tells, is)) (inl (text', admitted', tells', is')) =
+    is ∙ (ap done (one_text (lab_of lab) (run_of lab).offsets text text' tells tells') ∙ sym is')
+one_clocks one_text lab bytes one other (inl (text, admitted, tells, is)) (inr (refused, is')) =
+    absurd (unrefused _ _ _ _ _ admitted refused)
+one_clocks one_text lab bytes one other (inr (refused, is)) (inl (text, admitted, tells, is')) =
+    absurd (unrefused _ _ _ _ _ admitted refused)
+one_clocks one_text lab bytes one other (inr (refused, is)) (inr (refused', is')) = is ∙ sym is'

@@ -1,0 +1,3 @@
+pub mod Byz
+pub mod Clocks
+pub mod Shown
