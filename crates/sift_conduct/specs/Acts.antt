@@ -53,6 +53,16 @@ pub record ActsAre (m : FlownMission) (d : Acts) (us : List ℕ) (u f : ℕ) : T
   pub heard : (k : Slot) (p : ℕ) → is_slot m k ≡ true →
       option_map stamp_and_moment (d.heard f (m.number k) p) ≡ (if calls m us k p u then Some (stamp_of m us f k, heard_at m us f k) else None)
 
+-- what a unit said and heard in the frame that is underway, with its configuration us: each word is one that it says, with its stamp, or one
+-- that it hears, in the subframe in which the slot is heard; and in later frames it said and heard nothing yet
+pub record IsUnderway (m : FlownMission) (d : Acts) (us : List ℕ) (u f : ℕ) : Type 0 where
+  pub said : (k : Slot) (q s : ℕ) (w : Option ℕ) → is_slot m k ≡ true → d.said f (m.number k) q ≡ Some (saying s w) →
+      (calls m us k u q ≡ true) × (s ≡ stamp_of m us f k)
+  pub heard : (k : Slot) (p : ℕ) (act : Hearing) → is_slot m k ≡ true → d.heard f (m.number k) p ≡ Some act →
+      (calls m us k p u ≡ true) × (stamp_and_moment act ≡ (stamp_of m us f k, heard_at m us f k))
+  pub says_nothing : (later : ℕ) (k : Slot) (q : ℕ) → is_slot m k ≡ true → f < later → d.said later (m.number k) q ≡ None
+  pub hears_nothing : (later : ℕ) (k : Slot) (p : ℕ) → is_slot m k ≡ true → f < later → d.heard later (m.number k) p ≡ None
+
 -- what a board has kept where its unit has ended n frames, for any port: of its acts d and its accounts a
 pub record BoardKeeps (m : FlownMission) (u : ℕ) (d : Acts) (a : ℕ → Account) (n : ℕ) : Type 0 where
   pub stamps : StampsAreOfTheirFrames m d

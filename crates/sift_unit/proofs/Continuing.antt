@@ -1,24 +1,35 @@
 -- A board goes on after it has entered, and what its step then came to.
-use Rattle.std.proofs.Common.{◌≡◌, inl, inr, ℕ, ◌+◌, ◌*◌, ◌<◌, ◌≤◌, ◌++◌, List, [], ◌∷◌, true, sym, ap, ◌∙◌, subst, arith}
-use Rattle.std.specs.Prelude.{ℤ}
+use Rattle.std.proofs.Common.{◌≡◌, inl, inr, ℕ, ◌+◌, ◌*◌, ◌<◌, ◌≤◌, ◌++◌, List, [], ◌∷◌, true, refl, sym, ap, ◌∙◌, subst, arith}
+use Rattle.std.specs.Prelude.{ℤ, Some}
 use Rattle.sift_skew.specs.Leading.{OffsetsChangeLittle}
-use Rattle.sift_buffer.specs.Conduct.{with_entered}
+use Rattle.sift_buffer.specs.Conduct.{never, with_entered}
 use Rattle.sift_buffer.specs.Conduct.{Conduct as Acts}
-use Rattle.sift_buffer.specs.Views.{View, view_with_said, view_with_heard, EntersAfterRound}
+use Rattle.sift_buffer.specs.Views.{View, PortMaySay, PortMayHear, view_with_said, view_with_heard, KeepsOwn, EntersAfterRound, FindsBehind, Turns}
 use Rattle.sift_mission.specs.Mission.{FlownMission}
+use Rattle.sift_mission.specs.Slots.{StormsCome}
 use Rattle.sift_conduct.specs.Account.{Account}
 use Rattle.sift_mission.specs.Fits.{Fits}
 use Rattle.sift_unit.specs.Desk.{Desk, is_end, account_now, moved}
 use Rattle.sift_unit.specs.Going.{InRange, Going}
+use Rattle.sift_unit.specs.Keeping.{IsEarly}
 use Rattle.sift_unit.specs.Passing.{Passes, distance, left}
-use Rattle.sift_unit.specs.Stepping.{OneCall, HasMoved, HasLanded, Steps, said, heard, entered}
+use Rattle.sift_unit.specs.Stepping.{OneCall, HasMoved, HasWaited, HasTurned, HasLanded, Steps, said, heard, entered}
 use Rattle.sift_unit.specs.declared.stepped.Stepped.{Stepped}
-use Rattle.sift_unit.specs.declared.stepped.Stepped.TheVariants.{Moved, NotYet, Landed}
+use Rattle.sift_unit.specs.declared.stepped.Stepped.TheVariants.{Moved, NotYet, Turned, Landed}
 use Rattle.sift_unit.proofs.Skipping.{subframe_going}
 use Rattle.sift_unit.proofs.Starting.{end_is}
 use Rattle.sift_unit.proofs.Ending.{frame_going}
 use Rattle.sift_unit.proofs.Found.{AtFrameEnd}
+use Rattle.sift_unit.proofs.Marks.{no_storm}
 use Rattle.sift_unit.proofs.Standing.{next_mul, frame_low}
+
+-- a unit that flew before a round of looks flies
+looks_flying : (v v' : View) → v.conduct.left ≡ never → KeepsOwn v v' → v'.conduct.left ≡ never
+looks_flying v v' flew own = ap (λ (c : Acts). c.left) own.conduct ∙ flew
+
+-- and so it does where it has entered
+enters_flying : (v v' : View) → v.conduct.left ≡ never → EntersAfterRound v v' → v'.conduct.left ≡ never
+enters_flying v v' flew e = ap (λ (z : View). z.conduct.left) e.after ∙ looks_flying v e.before flew e.round.own
 
 module _ (m : FlownMission) (fit : Fits m) (b : Desk) (end : is_end m b ≡ true) where
   -- to the next subframe
@@ -55,12 +66,32 @@ module _ (m : FlownMission) (fit : Fits m) (b : Desk) (end : is_end m b ≡ true
         let up = frame_low m.period b.frame m.frames room in omega arith
 
     -- it has moved, where frames are left
-    pub enter_moves : (v v' : View) → EntersAfterRound v v' → (b'.frame ≡ m.frames → ⊥) → HasMoved m b v b' v'
-    enter_moves v v' e more = record { call = entered e; unfinished = (let most = r'.frame in let ne = more in omega arith); nearer = nearer }
+    pub enter_moves : (v v' : View) → v.conduct.left ≡ never → EntersAfterRound v v' → (b'.frame ≡ m.frames → ⊥) → HasMoved m b v b' v'
+    enter_moves v v' flew e more = record {
+      call = entered e;
+      unfinished = (let most = r'.frame in let ne = more in omega arith);
+      nearer = nearer;
+      flies = enters_flying v v' flew e;
+    }
 
     -- and landed, where none is
-    pub enter_lands : (v v' : View) → EntersAfterRound v v' → b'.frame ≡ m.frames → HasLanded m b v b' v'
-    enter_lands v v' e done = record { ended = done; cause = inr (room, e) }
+    pub enter_lands : (v v' : View) → v.conduct.left ≡ never → EntersAfterRound v v' → StormsCome m → IsEarly m b' → b'.frame ≡ m.frames → HasLanded m b v b' v'
+    enter_lands v v' flew e come early done = record {
+      ended = done;
+      cause = inr (room, e);
+      flies = enters_flying v v' flew e;
+      calm = no_storm m come b' early (omega arith) (m.storm b'.unit) refl;
+    }
+
+    -- and turned, where it has turned in place of entering
+    pub turn_turns : (v v' : View) → v.conduct.left ≡ never → Turns v v' → m.storm b'.unit ≡ Some b'.frame → v'.conduct.progress ≡ never → HasTurned m b v b' v'
+    turn_turns v v' flew turns storm gone = record { storm = storm; number = gone; cause = inr (flew, turns); no_farther = (let n = nearer in omega arith) }
+
+-- a board whose unit waits stays where it stands
+pub waits : (m : FlownMission) (b : Desk) (v : View) (p n : ℕ) (v' : View) → b.frame < m.frames → v.conduct.left ≡ never → FindsBehind v p n v' →
+    HasWaited m b v p n b v'
+waits m b v p n v' room flew found =
+    record { behind = found; frame = refl; subframe = refl; unfinished = room; no_farther = omega arith; flies = looks_flying v v' flew found.own }
 
 -- ---- a step from a place before
 
@@ -71,30 +102,44 @@ module _ (m : FlownMission) (b b1 b' : Desk) (v v' : View) (p : Passes m b b1) (
 
   -- one call is the same call
   call_from : OneCall b1 v b' v' → OneCall b v b' v'
-  call_from (said k q s w ev es ef) = said k q s w (subst (λ f. v' ≡ view_with_said v f k q s w) p.frame ev) (es ∙ p.subframe) (ef ∙ p.frame)
-  call_from (heard k q s w ev es ef) = heard k q s w (subst (λ f. v' ≡ view_with_heard v f k q s w) p.frame ev) (es ∙ p.subframe) (ef ∙ p.frame)
+  call_from (said k q s w may ev es ef) = said k q s w (subst (λ f. PortMaySay v q k f s) p.frame may) (subst (λ f. v' ≡ view_with_said v f k q s w) p.frame ev)
+      (es ∙ p.subframe) (ef ∙ p.frame)
+  call_from (heard k q s w may ev es ef) = heard k q s w (subst (λ f. PortMayHear v q k f s) p.frame may) (subst (λ f. v' ≡ view_with_heard v f k q s w) p.frame ev)
+      (es ∙ p.subframe) (ef ∙ p.frame)
   call_from (entered e) = entered e
 
   pub moves_from : HasMoved m b1 v b' v' → HasMoved m b v b' v'
-  moves_from h = record { call = call_from h.call; unfinished = h.unfinished; nearer = (let n = no_farther in let x = h.nearer in omega arith) }
+  moves_from h = record { call = call_from h.call; unfinished = h.unfinished; nearer = (let n = no_farther in let x = h.nearer in omega arith); flies = h.flies }
 
   -- what it came to is the same
-  pub steps_from : (st : Stepped) (S : ℕ → ℕ → Type 0) → b1.frame < m.frames → Steps m b1 v st b' v' S → Steps m b v st b' v' S
-  steps_from Moved S room h = moves_from h
-  steps_from (NotYet u n) S room h = (
+  pub steps_from : (st : Stepped) (S : ℕ → ℕ → Type 0) → b1.frame < m.frames → (v.conduct.progress ≡ never → ⊥) → Steps m b1 v st b' v' S → Steps m b v st b' v' S
+  steps_from Moved S room aloft h = moves_from h
+  steps_from (NotYet u n) S room aloft h = (
     record {
       behind = h.0.behind;
       frame = h.0.frame ∙ p.frame;
       subframe = h.0.subframe ∙ p.subframe;
       unfinished = (let f = p.frame in omega arith);
       no_farther = (let n = no_farther in let x = h.0.no_farther in omega arith);
+      flies = h.0.flies;
     },
     h.1,
   )
-  steps_from Landed S room h = record {
+  steps_from Turned S room aloft h = record {
+    storm = h.storm;
+    number = h.number;
+    cause = elim h.cause [
+      | inl same ↦ absurd (aloft (ap (λ (z : View). z.conduct.progress) (sym same.1) ∙ h.number))
+      | inr e ↦ inr e
+    ];
+    no_farther = (let n = no_farther in let x = h.no_farther in omega arith);
+  }
+  steps_from Landed S room aloft h = record {
     ended = h.ended;
     cause = elim h.cause [
       | inl same ↦ absurd (let e = ap (λ (z : Desk). z.frame) same.0 in let done = h.ended in omega arith)
       | inr e ↦ inr ((let f = p.frame in let low = e.0 in omega arith), e.1)
     ];
+    flies = h.flies;
+    calm = h.calm;
   }

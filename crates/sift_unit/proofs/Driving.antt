@@ -1,10 +1,10 @@
 -- A board on its port, call by call.
-use Rattle.std.proofs.Common.{◌≡◌, ℕ, ◌+◌, ◌*◌, ◌<◌, ◌≤◌, true, Option, refl, sym, ap, ◌∙◌, subst, arith}
+use Rattle.std.proofs.Common.{◌≡◌, inl, ℕ, ◌+◌, ◌*◌, ◌<◌, ◌≤◌, true, false, Option, Some, refl, sym, ap, ◌∙◌, subst, arith}
 use Rattle.std.specs.Prelude.{slice_set}
-use Rattle.std.specs.Vec.{vec_capacity}
+use Rattle.sift_buffer.specs.Conduct.{never, last_progress}
 use Rattle.sift_buffer.specs.Conduct.{Conduct as Acts}
-use Rattle.sift_buffer.specs.Conditions.{MaySay, MayHear}
-use Rattle.sift_buffer.specs.Views.{View, view_with_said, view_with_heard, KeepsOwn, EntersAfterRound}
+use Rattle.sift_buffer.specs.Conditions.{MaySay, MayHear, MayEnter, MayTurn}
+use Rattle.sift_buffer.specs.Views.{View, view_with_said, view_with_heard, view_with_entered, view_with_turned, KeepsOwn, EntersAfterRound, Turns, at_once, after_round}
 use Rattle.sift_mission.specs.Mission.{FlownMission}
 use Rattle.sift_mission.specs.Fits.{Fits}
 use Rattle.sift_unit.specs.Tidings.{word_to}
@@ -12,11 +12,14 @@ use Rattle.sift_unit.specs.Desk.{Desk, is_hearing, is_saying}
 use Rattle.sift_unit.specs.Going.{Going}
 use Rattle.sift_unit.specs.Passing.{Passes}
 use Rattle.sift_unit.specs.Stepping.{HasMoved, said, heard}
-use Rattle.sift_unit.specs.Boards.{desk_of, IsPortOf, Drives, GoesOn}
+use Rattle.sift_unit.specs.Keeping.{KeepsAs, IsEarly}
+use Rattle.sift_unit.specs.Boards.{desk_of, IsPortOf, Drives, IsSameBoard, GoesOn, TurnsNext, BeginsNext}
 use Rattle.sift_unit.specs.declared.board.Board.{Board as TheBoard}
 use Rattle.sift_unit.proofs.Hearing.{hearing_is, hear_going}
 use Rattle.sift_unit.proofs.Saying.{saying_is, say_going}
 use Rattle.sift_unit.proofs.Asking.{may_hear, may_say}
+use Rattle.sift_unit.proofs.Starting.{turned_on, turn_first_law}
+use Rattle.sift_unit.proofs.Marks.{range_as, flying_as, early_flies, early_same, early_before, at_first, first_progress, below_last, FliesOn}
 
 -- what a unit has seen is nothing that its board knows of
 pub seen_going : (m : FlownMission) (b : Desk) (c : Acts) (s : ℕ → ℕ) → Going m b c → Going m b (record c { seen = s })
@@ -36,42 +39,124 @@ seen_going m b c s g = record {
       };
 }
 
--- a round of looks leaves a board what it was
-pub looks_drive : (m : FlownMission) (b : TheBoard) (v v' : View) → Drives m b v → KeepsOwn v v' → Drives m b v'
-looks_drive m b v v' d own = record {
+-- a round of looks leaves what holds of a board
+looks_going : (m : FlownMission) (b : Desk) (v v' : View) → KeepsOwn v v' → Going m b v.conduct → Going m b v'.conduct
+looks_going m b v v' own g = subst (λ c. Going m b c) (sym own.conduct) (seen_going m b v.conduct v'.conduct.seen g)
+
+-- what a unit was before it turned, but for what it had seen
+pub record TurnsFrom (v v' : View) : Type 0 where
+  pub before : View
+  pub own : KeepsOwn v before
+  pub after : v' ≡ view_with_turned before
+
+turns_from : (v v' : View) → Turns v v' → TurnsFrom v v'
+turns_from v v' (at_once zero e) = record { before = v; own = record { ranges = refl; unit = refl; conduct = refl; looks = omega arith }; after = e }
+turns_from v v' (after_round before low none e) = record { before = before; own = none.own; after = e }
+
+-- a board is the same as itself
+same_itself : (b : TheBoard) → IsSameBoard b b
+same_itself b = record { unit = refl; frames = refl; storm = refl; turned = refl }
+
+-- a board drives further on that keeps to its conduct there, with whatever mark
+drives_on : (m : FlownMission) (b b' : TheBoard) (v v' : View) → Drives m b v → b'.unit ≡ b.unit → b'.frames ≡ b.frames → b'.storm ≡ b.storm →
+    v'.unit ≡ v.unit → v'.ranges ≡ v.ranges → KeepsAs m b'.turned (desk_of b') v'.conduct → Drives m b' v'
+drives_on m b b' v v' d unit frames storm same_unit same_ranges keeps = record {
   fits = d.fits;
-  unit = own.unit ∙ d.unit;
-  ranges = subst (λ r. IsPortOf m r) (sym own.ranges) d.ranges;
-  still = d.still;
-  room = d.room;
-  going = subst (λ c. Going m (desk_of b) c) (sym own.conduct) (seen_going m (desk_of b) v.conduct v'.conduct.seen d.going);
+  storms = d.storms;
+  unit = same_unit ∙ d.unit ∙ sym unit;
+  ranges = subst (λ r. IsPortOf m r) (sym same_ranges) d.ranges;
+  frames = frames ∙ d.frames;
+  storm = storm ∙ d.storm ∙ ap m.storm (sym unit);
+  keeps = keeps;
 }
 
--- a board that goes on after a round of looks has entered the next subframe
-pub enter_drives : (m : FlownMission) (b b' : TheBoard) (v v' : View) → Drives m b v → GoesOn m b b' → EntersAfterRound v v' → Drives m b' v'
-enter_drives m b b' v v' d on e =
-    let d1 = looks_drive m b v e.before d e.round.own in
-    subst (λ z. Drives m b' z) (sym e.after) (record {
-      fits = d1.fits;
-      unit = d1.unit ∙ sym on.unit;
-      ranges = d1.ranges;
-      still = ap m.storm on.unit ∙ d1.still;
-      room = on.room;
-      going = on.going e.before.conduct d1.going;
-    })
+module _ (m : FlownMission) (b : TheBoard) (v : View) (d : Drives m b v) (early : IsEarly m (desk_of b)) where
+  -- a board before its storm flies
+  pub flies_here : FliesOn m b.turned (desk_of b) v.conduct
+  flies_here = early_flies m b.turned (desk_of b) v.conduct d.keeps early
 
-module _ (m : FlownMission) (fit : Fits m) (b : TheBoard) (v : View) (d : Drives m b v) (low : b.frame < m.frames) where
+  -- it may try to enter
+  pub may_enter_at : b.frame < m.frames → MayEnter v.conduct
+  may_enter_at low = record { flies = flies_here.going.left; below = below_last m d.fits (desk_of b) v.conduct flies_here.going low }
+
+  -- what flies on before its storm drives on
+  flies_on : (b' : TheBoard) (v' : View) → IsSameBoard b b' → IsEarly m (desk_of b') → v'.unit ≡ v.unit → v'.ranges ≡ v.ranges →
+      Going m (desk_of b') v'.conduct → Drives m b' v'
+  flies_on b' v' same early' unit ranges going = drives_on m b b' v v' d same.unit same.frames same.storm unit ranges
+      (flying_as m b'.turned (desk_of b') v'.conduct (same.turned ∙ flies_here.mark) (record { before = λ from storm. inl (early' from storm); going = going }))
+
+  -- a round of looks leaves it what it was
+  pub looks_drive : (v' : View) → KeepsOwn v v' → Drives m b v'
+  looks_drive v' own = flies_on b v' (same_itself b) early own.unit own.ranges (looks_going m (desk_of b) v v' own flies_here.going)
+
+  -- a board that has passed places drives on
+  pub pass_drives : (b' : TheBoard) → Passes m (desk_of b) (desk_of b') → IsSameBoard b b' → Drives m b' v
+  pass_drives b' p same = flies_on b' v same (early_same m (desk_of b) (desk_of b') p.unit p.frame early) refl refl (p.going v.conduct flies_here.going)
+
+  -- one that goes on after a round of looks, and not into its storm, has entered the next subframe
+  pub enter_drives : (b' : TheBoard) (v' : View) → GoesOn m b b' → IsEarly m (desk_of b') → EntersAfterRound v v' → Drives m b' v'
+  enter_drives b' v' on early' e =
+      let own = e.round.own in
+      subst (λ z. Drives m b' z) (sym e.after) (flies_on b' (view_with_entered e.before) on.same early' own.unit own.ranges
+      (on.going e.before.conduct (looks_going m (desk_of b) v e.before own flies_here.going)))
+
+  -- and one that turns in its place has turned
+  pub turn_drives : (b' : TheBoard) (v' : View) → GoesOn m b b' → BeginsNext b b' → TurnsNext m b → Turns v v' →
+      Drives m (record b' { turned = true }) v'
+  turn_drives b' v' on begins next turns =
+      let t = turns_from v v' turns in
+      let g = looks_going m (desk_of b) v t.before t.own flies_here.going in
+      let from : m.storm b'.unit ≡ Some b'.frame = ap m.storm on.same.unit ∙ sym d.storm ∙ next.1 ∙ ap Some (sym begins.0) in
+      subst (λ z. Drives m (record b' { turned = true }) z) (sym t.after) (drives_on m b (record b' { turned = true }) v (view_with_turned t.before) d
+      on.same.unit on.same.frames on.same.storm t.own.unit t.own.ranges
+      (turned_on m (desk_of b') t.before.conduct g.left (on.going t.before.conduct g) from begins.1))
+
+-- a board whose unit turns next is before its storm
+pub early_next : (m : FlownMission) (b : TheBoard) (v : View) → Drives m b v → TurnsNext m b → IsEarly m (desk_of b)
+early_next m b v d next = early_before m (desk_of b) (sym d.storm ∙ next.1)
+
+-- and a frame is left
+pub room_next : (m : FlownMission) (b : TheBoard) (v : View) → Drives m b v → TurnsNext m b → b.frame < m.frames
+room_next m b v d next = let come = d.storms b.unit (b.frame + 1) (sym d.storm ∙ next.1) in omega arith
+
+-- a unit that is stray from frame 0 on turns before anything else
+module _ (m : FlownMission) (b : TheBoard) (v : View) (d : Drives m b v) (whole : b.turned ≡ false) (storm : b.storm ≡ Some b.frame) where
+  -- it has done nothing
+  stray_at : m.storm b.unit ≡ Some b.frame
+  stray_at = sym d.storm ∙ storm
+
+  -- so it may turn, and has no progress
+  pub may_turn_first : MayTurn v.conduct
+  may_turn_first = (at_first m b.turned (desk_of b) v.conduct d.keeps whole stray_at).going.left
+
+  pub nothing_yet : v.conduct.progress ≡ 0
+  nothing_yet = first_progress m (desk_of b) v.conduct (at_first m b.turned (desk_of b) v.conduct d.keeps whole stray_at)
+
+  -- and then has turned
+  pub turn_first_drives : (v' : View) → Turns v v' → Drives m (record b { turned = true }) v'
+  turn_first_drives v' turns =
+      let t = turns_from v v' turns in
+      let at = at_first m b.turned (desk_of b) v.conduct d.keeps whole stray_at in
+      subst (λ z. Drives m (record b { turned = true }) z) (sym t.after) (drives_on m b (record b { turned = true }) v (view_with_turned t.before) d
+      refl refl refl t.own.unit t.own.ranges
+      (turn_first_law m (desk_of b) t.before.conduct (looks_going m (desk_of b) v t.before t.own at.going) (stray_at ∙ ap Some at.frame) at.frame at.start))
+
+module _ (m : FlownMission) (fit : Fits m) (b : TheBoard) (v : View) (d : Drives m b v) (early : IsEarly m (desk_of b)) (low : b.frame < m.frames) where
+  -- the board flies
+  going_here : Going m (desk_of b) v.conduct
+  going_here = (flies_here m b v d early).going
+
   -- the stamp of the slot at which the board stands
   abbrev pub stamp_here : ℕ
   stamp_here = b.frame * m.period + m.due b.cfg (m.kind b.slot) + 1
 
   -- it may hear there
   pub may_hear_at : is_hearing m (desk_of b) ≡ true → (p s : ℕ) → p ≡ b.other → s ≡ stamp_here → MayHear v.ranges v.conduct v.unit p b.slot b.frame s
-  may_hear_at e p s ep es = rw (d.unit, ep, es) (may_hear m fit v.ranges d.ranges (desk_of b) v.conduct d.going low (hearing_is m fit (desk_of b) e))
+  may_hear_at e p s ep es = rw (d.unit, ep, es) (may_hear m fit v.ranges d.ranges (desk_of b) v.conduct going_here low (hearing_is m fit (desk_of b) e))
 
   -- it may say there
   pub may_say_at : is_saying m (desk_of b) ≡ true → (q s : ℕ) → q ≡ b.other → s ≡ stamp_here → MaySay v.ranges v.conduct v.unit q b.slot b.frame s
-  may_say_at e q s eq es = rw (d.unit, eq, es) (may_say m fit v.ranges d.ranges (desk_of b) v.conduct d.going low (saying_is m fit (desk_of b) e))
+  may_say_at e q s eq es = rw (d.unit, eq, es) (may_say m fit v.ranges d.ranges (desk_of b) v.conduct going_here low (saying_is m fit (desk_of b) e))
 
   -- the board that has heard a word
   abbrev pub heard_board : ℕ → Option ℕ → TheBoard
@@ -84,47 +169,36 @@ module _ (m : FlownMission) (fit : Fits m) (b : TheBoard) (v : View) (d : Drives
   -- it drives on
   pub hear_drives : is_hearing m (desk_of b) ≡ true → (i p s : ℕ) (w : Option ℕ) (v' : View) → i ≡ b.other → p ≡ b.other → s ≡ stamp_here →
       v' ≡ view_with_heard v b.frame b.slot p s w → Drives m (heard_board i w) v'
-  hear_drives e i p s w v' ei ep es ev = subst (λ z. Drives m (heard_board i w) z) (sym ev) (record {
-    fits = d.fits;
-    unit = d.unit;
-    ranges = d.ranges;
-    still = d.still;
-    room = d.room;
-    going = rw (ei, ep) (hear_going m fit (desk_of b) v.conduct s w d.going (hearing_is m fit (desk_of b) e) es);
-  })
+  hear_drives e i p s w v' ei ep es ev = subst (λ z. Drives m (heard_board i w) z) (sym ev)
+      (flies_on m b v d early (heard_board i w) (view_with_heard v b.frame b.slot p s w) (record { unit = refl; frames = refl; storm = refl; turned = refl }) early refl refl
+      (rw (ei, ep) (hear_going m fit (desk_of b) v.conduct s w going_here (hearing_is m fit (desk_of b) e) es)))
 
   pub say_drives : is_saying m (desk_of b) ≡ true → (q s : ℕ) (w : Option ℕ) (v' : View) → q ≡ b.other → s ≡ stamp_here →
       w ≡ word_to m b.cfg b.unit b.frame b.clk (desk_of b).memory (m.kind b.slot) q → v' ≡ view_with_said v b.frame b.slot q s w → Drives m said_board v'
-  say_drives e q s w v' eq es ew ev = subst (λ z. Drives m said_board z) (sym ev) (record {
-    fits = d.fits;
-    unit = d.unit;
-    ranges = d.ranges;
-    still = d.still;
-    room = d.room;
-    going = rw eq (say_going m fit (desk_of b) v.conduct s w d.going (saying_is m fit (desk_of b) e) es
-        (subst (λ z. w ≡ word_to m b.cfg b.unit b.frame b.clk (desk_of b).memory (m.kind b.slot) z) eq ew));
-  })
+  say_drives e q s w v' eq es ew ev = subst (λ z. Drives m said_board z) (sym ev)
+      (flies_on m b v d early said_board (view_with_said v b.frame b.slot q s w) (record { unit = refl; frames = refl; storm = refl; turned = refl }) early refl refl
+      (rw eq (say_going m fit (desk_of b) v.conduct s w going_here (saying_is m fit (desk_of b) e) es
+      (subst (λ z. w ≡ word_to m b.cfg b.unit b.frame b.clk (desk_of b).memory (m.kind b.slot) z) eq ew))))
 
   -- and has moved
-  pub hear_moves : is_hearing m (desk_of b) ≡ true → (i p s : ℕ) (w : Option ℕ) (v' : View) → v' ≡ view_with_heard v b.frame b.slot p s w →
-      HasMoved m (desk_of b) v (desk_of (heard_board i w)) v'
-  hear_moves e i p s w v' ev =
-      let at = hearing_is m fit (desk_of b) e in let r = d.going.range in let few = fit.numbered.few in let part = at.part in let slot = at.slot in let other = r.other in
-      record { call = heard b.slot p s w ev refl refl; unfinished = low; nearer = omega arith }
+  pub hear_moves : is_hearing m (desk_of b) ≡ true → (i p s : ℕ) (w : Option ℕ) (v' : View) → p ≡ b.other → s ≡ stamp_here →
+      v' ≡ view_with_heard v b.frame b.slot p s w → HasMoved m (desk_of b) v (desk_of (heard_board i w)) v'
+  hear_moves e i p s w v' ep es ev =
+      let at = hearing_is m fit (desk_of b) e in let r = going_here.range in let few = fit.numbered.few in let part = at.part in let slot = at.slot in let other = r.other in
+      record {
+        call = heard b.slot p s w (may_hear_at e p s ep es) ev refl refl;
+        unfinished = low;
+        nearer = omega arith;
+        flies = ap (λ (z : View). z.conduct.left) ev ∙ going_here.left;
+      }
 
-  pub say_moves : is_saying m (desk_of b) ≡ true → (q s : ℕ) (w : Option ℕ) (v' : View) → v' ≡ view_with_said v b.frame b.slot q s w →
-      HasMoved m (desk_of b) v (desk_of said_board) v'
-  say_moves e q s w v' ev =
-      let at = saying_is m fit (desk_of b) e in let r = d.going.range in let few = fit.numbered.few in let part = at.part in let slot = at.slot in let other = r.other in
-      record { call = said b.slot q s w ev refl refl; unfinished = low; nearer = omega arith }
-
--- a board that has passed places drives on
-pub pass_drives : (m : FlownMission) (b b' : TheBoard) (v : View) → Drives m b v → Passes m (desk_of b) (desk_of b') → b'.accounts ≡ b.accounts → Drives m b' v
-pass_drives m b b' v d p same = record {
-  fits = d.fits;
-  unit = d.unit ∙ sym p.unit;
-  ranges = d.ranges;
-  still = ap m.storm p.unit ∙ d.still;
-  room = subst (λ z. m.frames ≤ vec_capacity z) (sym same) d.room;
-  going = p.going v.conduct d.going;
-}
+  pub say_moves : is_saying m (desk_of b) ≡ true → (q s : ℕ) (w : Option ℕ) (v' : View) → q ≡ b.other → s ≡ stamp_here →
+      v' ≡ view_with_said v b.frame b.slot q s w → HasMoved m (desk_of b) v (desk_of said_board) v'
+  say_moves e q s w v' eq es ev =
+      let at = saying_is m fit (desk_of b) e in let r = going_here.range in let few = fit.numbered.few in let part = at.part in let slot = at.slot in let other = r.other in
+      record {
+        call = said b.slot q s w (may_say_at e q s eq es) ev refl refl;
+        unfinished = low;
+        nearer = omega arith;
+        flies = ap (λ (z : View). z.conduct.left) ev ∙ going_here.left;
+      }

@@ -8,14 +8,15 @@ use Rattle.sift_buffer.specs.Conduct.{Conduct as Acts}
 use Rattle.sift_mission.specs.Mission.{FlownMission}
 use Rattle.sift_mission.specs.Slots.{is_slot, calls, stamp_of, heard_at}
 use Rattle.sift_conduct.specs.Frames.{FrameConduct, Flies}
-use Rattle.sift_conduct.specs.Acts.{word_in_saying, word_in_hearing, said_places, heard_places, StampsAreOfTheirFrames, Turns, stamp_and_moment, ActsAre, BoardKeeps}
+use Rattle.sift_conduct.specs.Account.{Account}
+use Rattle.sift_conduct.specs.Acts.{word_in_saying, word_in_hearing, said_places, heard_places, StampsAreOfTheirFrames, Turns, stamp_and_moment, ActsAre, IsUnderway, BoardKeeps}
 use Rattle.sift_mission.specs.Fits.{Fits}
 use Rattle.sift_unit.specs.Desk.{Desk, cursor, hear_spot, say_spot, is_past, accounts_of}
 use Rattle.sift_unit.specs.Going.{word_in_frame, Meets, Going}
 use Rattle.sift_unit.proofs.Tests.{some_none, choice_past, choice_none, not_both}
 use Rattle.sift_unit.proofs.Calls.{call_of}
 use Rattle.sift_unit.proofs.Past.{past_before, not_past_after, not_past_yet}
-use Rattle.sift_unit.proofs.Standing.{stands, config_at}
+use Rattle.sift_unit.proofs.Standing.{stands, config_at, at_frame, now_cfg}
 
 -- a word that was said by two tests has the stamp of the choice, and both tests pass
 pub record Chosen (t p : Bool) (s s' : ℕ) : Type 0 where
@@ -47,6 +48,12 @@ no_stamp (Some x) e = absurd (some_none e)
 
 some_same : {A : Type 0} {x y : A} → Some x ≡ Some y → x ≡ y
 some_same e = cc
+
+-- what was heard by two tests is what the choice says, and the first test passes
+heard_by_both : (t p : Bool) (x y : ℕ × ℕ) → (if t && p then Some x else None) ≡ Some y → (t ≡ true) × (y ≡ x)
+heard_by_both true true x y e = (refl, sym (some_same e))
+heard_by_both true false x y e = absurd (some_none (sym e))
+heard_by_both false p x y e = absurd (some_none (sym e))
 
 module _ (m : FlownMission) (fit : Fits m) (b : Desk) (c : Acts) (g : Going m b c) where
   -- the accounts and words as they stand meet the equations
@@ -117,6 +124,27 @@ module _ (m : FlownMission) (fit : Fits m) (b : Desk) (c : Acts) (g : Going m b 
   pub unheard : (f : ℕ) (k : Slot) (p : ℕ) → is_slot m k ≡ true → IsToCome f → c.heard f (m.number k) p ≡ None
   unheard f k p slot late = no_stamp _ (meets.acts.heard f k p slot
       ∙ choice_none {A = ℕ × ℕ} (calls m (accounts_of m b f).cfg k p b.unit) _ _ (not_past f (hear_spot m (accounts_of m b f).cfg k p) late))
+
+  -- the acts of the frame that is underway
+  pub underway : IsUnderway m c b.cfg b.unit b.frame
+  underway =
+      let us = (accounts_of m b b.frame).cfg in
+      let mine : us ≡ b.cfg = ap (λ (z : Account). z.cfg) (at_frame m b) ∙ now_cfg m b in
+      record {
+        said = λ k q s w slot e. let t = chosen b.frame k q s w slot e in (
+          subst (λ z. calls m z k b.unit q ≡ true) mine t.called,
+          subst (λ z. s ≡ stamp_of m z b.frame k) mine t.stamp,
+        );
+        heard = λ k p act slot e.
+            let t = heard_by_both (calls m us k p b.unit) (is_past b.frame (cursor b) b.frame (hear_spot m us k p))
+            (stamp_of m us b.frame k, heard_at m us b.frame k) (stamp_and_moment act)
+            (sym (meets.acts.heard b.frame k p slot) ∙ ap (λ x. option_map stamp_and_moment x) e) in (
+              subst (λ z. calls m z k p b.unit ≡ true) mine t.0,
+              subst (λ z. stamp_and_moment act ≡ (stamp_of m z b.frame k, heard_at m z b.frame k)) mine t.1,
+            );
+        says_nothing = λ later k q slot low. unsaid later k q slot (inl low);
+        hears_nothing = λ later k p slot low. unheard later k p slot (inl low);
+      }
 
   -- the conduct of a frame that has ended
   conduct : (f : ℕ) → f < b.frame → FrameConduct m b.unit (accounts_of m b) (heard_places m c) (said_places m c) f

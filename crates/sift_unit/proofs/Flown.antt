@@ -1,9 +1,13 @@
 -- Boards from their first step on.
-use Rattle.std.proofs.Common.{◌≡◌, ℕ, ◌+◌, ◌<◌, ◌≤◌, inl, length, sym, ap, ◌∙◌, subst, arith}
+use Rattle.std.proofs.Common.{◌≡◌, ℕ, ◌+◌, ◌*◌, ◌<◌, ◌≤◌, length, Bool, true, false, Some, sym, ap, ◌∙◌, subst, arith}
 use Rattle.std.specs.Prelude.{slice_index_or}
+use Rattle.sift_buffer.specs.Conduct.{never}
+use Rattle.sift_buffer.specs.Conduct.{Conduct as Acts}
+use Rattle.sift_mission.specs.Fits.{Fits}
+use Rattle.sift_mission.specs.Mission.{FlownMission}
 use Rattle.std.proofs.lemmas.List.{length-map}
 use Rattle.sift_unit.specs.Desk.{Desk}
-use Rattle.sift_unit.specs.Going.{Going}
+use Rattle.sift_unit.specs.Keeping.{Flying, KeepsAs}
 use Rattle.sift_conduct.specs.Account.{Account, account_of}
 use Rattle.sift_unit.specs.Reach.{IsNearIn}
 use Rattle.sift_unit.specs.Boards.{desk_of, account_at, memory_of, NewBoardLaw, DriveLaw, AccountLaw}
@@ -11,30 +15,48 @@ use Rattle.sift_conduct.specs.declared.account.Account.{Account as TheAccount}
 use Rattle.sift_mission.proofs.ByWords.{get_or-map}
 use Rattle.sift_unit.proofs.Nearness.{near_enough}
 use Rattle.sift_unit.proofs.Standing.{stands}
-use Rattle.sift_unit.proofs.Tests.{some_none}
-use Rattle.sift_unit.proofs.Starting.{start_going}
-use Rattle.sift_unit.proofs.Turning.{keep_law}
+use Rattle.sift_unit.proofs.Marks.{kept_as, range_as, flying_as, not_never, at_end, end_not_never}
+use Rattle.sift_unit.proofs.Starting.{start_flying}
+use Rattle.sift_unit.proofs.Turning.{keep_law, kept_underway}
 
 -- a new board may step
 pub new_board_law : NewBoardLaw
-new_board_law m u b v unit still new ev of fresh = record {
-  fits = new.fits;
-  unit = ev ∙ sym (ap (λ (z : Desk). z.unit) new.desk);
-  ranges = of;
-  still = ap m.storm (ap (λ (z : Desk). z.unit) new.desk) ∙ still;
-  room = new.room;
-  going = subst (λ z. Going m z v.conduct) (sym new.desk) (start_going m u b.places (memory_of b.memory) v.conduct new.fits unit new.places new.shape fresh);
-}
+new_board_law m u b v unit new ev of fresh =
+    let mine : b.unit ≡ u = ap (λ (z : Desk). z.unit) new.desk in
+    record {
+      fits = new.fits;
+      storms = new.storms;
+      unit = ev ∙ sym mine;
+      ranges = of;
+      frames = new.frames;
+      storm = new.storm ∙ ap m.storm (sym mine);
+      keeps = flying_as m b.turned (desk_of b) v.conduct new.turned (subst (λ z. Flying m z v.conduct) (sym new.desk)
+          (start_flying m u b.places (memory_of b.memory) v.conduct new.fits unit new.places new.shape fresh));
+    }
 
--- a board that has stepped guarantees its acts and accounts
+-- a board that has stepped has kept to its conduct
 pub drive_law : DriveLaw
-drive_law m b v d = keep_law m (desk_of b) v.conduct b.frame d.fits
-    (inl (record { before = λ from storm. absurd (some_none (sym storm ∙ d.still)); going = d.going })) (inl (omega arith))
+drive_law m b v d =
+    let keeps = kept_as m b.turned (desk_of b) v.conduct d.keeps in
+    record {
+      ended = λ n far. keep_law m (desk_of b) v.conduct n d.fits keeps far;
+      underway = kept_underway m d.fits (desk_of b) v.conduct keeps;
+    }
+
+-- what its count of frames is, by its unit's number
+record Counted (m : FlownMission) (b : Desk) (c : Acts) : Type 0 where
+  landed : c.progress ≡ m.frames * m.period → b.frame ≡ m.frames
+  turned : c.progress ≡ never → m.storm b.unit ≡ Some b.frame
+
+counted : (m : FlownMission) → Fits m → (turned : Bool) (b : Desk) (c : Acts) → KeepsAs m turned b c → Counted m b c
+counted m fit true b c k = record { landed = λ end. absurd (end_not_never m fit (sym k.progress ∙ end)); turned = λ gone. k.storm }
+counted m fit false b c k = record { landed = at_end m fit b c k.going; turned = λ gone. absurd (not_never m fit b c k.going gone) }
 
 -- a board that has stepped has its accounts
 pub account_law : AccountLaw
 account_law m b v d =
-    let r = d.going.range in
+    let r = range_as m b.turned (desk_of b) v.conduct d.keeps in
+    let counts = counted m d.fits b.turned (desk_of b) v.conduct d.keeps in
     let count : length b.accounts.items ≡ b.frame = sym (length-map b.accounts.items account_of) ∙ r.count in
     let read : (f : ℕ) (a : TheAccount) → slice_index_or (desk_of b).accounts f (account_of a) ≡ account_of (account_at b f a)
     = λ f a. get_or-map account_of b.accounts.items f a in
@@ -43,6 +65,8 @@ account_law m b v d =
     record {
       frames = r.frame;
       count = count;
+      landed = λ end. count ∙ counts.landed end;
+      turned = λ gone. counts.turned gone ∙ ap Some (sym count);
       each = λ f a below.
           sym (read f a) ∙ sym ((stands m (desk_of b) v.conduct r).accounts f (account_of a) below);
       clk = λ f a below. near_enough f (account_at b f a).clk (low f below) (subst (λ (z : Account). IsNearIn f z.clk) (read f a) (r.clocks f (account_of a) below).clk);

@@ -17,6 +17,7 @@ pub mod Jumping
 pub mod Kept
 pub mod Made
 pub mod Making
+pub mod Marks
 pub mod Memories
 pub mod Moving
 pub mod Nearness

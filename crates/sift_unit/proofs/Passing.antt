@@ -10,6 +10,8 @@ use Rattle.sift_unit.specs.Desk.{Desk, spot, cursor, is_hearing, is_saying, is_c
 use Rattle.sift_unit.specs.Going.{InRange}
 use Rattle.sift_unit.specs.Stops.{IsNothingBetween}
 use Rattle.sift_unit.specs.Passing.{Passes, Onward}
+use Rattle.sift_unit.specs.Boards.{IsSameBoard}
+use Rattle.sift_unit.specs.declared.board.Board.{Board as TheBoard}
 use Rattle.sift_unit.proofs.Tests.{neither, not_both}
 use Rattle.sift_unit.proofs.Moving.{few_tasks, range_at, skip_range, skip_going}
 use Rattle.sift_unit.proofs.Skipping.{Idles, IsPartDone, pass_going, slot_going, part_going}
@@ -26,6 +28,10 @@ passes_on m a b d p q = record {
   frame = q.frame ∙ p.frame;
   subframe = q.subframe ∙ p.subframe;
 }
+
+-- and one board on the way
+pub same_on : (a b d : TheBoard) → IsSameBoard a b → IsSameBoard b d → IsSameBoard a d
+same_on a b d p q = record { unit = q.unit ∙ p.unit; frames = q.frames ∙ p.frames; storm = q.storm ∙ p.storm; turned = q.turned ∙ p.turned }
 
 -- a board that isn't at its subframe's end is in an earlier part, or at an earlier slot
 pub inside_is : (m : FlownMission) (b : Desk) → InRange m b → is_end m b ≡ false → (b.part < 2) ⊎ (b.slot < m.slots)

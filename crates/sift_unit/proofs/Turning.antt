@@ -5,14 +5,14 @@ use Rattle.sift_buffer.specs.Conduct.{Conduct as Acts}
 use Rattle.sift_mission.specs.Mission.{FlownMission}
 use Rattle.sift_mission.specs.Slots.{turned_by}
 use Rattle.sift_conduct.specs.Frames.{Flies}
-use Rattle.sift_conduct.specs.Acts.{Turns}
+use Rattle.sift_conduct.specs.Acts.{Turns, IsUnderway}
 use Rattle.sift_mission.specs.Fits.{Fits}
 use Rattle.sift_unit.specs.Desk.{Desk, cursor}
 use Rattle.sift_unit.specs.Keeping.{Flying, Keeps, HasFlown, as_flying}
 use Rattle.sift_unit.specs.BoardLaws.{KeepLaw}
 use Rattle.sift_unit.proofs.Tests.{some_none}
 use Rattle.sift_unit.proofs.Standing.{frame_low}
-use Rattle.sift_unit.proofs.Exporting.{unsaid, unheard, kept}
+use Rattle.sift_unit.proofs.Exporting.{unsaid, unheard, underway, kept}
 
 some_same : {A : Type 0} {x y : A} → Some x ≡ Some y → x ≡ y
 some_same e = cc
@@ -64,3 +64,10 @@ pub keep_law : KeepLaw
 keep_law m b c n fit (inl k) far = kept m fit b c k.going c n refl refl (turns_by m fit b c (inl k) (m.storm b.unit) refl) (far_enough m b c n far)
 keep_law m b c n fit (inr k) far =
     kept m fit b (as_flying c (b.frame * m.period + b.subframe)) k.going c n refl refl (turns_by m fit b c (inr k) (m.storm b.unit) refl) (far_enough m b c n far)
+
+-- and its acts in the frame that is underway
+pub kept_underway : (m : FlownMission) (fit : Fits m) (b : Desk) (c : Acts) → Keeps m b c → IsUnderway m c b.cfg b.unit b.frame
+kept_underway m fit b c (inl k) = underway m fit b c k.going
+kept_underway m fit b c (inr k) =
+    let is = underway m fit b (as_flying c (b.frame * m.period + b.subframe)) k.going in
+    record { said = is.said; heard = is.heard; says_nothing = is.says_nothing; hears_nothing = is.hears_nothing }

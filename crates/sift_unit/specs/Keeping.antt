@@ -1,5 +1,5 @@
 -- What holds of a board that flies or has turned, and of one that is new.
-use Rattle.std.specs.Prelude.{◌≡◌, ◌⊎◌, ℕ, ◌+◌, ◌*◌, ◌-◌, ◌<◌, ◌≤◌, Some, None}
+use Rattle.std.specs.Prelude.{◌≡◌, ◌⊎◌, ℕ, ◌+◌, ◌*◌, ◌-◌, ◌<◌, ◌≤◌, Bool, true, false, Some, None}
 use Rattle.sift_buffer.specs.Conduct.{never}
 use Rattle.sift_buffer.specs.Conduct.{Conduct as Acts}
 use Rattle.sift_mission.specs.Mission.{FlownMission}
@@ -26,6 +26,15 @@ pub record Flying (m : FlownMission) (b : Desk) (c : Acts) : Type 0 where
 -- a board that has kept to its conduct, and flies or has turned
 abbrev pub Keeps : FlownMission → Desk → Acts → Type 0
 Keeps m b c = Flying m b c ⊎ Turned m b c
+
+-- one that has turned, or flies, as a mark says
+abbrev pub KeepsAs : FlownMission → Bool → Desk → Acts → Type 0
+KeepsAs m true b c = Turned m b c
+KeepsAs m false b c = Flying m b c
+
+-- the frame from which on its unit is stray, if there is one, is later than its own
+abbrev pub IsEarly : FlownMission → Desk → Type 0
+IsEarly m b = (from : ℕ) → m.storm b.unit ≡ Some from → b.frame < from
 
 -- its unit has ended n frames, or has turned before
 abbrev pub HasFlown : FlownMission → Desk → Acts → ℕ → Type 0

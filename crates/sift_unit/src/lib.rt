@@ -9,6 +9,7 @@ mod executor;
 mod laws;
 mod lists;
 mod memory;
+mod new_board;
 mod noted;
 mod part;
 mod readings;

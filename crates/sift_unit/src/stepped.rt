@@ -9,6 +9,8 @@ pub enum Stepped {
     Moved,
     /// The unit waits, since another unit's progress number was found below its own.
     NotYet { unit: UnitId, seen: u64 },
+    /// The unit has turned stray.
+    Turned,
     /// The unit has ended all frames.
     Landed,
 }

@@ -1,14 +1,16 @@
 //! The calls of a board on its port.
 
-ghost use Rattle.std.specs.Prelude.{◌≡◌, ◌<◌, ◌≤◌, ◌+◌, ◌*◌, ℕ, true};
-ghost use Rattle.std.specs.Vec.{vec_capacity};
+ghost use Rattle.std.specs.Prelude.{◌≡◌, ◌<◌, ◌+◌, ◌*◌, ◌↔◌, ℕ, [], true, IsTrue};
+ghost use Rattle.sift_buffer.specs.Conditions.{MayTurn};
+ghost use Rattle.sift_buffer.specs.Views.{Turns};
 ghost use Rattle.sift_unit.specs.Desk.{is_hearing as at_hearing, is_saying as at_saying, is_end as at_end};
 ghost use Rattle.sift_mission.specs.Fits.{Fits};
 ghost use Rattle.sift_mission.specs.Parts.{flown_of};
 ghost use Rattle.sift_unit.specs.Going.{InRange};
 ghost use Rattle.sift_unit.specs.Passing.{IsSlotOf};
 ghost use Rattle.sift_unit.specs.Stepping.{Steps, HasMoved};
-ghost use Rattle.sift_unit.specs.Boards.{desk_of, Drives, GoesOn};
+ghost use Rattle.sift_unit.specs.Keeping.{IsEarly};
+ghost use Rattle.sift_unit.specs.Boards.{desk_of, Drives, GoesOn, TurnsNext, BeginsNext};
 
 use crate::board::Board;
 use crate::duty::Duty;
@@ -22,11 +24,14 @@ use sift_skew::offsets_change_little;
 
 impl Board {
     /// Does the work up to the board's next call on the port, and makes that one call.
+    ///
+    /// A unit with a storm turns in place of entering its storm's first subframe, by the same gate; with a storm from
+    /// frame 0 on it turns before anything else. A unit that has turned, or landed, does nothing more.
     pub fn step<T: Port>(&mut self, mission: &Mission, port: &mut T) -> Stepped
         requires { Drives (flown_of mission.now) self.old (T.view port.old) }
         ensures drives { Drives (flown_of mission.now) self.new (T.view port.new) }
         ensures steps { Steps (flown_of mission.now) (desk_of self.old) (T.view port.old) result (desk_of self.new) (T.view port.new) (T.stands port.new) }
-        ensures follows { T.follows port.old port.new }
+        ensures follows { T.follows port.old [] port.new }
     {
         self.step_by(mission, port)
     }
@@ -36,9 +41,15 @@ impl Board {
         requires { Drives (M.mission mission.now) self.old (T.view port.old) }
         ensures drives { Drives (M.mission mission.now) self.new (T.view port.new) }
         ensures steps { Steps (M.mission mission.now) (desk_of self.old) (T.view port.old) result (desk_of self.new) (T.view port.new) (T.stands port.new) }
-        ensures follows { T.follows port.old port.new }
+        ensures follows { T.follows port.old [] port.new }
     {
-        if self.frame == mission.frames() {
+        if self.storm == Some(self.frame) {
+            if !self.turned {
+                self.turn_at_once(port);
+            }
+            return Stepped::Turned;
+        }
+        if self.frame == self.frames {
             return Stepped::Landed;
         }
         self.find_call(mission);
@@ -66,11 +77,12 @@ impl Board {
     /// Hears the word at which the board stands.
     fn hear<M: Duty, T: Port>(&mut self, mission: &M, port: &mut T)
         requires drives { Drives (M.mission mission.now) self.old (T.view port.old) }
+        requires early { IsEarly (M.mission mission.now) (desk_of self.old) }
         requires frame { self.old.frame < (M.mission mission.now).frames }
         requires here { at_hearing (M.mission mission.now) (desk_of self.old) ≡ true }
         ensures drives { Drives (M.mission mission.now) self.new (T.view port.new) }
         ensures moved { HasMoved (M.mission mission.now) (desk_of self.old) (T.view port.old) (desk_of self.new) (T.view port.new) }
-        ensures follows { T.follows port.old port.new }
+        ensures follows { T.follows port.old [] port.new }
     {
         let stamp = self.stamp(mission);
         if let Some(other) = UnitId::of(self.other) {
@@ -85,11 +97,12 @@ impl Board {
     /// Says the word at which the board stands.
     fn say<M: Duty, T: Port>(&mut self, mission: &M, port: &mut T)
         requires drives { Drives (M.mission mission.now) self.old (T.view port.old) }
+        requires early { IsEarly (M.mission mission.now) (desk_of self.old) }
         requires frame { self.old.frame < (M.mission mission.now).frames }
         requires here { at_saying (M.mission mission.now) (desk_of self.old) ≡ true }
         ensures drives { Drives (M.mission mission.now) self.new (T.view port.new) }
         ensures moved { HasMoved (M.mission mission.now) (desk_of self.old) (T.view port.old) (desk_of self.new) (T.view port.new) }
-        ensures follows { T.follows port.old port.new }
+        ensures follows { T.follows port.old [] port.new }
     {
         let stamp = self.stamp(mission);
         if let Some(other) = UnitId::of(self.other) {
@@ -103,20 +116,24 @@ impl Board {
         unreachable!()
     }
 
-    /// Tries to enter the next subframe.
+    /// Tries to enter the next subframe, or to turn in its place.
     #[inline(never)]
     fn enter<M: Duty, T: Port>(&mut self, mission: &M, port: &mut T) -> Stepped
         requires drives { Drives (M.mission mission.now) self.old (T.view port.old) }
+        requires early { IsEarly (M.mission mission.now) (desk_of self.old) }
         requires frame { self.old.frame < (M.mission mission.now).frames }
         requires end { at_end (M.mission mission.now) (desk_of self.old) ≡ true }
         ensures drives { Drives (M.mission mission.now) self.new (T.view port.new) }
         ensures steps { Steps (M.mission mission.now) (desk_of self.old) (T.view port.old) result (desk_of self.new) (T.view port.new) (T.stands port.new) }
-        ensures follows { T.follows port.old port.new }
+        ensures follows { T.follows port.old [] port.new }
     {
+        if self.turns_next(mission) {
+            return self.turn(mission, port);
+        }
         match port.try_enter() {
             Entering::Entered => {
                 self.go_on(mission);
-                if self.frame == mission.frames() {
+                if self.frame == self.frames {
                     return Stepped::Landed;
                 }
                 Stepped::Moved
@@ -125,12 +142,56 @@ impl Board {
         }
     }
 
+    /// Whether the unit turns in place of entering the next subframe.
+    fn turns_next<M: Duty>(&self, mission: &M) -> bool
+        requires fits { Fits (M.mission mission.now) }
+        requires range { InRange (M.mission mission.now) (desk_of self.now) }
+        requires frame { self.now.frame < self.now.frames }
+        ensures { IsTrue result ↔ TurnsNext (M.mission mission.now) self.now }
+    {
+        self.subframe + 1 == mission.period() && self.storm == Some(self.frame + 1)
+    }
+
+    /// Tries to turn stray in place of entering the next frame, and then accounts for the frame that has ended.
+    fn turn<M: Duty, T: Port>(&mut self, mission: &M, port: &mut T) -> Stepped
+        requires drives { Drives (M.mission mission.now) self.old (T.view port.old) }
+        requires end { at_end (M.mission mission.now) (desk_of self.old) ≡ true }
+        requires next { TurnsNext (M.mission mission.now) self.old }
+        ensures drives { Drives (M.mission mission.now) self.new (T.view port.new) }
+        ensures steps { Steps (M.mission mission.now) (desk_of self.old) (T.view port.old) result (desk_of self.new) (T.view port.new) (T.stands port.new) }
+        ensures follows { T.follows port.old [] port.new }
+    {
+        match port.turn() {
+            Entering::Entered => {
+                self.end_frame(mission);
+                self.turned = true;
+                Stepped::Turned
+            }
+            Entering::NotYet { unit, seen } => Stepped::NotYet { unit, seen },
+        }
+    }
+
+    /// Turns stray before anything else: at progress 0 no unit is waited for.
+    #[inline(never)]
+    fn turn_at_once<T: Port>(&mut self, port: &mut T)
+        requires may { MayTurn (T.view port.old).conduct }
+        requires first { (T.view port.old).conduct.progress ≡ 0 }
+        ensures turned { Turns (T.view port.old) (T.view port.new) }
+        ensures marked { self.new ≡ record self.old { turned = true } }
+        ensures follows { T.follows port.old [] port.new }
+    {
+        match port.turn() {
+            Entering::Entered => self.turned = true,
+            Entering::NotYet { .. } => unreachable!(),
+        }
+    }
+
     /// Begins the next subframe, and the next frame after the last subframe.
     fn go_on<M: Duty>(&mut self, mission: &M)
         requires fits { Fits (M.mission mission.now) }
         requires range { InRange (M.mission mission.now) (desk_of self.old) }
         requires frame { self.old.frame < (M.mission mission.now).frames }
-        requires room { (M.mission mission.now).frames ≤ vec_capacity self.old.accounts }
+        requires frames { self.old.frames ≡ (M.mission mission.now).frames }
         requires end { at_end (M.mission mission.now) (desk_of self.old) ≡ true }
         ensures { GoesOn (M.mission mission.now) self.old self.new }
     {
@@ -150,10 +211,11 @@ impl Board {
         requires fits { Fits (M.mission mission.now) }
         requires range { InRange (M.mission mission.now) (desk_of self.old) }
         requires frame { self.old.frame < (M.mission mission.now).frames }
-        requires room { (M.mission mission.now).frames ≤ vec_capacity self.old.accounts }
+        requires frames { self.old.frames ≡ (M.mission mission.now).frames }
         requires end { at_end (M.mission mission.now) (desk_of self.old) ≡ true }
         requires last { self.old.subframe + 1 ≡ (M.mission mission.now).period }
-        ensures { GoesOn (M.mission mission.now) self.old self.new }
+        ensures goes_on { GoesOn (M.mission mission.now) self.old self.new }
+        ensures begins { BeginsNext self.old self.new }
     {
         offsets_change_little();
         let account = self

@@ -6,7 +6,7 @@ ghost use Rattle.sift_unit.specs.Desk.{is_call as at_call, is_end as at_end};
 ghost use Rattle.sift_mission.specs.Fits.{Fits};
 ghost use Rattle.sift_unit.specs.Going.{InRange};
 ghost use Rattle.sift_unit.specs.Passing.{Passes, Onward, Finds, IsWhole, left};
-ghost use Rattle.sift_unit.specs.Boards.{desk_of};
+ghost use Rattle.sift_unit.specs.Boards.{desk_of, IsSameBoard};
 
 use crate::board::Board;
 use crate::duty::Duty;
@@ -40,7 +40,7 @@ impl Board {
         requires frame { self.old.frame < (M.mission mission.now).frames }
         ensures passes { Passes (M.mission mission.now) (desk_of self.old) (desk_of self.new) }
         ensures nearer { left (desk_of self.new) ≤ left (desk_of self.old) }
-        ensures accounts { self.new.accounts ≡ self.old.accounts }
+        ensures same { IsSameBoard self.old self.new }
         ensures found { at_end (M.mission mission.now) (desk_of self.new) ≡ false → at_call (M.mission mission.now) (desk_of self.new) ≡ true }
     {
         while !self.finds_unit(mission) && !self.is_end(mission) {
@@ -54,7 +54,7 @@ impl Board {
         requires fits { Fits (M.mission mission.now) }
         requires range { InRange (M.mission mission.now) (desk_of self.old) }
         ensures finds { Finds (M.mission mission.now) (desk_of self.old) result (desk_of self.new) }
-        ensures accounts { self.new.accounts ≡ self.old.accounts }
+        ensures same { IsSameBoard self.old self.new }
     {
         if self.slot == mission.slots() {
             return false;
@@ -73,7 +73,7 @@ impl Board {
         requires part { (desk_of self.old).part ≡ 0 }
         requires slot { self.old.slot < (M.mission mission.now).slots }
         ensures finds { Finds (M.mission mission.now) (desk_of self.old) result (desk_of self.new) }
-        ensures accounts { self.new.accounts ≡ self.old.accounts }
+        ensures same { IsSameBoard self.old self.new }
     {
         if self.subframe != mission.heard_in(&self.cfg, self.slot) {
             return false;
@@ -89,7 +89,7 @@ impl Board {
         requires part { (desk_of self.old).part ≡ 2 }
         requires slot { self.old.slot < (M.mission mission.now).slots }
         ensures finds { Finds (M.mission mission.now) (desk_of self.old) result (desk_of self.new) }
-        ensures accounts { self.new.accounts ≡ self.old.accounts }
+        ensures same { IsSameBoard self.old self.new }
     {
         if self.subframe != mission.due(&self.cfg, self.slot) {
             return false;
@@ -107,7 +107,7 @@ impl Board {
         requires whole { IsWhole (M.mission mission.now) (desk_of self.old) }
         requires inside { at_end (M.mission mission.now) (desk_of self.old) ≡ false }
         ensures onward { Onward (M.mission mission.now) (desk_of self.old) (desk_of self.new) }
-        ensures accounts { self.new.accounts ≡ self.old.accounts }
+        ensures same { IsSameBoard self.old self.new }
     {
         if !self.cfg.has(self.unit) {
             self.rest(mission);
@@ -141,7 +141,7 @@ impl Board {
         requires out { has self.old.cfg self.old.unit ≡ false }
         requires inside { at_end (M.mission mission.now) (desk_of self.old) ≡ false }
         ensures onward { Onward (M.mission mission.now) (desk_of self.old) (desk_of self.new) }
-        ensures accounts { self.new.accounts ≡ self.old.accounts }
+        ensures same { IsSameBoard self.old self.new }
     {
         self.part = Part::Saying;
         self.slot = mission.slots();
@@ -155,7 +155,7 @@ impl Board {
         requires end { (self.old.slot ≡ (M.mission mission.now).slots) ⊎ (((desk_of self.old).part ≡ 1) × ((M.mission mission.now).tasks ≤ self.old.slot)) }
         requires inside { (desk_of self.old).part < 2 }
         ensures onward { Onward (M.mission mission.now) (desk_of self.old) (desk_of self.new) }
-        ensures accounts { self.new.accounts ≡ self.old.accounts }
+        ensures same { IsSameBoard self.old self.new }
     {
         self.part = self.part.next();
         self.slot = 0;
@@ -172,7 +172,7 @@ impl Board {
         requires slot { self.old.slot < (M.mission mission.now).slots }
         requires whole { IsWhole (M.mission mission.now) (desk_of self.old) }
         ensures onward { Onward (M.mission mission.now) (desk_of self.old) (desk_of self.new) }
-        ensures accounts { self.new.accounts ≡ self.old.accounts }
+        ensures same { IsSameBoard self.old self.new }
     {
         if self.subframe != mission.heard_in(&self.cfg, self.slot) {
             self.slot += 1;
@@ -199,7 +199,7 @@ impl Board {
         requires part { (desk_of self.old).part ≡ 1 }
         requires slot { self.old.slot < (M.mission mission.now).slots }
         ensures onward { Onward (M.mission mission.now) (desk_of self.old) (desk_of self.new) }
-        ensures accounts { self.new.accounts ≡ self.old.accounts }
+        ensures same { IsSameBoard self.old self.new }
     {
         if self.slot >= mission.tasks() {
             self.next_part(mission);

@@ -1,16 +1,16 @@
-use Rattle.std.proofs.Common.{rules, refl, arith, ◌∙◌, ap, map, ◌∷◌, []}
+use Rattle.std.proofs.Common.{rules, inr, refl, ◌∙◌, ap, map, ◌∷◌, []}
 use Rattle.std.proofs.lemmas.List.{map-append}
 use Rattle.sift_unit.specs.Boards.{desk_of}
 use Rattle.sift_conduct.specs.Account.{account_of}
 use Rattle.sift_unit.proofs.Continuing.{frame_on, next_place}
 use Rattle.sift_unit.proofs.board.Board.end_frame.Goals as goal
 
-pub returns : goal.returns
-returns g c = record {
+pub returns-clause-goes_on : goal.returns-clause-goes_on
+returns-clause-goes_on g c = record {
   going = frame_on _ c.requires.fits (desk_of c.args.self.now) c.requires.end c.offsets_change_little.ensures c.requires.last c.requires.frame
       (account_of c.account-account.result) _ _ _ _ c.account-account.ensures refl (search (rules, c.copied-self.ensures)) (c.copy_of-self.ensures ∙ c.deref.ensures.0)
       (ap (λ xs. map account_of xs) c.push_reserved.ensures.items ∙ map-append account_of c.args.self.now.accounts.items (c.account-account.result ∷ []));
-  unit = refl;
-  room = (let same = c.push_reserved.ensures.capacity in let before = c.requires.room in omega arith);
-  frame = next_place _ c.requires.fits (desk_of c.args.self.now) c.requires.end c.requires.last;
+  same = record { unit = refl; frames = refl; storm = refl; turned = refl };
+  frame = inr (c.requires.last, refl);
+  place = next_place _ c.requires.fits (desk_of c.args.self.now) c.requires.end c.requires.last;
 }

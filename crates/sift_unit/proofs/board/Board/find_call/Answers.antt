@@ -1,6 +1,6 @@
-use Rattle.std.proofs.Common.{◌∙◌, arith}
+use Rattle.std.proofs.Common.{arith}
 use Rattle.sift_unit.specs.Boards.{desk_of}
-use Rattle.sift_unit.proofs.Passing.{passes_on}
+use Rattle.sift_unit.proofs.Passing.{passes_on, same_on}
 use Rattle.sift_unit.proofs.board.Board.find_call.Goals as goal
 
 -- past the slot, in which no unit was left, and what comes after it
@@ -13,7 +13,8 @@ loop-self-preserved g c =
     let on = c.pass.ensures.onward in (
       passes_on _ start past (desk_of c.pass.new.self) (passes_on _ start here past c.loop-self.invariant.0 finds.passes) on.passes,
       (let near = c.loop-self.invariant.1 in let nearer = finds.nearer in let less = on.less in omega arith),
-      c.pass.ensures.accounts ∙ c.finds_unit.ensures.accounts ∙ c.loop-self.invariant.2,
+      same_on c.args.self.now c.finds_unit.new.self c.pass.new.self (same_on c.args.self.now c.loop-self.self c.finds_unit.new.self c.loop-self.invariant.2
+      c.finds_unit.ensures.same) c.pass.ensures.same,
     )
 
 -- to a call, or to the end
@@ -24,3 +25,10 @@ returns-after-loop-self-clause-passes g c = passes_on _ (desk_of c.args.self.now
 pub returns-else-not-is_end-clause-passes : goal.returns-else-not-is_end-clause-passes
 returns-else-not-is_end-clause-passes g c = passes_on _ (desk_of c.args.self.now) (desk_of c.loop-self.self) (desk_of c.finds_unit.new.self)
     c.loop-self.invariant.0 c.finds_unit.ensures.finds.passes
+
+-- it is the same board there
+pub returns-after-loop-self-clause-same : goal.returns-after-loop-self-clause-same
+returns-after-loop-self-clause-same g c = same_on c.args.self.now c.loop-self.self c.finds_unit.new.self c.loop-self.invariant.2 c.finds_unit.ensures.same
+
+pub returns-else-not-is_end-clause-same : goal.returns-else-not-is_end-clause-same
+returns-else-not-is_end-clause-same g c = same_on c.args.self.now c.loop-self.self c.finds_unit.new.self c.loop-self.invariant.2 c.finds_unit.ensures.same

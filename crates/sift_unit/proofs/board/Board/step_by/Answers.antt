@@ -1,22 +1,23 @@
-use Rattle.std.proofs.Common.{◌∙◌, sym, arith}
-use Rattle.sift_unit.specs.Boards.{desk_of}
+use Rattle.std.proofs.Common.{◌∙◌, sym, inl, inr, refl, subst, arith}
+use Rattle.sift_unit.specs.Boards.{desk_of, Drives}
 use Rattle.sift_unit.proofs.Quiet.{call_says, call_hears}
-use Rattle.sift_unit.proofs.Driving.{pass_drives}
+use Rattle.sift_unit.proofs.Driving.{flies_here, pass_drives, may_turn_first, nothing_yet, turn_first_drives}
 use Rattle.sift_unit.proofs.Continuing.{moves_from, steps_from}
+use Rattle.sift_unit.proofs.Marks.{is_early, early_same, range_as, not_never}
 use Rattle.sift_unit.proofs.board.Board.step_by.Goals as goal
 
 -- where it found its call, it drives on
 pub enter-requires-clause-drives : goal.enter-requires-clause-drives
 enter-requires-clause-drives g c =
-    pass_drives _ c.args.self.now c.find_call.new.self (g.T.Port.view c.args.port.now) c.requires c.find_call.ensures.passes c.find_call.ensures.accounts
+    pass_drives _ c.args.self.now (g.T.Look.view c.args.port.now) c.requires (early_here g c) c.find_call.new.self c.find_call.ensures.passes c.find_call.ensures.same
 
 pub say-requires-clause-drives : goal.say-requires-clause-drives
 say-requires-clause-drives g c =
-    pass_drives _ c.args.self.now c.find_call.new.self (g.T.Port.view c.args.port.now) c.requires c.find_call.ensures.passes c.find_call.ensures.accounts
+    pass_drives _ c.args.self.now (g.T.Look.view c.args.port.now) c.requires (early_here g c) c.find_call.new.self c.find_call.ensures.passes c.find_call.ensures.same
 
 pub hear-requires-clause-drives : goal.hear-requires-clause-drives
 hear-requires-clause-drives g c =
-    pass_drives _ c.args.self.now c.find_call.new.self (g.T.Port.view c.args.port.now) c.requires c.find_call.ensures.passes c.find_call.ensures.accounts
+    pass_drives _ c.args.self.now (g.T.Look.view c.args.port.now) c.requires (early_here g c) c.find_call.new.self c.find_call.ensures.passes c.find_call.ensures.same
 
 -- there it says, or else hears
 pub say-requires-clause-here : goal.say-requires-clause-here
@@ -32,17 +33,16 @@ hear-requires-clause-here g c =
 -- what it came to from there is what it came to from where it stood
 pub returns-then-is_end-clause-steps : goal.returns-then-is_end-clause-steps
 returns-then-is_end-clause-steps g c =
-    steps_from _ (desk_of c.args.self.now) (desk_of c.find_call.new.self) (desk_of c.enter.new.self) (g.T.Port.view c.args.port.now) (g.T.Port.view c.enter.new.port)
-    c.find_call.ensures.passes c.find_call.ensures.nearer c.enter.result (g.T.Port.stands c.enter.new.port)
-    (let same = c.find_call.ensures.passes.frame in let most = c.requires.going.range.frame in let more = c.if-self-frames.false in let is = c.frames.ensures in omega arith)
-    c.enter.ensures.steps
+    steps_from _ (desk_of c.args.self.now) (desk_of c.find_call.new.self) (desk_of c.enter.new.self) (g.T.Look.view c.args.port.now) (g.T.Look.view c.enter.new.port)
+    c.find_call.ensures.passes c.find_call.ensures.nearer c.enter.result (g.T.Look.stands c.enter.new.port)
+    (room_there g c) (aloft g c) c.enter.ensures.steps
 
 pub returns-then-says-clause-steps : goal.returns-then-says-clause-steps
 returns-then-says-clause-steps g c =
-    moves_from _ (desk_of c.args.self.now) (desk_of c.find_call.new.self) (desk_of c.say.new.self) (g.T.Port.view c.args.port.now) (g.T.Port.view c.say.new.port)
+    moves_from _ (desk_of c.args.self.now) (desk_of c.find_call.new.self) (desk_of c.say.new.self) (g.T.Look.view c.args.port.now) (g.T.Look.view c.say.new.port)
     c.find_call.ensures.passes c.find_call.ensures.nearer c.say.ensures.moved
 
 pub returns-clause-steps : goal.returns-clause-steps
 returns-clause-steps g c =
-    moves_from _ (desk_of c.args.self.now) (desk_of c.find_call.new.self) (desk_of c.hear.new.self) (g.T.Port.view c.args.port.now) (g.T.Port.view c.hear.new.port)
+    moves_from _ (desk_of c.args.self.now) (desk_of c.find_call.new.self) (desk_of c.hear.new.self) (g.T.Look.view c.args.port.now) (g.T.Look.view c.hear.new.port)
     c.find_call.ensures.passes c.find_call.ensures.nearer c.hear.ensures.moved

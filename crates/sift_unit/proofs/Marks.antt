@@ -1,0 +1,128 @@
+-- Boards that fly or have turned, as their marks tell.
+use Rattle.std.proofs.Common.{◌≡◌, ◌⊎◌, inl, inr, ℕ, ◌+◌, ◌*◌, ◌<◌, ◌≤◌, Bool, true, false, Option, Some, None, refl, sym, ap, ◌∙◌, subst, arith}
+use mathlib.Core.Logic.{dite}
+use native.Mathlib.Decide.{ℕ_discrete}
+use Rattle.sift_buffer.specs.Conduct.{never, last_progress}
+use Rattle.sift_buffer.specs.Conduct.{Conduct as Acts}
+use Rattle.sift_mission.specs.Mission.{FlownMission}
+use Rattle.sift_mission.specs.Slots.{StormsCome}
+use Rattle.sift_mission.specs.Fits.{Fits}
+use Rattle.sift_unit.specs.Desk.{Desk, cursor}
+use Rattle.sift_unit.specs.Going.{InRange, Going}
+use Rattle.sift_unit.specs.Keeping.{Flying, Keeps, KeepsAs, IsEarly}
+use Rattle.sift_unit.proofs.Standing.{frame_low}
+
+-- a test does not pass and fail
+true_false : true ≡ false → ⊥
+true_false e = cc
+
+-- ---- by the mark
+
+-- a board keeps to its conduct, whatever its mark says
+pub kept_as : (m : FlownMission) (turned : Bool) (b : Desk) (c : Acts) → KeepsAs m turned b c → Keeps m b c
+kept_as m true b c k = inr k
+kept_as m false b c k = inl k
+
+-- it is in range
+pub range_as : (m : FlownMission) (turned : Bool) (b : Desk) (c : Acts) → KeepsAs m turned b c → InRange m b
+range_as m true b c k = k.going.range
+range_as m false b c k = k.going.range
+
+-- one that flies keeps to it by a mark that says so
+pub flying_as : (m : FlownMission) (turned : Bool) (b : Desk) (c : Acts) → turned ≡ false → Flying m b c → KeepsAs m turned b c
+flying_as m true b c no k = absurd (true_false no)
+flying_as m false b c no k = k
+
+-- ---- early
+
+-- a board that keeps to its conduct before its storm flies
+pub record FliesOn (m : FlownMission) (turned : Bool) (b : Desk) (c : Acts) : Type 0 where
+  pub mark : turned ≡ false
+  pub going : Going m b c
+
+pub early_flies : (m : FlownMission) (turned : Bool) (b : Desk) (c : Acts) → KeepsAs m turned b c → IsEarly m b → FliesOn m turned b c
+early_flies m true b c k early = absurd (let low = early b.frame k.storm in omega arith)
+early_flies m false b c k early = record { mark = refl; going = k.going }
+
+-- a board whose frame is not the first of its storm is before it
+pub is_early : (m : FlownMission) (turned : Bool) (b : Desk) (c : Acts) → KeepsAs m turned b c → (m.storm b.unit ≡ Some b.frame → ⊥) → IsEarly m b
+is_early m true b c k other from storm = absurd (other k.storm)
+is_early m false b c k other from storm = elim (k.before from storm) [
+  | inl low ↦ low
+  | inr z ↦ absurd (other (storm ∙ ap Some (z.0 ∙ sym z.1)))
+]
+
+-- it stays so in its frame
+pub early_same : (m : FlownMission) (b b' : Desk) → b'.unit ≡ b.unit → b'.frame ≡ b.frame → IsEarly m b → IsEarly m b'
+early_same m b b' unit frame early from storm = subst (λ f. f < from) (sym frame) (early from (ap m.storm (sym unit) ∙ storm))
+
+-- and where it enters a subframe that is not the first of its storm
+pub early_on : (m : FlownMission) (b b' : Desk) → b'.unit ≡ b.unit → IsEarly m b → (b.subframe + 1 ≡ m.period → m.storm b.unit ≡ Some (b.frame + 1) → ⊥) →
+    (b'.frame ≡ b.frame) ⊎ ((b.subframe + 1 ≡ m.period) × (b'.frame ≡ b.frame + 1)) → IsEarly m b'
+early_on m b b' unit early calm (inl same) = early_same m b b' unit same early
+early_on m b b' unit early calm (inr next) = λ from storm.
+    let mine : m.storm b.unit ≡ Some from = ap m.storm (sym unit) ∙ storm in
+    let low = early from mine in
+    let is = next.1 in
+    dite (ℕ_discrete from (b.frame + 1)) (λ e. absurd (calm next.0 (mine ∙ ap Some e))) (λ ne. omega arith)
+
+-- before a storm in the next frame it is early
+pub early_before : (m : FlownMission) (b : Desk) → m.storm b.unit ≡ Some (b.frame + 1) → IsEarly m b
+early_before m b storm from is = let same : Some from ≡ Some (b.frame + 1) = sym is ∙ storm in let n : from ≡ b.frame + 1 = cc in omega arith
+
+-- one that is early after all frames has no storm
+pub no_storm : (m : FlownMission) → StormsCome m → (b : Desk) → IsEarly m b → m.frames ≤ b.frame → (o : Option ℕ) → m.storm b.unit ≡ o → m.storm b.unit ≡ None
+no_storm m come b early end None e = e
+no_storm m come b early end (Some from) e = absurd (let low = early from e in let late = come b.unit from e in omega arith)
+
+-- ---- at first
+
+-- a board of a unit that is stray from its frame on, and that has not turned, has done nothing
+pub record IsAtFirst (m : FlownMission) (b : Desk) (c : Acts) : Type 0 where
+  pub going : Going m b c
+  pub frame : b.frame ≡ 0
+  pub start : cursor b ≡ 0
+
+pub at_first : (m : FlownMission) (turned : Bool) (b : Desk) (c : Acts) → KeepsAs m turned b c → turned ≡ false → m.storm b.unit ≡ Some b.frame → IsAtFirst m b c
+at_first m true b c k no storm = absurd (true_false no)
+at_first m false b c k no storm = elim (k.before b.frame storm) [
+  | inl low ↦ absurd (omega arith)
+  | inr z ↦ record { going = k.going; frame = z.1; start = z.2 }
+]
+
+-- its progress is 0
+pub first_progress : (m : FlownMission) (b : Desk) (c : Acts) → IsAtFirst m b c → c.progress ≡ 0
+first_progress m b c at =
+    let p = at.going.progress in let start = at.start in
+    let zero : b.frame * m.period ≡ 0 = rw at.frame (omega arith) in
+    omega arith
+
+-- ---- the progress of a unit that flies
+
+module _ (m : FlownMission) (fit : Fits m) (b : Desk) (c : Acts) (g : Going m b c) where
+  -- it is below the last, where a frame is left
+  pub below_last : b.frame < m.frames → c.progress < last_progress
+  below_last low =
+      let p = g.progress in let inside = g.range.subframe in let short = fit.counted.short in let few = fit.counted.frames in
+      let up = frame_low m.period b.frame 1000 (omega arith) in
+      omega arith
+
+  -- it is a progress
+  pub not_never : c.progress ≡ never → ⊥
+  not_never is =
+      let p = g.progress in let inside = g.range.subframe in let short = fit.counted.short in let few = fit.counted.frames in let most = g.range.frame in
+      let up = frame_low m.period b.frame 1001 (omega arith) in
+      omega arith
+
+  -- and where it is that of the end, no frame is left
+  pub at_end : c.progress ≡ m.frames * m.period → b.frame ≡ m.frames
+  at_end is =
+      let p = g.progress in let inside = g.range.subframe in let most = g.range.frame in
+      dite (ℕ_discrete b.frame m.frames) (λ e. e) (λ ne. absurd (let up = frame_low m.period b.frame m.frames (omega arith) in omega arith))
+
+-- the end is a progress
+pub end_not_never : (m : FlownMission) → Fits m → never ≡ m.frames * m.period → ⊥
+end_not_never m fit is =
+    let short = fit.counted.short in let few = fit.counted.frames in
+    let up = frame_low m.period m.frames 1001 (omega arith) in
+    omega arith

@@ -1,0 +1,54 @@
+//! A board before the flight.
+
+ghost use Rattle.std.specs.Prelude.{◌≡◌, IfOk, true};
+ghost use Rattle.sift_base.specs.Units.{has};
+ghost use Rattle.sift_mission.specs.Parts.{flown_of};
+ghost use Rattle.sift_unit.specs.Boards.{IsNewBoard};
+
+use crate::board::Board;
+use crate::executor::Executor;
+use crate::lists::copy_of;
+use crate::memory::Memory;
+use crate::part::Part;
+use sift_base::{NoMemory, UnitId};
+use sift_mission::{Mission, a_mission_fits};
+use std::alloc::Global;
+
+impl Board {
+    /// The board of a unit of the mission before the flight, with the memory for all its accounts and
+    /// for the runs of its tasks.
+    pub fn make(alloc: Global, mission: &Mission, unit: UnitId) -> Result<Board, NoMemory>
+        requires { has (flown_of mission.now).units unit ≡ true }
+        ensures { IfOk result (λ board. IsNewBoard (flown_of mission.now) unit board) }
+    {
+        a_mission_fits(mission);
+        let frames = mission.frames();
+        let accounts = Vec::with_capacity(alloc, frames as usize)?;
+        Ok(Board {
+            unit,
+            frames,
+            storm: storm_of(mission, unit),
+            turned: false,
+            frame: 0,
+            subframe: 0,
+            part: Part::Hearing,
+            slot: 0,
+            other: 0,
+            cfg: mission.everyone(),
+            clk: mission.offset(unit),
+            last: copy_of(mission.starts()),
+            places: [None; 8],
+            memory: Memory::blank(mission),
+            accounts,
+            executor: Executor::make(alloc)?,
+        })
+    }
+}
+
+/// The frame from which on a unit is stray, where it has a storm.
+fn storm_of(mission: &Mission, unit: UnitId) -> Option<u32>
+    ensures { result ≡ (flown_of mission.now).storm unit }
+{
+    let (from, _, _) = mission.parts().script.storm_of(unit)?;
+    Some(from)
+}
