@@ -1,7 +1,7 @@
 -- A board on its port, call by call.
 use Rattle.std.proofs.Common.{◌≡◌, inl, ℕ, ◌+◌, ◌*◌, ◌<◌, ◌≤◌, true, false, Option, Some, refl, sym, ap, ◌∙◌, subst, arith}
 use Rattle.std.specs.Prelude.{slice_set}
-use Rattle.sift_buffer.specs.Conduct.{never, last_progress}
+use Rattle.sift_buffer.specs.Conduct.{with_turned}
 use Rattle.sift_buffer.specs.Conduct.{Conduct as Acts}
 use Rattle.sift_buffer.specs.Conditions.{MaySay, MayHear, MayEnter, MayTurn}
 use Rattle.sift_buffer.specs.Views.{View, view_with_said, view_with_heard, view_with_entered, view_with_turned, KeepsOwn, EntersAfterRound, Turns, at_once, after_round}
@@ -12,14 +12,14 @@ use Rattle.sift_unit.specs.Desk.{Desk, is_hearing, is_saying}
 use Rattle.sift_unit.specs.Going.{Going}
 use Rattle.sift_unit.specs.Passing.{Passes}
 use Rattle.sift_unit.specs.Stepping.{HasMoved, said, heard}
-use Rattle.sift_unit.specs.Keeping.{KeepsAs, IsEarly}
-use Rattle.sift_unit.specs.Boards.{desk_of, IsPortOf, Drives, IsSameBoard, GoesOn, TurnsNext, BeginsNext}
+use Rattle.sift_unit.specs.Keeping.{Turned, KeepsAs, IsEarly}
+use Rattle.sift_unit.specs.Boards.{desk_of, IsPortOf, Drives, IsSameBoard, IsMarked, GoesOn, TurnsNext, BeginsNext}
 use Rattle.sift_unit.specs.declared.board.Board.{Board as TheBoard}
 use Rattle.sift_unit.proofs.Hearing.{hearing_is, hear_going}
 use Rattle.sift_unit.proofs.Saying.{saying_is, say_going}
 use Rattle.sift_unit.proofs.Asking.{may_hear, may_say}
-use Rattle.sift_unit.proofs.Starting.{turned_on, turn_first_law}
-use Rattle.sift_unit.proofs.Marks.{range_as, flying_as, early_flies, early_same, early_before, at_first, first_progress, below_last, FliesOn}
+use Rattle.sift_unit.proofs.Starting.{turned_on}
+use Rattle.sift_unit.proofs.Marks.{flying_as, FliesOn, early_flies, is_early, early_same, early_on, early_before, below_last}
 
 -- what a unit has seen is nothing that its board knows of
 pub seen_going : (m : FlownMission) (b : Desk) (c : Acts) (s : ℕ → ℕ) → Going m b c → Going m b (record c { seen = s })
@@ -50,7 +50,7 @@ pub record TurnsFrom (v v' : View) : Type 0 where
   pub after : v' ≡ view_with_turned before
 
 turns_from : (v v' : View) → Turns v v' → TurnsFrom v v'
-turns_from v v' (at_once zero e) = record { before = v; own = record { ranges = refl; unit = refl; conduct = refl; looks = omega arith }; after = e }
+turns_from v v' (at_once start e) = record { before = v; own = record { ranges = refl; unit = refl; conduct = refl; looks = omega arith }; after = e }
 turns_from v v' (after_round before low none e) = record { before = before; own = none.own; after = e }
 
 -- a board is the same as itself
@@ -69,6 +69,10 @@ drives_on m b b' v v' d unit frames storm same_unit same_ranges keeps = record {
   storm = storm ∙ d.storm ∙ ap m.storm (sym unit);
   keeps = keeps;
 }
+
+-- a board that is marked has turned as it would have
+marked_as : (m : FlownMission) (b b' : TheBoard) (c : Acts) → IsMarked b b' → Turned m (desk_of b) c → KeepsAs m b'.turned (desk_of b') c
+marked_as m b b' c marked k = subst (λ t. KeepsAs m t (desk_of b') c) (sym marked.turned) (subst (λ z. Turned m z c) (sym marked.desk) k)
 
 module _ (m : FlownMission) (b : TheBoard) (v : View) (d : Drives m b v) (early : IsEarly m (desk_of b)) where
   -- a board before its storm flies
@@ -93,23 +97,36 @@ module _ (m : FlownMission) (b : TheBoard) (v : View) (d : Drives m b v) (early 
   pub pass_drives : (b' : TheBoard) → Passes m (desk_of b) (desk_of b') → IsSameBoard b b' → Drives m b' v
   pass_drives b' p same = flies_on b' v same (early_same m (desk_of b) (desk_of b') p.unit p.frame early) refl refl (p.going v.conduct flies_here.going)
 
-  -- one that goes on after a round of looks, and not into its storm, has entered the next subframe
-  pub enter_drives : (b' : TheBoard) (v' : View) → GoesOn m b b' → IsEarly m (desk_of b') → EntersAfterRound v v' → Drives m b' v'
-  enter_drives b' v' on early' e =
+  -- where it does not turn next, it is before its storm in the next subframe
+  pub early_there : (b' : TheBoard) → GoesOn m b b' → (TurnsNext m b → ⊥) → IsEarly m (desk_of b')
+  early_there b' on flies = early_on m (desk_of b) (desk_of b') on.same.unit early (λ last storm. flies (last, d.storm ∙ storm)) on.frame
+
+  -- so one that goes on after a round of looks has entered it
+  pub enter_drives : (b' : TheBoard) (v' : View) → GoesOn m b b' → (TurnsNext m b → ⊥) → EntersAfterRound v v' → Drives m b' v'
+  enter_drives b' v' on flies e =
       let own = e.round.own in
-      subst (λ z. Drives m b' z) (sym e.after) (flies_on b' (view_with_entered e.before) on.same early' own.unit own.ranges
+      subst (λ z. Drives m b' z) (sym e.after) (flies_on b' (view_with_entered e.before) on.same (early_there b' on flies) own.unit own.ranges
       (on.going e.before.conduct (looks_going m (desk_of b) v e.before own flies_here.going)))
 
   -- and one that turns in its place has turned
-  pub turn_drives : (b' : TheBoard) (v' : View) → GoesOn m b b' → BeginsNext b b' → TurnsNext m b → Turns v v' →
-      Drives m (record b' { turned = true }) v'
-  turn_drives b' v' on begins next turns =
+  pub turn_keeps : (b' : TheBoard) (v' : View) → GoesOn m b b' → BeginsNext b b' → TurnsNext m b → Turns v v' → Turned m (desk_of b') v'.conduct
+  turn_keeps b' v' on begins next turns =
       let t = turns_from v v' turns in
       let g = looks_going m (desk_of b) v t.before t.own flies_here.going in
       let from : m.storm b'.unit ≡ Some b'.frame = ap m.storm on.same.unit ∙ sym d.storm ∙ next.1 ∙ ap Some (sym begins.0) in
-      subst (λ z. Drives m (record b' { turned = true }) z) (sym t.after) (drives_on m b (record b' { turned = true }) v (view_with_turned t.before) d
-      on.same.unit on.same.frames on.same.storm t.own.unit t.own.ranges
-      (turned_on m (desk_of b') t.before.conduct g.left (on.going t.before.conduct g) from begins.1))
+      subst (λ (z : View). Turned m (desk_of b') z.conduct) (sym t.after)
+      (turned_on m (desk_of b') t.before.conduct g.left (on.going t.before.conduct g) from begins.1)
+
+  pub turn_drives : (b' b'' : TheBoard) (v' : View) → GoesOn m b b' → BeginsNext b b' → IsMarked b' b'' → TurnsNext m b → Turns v v' → Drives m b'' v'
+  turn_drives b' b'' v' on begins marked next turns =
+      let t = turns_from v v' turns in
+      drives_on m b b'' v v' d (ap (λ (z : Desk). z.unit) marked.desk ∙ on.same.unit) (marked.frames ∙ on.same.frames) (marked.storm ∙ on.same.storm)
+      (ap (λ (z : View). z.unit) t.after ∙ t.own.unit) (ap (λ (z : View). z.ranges) t.after ∙ t.own.ranges)
+      (marked_as m b' b'' v'.conduct marked (turn_keeps b' v' on begins next turns))
+
+-- a board whose frame is not the first of its storm is before it
+pub early_at : (m : FlownMission) (b : TheBoard) (v : View) → Drives m b v → (b.storm ≡ Some b.frame → ⊥) → IsEarly m (desk_of b)
+early_at m b v d other = is_early m b.turned (desk_of b) v.conduct d.keeps (λ storm. other (d.storm ∙ storm))
 
 -- a board whose unit turns next is before its storm
 pub early_next : (m : FlownMission) (b : TheBoard) (v : View) → Drives m b v → TurnsNext m b → IsEarly m (desk_of b)
@@ -118,28 +135,6 @@ early_next m b v d next = early_before m (desk_of b) (sym d.storm ∙ next.1)
 -- and a frame is left
 pub room_next : (m : FlownMission) (b : TheBoard) (v : View) → Drives m b v → TurnsNext m b → b.frame < m.frames
 room_next m b v d next = let come = d.storms b.unit (b.frame + 1) (sym d.storm ∙ next.1) in omega arith
-
--- a unit that is stray from frame 0 on turns before anything else
-module _ (m : FlownMission) (b : TheBoard) (v : View) (d : Drives m b v) (whole : b.turned ≡ false) (storm : b.storm ≡ Some b.frame) where
-  -- it has done nothing
-  stray_at : m.storm b.unit ≡ Some b.frame
-  stray_at = sym d.storm ∙ storm
-
-  -- so it may turn, and has no progress
-  pub may_turn_first : MayTurn v.conduct
-  may_turn_first = (at_first m b.turned (desk_of b) v.conduct d.keeps whole stray_at).going.left
-
-  pub nothing_yet : v.conduct.progress ≡ 0
-  nothing_yet = first_progress m (desk_of b) v.conduct (at_first m b.turned (desk_of b) v.conduct d.keeps whole stray_at)
-
-  -- and then has turned
-  pub turn_first_drives : (v' : View) → Turns v v' → Drives m (record b { turned = true }) v'
-  turn_first_drives v' turns =
-      let t = turns_from v v' turns in
-      let at = at_first m b.turned (desk_of b) v.conduct d.keeps whole stray_at in
-      subst (λ z. Drives m (record b { turned = true }) z) (sym t.after) (drives_on m b (record b { turned = true }) v (view_with_turned t.before) d
-      refl refl refl t.own.unit t.own.ranges
-      (turn_first_law m (desk_of b) t.before.conduct (looks_going m (desk_of b) v t.before t.own at.going) (stray_at ∙ ap Some at.frame) at.frame at.start))
 
 module _ (m : FlownMission) (fit : Fits m) (b : TheBoard) (v : View) (d : Drives m b v) (early : IsEarly m (desk_of b)) (low : b.frame < m.frames) where
   -- the board flies
@@ -159,30 +154,33 @@ module _ (m : FlownMission) (fit : Fits m) (b : TheBoard) (v : View) (d : Drives
   may_say_at e q s eq es = rw (d.unit, eq, es) (may_say m fit v.ranges d.ranges (desk_of b) v.conduct going_here low (saying_is m fit (desk_of b) e))
 
   -- the board that has heard a word
-  abbrev pub heard_board : ℕ → Option ℕ → TheBoard
-  heard_board i w = record b { other = b.other + 1; places = slice_set b.places i w }
+  abbrev pub heard_desk : ℕ → Option ℕ → Desk
+  heard_desk i w = record (desk_of b) { other = b.other + 1; places = slice_set b.places i w }
 
   -- the board that has said one
-  abbrev pub said_board : TheBoard
-  said_board = record b { other = b.other + 1 }
+  abbrev pub said_desk : Desk
+  said_desk = record (desk_of b) { other = b.other + 1 }
 
   -- it drives on
-  pub hear_drives : is_hearing m (desk_of b) ≡ true → (i p s : ℕ) (w : Option ℕ) (v' : View) → i ≡ b.other → p ≡ b.other → s ≡ stamp_here →
-      v' ≡ view_with_heard v b.frame b.slot p s w → Drives m (heard_board i w) v'
-  hear_drives e i p s w v' ei ep es ev = subst (λ z. Drives m (heard_board i w) z) (sym ev)
-      (flies_on m b v d early (heard_board i w) (view_with_heard v b.frame b.slot p s w) (record { unit = refl; frames = refl; storm = refl; turned = refl }) early refl refl
-      (rw (ei, ep) (hear_going m fit (desk_of b) v.conduct s w going_here (hearing_is m fit (desk_of b) e) es)))
+  pub hear_drives : is_hearing m (desk_of b) ≡ true → (b' : TheBoard) (i p s : ℕ) (w : Option ℕ) (v' : View) → IsSameBoard b b' → desk_of b' ≡ heard_desk i w →
+      i ≡ b.other → p ≡ b.other → s ≡ stamp_here → v' ≡ view_with_heard v b.frame b.slot p s w → Drives m b' v'
+  hear_drives e b' i p s w v' same desk ei ep es ev = subst (λ z. Drives m b' z) (sym ev)
+      (flies_on m b v d early b' (view_with_heard v b.frame b.slot p s w) same (subst (λ z. IsEarly m z) (sym desk) early) refl refl
+      (subst (λ z. Going m z (view_with_heard v b.frame b.slot p s w).conduct) (sym desk)
+      (rw (ei, ep) (hear_going m fit (desk_of b) v.conduct s w going_here (hearing_is m fit (desk_of b) e) es))))
 
-  pub say_drives : is_saying m (desk_of b) ≡ true → (q s : ℕ) (w : Option ℕ) (v' : View) → q ≡ b.other → s ≡ stamp_here →
-      w ≡ word_to m b.cfg b.unit b.frame b.clk (desk_of b).memory (m.kind b.slot) q → v' ≡ view_with_said v b.frame b.slot q s w → Drives m said_board v'
-  say_drives e q s w v' eq es ew ev = subst (λ z. Drives m said_board z) (sym ev)
-      (flies_on m b v d early said_board (view_with_said v b.frame b.slot q s w) (record { unit = refl; frames = refl; storm = refl; turned = refl }) early refl refl
+  pub say_drives : is_saying m (desk_of b) ≡ true → (b' : TheBoard) (q s : ℕ) (w : Option ℕ) (v' : View) → IsSameBoard b b' → desk_of b' ≡ said_desk →
+      q ≡ b.other → s ≡ stamp_here → w ≡ word_to m b.cfg b.unit b.frame b.clk (desk_of b).memory (m.kind b.slot) q → v' ≡ view_with_said v b.frame b.slot q s w →
+      Drives m b' v'
+  say_drives e b' q s w v' same desk eq es ew ev = subst (λ z. Drives m b' z) (sym ev)
+      (flies_on m b v d early b' (view_with_said v b.frame b.slot q s w) same (subst (λ z. IsEarly m z) (sym desk) early) refl refl
+      (subst (λ z. Going m z (view_with_said v b.frame b.slot q s w).conduct) (sym desk)
       (rw eq (say_going m fit (desk_of b) v.conduct s w going_here (saying_is m fit (desk_of b) e) es
-      (subst (λ z. w ≡ word_to m b.cfg b.unit b.frame b.clk (desk_of b).memory (m.kind b.slot) z) eq ew))))
+      (subst (λ z. w ≡ word_to m b.cfg b.unit b.frame b.clk (desk_of b).memory (m.kind b.slot) z) eq ew)))))
 
   -- and has moved
   pub hear_moves : is_hearing m (desk_of b) ≡ true → (i p s : ℕ) (w : Option ℕ) (v' : View) → p ≡ b.other → s ≡ stamp_here →
-      v' ≡ view_with_heard v b.frame b.slot p s w → HasMoved m (desk_of b) v (desk_of (heard_board i w)) v'
+      v' ≡ view_with_heard v b.frame b.slot p s w → HasMoved m (desk_of b) v (heard_desk i w) v'
   hear_moves e i p s w v' ep es ev =
       let at = hearing_is m fit (desk_of b) e in let r = going_here.range in let few = fit.numbered.few in let part = at.part in let slot = at.slot in let other = r.other in
       record {
@@ -193,7 +191,7 @@ module _ (m : FlownMission) (fit : Fits m) (b : TheBoard) (v : View) (d : Drives
       }
 
   pub say_moves : is_saying m (desk_of b) ≡ true → (q s : ℕ) (w : Option ℕ) (v' : View) → q ≡ b.other → s ≡ stamp_here →
-      v' ≡ view_with_said v b.frame b.slot q s w → HasMoved m (desk_of b) v (desk_of said_board) v'
+      v' ≡ view_with_said v b.frame b.slot q s w → HasMoved m (desk_of b) v said_desk v'
   say_moves e q s w v' eq es ev =
       let at = saying_is m fit (desk_of b) e in let r = going_here.range in let few = fit.numbered.few in let part = at.part in let slot = at.slot in let other = r.other in
       record {

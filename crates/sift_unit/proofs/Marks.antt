@@ -1,5 +1,6 @@
 -- Boards that fly or have turned, as their marks tell.
-use Rattle.std.proofs.Common.{◌≡◌, ◌⊎◌, inl, inr, ℕ, ◌+◌, ◌*◌, ◌<◌, ◌≤◌, Bool, true, false, Option, Some, None, refl, sym, ap, ◌∙◌, subst, arith}
+use Rattle.std.proofs.Common.{◌≡◌, ◌⊎◌, inl, inr, ℕ, ◌+◌, ◌*◌, ◌<◌, ◌≤◌, Bool, true, false, Option, Some, None, nat_eq, eq-eqb, refl, sym, ap, ◌∙◌, subst, arith}
+use Rattle.std.specs.Option.{option_eq}
 use mathlib.Core.Logic.{dite}
 use native.Mathlib.Decide.{ℕ_discrete}
 use Rattle.sift_buffer.specs.Conduct.{never, last_progress}
@@ -7,7 +8,7 @@ use Rattle.sift_buffer.specs.Conduct.{Conduct as Acts}
 use Rattle.sift_mission.specs.Mission.{FlownMission}
 use Rattle.sift_mission.specs.Slots.{StormsCome}
 use Rattle.sift_mission.specs.Fits.{Fits}
-use Rattle.sift_unit.specs.Desk.{Desk, cursor}
+use Rattle.sift_unit.specs.Desk.{Desk}
 use Rattle.sift_unit.specs.Going.{InRange, Going}
 use Rattle.sift_unit.specs.Keeping.{Flying, Keeps, KeepsAs, IsEarly}
 use Rattle.sift_unit.proofs.Standing.{frame_low}
@@ -15,6 +16,12 @@ use Rattle.sift_unit.proofs.Standing.{frame_low}
 -- a test does not pass and fail
 true_false : true ≡ false → ⊥
 true_false e = cc
+
+-- where a test tells an option from a number, it is not that number
+pub apart_by : (o : Option ℕ) (f : ℕ) → option_eq nat_eq o (Some f) ≡ false → o ≡ Some f → ⊥
+apart_by o f other is =
+    let h : nat_eq f f ≡ false = subst (λ z. option_eq nat_eq z (Some f) ≡ false) is other in
+    true_false (sym (eq-eqb f f refl) ∙ h)
 
 -- ---- by the mark
 
@@ -30,8 +37,8 @@ range_as m false b c k = k.going.range
 
 -- one that flies keeps to it by a mark that says so
 pub flying_as : (m : FlownMission) (turned : Bool) (b : Desk) (c : Acts) → turned ≡ false → Flying m b c → KeepsAs m turned b c
-flying_as m true b c no k = absurd (true_false no)
-flying_as m false b c no k = k
+flying_as m true b c unmarked k = absurd (true_false unmarked)
+flying_as m false b c unmarked k = k
 
 -- ---- early
 
@@ -74,28 +81,6 @@ early_before m b storm from is = let same : Some from ≡ Some (b.frame + 1) = s
 pub no_storm : (m : FlownMission) → StormsCome m → (b : Desk) → IsEarly m b → m.frames ≤ b.frame → (o : Option ℕ) → m.storm b.unit ≡ o → m.storm b.unit ≡ None
 no_storm m come b early end None e = e
 no_storm m come b early end (Some from) e = absurd (let low = early from e in let late = come b.unit from e in omega arith)
-
--- ---- at first
-
--- a board of a unit that is stray from its frame on, and that has not turned, has done nothing
-pub record IsAtFirst (m : FlownMission) (b : Desk) (c : Acts) : Type 0 where
-  pub going : Going m b c
-  pub frame : b.frame ≡ 0
-  pub start : cursor b ≡ 0
-
-pub at_first : (m : FlownMission) (turned : Bool) (b : Desk) (c : Acts) → KeepsAs m turned b c → turned ≡ false → m.storm b.unit ≡ Some b.frame → IsAtFirst m b c
-at_first m true b c k no storm = absurd (true_false no)
-at_first m false b c k no storm = elim (k.before b.frame storm) [
-  | inl low ↦ absurd (omega arith)
-  | inr z ↦ record { going = k.going; frame = z.1; start = z.2 }
-]
-
--- its progress is 0
-pub first_progress : (m : FlownMission) (b : Desk) (c : Acts) → IsAtFirst m b c → c.progress ≡ 0
-first_progress m b c at =
-    let p = at.going.progress in let start = at.start in
-    let zero : b.frame * m.period ≡ 0 = rw at.frame (omega arith) in
-    omega arith
 
 -- ---- the progress of a unit that flies
 

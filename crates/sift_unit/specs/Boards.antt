@@ -85,6 +85,13 @@ pub record IsSameBoard (b b' : TheBoard) : Type 0 where
   pub storm : b'.storm ≡ b.storm
   pub turned : b'.turned ≡ b.turned
 
+-- the board stands where it stood, and is marked as one whose unit has turned
+pub record IsMarked (b b' : TheBoard) : Type 0 where
+  pub desk : desk_of b' ≡ desk_of b
+  pub frames : b'.frames ≡ b.frames
+  pub storm : b'.storm ≡ b.storm
+  pub turned : b'.turned ≡ true
+
 -- the board has begun the next subframe, or the next frame, with all that holds of it, whatever its unit did
 pub record GoesOn (m : FlownMission) (b b' : TheBoard) : Type 0 where
   pub going : (c : Acts) → Going m (desk_of b) c → Going m (desk_of b') (with_entered c)

@@ -1,6 +1,6 @@
 //! The calls of a board on its port.
 
-ghost use Rattle.std.specs.Prelude.{◌≡◌, ◌<◌, ◌+◌, ◌*◌, ◌↔◌, ℕ, [], true, IsTrue};
+ghost use Rattle.std.specs.Prelude.{◌≡◌, ◌<◌, ◌+◌, ◌*◌, ℕ, [], true, false};
 ghost use Rattle.sift_buffer.specs.Conditions.{MayTurn};
 ghost use Rattle.sift_buffer.specs.Views.{Turns};
 ghost use Rattle.sift_unit.specs.Desk.{is_hearing as at_hearing, is_saying as at_saying, is_end as at_end};
@@ -10,7 +10,7 @@ ghost use Rattle.sift_unit.specs.Going.{InRange};
 ghost use Rattle.sift_unit.specs.Passing.{IsSlotOf};
 ghost use Rattle.sift_unit.specs.Stepping.{Steps, HasMoved};
 ghost use Rattle.sift_unit.specs.Keeping.{IsEarly};
-ghost use Rattle.sift_unit.specs.Boards.{desk_of, Drives, GoesOn, TurnsNext, BeginsNext};
+ghost use Rattle.sift_unit.specs.Boards.{desk_of, Drives, IsMarked, GoesOn, TurnsNext, BeginsNext};
 
 use crate::board::Board;
 use crate::duty::Duty;
@@ -49,7 +49,7 @@ impl Board {
             }
             return Stepped::Turned;
         }
-        if self.frame == self.frames {
+        if self.frame == mission.frames() {
             return Stepped::Landed;
         }
         self.find_call(mission);
@@ -133,7 +133,7 @@ impl Board {
         match port.try_enter() {
             Entering::Entered => {
                 self.go_on(mission);
-                if self.frame == self.frames {
+                if self.frame == mission.frames() {
                     return Stepped::Landed;
                 }
                 Stepped::Moved
@@ -147,7 +147,8 @@ impl Board {
         requires fits { Fits (M.mission mission.now) }
         requires range { InRange (M.mission mission.now) (desk_of self.now) }
         requires frame { self.now.frame < self.now.frames }
-        ensures { IsTrue result ↔ TurnsNext (M.mission mission.now) self.now }
+        ensures turns { result ≡ true → TurnsNext (M.mission mission.now) self.now }
+        ensures enters { result ≡ false → ¬ TurnsNext (M.mission mission.now) self.now }
     {
         self.subframe + 1 == mission.period() && self.storm == Some(self.frame + 1)
     }
@@ -177,7 +178,7 @@ impl Board {
         requires may { MayTurn (T.view port.old).conduct }
         requires first { (T.view port.old).conduct.progress ≡ 0 }
         ensures turned { Turns (T.view port.old) (T.view port.new) }
-        ensures marked { self.new ≡ record self.old { turned = true } }
+        ensures marked { IsMarked self.old self.new }
         ensures follows { T.follows port.old [] port.new }
     {
         match port.turn() {

@@ -1,9 +1,8 @@
-use Rattle.std.proofs.Common.{◌≡◌, ◌+◌, ⊥, Some, sym, ap, ◌∙◌, subst}
-use Rattle.sift_unit.specs.Keeping.{IsEarly}
+use Rattle.std.proofs.Common.{sym, ◌∙◌}
 use Rattle.sift_unit.specs.Boards.{desk_of}
-use Rattle.sift_unit.proofs.Driving.{flies_here, may_enter_at, looks_drive, enter_drives}
+use Rattle.sift_unit.proofs.Driving.{flies_here, may_enter_at, looks_drive, early_there, enter_drives}
 use Rattle.sift_unit.proofs.Continuing.{enter_moves, enter_lands, waits}
-use Rattle.sift_unit.proofs.Marks.{early_on, range_as}
+use Rattle.sift_unit.proofs.Marks.{range_as}
 use Rattle.sift_unit.proofs.board.Board.enter.Goals as goal
 
 -- it is in range
@@ -17,42 +16,43 @@ go_on-requires-clause-range g c = range_as _ _ (desk_of c.args.self.now) _ c.req
 pub try_enter-requires : goal.try_enter-requires
 try_enter-requires g c = may_enter_at _ c.args.self.now (g.T.Look.view c.args.port.now) c.requires.drives c.requires.early c.requires.frame
 
--- after the entry it is before its storm still
-early_then : (g : _) (c : goal.In-Entered) → IsEarly (g.M.Duty.mission c.args.mission.now) (desk_of c.go_on.new.self)
-early_then g c = early_on _ (desk_of c.args.self.now) (desk_of c.go_on.new.self) c.go_on.ensures.same.unit c.requires.early
-    (λ last storm. c.if-turns_next.false (c.turns_next.ensures.1 (last, c.requires.drives.storm ∙ storm))) c.go_on.ensures.frame
+-- it turns next
+pub turn-requires-clause-next : goal.turn-requires-clause-next
+turn-requires-clause-next g c = c.turns_next.ensures.turns c.if-turns_next.true
 
 -- the board after the last frame
 pub returns-then-self-frames-clause-drives : goal.returns-then-self-frames-clause-drives
 returns-then-self-frames-clause-drives g c =
     enter_drives _ c.args.self.now (g.T.Look.view c.args.port.now) c.requires.drives c.requires.early c.go_on.new.self (g.T.Look.view c.try_enter.new.self)
-    c.go_on.ensures (early_then g c) c.in-Entered.ensures.tried
+    c.go_on.ensures (c.turns_next.ensures.enters c.if-turns_next.false) c.in-Entered.ensures.tried
 
 pub returns-then-self-frames-clause-steps : goal.returns-then-self-frames-clause-steps
 returns-then-self-frames-clause-steps g c =
     let b = c.args.self.now in
-    let d = enter_drives _ b (g.T.Look.view c.args.port.now) c.requires.drives c.requires.early c.go_on.new.self (g.T.Look.view c.try_enter.new.self)
-    c.go_on.ensures (early_then g c) c.in-Entered.ensures.tried in
-    let f = flies_here _ b (g.T.Look.view c.args.port.now) c.requires.drives c.requires.early in
-    enter_lands _ c.requires.drives.fits (desk_of b) c.requires.end f.going.range c.requires.frame
-    (desk_of c.go_on.new.self) (range_as _ _ (desk_of c.go_on.new.self) _ d.keeps) c.go_on.ensures.place _ _ f.going.left c.in-Entered.ensures.tried
-    c.requires.drives.storms (early_then g c) (c.if-self-frames.true ∙ d.frames)
+    let v = g.T.Look.view c.args.port.now in
+    let flies = (c.turns_next.ensures.enters c.if-turns_next.false) in
+    let d = enter_drives _ b v c.requires.drives c.requires.early c.go_on.new.self (g.T.Look.view c.try_enter.new.self) c.go_on.ensures flies c.in-Entered.ensures.tried in
+    let f = flies_here _ b v c.requires.drives c.requires.early in
+    enter_lands _ c.requires.drives.fits (desk_of b) c.requires.end f.going.range c.requires.frame (desk_of c.go_on.new.self)
+    (range_as _ _ (desk_of c.go_on.new.self) _ d.keeps) c.go_on.ensures.place _ _ f.going.left c.in-Entered.ensures.tried c.requires.drives.storms
+    (early_there _ b v c.requires.drives c.requires.early c.go_on.new.self c.go_on.ensures flies) (c.if-self-frames.true ∙ c.frames.ensures)
 
 -- the board in the next subframe
 pub returns-else-self-frames-clause-drives : goal.returns-else-self-frames-clause-drives
 returns-else-self-frames-clause-drives g c =
     enter_drives _ c.args.self.now (g.T.Look.view c.args.port.now) c.requires.drives c.requires.early c.go_on.new.self (g.T.Look.view c.try_enter.new.self)
-    c.go_on.ensures (early_then g c) c.in-Entered.ensures.tried
+    c.go_on.ensures (c.turns_next.ensures.enters c.if-turns_next.false) c.in-Entered.ensures.tried
 
 pub returns-else-self-frames-clause-steps : goal.returns-else-self-frames-clause-steps
 returns-else-self-frames-clause-steps g c =
     let b = c.args.self.now in
-    let d = enter_drives _ b (g.T.Look.view c.args.port.now) c.requires.drives c.requires.early c.go_on.new.self (g.T.Look.view c.try_enter.new.self)
-    c.go_on.ensures (early_then g c) c.in-Entered.ensures.tried in
-    let f = flies_here _ b (g.T.Look.view c.args.port.now) c.requires.drives c.requires.early in
-    enter_moves _ c.requires.drives.fits (desk_of b) c.requires.end f.going.range c.requires.frame
-    (desk_of c.go_on.new.self) (range_as _ _ (desk_of c.go_on.new.self) _ d.keeps) c.go_on.ensures.place _ _ f.going.left c.in-Entered.ensures.tried
-    (λ e. c.if-self-frames.false (e ∙ sym d.frames))
+    let v = g.T.Look.view c.args.port.now in
+    let flies = (c.turns_next.ensures.enters c.if-turns_next.false) in
+    let d = enter_drives _ b v c.requires.drives c.requires.early c.go_on.new.self (g.T.Look.view c.try_enter.new.self) c.go_on.ensures flies c.in-Entered.ensures.tried in
+    let f = flies_here _ b v c.requires.drives c.requires.early in
+    enter_moves _ c.requires.drives.fits (desk_of b) c.requires.end f.going.range c.requires.frame (desk_of c.go_on.new.self)
+    (range_as _ _ (desk_of c.go_on.new.self) _ d.keeps) c.go_on.ensures.place _ _ f.going.left c.in-Entered.ensures.tried
+    (λ e. c.if-self-frames.false (e ∙ sym c.frames.ensures))
 
 -- the board that waits
 pub returns-in-NotYet-clause-drives : goal.returns-in-NotYet-clause-drives

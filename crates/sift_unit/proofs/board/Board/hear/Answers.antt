@@ -1,3 +1,4 @@
+use Rattle.std.proofs.Common.{refl}
 use Rattle.sift_unit.proofs.Driving.{may_hear_at, hear_drives, hear_moves}
 use Rattle.sift_unit.proofs.board.Board.hear.Goals as goal
 
@@ -9,7 +10,7 @@ hear-word-requires g c =
 pub returns-in-Some-clause-drives : goal.returns-in-Some-clause-drives
 returns-in-Some-clause-drives g c =
     hear_drives _ c.requires.drives.fits c.args.self.now (g.T.Look.view c.args.port.now) c.requires.drives c.requires.early c.requires.frame c.requires.here
-    _ _ _ _ _ c.from.ensures c.in-Some.ensures.found.0 c.stamp-stamp.ensures c.hear-word.ensures.heard
+    _ _ _ _ _ _ (record { unit = refl; frames = refl; storm = refl; turned = refl }) refl c.from.ensures c.in-Some.ensures.found.0 c.stamp-stamp.ensures c.hear-word.ensures.heard
 
 pub returns-in-Some-clause-moved : goal.returns-in-Some-clause-moved
 returns-in-Some-clause-moved g c =

@@ -1,23 +1,29 @@
-use Rattle.std.proofs.Common.{◌∙◌, sym, inl, inr, refl, subst, arith}
-use Rattle.sift_unit.specs.Boards.{desk_of, Drives}
+use Rattle.std.proofs.Common.{◌∙◌, sym, arith}
+use Rattle.sift_unit.specs.Boards.{desk_of}
 use Rattle.sift_unit.proofs.Quiet.{call_says, call_hears}
-use Rattle.sift_unit.proofs.Driving.{flies_here, pass_drives, may_turn_first, nothing_yet, turn_first_drives}
+use Rattle.sift_unit.proofs.Driving.{early_at, flies_here, pass_drives}
 use Rattle.sift_unit.proofs.Continuing.{moves_from, steps_from}
-use Rattle.sift_unit.proofs.Marks.{is_early, early_same, range_as, not_never}
+use Rattle.sift_unit.proofs.Marks.{apart_by, not_never}
 use Rattle.sift_unit.proofs.board.Board.step_by.Goals as goal
 
 -- where it found its call, it drives on
 pub enter-requires-clause-drives : goal.enter-requires-clause-drives
 enter-requires-clause-drives g c =
-    pass_drives _ c.args.self.now (g.T.Look.view c.args.port.now) c.requires (early_here g c) c.find_call.new.self c.find_call.ensures.passes c.find_call.ensures.same
+    let early = early_at (g.M.Duty.mission c.args.mission.now) c.args.self.now (g.T.Look.view c.args.port.now) c.requires (apart_by c.args.self.now.storm c.args.self.now.frame (sym c.eq.ensures ∙ c.if-eq.false)) in
+    pass_drives (g.M.Duty.mission c.args.mission.now) c.args.self.now (g.T.Look.view c.args.port.now) c.requires early c.find_call.new.self c.find_call.ensures.passes
+    (record { unit = c.find_call.ensures.same.unit; frames = c.find_call.ensures.same.frames; storm = c.find_call.ensures.same.storm; turned = c.find_call.ensures.same.turned })
 
 pub say-requires-clause-drives : goal.say-requires-clause-drives
 say-requires-clause-drives g c =
-    pass_drives _ c.args.self.now (g.T.Look.view c.args.port.now) c.requires (early_here g c) c.find_call.new.self c.find_call.ensures.passes c.find_call.ensures.same
+    let early = early_at (g.M.Duty.mission c.args.mission.now) c.args.self.now (g.T.Look.view c.args.port.now) c.requires (apart_by c.args.self.now.storm c.args.self.now.frame (sym c.eq.ensures ∙ c.if-eq.false)) in
+    pass_drives (g.M.Duty.mission c.args.mission.now) c.args.self.now (g.T.Look.view c.args.port.now) c.requires early c.find_call.new.self c.find_call.ensures.passes
+    (record { unit = c.find_call.ensures.same.unit; frames = c.find_call.ensures.same.frames; storm = c.find_call.ensures.same.storm; turned = c.find_call.ensures.same.turned })
 
 pub hear-requires-clause-drives : goal.hear-requires-clause-drives
 hear-requires-clause-drives g c =
-    pass_drives _ c.args.self.now (g.T.Look.view c.args.port.now) c.requires (early_here g c) c.find_call.new.self c.find_call.ensures.passes c.find_call.ensures.same
+    let early = early_at (g.M.Duty.mission c.args.mission.now) c.args.self.now (g.T.Look.view c.args.port.now) c.requires (apart_by c.args.self.now.storm c.args.self.now.frame (sym c.eq.ensures ∙ c.if-eq.false)) in
+    pass_drives (g.M.Duty.mission c.args.mission.now) c.args.self.now (g.T.Look.view c.args.port.now) c.requires early c.find_call.new.self c.find_call.ensures.passes
+    (record { unit = c.find_call.ensures.same.unit; frames = c.find_call.ensures.same.frames; storm = c.find_call.ensures.same.storm; turned = c.find_call.ensures.same.turned })
 
 -- there it says, or else hears
 pub say-requires-clause-here : goal.say-requires-clause-here
@@ -33,9 +39,12 @@ hear-requires-clause-here g c =
 -- what it came to from there is what it came to from where it stood
 pub returns-then-is_end-clause-steps : goal.returns-then-is_end-clause-steps
 returns-then-is_end-clause-steps g c =
+    let early = early_at (g.M.Duty.mission c.args.mission.now) c.args.self.now (g.T.Look.view c.args.port.now) c.requires (apart_by c.args.self.now.storm c.args.self.now.frame (sym c.eq.ensures ∙ c.if-eq.false)) in
+    let going = (flies_here (g.M.Duty.mission c.args.mission.now) c.args.self.now (g.T.Look.view c.args.port.now) c.requires early).going in
     steps_from _ (desk_of c.args.self.now) (desk_of c.find_call.new.self) (desk_of c.enter.new.self) (g.T.Look.view c.args.port.now) (g.T.Look.view c.enter.new.port)
     c.find_call.ensures.passes c.find_call.ensures.nearer c.enter.result (g.T.Look.stands c.enter.new.port)
-    (room_there g c) (aloft g c) c.enter.ensures.steps
+    (let same = c.find_call.ensures.passes.frame in let most = going.range.frame in let more = c.if-self-frames.false in let is = c.frames.ensures in omega arith)
+    (not_never (g.M.Duty.mission c.args.mission.now) c.requires.fits (desk_of c.args.self.now) (g.T.Look.view c.args.port.now).conduct going) c.enter.ensures.steps
 
 pub returns-then-says-clause-steps : goal.returns-then-says-clause-steps
 returns-then-says-clause-steps g c =

@@ -1,6 +1,6 @@
 use Rattle.std.proofs.Common.{refl}
 use Rattle.sift_unit.specs.Boards.{desk_of}
-use Rattle.sift_unit.proofs.Driving.{early_next, room_next, flies_here, looks_drive, turn_drives}
+use Rattle.sift_unit.proofs.Driving.{early_next, room_next, flies_here, looks_drive, turn_keeps, turn_drives}
 use Rattle.sift_unit.proofs.Continuing.{turn_turns, waits}
 use Rattle.sift_unit.proofs.Marks.{range_as}
 use Rattle.sift_unit.proofs.board.Board.turn.Goals as goal
@@ -22,8 +22,9 @@ end_frame-requires-clause-frame g c = room_next _ c.args.self.now (g.T.Look.view
 pub returns-in-Entered-clause-drives : goal.returns-in-Entered-clause-drives
 returns-in-Entered-clause-drives g c =
     let v = g.T.Look.view c.args.port.now in
-    turn_drives _ c.args.self.now v c.requires.drives (early_next _ c.args.self.now v c.requires.drives c.requires.next) c.end_frame.new.self
-    (g.T.Look.view c.turn.new.self) c.end_frame.ensures.goes_on c.end_frame.ensures.begins c.requires.next c.in-Entered.ensures.tried
+    turn_drives _ c.args.self.now v c.requires.drives (early_next _ c.args.self.now v c.requires.drives c.requires.next) c.end_frame.new.self _
+    (g.T.Look.view c.turn.new.self) c.end_frame.ensures.goes_on c.end_frame.ensures.begins (record { desk = refl; frames = refl; storm = refl; turned = refl })
+    c.requires.next c.in-Entered.ensures.tried
 
 pub returns-in-Entered-clause-steps : goal.returns-in-Entered-clause-steps
 returns-in-Entered-clause-steps g c =
@@ -31,10 +32,10 @@ returns-in-Entered-clause-steps g c =
     let v = g.T.Look.view c.args.port.now in
     let early = early_next _ b v c.requires.drives c.requires.next in
     let f = flies_here _ b v c.requires.drives early in
-    let d = turn_drives _ b v c.requires.drives early c.end_frame.new.self (g.T.Look.view c.turn.new.self) c.end_frame.ensures.goes_on c.end_frame.ensures.begins
+    let t = turn_keeps _ b v c.requires.drives early c.end_frame.new.self (g.T.Look.view c.turn.new.self) c.end_frame.ensures.goes_on c.end_frame.ensures.begins
     c.requires.next c.in-Entered.ensures.tried in
     turn_turns _ c.requires.drives.fits (desk_of b) c.requires.end f.going.range (room_next _ b v c.requires.drives c.requires.next)
-    (desk_of c.end_frame.new.self) d.keeps.going.range c.end_frame.ensures.goes_on.place v _ f.going.left c.in-Entered.ensures.tried d.keeps.storm d.keeps.progress
+    (desk_of c.end_frame.new.self) t.going.range c.end_frame.ensures.goes_on.place v _ f.going.left c.in-Entered.ensures.tried t.storm t.progress
 
 -- the board that waits
 pub returns-in-NotYet-clause-drives : goal.returns-in-NotYet-clause-drives
