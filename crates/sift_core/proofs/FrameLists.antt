@@ -1,12 +1,14 @@
 -- What a board has kept does not depend on accounts of later frames.
-use Rattle.std.proofs.Common.{◌≡◌, ℕ, zero, suc, ◌<◌, ◌≤◌, true, false, ◌∙◌, subst, arith}
+use Rattle.std.proofs.Common.{◌≡◌, ℕ, zero, suc, ◌<◌, ◌≤◌, Bool, true, false, not, Option, Some, None, inl, inr, refl, ◌∙◌, subst, arith}
+use Rattle.std.proofs.lemmas.Bool.{cases_lt, le-ltb, lt-ltb}
 use Rattle.sift_base.specs.Units.{has}
 use Rattle.sift_buffer.specs.Conduct.{Conduct as Acts}
 use Rattle.sift_mission.specs.Mission.{FlownMission, IsConfigOf}
 use Rattle.sift_conduct.specs.Account.{Account, Places}
 use Rattle.sift_conduct.specs.Acts.{BoardKeeps, ActsAre}
 use Rattle.sift_conduct.specs.Conduct.{said_of}
-use Rattle.sift_conduct.specs.Frames.{FrameConduct, FirstConduct, LaterConduct, BusyConduct, IdleConduct}
+use Rattle.sift_mission.specs.Slots.{turned_by}
+use Rattle.sift_conduct.specs.Frames.{Flies, FrameConduct, FirstConduct, LaterConduct, BusyConduct, IdleConduct}
 
 -- the conduct of a frame reads the accounts of this frame and the one before
 conduct_by : (m : FlownMission) (u : ℕ) (a b : ℕ → Account) (h s : ℕ → Places) (f : ℕ) → ((g : ℕ) → g ≤ f → a g ≡ b g) → FrameConduct m u a h s f →
@@ -29,13 +31,22 @@ conduct_by m u a b h s (suc f) same c =
       idle = subst (λ (x : Account). has x.cfg u ≡ false → IdleConduct x) e c.idle;
     }
 
--- and so what a board has kept in n frames those of these frames
-pub keeps_by : (m : FlownMission) (u : ℕ) (d : Acts) (a b : ℕ → Account) (n : ℕ) → ((f : ℕ) → f < n → a f ≡ b f) → BoardKeeps m u d a n →
+-- a unit that flies in a frame flies in each frame before
+earlier : (storm : Option ℕ) (f g : ℕ) → g ≤ f → turned_by storm f ≡ false → turned_by storm g ≡ false
+earlier None f g before flies = refl
+earlier (Some from) f g before flies = elim (cases_lt f from) [
+  | inl low ↦ rw (lt-ltb g from (omega arith)) refl
+  | inr high ↦ absurd (let e : true ≡ false = subst (λ (b : Bool). not b ≡ false) (le-ltb f from high) flies in cc)
+]
+
+-- and so what a board has kept in n frames those of these frames in which its unit flies
+pub keeps_by : (m : FlownMission) (u : ℕ) (d : Acts) (a b : ℕ → Account) (n : ℕ) → ((f : ℕ) → f < n → Flies m u f → a f ≡ b f) → BoardKeeps m u d a n →
     BoardKeeps m u d b n
 keeps_by m u d a b n same k = record {
   stamps = k.stamps;
   turns = k.turns;
-  config = λ f low flies. subst (λ (x : Account). IsConfigOf m x.cfg) (same f low) (k.config f low flies);
-  acts = λ f low flies. subst (λ (x : Account). ActsAre m d x.cfg u f) (same f low) (k.acts f low flies);
-  conduct = λ f low flies. conduct_by m u a b _ _ f (λ g under. same g (omega arith)) (k.conduct f low flies);
+  config = λ f low flies. subst (λ (x : Account). IsConfigOf m x.cfg) (same f low flies) (k.config f low flies);
+  acts = λ f low flies. subst (λ (x : Account). ActsAre m d x.cfg u f) (same f low flies) (k.acts f low flies);
+  conduct = λ f low flies. conduct_by m u a b _ _ f
+      (λ g under. same g (omega arith) (record { unit = flies.unit; whole = earlier (m.storm u) f g under flies.whole })) (k.conduct f low flies);
 }

@@ -4,8 +4,8 @@ use mathlib.Core.Logic.{dite}
 use native.Mathlib.Decide.{ℕ_discrete}
 use Rattle.sift_base.specs.Units.{has}
 use Rattle.sift_mission.specs.Mission.{FlownMission}
-use Rattle.sift_core.specs.Machines.{Flies, layout_of, progress_at}
-use Rattle.sift_core.specs.Turns.{IsLeast, HaveAllLanded}
+use Rattle.sift_core.specs.Machines.{IsFlying, layout_of, progress_at}
+use Rattle.sift_core.specs.Turns.{IsLeast, AreAllDown}
 use Rattle.sift_core.specs.declared.machine.Machine.{Machine}
 use Rattle.sift_core.proofs.FirstUnits.{low_unit}
 use Rattle.sift_core.proofs.MachineSteps.{unit_below}
@@ -46,22 +46,22 @@ least_less m x n below found l less = record {
 }
 
 -- the least of all
-pub least_found : (m : FlownMission) (x : Machine) (n below v : ℕ) → Flies m x → n ≡ (layout_of x).units → IsLeastBelow m x n below (Some v) →
+pub least_found : (m : FlownMission) (x : Machine) (n below v : ℕ) → IsFlying m x → n ≡ (layout_of x).units → IsLeastBelow m x n below (Some v) →
     IsLeast m x v
-least_found m x n below v flies all l = record {
-  unit = subst (λ (us : List ℕ). has us v ≡ true) (sym flies.units) (low_unit (layout_of x).units v (let a = l.found_is.0 in omega arith));
+least_found m x n below v flying all l = record {
+  unit = subst (λ (us : List ℕ). has us v ≡ true) (sym flying.1.units) (low_unit (layout_of x).units v (let a = l.found_is.0 in omega arith));
   aloft = (let a = l.found_is.1 in let b = l.found_is.2 in omega arith);
-  least = λ p there. let low = unit_below m x p flies there in let a = l.found_is.1 in let b = l.none_less p (omega arith) in omega arith;
+  least = λ p there. let low = unit_below m x p flying there in let a = l.found_is.1 in let b = l.none_less p (omega arith) in omega arith;
   lowest = λ p low. let a = l.found_is.1 in let b = l.found_is.3 p low in omega arith;
 }
 
 -- or none is left
-pub least_none : (m : FlownMission) (x : Machine) (n below : ℕ) → Flies m x → n ≡ (layout_of x).units → IsLeastBelow m x n below None → HaveAllLanded m x
-least_none m x n below flies all l u there = let low = unit_below m x u flies there in let a = l.found_is in let b = l.none_less u
+pub least_none : (m : FlownMission) (x : Machine) (n below : ℕ) → IsFlying m x → n ≡ (layout_of x).units → IsLeastBelow m x n below None → AreAllDown m x
+least_none m x n below flying all l u there = let low = unit_below m x u flying there in let a = l.found_is in let b = l.none_less u
     (omega arith) in omega arith
 
 -- what was found in the end
-pub least_ends : (m : FlownMission) (x : Machine) (n below : ℕ) (found : Option ℕ) → Flies m x → n ≡ (layout_of x).units → IsLeastBelow m x n below found →
-    IfSome found (λ v. IsLeast m x v) × IfNone found (HaveAllLanded m x)
-least_ends m x n below None flies all l = (tt, least_none m x n below flies all l)
-least_ends m x n below (Some v) flies all l = (least_found m x n below v flies all l, tt)
+pub least_ends : (m : FlownMission) (x : Machine) (n below : ℕ) (found : Option ℕ) → IsFlying m x → n ≡ (layout_of x).units → IsLeastBelow m x n below found →
+    IfSome found (λ v. IsLeast m x v) × IfNone found (AreAllDown m x)
+least_ends m x n below None flying all l = (tt, least_none m x n below flying all l)
+least_ends m x n below (Some v) flying all l = (least_found m x n below v flying all l, tt)

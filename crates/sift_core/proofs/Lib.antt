@@ -1,3 +1,4 @@
+pub mod Beside
 pub mod EndedFrames
 pub mod FirstUnits
 pub mod FrameLists
@@ -10,4 +11,7 @@ pub mod NewRacks
 pub mod Others
 pub mod Progress
 pub mod RackEvents
+pub mod Stages
+pub mod Storming
+pub mod StrayEvents
 pub mod Turning

@@ -1,5 +1,5 @@
 -- What a step of one unit keeps of a machine, and what it tells.
-use Rattle.std.proofs.Common.{◌≡◌, ◌≢◌, ℕ, ◌<◌, Vec, List, length, length-set, slice_set, slice_index_or, true, sym, refl, ap, ◌∙◌, subst}
+use Rattle.std.proofs.Common.{◌≡◌, ◌≢◌, ℕ, ◌<◌, Vec, List, [], length, length-set, slice_set, slice_index_or, true, sym, refl, ap, ◌∙◌, subst}
 use Rattle.std.specs.declared.alloc.Global.{Global}
 use Rattle.std.proofs.lemmas.List.{get_or-set_same, get_or-set_other, get_or_default}
 use mathlib.Core.Logic.{dite}
@@ -13,17 +13,20 @@ use Rattle.sift_buffer.specs.Core.{Core}
 use Rattle.sift_buffer.specs.Tables.{ranges_of}
 use Rattle.sift_buffer.specs.Lawful.{Lawful}
 use Rattle.sift_buffer.specs.Laws.{EventsKeepLawful}
+use Rattle.sift_buffer.specs.Ledgers.{conduct_in}
 use Rattle.sift_buffer.specs.Reaches.{Reaches}
 use Rattle.sift_buffer.specs.Views.{View}
 use Rattle.sift_mission.specs.Mission.{FlownMission}
 use Rattle.sift_unit.specs.Boards.{desk_of, Drives, IsPortOf}
-use Rattle.sift_unit.specs.Going.{Going}
+use Rattle.sift_unit.specs.Keeping.{KeepsAs}
 use Rattle.sift_unit.specs.Stepping.{Steps}
 use Rattle.sift_unit.specs.declared.board.Board.{Board}
 use Rattle.sift_unit.specs.declared.stepped.Stepped.{Stepped}
-use Rattle.sift_core.specs.Crews.{core_by}
+use Rattle.sift_flight.specs.Hearing.{Strays, no_strays}
+use Rattle.sift_core.specs.Crews.{core_by, ledger_at, with_strays}
+use Rattle.sift_core.specs.Following.{none_more}
 use Rattle.sift_core.specs.Racks.{Follows, IsChosen, Stands, ranges_for, core_of, view_of, view_at}
-use Rattle.sift_core.specs.Machines.{Flies, board_at, layout_of}
+use Rattle.sift_core.specs.Machines.{Flies, IsFlying, board_at, layout_of}
 use Rattle.sift_core.specs.Steps.{StepsUnit}
 use Rattle.sift_core.specs.declared.machine.Machine.{Machine}
 use Rattle.sift_core.specs.declared.rack.Rack.{Rack}
@@ -31,22 +34,22 @@ use Rattle.sift_core.proofs.FirstUnits.{unit_low}
 use Rattle.sift_core.proofs.Others.{others_stay, reached_lawful}
 
 -- the unit is one of the rack's
-pub unit_below : (m : FlownMission) (x : Machine) (u : ℕ) → Flies m x → has m.units u ≡ true → u < (layout_of x).units
-unit_below m x u flies there = unit_low (layout_of x).units u (subst (λ (us : List ℕ). has us u ≡ true) flies.units there)
+pub unit_below : (m : FlownMission) (x : Machine) (u : ℕ) → IsFlying m x → has m.units u ≡ true → u < (layout_of x).units
+unit_below m x u flying there = unit_low (layout_of x).units u (subst (λ (us : List ℕ). has us u ≡ true) flying.1.units there)
 
 -- another choice of the unit leaves ranges, core and, for the unit, the view
 module _ (x : Rack) (u : ℕ) (c : Rack) (chosen : IsChosen x u c) where
   pub same_ranges : ranges_for c ≡ ranges_for x
   same_ranges i = ranges_of (chosen.layout i) (chosen.frames i)
 
-  pub same_core : core_of c ≡ core_of x
-  same_core i = core_by (chosen.words i).items (chosen.acts i).items
+  pub same_core : (w : Strays) → core_of c w ≡ core_of x w
+  same_core w i = core_by (chosen.words i).items (chosen.acts i).items w
 
   pub same_view : view_of c ≡ view_at x u
   same_view i = record {
     ranges = same_ranges i;
     unit = chosen.unit i;
-    conduct = (same_core i).of (chosen.unit i);
+    conduct = conduct_in (ledger_at (chosen.acts i).items (chosen.unit i));
     looks = chosen.looks i;
     last = record { unit = chosen.last_unit i; number = chosen.last_number i };
   }
@@ -55,40 +58,41 @@ module _ (x : Rack) (u : ℕ) (c : Rack) (chosen : IsChosen x u c) where
 drives_by : (m : FlownMission) (b : Board) (v w : View) → w.unit ≡ v.unit → w.ranges ≡ v.ranges → w.conduct ≡ v.conduct → Drives m b v → Drives m b w
 drives_by m b v w unit ranges conduct d = record {
   fits = d.fits;
+  storms = d.storms;
   unit = unit ∙ d.unit;
   ranges = subst (λ (r : Ranges). IsPortOf m r) (sym ranges) d.ranges;
-  still = d.still;
-  room = d.room;
-  going = subst (λ (c : Conduct). Going m (desk_of b) c) (sym conduct) d.going;
+  frames = d.frames;
+  storm = d.storm;
+  keeps = subst (λ (c : Conduct). KeepsAs m b.turned (desk_of b) c) (sym conduct) d.keeps;
 }
 
 -- before the step: the unit's board drives on the rack whose unit it is now
-pub drives_chosen : (m : FlownMission) (x : Machine) (u : ℕ) (c : Rack) (at : ℕ) (b : Board) → Flies m x → has m.units u ≡ true → IsChosen x.rack u c →
+pub drives_chosen : (m : FlownMission) (x : Machine) (u : ℕ) (c : Rack) (at : ℕ) (b : Board) → IsFlying m x → has m.units u ≡ true → IsChosen x.rack u c →
     at ≡ u → b ≡ slice_index_or x.boards.items at b → Drives m b (view_of c)
-drives_chosen m x u c at b flies there chosen here is =
+drives_chosen m x u c at b flying there chosen here is =
     let mine : b ≡ board_at x b u = is ∙ ap (λ (i : ℕ). slice_index_or x.boards.items i b) here in
     subst (λ (v : View). Drives m b v) (sym (same_view x.rack u c chosen))
-    (subst (λ (z : Board). Drives m z (view_at x.rack u)) (sym mine) (flies.drives u b (unit_below m x u flies there)))
+    (subst (λ (z : Board). Drives m z (view_at x.rack u)) (sym mine) (flying.1.drives u b (unit_below m x u flying there)))
 
 -- what is known after the step of the unit's board
 pub record Stepping (m : FlownMission) (x : Machine) (u : ℕ) (c : Rack) (at : ℕ) (b : Board) (r : Stepped) (d : Rack) (b' : Board) : Type 0 where
   pub keep : EventsKeepLawful
-  pub flies : Flies m x
+  pub flying : IsFlying m x
   pub unit : has m.units u ≡ true
   pub chosen : IsChosen x.rack u c
   pub here : at ≡ u
   pub board : b ≡ slice_index_or x.boards.items at b
   pub drives : Drives m b' (view_of d)
   pub steps : Steps m (desk_of b) (view_of c) r (desk_of b') (view_of d) (Stands d)
-  pub follows : Follows c d
+  pub follows : Follows c [] d
 
 module _ (m : FlownMission) (x : Machine) (u : ℕ) (c : Rack) (at : ℕ) (b : Board) (r : Stepped) (d : Rack) (b' : Board)
     (s : Stepping m x u c at b r d b') (bs : Vec Board Global) (is : bs.items ≡ slice_set x.boards.items at b') where
   low : u < (layout_of x).units
-  low = unit_below m x u s.flies s.unit
+  low = unit_below m x u s.flying s.unit
 
   within : u < length x.boards.items
-  within = rw s.flies.count low
+  within = rw s.flying.1.count low
 
   items : bs.items ≡ slice_set x.boards.items u b'
   items = is ∙ ap (λ (i : ℕ). slice_set x.boards.items i b') s.here
@@ -105,10 +109,12 @@ module _ (m : FlownMission) (x : Machine) (u : ℕ) (c : Rack) (at : ℕ) (b : B
   mine : d.unit ≡ u
   mine = s.follows.unit ∙ s.chosen.unit
 
-  reaches : Reaches (ranges_for x.rack) u (core_of x.rack) (core_of d)
-  reaches = subst (λ (a : Core). Reaches (ranges_for x.rack) u a (core_of d)) (same_core x.rack u c s.chosen)
-      (subst (λ (v : ℕ). Reaches (ranges_for x.rack) v (core_of c) (core_of d)) s.chosen.unit
-      (subst (λ (n : Ranges). Reaches n c.unit (core_of c) (core_of d)) (same_ranges x.rack u c s.chosen) s.follows.reaches))
+  reaches : (w : Strays) → Reaches (ranges_for x.rack) u (core_of x.rack w) (core_of d w)
+  reaches w = subst (λ (t : Strays). Reaches (ranges_for x.rack) u (core_of x.rack w) (core_of d t)) (none_more w u)
+      (subst (λ (a : Core). Reaches (ranges_for x.rack) u a (core_of d (with_strays w u []))) (same_core x.rack u c s.chosen w)
+      (subst (λ (v : ℕ). Reaches (ranges_for x.rack) v (core_of c w) (core_of d (with_strays w v []))) s.chosen.unit
+      (subst (λ (n : Ranges). Reaches n c.unit (core_of c w) (core_of d (with_strays w c.unit []))) (same_ranges x.rack u c s.chosen)
+      (s.follows.reaches w))))
 
   -- the own board after the step, and another's
   own_board : (e : Board) → slice_index_or bs.items u e ≡ b'
@@ -117,20 +123,20 @@ module _ (m : FlownMission) (x : Machine) (u : ℕ) (c : Rack) (at : ℕ) (b : B
   other_board : (p : ℕ) (e : Board) → p ≢ u → slice_index_or bs.items p e ≡ board_at x e p
   other_board p e ne = ap (λ (z : List Board). slice_index_or z p e) items ∙ get_or-set_other x.boards.items u p b' e ne
 
-  pub step_flies : Flies m (record { rack = d; boards = bs })
-  step_flies = record {
-    units = s.flies.units ∙ ap (λ (l : Layout). first_units l.units) (sym layout);
-    lawful = subst (λ (n : Ranges). Lawful n (core_of d)) (sym ranges)
-        (reached_lawful s.keep (ranges_for x.rack) u (core_of x.rack) (core_of d) reaches s.flies.lawful);
-    count = ap length items ∙ (length-set x.boards.items u b' ∙ (s.flies.count ∙ ap (λ (l : Layout). l.units) (sym layout)));
-    frames = frames ∙ s.flies.frames;
+  pub step_flies : (w : Strays) → Flies m w x → Flies m w (record { rack = d; boards = bs })
+  step_flies w flies = record {
+    units = flies.units ∙ ap (λ (l : Layout). first_units l.units) (sym layout);
+    lawful = subst (λ (n : Ranges). Lawful n (core_of d w)) (sym ranges)
+        (reached_lawful s.keep (ranges_for x.rack) u (core_of x.rack w) (core_of d w) (reaches w) flies.lawful);
+    count = ap length items ∙ (length-set x.boards.items u b' ∙ (flies.count ∙ ap (λ (l : Layout). l.units) (sym layout)));
+    frames = frames ∙ flies.frames;
     drives = λ p e hp. dite (ℕ_discrete p u)
         (λ z. subst (λ (n : ℕ). Drives m (slice_index_or bs.items n e) (view_at d n)) (mine ∙ sym z)
         (subst (λ (y : Board). Drives m y (view_of d)) (sym (ap (λ (n : ℕ). slice_index_or bs.items n e) mine ∙ own_board e)) s.drives))
         (λ ne. subst (λ (y : Board). Drives m y (view_at d p)) (sym (other_board p e ne))
-        (drives_by m (board_at x e p) (view_at x.rack p) (view_at d p) refl ranges (others_stay (ranges_for x.rack) u (core_of x.rack)
-        (core_of d) reaches p ne)
-        (s.flies.drives p e (subst (λ (l : Layout). p < l.units) layout hp))));
+        (drives_by m (board_at x e p) (view_at x.rack p) (view_at d p) refl ranges (others_stay (ranges_for x.rack) u (core_of x.rack no_strays)
+        (core_of d no_strays) (reaches no_strays) p ne)
+        (flies.drives p e (subst (λ (l : Layout). p < l.units) layout hp))));
   }
 
   pub step_stepped : StepsUnit m u x r (record { rack = d; boards = bs })

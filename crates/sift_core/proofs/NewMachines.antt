@@ -1,5 +1,5 @@
 -- A machine before its first step.
-use Rattle.std.proofs.Common.{◌≡◌, ℕ, ◌+◌, ◌<◌, List, [], ◌∷◌, ◌++◌, length-append, slice_index_or, option_map, refl, sym, ap, ◌∙◌, subst, arith}
+use Rattle.std.proofs.Common.{◌≡◌, ℕ, ◌+◌, ◌<◌, List, [], ◌∷◌, ◌++◌, length-append, slice_index_or, refl, sym, ap, ◌∙◌, subst, arith}
 use Rattle.std.proofs.lemmas.List.{get_or_append_left}
 use Rattle.std.proofs.Math.Seq.{get_or-append_seam}
 use mathlib.Core.Logic.{dite}
@@ -20,8 +20,9 @@ use Rattle.sift_unit.specs.Keeping.{IsFresh}
 use Rattle.sift_mission.specs.PartsFit.{PartsFit}
 use Rattle.sift_unit.specs.Boards.{IsNewBoard, NewBoardLaw, IsPortOf}
 use Rattle.sift_unit.specs.declared.board.Board.{Board}
+use Rattle.sift_flight.specs.Hearing.{no_strays}
 use Rattle.sift_core.specs.Racks.{IsNewRack, ranges_for, core_of, view_at}
-use Rattle.sift_core.specs.Machines.{Flies, AreNewBoards}
+use Rattle.sift_core.specs.Machines.{Flies, AreNewBoards, IsNewMachine}
 use Rattle.sift_core.specs.declared.machine.Machine.{Machine}
 use Rattle.sift_core.proofs.FirstUnits.{unit_low, low_unit}
 
@@ -44,16 +45,16 @@ units_fit d fit = ap first_units (sym fit.layout.units)
 
 -- the machine flies
 pub new_flies : (d : MissionData) (x : Machine) → PartsFit d → FreshIsLawful → NewBoardLaw → IsNewRack x.rack d.layout d.frames →
-    AreNewBoards (flown d) d.units x.boards.items → Flies (flown d) x
+    AreNewBoards (flown d) d.units x.boards.items → Flies (flown d) no_strays x
 new_flies d x fit fresh may rack boards = record {
   units = units_fit d fit ∙ ap (λ (l : Layout). first_units l.units) (sym rack.layout_is);
-  lawful = subst (λ (r : Ranges). Lawful r (core_of x.rack)) (sym ranges) (subst (λ (c : Core). Lawful wanted c) (sym rack.core) (fresh wanted));
+  lawful = subst (λ (r : Ranges). Lawful r (core_of x.rack no_strays)) (sym ranges) (subst (λ (c : Core). Lawful wanted c) (sym rack.core) (fresh wanted));
   count = boards.count ∙ sym (ap (λ (l : Layout). l.units) rack.layout_is ∙ fit.layout.units);
   frames = rack.frames_are;
   drives = λ u e hu.
       let low : u < d.units = subst (λ (n : ℕ). u < n) (ap (λ (l : Layout). l.units) rack.layout_is ∙ fit.layout.units) hu in
       may (flown d) u (slice_index_or x.boards.items u e) (view_at x.rack u) (low_unit d.units u low)
-      (ap (option_map (λ storm. storm.0)) (fit.script.calm u)) (boards.new u e low) refl port
+      (boards.new u e low) refl port
       (subst (λ (c : Conduct). IsFresh c) (sym (ap (λ (c : Core). c.of u) rack.core)) untouched);
 }
   where
@@ -72,3 +73,11 @@ new_flies d x fit fresh may rack boards = record {
 
     untouched : IsFresh fresh_conduct
     untouched = record { progress = refl; left = refl; said = λ f k q. refl; heard = λ f k p. refl }
+
+-- and it is new
+pub is_new : (d : MissionData) (x : Machine) → PartsFit d → IsNewRack x.rack d.layout d.frames → AreNewBoards (flown d) d.units x.boards.items →
+    IsNewMachine (flown d) d.layout x
+is_new d x fit rack boards = record {
+  rack = rack;
+  boards = subst (λ (n : ℕ). AreNewBoards (flown d) n x.boards.items) (sym fit.layout.units) boards;
+}

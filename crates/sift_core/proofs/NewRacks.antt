@@ -12,6 +12,7 @@ use Rattle.sift_buffer.specs.Core.{fresh_core}
 use Rattle.sift_buffer.specs.Tables.{ranges_of, entry_at, entry_number}
 use Rattle.sift_buffer.specs.Journals.{ranges_in, said_in, heard_in}
 use Rattle.sift_buffer.specs.Ledgers.{Ledger, Tells, HasItsWords, conduct_in, saying_of, hearing_of}
+use Rattle.sift_flight.specs.Hearing.{no_strays}
 use Rattle.sift_core.specs.Crews.{no_ledger, ledger_at, core_by, IsCrew}
 
 -- two numbers, by their order
@@ -60,7 +61,7 @@ nobody_fresh i = record {
 -- the core of zeros and a new crew is fresh
 pub core_fresh : (words : List ℕ) (acts : List Ledger) (layout : Layout) (frames n : ℕ) → words ≡ replicate n 0 → n ≡ shared_words
     (ranges_of layout frames) →
-    IsCrew acts layout.units layout frames → core_by words acts ≡ fresh_core (ranges_of layout frames)
+    IsCrew acts layout.units layout frames → core_by words acts no_strays ≡ fresh_core (ranges_of layout frames)
 core_fresh words acts layout frames n zeros wide crew i = record { words = (zeros ∙ ap (λ (k : ℕ). replicate k 0) wide) i; of = λ u. each u i }
   where
     each : (u : ℕ) → conduct_in (ledger_at acts u) ≡ fresh

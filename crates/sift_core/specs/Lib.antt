@@ -1,7 +1,9 @@
+pub mod Courses
 pub mod Crews
 pub mod Ended
 pub mod Following
 pub mod Machines
 pub mod Racks
 pub mod Steps
+pub mod Storms
 pub mod Turns

@@ -3,6 +3,7 @@ use Rattle.std.specs.Prelude.{◌≡◌, ℕ, ◌<◌, List, length, slice_index
 use Rattle.std.specs.List.{sum_by}
 use Rattle.sift_base.specs.declared.layout.Layout.{Layout}
 use Rattle.sift_config.specs.Config.{first_units}
+use Rattle.sift_buffer.specs.Conduct.{Stray, never}
 use Rattle.sift_buffer.specs.Lawful.{Lawful}
 use Rattle.sift_mission.specs.Mission.{FlownMission}
 use Rattle.sift_conduct.specs.Account.{Account}
@@ -10,7 +11,8 @@ use Rattle.sift_unit.specs.Desk.{accounts_of}
 use Rattle.sift_unit.specs.Passing.{distance}
 use Rattle.sift_unit.specs.Boards.{desk_of, Drives, IsNewBoard}
 use Rattle.sift_unit.specs.declared.board.Board.{Board}
-use Rattle.sift_core.specs.Racks.{ranges_for, core_of, view_at}
+use Rattle.sift_flight.specs.Hearing.{Strays}
+use Rattle.sift_core.specs.Racks.{IsNewRack, IsStored, ranges_for, core_of, conduct_at, view_at}
 use Rattle.sift_core.specs.declared.machine.Machine.{Machine}
 
 -- the layout of the machine's slots
@@ -25,17 +27,26 @@ board_at x d u = slice_index_or x.boards.items u d
 abbrev pub accounts_at : FlownMission → Machine → Board → ℕ → ℕ → Account
 accounts_at m x d u = accounts_of m (desk_of (board_at x d u))
 
--- the progress of a unit
+-- the progress number of a unit
 abbrev pub progress_at : Machine → ℕ → ℕ
-progress_at x u = ((core_of x.rack).of u).progress
+progress_at x u = (conduct_at x.rack u).progress
 
--- the machine flies the mission: its core is lawful, and each unit's board drives on this unit's own view of the rack
-pub record Flies (m : FlownMission) (x : Machine) : Type 0 where
+-- the unit has turned: its progress number tells it
+abbrev pub HasTurnedIn : Machine → ℕ → Type 0
+HasTurnedIn x u = progress_at x u ≡ never
+
+-- the machine flies the mission, and its units have stored these strays: its core is lawful, and each unit's board drives on this unit's own
+-- view of the rack
+pub record Flies (m : FlownMission) (w : Strays) (x : Machine) : Type 0 where
   pub units : m.units ≡ first_units (layout_of x).units
-  pub lawful : Lawful (ranges_for x.rack) (core_of x.rack)
+  pub lawful : Lawful (ranges_for x.rack) (core_of x.rack w)
   pub count : length x.boards.items ≡ (layout_of x).units
   pub frames : x.rack.grid.frames ≡ m.frames
   pub drives : (u : ℕ) (d : Board) → u < (layout_of x).units → Drives m (board_at x d u) (view_at x.rack u)
+
+-- it flies the mission, with some strays
+abbrev pub IsFlying : FlownMission → Machine → Type 0
+IsFlying m x = (w : Strays) × Flies m w x
 
 -- how far all boards are from the flight's end
 abbrev pub distances : FlownMission → Machine → ℕ
@@ -45,3 +56,13 @@ distances m x = sum_by (λ b. distance m (desk_of b)) x.boards.items
 pub record AreNewBoards (m : FlownMission) (units : ℕ) (boards : List Board) : Type 0 where
   pub count : length boards ≡ units
   pub new : (u : ℕ) (d : Board) → u < units → IsNewBoard m u (slice_index_or boards u d)
+
+-- no unit has done anything, and no board has stepped
+pub record IsNewMachine (m : FlownMission) (layout : Layout) (x : Machine) : Type 0 where
+  pub rack : IsNewRack x.rack layout m.frames
+  pub boards : AreNewBoards m layout.units x.boards.items
+
+-- a unit's stray was stored, and nothing else has changed
+pub record StoresStray (u : ℕ) (s : Stray) (x x' : Machine) : Type 0 where
+  pub rack : IsStored x.rack u s x'.rack
+  pub boards : x'.boards ≡ x.boards

@@ -1,52 +1,67 @@
 //! A mission flown to its end.
-ghost use Rattle.std.specs.Prelude.{◌≡◌, ◌≤◌, [], map, IfOk, vec_len, vec_capacity};
+ghost use Rattle.std.specs.Prelude.{◌≡◌, ◌≤◌, [], map, length, IfOk, OnErr, vec_len, vec_capacity};
 ghost use Rattle.std.specs.List.{All};
+ghost use Rattle.sift_base.specs.Units.{unit_limit};
 ghost use Rattle.sift_buffer.specs.Ledgers.{HasItsWords};
 ghost use Rattle.sift_conduct.specs.Account.{account_of};
 ghost use Rattle.sift_unit.specs.Boards.{desk_of};
-ghost use Rattle.sift_mission.specs.Parts.{flown_of};
+ghost use Rattle.sift_mission.specs.Parts.{data_of, flown_of};
 ghost use Rattle.sift_flight.specs.Told.{told, IsLogged};
 ghost use Rattle.sift_flight.specs.Round.{IsRound};
-ghost use Rattle.sift_flight.specs.Hearing.{no_strays};
-ghost use Rattle.sift_core.specs.Machines.{Flies, layout_of};
-ghost use Rattle.sift_core.specs.Turns.{HaveAllLanded};
+ghost use Rattle.sift_flight.specs.Hearing.{Strays};
+ghost use Rattle.sift_core.specs.Machines.{Flies, IsFlying, layout_of};
+ghost use Rattle.sift_core.specs.Storms.{IsRoundByRogues};
+ghost use Rattle.sift_core.specs.Turns.{AreAllDown};
 
+use crate::calls::CallsLeft;
 use crate::machine::Machine;
 use sift_base::NoMemory;
 use sift_buffer::{Acts, Journal};
 use sift_conduct::Account;
 use sift_flight::{Flight, landed_frames_are_round, lawful_cores_hear_lawfully};
-use sift_mission::Mission;
-use sift_unit::{Board, boards_keep_to_their_conduct};
+use sift_mission::{Mission, a_mission_fits};
+use sift_rogue::Rogue;
+use sift_unit::{Board, boards_that_step_keep_to_their_conduct};
 use std::alloc::Global;
 
-/// Flies a mission to its end, on one thread. The order number draws who steps next. All memory is
-/// taken before the first step.
-pub fn fly(alloc: Global, mission: &Mission, order: u64) -> Result<Flight, NoMemory>
-    ensures round { IfOk result (λ flight. IsRound (flown_of mission.now) no_strays (told (flown_of mission.now) flight)) }
+/// Flies a mission to its end, on one thread. The order number draws who steps next.
+///
+/// The rogues are those of the units 0 to 7. That of a unit with a storm begins as the unit turns, and is then
+/// asked for each of its strays, one in a turn. All memory is taken before the first step, and so before the first call of
+/// a rogue.
+pub fn fly<R: Rogue>(
+    alloc: Global,
+    mission: &Mission,
+    order: u64,
+    rogues: &mut [R],
+) -> Result<Flight, NoMemory>
+    requires { length rogues.old ≡ unit_limit }
+    ensures round { IfOk result (λ flight. IsRoundByRogues R.allows (data_of mission.now) rogues.old flight rogues.new) }
     ensures logged { IfOk result (λ flight. IsLogged (flown_of mission.now) mission.now.layout flight) }
+    ensures untouched { OnErr result (rogues.new ≡ rogues.old) }
 {
     let mut machine = Machine::make(alloc, mission)?;
     let units = machine.boards.len();
     let journals = Vec::with_capacity(alloc, units)?;
     let accounts = Vec::with_capacity(alloc, units)?;
-    machine.fly_on(mission, order);
+    let mut left = CallsLeft::of(mission);
+    machine.fly_on(mission, order, rogues, &mut left);
     Ok(machine.land(mission, journals, accounts))
 }
 
 impl Machine {
-    /// The flight of units that have all landed. The lists have room for all, so it takes no memory.
+    /// The flight of units that have all landed or turned. The lists have room for all, so it takes no memory.
     fn land(self, mission: &Mission, journals: Vec<Journal>, accounts: Vec<Vec<Account>>) -> Flight
-        requires flies { Flies (flown_of mission.now) self }
-        requires landed { HaveAllLanded (flown_of mission.now) self }
+        requires flies { IsFlying (flown_of mission.now) self }
+        requires down { AreAllDown (flown_of mission.now) self }
         requires no_journals { journals.items ≡ [] }
         requires no_accounts { accounts.items ≡ [] }
         requires room_for_journals { vec_len self.boards ≤ vec_capacity journals }
         requires room_for_accounts { vec_len self.boards ≤ vec_capacity accounts }
-        ensures round { IsRound (flown_of mission.now) no_strays (told (flown_of mission.now) result) }
+        ensures round { (w : Strays) → Flies (flown_of mission.now) w self → IsRound (flown_of mission.now) w (told (flown_of mission.now) result) }
         ensures logged { IsLogged (flown_of mission.now) (layout_of self) result }
     {
-        boards_keep_to_their_conduct();
+        boards_that_step_keep_to_their_conduct();
         lawful_cores_hear_lawfully();
         landed_frames_are_round();
         Flight {

@@ -1,6 +1,9 @@
-//! Flights of missions: all units' boards, stepped in any order over one plain memory.
+//! Flights of missions: all units' boards, stepped in any order over one plain memory, and the rogues of units
+//! that turn.
 #![tactic(auto)]
 
+mod calls;
+mod going;
 mod landing;
 mod laws;
 mod machine;
@@ -8,6 +11,7 @@ mod order;
 mod rack;
 mod rack_port;
 
+pub use calls::CallsLeft;
 pub use landing::fly;
 pub use laws::ended_frames_are_round;
 pub use machine::Machine;

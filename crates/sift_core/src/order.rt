@@ -1,15 +1,18 @@
 //! The order of steps: for each turn a unit is drawn.
-ghost use Rattle.std.specs.Prelude.{◌≡◌, ◌<◌, ◌≤◌, ◌*◌, IfSome, IfNone, true, false, length};
+ghost use Rattle.std.specs.Prelude.{◌≡◌, ◌<◌, ◌≤◌, ◌*◌, ℕ, IfSome, IfNone, true, false, length, slice_index};
 ghost use Rattle.sift_base.specs.Draw.{drawn, next_number};
 ghost use Rattle.sift_base.specs.Units.{has};
-ghost use Rattle.sift_mission.specs.Parts.{flown_of};
-ghost use Rattle.sift_core.specs.Machines.{Flies, layout_of, distances};
-ghost use Rattle.sift_core.specs.Turns.{end_in, IsLeast, IsDrawn, HaveAllLanded, Tries, TurnsAt, FliesInOrder};
+ghost use Rattle.sift_mission.specs.Parts.{data_of, flown_of};
+ghost use Rattle.sift_core.specs.Machines.{IsFlying, layout_of};
+ghost use Rattle.sift_core.specs.Courses.{course, rest};
+ghost use Rattle.sift_core.specs.Storms.{CarriesOn, IsUnderWay};
+ghost use Rattle.sift_core.specs.Turns.{end_in, AreAllDone, AreAllDown, IsFirstLeft, IsLeast, IsDrawn, Tries, TurnsAt, FliesInOrder};
 
+use crate::calls::CallsLeft;
 use crate::machine::Machine;
 use sift_base::{Draw, UnitId};
 use sift_mission::Mission;
-use sift_unit::Stepped;
+use sift_rogue::Rogue;
 
 /// The progress of a unit that has landed.
 fn end_of(mission: &Mission) -> u64
@@ -33,13 +36,13 @@ fn drawn_below(drawer: &mut Draw, units: u8) -> u64
 }
 
 impl Machine {
-    /// The unit of least progress among those that have not landed, and the lowest-numbered of
+    /// The unit of least progress among those that have neither landed nor turned, and the lowest-numbered of
     /// several.
     fn least(&self, mission: &Mission, end: u64) -> Option<UnitId>
-        requires flies { Flies (flown_of mission.now) self.now }
+        requires flies { IsFlying (flown_of mission.now) self.now }
         requires end { end ≡ end_in (flown_of mission.now) }
         ensures found { IfSome result (λ u. IsLeast (flown_of mission.now) self.now u) }
-        ensures none { IfNone result (HaveAllLanded (flown_of mission.now) self.now) }
+        ensures none { IfNone result (AreAllDown (flown_of mission.now) self.now) }
     {
         let mut least = None;
         let mut below = end;
@@ -55,16 +58,35 @@ impl Machine {
         least
     }
 
-    /// Whether all units have landed.
-    fn have_all_landed(&self, mission: &Mission, end: u64) -> bool
-        requires flies { Flies (flown_of mission.now) self.now }
+    /// The lowest-numbered unit of whose rogue calls are left.
+    fn first_left(&self, mission: &Mission, left: &CallsLeft) -> Option<UnitId>
+        requires flies { IsFlying (flown_of mission.now) self.now }
+        ensures found { IfSome result (λ u. IsFirstLeft (flown_of mission.now) left.now u) }
+        ensures none { IfNone result ((u : ℕ) → has (flown_of mission.now).units u ≡ true → slice_index left.now u ≡ 0) }
+    {
+        for number in 0..self.rack.grid.layout.units {
+            if let Some(unit) = UnitId::of(number) {
+                if !left.is_spent(unit) {
+                    return Some(unit);
+                }
+            }
+        }
+        None
+    }
+
+    /// Whether all units are done.
+    fn are_all_done(&self, mission: &Mission, end: u64, left: &CallsLeft) -> bool
+        requires flies { IsFlying (flown_of mission.now) self.now }
         requires end { end ≡ end_in (flown_of mission.now) }
-        ensures landed { result ≡ true → HaveAllLanded (flown_of mission.now) self.now }
-        ensures aloft { result ≡ false → ¬ HaveAllLanded (flown_of mission.now) self.now }
+        ensures done { result ≡ true → AreAllDone (flown_of mission.now) self.now left.now }
+        ensures open { result ≡ false → ¬ AreAllDone (flown_of mission.now) self.now left.now }
     {
         for number in 0..self.rack.grid.layout.units {
             if let Some(unit) = UnitId::of(number) {
                 if self.rack.number_of(unit) < end {
+                    return false;
+                }
+                if !left.is_spent(unit) {
                     return false;
                 }
             }
@@ -83,64 +105,107 @@ impl Machine {
         unreachable!()
     }
 
-    /// Steps a unit, if it has not landed. It answers whether it went on, and doesn't wait.
-    fn goes_itself(&mut self, mission: &Mission, end: u64, u: UnitId) -> bool
-        requires flies { Flies (flown_of mission.now) self.old }
+    /// The turn of a unit, if it is not done. It answers whether the unit went on, and doesn't wait.
+    fn goes_itself<R: Rogue>(
+        &mut self,
+        mission: &Mission,
+        end: u64,
+        rogues: &mut [R],
+        left: &mut CallsLeft,
+        u: UnitId,
+    ) -> bool
+        requires under_way { IsUnderWay (data_of mission.now) (course self.old left.old rogues.old) }
         requires end { end ≡ end_in (flown_of mission.now) }
         requires unit { has (flown_of mission.now).units u ≡ true }
-        ensures flies { Flies (flown_of mission.now) self.new }
-        ensures tried { Tries (flown_of mission.now) u self.old result self.new }
+        ensures under_way { IsUnderWay (data_of mission.now) (course self.new left.new rogues.new) }
+        ensures layout { layout_of self.new ≡ layout_of self.old }
+        ensures tried { Tries R.allows (data_of mission.now) u (course self.old left.old rogues.old) result (course self.new left.new rogues.new) }
+        ensures storms { CarriesOn R.allows (data_of mission.now) (course self.old left.old rogues.old) (course self.new left.new rogues.new) }
     {
         if self.rack.number_of(u) < end {
-            return !matches!(self.step(mission, u), Stepped::NotYet { .. });
+            return self.step_on(mission, rogues, left, u);
         }
-        false
+        if left.is_spent(u) {
+            return false;
+        }
+        self.spend_one(mission, rogues, left, u);
+        true
     }
 
-    /// The next turn: a unit is drawn and steps, and where it has landed or waits, the unit of least
-    /// progress steps. It answers who stepped last, or nobody, where all units have landed.
-    pub fn turn(&mut self, mission: &Mission, drawer: &mut Draw) -> Option<UnitId>
-        requires { Flies (flown_of mission.now) self.old }
-        ensures flies { Flies (flown_of mission.now) self.new }
+    /// The next turn: a unit is drawn and steps, or makes a call of its rogue. Where it is done or waits, the unit of
+    /// least progress steps, and where all have landed or turned, the lowest-numbered of whose rogue calls are left
+    /// makes one. It answers who went last, or nobody, where all units are done.
+    pub fn turn<R: Rogue>(
+        &mut self,
+        mission: &Mission,
+        drawer: &mut Draw,
+        rogues: &mut [R],
+        left: &mut CallsLeft,
+    ) -> Option<UnitId>
+        requires { IsUnderWay (data_of mission.now) (course self.old left.old rogues.old) }
+        ensures under_way { IsUnderWay (data_of mission.now) (course self.new left.new rogues.new) }
         ensures layout { layout_of self.new ≡ layout_of self.old }
-        ensures turn { TurnsAt (flown_of mission.now) drawer.old self.old result drawer.new self.new }
-        ensures nearer { IfSome result (λ u. distances (flown_of mission.now) self.new < distances (flown_of mission.now) self.old) }
+        ensures turn { TurnsAt R.allows (data_of mission.now) drawer.old (course self.old left.old rogues.old) result drawer.new (course self.new left.new rogues.new) }
+        ensures storms { CarriesOn R.allows (data_of mission.now) (course self.old left.old rogues.old) (course self.new left.new rogues.new) }
+        ensures nearer { IfSome result (λ u. rest (data_of mission.now) (course self.new left.new rogues.new) < rest (data_of mission.now) (course self.old left.old rogues.old)) }
     {
-        self.turn_before(mission, end_of(mission), drawer)
+        self.turn_before(mission, end_of(mission), drawer, rogues, left)
     }
 
     /// The next turn of a flight that ends at this progress.
-    fn turn_before(&mut self, mission: &Mission, end: u64, drawer: &mut Draw) -> Option<UnitId>
-        requires flies { Flies (flown_of mission.now) self.old }
+    fn turn_before<R: Rogue>(
+        &mut self,
+        mission: &Mission,
+        end: u64,
+        drawer: &mut Draw,
+        rogues: &mut [R],
+        left: &mut CallsLeft,
+    ) -> Option<UnitId>
+        requires under_way { IsUnderWay (data_of mission.now) (course self.old left.old rogues.old) }
         requires end { end ≡ end_in (flown_of mission.now) }
-        ensures flies { Flies (flown_of mission.now) self.new }
+        ensures under_way { IsUnderWay (data_of mission.now) (course self.new left.new rogues.new) }
         ensures layout { layout_of self.new ≡ layout_of self.old }
-        ensures turn { TurnsAt (flown_of mission.now) drawer.old self.old result drawer.new self.new }
-        ensures nearer { IfSome result (λ u. distances (flown_of mission.now) self.new < distances (flown_of mission.now) self.old) }
+        ensures turn { TurnsAt R.allows (data_of mission.now) drawer.old (course self.old left.old rogues.old) result drawer.new (course self.new left.new rogues.new) }
+        ensures storms { CarriesOn R.allows (data_of mission.now) (course self.old left.old rogues.old) (course self.new left.new rogues.new) }
+        ensures nearer { IfSome result (λ u. rest (data_of mission.now) (course self.new left.new rogues.new) < rest (data_of mission.now) (course self.old left.old rogues.old)) }
     {
-        if self.have_all_landed(mission, end) {
+        if self.are_all_done(mission, end, left) {
             return None;
         }
         let drawn = self.drawn_unit(drawer);
-        if self.goes_itself(mission, end, drawn) {
+        if self.goes_itself(mission, end, rogues, left, drawn) {
             return Some(drawn);
         }
         if let Some(least) = self.least(mission, end) {
-            self.step(mission, least);
+            self.step_on(mission, rogues, left, least);
             return Some(least);
+        }
+        if let Some(first) = self.first_left(mission, left) {
+            self.spend_one(mission, rogues, left, first);
+            return Some(first);
         }
         unreachable!()
     }
 
     /// Flies to the end, turn by turn, as the order number draws them.
-    pub(crate) fn fly_on(&mut self, mission: &Mission, order: u64)
-        requires { Flies (flown_of mission.now) self.old }
-        ensures flies { Flies (flown_of mission.now) self.new }
+    pub(crate) fn fly_on<R: Rogue>(
+        &mut self,
+        mission: &Mission,
+        order: u64,
+        rogues: &mut [R],
+        left: &mut CallsLeft,
+    )
+        requires { IsUnderWay (data_of mission.now) (course self.old left.old rogues.old) }
+        ensures under_way { IsUnderWay (data_of mission.now) (course self.new left.new rogues.new) }
         ensures layout { layout_of self.new ≡ layout_of self.old }
-        ensures order { FliesInOrder (flown_of mission.now) order self.old self.new }
+        ensures order { FliesInOrder R.allows (data_of mission.now) order (course self.old left.old rogues.old) (course self.new left.new rogues.new) }
+        ensures storms { CarriesOn R.allows (data_of mission.now) (course self.old left.old rogues.old) (course self.new left.new rogues.new) }
     {
         let mut drawer = Draw::of(order);
         let end = end_of(mission);
-        while self.turn_before(mission, end, &mut drawer).is_some() {}
+        while self
+            .turn_before(mission, end, &mut drawer, rogues, left)
+            .is_some()
+        {}
     }
 }

@@ -1,10 +1,13 @@
 //! The plain memory of all units as the port of each.
-ghost use Rattle.std.specs.Prelude.{◌≡◌, ◌<◌, ◌+◌, IfOk};
+ghost use Rattle.std.specs.Prelude.{◌≡◌, ◌<◌, ◌+◌, [], IfOk};
 ghost use Rattle.sift_base.specs.Layout.{IsLayout};
-ghost use Rattle.sift_buffer.specs.Conditions.{MayEnter, PassesGate};
+ghost use Rattle.sift_buffer.specs.Conduct.{stray_to};
+ghost use Rattle.sift_buffer.specs.Conditions.{MayEnter, MayTurn, PassesGate};
 ghost use Rattle.sift_buffer.specs.Lawful.{Lawful};
-ghost use Rattle.sift_buffer.specs.Views.{view_with_entered};
-ghost use Rattle.sift_core.specs.Racks.{IsNewRack, IsChosen, Follows, Stands, view_of, ranges_for, core_of};
+ghost use Rattle.sift_buffer.specs.Ranges.{IsCell};
+ghost use Rattle.sift_buffer.specs.Views.{view_with_entered, view_with_turned};
+ghost use Rattle.sift_flight.specs.Hearing.{Strays};
+ghost use Rattle.sift_core.specs.Racks.{IsNewRack, IsChosen, IsStored, Follows, Stands, view_of, ranges_for, core_of, conduct_at};
 ghost use Rattle.sift_core.specs.Crews.{IsCrew};
 ghost use Rattle.sift_core.specs.Following.{itself, further};
 
@@ -58,16 +61,16 @@ impl Rack {
     /// The progress of a unit.
     pub(crate) fn progress_of(&self, unit: UnitId) -> u64
         requires { unit < self.now.grid.layout.units }
-        ensures { result ≡ ((core_of self.now).of unit).progress }
+        ensures { result ≡ (conduct_at self.now unit).progress }
     {
-        u64::from(self.acts[usize::from(unit.get())].progress())
+        self.acts[usize::from(unit.get())].progress()
     }
 
     /// The progress of a unit, as its number among the shared words tells it: these lie close together.
     pub(crate) fn number_of(&self, unit: UnitId) -> u64
-        requires lawful { Lawful (ranges_for self.now) (core_of self.now) }
+        requires lawful { (w : Strays) × Lawful (ranges_for self.now) (core_of self.now w) }
         requires unit { unit < self.now.grid.layout.units }
-        ensures { result ≡ ((core_of self.now).of unit).progress }
+        ensures { result ≡ (conduct_at self.now unit).progress }
     {
         self.words[usize::from(unit.get())]
     }
@@ -84,12 +87,35 @@ impl Rack {
         requires may { MayEnter (view_of self.old).conduct }
         requires gate { PassesGate (ranges_for self.old) (view_of self.old).conduct self.old.unit }
         ensures entered { view_of self.new ≡ view_with_entered (view_of self.old) }
-        ensures follows { Follows self.old self.new }
+        ensures follows { Follows self.old [] self.new }
     {
         let unit = usize::from(self.unit.get());
         let own = &mut self.acts[unit];
-        self.words[unit] = u64::from(own.progress()) + 1;
+        self.words[unit] = own.progress() + 1;
         own.note_entered();
+    }
+
+    /// Stores the progress number of a unit that has turned.
+    fn leave(&mut self)
+        requires may { MayTurn (view_of self.old).conduct }
+        requires gate { 0 < (view_of self.old).conduct.progress → PassesGate (ranges_for self.old) (view_of self.old).conduct self.old.unit }
+        ensures turned { view_of self.new ≡ view_with_turned (view_of self.old) }
+        ensures follows { Follows self.old [] self.new }
+    {
+        let unit = usize::from(self.unit.get());
+        let own = &mut self.acts[unit];
+        own.note_turned();
+        self.words[unit] = own.progress();
+    }
+
+    /// Stores a number in a unit's own cell for another unit in a slot.
+    pub(crate) fn store(&mut self, unit: UnitId, to: UnitId, slot: usize, cell: u64)
+        requires unit { unit < self.old.grid.layout.units }
+        requires cell { IsCell (ranges_for self.old) unit to slot }
+        ensures { IsStored self.old unit (stray_to to slot cell) self.new }
+    {
+        let place = self.grid.place(unit, to, slot);
+        self.words[place] = cell;
     }
 }
 
@@ -116,18 +142,8 @@ impl Look for Rack {
 }
 
 impl Port for Rack {
-    ghost view = { view_of };
-
-    ghost follows = { Follows };
-
-    ghost stands = { Stands };
-
-    ghost follows_itself = { itself };
-
-    ghost follows_on = { further };
-
     fn progress(&self) -> u64 {
-        u64::from(self.acts[usize::from(self.unit.get())].progress())
+        self.acts[usize::from(self.unit.get())].progress()
     }
 
     fn say(&mut self, to: UnitId, slot: usize, f: u32, stamp: u32, word: Option<Word>) {
@@ -148,11 +164,28 @@ impl Port for Rack {
     }
 
     fn try_enter(&mut self) -> Entering {
-        let progress = u64::from(self.acts[usize::from(self.unit.get())].progress());
+        let progress = self.acts[usize::from(self.unit.get())].progress();
         if let Some((unit, seen)) = find_behind(self, self.grid.layout.units, self.unit, progress) {
             return Entering::NotYet { unit, seen };
         }
         self.go_on();
         Entering::Entered
+    }
+
+    fn turn(&mut self) -> Entering {
+        let progress = self.acts[usize::from(self.unit.get())].progress();
+        if progress == 0 {
+            self.leave();
+            return Entering::Entered;
+        }
+        if let Some((unit, seen)) = find_behind(self, self.grid.layout.units, self.unit, progress) {
+            return Entering::NotYet { unit, seen };
+        }
+        self.leave();
+        Entering::Entered
+    }
+
+    fn stray(&mut self, to: UnitId, slot: usize, cell: u64) {
+        self.store(self.unit, to, slot, cell);
     }
 }

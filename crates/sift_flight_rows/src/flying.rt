@@ -2,12 +2,12 @@
 
 ghost use Rattle.std.specs.Prelude.{◌≡◌, true};
 ghost use Rattle.sift_base.specs.Units.{has};
-ghost use Rattle.sift_core.specs.Machines.{Flies};
+ghost use Rattle.sift_core.specs.Machines.{IsFlying};
 ghost use Rattle.sift_mission.specs.Parts.{flown_of};
 
-use crate::stated::{FIVE, eight_units, stated};
+use crate::stated::{FIVE, eight_units, silents, stated};
 use sift_base::{Draw, UnitId};
-use sift_core::Machine;
+use sift_core::{CallsLeft, Machine};
 use sift_mission::Mission;
 use sift_unit::Stepped;
 use std::alloc::Global;
@@ -48,9 +48,11 @@ fn expect_turns(
 ) -> Result<(), Fail> {
     let mut machine = Machine::make(alloc, mission)?;
     let mut drawer = Draw::of(order);
+    let mut rogues = silents();
+    let mut left = CallsLeft::of(mission);
     for &digit in want {
         let last = machine
-            .turn(mission, &mut drawer)
+            .turn(mission, &mut drawer, &mut rogues, &mut left)
             .ok_or("units have yet to land")?;
         assert_eq!(rt; last.get() + 48, digit, "order {order}");
     }
@@ -87,9 +89,9 @@ fn expect_steps(
     times: u8,
     want: Stepped,
 )
-    requires flies { Flies (flown_of mission.now) machine.old }
+    requires flies { IsFlying (flown_of mission.now) machine.old }
     requires unit { has (flown_of mission.now).units u ≡ true }
-    ensures { Flies (flown_of mission.now) machine.new }
+    ensures { IsFlying (flown_of mission.now) machine.new }
 {
     for _ in 0..times {
         let stepped = machine.step(mission, u);

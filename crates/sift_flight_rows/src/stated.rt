@@ -1,9 +1,10 @@
 //! The missions of the rows, as documents state them: a sensor, and two tasks that each put out its word.
 
-ghost use Rattle.std.specs.Prelude.{◌≡◌, IfOk};
+ghost use Rattle.std.specs.Prelude.{◌≡◌, IfOk, length};
 
 use sift_base::Layout;
 use sift_mission::Mission;
+use sift_rogue::Silent;
 use sift_scenario::mission_of;
 use std::alloc::Global;
 use std::test::Fail;
@@ -62,4 +63,13 @@ pub(crate) fn eight_units(alloc: Global) -> Result<Mission, Fail>
         return Err(Fail::new("another mission than the document's"));
     }
     Ok(mission)
+}
+
+/// A rogue that rests, for each unit that there may be.
+pub(crate) fn silents() -> [Silent; 8]
+    ensures { length result ≡ 8 }
+{
+    [
+        Silent, Silent, Silent, Silent, Silent, Silent, Silent, Silent,
+    ]
 }

@@ -5,7 +5,7 @@ ghost use Rattle.std.specs.Prelude.{IfOk};
 ghost use Rattle.sift_flight.specs.Told.{IsWhole};
 ghost use Rattle.sift_mission.specs.Parts.{flown_of};
 
-use crate::stated::four_units;
+use crate::stated::{four_units, silents};
 use sift_base::NoMemory;
 use sift_core::fly;
 use sift_flight::{Flight, round_flights_are_whole};
@@ -29,7 +29,7 @@ fn flown(alloc: Global, mission: &Mission) -> Result<Flight, NoMemory>
 {
     mission.parts();
     round_flights_are_whole();
-    fly(alloc, mission, 0)
+    fly(alloc, mission, 0, &mut silents())
 }
 
 #[test]

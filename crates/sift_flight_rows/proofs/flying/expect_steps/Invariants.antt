@@ -1,7 +1,7 @@
-use Rattle.sift_core.specs.Machines.{Flies}
+use Rattle.sift_core.specs.Machines.{IsFlying}
 use Rattle.sift_mission.specs.Parts.{flown_of}
 use Rattle.sift_flight_rows.proofs.flying.expect_steps.Given as goal
 
 -- the machine flies on
 abbrev pub invariant-loop : goal.invariant-loop
-invariant-loop g l = Flies (flown_of l.mission) l.machine
+invariant-loop g l = IsFlying (flown_of l.mission) l.machine

@@ -1,7 +1,8 @@
-use Rattle.sift_core.specs.Machines.{Flies}
-use Rattle.sift_mission.specs.Parts.{flown_of}
+use Rattle.sift_core.specs.Courses.{course}
+use Rattle.sift_core.specs.Storms.{IsUnderWay}
+use Rattle.sift_mission.specs.Parts.{data_of}
 use Rattle.sift_flight_rows.proofs.flying.expect_turns.Given as goal
 
--- the machine flies on
+-- the flight is under way
 abbrev pub invariant-loop-digit : goal.invariant-loop-digit
-invariant-loop-digit g l = Flies (flown_of l.mission) l.machine
+invariant-loop-digit g l = IsUnderWay (data_of l.mission) (course l.machine l.left l.rogues)

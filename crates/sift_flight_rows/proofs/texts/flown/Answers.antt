@@ -1,5 +1,4 @@
 use Rattle.sift_mission.specs.Parts.{data_of}
-use Rattle.sift_flight.specs.Hearing.{no_strays}
 use Rattle.sift_flight_rows.proofs.Both.{both_ok}
 use Rattle.sift_flight_rows.proofs.texts.flown.Goals as goal
 
@@ -7,4 +6,4 @@ use Rattle.sift_flight_rows.proofs.texts.flown.Goals as goal
 pub returns : goal.returns
 returns c =
     both_ok c.fly.result _ _ _ c.fly.ensures.logged c.fly.ensures.round
-    (λ flight logged round. c.round_flights_are_whole.ensures (data_of c.args.mission.now) no_strays flight c.parts.ensures.fit logged round)
+    (λ flight logged round. c.round_flights_are_whole.ensures (data_of c.args.mission.now) round.strays flight c.parts.ensures.fit logged round.round)

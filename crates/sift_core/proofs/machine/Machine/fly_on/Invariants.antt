@@ -1,17 +1,20 @@
 use Rattle.std.proofs.Common.{◌≡◌, ℕ}
-use Rattle.sift_mission.specs.Parts.{flown_of}
-use Rattle.sift_core.specs.Machines.{Flies, layout_of, distances}
+use Rattle.sift_mission.specs.Parts.{data_of}
+use Rattle.sift_core.specs.Machines.{layout_of}
+use Rattle.sift_core.specs.Courses.{course, rest}
+use Rattle.sift_core.specs.Storms.{CarriesOn, IsUnderWay}
 use Rattle.sift_core.specs.Turns.{AfterTurns}
 use Rattle.sift_core.proofs.machine.Machine.fly_on.Given as goal
 
 -- some turns were taken
 abbrev pub invariant-loop-drawer : goal.invariant-loop-drawer
-invariant-loop-drawer l = record {
-  flies : Flies (flown_of l.mission) l.self;
+invariant-loop-drawer g l = record {
+  under_way : IsUnderWay (data_of l.mission) (course l.self l.left l.rogues);
   layout : layout_of l.self ≡ layout_of l.fn.self;
-  after : (k : ℕ) × AfterTurns (flown_of l.mission) l.order l.fn.self k l.drawer l.self;
+  after : (k : ℕ) × AfterTurns g.R.Rogue.allows (data_of l.mission) l.order (course l.fn.self l.fn.left l.fn.rogues) k l.drawer (course l.self l.left l.rogues);
+  storms : CarriesOn g.R.Rogue.allows (data_of l.mission) (course l.fn.self l.fn.left l.fn.rogues) (course l.self l.left l.rogues);
 }
 
--- and each brought some board nearer
+-- and each brought the flight nearer to its end
 abbrev pub decreases-loop-drawer : goal.decreases-loop-drawer
-decreases-loop-drawer l = distances (flown_of l.mission) l.self
+decreases-loop-drawer g l = rest (data_of l.mission) (course l.self l.left l.rogues)

@@ -2,7 +2,7 @@ use Rattle.sift_core.proofs.MachineSteps.{unit_below}
 use Rattle.sift_core.proofs.machine.Machine.goes_itself.Goals as goal
 
 pub number_of-requires-clause-unit : goal.number_of-requires-clause-unit
-number_of-requires-clause-unit c = unit_below _ c.args.self.now c.args.u c.requires.flies c.requires.unit
+number_of-requires-clause-unit g c = unit_below _ c.args.self.now c.args.u c.requires.under_way.flies c.requires.unit
 
 pub number_of-requires-clause-lawful : goal.number_of-requires-clause-lawful
-number_of-requires-clause-lawful c = c.requires.flies.lawful
+number_of-requires-clause-lawful g c = (c.requires.under_way.flies.0, c.requires.under_way.flies.1.lawful)

@@ -11,13 +11,13 @@ returns-clause-round c = landed_round (flown_of c.args.mission.now) c.args.self 
   accounts =
       c.accounts_of.result;
 }) (record {
-  flies = c.requires.flies;
-  landed = c.requires.landed;
+  flying = c.requires.flies;
+  down = c.requires.down;
   words = subst (λ (acts : List Ledger). All HasItsWords acts) (ap (λ acts. acts.items) c.end.ensures) c.journals_of.ensures.words;
   journals = c.journals_of.ensures.journals ∙ ap (λ acts. map (λ ledger. ledger.pages) acts.items) c.end.ensures;
   accounts = c.accounts_of.ensures;
 })
-    c.boards_keep_to_their_conduct.ensures c.lawful_cores_hear_lawfully.ensures c.landed_frames_are_round.ensures
+    c.boards_that_step_keep_to_their_conduct.ensures c.lawful_cores_hear_lawfully.ensures c.landed_frames_are_round.ensures
 
 pub returns-clause-logged : goal.returns-clause-logged
 returns-clause-logged c = landed_logged (flown_of c.args.mission.now) c.args.self (record {
@@ -25,8 +25,8 @@ returns-clause-logged c = landed_logged (flown_of c.args.mission.now) c.args.sel
   accounts =
       c.accounts_of.result;
 }) (record {
-  flies = c.requires.flies;
-  landed = c.requires.landed;
+  flying = c.requires.flies;
+  down = c.requires.down;
   words = subst (λ (acts : List Ledger). All HasItsWords acts) (ap (λ acts. acts.items) c.end.ensures) c.journals_of.ensures.words;
   journals = c.journals_of.ensures.journals ∙ ap (λ acts. map (λ ledger. ledger.pages) acts.items) c.end.ensures;
   accounts = c.accounts_of.ensures;

@@ -15,4 +15,4 @@ returns-clause-none c =
 
 -- the core is lawful
 pub number_of-progress-requires-clause-lawful : goal.number_of-progress-requires-clause-lawful
-number_of-progress-requires-clause-lawful c = c.requires.flies.lawful
+number_of-progress-requires-clause-lawful c = (c.requires.flies.0, c.requires.flies.1.lawful)

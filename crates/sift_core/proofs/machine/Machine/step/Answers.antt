@@ -11,10 +11,10 @@ step-requires c = drives_chosen (flown_of c.args.mission.now) c.args.self.now c.
     c.requires.flies c.requires.unit c.choose.ensures (c.from.ensures ∙ c.get.ensures.number) c.index_mut.ensures.value
 
 pub returns-clause-flies : goal.returns-clause-flies
-returns-clause-flies c = step_flies (flown_of c.args.mission.now) c.args.self.now c.args.u c.choose.new.self c.from.result c.index_mut.result.now
+returns-clause-flies c = λ w flies. step_flies (flown_of c.args.mission.now) c.args.self.now c.args.u c.choose.new.self c.from.result c.index_mut.result.now
     c.step.result c.step.new.port c.step.new.self (record {
       keep = c.events_keep_the_core_lawful.ensures;
-      flies = c.requires.flies;
+      flying = c.requires.flies;
       unit = c.requires.unit;
       chosen = c.choose.ensures;
       here = c.from.ensures ∙ c.get.ensures.number;
@@ -22,14 +22,14 @@ returns-clause-flies c = step_flies (flown_of c.args.mission.now) c.args.self.no
       drives = c.step.ensures.drives;
       steps = c.step.ensures.steps;
       follows = c.step.ensures.follows;
-    }) _ refl
+    }) _ refl w flies
 
 pub returns-clause-stepped : goal.returns-clause-stepped
 returns-clause-stepped c = step_stepped (flown_of c.args.mission.now) c.args.self.now c.args.u c.choose.new.self c.from.result
     c.index_mut.result.now
     c.step.result c.step.new.port c.step.new.self (record {
       keep = c.events_keep_the_core_lawful.ensures;
-      flies = c.requires.flies;
+      flying = c.requires.flies;
       unit = c.requires.unit;
       chosen = c.choose.ensures;
       here = c.from.ensures ∙ c.get.ensures.number;

@@ -1,53 +1,77 @@
 use Rattle.std.proofs.Common.{◌∙◌}
-use Rattle.sift_mission.specs.Parts.{flown_of}
-use Rattle.sift_core.proofs.Turning.{unit_there, own_turn, own_nearer, given_layout, given_aloft, least_turn, least_nearer}
+use Rattle.sift_mission.specs.Parts.{data_of, flown_of}
+use Rattle.sift_core.specs.Courses.{course}
+use Rattle.sift_core.proofs.Turning.{drawn_there, own_turn, own_nearer, given_done, least_goes_on, least_turn, least_nearer, first_turn, first_nearer}
 use Rattle.sift_core.proofs.machine.Machine.turn_before.Goals as goal
 
 pub goes_itself-requires-clause-unit : goal.goes_itself-requires-clause-unit
-goes_itself-requires-clause-unit c = unit_there (flown_of c.args.mission.now) c.args.self.now c.drawn_unit-drawn.result c.requires.flies
-    c.drawn_unit-drawn.ensures.there
+goes_itself-requires-clause-unit g c = drawn_there g.R.Rogue.allows (data_of c.args.mission.now) (course c.args.self.now c.args.left.now c.args.rogues.now)
+    c.args.drawer.now c.drawn_unit-drawn.new.drawer c.drawn_unit-drawn.result c.drawn_unit-drawn.ensures c.requires.under_way
+    (course c.args.self.now c.args.left.now c.args.rogues.now) c.requires.under_way
 
 -- the drawn unit went itself
-pub returns-then-goes_itself-clause-layout : goal.returns-then-goes_itself-clause-layout
-returns-then-goes_itself-clause-layout c = c.if-goes_itself.ensures.tried.stepped.layout
-
 pub returns-then-goes_itself-clause-turn : goal.returns-then-goes_itself-clause-turn
-returns-then-goes_itself-clause-turn c =
-    own_turn (flown_of c.args.mission.now) c.args.self.now c.args.drawer.now c.drawn_unit-drawn.new.drawer c.drawn_unit-drawn.result
-    c.goes_itself.new.self
-    c.requires.flies c.goes_itself.ensures.flies c.drawn_unit-drawn.ensures c.if-goes_itself.ensures.tried
+returns-then-goes_itself-clause-turn g c = own_turn g.R.Rogue.allows (data_of c.args.mission.now) (course c.args.self.now c.args.left.now c.args.rogues.now)
+    c.args.drawer.now c.drawn_unit-drawn.new.drawer c.drawn_unit-drawn.result c.drawn_unit-drawn.ensures c.requires.under_way
+    (course c.goes_itself.new.self c.goes_itself.new.left c.goes_itself.new.rogues) c.goes_itself.ensures.under_way c.if-goes_itself.ensures.tried
 
 pub returns-then-goes_itself-clause-nearer : goal.returns-then-goes_itself-clause-nearer
-returns-then-goes_itself-clause-nearer c =
-    own_nearer (flown_of c.args.mission.now) c.args.self.now c.args.drawer.now c.drawn_unit-drawn.new.drawer c.drawn_unit-drawn.result
-    c.goes_itself.new.self
-    c.requires.flies c.goes_itself.ensures.flies c.drawn_unit-drawn.ensures c.if-goes_itself.ensures.tried
+returns-then-goes_itself-clause-nearer g c = own_nearer g.R.Rogue.allows (data_of c.args.mission.now) c.drawn_unit-drawn.result
+    (course c.args.self.now c.args.left.now c.args.rogues.now) (course c.goes_itself.new.self c.goes_itself.new.left c.goes_itself.new.rogues)
+    c.requires.under_way c.goes_itself.ensures.under_way (drawn_there g.R.Rogue.allows (data_of c.args.mission.now) (course c.args.self.now c.args.left.now c.args.rogues.now)
+    c.args.drawer.now c.drawn_unit-drawn.new.drawer c.drawn_unit-drawn.result c.drawn_unit-drawn.ensures c.requires.under_way
+    (course c.goes_itself.new.self c.goes_itself.new.left c.goes_itself.new.rogues) c.goes_itself.ensures.under_way)
+    c.if-goes_itself.ensures.tried
 
 -- or the least, where one is left
 pub returns-in-Some-clause-layout : goal.returns-in-Some-clause-layout
-returns-in-Some-clause-layout c =
-    c.step.ensures.stepped.layout
-    ∙ given_layout (flown_of c.args.mission.now) c.args.self.now c.args.drawer.now c.drawn_unit-drawn.new.drawer c.drawn_unit-drawn.result
-    c.goes_itself.new.self
-    c.requires.flies c.goes_itself.ensures.flies c.drawn_unit-drawn.ensures c.if-goes_itself.ensures.tried
+returns-in-Some-clause-layout g c = c.step_on.ensures.layout ∙ c.goes_itself.ensures.layout
 
 pub returns-in-Some-clause-turn : goal.returns-in-Some-clause-turn
-returns-in-Some-clause-turn c =
-    least_turn (flown_of c.args.mission.now) c.args.self.now c.args.drawer.now c.drawn_unit-drawn.new.drawer c.drawn_unit-drawn.result
-    c.goes_itself.new.self
-    c.requires.flies c.goes_itself.ensures.flies c.drawn_unit-drawn.ensures c.if-goes_itself.ensures.tried
-    c.in-Some.least c.step.result c.step.new.self c.in-Some.ensures.found c.step.ensures.flies c.step.ensures.stepped
+returns-in-Some-clause-turn g c = least_turn g.R.Rogue.allows (data_of c.args.mission.now) (course c.args.self.now c.args.left.now c.args.rogues.now)
+    c.args.drawer.now c.drawn_unit-drawn.new.drawer c.drawn_unit-drawn.result c.drawn_unit-drawn.ensures c.requires.under_way
+    (course c.goes_itself.new.self c.goes_itself.new.left c.goes_itself.new.rogues) c.goes_itself.ensures.under_way c.if-goes_itself.ensures.tried c.in-Some.least
+    (course c.step_on.new.self c.step_on.new.left c.step_on.new.rogues) c.step_on.ensures.under_way c.in-Some.ensures.found
+    (least_goes_on g.R.Rogue.allows (data_of c.args.mission.now) c.in-Some.least (course c.goes_itself.new.self c.goes_itself.new.left c.goes_itself.new.rogues)
+    (course c.step_on.new.self c.step_on.new.left c.step_on.new.rogues) c.goes_itself.ensures.under_way c.step_on.ensures.under_way c.in-Some.ensures.found
+    c.step_on.result c.step_on.ensures.went c.step_on.ensures.waited)
+
+pub returns-in-Some-clause-storms : goal.returns-in-Some-clause-storms
+returns-in-Some-clause-storms g c = λ xs k. c.step_on.ensures.storms xs (c.goes_itself.ensures.storms xs k)
 
 pub returns-in-Some-clause-nearer : goal.returns-in-Some-clause-nearer
-returns-in-Some-clause-nearer c =
-    least_nearer (flown_of c.args.mission.now) c.args.self.now c.args.drawer.now c.drawn_unit-drawn.new.drawer c.drawn_unit-drawn.result
-    c.goes_itself.new.self
-    c.requires.flies c.goes_itself.ensures.flies c.drawn_unit-drawn.ensures c.if-goes_itself.ensures.tried
-    c.in-Some.least c.step.result c.step.new.self c.in-Some.ensures.found c.step.ensures.flies c.step.ensures.stepped
+returns-in-Some-clause-nearer g c = least_nearer g.R.Rogue.allows (data_of c.args.mission.now) (course c.args.self.now c.args.left.now c.args.rogues.now)
+    c.args.drawer.now c.drawn_unit-drawn.new.drawer c.drawn_unit-drawn.result c.drawn_unit-drawn.ensures c.requires.under_way
+    (course c.goes_itself.new.self c.goes_itself.new.left c.goes_itself.new.rogues) c.goes_itself.ensures.under_way c.if-goes_itself.ensures.tried c.in-Some.least
+    (course c.step_on.new.self c.step_on.new.left c.step_on.new.rogues) c.step_on.ensures.under_way c.in-Some.ensures.found
+    (least_goes_on g.R.Rogue.allows (data_of c.args.mission.now) c.in-Some.least (course c.goes_itself.new.self c.goes_itself.new.left c.goes_itself.new.rogues)
+    (course c.step_on.new.self c.step_on.new.left c.step_on.new.rogues) c.goes_itself.ensures.under_way c.step_on.ensures.under_way c.in-Some.ensures.found
+    c.step_on.result c.step_on.ensures.went c.step_on.ensures.waited)
 
--- who gives its turn away leaves a unit that has yet to land
+-- or the first of which calls are left
+pub returns-in-Some-first_left-clause-layout : goal.returns-in-Some-first_left-clause-layout
+returns-in-Some-first_left-clause-layout g c = c.spend_one.ensures.layout ∙ c.goes_itself.ensures.layout
+
+pub returns-in-Some-first_left-clause-turn : goal.returns-in-Some-first_left-clause-turn
+returns-in-Some-first_left-clause-turn g c = first_turn g.R.Rogue.allows (data_of c.args.mission.now) (course c.args.self.now c.args.left.now c.args.rogues.now)
+    c.args.drawer.now c.drawn_unit-drawn.new.drawer c.drawn_unit-drawn.result c.drawn_unit-drawn.ensures c.requires.under_way
+    (course c.goes_itself.new.self c.goes_itself.new.left c.goes_itself.new.rogues) c.goes_itself.ensures.under_way c.if-goes_itself.ensures.tried c.in-Some-first_left.first
+    (course c.spend_one.new.self c.spend_one.new.left c.spend_one.new.rogues) c.spend_one.ensures.under_way c.in_default.ensures.none c.in-Some-first_left.ensures.found c.spend_one.ensures.spent
+
+pub returns-in-Some-first_left-clause-storms : goal.returns-in-Some-first_left-clause-storms
+returns-in-Some-first_left-clause-storms g c = λ xs k. c.spend_one.ensures.storms xs (c.goes_itself.ensures.storms xs k)
+
+pub returns-in-Some-first_left-clause-nearer : goal.returns-in-Some-first_left-clause-nearer
+returns-in-Some-first_left-clause-nearer g c = first_nearer g.R.Rogue.allows (data_of c.args.mission.now) (course c.args.self.now c.args.left.now c.args.rogues.now)
+    c.args.drawer.now c.drawn_unit-drawn.new.drawer c.drawn_unit-drawn.result c.drawn_unit-drawn.ensures c.requires.under_way
+    (course c.goes_itself.new.self c.goes_itself.new.left c.goes_itself.new.rogues) c.goes_itself.ensures.under_way c.if-goes_itself.ensures.tried c.in-Some-first_left.first
+    (course c.spend_one.new.self c.spend_one.new.left c.spend_one.new.rogues) c.spend_one.ensures.under_way c.in-Some-first_left.ensures.found c.spend_one.ensures.spent
+
+-- who gives its turn away leaves a unit that is not done
 pub unreachable-requires : goal.unreachable-requires
-unreachable-requires c =
-    c.have_all_landed.ensures.aloft c.if-have_all_landed.false (given_aloft (flown_of c.args.mission.now) c.args.self.now c.args.drawer.now
-    c.drawn_unit-drawn.new.drawer c.drawn_unit-drawn.result c.goes_itself.new.self c.requires.flies c.goes_itself.ensures.flies c.drawn_unit-drawn.ensures
-    c.if-goes_itself.ensures.tried c.in_default.ensures.none)
+unreachable-requires g c = c.are_all_done.ensures.open c.if-are_all_done.false (given_done g.R.Rogue.allows (data_of c.args.mission.now) c.drawn_unit-drawn.result
+    (course c.args.self.now c.args.left.now c.args.rogues.now) (course c.goes_itself.new.self c.goes_itself.new.left c.goes_itself.new.rogues)
+    c.requires.under_way c.goes_itself.ensures.under_way (drawn_there g.R.Rogue.allows (data_of c.args.mission.now) (course c.args.self.now c.args.left.now c.args.rogues.now)
+    c.args.drawer.now c.drawn_unit-drawn.new.drawer c.drawn_unit-drawn.result c.drawn_unit-drawn.ensures c.requires.under_way
+    (course c.goes_itself.new.self c.goes_itself.new.left c.goes_itself.new.rogues) c.goes_itself.ensures.under_way)
+    c.if-goes_itself.ensures.tried c.in_default.ensures.none c.in_default-first_left.ensures.none)

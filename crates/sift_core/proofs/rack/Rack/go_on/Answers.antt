@@ -3,8 +3,9 @@ use Rattle.sift_buffer.specs.Conduct.{with_entered}
 use Rattle.sift_buffer.specs.Core.{enter}
 use Rattle.sift_buffer.specs.Ledgers.{Ledger}
 use Rattle.sift_core.specs.Crews.{no_ledger, ledger_at}
-use Rattle.sift_core.specs.Racks.{core_of}
+use Rattle.sift_core.specs.Racks.{conduct_at}
 use Rattle.sift_core.specs.declared.rack.Rack.{Rack}
+use Rattle.sift_core.proofs.Beside.{may_enter}
 use Rattle.sift_core.proofs.RackEvents.{lent, follows_by}
 use Rattle.sift_core.proofs.rack.Rack.go_on.Goals as goal
 
@@ -16,8 +17,8 @@ returns-clause-follows c =
     let own : c.index_mut-own.result.now ≡ ledger_at x.acts.items x.unit = lent x.acts.items x.unit c.from-unit.result
     c.index_mut-own.result.now no_ledger at low
     c.index_mut-own.ensures.value in
-    let number : c.from.result + 1 ≡ ((core_of x).of x.unit).progress + 1 =
-    ap (λ (n : ℕ). n + 1) (c.from.ensures ∙ (c.progress.ensures.progress ∙ ap (λ (l : Ledger). l.progress) own)) in
+    let number : c.progress.result + 1 ≡ (conduct_at x x.unit).progress + 1 =
+    ap (λ (n : ℕ). n + 1) (c.progress.ensures ∙ ap (λ (l : Ledger). l.progress) own) in
     follows_by x _ (enter x.unit) with_entered c.from-unit.result c.index_mut-own.result.now c.note_entered.new.self (record {
       layout = refl;
       frames = refl;
@@ -25,9 +26,10 @@ returns-clause-follows c =
       at_is = at;
       lent_is = c.index_mut-own.ensures.value;
       noted = c.note_entered.ensures.conduct;
+      beside = λ d strays. refl;
       acts = refl;
       doer_is = refl;
-      may = (x.here, (c.requires.may, c.requires.gate));
-      of = refl;
-      words = λ i. slice_set x.words.items (sym at i) (sym number i);
+      may = λ w. (x.here, (may_enter (conduct_at x x.unit) (w x.unit) c.requires.may, c.requires.gate));
+      of = λ w. refl;
+      words = λ w i. slice_set x.words.items (sym at i) (sym number i);
     })

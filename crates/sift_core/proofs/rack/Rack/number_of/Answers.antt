@@ -8,4 +8,4 @@ returns c =
     let x : Rack = c.args.self.now in let u : ℕ = c.args.unit in
     let low : u < length x.words.items = rw x.wide (let h = c.requires.unit in omega arith) in
     lent x.words.items u c.from.result c.index.result.now 0 (c.from.ensures ∙ c.get.ensures.number) low c.index.ensures
-    ∙ c.requires.lawful.formed.number u c.requires.unit
+    ∙ c.requires.lawful.1.formed.number u c.requires.unit

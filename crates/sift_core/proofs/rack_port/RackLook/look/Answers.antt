@@ -19,9 +19,10 @@ returns-clause-follows c =
       at_is = c.from-2.ensures ∙ c.get-2.ensures.number;
       lent_is = c.index_mut-own.ensures.value;
       noted = c.note_seen.ensures.conduct;
+      beside = λ d strays. refl;
       acts = refl;
       doer_is = refl;
-      may = (x.here, c.requires);
-      of = λ i. put (core_of x).of x.unit (with_seen ((core_of x).of x.unit) other (sym found i));
-      words = refl;
+      may = λ w. (x.here, c.requires);
+      of = λ w i. put (core_of x w).of x.unit (with_seen ((core_of x w).of x.unit) other (sym found i));
+      words = λ w. refl;
     })

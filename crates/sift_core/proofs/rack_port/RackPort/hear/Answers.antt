@@ -3,8 +3,9 @@ use Rattle.sift_buffer.specs.Cell.{taken}
 use Rattle.sift_buffer.specs.Ranges.{place, shared_words}
 use Rattle.sift_buffer.specs.Conduct.{put, with_heard}
 use Rattle.sift_buffer.specs.Core.{hear}
-use Rattle.sift_core.specs.Racks.{ranges_for, core_of}
+use Rattle.sift_core.specs.Racks.{ranges_for, core_of, conduct_at}
 use Rattle.sift_core.specs.declared.rack.Rack.{Rack}
+use Rattle.sift_core.proofs.Beside.{may_hear}
 use Rattle.sift_core.proofs.RackEvents.{lent, follows_by}
 use Rattle.sift_core.proofs.rack_port.RackPort.hear.Goals as goal
 
@@ -25,9 +26,10 @@ returns-clause-follows c =
       at_is = c.from.ensures ∙ c.get.ensures.number;
       lent_is = c.index_mut-own.ensures.value;
       noted = c.note_heard.ensures.conduct;
+      beside = λ d strays. refl;
       acts = refl;
       doer_is = refl;
-      may = (x.here, c.requires);
-      of = λ i. put (core_of x).of x.unit (with_heard ((core_of x).of x.unit) a.f a.slot a.from a.stamp (sym found i));
-      words = refl;
+      may = λ w. (x.here, may_hear (conduct_at x x.unit) (w x.unit) (ranges_for x) x.unit a.from a.slot a.f a.stamp c.requires);
+      of = λ w i. put (core_of x w).of x.unit (with_heard ((core_of x w).of x.unit) a.f a.slot a.from a.stamp (sym found i));
+      words = λ w. refl;
     })

@@ -1,7 +1,9 @@
 use Rattle.std.proofs.Common.{slice_set, sym, refl, ◌∙◌}
 use Rattle.sift_buffer.specs.Conduct.{with_said}
 use Rattle.sift_buffer.specs.Core.{say}
+use Rattle.sift_core.specs.Racks.{ranges_for, conduct_at}
 use Rattle.sift_core.specs.declared.rack.Rack.{Rack}
+use Rattle.sift_core.proofs.Beside.{may_say}
 use Rattle.sift_core.proofs.RackEvents.{follows_by}
 use Rattle.sift_core.proofs.rack_port.RackPort.say.Goals as goal
 
@@ -17,9 +19,13 @@ returns-clause-follows c =
       at_is = c.from.ensures ∙ c.get.ensures.number;
       lent_is = c.index_mut-own.ensures.value;
       noted = c.note_said.ensures.conduct;
+      beside = λ d strays. refl;
       acts = refl;
       doer_is = refl;
-      may = (x.here, (c.requires, c.pack.ensures.small));
-      of = refl;
-      words = λ i. slice_set x.words.items (sym c.place-place.ensures.place i) (sym c.pack.ensures.cell i);
+      may = λ w. (
+        x.here,
+        (may_say (conduct_at x x.unit) (w x.unit) (ranges_for x) x.unit a.to a.slot a.f a.stamp c.requires, c.pack.ensures.small),
+      );
+      of = λ w. refl;
+      words = λ w i. slice_set x.words.items (sym c.place-place.ensures.place i) (sym c.pack.ensures.cell i);
     })

@@ -1,0 +1,74 @@
+-- A stray that is stored, as an event of a rack.
+use Rattle.std.proofs.Common.{◌≡◌, ℕ, ◌<◌, List, [], ◌∷◌, length, slice_index_or, ⊎_elim, Vec, refl, sym, ap, ◌∙◌, subst, arith}
+use Rattle.std.specs.declared.alloc.Global.{Global}
+use Rattle.sift_base.specs.declared.layout.Layout.{Layout}
+use Rattle.sift_config.specs.Config.{first_units}
+use Rattle.sift_buffer.specs.Ranges.{Ranges, IsCell}
+use Rattle.sift_buffer.specs.Conduct.{Conduct, Stray, put, never, with_stray}
+use Rattle.sift_buffer.specs.Core.{stray}
+use Rattle.sift_buffer.specs.Ledgers.{Ledger, conduct_in, conduct_with}
+use Rattle.sift_buffer.specs.Lawful.{Lawful, HasStage}
+use Rattle.sift_buffer.specs.Laws.{EventsKeepLawful}
+use Rattle.sift_buffer.specs.Following.{reaches_one}
+use Rattle.sift_buffer.specs.Reaches.{Reaches}
+use Rattle.sift_buffer.specs.Tables.{ranges_of}
+use Rattle.sift_buffer.specs.Views.{View}
+use Rattle.sift_mission.specs.Mission.{FlownMission}
+use Rattle.sift_unit.specs.Boards.{Drives}
+use Rattle.sift_unit.specs.declared.board.Board.{Board}
+use Rattle.sift_flight.specs.Hearing.{Strays}
+use Rattle.sift_core.specs.Crews.{ledger_at, with_strays}
+use Rattle.sift_core.specs.Racks.{IsStored, ranges_for, core_of, conduct_at, view_at}
+use Rattle.sift_core.specs.Machines.{Flies, HasTurnedIn, StoresStray, board_at, layout_of}
+use Rattle.sift_core.specs.declared.machine.Machine.{Machine}
+use Rattle.sift_core.specs.declared.rack.Rack.{Rack}
+use Rattle.sift_core.proofs.Others.{reached_lawful}
+use Rattle.sift_core.proofs.RackEvents.{conducts_put}
+
+-- a unit whose number is that of one that has turned has left
+pub has_left : (c : Conduct) → HasStage c → c.progress ≡ never → c.left < never
+has_left c stage turned = ⊎_elim (λ f. absurd (let low = f.1 in omega arith)) (λ t. let low = t.0 in omega arith) stage
+
+module _ (a : Rack) (u : ℕ) (s : Stray) (b : Rack) (stored : IsStored a u s b) where
+  pub same_ranges : ranges_for b ≡ ranges_for a
+  same_ranges i = ranges_of (stored.layout i) (stored.frames i)
+
+  same_ledger : (j : ℕ) → ledger_at b.acts.items j ≡ ledger_at a.acts.items j
+  same_ledger j i = ledger_at (stored.acts i).items j
+
+  -- no unit's own view has changed
+  pub same_view : (p : ℕ) → view_at b p ≡ view_at a p
+  same_view p i = record {
+    ranges = same_ranges i;
+    unit = p;
+    conduct = conduct_in (same_ledger p i);
+    looks = stored.looks i;
+    last = record { unit = stored.last_unit i; number = stored.last_number i };
+  }
+
+  -- whatever was stored before, the core is reached by one event
+  pub stray_reaches : u < a.grid.layout.units → (conduct_at a u).left < never → IsCell (ranges_for a) u s.to s.slot → (w : Strays) →
+      Reaches (ranges_for a) u (core_of a w) (core_of b (with_strays w u (s ∷ [])))
+  stray_reaches there left cell w = reaches_one (ranges_for a) u (core_of a w) (core_of b (with_strays w u (s ∷ []))) (stray u s.to s.slot s.cell) refl
+      (there, record { turned = left; cell = cell })
+      (λ i. record { words = sym stored.words i; of = sym of i })
+    where
+      of : (core_of b (with_strays w u (s ∷ []))).of ≡ put (core_of a w).of u (with_stray ((core_of a w).of u) s.to s.slot s.cell)
+      of = conducts_put a.acts.items b.acts.items w u (s ∷ w u) (λ j ne. same_ledger j)
+          ∙ ap (λ (l : Ledger). put (core_of a w).of u (conduct_with l (s ∷ w u))) (same_ledger u)
+
+-- a machine flies on with a stray of a unit that has turned
+pub stray_flies : EventsKeepLawful → (x x' : Machine) (u : ℕ) (s : Stray) → StoresStray u s x x' → u < (layout_of x).units → HasTurnedIn x u →
+    IsCell (ranges_for x.rack) u s.to s.slot → (m : FlownMission) (w : Strays) → Flies m w x → Flies m (with_strays w u (s ∷ [])) x'
+stray_flies keep x x' u s stored there turned cell m w flies =
+    let a : Rack = x.rack in let b : Rack = x'.rack in let v : Strays = with_strays w u (s ∷ []) in
+    let left : (conduct_at a u).left < never = has_left ((core_of a w).of u) (flies.lawful.formed.stage u there) turned in record {
+      units = flies.units ∙ ap (λ (l : Layout). first_units l.units) (sym stored.rack.layout);
+      lawful = subst (λ (r : Ranges). Lawful r (core_of b v)) (sym (same_ranges a u s b stored.rack))
+          (reached_lawful keep (ranges_for a) u (core_of a w) (core_of b v) (stray_reaches a u s b stored.rack there left cell w) flies.lawful);
+      count = ap (λ (bs : Vec Board Global). length bs.items) stored.boards ∙ (flies.count ∙ ap (λ (l : Layout). l.units) (sym stored.rack.layout));
+      frames = stored.rack.frames ∙ flies.frames;
+      drives = λ p e hp. subst (λ (bs : Vec Board Global). Drives m (slice_index_or bs.items p e) (view_at b p)) (sym stored.boards)
+          (subst (λ (v : View). Drives m (board_at x e p) v) (sym (same_view a u s b stored.rack p))
+          (flies.drives p e (subst (λ (l : Layout). p < l.units) stored.rack.layout hp)));
+    }

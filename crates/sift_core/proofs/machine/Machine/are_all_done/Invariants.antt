@@ -1,0 +1,8 @@
+use Rattle.std.proofs.Common.{◌≡◌, ℕ, ◌<◌, ◌≤◌, slice_index}
+use Rattle.sift_core.specs.Machines.{layout_of, progress_at}
+use Rattle.sift_core.proofs.machine.Machine.are_all_done.Given as goal
+
+-- the units below the number are done
+abbrev pub invariant-loop-number : goal.invariant-loop-number
+invariant-loop-number l = (l.number ≤ (layout_of l.fn.self).units)
+    × ((p : ℕ) → p < l.number → (l.end ≤ progress_at l.fn.self p) × (slice_index l.fn.left p ≡ 0))

@@ -1,0 +1,22 @@
+use Rattle.std.proofs.Common.{◌<◌, ◌≢◌, ℕ, slice_index, sym, arith}
+use Rattle.std.proofs.lemmas.Bool.{eqb-false}
+use Rattle.sift_mission.specs.Parts.{flown_of}
+use Rattle.sift_core.specs.Machines.{layout_of}
+use Rattle.sift_core.proofs.MachineSteps.{unit_below}
+use Rattle.sift_core.proofs.Turning.{unit_there}
+use Rattle.sift_core.proofs.machine.Machine.first_left.Goals as goal
+
+pub returns-then-not-is_spent-clause-found : goal.returns-then-not-is_spent-clause-found
+returns-then-not-is_spent-clause-found c =
+    let low : c.in-Some.unit < (layout_of c.args.self.now).units = omega (arith, c.in-Some.ensures.found.0, c.loop-number-test.true) in
+    let some : slice_index c.args.left.now c.in-Some.unit ≢ 0 = eqb-false (slice_index c.args.left.now c.in-Some.unit) 0 (sym c.if-not-is_spent.ensures) in
+    record {
+      unit = unit_there (flown_of c.args.mission.now) c.args.self.now c.in-Some.unit c.requires.flies low;
+      some = omega arith;
+      lowest = λ p under. c.loop-number.invariant.1 p (omega (arith, c.in-Some.ensures.found.0, under));
+    }
+
+pub returns-clause-none : goal.returns-clause-none
+returns-clause-none c = λ u there.
+    let low = unit_below (flown_of c.args.mission.now) c.args.self.now u c.requires.flies there in
+    c.loop-number.invariant.1 u (omega (arith, low, c.loop-number-test.false))

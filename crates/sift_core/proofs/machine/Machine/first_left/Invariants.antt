@@ -1,0 +1,7 @@
+use Rattle.std.proofs.Common.{◌≡◌, ℕ, ◌<◌, ◌≤◌, slice_index}
+use Rattle.sift_core.specs.Machines.{layout_of}
+use Rattle.sift_core.proofs.machine.Machine.first_left.Given as goal
+
+-- no call is left of the units below the number
+abbrev pub invariant-loop-number : goal.invariant-loop-number
+invariant-loop-number l = (l.number ≤ (layout_of l.fn.self).units) × ((p : ℕ) → p < l.number → slice_index l.fn.left p ≡ 0)

@@ -1,7 +1,0 @@
-use Rattle.std.proofs.Common.{ℕ, ◌<◌, ◌≤◌}
-use Rattle.sift_core.specs.Machines.{layout_of, progress_at}
-use Rattle.sift_core.proofs.machine.Machine.have_all_landed.Given as goal
-
--- the units below the number have landed
-abbrev pub invariant-loop-number : goal.invariant-loop-number
-invariant-loop-number l = (l.number ≤ (layout_of l.fn.self).units) × ((p : ℕ) → p < l.number → l.end ≤ progress_at l.fn.self p)
