@@ -1,5 +1,6 @@
 # Completes the command line of `sift` in bash: the command, the options that it takes and that don't stand there yet, and
-# a file after `<`. tools/install puts it where bash-completion looks for it; without that, source it.
+# a file after `<`; and of its tools, as sift-sweep: their options, and files. tools/install puts it where bash-completion
+# looks for it; without that, source it.
 _sift() {
   local place=$COMP_CWORD word=${COMP_WORDS[COMP_CWORD]} before options offered='' option
   COMPREPLY=()
@@ -32,3 +33,23 @@ _sift() {
   mapfile -t COMPREPLY < <(compgen -W "$offered" -- "$word")
 }
 complete -F _sift sift
+
+_sift_tool() {
+  local word=${COMP_WORDS[COMP_CWORD]} options=--help
+  case ${COMP_WORDS[COMP_CWORD - 1]} in
+    --kinds) mapfile -t COMPREPLY < <(compgen -W 'wrong silence two-faces' -- "$word"); return ;;
+    --from | --limit | --batch | --jobs | --sshlogin | --replay) COMPREPLY=(); return ;;
+  esac
+  case ${COMP_WORDS[0]##*/} in
+    sift-picture) options+=' --text --schedule --sweep' ;;
+    sift-sweep) options+=' --single --pairs --kinds --from --limit --out --program --batch --jobs --sshlogin --resume --replay' ;;
+    sift-words) options+=' --json --plot' ;;
+  esac
+  if [[ $word == -* ]]; then
+    mapfile -t COMPREPLY < <(compgen -W "$options" -- "$word")
+  else
+    compopt -o filenames 2>/dev/null
+    mapfile -t COMPREPLY < <(compgen -f -- "$word")
+  fi
+}
+complete -F _sift_tool sift-compare sift-explain sift-lint sift-picture sift-sweep sift-words

@@ -107,3 +107,7 @@ class Mission:
             rows = zip(table.get("run").data, table.get("poll").data, table.get("at").data)
             return [(run.data, poll.data, [int(digit) for digit in at.data]) for run, poll, at in rows]
         return [(4 + 2 * task, 6 + 2 * task, list(range(size))) for task in range(len(self.tasks))]
+
+    def executors(self, size):
+        """Of each task the positions that run it where a configuration has this size."""
+        return [positions for _, _, positions in self.rows_of(size)]

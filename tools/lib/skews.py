@@ -27,11 +27,6 @@ class Run:
         return f"{clocks}; the greatest skew is {self.most}, first in round {self.skews.index(self.most)}, and the bound {self.bound}"
 
 
-def begins_run(text):
-    """Whether a text begins as a run does, so that it is no report of a flight."""
-    return text.startswith("round=")
-
-
 def read_run(text):
     """The run that a text tells, whose lines end as the program's do, or with CR LF as some copies' do."""
     lines = text.replace("\r\n", "\n").split("\n")

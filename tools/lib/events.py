@@ -1,0 +1,63 @@
+"""What happened in a flight, in words."""
+from reports import digits, named, stretches_of, when
+
+
+def turned(flight, state):
+    """Each frame in which units turn faulty, or idle, with them."""
+    before = [None] * flight.units
+    for number, frame in enumerate(flight.frames):
+        units = [unit for unit, now in enumerate(frame.states) if now == state != before[unit]]
+        before = frame.states
+        if units:
+            yield number, units
+
+
+def faults_told(flight):
+    """When units turn faulty, or idle, and which faulty ones are never caught."""
+    events = []
+    for number, units in turned(flight, "faulty"):
+        missed = [unit for unit in units if not any(frame.caught_by(unit) for frame in flight.frames)]
+        caught = [unit for unit in units if unit not in missed]
+        for group, more in ((caught, ""), (missed, ", and never caught")):
+            if group:
+                events.append((number, 0, f"frame {number}: {named(group, 'is', 'are')} faulty from here on{more}"))
+    for number, units in turned(flight, "idle"):
+        events.append((number, 3, f"frame {number}: {named(units, 'is', 'are')} idle: at work, but out"))
+    return events
+
+
+def catches_told(flight):
+    """Who caught whom, and in which frames."""
+    events = []
+    for unit in range(flight.units):
+        for first, last, by in stretches_of([tuple(frame.caught_by(unit)) for frame in flight.frames]):
+            if by:
+                events.append((first, 1, f"{when(first, last)}: {named(by, 'catches', 'catch')} unit {unit}"))
+    return events
+
+
+def changes_told(flight):
+    """How the configuration changes, where margin is lost, and where configurations differ."""
+    events = []
+    told = flight.configurations()
+    for frame, (before, after) in enumerate(zip(told, told[1:]), 1):
+        if before != after:
+            out = [unit for unit in before if unit not in after]
+            new = [unit for unit in after if unit not in before]
+            words = [named(out, "is", "are") + " out"] if out else []
+            words += [named(new, "is", "are") + " in, as another unit tells it"] if new else []
+            where = f"frame {frame}" if frame < len(flight.frames) else "after the last frame"
+            events.append((frame, 2, f"{where}: {'; '.join(words)}; the configuration is {digits(after, '')}"))
+    lost = next((number for number, frame in enumerate(flight.frames) if not frame.margin), None)
+    if lost is not None:
+        events.append((lost, 4, f"frame {lost}: the margin is lost"))
+    for first, last, split in stretches_of([frame.split() for frame in flight.frames]):
+        if split:
+            events.append((first, 5, f"{when(first, last)}: units have different configurations"))
+    return events
+
+
+def events_of(flight):
+    """All that happened, in the order of the frames."""
+    events = sorted(faults_told(flight) + catches_told(flight) + changes_told(flight))
+    return [words for _, _, words in events] or ["every unit works in every frame, and nobody is caught"]

@@ -1,0 +1,48 @@
+"""Runs the program on documents."""
+import os
+
+DIVIDER = b"--- report ---\n"  # between a document and its report, where the program's judge reads both
+
+
+class NoFlight(Exception):
+    """Why a document has no report."""
+
+
+class Flyer:
+    """Runs the program, and keeps count of the processor time that it takes."""
+
+    def __init__(self, program):
+        self.program = program
+        self.environment = dict(os.environb)
+        self.seconds = 0.0
+        self.source, self.sink = (open(os.memfd_create(name), "w+b", buffering=0) for name in ("document", "report"))
+
+    def run(self, word, text):
+        """The status of the program with a word, and what it writes."""
+        for file in (self.source, self.sink):
+            file.seek(0)
+            file.truncate()
+        self.source.write(text)
+        self.source.seek(0)
+        actions = [(os.POSIX_SPAWN_DUP2, self.source.fileno(), 0), (os.POSIX_SPAWN_DUP2, self.sink.fileno(), 1)]
+        child = os.posix_spawn(self.program, [self.program, word], self.environment, file_actions=actions)
+        _, status, used = os.wait4(child, 0)
+        self.seconds += used.ru_utime + used.ru_stime
+        self.sink.seek(0)
+        return os.waitstatus_to_exitcode(status), self.sink.read()
+
+    def fly(self, document):
+        """The report of a document."""
+        status, report = self.run("run", document)
+        if status:
+            line = report.decode(errors="replace").strip()
+            raise NoFlight(f"the program ends with status {status}" + (f": {line}" if line else ""))
+        return report.decode("ascii")
+
+    def judge(self, document, report):
+        """What the program's judge says of a report."""
+        return self.run("judge", document + DIVIDER + report.encode())[1].decode().strip()
+
+    def has_judge(self):
+        """Whether the program has the command."""
+        return self.run("judge", b"")[0] != 2

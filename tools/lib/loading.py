@@ -1,0 +1,31 @@
+"""A mission as the tools take it: what is refused they don't look at."""
+import places
+import rules
+from documents import text_of
+from mission import Mission
+
+
+class Refused(Exception):
+    """The line that a document gets in place of a mission."""
+
+
+def load(raw):
+    """The text, the root table and the mission of a document's bytes."""
+    try:
+        text, root = places.read(raw)
+    except places.NotADocument:
+        raise Refused("not a document") from None
+    refused = next(iter(rules.refusals(root)), None)
+    if refused:
+        raise Refused(refused.line)
+    return text, root, Mission(root)
+
+
+def without_faults(root):
+    """The text of a document without its faults."""
+    return text_of({key: value for key, value in places.plain(root).items() if key != "fault"})
+
+
+def refusal(name, refused):
+    """What a tool says of a mission that is refused."""
+    return f"{name} is refused: {refused}; tools/explain {name} shows the place"

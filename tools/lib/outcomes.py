@@ -1,0 +1,45 @@
+"""What came of a run, counted in its report."""
+from collections import namedtuple
+from functools import lru_cache
+
+
+# What a run shows of one of its faults: whether its unit was due to say the slot in some configuration that it was in; the
+# first frame in which a unit caught it, or None, and those who did; the first frame whose configuration it isn't in, or None.
+Trace = namedtuple("Trace", "said caught by out")
+
+# What came of a run: the traces of its faults; whether the margin held; how many output words of all frames differ from the
+# ideal machine's, the first frame in which they do, or None, and the names of those that do; the last line of the report.
+Outcome = namedtuple("Outcome", "traces margin wrong first words last")
+
+
+def trace_of(fault, flight, told, schedule):
+    """What a report shows of a fault, where the configurations are told as these."""
+    unit, frames = fault.unit, flight.frames
+    inside = {told[frame] for frame in range(fault.begin, len(frames))}
+    said = any(schedule.says(unit, fault.slot, frozenset(units)) for units in inside)
+    caught = next((frame for frame in range(fault.begin, len(frames)) if any(unit in units for units in frames[frame].catches)), None)
+    by = tuple(frames[caught].caught_by(unit)) if caught is not None else ()
+    out = next((frame for frame, units in enumerate(told) if unit not in units), None)
+    return Trace(said, caught, by, out)
+
+
+@lru_cache(maxsize=16384)
+def wrong_in(frame, ideal):
+    """The places of the output words that some unit votes other than the ideal machine has them."""
+    outputs = {words for words in frame.outputs if words is not None and words != ideal}
+    return tuple(place for place, word in enumerate(ideal) if any(words[place] != word for words in outputs))
+
+
+def outcome_of(faults, flight, last, schedule):
+    """What came of the run with these faults."""
+    told = flight.configurations()
+    wrong = [wrong_in(frame, ideal) for frame, ideal in zip(flight.frames, schedule.ideal)]
+    places = sorted(set().union(*wrong))
+    return Outcome(
+        tuple(trace_of(fault, flight, told, schedule) for fault in faults),
+        flight.frames[-1].margin,
+        sum(map(len, wrong)),
+        next((frame for frame, places in enumerate(wrong) if places), None),
+        tuple(schedule.names[place] for place in places),
+        last,
+    )

@@ -1,0 +1,229 @@
+"""Reads a report of `sift run`, and tells what its lines say. No flight is computed."""
+import re
+from functools import lru_cache
+
+NUMBER = "(0|[1-9][0-9]*)"
+WORDS_LISTED = "(-|[0-9a-f]{4}(?:,[0-9a-f]{4})*)"
+ACCOUNT = re.compile(
+    f"f={NUMBER} u=([0-7]) cfg=([0-7]+) clk=(-?{NUMBER}) in={WORDS_LISTED} out={WORDS_LISTED} bad=(-|[0-7]+)"
+)
+APART = re.compile(f"f={NUMBER} u=([0-7]) (faulty|idle)")
+FRAME = re.compile(f"f={NUMBER} (?:skew={NUMBER} slack=(-?{NUMBER})|skew=- slack=-) margin=(ok|lost)")
+END = re.compile(f"end frames={NUMBER} cfg=([0-7]+) margin=(ok|lost)")
+IDEAL = re.compile(f"f={NUMBER} out={WORDS_LISTED}")
+
+
+class NoReport(Exception):
+    """Why the input is no report."""
+
+    def __init__(self, why, line=0):
+        super().__init__(why)
+        self.line = line  # below the place from which it was read
+
+
+class Frame:
+    """What the lines of one frame say. It is the same object for the same lines, and isn't changed."""
+
+    def __init__(self):
+        self.states = []  # of each unit: "works", "faulty" or "idle"
+        self.configurations = []  # of each unit: the units of its cfg, or None
+        self.clocks = []  # of each unit: its clk, or None
+        self.inputs = []  # of each unit: the words of its in, or None
+        self.outputs = []  # of each unit: the words of its out, or None
+        self.catches = []  # of each unit: the units of its bad
+        self.skew = None
+        self.slack = None
+        self.margin = True
+
+    def configuration(self):
+        """The configuration of the lowest unit that tells one, or None."""
+        return next((told for told in self.configurations if told is not None), None)
+
+    def split(self):
+        """Whether two units tell different configurations."""
+        return len({told for told in self.configurations if told is not None}) > 1
+
+    def caught_by(self, unit):
+        """The units that caught this one in the frame."""
+        return [by for by, caught in enumerate(self.catches) if unit in caught]
+
+
+class Flight:
+    """A report as it was read."""
+
+    def __init__(self, frames, last):
+        self.frames = frames
+        self.last = last  # the configuration after the last frame
+        self.units = len(frames[0].states)
+
+    def configurations(self):
+        """The configuration of each frame and after the last; where no unit tells one, the next that is told."""
+        told = [self.last]
+        for frame in reversed(self.frames):
+            told.append(frame.configuration() or told[-1])
+        return told[::-1]
+
+
+@lru_cache(maxsize=256)
+def units_of(text):
+    """A set of units, written by its digits in ascending order."""
+    if text == "-":
+        return ()
+    units = tuple(int(digit) for digit in text)
+    if list(units) != sorted(set(units)):
+        raise NoReport("units that don't ascend: " + text)
+    return units
+
+
+@lru_cache(maxsize=16384)
+def words_of(text):
+    """A list of words, written as hexadecimal digits."""
+    return () if text == "-" else tuple(int(word, 16) for word in text.split(","))
+
+
+@lru_cache(maxsize=65536)
+def unit_of(line):
+    """What the line of a unit tells: the frame, the unit, its state, and its cfg, clk, in, out and bad; or None."""
+    account = ACCOUNT.fullmatch(line)
+    if account:
+        words = words_of(account[6]), words_of(account[7])
+        return int(account[1]), int(account[2]), "works", units_of(account[3]), int(account[4]), *words, units_of(account[8])
+    apart = APART.fullmatch(line)
+    return (int(apart[1]), int(apart[2]), apart[3], None, None, None, None, ()) if apart else None
+
+
+def read_unit(line, number, frame):
+    """Takes the line of the next unit into the frame, or tells that it is none."""
+    told = unit_of(line)
+    if not told:
+        return False
+    if told[:2] != (number, len(frame.states)):
+        raise NoReport(f"frame {number} and unit {len(frame.states)} are due")
+    lists = frame.states, frame.configurations, frame.clocks, frame.inputs, frame.outputs, frame.catches
+    for values, value in zip(lists, told[2:]):
+        values.append(value)
+    return True
+
+
+def read_frame_line(line, number, frame):
+    """Takes the line of the frame as a whole."""
+    found = FRAME.fullmatch(line)
+    if not found or int(found[1]) != number:
+        raise NoReport(f"a line of frame {number} is due")
+    frame.skew = int(found[2]) if found[2] else None
+    frame.slack = int(found[3]) if found[3] else None
+    frame.margin = found[5] == "ok"
+
+
+def check_units(frame, count):
+    """Tests that a frame has so many units, or where none is told as many as can fly, and names no others."""
+    units = len(frame.states)
+    if not 4 <= units <= 8 or count not in (units, None):
+        raise NoReport("a frame has another number of units")
+    named_units = [unit for told in frame.configurations + frame.catches if told for unit in told]
+    if any(unit >= units for unit in named_units):
+        raise NoReport("the frame names a unit that isn't there")
+
+
+@lru_cache(maxsize=16384)
+def frame_of(lines, number, count):
+    """The frame that lines tell: of each unit one, and the line of the frame; None where that one is missing."""
+    frame = Frame()
+    for place, line in enumerate(lines):
+        try:
+            if read_unit(line, number, frame):
+                continue
+            read_frame_line(line, number, frame)
+            check_units(frame, count)
+            return frame
+        except NoReport as fault:
+            raise NoReport(str(fault), place) from None
+    return None
+
+
+def read_end(lines, place, frames):
+    """The flight, where a line is the last one of the report; or None."""
+    end = END.fullmatch(lines[place])
+    if not end or not frames:
+        return None
+    if int(end[1]) != len(frames) or place + 1 != len(lines):
+        raise NoReport(f"the end of {len(frames)} frames is due, and nothing after it")
+    flight = Flight(frames, units_of(end[2]))
+    if flight.last[-1] >= flight.units:
+        raise NoReport("the configuration has a unit that isn't there")
+    return flight
+
+
+def lines_of(text):
+    """The lines of a text, which end as the program's do, or with CR LF as some copies' do."""
+    lines = text.replace("\r\n", "\n").split("\n")
+    if lines.pop() != "":
+        raise NoReport(f"line {len(lines) + 1}: the last line has no end")
+    return lines
+
+
+def read_report(text):
+    """The flight that a report tells."""
+    lines = lines_of(text)
+    frames, place, count = [], 0, None
+    try:
+        while place < len(lines):
+            flight = read_end(lines, place, frames)
+            if flight:
+                return flight
+            end = next((last for last in range(place, len(lines)) if " margin=" in lines[last]), len(lines)) + 1
+            frame = frame_of(tuple(lines[place:end]), len(frames), count)
+            if not frame:
+                break
+            frames.append(frame)
+            count = len(frame.states)
+            place = end
+    except NoReport as fault:
+        raise NoReport(f"line {place + fault.line + 1}: {fault}") from None
+    raise NoReport(f"line {len(lines) + 1}: the line of the mission's end is missing")
+
+
+def read_ideal(text):
+    """Of each frame the output words of the ideal machine, from the text of `sift ideal`."""
+    lines = lines_of(text)
+    frames = [IDEAL.fullmatch(line) for line in lines[:-1]]
+    for number, found in enumerate(frames):
+        if not found or int(found[1]) != number:
+            raise NoReport(f"line {number + 1}: a line of frame {number} is due")
+    if not frames or lines[-1] != f"end frames={len(frames)}":
+        raise NoReport(f"line {len(lines)}: the line of the mission's end is missing")
+    return [words_of(found[2]) for found in frames]
+
+
+# Units, frames and stretches of them in words.
+
+
+def digits(units, between=" "):
+    """Units as words name them, or as a report does."""
+    return between.join(str(unit) for unit in units)
+
+
+def set_of(units):
+    """Units as a report writes a set of them."""
+    return digits(sorted(units), "") or "-"
+
+
+def stretches_of(values):
+    """The stretches of equal values: first place, last place, value."""
+    stretches = []
+    for place, value in enumerate(values):
+        if stretches and stretches[-1][2] == value:
+            stretches[-1][1] = place
+        else:
+            stretches.append([place, place, value])
+    return stretches
+
+
+def when(first, last):
+    """A stretch of frames in words."""
+    return f"frame {first}" if first == last else f"frames {first} to {last}"
+
+
+def named(units, verb, verbs):
+    """Units with the verb that fits their number."""
+    return f"unit {units[0]} {verb}" if len(units) == 1 else f"units {digits(units)} {verbs}"

@@ -1,0 +1,195 @@
+"""Draws the schedule of a mission: for each size of a configuration its positions by subframes."""
+import colorsys
+from collections import namedtuple
+
+import texts
+from drawing import Drawing
+from slots import FEWEST
+
+FIRST_RUN = 4  # the first subframe in which a task may run
+LAST_RUN, LAST_POLL = -8, -6  # the last ones, counted from the frame's end
+# What every unit does in the fixed subframes, which are counted from the frame's begin or end: a letter, a word, all of it.
+FIXED = (
+    (0, "s", "say", "says its clock, and the sensors that it reads"),
+    (2, "r", "relay", "hears clocks and sensors, and relays the sensors"),
+    (4, "a", "agree", "hears the relays, and agrees on the sensors' words"),
+    (-6, "b", "report", "says whom it caught"),
+    (-4, "r", "relay", "hears the reports, and relays them"),
+    (-2, "e", "end", "hears the relays, removes whom two caught, and sets its clock"),
+)
+
+Task = namedtuple("Task", "letter name run poll positions reads")
+
+
+def reads_of(mission, number):
+    """What a task reads, as its text names it."""
+    sensors = [sensor.get("name").data for sensor in mission.sensors]
+    names = [task.get("name").data for task in mission.tasks]
+    found = []
+    for part in texts.parts_of(mission.statements(number)):
+        if isinstance(part, texts.Sense):
+            found.append(f"sense {sensors[part.sensor]}")
+        elif isinstance(part, texts.Read):
+            found.append(f"{'now' if part.now else 'last'} {names[part.task]}.{part.word}")
+    return list(dict.fromkeys(found))
+
+
+class Grid:
+    """The schedule for one size of a configuration."""
+
+    def __init__(self, mission, size):
+        self.size = size
+        self.subframes = mission.subframes
+        self.sensors = [sensor.get("name").data for sensor in mission.sensors]
+        self.tasks = [
+            Task(chr(ord("A") + number), mission.tasks[number].get("name").data, run, poll, positions, reads_of(mission, number))
+            for number, (run, poll, positions) in enumerate(mission.rows_of(size))
+        ]
+
+    def head(self):
+        return f"a configuration of {self.size} units"
+
+    def fixed(self):
+        """The fixed subframes with what every unit does there."""
+        return {subframe % self.subframes: words for subframe, *words in FIXED}
+
+    def runs(self):
+        """The subframes in which tasks may run."""
+        return range(FIRST_RUN, self.subframes + LAST_RUN + 1)
+
+    def task_at(self, position, subframe):
+        """The task that a position runs in a subframe, or None."""
+        return next((task for task in self.tasks if task.run == subframe and position in task.positions), None)
+
+    def polled_in(self, subframe):
+        return [task for task in self.tasks if task.poll == subframe]
+
+    def notes(self):
+        """What each task reads, who reads each sensor, and what is free, in lines."""
+        for task in self.tasks:
+            at = "".join(map(str, task.positions))
+            reads = f"; reads {', '.join(task.reads)}" if task.reads else "; reads nothing"
+            yield f"{task.letter} {task.name}: runs in {task.run} at {at}, polled in {task.poll}{reads}"
+        for number, name in enumerate(self.sensors):
+            reader = number % self.size
+            users = [task.name for task in self.tasks if f"sense {name}" in task.reads and reader in task.positions]
+            read = "reads" if len(users) == 1 else "read"
+            uses = f"runs {', '.join(users)}, which {read} it" if users else "runs no task that reads it"
+            yield f"sensor {name}: position {reader} reads it, and {uses}"
+        places = len(self.runs()) * self.size
+        free = places - sum(len(task.positions) for task in self.tasks)
+        yield f"free: {free} of {places} places, in the subframes {self.runs()[0]} to {self.runs()[-1]}"
+
+
+def grids_of(mission):
+    """The grids of all sizes, the largest first, as a flight comes by them."""
+    return [Grid(mission, size) for size in range(mission.units, FEWEST - 1, -1)]
+
+
+# For a terminal.
+
+TEXT_KEY = (
+    "A .. runs the task of this letter; . free; in the row `fixed`, what every unit does: s says clocks and sensors, r relays,",
+    "a agrees on sensors, b says whom it caught, e removes, and sets its clock. In the row `polls`, which tasks all vote on.",
+)
+
+
+def text_line(label, marks):
+    return (label.ljust(11) + "".join(f"{mark:>3}" for mark in marks)).rstrip()
+
+
+def text_grid(grid):
+    """The lines of one size."""
+    subframes, fixed = range(grid.subframes), grid.fixed()
+    yield grid.head()
+    yield text_line("subframe", subframes)
+    yield text_line("fixed", [fixed[subframe][0] if subframe in fixed else "" for subframe in subframes])
+    for position in range(grid.size):
+        tasks = [grid.task_at(position, subframe) for subframe in subframes]
+        marks = [task.letter if task else "." if subframe in grid.runs() else "" for subframe, task in enumerate(tasks)]
+        yield text_line(f"position {position}", marks)
+    for row in range(max(len(grid.polled_in(subframe)) for subframe in subframes)):
+        polled = [grid.polled_in(subframe)[row:] for subframe in subframes]
+        yield text_line("polls" if row == 0 else "", [tasks[0].letter if tasks else "" for tasks in polled])
+    yield from grid.notes()
+    yield ""
+
+
+def text_of(mission):
+    lines = [line for grid in grids_of(mission) for line in text_grid(grid)]
+    return "\n".join([*lines, *TEXT_KEY]) + "\n"
+
+
+# For a browser.
+
+LEFT, ROW, BAR = 104, 26, 22
+
+
+def colour_of(task):
+    """A colour for a task, far from those of its neighbours."""
+    red, green, blue = colorsys.hls_to_rgb((0.55 + 0.382 * (ord(task.letter) - ord("A"))) % 1, 0.78, 0.6)
+    return "#%02x%02x%02x" % (round(red * 255), round(green * 255), round(blue * 255))
+
+
+class Page(Drawing):
+    """The drawing of all grids, and where a subframe is."""
+
+    def __init__(self, subframes):
+        super().__init__(24)
+        self.cell = max(15.0, min(62.0, 960 / subframes))
+
+    def at(self, subframe):
+        return round(LEFT + self.cell * subframe, 2)
+
+    def label(self, y, words):
+        self.words(LEFT - 10, y + 15, words, more=' text-anchor="end"')
+
+    def box(self, subframe, y, fill, words, letter, told, more=""):
+        """A bar in a subframe with its words, or its letter where there is no room."""
+        self.bar(self.at(subframe) + 1, y, round(self.cell - 2, 2), BAR, fill, told, more)
+        shown = words if 6.4 * len(words) + 4 <= self.cell else letter
+        self.words(round(self.at(subframe) + self.cell / 2, 2), y + 15, shown, 11, ' text-anchor="middle" pointer-events="none"')
+
+
+def draw_grid(page, grid):
+    """The drawing of one size, below what is drawn."""
+    y, fixed = page.bottom, grid.fixed()
+    page.words(24, y, grid.head(), 15, ' font-weight="bold"')
+    y += 20
+    page.words(LEFT - 10, y, "subframe", more=' text-anchor="end"')
+    for subframe in range(grid.subframes):
+        page.words(round(page.at(subframe) + page.cell / 2, 2), y, subframe, 11, ' text-anchor="middle"')
+    y += 6
+    page.label(y, "fixed")
+    for subframe, (letter, word, told) in sorted(fixed.items()):
+        page.box(subframe, y, "#e3e3e3", word, letter, f"subframe {subframe}: every unit {told}")
+    for position in range(grid.size):
+        y += ROW
+        page.label(y, f"position {position}")
+        for subframe in grid.runs():
+            task = grid.task_at(position, subframe)
+            if task:
+                told = f"position {position} runs {task.name} in subframe {subframe}; it reads {', '.join(task.reads) or 'nothing'}"
+                page.box(subframe, y, colour_of(task), task.name, task.letter, told)
+            else:
+                told = f"position {position} is free in subframe {subframe}"
+                page.bar(page.at(subframe) + 1, y, round(page.cell - 2, 2), BAR, "white", told, ' stroke="#cccccc"')
+    y += ROW
+    page.label(y, "polls")
+    for task in grid.tasks:
+        above = [other for other in grid.polled_in(task.poll) if other.letter < task.letter]
+        more = f' stroke="{colour_of(task)}" stroke-width="2"'
+        page.box(task.poll, y + ROW * len(above), "white", task.name, task.letter, f"all vote on {task.name} in subframe {task.poll}", more)
+    y += ROW * max(len(grid.polled_in(task.poll)) for task in grid.tasks)
+    for note in grid.notes():
+        y += 17
+        page.words(LEFT, y, note, 12)
+    page.bottom = y + 40
+
+
+def svg_of(mission):
+    page = Page(mission.subframes)
+    for grid in grids_of(mission):
+        draw_grid(page, grid)
+    width = max(page.at(mission.subframes) + 32, 940)
+    return page.svg("a schedule: positions by subframes", width, page.bottom - 16)
