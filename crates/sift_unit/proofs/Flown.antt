@@ -1,14 +1,15 @@
 -- Boards from their first step on.
-use Rattle.std.proofs.Common.{◌≡◌, ℕ, ◌+◌, ◌*◌, ◌<◌, ◌≤◌, length, Bool, true, false, Some, sym, ap, ◌∙◌, subst, arith}
-use Rattle.std.specs.Prelude.{slice_index_or}
+use Rattle.std.proofs.Common.{◌≡◌, ℕ, ◌+◌, ◌*◌, ◌<◌, ◌≤◌, List, [], map, length, Bool, true, false, Some, sym, ap, ◌∙◌, subst, arith}
+use Rattle.std.specs.Prelude.{slice_index_or, ℤ, Option}
 use Rattle.sift_buffer.specs.Conduct.{never}
 use Rattle.sift_buffer.specs.Conduct.{Conduct as Acts}
 use Rattle.sift_mission.specs.Fits.{Fits}
 use Rattle.sift_mission.specs.Mission.{FlownMission}
 use Rattle.std.proofs.lemmas.List.{length-map}
-use Rattle.sift_unit.specs.Desk.{Desk}
+use Rattle.sift_unit.specs.Desk.{Desk, first_desk}
 use Rattle.sift_unit.specs.Keeping.{Flying, KeepsAs}
 use Rattle.sift_conduct.specs.Account.{Account, account_of}
+use Rattle.sift_unit.specs.Memory.{Memory}
 use Rattle.sift_unit.specs.Reach.{IsNearIn}
 use Rattle.sift_unit.specs.Boards.{desk_of, account_at, memory_of, NewBoardLaw, DriveLaw, AccountLaw}
 use Rattle.sift_conduct.specs.declared.account.Account.{Account as TheAccount}
@@ -18,6 +19,13 @@ use Rattle.sift_unit.proofs.Standing.{stands}
 use Rattle.sift_unit.proofs.Marks.{kept_as, range_as, flying_as, not_never, at_end, end_not_never}
 use Rattle.sift_unit.proofs.Starting.{start_flying}
 use Rattle.sift_unit.proofs.Turning.{keep_law, kept_underway}
+
+-- a board at the first place, with what its unit starts with, is a first one
+pub first_is : (m : FlownMission) (u : ℕ) (cfg last : List ℕ) (clk : ℤ) (accounts : List TheAccount) (places : List (Option ℕ)) (memory : Memory) →
+    cfg ≡ m.units → clk ≡ m.offset u → last ≡ m.starts → accounts ≡ [] →
+    record (first_desk m u places memory) { cfg = cfg; clk = clk; last = last; accounts = map account_of accounts } ≡ first_desk m u places memory
+first_is m u cfg last clk accounts places memory ec el ew ea =
+    λ i. record (first_desk m u places memory) { cfg = ec i; clk = el i; last = ew i; accounts = map account_of (ea i) }
 
 -- a new board may step
 pub new_board_law : NewBoardLaw
