@@ -1,12 +1,10 @@
 -- What it means that one unit says a slot to another, and configurations.
-use Rattle.std.proofs.Common.{◌≡◌, ◌≢◌, inl, inr, ℕ, zero, suc, ◌%◌, ◌<◌, List, [], ◌∷◌, length, Bool, true, not, ◌&&◌, nat_eq, ap, eq-eqb, ne_eqb, arith}
-use Rattle.std.specs.Prelude.{slice_index, nat_le}
+use Rattle.std.proofs.Common.{◌≡◌, ◌≢◌, inl, inr, ℕ, List, length, Bool, true, not, ◌&&◌, nat_eq, ap, eq-eqb, ne_eqb}
+use Rattle.std.specs.Prelude.{nat_le}
 use Rattle.std.proofs.lemmas.Bool.{cases_Bool, and_parts, leb-true}
 use Rattle.sift_base.specs.Units.{has}
 use Rattle.sift_base.specs.declared.slot.Slot.{Slot}
-use Rattle.sift_base.proofs.Counts.{has-head, has-tail}
 use Rattle.sift_base.proofs.Sets.{passing_ascend}
-use Rattle.sift_config.specs.Config.{reader_of}
 use Rattle.sift_exec.specs.Conviction.{is_convicted, kept_by, next_by}
 use Rattle.sift_mission.specs.Mission.{FlownMission, IsConfigOf}
 use Rattle.sift_mission.specs.Slots.{is_slot, calls, is_senders}

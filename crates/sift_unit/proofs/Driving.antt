@@ -1,9 +1,8 @@
 -- A board on its port, call by call.
-use Rattle.std.proofs.Common.{◌≡◌, inl, ℕ, ◌+◌, ◌*◌, ◌<◌, ◌≤◌, true, false, Option, Some, refl, sym, ap, ◌∙◌, subst, arith}
+use Rattle.std.proofs.Common.{◌≡◌, inl, ℕ, ◌+◌, ◌*◌, ◌<◌, true, Option, Some, refl, sym, ap, ◌∙◌, subst, arith}
 use Rattle.std.specs.Prelude.{slice_set}
-use Rattle.sift_buffer.specs.Conduct.{with_turned}
 use Rattle.sift_buffer.specs.Conduct.{Conduct as Acts}
-use Rattle.sift_buffer.specs.Conditions.{MaySay, MayHear, MayEnter, MayTurn}
+use Rattle.sift_buffer.specs.Conditions.{MaySay, MayHear, MayEnter}
 use Rattle.sift_buffer.specs.Views.{View, view_with_said, view_with_heard, view_with_entered, view_with_turned, KeepsOwn, EntersAfterRound, Turns, at_once, after_round}
 use Rattle.sift_mission.specs.Mission.{FlownMission}
 use Rattle.sift_mission.specs.Fits.{Fits}

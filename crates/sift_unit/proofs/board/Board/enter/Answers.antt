@@ -62,6 +62,6 @@ returns-in-NotYet-clause-drives g c =
 pub returns-in-NotYet-clause-steps : goal.returns-in-NotYet-clause-steps
 returns-in-NotYet-clause-steps g c = (
   waits _ (desk_of c.args.self.now) _ _ _ _ c.requires.frame
-  (flies_here _ c.args.self.now (g.T.Look.view c.args.port.now) c.requires.drives c.requires.early).going.left c.in-NotYet.ensures.tried,
+      (flies_here _ c.args.self.now (g.T.Look.view c.args.port.now) c.requires.drives c.requires.early).going.left c.in-NotYet.ensures.tried,
   c.in-NotYet.ensures.stands,
 )

@@ -14,7 +14,7 @@ loop-self-preserved g c =
       passes_on _ start past (desk_of c.pass.new.self) (passes_on _ start here past c.loop-self.invariant.0 finds.passes) on.passes,
       (let near = c.loop-self.invariant.1 in let nearer = finds.nearer in let less = on.less in omega arith),
       same_on c.args.self.now c.finds_unit.new.self c.pass.new.self (same_on c.args.self.now c.loop-self.self c.finds_unit.new.self c.loop-self.invariant.2
-      c.finds_unit.ensures.same) c.pass.ensures.same,
+          c.finds_unit.ensures.same) c.pass.ensures.same,
     )
 
 -- to a call, or to the end

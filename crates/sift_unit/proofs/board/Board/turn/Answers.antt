@@ -49,6 +49,6 @@ returns-in-NotYet-clause-steps g c =
     let b = c.args.self.now in
     let v = g.T.Look.view c.args.port.now in (
       waits _ (desk_of b) v _ _ _ (room_next _ b v c.requires.drives c.requires.next)
-      (flies_here _ b v c.requires.drives (early_next _ b v c.requires.drives c.requires.next)).going.left c.in-NotYet.ensures.tried,
+          (flies_here _ b v c.requires.drives (early_next _ b v c.requires.drives c.requires.next)).going.left c.in-NotYet.ensures.tried,
       c.in-NotYet.ensures.stands,
     )

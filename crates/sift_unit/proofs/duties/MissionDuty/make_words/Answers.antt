@@ -1,7 +1,7 @@
-use Rattle.std.proofs.Common.{◌≡◌, ◌+◌, ◌<◌, ◌++◌, ◌∙◌, length, take, drop, Some, arith}
+use Rattle.std.proofs.Common.{◌≡◌, ◌+◌, ◌++◌, ◌∙◌, length, take, drop, Some, arith}
 use Rattle.std.specs.Prelude.{slice_get}
 use Rattle.std.proofs.lemmas.Option.{slice_get-get_or}
-use Rattle.sift_lang.specs.Tree.{TaskTree, end}
+use Rattle.sift_lang.specs.Tree.{end}
 use Rattle.sift_mission.specs.Needs.{task_at}
 use Rattle.sift_mission.specs.Parts.{data_of, flown_of}
 use Rattle.sift_unit.proofs.Making.{run_makes, task_room}
