@@ -1,5 +1,5 @@
 -- A port stays unit 1's where its view stays.
-use Rattle.std.proofs.Common.{◌≡◌, ℕ, ◌<◌, ◌≢◌, None, true, refl, ap, ◌∙◌, arith}
+use Rattle.std.proofs.Common.{◌≡◌, ℕ, ◌<◌, ◌≢◌, [], true, refl, ap, ◌∙◌, arith}
 use Rattle.sift_base.specs.Units.{has}
 use Rattle.sift_buffer.specs.LonePorts.{Follows, ranges_for, view_of}
 use Rattle.sift_buffer.specs.Ranges.{IsCell}
@@ -25,18 +25,17 @@ cell_of p slot n u one low there other is =
     rw (one.ranges, one.unit, is) (record { unit = there; other = other; slot = low })
 
 -- and where it follows
-pub follows_one : (p q : LonePort) → IsPortOfOne p → Follows p q → IsPortOfOne q
+pub follows_one : (p q : LonePort) → IsPortOfOne p → Follows p [] q → IsPortOfOne q
 follows_one p q one follows = record { unit = follows.unit ∙ one.unit; ranges = follows.ranges ∙ one.ranges }
 
-module _ (law : NewBoardLaw) (parts : MissionParts) (layout : parts.layout ≡ record { units = 4; sensors = 1; words = 2 }) (frames : parts.frames ≡ 1) (units : parts.units ≡ 4)
-    (calm : (u : ℕ) → (flown_of parts).storm u ≡ None) where
+module _ (law : NewBoardLaw) (parts : MissionParts) (layout : parts.layout ≡ record { units = 4; sensors = 1; words = 2 }) (frames : parts.frames ≡ 1) (units : parts.units ≡ 4) where
   -- unit 1 is one of the four
   one_there : (u : ℕ) → u ≡ 1 → has (flown_of parts).units u ≡ true
   one_there u is = rw (is, units) refl
 
   -- a new board of unit 1 drives on a fresh port of its own
   pub new_drives : (b : Board) (u : ℕ) (v : View) → u ≡ 1 → IsNewBoard (flown_of parts) u b → v ≡ fresh_view few u → Drives (flown_of parts) b v
-  new_drives b u v is new fresh = law (flown_of parts) u b v (one_there u is) (calm u) new
+  new_drives b u v is new fresh = law (flown_of parts) u b v (one_there u is) new
       (ap (λ (w : View). w.unit) fresh)
       (record {
         units = λ n there. rw fresh (let low = range-has 0 parts.units n there in omega (arith, low.1));

@@ -10,7 +10,7 @@ use crate::stated::{LAYOUT, four_units};
 use sift_base::{UnitId, Word};
 use sift_buffer::{LonePort, pack};
 use sift_conduct::Account;
-use sift_mission::{Mission, a_mission_fits};
+use sift_mission::Mission;
 use sift_unit::{Board, Stepped, boards_account_for_their_frames, new_boards_may_step};
 use std::process::Abort;
 use std::test::Fail;
@@ -197,7 +197,6 @@ fn a_board_flies_a_frame_beside_one_that_errs(rt: HostRuntime) -> Result<(), Fai
     new_boards_may_step();
     boards_account_for_their_frames();
     let mission = four_units(rt.alloc())?;
-    a_mission_fits(&mission);
     let own = unit(1);
     let mut port = LonePort::make(rt.alloc(), LAYOUT, own, 1)?;
     tell(&rt, &mut port);

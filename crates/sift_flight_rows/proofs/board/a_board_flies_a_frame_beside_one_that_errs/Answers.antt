@@ -9,7 +9,7 @@ use Rattle.sift_flight_rows.proofs.board.a_board_flies_a_frame_beside_one_that_e
 pub fly-moved-requires-clause-drives : goal.fly-moved-requires-clause-drives
 fly-moved-requires-clause-drives g c =
     let few = c.in_ok-mission.ensures in
-    new_drives c.new_boards_may_step.ensures c.in_ok-mission.mission few.0 few.1 few.2 c.a_mission_fits.ensures.calm c.in_ok-board.board c.unit-own.result (view_of c.tell.new.port) c.unit-own.ensures
+    new_drives c.new_boards_may_step.ensures c.in_ok-mission.mission few.0 few.1 few.2 c.in_ok-board.board c.unit-own.result (view_of c.tell.new.port) c.unit-own.ensures
     c.in_ok-board.ensures (c.tell.ensures ∙ c.in_ok-port.ensures.view)
 
 pub fly-moved-requires-clause-port : goal.fly-moved-requires-clause-port

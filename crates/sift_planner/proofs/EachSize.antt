@@ -1,0 +1,40 @@
+-- There are plans for all sizes in one way, or one first size without room.
+use Rattle.std.proofs.Common.{◌≡◌, ℕ, ◌+◌, ◌-◌, [], length, subst, inl, inr, arith}
+use Rattle.std.proofs.lemmas.Bool.{cases_order}
+use Rattle.std.proofs.lemmas.List.{ext_get_or}
+use Rattle.sift_base.specs.Layout.{least_units}
+use Rattle.sift_table.specs.Schedule.{Schedule}
+use Rattle.sift_planner.specs.Plans.{HasNoRoom, IsPlan, wanted}
+use Rattle.sift_planner.specs.Sizes.{OnePlanEach, OneSizeWithoutRoom, table_at}
+use Rattle.sift_planner.proofs.Plans.{one_plan, one_refusal}
+
+pub one_plan_each : OnePlanEach
+one_plan_each shapes units period copies some others plannable a b =
+    let empty : Schedule = record { size = 0; period = 0; run = []; poll = []; at = [] } in
+    let long : length some ≡ length others = omega (arith, a.count, b.count) in
+    ext_get_or empty some others long
+    (λ i low. one_plan shapes (wanted (least_units + i) period copies) (table_at some i) (table_at others i) plannable (a.each i low) (b.each i (omega (arith, low, long))))
+
+pub one_size_without_room : OneSizeWithoutRoom
+one_size_without_room shapes units period copies size task plannable none = (
+  (λ tables plans.
+      let i = size - least_units in
+      let at : least_units + i ≡ size = omega (arith, none.from) in
+      let here = plans.each i (omega (arith, plans.count, none.from, none.to)) in
+      (one_refusal shapes (wanted size period copies) task plannable none.no_room).0 (table_at tables i)
+      (subst (λ (s : ℕ). IsPlan shapes (wanted s period copies) (table_at tables i)) at here)),
+  (λ other at again.
+      let same : other ≡ size = elim (cases_order other size) [
+        | inl equal ↦ equal
+        | inr (inl before) ↦
+            let plan = none.smaller other again.from before in
+            absurd ((one_refusal shapes (wanted other period copies) at plannable again.no_room).0 plan.0 plan.1)
+        | inr (inr after) ↦
+            let plan = again.smaller size none.from after in
+            absurd ((one_refusal shapes (wanted size period copies) task plannable none.no_room).0 plan.0 plan.1)
+      ] in (
+        same,
+        (one_refusal shapes (wanted size period copies) task plannable none.no_room).1 at
+            (subst (λ (s : ℕ). HasNoRoom shapes (wanted s period copies) at) same again.no_room),
+      )),
+)

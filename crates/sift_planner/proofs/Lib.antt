@@ -1,0 +1,9 @@
+pub mod Ranges
+pub mod Same
+pub mod Plans
+pub mod Good
+pub mod Room
+pub mod Used
+pub mod Steps
+pub mod EachSize
+pub mod Listed

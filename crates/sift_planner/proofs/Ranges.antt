@@ -1,0 +1,54 @@
+-- Consecutive numbers.
+use Rattle.std.proofs.Common.{◌≡◌, ℕ, zero, suc, ◌+◌, ◌<◌, ◌≤◌, [], ◌∷◌, ◌++◌, take, Bool, true, false, ◌||◌, refl, ap, ◌∙◌, sym, arith}
+use Rattle.std.proofs.lemmas.List.Elements.{All-from_get_or}
+use Rattle.std.proofs.lemmas.List.Folds.{list_any-append, list_any_at}
+use Rattle.std.proofs.lemmas.List.FromFn.{get_or-range_with_len, length-range_with_len}
+use Rattle.std.specs.List.{All, list_any, range_with_len}
+
+-- one number more at the end
+pub range_more : (a n : ℕ) → range_with_len a (suc n) ≡ range_with_len a n ++ (a + n) ∷ []
+range_more a zero = ap (λ k. k ∷ []) (let e : a ≡ a + 0 = omega arith in e)
+range_more a (suc n) =
+    ap (λ rest. a ∷ rest) (range_more (a + 1) n ∙ ap (λ k. range_with_len (a + 1) n ++ k ∷ []) (let e : a + 1 + n ≡ a + suc n = omega arith in e))
+
+-- the first numbers of a range are one
+pub take-range : (a k n : ℕ) → k ≤ n → take k (range_with_len a n) ≡ range_with_len a k
+take-range a zero n few = refl
+take-range a (suc k) zero few = absurd (omega (arith, few))
+take-range a (suc k) (suc n) few = ap (λ rest. a ∷ rest) (take-range (a + 1) k n (omega (arith, few)))
+
+-- the numbers from 0 on are below their count
+pub range_below : (n : ℕ) → All (λ p. p < n) (range_with_len 0 n)
+range_below n =
+    All-from_get_or (λ p. p < n) (range_with_len 0 n) 0
+    (λ i low. let inside : i < n = omega (arith, low, length-range_with_len 0 n) in rw (get_or-range_with_len 0 n i 0 inside) (omega (arith, inside)))
+
+-- ---- tests of the numbers below a bound
+
+pub or_false : (b : Bool) → (b || false) ≡ b
+or_false true = refl
+or_false false = refl
+
+-- one number more is tested
+pub any_more : (f : ℕ → Bool) (n : ℕ) → list_any f (range_with_len 0 (suc n)) ≡ (list_any f (range_with_len 0 n) || f n)
+any_more f n =
+    ap (list_any f) (range_more 0 n) ∙ list_any-append f (range_with_len 0 n) ((0 + n) ∷ [])
+    ∙ ap (λ b. list_any f (range_with_len 0 n) || b) (or_false (f (0 + n)) ∙ ap f (let e : 0 + n ≡ n = omega arith in e))
+
+-- two tests that agree below the bound
+pub any_same : (f g : ℕ → Bool) (n : ℕ) → ((d : ℕ) → d < n → f d ≡ g d) → list_any f (range_with_len 0 n) ≡ list_any g (range_with_len 0 n)
+any_same f g zero same = refl
+any_same f g (suc n) same =
+    any_more f n ∙ ap (λ b. b || f n) (any_same f g n (λ d low. same d (omega (arith, low))))
+    ∙ ap (λ b. list_any g (range_with_len 0 n) || b) (same n (omega arith)) ∙ sym (any_more g n)
+
+-- a test that no number below the bound passes
+pub any_none : (f : ℕ → Bool) (n : ℕ) → ((d : ℕ) → d < n → f d ≡ false) → list_any f (range_with_len 0 n) ≡ false
+any_none f zero none = refl
+any_none f (suc n) none = any_more f n ∙ ap (λ b. b || f n) (any_none f n (λ d low. none d (omega (arith, low)))) ∙ none n (omega arith)
+
+-- a test that one of them passes
+pub any_one : (f : ℕ → Bool) (n d : ℕ) → d < n → f d ≡ true → list_any f (range_with_len 0 n) ≡ true
+any_one f n d low here =
+    list_any_at f (range_with_len 0 n) d 0 (omega (arith, low, length-range_with_len 0 n))
+    (ap f (get_or-range_with_len 0 n d 0 low ∙ (let e : 0 + d ≡ d = omega arith in e)) ∙ here)
