@@ -1,3 +1,4 @@
+pub mod DrawnText
 pub mod OneReply
 pub mod Shown
 pub mod Statuses

@@ -1,5 +1,6 @@
 -- Each command about a laboratory gives one reply.
-use Rattle.std.proofs.Common.{◌≡◌, ◌≢◌, inl, inr, ℕ, ◌+◌, ◌*◌, List, ℤ, sym, ap, ◌∙◌, subst, arith}
+use Rattle.std.proofs.Common.{◌≡◌, ◌≢◌, inl, inr, ℕ, List, ℤ, sym, ap, ◌∙◌, subst, arith}
+use Rattle.std.proofs.lemmas.Int.{ints}
 use Rattle.toml.specs.Data.{Members}
 use Rattle.sift_byz.specs.Lawful.{OnePlan, OneRefusal, PlansAreAccepted}
 use Rattle.sift_byz.specs.Plan.{PlanData}
@@ -55,7 +56,7 @@ module _ (one_plan : OnePlan) (accepted : PlansAreAccepted) (one_refusal : OneRe
 -- what is admitted isn't refused
 unrefused : (n m : ℕ) (skew error rate : ℤ) → IsAdmitted n m skew error rate → ¬ IsRefused n m skew error rate
 unrefused n m skew error rate admitted (inl few) = omega (arith, few, admitted.enough)
-unrefused n m skew error rate admitted (inr tight) = omega (arith, tight, admitted.room)
+unrefused n m skew error rate admitted (inr tight) = omega (arith, ints, tight, admitted.room)
 
 pub one_clocks : OneTextOfARun → (lab : LabNumbers) → GivesOne (clocks_duty lab)
 one_clocks one_text lab bytes one other (inl (text, admitted, tells, is)) (inl (text', admitted', tells', is')) =

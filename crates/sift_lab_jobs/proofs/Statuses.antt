@@ -1,7 +1,7 @@
 -- The statuses of the replies about laboratories are their own.
 use Rattle.std.proofs.Common.{◌≡◌, inl, inr, ℕ, List, Contains, lit<, refl, sym, subst, arith}
 use Rattle.sift_reply.specs.Duty.{HasOwnStatuses}
-use Rattle.sift_reply.specs.Reply.{Reply, reply, shared_statuses}
+use Rattle.sift_reply.specs.Reply.{Reply, shared_statuses}
 use Rattle.sift_lab_jobs.specs.Byz.{ByzGives, byz_duty, byz_statuses}
 use Rattle.sift_lab_jobs.specs.Clocks.{ClocksGives, LabNumbers, clocks_duty, clocks_statuses}
 use Rattle.sift_lab_jobs.specs.declared.byz.ByzJob.{ByzJob}
