@@ -8,8 +8,8 @@ use Rattle.sift_lang.specs.declared.tree.Task.{Task}
 use Rattle.sift_program.specs.Sound.{output_count}
 use Rattle.sift_table.specs.Timing.{task_among}
 use Rattle.sift_mission.specs.ByWord.{by_word}
-use Rattle.sift_mission.specs.Needs.{shapes_from}
-use Rattle.sift_mission.proofs.Tasks.{output_count-cons}
+use Rattle.sift_program.specs.Needs.{shapes_from}
+use Rattle.sift_program.proofs.ShapeLists.{output_count-cons}
 
 -- each word has a task
 pub length-by_word : (t : ℕ) (tasks : List TaskTree) → length (by_word t tasks) ≡ output_count tasks

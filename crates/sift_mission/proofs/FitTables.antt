@@ -19,7 +19,8 @@ use Rattle.sift_mission.specs.Slots.{is_slot}
 use Rattle.sift_mission.proofs.FitSlots.{is-slot}
 use Rattle.sift_mission.proofs.Numbers.{range-has}
 use Rattle.sift_mission.proofs.Positions.{length-ascending, positions-filtered}
-use Rattle.sift_mission.proofs.Tasks.{among-below, length-shapes, words-shapes}
+use Rattle.sift_program.proofs.ShapeLists.{length-shapes, words-shapes}
+use Rattle.sift_mission.proofs.Tasks.{among-below}
 
 module _ (d : MissionData) (fit : PartsFit d) where
   -- a configuration of the mission has no more units than the mission

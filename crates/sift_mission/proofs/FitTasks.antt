@@ -15,14 +15,15 @@ use Rattle.sift_table.specs.Timing.{task_of}
 use Rattle.sift_mission.specs.Data.{MissionData, shapes_in}
 use Rattle.sift_mission.specs.Fits.{IsRead, IsCounted, SameAt}
 use Rattle.sift_mission.specs.Flown.{flown, needs_word, table_for, word_made}
-use Rattle.sift_mission.specs.Needs.{reads_task, reads_word, shape_in, task_at}
+use Rattle.sift_program.specs.Needs.{reads_task, reads_word, shape_in, task_at}
 use Rattle.sift_mission.specs.PartsFit.{PartsFit}
 use Rattle.sift_mission.specs.Premises.{IsAmong, RunsProgram}
 use Rattle.sift_mission.proofs.FitSlots.{few-words}
 use Rattle.sift_mission.proofs.FitTables.{table-is, task-below, words-are}
 use Rattle.sift_mission.proofs.Meanings.{SameRead, meaning-same}
 use Rattle.sift_mission.proofs.Numbers.{has-range, range-has}
-use Rattle.sift_mission.proofs.Tasks.{among-before, among-earlier, among-own, any-has, contains-has, filter-has, has-filter, length-shapes, shape-there, take-shapes, words-shapes}
+use Rattle.sift_program.proofs.ShapeLists.{length-shapes, shape-there, take-shapes, words-shapes}
+use Rattle.sift_mission.proofs.Tasks.{among-before, among-earlier, among-own, any-has, contains-has, filter-has, has-filter}
 
 -- sound tasks have a word each, or more
 tasks-words : (sensors words : ℕ) (tasks : List TaskTree) → All (IsSound sensors words) tasks → length tasks ≤ output_count tasks

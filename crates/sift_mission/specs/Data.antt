@@ -5,7 +5,7 @@ use Rattle.sift_base.specs.declared.layout.Layout.{Layout}
 use Rattle.sift_program.specs.Program.{ProgramTree}
 use Rattle.sift_script.specs.Script.{FaultScript}
 use Rattle.sift_table.specs.Schedule.{Schedule}
-use Rattle.sift_mission.specs.Needs.{program_shapes}
+use Rattle.sift_program.specs.Needs.{program_shapes}
 
 -- the clocks of a mission, in ticks: the skew, the reading error, the drift in a frame and the length of a subframe that it states, and by
 -- unit the offset at the start, the drift in a frame, and the error of its reading of each unit

@@ -13,7 +13,7 @@ use Rattle.sift_table.specs.Timing as timing
 use Rattle.sift_table.specs.Timing.{task_of}
 use Rattle.sift_mission.specs.Data.{MissionData, shapes_in}
 use Rattle.sift_mission.specs.Mission.{FlownMission}
-use Rattle.sift_mission.specs.Needs.{task_at}
+use Rattle.sift_program.specs.Needs.{task_at}
 use Rattle.sift_mission.specs.PartsFit.{table_at}
 
 -- ---- tables

@@ -4,7 +4,6 @@ pub mod Data
 pub mod Fits
 pub mod Flown
 pub mod Mission
-pub mod Needs
 pub mod Parts
 pub mod PartsFit
 pub mod Premises

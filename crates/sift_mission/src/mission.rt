@@ -79,6 +79,15 @@ impl Mission {
         &self.parts
     }
 
+    /// The parts back, to make another mission of some of them. They fit.
+    pub fn into_parts(self) -> MissionParts
+        ensures same { result ≡ self }
+        ensures fit { PartsFit (data_of result) }
+        ensures compiled { AreCompiled result }
+    {
+        self.parts
+    }
+
     /// How many slots there are, at most 90.
     pub fn slots(&self) -> usize
         ensures { result ≡ (flown_of self.now).slots }

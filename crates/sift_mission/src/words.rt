@@ -5,7 +5,7 @@ ghost use Rattle.sift_base.specs.Layout.{word_limit};
 ghost use Rattle.sift_compile.specs.Tasks.{IsCodeOf};
 ghost use Rattle.sift_program.specs.Sound.{first_word};
 ghost use Rattle.sift_mission.specs.Parts.{data_of, flown_of};
-ghost use Rattle.sift_mission.specs.Needs.{task_at};
+ghost use Rattle.sift_program.specs.Needs.{task_at};
 
 use crate::mission::Mission;
 use sift_base::Word;

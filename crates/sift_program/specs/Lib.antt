@@ -1,3 +1,4 @@
 pub mod Ideal
+pub mod Needs
 pub mod Program
 pub mod Sound

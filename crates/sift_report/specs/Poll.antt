@@ -2,7 +2,7 @@
 use Rattle.std.specs.Prelude.{◌≡◌, ℕ, ◌<◌, List, map, length}
 use Rattle.sift_mission.specs.Data.{MissionData}
 use Rattle.sift_mission.specs.Mission.{FlownMission}
-use Rattle.sift_mission.specs.Needs.{task_at}
+use Rattle.sift_program.specs.Needs.{task_at}
 use Rattle.sift_flight.specs.Flight.{Flight}
 use Rattle.sift_report.specs.Part.{list_text}
 use Rattle.sift_report.specs.Votes.{place_of, poll_text, polled_units, word_number}

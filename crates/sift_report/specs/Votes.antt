@@ -9,7 +9,7 @@ use Rattle.sift_vote.specs.Agreed.{majority_of}
 use Rattle.sift_mission.specs.Data.{MissionData}
 use Rattle.sift_mission.specs.Flown.{flown}
 use Rattle.sift_mission.specs.Mission.{FlownMission}
-use Rattle.sift_mission.specs.Needs.{task_at}
+use Rattle.sift_program.specs.Needs.{task_at}
 use Rattle.sift_mission.specs.Slots.{executors}
 use Rattle.sift_flight.specs.Flight.{Flight, config_of}
 use Rattle.sift_report.specs.Part.{blank, unit_digit, list_text, word_text}

@@ -7,7 +7,7 @@ ghost use Rattle.sift_vote.specs.Agreed.{majority_of};
 ghost use Rattle.sift_program.specs.Sound.{first_word};
 ghost use Rattle.sift_mission.specs.Mission.{IsConfigOf};
 ghost use Rattle.sift_mission.specs.Parts.{data_of, flown_of};
-ghost use Rattle.sift_mission.specs.Needs.{task_at};
+ghost use Rattle.sift_program.specs.Needs.{task_at};
 ghost use Rattle.sift_mission.specs.Slots.{executors};
 ghost use Rattle.sift_flight.specs.Flight.{config_of};
 ghost use Rattle.sift_flight.specs.Told.{IsWhole, told};

@@ -5,7 +5,7 @@ ghost use Rattle.sift_base.specs.Layout.{word_limit};
 ghost use Rattle.sift_base.specs.Units.{has};
 ghost use Rattle.sift_program.specs.Sound.{first_word};
 ghost use Rattle.sift_mission.specs.Parts.{data_of, flown_of};
-ghost use Rattle.sift_mission.specs.Needs.{task_at};
+ghost use Rattle.sift_program.specs.Needs.{task_at};
 ghost use Rattle.sift_flight.specs.Told.{IsWhole, told};
 ghost use Rattle.sift_report.specs.Votes.{frame_votes, task_votes, tells, unit_votes, vote_text, votes_of};
 

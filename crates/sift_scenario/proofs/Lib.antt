@@ -26,7 +26,6 @@ pub mod Read
 pub mod ReadEntries
 pub mod Rolls
 pub mod Sensing
-pub mod ShapeLemmas
 pub mod Sizes
 pub mod SoundPrograms
 pub mod SoundShapes

@@ -17,7 +17,7 @@ use Rattle.sift_script.specs.Rules as scripts
 use Rattle.sift_script.specs.Script.{FaultScript}
 use Rattle.sift_table.specs.Rules.{IsGood}
 use Rattle.sift_table.specs.Schedule.{Schedule, schedule_of}
-use Rattle.sift_mission.specs.Needs.{program_shapes}
+use Rattle.sift_program.specs.Needs.{program_shapes}
 use Rattle.sift_mission.specs.PartsFit.{PartsFit}
 use Rattle.sift_scenario.proofs.Assembling.{is_stated, layout_read, made, script_read, script_refused, table_refused}
 use Rattle.sift_scenario.proofs.Fitting.{fit}

@@ -6,7 +6,7 @@ use Rattle.sift_lang.specs.Tree.{TaskTree}
 use Rattle.sift_program.specs.Program.{ProgramTree}
 use Rattle.sift_script.specs.Script.{outputs_of}
 use Rattle.sift_mission.specs.Data.{MissionData}
-use Rattle.sift_mission.specs.Needs.{program_shapes}
+use Rattle.sift_program.specs.Needs.{program_shapes}
 use Rattle.sift_scenario.proofs.UniqueForms.{one_forms, one_trees}
 use Rattle.sift_scenario.specs.Clock.{clocks_of}
 use Rattle.sift_scenario.specs.Fault.{faults_of}

@@ -17,7 +17,6 @@ mod program;
 mod refused;
 mod root;
 mod sensor;
-mod shapes;
 mod table;
 mod task;
 mod tree;

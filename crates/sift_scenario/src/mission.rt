@@ -14,9 +14,9 @@ use crate::checked::{check_script, check_tables};
 use crate::document::{Entries, entries_of};
 use crate::program::{Running, run_entries};
 use crate::refused::Refused;
-use crate::shapes::shapes_of;
 use sift_base::{Layout, Stop};
 use sift_mission::{Mission, MissionParts};
+use sift_program::shapes_of;
 use std::alloc::Global;
 use toml::Table;
 

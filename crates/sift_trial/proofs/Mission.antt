@@ -30,7 +30,7 @@ use Rattle.sift_table.specs.Laws.{PlainTablesAreGood}
 use Rattle.sift_table.specs.Rules as tables
 use Rattle.sift_table.specs.Schedule.{plain_of}
 use Rattle.sift_mission.specs.Data.{MissionData, shapes_in}
-use Rattle.sift_mission.specs.Needs.{program_shapes}
+use Rattle.sift_program.specs.Needs.{program_shapes}
 use Rattle.sift_trial.proofs.Faults.{fault_stated, faults_kept}
 use Rattle.sift_trial.proofs.Program.{drawn_trees, trees_allowed, trees_are, trees_long, trees_of_one_word}
 use Rattle.sift_trial.proofs.Root.{frames_are, root_kept, units_are}

@@ -11,8 +11,8 @@ use Rattle.sift_program.specs.Program.{ProgramTree}
 use Rattle.sift_program.specs.Sound.{output_count}
 use Rattle.sift_script.specs.Script.{outputs_of}
 use Rattle.sift_trial.proofs.Digits.{all_below}
-use Rattle.sift_mission.proofs.Tasks.{length-shapes, shape-there, words-shapes}
-use Rattle.sift_mission.specs.Needs.{program_shapes, reads_task, shape_in, task_at}
+use Rattle.sift_program.proofs.ShapeLists.{length-shapes, shape-there, words-shapes}
+use Rattle.sift_program.specs.Needs.{program_shapes, reads_task, shape_in, task_at}
 
 -- each tree has one output
 abbrev pub AreOfOneWord : List TaskTree → Type 0

@@ -6,15 +6,16 @@ ghost use Rattle.sift_base.specs.Shapes.{shapes_of};
 ghost use Rattle.sift_lang.specs.Tree.{block_of, statement_of, term_of, tree_of};
 ghost use Rattle.sift_program.specs.Program.{program_of};
 ghost use Rattle.sift_program.specs.Sound.{IsSoundProgram, output_count};
-ghost use Rattle.sift_mission.specs.Needs.{block_reads, program_shapes, reads_task, reads_word, statement_reads, task_at, term_reads};
+ghost use Rattle.sift_program.specs.Needs.{block_reads, program_shapes, reads_task, reads_word, statement_reads, task_at, term_reads};
 
+use crate::program::Program;
 use sift_base::{NoMemory, Shapes, TaskShape};
 use sift_lang::{Expr, Stmt, Task};
-use sift_program::Program;
 use std::alloc::Global;
 
-/// The shapes of a program's tasks, beside so many sensors.
-pub(crate) fn shapes_of(alloc: Global, program: &Program, sensors: u8) -> Result<Shapes, NoMemory>
+/// The shapes of a program's tasks, beside so many sensors: of each task the number of its outputs, and the earlier
+/// tasks of whose words it reads one by `now`, in ascending order. It is what tables are planned and checked by.
+pub fn shapes_of(alloc: Global, program: &Program, sensors: u8) -> Result<Shapes, NoMemory>
     requires { IsSoundProgram sensors (program_of program.now) }
     ensures { IfOk result (λ shapes. shapes_of shapes ≡ program_shapes sensors (program_of program.now)) }
 {

@@ -1,7 +1,7 @@
 use Rattle.std.proofs.Common.{◌≡◌, drop}
 use Rattle.sift_lang.specs.Tree.{block_of}
-use Rattle.sift_mission.specs.Needs.{block_reads}
-use Rattle.sift_scenario.proofs.shapes.+reading.Given as goal
+use Rattle.sift_program.specs.Needs.{block_reads}
+use Rattle.sift_program.proofs.shapes.+reading.Given as goal
 
 -- the block reads the word where the statements that are left do
 abbrev pub invariant-block_reads-loop-statement : goal.invariant-block_reads-loop-statement

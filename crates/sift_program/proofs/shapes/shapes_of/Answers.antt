@@ -2,10 +2,10 @@ use Rattle.std.proofs.Common.{◌<◌, ◌∙◌, length, map, sym, ap, arith}
 use Rattle.std.proofs.lemmas.List.{length-map, map-append, take_all}
 use Rattle.sift_base.specs.Shapes.{AllShapes}
 use Rattle.sift_lang.specs.Tree.{tree_of}
-use Rattle.sift_mission.proofs.Tasks.{length-shapes}
-use Rattle.sift_mission.specs.Needs.{shapes_from}
-use Rattle.sift_scenario.proofs.ShapeLemmas.{shapes_next}
-use Rattle.sift_scenario.proofs.shapes.shapes_of.Goals as goal
+use Rattle.sift_program.proofs.ShapeLists.{length-shapes}
+use Rattle.sift_program.specs.Needs.{shapes_from}
+use Rattle.sift_program.proofs.ShapeLemmas.{shapes_next}
+use Rattle.sift_program.proofs.shapes.shapes_of.Goals as goal
 
 pub needs_of-requires-clause-place : goal.needs_of-requires-clause-place
 needs_of-requires-clause-place c = rw (c.deref.ensures.value, ← c.deref-task-items.ensures.value) c.loop-place-test.true
