@@ -2,7 +2,8 @@
 
 ghost use Rattle.std.specs.Prelude.{◌≡◌, ◌<◌, ◌≤◌, ◌+◌, ◌^◌, IfOk, length, map};
 ghost use Rattle.std.specs.List.{filter, list_any, range_with_len};
-ghost use Rattle.sift_base.specs.Shapes.{shapes_of};
+ghost use Rattle.sift_base.specs.Layout.{sensor_limit};
+ghost use Rattle.sift_base.specs.Shapes.{AreShapes, shapes_of};
 ghost use Rattle.sift_lang.specs.Tree.{block_of, statement_of, term_of, tree_of};
 ghost use Rattle.sift_program.specs.Program.{program_of};
 ghost use Rattle.sift_program.specs.Sound.{IsSoundProgram, output_count};
@@ -16,8 +17,10 @@ use std::alloc::Global;
 /// The shapes of a program's tasks, beside so many sensors: of each task the number of its outputs, and the earlier
 /// tasks of whose words it reads one by `now`, in ascending order. It is what tables are planned and checked by.
 pub fn shapes_of(alloc: Global, program: &Program, sensors: u8) -> Result<Shapes, NoMemory>
-    requires { IsSoundProgram sensors (program_of program.now) }
-    ensures { IfOk result (λ shapes. shapes_of shapes ≡ program_shapes sensors (program_of program.now)) }
+    requires sensors { sensors ≤ sensor_limit }
+    requires program { IsSoundProgram sensors (program_of program.now) }
+    ensures shapes { IfOk result (λ shapes. shapes_of shapes ≡ program_shapes sensors (program_of program.now)) }
+    ensures fit { IfOk result (λ shapes. AreShapes (shapes_of shapes)) }
 {
     let mut tasks = Vec::new(alloc);
     for (place, task) in program.tasks.iter().enumerate() {

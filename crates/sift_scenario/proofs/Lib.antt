@@ -28,7 +28,6 @@ pub mod Rolls
 pub mod Sensing
 pub mod Sizes
 pub mod SoundPrograms
-pub mod SoundShapes
 pub mod Starts
 pub mod TableReading
 pub mod TaskRefusals

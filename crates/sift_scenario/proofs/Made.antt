@@ -24,7 +24,6 @@ use Rattle.sift_scenario.proofs.Fitting.{fit}
 use Rattle.sift_scenario.proofs.Numbers.{between_at}
 use Rattle.sift_scenario.proofs.Sensing.{as_many_sensors, few_sensors}
 use Rattle.sift_scenario.proofs.SoundPrograms.{stated_is_sound}
-use Rattle.sift_scenario.proofs.SoundShapes.{sound_shapes}
 use Rattle.sift_scenario.specs.Mission.{HasGoodTables, IsMission, IsStated}
 use Rattle.sift_scenario.specs.Reading.{IsReadOf, IsRunningOf}
 use Rattle.sift_scenario.specs.Refusal.{IsRefusedWith}
@@ -73,10 +72,6 @@ module _ (document : Members) (entries : Entries) (running : Running) (read : Is
         })
 
     module _ (shapes : AllShapes) (shapes_are : shapes ≡ program_shapes layout.sensors (program_of running.program)) where
-      -- the shapes are such as a mission may have
-      pub shapes_fit : AreShapes shapes
-      shapes_fit = rw shapes_are (sound_shapes layout.sensors (program_of running.program) (rw sensors_same sensors_few) (program_sound layout.sensors sensors_same))
-
       -- what the document states, with its tables and script before they are checked
       made_stated : IsStated document (made entries running layout (map schedule_of entries.tables.items) (script_read entries layout shapes))
       made_stated = rw (shapes_are, layout_is) (is_stated document entries running read runs)

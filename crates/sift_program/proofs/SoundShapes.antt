@@ -3,6 +3,7 @@ use Rattle.std.proofs.Common.{◌≡◌, ◌<◌, ◌≤◌, ◌+◌, ℕ, [], l
 use Rattle.std.proofs.lemmas.List.Elements.{All-filter}
 use Rattle.std.proofs.lemmas.List.FromFn.{get_or-range_with_len, length-range_with_len}
 use Rattle.std.specs.List.{All, range_with_len}
+use Rattle.sift_base.specs.Layout.{sensor_limit}
 use Rattle.sift_base.specs.Shapes.{AreShapes, Shape, shape_at}
 use Rattle.sift_lang.specs.Tree.{TaskTree, end}
 use Rattle.sift_program.specs.Program.{ProgramTree}
@@ -14,7 +15,7 @@ use Rattle.sift_program.specs.Needs.{program_shapes, reads_task, shape_in, task_
 below_all : (n : ℕ) → All (λ k. k < n) (range_with_len 0 n)
 below_all n k d low = rw (get_or-range_with_len 0 n k d (rw length-range_with_len at low)) (omega (arith, rw length-range_with_len at low))
 
-module _ (sensors : ℕ) (program : ProgramTree) (few : sensors ≤ 8) (sound : IsSoundProgram sensors program) where
+module _ (sensors : ℕ) (program : ProgramTree) (few : sensors ≤ sensor_limit) (sound : IsSoundProgram sensors program) where
   -- the shape of a task that is there
   shape_is : (t : ℕ) → t < length (program_shapes sensors program).tasks → shape_at (program_shapes sensors program) t ≡ shape_in program.tasks t (task_at program.tasks t)
   shape_is t low =
