@@ -1,10 +1,11 @@
 -- What a task reads of the frame in which it runs, and the shapes of a program's tasks.
-use Rattle.std.specs.Prelude.{ℕ, suc, List, [], ◌∷◌, Bool, false, ◌||◌, nat_eq, slice_index_or}
+use Rattle.std.specs.Prelude.{ℕ, suc, ◌≤◌, List, [], ◌∷◌, Bool, false, ◌||◌, nat_eq, slice_index_or}
 use Rattle.std.specs.List.{filter, list_any, range_with_len}
-use Rattle.sift_base.specs.Shapes.{AllShapes, Shape}
+use Rattle.sift_base.specs.Layout.{sensor_limit}
+use Rattle.sift_base.specs.Shapes.{AllShapes, AreShapes, Shape}
 use Rattle.sift_lang.specs.Tree.{Term, number, local, sense, this_frame, last_frame, minus, binary, middle, Statement, bind, assign, output, choose, choose_else, repeat, Block, end, step, TaskTree}
 use Rattle.sift_program.specs.Program.{ProgramTree}
-use Rattle.sift_program.specs.Sound.{first_word}
+use Rattle.sift_program.specs.Sound.{IsSoundProgram, first_word}
 
 -- ---- words
 
@@ -60,3 +61,8 @@ shapes_from tasks t (task ∷ rest) = shape_in tasks t task ∷ shapes_from task
 -- the shapes of a program's tasks, with so many sensors
 abbrev pub program_shapes : ℕ → ProgramTree → AllShapes
 program_shapes sensors program = record { sensors = sensors; tasks = shapes_from program.tasks 0 program.tasks }
+
+-- the shapes of a sound program's tasks are shapes that a mission may have
+abbrev pub SoundProgramsHaveShapes : Type 0
+SoundProgramsHaveShapes = (sensors : ℕ) (program : ProgramTree) → sensors ≤ sensor_limit → IsSoundProgram sensors program
+    → AreShapes (program_shapes sensors program)

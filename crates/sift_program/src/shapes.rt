@@ -7,7 +7,7 @@ ghost use Rattle.sift_base.specs.Shapes.{AreShapes, shapes_of};
 ghost use Rattle.sift_lang.specs.Tree.{block_of, statement_of, term_of, tree_of};
 ghost use Rattle.sift_program.specs.Program.{program_of};
 ghost use Rattle.sift_program.specs.Sound.{IsSoundProgram, output_count};
-ghost use Rattle.sift_program.specs.Needs.{block_reads, program_shapes, reads_task, reads_word, statement_reads, task_at, term_reads};
+ghost use Rattle.sift_program.specs.Needs.{SoundProgramsHaveShapes, block_reads, program_shapes, reads_task, reads_word, statement_reads, task_at, term_reads};
 
 use crate::program::Program;
 use sift_base::{NoMemory, Shapes, TaskShape};
@@ -31,6 +31,11 @@ pub fn shapes_of(alloc: Global, program: &Program, sensors: u8) -> Result<Shapes
     }
     Ok(Shapes { sensors, tasks })
 }
+
+/// The shapes of a sound program's tasks are shapes that a mission may have.
+pub fn sound_programs_have_shapes()
+    ensures { SoundProgramsHaveShapes }
+{}
 
 /// The earlier tasks of whose words of this frame the task at a place reads one.
 fn needs_of(alloc: Global, tasks: &[Task], place: usize) -> Result<Vec<u8>, NoMemory>
