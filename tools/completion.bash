@@ -13,17 +13,18 @@ _sift() {
   case $before in
     '<') compopt -o filenames 2>/dev/null; mapfile -t COMPREPLY < <(compgen -f -- "$word"); return ;;
     --workers) mapfile -t COMPREPLY < <(compgen -W 1 -- "$word"); return ;;
-    --order | --number | --n | --m | --skew | --error | --rate | --rounds) return ;;
+    --order | --number | --n | --m | --skew | --error | --rate | --rounds | --copies | --subframes) return ;;
   esac
 
   if [ "$place" -eq 1 ]; then
-    mapfile -t COMPREPLY < <(compgen -W 'run votes ideal check gen trial byz clocks' -- "$word")
+    mapfile -t COMPREPLY < <(compgen -W 'run votes ideal check gen trial plan byz clocks' -- "$word")
     return
   fi
   case ${COMP_WORDS[1]} in
     run | votes) options='--order --workers' ;;
     gen) options='--number' ;;
     trial) options='--number --order --workers' ;;
+    plan) options='--copies --subframes' ;;
     clocks) options='--n --m --skew --error --rate --rounds --number' ;;
     *) return ;;
   esac

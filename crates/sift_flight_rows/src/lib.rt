@@ -4,9 +4,13 @@
 #[cfg(test)]
 mod board;
 #[cfg(test)]
+mod flights;
+#[cfg(test)]
 mod flying;
 #[cfg(test)]
 mod stated;
+#[cfg(test)]
+mod storm;
 #[cfg(test)]
 mod texts;
 #[cfg(test)]

@@ -1,17 +1,9 @@
 //! The texts of a flight, and what a frame's line tells. Whole reports, votes and outputs are compared in missions/ and
 //! cases/, and lines that are read back or refused in lines/.
 
-ghost use Rattle.std.specs.Prelude.{IfOk};
-ghost use Rattle.sift_flight.specs.Told.{IsWhole};
-ghost use Rattle.sift_mission.specs.Parts.{flown_of};
-
+use crate::flights::flown;
 use crate::stated::{four_units, silents};
-use sift_base::NoMemory;
-use sift_core::fly;
-use sift_flight::{Flight, round_flights_are_whole};
-use sift_mission::Mission;
 use sift_report::{ReportLine, ideal_text, last_line_text, read_line, report_text, votes_text};
-use std::alloc::Global;
 use std::process::Abort;
 use std::test::Fail;
 
@@ -23,20 +15,11 @@ const REPORT: &str = "f=0 u=0 cfg=0123 clk=0 in=0001 out=0001,0001 bad=-\n\
     f=0 skew=0 slack=1 margin=ok\n\
     end frames=1 cfg=0123 margin=ok\n";
 
-/// A flight of the mission.
-fn flown(alloc: Global, mission: &Mission) -> Result<Flight, NoMemory>
-    ensures { IfOk result (IsWhole (flown_of mission.now) mission.now.layout) }
-{
-    mission.parts();
-    round_flights_are_whole();
-    fly(alloc, mission, 0, &mut silents())
-}
-
 #[test]
 fn the_texts_of_a_flight_find_memory(rt: HostRuntime) -> Result<(), Fail> {
     let alloc = rt.alloc();
     let mission = four_units(alloc)?;
-    let flight = flown(alloc, &mission)?;
+    let flight = flown(alloc, &mission, 0, &mut silents())?;
     let report = report_text(alloc, &mission, &flight)?;
     assert_eq!(rt; report.as_str(), REPORT);
     let end = last_line_text(alloc, &mission, &flight)?;

@@ -1,4 +1,5 @@
 pub mod Flights
+pub mod Plan
 pub mod Run
 pub mod Votes
 pub mod Ideal

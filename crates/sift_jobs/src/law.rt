@@ -5,6 +5,7 @@ ghost use Rattle.sift_jobs.specs.Check.{check_duty};
 ghost use Rattle.sift_jobs.specs.Gen.{gen_duty};
 ghost use Rattle.sift_jobs.specs.Headline.{RunIsHeadlined};
 ghost use Rattle.sift_jobs.specs.Ideal.{ideal_duty};
+ghost use Rattle.sift_jobs.specs.Plan.{PlanNumbers, plan_duty, plan_statuses};
 ghost use Rattle.sift_jobs.specs.Run.{run_duty};
 ghost use Rattle.sift_jobs.specs.Trial.{trial_duty};
 ghost use Rattle.sift_jobs.specs.Votes.{votes_duty};
@@ -20,12 +21,15 @@ ghost use Rattle.sift_reply.specs.Reply.{done_status};
 
 use crate::check::CheckJob;
 use crate::ideal::IdealJob;
+use crate::plan::PlanJob;
 use crate::run::RunJob;
 use crate::votes::VotesJob;
 use sift_flight::round_flights_are_alike;
 use sift_gen::one_text_of_a_number;
 use sift_load::{loading_gives_one, loading_has_own_statuses};
 use sift_mission::fitting_parts_make_a_flight;
+use sift_planner::{one_plan_each, one_size_without_room};
+use sift_program::sound_programs_have_shapes;
 use sift_report::{alike_flights_have_one_text, the_headline_is_printed};
 use sift_scenario::{one_mission, stated_missions_fit, stated_missions_have_no_storms};
 
@@ -55,6 +59,13 @@ pub fn check_has_own_statuses()
     ensures { (job : Check) → HasOwnStatuses (check_duty job) (done_status ∷ no_mission_statuses) }
 {
     loading_has_own_statuses::<CheckJob>();
+}
+
+/// `plan` ends with 0, with 14 where a task has no room, or with the status of bytes that state no mission.
+pub fn plan_has_own_statuses()
+    ensures { (job : PlanNumbers) → HasOwnStatuses (plan_duty job) plan_statuses }
+{
+    loading_has_own_statuses::<PlanJob>();
 }
 
 /// `gen` ends with 0.
@@ -103,6 +114,17 @@ pub fn check_gives_one()
     ensures { (job : Check) → GivesOne (check_duty job) }
 {
     loading_gives_one::<CheckJob>();
+}
+
+/// `plan` gives one reply: a mission's tasks have one plan for each size, or one first task without room.
+pub fn plan_gives_one()
+    ensures { (job : PlanNumbers) → GivesOne (plan_duty job) }
+{
+    loading_gives_one::<PlanJob>();
+    stated_missions_fit();
+    sound_programs_have_shapes();
+    one_plan_each();
+    one_size_without_room();
 }
 
 /// `gen` gives one reply: a number has one text.

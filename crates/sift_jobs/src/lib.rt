@@ -1,10 +1,11 @@
-//! The commands of the first program, each as a job: what its options say, what it has to do, and its replies.
+//! The commands about missions, each as a job: what its options say, what it has to do, and its replies.
 #![tactic(auto)]
 
 mod check;
 mod flight;
 mod ideal;
 mod law;
+mod plan;
 mod run;
 mod scenario;
 mod trial;
@@ -14,9 +15,11 @@ pub use check::CheckJob;
 pub use ideal::IdealJob;
 pub use law::{
     check_gives_one, check_has_own_statuses, gen_gives_one, gen_has_own_statuses, ideal_gives_one,
-    ideal_has_own_statuses, run_gives_one, run_has_own_statuses, run_is_headlined, trial_gives_one,
-    trial_has_own_statuses, votes_gives_one, votes_has_own_statuses,
+    ideal_has_own_statuses, plan_gives_one, plan_has_own_statuses, run_gives_one,
+    run_has_own_statuses, run_is_headlined, trial_gives_one, trial_has_own_statuses,
+    votes_gives_one, votes_has_own_statuses,
 };
+pub use plan::PlanJob;
 pub use run::RunJob;
 pub use scenario::GenJob;
 pub use trial::TrialJob;

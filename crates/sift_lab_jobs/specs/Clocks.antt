@@ -1,9 +1,10 @@
 -- The command `clocks`: the run of a laboratory that is drawn from a number. It reads nothing.
-use Rattle.std.specs.Prelude.{codes, ℕ, ◌≡◌, ◌⊎◌, ◌&&◌, nat_le, if◌then◌else◌, List, [], ◌∷◌, pos, Option, Some, None}
+use Rattle.std.specs.Prelude.{codes, ℕ, ◌≡◌, ◌⊎◌, List, [], ◌∷◌, pos, Option, Some, None}
 use Rattle.sift_clocklab.specs.Conditions.{IsAdmitted, IsRefused}
 use Rattle.sift_clocklab.specs.Draws.{drawn_lab, drawn_run}
 use Rattle.sift_clocklab.specs.Laboratory.{Laboratory, Run}
 use Rattle.sift_clocklab.specs.Text.{IsTextOf}
+use Rattle.sift_options.specs.Options.{within}
 use Rattle.sift_options.specs.declared.setting.Options.{Options}
 use Rattle.sift_reply.specs.Duty.{Duty}
 use Rattle.sift_reply.specs.Reply.{Reply, done, done_status, reply}
@@ -20,11 +21,6 @@ pub record LabNumbers : Type 0 where
   pub number : ℕ
 
 -- ---- what options ask for
-
--- the number of an option, where it is given and in this range
-abbrev pub within : (low high : ℕ) → Option ℕ → Option ℕ
-within low high None = None
-within low high (Some n) = if nat_le low n && nat_le n high then Some n else None
 
 -- the laboratory of these numbers, where each is there
 abbrev pub lab_with : (n m skew error rate rounds number : Option ℕ) → Option LabNumbers

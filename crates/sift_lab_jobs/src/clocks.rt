@@ -1,11 +1,11 @@
 //! The command `clocks`.
 
-ghost use Rattle.std.specs.Prelude.{◌≡◌, ◌≤◌, IfSome};
-ghost use Rattle.sift_lab_jobs.specs.Clocks.{clocks_job_of, within};
+ghost use Rattle.std.specs.Prelude.{◌≡◌};
+ghost use Rattle.sift_lab_jobs.specs.Clocks.{clocks_job_of};
 
 use sift_base::NoMemory;
 use sift_clocklab::{LabStop, drawn, drawn_runs_are_of_the_draws, lab_text, run_lab};
-use sift_options::Options;
+use sift_options::{Options, within};
 use sift_reply::{Job, Reply};
 use std::alloc::Global;
 use std::marker::Model;
@@ -58,20 +58,6 @@ impl ClocksJob {
             rounds,
             number,
         })
-    }
-}
-
-/// The number of an option, where it is given and in this range.
-fn within(given: Option<u64>, low: u64, high: u64) -> Option<u64>
-    ensures number { result ≡ within low high given }
-    ensures from { IfSome result (λ n. low ≤ n) }
-    ensures to { IfSome result (λ n. n ≤ high) }
-{
-    let number = given?;
-    if low <= number && number <= high {
-        Some(number)
-    } else {
-        None
     }
 }
 

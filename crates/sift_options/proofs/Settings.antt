@@ -3,7 +3,7 @@ use Rattle.std.proofs.Common.{◌≡◌, ℕ, List, [], ◌∷◌, length, get_o
 use Rattle.std.specs.List.{after_first, before_first, list_any}
 use Rattle.sift_options.specs.Options.{Adds, more, none, BeginWith, Sets, joined, name_of}
 use Rattle.sift_options.specs.declared.setting.Flag.{Flag}
-use Rattle.sift_options.specs.declared.setting.Flag.TheVariants.{Workers, Order, Number, N, M, Skew, Error, Rate, Rounds}
+use Rattle.sift_options.specs.declared.setting.Flag.TheVariants.{Workers, Order, Number, N, M, Skew, Error, Rate, Rounds, Copies, Subframes}
 use Rattle.sift_options.specs.declared.setting.Options.{Options}
 
 -- ---- names
@@ -18,7 +18,9 @@ flag_with name =
     (cond (bytes_eq name (name_of Skew)) Skew
     (cond (bytes_eq name (name_of Error)) Error
     (cond (bytes_eq name (name_of Rate)) Rate
-    (cond (bytes_eq name (name_of Rounds)) Rounds Workers)))))))
+    (cond (bytes_eq name (name_of Rounds)) Rounds
+    (cond (bytes_eq name (name_of Copies)) Copies
+    (cond (bytes_eq name (name_of Subframes)) Subframes Workers)))))))))
 
 -- an option is known by its name
 named : (flag : Flag) → flag_with (name_of flag) ≡ flag
@@ -31,6 +33,8 @@ named Skew = refl
 named Error = refl
 named Rate = refl
 named Rounds = refl
+named Copies = refl
+named Subframes = refl
 
 -- so different options have different names
 pub names_differ : (f g : Flag) → name_of f ≡ name_of g → f ≡ g
@@ -53,6 +57,8 @@ signless Skew = refl
 signless Error = refl
 signless Rate = refl
 signless Rounds = refl
+signless Copies = refl
+signless Subframes = refl
 
 -- a name with its value has it
 pub signed : (flag : Flag) (v : List ℕ) → list_any is_sign (joined flag v) ≡ true
@@ -65,6 +71,8 @@ signed Skew v = refl
 signed Error v = refl
 signed Rate v = refl
 signed Rounds v = refl
+signed Copies v = refl
+signed Subframes v = refl
 
 -- the name stands before the first sign
 pub name_in : (flag : Flag) (v : List ℕ) → before_first is_sign (joined flag v) ≡ name_of flag
@@ -77,6 +85,8 @@ name_in Skew v = refl
 name_in Error v = refl
 name_in Rate v = refl
 name_in Rounds v = refl
+name_in Copies v = refl
+name_in Subframes v = refl
 
 -- and the value behind it
 value_in : (flag : Flag) (v : List ℕ) → after_first is_sign (joined flag v) ≡ v
@@ -89,6 +99,8 @@ value_in Skew v = refl
 value_in Error v = refl
 value_in Rate v = refl
 value_in Rounds v = refl
+value_in Copies v = refl
+value_in Subframes v = refl
 
 -- the name alone is not the name with a value
 pub alone : (f g : Flag) (v : List ℕ) → name_of f ≡ joined g v → ⊥

@@ -1,8 +1,8 @@
 -- The options of a command: how words give them.
-use Rattle.std.specs.Prelude.{codes, ℕ, ◌≡◌, ◌≤◌, ◌<◌, ◌+◌, ◌^◌, List, [], ◌∷◌, ◌++◌, ◌⊎◌, length, Contains, Option, Some, None}
+use Rattle.std.specs.Prelude.{codes, ℕ, ◌≡◌, ◌≤◌, ◌<◌, ◌+◌, ◌^◌, List, [], ◌∷◌, ◌++◌, ◌⊎◌, ◌&&◌, nat_le, if◌then◌else◌, length, Contains, Option, Some, None}
 use Rattle.std.specs.Str.Parse.{AllDigits, digits_value}
 use Rattle.sift_options.specs.declared.setting.Flag.{Flag}
-use Rattle.sift_options.specs.declared.setting.Flag.TheVariants.{Workers, Order, Number, N, M, Skew, Error, Rate, Rounds}
+use Rattle.sift_options.specs.declared.setting.Flag.TheVariants.{Workers, Order, Number, N, M, Skew, Error, Rate, Rounds, Copies, Subframes}
 use Rattle.sift_options.specs.declared.setting.Options.{Options}
 
 -- ---- one option
@@ -18,6 +18,8 @@ name_of Skew = codes "--skew"
 name_of Error = codes "--error"
 name_of Rate = codes "--rate"
 name_of Rounds = codes "--rounds"
+name_of Copies = codes "--copies"
+name_of Subframes = codes "--subframes"
 
 -- the most workers
 abbrev pub worker_limit : ℕ
@@ -55,6 +57,8 @@ IsValue Skew text n = IsNumber text n
 IsValue Error text n = IsNumber text n
 IsValue Rate text n = IsNumber text n
 IsValue Rounds text n = IsNumber text n
+IsValue Copies text n = IsNumber text n
+IsValue Subframes text n = IsNumber text n
 
 -- ---- options
 
@@ -69,6 +73,8 @@ given options Skew = options.skew
 given options Error = options.error
 given options Rate = options.rate
 given options Rounds = options.rounds
+given options Copies = options.copies
+given options Subframes = options.subframes
 
 -- no option is given
 abbrev pub no_options : Options
@@ -82,6 +88,8 @@ no_options = record {
   error = None;
   rate = None;
   rounds = None;
+  copies = None;
+  subframes = None;
 }
 
 -- these options with the number of one
@@ -95,6 +103,8 @@ with_given options Skew n = record options { skew = Some n }
 with_given options Error n = record options { error = Some n }
 with_given options Rate n = record options { rate = Some n }
 with_given options Rounds n = record options { rounds = Some n }
+with_given options Copies n = record options { copies = Some n }
+with_given options Subframes n = record options { subframes = Some n }
 
 -- an option that wasn't given is set to what the text says, and the others stay
 abbrev pub Sets : Options → Flag → (value : List ℕ) → Options → Type 0
@@ -114,3 +124,10 @@ pub data Adds (flags : List Flag) : Options → List (List ℕ) → Options → 
   none : (options : Options) → Adds flags options [] options
   more : (options after all : Options) (flag : Flag) (value : List ℕ) (words rest : List (List ℕ)) →
       BeginWith flags words flag value rest → Sets options flag value after → Adds flags after rest all → Adds flags options words all
+
+-- ---- ranges
+
+-- the number of an option, where it is given and in this range
+abbrev pub within : (low high : ℕ) → Option ℕ → Option ℕ
+within low high None = None
+within low high (Some n) = if nat_le low n && nat_le n high then Some n else None

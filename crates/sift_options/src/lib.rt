@@ -2,7 +2,9 @@
 #![tactic(auto)]
 
 mod law;
+mod range;
 mod setting;
 
 pub use law::one_list_of_options;
+pub use range::within;
 pub use setting::{Flag, Options};

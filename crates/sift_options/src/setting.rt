@@ -24,6 +24,10 @@ pub enum Flag {
     Rate,
     /// `--rounds`: how many rounds clocks run.
     Rounds,
+    /// `--copies`: how many units run each task.
+    Copies,
+    /// `--subframes`: how many subframes a frame has.
+    Subframes,
 }
 
 /// The options of a command: the number of each one that is given.
@@ -38,6 +42,8 @@ pub struct Options {
     pub error: Option<u64>,
     pub rate: Option<u64>,
     pub rounds: Option<u64>,
+    pub copies: Option<u64>,
+    pub subframes: Option<u64>,
 }
 
 impl Flag {
@@ -55,6 +61,8 @@ impl Flag {
             Flag::Error => "--error",
             Flag::Rate => "--rate",
             Flag::Rounds => "--rounds",
+            Flag::Copies => "--copies",
+            Flag::Subframes => "--subframes",
         }
     }
 }
@@ -71,6 +79,8 @@ impl Options {
         error: None,
         rate: None,
         rounds: None,
+        copies: None,
+        subframes: None,
     };
 
     /// The number of an option, where it is given.
@@ -87,6 +97,8 @@ impl Options {
             Flag::Error => self.error,
             Flag::Rate => self.rate,
             Flag::Rounds => self.rounds,
+            Flag::Copies => self.copies,
+            Flag::Subframes => self.subframes,
         }
     }
 
@@ -106,6 +118,8 @@ impl Options {
             Flag::Error => options.error = number,
             Flag::Rate => options.rate = number,
             Flag::Rounds => options.rounds = number,
+            Flag::Copies => options.copies = number,
+            Flag::Subframes => options.subframes = number,
         }
         options
     }
@@ -214,7 +228,9 @@ fn value_of(flag: Flag, text: &str) -> Option<u64>
         | Flag::Skew
         | Flag::Error
         | Flag::Rate
-        | Flag::Rounds => number(text),
+        | Flag::Rounds
+        | Flag::Copies
+        | Flag::Subframes => number(text),
     }
 }
 

@@ -3,11 +3,13 @@ use Rattle.std.proofs.Common.{[], ◌∷◌}
 use Rattle.sift_jobs.specs.Check.{check_duty}
 use Rattle.sift_jobs.specs.Gen.{gen_duty}
 use Rattle.sift_jobs.specs.Ideal.{ideal_duty}
+use Rattle.sift_jobs.specs.Plan.{plan_duty, plan_statuses}
 use Rattle.sift_jobs.specs.Run.{run_duty}
 use Rattle.sift_jobs.specs.Trial.{trial_duty}
 use Rattle.sift_jobs.specs.Votes.{votes_duty}
 use Rattle.sift_jobs.specs.declared.check.CheckJob.{CheckJob}
 use Rattle.sift_jobs.specs.declared.ideal.IdealJob.{IdealJob}
+use Rattle.sift_jobs.specs.declared.plan.PlanJob.{PlanJob}
 use Rattle.sift_jobs.specs.declared.run.RunJob.{RunJob}
 use Rattle.sift_jobs.specs.declared.scenario.GenJob.{GenJob}
 use Rattle.sift_jobs.specs.declared.trial.TrialJob.{TrialJob}
@@ -31,6 +33,7 @@ module _
     (check : (job : CheckJob) → HasOwnStatuses (check_duty job) (done_status ∷ no_mission_statuses))
     (scenario : (job : GenJob) → HasOwnStatuses (gen_duty job) (done_status ∷ []))
     (trial : (job : TrialJob) → HasOwnStatuses (trial_duty job) (done_status ∷ []))
+    (plan : (job : PlanJob) → HasOwnStatuses (plan_duty job) plan_statuses)
     (byz : (job : ByzJob) → HasOwnStatuses (byz_duty job) byz_statuses)
     (clocks : (job : ClocksJob) → HasOwnStatuses (clocks_duty job) clocks_statuses) where
   -- the statuses of each command are its own
@@ -41,6 +44,7 @@ module _
   own_statuses (command.Check job) = check job
   own_statuses (command.Gen job) = scenario job
   own_statuses (command.Trial job) = trial job
+  own_statuses (command.Plan job) = plan job
   own_statuses (command.Byz job) = byz job
   own_statuses (command.Clocks job) = clocks job
 
@@ -48,6 +52,7 @@ module _
     (run : (job : RunJob) → GivesOne (run_duty job)) (votes : (job : VotesJob) → GivesOne (votes_duty job))
     (ideal : (job : IdealJob) → GivesOne (ideal_duty job)) (check : (job : CheckJob) → GivesOne (check_duty job))
     (scenario : (job : GenJob) → GivesOne (gen_duty job)) (trial : (job : TrialJob) → GivesOne (trial_duty job))
+    (plan : (job : PlanJob) → GivesOne (plan_duty job))
     (byz : (job : ByzJob) → GivesOne (byz_duty job)) (clocks : (job : ClocksJob) → GivesOne (clocks_duty job)) where
   -- each command gives one reply
   pub gives_one : (one : Command) → GivesOne (duty_of one)
@@ -57,5 +62,6 @@ module _
   gives_one (command.Check job) = check job
   gives_one (command.Gen job) = scenario job
   gives_one (command.Trial job) = trial job
+  gives_one (command.Plan job) = plan job
   gives_one (command.Byz job) = byz job
   gives_one (command.Clocks job) = clocks job

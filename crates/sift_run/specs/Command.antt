@@ -3,6 +3,7 @@ use Rattle.std.specs.Prelude.{ℕ, ◌≡◌, List, ◌∷◌, Option, Some, opt
 use Rattle.sift_jobs.specs.Check.{check_duty}
 use Rattle.sift_jobs.specs.Gen.{gen_duty, gen_job_of}
 use Rattle.sift_jobs.specs.Ideal.{ideal_duty}
+use Rattle.sift_jobs.specs.Plan.{plan_duty, plan_job_of}
 use Rattle.sift_jobs.specs.Run.{run_duty, run_job_of}
 use Rattle.sift_jobs.specs.Trial.{trial_duty, trial_job_of}
 use Rattle.sift_jobs.specs.Votes.{votes_duty, votes_job_of}
@@ -26,6 +27,7 @@ asked verb.Ideal options = Some (command.Ideal (record {}))
 asked verb.Check options = Some (command.Check (record {}))
 asked verb.Gen options = option_map command.Gen (gen_job_of options)
 asked verb.Trial options = option_map command.Trial (trial_job_of options)
+asked verb.Plan options = option_map command.Plan (plan_job_of options)
 asked verb.Byz options = Some (command.Byz (record {}))
 asked verb.Clocks options = option_map command.Clocks (clocks_job_of options)
 
@@ -37,6 +39,7 @@ duty_of (command.Ideal job) = ideal_duty job
 duty_of (command.Check job) = check_duty job
 duty_of (command.Gen job) = gen_duty job
 duty_of (command.Trial job) = trial_duty job
+duty_of (command.Plan job) = plan_duty job
 duty_of (command.Byz job) = byz_duty job
 duty_of (command.Clocks job) = clocks_duty job
 

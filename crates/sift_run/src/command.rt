@@ -5,7 +5,7 @@ ghost use Rattle.sift_run.specs.Command.{asked};
 
 use crate::verb::Verb;
 use sift_base::NoMemory;
-use sift_jobs::{CheckJob, GenJob, IdealJob, RunJob, TrialJob, VotesJob};
+use sift_jobs::{CheckJob, GenJob, IdealJob, PlanJob, RunJob, TrialJob, VotesJob};
 use sift_lab_jobs::{ByzJob, ClocksJob};
 use sift_options::Options;
 use sift_reply::{Asked, Job, Reply};
@@ -20,6 +20,7 @@ pub enum Command {
     Check(CheckJob),
     Gen(GenJob),
     Trial(TrialJob),
+    Plan(PlanJob),
     Byz(ByzJob),
     Clocks(ClocksJob),
 }
@@ -37,6 +38,7 @@ impl Job for Command {
             Command::Check(job) => job.limit(),
             Command::Gen(job) => job.limit(),
             Command::Trial(job) => job.limit(),
+            Command::Plan(job) => job.limit(),
             Command::Byz(job) => job.limit(),
             Command::Clocks(job) => job.limit(),
         }
@@ -50,6 +52,7 @@ impl Job for Command {
             Command::Check(job) => job.reply(alloc, bytes),
             Command::Gen(job) => job.reply(alloc, bytes),
             Command::Trial(job) => job.reply(alloc, bytes),
+            Command::Plan(job) => job.reply(alloc, bytes),
             Command::Byz(job) => job.reply(alloc, bytes),
             Command::Clocks(job) => job.reply(alloc, bytes),
         }
@@ -81,6 +84,7 @@ fn asked(verb: Verb, options: Options) -> Option<Command>
         Verb::Check => Some(Command::Check(CheckJob)),
         Verb::Gen => GenJob::of(options).map(Command::Gen),
         Verb::Trial => TrialJob::of(options).map(Command::Trial),
+        Verb::Plan => PlanJob::of(options).map(Command::Plan),
         Verb::Byz => Some(Command::Byz(ByzJob)),
         Verb::Clocks => ClocksJob::of(options).map(Command::Clocks),
     }

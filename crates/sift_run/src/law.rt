@@ -10,7 +10,7 @@ ghost use Rattle.sift_run.specs.declared.command.Command.{Command as TheCommand}
 use crate::command::Command;
 use sift_jobs::{
     check_gives_one, check_has_own_statuses, gen_gives_one, gen_has_own_statuses, ideal_gives_one,
-    ideal_has_own_statuses, run_gives_one, run_has_own_statuses, run_is_headlined, trial_gives_one,
+    ideal_has_own_statuses, plan_gives_one, plan_has_own_statuses, run_gives_one, run_has_own_statuses, run_is_headlined, trial_gives_one,
     trial_has_own_statuses, votes_gives_one, votes_has_own_statuses,
 };
 use sift_lab_jobs::{
@@ -37,6 +37,7 @@ pub fn commands_have_own_statuses()
     check_has_own_statuses();
     gen_has_own_statuses();
     trial_has_own_statuses();
+    plan_has_own_statuses();
     byz_has_own_statuses();
     clocks_have_own_statuses();
 }
@@ -51,6 +52,7 @@ pub fn commands_give_one()
     check_gives_one();
     gen_gives_one();
     trial_gives_one();
+    plan_gives_one();
     byz_gives_one();
     clocks_give_one();
 }

@@ -15,6 +15,7 @@ pub enum Verb {
     Check,
     Gen,
     Trial,
+    Plan,
     Byz,
     Clocks,
 }
@@ -32,6 +33,7 @@ impl Verb {
             "check" => Some(Verb::Check),
             "gen" => Some(Verb::Gen),
             "trial" => Some(Verb::Trial),
+            "plan" => Some(Verb::Plan),
             "byz" => Some(Verb::Byz),
             "clocks" => Some(Verb::Clocks),
             _ => None,
@@ -47,6 +49,7 @@ impl Verb {
             Verb::Ideal | Verb::Check | Verb::Byz => &[],
             Verb::Gen => &[Flag::Number],
             Verb::Trial => &[Flag::Workers, Flag::Order, Flag::Number],
+            Verb::Plan => &[Flag::Copies, Flag::Subframes],
             Verb::Clocks => &[
                 Flag::N,
                 Flag::M,

@@ -1,6 +1,6 @@
 use Rattle.sift_mission.specs.Parts.{data_of}
 use Rattle.sift_flight_rows.proofs.Both.{both_ok}
-use Rattle.sift_flight_rows.proofs.texts.flown.Goals as goal
+use Rattle.sift_flight_rows.proofs.flights.flown.Goals as goal
 
 -- a round flight is whole
 pub returns : goal.returns

@@ -1,0 +1,61 @@
+-- The command `plan`: the tables of a plan for the configurations of all sizes.
+use Rattle.std.specs.Prelude.{codes, ℕ, ◌≡◌, ◌≤◌, ◌⊎◌, List, [], ◌∷◌, Option, Some, None}
+use Rattle.std.specs.Fmt.{decimal}
+use Rattle.std.specs.List.{concat}
+use Rattle.sift_base.specs.Units.{unit_limit}
+use Rattle.sift_load.specs.Loads.{mission_duty}
+use Rattle.sift_load.specs.NoMission.{no_mission_statuses}
+use Rattle.sift_mission.specs.Data.{MissionData, shapes_in}
+use Rattle.sift_options.specs.Options.{within}
+use Rattle.sift_options.specs.declared.setting.Options.{Options}
+use Rattle.sift_planner.specs.Plans.{longest_period}
+use Rattle.sift_planner.specs.Sizes.{ArePlans, IsFirstWithoutRoom}
+use Rattle.sift_planner.specs.Text.{tables_text}
+use Rattle.sift_reply.specs.Duty.{Duty}
+use Rattle.sift_reply.specs.Reply.{Reply, done, done_status, reply}
+use Rattle.sift_table.specs.Laws.{shortest_period}
+use Rattle.sift_table.specs.Rules.{least_executors}
+use Rattle.sift_table.specs.Schedule.{Schedule}
+
+-- ---- what options ask for
+
+-- how many units are to run each task, and how many subframes a frame has
+pub record PlanNumbers : Type 0 where
+  pub copies : ℕ
+  pub period : ℕ
+
+-- they are within the limits of tables
+pub record AreWithinLimits (numbers : PlanNumbers) : Type 0 where
+  pub enough_copies : least_executors ≤ numbers.copies
+  pub few_copies : numbers.copies ≤ unit_limit
+  pub long : shortest_period ≤ numbers.period
+  pub short : numbers.period ≤ longest_period
+
+-- a plan with these numbers, where both are there
+abbrev pub plan_with : (copies period : Option ℕ) → Option PlanNumbers
+plan_with (Some copies) (Some period) = Some (record { copies = copies; period = period })
+plan_with copies period = None
+
+-- what options ask for: both have to be given, in their ranges
+abbrev pub plan_job_of : Options → Option PlanNumbers
+plan_job_of options = plan_with (within least_executors unit_limit options.copies) (within shortest_period longest_period options.subframes)
+
+-- ---- what it gives
+
+-- the reply where this is the least size for which there is no plan, and this the first task without room there
+abbrev pub no_room : (size task : ℕ) → Reply
+no_room size task = reply 14 (concat (codes "no room " ∷ decimal size ∷ codes " task " ∷ decimal task ∷ codes "\n" ∷ []))
+
+-- the text of the plans of all sizes for the mission's tasks, whatever its own tables are, or that a task has no room
+abbrev pub PlanGives : PlanNumbers → MissionData → Reply → Type 0
+PlanGives numbers mission came =
+    ((tables : List Schedule) × ArePlans (shapes_in mission) mission.units numbers.period numbers.copies tables × (came ≡ done (tables_text tables)))
+    ⊎ ((size : ℕ) × (task : ℕ) × IsFirstWithoutRoom (shapes_in mission) mission.units numbers.period numbers.copies size task × (came ≡ no_room size task))
+
+-- what it has to do
+abbrev pub plan_duty : PlanNumbers → Duty
+plan_duty numbers = mission_duty (PlanGives numbers)
+
+-- the statuses of its replies
+abbrev pub plan_statuses : List ℕ
+plan_statuses = done_status ∷ 14 ∷ no_mission_statuses

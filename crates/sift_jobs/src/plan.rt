@@ -1,0 +1,87 @@
+//! The command `plan`.
+
+ghost use Rattle.std.specs.Prelude.{◌≡◌, IfOk};
+ghost use Rattle.sift_jobs.specs.Plan.{no_room, plan_job_of};
+
+use sift_base::{NoMemory, Stop};
+use sift_load::{DOCUMENT_LIMIT, MissionJob, reply_for_bytes};
+use sift_mission::Mission;
+use sift_options::{Options, within};
+use sift_planner::{NoRoomAt, plan_sizes, tables_text};
+use sift_program::shapes_of;
+use sift_reply::{Job, Reply};
+use std::alloc::Global;
+use std::marker::Model;
+
+/// `plan`: tells, for the mission's tasks, the tables in which each task runs as early as it can, one for each size of a
+/// configuration. The mission's own tables and its subframes play no part.
+#[derive(Clone, Copy)]
+pub struct PlanJob {
+    /// How many units run each task.
+    copies: u8,
+    /// How many subframes a frame has.
+    period: u8,
+}
+
+impl Model for PlanJob {
+    ghost use Rattle.sift_jobs.specs.Plan.{AreWithinLimits, PlanNumbers};
+
+    ghost Value = { PlanNumbers };
+
+    ghost view = { λ job. record { copies = job.copies; period = job.period } };
+
+    ghost invariant = { λ job. AreWithinLimits (record { copies = job.copies; period = job.period }) };
+
+    ghost inverse = { λ numbers. record { copies = numbers.copies; period = numbers.period } };
+}
+
+impl PlanJob {
+    /// What the options ask for: both have to be given, 3 to 8 copies and 12 to 64 subframes.
+    pub fn of(options: Options) -> Option<PlanJob>
+        ensures { result ≡ plan_job_of options }
+    {
+        let copies = within(options.copies, 3, 8)? as u8;
+        let period = within(options.subframes, 12, 64)? as u8;
+        Some(PlanJob { copies, period })
+    }
+}
+
+impl MissionJob for PlanJob {
+    ghost use Rattle.sift_jobs.specs.Plan.{PlanGives};
+
+    ghost gives_for = { PlanGives };
+
+    fn reply_for(self, alloc: Global, mission: &Mission) -> Result<Reply, NoMemory> {
+        let parts = mission.parts();
+        let shapes = shapes_of(alloc, &parts.program, parts.layout.sensors)?;
+        match plan_sizes(alloc, &shapes, parts.units, self.period, self.copies) {
+            Ok(tables) => Ok(Reply::done(tables_text(alloc, &tables)?)),
+            Err(Stop::Refused(none)) => no_room(alloc, none),
+            Err(Stop::NoMemory) => Err(NoMemory),
+        }
+    }
+}
+
+/// The reply where a task has no room at a size.
+fn no_room(alloc: Global, none: NoRoomAt) -> Result<Reply, NoMemory>
+    ensures { IfOk result (λ reply. reply ≡ no_room none.size none.task) }
+{
+    let NoRoomAt { size, task } = none;
+    let mut line = String::new(alloc);
+    write!(line, "no room {size} task {task}\n")?;
+    Ok(Reply::made(14, line))
+}
+
+impl Job for PlanJob {
+    ghost use Rattle.sift_jobs.specs.Plan.{plan_duty};
+
+    ghost duty = { plan_duty };
+
+    fn limit(self) -> Option<u32> {
+        Some(DOCUMENT_LIMIT)
+    }
+
+    fn reply(self, alloc: Global, bytes: &[u8]) -> Result<Reply, NoMemory> {
+        reply_for_bytes(alloc, self, bytes)
+    }
+}
