@@ -1,5 +1,5 @@
 -- `plan` gives one reply, whose status is its own.
-use Rattle.std.proofs.Common.{◌≡◌, ◌≤◌, ◌×◌, inl, inr, ℕ, List, [], ◌∷◌, Contains, lit<, refl, sym, ap, ◌∙◌, subst, arith}
+use Rattle.std.proofs.Common.{◌≡◌, ◌≤◌, inl, inr, [], ◌∷◌, Contains, lit<, refl, sym, ap, ◌∙◌, subst, arith}
 use Rattle.sift_base.specs.Shapes.{AreShapes}
 use Rattle.sift_load.specs.Mission.{IsStated}
 use Rattle.sift_mission.specs.Data.{MissionData, shapes_in}
@@ -10,7 +10,7 @@ use Rattle.sift_planner.specs.Text.{tables_text}
 use Rattle.sift_program.specs.Needs.{SoundProgramsHaveShapes}
 use Rattle.sift_reply.specs.Reply.{Reply, done, done_status, shared_statuses}
 use Rattle.sift_scenario.specs.Laws.{StatedMissionsFit}
-use Rattle.sift_jobs.specs.Plan.{PlanGives, PlanNumbers, no_room}
+use Rattle.sift_jobs.specs.Plan.{PlanGives, PlanNumbers}
 
 -- tasks of a mission can be planned
 pub plannable : SoundProgramsHaveShapes → (d : MissionData) → PartsFit d → ArePlannable (shapes_in d)

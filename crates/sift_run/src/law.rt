@@ -10,8 +10,9 @@ ghost use Rattle.sift_run.specs.declared.command.Command.{Command as TheCommand}
 use crate::command::Command;
 use sift_jobs::{
     check_gives_one, check_has_own_statuses, gen_gives_one, gen_has_own_statuses, ideal_gives_one,
-    ideal_has_own_statuses, plan_gives_one, plan_has_own_statuses, run_gives_one, run_has_own_statuses, run_is_headlined, trial_gives_one,
-    trial_has_own_statuses, votes_gives_one, votes_has_own_statuses,
+    ideal_has_own_statuses, plan_gives_one, plan_has_own_statuses, run_gives_one,
+    run_has_own_statuses, run_is_headlined, trial_gives_one, trial_has_own_statuses,
+    votes_gives_one, votes_has_own_statuses,
 };
 use sift_lab_jobs::{
     byz_gives_one, byz_has_own_statuses, clocks_give_one, clocks_have_own_statuses,
