@@ -58,8 +58,7 @@ impl Recorder {
     pub fn mask(&self) -> UnitSet
         ensures { result ≡ everyone_in self.now }
     {
-        let Catches { poll, relay, clock } = self.caught;
-        poll.union(relay).union(clock)
+        self.caught.everyone()
     }
 
     /// Forgets all notes.
