@@ -5,12 +5,17 @@ use Rattle.std.specs.Fmt.{decimal, signed_decimal}
 use Rattle.std.specs.Int.RustNames.{FitsSigned}
 use Rattle.std.specs.List.{join_with_byte, slice_split}
 use Rattle.std.proofs.lemmas.List.Splits.{join_with_byte-slice_split}
-use Rattle.sift_base.specs.Units.{Units, members}
+use Rattle.sift_base.specs.Units.{members}
 use Rattle.sift_report.specs.declared.line.ReportLine.{ReportLine}
 use Rattle.sift_report.specs.declared.line.ReportLine.TheVariants.{Unit as unit, Faulty, Idle, Frame, Last}
 use Rattle.sift_report.specs.Part.{AreAbove, AreTicks, IsAbove, list_text, margin_text, ticks_text, unit_digit, units_text, word_text, words_text}
-use Rattle.sift_report.specs.Line.{IsLine, caught_text, fields_of, line_text}
-use Rattle.sift_report.proofs.Above.{above-decimal, above-signed, above-join, above-map, above-word}
+use Rattle.sift_report.specs.Bad.{catch_text, catches_in, caught_text}
+use Rattle.sift_report.specs.Apart.{catch_above}
+use Rattle.sift_report.specs.declared.bad.Bad.{Bad}
+use Rattle.sift_report.specs.declared.bad.Bad.TheVariants.{Plain, ByKind}
+use Rattle.sift_report.specs.declared.catch.Catch.{Catch}
+use Rattle.sift_report.specs.Line.{IsLine, fields_of, line_text}
+use Rattle.sift_report.proofs.Above.{above-decimal, above-signed, above-join, above-lower, above-map, above-word}
 use Rattle.sift_report.proofs.Joined.{split-join}
 
 -- ---- no field has a blank
@@ -47,8 +52,12 @@ above-clock z fits = above-signed 32 z (omega arith) fits
 above-digit : (u : ℕ) → 32 < unit_digit u
 above-digit u = omega arith
 
-above-caught : (bad : Units) → IsAbove 32 (caught_text bad)
-above-caught bad = above-units (members bad)
+above-catch : (c : Catch) → IsAbove 32 (catch_text c)
+above-catch c = above-lower 32 45 (catch_text c) (omega arith) (catch_above c)
+
+above-caught : (bad : Bad) → IsAbove 32 (caught_text bad)
+above-caught (Plain units) = above-units (members units)
+above-caught (ByKind caught) = above-list (map catch_text (catches_in caught)) (above-map 32 catch_text (catches_in caught) above-catch)
 
 fields_above : (line : ReportLine) → IsLine line → AreAbove 32 (fields_of line)
 fields_above (unit n u cfg clk ins outs bad) holds = search (rules, above-number, above-digit, above-units, above-clock, above-words, above-caught)

@@ -17,7 +17,9 @@ use Rattle.sift_flight.proofs.Leading.{config_within, lead_works}
 use Rattle.sift_report.specs.Headline.{IsTrueSkew, TellsClockSkew, TellsExactRemoval, TellsNoFalseAccusation, TellsSameInputs, two_tell, working_clocks}
 use Rattle.sift_report.specs.Sheet.{account_line, sheet_of}
 use Rattle.sift_report.specs.Told.{agreed_told, caught_told, clock_told, config_told, skew_told, slack_told, told_at, told_by, told_in}
+use Rattle.sift_report.specs.declared.version.Version.{Version}
 use Rattle.sift_report.specs.declared.line.ReportLine.{ReportLine}
+use Rattle.sift_report.proofs.Catches.{units_told}
 use Rattle.sift_report.proofs.Alike.{count_alike, map_alike, one_told}
 use Rattle.sift_report.proofs.RoundFlights.{HasLaws}
 use Rattle.sift_report.proofs.SheetConfigs.{agreed_is, config_is}
@@ -41,9 +43,9 @@ some_slack length (p ∷ ps) next some = (_, refl)
 
 -- ---- a frame with margin
 
-module _ (d : MissionData) (fl : Flight) (laws : HasLaws d fl) where
+module _ (d : MissionData) (fl : Flight) (version : Version) (laws : HasLaws d fl) where
   abbrev sheet : List ReportLine
-  sheet = sheet_of (flown d) fl
+  sheet = sheet_of (flown d) fl version
 
   module _ (f : ℕ) (within : f < d.frames) (at : HasMarginAt (flown d) fl f) where
     pub holds_here : Headline (flown d) d.program fl f
@@ -53,12 +55,12 @@ module _ (d : MissionData) (fl : Flight) (laws : HasLaws d fl) where
     lead = lead_works (flown d) laws.flyable f
 
     -- a working unit tells its account
-    pub tells_account : (u : ℕ) → Works (flown d) u f → told_at d sheet f u ≡ told_by (account_line f u (fl.account u f))
+    pub tells_account : (u : ℕ) → Works (flown d) u f → told_at d sheet f u ≡ told_by (account_line version f u (fl.account u f))
     tells_account u w =
         let h = holds_here.same_configuration in
         let member : has (fl.account u f).cfg u ≡ true = subst (λ us. has us u ≡ true) (sym (h.same u w)) (h.member u w) in
         let low : u < d.units = omega (arith, first_low 0 d.units u w.unit) in
-        ap told_in (unit_at d fl f u within low ∙ ap Some (line_of_member d fl f u w.works member))
+        ap told_in (unit_at d fl version f u within low ∙ ap Some (line_of_member d fl version f u w.works member))
 
     -- and so the configuration at the frame
     pub tells_config : (u : ℕ) → Works (flown d) u f → (told_at d sheet f u).config ≡ Some (config_at (flown d) fl f)
@@ -67,19 +69,19 @@ module _ (d : MissionData) (fl : Flight) (laws : HasLaws d fl) where
     -- which is the one that is told
     is_told : (us : List ℕ) → config_told d sheet f ≡ Some us → us ≡ config_at (flown d) fl f
     is_told us told =
-        one_told us (config_at (flown d) fl f) _ told (config_is d fl laws f (omega arith) (λ g early. at g (omega arith)))
+        one_told us (config_at (flown d) fl f) _ told (config_is d fl version laws f (omega arith) (λ g early. at g (omega arith)))
 
     -- a working unit of the configuration is one of the mission
     member_works : (u : ℕ) → has (config_at (flown d) fl f) u ≡ true → (flown d).works u f ≡ true → Works (flown d) u f
     member_works u member works =
         let l = lead_of (flown d) f in
-        let config = (account_is d fl laws l f within lead).config in
+        let config = (account_is d fl version laws l f within lead).config in
         record { unit = config.inside u (subst (λ us. has us u ≡ true) (config_within (flown d) fl f within) member); works = works }
 
     -- ---- words
 
     pub agrees : agreed_told d sheet f ≡ agreed_at (flown d) fl f
-    agrees = agreed_is d fl laws f within (λ g early. at g (omega arith))
+    agrees = agreed_is d fl version laws f within (λ g early. at g (omega arith))
 
     pub same_inputs : TellsSameInputs d sheet f
     same_inputs = record {
@@ -92,7 +94,7 @@ module _ (d : MissionData) (fl : Flight) (laws : HasLaws d fl) where
     -- ---- faults
 
     caught_is : (u : ℕ) → Works (flown d) u f → caught_told d sheet f u ≡ everyone_in (fl.account u f).bad
-    caught_is u w = ap (λ t. t.caught) (tells_account u w)
+    caught_is u w = ap (λ t. t.caught) (tells_account u w) ∙ units_told version (fl.account u f).bad
 
     pub no_false_accusation : TellsNoFalseAccusation d sheet f
     no_false_accusation u v w x =
@@ -109,7 +111,7 @@ module _ (d : MissionData) (fl : Flight) (laws : HasLaws d fl) where
     pub exact_removal : TellsExactRemoval d sheet f
     exact_removal us next told told_next =
         let then_is : next ≡ config_at (flown d) fl (suc f) =
-        one_told next (config_at (flown d) fl (suc f)) _ told_next (config_is d fl laws (suc f) (omega arith) (λ g early. at g (omega arith))) in
+        one_told next (config_at (flown d) fl (suc f)) _ told_next (config_is d fl version laws (suc f) (omega arith) (λ g early. at g (omega arith))) in
         let tests : (λ v. not (two_caught (flown d) fl f v)) ≡ (λ v. not (two_tell d sheet f (config_at (flown d) fl f) v)) =
         (λ i v. not (sym (two_alike v) i)) in
         subst (λ c. next ≡ filter (λ v. not (two_tell d sheet f c v)) c) (sym (is_told us told))
@@ -133,14 +135,14 @@ module _ (d : MissionData) (fl : Flight) (laws : HasLaws d fl) where
     true_skew =
         let a = some_skew (offsets_at (flown d) fl f) some_clock in
         let is_skew = ((laws.skew (offsets_at (flown d) fl f)).0 a.0).0 a.1 in
-        subst (λ o. IsSomeAnd o (IsTrueSkew d (offsets_at (flown d) fl f))) (sym (ap (λ o. (told_in o).skew) (frame_at d fl f within) ∙ a.1))
+        subst (λ o. IsSomeAnd o (IsTrueSkew d (offsets_at (flown d) fl f))) (sym (ap (λ o. (told_in o).skew) (frame_at d fl version f within) ∙ a.1))
         (is_skew, holds_here.clock_skew.skew a.0 is_skew)
 
     true_slack : IsSomeAnd (slack_told d sheet f) (λ slack. pos 1 ≤ℤ slack)
     true_slack =
         let b = some_slack (flown d).length (offsets_at (flown d) fl f) (next_offsets_at (flown d) fl f) some_clock in
         let is_slack = ((laws.slack (flown d).length (offsets_at (flown d) fl f) (next_offsets_at (flown d) fl f)).0 b.0).0 b.1 in
-        subst (λ o. IsSomeAnd o (λ slack. pos 1 ≤ℤ slack)) (sym (ap (λ o. (told_in o).slack) (frame_at d fl f within) ∙ b.1)) (holds_here.clock_skew.slack b.0 is_slack)
+        subst (λ o. IsSomeAnd o (λ slack. pos 1 ≤ℤ slack)) (sym (ap (λ o. (told_in o).slack) (frame_at d fl version f within) ∙ b.1)) (holds_here.clock_skew.slack b.0 is_slack)
 
     pub clock_skew : TellsClockSkew d sheet f
     clock_skew = record {

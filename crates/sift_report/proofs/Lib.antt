@@ -6,6 +6,7 @@ pub mod Numerals
 pub mod Ascending
 pub mod Sets
 pub mod LineForms
+mod Catches
 pub mod Fields
 pub mod Printed
 mod SameTexts

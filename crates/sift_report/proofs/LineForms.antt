@@ -1,10 +1,12 @@
 -- The fields of a line tell its form.
 use Rattle.std.proofs.Common.{◌≡◌, ℕ, ℤ, ◌<◌, ◌≤◌, List, [], ◌∷◌, length, map, get_or, Bool, Option, Some, Bor, refl, sym, ap, arith, codes}
 use Rattle.arrayvec.specs.ArrayVec.{ArrayVec as Items}
-use Rattle.sift_base.specs.Units.{Units}
 use Rattle.sift_report.specs.declared.line.ReportLine.{ReportLine}
 use Rattle.sift_report.specs.declared.line.ReportLine.TheVariants.{Unit as unit, Faulty, Idle, Frame, Last}
-use Rattle.sift_report.specs.Line.{IsLine, fields_of}
+use Rattle.sift_report.specs.declared.bad.Bad.{Bad}
+use Rattle.sift_report.specs.declared.version.Version.{Version}
+use Rattle.sift_report.specs.Bad.{version_of}
+use Rattle.sift_report.specs.Line.{HasVersion, IsLine, fields_of}
 
 -- the text at a place of a slice
 abbrev pub text_at : List (Bor (List ℕ)) → ℕ → List ℕ
@@ -21,16 +23,17 @@ seven_texts (a ∷ b ∷ c ∷ d ∷ e ∷ f ∷ g ∷ []) low high = refl
 seven_texts xs low high = absurd (omega arith)
 
 -- a line of seven fields is that of a unit that tells its account
-pub seven_are_unit : (line : ReportLine) (a b c d e f g : List ℕ) (result : Option ReportLine) → IsLine line
+pub seven_are_unit : (version : Version) (line : ReportLine) (a b c d e f g : List ℕ) (result : Option ReportLine) → IsLine line
+    → HasVersion version line
     → fields_of line ≡ a ∷ b ∷ c ∷ d ∷ e ∷ f ∷ g ∷ []
-    → ((n u : ℕ) (cfg : List ℕ) (clk : ℤ) (ins outs : Items ℕ) (bad : Units) → IsLine (unit n u cfg clk ins outs bad)
+    → ((n u : ℕ) (cfg : List ℕ) (clk : ℤ) (ins outs : Items ℕ) (bad : Bad) → IsLine (unit n u cfg clk ins outs bad) → version_of bad ≡ version
     → fields_of (unit n u cfg clk ins outs bad) ≡ a ∷ b ∷ c ∷ d ∷ e ∷ f ∷ g ∷ [] → result ≡ Some (unit n u cfg clk ins outs bad))
     → result ≡ Some line
-seven_are_unit (unit n u cfg clk ins outs bad) a b c d e f g result holds same exact = exact n u cfg clk ins outs bad holds same
-seven_are_unit (Faulty n u) a b c d e f g result holds same exact = cc
-seven_are_unit (Idle n u) a b c d e f g result holds same exact = cc
-seven_are_unit (Frame n s l m) a b c d e f g result holds same exact = cc
-seven_are_unit (Last n cfg m) a b c d e f g result holds same exact = cc
+seven_are_unit version (unit n u cfg clk ins outs bad) a b c d e f g result holds of same exact = exact n u cfg clk ins outs bad holds of same
+seven_are_unit version (Faulty n u) a b c d e f g result holds of same exact = cc
+seven_are_unit version (Idle n u) a b c d e f g result holds of same exact = cc
+seven_are_unit version (Frame n s l m) a b c d e f g result holds of same exact = cc
+seven_are_unit version (Last n cfg m) a b c d e f g result holds of same exact = cc
 
 -- one of four fields that begins with `end` is the last
 pub end_is_last : (line : ReportLine) (b c d : List ℕ) (result : Option ReportLine) → IsLine line

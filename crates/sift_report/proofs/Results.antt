@@ -1,5 +1,5 @@
 -- What the option of a result tells of it.
-use Rattle.std.proofs.Common.{◌≡◌, Result, Ok, Err, Some, None}
+use Rattle.std.proofs.Common.{◌≡◌, Bool, true, false, Result, Ok, Err, Some, None}
 use Rattle.std.specs.Result.{OnOk, OnErr, result_ok}
 
 -- where there is a value, the result was one
@@ -11,6 +11,11 @@ on_ok (Err y) x P e h = (cc)
 pub on_err : {T E : Type 0} (r : Result T E) (P : Type 0) → result_ok r ≡ None → OnErr r P → P
 on_err (Ok y) P e h = (cc)
 on_err (Err y) P e h = h
+
+-- no test has two results
+pub not_both : (b : Bool) → b ≡ true → b ≡ false → ⊥
+not_both true t f = cc
+not_both false t f = cc
 
 -- values that are given are one where the options are
 pub held : {X : Type 0} (x y : X) → Some x ≡ Some y → x ≡ y

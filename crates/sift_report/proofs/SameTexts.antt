@@ -15,6 +15,7 @@ use Rattle.sift_report.specs.Line.{printed, text_of_lines}
 use Rattle.sift_report.specs.OneText.{AlikeFlightsHaveOneText}
 use Rattle.sift_report.specs.Sheet.{end_of, frame_line, frame_lines, last_line, sheet_of, unit_line, working_line}
 use Rattle.sift_report.specs.Votes.{frame_votes, unit_votes, votes_of}
+use Rattle.sift_report.specs.declared.version.Version.{Version}
 use Rattle.sift_report.specs.declared.line.ReportLine.TheVariants.{Faulty, Last}
 
 -- what is the same at each number from a on is the same of all of them
@@ -35,26 +36,26 @@ abbrev votes_by : MissionData → (f u : ℕ) → Account → Places → Places 
 votes_by d f u a said heard = unit_votes d (record { said = λ _ _. said; heard = λ _ _. heard; account = λ _ _. a }) f u
 
 module _ (d : MissionData) (fl gl : Flight) (some : 0 < d.frames) (alike : AreAlike (flown d) fl gl) where
-  same_line : (f : ℕ) → f < d.frames → (u : ℕ) → has (flown d).units u ≡ true → unit_line (flown d) fl f u ≡ unit_line (flown d) gl f u
-  same_line f low u hu = ap (λ a. if (flown d).works u f then working_line f u a else Faulty f u) (alike.units u f hu low).account
+  same_line : (version : Version) (f : ℕ) → f < d.frames → (u : ℕ) → has (flown d).units u ≡ true → unit_line (flown d) fl version f u ≡ unit_line (flown d) gl version f u
+  same_line version f low u hu = ap (λ a. if (flown d).works u f then working_line version f u a else Faulty f u) (alike.units u f hu low).account
 
   same_frame_line : (f : ℕ) → f < d.frames → frame_line (flown d) fl f ≡ frame_line (flown d) gl f
   same_frame_line f low = let s = alike.frames f low in rw (s.margin, s.skew, s.slack) refl
 
-  same_lines : (f : ℕ) → f < d.frames → frame_lines (flown d) fl f ≡ frame_lines (flown d) gl f
-  same_lines f low =
-      ap (λ xs. xs ++ frame_line (flown d) fl f ∷ []) (map-same (unit_line (flown d) fl f) (unit_line (flown d) gl f) (flown d).units (same_line f low))
-      ∙ ap (λ x. map (unit_line (flown d) gl f) (flown d).units ++ x ∷ []) (same_frame_line f low)
+  same_lines : (version : Version) (f : ℕ) → f < d.frames → frame_lines (flown d) fl version f ≡ frame_lines (flown d) gl version f
+  same_lines version f low =
+      ap (λ xs. xs ++ frame_line (flown d) fl f ∷ []) (map-same (unit_line (flown d) fl version f) (unit_line (flown d) gl version f) (flown d).units (same_line version f low))
+      ∙ ap (λ x. map (unit_line (flown d) gl version f) (flown d).units ++ x ∷ []) (same_frame_line f low)
 
   same_last : last_line (flown d) fl ≡ last_line (flown d) gl
   same_last =
       ap (λ us. Last d.frames us (margin_at (flown d) fl (d.frames - 1))) (alike.config d.frames (omega arith))
       ∙ ap (λ b. Last d.frames (config_at (flown d) gl d.frames) b) (alike.frames (d.frames - 1) (omega arith)).margin
 
-  same_sheet : sheet_of (flown d) fl ≡ sheet_of (flown d) gl
-  same_sheet =
-      ap (λ xs. xs ++ last_line (flown d) fl ∷ []) (flat-same (frame_lines (flown d) fl) (frame_lines (flown d) gl) 0 d.frames (λ f low. same_lines f (omega arith)))
-      ∙ ap (λ x. flat_map (frame_lines (flown d) gl) (range_with_len 0 d.frames) ++ x ∷ []) same_last
+  same_sheet : (version : Version) → sheet_of (flown d) fl version ≡ sheet_of (flown d) gl version
+  same_sheet version =
+      ap (λ xs. xs ++ last_line (flown d) fl ∷ []) (flat-same (frame_lines (flown d) fl version) (frame_lines (flown d) gl version) 0 d.frames (λ f low. same_lines version f (omega arith)))
+      ∙ ap (λ x. flat_map (frame_lines (flown d) gl version) (range_with_len 0 d.frames) ++ x ∷ []) same_last
 
   same_votes : (f : ℕ) → f < d.frames → (u : ℕ) → has (flown d).units u ≡ true → unit_votes d fl f u ≡ unit_votes d gl f u
   same_votes f low u hu =
@@ -76,7 +77,7 @@ module _ (d : MissionData) (fl gl : Flight) (some : 0 < d.frames) (alike : AreAl
 
 pub one_text : AlikeFlightsHaveOneText
 one_text d fl gl some alike = record {
-  report = ap text_of_lines (same_sheet d fl gl some alike);
+  report = λ version. ap text_of_lines (same_sheet d fl gl some alike version);
   votes = all_votes d fl gl some alike;
   end = same_end d fl gl some alike;
 }

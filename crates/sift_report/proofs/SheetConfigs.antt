@@ -13,15 +13,16 @@ use Rattle.sift_report.specs.Headline.{TellsSameConfiguration}
 use Rattle.sift_report.specs.Printed.{TellsItsFlight}
 use Rattle.sift_report.specs.Sheet.{account_line, sheet_of}
 use Rattle.sift_report.specs.Told.{HadMarginTold, HasMarginTold, IsSoundTold, agreed_told, config_told, told_at, told_by, told_in}
+use Rattle.sift_report.specs.declared.version.Version.{Version}
 use Rattle.sift_report.specs.declared.line.ReportLine.{ReportLine}
 use Rattle.sift_report.proofs.Alike.{one_told}
 use Rattle.sift_report.proofs.RoundFlights.{HasLaws}
 use Rattle.sift_report.proofs.SheetForm.{line_of_member, works_flying}
 use Rattle.sift_report.proofs.SheetPlaces.{end_at, first_low, unit_at}
 
-module _ (d : MissionData) (fl : Flight) (laws : HasLaws d fl) where
+module _ (d : MissionData) (fl : Flight) (version : Version) (laws : HasLaws d fl) where
   abbrev sheet : List ReportLine
-  sheet = sheet_of (flown d) fl
+  sheet = sheet_of (flown d) fl version
 
   -- the configuration at a frame gives margin
   abbrev IsSound : ℕ → Type 0
@@ -56,10 +57,10 @@ module _ (d : MissionData) (fl : Flight) (laws : HasLaws d fl) where
   -- ---- configurations
 
   lead_tells : (f : ℕ) → f < d.frames → HadMargin f
-      → told_at d sheet f (lead_of (flown d) f) ≡ told_by (account_line f (lead_of (flown d) f) (fl.account (lead_of (flown d) f) f))
+      → told_at d sheet f (lead_of (flown d) f) ≡ told_by (account_line version f (lead_of (flown d) f) (fl.account (lead_of (flown d) f) f))
   lead_tells f within had =
       let l = lead_of (flown d) f in
-      ap told_in (unit_at d fl f l within (low l f (leads f)) ∙ ap Some (line_of_member d fl f l (leads f).works (lead_inside f within had)))
+      ap told_in (unit_at d fl version f l within (low l f (leads f)) ∙ ap Some (line_of_member d fl version f l (leads f).works (lead_inside f within had)))
 
   frame_tells : (f : ℕ) → f < d.frames → HadMargin f → config_told d sheet f ≡ Some (config_at (flown d) fl f)
   frame_tells f within had =
@@ -69,7 +70,7 @@ module _ (d : MissionData) (fl : Flight) (laws : HasLaws d fl) where
   end_tells : config_told d sheet d.frames ≡ Some (config_at (flown d) fl d.frames)
   end_tells =
       ap (λ b. (told_at d sheet d.frames (if b then lead_of (flown d) d.frames else 0)).config) (le-ltb d.frames d.frames (omega arith))
-      ∙ ap (λ o. (told_in o).config) (end_at d fl)
+      ∙ ap (λ o. (told_in o).config) (end_at d fl version)
 
   pub config_is : (f : ℕ) → f ≤ d.frames → HadMargin f → config_told d sheet f ≡ Some (config_at (flown d) fl f)
   config_is f up had = elim (cases_lt f d.frames) [
@@ -132,9 +133,9 @@ module _ (d : MissionData) (fl : Flight) (laws : HasLaws d fl) where
         ]) u (works_flying d u f w);
       }
 
-pub tells_its_flight : (d : MissionData) (fl : Flight) → HasLaws d fl → TellsItsFlight d fl
-tells_its_flight d fl laws = record {
-  margin = λ f within. (at_from d fl laws f within, told_from d fl laws f within);
-  config = λ f up had. config_is d fl laws f up (λ g early. had g early g (omega arith));
-  agreed = λ f within at. agreed_is d fl laws f within (λ g early. at g (omega arith));
+pub tells_its_flight : (d : MissionData) (fl : Flight) (version : Version) → HasLaws d fl → TellsItsFlight d fl version
+tells_its_flight d fl version laws = record {
+  margin = λ f within. (at_from d fl version laws f within, told_from d fl version laws f within);
+  config = λ f up had. config_is d fl version laws f up (λ g early. had g early g (omega arith));
+  agreed = λ f within at. agreed_is d fl version laws f within (λ g early. at g (omega arith));
 }

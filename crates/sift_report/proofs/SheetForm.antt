@@ -2,7 +2,7 @@
 use Rattle.std.proofs.Common.{◌≡◌, ℕ, ◌<◌, true, false, if◌then◌else◌, inl, inr, refl, sym, ap, ◌∙◌, subst, arith}
 use Rattle.std.specs.Prelude.{IsSomeAnd}
 use Rattle.std.proofs.lemmas.Bool.{cases_Bool}
-use Rattle.sift_base.specs.Units.{has}
+use Rattle.sift_base.specs.Units.{has, holds}
 use Rattle.sift_mission.specs.Data.{MissionData}
 use Rattle.sift_mission.specs.Flown.{flown}
 use Rattle.sift_flight.specs.Configuration.{Works}
@@ -11,7 +11,9 @@ use Rattle.sift_flight.specs.Told.{IsAccountOf}
 use Rattle.sift_report.specs.Form.{HasForm, IsFramesLine, IsLastLine, IsUnitsLine}
 use Rattle.sift_report.specs.Sheet.{account_line, sheet_of, unit_line, working_line}
 use Rattle.sift_report.specs.Working.{IsWorking}
+use Rattle.sift_report.specs.declared.version.Version.{Version}
 use Rattle.sift_report.specs.declared.line.ReportLine.TheVariants.{Faulty, Idle}
+use Rattle.sift_report.proofs.Catches.{units_told}
 use Rattle.sift_report.proofs.RoundFlights.{HasLaws}
 use Rattle.sift_report.proofs.SheetPlaces.{end_at, first_low, frame_at, length-sheet, low_first, unit_at}
 
@@ -21,23 +23,23 @@ works_flying d u f w = record { unit = w.unit; works = w.works }
 
 -- ---- the line of a unit
 
-module _ (d : MissionData) (fl : Flight) (f u : ℕ) where
-  pub line_of_faulty : (flown d).works u f ≡ false → unit_line (flown d) fl f u ≡ Faulty f u
-  line_of_faulty faulty = ap (λ b. if b then working_line f u (fl.account u f) else Faulty f u) faulty
+module _ (d : MissionData) (fl : Flight) (version : Version) (f u : ℕ) where
+  pub line_of_faulty : (flown d).works u f ≡ false → unit_line (flown d) fl version f u ≡ Faulty f u
+  line_of_faulty faulty = ap (λ b. if b then working_line version f u (fl.account u f) else Faulty f u) faulty
 
-  pub line_of_working : (flown d).works u f ≡ true → unit_line (flown d) fl f u ≡ working_line f u (fl.account u f)
-  line_of_working works = ap (λ b. if b then working_line f u (fl.account u f) else Faulty f u) works
+  pub line_of_working : (flown d).works u f ≡ true → unit_line (flown d) fl version f u ≡ working_line version f u (fl.account u f)
+  line_of_working works = ap (λ b. if b then working_line version f u (fl.account u f) else Faulty f u) works
 
-  pub line_of_idle : (flown d).works u f ≡ true → has (fl.account u f).cfg u ≡ false → unit_line (flown d) fl f u ≡ Idle f u
-  line_of_idle works outside = line_of_working works ∙ ap (λ b. if b then account_line f u (fl.account u f) else Idle f u) outside
+  pub line_of_idle : (flown d).works u f ≡ true → has (fl.account u f).cfg u ≡ false → unit_line (flown d) fl version f u ≡ Idle f u
+  line_of_idle works outside = line_of_working works ∙ ap (λ b. if b then account_line version f u (fl.account u f) else Idle f u) outside
 
   pub line_of_member : (flown d).works u f ≡ true → has (fl.account u f).cfg u ≡ true →
-      unit_line (flown d) fl f u ≡ account_line f u (fl.account u f)
-  line_of_member works member = line_of_working works ∙ ap (λ b. if b then account_line f u (fl.account u f) else Idle f u) member
+      unit_line (flown d) fl version f u ≡ account_line version f u (fl.account u f)
+  line_of_member works member = line_of_working works ∙ ap (λ b. if b then account_line version f u (fl.account u f) else Idle f u) member
 
 -- ---- its form
 
-module _ (d : MissionData) (fl : Flight) (laws : HasLaws d fl) where
+module _ (d : MissionData) (fl : Flight) (version : Version) (laws : HasLaws d fl) where
   -- the account of a working unit
   pub account_is : (u f : ℕ) → f < d.frames → Works (flown d) u f → IsAccountOf (flown d) u (fl.account u f)
   account_is u f within w = laws.accounts.each u f w.unit within (laws.flyable.script.whole u f w.works)
@@ -48,7 +50,7 @@ module _ (d : MissionData) (fl : Flight) (laws : HasLaws d fl) where
 
   -- the line of a unit in a frame is one of that unit
   member_line : (f u : ℕ) → f < d.frames → Works (flown d) u f → has (fl.account u f).cfg u ≡ true
-      → IsUnitsLine d f u (account_line f u (fl.account u f))
+      → IsUnitsLine d f u (account_line version f u (fl.account u f))
   member_line f u within w member =
       let account = account_is u f within w in
       let busy : (fl.account u f).idle ≡ false =
@@ -57,25 +59,25 @@ module _ (d : MissionData) (fl : Flight) (laws : HasLaws d fl) where
         refl,
         w.works,
         below u f within w,
-        (λ v caught. below u f within w v (account.caught_inside v caught)),
+        (λ v caught. below u f within w v (account.caught_inside v (sym (ap (λ units. holds units v) (units_told version (fl.account u f).bad)) ∙ caught))),
         account.inputs busy,
         account.outputs busy,
       )
 
-  units_line : (f u : ℕ) → f < d.frames → u < d.units → IsUnitsLine d f u (unit_line (flown d) fl f u)
+  units_line : (f u : ℕ) → f < d.frames → u < d.units → IsUnitsLine d f u (unit_line (flown d) fl version f u)
   units_line f u within low = elim (cases_Bool ((flown d).works u f)) [
-    | inr faulty ↦ subst (IsUnitsLine d f u) (sym (line_of_faulty d fl f u faulty)) (refl, refl, faulty)
+    | inr faulty ↦ subst (IsUnitsLine d f u) (sym (line_of_faulty d fl version f u faulty)) (refl, refl, faulty)
     | inl works ↦
         let w : Works (flown d) u f = record { unit = low_first 0 d.units u (omega arith) (omega arith); works = works } in
         elim (cases_Bool (has (fl.account u f).cfg u)) [
-          | inr outside ↦ subst (IsUnitsLine d f u) (sym (line_of_idle d fl f u works outside)) (refl, refl, works)
-          | inl member ↦ subst (IsUnitsLine d f u) (sym (line_of_member d fl f u works member)) (member_line f u within w member)
+          | inr outside ↦ subst (IsUnitsLine d f u) (sym (line_of_idle d fl version f u works outside)) (refl, refl, works)
+          | inl member ↦ subst (IsUnitsLine d f u) (sym (line_of_member d fl version f u works member)) (member_line f u within w member)
         ]
   ]
 
-  pub form_told : (f : ℕ) → f < d.frames → HasForm d (sheet_of (flown d) fl) f
+  pub form_told : (f : ℕ) → f < d.frames → HasForm d (sheet_of (flown d) fl version) f
   form_told f within = record {
-    units = λ u low. subst (λ o. IsSomeAnd o (IsUnitsLine d f u)) (sym (unit_at d fl f u within low)) (units_line f u within low);
-    whole = subst (λ o. IsSomeAnd o (IsFramesLine f)) (sym (frame_at d fl f within)) refl;
-    end = λ e. record { last = subst (λ o. IsSomeAnd o (IsLastLine d)) (sym (end_at d fl)) refl; nothing_more = length-sheet d fl };
+    units = λ u low. subst (λ o. IsSomeAnd o (IsUnitsLine d f u)) (sym (unit_at d fl version f u within low)) (units_line f u within low);
+    whole = subst (λ o. IsSomeAnd o (IsFramesLine f)) (sym (frame_at d fl version f within)) refl;
+    end = λ e. record { last = subst (λ o. IsSomeAnd o (IsLastLine d)) (sym (end_at d fl version)) refl; nothing_more = length-sheet d fl version };
   }

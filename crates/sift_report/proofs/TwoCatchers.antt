@@ -8,6 +8,10 @@ use Rattle.std.proofs.lemmas.Bool.{le-leb}
 use Rattle.std.proofs.lemmas.Int.{ints}
 use Rattle.sift_base.specs.Units.{has, holds}
 use Rattle.sift_base.proofs.Sets.{holds-insert}
+use Rattle.sift_exec.specs.Record.{nobody, noted}
+use Rattle.sift_exec.specs.declared.catches.Kind.TheVariants.{Poll}
+use Rattle.sift_flight.proofs.Naming.{holds-everyone}
+use Rattle.sift_report.specs.Bad.{units_in}
 use Rattle.sift_skew.specs.Figures.{IsSkew}
 use Rattle.sift_skew.proofs.Leads.{Contains-map}
 use Rattle.sift_mission.specs.PartsFit.{PartsFit}
@@ -42,21 +46,32 @@ each_working P a b c d f u w =
 
 -- ---- sets
 
-pub holds-none : (v : ℕ) → holds no_unit v ≡ false
-holds-none v = set.contains-empty nat_cmp v
+or_twice : (b : Bool) → (((b || false) || false) || false) ≡ (b || false)
+or_twice true = refl
+or_twice false = refl
 
-pub holds-only : (u v : ℕ) → holds (only u) v ≡ (nat_eq v u || false)
-holds-only u v = holds-insert set.empty u v ∙ ap (λ b. nat_eq v u || b) (holds-none v)
+-- the empty set has no member
+in_empty : (v : ℕ) → holds set.empty v ≡ false
+in_empty v = set.contains-empty nat_cmp v
+
+pub holds-none : (v : ℕ) → holds (units_in no_unit) v ≡ false
+holds-none v = holds-everyone nobody v ∙ rw (in_empty v) refl
+
+pub holds-only : (u v : ℕ) → holds (units_in (only u)) v ≡ (nat_eq v u || false)
+holds-only u v =
+    let one : holds (set.insert set.empty u) v ≡ (nat_eq v u || false) =
+    holds-insert set.empty u v ∙ ap (λ b. nat_eq v u || b) (in_empty v) in
+    holds-everyone (noted nobody u Poll) v ∙ rw (in_empty v, one) (or_twice (nat_eq v u))
 
 -- a set of units of the mission has low members
-none_low : (v : ℕ) → holds no_unit v ≡ true → v < 5
+none_low : (v : ℕ) → holds (units_in no_unit) v ≡ true → v < 5
 none_low v there = let no = holds-none v in absurd cc
 
 or_false : (b : Bool) → (b || false) ≡ true → b ≡ true
 or_false true t = refl
 or_false false t = absurd cc
 
-four_low : (v : ℕ) → holds (only 4) v ≡ true → v < 5
+four_low : (v : ℕ) → holds (units_in (only 4)) v ≡ true → v < 5
 four_low v there = let e : v ≡ 4 = eqb-true v 4 (or_false _ (sym (holds-only 4 v) ∙ there)) in omega (arith, e)
 
 five_low : (v : ℕ) → has all_five v ≡ true → v < 5
@@ -126,8 +141,8 @@ ideal_outputs (suc zero) low = each_working (λ u. outputs_told mission lines 1 
 ideal_outputs (suc (suc f)) low = absurd (omega arith)
 
 -- a set that has no working unit
-four_blamed : (f v : ℕ) → IsWorking mission v f → holds (only 4) v ≡ false
-four_blamed f = each_working (λ v. holds (only 4) v ≡ false) (holds-only 4 0) (holds-only 4 1) (holds-only 4 2) (holds-only 4 3) f
+four_blamed : (f v : ℕ) → IsWorking mission v f → holds (units_in (only 4)) v ≡ false
+four_blamed f = each_working (λ v. holds (units_in (only 4)) v ≡ false) (holds-only 4 0) (holds-only 4 1) (holds-only 4 2) (holds-only 4 3) f
 
 no_false_accusation : (f : ℕ) → f < 2 → TellsNoFalseAccusation mission lines f
 no_false_accusation zero low u v w x =

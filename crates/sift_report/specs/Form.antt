@@ -2,6 +2,7 @@
 use Rattle.std.specs.Prelude.{◌≡◌, ℕ, suc, ◌+◌, ◌*◌, ◌<◌, List, length, true, false, IsSomeAnd}
 use Rattle.sift_base.specs.Units.{has, holds}
 use Rattle.sift_mission.specs.Data.{MissionData}
+use Rattle.sift_report.specs.Bad.{units_in}
 use Rattle.sift_report.specs.Told.{line_at}
 use Rattle.sift_report.specs.Working.{works_in}
 use Rattle.sift_report.specs.declared.line.ReportLine.{ReportLine}
@@ -16,7 +17,7 @@ line_count d = d.frames * (d.units + 1) + 1
 abbrev pub IsUnitsLine : MissionData → (f u : ℕ) → ReportLine → Type 0
 IsUnitsLine d f u (unit g v cfg clk ins outs bad) =
     (g ≡ f) × (v ≡ u) × (works_in d u f ≡ true)
-    × ((w : ℕ) → has cfg w ≡ true → w < d.units) × ((w : ℕ) → holds bad w ≡ true → w < d.units)
+    × ((w : ℕ) → has cfg w ≡ true → w < d.units) × ((w : ℕ) → holds (units_in bad) w ≡ true → w < d.units)
     × (length ins.items ≡ d.layout.sensors) × (length outs.items ≡ d.layout.words)
 IsUnitsLine d f u (Idle g v) = (g ≡ f) × (v ≡ u) × (works_in d u f ≡ true)
 IsUnitsLine d f u (Faulty g v) = (g ≡ f) × (v ≡ u) × (works_in d u f ≡ false)

@@ -1,4 +1,5 @@
 pub mod Apart
+pub mod Bad
 pub mod Ideal
 pub mod Line
 pub mod Number

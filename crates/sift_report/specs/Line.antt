@@ -1,19 +1,17 @@
 -- The lines of a report, and how each is printed. There is no other grammar: a text is read as a line just where it is the line's.
-use Rattle.std.specs.Prelude.{codes, ℕ, ◌^◌, ◌<◌, ◌≤◌, List, [], ◌∷◌, ◌++◌, length}
+use Rattle.std.specs.Prelude.{codes, ◌≡◌, ℕ, ◌^◌, ◌<◌, ◌≤◌, List, [], ◌∷◌, ◌++◌, length, ⊤}
 use Rattle.std.specs.Fmt.{decimal, signed_decimal}
 use Rattle.std.specs.Int.{w64}
 use Rattle.std.specs.Int.RustNames.{FitsSigned}
 use Rattle.std.specs.List.{All, flat_map, join_with_byte}
 use Rattle.sift_base.specs.Layout.{sensor_limit, word_limit}
-use Rattle.sift_base.specs.Units.{Units, AreUnits, members, unit_limit}
+use Rattle.sift_base.specs.Units.{unit_limit}
 use Rattle.sift_config.specs.Config.{IsConfig}
+use Rattle.sift_report.specs.Bad.{IsBad, caught_text, version_of}
 use Rattle.sift_report.specs.Part.{IsWord, AreTicks, blank, unit_digit, units_text, words_text, ticks_text, margin_text}
+use Rattle.sift_report.specs.declared.version.Version.{Version}
 use Rattle.sift_report.specs.declared.line.ReportLine.{ReportLine}
 use Rattle.sift_report.specs.declared.line.ReportLine.TheVariants.{Unit as unit, Faulty, Idle, Frame, Last}
-
--- the units that were caught, as a line tells them
-abbrev pub caught_text : Units → List ℕ
-caught_text bad = units_text (members bad)
 
 -- the fields of a line
 abbrev pub fields_of : ReportLine → List (List ℕ)
@@ -43,8 +41,16 @@ text_of_lines lines = flat_map printed lines
 abbrev pub IsLine : ReportLine → Type 0
 IsLine (unit f u cfg clk ins outs bad) =
     (f < 2 ^ 32) × (u < unit_limit) × IsConfig cfg × FitsSigned w64 clk × (All IsWord ins.items × (length ins.items ≤ sensor_limit))
-    × (All IsWord outs.items × (length outs.items ≤ word_limit)) × AreUnits bad
+    × (All IsWord outs.items × (length outs.items ≤ word_limit)) × IsBad bad
 IsLine (Faulty f u) = (f < 2 ^ 32) × (u < unit_limit)
 IsLine (Idle f u) = (f < 2 ^ 32) × (u < unit_limit)
 IsLine (Frame f skew slack margin) = (f < 2 ^ 32) × AreTicks skew × AreTicks slack
 IsLine (Last frames cfg margin) = (frames < 2 ^ 32) × IsConfig cfg
+
+-- the line is one of a report of this version: only caught units are told in two ways
+abbrev pub HasVersion : Version → ReportLine → Type 0
+HasVersion version (unit f u cfg clk ins outs bad) = version_of bad ≡ version
+HasVersion version (Faulty f u) = ⊤
+HasVersion version (Idle f u) = ⊤
+HasVersion version (Frame f skew slack margin) = ⊤
+HasVersion version (Last frames cfg margin) = ⊤

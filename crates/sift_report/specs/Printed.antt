@@ -10,21 +10,23 @@ use Rattle.sift_flight.specs.Hearing.{Strays}
 use Rattle.sift_flight.specs.Round.{IsRound}
 use Rattle.sift_report.specs.Headline.{ReportHeadline}
 use Rattle.sift_report.specs.Sheet.{sheet_of}
+use Rattle.sift_report.specs.declared.version.Version.{Version}
 use Rattle.sift_report.specs.Told.{HasMarginTold, agreed_told, config_told}
 
--- the sheet of each round flight of a mission whose parts fit has the headline
+-- the sheet of each round flight of a mission whose parts fit has the headline, in each version
 abbrev pub HeadlineIsPrinted : Type 0
-HeadlineIsPrinted = (d : MissionData) (strays : Strays) (fl : Flight) → PartsFit d → IsRound (flown d) strays fl →
-    ReportHeadline d (sheet_of (flown d) fl)
+HeadlineIsPrinted = (d : MissionData) (strays : Strays) (fl : Flight) (version : Version) → PartsFit d → IsRound (flown d) strays fl →
+    ReportHeadline d (sheet_of (flown d) fl version)
 
 -- the sheet tells its flight: a frame has margin by what is told just where it has margin in the flight; the configuration told at a frame is
 -- the one at the frame, where each frame before has margin; and the agreed words told are the flight's, where the frame has margin
-pub record TellsItsFlight (d : MissionData) (fl : Flight) : Type 0 where
-  pub margin : (f : ℕ) → f < d.frames → HasMarginTold d (sheet_of (flown d) fl) f ↔ HasMarginAt (flown d) fl f
+pub record TellsItsFlight (d : MissionData) (fl : Flight) (version : Version) : Type 0 where
+  pub margin : (f : ℕ) → f < d.frames → HasMarginTold d (sheet_of (flown d) fl version) f ↔ HasMarginAt (flown d) fl f
   pub config : (f : ℕ) → f ≤ d.frames → ((g : ℕ) → g < f → HasMarginAt (flown d) fl g) →
-      config_told d (sheet_of (flown d) fl) f ≡ Some (config_at (flown d) fl f)
-  pub agreed : (f : ℕ) → f < d.frames → HasMarginAt (flown d) fl f → agreed_told d (sheet_of (flown d) fl) f ≡ agreed_at (flown d) fl f
+      config_told d (sheet_of (flown d) fl version) f ≡ Some (config_at (flown d) fl f)
+  pub agreed : (f : ℕ) → f < d.frames → HasMarginAt (flown d) fl f → agreed_told d (sheet_of (flown d) fl version) f ≡ agreed_at (flown d) fl f
 
 -- so does the sheet of each round flight of a mission whose parts fit
 abbrev pub SheetsTellTheirFlights : Type 0
-SheetsTellTheirFlights = (d : MissionData) (strays : Strays) (fl : Flight) → PartsFit d → IsRound (flown d) strays fl → TellsItsFlight d fl
+SheetsTellTheirFlights = (d : MissionData) (strays : Strays) (fl : Flight) (version : Version) → PartsFit d → IsRound (flown d) strays fl →
+    TellsItsFlight d fl version

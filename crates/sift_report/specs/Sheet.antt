@@ -2,47 +2,48 @@
 use Rattle.std.specs.Prelude.{ℕ, ◌-◌, List, [], ◌∷◌, ◌++◌, map, if◌then◌else◌}
 use Rattle.std.specs.List.{flat_map, range_with_len}
 use Rattle.sift_base.specs.Units.{has}
-use Rattle.sift_exec.specs.Record.{everyone_in}
 use Rattle.sift_conduct.specs.Account.{Account}
 use Rattle.sift_mission.specs.Mission.{FlownMission}
 use Rattle.sift_flight.specs.Flight.{Flight}
 use Rattle.sift_flight.specs.Configuration.{config_at}
 use Rattle.sift_flight.specs.Figures.{margin_at, skew_at, slack_at}
+use Rattle.sift_report.specs.Bad.{bad_in}
 use Rattle.sift_report.specs.Line.{printed, text_of_lines}
+use Rattle.sift_report.specs.declared.version.Version.{Version}
 use Rattle.sift_report.specs.declared.line.ReportLine.{ReportLine}
 use Rattle.sift_report.specs.declared.line.ReportLine.TheVariants.{Unit as unit, Faulty, Idle, Frame, Last}
 
 -- what a working unit of its own configuration tells of a frame, from its account
-abbrev pub account_line : ℕ → ℕ → Account → ReportLine
-account_line f u a = unit f u a.cfg a.clk (record { items = a.ins }) (record { items = a.outs }) (everyone_in a.bad)
+abbrev pub account_line : Version → ℕ → ℕ → Account → ReportLine
+account_line version f u a = unit f u a.cfg a.clk (record { items = a.ins }) (record { items = a.outs }) (bad_in version a.bad)
 
 -- the line of a unit that works in the frame: it is idle where it is outside its own configuration
-abbrev pub working_line : ℕ → ℕ → Account → ReportLine
-working_line f u a = if has a.cfg u then account_line f u a else Idle f u
+abbrev pub working_line : Version → ℕ → ℕ → Account → ReportLine
+working_line version f u a = if has a.cfg u then account_line version f u a else Idle f u
 
 -- the line of a unit in a frame
-abbrev pub unit_line : FlownMission → Flight → ℕ → ℕ → ReportLine
-unit_line m fl f u = if m.works u f then working_line f u (fl.account u f) else Faulty f u
+abbrev pub unit_line : FlownMission → Flight → Version → ℕ → ℕ → ReportLine
+unit_line m fl version f u = if m.works u f then working_line version f u (fl.account u f) else Faulty f u
 
 -- what is told of a whole frame
 abbrev pub frame_line : FlownMission → Flight → ℕ → ReportLine
 frame_line m fl f = Frame f (skew_at m fl f) (slack_at m fl f) (margin_at m fl f)
 
 -- the lines of a frame: one for each unit, and one for the whole frame
-abbrev pub frame_lines : FlownMission → Flight → ℕ → List ReportLine
-frame_lines m fl f = map (unit_line m fl f) m.units ++ frame_line m fl f ∷ []
+abbrev pub frame_lines : FlownMission → Flight → Version → ℕ → List ReportLine
+frame_lines m fl version f = map (unit_line m fl version f) m.units ++ frame_line m fl f ∷ []
 
 -- the end: how many frames were flown, the configuration after them, and the margin of the last
 abbrev pub last_line : FlownMission → Flight → ReportLine
 last_line m fl = Last m.frames (config_at m fl m.frames) (margin_at m fl (m.frames - 1))
 
--- the lines of a flight's report
-abbrev pub sheet_of : FlownMission → Flight → List ReportLine
-sheet_of m fl = flat_map (frame_lines m fl) (range_with_len 0 m.frames) ++ last_line m fl ∷ []
+-- the lines of a flight's report, in this version
+abbrev pub sheet_of : FlownMission → Flight → Version → List ReportLine
+sheet_of m fl version = flat_map (frame_lines m fl version) (range_with_len 0 m.frames) ++ last_line m fl ∷ []
 
--- the report of a flight
-abbrev pub report_of : FlownMission → Flight → List ℕ
-report_of m fl = text_of_lines (sheet_of m fl)
+-- the report of a flight, in this version
+abbrev pub report_of : FlownMission → Flight → Version → List ℕ
+report_of m fl version = text_of_lines (sheet_of m fl version)
 
 -- the last line of the report, with its line feed
 abbrev pub end_of : FlownMission → Flight → List ℕ

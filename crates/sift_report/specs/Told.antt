@@ -5,6 +5,7 @@ use Rattle.std.specs.List.{slice_get}
 use Rattle.sift_base.specs.Margin.{HasMargin}
 use Rattle.sift_base.specs.Units.{Units}
 use Rattle.sift_mission.specs.Data.{MissionData}
+use Rattle.sift_report.specs.Bad.{units_in}
 use Rattle.sift_report.specs.Working.{lead_in, works_in}
 use Rattle.sift_report.specs.declared.line.ReportLine.{ReportLine}
 use Rattle.sift_report.specs.declared.line.ReportLine.TheVariants.{Unit as unit, Faulty, Idle, Frame, Last}
@@ -30,7 +31,7 @@ nothing = record { config = None; clock = pos 0; inputs = []; outputs = []; caug
 -- what a line tells is what it prints, and of all else nothing
 abbrev pub told_by : ReportLine → Telling
 told_by (unit f u cfg clk ins outs bad) =
-    record nothing { config = Some cfg; clock = clk; inputs = ins.items; outputs = outs.items; caught = bad }
+    record nothing { config = Some cfg; clock = clk; inputs = ins.items; outputs = outs.items; caught = units_in bad }
 told_by (Faulty f u) = nothing
 told_by (Idle f u) = nothing
 told_by (Frame f skew slack margin) = record nothing { skew = skew; slack = slack; margin = margin }

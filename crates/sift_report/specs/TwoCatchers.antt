@@ -1,10 +1,10 @@
--- The report of missions/two_catchers.toml, a small one with a fault in it: unit 4 of five says a wrong word to units 0 and 1 alone; both
+-- The report of missions/two_catchers.toml in version 2, a small one with a fault in it: unit 4 of five says a wrong word to units 0 and 1 alone; both
 -- catch it, and it is out of the next configuration. The headline holds of it while every frame has margin, and each item of the headline
 -- refuses other lines.
 use Rattle.std.specs.Prelude.{codes, ◌≡◌, ℕ, List, [], ◌∷◌, ◌++◌, slice_set, true, false, None, Some, ℤ, pos}
-use Rattle.std.specs.FinSet as set
-use Rattle.sift_base.specs.Units.{Units}
 use Rattle.sift_base.specs.declared.layout.Layout.{Layout}
+use Rattle.sift_exec.specs.Record.{nobody, noted}
+use Rattle.sift_exec.specs.declared.catches.Kind.TheVariants.{Poll}
 use Rattle.sift_script.specs.Script.{changing}
 use Rattle.sift_script.specs.declared.script.SlotKind.TheVariants.{Out}
 use Rattle.sift_table.specs.Schedule.{plain_of}
@@ -15,6 +15,8 @@ use Rattle.sift_report.specs.Form.{HasForm}
 use Rattle.sift_report.specs.Headline.{ReportHeadline, TellsClockSkew, TellsExactRemoval, TellsIdealOutputs, TellsNoFalseAccusation, TellsSameConfiguration, TellsSameInputs, TellsTrueMargin}
 use Rattle.sift_report.specs.Told.{HasMarginTold, config_told}
 use Rattle.sift_report.specs.Working.{works_in}
+use Rattle.sift_report.specs.declared.bad.Bad.{Bad}
+use Rattle.sift_report.specs.declared.bad.Bad.TheVariants.{ByKind}
 use Rattle.sift_report.specs.declared.line.ReportLine.{ReportLine}
 use Rattle.sift_report.specs.declared.line.ReportLine.TheVariants.{Unit as unit, Faulty, Idle, Frame, Last}
 
@@ -69,19 +71,19 @@ all_five = 0 ∷ 1 ∷ 2 ∷ 3 ∷ 4 ∷ []
 abbrev pub four_left : List ℕ
 four_left = 0 ∷ 1 ∷ 2 ∷ 3 ∷ []
 
--- no unit, and one
-abbrev pub no_unit : Units
-no_unit = set.empty
+-- no unit was caught, and one was, when a task was polled
+abbrev pub no_unit : Bad
+no_unit = ByKind nobody
 
-abbrev pub only : ℕ → Units
-only u = set.insert set.empty u
+abbrev pub only : ℕ → Bad
+only u = ByKind (noted nobody u Poll)
 
 -- what a unit tells of a frame, where its clock is right and no sensor is read
-abbrev pub tells : (f u : ℕ) → (config : List ℕ) → (word : ℕ) → (caught : Units) → ReportLine
+abbrev pub tells : (f u : ℕ) → (config : List ℕ) → (word : ℕ) → (caught : Bad) → ReportLine
 tells f u config word caught = unit f u config (pos 0) (record { items = [] }) (record { items = word ∷ [] }) caught
 
 -- what a unit tells of frame 0, where it has a word of a sensor
-abbrev pub tells_input : (u : ℕ) → (input : ℕ) → (caught : Units) → ReportLine
+abbrev pub tells_input : (u : ℕ) → (input : ℕ) → (caught : Bad) → ReportLine
 tells_input u input caught = unit 0 u all_five (pos 0) (record { items = input ∷ [] }) (record { items = 16 ∷ [] }) caught
 
 -- the line of a frame whose clocks are together

@@ -2,11 +2,14 @@
 
 ghost use Rattle.std.specs.Prelude.{◌≡◌, ℕ, ℤ, List, ◌∷◌, [], Bool, Option, IfSome, Some, codes};
 ghost use Rattle.arrayvec.specs.ArrayVec.{ArrayVec as Items};
-ghost use Rattle.sift_base.specs.Units.{Units};
-ghost use Rattle.sift_report.specs.Line.{IsLine, fields_of};
+ghost use Rattle.sift_report.specs.Bad.{version_of};
+ghost use Rattle.sift_report.specs.Line.{HasVersion, IsLine, fields_of};
+ghost use Rattle.sift_report.specs.declared.bad.Bad.{Bad as Told};
 
+use crate::bad::bad_field;
 use crate::line::ReportLine;
 use crate::part::field;
+use crate::version::Version;
 
 /// The line of a unit that tells its account, from its fields.
 pub fn read_unit_line(
@@ -17,11 +20,13 @@ pub fn read_unit_line(
     ins: &str,
     outs: &str,
     bad: &str,
+    version: Version,
 ) -> Option<ReportLine>
+    ensures version { IfSome result (HasVersion version) }
     ensures printed { IfSome result (λ line. fields_of line
         ≡ f.now ∷ u.now ∷ cfg.now ∷ clk.now ∷ ins.now ∷ outs.now ∷ bad.now ∷ []) }
-    ensures exact { (n v : ℕ) (us : List ℕ) (ticks : ℤ) (agreed voted : Items ℕ) (caught : Units)
-        → IsLine (ReportLine.Unit n v us ticks agreed voted caught)
+    ensures exact { (n v : ℕ) (us : List ℕ) (ticks : ℤ) (agreed voted : Items ℕ) (caught : Told)
+        → IsLine (ReportLine.Unit n v us ticks agreed voted caught) → version_of caught ≡ version
         → fields_of (ReportLine.Unit n v us ticks agreed voted caught)
         ≡ f.now ∷ u.now ∷ cfg.now ∷ clk.now ∷ ins.now ∷ outs.now ∷ bad.now ∷ []
         → result ≡ Some (ReportLine.Unit n v us ticks agreed voted caught) }
@@ -32,7 +37,7 @@ pub fn read_unit_line(
     let clk = field(clk, "clk=")?;
     let ins = field(ins, "in=")?;
     let outs = field(outs, "out=")?;
-    let bad = field(bad, "bad=")?;
+    let bad = bad_field(bad, "bad=", version)?;
     Some(ReportLine::Unit {
         f,
         u,

@@ -5,7 +5,7 @@ ghost use Rattle.sift_base.specs.Layout.{sensor_limit};
 ghost use Rattle.sift_mission.specs.Parts.{data_of, flown_of};
 ghost use Rattle.sift_report.specs.Ideal.{frames_text, ideal_of, outputs_text, sensed_in};
 
-use crate::print::push_words;
+use crate::list::push_list;
 use arrayvec::ArrayVec;
 use sift_base::{NoMemory, Word};
 use sift_mission::Mission;
@@ -45,6 +45,6 @@ fn push_outputs(text: &mut String, f: u32, outs: &[Word]) -> Result<(), AllocErr
     ensures { OnOk result (string_bytes text.new ≡ string_bytes text.old ++ outputs_text f outs.now) }
 {
     write!(text, "f={f} out=")?;
-    push_words(text, outs)?;
+    push_list(text, outs)?;
     text.push('\n')
 }

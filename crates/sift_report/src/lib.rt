@@ -1,6 +1,8 @@
 //! The texts of a flight: its report, its votes, and the outputs of the ideal machine; and the lines of a report, printed and read back.
 #![tactic(auto)]
 
+mod bad;
+mod catch;
 mod form;
 mod ideal;
 mod law;
@@ -15,9 +17,11 @@ mod report;
 mod sheet;
 mod units;
 mod value;
+mod version;
 mod votes;
 mod word;
 
+pub use bad::Bad;
 pub use ideal::ideal_text;
 pub use law::{
     alike_flights_have_one_text, fault_is_within_the_headline, sheets_tell_their_flights,
@@ -28,4 +32,5 @@ pub use print::push_line;
 pub use read::read_line;
 pub use report::{last_line_text, report_text};
 pub use sheet::{frame_line, last_line, unit_line};
+pub use version::Version;
 pub use votes::votes_text;

@@ -1,7 +1,8 @@
 //! The lines of a report.
 
+use crate::bad::Bad;
 use arrayvec::ArrayVec;
-use sift_base::{UnitId, UnitSet, Word};
+use sift_base::{UnitId, Word};
 use sift_config::Config;
 
 /// A line of a report.
@@ -15,7 +16,7 @@ pub enum ReportLine {
         clk: i64,
         ins: ArrayVec<Word, 8>,
         outs: ArrayVec<Word, 64>,
-        bad: UnitSet,
+        bad: Bad,
     },
     /// The unit is faulty in the frame.
     Faulty {

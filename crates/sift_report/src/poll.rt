@@ -14,6 +14,7 @@ ghost use Rattle.sift_flight.specs.Told.{IsWhole, told};
 ghost use Rattle.sift_report.specs.Poll.{IsOutput, poll_of, polled_text, polls_of};
 ghost use Rattle.sift_report.specs.Votes.{lowest_other, place_of, place_text, poll_text, polled_units, tells, vote_text};
 
+use crate::list::{Item, push_list};
 use crate::print::{push_head, push_unit, push_word};
 use arrayvec::ArrayVec;
 use sift_base::{Slot, UnitId, Word};
@@ -65,7 +66,7 @@ pub fn push_vote(
     let vote = vote_of(&polls);
     push_head(text, f, u)?;
     push_output(text, name, output.j)?;
-    push_polls(text, &polls)?;
+    push_list(text, &polls)?;
     push_result(text, vote)?;
     text.push_str("\n")?;
     Ok(())
@@ -175,28 +176,14 @@ fn places_of(polls: &[Poll]) -> ArrayVec<Option<Word>, 8>
     places
 }
 
-/// Appends polls with commas between them, or `-` where there is none.
-fn push_polls(text: &mut String, polls: &[Poll]) -> Result<(), AllocError>
-    ensures { OnOk result (string_bytes text.new ≡ string_bytes text.old ++ polled_text polls.now) }
-{
-    let Some((first, others)) = polls.split_first() else {
-        return text.push('-');
-    };
-    push_poll(text, *first)?;
-    for poll in others {
-        text.push(',')?;
-        push_poll(text, *poll)?;
-    }
-    Ok(())
-}
+impl Item for Poll {
+    ghost item_text = { λ poll. poll_text poll.unit poll.word };
 
-/// Appends an executor and its word.
-fn push_poll(text: &mut String, poll: Poll) -> Result<(), AllocError>
-    ensures { OnOk result (string_bytes text.new ≡ string_bytes text.old ++ poll_text poll.unit poll.word) }
-{
-    push_unit(text, poll.unit)?;
-    text.push(':')?;
-    push_place(text, poll.word)
+    fn push(self, text: &mut String) -> Result<(), AllocError> {
+        push_unit(text, self.unit)?;
+        text.push(':')?;
+        push_place(text, self.word)
+    }
 }
 
 /// Appends a word, or `-` where there is none.

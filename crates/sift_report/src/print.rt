@@ -3,11 +3,15 @@
 ghost use Rattle.std.specs.Prelude.{◌≡◌, ◌<◌, ◌++◌, ◌∷◌, [], false, codes, string_bytes, OnOk};
 ghost use Rattle.std.specs.Fmt.{decimal, digit_glyph};
 ghost use Rattle.sift_base.specs.Units.{members};
-ghost use Rattle.sift_report.specs.Line.{caught_text, line_text, printed};
+ghost use Rattle.sift_report.specs.Bad.{caught_text};
+ghost use Rattle.sift_report.specs.Line.{line_text, printed};
 ghost use Rattle.sift_report.specs.declared.line.ReportLine.TheVariants.{Frame, Last};
-ghost use Rattle.sift_report.specs.Part.{margin_text, ticks_text, unit_digit, units_text, word_text, words_text};
+ghost use Rattle.sift_report.specs.Part.{margin_text, ticks_text, unit_digit, units_text, word_text};
 
+use crate::bad::Bad;
+use crate::catch::catches_in;
 use crate::line::ReportLine;
+use crate::list::{Item, push_list};
 use arrayvec::ArrayVec;
 use sift_base::{UnitId, UnitSet, Word};
 use sift_config::Config;
@@ -39,11 +43,11 @@ fn push_fields(text: &mut String, line: &ReportLine) -> Result<(), AllocError>
             text.push_str("cfg=")?;
             push_config(text, cfg)?;
             write!(text, " clk={clk} in=")?;
-            push_words(text, ins)?;
+            push_list(text, ins)?;
             text.push_str(" out=")?;
-            push_words(text, outs)?;
+            push_list(text, outs)?;
             text.push_str(" bad=")?;
-            push_caught(text, *bad)?;
+            push_caught(text, bad)?;
             Ok(())
         }
         ReportLine::Faulty { f, u } => {
@@ -115,14 +119,17 @@ fn push_margin(text: &mut String, margin: bool) -> Result<(), AllocError>
 }
 
 /// Appends the units that were caught.
-fn push_caught(text: &mut String, bad: UnitSet) -> Result<(), AllocError>
-    ensures { OnOk result (string_bytes text.new ≡ string_bytes text.old ++ caught_text bad) }
+fn push_caught(text: &mut String, bad: &Bad) -> Result<(), AllocError>
+    ensures { OnOk result (string_bytes text.new ≡ string_bytes text.old ++ caught_text bad.now) }
 {
-    push_units(text, &members_of(bad))
+    match bad {
+        Bad::Plain(units) => push_units(text, &members_of(*units)),
+        Bad::ByKind(caught) => push_list(text, &catches_in(caught)),
+    }
 }
 
 /// The members of a set, ascending.
-fn members_of(units: UnitSet) -> ArrayVec<UnitId, 8>
+pub fn members_of(units: UnitSet) -> ArrayVec<UnitId, 8>
     ensures { result.items ≡ members units }
 {
     let everyone = Config::all(8);
@@ -176,19 +183,12 @@ fn push_ticks(text: &mut String, ticks: Option<i64>) -> Result<(), AllocError>
     }
 }
 
-/// Appends words with commas between them, or `-` where there is none.
-pub fn push_words(text: &mut String, words: &[Word]) -> Result<(), AllocError>
-    ensures { OnOk result (string_bytes text.new ≡ string_bytes text.old ++ words_text words.now) }
-{
-    let Some((first, others)) = words.split_first() else {
-        return text.push('-');
-    };
-    push_word(text, *first)?;
-    for word in others {
-        text.push(',')?;
-        push_word(text, *word)?;
+impl Item for Word {
+    ghost item_text = { word_text };
+
+    fn push(self, text: &mut String) -> Result<(), AllocError> {
+        push_word(text, self)
     }
-    Ok(())
 }
 
 /// Appends a word as four hexadecimal digits.

@@ -9,22 +9,28 @@ ghost use Rattle.sift_report.specs.Sheet.{end_of, frame_lines, report_of};
 
 use crate::print::push_line;
 use crate::sheet::{frame_line, last_line, unit_line};
+use crate::version::Version;
 use sift_base::NoMemory;
 use sift_flight::{Flight, is_sound_at, margin_at};
 use sift_mission::Mission;
 use std::alloc::{AllocError, Global};
 
-/// The report of a whole flight.
-pub fn report_text(alloc: Global, mission: &Mission, flight: &Flight) -> Result<String, NoMemory>
+/// The report of a whole flight, in this version.
+pub fn report_text(
+    alloc: Global,
+    mission: &Mission,
+    flight: &Flight,
+    version: Version,
+) -> Result<String, NoMemory>
     requires { IsWhole (flown_of mission.now) mission.now.layout flight.now }
     ensures { IfOk result (λ text. string_bytes text
-        ≡ report_of (flown_of mission.now) (told (flown_of mission.now) flight.now)) }
+        ≡ report_of (flown_of mission.now) (told (flown_of mission.now) flight.now) version) }
 {
     let mut text = String::new(alloc);
     let mut margin = true;
     for f in 0..mission.parts().frames {
         margin = margin && is_sound_at(mission, flight, f);
-        push_frame(&mut text, mission, flight, f, margin)?;
+        push_frame(&mut text, mission, flight, version, f, margin)?;
     }
     push_line(&mut text, &last_line(mission, flight, margin))?;
     Ok(text)
@@ -35,6 +41,7 @@ fn push_frame(
     text: &mut String,
     mission: &Mission,
     flight: &Flight,
+    version: Version,
     f: u32,
     margin: bool,
 ) -> Result<(), AllocError>
@@ -42,11 +49,14 @@ fn push_frame(
     requires frame { f < (flown_of mission.now).frames }
     requires margin { margin ≡ margin_at (flown_of mission.now) (told (flown_of mission.now) flight.now) f }
     ensures { OnOk result (string_bytes text.new ≡ string_bytes text.old
-        ++ text_of_lines (frame_lines (flown_of mission.now) (told (flown_of mission.now) flight.now) f)) }
+        ++ text_of_lines (frame_lines (flown_of mission.now) (told (flown_of mission.now) flight.now) version f)) }
 {
     let everyone = mission.everyone();
     for i in 0..everyone.len() {
-        push_line(text, &unit_line(mission, flight, f, everyone.unit_at(i)))?;
+        push_line(
+            text,
+            &unit_line(mission, flight, version, f, everyone.unit_at(i)),
+        )?;
     }
     push_line(text, &frame_line(mission, flight, f, margin))
 }

@@ -2,27 +2,33 @@
 
 ghost use Rattle.std.specs.Prelude.{◌≡◌, ◌-◌, ◌<◌, true};
 ghost use Rattle.sift_base.specs.Units.{has};
-ghost use Rattle.sift_exec.specs.Record.{everyone_in};
 ghost use Rattle.sift_conduct.specs.Account.{account_of};
 ghost use Rattle.sift_mission.specs.Parts.{flown_of};
 ghost use Rattle.sift_flight.specs.Figures.{margin_at};
 ghost use Rattle.sift_flight.specs.Told.{IsWhole, told};
 ghost use Rattle.sift_report.specs.Sheet.{account_line, frame_line, last_line, unit_line};
 
+use crate::bad::Bad;
 use crate::line::ReportLine;
+use crate::version::Version;
 use arrayvec::ArrayVec;
-use sift_base::{UnitId, UnitSet};
+use sift_base::UnitId;
 use sift_conduct::Account;
-use sift_exec::Catches;
 use sift_flight::{Flight, account_at, config_at, skew_at, slack_at};
 use sift_mission::Mission;
 
-/// The line of a unit in a frame.
-pub fn unit_line(mission: &Mission, flight: &Flight, f: u32, u: UnitId) -> ReportLine
+/// The line of a unit in a frame, as a report of this version tells it.
+pub fn unit_line(
+    mission: &Mission,
+    flight: &Flight,
+    version: Version,
+    f: u32,
+    u: UnitId,
+) -> ReportLine
     requires whole { IsWhole (flown_of mission.now) mission.now.layout flight.now }
     requires unit { has (flown_of mission.now).units u ≡ true }
     requires frame { f < (flown_of mission.now).frames }
-    ensures { result ≡ unit_line (flown_of mission.now) (told (flown_of mission.now) flight.now) f u }
+    ensures { result ≡ unit_line (flown_of mission.now) (told (flown_of mission.now) flight.now) version f u }
 {
     if !mission.works(u, f) {
         return ReportLine::Faulty { f, u };
@@ -31,12 +37,12 @@ pub fn unit_line(mission: &Mission, flight: &Flight, f: u32, u: UnitId) -> Repor
     if !account.cfg.has(u) {
         return ReportLine::Idle { f, u };
     }
-    account_line(f, u, account)
+    account_line(version, f, u, account)
 }
 
 /// What a working unit of its own configuration tells of a frame, from its account.
-fn account_line(f: u32, u: UnitId, account: &Account) -> ReportLine
-    ensures { result ≡ account_line f u (account_of account.now) }
+fn account_line(version: Version, f: u32, u: UnitId, account: &Account) -> ReportLine
+    ensures { result ≡ account_line version f u (account_of account.now) }
 {
     ReportLine::Unit {
         f,
@@ -45,16 +51,8 @@ fn account_line(f: u32, u: UnitId, account: &Account) -> ReportLine
         clk: account.clk,
         ins: ArrayVec::try_from(account.ins.as_slice()).unwrap(),
         outs: ArrayVec::try_from(account.outs.as_slice()).unwrap(),
-        bad: everyone_in(account.bad),
+        bad: Bad::of(version, account.bad),
     }
-}
-
-/// The units that were caught, in whatever way.
-fn everyone_in(bad: Catches) -> UnitSet
-    ensures { result ≡ everyone_in bad }
-{
-    let Catches { poll, relay, clock } = bad;
-    poll.union(relay).union(clock)
 }
 
 /// What is told of a whole frame that has this margin.

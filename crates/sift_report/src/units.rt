@@ -22,7 +22,7 @@ pub fn read_unit(text: &str) -> Option<UnitId>
 }
 
 /// The unit that has this digit, where there is one.
-fn read_digit(digit: u8) -> Option<UnitId>
+pub fn read_digit(digit: u8) -> Option<UnitId>
     ensures printed { IfSome result (λ u. unit_digit u ≡ digit) }
     ensures exact { (u : ℕ) → u < unit_limit → unit_digit u ≡ digit → result ≡ Some u }
 {

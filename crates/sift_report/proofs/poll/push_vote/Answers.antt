@@ -23,5 +23,5 @@ returns c =
     name c.requires.output.number c.polls_of-polls.ensures
     (c.vote_of-vote.ensures ∙ ap (λ ps. majority_of (map (λ (poll : Poll). poll.word) ps)) c.deref.ensures.0)
     c.in_ok-push_head.ensures c.in_ok-push_output.ensures
-    (c.in_ok-push_polls.ensures ∙ ap (λ ps. string_bytes c.push_output.new.text ++ polled_text ps) c.deref-2.ensures.0)
+    (c.in_ok-push_list.ensures ∙ ap (λ ps. string_bytes c.push_output.new.text ++ polled_text ps) c.deref-2.ensures.0)
     c.in_ok-push_result.ensures c.in_ok-push_str.ensures.bytes

@@ -3,7 +3,7 @@ use Rattle.sift_report.proofs.Fields.{fields_of_text, text_where_read, few_field
 use Rattle.sift_report.proofs.read.read_line.Goals as goal
 
 pub returns-in_err-fields-clause-exact : goal.returns-in_err-fields-clause-exact
-returns-in_err-fields-clause-exact c = λ line holds e.
+returns-in_err-fields-clause-exact c = λ line holds of e.
     let few = few_fields line in
     let same = ap length (fields_of_text line c.args.line.now holds e) in
     absurd (omega (arith, c.in_err-fields.ensures.too_many))
@@ -14,5 +14,5 @@ returns-clause-printed c =
     (rw (c.deref.ensures.0, c.in_ok-fields.ensures.split) at c.read_fields.ensures.printed)
 
 pub returns-clause-exact : goal.returns-clause-exact
-returns-clause-exact c = λ line holds e.
-    c.read_fields.ensures.exact line holds (rw (c.deref.ensures.0, c.in_ok-fields.ensures.split) (fields_of_text line c.args.line.now holds e))
+returns-clause-exact c = λ line holds of e.
+    c.read_fields.ensures.exact line holds of (rw (c.deref.ensures.0, c.in_ok-fields.ensures.split) (fields_of_text line c.args.line.now holds e))

@@ -9,4 +9,4 @@ use Rattle.sift_report.proofs.report.push_frame.Given as goal
 abbrev pub invariant-loop-i : goal.invariant-loop-i
 invariant-loop-i l =
     string_bytes l.text ≡ string_bytes l.initial.text
-    ++ text_of_lines (map (unit_line (flown_of l.mission) (told (flown_of l.mission) l.flight) l.f) (take l.i l.everyone))
+    ++ text_of_lines (map (unit_line (flown_of l.mission) (told (flown_of l.mission) l.flight) l.version l.f) (take l.i l.everyone))

@@ -14,7 +14,7 @@ pub loop-f-preserved : goal.loop-f-preserved
 loop-f-preserved c =
     let m = flown_of c.args.mission.now in
     let fl = told m c.args.flight.now in (
-      lines_more (frame_lines m fl) c.loop-f.f _ _ c.loop-f.invariant.0 c.in_ok-push_frame.ensures,
+      lines_more (frame_lines m fl c.args.version) c.loop-f.f _ _ c.loop-f.invariant.0 c.in_ok-push_frame.ensures,
       rw (add-one c.loop-f.f) (elim c.if-margin.branch [
         | then-margin w ↦
             let before : margin_before m fl c.loop-f.f ≡ true = sym c.loop-f.invariant.1 ∙ w.if-margin.true in
@@ -40,6 +40,6 @@ returns c =
     let fl = told m c.args.flight.now in
     let frames = ap (λ parts. parts.frames) c.parts.ensures.same in
     let end : c.loop-f.f ≡ m.frames = omega (arith, c.loop-f-test.false, c.loop-f.auto.f-end, frames) in
-    line_after (flat_map (frame_lines m fl) (range_with_len 0 m.frames)) (last_line m fl) [] (string_bytes c.loop-f.text) _
-    (c.loop-f.invariant.0 ∙ ap (λ n. text_of_lines (flat_map (frame_lines m fl) (range_with_len 0 n))) end)
+    line_after (flat_map (frame_lines m fl c.args.version) (range_with_len 0 m.frames)) (last_line m fl) [] (string_bytes c.loop-f.text) _
+    (c.loop-f.invariant.0 ∙ ap (λ n. text_of_lines (flat_map (frame_lines m fl c.args.version) (range_with_len 0 n))) end)
     (c.in_ok-push_line.ensures ∙ ap (λ line. string_bytes c.loop-f.text ++ printed line) c.last_line.ensures)

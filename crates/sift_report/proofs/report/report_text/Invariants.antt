@@ -10,5 +10,5 @@ use Rattle.sift_report.proofs.report.report_text.Given as goal
 -- the lines of the frames so far are written, and the margin is that of all of them
 abbrev pub invariant-loop-f : goal.invariant-loop-f
 invariant-loop-f l =
-    (string_bytes l.text ≡ text_of_lines (flat_map (frame_lines (flown_of l.mission) (told (flown_of l.mission) l.flight)) (range_with_len 0 l.f)))
+    (string_bytes l.text ≡ text_of_lines (flat_map (frame_lines (flown_of l.mission) (told (flown_of l.mission) l.flight) l.version) (range_with_len 0 l.f)))
     × (l.margin ≡ margin_before (flown_of l.mission) (told (flown_of l.mission) l.flight) l.f)
