@@ -3,11 +3,13 @@
 
 use crate::flights::flown;
 use crate::stated::{four_units, silents};
-use sift_report::{ReportLine, ideal_text, last_line_text, read_line, report_text, votes_text};
+use sift_report::{
+    ReportLine, Version, ideal_text, last_line_text, read_line, report_text, votes_text,
+};
 use std::process::Abort;
 use std::test::Fail;
 
-/// The report of the mission of four units: each unit agrees on the sensor's word, which both tasks put out.
+/// The report of the mission of four units, in which nobody is caught, so in either version: each unit agrees on the sensor's word, which both tasks put out.
 const REPORT: &str = "f=0 u=0 cfg=0123 clk=0 in=0001 out=0001,0001 bad=-\n\
     f=0 u=1 cfg=0123 clk=0 in=0001 out=0001,0001 bad=-\n\
     f=0 u=2 cfg=0123 clk=0 in=0001 out=0001,0001 bad=-\n\
@@ -20,8 +22,10 @@ fn the_texts_of_a_flight_find_memory(rt: HostRuntime) -> Result<(), Fail> {
     let alloc = rt.alloc();
     let mission = four_units(alloc)?;
     let flight = flown(alloc, &mission, 0, &mut silents())?;
-    let report = report_text(alloc, &mission, &flight)?;
-    assert_eq!(rt; report.as_str(), REPORT);
+    for version in [Version::One, Version::Two] {
+        let report = report_text(alloc, &mission, &flight, version)?;
+        assert_eq!(rt; report.as_str(), REPORT, "version {version:?}");
+    }
     let end = last_line_text(alloc, &mission, &flight)?;
     assert!(rt; REPORT.ends_with(end.as_str()), "{end}");
     let votes = votes_text(alloc, &mission, &flight)?;
@@ -38,7 +42,7 @@ fn expect_figures(
     want_slack: Option<i64>,
     want_margin: bool,
 ) {
-    match read_line(text) {
+    match read_line(text, Version::Two) {
         Some(
             ReportLine::Frame {
                 f,

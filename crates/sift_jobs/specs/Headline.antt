@@ -8,20 +8,21 @@ use Rattle.sift_reply.specs.Reply.{Reply, done_status}
 use Rattle.sift_report.specs.Headline.{ReportHeadline}
 use Rattle.sift_report.specs.Line.{text_of_lines}
 use Rattle.sift_report.specs.Sheet.{sheet_of}
+use Rattle.sift_report.specs.declared.version.Version.{Version}
 use Rattle.sift_jobs.specs.Flights.{IsFlightOf}
 use Rattle.sift_jobs.specs.Run.{run_duty}
 use Rattle.sift_jobs.specs.declared.run.RunJob.{RunJob}
 
--- the text is the report of a flight of the mission that the bytes state, and the headline holds of its lines
-pub record IsHeadlined (bytes text : List ℕ) : Type 0 where
+-- the text is the report, in this version, of a flight of the mission that the bytes state, and the headline holds of its lines
+pub record IsHeadlined (version : Version) (bytes text : List ℕ) : Type 0 where
   pub mission : MissionData
   pub flight : Flight
   pub stated : States bytes mission
   pub flies : IsFlightOf mission flight
-  pub told : text ≡ text_of_lines (sheet_of (flown mission) flight)
-  pub headline : ReportHeadline mission (sheet_of (flown mission) flight)
+  pub told : text ≡ text_of_lines (sheet_of (flown mission) flight version)
+  pub headline : ReportHeadline mission (sheet_of (flown mission) flight version)
 
--- so it is with each reply of `run` that has the status 0
+-- so it is, in the version asked for, with each reply of `run` that has the status 0
 abbrev pub RunIsHeadlined : Type 0
 RunIsHeadlined = (job : RunJob) (bytes : List ℕ) (reply : Reply) → (run_duty job).gives bytes reply → reply.status ≡ done_status
-    → IsHeadlined bytes reply.text
+    → IsHeadlined job.version bytes reply.text

@@ -1,7 +1,7 @@
 //! The command `run`.
 
 ghost use Rattle.std.specs.Prelude.{◌≡◌};
-ghost use Rattle.sift_jobs.specs.Run.{run_job_of};
+ghost use Rattle.sift_jobs.specs.Run.{run_job_of, version_of};
 
 use crate::flight::{flight_of, order_of};
 use sift_base::NoMemory;
@@ -9,23 +9,35 @@ use sift_load::{DOCUMENT_LIMIT, MissionJob, reply_for_bytes};
 use sift_mission::Mission;
 use sift_options::Options;
 use sift_reply::{Job, Reply};
-use sift_report::report_text;
+use sift_report::{Version, report_text};
 use std::alloc::Global;
 
-/// `run`: flies the mission that the input states, its units stepping in this order, and reports on it.
+/// `run`: flies the mission that the input states, its units stepping in this order, and reports on it in this version.
 #[derive(Clone, Copy)]
 pub struct RunJob {
     pub order: u64,
+    pub version: Version,
 }
 
 impl RunJob {
-    /// What the options ask for: the order, 0 where none is given.
+    /// What the options ask for: the order, 0 where none is given, and the version of the report, 2 where none is.
     pub fn of(options: Options) -> RunJob
         ensures { result ≡ run_job_of options }
     {
         RunJob {
             order: order_of(options),
+            version: version_of(options),
         }
+    }
+}
+
+/// The version that the options of a run give, the second where they give none.
+fn version_of(options: Options) -> Version
+    ensures { result ≡ version_of options }
+{
+    match options.report {
+        Some(1) => Version::One,
+        Some(_) | None => Version::Two,
     }
 }
 
@@ -36,7 +48,7 @@ impl MissionJob for RunJob {
 
     fn reply_for(self, alloc: Global, mission: &Mission) -> Result<Reply, NoMemory> {
         let flight = flight_of(alloc, mission, self.order)?;
-        let report = report_text(alloc, mission, &flight)?;
+        let report = report_text(alloc, mission, &flight, self.version)?;
         Ok(Reply::done(report))
     }
 }

@@ -3,7 +3,7 @@ use Rattle.std.proofs.Common.{◌≡◌, ℕ, List, [], get_or, sym, ap, ◌∙�
 use Rattle.sift_options.specs.Options.{Adds, IsValue, Sets, more, none, with_given}
 use Rattle.sift_options.specs.Laws.{OneListOfOptions}
 use Rattle.sift_options.specs.declared.setting.Flag.{Flag}
-use Rattle.sift_options.specs.declared.setting.Flag.TheVariants.{Workers, Order, Number, N, M, Skew, Error, Rate, Rounds, Copies, Subframes}
+use Rattle.sift_options.specs.declared.setting.Flag.TheVariants.{Workers, Order, Report, Number, N, M, Skew, Error, Rate, Rounds, Copies, Subframes}
 use Rattle.sift_options.specs.declared.setting.Options.{Options}
 use Rattle.sift_options.proofs.Settings.{adds_nothing, begins, no_words}
 
@@ -11,6 +11,7 @@ use Rattle.sift_options.proofs.Settings.{adds_nothing, begins, no_words}
 one_value : (flag : Flag) (text : List ℕ) (n k : ℕ) → IsValue flag text n → IsValue flag text k → n ≡ k
 one_value Workers text n k a b = omega (arith, ap (λ xs. get_or xs 0 0) (sym a.0 ∙ b.0))
 one_value Order text n k a b = sym a.value ∙ b.value
+one_value Report text n k a b = omega (arith, ap (λ xs. get_or xs 0 0) (sym a.0 ∙ b.0))
 one_value Number text n k a b = sym a.value ∙ b.value
 one_value N text n k a b = sym a.value ∙ b.value
 one_value M text n k a b = sym a.value ∙ b.value

@@ -3,7 +3,7 @@ use Rattle.std.proofs.Common.{◌≡◌, ℕ, List, [], ◌∷◌, length, get_o
 use Rattle.std.specs.List.{after_first, before_first, list_any}
 use Rattle.sift_options.specs.Options.{Adds, more, none, BeginWith, Sets, joined, name_of}
 use Rattle.sift_options.specs.declared.setting.Flag.{Flag}
-use Rattle.sift_options.specs.declared.setting.Flag.TheVariants.{Workers, Order, Number, N, M, Skew, Error, Rate, Rounds, Copies, Subframes}
+use Rattle.sift_options.specs.declared.setting.Flag.TheVariants.{Workers, Order, Report, Number, N, M, Skew, Error, Rate, Rounds, Copies, Subframes}
 use Rattle.sift_options.specs.declared.setting.Options.{Options}
 
 -- ---- names
@@ -12,6 +12,7 @@ use Rattle.sift_options.specs.declared.setting.Options.{Options}
 abbrev flag_with : List ℕ → Flag
 flag_with name =
     cond (bytes_eq name (name_of Order)) Order
+    (cond (bytes_eq name (name_of Report)) Report
     (cond (bytes_eq name (name_of Number)) Number
     (cond (bytes_eq name (name_of N)) N
     (cond (bytes_eq name (name_of M)) M
@@ -20,12 +21,13 @@ flag_with name =
     (cond (bytes_eq name (name_of Rate)) Rate
     (cond (bytes_eq name (name_of Rounds)) Rounds
     (cond (bytes_eq name (name_of Copies)) Copies
-    (cond (bytes_eq name (name_of Subframes)) Subframes Workers)))))))))
+    (cond (bytes_eq name (name_of Subframes)) Subframes Workers))))))))))
 
 -- an option is known by its name
 named : (flag : Flag) → flag_with (name_of flag) ≡ flag
 named Workers = refl
 named Order = refl
+named Report = refl
 named Number = refl
 named N = refl
 named M = refl
@@ -50,6 +52,7 @@ is_sign b = nat_eq b 61
 signless : (flag : Flag) → list_any is_sign (name_of flag) ≡ false
 signless Workers = refl
 signless Order = refl
+signless Report = refl
 signless Number = refl
 signless N = refl
 signless M = refl
@@ -64,6 +67,7 @@ signless Subframes = refl
 pub signed : (flag : Flag) (v : List ℕ) → list_any is_sign (joined flag v) ≡ true
 signed Workers v = refl
 signed Order v = refl
+signed Report v = refl
 signed Number v = refl
 signed N v = refl
 signed M v = refl
@@ -78,6 +82,7 @@ signed Subframes v = refl
 pub name_in : (flag : Flag) (v : List ℕ) → before_first is_sign (joined flag v) ≡ name_of flag
 name_in Workers v = refl
 name_in Order v = refl
+name_in Report v = refl
 name_in Number v = refl
 name_in N v = refl
 name_in M v = refl
@@ -92,6 +97,7 @@ name_in Subframes v = refl
 value_in : (flag : Flag) (v : List ℕ) → after_first is_sign (joined flag v) ≡ v
 value_in Workers v = refl
 value_in Order v = refl
+value_in Report v = refl
 value_in Number v = refl
 value_in N v = refl
 value_in M v = refl

@@ -2,7 +2,7 @@
 use Rattle.std.specs.Prelude.{codes, ℕ, ◌≡◌, ◌≤◌, ◌<◌, ◌+◌, ◌^◌, List, [], ◌∷◌, ◌++◌, ◌⊎◌, ◌&&◌, nat_le, if◌then◌else◌, length, Contains, Option, Some, None}
 use Rattle.std.specs.Str.Parse.{AllDigits, digits_value}
 use Rattle.sift_options.specs.declared.setting.Flag.{Flag}
-use Rattle.sift_options.specs.declared.setting.Flag.TheVariants.{Workers, Order, Number, N, M, Skew, Error, Rate, Rounds, Copies, Subframes}
+use Rattle.sift_options.specs.declared.setting.Flag.TheVariants.{Workers, Order, Report, Number, N, M, Skew, Error, Rate, Rounds, Copies, Subframes}
 use Rattle.sift_options.specs.declared.setting.Options.{Options}
 
 -- ---- one option
@@ -11,6 +11,7 @@ use Rattle.sift_options.specs.declared.setting.Options.{Options}
 abbrev pub name_of : Flag → List ℕ
 name_of Workers = codes "--workers"
 name_of Order = codes "--order"
+name_of Report = codes "--report"
 name_of Number = codes "--number"
 name_of N = codes "--n"
 name_of M = codes "--m"
@@ -25,6 +26,10 @@ name_of Subframes = codes "--subframes"
 abbrev pub worker_limit : ℕ
 worker_limit = 1
 
+-- the last version of reports
+abbrev pub version_limit : ℕ
+version_limit = 2
+
 -- the most digits of a number
 abbrev pub digit_limit : ℕ
 digit_limit = 20
@@ -32,6 +37,10 @@ digit_limit = 20
 -- the text is one digit that counts workers
 abbrev pub IsWorkerCount : List ℕ → ℕ → Type 0
 IsWorkerCount text n = (text ≡ (48 + n) ∷ []) × (1 ≤ n) × (n ≤ worker_limit)
+
+-- the text is one digit that counts versions of reports
+abbrev pub IsReportVersion : List ℕ → ℕ → Type 0
+IsReportVersion text n = (text ≡ (48 + n) ∷ []) × (1 ≤ n) × (n ≤ version_limit)
 
 -- the text is the number in decimal digits, of which the first ones may be 0
 pub record IsNumber (text : List ℕ) (n : ℕ) : Type 0 where
@@ -50,6 +59,7 @@ BeginsWithDigit (c ∷ cs) = (48 ≤ c) × (c ≤ 57)
 abbrev pub IsValue : Flag → List ℕ → ℕ → Type 0
 IsValue Workers text n = IsWorkerCount text n
 IsValue Order text n = IsNumber text n
+IsValue Report text n = IsReportVersion text n
 IsValue Number text n = IsNumber text n
 IsValue N text n = IsNumber text n
 IsValue M text n = IsNumber text n
@@ -66,6 +76,7 @@ IsValue Subframes text n = IsNumber text n
 abbrev pub given : Options → Flag → Option ℕ
 given options Workers = options.workers
 given options Order = options.order
+given options Report = options.report
 given options Number = options.number
 given options N = options.n
 given options M = options.m
@@ -81,6 +92,7 @@ abbrev pub no_options : Options
 no_options = record {
   workers = None;
   order = None;
+  report = None;
   number = None;
   n = None;
   m = None;
@@ -96,6 +108,7 @@ no_options = record {
 abbrev pub with_given : Options → Flag → ℕ → Options
 with_given options Workers n = record options { workers = Some n }
 with_given options Order n = record options { order = Some n }
+with_given options Report n = record options { report = Some n }
 with_given options Number n = record options { number = Some n }
 with_given options N n = record options { n = Some n }
 with_given options M n = record options { m = Some n }

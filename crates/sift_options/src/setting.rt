@@ -1,7 +1,7 @@
 //! The options of a command, as the words after the command give them.
 
 ghost use Rattle.std.specs.Prelude.{◌≡◌, ◌≢◌, ◌↔◌, ℕ, List, ◌∷◌, Contains, IfNone, IfSome, IsTrue, Some, map, string_bytes};
-ghost use Rattle.sift_options.specs.Options.{Adds, BeginWith, BeginsWithDigit, IsNumber, IsValue, IsWorkerCount, Sets, given, joined, name_of, with_given};
+ghost use Rattle.sift_options.specs.Options.{Adds, BeginWith, BeginsWithDigit, IsNumber, IsReportVersion, IsValue, IsWorkerCount, Sets, given, joined, name_of, with_given};
 
 /// The name of an option.
 #[derive(Clone, Copy)]
@@ -10,6 +10,8 @@ pub enum Flag {
     Workers,
     /// `--order`: in which order one worker's units step.
     Order,
+    /// `--report`: in which version a flight is reported.
+    Report,
     /// `--number`: from which number something is drawn.
     Number,
     /// `--n`: how many clocks there are.
@@ -35,6 +37,7 @@ pub enum Flag {
 pub struct Options {
     pub workers: Option<u64>,
     pub order: Option<u64>,
+    pub report: Option<u64>,
     pub number: Option<u64>,
     pub n: Option<u64>,
     pub m: Option<u64>,
@@ -54,6 +57,7 @@ impl Flag {
         match self {
             Flag::Workers => "--workers",
             Flag::Order => "--order",
+            Flag::Report => "--report",
             Flag::Number => "--number",
             Flag::N => "--n",
             Flag::M => "--m",
@@ -72,6 +76,7 @@ impl Options {
     pub const NONE: Options = Options {
         workers: None,
         order: None,
+        report: None,
         number: None,
         n: None,
         m: None,
@@ -90,6 +95,7 @@ impl Options {
         match flag {
             Flag::Workers => self.workers,
             Flag::Order => self.order,
+            Flag::Report => self.report,
             Flag::Number => self.number,
             Flag::N => self.n,
             Flag::M => self.m,
@@ -111,6 +117,7 @@ impl Options {
         match flag {
             Flag::Workers => options.workers = number,
             Flag::Order => options.order = number,
+            Flag::Report => options.report = number,
             Flag::Number => options.number = number,
             Flag::N => options.n = number,
             Flag::M => options.m = number,
@@ -221,6 +228,7 @@ fn value_of(flag: Flag, text: &str) -> Option<u64>
 {
     match flag {
         Flag::Workers => worker_count(text),
+        Flag::Report => report_version(text),
         Flag::Order
         | Flag::Number
         | Flag::N
@@ -241,6 +249,18 @@ fn worker_count(text: &str) -> Option<u64>
 {
     match text {
         "1" => Some(1),
+        _ => None,
+    }
+}
+
+/// A version of reports.
+fn report_version(text: &str) -> Option<u64>
+    ensures found { IfSome result (IsReportVersion text.now) }
+    ensures exact { (n : ℕ) → IsReportVersion text.now n → result ≡ Some n }
+{
+    match text {
+        "1" => Some(1),
+        "2" => Some(2),
         _ => None,
     }
 }

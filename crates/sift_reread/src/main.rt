@@ -1,4 +1,4 @@
-//! `sift_reread`: reads a report back, line by line, and prints it again.
+//! `sift_reread`: reads a report of either version back, line by line, and prints it again.
 //!
 //! It reads standard input. A report is written again, with status 0. Of any other text the number of the first line
 //! that is none of a report is written, with status 1. `answer::answer` has the contract; `main` hands on the real input

@@ -1,11 +1,11 @@
 //! A report, read back line by line and printed again.
 
 ghost use Rattle.std.specs.Prelude.{◌≡◌, ◌++◌, IfErr, IfNone, IfOk, IfSome, string_bytes};
-ghost use Rattle.sift_report.specs.Line.{printed};
-ghost use Rattle.sift_reread.specs.Report.{BeginsWithNoLine, IsReport, IsStopped};
+ghost use Rattle.sift_report.specs.Line.{HasVersion, printed};
+ghost use Rattle.sift_reread.specs.Report.{BeginsWithNoLine, IsReport, IsReportIn, IsStopped, IsStoppedIn};
 ghost use Rattle.sift_reread.specs.declared.reread.Stop.TheVariants.{NoMemory};
 
-use sift_report::{ReportLine, push_line, read_line};
+use sift_report::{ReportLine, Version, push_line, read_line};
 use std::alloc::{AllocError, Global};
 
 /// Why a text is not printed again.
@@ -25,11 +25,28 @@ impl From<AllocError> for Stop {
     }
 }
 
-/// The report, read line by line and printed again, or where it stops to be one. It has no more lines than bytes.
+/// The report of either version, read line by line and printed again, or where it stops to be one: the later line of the
+/// two at which it stops to be one of version 2 and one of version 1.
 pub fn reread(alloc: Global, report: &str) -> Result<String, Stop>
     ensures same { IfOk result (λ text. string_bytes text ≡ report.now) }
     ensures read { IfOk result (λ text. IsReport (string_bytes text)) }
     ensures stopped { IfErr result (λ stop. IsStopped stop report.now) }
+{
+    match reread_in(alloc, report, Version::Two) {
+        Err(Stop::NoLine(two)) => match reread_in(alloc, report, Version::One) {
+            Err(Stop::NoLine(one)) => Err(Stop::NoLine(one.max(two))),
+            reread => reread,
+        },
+        reread => reread,
+    }
+}
+
+/// The report of this version, read line by line and printed again, or where it stops to be one. It has no more lines than
+/// bytes.
+fn reread_in(alloc: Global, report: &str, version: Version) -> Result<String, Stop>
+    ensures same { IfOk result (λ text. string_bytes text ≡ report.now) }
+    ensures read { IfOk result (λ text. IsReportIn version (string_bytes text)) }
+    ensures stopped { IfErr result (λ stop. IsStoppedIn version stop report.now) }
 {
     let mut text = String::new(alloc);
     let mut rest = report;
@@ -37,7 +54,7 @@ pub fn reread(alloc: Global, report: &str) -> Result<String, Stop>
         if rest.is_empty() {
             break;
         }
-        let Some((line, later)) = first_line(rest) else {
+        let Some((line, later)) = first_line(rest, version) else {
             return Err(Stop::NoLine(lines + 1));
         };
         push_line(&mut text, &line)?;
@@ -46,11 +63,12 @@ pub fn reread(alloc: Global, report: &str) -> Result<String, Stop>
     Ok(text)
 }
 
-/// The line that a text begins with, and the text behind it, where it begins with one.
-fn first_line(text: &str) -> Option<(ReportLine, &str)>
+/// The line of this version that a text begins with, and the text behind it, where it begins with one.
+fn first_line(text: &str, version: Version) -> Option<(ReportLine, &str)>
+    ensures version { IfSome result (λ begun. HasVersion version begun.0) }
     ensures begun { IfSome result (λ begun. printed begun.0 ++ begun.1.now ≡ text.now) }
-    ensures none { IfNone result (BeginsWithNoLine text.now) }
+    ensures none { IfNone result (BeginsWithNoLine version text.now) }
 {
     let (line, later) = text.split_once('\n')?;
-    Some((read_line(line)?, later))
+    Some((read_line(line, version)?, later))
 }

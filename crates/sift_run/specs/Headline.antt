@@ -11,11 +11,11 @@ use Rattle.sift_reply.specs.Reply.{done_status}
 use Rattle.sift_run.specs.Command.{Asks, commands}
 use Rattle.sift_run.specs.declared.command.Command.TheVariants.{Run}
 
--- where words ask for a run and the status is 0, the input was read to its end, a text was written, and it is the report of a flight of the
--- mission that the input states, whose lines have the headline
+-- where words ask for a run and the status is 0, the input was read to its end, a text was written, and it is the report, in the version
+-- asked for, of a flight of the mission that the input states, whose lines have the headline
 abbrev pub IsHeadlineWritten : List (List ℕ) → Input → Output → (status : ℕ) → Type 0
 IsHeadlineWritten words input output status = (job : RunJob) → Asks words (Run job) → status ≡ done_status →
-    (bytes text : List ℕ) × TakesAll input.before input.after bytes document_limit × IsHeadlined bytes text × IsWritten output text
+    (bytes text : List ℕ) × TakesAll input.before input.after bytes document_limit × IsHeadlined job.version bytes text × IsWritten output text
 
 -- it follows from the promise
 abbrev pub HeadlineIsWritten : Type 0

@@ -1,7 +1,7 @@
 -- The word of each command, and the options that it may have.
 use Rattle.std.specs.Prelude.{codes, ℕ, List, [], ◌∷◌}
 use Rattle.sift_options.specs.declared.setting.Flag.{Flag}
-use Rattle.sift_options.specs.declared.setting.Flag.TheVariants.{Workers, Order, Number, N, M, Skew, Error, Rate, Rounds, Copies, Subframes}
+use Rattle.sift_options.specs.declared.setting.Flag.TheVariants.{Workers, Order, Report, Number, N, M, Skew, Error, Rate, Rounds, Copies, Subframes}
 use Rattle.sift_run.specs.declared.verb.Verb.{Verb}
 use Rattle.sift_run.specs.declared.verb.Verb.TheVariants.{Run, Votes, Ideal, Check, Gen, Trial, Plan, Byz, Clocks}
 
@@ -19,7 +19,7 @@ name_of Clocks = codes "clocks"
 
 -- the options that it may have
 abbrev pub flags_of : Verb → List Flag
-flags_of Run = Workers ∷ Order ∷ []
+flags_of Run = Workers ∷ Order ∷ Report ∷ []
 flags_of Votes = Workers ∷ Order ∷ []
 flags_of Ideal = []
 flags_of Check = []

@@ -45,7 +45,8 @@ impl Verb {
         ensures { result.now ≡ flags_of self }
     {
         match self {
-            Verb::Run | Verb::Votes => &[Flag::Workers, Flag::Order],
+            Verb::Run => &[Flag::Workers, Flag::Order, Flag::Report],
+            Verb::Votes => &[Flag::Workers, Flag::Order],
             Verb::Ideal | Verb::Check | Verb::Byz => &[],
             Verb::Gen => &[Flag::Number],
             Verb::Trial => &[Flag::Workers, Flag::Order, Flag::Number],
