@@ -1,5 +1,5 @@
 """What happened in a flight, in words."""
-from reports import digits, named, stretches_of, when
+from reports import digits, kinds_of, named, stretches_of, when
 
 
 def turned(flight, state):
@@ -27,12 +27,14 @@ def faults_told(flight):
 
 
 def catches_told(flight):
-    """Who caught whom, and in which frames."""
+    """Who caught whom, by which kinds, and in which frames."""
     events = []
     for unit in range(flight.units):
-        for first, last, by in stretches_of([tuple(frame.caught_by(unit)) for frame in flight.frames]):
-            if by:
-                events.append((first, 1, f"{when(first, last)}: {named(by, 'catches', 'catch')} unit {unit}"))
+        for letters in sorted({frame.catches[by][unit] for frame in flight.frames for by in frame.caught_by(unit)}):
+            catchers = [tuple(by for by in frame.caught_by(unit) if frame.catches[by][unit] == letters) for frame in flight.frames]
+            for first, last, by in stretches_of(catchers):
+                if by:
+                    events.append((first, 1, f"{when(first, last)}: {named(by, 'catches', 'catch')} unit {unit}{kinds_of(letters)}"))
     return events
 
 

@@ -1,7 +1,7 @@
 """Draws a flight: units by frames."""
 from drawing import INK, Drawing
 from events import events_of
-from reports import digits, stretches_of, when
+from reports import bad_of, digits, kinds_of, stretches_of, when
 
 # A drawing for a terminal.
 
@@ -151,12 +151,13 @@ def draw_units(page):
 
 
 def draw_catcher(page, x, unit, caught):
-    """A unit that caught others: their digits where there is room, else a dot."""
-    told = f"unit {unit} catches {digits(caught)}"
-    width = 8 * len(caught) + 6
-    if width + 2 <= page.cell:
+    """A unit that caught others: their digits, with the kinds where there is room for them, else a dot."""
+    told = f"unit {unit} catches " + ", ".join(f"{whom}{kinds_of(letters)}" for whom, letters in caught.items())
+    words = next((words for words in (bad_of(caught), digits(caught, "")) if 8 * len(words) + 8 <= page.cell), None)
+    if words:
+        width = 8 * len(words) + 6
         page.bar(x - width / 2, page.middle(unit) - 8, width, 16, CATCH, told, ' rx="5"')
-        page.words(x, page.middle(unit) + 4.5, digits(caught, ""), 12, ' text-anchor="middle" fill="white"')
+        page.words(x, page.middle(unit) + 4.5, words, 12, ' text-anchor="middle" fill="white"')
     else:
         radius = round(min(4.5, page.cell * 0.48), 2)
         page.add(f'<circle cx="{x:g}" cy="{page.middle(unit):g}" r="{radius:g}" fill="{CATCH}"><title>{told}</title></circle>')
@@ -239,9 +240,9 @@ def draw_key(page):
     y += 24
     page.bar(LEFT + 2, y - 12, 18, 15, CATCH, more=' rx="5"')
     page.words(LEFT + 11, y, "1", 12, ' text-anchor="middle" fill="white"')
-    page.words(LEFT + 28, y, "or a dot: catches unit 1, to whose white box its line goes", 12)
-    page.line(LEFT + 400, y - 14, LEFT + 400, y + 4, f'stroke="{INK}" stroke-width="1.5" stroke-dasharray="4 2"')
-    page.words(LEFT + 410, y, "from here on a new configuration", 12)
+    page.words(LEFT + 28, y, "or a dot: catches unit 1 (p poll, r relay, c clock), to whose white box its line goes", 12)
+    page.line(LEFT + 540, y - 14, LEFT + 540, y + 4, f'stroke="{INK}" stroke-width="1.5" stroke-dasharray="4 2"')
+    page.words(LEFT + 550, y, "from here on a new configuration", 12)
     page.bottom = y
 
 

@@ -1,12 +1,15 @@
-"""Reads a report of `sift run`, and tells what its lines say. No flight is computed."""
+"""Reads a report of `sift run`, of either version, and tells what its lines say. No flight is computed."""
 import re
+from copy import copy
 from functools import lru_cache
 
 NUMBER = "(0|[1-9][0-9]*)"
 WORDS_LISTED = "(-|[0-9a-f]{4}(?:,[0-9a-f]{4})*)"
+CAUGHT_LISTED = "(-|[0-7]+|[0-7](?:pr?c?|rc?|c)(?:,[0-7](?:pr?c?|rc?|c))*)"  # in version 1 digits, in version 2 with kinds
 ACCOUNT = re.compile(
-    f"f={NUMBER} u=([0-7]) cfg=([0-7]+) clk=(-?{NUMBER}) in={WORDS_LISTED} out={WORDS_LISTED} bad=(-|[0-7]+)"
+    f"f={NUMBER} u=([0-7]) cfg=([0-7]+) clk=(-?{NUMBER}) in={WORDS_LISTED} out={WORDS_LISTED} bad={CAUGHT_LISTED}"
 )
+KINDS = {"p": "poll", "r": "relay", "c": "clock"}
 APART = re.compile(f"f={NUMBER} u=([0-7]) (faulty|idle)")
 FRAME = re.compile(f"f={NUMBER} (?:skew={NUMBER} slack=(-?{NUMBER})|skew=- slack=-) margin=(ok|lost)")
 END = re.compile(f"end frames={NUMBER} cfg=([0-7]+) margin=(ok|lost)")
@@ -30,7 +33,7 @@ class Frame:
         self.clocks = []  # of each unit: its clk, or None
         self.inputs = []  # of each unit: the words of its in, or None
         self.outputs = []  # of each unit: the words of its out, or None
-        self.catches = []  # of each unit: the units of its bad
+        self.catches = []  # of each unit: the units of its bad, with the letters of the kinds; none in version 1
         self.skew = None
         self.slack = None
         self.margin = True
@@ -47,6 +50,10 @@ class Frame:
         """The units that caught this one in the frame."""
         return [by for by, caught in enumerate(self.catches) if unit in caught]
 
+    def versions(self):
+        """The versions in which caught units are told, by unit."""
+        return {unit: 2 if any(caught.values()) else 1 for unit, caught in enumerate(self.catches) if caught}
+
 
 class Flight:
     """A report as it was read."""
@@ -55,6 +62,18 @@ class Flight:
         self.frames = frames
         self.last = last  # the configuration after the last frame
         self.units = len(frames[0].states)
+
+    def version(self):
+        """The version of the report, or None where nobody was caught, so that it is one of both."""
+        return next((version for frame in self.frames for version in frame.versions().values()), None)
+
+    def without_kinds(self):
+        """What version 1 tells of the flight."""
+        frames = []
+        for frame in self.frames:
+            frames.append(copy(frame))
+            frames[-1].catches = [dict.fromkeys(caught, "") for caught in frame.catches]
+        return Flight(frames, self.last)
 
     def configurations(self):
         """The configuration of each frame and after the last; where no unit tells one, the next that is told."""
@@ -75,6 +94,14 @@ def units_of(text):
     return units
 
 
+@lru_cache(maxsize=4096)
+def catches_of(text):
+    """The units that were caught, each with the letters of the kinds; without letters in version 1. It isn't changed."""
+    parts = [] if text == "-" else text.split(",") if text.strip("01234567") else list(text)
+    units_of("".join(part[0] for part in parts) or "-")
+    return {int(part[0]): part[1:] for part in parts}
+
+
 @lru_cache(maxsize=16384)
 def words_of(text):
     """A list of words, written as hexadecimal digits."""
@@ -87,9 +114,9 @@ def unit_of(line):
     account = ACCOUNT.fullmatch(line)
     if account:
         words = words_of(account[6]), words_of(account[7])
-        return int(account[1]), int(account[2]), "works", units_of(account[3]), int(account[4]), *words, units_of(account[8])
+        return int(account[1]), int(account[2]), "works", units_of(account[3]), int(account[4]), *words, catches_of(account[8])
     apart = APART.fullmatch(line)
-    return (int(apart[1]), int(apart[2]), apart[3], None, None, None, None, ()) if apart else None
+    return (int(apart[1]), int(apart[2]), apart[3], None, None, None, None, {}) if apart else None
 
 
 def read_unit(line, number, frame):
@@ -165,7 +192,7 @@ def lines_of(text):
 def read_report(text):
     """The flight that a report tells."""
     lines = lines_of(text)
-    frames, place, count = [], 0, None
+    frames, place, count, version = [], 0, None, None
     try:
         while place < len(lines):
             flight = read_end(lines, place, frames)
@@ -175,6 +202,10 @@ def read_report(text):
             frame = frame_of(tuple(lines[place:end]), len(frames), count)
             if not frame:
                 break
+            for unit, told in frame.versions().items():
+                version = version or told
+                if told != version:
+                    raise NoReport(f"a report of version {version} tells other units that were caught", unit)
             frames.append(frame)
             count = len(frame.states)
             place = end
@@ -206,6 +237,17 @@ def digits(units, between=" "):
 def set_of(units):
     """Units as a report writes a set of them."""
     return digits(sorted(units), "") or "-"
+
+
+def bad_of(caught):
+    """Units that were caught, as a report of their version writes them."""
+    between = "," if any(caught.values()) else ""
+    return between.join(f"{unit}{letters}" for unit, letters in caught.items()) or "-"
+
+
+def kinds_of(letters):
+    """The kinds of catches in words, behind the units; nothing in version 1."""
+    return f" ({', '.join(KINDS[letter] for letter in letters)})" if letters else ""
 
 
 def stretches_of(values):
