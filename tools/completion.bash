@@ -13,6 +13,7 @@ _sift() {
   case $before in
     '<') compopt -o filenames 2>/dev/null; mapfile -t COMPREPLY < <(compgen -f -- "$word"); return ;;
     --workers) mapfile -t COMPREPLY < <(compgen -W 1 -- "$word"); return ;;
+    --report) mapfile -t COMPREPLY < <(compgen -W '1 2' -- "$word"); return ;;
     --order | --number | --n | --m | --skew | --error | --rate | --rounds | --copies | --subframes) return ;;
   esac
 
@@ -21,7 +22,8 @@ _sift() {
     return
   fi
   case ${COMP_WORDS[1]} in
-    run | votes) options='--order --workers' ;;
+    run) options='--order --workers --report' ;;
+    votes) options='--order --workers' ;;
     gen) options='--number' ;;
     trial) options='--number --order --workers' ;;
     plan) options='--copies --subframes' ;;
