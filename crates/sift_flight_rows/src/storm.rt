@@ -7,7 +7,7 @@ use crate::stated::stated;
 use sift_base::NoMemory;
 use sift_mission::Mission;
 use sift_program::shapes_of;
-use sift_report::{report_text, votes_text};
+use sift_report::{Version, report_text, votes_text};
 use sift_rogue::{Act, Fixed};
 use sift_script::{Entry, Plan, Script, check};
 use std::alloc::Global;
@@ -18,12 +18,12 @@ use std::test::Fail;
 const COUNT_FIVE: &str =
     "units = 5\nframes = 2\ntask = [{name = 'count', start = [5], linear = [3, 1]}]\n";
 
-/// The report, whatever the order: who hears the stray and who hears absence, each catches unit 4, and it is out of the
-/// next configuration.
-const REPORT: &str = "f=0 u=0 cfg=01234 clk=0 in=- out=0010 bad=4\n\
-    f=0 u=1 cfg=01234 clk=0 in=- out=0010 bad=4\n\
-    f=0 u=2 cfg=01234 clk=0 in=- out=0010 bad=4\n\
-    f=0 u=3 cfg=01234 clk=0 in=- out=0010 bad=4\n\
+/// The report, whatever the order: who hears the stray and who hears absence, each catches unit 4 by a poll and by its clock, and
+/// it is out of the next configuration.
+const REPORT: &str = "f=0 u=0 cfg=01234 clk=0 in=- out=0010 bad=4pc\n\
+    f=0 u=1 cfg=01234 clk=0 in=- out=0010 bad=4pc\n\
+    f=0 u=2 cfg=01234 clk=0 in=- out=0010 bad=4pc\n\
+    f=0 u=3 cfg=01234 clk=0 in=- out=0010 bad=4pc\n\
     f=0 u=4 faulty\n\
     f=0 skew=0 slack=1 margin=ok\n\
     f=1 u=0 cfg=0123 clk=0 in=- out=0031 bad=-\n\
@@ -33,6 +33,9 @@ const REPORT: &str = "f=0 u=0 cfg=01234 clk=0 in=- out=0010 bad=4\n\
     f=1 u=4 faulty\n\
     f=1 skew=0 slack=1 margin=ok\n\
     end frames=2 cfg=0123 margin=ok\n";
+
+/// Its first line in version 1, which doesn't tell how unit 4 was caught.
+const FIRST_LINE: &str = "f=0 u=0 cfg=01234 clk=0 in=- out=0010 bad=4\n";
 
 /// The vote of unit 0 in frame 0 where it heard the stray in unit 4's slot.
 const HEARD: &str = "f=0 u=0 t=count.0 words=0:0010,1:0010,2:0010,3:0010,4:0007 vote=0010\n";
@@ -103,8 +106,10 @@ fn hears_the_stray(
 ) -> Result<bool, Fail> {
     let mut rogues = one_stray(alloc)?;
     let flight = flown(alloc, mission, order, &mut rogues)?;
-    let report = report_text(alloc, mission, &flight)?;
+    let report = report_text(alloc, mission, &flight, Version::Two)?;
     assert_eq!(rt; report.as_str(), REPORT, "order {order}");
+    let plain = report_text(alloc, mission, &flight, Version::One)?;
+    assert!(rt; plain.as_str().starts_with(FIRST_LINE), "{plain}");
     for (u, rogue) in rogues.iter().enumerate() {
         assert_eq!(rt; rogue.at, usize::from(u == 4), "rogue {u}, order {order}");
     }
