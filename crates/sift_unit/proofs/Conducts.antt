@@ -19,7 +19,7 @@ use Rattle.sift_unit.proofs.Sets.{holds-gathered, next-same}
 
 module _ (m : FlownMission) (us : List ℕ) (u f : ℕ) (clk : ℤ) (a : Account) (h : Places) (last : List ℕ) (config : IsConfigOf m us) where
   -- the conduct of the frame
-  conducts : (b : Memory) → IsShaped m b → a ≡ busy_account m us u clk b →
+  conducts : (b : Memory) → IsShaped m us u b → a ≡ busy_account m us u clk b →
       ((k : Slot) → is_slot m k ≡ true → Heard m us u f clk a h last b k) → Conduct m us u f a h last
   conducts b shape e heard = record {
     sensors = record {
@@ -58,7 +58,7 @@ module _ (m : FlownMission) (us : List ℕ) (u f : ℕ) (clk : ℤ) (a : Account
       ])
 
   -- the conduct of a unit that is in its configuration
-  pub busy_is : (b : Memory) → IsShaped m b → a ≡ busy_account m us u clk b →
+  pub busy_is : (b : Memory) → IsShaped m us u b → a ≡ busy_account m us u clk b →
       ((k : Slot) → is_slot m k ≡ true → Heard m us u f clk a h last b k) → BusyConduct m us u f a h last
   busy_is b shape e heard = record { busy = ap (λ (z : Account). z.idle) e; conduct = conducts b shape e heard }
 

@@ -10,6 +10,8 @@ use Rattle.sift_mission.specs.Slots.{StormsCome}
 use Rattle.sift_conduct.specs.Account.{Account}
 use Rattle.sift_mission.specs.Fits.{Fits}
 use Rattle.sift_unit.specs.Desk.{Desk, is_end, account_now, moved}
+use Rattle.sift_unit.specs.Memory.{Memory}
+use Rattle.sift_unit.specs.Remembered.{IsShaped}
 use Rattle.sift_unit.specs.Going.{InRange, Going}
 use Rattle.sift_unit.specs.Keeping.{IsEarly}
 use Rattle.sift_unit.specs.Passing.{Passes, distance, left}
@@ -37,21 +39,21 @@ module _ (m : FlownMission) (fit : Fits m) (b : Desk) (end : is_end m b ≡ true
   subframe_on low c g = let t = end_is m b end in subframe_going m fit b c g t.1 t.0 low
 
   -- the board at the next frame's start, with these lists
-  abbrev pub next_desk : List ℕ → ℤ → List ℕ → List Account → Desk
-  next_desk cfg clk last accounts =
-      record b { frame = b.frame + 1; subframe = 0; part = 0; slot = 0; other = 0; cfg = cfg; clk = clk; last = last; accounts = accounts }
+  abbrev pub next_desk : Memory → List ℕ → ℤ → List ℕ → List Account → Desk
+  next_desk memory cfg clk last accounts =
+      record b { frame = b.frame + 1; subframe = 0; part = 0; slot = 0; other = 0; cfg = cfg; clk = clk; last = last; memory = memory; accounts = accounts }
 
   -- to the next frame, with what the account says
-  pub frame_on : OffsetsChangeLittle → b.subframe + 1 ≡ m.period → b.frame < m.frames → (account : Account) (cfg : List ℕ) (clk : ℤ) (last : List ℕ) (accounts : List Account) →
-      account ≡ account_now m b → cfg ≡ account.next_cfg → clk ≡ account.next_clk → last ≡ account.outs → accounts ≡ b.accounts ++ account ∷ [] →
-      (c : Acts) → Going m b c → Going m (next_desk cfg clk last accounts) (with_entered c)
-  frame_on little high room account cfg clk last accounts is ec ek el pushed c g =
+  pub frame_on : OffsetsChangeLittle → b.subframe + 1 ≡ m.period → b.frame < m.frames → (account : Account) (memory : Memory) (cfg : List ℕ) (clk : ℤ) (last : List ℕ) (accounts : List Account) →
+      account ≡ account_now m b → IsShaped m account.next_cfg b.unit memory → cfg ≡ account.next_cfg → clk ≡ account.next_clk → last ≡ account.outs → accounts ≡ b.accounts ++ account ∷ [] →
+      (c : Acts) → Going m b c → Going m (next_desk memory cfg clk last accounts) (with_entered c)
+  frame_on little high room account memory cfg clk last accounts is shape ec ek el pushed c g =
       let t = end_is m b end in
       let at : AtFrameEnd m fit b = record { slot = t.1; part = t.0; subframe = high; frame = room } in
-      let done = frame_going m fit b b.memory accounts g.range.shape (pushed ∙ ap (λ z. b.accounts ++ z ∷ []) is) little c g at in
-      subst (λ z. Going m (next_desk z clk last accounts) (with_entered c)) (sym (ec ∙ ap (λ (z : Account). z.next_cfg) is))
-      (subst (λ z. Going m (next_desk (account_now m b).next_cfg z last accounts) (with_entered c)) (sym (ek ∙ ap (λ (z : Account). z.next_clk) is))
-      (subst (λ z. Going m (next_desk (account_now m b).next_cfg (account_now m b).next_clk z accounts) (with_entered c)) (sym (el ∙ ap (λ (z : Account). z.outs) is))
+      let done = frame_going m fit b memory accounts (subst (λ (z : Account). IsShaped m z.next_cfg b.unit memory) is shape) (pushed ∙ ap (λ z. b.accounts ++ z ∷ []) is) little c g at in
+      subst (λ z. Going m (next_desk memory z clk last accounts) (with_entered c)) (sym (ec ∙ ap (λ (z : Account). z.next_cfg) is))
+      (subst (λ z. Going m (next_desk memory (account_now m b).next_cfg z last accounts) (with_entered c)) (sym (ek ∙ ap (λ (z : Account). z.next_clk) is))
+      (subst (λ z. Going m (next_desk memory (account_now m b).next_cfg (account_now m b).next_clk z accounts) (with_entered c)) (sym (el ∙ ap (λ (z : Account). z.outs) is))
       done))
 
   -- how far it has come then

@@ -23,7 +23,7 @@ use Rattle.sift_unit.proofs.Acting.{small_of, acts_next}
 use Rattle.sift_unit.proofs.Standing.{agrees_own, now_in, now_out, now_cfg, now_clk, next_mul, begins_next, last_next, pushed_at}
 
 module _ (m : FlownMission) (fit : Fits m) where
-  module _ (b : Desk) (memory : Memory) (accounts : List Account) (shape : IsShaped m memory) (pushed : accounts ≡ b.accounts ++ account_now m b ∷ []) where
+  module _ (b : Desk) (memory : Memory) (accounts : List Account) (shape : IsShaped m (account_now m b).next_cfg b.unit memory) (pushed : accounts ≡ b.accounts ++ account_now m b ∷ []) where
     -- the frame's account is the last
     there : InRange m b → (d : Account) → slice_index_or accounts b.frame d ≡ account_now m b
     there r d = rw pushed (pushed_at b.accounts (account_now m b) d b.frame r.count)

@@ -58,7 +58,7 @@ module _ (m : FlownMission) (us : List ℕ) (u f : ℕ) (clk : ℤ) (a : Account
       (λ v t. let x = filter_has (m.executes us w) us v t in polled-same w heard b places low ran v x.0 x.1)
 
   -- what the memory holds of a slot, by what was heard of it and of those before
-  pub heard_new : (k : Slot) (heard : List (Option ℕ)) (b : Memory) → is_slot m k ≡ true → IsShaped m b
+  pub heard_new : (k : Slot) (heard : List (Option ℕ)) (b : Memory) → is_slot m k ≡ true → IsShaped m us u b
       → ((p : ℕ) → calls m us k p u ≡ true → place_at heard p ≡ h k p)
       → ((k' : Slot) → is_slot m k' ≡ true → m.heard_in us k' < m.heard_in us k → Heard m us u f clk a h last b k')
       → ((w : ℕ) → w < m.words → m.due us (Out w) < m.heard_in us k → Ran m us u a last b w)

@@ -1,8 +1,8 @@
 -- What a slot that was heard, and a task that was run, leave of all else in the memory.
-use Rattle.std.proofs.Common.{◌≡◌, ◌≢◌, ℕ, List, false, Option, refl, sym, ap, ◌∙◌, ne_eqb, arith, get_or-set_other, length-set}
+use Rattle.std.proofs.Common.{◌≡◌, ◌≢◌, ℕ, List, length, true, false, Option, refl, sym, ap, ◌∙◌, ne_eqb, arith, get_or-set_other, length-set}
 use Rattle.std.specs.Prelude.{ℤ, nat_lt}
 use Rattle.std.specs.FinSet as set
-use Rattle.sift_base.specs.Units.{holds}
+use Rattle.sift_base.specs.Units.{has, holds}
 use Rattle.sift_base.specs.ReadBack.{false_last}
 use Rattle.sift_base.specs.declared.slot.Slot.{Slot}
 use Rattle.sift_base.specs.declared.slot.Slot.TheVariants.{Clock, Sense, RelaySense, Out, Report, RelayReport}
@@ -87,10 +87,14 @@ matches_own m us u clk b (RelayReport s) = tt
 
 -- ---- lengths
 
+-- a unit that is in its configuration has a made word for each word of the mission
+pub made_long : (m : FlownMission) (us : List ℕ) (u : ℕ) (b : Memory) → IsShaped m us u b → has us u ≡ true → length b.made ≡ m.words
+made_long m us u b s member = s.made ∙ rw member refl
+
 module _ (m : FlownMission) where
   -- a slot that is heard keeps the lengths
-  pub shape_noted : (us : List ℕ) (u f : ℕ) (clk : ℤ) (k : Slot) (heard : List (Option ℕ)) (b : Memory) → IsShaped m b →
-      IsShaped m (note m us u f clk k heard b)
+  pub shape_noted : (us : List ℕ) (u f : ℕ) (clk : ℤ) (k : Slot) (heard : List (Option ℕ)) (b : Memory) → IsShaped m us u b →
+      IsShaped m us u (note m us u f clk k heard b)
   shape_noted us u f clk Clock heard b s =
       record { direct = s.direct; ins = s.ins; relay = s.relay; made = s.made; outs = s.outs; poll = s.poll; agreed = s.agreed }
   shape_noted us u f clk (Sense x) heard b s = record {
@@ -133,12 +137,12 @@ module _ (m : FlownMission) where
   }
 
   -- and so does a task that is run
-  pub shape_run : (us : List ℕ) (u : ℕ) (last : List ℕ) (t : ℕ) (b : Memory) → IsShaped m b → IsShaped m (run m us u last t b)
+  pub shape_run : (us : List ℕ) (u : ℕ) (last : List ℕ) (t : ℕ) (b : Memory) → IsShaped m us u b → IsShaped m us u (run m us u last t b)
   shape_run us u last t b s = record {
     direct = s.direct;
     ins = s.ins;
     relay = s.relay;
-    made = rw (length-renewed (is_made_by m us u t) (λ w. m.word w b.ins b.outs last) b.made 0) s.made;
+    made = length-renewed (is_made_by m us u t) (λ w. m.word w b.ins b.outs last) b.made 0 ∙ s.made;
     outs = s.outs;
     poll = s.poll;
     agreed = s.agreed;

@@ -2,7 +2,7 @@
 use Rattle.std.proofs.Common.{◌≡◌, ℕ, ◌<◌, ◌≤◌, List, length, true, refl, sym, ap, ◌∙◌, arith, eq-eqb, ne_eqb, ltb-true, lt-ltb}
 use Rattle.std.specs.Prelude.{ℤ, Some}
 use Rattle.std.proofs.lemmas.Bool.{and_parts}
-use Rattle.sift_base.specs.Units.{bits_of}
+use Rattle.sift_base.specs.Units.{has, bits_of}
 use Rattle.sift_base.specs.declared.slot.Slot.{Slot}
 use Rattle.sift_base.specs.declared.slot.Slot.TheVariants.{Clock, Sense, RelaySense, Out, Report, RelayReport}
 use Rattle.sift_exec.specs.Record.{everyone_in}
@@ -18,14 +18,15 @@ use Rattle.sift_unit.specs.Remembered.{Heard, Ran, Matches, Settled, IsShaped}
 use Rattle.sift_unit.proofs.Tests.{apart, not_true}
 use Rattle.sift_unit.proofs.Sets.{renewed-here}
 use Rattle.sift_unit.proofs.Calls.{call_of}
+use Rattle.sift_unit.proofs.Kept.{made_long}
 
 module _ (m : FlownMission) (us : List ℕ) (u f : ℕ) (clk : ℤ) (a : Account) (h : Places) (last : List ℕ) (fit : Fits m) (config : IsConfigOf m us) where
   -- a task's words, once it was run with all that it reads
-  pub ran_new : (t : ℕ) (b : Memory) → IsShaped m b
+  pub ran_new : (t : ℕ) (b : Memory) → IsShaped m us u b → has us u ≡ true
       → ((k' : Slot) → is_slot m k' ≡ true → m.heard_in us k' ≤ m.run_in us t → Matches b a k')
       → (w : ℕ) → w < m.words → m.task w ≡ t → Ran m us u a last (run m us u last t b) w
-  ran_new t b shape matches w few is = λ e.
-      let long = shape.made in let low : w < length b.made = omega arith in
+  ran_new t b shape member matches w few is = λ e.
+      let long = made_long m us u b shape member in let low : w < length b.made = omega arith in
       let at : m.due us (Out w) ≡ m.run_in us t = fit.timed.run us w config few ∙ ap (λ z. m.run_in us z) is in
       renewed-here (is_made_by m us u t) (λ v. m.word v b.ins b.outs last) b.made w 0 w (omega arith) low (rw (lt-ltb w m.words few, eq-eqb (m.task w) t is, e) refl)
       ∙ fit.read.reads w b.ins a.ins b.outs a.outs last few

@@ -37,10 +37,6 @@ module _ (m : FlownMission) (program : ProgramTree) (runs : RunsProgram m progra
       let room = sum_by_more_le (λ (tree : TaskTree). tree.outputs) program.tasks t task (slice_get_within program.tasks t task at) in
       omega (arith, runs.words, room, ap (λ (tree : TaskTree). tree.outputs) same)
 
-  -- and few words are there
-  few : m.words ≤ 64
-  few = omega (arith, runs.words, runs.sound.a_start_each, runs.sound.few_words)
-
   -- a word of the task is one of these
   own_place : (w : ℕ) → w < m.words → m.task w ≡ t → (first ≤ w) × (w < first + task.outputs)
   own_place w low is =
@@ -63,10 +59,10 @@ module _ (m : FlownMission) (program : ProgramTree) (runs : RunsProgram m progra
       rw (lt-ltb (first + j) m.words inside) (eq-eqb (m.task (first + j)) t (runs.task t (first + j) here))
 
   -- words that are the task's meaning, put into their places, are its words made anew
-  words_made : (ins now last words list : List ℕ) → words ≡ meaning task ins now last → length words ≡ task.outputs → length list ≡ 64
+  words_made : (ins now last words list : List ℕ) → words ≡ meaning task ins now last → length words ≡ task.outputs → length list ≡ m.words
       → take first list ++ (words ++ drop (first + length words) list) ≡ renewed (is_word_of m t) (λ w. m.word w ins now last) list 0
   words_made ins now last words list is size long =
-      let room = task_room in let many = few in
+      let room = task_room in
       let from : 0 + first ≡ first = omega arith in
       sym (splice_is (is_word_of m t) (λ w. m.word w ins now last) list words 0 first (omega arith)
       (λ j low.
@@ -84,7 +80,7 @@ module _ (m : FlownMission) (program : ProgramTree) (runs : RunsProgram m progra
     code_fits = rw of.limits_are (record { sensed = in_size; made = now_size; last = last_size })
 
     -- a run of it leaves the task's words, put into their places
-    pub run_makes : (words list : List ℕ) → RunsTo code (inputs ins now last) words → length words ≡ code.limits.outputs → length list ≡ 64
+    pub run_makes : (words list : List ℕ) → RunsTo code (inputs ins now last) words → length words ≡ code.limits.outputs → length list ≡ m.words
         → take first list ++ (words ++ drop (first + length words) list) ≡ renewed (is_word_of m t) (λ w. m.word w ins now last) list 0
     run_makes words list ran size long =
         words_made ins now last words list (same_outs words (meaning task ins now last) (sym ran ∙ of.means (inputs ins now last) code_fits))

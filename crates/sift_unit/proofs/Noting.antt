@@ -29,7 +29,7 @@ module _ (m : FlownMission) (fit : Fits m) where
   noted b = note m b.cfg b.unit b.frame b.clk (m.kind b.slot) b.places b.memory
 
   -- the board stays in range
-  pub range_onto : (b : Desk) (memory : Memory) → InRange m b → b.slot < m.slots → IsShaped m memory → InRange m (onto b memory)
+  pub range_onto : (b : Desk) (memory : Memory) → InRange m b → b.slot < m.slots → IsShaped m b.cfg b.unit memory → InRange m (onto b memory)
   range_onto b memory r low shape = record {
     unit = r.unit;
     frame = r.frame;

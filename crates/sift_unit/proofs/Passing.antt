@@ -1,5 +1,5 @@
 -- Moves of a board within its subframe, without its port.
-use Rattle.std.proofs.Common.{◌≡◌, ◌⊎◌, inl, inr, ℕ, ◌+◌, ◌<◌, ◌≤◌, false, refl, sym, ◌∙◌, subst, arith, eq-eqb}
+use Rattle.std.proofs.Common.{◌≡◌, ◌⊎◌, inl, inr, ℕ, List, ◌+◌, ◌<◌, ◌≤◌, false, refl, sym, ◌∙◌, subst, arith, eq-eqb}
 use mathlib.Core.Logic.{dite}
 use native.Mathlib.Decide.{ℕ_discrete}
 use Rattle.sift_base.specs.Units.{has, unit_limit}
@@ -128,19 +128,19 @@ module _ (m : FlownMission) (fit : Fits m) (b : Desk) (r : InRange m b) where
       }
 
   -- past a slot, all of which was heard
-  pub note_onward : (e : Memory) → AtNote m fit b → e ≡ noted m fit b → Onward m b (onto m fit b e)
-  note_onward e at is =
+  pub note_onward : (e : Memory) → AtNote m fit b → e ≡ noted m fit b → (last : List ℕ) → last ≡ b.last → Onward m b (record (onto m fit b e) { last = last })
+  note_onward e at is last same =
       let few = fit.numbered.few in let part = at.part in let low = at.slot in let other = at.other in
-      subst (λ z. Onward m b (onto m fit b z)) (sym is) (record {
+      subst (λ z. Onward m b (record (onto m fit b e) { last = z })) (sym same) (subst (λ z. Onward m b (onto m fit b z)) (sym is) (record {
         passes = record { range = note_range m fit b r at.slot; going = λ c g. note_going m fit b c g at; unit = refl; frame = refl; subframe = refl };
         less = omega arith;
-      })
+      }))
 
   -- past a task that was run
-  pub run_onward : (e : Memory) → AtRun m fit b → e ≡ ran_on m fit b → Onward m b (onto m fit b e)
-  run_onward e at is =
+  pub run_onward : (e : Memory) → AtRun m fit b → e ≡ ran_on m fit b → (last : List ℕ) → last ≡ b.last → Onward m b (record (onto m fit b e) { last = last })
+  run_onward e at is last same =
       let few = fit.numbered.few in let nt = few_tasks m fit in let part = at.part in let low = at.slot in let other = r.other in
-      subst (λ z. Onward m b (onto m fit b z)) (sym is) (record {
+      subst (λ z. Onward m b (record (onto m fit b e) { last = z })) (sym same) (subst (λ z. Onward m b (onto m fit b z)) (sym is) (record {
         passes = record { range = run_range m fit b r at.slot; going = λ c g. run_going m fit b c g at; unit = refl; frame = refl; subframe = refl };
         less = omega arith;
-      })
+      }))

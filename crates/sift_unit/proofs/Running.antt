@@ -64,7 +64,7 @@ module _ (m : FlownMission) (fit : Fits m) where
                 heard = λ k sk past. heard_run m b.cfg b.unit b.frame b.clk (a b.frame) (h b.frame) b.last b.slot k b.memory
                     (rm.heard k sk (heard_below m fit b k r low sk (λ z e. absurd (omega arith)) past));
                 ran = λ w few' past. let nk = fit.counted.task w few' in dite (ℕ_discrete (m.task w) b.slot)
-                    (λ e. ran_new m b.cfg b.unit b.frame b.clk (a b.frame) (h b.frame) b.last fit r.config b.slot b.memory r.shape
+                    (λ e. ran_new m b.cfg b.unit b.frame b.clk (a b.frame) (h b.frame) b.last fit r.config b.slot b.memory r.shape member
                     (λ k' sk' early. ag.matches k' sk' (let nk' = fit.numbered.low k' sk' in omega arith)) w few' e)
                     (λ ne. ran_kept m b.cfg b.unit b.frame b.clk (a b.frame) (h b.frame) b.last b.slot w b.memory ne
                     (rm.ran w few' (ran_below m fit b (m.task w) r low nk (λ z. ne) past)));

@@ -22,7 +22,7 @@ use Rattle.sift_unit.proofs.Ending.{frame_going}
 
 -- what holds of a new board
 start_going : (m : FlownMission) (u : ℕ) (places : List (Option ℕ)) (memory : Memory) (c : Acts) → Fits m → has m.units u ≡ true →
-    length places ≡ unit_limit → IsShaped m memory → IsFresh c → Going m (first_desk m u places memory) c
+    length places ≡ unit_limit → IsShaped m m.units u memory → IsFresh c → Going m (first_desk m u places memory) c
 start_going m u places memory c fit unit wide shape fresh = record {
   range = record {
     unit = unit;
@@ -59,7 +59,7 @@ start_going m u places memory c fit unit wide shape fresh = record {
 
 -- a new board flies, whatever its storm
 pub start_flying : (m : FlownMission) (u : ℕ) (places : List (Option ℕ)) (memory : Memory) (c : Acts) → Fits m → has m.units u ≡ true →
-    length places ≡ unit_limit → IsShaped m memory → IsFresh c → Flying m (first_desk m u places memory) c
+    length places ≡ unit_limit → IsShaped m m.units u memory → IsFresh c → Flying m (first_desk m u places memory) c
 start_flying m u places memory c fit unit wide shape fresh = record {
   before = λ from s. elim (cases_lt 0 from) [ inl low ↦ inl low | inr low ↦ inr (omega arith, refl, refl) ];
   going = start_going m u places memory c fit unit wide shape fresh;

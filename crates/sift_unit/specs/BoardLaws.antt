@@ -21,13 +21,13 @@ KeepLaw = (m : FlownMission) (b : Desk) (c : Acts) (n : ℕ) → Fits m → Keep
 -- a new board keeps to its conduct, where nothing was done on its port
 abbrev pub StartLaw : Type 0
 StartLaw = (m : FlownMission) (u : ℕ) (places : List (Option ℕ)) (memory : Memory) (c : Acts) → Fits m → has m.units u ≡ true →
-    length places ≡ unit_limit → IsShaped m memory → IsFresh c → Keeps m (first_desk m u places memory) c
+    length places ≡ unit_limit → IsShaped m m.units u memory → IsFresh c → Keeps m (first_desk m u places memory) c
 
 -- a board that flies may turn at the end of the frame before the one from which on its unit is stray
 abbrev pub TurnLaw : Type 0
 TurnLaw = (m : FlownMission) (b : Desk) (c : Acts) (memory : Memory) (accounts : List Account) → Fits m → Going m b c →
     m.storm b.unit ≡ Some (b.frame + 1) → is_end m b ≡ true → b.subframe + 1 ≡ m.period → b.frame < m.frames →
-    IsShaped m memory → accounts ≡ b.accounts ++ account_now m b ∷ [] → Turned m (ended_desk m b memory accounts) (with_turned c)
+    IsShaped m (account_now m b).next_cfg b.unit memory → accounts ≡ b.accounts ++ account_now m b ∷ [] → Turned m (ended_desk m b memory accounts) (with_turned c)
 
 -- a board whose unit is stray from frame 0 on may turn before anything else
 abbrev pub TurnFirstLaw : Type 0

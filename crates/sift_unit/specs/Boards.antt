@@ -1,5 +1,5 @@
 -- A board, an account and a memory of the code, as the plain records of the definitions.
-use Rattle.std.specs.Prelude.{◌≡◌, ◌⊎◌, ℕ, ◌+◌, ◌*◌, ◌<◌, ◌≤◌, map, length, slice_index_or, true, false, Some, pos}
+use Rattle.std.specs.Prelude.{◌≡◌, ◌⊎◌, ℕ, ℤ, List, ◌+◌, ◌*◌, ◌<◌, ◌≤◌, map, length, slice_index_or, true, false, Some, pos}
 use Rattle.sift_base.specs.Units.{has, unit_limit}
 use Rattle.sift_buffer.specs.Conduct.{never, with_entered}
 use Rattle.sift_buffer.specs.Conduct.{Conduct as Acts}
@@ -14,6 +14,7 @@ use Rattle.sift_unit.specs.Memory.{Memory}
 use Rattle.sift_conduct.specs.Acts.{BoardKeeps, IsUnderway}
 use Rattle.sift_mission.specs.Fits.{Fits}
 use Rattle.sift_unit.specs.Remembered.{IsShaped}
+use Rattle.sift_unit.specs.Tidings.{frame_account}
 use Rattle.sift_unit.specs.Keeping.{KeepsAs, HasFlown, IsFresh}
 use Rattle.sift_unit.specs.Desk.{Desk, cursor, first_desk, accounts_of}
 use Rattle.sift_unit.specs.Going.{Going}
@@ -35,10 +36,10 @@ memory_of b = record {
   clock = b.clock;
   next_clk = b.next_clk;
   direct = b.direct;
-  ins = b.ins.items;
+  ins = b.words.agreed;
   relay = b.relay;
-  made = b.made;
-  outs = b.outs.items;
+  made = b.words.made;
+  outs = b.words.voted;
   poll = b.poll;
   reports = b.reports;
   agreed = b.agreed;
@@ -55,11 +56,19 @@ desk_of b = record {
   other = b.other;
   cfg = b.cfg;
   clk = b.clk;
-  last = b.last.items;
+  last = b.memory.words.before;
   places = b.places;
   memory = memory_of b.memory;
   accounts = map account_of b.accounts.items;
 }
+
+-- a memory that is in shape, and has this account of its frame, is in shape for the next
+abbrev pub TurnsInShape : List ℕ → ℕ → TheAccount → Memory → Memory → Type 0
+TurnsInShape us u a b b' = (m : FlownMission) (clk : ℤ) → IsShaped m us u b → account_of a ≡ frame_account m us u clk b → IsShaped m a.next_cfg u b'
+
+-- the words before are those of this account
+abbrev pub TakesBefore : List ℕ → ℕ → TheAccount → Memory → List ℕ → Type 0
+TakesBefore us u a b before = (m : FlownMission) (clk : ℤ) → account_of a ≡ frame_account m us u clk b → before ≡ a.outs.items
 
 -- the port has the units, slots and frames of the mission
 pub record IsPortOf (m : FlownMission) (r : Ranges) : Type 0 where
@@ -113,7 +122,7 @@ pub record IsNewBoard (m : FlownMission) (u : ℕ) (b : TheBoard) : Type 0 where
   pub storms : StormsCome m
   pub desk : desk_of b ≡ first_desk m u b.places (memory_of b.memory)
   pub places : length b.places ≡ unit_limit
-  pub shape : IsShaped m (memory_of b.memory)
+  pub shape : IsShaped m m.units u (memory_of b.memory)
   pub frames : b.frames ≡ m.frames
   pub storm : b.storm ≡ m.storm u
   pub turned : b.turned ≡ false

@@ -105,7 +105,7 @@ pub record InRange (m : FlownMission) (b : Desk) : Type 0 where
   pub clocks : (f : ℕ) (d : Account) → f < b.frame → IsNear f (slice_index_or b.accounts f d)
   pub last : has b.cfg b.unit ≡ true → length b.last ≡ m.words
   pub places : length b.places ≡ unit_limit
-  pub shape : IsShaped m b.memory
+  pub shape : IsShaped m b.cfg b.unit b.memory
 
 -- a board that flies has kept to its conduct so far, whatever it will hear
 pub record Going (m : FlownMission) (b : Desk) (c : Acts) : Type 0 where

@@ -1,6 +1,7 @@
 pub mod BoardLaws
 pub mod Boards
 pub mod Desk
+pub mod FrameWords
 pub mod Going
 pub mod Keeping
 pub mod Memory

@@ -13,6 +13,7 @@ use Rattle.sift_clock.specs.Reading.{reading_of, is_too_far}
 use Rattle.sift_clock.specs.Correction.{next_offset}
 use Rattle.sift_mission.specs.Mission.{FlownMission}
 use Rattle.sift_mission.specs.Slots.{executors}
+use Rattle.sift_unit.specs.FrameWords.{FrameWords}
 
 -- what a board remembers: whom it caught by their clocks, and its next offset; by sensor, the word that its reader said, the agreed word,
 -- and whom it caught by their relays; by word, the word that it made, the voted word, and whom it caught in the poll; by unit, the report
@@ -95,6 +96,10 @@ renewed test value (x ∷ xs) i = (if test i then value i else x) ∷ renewed te
 -- the mission has the word, as one of task t
 abbrev pub is_word_of : FlownMission → ℕ → ℕ → Bool
 is_word_of m t w = nat_lt w m.words && nat_eq (m.task w) t
+
+-- the words of a frame after task t was run on them
+abbrev pub with_task_made : FlownMission → ℕ → FrameWords → FrameWords
+with_task_made m t w = record w { made = renewed (is_word_of m t) (λ i. m.word i w.agreed w.voted w.before) w.made 0 }
 
 -- a word of the mission is one of task t, and u executes it
 abbrev pub is_made_by : FlownMission → List ℕ → ℕ → ℕ → ℕ → Bool

@@ -1,5 +1,5 @@
 -- What the memory of a board holds, over what it heard in the frame, h, the account of the frame, a, and the words voted before, last.
-use Rattle.std.specs.Prelude.{◌≡◌, ◌≢◌, ℕ, ◌≤◌, List, length, map, slice_index, true, false, not, ◌&&◌, nat_eq, Option, Some, ℤ, ◌+ℤ◌}
+use Rattle.std.specs.Prelude.{◌≡◌, ◌≢◌, ℕ, ◌≤◌, List, length, map, slice_index, true, false, not, ◌&&◌, nat_eq, if◌then◌else◌, Option, Some, ℤ, ◌+ℤ◌}
 use Rattle.sift_base.specs.Units.{has, holds, unit_limit}
 use Rattle.sift_base.specs.declared.slot.Slot.{Slot}
 use Rattle.sift_base.specs.declared.slot.Slot.TheVariants.{Clock, Sense, RelaySense, Out, Report, RelayReport}
@@ -55,12 +55,13 @@ Matches b a (RelayReport s) = Unit {0}
 abbrev pub Settled : FlownMission → List ℕ → Memory → Account → Type 0
 Settled m us b a = bad_now m us b ≡ a.bad
 
--- the lists of the memory have a place for each sensor, word and unit; those that the account takes have no more
-pub record IsShaped (m : FlownMission) (b : Memory) : Type 0 where
+-- the lists of the memory have a place for each sensor, word and unit; those that the account takes have no more, and made words stand only
+-- where the unit u is in its configuration us
+pub record IsShaped (m : FlownMission) (us : List ℕ) (u : ℕ) (b : Memory) : Type 0 where
   pub direct : m.sensors ≤ length b.direct
   pub ins : length b.ins ≡ m.sensors
   pub relay : m.sensors ≤ length b.relay
-  pub made : m.words ≤ length b.made
+  pub made : length b.made ≡ (if has us u then m.words else 0)
   pub outs : length b.outs ≡ m.words
   pub poll : m.words ≤ length b.poll
   pub agreed : unit_limit ≤ length b.agreed

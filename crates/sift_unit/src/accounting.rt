@@ -10,7 +10,6 @@ ghost use Rattle.sift_conduct.specs.Account.{account_of};
 ghost use Rattle.sift_exec.specs.Conviction.{next_by};
 
 use crate::duty::Duty;
-use crate::lists::copy_of;
 use crate::memory::Memory;
 use arrayvec::ArrayVec;
 use sift_base::{UnitId, Word};
@@ -29,7 +28,7 @@ impl Memory {
     ) -> Account
         requires fits { Fits (M.mission mission.now) }
         requires config { IsConfigOf (M.mission mission.now) config.now }
-        requires shape { IsShaped (M.mission mission.now) (memory_of self.now) }
+        requires shape { IsShaped (M.mission mission.now) config.now unit (memory_of self.now) }
         ensures { account_of result ≡ frame_account (M.mission mission.now) config.now unit clk.now (memory_of self.now) }
     {
         if config.has(unit) {
@@ -42,15 +41,15 @@ impl Memory {
     fn busy<M: Duty>(&self, mission: &M, config: &Config, unit: UnitId, clk: &i64) -> Account
         requires fits { Fits (M.mission mission.now) }
         requires config { IsConfigOf (M.mission mission.now) config.now }
-        requires shape { IsShaped (M.mission mission.now) (memory_of self.now) }
+        requires shape { IsShaped (M.mission mission.now) config.now unit (memory_of self.now) }
         ensures { account_of result ≡ busy_account (M.mission mission.now) config.now unit clk.now (memory_of self.now) }
     {
         Account {
             cfg: *config,
             idle: false,
             clk: *clk,
-            ins: copy_of(&self.ins),
-            outs: copy_of(&self.outs),
+            ins: self.words.agreed(),
+            outs: self.words.voted(),
             bad: self.catches(mission, config),
             next_cfg: self.next_config(mission, config, unit),
             next_clk: self.next_clk,

@@ -2,10 +2,8 @@
 
 ghost use Rattle.std.specs.Prelude.{◌≡◌, ◌<◌, ◌≤◌, length, slice_index_or, vec_capacity};
 
-use crate::executor::Executor;
 use crate::memory::Memory;
 use crate::part::Part;
-use arrayvec::ArrayVec;
 use sift_base::{UnitId, Word};
 use sift_conduct::Account;
 use sift_config::Config;
@@ -28,11 +26,9 @@ pub struct Board {
     pub(crate) other: u8,
     pub(crate) cfg: Config,
     pub(crate) clk: i64,
-    pub(crate) last: ArrayVec<Word, 64>,
     pub(crate) places: [Option<Word>; 8],
     pub(crate) memory: Memory,
     pub(crate) accounts: Vec<Account>,
-    pub(crate) executor: Executor,
     ghost room: { frames ≤ vec_capacity accounts },
 }
 

@@ -3,9 +3,8 @@
 ghost use Rattle.sift_mission.specs.Parts.{flown_of};
 
 use crate::duty::Duty;
-use crate::executor::Executor;
-use crate::lists::put_at;
 use crate::part::Part;
+use crate::word_file::WordFile;
 use sift_base::{Slot, UnitId, UnitSet, Word};
 use sift_config::Config;
 use sift_mission::{Mission, a_mission_flies};
@@ -120,17 +119,9 @@ impl Duty for Mission {
         self.runs(config, task, unit)
     }
 
-    fn make_words(
-        &self,
-        task: usize,
-        executor: &mut Executor,
-        ins: &[Word],
-        now: &[Word],
-        last: &[Word],
-        made: &mut [Word; 64],
-    ) {
+    fn make_words(&self, task: usize, words: &mut WordFile) {
         a_mission_flies(self);
-        let words = executor.run(self.code(task), ins, now, last);
-        put_at(&mut made[..], self.first_word(task), &words);
+        let made = words.run(self.code(task));
+        words.keep_made(self.first_word(task), &made);
     }
 }

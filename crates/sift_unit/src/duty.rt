@@ -7,14 +7,14 @@ ghost use Rattle.sift_base.specs.Layout.{word_limit};
 ghost use Rattle.sift_mission.specs.Mission.{FlownMission, IsConfigOf};
 ghost use Rattle.sift_mission.specs.Slots.{calls, IsFirstFrom};
 ghost use Rattle.sift_mission.specs.Fits.{Fits};
-ghost use Rattle.sift_unit.specs.Memory.{renewed, is_word_of};
+ghost use Rattle.sift_unit.specs.Memory.{with_task_made};
 ghost use Rattle.sift_unit.specs.Desk.{spot};
 ghost use Rattle.sift_unit.specs.Stops.{IsNothingBetween};
 ghost use Rattle.sift_unit.specs.Passing.{IsSlotOf, IsTaskOf};
 ghost use Rattle.sift_unit.specs.Boards.{part_of};
 
-use crate::executor::Executor;
 use crate::part::Part;
+use crate::word_file::WordFile;
 use sift_base::{Slot, UnitId, UnitSet, Word};
 use sift_config::Config;
 
@@ -144,18 +144,11 @@ pub(crate) trait Duty {
 
     /// Makes the words of a task of the agreed words, this frame's words and those before, by the
     /// task's checked code.
-    fn make_words(
-        &self,
-        task: usize,
-        executor: &mut Executor,
-        ins: &[Word],
-        now: &[Word],
-        last: &[Word],
-        made: &mut [Word; 64],
-    )
+    fn make_words(&self, task: usize, words: &mut WordFile)
         requires task { task < (mission self.now).tasks }
-        requires ins { length ins.now ≡ (mission self.now).sensors }
-        requires now { length now.now ≡ (mission self.now).words }
-        requires last { length last.now ≡ (mission self.now).words }
-        ensures { made.new ≡ renewed (is_word_of (mission self.now) task) (λ w. (mission self.now).word w ins.now now.now last.now) made.old 0 };
+        requires agreed { length words.old.agreed ≡ (mission self.now).sensors }
+        requires voted { length words.old.voted ≡ (mission self.now).words }
+        requires before { length words.old.before ≡ (mission self.now).words }
+        requires made { length words.old.made ≡ (mission self.now).words }
+        ensures { words.new ≡ with_task_made (mission self.now) task words.old };
 }

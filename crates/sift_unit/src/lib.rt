@@ -17,6 +17,7 @@ mod stepped;
 mod stepping;
 mod tidings;
 mod walk;
+mod word_file;
 
 pub use board::Board;
 pub use laws::{

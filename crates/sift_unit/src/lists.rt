@@ -1,6 +1,6 @@
 //! Lists of words of a fixed capacity.
 
-ghost use Rattle.std.specs.Prelude.{◌≡◌, ◌<◌, ◌≤◌, ◌+◌, ◌++◌, length, take, drop, slice_set};
+ghost use Rattle.std.specs.Prelude.{◌≡◌, ◌<◌, ◌≤◌, ◌+◌, ◌++◌, length, take, drop, replicate, slice_set};
 
 use arrayvec::ArrayVec;
 use sift_base::Word;
@@ -20,7 +20,7 @@ pub(crate) fn copy_of<const N: usize>(words: &[Word]) -> ArrayVec<Word, N>
 /// A list of so many zeros.
 pub(crate) fn zeros<const N: usize>(count: usize) -> ArrayVec<Word, N>
     requires { count ≤ N }
-    ensures { length result.items ≡ count }
+    ensures { result.items ≡ replicate count 0 }
 {
     let mut words = ArrayVec::new();
     for _ in 0..count {

@@ -6,8 +6,6 @@ ghost use Rattle.sift_mission.specs.Parts.{flown_of};
 ghost use Rattle.sift_unit.specs.Boards.{IsNewBoard};
 
 use crate::board::Board;
-use crate::executor::Executor;
-use crate::lists::copy_of;
 use crate::memory::Memory;
 use crate::part::Part;
 use sift_base::{NoMemory, UnitId};
@@ -24,6 +22,7 @@ impl Board {
         a_mission_fits(mission);
         let frames = mission.frames();
         let accounts = Vec::with_capacity(alloc, frames as usize)?;
+        let memory = Memory::make(alloc, mission)?;
         Ok(Board {
             unit,
             frames,
@@ -36,11 +35,9 @@ impl Board {
             other: 0,
             cfg: mission.everyone(),
             clk: mission.offset(unit),
-            last: copy_of(mission.starts()),
             places: [None; 8],
-            memory: Memory::blank(mission),
+            memory,
             accounts,
-            executor: Executor::make(alloc)?,
         })
     }
 }

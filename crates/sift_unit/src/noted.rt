@@ -1,6 +1,6 @@
 //! What a board notes of a slot, all of which it has heard.
 
-ghost use Rattle.std.specs.Prelude.{◌≡◌, ◌<◌, ◌&&◌, ℕ, ℤ, pos, Some, map, not, nat_eq, true};
+ghost use Rattle.std.specs.Prelude.{◌≡◌, ◌<◌, length, ◌&&◌, ℕ, ℤ, pos, Some, map, not, nat_eq, true};
 ghost use Rattle.std.specs.List.{filter};
 ghost use Rattle.sift_base.specs.Units.{has, holds};
 ghost use Rattle.sift_vote.specs.Agreed.{majority_of};
@@ -16,7 +16,6 @@ ghost use Rattle.sift_unit.specs.Boards.{memory_of};
 ghost use Rattle.sift_base.specs.declared.slot.Slot.TheVariants.{Clock, RelaySense, Out, RelayReport};
 
 use crate::duty::Duty;
-use crate::lists::put;
 use crate::memory::Memory;
 use crate::readings::{far_clocks, next_offset};
 use arrayvec::ArrayVec;
@@ -43,8 +42,9 @@ impl Memory {
         requires member { has config.now unit ≡ true }
         requires frame { frame < (M.mission mission.now).frames }
         requires near { IsWithin offset_limit clk.now (pos 0) }
-        requires shape { IsShaped (M.mission mission.now) (memory_of self.old) }
-        ensures { memory_of self.new ≡ note_of (M.mission mission.now) config.now unit frame clk.now ((M.mission mission.now).kind slot) places.now (memory_of self.old) }
+        requires shape { IsShaped (M.mission mission.now) config.now unit (memory_of self.old) }
+        ensures noted { memory_of self.new ≡ note_of (M.mission mission.now) config.now unit frame clk.now ((M.mission mission.now).kind slot) places.now (memory_of self.old) }
+        ensures before { self.new.words.before ≡ self.old.words.before }
     {
         match mission.kind(slot) {
             Slot::Clock => self.note_clocks(mission, config, unit, clk, places),
@@ -72,7 +72,8 @@ impl Memory {
         requires config { IsConfigOf (M.mission mission.now) config.now }
         requires member { has config.now unit ≡ true }
         requires near { IsWithin offset_limit clk.now (pos 0) }
-        ensures { (f : ℕ) → memory_of self.new ≡ note_of (M.mission mission.now) config.now unit f clk.now Clock places.now (memory_of self.old) }
+        ensures noted { (f : ℕ) → memory_of self.new ≡ note_of (M.mission mission.now) config.now unit f clk.now Clock places.now (memory_of self.old) }
+        ensures before { self.new.words.before ≡ self.old.words.before }
     {
         self.clock = far_clocks(mission, config, unit, clk, places);
         self.next_clk = next_offset(mission, config, unit, clk, places);
@@ -91,19 +92,20 @@ impl Memory {
         requires fits { Fits (M.mission mission.now) }
         requires sensor { sensor < (M.mission mission.now).sensors }
         requires frame { frame < (M.mission mission.now).frames }
-        requires shape { IsShaped (M.mission mission.now) (memory_of self.old) }
-        ensures { (clk : ℤ) → memory_of self.new ≡ note_of (M.mission mission.now) config.now unit frame clk (RelaySense sensor) places.now (memory_of self.old) }
+        requires shape { IsShaped (M.mission mission.now) config.now unit (memory_of self.old) }
+        ensures noted { (clk : ℤ) → memory_of self.new ≡ note_of (M.mission mission.now) config.now unit frame clk (RelaySense sensor) places.now (memory_of self.old) }
+        ensures before { self.new.words.before ≡ self.old.words.before }
     {
         let reader = config.reader_of(sensor);
         if reader == unit {
             let own = mission.sensed(sensor, frame);
-            put(&mut self.ins, sensor, own);
+            self.words.agree(sensor, own);
             self.relay[usize::from(sensor)] = liars(config, unit, own, places);
             return;
         }
         let relays = relays_of(places, config, reader, unit);
         let word = agree(self.direct_of(sensor), &relays);
-        put(&mut self.ins, sensor, word);
+        self.words.agree(sensor, word);
         self.relay[usize::from(sensor)] = UnitSet::empty();
     }
 
@@ -127,12 +129,14 @@ impl Memory {
         requires fits { Fits (M.mission mission.now) }
         requires config { IsConfigOf (M.mission mission.now) config.now }
         requires word { word < (M.mission mission.now).words }
-        requires shape { IsShaped (M.mission mission.now) (memory_of self.old) }
-        ensures { (f : ℕ) (clk : ℤ) → memory_of self.new ≡ note_of (M.mission mission.now) config.now unit f clk (Out word) places.now (memory_of self.old) }
+        requires member { has config.now unit ≡ true }
+        requires shape { IsShaped (M.mission mission.now) config.now unit (memory_of self.old) }
+        ensures noted { (f : ℕ) (clk : ℤ) → memory_of self.new ≡ note_of (M.mission mission.now) config.now unit f clk (Out word) places.now (memory_of self.old) }
+        ensures before { self.new.words.before ≡ self.old.words.before }
     {
         let vote = self.vote(mission, config, unit, word, places);
         let wrong = self.wrong_executors(mission, config, unit, word, places, &vote);
-        put(&mut self.outs, word, vote.unwrap_or(Word::of(0)));
+        self.words.vote(word, vote.unwrap_or(Word::of(0)));
         self.poll[usize::from(word)] = wrong;
     }
 
@@ -148,6 +152,7 @@ impl Memory {
         requires fits { Fits (M.mission mission.now) }
         requires config { IsConfigOf (M.mission mission.now) config.now }
         requires word { word < (M.mission mission.now).words }
+        requires made { length (memory_of self.now).made ≡ (M.mission mission.now).words }
         ensures { result ≡ majority_of (poll_of (M.mission mission.now) config.now unit (memory_of self.now) places.now word) }
     {
         let executors = mission.executors(config, word);
@@ -169,11 +174,11 @@ impl Memory {
         places: &[Option<Word>; 8],
         executor: UnitId,
     ) -> Option<Word>
-        requires { word < 64 }
+        requires { word < length (memory_of self.now).made }
         ensures { result ≡ polled_at unit (memory_of self.now) places.now word executor }
     {
         if executor == unit {
-            return Some(self.made[usize::from(word)]);
+            return Some(self.words.made(word));
         }
         places[usize::from(executor.get())]
     }
@@ -191,6 +196,7 @@ impl Memory {
         requires fits { Fits (M.mission mission.now) }
         requires config { IsConfigOf (M.mission mission.now) config.now }
         requires word { word < (M.mission mission.now).words }
+        requires made { length (memory_of self.now).made ≡ (M.mission mission.now).words }
         ensures { (v : ℕ) → holds result v ≡ (has config.now v && ((M.mission mission.now).executes config.now word v && is_other (polled_at unit (memory_of self.now) places.now word v) vote.now)) }
     {
         let executors = mission.executors(config, word);
@@ -214,7 +220,7 @@ impl Memory {
         vote: &Option<Word>,
         executor: UnitId,
     ) -> bool
-        requires { word < 64 }
+        requires { word < length (memory_of self.now).made }
         ensures { result ≡ (holds executors executor && is_other (polled_at unit (memory_of self.now) places.now word executor) vote.now) }
     {
         executors.has(executor) && differs(&self.ballot(unit, word, places, executor), vote)
@@ -222,7 +228,8 @@ impl Memory {
 
     /// Notes the agreed report of a unit.
     fn note_report(&mut self, config: &Config, unit: UnitId, of: UnitId, places: &[Option<Word>; 8])
-        ensures { (m : FlownMission) (f : ℕ) (clk : ℤ) → memory_of self.new ≡ note_of m config.now unit f clk (RelayReport of) places.now (memory_of self.old) }
+        ensures noted { (m : FlownMission) (f : ℕ) (clk : ℤ) → memory_of self.new ≡ note_of m config.now unit f clk (RelayReport of) places.now (memory_of self.old) }
+        ensures before { self.new.words.before ≡ self.old.words.before }
     {
         let relays = relays_of(places, config, of, unit);
         self.agreed[usize::from(of.get())] = agree(place_of(&self.reports, of), &relays);

@@ -14,7 +14,6 @@ ghost use Rattle.sift_unit.specs.Boards.{desk_of, Drives, IsMarked, GoesOn, Turn
 
 use crate::board::Board;
 use crate::duty::Duty;
-use crate::lists::copy_of;
 use crate::part::Part;
 use crate::stepped::Stepped;
 use sift_base::UnitId;
@@ -222,9 +221,9 @@ impl Board {
         let account = self
             .memory
             .account(mission, &self.cfg, self.unit, &self.clk);
+        self.memory.turn_over(&self.cfg, self.unit, &account);
         self.cfg = account.next_cfg;
         self.clk = copied(&account.next_clk);
-        self.last = copy_of(&account.outs);
         self.accounts.push_reserved(account);
         self.frame += 1;
         self.subframe = 0;

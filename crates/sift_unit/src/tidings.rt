@@ -33,7 +33,8 @@ impl Memory {
         requires fits { Fits (M.mission mission.now) }
         requires slot { IsSlotOf (M.mission mission.now) config.now slot }
         requires frame { frame < (M.mission mission.now).frames }
-        requires shape { IsShaped (M.mission mission.now) (memory_of self.now) }
+        requires member { has config.now unit ≡ true }
+        requires shape { IsShaped (M.mission mission.now) config.now unit (memory_of self.now) }
         ensures { result ≡ word_for (M.mission mission.now) config.now unit frame clk.now (memory_of self.now) ((M.mission mission.now).kind slot) to }
     {
         if let Some(word) = mission.override_of(unit, frame, slot, to) {
@@ -54,13 +55,14 @@ impl Memory {
         requires fits { Fits (M.mission mission.now) }
         requires slot { is_slot (M.mission mission.now) slot ≡ true }
         requires frame { frame < (M.mission mission.now).frames }
+        requires made { length (memory_of self.now).made ≡ (M.mission mission.now).words }
         ensures { result ≡ word_now (M.mission mission.now) config.now frame clk.now (memory_of self.now) slot }
     {
         match slot {
             Slot::Clock => Some(clock_word(*clk)),
             Slot::Sense(x) => Some(mission.sensed(x, frame)),
             Slot::RelaySense(x) => self.direct[usize::from(x)],
-            Slot::Out(w) => Some(self.made[usize::from(w)]),
+            Slot::Out(w) => Some(self.words.made(w)),
             Slot::Report => Some(self.report(mission, config)),
             Slot::RelayReport(s) => self.reports[usize::from(s.get())],
         }

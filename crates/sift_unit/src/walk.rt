@@ -210,14 +210,7 @@ impl Board {
             self.other = 0;
             return;
         }
-        self.memory.run(
-            mission,
-            &mut self.executor,
-            &self.cfg,
-            self.unit,
-            &self.last,
-            self.slot,
-        );
+        self.memory.run(mission, &self.cfg, self.unit, self.slot);
         self.slot += 1;
         self.other = 0;
     }

@@ -7,9 +7,9 @@ pub returns : goal.returns
 returns c = record {
   fits = c.a_mission_fits.ensures.fits;
   storms = c.a_mission_fits.ensures.storms;
-  desk = first_is (flown_of c.args.mission.now) c.args.unit _ _ _ _ _ _ (search rules) (search rules) (search rules) c.in_ok-accounts.ensures.items;
+  desk = first_is (flown_of c.args.mission.now) c.args.unit _ _ _ _ _ _ (search rules) (search rules) c.in_ok-memory.ensures.before c.in_ok-accounts.ensures.items;
   places = refl;
-  shape = c.blank.ensures;
+  shape = c.in_ok-memory.ensures.shape c.args.unit c.requires;
   frames = c.frames-frames.ensures;
   storm = c.storm_of.ensures;
   turned = refl;

@@ -15,4 +15,4 @@ pub returns-clause-onward : goal.returns-clause-onward
 returns-clause-onward g c =
     let now = c.if-self-heard_in.false ∙ c.heard_in.ensures in
     note_onward _ c.requires.fits (desk_of c.args.self.now) c.requires.range (memory_of c.note.new.self)
-    (record { part = c.requires.part; slot = c.requires.slot; other = c.requires.whole.heard c.requires.part c.requires.slot now; subframe = now }) c.note.ensures
+    (record { part = c.requires.part; slot = c.requires.slot; other = c.requires.whole.heard c.requires.part c.requires.slot now; subframe = now }) c.note.ensures.noted _ c.note.ensures.before

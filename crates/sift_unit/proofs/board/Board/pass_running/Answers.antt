@@ -17,4 +17,4 @@ returns-clause-onward g c = run_onward _ c.requires.fits (desk_of c.args.self.no
       part = c.requires.part;
       slot = (let few = c.if-self-tasks.false in let tasks = c.tasks.ensures in omega arith);
       subframe = c.if-self-run_in.false ∙ c.run_in.ensures;
-    }) (rw c.deref.ensures.0 at c.run.ensures)
+    }) c.run.ensures.made _ c.run.ensures.before

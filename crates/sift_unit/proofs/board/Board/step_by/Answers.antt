@@ -9,19 +9,22 @@ use Rattle.sift_unit.proofs.board.Board.step_by.Goals as goal
 -- where it found its call, it drives on
 pub enter-requires-clause-drives : goal.enter-requires-clause-drives
 enter-requires-clause-drives g c =
-    let early = early_at (g.M.Duty.mission c.args.mission.now) c.args.self.now (g.T.Look.view c.args.port.now) c.requires (apart_by c.args.self.now.storm c.args.self.now.frame (sym c.eq.ensures ∙ c.if-eq.false)) in
+    let early = early_at (g.M.Duty.mission c.args.mission.now) c.args.self.now (g.T.Look.view c.args.port.now) c.requires
+    (apart_by c.args.self.now.storm c.args.self.now.frame (sym c.eq.ensures ∙ c.if-eq.false)) in
     pass_drives (g.M.Duty.mission c.args.mission.now) c.args.self.now (g.T.Look.view c.args.port.now) c.requires early c.find_call.new.self c.find_call.ensures.passes
     (record { unit = c.find_call.ensures.same.unit; frames = c.find_call.ensures.same.frames; storm = c.find_call.ensures.same.storm; turned = c.find_call.ensures.same.turned })
 
 pub say-requires-clause-drives : goal.say-requires-clause-drives
 say-requires-clause-drives g c =
-    let early = early_at (g.M.Duty.mission c.args.mission.now) c.args.self.now (g.T.Look.view c.args.port.now) c.requires (apart_by c.args.self.now.storm c.args.self.now.frame (sym c.eq.ensures ∙ c.if-eq.false)) in
+    let early = early_at (g.M.Duty.mission c.args.mission.now) c.args.self.now (g.T.Look.view c.args.port.now) c.requires
+    (apart_by c.args.self.now.storm c.args.self.now.frame (sym c.eq.ensures ∙ c.if-eq.false)) in
     pass_drives (g.M.Duty.mission c.args.mission.now) c.args.self.now (g.T.Look.view c.args.port.now) c.requires early c.find_call.new.self c.find_call.ensures.passes
     (record { unit = c.find_call.ensures.same.unit; frames = c.find_call.ensures.same.frames; storm = c.find_call.ensures.same.storm; turned = c.find_call.ensures.same.turned })
 
 pub hear-requires-clause-drives : goal.hear-requires-clause-drives
 hear-requires-clause-drives g c =
-    let early = early_at (g.M.Duty.mission c.args.mission.now) c.args.self.now (g.T.Look.view c.args.port.now) c.requires (apart_by c.args.self.now.storm c.args.self.now.frame (sym c.eq.ensures ∙ c.if-eq.false)) in
+    let early = early_at (g.M.Duty.mission c.args.mission.now) c.args.self.now (g.T.Look.view c.args.port.now) c.requires
+    (apart_by c.args.self.now.storm c.args.self.now.frame (sym c.eq.ensures ∙ c.if-eq.false)) in
     pass_drives (g.M.Duty.mission c.args.mission.now) c.args.self.now (g.T.Look.view c.args.port.now) c.requires early c.find_call.new.self c.find_call.ensures.passes
     (record { unit = c.find_call.ensures.same.unit; frames = c.find_call.ensures.same.frames; storm = c.find_call.ensures.same.storm; turned = c.find_call.ensures.same.turned })
 
@@ -39,7 +42,8 @@ hear-requires-clause-here g c =
 -- what it came to from there is what it came to from where it stood
 pub returns-then-is_end-clause-steps : goal.returns-then-is_end-clause-steps
 returns-then-is_end-clause-steps g c =
-    let early = early_at (g.M.Duty.mission c.args.mission.now) c.args.self.now (g.T.Look.view c.args.port.now) c.requires (apart_by c.args.self.now.storm c.args.self.now.frame (sym c.eq.ensures ∙ c.if-eq.false)) in
+    let early = early_at (g.M.Duty.mission c.args.mission.now) c.args.self.now (g.T.Look.view c.args.port.now) c.requires
+    (apart_by c.args.self.now.storm c.args.self.now.frame (sym c.eq.ensures ∙ c.if-eq.false)) in
     let going = (flies_here (g.M.Duty.mission c.args.mission.now) c.args.self.now (g.T.Look.view c.args.port.now) c.requires early).going in
     steps_from _ (desk_of c.args.self.now) (desk_of c.find_call.new.self) (desk_of c.enter.new.self) (g.T.Look.view c.args.port.now) (g.T.Look.view c.enter.new.port)
     c.find_call.ensures.passes c.find_call.ensures.nearer c.enter.result (g.T.Look.stands c.enter.new.port)

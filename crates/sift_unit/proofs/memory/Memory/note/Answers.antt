@@ -4,33 +4,33 @@ use Rattle.sift_unit.specs.Boards.{memory_of}
 use Rattle.sift_unit.proofs.memory.Memory.note.Goals as goal
 
 -- the slot of the clocks
-pub returns-in-Clock : goal.returns-in-Clock
-returns-in-Clock g c =
+pub returns-in-Clock-clause-noted : goal.returns-in-Clock-clause-noted
+returns-in-Clock-clause-noted g c =
     let m = g.M.Duty.mission c.args.mission.now in
     let b = memory_of c.args.self.now in
-    c.note_clocks.ensures c.args.frame
+    c.note_clocks.ensures.noted c.args.frame
     ∙ ap (λ k. note_of m c.args.config.now c.args.unit c.args.frame c.args.clk.now k c.args.places.now b) (sym c.in-Clock.is ∙ c.kind.ensures)
 
 -- the slot of a sensor's relays
-pub returns-in-RelaySense : goal.returns-in-RelaySense
-returns-in-RelaySense g c =
+pub returns-in-RelaySense-clause-noted : goal.returns-in-RelaySense-clause-noted
+returns-in-RelaySense-clause-noted g c =
     let m = g.M.Duty.mission c.args.mission.now in
     let b = memory_of c.args.self.now in
-    c.note_relays.ensures c.args.clk.now
+    c.note_relays.ensures.noted c.args.clk.now
     ∙ ap (λ k. note_of m c.args.config.now c.args.unit c.args.frame c.args.clk.now k c.args.places.now b) (sym c.in-RelaySense.is ∙ c.kind.ensures)
 
 -- the slot of an output word
-pub returns-in-Out : goal.returns-in-Out
-returns-in-Out g c =
+pub returns-in-Out-clause-noted : goal.returns-in-Out-clause-noted
+returns-in-Out-clause-noted g c =
     let m = g.M.Duty.mission c.args.mission.now in
     let b = memory_of c.args.self.now in
-    c.note_poll.ensures c.args.frame c.args.clk.now
+    c.note_poll.ensures.noted c.args.frame c.args.clk.now
     ∙ ap (λ k. note_of m c.args.config.now c.args.unit c.args.frame c.args.clk.now k c.args.places.now b) (sym c.in-Out.is ∙ c.kind.ensures)
 
 -- the slot of a report's relays
-pub returns-in-RelayReport : goal.returns-in-RelayReport
-returns-in-RelayReport g c =
+pub returns-in-RelayReport-clause-noted : goal.returns-in-RelayReport-clause-noted
+returns-in-RelayReport-clause-noted g c =
     let m = g.M.Duty.mission c.args.mission.now in
     let b = memory_of c.args.self.now in
-    c.note_report.ensures m c.args.frame c.args.clk.now
+    c.note_report.ensures.noted m c.args.frame c.args.clk.now
     ∙ ap (λ k. note_of m c.args.config.now c.args.unit c.args.frame c.args.clk.now k c.args.places.now b) (sym c.in-RelayReport.is ∙ c.kind.ensures)

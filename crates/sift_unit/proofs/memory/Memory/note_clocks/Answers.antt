@@ -6,8 +6,8 @@ use Rattle.sift_unit.specs.Boards.{memory_of}
 use Rattle.sift_unit.proofs.Memories.{is_gathered, clocks_same}
 use Rattle.sift_unit.proofs.memory.Memory.note_clocks.Goals as goal
 
-pub returns : goal.returns
-returns g c =
+pub returns-clause-noted : goal.returns-clause-noted
+returns-clause-noted g c =
     let m = g.M.Duty.mission c.args.mission.now in
     let b = memory_of c.args.self.now in
     let u = c.args.unit in

@@ -3,13 +3,14 @@ use Rattle.std.specs.Prelude.{slice_set, unwrap_or}
 use Rattle.sift_base.specs.Units.{has}
 use Rattle.sift_vote.specs.Agreed.{majority_of, agreed_of}
 use Rattle.sift_vote.specs.Differing.{differs}
+use Rattle.sift_unit.specs.FrameWords.{FrameWords, with_voted}
 use Rattle.sift_unit.specs.Memory.{polled_at, poll_of}
 use Rattle.sift_unit.specs.Boards.{memory_of}
 use Rattle.sift_unit.proofs.Memories.{is_gathered}
 use Rattle.sift_unit.proofs.memory.Memory.note_poll.Goals as goal
 
-pub returns : goal.returns
-returns g c =
+pub returns-clause-noted : goal.returns-clause-noted
+returns-clause-noted g c =
     let m = g.M.Duty.mission c.args.mission.now in
     let b = memory_of c.args.self.now in
     let us = c.args.config.now in
@@ -18,8 +19,12 @@ returns g c =
     let heard = c.args.places.now in
     let vote : c.vote-vote.result ≡ majority_of (poll_of m us u b heard w) = c.vote-vote.ensures in
     let word : c.unwrap_or.result ≡ agreed_of (poll_of m us u b heard w) = c.unwrap_or.ensures ∙ (λ i. unwrap_or (vote i) (c.of.ensures i)) in
-    let outs = c.put.ensures ∙ ap (λ x. slice_set b.outs w x) word in
+    let words : c.vote.new.self ≡ with_voted c.args.self.now.words w (agreed_of (poll_of m us u b heard w)) = c.vote.ensures ∙ ap (λ x. with_voted c.args.self.now.words w x) word in
     let wrong = is_gathered c.wrong_executors-wrong.result (λ v. m.executes us w v && differs (polled_at u b heard w v) (majority_of (poll_of m us u b heard w))) us
     (λ v. c.wrong_executors-wrong.ensures v ∙ ap (λ x. has us v && (m.executes us w v && differs (polled_at u b heard w v) x)) vote) in
     let at = c.from.ensures in
-    λ f clk i. record b { outs = outs i; poll = slice_set b.poll (at i) (wrong i) }
+    λ f clk i. record b { ins = (words i).agreed; made = (words i).made; outs = (words i).voted; poll = slice_set b.poll (at i) (wrong i) }
+
+-- the words before stay
+pub returns-clause-before : goal.returns-clause-before
+returns-clause-before g c = ap (λ (w : FrameWords). w.before) c.vote.ensures

@@ -7,8 +7,8 @@ use Rattle.sift_unit.specs.Boards.{memory_of}
 use Rattle.sift_unit.proofs.InTurn.{others_both}
 use Rattle.sift_unit.proofs.memory.Memory.note_report.Goals as goal
 
-pub returns : goal.returns
-returns c =
+pub returns-clause-noted : goal.returns-clause-noted
+returns-clause-noted c =
     let b = memory_of c.args.self.now in
     let us = c.args.config.now in
     let of = c.args.of in
