@@ -1,12 +1,14 @@
 pub mod Acting
 pub mod Asking
 pub mod Calls
+pub mod Carved
 pub mod Conducts
 pub mod Continuing
 pub mod Driving
 pub mod Due
 pub mod Ending
 pub mod Exporting
+pub mod Filing
 pub mod Finding
 pub mod Flown
 pub mod Found
@@ -34,3 +36,4 @@ pub mod Standing
 pub mod Starting
 pub mod Tests
 pub mod Turning
+pub mod Writing

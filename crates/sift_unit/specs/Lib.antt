@@ -1,5 +1,6 @@
 pub mod BoardLaws
 pub mod Boards
+pub mod Carving
 pub mod Desk
 pub mod FrameWords
 pub mod Going
@@ -11,4 +12,3 @@ pub mod Remembered
 pub mod Stepping
 pub mod Stops
 pub mod Tidings
-pub mod Work

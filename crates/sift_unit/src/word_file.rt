@@ -5,35 +5,52 @@ ghost use Rattle.sift_code.specs.Ends.{Fits, RunsTo};
 ghost use Rattle.sift_code.specs.Machine.{inputs};
 ghost use Rattle.sift_unit.specs.FrameWords.{first_words, with_agreed, with_voted, with_made, next_words, without_before};
 
-use crate::executor::Executor;
-use crate::lists::{copy_of, put, put_at, zeros};
+use crate::spans::{carve, load, store};
 use arrayvec::ArrayVec;
 use sift_base::{NoMemory, Word};
-use sift_code::Checked;
+use sift_code::{Checked, WORK_WORDS, run};
+use sift_pool::{Mark, Pool, Span};
 use std::alloc::Global;
 use std::marker::Model;
 
-/// The words of a frame, and where a unit runs the code of its tasks on them.
+/// The words of a frame in one pool, in which a unit also runs the code of its tasks.
+///
+/// Four spans are carved once and for all, and then the pool is marked: by sensor the agreed words,
+/// by output word those of the frame before and the voted words, and the span in which code runs. A
+/// fifth has the words that the unit makes itself, as long as it is in its configuration; at each
+/// frame's end it is released.
 #[derive(Drop)]
 pub(crate) struct WordFile {
+    pool: Pool,
+    agreed: Span,
+    before: Span,
+    voted: Span,
+    work: Span,
+    mark: Mark,
+    made: Option<Span>,
+    /// Whether words were voted in the frame before.
+    follows: bool,
+    inputs: Inputs,
+}
+
+/// Lists of words as runs of code take them: copies of those in the spans.
+#[derive(Drop)]
+struct Inputs {
     agreed: ArrayVec<Word, 8>,
     before: ArrayVec<Word, 64>,
     voted: ArrayVec<Word, 64>,
-    made: ArrayVec<Word, 64>,
-    executor: Executor,
 }
 
 impl Model for WordFile {
     ghost use Rattle.sift_unit.specs.FrameWords.{FrameWords};
+    ghost use Rattle.sift_unit.specs.Carving.{words_in, IsFile};
 
     ghost Value = { FrameWords };
 
-    ghost view = { λ f. record {
-      agreed = f.agreed.items;
-      before = f.before.items;
-      voted = f.voted.items;
-      made = f.made.items;
-    } };
+    ghost view = { λ f. words_in f.pool f.agreed f.before f.voted f.made f.follows };
+
+    ghost invariant = { λ f. IsFile f.pool f.agreed f.before f.voted f.work f.mark f.made f.follows
+        f.inputs.agreed.items f.inputs.before.items f.inputs.voted.items };
 }
 
 impl WordFile {
@@ -43,12 +60,30 @@ impl WordFile {
         requires starts { length starts.now ≤ 64 }
         ensures { IfOk result (λ file. file ≡ first_words sensors starts.now) }
     {
+        let words = starts.len();
+        let size = WORK_WORDS + sensors + 3 * words;
+        let mut pool = Pool::make(alloc, size, 5).map_err(|_| NoMemory)?;
+        let agreed = carve(&mut pool, sensors);
+        let before = carve(&mut pool, words);
+        let voted = carve(&mut pool, words);
+        let work = carve(&mut pool, WORK_WORDS);
+        let mark = pool.mark();
+        let made = carve(&mut pool, words);
+        store(&mut pool, &before, 0, starts);
         Ok(WordFile {
-            agreed: zeros(sensors),
-            before: copy_of(starts),
-            voted: zeros(starts.len()),
-            made: zeros(starts.len()),
-            executor: Executor::make(alloc)?,
+            inputs: Inputs {
+                agreed: load(&pool, &agreed, sensors),
+                before: load(&pool, &before, words),
+                voted: load(&pool, &voted, words),
+            },
+            pool,
+            agreed,
+            before,
+            voted,
+            work,
+            mark,
+            made: Some(made),
+            follows: true,
         })
     }
 
@@ -56,14 +91,14 @@ impl WordFile {
     pub(crate) fn agreed(&self) -> ArrayVec<Word, 8>
         ensures { result.items ≡ self.now.agreed }
     {
-        copy_of(&self.agreed)
+        load(&self.pool, &self.agreed, self.inputs.agreed.len())
     }
 
     /// The voted words.
     pub(crate) fn voted(&self) -> ArrayVec<Word, 64>
         ensures { result.items ≡ self.now.voted }
     {
-        copy_of(&self.voted)
+        load(&self.pool, &self.voted, self.inputs.voted.len())
     }
 
     /// A word that the unit made itself.
@@ -71,7 +106,10 @@ impl WordFile {
         requires { word < length self.now.made }
         ensures { result ≡ slice_index self.now.made word }
     {
-        self.made[usize::from(word)]
+        match &self.made {
+            Some(made) => Word::of(self.pool.get(made, usize::from(word))),
+            None => unreachable!(),
+        }
     }
 
     /// Keeps the agreed word of a sensor.
@@ -79,7 +117,8 @@ impl WordFile {
         requires { sensor < length self.old.agreed }
         ensures { self.new ≡ with_agreed self.old sensor word }
     {
-        put(&mut self.agreed, sensor, word);
+        self.pool.put(&self.agreed, usize::from(sensor), word.get());
+        self.inputs.agreed[usize::from(sensor)] = word;
     }
 
     /// Keeps a voted word.
@@ -87,7 +126,8 @@ impl WordFile {
         requires { at < length self.old.voted }
         ensures { self.new ≡ with_voted self.old at word }
     {
-        put(&mut self.voted, at, word);
+        self.pool.put(&self.voted, usize::from(at), word.get());
+        self.inputs.voted[usize::from(at)] = word;
     }
 
     /// Runs code on the agreed words, this frame's words and those of the frame before. It takes no
@@ -98,8 +138,22 @@ impl WordFile {
         ensures count { length result.items ≡ code.now.limits.outputs }
         ensures same { self.new ≡ self.old }
     {
-        self.executor
-            .run(code, &self.agreed, &self.voted, &self.before)
+        let mut outs = ArrayVec::new();
+        let Inputs {
+            agreed,
+            before,
+            voted,
+        } = &self.inputs;
+        run(
+            code,
+            &mut self.pool,
+            &self.work,
+            agreed,
+            voted,
+            before,
+            &mut outs,
+        );
+        outs
     }
 
     /// Keeps words that the unit made itself, from a place on.
@@ -107,7 +161,9 @@ impl WordFile {
         requires { at + length words.now ≤ length self.old.made }
         ensures { self.new ≡ with_made self.old at words.now }
     {
-        put_at(&mut self.made, at, words);
+        if let Some(made) = &self.made {
+            store(&mut self.pool, made, at, words);
+        }
     }
 
     /// Goes on to the next frame, after one in which words were voted: they are the words before now.
@@ -115,14 +171,24 @@ impl WordFile {
     pub(crate) fn turn_over(&mut self, stays: bool)
         ensures { self.new ≡ next_words stays self.old }
     {
-        self.before = copy_of(&self.voted);
-        self.made = zeros(if stays { self.voted.len() } else { 0 });
+        self.pool.release(self.mark);
+        self.made = None;
+        let words = self.inputs.voted.len();
+        let voted = load(&self.pool, &self.voted, words);
+        store(&mut self.pool, &self.before, 0, &voted);
+        self.inputs.before = voted;
+        self.follows = true;
+        if !stays {
+            return;
+        }
+        self.made = Some(carve(&mut self.pool, words));
     }
 
     /// Goes on to the next frame, after one in which no words were voted.
     pub(crate) fn rest(&mut self)
         ensures { self.new ≡ without_before self.old }
     {
-        self.before = ArrayVec::new();
+        self.follows = false;
+        self.inputs.before = ArrayVec::new();
     }
 }
