@@ -1,9 +1,8 @@
 -- The words of a frame in their pool: as they are laid out, and as the next frame finds them.
-use Rattle.std.proofs.Common.{◌≡◌, ◌≢◌, ℕ, ◌+◌, ◌*◌, ◌<◌, ◌≤◌, List, [], ◌++◌, length, take, drop, replicate, Bool, true, false, Option, Some, None, refl, sym, ap, subst, ◌∙◌, arith}
-use Rattle.std.specs.Prelude.{if◌then◌else◌}
+use Rattle.std.proofs.Common.{◌≡◌, ℕ, ◌+◌, ◌*◌, ◌<◌, ◌≤◌, List, [], ◌++◌, length, take, drop, replicate, Bool, true, false, Option, Some, None, refl, sym, ap, subst, ◌∙◌, arith}
 use Rattle.std.proofs.lemmas.List.{append-nil, drop_all}
 use Rattle.sift_pool.specs.Region.{Region, Extent, KeepsLiveBelow, words_at, first_spans, empty_region, left_in}
-use Rattle.sift_unit.specs.FrameWords.{FrameWords, first_words, next_words}
+use Rattle.sift_unit.specs.FrameWords.{first_words, next_words}
 use Rattle.sift_unit.specs.Carving.{Adds, Rewords, IsSpan, IsCarved, IsFile, words_in}
 use Rattle.sift_unit.proofs.Carved.{carved_reworded, carved_released, words_first, scratch_room, carved_added}
 

@@ -1,5 +1,5 @@
 -- The words that a board has in a frame.
-use Rattle.std.specs.Prelude.{◌≡◌, ℕ, ◌<◌, ◌≤◌, ◌+◌, ◌++◌, List, [], Bool, true, false, length, take, drop, replicate, slice_set, if◌then◌else◌}
+use Rattle.std.specs.Prelude.{ℕ, ◌+◌, ◌++◌, List, [], Bool, length, take, drop, replicate, slice_set, if◌then◌else◌}
 
 -- the agreed words, by sensor; and by output word those that were voted in the frame before, those that are voted in this one, and those that
 -- the unit makes itself, of which there are none while it is outside its configuration

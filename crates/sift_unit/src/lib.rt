@@ -6,7 +6,6 @@ mod board;
 mod duties;
 mod duty;
 mod laws;
-mod lists;
 mod memory;
 mod new_board;
 mod noted;

@@ -1,5 +1,5 @@
-use Rattle.std.proofs.Common.{rules, ◌≡◌, ◌+◌, ◌*◌, ◌≤◌, length, refl, arith}
-use Rattle.sift_pool.specs.Region.{Region, empty_region}
+use Rattle.std.proofs.Common.{rules, ◌≡◌, ◌+◌, ◌*◌, length, refl, arith}
+use Rattle.sift_pool.specs.Region.{empty_region}
 use Rattle.sift_unit.proofs.Filing.{first_is, first_file}
 use Rattle.sift_unit.proofs.word_file.WordFile.make.Goals as goal
 

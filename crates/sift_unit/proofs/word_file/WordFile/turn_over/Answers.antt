@@ -1,4 +1,4 @@
-use Rattle.std.proofs.Common.{rules, ◌≡◌, ◌≤◌, false, true, ◌∙◌, ap, sym, arith}
+use Rattle.std.proofs.Common.{rules, ◌≡◌, false, true, ◌∙◌, sym, arith}
 use Rattle.sift_unit.specs.FrameWords.{next_words}
 use Rattle.sift_unit.proofs.Filing.{voted_long, turned_file, turned_is, turned_room, begun_file, begun_is}
 use Rattle.sift_unit.proofs.word_file.WordFile.turn_over.Goals as goal
