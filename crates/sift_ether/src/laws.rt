@@ -1,0 +1,25 @@
+//! What holds whatever threads do, and in whatever order.
+ghost use Rattle.std.specs.Prelude.{ℕ, List};
+ghost use Rattle.atomic_table.specs.Table.{State};
+ghost use Rattle.sift_buffer.specs.declared.grid.Grid.{Grid as TheGrid};
+ghost use Rattle.sift_ether.specs.Rule.{IsLawfulTable};
+ghost use Rattle.sift_ether.specs.Seating.{TokensComeBack};
+ghost use Rattle.sift_ether.specs.TableSeats.{ranges_at};
+ghost use Rattle.sift_ether.specs.declared.deed.Chronicle.{Chronicle as TheChronicle};
+
+use crate::rule::{Chronicles, IsLawful};
+use atomic_table::TableRule;
+use sift_buffer::Grid;
+
+/// The rule of each ether's table is that its words, and the conduct of all units as their seats know
+/// it, are a lawful core. What `atomic_table` promises of a rule: it holds between any two steps, of
+/// whatever threads.
+pub fn the_rule_is_the_lawful_core()
+    ensures { (grid : TheGrid) (s : State ℕ (List TheChronicle)) → ⟦<IsLawful as TableRule<u8, Chronicles, Grid>>⟧.holds grid s → IsLawfulTable (ranges_at grid) s }
+{}
+
+/// Whatever was done at a seat, the token that it gives back is of its ether and unit, and has what
+/// the seat had.
+pub fn tokens_come_back()
+    ensures { TokensComeBack }
+{}

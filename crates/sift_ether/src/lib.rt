@@ -1,0 +1,22 @@
+//! The shared words of all units as one table of atomic words, on which threads step at once. Each
+//! unit has a token, by which it takes its seat there.
+#![tactic(auto)]
+
+mod deed;
+mod ether;
+mod head;
+mod land;
+mod laws;
+mod make;
+mod port;
+mod rule;
+mod seat;
+mod sit;
+mod steps;
+mod token;
+
+pub use deed::{Chronicle, Deed};
+pub use ether::Ether;
+pub use laws::{the_rule_is_the_lawful_core, tokens_come_back};
+pub use seat::EtherSeat;
+pub use token::Token;

@@ -1,0 +1,67 @@
+//! A new ether and its tokens.
+ghost use Rattle.std.specs.Prelude.{◌≡◌, ◌+◌, ◌-◌, ◌<◌, [], IfOk};
+ghost use Rattle.sift_base.specs.Layout.{IsLayout};
+ghost use Rattle.sift_buffer.specs.Conduct.{fresh};
+ghost use Rattle.sift_buffer.specs.Ledgers.{Tells};
+ghost use Rattle.sift_ether.specs.Deeds.{blank, blanks_from};
+ghost use Rattle.sift_ether.specs.TableSeats.{chronicle_of};
+ghost use Rattle.sift_ether.specs.Tokens.{IsMade, IsAt};
+
+use crate::ether::Ether;
+use crate::head::{open, split_first};
+use crate::rule::{SharedWords, TableSeat};
+use crate::token::Token;
+use sift_base::{Layout, NoMemory, UnitId};
+use sift_buffer::{Acts, Grid};
+use std::alloc::Global;
+
+impl Ether {
+    /// The shared words of a layout's units, on which nothing was done, and a token for each unit, in
+    /// order. It takes all memory of their acts.
+    pub fn make(alloc: Global, layout: Layout, frames: u32) -> Result<(Ether, Vec<Token>), NoMemory>
+        requires { IsLayout layout }
+        ensures { IfOk result (λ made. IsMade made.0 made.1.items layout frames) }
+    {
+        let grid = Grid::of(layout, frames);
+        let words = vec![in alloc; 0; grid.shared_words()]?;
+        let mut tokens = Vec::with_capacity(alloc, usize::from(layout.units))?;
+        let (table, mut head) = open(alloc, words.as_slice(), &grid)?;
+        for number in 0..layout.units {
+            if let Some(unit) = UnitId::of(number) {
+                let acts = Acts::make(alloc, layout, unit, frames)?;
+                tokens.push_reserved(deal_next(
+                    &table.shared,
+                    &mut head,
+                    unit,
+                    layout,
+                    frames,
+                    acts,
+                ));
+            }
+        }
+        Ok((Ether { table, grid }, tokens))
+    }
+}
+
+/// The token of the next unit, which the head seat gives away.
+fn deal_next(
+    words: &SharedWords,
+    head: &mut TableSeat,
+    unit: UnitId,
+    layout: Layout,
+    frames: u32,
+    acts: Acts,
+) -> Token
+    requires table { head.old.table_id ≡ words.now.table_id }
+    requires wide { 0 < words.now.table_id.words }
+    requires unit { unit < layout.units }
+    requires left { head.old.me ≡ (blanks_from unit (layout.units - unit), []) }
+    requires acts { Tells acts layout unit frames fresh }
+    ensures head { (head.new.table_id ≡ head.old.table_id) × (head.new.me ≡ (blanks_from (unit + 1) (layout.units - (unit + 1)), [])) }
+    ensures of { IsAt words.now.table_id layout frames result }
+    ensures unit { result.unit ≡ unit }
+    ensures blank { chronicle_of result.seat.me ≡ blank unit }
+{
+    let seat = split_first(words, head);
+    Token { seat, unit, acts }
+}

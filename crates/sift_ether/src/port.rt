@@ -1,0 +1,116 @@
+//! A unit at its seat as a port.
+ghost use Rattle.std.specs.Prelude.{◌≡◌, ◌<◌, []};
+ghost use Rattle.sift_buffer.specs.Conditions.{MayEnter, MayTurn, PassesGate};
+ghost use Rattle.sift_buffer.specs.Views.{view_with_entered, view_with_turned};
+ghost use Rattle.sift_ether.specs.Seats.{view_of, Follows, Stands};
+ghost use Rattle.sift_ether.specs.Following.{itself, further};
+
+use crate::seat::EtherSeat;
+use crate::steps::{enter, load_cell, look, store_cell, store_stray, turn};
+use sift_base::{UnitId, Word};
+use sift_buffer::{Entering, Look, Port, find_behind, pack, take};
+use std::marker::Brand;
+
+impl EtherSeat<'_> {
+    /// Stores the progress, raised by one.
+    fn go_on(&mut self)
+        requires may { MayEnter (view_of self.old).conduct }
+        requires gate { PassesGate (view_of self.old).ranges (view_of self.old).conduct (view_of self.old).unit }
+        ensures entered { view_of self.new ≡ view_with_entered (view_of self.old) }
+        ensures follows { Follows self.old [] self.new }
+    {
+        let next = self.acts.progress() + 1;
+        enter(self.words, &mut self.seat, self.unit, next);
+        self.acts.note_entered();
+    }
+
+    /// Stores the progress number of a unit that has turned.
+    fn leave(&mut self)
+        requires may { MayTurn (view_of self.old).conduct }
+        requires gate { 0 < (view_of self.old).conduct.progress → PassesGate (view_of self.old).ranges (view_of self.old).conduct (view_of self.old).unit }
+        ensures turned { view_of self.new ≡ view_with_turned (view_of self.old) }
+        ensures follows { Follows self.old [] self.new }
+    {
+        turn(self.words, &mut self.seat, self.unit);
+        self.acts.note_turned();
+    }
+}
+
+impl Look for EtherSeat<'_> {
+    ghost view = { view_of };
+
+    ghost follows = { Follows };
+
+    ghost stands = { Stands };
+
+    ghost follows_itself = { itself };
+
+    ghost follows_on = { further };
+
+    fn look(&mut self, other: UnitId) -> u64 {
+        let number = look::<Brand>(self.words, &mut self.seat, other);
+        self.acts.note_seen(other, number);
+        number
+    }
+}
+
+impl Port for EtherSeat<'_> {
+    fn progress(&self) -> u64 {
+        self.acts.progress()
+    }
+
+    fn say(&mut self, to: UnitId, slot: usize, f: u32, stamp: u32, word: Option<Word>) {
+        let told = word;
+        let stored = word;
+        let place = self.grid.place(self.unit, to, slot);
+        let cell = pack(stamp, stored);
+        store_cell::<Brand>(
+            self.words,
+            &mut self.seat,
+            place,
+            cell,
+            to,
+            slot,
+            f,
+            stamp,
+            told,
+        );
+        self.acts.note_said(f, slot, to, stamp, word);
+    }
+
+    fn hear(&mut self, from: UnitId, slot: usize, f: u32, stamp: u32) -> Option<Word> {
+        let place = self.grid.place(from, self.unit, slot);
+        let cell = load_cell::<Brand>(self.words, &mut self.seat, place, from, slot, f, stamp);
+        let word = take(cell, stamp);
+        let heard = word;
+        self.acts.note_heard(f, slot, from, stamp, heard);
+        word
+    }
+
+    fn try_enter(&mut self) -> Entering {
+        let progress = self.acts.progress();
+        if let Some((unit, seen)) = find_behind(self, self.grid.layout.units, self.unit, progress) {
+            return Entering::NotYet { unit, seen };
+        }
+        self.go_on();
+        Entering::Entered
+    }
+
+    fn turn(&mut self) -> Entering {
+        let progress = self.acts.progress();
+        if progress == 0 {
+            self.leave();
+            return Entering::Entered;
+        }
+        if let Some((unit, seen)) = find_behind(self, self.grid.layout.units, self.unit, progress) {
+            return Entering::NotYet { unit, seen };
+        }
+        self.leave();
+        Entering::Entered
+    }
+
+    fn stray(&mut self, to: UnitId, slot: usize, cell: u64) {
+        let place = self.grid.place(self.unit, to, slot);
+        store_stray::<Brand>(self.words, &mut self.seat, place, cell, to, slot);
+    }
+}

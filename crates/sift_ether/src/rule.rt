@@ -1,0 +1,95 @@
+//! The rule of the table of shared words, and what its steps tell.
+ghost use Rattle.sift_ether.specs.Deeds.{blanks_from};
+ghost use Rattle.sift_ether.specs.Rule.{IsLawfulTable};
+ghost use Rattle.sift_ether.specs.TableSeats.{ranges_at, first_of, rest_of, AddsDeed};
+ghost use Rattle.std.specs.Prelude.{◌≡◌, [], ◌++◌, ℕ};
+ghost use Rattle.sift_ether.specs.declared.deed.Deed.{Deed as TheDeed};
+ghost use Rattle.sift_ether.specs.declared.deed.Deed.TheVariants.{Entered as TheEntered, Turned as TheTurned};
+
+use crate::deed::Chronicle;
+use atomic_table::{Join, Play, Seat, Shared, Split, Table, TableRule};
+use sift_buffer::Grid;
+use std::alloc::Global;
+use std::collections::LinkedList;
+use std::marker::{Brand, PhantomData};
+
+/// What a seat of the table knows: the units for which it stands, and all that they did.
+pub type Chronicles = LinkedList<Chronicle>;
+
+/// The shared words, as those see them who step on them. The table has no slots beside its words.
+pub type SharedWords = Shared<u8, Chronicles, Grid, IsLawful>;
+
+/// The shared words as their owner has them.
+pub type WordTable = Table<u8, Chronicles, Grid, IsLawful, Global>;
+
+/// A seat of the table.
+pub type TableSeat = Seat<u8, Chronicles>;
+
+/// The rule: the words, and the conduct of all units as their seats know it, are a lawful core. At
+/// first one seat stands for all units.
+pub struct IsLawful;
+
+impl TableRule<u8, Chronicles, Grid> for IsLawful {
+    ghost holds = { λ grid. IsLawfulTable (ranges_at grid) };
+
+    ghost first = { λ grid. blanks_from 0 grid.layout.units };
+}
+
+/// A call of a unit.
+pub trait Call {
+    /// The deed that it adds, by the number that its step loads or stores.
+    ghost deed: { ℕ → TheDeed };
+}
+
+/// A call whose deed its caller picks.
+impl Call for Brand {
+    ghost deed = { λ _. TheEntered };
+}
+
+/// An entry of the next subframe.
+pub struct Enters;
+
+impl Call for Enters {
+    ghost deed = { λ _. TheEntered };
+}
+
+/// A turn.
+pub struct Turns;
+
+impl Call for Turns {
+    ghost deed = { λ _. TheTurned };
+}
+
+/// A step that is one deed of the seat's one unit.
+pub struct Adds<C> {
+    call: PhantomData<C>,
+}
+
+impl<C: Call> Play<u8, Chronicles> for Adds<C> {
+    ghost then = { λ _ before number after. AddsDeed C.deed before number after };
+}
+
+/// The first unit goes to a new seat.
+pub struct First;
+
+impl Split<Chronicles> for First {
+    ghost left = { rest_of };
+
+    ghost right = { first_of };
+}
+
+/// The units of two seats go to the first of them.
+pub struct All;
+
+impl Join<Chronicles> for All {
+    ghost both = { λ view other. view ++ other };
+
+    ghost spent = { [] };
+}
+
+/// A new seat stands for no unit.
+pub struct Arrives;
+
+impl Play<u8, Chronicles> for Arrives {
+    ghost then = { λ _ _ _ after. after.0 ≡ [] };
+}

@@ -1,0 +1,26 @@
+//! A unit at its seat.
+ghost use Rattle.std.specs.Prelude.{◌≡◌};
+ghost use Rattle.sift_buffer.specs.Journals.{IsJournalOf};
+ghost use Rattle.sift_ether.specs.Deeds.{AreNoted};
+ghost use Rattle.sift_ether.specs.TableSeats.{ranges_at, chronicle_of, IsAtTable, IsOne};
+
+use crate::rule::{SharedWords, TableSeat};
+use sift_base::UnitId;
+use sift_buffer::{Acts, Grid};
+
+/// A unit at its seat. Each call is one atomic load or store of a shared word, or a round of such
+/// loads and one store. It waits for nobody, and takes no memory.
+#[derive(Drop)]
+pub struct EtherSeat<'a> {
+    pub(crate) words: &'a SharedWords,
+    pub(crate) grid: Grid,
+    pub(crate) seat: TableSeat,
+    pub(crate) unit: UnitId,
+    pub(crate) acts: Acts,
+    ghost key: { words.now.key ≡ grid },
+    ghost table: { IsAtTable words.now.table_id words.now.key seat.table_id },
+    ghost one: { IsOne (ranges_at words.now.key) seat.me },
+    ghost unit_is: { (chronicle_of seat.me).unit ≡ unit },
+    ghost owner: { IsJournalOf acts.pages grid.layout unit grid.frames },
+    ghost noted: { AreNoted acts (chronicle_of seat.me) },
+}
