@@ -3,5 +3,6 @@ pub mod Deeds
 pub mod Landing
 pub mod Lists
 pub mod Puts
+pub mod Ring
 pub mod Seated
 pub mod Seats

@@ -13,6 +13,7 @@ mod rule;
 mod seat;
 mod sit;
 mod steps;
+mod tests;
 mod token;
 
 pub use deed::{Chronicle, Deed};
