@@ -1,5 +1,5 @@
 -- Lists of tokens, and lists read by index.
-use Rattle.std.proofs.Common.{◌≡◌, ℕ, zero, suc, ◌+◌, ◌<◌, List, [], ◌∷◌, ◌++◌, length, slice_index_or, length-append, sym, ap, ◌∙◌, subst, arith}
+use Rattle.std.proofs.Common.{◌≡◌, ℕ, zero, suc, ◌+◌, ◌<◌, List, [], ◌∷◌, ◌++◌, length, map, slice_index_or, length-append, sym, ap, ◌∙◌, subst, arith}
 use Rattle.std.specs.List.{All}
 use Rattle.std.proofs.lemmas.List.{get_or_append_left}
 use Rattle.std.proofs.Math.Seq.{get_or-append_seam}
@@ -36,3 +36,10 @@ pub at_seam : {A : Type 0} (P : A → Type 0) (all xs : List A) (x : A) (ys : Li
     ((u : ℕ) (d : A) → u < length all → P (slice_index_or all u d)) → P x
 at_seam {A} P all xs x ys e each = subst P (ap (λ (l : List A). slice_index_or l (length xs) x) (sym e) ∙ get_or-append_seam xs x ys x)
     (each (length xs) x (subst (λ (l : List A). length xs < length l) e (let n = length-append xs (x ∷ ys) in omega arith)))
+
+-- what holds of what is made of each element holds of the mapped list
+pub each_mapped : {A B : Type 0} (f : A → B) (P : ℕ → B → Type 0) (xs : List A) → ((u : ℕ) (d : A) → u < length xs → P u (f (slice_index_or xs u d))) →
+    (u : ℕ) (d : B) → u < length xs → P u (slice_index_or (map f xs) u d)
+each_mapped f P [] each u d low = absurd (omega arith)
+each_mapped f P (x ∷ xs) each zero d low = each zero x low
+each_mapped f P (x ∷ xs) each (suc u) d low = each_mapped f (λ v. P (suc v)) xs (λ v d' l. each (suc v) d' (omega arith)) u d (omega arith)

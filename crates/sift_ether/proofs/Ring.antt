@@ -1,11 +1,11 @@
 -- For the test: what a unit in a ring may do, and where it stands then.
-use Rattle.std.proofs.Common.{◌≡◌, ◌≢◌, ◌&&◌, ◌==◌, ℕ, ◌+◌, ◌<◌, ◌≤◌, Option, Some, None, if◌then◌else◌, refl, sym, ap, ◌∙◌, subst, arith, eq-eqb, ne_eqb}
+use Rattle.std.proofs.Common.{◌≡◌, ℕ, ◌+◌, ◌<◌, ◌≤◌, Option, Some, None, refl, sym, ap, ◌∙◌, subst, arith, eq-eqb, ne_eqb}
 use mathlib.Core.Logic.{dite}
 use native.Mathlib.Decide.{ℕ_discrete}
 use Rattle.sift_buffer.specs.Ranges.{Ranges, IsCell}
-use Rattle.sift_buffer.specs.Conduct.{Conduct, Saying, Hearing, saying}
+use Rattle.sift_buffer.specs.Conduct.{Conduct, Saying}
 use Rattle.sift_buffer.specs.Conditions.{MayEnter}
-use Rattle.sift_buffer.specs.Views.{View, fresh_view, view_with_said, view_with_heard, Tries, FindsBehind, EntersAfterRound, PortMaySay, PortMayHear}
+use Rattle.sift_buffer.specs.Views.{View, fresh_view, view_with_said, view_with_heard, FindsBehind, EntersAfterRound, PortMaySay, PortMayHear}
 use Rattle.sift_ether.specs.Ring.{IsUnderWay, HasLookedRound, HasEntered, ring_frames}
 
 -- ---- rounds of looks

@@ -1,5 +1,5 @@
 -- A seat after one deed of its unit.
-use Rattle.std.proofs.Common.{◌≡◌, List, [], ◌∷◌, ◌++◌, refl, ap, ◌∙◌}
+use Rattle.std.proofs.Common.{◌≡◌, List, [], ◌∷◌, ◌++◌, ap, ◌∙◌}
 use Rattle.sift_buffer.specs.Conduct.{Stray}
 use Rattle.sift_ether.specs.declared.deed.Deed.{Deed}
 use Rattle.sift_ether.specs.declared.seat.EtherSeat.{EtherSeat}

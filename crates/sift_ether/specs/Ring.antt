@@ -1,7 +1,9 @@
 -- For the test: units in a ring, each of which says to the next and hears of the one before, in the first slot.
-use Rattle.std.specs.Prelude.{◌≡◌, ℕ, ◌+◌, ◌≤◌, Option, Some, None}
+use Rattle.std.specs.Prelude.{◌≡◌, ℕ, ◌+◌, ◌<◌, ◌≤◌, List, length, slice_index_or, Option, Some, None}
+use Rattle.sift_base.specs.declared.layout.Layout.{Layout}
 use Rattle.sift_buffer.specs.Ranges.{IsCell}
 use Rattle.sift_buffer.specs.Conduct.{never, saying}
+use Rattle.sift_buffer.specs.Journals.{Pages, IsJournalOf}
 use Rattle.sift_buffer.specs.Tables.{ranges_of}
 use Rattle.sift_buffer.specs.Views.{View, fresh_view}
 use Rattle.sift_ether.specs.declared.ether.Ether.{Ether}
@@ -41,3 +43,12 @@ pub record IsNewInRing (e : Ether) (t : Token) : Type 0 where
   pub units : e.grid.layout.units ≡ 4
   pub frames : e.grid.frames ≡ ring_frames
   pub view : token_view e t ≡ fresh_view (ranges_of e.grid.layout e.grid.frames) t.unit
+
+-- the layout of the ring: four units, a sensor and an output word
+abbrev pub ring_layout : Layout
+ring_layout = record { units = 4; sensors = 1; words = 1 }
+
+-- the journals of the ring's units, in their order
+pub record AreOfRing (journals : List Pages) : Type 0 where
+  pub count : length journals ≡ 4
+  pub each : (u : ℕ) (d : Pages) → u < 4 → IsJournalOf (slice_index_or journals u d) ring_layout u ring_frames

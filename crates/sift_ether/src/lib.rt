@@ -13,6 +13,7 @@ mod rule;
 mod seat;
 mod sit;
 mod steps;
+#[cfg(test)]
 mod tests;
 mod token;
 

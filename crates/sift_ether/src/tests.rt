@@ -1,15 +1,15 @@
 //! Units in a ring, each in a thread of its own, that say and hear over many subframes.
 ghost use Rattle.std.specs.Prelude.{◌≡◌, ◌+◌, ◌*◌, ◌<◌, true, [], IfOk, IfSome, All, ◌%◌};
 ghost use Rattle.sift_buffer.specs.Conditions.{MayEnter};
-ghost use Rattle.sift_ether.specs.Ring.{IsUnderWay, HasEntered, IsNewInRing, ring_frames};
-ghost use Rattle.sift_ether.specs.Tokens.{IsTokenOf, AreTokensOf, token_view};
+ghost use Rattle.sift_ether.specs.Ring.{IsUnderWay, HasEntered, IsNewInRing, AreOfRing, ring_frames};
+ghost use Rattle.sift_ether.specs.Tokens.{IsTokenOf, AreTokensOf};
 
 use crate::ether::Ether;
 use crate::laws::tokens_come_back;
 use crate::token::Token;
-use sift_base::{Layout, UnitId, Word};
-use sift_buffer::{Entering, Port};
-use std::alloc::AllocError;
+use sift_base::{Layout, NoMemory, UnitId, Word};
+use sift_buffer::{Entering, Journal, Port};
+use std::alloc::{AllocError, Global};
 use std::test::Fail;
 use std::thread::{self, Threads};
 
@@ -103,7 +103,9 @@ fn fly_token(ether: &Ether, token: Token) -> Token
     tokens_come_back();
     let unit = token.unit;
     let mut seat = ether.seat(token);
-    if let Some(next) = after(unit, 1) && let Some(before) = after(unit, 3) {
+    if let Some(next) = after(unit, 1)
+        && let Some(before) = after(unit, 3)
+    {
         fly(&mut seat, unit, next, before);
     }
     seat.end()
@@ -120,4 +122,41 @@ fn fly_tokens<H: Threads + Sync>(
     ensures { IfOk result (λ back. AreTokensOf ether.now back.items) }
 {
     thread::map_vec(rt, tokens, &|token| fly_token(ether, token))
+}
+
+/// The journals of all units, after their flights.
+fn fly_ring<H: Threads + Sync>(rt: &H, alloc: Global) -> Result<Vec<Journal>, NoMemory>
+    ensures { IfOk result (λ journals. AreOfRing journals.items) }
+{
+    let (ether, tokens) = Ether::make(alloc, LAYOUT, FRAMES)?;
+    let landed = fly_tokens(rt, &ether, tokens)?;
+    ether.land(alloc, landed)
+}
+
+/// How many frames there are in which a unit heard the word that the unit before it had said.
+fn count_heard(journals: &[Journal]) -> u32
+    requires { AreOfRing journals.now }
+{
+    let mut heard = 0;
+    for number in 0..LAYOUT.units {
+        if let Some(unit) = UnitId::of(number)
+            && let Some(before) = after(unit, 3)
+        {
+            for f in 0..FRAMES {
+                let word = journals[usize::from(number)].heard(f, 0, before);
+                if word == Some(word_of(before, f)) {
+                    heard += 1;
+                }
+            }
+        }
+    }
+    heard
+}
+
+#[test]
+fn each_unit_hears_each_word_of_the_unit_before(rt: HostRuntime) -> Result<(), Fail> {
+    let journals = fly_ring(&rt, rt.alloc())?;
+    let heard = count_heard(&journals);
+    assert_eq!(rt; heard, 1000, "four units, in 250 frames each");
+    Ok(())
 }

@@ -1,4 +1,4 @@
-use Rattle.std.proofs.Common.{List, [], ◌∷◌, sym, ap, ◌∙◌}
+use Rattle.std.proofs.Common.{List, [], ap, ◌∙◌}
 use Rattle.sift_ether.specs.declared.deed.Chronicle.{Chronicle}
 use Rattle.sift_ether.specs.TableSeats.{chronicle_of, first_of, rest_of}
 use Rattle.sift_ether.proofs.Dealing.{next_blank}
