@@ -8,15 +8,17 @@ use Rattle.atomic_table.specs.Table.{State, Me, keeps, Allows}
 use Rattle.atomic_table.proofs.Lists.{at_set}
 use Rattle.sift_buffer.specs.Cell.{taken, packed, IsWord}
 use Rattle.sift_buffer.specs.Ranges.{Ranges, shared_words, place}
-use Rattle.sift_buffer.specs.Conduct.{Conduct, never, put, with_said, with_entered, with_turned, with_stray}
+use Rattle.sift_buffer.specs.Conduct.{Conduct, never, put, with_seen, with_heard, with_said, with_entered, with_turned, with_stray}
 use Rattle.sift_buffer.specs.Conditions.{MayHear, MaySay, MayEnter, MayTurn, MayStray, PassesGate}
 use Rattle.sift_buffer.specs.Core.{Event, look, hear, say, enter, turn, stray, doer, after, MayDo}
 use Rattle.sift_buffer.specs.Lawful.{Lawful}
 use Rattle.sift_buffer.specs.Laws.{EventsKeepLawful}
 use Rattle.sift_ether.specs.declared.deed.Chronicle.{Chronicle}
 use Rattle.sift_ether.specs.declared.deed.Deed.{Deed}
-use Rattle.sift_ether.specs.declared.deed.Deed.TheVariants.{Looked, Said, Heard, Entered, Turned, Strayed}
 use Rattle.sift_ether.specs.Deeds.{conduct_by, chronicle_with, with_deed}
+use Rattle.sift_ether.specs.declared.call.Call.{Call}
+use Rattle.sift_ether.specs.declared.call.Call.TheVariants.{Look, Hear, Say, Enter, Turn, Stray}
+use Rattle.sift_ether.specs.Steps.{MayLoad, MayStore, deed_of}
 use Rattle.sift_ether.specs.Rule.{StandsFor, IsLawfulTable}
 use Rattle.sift_ether.specs.TableSeats.{AddsDeed}
 use Rattle.sift_ether.proofs.Puts.{put_here}
@@ -91,46 +93,45 @@ module _ {S : Type 0} where
       event ws ws' of d d' e law may own comes same = subst (λ (x : Conduct). Lawful r (record { words = ws'; of = put of c.unit x })) same
           (subst (Lawful r) comes (keep r (record { words = ws; of = of }) (e ∷ []) law ((subst (λ (u : ℕ). u < r.units) (sym own) here, may), tt)))
 
-      -- a look at p
-      pub looks : (p : ℕ) → i ≡ p → ((n : ℕ) → deed n ≡ Looked p n) → (p < r.units) × (p ≢ c.unit) → Allows (IsLawfulTable r) slots id me i (λ n. n) (AddsDeed deed me)
-      looks p there adds other = loads (λ ws of law mine. event ws ws of _ _ (look c.unit p) law other refl refl
-          (λ j. with_deed (mine j) ((ap (λ (x : ℕ). Looked p (slice_index ws x)) (sym there) ∙ sym (adds (slice_index ws i))) j)))
+      -- a load by which the unit may make the call
+      pub may_load : (call : Call) → deed ≡ deed_of call → MayLoad r c i call → Allows (IsLawfulTable r) slots id me i (λ n. n) (AddsDeed deed me)
+      may_load call told may = loads (λ ws of law mine.
+          subst (λ (e : ℕ → Deed). Lawful r (record { words = ws; of = put of c.unit (with_deed (conduct_by c) (e (slice_index ws i))) })) (sym told) (by ws of law mine call may))
+        where
+          by : (ws : List ℕ) (of : ℕ → Conduct) → Lawful r (record { words = ws; of = of }) → of c.unit ≡ conduct_by c → (call : Call) → MayLoad r c i call →
+              Lawful r (record { words = ws; of = put of c.unit (with_deed (conduct_by c) (deed_of call (slice_index ws i))) })
+          by ws of law mine (Look p) may = event ws ws of _ _ (look c.unit p) law (may.1, may.2) refl refl
+              (λ j. with_seen (mine j) p (slice_index ws (sym may.0 j)))
+          by ws of law mine (Hear f k p s) may = event ws ws of _ _ (hear c.unit p k f s) law
+              (subst (λ (d : Conduct). MayHear r d c.unit p k f s) (sym mine) may.1) refl refl
+              (λ j. with_heard (mine j) f k p s (taken (slice_index ws (sym may.0 j)) s))
+          by ws of law mine (Say f k q s w) may = absurd may
+          by ws of law mine Enter may = absurd may
+          by ws of law mine Turn may = absurd may
+          by ws of law mine (Stray q k) may = absurd may
 
-      -- a load of p's cell for the seat's unit
-      pub hears : (f k p s : ℕ) → i ≡ place r p c.unit k → ((n : ℕ) → deed n ≡ Heard f k p s (taken n s)) → MayHear r (conduct_by c) c.unit p k f s →
-          Allows (IsLawfulTable r) slots id me i (λ n. n) (AddsDeed deed me)
-      hears f k p s there adds may = loads (λ ws of law mine. event ws ws of _ _ (hear c.unit p k f s) law
-          (subst (λ (d : Conduct). MayHear r d c.unit p k f s) (sym mine) may) refl refl
-          (λ j. with_deed (mine j) ((ap (λ (x : ℕ). Heard f k p s (taken (slice_index ws x) s)) (sym there) ∙ sym (adds (slice_index ws i))) j)))
-
-      -- a store of what is said in the own cell for q
-      pub says : (n f k q s : ℕ) (w : Option ℕ) → i ≡ place r c.unit q k → n ≡ packed s w → deed n ≡ Said f k q s w → MaySay r (conduct_by c) c.unit q k f s → IsWord w →
-          Allows (IsLawfulTable r) slots id me i (λ _. n) (λ _. AddsDeed deed me n)
-      says n f k q s w there packs adds may word = stores n (λ ws of law mine. event ws _ of _ _ (say c.unit q k f s w) law
-          (subst (λ (d : Conduct). MaySay r d c.unit q k f s) (sym mine) may, word) refl
-          (λ j. record { words = slice_set ws (sym there j) (sym packs j); of = put of c.unit (with_said (of c.unit) f k q s w) })
-          (λ j. with_deed (mine j) (sym adds j)))
-
-      -- a store of the own number, raised by one
-      pub enters : (n : ℕ) → i ≡ c.unit → n ≡ (conduct_by c).progress + 1 → deed n ≡ Entered → MayEnter (conduct_by c) → PassesGate r (conduct_by c) c.unit →
-          Allows (IsLawfulTable r) slots id me i (λ _. n) (λ _. AddsDeed deed me n)
-      enters n there up adds may gate = stores n (λ ws of law mine. event ws _ of _ _ (enter c.unit) law
-          (subst (λ (d : Conduct). MayEnter d × PassesGate r d c.unit) (sym mine) (may, gate)) refl
-          (λ j. record { words = slice_set ws (sym there j) ((ap (λ (d : Conduct). d.progress + 1) mine ∙ sym up) j); of = put of c.unit (with_entered (of c.unit)) })
-          (λ j. with_deed (mine j) (sym adds j)))
-
-      -- a store of the number of a unit that has turned
-      pub turns : i ≡ c.unit → deed never ≡ Turned → MayTurn (conduct_by c) → (0 < (conduct_by c).progress → PassesGate r (conduct_by c) c.unit) →
-          Allows (IsLawfulTable r) slots id me i (λ _. never) (λ _. AddsDeed deed me never)
-      turns there adds may gate = stores never (λ ws of law mine. event ws _ of _ _ (turn c.unit) law
-          (subst (λ (d : Conduct). MayTurn d × (0 < d.progress → PassesGate r d c.unit)) (sym mine) (may, gate)) refl
-          (λ j. record { words = slice_set ws (sym there j) never; of = put of c.unit (with_turned (of c.unit)) })
-          (λ j. with_deed (mine j) (sym adds j)))
-
-      -- a store of any number in the own cell for q
-      pub strays : (n q k : ℕ) → i ≡ place r c.unit q k → deed n ≡ Strayed q k n → MayStray r (conduct_by c) c.unit q k →
-          Allows (IsLawfulTable r) slots id me i (λ _. n) (λ _. AddsDeed deed me n)
-      strays n q k there adds may = stores n (λ ws of law mine. event ws _ of _ _ (stray c.unit q k n) law
-          (subst (λ (d : Conduct). MayStray r d c.unit q k) (sym mine) may) refl
-          (λ j. record { words = slice_set ws (sym there j) n; of = put of c.unit (with_stray (of c.unit) q k n) })
-          (λ j. with_deed (mine j) (sym adds j)))
+      -- a store by which the unit may make the call
+      pub may_store : (n : ℕ) (call : Call) → deed ≡ deed_of call → MayStore r c i n call → Allows (IsLawfulTable r) slots id me i (λ _. n) (λ _. AddsDeed deed me n)
+      may_store n call told may = stores n (λ ws of law mine.
+          subst (λ (e : ℕ → Deed). Lawful r (record { words = slice_set ws i n; of = put of c.unit (with_deed (conduct_by c) (e n)) })) (sym told) (by ws of law mine call may))
+        where
+          by : (ws : List ℕ) (of : ℕ → Conduct) → Lawful r (record { words = ws; of = of }) → of c.unit ≡ conduct_by c → (call : Call) → MayStore r c i n call →
+              Lawful r (record { words = slice_set ws i n; of = put of c.unit (with_deed (conduct_by c) (deed_of call n)) })
+          by ws of law mine (Look p) may = absurd may
+          by ws of law mine (Hear f k p s) may = absurd may
+          by ws of law mine (Say f k q s w) may = event ws _ of _ _ (say c.unit q k f s w) law
+              (subst (λ (d : Conduct). MaySay r d c.unit q k f s × IsWord w) (sym mine) (may.2, may.3)) refl
+              (λ j. record { words = slice_set ws (sym may.0 j) (sym may.1 j); of = put of c.unit (with_said (of c.unit) f k q s w) })
+              (λ j. with_said (mine j) f k q s w)
+          by ws of law mine Enter may = event ws _ of _ _ (enter c.unit) law
+              (subst (λ (d : Conduct). MayEnter d × PassesGate r d c.unit) (sym mine) (may.2, may.3)) refl
+              (λ j. record { words = slice_set ws (sym may.0 j) ((ap (λ (d : Conduct). d.progress + 1) mine ∙ sym may.1) j); of = put of c.unit (with_entered (of c.unit)) })
+              (λ j. with_entered (mine j))
+          by ws of law mine Turn may = event ws _ of _ _ (turn c.unit) law
+              (subst (λ (d : Conduct). MayTurn d × (0 < d.progress → PassesGate r d c.unit)) (sym mine) (may.2, may.3)) refl
+              (λ j. record { words = slice_set ws (sym may.0 j) (sym may.1 j); of = put of c.unit (with_turned (of c.unit)) })
+              (λ j. with_turned (mine j))
+          by ws of law mine (Stray q k) may = event ws _ of _ _ (stray c.unit q k n) law
+              (subst (λ (d : Conduct). MayStray r d c.unit q k) (sym mine) may.1) refl
+              (λ j. record { words = slice_set ws (sym may.0 j) n; of = put of c.unit (with_stray (of c.unit) q k n) })
+              (λ j. with_stray (mine j) q k n)

@@ -5,5 +5,6 @@ pub mod Ring
 pub mod Rule
 pub mod Seating
 pub mod Seats
+pub mod Steps
 pub mod TableSeats
 pub mod Tokens

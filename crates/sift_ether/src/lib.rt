@@ -2,6 +2,7 @@
 //! unit has a token, by which it takes its seat there.
 #![tactic(auto)]
 
+mod call;
 mod deed;
 mod ether;
 mod head;

@@ -5,8 +5,9 @@ ghost use Rattle.sift_buffer.specs.Views.{view_with_entered, view_with_turned};
 ghost use Rattle.sift_ether.specs.Seats.{view_of, Follows, Stands};
 ghost use Rattle.sift_ether.specs.Following.{itself, further};
 
+use crate::call::Call;
 use crate::seat::EtherSeat;
-use crate::steps::{enter, load_cell, look, store_cell, store_stray, turn};
+use crate::steps::{load, store};
 use sift_base::{UnitId, Word};
 use sift_buffer::{Entering, Look, Port, find_behind, pack, take};
 use std::marker::Brand;
@@ -20,7 +21,8 @@ impl EtherSeat<'_> {
         ensures follows { Follows self.old [] self.new }
     {
         let next = self.acts.progress() + 1;
-        enter(self.words, &mut self.seat, self.unit, next);
+        let own = usize::from(self.unit.get());
+        store::<Brand>(self.words, &mut self.seat, own, next, Call::Enter);
         self.acts.note_entered();
     }
 
@@ -31,8 +33,10 @@ impl EtherSeat<'_> {
         ensures turned { view_of self.new ≡ view_with_turned (view_of self.old) }
         ensures follows { Follows self.old [] self.new }
     {
-        turn(self.words, &mut self.seat, self.unit);
         self.acts.note_turned();
+        let own = usize::from(self.unit.get());
+        let number = self.acts.progress();
+        store::<Brand>(self.words, &mut self.seat, own, number, Call::Turn);
     }
 }
 
@@ -48,7 +52,8 @@ impl Look for EtherSeat<'_> {
     ghost follows_on = { further };
 
     fn look(&mut self, other: UnitId) -> u64 {
-        let number = look::<Brand>(self.words, &mut self.seat, other);
+        let word = usize::from(other.get());
+        let number = load::<Brand>(self.words, &mut self.seat, word, Call::Look { other });
         self.acts.note_seen(other, number);
         number
     }
@@ -60,27 +65,30 @@ impl Port for EtherSeat<'_> {
     }
 
     fn say(&mut self, to: UnitId, slot: usize, f: u32, stamp: u32, word: Option<Word>) {
-        let told = word;
         let stored = word;
-        let place = self.grid.place(self.unit, to, slot);
+        let told = word;
+        let own = self.grid.place(self.unit, to, slot);
         let cell = pack(stamp, stored);
-        store_cell::<Brand>(
-            self.words,
-            &mut self.seat,
-            place,
-            cell,
-            to,
-            slot,
+        let call = Call::Say {
             f,
+            slot,
+            to,
             stamp,
-            told,
-        );
+            word: told,
+        };
+        store::<Brand>(self.words, &mut self.seat, own, cell, call);
         self.acts.note_said(f, slot, to, stamp, word);
     }
 
     fn hear(&mut self, from: UnitId, slot: usize, f: u32, stamp: u32) -> Option<Word> {
         let place = self.grid.place(from, self.unit, slot);
-        let cell = load_cell::<Brand>(self.words, &mut self.seat, place, from, slot, f, stamp);
+        let call = Call::Hear {
+            f,
+            slot,
+            from,
+            stamp,
+        };
+        let cell = load::<Brand>(self.words, &mut self.seat, place, call);
         let word = take(cell, stamp);
         let heard = word;
         self.acts.note_heard(f, slot, from, stamp, heard);
@@ -111,6 +119,12 @@ impl Port for EtherSeat<'_> {
 
     fn stray(&mut self, to: UnitId, slot: usize, cell: u64) {
         let place = self.grid.place(self.unit, to, slot);
-        store_stray::<Brand>(self.words, &mut self.seat, place, cell, to, slot);
+        store::<Brand>(
+            self.words,
+            &mut self.seat,
+            place,
+            cell,
+            Call::Stray { to, slot },
+        );
     }
 }

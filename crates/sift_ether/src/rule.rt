@@ -4,7 +4,7 @@ ghost use Rattle.sift_ether.specs.Rule.{IsLawfulTable};
 ghost use Rattle.sift_ether.specs.TableSeats.{ranges_at, first_of, rest_of, AddsDeed};
 ghost use Rattle.std.specs.Prelude.{◌≡◌, [], ◌++◌, ℕ};
 ghost use Rattle.sift_ether.specs.declared.deed.Deed.{Deed as TheDeed};
-ghost use Rattle.sift_ether.specs.declared.deed.Deed.TheVariants.{Entered as TheEntered, Turned as TheTurned};
+ghost use Rattle.sift_ether.specs.declared.deed.Deed.TheVariants.{Entered as TheEntered};
 
 use crate::deed::Chronicle;
 use atomic_table::{Join, Play, Seat, Shared, Split, Table, TableRule};
@@ -35,29 +35,15 @@ impl TableRule<u8, Chronicles, Grid> for IsLawful {
     ghost first = { λ grid. blanks_from 0 grid.layout.units };
 }
 
-/// A call of a unit.
-pub trait Call {
-    /// The deed that it adds, by the number that its step loads or stores.
+/// What a step is told of its call.
+pub trait Told {
+    /// The deed that the step adds, by the number that it loads or stores.
     ghost deed: { ℕ → TheDeed };
 }
 
-/// A call whose deed its caller picks.
-impl Call for Brand {
+/// A deed that the caller picks.
+impl Told for Brand {
     ghost deed = { λ _. TheEntered };
-}
-
-/// An entry of the next subframe.
-pub struct Enters;
-
-impl Call for Enters {
-    ghost deed = { λ _. TheEntered };
-}
-
-/// A turn.
-pub struct Turns;
-
-impl Call for Turns {
-    ghost deed = { λ _. TheTurned };
 }
 
 /// A step that is one deed of the seat's one unit.
@@ -65,7 +51,7 @@ pub struct Adds<C> {
     call: PhantomData<C>,
 }
 
-impl<C: Call> Play<u8, Chronicles> for Adds<C> {
+impl<C: Told> Play<u8, Chronicles> for Adds<C> {
     ghost then = { λ _ before number after. AddsDeed C.deed before number after };
 }
 

@@ -3,4 +3,4 @@ use Rattle.sift_ether.proofs.Seats.{follows_one}
 use Rattle.sift_ether.proofs.port.EtherSeatLook.look.Goals as goal
 
 pub returns-clause-follows : goal.returns-clause-follows
-returns-clause-follows c = follows_one c.args.self.now _ _ _ refl refl refl c.look-number.ensures.table c.look-number.ensures.seat refl
+returns-clause-follows c = follows_one c.args.self.now _ _ _ refl refl refl c.load-number.ensures.table c.load-number.ensures.seat refl

@@ -3,4 +3,4 @@ use Rattle.sift_ether.proofs.Seats.{follows_one}
 use Rattle.sift_ether.proofs.port.EtherSeatPort.hear.Goals as goal
 
 pub returns-clause-follows : goal.returns-clause-follows
-returns-clause-follows c = follows_one c.args.self.now _ _ _ refl refl refl c.load_cell-cell.ensures.table c.load_cell-cell.ensures.seat refl
+returns-clause-follows c = follows_one c.args.self.now _ _ _ refl refl refl c.load-cell.ensures.table c.load-cell.ensures.seat refl

@@ -3,4 +3,4 @@ use Rattle.sift_ether.proofs.Seats.{follows_one}
 use Rattle.sift_ether.proofs.seat.EtherSeat.leave.Goals as goal
 
 pub returns-clause-follows : goal.returns-clause-follows
-returns-clause-follows c = follows_one c.args.self.now _ _ _ refl refl refl c.turn.ensures.table c.turn.ensures.seat refl
+returns-clause-follows c = follows_one c.args.self.now _ _ _ refl refl refl c.store.ensures.table c.store.ensures.seat refl
