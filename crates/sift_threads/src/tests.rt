@@ -1,0 +1,70 @@
+//! Pilots that count down, dealt to workers and collected.
+ghost use Rattle.std.proofs.Common.{◌≡◌, refl, ◌∙◌};
+ghost use Rattle.std.specs.Prelude.{⊤};
+
+use crate::flying::fly_all;
+use crate::pilot::{NoProbe, Pilot, Probe, Went};
+use sift_base::{NoMemory, UnitId};
+use std::test::Fail;
+
+/// Counts down to 0, and waits at every other step.
+#[derive(Drop)]
+struct Countdown {
+    number: u8,
+    left: u8,
+    waits: bool,
+}
+
+impl Pilot for Countdown {
+    ghost drives = { λ _. ⊤ };
+
+    ghost comes = { λ x y. y.number ≡ x.number };
+
+    ghost is_home = { λ x. x.left ≡ 0 };
+
+    ghost comes_itself = { λ x. refl };
+
+    ghost comes_on = { λ x y z first second. second ∙ first };
+
+    fn go<B: Probe>(&mut self, probe: &B) -> Went {
+        if self.left == 0 {
+            return Went::Home;
+        }
+        self.waits = !self.waits;
+        if self.waits {
+            return Went::Waits;
+        }
+        self.left -= 1;
+        if let Some(unit) = UnitId::of(self.number) {
+            probe.at(unit, u64::from(self.left));
+        }
+        Went::Moved
+    }
+}
+
+#[test]
+fn pilots_come_back_in_their_order(rt: HostRuntime) -> Result<(), Fail> {
+    for workers in [1, 2, 3, 8] {
+        let mut pilots = Vec::with_capacity(rt.alloc(), 5)?;
+        for number in 0..5 {
+            pilots.push(Countdown {
+                number,
+                left: 10 * number,
+                waits: false,
+            })?;
+        }
+        let home = fly_all(&rt, rt.alloc(), pilots, workers, &NoProbe)?;
+        let count = home.len();
+        assert_eq!(rt; count, 5, "by {workers} workers");
+        let mut place = 0;
+        for pilot in home {
+            assert_eq!(rt;
+                (pilot.number, pilot.left),
+                (place, 0),
+                "by {workers} workers"
+            );
+            place += 1;
+        }
+    }
+    Ok(())
+}
