@@ -1,12 +1,17 @@
 -- The chronicles of all tokens, in the order of their units, are a lawful core by themselves.
-use Rattle.std.proofs.Common.{◌≡◌, ℕ, zero, suc, ◌+◌, ◌<◌, ◌≤◌, ◌⊎◌, List, [], ◌∷◌, map, length, slice_index, slice_index_or, Some, sym, ap, ◌∙◌, subst, arith}
+use Rattle.std.proofs.Common.{◌≡◌, ℕ, zero, suc, ◌+◌, ◌<◌, ◌≤◌, ◌⊎◌, List, [], ◌∷◌, map, length, slice_index, slice_index_or, Some, option_and_then, refl, sym, ap, ◌∙◌, subst, arith}
+use Rattle.std.specs.List.{All}
+use Rattle.atomic_table.specs.Seated.{TableId}
+use Rattle.sift_base.specs.declared.layout.Layout.{Layout}
 use Rattle.sift_buffer.specs.Ranges.{Ranges, place}
 use Rattle.sift_buffer.specs.Conduct.{Conduct, never, hearing, stray_to}
 use Rattle.sift_buffer.specs.Core.{Core}
 use Rattle.sift_buffer.specs.Lawful.{Lawful, HasStage, IsLastSaid, HasStamps, IsNear, IsFromSayings, IsFromStrays, IsAmong}
+use Rattle.sift_buffer.specs.Ledgers.{HasItsWords}
 use Rattle.sift_ether.specs.declared.token.Token.{Token}
+use Rattle.sift_ether.specs.Landed.{IsJournalFrom}
 use Rattle.sift_ether.specs.Rule.{TellConduct}
-use Rattle.sift_ether.specs.Tokens.{chronicle_in, conduct_at}
+use Rattle.sift_ether.specs.Tokens.{IsAt, chronicle_in, conduct_of, conduct_at}
 
 -- a core is lawful by the conduct of its own units alone
 pub lawful_by : (r : Ranges) (ws : List ℕ) (of of' : ℕ → Conduct) → ((u : ℕ) → u < r.units → of u ≡ of' u) →
@@ -51,3 +56,23 @@ landed_lawful r core ts law tell count order = lawful_by r core.words core.of (c
     (λ u hu. let e : 0 + u ≡ u = omega arith in subst (λ (m : ℕ). core.of m ≡ conduct_at ts u) e
     (conduct_from core.of 0 ts tell (λ v d low. order v d (omega arith) ∙ (let e' : v ≡ 0 + v = omega arith in e')) u (omega arith)))
     law
+
+-- what tokens tell of a unit is what its own token tells
+conduct_is : (ts : List Token) (u : ℕ) (d : Token) → u < length ts → conduct_at ts u ≡ conduct_of (slice_index_or ts u d)
+conduct_is [] u d low = absurd (omega arith)
+conduct_is (t ∷ ts) zero d low = refl
+conduct_is (t ∷ ts) (suc u) d low = conduct_is ts u d (omega arith)
+
+-- the journal in a unit's token is the unit's, and has just the words of its conduct
+pub journal_from : (table : TableId) (layout : Layout) (frames : ℕ) (ts : List Token) (u : ℕ) (d : Token) → u < length ts →
+    IsAt table layout frames (slice_index_or ts u d) → (slice_index_or ts u d).unit ≡ u → All (λ t. HasItsWords t.acts) ts →
+    IsJournalFrom ts layout frames u (slice_index_or ts u d).acts.pages
+journal_from table layout frames ts u d low at unit told =
+    let t = slice_index_or ts u d in let words = told u d low in
+    let tells = t.noted ∙ sym (conduct_is ts u d low) in record {
+      owner = record { layout_is = at.layout_is; unit_is = t.owner ∙ unit; frames_are = at.frames_are };
+      words = record {
+        said = λ f k q. words.said f k q ∙ ap (λ (c : Conduct). option_and_then (λ act. act.word) (c.said f k q)) tells;
+        heard = λ f k p. words.heard f k p ∙ ap (λ (c : Conduct). option_and_then (λ act. act.word) (c.heard f k p)) tells;
+      };
+    }

@@ -1,20 +1,27 @@
 -- What comes of an ether and its tokens at the end.
-use Rattle.std.specs.Prelude.{◌≡◌, ◌<◌, ℕ, List, map, length, slice_index_or}
-use Rattle.std.specs.List.{All}
+use Rattle.std.specs.Prelude.{◌≡◌, ◌<◌, ℕ, List, length, slice_index_or, Option, option_and_then}
 use Rattle.sift_base.specs.declared.layout.Layout.{Layout}
-use Rattle.sift_buffer.specs.Journals.{Pages, IsJournalOf}
+use Rattle.sift_buffer.specs.Conduct.{Conduct}
+use Rattle.sift_buffer.specs.Journals.{Pages, IsJournalOf, said_in, heard_in}
 use Rattle.sift_buffer.specs.Lawful.{Lawful}
-use Rattle.sift_buffer.specs.Ledgers.{HasItsWords}
 use Rattle.sift_buffer.specs.Tables.{ranges_of}
 use Rattle.sift_ether.specs.declared.token.Token.{Token}
 use Rattle.sift_ether.specs.Tokens.{conduct_at}
 
--- whatever the order of all steps of all threads was: some words, and how the tokens' units conducted themselves, are a lawful core; and the
--- journals are the tokens', one for each unit of the layout in order, each with just the words of its unit's acts
+-- the journal has just the words of this conduct: absence where nothing was said, and where nothing was heard
+pub record HasWordsOf (d : Conduct) (j : Pages) : Type 0 where
+  pub said : (f k q : ℕ) → said_in j f k q ≡ option_and_then (λ act. act.word) (d.said f k q)
+  pub heard : (f k p : ℕ) → heard_in j f k p ≡ option_and_then (λ act. act.word) (d.heard f k p)
+
+-- it is the journal of this unit, and has its words
+pub record IsJournalFrom (tokens : List Token) (layout : Layout) (frames u : ℕ) (j : Pages) : Type 0 where
+  pub owner : IsJournalOf j layout u frames
+  pub words : HasWordsOf (conduct_at tokens u) j
+
+-- whatever the order of all steps of all threads was: some words, and how the tokens' units conducted themselves, are a lawful core; and there is
+-- a journal for each unit of the layout, in order, with just the words of this conduct
 pub record HaveLanded (layout : Layout) (frames : ℕ) (tokens : List Token) (journals : List Pages) : Type 0 where
   pub words : List ℕ
   pub lawful : Lawful (ranges_of layout frames) (record { words = words; of = conduct_at tokens })
-  pub journals_are : journals ≡ map (λ t. t.acts.pages) tokens
   pub count : length journals ≡ layout.units
-  pub each : (u : ℕ) (d : Pages) → u < layout.units → IsJournalOf (slice_index_or journals u d) layout u frames
-  pub told : All (λ t. HasItsWords t.acts) tokens
+  pub each : (u : ℕ) (d : Pages) → u < layout.units → IsJournalFrom tokens layout frames u (slice_index_or journals u d)
