@@ -49,17 +49,18 @@ pub record AreNewAt (table : TableId) (layout : Layout) (frames n : ℕ) (tokens
   pub count : length tokens ≡ n
   pub each : (u : ℕ) (d : Token) → u < n → IsNewAt table layout frames u (slice_index_or tokens u d)
 
--- an ether of this layout and number of frames, and a token for each unit, in their order, of which none has done anything
-pub record IsMade (e : Ether) (tokens : List Token) (layout : Layout) (frames : ℕ) : Type 0 where
-  pub layout_is : e.grid.layout ≡ layout
-  pub frames_are : e.grid.frames ≡ frames
-  pub tokens_are : AreNewAt e.table.shared.table_id layout frames layout.units tokens
-
 -- all tokens of the ether, in the order of their units
 pub record AreTokensOf (e : Ether) (tokens : List Token) : Type 0 where
   pub count : length tokens ≡ e.grid.layout.units
   pub of : (u : ℕ) (d : Token) → u < e.grid.layout.units → IsTokenOf e (slice_index_or tokens u d)
   pub unit : (u : ℕ) (d : Token) → u < e.grid.layout.units → (slice_index_or tokens u d).unit ≡ u
+
+-- an ether of this layout and number of frames, and all its tokens, of which no unit has done anything
+pub record IsMade (e : Ether) (tokens : List Token) (layout : Layout) (frames : ℕ) : Type 0 where
+  pub layout_is : e.grid.layout ≡ layout
+  pub frames_are : e.grid.frames ≡ frames
+  pub all : AreTokensOf e tokens
+  pub new : (u : ℕ) (d : Token) → u < layout.units → token_view e (slice_index_or tokens u d) ≡ fresh_view (ranges_of layout frames) u
 
 -- how each unit conducted itself, by the tokens in the order of the units; nothing was done elsewhere
 abbrev pub conduct_at : List Token → ℕ → Conduct
