@@ -55,15 +55,11 @@ fn pilots_come_back_in_their_order(rt: HostRuntime) -> Result<(), Fail> {
         }
         let home = fly_all(&rt, rt.alloc(), pilots, workers, &NoProbe)?;
         let count = home.len();
-        assert_eq!(rt; count, 5, "by {workers} workers");
-        let mut place = 0;
-        for pilot in home {
-            assert_eq!(rt;
-                (pilot.number, pilot.left),
-                (place, 0),
-                "by {workers} workers"
-            );
-            place += 1;
+        assert!(rt; count == 5, "by {workers} workers");
+        for place in 0..5 {
+            let pilot = &home[usize::from(place)];
+            let end = (pilot.number, pilot.left);
+            assert_eq!(rt; end, (place, 0), "by {workers} workers");
         }
     }
     Ok(())
