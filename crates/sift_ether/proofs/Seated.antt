@@ -65,7 +65,8 @@ lacks_both u (c ∷ cs) other a b = (a.0, lacks_both u cs other a.1 b)
 -- ---- what a seat stands for
 
 -- a unit of one seat is no unit of another
-pub lacks_other : (of : ℕ → Conduct) (seat_of : ℕ → ℕ) (u id other : ℕ) (view : List Chronicle) → seat_of u ≡ id → other ≢ id → StandsFor of seat_of other view → LacksUnit u view
+pub lacks_other : (of : ℕ → Conduct) (seat_of : ℕ → ℕ) (u id other : ℕ) (view : List Chronicle) → seat_of u ≡ id → other ≢ id →
+    StandsFor of seat_of other view → LacksUnit u view
 lacks_other of seat_of u id other [] e ne t = tt
 lacks_other of seat_of u id other (c ∷ cs) e ne t = ((λ eu. ne (sym t.1 ∙ (ap seat_of eu ∙ e))), lacks_other of seat_of u id other cs e ne t.3)
 
@@ -93,7 +94,8 @@ stands_for_both of seat_of seat_of' id other (c ∷ cs) view' ne f g a b = (
 )
 
 -- a unit of another seat conducts itself otherwise
-pub stands_beside : (of : ℕ → Conduct) (seat_of : ℕ → ℕ) (u : ℕ) (d : Conduct) (id : ℕ) (view : List Chronicle) → seat_of u ≢ id → StandsFor of seat_of id view → StandsFor (put of u d) seat_of id view
+pub stands_beside : (of : ℕ → Conduct) (seat_of : ℕ → ℕ) (u : ℕ) (d : Conduct) (id : ℕ) (view : List Chronicle) → seat_of u ≢ id →
+    StandsFor of seat_of id view → StandsFor (put of u d) seat_of id view
 stands_beside of seat_of u d id [] ne t = tt
 stands_beside of seat_of u d id (c ∷ cs) ne t = (
   put_else of u d c.unit (λ e. ne (ap seat_of (sym e) ∙ t.1)) ∙ t.0,
