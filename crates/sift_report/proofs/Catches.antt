@@ -41,7 +41,7 @@ all_of P [] each = All-nil P
 all_of P (u ∷ us) each = All-cons P u us (each u (has-head u us)) (all_of P us (λ v there. each v (has-tail u us v there)))
 
 -- the list of a set of units has its members
-in_members : (units : Units) → AreUnits units → (v : ℕ) → has (members units) v ≡ holds units v
+pub in_members : (units : Units) → AreUnits units → (v : ℕ) → has (members units) v ≡ holds units v
 unfolding members
 in_members units are v = has-filter (holds units) unit_numbers v ∙ elim (cases_Bool (holds units v)) [
   | inl t ↦ rw t (has_low v (are v t))
@@ -53,7 +53,7 @@ some_of true b c t = refl
 some_of false b c t = t
 
 -- who was caught was caught in some way
-some_kind : (caught : Catches) (v : ℕ) → holds (everyone_in caught) v ≡ true → IsSomeKind (kinds_of caught v)
+pub some_kind : (caught : Catches) (v : ℕ) → holds (everyone_in caught) v ≡ true → IsSomeKind (kinds_of caught v)
 some_kind caught v there = some_of (holds caught.poll v) (holds caught.relay v) (holds caught.clock v) (sym (holds-everyone caught v) ∙ there)
 
 or_elim : (P : Type 0) (a b c : Bool) → (a ≡ true → P) → (b ≡ true → P) → (c ≡ true → P) → (a || (b || c)) ≡ true → P
@@ -61,7 +61,7 @@ or_elim P true b c x y z t = x refl
 or_elim P false true c x y z t = y refl
 or_elim P false false c x y z t = z t
 
-everyone_units : (caught : Catches) → AreCatches caught → AreUnits (everyone_in caught)
+pub everyone_units : (caught : Catches) → AreCatches caught → AreUnits (everyone_in caught)
 everyone_units caught are v there = or_elim (v < 8) _ _ _ (are.0 v) (are.1 v) (are.2 v) (some_kind caught v there)
 
 -- each of the list is a catch

@@ -11,6 +11,7 @@ pub mod Fields
 pub mod Printed
 mod SameTexts
 mod Places
+mod Versions
 mod SheetPlaces
 mod RoundFlights
 mod Alike

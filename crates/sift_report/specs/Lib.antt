@@ -8,6 +8,7 @@ pub mod Poll
 pub mod Sheet
 pub mod Votes
 pub mod OneText
+pub mod Versions
 pub mod Working
 pub mod Told
 pub mod Form

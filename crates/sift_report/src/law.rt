@@ -1,8 +1,10 @@
-//! The laws of the texts: flights that tell the same have one text of each kind, and the headline is printed.
+//! The laws of the texts: flights that tell the same have one text of each kind, lines tell their version, and the headline
+//! is printed.
 
 ghost use Rattle.sift_report.specs.OneText.{AlikeFlightsHaveOneText};
 ghost use Rattle.sift_report.specs.Printed.{HeadlineIsPrinted, SheetsTellTheirFlights};
 ghost use Rattle.sift_report.specs.TwoCatchers.{FaultIsWithinTheHeadline};
+ghost use Rattle.sift_report.specs.Versions.{LinesTellTheirVersion};
 
 use sift_flight::{
     calm_missions_fly, headline_holds, margin_is_told, round_flights_have_accounts, skew_is_told,
@@ -14,6 +16,11 @@ use sift_table::plain_tables_are_good;
 /// Flights that tell the same have one report, one text of votes and one last line.
 pub fn alike_flights_have_one_text()
     ensures { AlikeFlightsHaveOneText }
+{}
+
+/// The text of a line that names a unit is read in the line's own version alone.
+pub fn lines_tell_their_version()
+    ensures { LinesTellTheirVersion }
 {}
 
 /// The lines of the report of a round flight have the headline: the form of a report, one configuration, the same words, the

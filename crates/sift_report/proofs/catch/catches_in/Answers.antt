@@ -12,8 +12,7 @@ push-requires c =
     let units = c.as_slice-unit-items.result.now in
     let caught = c.args.caught.now in
     let few : length units ≤ 8 =
-    rw (c.as_slice-unit-items.ensures.value, c.members_of-units.ensures, c.everyone.ensures) (few_members (everyone_in caught)) in
-    (
+    rw (c.as_slice-unit-items.ensures.value, c.members_of-units.ensures, c.everyone.ensures) (few_members (everyone_in caught)) in (
       omega arith,
       omega (
         arith,
