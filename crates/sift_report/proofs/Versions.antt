@@ -1,5 +1,5 @@
 -- Lines of the two versions that are printed alike name nobody.
-use Rattle.std.proofs.Common.{◌≡◌, ℕ, ◌+◌, ◌<◌, ◌≤◌, List, [], ◌∷◌, ◌++◌, length, map, drop, get_or, Bool, true, false, ◌||◌, inl, inr, refl, sym, ap, ◌∙◌, arith, append-nil}
+use Rattle.std.proofs.Common.{◌≡◌, ℕ, ◌<◌, ◌≤◌, List, [], ◌∷◌, ◌++◌, length, map, drop, get_or, false, inl, inr, refl, sym, ap, ◌∙◌, arith, append-nil}
 use Rattle.std.specs.List.{join_with_byte}
 use Rattle.std.proofs.lemmas.Bool.{cases_Bool}
 use Rattle.sift_base.specs.Units.{Units, AreUnits, has, holds, members}
@@ -7,7 +7,7 @@ use Rattle.sift_base.proofs.Counts.{has-head}
 use Rattle.sift_exec.specs.Record.{everyone_in, kinds_of}
 use Rattle.sift_exec.specs.declared.catches.Catches.{Catches}
 use Rattle.sift_exec.specs.declared.catches.Kinds.{Kinds}
-use Rattle.sift_report.specs.Bad.{AreCatches, IsBad, IsSomeKind, catch_of, catch_text, catches_text, caught_text, kinds_text, units_in, version_of}
+use Rattle.sift_report.specs.Bad.{AreCatches, IsBad, IsSomeKind, catch_of, catch_text, caught_text, kinds_text, units_in, version_of}
 use Rattle.sift_report.specs.Line.{HasVersion, IsLine, fields_of, line_text}
 use Rattle.sift_report.specs.Part.{AscendFrom, list_text, unit_digit, units_text}
 use Rattle.sift_report.specs.Versions.{LinesTellTheirVersion, NamesNobody}
