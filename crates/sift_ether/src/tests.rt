@@ -93,7 +93,14 @@ fn fly<T: Port>(port: &mut T, unit: UnitId, next: UnitId, before: UnitId)
     }
 }
 
-/// One unit's flight, from its token and back to it.
+/// What may be sent to another thread, as it is.
+fn sendable<T: Send>(value: T) -> T
+    ensures { result ≡ value }
+{
+    value
+}
+
+/// One unit's flight, from its token and back to it. Its seat might be sent on too.
 fn fly_token(ether: &Ether, token: Token) -> Token
     requires of { IsTokenOf ether.now token }
     requires new { IsNewInRing ether.now token }
@@ -102,7 +109,7 @@ fn fly_token(ether: &Ether, token: Token) -> Token
 {
     tokens_come_back();
     let unit = token.unit;
-    let mut seat = ether.seat(token);
+    let mut seat = sendable(ether.seat(token));
     if let Some(next) = after(unit, 1)
         && let Some(before) = after(unit, 3)
     {
