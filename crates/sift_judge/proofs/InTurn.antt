@@ -1,0 +1,96 @@
+-- Frame by frame, the forms first: what is found broken first is the first that is broken.
+use Rattle.std.proofs.Common.{◌≡◌, ℕ, suc, ◌+◌, ◌*◌, ◌<◌, ◌≤◌, List, inl, inr, refl, sym, subst, arith}
+use Rattle.std.proofs.lemmas.Bool.{cases_lt}
+use Rattle.sift_mission.specs.Data.{MissionData}
+use Rattle.sift_report.specs.Form.{HasForm}
+use Rattle.sift_report.specs.Headline.{ReportHeadline}
+use Rattle.sift_report.specs.declared.line.ReportLine.{ReportLine}
+use Rattle.sift_judge.specs.Turns.{HasForms, IsFirstInFrame, IsFirstWithoutForm, KeepsBefore, KeepsBelow, KeepsFrame, KeepsIfAsked}
+use Rattle.sift_judge.specs.Verdict.{Rule, form, same_configuration, same_inputs, ideal_outputs, no_false_accusation, exact_removal, clock_skew, true_margin, number_of, turn_of, Breaks, IsFirstBroken}
+use Rattle.sift_judge.proofs.Turns.{kind_of, one_rule}
+
+module _ (d : MissionData) (lines : List ReportLine) where
+  -- ---- in a frame
+
+  -- no rule behind the form has a number below 2
+  pub none_below : (f : ℕ) → KeepsBelow d lines f 2
+  none_below f rule behind low = absurd (omega (arith, behind, low))
+
+  -- one rule more
+  pub one_more : (f : ℕ) (rule : Rule) → KeepsBelow d lines f (number_of rule) → KeepsIfAsked d lines f rule → KeepsBelow d lines f (suc (number_of rule))
+  one_more f rule before here other behind low = elim (cases_lt (number_of other) (number_of rule)) [
+    | inl less ↦ before other behind less
+    | inr more ↦ let same : number_of rule ≡ number_of other = omega (arith, low, more) in subst (KeepsIfAsked d lines f) (one_rule rule other same) here
+  ]
+
+  -- a rule that is asked and isn't kept is broken
+  pub is_first : (f : ℕ) (rule : Rule) → 2 ≤ number_of rule → KeepsBelow d lines f (number_of rule) → Breaks rule d lines f
+      → IsFirstInFrame d lines f (number_of rule)
+  is_first f rule behind before broken = record { rule = rule; named = refl; behind = behind; broken = broken; before = before }
+
+  -- ---- in all frames
+
+  -- the form is broken where it isn't kept
+  form_broken : (r : Rule) (f : ℕ) → number_of r ≡ 1 → Breaks r d lines f → ¬ HasForm d lines f
+  form_broken r f is broken = (subst (λ s. Breaks s d lines f) (one_rule r form is) broken).broken
+
+  -- what a frame keeps it doesn't break
+  frame_keeps : (f : ℕ) → KeepsFrame d lines f → (r : Rule) → 2 ≤ number_of r → ¬ Breaks r d lines f
+  frame_keeps f frame form behind b = omega (arith, behind)
+  frame_keeps f frame same_configuration behind b = b.broken (frame.same_configuration b.asked)
+  frame_keeps f frame same_inputs behind b = b.broken (frame.frame b.asked).same_inputs
+  frame_keeps f frame ideal_outputs behind b = b.broken (frame.frame b.asked).ideal_outputs
+  frame_keeps f frame no_false_accusation behind b = b.broken (frame.frame b.asked).no_false_accusation
+  frame_keeps f frame exact_removal behind b = b.broken (frame.frame b.asked).exact_removal
+  frame_keeps f frame clock_skew behind b = b.broken (frame.frame b.asked).clock_skew
+  frame_keeps f frame true_margin behind b = b.broken frame.true_margin
+
+  pub first_form : (f : ℕ) → IsFirstWithoutForm d lines f → IsFirstBroken d lines form f
+  first_form f found = record {
+    broken = record { inside = found.inside; asked = tt; broken = found.broken };
+    first = λ other g broken. elim (kind_of other) [
+      | inl a ↦ elim (cases_lt g f) [
+        | inl small ↦ absurd (form_broken other g a.number broken (found.before g small))
+        | inr over ↦ let x = a.turn d g in omega (arith, x, over)
+      ]
+      | inr a ↦ let x = a.turn d g in let low = found.inside in omega (arith, x, low)
+    ];
+  }
+
+  -- of a frame behind frames that keep all
+  pub first_in_turn : (f number : ℕ) → HasForms d lines → KeepsBefore d lines f → (found : IsFirstInFrame d lines f number) → IsFirstBroken d lines found.rule f
+  first_in_turn f number forms kept found = record {
+    broken = found.broken;
+    first = λ other g broken. elim (kind_of other) [
+      | inl a ↦ absurd (form_broken other g a.number broken (forms g broken.inside))
+      | inr a ↦ elim (kind_of found.rule) [
+        | inl b ↦ let one = b.number in let two = found.behind in absurd (omega (arith, one, two))
+        | inr b ↦
+            let x = a.turn d g in
+            let y = b.turn d f in
+            elim (cases_lt g f) [
+              | inl small ↦ absurd (frame_keeps g (kept g small) other a.from broken)
+              | inr over ↦ elim (cases_lt f g) [
+                | inl past ↦ let most = b.to in let least = a.from in omega (arith, x, y, past, most, least)
+                | inr under ↦
+                    let e : g ≡ f = omega (arith, over, under) in
+                    elim (cases_lt (number_of other) (number_of found.rule)) [
+                      | inl less ↦
+                          let here : Breaks other d lines f = subst (Breaks other d lines) e broken in
+                          absurd (here.broken (found.before other a.from less here.asked))
+                      | inr more ↦ omega (arith, x, y, e, more)
+                    ]
+              ]
+            ]
+      ]
+    ];
+  }
+
+  -- where all forms and frames are kept, the headline holds
+  pub headline : HasForms d lines → KeepsBefore d lines d.frames → ReportHeadline d lines
+  headline forms kept = record {
+    form = forms;
+    same_configuration = λ f low. (kept f low).same_configuration;
+    frames = λ f low. (kept f low).frame;
+    true_margin = λ f low. (kept f low).true_margin;
+  }

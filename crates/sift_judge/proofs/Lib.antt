@@ -1,0 +1,9 @@
+mod Lists
+mod UnitSets
+mod EachUnit
+mod Agreeing
+mod Working
+mod Margins
+mod Caught
+mod Turns
+mod InTurn

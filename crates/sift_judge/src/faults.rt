@@ -1,0 +1,111 @@
+//! The faults of a frame: whom working units tell that they caught, and who is configured out.
+
+ghost use Rattle.std.specs.Prelude.{◌≡◌, ◌<◌, ◌≤◌, ◌↔◌, ℕ, ◌&&◌, All, IsTrue, List, length, not, false};
+ghost use Rattle.std.specs.List.{filter};
+ghost use Rattle.sift_base.specs.Units.{has, holds};
+ghost use Rattle.sift_mission.specs.Parts.{data_of};
+ghost use Rattle.sift_report.specs.Headline.{TellsExactRemoval, TellsNoFalseAccusation, two_tell};
+ghost use Rattle.sift_report.specs.Told.{caught_told};
+
+use crate::configuration::are_same_units;
+use crate::told::caught_told;
+use crate::working::{config_told, working_at, working_in};
+use sift_base::{UnitId, UnitSet};
+use sift_config::Config;
+use sift_mission::Mission;
+use sift_report::ReportLine;
+
+/// Whether no working unit tells that it caught a working unit, itself among them.
+pub(crate) fn has_no_false_accusation(mission: &Mission, lines: &[ReportLine], f: u32) -> bool
+    requires frame { f < (data_of mission.now).frames }
+    ensures { IsTrue result ↔ TellsNoFalseAccusation (data_of mission.now) lines.now f }
+{
+    let working = working_at(mission, f);
+    all_accuse_none(mission, lines, f, &working, &working)
+}
+
+/// Whether none of these units tells that it caught one of the others.
+fn all_accuse_none(
+    mission: &Mission,
+    lines: &[ReportLine],
+    f: u32,
+    units: &[UnitId],
+    others: &[UnitId],
+) -> bool
+    requires frame { f ≤ (data_of mission.now).frames }
+    ensures { IsTrue result ↔ All (λ u. All (λ v. holds (caught_told (data_of mission.now) lines.now f u) v ≡ false) others.now) units.now }
+{
+    units
+        .iter()
+        .all(|unit| has_none(caught_told(mission, lines, f, *unit), others))
+}
+
+/// Whether a set has none of these units.
+fn has_none(caught: UnitSet, units: &[UnitId]) -> bool
+    ensures { IsTrue result ↔ All (λ v. holds caught v ≡ false) units.now }
+{
+    units.iter().all(|unit| !caught.has(*unit))
+}
+
+/// Whether the configuration told at the next frame is the one told at this without exactly the units that two working units tell
+/// that they caught.
+pub(crate) fn has_exact_removal(mission: &Mission, lines: &[ReportLine], f: u32) -> bool
+    requires frame { f < (data_of mission.now).frames }
+    ensures { IsTrue result ↔ TellsExactRemoval (data_of mission.now) lines.now f }
+{
+    match (
+        config_told(mission, lines, f),
+        config_told(mission, lines, f + 1),
+    ) {
+        (Some(config), Some(next)) => is_exact(mission, lines, f, &config, &next),
+        _ => true,
+    }
+}
+
+/// Whether the next configuration is this one without exactly the units that two working units tell that they caught.
+fn is_exact(
+    mission: &Mission,
+    lines: &[ReportLine],
+    f: u32,
+    config: &Config,
+    next: &Config,
+) -> bool
+    requires frame { f < (data_of mission.now).frames }
+    ensures { IsTrue result ↔ (next.now ≡ filter (λ v. not (two_tell (data_of mission.now) lines.now f config.now v)) config.now) }
+{
+    let caught = caught_by_two(mission, lines, f, config);
+    are_same_units(next.units(), config.units().minus(caught))
+}
+
+/// The units of a configuration that two working units of it tell that they caught.
+fn caught_by_two(mission: &Mission, lines: &[ReportLine], f: u32, config: &Config) -> UnitSet
+    requires frame { f < (data_of mission.now).frames }
+    ensures { (v : ℕ) → holds result v ≡ (has config.now v && two_tell (data_of mission.now) lines.now f config.now v) }
+{
+    let working = working_in(mission, config, f);
+    let mut caught = UnitSet::empty();
+    for i in 0..config.len() {
+        let unit = config.unit_at(i);
+        if count_accusers(mission, lines, f, &working, unit) > 1 {
+            caught = caught.with(unit);
+        }
+    }
+    caught
+}
+
+/// How many of these units tell that they caught a unit.
+fn count_accusers(
+    mission: &Mission,
+    lines: &[ReportLine],
+    f: u32,
+    units: &[UnitId],
+    v: UnitId,
+) -> usize
+    requires frame { f ≤ (data_of mission.now).frames }
+    ensures { result ≡ length (filter (λ u. holds (caught_told (data_of mission.now) lines.now f u) v) units.now) }
+{
+    units
+        .iter()
+        .filter(|unit| caught_told(mission, lines, f, **unit).has(v))
+        .count()
+}

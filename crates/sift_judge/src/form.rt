@@ -1,0 +1,134 @@
+//! The form of a report: which lines stand where.
+
+ghost use Rattle.std.specs.Prelude.{◌≡◌, ◌<◌, ◌↔◌, ℕ, true, IfNone, IfSome, IsSomeAnd, IsTrue};
+ghost use Rattle.sift_base.specs.Units.{holds};
+ghost use Rattle.sift_mission.specs.Parts.{data_of};
+ghost use Rattle.sift_report.specs.Form.{HasEnd, HasForm, IsFramesLine, IsLastLine, IsUnitsLine, line_count};
+ghost use Rattle.sift_report.specs.Told.{line_at};
+ghost use Rattle.sift_judge.specs.Turns.{HasForms, IsFirstWithoutForm};
+
+use crate::told::line_at;
+use sift_base::{UnitId, UnitSet};
+use sift_mission::Mission;
+use sift_report::ReportLine;
+
+/// The first frame whose lines don't stand in their places, where there is one.
+pub(crate) fn first_without_form(mission: &Mission, lines: &[ReportLine]) -> Option<u32>
+    ensures found { IfSome result (λ f. IsFirstWithoutForm (data_of mission.now) lines.now f) }
+    ensures none { IfNone result (HasForms (data_of mission.now) lines.now) }
+{
+    for f in 0..mission.frames() {
+        if !has_form(mission, lines, f) {
+            return Some(f);
+        }
+    }
+    None
+}
+
+/// Whether the lines of a frame stand in their places.
+fn has_form(mission: &Mission, lines: &[ReportLine], f: u32) -> bool
+    requires frame { f < (data_of mission.now).frames }
+    ensures { IsTrue result ↔ HasForm (data_of mission.now) lines.now f }
+{
+    has_units_lines(mission, lines, f)
+        && has_frames_line(mission, lines, f)
+        && (f < mission.frames() - 1 || has_end(mission, lines))
+}
+
+/// Whether each unit has its line in a frame.
+fn has_units_lines(mission: &Mission, lines: &[ReportLine], f: u32) -> bool
+    requires frame { f < (data_of mission.now).frames }
+    ensures { IsTrue result ↔ ((u : ℕ) → u < (data_of mission.now).units
+        → IsSomeAnd (line_at (data_of mission.now) lines.now f u) (IsUnitsLine (data_of mission.now) f u)) }
+{
+    let everyone = mission.everyone();
+    for i in 0..everyone.len() {
+        if !has_units_line(mission, lines, f, everyone.unit_at(i)) {
+            return false;
+        }
+    }
+    true
+}
+
+/// Whether a unit has its line in a frame.
+fn has_units_line(mission: &Mission, lines: &[ReportLine], f: u32, u: UnitId) -> bool
+    requires frame { f < (data_of mission.now).frames }
+    ensures { IsTrue result ↔ IsSomeAnd (line_at (data_of mission.now) lines.now f u) (IsUnitsLine (data_of mission.now) f u) }
+{
+    match line_at(mission, lines, f, u.get()) {
+        Some(line) => is_units_line(mission, f, u, line),
+        None => false,
+    }
+}
+
+/// Whether a line is one of a unit in a frame.
+fn is_units_line(mission: &Mission, f: u32, u: UnitId, line: &ReportLine) -> bool
+    ensures { IsTrue result ↔ IsUnitsLine (data_of mission.now) f u line.now }
+{
+    match line {
+        ReportLine::Unit {
+            f: g,
+            u: v,
+            cfg,
+            ins,
+            outs,
+            bad,
+            ..
+        } => {
+            let layout = &mission.parts().layout;
+            *g == f
+                && *v == u
+                && mission.works(u, f)
+                && are_units_of(mission, cfg.units())
+                && are_units_of(mission, bad.units())
+                && ins.len() == usize::from(layout.sensors)
+                && outs.len() == usize::from(layout.words)
+        }
+        ReportLine::Idle { f: g, u: v } => *g == f && *v == u && mission.works(u, f),
+        ReportLine::Faulty { f: g, u: v } => *g == f && *v == u && !mission.works(u, f),
+        _ => false,
+    }
+}
+
+/// Whether each of these units is one of the mission.
+fn are_units_of(mission: &Mission, units: UnitSet) -> bool
+    ensures { IsTrue result ↔ ((w : ℕ) → holds units w ≡ true → w < (data_of mission.now).units) }
+{
+    units.minus(mission.everyone().units()).len() == 0
+}
+
+/// Whether the frame has its own line.
+fn has_frames_line(mission: &Mission, lines: &[ReportLine], f: u32) -> bool
+    requires frame { f < (data_of mission.now).frames }
+    ensures { IsTrue result ↔ IsSomeAnd (line_at (data_of mission.now) lines.now f (data_of mission.now).units) (IsFramesLine f) }
+{
+    match line_at(mission, lines, f, mission.parts().units) {
+        Some(ReportLine::Frame { f: g, .. }) => *g == f,
+        _ => false,
+    }
+}
+
+/// Whether the last line stands behind the last frame, and nothing behind it.
+fn has_end(mission: &Mission, lines: &[ReportLine]) -> bool
+    ensures { IsTrue result ↔ HasEnd (data_of mission.now) lines.now }
+{
+    has_last_line(mission, lines) && lines.len() == line_count(mission)
+}
+
+/// Whether the last line stands behind the last frame.
+fn has_last_line(mission: &Mission, lines: &[ReportLine]) -> bool
+    ensures { IsTrue result ↔ IsSomeAnd (line_at (data_of mission.now) lines.now (data_of mission.now).frames 0) (IsLastLine (data_of mission.now)) }
+{
+    match line_at(mission, lines, mission.frames(), 0) {
+        Some(ReportLine::Last { frames, .. }) => *frames == mission.frames(),
+        _ => false,
+    }
+}
+
+/// How many lines a report of the mission has.
+fn line_count(mission: &Mission) -> usize
+    ensures { result ≡ line_count (data_of mission.now) }
+{
+    let width = usize::from(mission.parts().units) + 1;
+    mission.frames() as usize * width + 1
+}
