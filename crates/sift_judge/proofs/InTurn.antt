@@ -1,12 +1,14 @@
 -- Frame by frame, the forms first: what is found broken first is the first that is broken.
-use Rattle.std.proofs.Common.{◌≡◌, ℕ, suc, ◌+◌, ◌*◌, ◌<◌, ◌≤◌, List, inl, inr, refl, sym, subst, arith}
+use Rattle.std.proofs.Common.{◌≡◌, ℕ, Bool, true, false, suc, ◌+◌, ◌*◌, ◌<◌, ◌≤◌, List, inl, inr, refl, sym, subst, arith}
+use Rattle.std.specs.Prelude.{◌↔◌}
 use Rattle.std.proofs.lemmas.Bool.{cases_lt}
 use Rattle.sift_mission.specs.Data.{MissionData}
 use Rattle.sift_report.specs.Form.{HasForm}
-use Rattle.sift_report.specs.Headline.{ReportHeadline}
+use Rattle.sift_report.specs.Headline.{FrameHeadline, ReportHeadline}
+use Rattle.sift_report.specs.Told.{HasMarginTold}
 use Rattle.sift_report.specs.declared.line.ReportLine.{ReportLine}
 use Rattle.sift_judge.specs.Turns.{HasForms, IsFirstInFrame, IsFirstWithoutForm, KeepsBefore, KeepsBelow, KeepsFrame, KeepsIfAsked}
-use Rattle.sift_judge.specs.Verdict.{Rule, form, same_configuration, same_inputs, ideal_outputs, no_false_accusation, exact_removal, clock_skew, true_margin, number_of, turn_of, Breaks, IsFirstBroken}
+use Rattle.sift_judge.specs.Verdict.{Rule, form, same_configuration, same_inputs, ideal_outputs, no_false_accusation, exact_removal, clock_skew, true_margin, number_of, turn_of, Breaks, IsAsked, IsFirstBroken, Keeps}
 use Rattle.sift_judge.proofs.Turns.{kind_of, one_rule}
 
 module _ (d : MissionData) (lines : List ReportLine) where
@@ -94,3 +96,30 @@ module _ (d : MissionData) (lines : List ReportLine) where
     frames = λ f low. (kept f low).frame;
     true_margin = λ f low. (kept f low).true_margin;
   }
+
+  -- ---- what a test tells
+
+  -- a rule that is asked, and whose test fails, is broken
+  pub breaks : (f : ℕ) (rule : Rule) → f < d.frames → IsAsked rule d lines f → (r : Bool) → ((r ≡ true) ↔ Keeps rule d lines f) → r ≡ false → Breaks rule d lines f
+  breaks f rule inside asked r decides fails = record { inside = inside; asked = asked; broken = λ keeps. (let t = decides.1 keeps in absurd cc) }
+
+  -- so is one that is asked only where a flag is up
+  pub breaks_if : (f : ℕ) (rule : Rule) → f < d.frames → (flag : Bool) → ((flag ≡ true) ↔ IsAsked rule d lines f) → (r : Bool)
+      → ((r ≡ true) ↔ KeepsIfAsked d lines f rule) → r ≡ false → Breaks rule d lines f
+  breaks_if f rule inside true asks r decides fails = record {
+    inside = inside;
+    asked = asks.0 refl;
+    broken = λ keeps. (let t = decides.1 (λ asked. keeps) in absurd cc);
+  }
+  breaks_if f rule inside false asks r decides fails = (let t = decides.1 (λ asked. (let up = asks.1 asked in absurd cc)) in absurd cc)
+
+  -- the rules of a frame with margin, and that before them
+  pub keeps_seven : (f : ℕ) → KeepsIfAsked d lines f same_configuration → (HasMarginTold d lines f → FrameHeadline d lines f) → KeepsBelow d lines f 8
+  keeps_seven f two frame form behind low asked = absurd (omega (arith, behind))
+  keeps_seven f two frame same_configuration behind low asked = two asked
+  keeps_seven f two frame same_inputs behind low asked = (frame asked).same_inputs
+  keeps_seven f two frame ideal_outputs behind low asked = (frame asked).ideal_outputs
+  keeps_seven f two frame no_false_accusation behind low asked = (frame asked).no_false_accusation
+  keeps_seven f two frame exact_removal behind low asked = (frame asked).exact_removal
+  keeps_seven f two frame clock_skew behind low asked = (frame asked).clock_skew
+  keeps_seven f two frame true_margin behind low asked = absurd (omega (arith, low))

@@ -2,8 +2,9 @@ mod Lists
 mod UnitSets
 mod EachUnit
 mod Agreeing
-mod Working
+mod EachWorking
 mod Margins
 mod Caught
+mod Skews
 mod Turns
 mod InTurn

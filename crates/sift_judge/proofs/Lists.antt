@@ -9,9 +9,12 @@ use Rattle.sift_base.specs.Units.{has}
 use Rattle.sift_base.proofs.Counts.{has-head, has-tail}
 
 -- the first unit that passes is the first of those that do
-pub first_passing : (passes : ℕ → Bool) (us : List ℕ) → find passes us ≡ slice_get (filter passes us) 0
+first_passing : (passes : ℕ → Bool) (us : List ℕ) → find passes us ≡ slice_get (filter passes us) 0
 first_passing passes [] = refl
 first_passing passes (u ∷ us) = elim (cases_Bool (passes u)) [ inl t ↦ rw t refl | inr f ↦ rw f (first_passing passes us) ]
+
+pub first_found : (passes : ℕ → Bool) (us passing : List ℕ) → passing ≡ filter passes us → slice_get passing 0 ≡ find passes us
+first_found passes us passing are = ap (λ units. slice_get units 0) are ∙ sym (first_passing passes us)
 
 -- what holds of all that pass holds of each unit of the list that passes
 pub of_passing : (passes : ℕ → Bool) (P : ℕ → Type 0) (us : List ℕ) → All P (filter passes us) → (u : ℕ) → has us u ≡ true → passes u ≡ true → P u

@@ -10,7 +10,7 @@ use Rattle.sift_judge.specs.declared.verdict.Verdict.TheVariants.{Yes, No}
 -- ---- numbers
 
 -- the rule of a number
-rule_of : ℕ → Rule
+abbrev rule_of : ℕ → Rule
 rule_of n =
     if nat_eq n 1 then form else if nat_eq n 2 then same_configuration else if nat_eq n 3 then same_inputs else if nat_eq n 4 then ideal_outputs
     else if nat_eq n 5 then no_false_accusation else if nat_eq n 6 then exact_removal else if nat_eq n 7 then clock_skew else true_margin

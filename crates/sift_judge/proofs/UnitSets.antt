@@ -67,6 +67,7 @@ filter_both p q (u ∷ us) = elim (cases_Bool (p u)) [
 ]
 
 pub members_left : (a b : Units) → members (set.difference a b) ≡ filter (λ w. not (holds b w)) (members a)
+unfolding members
 members_left a b =
     filter_agree (holds (set.difference a b)) (λ w. holds a w && not (holds b w)) (λ w. set.contains-difference nat_cmp_total a b w) unit_numbers
     ∙ filter_both (holds a) (λ w. not (holds b w)) unit_numbers

@@ -1,9 +1,10 @@
 -- What a judge knows as it goes: frame by frame, the forms of all frames first.
-use Rattle.std.specs.Prelude.{◌≡◌, ℕ, ◌<◌, ◌≤◌, List}
+use Rattle.std.specs.Prelude.{◌≡◌, ℕ, ◌<◌, ◌≤◌, List, length, Bool, true}
 use Rattle.sift_mission.specs.Data.{MissionData}
+use Rattle.sift_program.specs.Ideal.{words_before}
 use Rattle.sift_report.specs.Form.{HasForm}
 use Rattle.sift_report.specs.Headline.{FrameHeadline, TellsSameConfiguration, TellsTrueMargin}
-use Rattle.sift_report.specs.Told.{HadMarginTold, HasMarginTold}
+use Rattle.sift_report.specs.Told.{HadMarginTold, HasMarginTold, agreed_told}
 use Rattle.sift_report.specs.declared.line.ReportLine.{ReportLine}
 use Rattle.sift_judge.specs.Verdict.{Breaks, IsAsked, Keeps, Rule, number_of}
 
@@ -46,3 +47,10 @@ pub record KeepsFrame (d : MissionData) (lines : List ReportLine) (f : ℕ) : Ty
 -- so they do in each frame before this one
 abbrev pub KeepsBefore : MissionData → List ReportLine → ℕ → Type 0
 KeepsBefore d lines f = (g : ℕ) → g < f → KeepsFrame d lines g
+
+-- ---- the ideal machine
+
+-- while there is margin, the ideal machine's words are those before frame f, over the agreed words told so far; they are always as many
+pub record RunsBefore (d : MissionData) (lines : List ReportLine) (f : ℕ) (margin : Bool) (words : List ℕ) : Type 0 where
+  pub words_are : margin ≡ true → words ≡ words_before d.program (agreed_told d lines) f
+  pub as_many : length words ≡ length d.program.starts

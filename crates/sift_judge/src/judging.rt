@@ -6,7 +6,7 @@ ghost use Rattle.sift_program.specs.Ideal.{ideal_words, words_before};
 ghost use Rattle.sift_report.specs.Form.{HasForm};
 ghost use Rattle.sift_report.specs.Headline.{FrameHeadline, TellsSameConfiguration};
 ghost use Rattle.sift_report.specs.Told.{HadMarginTold, HasMarginTold, agreed_told};
-ghost use Rattle.sift_judge.specs.Turns.{HasForms, IsFirstInFrame, KeepsFrame};
+ghost use Rattle.sift_judge.specs.Turns.{HasForms, IsFirstInFrame, KeepsFrame, RunsBefore};
 ghost use Rattle.sift_judge.specs.Verdict.{IsVerdict};
 
 use crate::clocks::has_clock_skew;
@@ -37,19 +37,30 @@ fn judge_frames(mission: &Mission, lines: &[ReportLine]) -> Verdict
     ensures { IsVerdict (data_of mission.now) lines.now result }
 {
     let mut ideal = Ideal::start(&mission.parts().program);
-    let mut margin = true;
+    let mut had_margin = true;
     for frame in 0..mission.frames() {
-        let had_margin = margin;
-        margin = had_margin && is_sound_told(mission, lines, frame);
-        if let Some(rule) = first_broken(mission, lines, frame, had_margin, margin, &mut ideal) {
+        let has_margin = has_margin_told(mission, lines, frame, had_margin);
+        if let Some(rule) =
+            first_broken(mission, lines, frame, had_margin, has_margin, &mut ideal)
+        {
             return Verdict::No { frame, rule };
         }
+        had_margin = has_margin;
     }
     Verdict::Yes
 }
 
-/// The number of the first rule behind the form that the lines break in a frame, where they break one. The ideal machine runs on
-/// where the frame has margin.
+/// Whether a frame has margin by what is told, given whether each frame before it had.
+fn has_margin_told(mission: &Mission, lines: &[ReportLine], f: u32, had_margin: bool) -> bool
+    requires frame { f < (data_of mission.now).frames }
+    requires had { IsTrue had_margin ↔ HadMarginTold (data_of mission.now) lines.now f }
+    ensures { IsTrue result ↔ HasMarginTold (data_of mission.now) lines.now f }
+{
+    had_margin && is_sound_told(mission, lines, f)
+}
+
+/// The number of the first rule behind the form that the lines break in a frame, where they break one. Where they don't, the ideal
+/// machine has run a frame with margin.
 fn first_broken(
     mission: &Mission,
     lines: &[ReportLine],
@@ -59,24 +70,19 @@ fn first_broken(
     ideal: &mut Ideal,
 ) -> Option<u8>
     requires frame { f < (data_of mission.now).frames }
-    requires forms { HasForms (data_of mission.now) lines.now }
+    requires form { HasForm (data_of mission.now) lines.now f }
     requires had { IsTrue had_margin ↔ HadMarginTold (data_of mission.now) lines.now f }
     requires has { IsTrue has_margin ↔ HasMarginTold (data_of mission.now) lines.now f }
-    requires as_many { length ideal.old ≡ length (data_of mission.now).program.starts }
-    requires before { has_margin ≡ true → ideal.old ≡ words_before (data_of mission.now).program (agreed_told (data_of mission.now) lines.now) f }
-    ensures found { IfSome result (λ number. IsFirstInFrame (data_of mission.now) lines.now f number) }
+    requires runs { RunsBefore (data_of mission.now) lines.now f has_margin ideal.old }
+    ensures found { IfSome result (IsFirstInFrame (data_of mission.now) lines.now f) }
     ensures none { IfNone result (KeepsFrame (data_of mission.now) lines.now f) }
-    ensures words { IfNone result (has_margin ≡ true
-        → ideal.new ≡ ideal_words (data_of mission.now).program (agreed_told (data_of mission.now) lines.now) f) }
-    ensures as_many { length ideal.new ≡ length (data_of mission.now).program.starts }
+    ensures runs { IfNone result (RunsBefore (data_of mission.now) lines.now (f + 1) has_margin ideal.new) }
 {
-    if had_margin && !has_same_configuration(mission, lines, f) {
+    if !keeps_configuration(mission, lines, f, had_margin) {
         return Some(2);
     }
-    if has_margin {
-        if let Some(rule) = first_with_margin(mission, lines, f, ideal) {
-            return Some(rule);
-        }
+    if let Some(rule) = first_with_margin(mission, lines, f, has_margin, ideal) {
+        return Some(rule);
     }
     if !has_true_margin(mission, lines, f, has_margin) {
         return Some(8);
@@ -84,25 +90,35 @@ fn first_broken(
     None
 }
 
-/// The number of the first of the rules that are asked of a frame with margin, where the lines break one. The ideal machine runs
-/// the frame.
+/// Whether all working units tell one configuration in a frame, where each frame before had margin.
+fn keeps_configuration(mission: &Mission, lines: &[ReportLine], f: u32, had_margin: bool) -> bool
+    requires frame { f < (data_of mission.now).frames }
+    requires had { IsTrue had_margin ↔ HadMarginTold (data_of mission.now) lines.now f }
+    ensures { IsTrue result ↔ (HadMarginTold (data_of mission.now) lines.now f → TellsSameConfiguration (data_of mission.now) lines.now f) }
+{
+    !had_margin || has_same_configuration(mission, lines, f)
+}
+
+/// The number of the first rule that the lines break, of those that are asked of a frame with margin.
 fn first_with_margin(
     mission: &Mission,
     lines: &[ReportLine],
     f: u32,
+    has_margin: bool,
     ideal: &mut Ideal,
 ) -> Option<u8>
     requires frame { f < (data_of mission.now).frames }
     requires form { HasForm (data_of mission.now) lines.now f }
-    requires margin { HasMarginTold (data_of mission.now) lines.now f }
-    requires configuration { TellsSameConfiguration (data_of mission.now) lines.now f }
-    requires as_many { length ideal.old ≡ length (data_of mission.now).program.starts }
-    requires before { ideal.old ≡ words_before (data_of mission.now).program (agreed_told (data_of mission.now) lines.now) f }
-    ensures found { IfSome result (λ number. IsFirstInFrame (data_of mission.now) lines.now f number) }
-    ensures none { IfNone result (FrameHeadline (data_of mission.now) lines.now f) }
-    ensures words { ideal.new ≡ ideal_words (data_of mission.now).program (agreed_told (data_of mission.now) lines.now) f }
-    ensures as_many { length ideal.new ≡ length (data_of mission.now).program.starts }
+    requires has { IsTrue has_margin ↔ HasMarginTold (data_of mission.now) lines.now f }
+    requires configuration { HadMarginTold (data_of mission.now) lines.now f → TellsSameConfiguration (data_of mission.now) lines.now f }
+    requires runs { RunsBefore (data_of mission.now) lines.now f has_margin ideal.old }
+    ensures found { IfSome result (IsFirstInFrame (data_of mission.now) lines.now f) }
+    ensures none { IfNone result (HasMarginTold (data_of mission.now) lines.now f → FrameHeadline (data_of mission.now) lines.now f) }
+    ensures runs { IfNone result (RunsBefore (data_of mission.now) lines.now (f + 1) has_margin ideal.new) }
 {
+    if !has_margin {
+        return None;
+    }
     run_ideal(ideal, mission, lines, f);
     if !has_same_inputs(mission, lines, f) {
         return Some(3);
