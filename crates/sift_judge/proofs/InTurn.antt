@@ -19,11 +19,30 @@ module _ (d : MissionData) (lines : List ReportLine) where
   none_below f rule behind low = absurd (omega (arith, behind, low))
 
   -- one rule more
-  pub one_more : (f : ℕ) (rule : Rule) → KeepsBelow d lines f (number_of rule) → KeepsIfAsked d lines f rule → KeepsBelow d lines f (suc (number_of rule))
+  one_more : (f : ℕ) (rule : Rule) → KeepsBelow d lines f (number_of rule) → KeepsIfAsked d lines f rule → KeepsBelow d lines f (suc (number_of rule))
   one_more f rule before here other behind low = elim (cases_lt (number_of other) (number_of rule)) [
     | inl less ↦ before other behind less
     | inr more ↦ let same : number_of rule ≡ number_of other = omega (arith, low, more) in subst (KeepsIfAsked d lines f) (one_rule rule other same) here
   ]
+
+  -- the rules that are kept so far, one more each
+  pub two_kept : (f : ℕ) → KeepsIfAsked d lines f same_configuration → KeepsBelow d lines f 3
+  two_kept f two = one_more f same_configuration (none_below f) two
+
+  pub three_kept : (f : ℕ) → KeepsIfAsked d lines f same_configuration → Keeps same_inputs d lines f → KeepsBelow d lines f 4
+  three_kept f two three = one_more f same_inputs (two_kept f two) (λ asked. three)
+
+  pub four_kept : (f : ℕ) → KeepsIfAsked d lines f same_configuration → Keeps same_inputs d lines f → Keeps ideal_outputs d lines f
+      → KeepsBelow d lines f 5
+  four_kept f two three four = one_more f ideal_outputs (three_kept f two three) (λ asked. four)
+
+  pub five_kept : (f : ℕ) → KeepsIfAsked d lines f same_configuration → Keeps same_inputs d lines f → Keeps ideal_outputs d lines f
+      → Keeps no_false_accusation d lines f → KeepsBelow d lines f 6
+  five_kept f two three four five = one_more f no_false_accusation (four_kept f two three four) (λ asked. five)
+
+  pub six_kept : (f : ℕ) → KeepsIfAsked d lines f same_configuration → Keeps same_inputs d lines f → Keeps ideal_outputs d lines f
+      → Keeps no_false_accusation d lines f → Keeps exact_removal d lines f → KeepsBelow d lines f 7
+  six_kept f two three four five six = one_more f exact_removal (five_kept f two three four five) (λ asked. six)
 
   -- a rule that is asked and isn't kept is broken
   pub is_first : (f : ℕ) (rule : Rule) → 2 ≤ number_of rule → KeepsBelow d lines f (number_of rule) → Breaks rule d lines f
@@ -113,13 +132,13 @@ module _ (d : MissionData) (lines : List ReportLine) where
   }
   breaks_if f rule inside false asks r decides fails = (let t = decides.1 (λ asked. (let up = asks.1 asked in absurd cc)) in absurd cc)
 
-  -- the rules of a frame with margin, and that before them
-  pub keeps_seven : (f : ℕ) → KeepsIfAsked d lines f same_configuration → (HasMarginTold d lines f → FrameHeadline d lines f) → KeepsBelow d lines f 8
-  keeps_seven f two frame form behind low asked = absurd (omega (arith, behind))
-  keeps_seven f two frame same_configuration behind low asked = two asked
-  keeps_seven f two frame same_inputs behind low asked = (frame asked).same_inputs
-  keeps_seven f two frame ideal_outputs behind low asked = (frame asked).ideal_outputs
-  keeps_seven f two frame no_false_accusation behind low asked = (frame asked).no_false_accusation
-  keeps_seven f two frame exact_removal behind low asked = (frame asked).exact_removal
-  keeps_seven f two frame clock_skew behind low asked = (frame asked).clock_skew
-  keeps_seven f two frame true_margin behind low asked = absurd (omega (arith, low))
+  -- the rules of a frame with margin, and that before them, are all below the last
+  pub seven_kept : (f : ℕ) → KeepsIfAsked d lines f same_configuration → (HasMarginTold d lines f → FrameHeadline d lines f) → KeepsBelow d lines f 8
+  seven_kept f two frame form behind low asked = absurd (omega (arith, behind))
+  seven_kept f two frame same_configuration behind low asked = two asked
+  seven_kept f two frame same_inputs behind low asked = (frame asked).same_inputs
+  seven_kept f two frame ideal_outputs behind low asked = (frame asked).ideal_outputs
+  seven_kept f two frame no_false_accusation behind low asked = (frame asked).no_false_accusation
+  seven_kept f two frame exact_removal behind low asked = (frame asked).exact_removal
+  seven_kept f two frame clock_skew behind low asked = (frame asked).clock_skew
+  seven_kept f two frame true_margin behind low asked = absurd (omega (arith, low))

@@ -4,7 +4,8 @@ use Rattle.sift_mission.specs.Data.{MissionData}
 use Rattle.sift_report.specs.Headline.{ReportHeadline}
 use Rattle.sift_report.specs.declared.line.ReportLine.{ReportLine}
 use Rattle.sift_judge.specs.Laws.{OneVerdict}
-use Rattle.sift_judge.specs.Verdict.{Rule, form, same_configuration, same_inputs, ideal_outputs, no_false_accusation, exact_removal, clock_skew, true_margin, number_of, turn_of, Breaks, IsFirstBroken}
+use Rattle.sift_judge.specs.Verdict.{Rule, form, same_configuration, same_inputs, ideal_outputs, no_false_accusation, exact_removal, clock_skew, true_margin, number_of, turn_of, Breaks, IsFirstBroken, IsVerdict}
+use Rattle.sift_judge.specs.declared.verdict.Verdict.{Verdict}
 use Rattle.sift_judge.specs.declared.verdict.Verdict.TheVariants.{Yes, No}
 
 -- ---- numbers
@@ -99,3 +100,9 @@ one_verdict d lines (No f n) (No g k) one other =
     let same = first_is_one d lines one.0 other.0 f g one.2 other.2 in
     let number : n ≡ k = one.1 ∙ same.1 ∙ sym other.1 in
     rw (same.0, number) refl
+
+-- where no rule is broken, the verdict is yes
+pub yes_of_none : (d : MissionData) (lines : List ReportLine) (verdict : Verdict) → IsVerdict d lines verdict → ((r : Rule) (f : ℕ) → ¬ Breaks r d lines f) →
+    ReportHeadline d lines
+yes_of_none d lines Yes is none = is
+yes_of_none d lines (No f n) is none = absurd (none is.0 f is.2.broken)

@@ -53,6 +53,8 @@ pub(crate) fn has_exact_removal(mission: &Mission, lines: &[ReportLine], f: u32)
     requires frame { f < (data_of mission.now).frames }
     ensures { IsTrue result ↔ TellsExactRemoval (data_of mission.now) lines.now f }
 {
+    // The parts of a mission fit, so there is a number behind each frame's.
+    mission.parts();
     match (
         config_told(mission, lines, f),
         config_told(mission, lines, f + 1),

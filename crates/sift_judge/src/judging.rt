@@ -1,6 +1,6 @@
 //! The judge: rule by rule, frame by frame, the forms of all frames first.
 
-ghost use Rattle.std.specs.Prelude.{◌≡◌, ◌<◌, ◌↔◌, IfNone, IfSome, IsTrue, length, true};
+ghost use Rattle.std.specs.Prelude.{◌≡◌, ◌+◌, ◌<◌, ◌↔◌, IfNone, IfSome, IsTrue, length, true};
 ghost use Rattle.sift_mission.specs.Parts.{data_of};
 ghost use Rattle.sift_program.specs.Ideal.{ideal_words, words_before};
 ghost use Rattle.sift_report.specs.Form.{HasForm};

@@ -1,8 +1,11 @@
 //! The laws of verdicts.
 
-ghost use Rattle.sift_judge.specs.Laws.{OneVerdict, SheetsAreJudgedYes};
+ghost use Rattle.sift_mission.specs.Parts.{data_of};
+ghost use Rattle.sift_judge.specs.Laws.{IsYesWhereNothingBreaks, OneVerdict, SheetsAreJudgedYes};
 
-use sift_report::the_headline_is_printed;
+use crate::judging::judge;
+use sift_mission::Mission;
+use sift_report::{ReportLine, the_headline_is_printed};
 
 /// Lines have one verdict at most.
 pub fn lines_have_one_verdict()
@@ -14,4 +17,11 @@ pub fn sheets_are_judged_yes()
     ensures { SheetsAreJudgedYes }
 {
     the_headline_is_printed();
+}
+
+/// Lines are judged yes exactly where they break no rule, since they have a verdict.
+pub fn yes_is_where_nothing_breaks(mission: &Mission, lines: &[ReportLine])
+    ensures { IsYesWhereNothingBreaks (data_of mission.now) lines.now }
+{
+    judge(mission, lines);
 }

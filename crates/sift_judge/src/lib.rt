@@ -14,5 +14,5 @@ mod words;
 mod working;
 
 pub use judging::judge;
-pub use law::{lines_have_one_verdict, sheets_are_judged_yes};
+pub use law::{lines_have_one_verdict, sheets_are_judged_yes, yes_is_where_nothing_breaks};
 pub use verdict::Verdict;

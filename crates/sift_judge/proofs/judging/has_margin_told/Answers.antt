@@ -1,6 +1,5 @@
-use Rattle.std.proofs.Common.{◌≡◌, true}
 use Rattle.sift_mission.specs.Parts.{data_of}
-use Rattle.sift_judge.proofs.Margins.{had_margin, is_sound, margin_more}
+use Rattle.sift_judge.proofs.Margins.{is_sound, margin_more}
 use Rattle.sift_judge.proofs.judging.has_margin_told.Goals as goal
 
 pub returns-then-had_margin : goal.returns-then-had_margin
@@ -9,11 +8,4 @@ returns-then-had_margin c =
     let lines = c.args.lines.now in (
       (λ t. margin_more d lines c.args.f (c.requires.had.0 c.if-had_margin.true) (c.is_sound_told.ensures.0 t)),
       (λ has. c.is_sound_told.ensures.1 (is_sound d lines c.args.f has)),
-    )
-
-pub returns-else-had_margin : goal.returns-else-had_margin
-returns-else-had_margin c =
-    let lost = c.if-had_margin.false in (
-      (λ t. absurd cc),
-      (λ has. c.requires.had.1 (had_margin (data_of c.args.mission.now) c.args.lines.now c.args.f has)),
     )

@@ -1,0 +1,25 @@
+use Rattle.std.proofs.Common.{◌≡◌, ◌∙◌, ◌+◌, List, ℕ, Some, suc, add-one, not, subst, sym, arith}
+use Rattle.std.specs.List.{filter}
+use Rattle.sift_mission.specs.Parts.{data_of}
+use Rattle.sift_report.specs.Headline.{two_tell}
+use Rattle.sift_report.specs.Told.{config_told}
+use Rattle.sift_judge.proofs.Lists.{one_told}
+use Rattle.sift_judge.proofs.faults.has_exact_removal.Goals as goal
+
+pub overflow_add-f : goal.overflow_add-f
+overflow_add-f c = omega (arith, c.requires.frame, c.parts.ensures.fit.limits.few_frames)
+
+pub returns-in-Some-Some : goal.returns-in-Some-Some
+returns-in-Some-Some c =
+    let d = data_of c.args.mission.now in
+    let lines = c.args.lines.now in
+    let f = c.args.f in
+    let us = c.in-Some-Some.config in
+    let vs = c.in-Some-Some.next in
+    let is : config_told d lines f ≡ Some us = sym c.config_told.ensures ∙ c.in-Some-Some.is-0 in
+    let is_next : config_told d lines (suc f) ≡ Some vs =
+    subst (λ g. config_told d lines g ≡ Some vs) (add-one f) (sym c.config_told-2.ensures ∙ c.in-Some-Some.is-1) in (
+      (λ t units next told told_next. subst (λ (ws : List ℕ). next ≡ filter (λ v. not (two_tell d lines f ws v)) ws) (one_told us units _ is told)
+          (sym (one_told vs next _ is_next told_next) ∙ c.is_exact.ensures.0 t)),
+      (λ given. c.is_exact.ensures.1 (given us vs is is_next)),
+    )
