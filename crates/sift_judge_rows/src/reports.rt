@@ -58,9 +58,10 @@ const CAUGHT_REPORT: [&str; 13] = [
     "end frames=2 cfg=0123 margin=ok",
 ];
 
-/// From frame 1 on two of five units are faulty and say nothing else than the others.
+/// From frame 1 on two of five units are faulty, though what they say is what the others say.
 const LOST: &str = "units = 5\nframes = 2\ntask = [{name = 'count', start = [5], linear = [3, 1]}]\n\
-    fault = [{unit = 3, from = 1}, {unit = 4, from = 1}]\n";
+    fault = [{unit = 3, from = 1, say = [{slot = 'out', index = 0, word = 0, to = '0', value = 49}]}, \
+    {unit = 4, from = 1, say = [{slot = 'out', index = 0, word = 0, to = '0', value = 49}]}]\n";
 
 /// Their report: the margin is lost in frame 1.
 const LOST_REPORT: [&str; 13] = [
@@ -113,16 +114,18 @@ fn expect_verdicts(
 ) -> Result<(), Fail> {
     let mission = stated(alloc, document)?;
     let lines = lines_with(alloc, report, report.len(), "")?;
-    assert_eq!(rt; judge(&mission, &lines), Verdict::Yes, "{document}");
+    let verdict = judge(&mission, &lines);
+    assert_eq!(rt; verdict, Verdict::Yes, "{document}");
     for (place, other, want) in rows {
         let lines = lines_with(alloc, report, *place, other)?;
-        assert_eq!(rt; judge(&mission, &lines), *want, "{place}: {other}");
+        let verdict = judge(&mission, &lines);
+        assert_eq!(rt; verdict, *want, "{place}: {other}");
     }
     Ok(())
 }
 
 /// The frame and the rule that are broken first.
-const fn no(frame: u32, rule: u8) -> Verdict {
+fn no(frame: u32, rule: u8) -> Verdict {
     Verdict::No { frame, rule }
 }
 
@@ -160,7 +163,8 @@ fn a_report_has_its_lines_and_no_more(rt: HostRuntime) -> Result<(), Fail> {
         "end frames=1 cfg=0123 margin=ok",
     ];
     let lines = lines_with(alloc, &without_unit_3, 5, "")?;
-    assert_eq!(rt; judge(&mission, &lines), no(0, 1));
+    let verdict = judge(&mission, &lines);
+    assert_eq!(rt; verdict, no(0, 1));
     let two_ends = [
         "f=0 u=0 cfg=0123 clk=0 in=- out=0010 bad=-",
         "f=0 u=1 cfg=0123 clk=0 in=- out=0010 bad=-",
@@ -171,7 +175,8 @@ fn a_report_has_its_lines_and_no_more(rt: HostRuntime) -> Result<(), Fail> {
         "end frames=1 cfg=0123 margin=ok",
     ];
     let lines = lines_with(alloc, &two_ends, 7, "")?;
-    assert_eq!(rt; judge(&mission, &lines), no(0, 1));
+    let verdict = judge(&mission, &lines);
+    assert_eq!(rt; verdict, no(0, 1));
     Ok(())
 }
 
@@ -185,6 +190,25 @@ fn agreed_words_are_judged(rt: HostRuntime) -> Result<(), Fail> {
         (4, "f=0 u=4 cfg=01234 clk=0 in=0008 out=0008 bad=0", no(0, 3)),
     ];
     expect_verdicts(&rt, rt.alloc(), AGREED, &AGREED_REPORT, &rows)
+}
+
+#[test]
+fn the_word_of_a_working_reader_is_the_sensors(rt: HostRuntime) -> Result<(), Fail> {
+    let alloc = rt.alloc();
+    let mission = stated(alloc, AGREED)?;
+    let all_tell_8 = [
+        "f=0 u=0 cfg=01234 clk=0 in=0008 out=0008 bad=-",
+        "f=0 u=1 cfg=01234 clk=0 in=0008 out=0008 bad=-",
+        "f=0 u=2 cfg=01234 clk=0 in=0008 out=0008 bad=-",
+        "f=0 u=3 cfg=01234 clk=0 in=0008 out=0008 bad=-",
+        "f=0 u=4 cfg=01234 clk=0 in=0008 out=0008 bad=-",
+        "f=0 skew=0 slack=1 margin=ok",
+        "end frames=1 cfg=01234 margin=ok",
+    ];
+    let lines = lines_with(alloc, &all_tell_8, 7, "")?;
+    let verdict = judge(&mission, &lines);
+    assert_eq!(rt; verdict, no(0, 3));
+    Ok(())
 }
 
 #[test]
@@ -205,6 +229,7 @@ fn a_report_of_a_fault_is_judged(rt: HostRuntime) -> Result<(), Fail> {
         (12, "end frames=2 cfg=01234 margin=ok", no(1, 6)),
         (3, "f=0 u=3 cfg=01234 clk=1 in=- out=0010 bad=-", no(0, 7)),
         (3, "f=0 u=3 cfg=01234 clk=9223372036854775807 in=- out=0010 bad=-", no(0, 7)),
+        (3, "f=0 u=3 cfg=01234 clk=-9223372036854775808 in=- out=0010 bad=-", no(0, 7)),
         (5, "f=0 skew=1 slack=1 margin=ok", no(0, 7)),
         (5, "f=0 skew=- slack=1 margin=ok", no(0, 7)),
         (5, "f=0 skew=0 slack=0 margin=ok", no(0, 7)),
