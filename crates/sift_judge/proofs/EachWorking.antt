@@ -2,7 +2,6 @@
 use Rattle.std.proofs.Common.{◌≡◌, ℕ, List, Bool, true, sym, subst}
 use Rattle.std.specs.Prelude.{◌↔◌}
 use Rattle.std.specs.List.{All, filter}
-use Rattle.sift_base.specs.Units.{has}
 use Rattle.sift_config.specs.Config.{first_units}
 use Rattle.sift_mission.specs.Data.{MissionData}
 use Rattle.sift_report.specs.Working.{IsWorking, works_in}

@@ -1,5 +1,5 @@
 -- Frame by frame, the forms first: what is found broken first is the first that is broken.
-use Rattle.std.proofs.Common.{◌≡◌, ℕ, Bool, true, false, suc, ◌+◌, ◌*◌, ◌<◌, ◌≤◌, List, inl, inr, refl, sym, subst, arith}
+use Rattle.std.proofs.Common.{◌≡◌, ℕ, Bool, true, false, suc, ◌<◌, ◌≤◌, List, inl, inr, refl, subst, arith}
 use Rattle.std.specs.Prelude.{◌↔◌}
 use Rattle.std.proofs.lemmas.Bool.{cases_lt}
 use Rattle.sift_mission.specs.Data.{MissionData}
@@ -8,7 +8,7 @@ use Rattle.sift_report.specs.Headline.{FrameHeadline, ReportHeadline}
 use Rattle.sift_report.specs.Told.{HasMarginTold}
 use Rattle.sift_report.specs.declared.line.ReportLine.{ReportLine}
 use Rattle.sift_judge.specs.Turns.{HasForms, IsFirstInFrame, IsFirstWithoutForm, KeepsBefore, KeepsBelow, KeepsFrame, KeepsIfAsked}
-use Rattle.sift_judge.specs.Verdict.{Rule, form, same_configuration, same_inputs, ideal_outputs, no_false_accusation, exact_removal, clock_skew, true_margin, number_of, turn_of, Breaks, IsAsked, IsFirstBroken, Keeps}
+use Rattle.sift_judge.specs.Verdict.{Rule, form, same_configuration, same_inputs, ideal_outputs, no_false_accusation, exact_removal, clock_skew, true_margin, number_of, Breaks, IsAsked, IsFirstBroken, Keeps}
 use Rattle.sift_judge.proofs.Turns.{kind_of, one_rule}
 
 module _ (d : MissionData) (lines : List ReportLine) where

@@ -1,7 +1,7 @@
 -- Numbers of 64 bits compared by their difference, in 128 bits.
 use Rattle.std.proofs.Common.{◌≡◌, ◌-ℤ◌, ℤ, ap, eq-eqb, eqb-true, nat_eq, of_z, sym, to_z, true, w64, ◌∙◌, arith}
 use Rattle.std.specs.Prelude.{◌↔◌}
-use Rattle.std.proofs.lemmas.Int.{ints, to_z-of_z}
+use Rattle.std.proofs.lemmas.Int.{ints}
 use mir.Syntax.{w128}
 use mir.Val.{SFits}
 

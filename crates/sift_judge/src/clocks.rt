@@ -64,12 +64,7 @@ fn has_skew_of(mission: &Mission, lines: &[ReportLine], f: u32, config: &Config)
 }
 
 /// The offsets of their clocks that these units tell, in ticks.
-fn clocks_of(
-    mission: &Mission,
-    lines: &[ReportLine],
-    f: u32,
-    units: &[UnitId],
-) -> ArrayVec<i64, 8>
+fn clocks_of(mission: &Mission, lines: &[ReportLine], f: u32, units: &[UnitId]) -> ArrayVec<i64, 8>
     requires frame { f < (data_of mission.now).frames }
     requires few { length units.now ≤ 8 }
     ensures { result.items ≡ map (clock_told (data_of mission.now) lines.now f) units.now }

@@ -63,13 +63,7 @@ fn all_tell_config(
 }
 
 /// Whether a unit tells a configuration.
-fn tells_config(
-    mission: &Mission,
-    lines: &[ReportLine],
-    f: u32,
-    u: UnitId,
-    config: &Config,
-) -> bool
+fn tells_config(mission: &Mission, lines: &[ReportLine], f: u32, u: UnitId, config: &Config) -> bool
     requires frame { f ≤ (data_of mission.now).frames }
     ensures { IsTrue result ↔ ((told_at (data_of mission.now) lines.now f u).config ≡ Some config.now) }
 {

@@ -35,9 +35,7 @@ fn all_accuse_none(
     requires frame { f ≤ (data_of mission.now).frames }
     ensures { IsTrue result ↔ All (λ u. All (λ v. holds (caught_told (data_of mission.now) lines.now f u) v ≡ false) others.now) units.now }
 {
-    units
-        .iter()
-        .all(|unit| has_none(caught_told(mission, lines, f, *unit), others))
+    units.iter().all(|unit| has_none(caught_told(mission, lines, f, *unit), others))
 }
 
 /// Whether a set has none of these units.
@@ -65,13 +63,7 @@ pub(crate) fn has_exact_removal(mission: &Mission, lines: &[ReportLine], f: u32)
 }
 
 /// Whether the next configuration is this one without exactly the units that two working units tell that they caught.
-fn is_exact(
-    mission: &Mission,
-    lines: &[ReportLine],
-    f: u32,
-    config: &Config,
-    next: &Config,
-) -> bool
+fn is_exact(mission: &Mission, lines: &[ReportLine], f: u32, config: &Config, next: &Config) -> bool
     requires frame { f < (data_of mission.now).frames }
     ensures { IsTrue result ↔ (next.now ≡ filter (λ v. not (two_tell (data_of mission.now) lines.now f config.now v)) config.now) }
 {

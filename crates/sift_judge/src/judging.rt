@@ -40,9 +40,9 @@ fn judge_frames(mission: &Mission, lines: &[ReportLine]) -> Verdict
     let mut had_margin = true;
     for frame in 0..mission.frames() {
         let has_margin = has_margin_told(mission, lines, frame, had_margin);
-        if let Some(rule) =
-            first_broken(mission, lines, frame, had_margin, has_margin, &mut ideal)
-        {
+        if let Some(rule) = first_broken(
+            mission, lines, frame, had_margin, has_margin, &mut ideal,
+        ) {
             return Verdict::No { frame, rule };
         }
         had_margin = has_margin;

@@ -37,9 +37,7 @@ fn all_tell_inputs(
     requires frame { f ≤ (data_of mission.now).frames }
     ensures { IsTrue result ↔ All (λ u. inputs_told (data_of mission.now) lines.now f u ≡ agreed.now) units.now }
 {
-    units
-        .iter()
-        .all(|unit| are_same(inputs_told(mission, lines, f, *unit), agreed))
+    units.iter().all(|unit| are_same(inputs_told(mission, lines, f, *unit), agreed))
 }
 
 /// Whether two lists of words are the same.
@@ -111,7 +109,5 @@ fn all_tell_outputs(
     requires frame { f ≤ (data_of mission.now).frames }
     ensures { IsTrue result ↔ All (λ u. outputs_told (data_of mission.now) lines.now f u ≡ words.now) units.now }
 {
-    units
-        .iter()
-        .all(|unit| are_same(outputs_told(mission, lines, f, *unit), words))
+    units.iter().all(|unit| are_same(outputs_told(mission, lines, f, *unit), words))
 }

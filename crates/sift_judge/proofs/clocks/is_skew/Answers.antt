@@ -1,4 +1,4 @@
-use Rattle.std.proofs.Common.{rules, ◌≡◌, ◌∙◌, ◌-ℤ◌, of_z, subst, sym, to_z, w64, arith}
+use Rattle.std.proofs.Common.{rules, ◌≡◌, ◌-ℤ◌, of_z, subst, sym, to_z, w64, arith}
 use Rattle.std.proofs.lemmas.Int.{ints}
 use Rattle.sift_skew.specs.Figures.{IsSkew}
 use Rattle.sift_skew.proofs.Extremes.{skew_from}

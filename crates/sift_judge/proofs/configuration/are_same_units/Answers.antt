@@ -1,4 +1,4 @@
-use Rattle.std.proofs.Common.{◌≡◌, ◌∙◌, ap, eq-eqb, eqb-true, sym}
+use Rattle.std.proofs.Common.{◌∙◌, ap, eq-eqb, eqb-true, sym}
 use Rattle.sift_base.specs.Units.{bits_of, members, units_of}
 use Rattle.sift_base.proofs.Sets.{members_are}
 use Rattle.sift_judge.proofs.UnitSets.{one_set}

@@ -1,4 +1,4 @@
-use Rattle.std.proofs.Common.{◌≡◌, ◌∙◌, ℕ, Some}
+use Rattle.std.proofs.Common.{◌≡◌, ◌∙◌, Some}
 use Rattle.sift_mission.specs.Parts.{data_of}
 use Rattle.sift_report.specs.Told.{told_at}
 use Rattle.sift_judge.proofs.EachWorking.{decides_each}

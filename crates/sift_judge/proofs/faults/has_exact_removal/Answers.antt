@@ -1,4 +1,4 @@
-use Rattle.std.proofs.Common.{◌≡◌, ◌∙◌, ◌+◌, List, ℕ, Some, suc, add-one, not, subst, sym, arith}
+use Rattle.std.proofs.Common.{◌≡◌, ◌∙◌, List, ℕ, Some, suc, add-one, not, subst, sym, arith}
 use Rattle.std.specs.List.{filter}
 use Rattle.sift_mission.specs.Parts.{data_of}
 use Rattle.sift_report.specs.Headline.{two_tell}

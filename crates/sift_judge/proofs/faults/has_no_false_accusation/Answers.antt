@@ -1,4 +1,4 @@
-use Rattle.std.proofs.Common.{◌≡◌, ◌∙◌, ℕ, false}
+use Rattle.std.proofs.Common.{◌≡◌, ◌∙◌, false}
 use Rattle.std.specs.List.{All}
 use Rattle.sift_base.specs.Units.{holds}
 use Rattle.sift_mission.specs.Parts.{data_of}

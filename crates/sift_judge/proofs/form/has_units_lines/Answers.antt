@@ -1,4 +1,4 @@
-use Rattle.std.proofs.Common.{◌≡◌, ℕ, length, ◌≤◌, refl, arith}
+use Rattle.std.proofs.Common.{length, ◌≤◌, refl, arith}
 use Rattle.std.specs.Prelude.{IsSomeAnd}
 use Rattle.sift_mission.specs.Parts.{data_of}
 use Rattle.sift_report.specs.Told.{line_at}

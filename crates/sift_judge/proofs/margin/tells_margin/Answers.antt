@@ -1,5 +1,3 @@
-use Rattle.std.proofs.Common.{◌≡◌, true, subst}
-use Rattle.std.specs.Prelude.{◌↔◌}
 use Rattle.sift_mission.specs.Parts.{data_of}
 use Rattle.sift_report.specs.Told.{HasMarginTold}
 use Rattle.sift_judge.proofs.Agreeing.{agrees}
