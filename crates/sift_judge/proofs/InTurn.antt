@@ -8,7 +8,8 @@ use Rattle.sift_report.specs.Headline.{FrameHeadline, ReportHeadline}
 use Rattle.sift_report.specs.Told.{HasMarginTold}
 use Rattle.sift_report.specs.declared.line.ReportLine.{ReportLine}
 use Rattle.sift_judge.specs.Turns.{HasForms, IsFirstInFrame, IsFirstWithoutForm, KeepsBefore, KeepsBelow, KeepsFrame, KeepsIfAsked}
-use Rattle.sift_judge.specs.Verdict.{Rule, form, same_configuration, same_inputs, ideal_outputs, no_false_accusation, exact_removal, clock_skew, true_margin, number_of, Breaks, IsAsked, IsFirstBroken, Keeps}
+use Rattle.sift_judge.specs.Verdict.{Rule, form, same_configuration, same_inputs, ideal_outputs, no_false_accusation, exact_removal, clock_skew, true_margin, number_of}
+use Rattle.sift_judge.specs.Verdict.{Breaks, IsAsked, IsFirstBroken, Keeps}
 use Rattle.sift_judge.proofs.Turns.{kind_of, one_rule}
 
 module _ (d : MissionData) (lines : List ReportLine) where

@@ -38,7 +38,8 @@ const AGREED_REPORT: [&str; 7] = [
 ];
 
 /// Unit 4 of five says a wrong word to units 0 and 1 alone.
-const CAUGHT: &str = "units = 5\nframes = 2\ntask = [{name = 'count', start = [5], linear = [3, 1]}]\n\
+const CAUGHT: &str =
+    "units = 5\nframes = 2\ntask = [{name = 'count', start = [5], linear = [3, 1]}]\n\
     fault = [{unit = 4, from = 0, say = [{slot = 'out', index = 0, word = 0, to = '01', value = 7}]}]\n";
 
 /// Their report: both catch it, and it is configured out.
@@ -59,7 +60,8 @@ const CAUGHT_REPORT: [&str; 13] = [
 ];
 
 /// From frame 1 on two of five units are faulty, though what they say is what the others say.
-const LOST: &str = "units = 5\nframes = 2\ntask = [{name = 'count', start = [5], linear = [3, 1]}]\n\
+const LOST: &str =
+    "units = 5\nframes = 2\ntask = [{name = 'count', start = [5], linear = [3, 1]}]\n\
     fault = [{unit = 3, from = 1, say = [{slot = 'out', index = 0, word = 0, to = '0', value = 49}]}, \
     {unit = 4, from = 1, say = [{slot = 'out', index = 0, word = 0, to = '0', value = 49}]}]\n";
 
@@ -183,11 +185,27 @@ fn a_report_has_its_lines_and_no_more(rt: HostRuntime) -> Result<(), Fail> {
 #[test]
 fn agreed_words_are_judged(rt: HostRuntime) -> Result<(), Fail> {
     let rows = [
-        (2, "f=0 u=2 cfg=01234 clk=0 in=0008 out=0009 bad=-", no(0, 3)),
+        (
+            2,
+            "f=0 u=2 cfg=01234 clk=0 in=0008 out=0009 bad=-",
+            no(0, 3),
+        ),
         // The lead unit's words are those that the others are compared with, and unit 0 reads the sensor.
-        (0, "f=0 u=0 cfg=01234 clk=0 in=0008 out=0009 bad=-", no(0, 3)),
-        (4, "f=0 u=4 cfg=01234 clk=0 in=0009 out=0008 bad=-", no(0, 4)),
-        (4, "f=0 u=4 cfg=01234 clk=0 in=0008 out=0008 bad=0", no(0, 3)),
+        (
+            0,
+            "f=0 u=0 cfg=01234 clk=0 in=0008 out=0009 bad=-",
+            no(0, 3),
+        ),
+        (
+            4,
+            "f=0 u=4 cfg=01234 clk=0 in=0009 out=0008 bad=-",
+            no(0, 4),
+        ),
+        (
+            4,
+            "f=0 u=4 cfg=01234 clk=0 in=0008 out=0008 bad=0",
+            no(0, 3),
+        ),
     ];
     expect_verdicts(&rt, rt.alloc(), AGREED, &AGREED_REPORT, &rows)
 }
@@ -228,8 +246,16 @@ fn a_report_of_a_fault_is_judged(rt: HostRuntime) -> Result<(), Fail> {
         (6, "f=1 u=0 cfg=01234 clk=0 in=- out=0031 bad=-", no(0, 6)),
         (12, "end frames=2 cfg=01234 margin=ok", no(1, 6)),
         (3, "f=0 u=3 cfg=01234 clk=1 in=- out=0010 bad=-", no(0, 7)),
-        (3, "f=0 u=3 cfg=01234 clk=9223372036854775807 in=- out=0010 bad=-", no(0, 7)),
-        (3, "f=0 u=3 cfg=01234 clk=-9223372036854775808 in=- out=0010 bad=-", no(0, 7)),
+        (
+            3,
+            "f=0 u=3 cfg=01234 clk=9223372036854775807 in=- out=0010 bad=-",
+            no(0, 7),
+        ),
+        (
+            3,
+            "f=0 u=3 cfg=01234 clk=-9223372036854775808 in=- out=0010 bad=-",
+            no(0, 7),
+        ),
         (5, "f=0 skew=1 slack=1 margin=ok", no(0, 7)),
         (5, "f=0 skew=- slack=1 margin=ok", no(0, 7)),
         (5, "f=0 skew=0 slack=0 margin=ok", no(0, 7)),
@@ -246,8 +272,16 @@ fn a_report_of_a_fault_is_judged(rt: HostRuntime) -> Result<(), Fail> {
 #[test]
 fn a_frame_without_margin_is_asked_for_its_form_and_margin(rt: HostRuntime) -> Result<(), Fail> {
     let rows = [
-        (7, "f=1 u=1 cfg=0123 clk=7 in=- out=0099 bad=0", Verdict::Yes),
-        (6, "f=1 u=0 cfg=01234 clk=7 in=- out=0099 bad=12", Verdict::Yes),
+        (
+            7,
+            "f=1 u=1 cfg=0123 clk=7 in=- out=0099 bad=0",
+            Verdict::Yes,
+        ),
+        (
+            6,
+            "f=1 u=0 cfg=01234 clk=7 in=- out=0099 bad=12",
+            Verdict::Yes,
+        ),
         (11, "f=1 skew=99 slack=-5 margin=lost", Verdict::Yes),
         (12, "end frames=2 cfg=0123 margin=lost", Verdict::Yes),
         (11, "f=1 skew=0 slack=1 margin=ok", no(1, 8)),
@@ -255,7 +289,11 @@ fn a_frame_without_margin_is_asked_for_its_form_and_margin(rt: HostRuntime) -> R
         // Frame 0 binds the configuration that frame 1 begins with.
         (6, "f=1 u=0 cfg=0123 clk=0 in=- out=0031 bad=-", no(0, 6)),
         (6, "f=1 u=0 idle", no(1, 2)),
-        (8, "f=1 u=2 cfg=01234 clk=0 in=- out=0031,0031 bad=-", no(1, 1)),
+        (
+            8,
+            "f=1 u=2 cfg=01234 clk=0 in=- out=0031,0031 bad=-",
+            no(1, 1),
+        ),
     ];
     expect_verdicts(&rt, rt.alloc(), LOST, &LOST_REPORT, &rows)
 }
