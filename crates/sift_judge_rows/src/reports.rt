@@ -152,8 +152,8 @@ fn a_report_of_four_units_is_judged(rt: HostRuntime) -> Result<(), Fail> {
 fn a_report_has_its_lines_and_no_more(rt: HostRuntime) -> Result<(), Fail> {
     let alloc = rt.alloc();
     let mission = stated(alloc, COUNT)?;
-    let lines = lines_with(alloc, &COUNT_REPORT, 6, "")?;
-    let verdict = judge(&mission, &lines[..5]);
+    let lines = lines_with(alloc, &COUNT_REPORT[..5], 5, "")?;
+    let verdict = judge(&mission, &lines);
     assert_eq!(rt; verdict, no(0, 1));
     let verdict = judge(&mission, &[]);
     assert_eq!(rt; verdict, no(0, 1));
