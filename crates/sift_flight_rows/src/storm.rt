@@ -123,12 +123,12 @@ fn hears_the_stray(
 fn a_stray_is_heard_or_not_by_the_order(rt: HostRuntime) -> Result<(), Fail> {
     let mission = stated(rt.alloc(), COUNT_FIVE)?;
     let mission = with_storm(rt.alloc(), mission)?;
-    let mut heard = 0;
+    let mut is_heard = false;
     for order in 0..6 {
         if hears_the_stray(&rt, rt.alloc(), &mission, order)? {
-            heard += 1;
+            is_heard = true;
         }
     }
-    assert!(rt; heard > 0, "no order in which it is heard");
+    assert!(rt; is_heard, "no order in which it is heard");
     Ok(())
 }
