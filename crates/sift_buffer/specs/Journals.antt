@@ -1,8 +1,8 @@
 -- What a contract sees of a journal: whose it is, and the words that its unit said and heard.
-use Rattle.std.specs.Prelude.{◌≡◌, ℕ, List, Option, None}
+use Rattle.std.specs.Prelude.{◌≡◌, ℕ, List, Option, None, option_and_then}
 use Rattle.sift_base.specs.declared.layout.Layout.{Layout}
 use Rattle.sift_buffer.specs.Ranges.{Ranges}
-use Rattle.sift_buffer.specs.Conduct.{put_at}
+use Rattle.sift_buffer.specs.Conduct.{Conduct, put_at}
 use Rattle.sift_buffer.specs.Tables.{ranges_of, IsEntry, entry_number, entry_at}
 
 -- a journal: the layout, the unit, the number of frames, and the words said and heard, each for every frame, slot and unit
@@ -36,6 +36,11 @@ pub record IsBlank (j : Pages) (layout : Layout) (unit frames : ℕ) : Type 0 wh
   pub owner : IsJournalOf j layout unit frames
   pub said : said_in j ≡ (λ _ _ _. None)
   pub heard : heard_in j ≡ (λ _ _ _. None)
+
+-- it has just the words of this conduct: absence where nothing was said, and where nothing was heard
+pub record HasWordsOf (d : Conduct) (j : Pages) : Type 0 where
+  pub said : (f k q : ℕ) → said_in j f k q ≡ option_and_then (λ act. act.word) (d.said f k q)
+  pub heard : (f k p : ℕ) → heard_in j f k p ≡ option_and_then (λ act. act.word) (d.heard f k p)
 
 -- one word more was noted as said, and nothing else changed
 pub record NotesSaid (old new : Pages) (f k q : ℕ) (word : Option ℕ) : Type 0 where

@@ -1,10 +1,10 @@
 -- What a contract sees of the acts that a unit keeps: its journal with stamps, and what it knows.
-use Rattle.std.specs.Prelude.{◌≡◌, ℕ, ◌==◌, if◌then◌else◌, List, [], slice_index, Option, Some, None, option_and_then}
+use Rattle.std.specs.Prelude.{◌≡◌, ℕ, ◌==◌, if◌then◌else◌, List, [], slice_index, Option, Some, None}
 use Rattle.sift_base.specs.declared.layout.Layout.{Layout}
 use Rattle.sift_buffer.specs.Ranges.{Ranges}
 use Rattle.sift_buffer.specs.Conduct.{Saying, Hearing, Stray, Conduct, saying, hearing}
 use Rattle.sift_buffer.specs.Tables.{entry_at}
-use Rattle.sift_buffer.specs.Journals.{Pages, ranges_in, said_in, heard_in, IsJournalOf}
+use Rattle.sift_buffer.specs.Journals.{Pages, ranges_in, said_in, heard_in, IsJournalOf, HasWordsOf}
 
 -- a ledger: the journal; the progress number, and where the unit turned the progress at which it left; the numbers seen; and for each frame,
 -- slot and unit the stamp said, the stamp asked for and the progress at that hearing, each 0 where there was none. It keeps no strays
@@ -57,7 +57,6 @@ pub record Tells (l : Ledger) (layout : Layout) (unit frames : ℕ) (d : Conduct
 abbrev pub Becomes : Ledger → Ledger → Conduct → Type 0
 Becomes old new d = Tells new old.pages.layout old.pages.unit old.pages.frames d
 
--- the journal has just the words that the conduct tells: absence where nothing was said, and where nothing was heard
-pub record HasItsWords (l : Ledger) : Type 0 where
-  pub said : (f k q : ℕ) → said_in l.pages f k q ≡ option_and_then (λ act. act.word) ((conduct_in l).said f k q)
-  pub heard : (f k p : ℕ) → heard_in l.pages f k p ≡ option_and_then (λ act. act.word) ((conduct_in l).heard f k p)
+-- the journal has just the words of the conduct that the ledger tells
+abbrev pub HasItsWords : Ledger → Type 0
+HasItsWords l = HasWordsOf (conduct_in l) l.pages

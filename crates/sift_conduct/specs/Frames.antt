@@ -1,5 +1,5 @@
 -- A unit's conduct from frame to frame.
-use Rattle.std.specs.Prelude.{◌≡◌, ℕ, zero, suc, List, [], true, false}
+use Rattle.std.specs.Prelude.{◌≡◌, ℕ, zero, suc, List, [], true, false, Option, None, Some, min}
 use Rattle.sift_base.specs.Units.{has}
 use Rattle.sift_base.specs.declared.slot.Slot.{Slot}
 use Rattle.sift_exec.specs.Record.{nobody}
@@ -53,3 +53,8 @@ pub record FrameConduct (m : FlownMission) (u : ℕ) (a : ℕ → Account) (h s 
 pub record Flies (m : FlownMission) (u f : ℕ) : Type 0 where
   pub unit : has m.units u ≡ true
   pub whole : has_turned m u f ≡ false
+
+-- how many of so many frames a unit flies: all, or those before it turns
+abbrev pub frames_before : Option ℕ → ℕ → ℕ
+frames_before None frames = frames
+frames_before (Some from) frames = min from frames

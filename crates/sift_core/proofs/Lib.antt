@@ -1,7 +1,6 @@
 pub mod Beside
 pub mod EndedFrames
 pub mod FirstUnits
-pub mod FrameLists
 pub mod Home
 pub mod Least
 pub mod Lists

@@ -11,7 +11,7 @@ use Rattle.sift_buffer.specs.Conduct.{Conduct, Saying, Hearing, fresh, never}
 use Rattle.sift_buffer.specs.Core.{fresh_core}
 use Rattle.sift_buffer.specs.Tables.{ranges_of, entry_at, entry_number}
 use Rattle.sift_buffer.specs.Journals.{ranges_in, said_in, heard_in}
-use Rattle.sift_buffer.specs.Ledgers.{Ledger, Tells, HasItsWords, conduct_in, saying_of, hearing_of}
+use Rattle.sift_buffer.specs.Ledgers.{Ledger, Tells, conduct_in, saying_of, hearing_of}
 use Rattle.sift_flight.specs.Hearing.{no_strays}
 use Rattle.sift_core.specs.Crews.{no_ledger, ledger_at, core_by, IsCrew}
 
@@ -67,14 +67,3 @@ core_fresh words acts layout frames n zeros wide crew i = record { words = (zero
     each : (u : ℕ) → conduct_in (ledger_at acts u) ≡ fresh
     each u = below_cases u layout.units (λ low. (crew.fresh u low).conduct)
         (λ high. ap conduct_in (get_or_past acts u no_ledger (let c = crew.count in omega arith)) ∙ nobody_fresh)
-
--- and has said and heard nothing
-pub nobody_words : HasItsWords no_ledger
-nobody_words = record {
-  said = λ f k q. absent f k q ∙ sym (ap (λ (d : Conduct). option_and_then (λ (act : Saying). act.word) (d.said f k q)) nobody_fresh);
-  heard = λ f k p. absent f k p ∙ sym (ap (λ (d : Conduct). option_and_then (λ (act : Hearing). act.word) (d.heard f k p)) nobody_fresh);
-}
-  where
-    absent : (f k q : ℕ) → ◌≡◌ {A = Option ℕ} (entry_at None (ranges_in no_ledger.pages) [] f k q) None
-    absent f k q = either (nat_lt f 0 && nat_lt k (ranges_in no_ledger.pages).slots && nat_lt q 0)
-        (slice_index_or [] (entry_number (ranges_in no_ledger.pages) f k q) None) None None refl refl

@@ -18,10 +18,10 @@ use crate::machine::Machine;
 use sift_base::NoMemory;
 use sift_buffer::{Acts, Journal};
 use sift_conduct::Account;
-use sift_flight::{Flight, landed_frames_are_round, lawful_cores_hear_lawfully};
+use sift_flight::{Flight, flights_that_come_home_are_round};
 use sift_mission::{Mission, a_mission_fits};
 use sift_rogue::Rogue;
-use sift_unit::{Board, boards_that_step_keep_to_their_conduct};
+use sift_unit::{Board, boards_drive_beside_strays, boards_that_are_down_have_flown};
 use std::alloc::Global;
 
 /// Flies a mission to its end, on one thread. The order number draws who steps next.
@@ -61,9 +61,9 @@ impl Machine {
         ensures round { (w : Strays) → Flies (flown_of mission.now) w self → IsRound (flown_of mission.now) w (told (flown_of mission.now) result) }
         ensures logged { IsLogged (flown_of mission.now) (layout_of self) result }
     {
-        boards_that_step_keep_to_their_conduct();
-        lawful_cores_hear_lawfully();
-        landed_frames_are_round();
+        boards_that_are_down_have_flown();
+        boards_drive_beside_strays();
+        flights_that_come_home_are_round();
         Flight {
             journals: journals_of(self.rack.end(), journals),
             accounts: accounts_of(self.boards, accounts),

@@ -45,7 +45,7 @@ impl Machine {
     }
 
     /// The boards of all units, in their order.
-    fn make_boards(alloc: Global, mission: &Mission) -> Result<Vec<Board>, NoMemory>
+    pub fn make_boards(alloc: Global, mission: &Mission) -> Result<Vec<Board>, NoMemory>
         ensures { IfOk result (λ boards. AreNewBoards (flown_of mission.now) mission.now.units boards.items) }
     {
         let units = mission.parts().units;

@@ -1,17 +1,11 @@
 -- What comes of an ether and its tokens at the end.
-use Rattle.std.specs.Prelude.{◌≡◌, ◌<◌, ℕ, List, length, slice_index_or, Option, option_and_then}
+use Rattle.std.specs.Prelude.{◌≡◌, ◌<◌, ℕ, List, length, slice_index_or}
 use Rattle.sift_base.specs.declared.layout.Layout.{Layout}
-use Rattle.sift_buffer.specs.Conduct.{Conduct}
-use Rattle.sift_buffer.specs.Journals.{Pages, IsJournalOf, said_in, heard_in}
+use Rattle.sift_buffer.specs.Journals.{Pages, IsJournalOf, HasWordsOf}
 use Rattle.sift_buffer.specs.Lawful.{Lawful}
 use Rattle.sift_buffer.specs.Tables.{ranges_of}
 use Rattle.sift_ether.specs.declared.token.Token.{Token}
 use Rattle.sift_ether.specs.Tokens.{conduct_at}
-
--- the journal has just the words of this conduct: absence where nothing was said, and where nothing was heard
-pub record HasWordsOf (d : Conduct) (j : Pages) : Type 0 where
-  pub said : (f k q : ℕ) → said_in j f k q ≡ option_and_then (λ act. act.word) (d.said f k q)
-  pub heard : (f k p : ℕ) → heard_in j f k p ≡ option_and_then (λ act. act.word) (d.heard f k p)
 
 -- it is the journal of this unit, and has its words
 pub record IsJournalFrom (tokens : List Token) (layout : Layout) (frames u : ℕ) (j : Pages) : Type 0 where

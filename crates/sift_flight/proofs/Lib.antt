@@ -3,6 +3,7 @@ pub mod Configs
 pub mod FrameActs
 pub mod Hears
 pub mod Landed
+pub mod Homing
 pub mod Same
 pub mod SameWords
 pub mod SameFrame

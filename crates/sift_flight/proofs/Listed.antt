@@ -12,7 +12,8 @@ use Rattle.sift_mission.specs.Premises.{IsFlyable}
 use Rattle.sift_mission.specs.declared.parts.MissionParts.{MissionParts}
 use Rattle.sift_mission.proofs.Numbers.{range-has}
 use Rattle.sift_flight.specs.Configuration.{Works}
-use Rattle.sift_flight.specs.Told.{IsAccountOf, IsWhole, accounts_of, frames_before, no_account, told}
+use Rattle.sift_conduct.specs.Frames.{frames_before}
+use Rattle.sift_flight.specs.Told.{IsAccountOf, IsWhole, accounts_of, no_account, told}
 use Rattle.sift_flight.specs.declared.flight.Flight.{Flight as TheFlight}
 
 -- a frame in which a unit hasn't turned is one before it turns

@@ -3,6 +3,7 @@ pub mod Told
 pub mod Hearing
 pub mod Round
 pub mod Landing
+pub mod Homing
 pub mod Configuration
 pub mod Figures
 pub mod Whole

@@ -1,5 +1,5 @@
 -- What a flight of the code tells: words and accounts by unit, frame and slot; and when it is whole.
-use Rattle.std.specs.Prelude.{◌≡◌, ℕ, ◌<◌, ◌≤◌, List, [], length, slice_index_or, map, true, false, Option, Some, None, if◌then◌else◌, min, pos, ℤ}
+use Rattle.std.specs.Prelude.{◌≡◌, ℕ, ◌<◌, ◌≤◌, List, [], length, slice_index_or, map, true, false, None, if◌then◌else◌, pos, ℤ}
 use Rattle.sift_base.specs.Units.{has}
 use Rattle.sift_base.specs.declared.layout.Layout.{Layout}
 use Rattle.sift_buffer.specs.Journals.{Pages, said_in, heard_in, IsJournalOf}
@@ -8,6 +8,7 @@ use Rattle.sift_exec.specs.Record.{nobody}
 use Rattle.sift_mission.specs.Mission.{FlownMission, IsConfigOf}
 use Rattle.sift_mission.specs.Slots.{is_slot, has_turned}
 use Rattle.sift_conduct.specs.Account.{Account, caught, account_of}
+use Rattle.sift_conduct.specs.Frames.{frames_before}
 use Rattle.sift_flight.specs.Flight.{Flight}
 use Rattle.sift_flight.specs.declared.flight.Flight.{Flight as TheFlight}
 
@@ -38,11 +39,6 @@ told m fl = record {
 }
 
 -- ---- when it is whole
-
--- the frames that a unit flies: all, or those before it turns
-abbrev pub frames_before : Option ℕ → ℕ → ℕ
-frames_before None frames = frames
-frames_before (Some from) frames = min from frames
 
 -- there is a journal of the layout for each unit, and an account for each frame before the unit turned
 pub record IsLogged (m : FlownMission) (layout : Layout) (fl : TheFlight) : Type 0 where

@@ -2,6 +2,7 @@
 
 ghost use Rattle.sift_flight.specs.Calms.{CalmMissionsFly};
 ghost use Rattle.sift_flight.specs.Headline.{HeadlineHolds};
+ghost use Rattle.sift_flight.specs.Homing.{FlightsThatComeHomeAreRound};
 ghost use Rattle.sift_flight.specs.Landing.{LawfulCoresHearLawfully, UnitsHearByTheEquations, LandedFramesAreRound};
 ghost use Rattle.sift_flight.specs.Round.{AtMostOneIsRound};
 ghost use Rattle.sift_flight.specs.Rows.{RowsHold};
@@ -20,6 +21,11 @@ pub fn units_hear_by_the_equations()
 /// The frames that each board has ended, or turned before, are frames of a round flight.
 pub fn landed_frames_are_round()
     ensures { LandedFramesAreRound }
+{}
+
+/// What a flight that has come home from a lawful core tells is a round flight over the core's strays.
+pub fn flights_that_come_home_are_round()
+    ensures { FlightsThatComeHomeAreRound }
 {}
 
 /// A mission without storms has at most one round flight: two of them are the same in each account

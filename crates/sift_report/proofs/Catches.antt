@@ -200,7 +200,10 @@ or_right false false c t = t
 pub caught_again : (caught told : Catches) → AreCatches caught → IsToldBy (catches_in caught) told → told ≡ caught
 caught_again caught told are by =
     let all = everyone_units caught are in
-    let poll = set_again caught Poll caught.poll told.poll all (λ v. refl) (λ v t. holds-everyone caught v ∙ or_left (holds caught.poll v) (holds caught.relay v) (holds caught.clock v) t) by.poll in
-    let relay = set_again caught Relay caught.relay told.relay all (λ v. refl) (λ v t. holds-everyone caught v ∙ or_middle (holds caught.poll v) (holds caught.relay v) (holds caught.clock v) t) by.relay in
-    let clock = set_again caught Clock caught.clock told.clock all (λ v. refl) (λ v t. holds-everyone caught v ∙ or_right (holds caught.poll v) (holds caught.relay v) (holds caught.clock v) t) by.clock in
+    let poll = set_again caught Poll caught.poll told.poll all (λ v. refl)
+    (λ v t. holds-everyone caught v ∙ or_left (holds caught.poll v) (holds caught.relay v) (holds caught.clock v) t) by.poll in
+    let relay = set_again caught Relay caught.relay told.relay all (λ v. refl)
+    (λ v t. holds-everyone caught v ∙ or_middle (holds caught.poll v) (holds caught.relay v) (holds caught.clock v) t) by.relay in
+    let clock = set_again caught Clock caught.clock told.clock all (λ v. refl)
+    (λ v t. holds-everyone caught v ∙ or_right (holds caught.poll v) (holds caught.relay v) (holds caught.clock v) t) by.clock in
     λ i. record { poll = poll i; relay = relay i; clock = clock i }

@@ -46,7 +46,8 @@ module _ (m : FlownMission) (fit : Fits m) (b : Desk) (end : is_end m b ≡ true
   -- to the next frame, with what the account says
   pub frame_on : OffsetsChangeLittle → b.subframe + 1 ≡ m.period → b.frame < m.frames → (account : Account) (memory : Memory)
       (cfg : List ℕ) (clk : ℤ) (last : List ℕ) (accounts : List Account) →
-      account ≡ account_now m b → IsShaped m account.next_cfg b.unit memory → cfg ≡ account.next_cfg → clk ≡ account.next_clk → last ≡ account.outs → accounts ≡ b.accounts ++ account ∷ [] →
+      account ≡ account_now m b → IsShaped m account.next_cfg b.unit memory → cfg ≡ account.next_cfg → clk ≡ account.next_clk →
+      last ≡ account.outs → accounts ≡ b.accounts ++ account ∷ [] →
       (c : Acts) → Going m b c → Going m (next_desk memory cfg clk last accounts) (with_entered c)
   frame_on little high room account memory cfg clk last accounts is shape ec ek el pushed c g =
       let t = end_is m b end in

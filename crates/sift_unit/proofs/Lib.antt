@@ -5,6 +5,7 @@ pub mod Carved
 pub mod Conducts
 pub mod Continuing
 pub mod Driving
+pub mod Down
 pub mod Due
 pub mod Ending
 pub mod Exporting
@@ -12,6 +13,7 @@ pub mod Filing
 pub mod Finding
 pub mod Flown
 pub mod Found
+pub mod FrameLists
 pub mod HeardNew
 pub mod Hearing
 pub mod InTurn
@@ -34,6 +36,7 @@ pub mod Skipping
 pub mod Splices
 pub mod Standing
 pub mod Starting
+pub mod Strays
 pub mod Tests
 pub mod Turning
 pub mod Writing

@@ -2,6 +2,7 @@ pub mod BoardLaws
 pub mod Boards
 pub mod Carving
 pub mod Desk
+pub mod Down
 pub mod FrameWords
 pub mod Going
 pub mod Keeping

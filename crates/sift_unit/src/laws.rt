@@ -2,6 +2,7 @@
 
 ghost use Rattle.sift_unit.specs.BoardLaws.{KeepLaw, StartLaw, TurnLaw, TurnFirstLaw, JumpLaw};
 ghost use Rattle.sift_unit.specs.Boards.{NewBoardLaw, DriveLaw, AccountLaw};
+ghost use Rattle.sift_unit.specs.Down.{DownLaw, StrayLaw};
 
 use sift_skew::offsets_change_little;
 
@@ -46,4 +47,15 @@ pub fn boards_that_step_keep_to_their_conduct()
 /// A board has the accounts of all frames that it has ended, with offsets of which figures can be told.
 pub fn boards_account_for_their_frames()
     ensures { AccountLaw }
+{}
+
+/// A board whose unit has landed or turned has kept to its conduct in all frames in which its unit
+/// flies, by the accounts that it has, of which there is one for each of these frames.
+pub fn boards_that_are_down_have_flown()
+    ensures { DownLaw }
+{}
+
+/// A board drives on whatever strays its unit has stored.
+pub fn boards_drive_beside_strays()
+    ensures { StrayLaw }
 {}

@@ -17,7 +17,7 @@ returns-clause-round c = landed_round (flown_of c.args.mission.now) c.args.self 
   journals = c.journals_of.ensures.journals ∙ ap (λ acts. map (λ ledger. ledger.pages) acts.items) c.end.ensures;
   accounts = c.accounts_of.ensures;
 })
-    c.boards_that_step_keep_to_their_conduct.ensures c.lawful_cores_hear_lawfully.ensures c.landed_frames_are_round.ensures
+    c.boards_that_are_down_have_flown.ensures c.boards_drive_beside_strays.ensures c.flights_that_come_home_are_round.ensures
 
 pub returns-clause-logged : goal.returns-clause-logged
 returns-clause-logged c = landed_logged (flown_of c.args.mission.now) c.args.self (record {
@@ -31,3 +31,4 @@ returns-clause-logged c = landed_logged (flown_of c.args.mission.now) c.args.sel
   journals = c.journals_of.ensures.journals ∙ ap (λ acts. map (λ ledger. ledger.pages) acts.items) c.end.ensures;
   accounts = c.accounts_of.ensures;
 })
+    c.boards_that_are_down_have_flown.ensures c.boards_drive_beside_strays.ensures
