@@ -36,7 +36,7 @@ module _ (flies : PartsMakeItFlyable) (alike : RoundFlightsAreAlike) (texts : Al
 
   -- so `run` gives one report for a mission
   pub one_report : (job : RunJob) (d : MissionData) (one other : Reply) → IsStated d → RunGives job d one → RunGives job d other → one ≡ other
-  one_report job d one other stated (fl, flies, is) (gl, flies', is') = is ∙ (ap done ((one_flight d fl gl stated flies flies').report job.version) ∙ sym is')
+  one_report job d one other stated (fl, flies, lines, is) (gl, flies', lines', is') = is ∙ (ap done ((one_flight d fl gl stated flies flies').report job.version) ∙ sym is')
 
   -- and `votes` one text of votes
   pub one_votes : (job : VotesJob) (d : MissionData) (one other : Reply) → IsStated d → VotesGives job d one → VotesGives job d other → one ≡ other

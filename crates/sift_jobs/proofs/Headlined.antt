@@ -18,7 +18,7 @@ not_done (Refused (Table size row rule)) is = omega (arith, is)
 not_done (Refused (Script entry rule)) is = omega (arith, is)
 
 pub headlined : StatedMissionsFit → HeadlineIsPrinted → RunIsHeadlined
-headlined fit printed job bytes reply (inl (mission, states, (flight, flies, is))) status = record {
+headlined fit printed job bytes reply (inl (mission, states, (flight, flies, lines, is))) status = record {
   mission = mission;
   flight = flight;
   stated = states;

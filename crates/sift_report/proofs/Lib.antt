@@ -9,9 +9,11 @@ pub mod LineForms
 mod Catches
 pub mod Fields
 pub mod Printed
+mod Held
 mod SameTexts
 mod Places
 mod Versions
+mod Ascii
 mod SheetPlaces
 mod RoundFlights
 mod Alike

@@ -48,7 +48,7 @@ parts_all text vs first others k old before now cut seen start rest =
 -- ---- texts in turn
 
 -- one number more
-range-more : (n : ℕ) → range_with_len 0 (n + 1) ≡ range_with_len 0 n ++ n ∷ []
+pub range-more : (n : ℕ) → range_with_len 0 (n + 1) ≡ range_with_len 0 n ++ n ∷ []
 range-more n = simp map-id at (map-range_with_len_more (λ k. k) 0 n n (omega arith))
 
 -- the text of one number more

@@ -9,6 +9,7 @@ pub mod Sheet
 pub mod Votes
 pub mod OneText
 pub mod Versions
+pub mod Texts
 pub mod Working
 pub mod Told
 pub mod Form

@@ -2,6 +2,7 @@
 //! is printed.
 
 ghost use Rattle.sift_report.specs.OneText.{AlikeFlightsHaveOneText};
+ghost use Rattle.sift_report.specs.Texts.{LinesAreTexts};
 ghost use Rattle.sift_report.specs.Printed.{HeadlineIsPrinted, SheetsTellTheirFlights};
 ghost use Rattle.sift_report.specs.TwoCatchers.{FaultIsWithinTheHeadline};
 ghost use Rattle.sift_report.specs.Versions.{LinesTellTheirVersion};
@@ -21,6 +22,11 @@ pub fn alike_flights_have_one_text()
 /// The text of a line that names a unit is read in the line's own version alone.
 pub fn lines_tell_their_version()
     ensures { LinesTellTheirVersion }
+{}
+
+/// The bytes of each line are a text: they are ASCII.
+pub fn lines_are_texts()
+    ensures { LinesAreTexts }
 {}
 
 /// The lines of the report of a round flight have the headline: the form of a report, one configuration, the same words, the

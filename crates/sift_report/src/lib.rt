@@ -4,6 +4,7 @@
 mod bad;
 mod catch;
 mod form;
+mod holding;
 mod ideal;
 mod law;
 mod line;
@@ -24,7 +25,7 @@ mod word;
 pub use bad::Bad;
 pub use ideal::ideal_text;
 pub use law::{
-    alike_flights_have_one_text, fault_is_within_the_headline, lines_tell_their_version,
+    alike_flights_have_one_text, fault_is_within_the_headline, lines_are_texts, lines_tell_their_version,
     sheets_tell_their_flights, the_headline_is_printed,
 };
 pub use line::ReportLine;

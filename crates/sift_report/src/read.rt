@@ -14,6 +14,18 @@ use arrayvec::ArrayVec;
 
 /// The line that a report of this version prints so, without a line feed, where there is one. It takes no memory.
 pub fn read_line(line: &str, version: Version) -> Option<ReportLine>
+    ensures line { IfSome result IsLine }
+    ensures version { IfSome result (HasVersion version) }
+    ensures printed { IfSome result (λ read. line_text read ≡ line.now) }
+    ensures exact { (l : ReportLine) → IsLine l → HasVersion version l → line_text l ≡ line.now → result ≡ Some l }
+{
+    let read = read_printed(line, version)?;
+    read.holds_its_fields();
+    Some(read)
+}
+
+/// The same, of its fields.
+fn read_printed(line: &str, version: Version) -> Option<ReportLine>
     ensures version { IfSome result (HasVersion version) }
     ensures printed { IfSome result (λ read. line_text read ≡ line.now) }
     ensures exact { (l : ReportLine) → IsLine l → HasVersion version l → line_text l ≡ line.now → result ≡ Some l }

@@ -4,9 +4,11 @@ ghost use Rattle.std.specs.Prelude.{◌≡◌, ◌<◌, ◌++◌, IfOk, OnOk, st
 ghost use Rattle.sift_mission.specs.Parts.{flown_of};
 ghost use Rattle.sift_flight.specs.Figures.{margin_at};
 ghost use Rattle.sift_flight.specs.Told.{IsWhole, told};
-ghost use Rattle.sift_report.specs.Line.{text_of_lines};
-ghost use Rattle.sift_report.specs.Sheet.{end_of, frame_lines, report_of};
+ghost use Rattle.std.specs.List.{All};
+ghost use Rattle.sift_report.specs.Line.{IsLine, printed, text_of_lines};
+ghost use Rattle.sift_report.specs.Sheet.{end_of, frame_lines, report_of, sheet_of};
 
+use crate::line::ReportLine;
 use crate::print::push_line;
 use crate::sheet::{frame_line, last_line, unit_line};
 use crate::version::Version;
@@ -15,7 +17,7 @@ use sift_flight::{Flight, is_sound_at, margin_at};
 use sift_mission::Mission;
 use std::alloc::{AllocError, Global};
 
-/// The report of a whole flight, in this version.
+/// The report of a whole flight, in this version. Each of its lines reads back.
 pub fn report_text(
     alloc: Global,
     mission: &Mission,
@@ -23,8 +25,10 @@ pub fn report_text(
     version: Version,
 ) -> Result<String, NoMemory>
     requires { IsWhole (flown_of mission.now) mission.now.layout flight.now }
-    ensures { IfOk result (λ text. string_bytes text
+    ensures text { IfOk result (λ text. string_bytes text
         ≡ report_of (flown_of mission.now) (told (flown_of mission.now) flight.now) version) }
+    ensures lines { IfOk result (λ _. All IsLine
+        (sheet_of (flown_of mission.now) (told (flown_of mission.now) flight.now) version)) }
 {
     let mut text = String::new(alloc);
     let mut margin = true;
@@ -32,8 +36,17 @@ pub fn report_text(
         margin = margin && is_sound_at(mission, flight, f);
         push_frame(&mut text, mission, flight, version, f, margin)?;
     }
-    push_line(&mut text, &last_line(mission, flight, margin))?;
+    push_one(&mut text, &last_line(mission, flight, margin))?;
     Ok(text)
+}
+
+/// Appends one line, which holds its fields.
+fn push_one(text: &mut String, line: &ReportLine) -> Result<(), AllocError>
+    ensures text { OnOk result (string_bytes text.new ≡ string_bytes text.old ++ printed line.now) }
+    ensures line { IsLine line.now }
+{
+    line.holds_its_fields();
+    push_line(text, line)
 }
 
 /// Appends the lines of a frame that has this margin.
@@ -48,17 +61,18 @@ fn push_frame(
     requires whole { IsWhole (flown_of mission.now) mission.now.layout flight.now }
     requires frame { f < (flown_of mission.now).frames }
     requires margin { margin ≡ margin_at (flown_of mission.now) (told (flown_of mission.now) flight.now) f }
-    ensures { OnOk result (string_bytes text.new ≡ string_bytes text.old
+    ensures text { OnOk result (string_bytes text.new ≡ string_bytes text.old
         ++ text_of_lines (frame_lines (flown_of mission.now) (told (flown_of mission.now) flight.now) version f)) }
+    ensures lines { OnOk result (All IsLine (frame_lines (flown_of mission.now) (told (flown_of mission.now) flight.now) version f)) }
 {
     let everyone = mission.everyone();
     for i in 0..everyone.len() {
-        push_line(
+        push_one(
             text,
             &unit_line(mission, flight, version, f, everyone.unit_at(i)),
         )?;
     }
-    push_line(text, &frame_line(mission, flight, f, margin))
+    push_one(text, &frame_line(mission, flight, f, margin))
 }
 
 /// The last line of a whole flight's report, with its line feed.

@@ -1,6 +1,6 @@
 use Rattle.std.proofs.Common.{ap, length, arith}
 use Rattle.sift_report.proofs.Fields.{fields_of_text, text_where_read, few_fields}
-use Rattle.sift_report.proofs.read.read_line.Goals as goal
+use Rattle.sift_report.proofs.read.read_printed.Goals as goal
 
 pub returns-in_err-fields-clause-exact : goal.returns-in_err-fields-clause-exact
 returns-in_err-fields-clause-exact c = λ line holds of e.

@@ -1,0 +1,87 @@
+//! What each field of a line holds, by its type.
+
+ghost use Rattle.std.specs.List.{All};
+ghost use Rattle.sift_report.specs.Bad.{IsBad};
+ghost use Rattle.sift_report.specs.Line.{IsLine};
+ghost use Rattle.sift_report.specs.Part.{AreTicks, IsWord};
+
+use crate::bad::Bad;
+use crate::line::ReportLine;
+use sift_base::Word;
+
+impl ReportLine {
+    /// Each field of a line holds what it can.
+    pub(crate) fn holds_its_fields(&self)
+        ensures { IsLine self.now }
+    {
+        match self {
+            ReportLine::Unit {
+                f,
+                u,
+                cfg,
+                clk,
+                ins,
+                outs,
+                bad,
+            } => {
+                let _numbers = (*f, *clk);
+                u.get();
+                cfg.len();
+                are_words(ins);
+                are_words(outs);
+                are_units(bad);
+            }
+            ReportLine::Faulty { f, u } | ReportLine::Idle { f, u } => {
+                let _number = *f;
+                u.get();
+            }
+            ReportLine::Frame { f, skew, slack, .. } => {
+                let _number = *f;
+                are_ticks(*skew);
+                are_ticks(*slack);
+            }
+            ReportLine::Last { frames, cfg, .. } => {
+                let _number = *frames;
+                cfg.len();
+            }
+        }
+    }
+}
+
+/// Ticks are a number of 64 bits, where there are some.
+fn are_ticks(ticks: Option<i64>)
+    ensures { AreTicks ticks }
+{
+    if let Some(number) = ticks {
+        let _number = number;
+    }
+}
+
+/// Each of these is a word.
+fn are_words(words: &[Word])
+    ensures { All IsWord words.now }
+{
+    match words {
+        [] => {}
+        [first, others @ ..] => {
+            first.get();
+            are_words(others);
+        }
+    }
+}
+
+/// Each unit that was caught is one.
+fn are_units(bad: &Bad)
+    ensures { IsBad bad.now }
+{
+    match bad {
+        Bad::Plain(units) => {
+            units.bits();
+        }
+        Bad::ByKind(caught) => {
+            caught.poll.bits();
+            caught.relay.bits();
+            caught.clock.bits();
+        }
+    }
+}
