@@ -18,7 +18,7 @@ _sift() {
   esac
 
   if [ "$place" -eq 1 ]; then
-    mapfile -t COMPREPLY < <(compgen -W 'run votes ideal check gen trial plan byz clocks' -- "$word")
+    mapfile -t COMPREPLY < <(compgen -W 'run votes ideal check gen trial plan judge byz clocks' -- "$word")
     return
   fi
   case ${COMP_WORDS[1]} in
@@ -27,6 +27,7 @@ _sift() {
     gen) options='--number' ;;
     trial) options='--number --order --workers' ;;
     plan) options='--copies --subframes' ;;
+    judge) options='--report' ;;
     clocks) options='--n --m --skew --error --rate --rounds --number' ;;
     *) return ;;
   esac

@@ -20,7 +20,7 @@ pub use law::{
     votes_gives_one, votes_has_own_statuses,
 };
 pub use plan::PlanJob;
-pub use run::RunJob;
+pub use run::{RunJob, version_of};
 pub use scenario::GenJob;
 pub use trial::TrialJob;
 pub use votes::VotesJob;

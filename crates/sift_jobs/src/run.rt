@@ -31,8 +31,8 @@ impl RunJob {
     }
 }
 
-/// The version that the options of a run give, the second where they give none.
-fn version_of(options: Options) -> Version
+/// The version of a report that options give, the second where they give none.
+pub fn version_of(options: Options) -> Version
     ensures { result ≡ version_of options }
 {
     match options.report {

@@ -14,6 +14,8 @@ use Rattle.sift_jobs.specs.declared.run.RunJob.{RunJob}
 use Rattle.sift_jobs.specs.declared.scenario.GenJob.{GenJob}
 use Rattle.sift_jobs.specs.declared.trial.TrialJob.{TrialJob}
 use Rattle.sift_jobs.specs.declared.votes.VotesJob.{VotesJob}
+use Rattle.sift_judge_jobs.specs.Judge.{judge_duty, judge_statuses}
+use Rattle.sift_judge_jobs.specs.declared.judge.JudgeJob.{JudgeJob}
 use Rattle.sift_lab_jobs.specs.Byz.{byz_duty, byz_statuses}
 use Rattle.sift_lab_jobs.specs.Clocks.{clocks_duty, clocks_statuses}
 use Rattle.sift_lab_jobs.specs.declared.byz.ByzJob.{ByzJob}
@@ -34,6 +36,7 @@ module _
     (scenario : (job : GenJob) → HasOwnStatuses (gen_duty job) (done_status ∷ []))
     (trial : (job : TrialJob) → HasOwnStatuses (trial_duty job) (done_status ∷ []))
     (plan : (job : PlanJob) → HasOwnStatuses (plan_duty job) plan_statuses)
+    (judge : (job : JudgeJob) → HasOwnStatuses (judge_duty job) judge_statuses)
     (byz : (job : ByzJob) → HasOwnStatuses (byz_duty job) byz_statuses)
     (clocks : (job : ClocksJob) → HasOwnStatuses (clocks_duty job) clocks_statuses) where
   -- the statuses of each command are its own
@@ -45,6 +48,7 @@ module _
   own_statuses (command.Gen job) = scenario job
   own_statuses (command.Trial job) = trial job
   own_statuses (command.Plan job) = plan job
+  own_statuses (command.Judge job) = judge job
   own_statuses (command.Byz job) = byz job
   own_statuses (command.Clocks job) = clocks job
 
@@ -52,7 +56,7 @@ module _
     (run : (job : RunJob) → GivesOne (run_duty job)) (votes : (job : VotesJob) → GivesOne (votes_duty job))
     (ideal : (job : IdealJob) → GivesOne (ideal_duty job)) (check : (job : CheckJob) → GivesOne (check_duty job))
     (scenario : (job : GenJob) → GivesOne (gen_duty job)) (trial : (job : TrialJob) → GivesOne (trial_duty job))
-    (plan : (job : PlanJob) → GivesOne (plan_duty job))
+    (plan : (job : PlanJob) → GivesOne (plan_duty job)) (judge : (job : JudgeJob) → GivesOne (judge_duty job))
     (byz : (job : ByzJob) → GivesOne (byz_duty job)) (clocks : (job : ClocksJob) → GivesOne (clocks_duty job)) where
   -- each command gives one reply
   pub gives_one : (one : Command) → GivesOne (duty_of one)
@@ -63,5 +67,6 @@ module _
   gives_one (command.Gen job) = scenario job
   gives_one (command.Trial job) = trial job
   gives_one (command.Plan job) = plan job
+  gives_one (command.Judge job) = judge job
   gives_one (command.Byz job) = byz job
   gives_one (command.Clocks job) = clocks job

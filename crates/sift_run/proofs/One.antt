@@ -5,7 +5,7 @@ use Rattle.sift_options.specs.Options.{Adds, no_options}
 use Rattle.sift_run.specs.Command.{OneCommand, asked}
 use Rattle.sift_run.specs.Verb.{flags_of, name_of}
 use Rattle.sift_run.specs.declared.verb.Verb.{Verb}
-use Rattle.sift_run.specs.declared.verb.Verb.TheVariants.{Run, Votes, Ideal, Check, Gen, Trial, Plan, Byz, Clocks}
+use Rattle.sift_run.specs.declared.verb.Verb.TheVariants.{Run, Votes, Ideal, Check, Gen, Trial, Plan, Judge, Byz, Clocks}
 
 -- the verb with a name
 abbrev verb_with : List ℕ → Verb
@@ -16,8 +16,9 @@ verb_with name =
     (cond (bytes_eq name (name_of Gen)) Gen
     (cond (bytes_eq name (name_of Trial)) Trial
     (cond (bytes_eq name (name_of Plan)) Plan
+    (cond (bytes_eq name (name_of Judge)) Judge
     (cond (bytes_eq name (name_of Byz)) Byz
-    (cond (bytes_eq name (name_of Clocks)) Clocks Run)))))))
+    (cond (bytes_eq name (name_of Clocks)) Clocks Run))))))))
 
 -- a verb is known by its name
 named : (verb : Verb) → verb_with (name_of verb) ≡ verb
@@ -28,6 +29,7 @@ named Check = refl
 named Gen = refl
 named Trial = refl
 named Plan = refl
+named Judge = refl
 named Byz = refl
 named Clocks = refl
 

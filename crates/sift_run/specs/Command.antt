@@ -7,6 +7,7 @@ use Rattle.sift_jobs.specs.Plan.{plan_duty, plan_job_of}
 use Rattle.sift_jobs.specs.Run.{run_duty, run_job_of}
 use Rattle.sift_jobs.specs.Trial.{trial_duty, trial_job_of}
 use Rattle.sift_jobs.specs.Votes.{votes_duty, votes_job_of}
+use Rattle.sift_judge_jobs.specs.Judge.{judge_duty, judge_job_of}
 use Rattle.sift_lab_jobs.specs.Byz.{byz_duty}
 use Rattle.sift_lab_jobs.specs.Clocks.{clocks_duty, clocks_job_of}
 use Rattle.sift_options.specs.Options.{Adds, no_options}
@@ -28,6 +29,7 @@ asked verb.Check options = Some (command.Check (record {}))
 asked verb.Gen options = option_map command.Gen (gen_job_of options)
 asked verb.Trial options = option_map command.Trial (trial_job_of options)
 asked verb.Plan options = option_map command.Plan (plan_job_of options)
+asked verb.Judge options = Some (command.Judge (judge_job_of options))
 asked verb.Byz options = Some (command.Byz (record {}))
 asked verb.Clocks options = option_map command.Clocks (clocks_job_of options)
 
@@ -40,6 +42,7 @@ duty_of (command.Check job) = check_duty job
 duty_of (command.Gen job) = gen_duty job
 duty_of (command.Trial job) = trial_duty job
 duty_of (command.Plan job) = plan_duty job
+duty_of (command.Judge job) = judge_duty job
 duty_of (command.Byz job) = byz_duty job
 duty_of (command.Clocks job) = clocks_duty job
 

@@ -1,6 +1,7 @@
 -- Which command may end with which status.
 use Rattle.std.specs.Prelude.{ℕ, List, [], ◌∷◌, ◌++◌, Contains}
 use Rattle.sift_jobs.specs.Plan.{plan_statuses}
+use Rattle.sift_judge_jobs.specs.Judge.{judge_statuses}
 use Rattle.sift_lab_jobs.specs.Byz.{byz_statuses}
 use Rattle.sift_lab_jobs.specs.Clocks.{clocks_statuses}
 use Rattle.sift_load.specs.NoMission.{no_mission_statuses}
@@ -11,7 +12,7 @@ use Rattle.sift_reply.specs.Promise.{IsAnswered, IsCommandLine}
 use Rattle.sift_reply.specs.Reply.{done_status, sink_fault_status, usage}
 use Rattle.sift_run.specs.Command.{Asks, commands, duty_of}
 use Rattle.sift_run.specs.declared.command.Command.{Command}
-use Rattle.sift_run.specs.declared.command.Command.TheVariants.{Run, Votes, Ideal, Check, Gen, Trial, Plan, Byz, Clocks}
+use Rattle.sift_run.specs.declared.command.Command.TheVariants.{Run, Votes, Ideal, Check, Gen, Trial, Plan, Judge, Byz, Clocks}
 
 -- the statuses of the replies that a command gives
 abbrev pub own_statuses : Command → List ℕ
@@ -22,6 +23,7 @@ own_statuses (Check job) = done_status ∷ no_mission_statuses
 own_statuses (Gen job) = done_status ∷ []
 own_statuses (Trial job) = done_status ∷ []
 own_statuses (Plan job) = plan_statuses
+own_statuses (Judge job) = judge_statuses
 own_statuses (Byz job) = byz_statuses
 own_statuses (Clocks job) = clocks_statuses
 

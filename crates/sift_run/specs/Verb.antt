@@ -3,7 +3,7 @@ use Rattle.std.specs.Prelude.{codes, ℕ, List, [], ◌∷◌}
 use Rattle.sift_options.specs.declared.setting.Flag.{Flag}
 use Rattle.sift_options.specs.declared.setting.Flag.TheVariants.{Workers, Order, Report, Number, N, M, Skew, Error, Rate, Rounds, Copies, Subframes}
 use Rattle.sift_run.specs.declared.verb.Verb.{Verb}
-use Rattle.sift_run.specs.declared.verb.Verb.TheVariants.{Run, Votes, Ideal, Check, Gen, Trial, Plan, Byz, Clocks}
+use Rattle.sift_run.specs.declared.verb.Verb.TheVariants.{Run, Votes, Ideal, Check, Gen, Trial, Plan, Judge, Byz, Clocks}
 
 -- the name that it has on a command line
 abbrev pub name_of : Verb → List ℕ
@@ -14,6 +14,7 @@ name_of Check = codes "check"
 name_of Gen = codes "gen"
 name_of Trial = codes "trial"
 name_of Plan = codes "plan"
+name_of Judge = codes "judge"
 name_of Byz = codes "byz"
 name_of Clocks = codes "clocks"
 
@@ -26,5 +27,6 @@ flags_of Check = []
 flags_of Gen = Number ∷ []
 flags_of Trial = Workers ∷ Order ∷ Number ∷ []
 flags_of Plan = Copies ∷ Subframes ∷ []
+flags_of Judge = Report ∷ []
 flags_of Byz = []
 flags_of Clocks = N ∷ M ∷ Skew ∷ Error ∷ Rate ∷ Rounds ∷ Number ∷ []

@@ -6,6 +6,7 @@ ghost use Rattle.sift_run.specs.Command.{asked};
 use crate::verb::Verb;
 use sift_base::NoMemory;
 use sift_jobs::{CheckJob, GenJob, IdealJob, PlanJob, RunJob, TrialJob, VotesJob};
+use sift_judge_jobs::JudgeJob;
 use sift_lab_jobs::{ByzJob, ClocksJob};
 use sift_options::Options;
 use sift_reply::{Asked, Job, Reply};
@@ -21,6 +22,7 @@ pub enum Command {
     Gen(GenJob),
     Trial(TrialJob),
     Plan(PlanJob),
+    Judge(JudgeJob),
     Byz(ByzJob),
     Clocks(ClocksJob),
 }
@@ -39,6 +41,7 @@ impl Job for Command {
             Command::Gen(job) => job.limit(),
             Command::Trial(job) => job.limit(),
             Command::Plan(job) => job.limit(),
+            Command::Judge(job) => job.limit(),
             Command::Byz(job) => job.limit(),
             Command::Clocks(job) => job.limit(),
         }
@@ -53,6 +56,7 @@ impl Job for Command {
             Command::Gen(job) => job.reply(alloc, bytes),
             Command::Trial(job) => job.reply(alloc, bytes),
             Command::Plan(job) => job.reply(alloc, bytes),
+            Command::Judge(job) => job.reply(alloc, bytes),
             Command::Byz(job) => job.reply(alloc, bytes),
             Command::Clocks(job) => job.reply(alloc, bytes),
         }
@@ -85,6 +89,7 @@ fn asked(verb: Verb, options: Options) -> Option<Command>
         Verb::Gen => GenJob::of(options).map(Command::Gen),
         Verb::Trial => TrialJob::of(options).map(Command::Trial),
         Verb::Plan => PlanJob::of(options).map(Command::Plan),
+        Verb::Judge => Some(Command::Judge(JudgeJob::of(options))),
         Verb::Byz => Some(Command::Byz(ByzJob)),
         Verb::Clocks => ClocksJob::of(options).map(Command::Clocks),
     }

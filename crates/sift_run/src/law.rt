@@ -14,6 +14,7 @@ use sift_jobs::{
     run_has_own_statuses, run_is_headlined, trial_gives_one, trial_has_own_statuses,
     votes_gives_one, votes_has_own_statuses,
 };
+use sift_judge_jobs::{judge_gives_one, judge_has_own_statuses};
 use sift_lab_jobs::{
     byz_gives_one, byz_has_own_statuses, clocks_give_one, clocks_have_own_statuses,
 };
@@ -39,6 +40,7 @@ pub fn commands_have_own_statuses()
     gen_has_own_statuses();
     trial_has_own_statuses();
     plan_has_own_statuses();
+    judge_has_own_statuses();
     byz_has_own_statuses();
     clocks_have_own_statuses();
 }
@@ -54,6 +56,7 @@ pub fn commands_give_one()
     gen_gives_one();
     trial_gives_one();
     plan_gives_one();
+    judge_gives_one();
     byz_gives_one();
     clocks_give_one();
 }

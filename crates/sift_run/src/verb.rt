@@ -16,6 +16,7 @@ pub enum Verb {
     Gen,
     Trial,
     Plan,
+    Judge,
     Byz,
     Clocks,
 }
@@ -34,6 +35,7 @@ impl Verb {
             "gen" => Some(Verb::Gen),
             "trial" => Some(Verb::Trial),
             "plan" => Some(Verb::Plan),
+            "judge" => Some(Verb::Judge),
             "byz" => Some(Verb::Byz),
             "clocks" => Some(Verb::Clocks),
             _ => None,
@@ -51,6 +53,7 @@ impl Verb {
             Verb::Gen => &[Flag::Number],
             Verb::Trial => &[Flag::Workers, Flag::Order, Flag::Number],
             Verb::Plan => &[Flag::Copies, Flag::Subframes],
+            Verb::Judge => &[Flag::Report],
             Verb::Clocks => &[
                 Flag::N,
                 Flag::M,

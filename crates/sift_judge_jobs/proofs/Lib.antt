@@ -1,0 +1,6 @@
+pub mod Divisions
+pub mod OneReply
+pub mod Places
+pub mod Readings
+pub mod Statuses
+pub mod Steps

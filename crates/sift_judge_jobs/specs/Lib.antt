@@ -1,0 +1,3 @@
+pub mod Divided
+pub mod Lines
+pub mod Judge

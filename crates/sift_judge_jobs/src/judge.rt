@@ -1,0 +1,101 @@
+//! The command `judge`.
+
+ghost use Rattle.std.specs.Prelude.{◌≡◌, IfOk};
+ghost use Rattle.sift_judge_jobs.specs.Judge.{judge_job_of, no_line, told};
+
+use crate::divided::{Divided, divide};
+use crate::lines::read_lines;
+use sift_base::{NoMemory, Stop};
+use sift_jobs::version_of;
+use sift_judge::{Verdict, judge};
+use sift_load::{MissionJob, reply_for_bytes};
+use sift_mission::Mission;
+use sift_options::Options;
+use sift_reply::{Job, Reply};
+use sift_report::Version;
+use std::alloc::Global;
+
+/// The most bytes of a document, the divider and a report.
+const INPUT_LIMIT: u32 = 8_388_608;
+
+/// `judge`: tells whether the report in the input, which is of this version, is one that the mission in the input may have.
+/// Nothing is flown.
+#[derive(Clone, Copy)]
+pub struct JudgeJob {
+    pub version: Version,
+}
+
+impl JudgeJob {
+    /// What the options ask for: the version of the report, 2 where none is given.
+    pub fn of(options: Options) -> JudgeJob
+        ensures { result ≡ judge_job_of options }
+    {
+        JudgeJob {
+            version: version_of(options),
+        }
+    }
+}
+
+impl Job for JudgeJob {
+    ghost use Rattle.sift_judge_jobs.specs.Judge.{judge_duty};
+
+    ghost duty = { judge_duty };
+
+    fn limit(self) -> Option<u32> {
+        Some(INPUT_LIMIT)
+    }
+
+    fn reply(self, alloc: Global, bytes: &[u8]) -> Result<Reply, NoMemory> {
+        let version = self.version;
+        match divide(bytes) {
+            Some(Divided { document, report }) => {
+                reply_for_bytes(alloc, ReportJob { report, version }, document)
+            }
+            None => no_line(alloc, 0),
+        }
+    }
+}
+
+/// A report of this version, to be judged for the mission that a document states.
+#[derive(Clone, Copy)]
+pub struct ReportJob<'a> {
+    report: &'a [u8],
+    version: Version,
+}
+
+impl MissionJob for ReportJob<'_> {
+    ghost use Rattle.sift_judge_jobs.specs.Judge.{ReportGives};
+
+    ghost gives_for = { λ job. ReportGives job.version job.report.now };
+
+    fn reply_for(self, alloc: Global, mission: &Mission) -> Result<Reply, NoMemory> {
+        match read_lines(alloc, self.report, self.version) {
+            Ok(lines) => told(alloc, judge(mission, &lines)),
+            Err(Stop::Refused(number)) => no_line(alloc, number),
+            Err(Stop::NoMemory) => Err(NoMemory),
+        }
+    }
+}
+
+/// The reply that tells a verdict.
+fn told(alloc: Global, verdict: Verdict) -> Result<Reply, NoMemory>
+    ensures { IfOk result (λ reply. reply ≡ told verdict) }
+{
+    match verdict {
+        Verdict::Yes => Ok(Reply::fixed(0, "yes\n")),
+        Verdict::No { frame, rule } => {
+            let mut line = String::new(alloc);
+            write!(line, "no frame {frame} rule {rule}\n")?;
+            Ok(Reply::made(13, line))
+        }
+    }
+}
+
+/// The reply where this line of a report is the first that is none, or, where it is 0, where no line divides the input.
+fn no_line(alloc: Global, number: usize) -> Result<Reply, NoMemory>
+    ensures { IfOk result (λ reply. reply ≡ no_line number) }
+{
+    let mut line = String::new(alloc);
+    write!(line, "report line {number}\n")?;
+    Ok(Reply::made(12, line))
+}

@@ -1,0 +1,11 @@
+//! The command that judges a report, as a job: what divides its input, the lines that it reads, and its replies.
+#![tactic(auto)]
+
+mod divided;
+mod judge;
+mod law;
+mod line;
+mod lines;
+
+pub use judge::JudgeJob;
+pub use law::{judge_gives_one, judge_has_own_statuses};
