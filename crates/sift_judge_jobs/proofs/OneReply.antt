@@ -1,8 +1,7 @@
 -- `judge` gives one reply.
-use Rattle.std.proofs.Common.{◌≡◌, inl, inr, ℕ, List, refl, sym, ap, ◌∙◌, subst}
+use Rattle.std.proofs.Common.{◌≡◌, inl, inr, ℕ, List, sym, ap, ◌∙◌, subst}
 use Rattle.sift_judge.specs.Laws.{OneVerdict}
 use Rattle.sift_judge.specs.Verdict.{IsVerdict}
-use Rattle.sift_judge.specs.declared.verdict.Verdict.{Verdict}
 use Rattle.sift_load.specs.Laws.{OneReplyIsGiven}
 use Rattle.sift_load.specs.Loads.{LoadsThen}
 use Rattle.sift_mission.specs.Data.{MissionData}

@@ -1,5 +1,5 @@
 -- A report's lines are read, or refused at one line.
-use Rattle.std.proofs.Common.{suc, ◌≡◌, ◌≢◌, ◌++◌, ◌+◌, ◌∷◌, [], inl, inr, ℕ, List, length, map, refl, sym, ap, ◌∙◌, subst, arith}
+use Rattle.std.proofs.Common.{suc, ◌≡◌, ◌≢◌, ◌++◌, ◌+◌, ◌∷◌, [], inl, inr, ℕ, List, length, map, refl, sym, ap, ◌∙◌}
 use Rattle.std.proofs.lemmas.List.Elements.{All-head, All-tail}
 use Rattle.std.specs.List.{All}
 use Rattle.sift_report.specs.Line.{line_text}

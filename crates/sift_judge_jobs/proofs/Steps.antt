@@ -10,7 +10,7 @@ use Rattle.std.specs.Result.{MatchResult, result_ok}
 use Rattle.sift_report.specs.Line.{line_text}
 use Rattle.sift_report.specs.declared.line.ReportLine.{ReportLine}
 use Rattle.sift_report.specs.declared.version.Version.{Version}
-use Rattle.sift_judge_jobs.specs.Lines.{AreAllRead, AreRead, BeginsRefused, IsFirstRefused, IsLineOf, IsNoLine, texts_of}
+use Rattle.sift_judge_jobs.specs.Lines.{AreAllRead, BeginsRefused, IsFirstRefused, IsLineOf, IsNoLine, texts_of}
 use Rattle.sift_judge_jobs.proofs.Readings.{head_same, more, tail_same}
 
 -- a line that is a text, and is the only one with it

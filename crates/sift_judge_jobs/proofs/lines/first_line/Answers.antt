@@ -1,4 +1,4 @@
-use Rattle.std.proofs.Common.{◌≡◌, ◌∙◌, ◌∷◌, ◌+◌, ℕ, List, ap, drop}
+use Rattle.std.proofs.Common.{◌∙◌, ◌∷◌, ◌+◌, ℕ, List, ap, drop}
 use Rattle.sift_report.specs.Line.{line_text}
 use Rattle.sift_judge_jobs.specs.Lines.{texts_of}
 use Rattle.sift_judge_jobs.proofs.Steps.{first_refused, first_text, found_end, no_end, not_there, to_the_end, unended}

@@ -1,6 +1,6 @@
 use Rattle.std.proofs.Common.{◌≡◌, ◌∙◌, ◌+◌, length, sym, arith}
 use Rattle.std.proofs.lemmas.Bool.{eqb-true}
-use Rattle.sift_judge_jobs.proofs.Steps.{IsReadTo, finished, one_more, stops}
+use Rattle.sift_judge_jobs.proofs.Steps.{finished, one_more, stops}
 use Rattle.sift_judge_jobs.proofs.lines.read_lines.Goals as goal
 
 -- the rest begins with what is refused
