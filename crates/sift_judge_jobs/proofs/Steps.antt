@@ -1,5 +1,6 @@
 -- A report is read line by line.
-use Rattle.std.proofs.Common.{◌≡◌, ◌≢◌, ◌≤◌, ◌<◌, ◌++◌, ◌+◌, ◌-◌, ◌∷◌, [], inl, inr, ⊎_elim, ℕ, List, Option, Some, None, Result, Ok, Err, length, map, take, drop, append_assoc, cond, eqb, not, false, refl, sym, ap, ◌∙◌, subst, arith}
+use Rattle.std.proofs.Common.{◌≡◌, ◌≢◌, ◌≤◌, ◌<◌, ◌++◌, ◌+◌, ◌-◌, ◌∷◌, [], inl, inr, ⊎_elim, ℕ, List, Option, Some, None}
+use Rattle.std.proofs.Common.{Result, Ok, Err, length, map, take, drop, append_assoc, cond, eqb, not, false, refl, sym, ap, ◌∙◌, subst, arith}
 use Rattle.std.proofs.lemmas.Bool.{cases_lt, le-ltb, lt-ltb}
 use Rattle.std.proofs.lemmas.List.{length-drop, map-append, take_all}
 use Rattle.std.proofs.lemmas.List.Elements.{All-from_get_or, All-nil, All-push, All-head, All-tail, All-weaker}

@@ -13,7 +13,8 @@ pub struct Divided<'a> {
     pub report: &'a [u8],
 }
 
-/// The document and the report into which the first dividing line divides an input, where there is one.
+/// The document and the report into which the first dividing line divides an input, where there
+/// is one.
 pub fn divide(bytes: &[u8]) -> Option<Divided<'_>>
     ensures divided { IfSome result (λ parts. AreDivided bytes.now parts.document.now parts.report.now) }
     ensures undivided { IfNone result (AreUndivided bytes.now) }

@@ -18,8 +18,8 @@ use std::alloc::Global;
 /// The most bytes of a document, the divider and a report.
 const INPUT_LIMIT: u32 = 8_388_608;
 
-/// `judge`: tells whether the report in the input, which is of this version, is one that the mission in the input may have.
-/// Nothing is flown.
+/// `judge`: tells whether the report in the input, which is of this version, is one that the
+/// mission in the input may have. Nothing is flown.
 #[derive(Clone, Copy)]
 pub struct JudgeJob {
     pub version: Version,
@@ -91,7 +91,8 @@ fn told(alloc: Global, verdict: Verdict) -> Result<Reply, NoMemory>
     }
 }
 
-/// The reply where this line of a report is the first that is none, or, where it is 0, where no line divides the input.
+/// The reply where this line of a report is the first that is none, or, where it is 0, where no
+/// line divides the input.
 fn no_line(alloc: Global, number: usize) -> Result<Reply, NoMemory>
     ensures { IfOk result (λ reply. reply ≡ no_line number) }
 {

@@ -1,4 +1,5 @@
-//! The command that judges a report, as a job: what divides its input, the lines that it reads, and its replies.
+//! The command that judges a report, as a job: what divides its input, the lines that it reads, and
+//! its replies.
 #![tactic(auto)]
 
 mod divided;
