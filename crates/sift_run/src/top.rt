@@ -17,7 +17,8 @@ use std::alloc::Global;
 /// Does what the command words ask for, without the program's name: reads the source where the command does, writes a reply
 /// to the sink, and answers its exit status. The whole reply is made before any of it is written.
 ///
-/// The tests come in the order of the statuses 2, 8 or 11, 3, 4, 5, 6, 7 and 9. Words that are no command line never get 10.
+/// The tests come in the order of the statuses 2, 8 or 11, 3, 4, 5, 6, 7, those of one command alone, and 9; `judge` tests
+/// before 3 whether a line divides its input. Words that are no command line never get 10.
 /// Clauses on bytes hold where the source and the sink tell their bytes.
 pub fn sift<S: Source, K: Sink>(alloc: Global, words: &[String], source: &mut S, sink: &mut K) -> u8
     ensures answered { IsAnswered commands (map string_bytes words.now)
