@@ -1,46 +1,45 @@
--- The faults of a document: how they are read, and that none is a storm.
-use Rattle.std.proofs.Common.{◌≡◌, ◌==◌, ◌<◌, ◌≤◌, ◌+◌, ◌++◌, ℕ, zero, suc, List, [], ◌∷◌, Bool, true, false, length, get_or, map, take, Option, Some, None, IfNone, IfSome, refl, sym, ap, ◌∙◌, arith}
-use Rattle.toml.specs.Data.{Data, Members}
-use Rattle.std.proofs.lemmas.List.{get_or-map, length-map, take_more}
-use Rattle.std.proofs.lemmas.Option.{get_or_from_slice_get, slice_get-map, slice_get_within}
+-- The faults of a document: how they are read.
+use Rattle.std.proofs.Common.{◌≡◌, ◌<◌, ℕ, zero, suc, List, [], ◌∷◌, length, get_or, map, Option, Some, None, IfNone, IfSome, Result, refl, sym, ap, ◌∙◌, arith}
+use Rattle.sift_base.specs.declared.stop.Stop.{Stop}
+use Rattle.toml.specs.Data.{Members}
+use Rattle.std.proofs.lemmas.List.{length-map}
+use Rattle.std.proofs.lemmas.Option.{slice_get-get_or, slice_get-map}
 use Rattle.std.specs.List.{slice_get}
 use Rattle.std.specs.Prelude.{option_map, unwrap_or}
-use Rattle.sift_script.specs.Faults.{storm_of}
-use Rattle.sift_script.specs.Script.{Change, Fault, changing}
-use Rattle.sift_scenario.specs.Fault.{BreaksItems, IsSaying, changes_of, fault_in, fault_value, faults_in, faults_of, from_of, items_of, say_value, unit_of}
+use Rattle.sift_script.specs.Script.{Change, Failing, Fault}
+use Rattle.sift_scenario.specs.Entries.{HoldsOf}
+use Rattle.sift_scenario.specs.Fault.{BreaksItems, changes_of, failing_from, fault_in, from_of, items_of, stated_storm, unit_of}
+use Rattle.sift_scenario.proofs.Places.{map_map, taken}
 use Rattle.sift_scenario.proofs.Starts.{read_values}
+use Rattle.sift_scenario.proofs.Testing.{tests_same}
 use Rattle.sift_scenario.specs.Document.{each_read}
 use Rattle.sift_scenario.specs.Item.{change_in}
 use Rattle.sift_scenario.specs.Reading.{AreFaultsRead}
+use Rattle.sift_scenario.specs.Testing.{Tests}
 use Rattle.sift_scenario.specs.declared.fault.Head.{Head}
-
--- the fault that a table states is no storm, whichever of them is found
-calm_by : (tables : List Members) (table : Members) (u : ℕ) (b : Bool) → ((fault_in table).unit == u) ≡ b → storm_of (map fault_in tables) u ≡ None
-    → storm_of (map fault_in (table ∷ tables)) u ≡ None
-calm_by tables table u true is rest = rw is refl
-calm_by tables table u false is rest = rw is rest
-
-calm_all : (tables : List Members) (u : ℕ) → storm_of (map fault_in tables) u ≡ None
-calm_all [] u = refl
-calm_all (table ∷ tables) u = calm_by tables table u ((fault_in table).unit == u) refl (calm_all tables u)
-
--- no unit has a storm
-pub calm : (document : Members) (u : ℕ) → storm_of (faults_of document) u ≡ None
-calm document u = calm_all (faults_in (fault_value document)) u
+use Rattle.sift_scenario.specs.declared.refused.Refused.{Refused}
 
 -- ---- faults, one after another
 
--- what was read of the tables of the faults, first their heads and then their items, is theirs
+-- what was read of the tables of the faults, first their heads, then their items and what these state, is theirs
 pub faults_read :
-    {A : Type 0} (shown : A → Members) (tables others : List A) {faults : List Members} {heads : List Head} {said : List (List Members)}
-    → map shown tables ≡ faults → map shown others ≡ faults
+    {A B C : Type 0} (shown : A → Members) (items : B → List Members) (changes : C → List Change)
+    (tables : List A) (heads : List Head) (found : List B) (stated : List C)
     → map (λ head. Some head.unit) heads ≡ map (λ table. unit_of (shown table)) tables
     → map (λ head. Some head.from) heads ≡ map (λ table. from_of (shown table)) tables
-    → said ≡ map (λ table. items_of (shown table)) others → AreFaultsRead faults heads said
-faults_read shown tables others these those units from items = record {
-  units = units ∙ read_values shown unit_of tables ∙ ap (map unit_of) these;
-  from = from ∙ read_values shown from_of tables ∙ ap (map from_of) these;
-  items = items ∙ read_values shown items_of others ∙ ap (map items_of) those;
+    → map items found ≡ map (λ table. items_of (shown table)) tables
+    → map (λ one. Some (changes one)) stated ≡ map (λ one. each_read change_in (items one)) found
+    → AreFaultsRead (map shown tables) heads (map changes stated)
+faults_read shown items changes tables heads found stated units from items_are read = record {
+  units = units ∙ read_values shown unit_of tables;
+  from = from ∙ read_values shown from_of tables;
+  changes =
+      sym (map_map (λ (c : List Change). Some c) changes stated)
+      ∙ read
+      ∙ map_map (each_read change_in) items found
+      ∙ ap (map (each_read change_in)) items_are
+      ∙ sym (map_map (each_read change_in) (λ table. items_of (shown table)) tables)
+      ∙ read_values shown changes_of tables;
 }
 
 -- what stands at a place of what is made of a list is made of what stands there
@@ -50,44 +49,92 @@ from_map g [] (suc i) y there = cc
 from_map g (x ∷ xs) zero y there = (x, refl, cc there)
 from_map g (x ∷ xs) (suc i) y there = from_map g xs i y there
 
--- the fault of a place, where its head and its items stand there
-pub record FaultAt (faults : List Members) (i : ℕ) (head : Head) (items : List Members) : Type 0 where
-  pub fault : Members
-  pub there : slice_get faults i ≡ Some fault
-  pub unit : unit_of fault ≡ Some head.unit
-  pub from : from_of fault ≡ Some head.from
-  pub items_are : items_of fault ≡ items
+-- what tests the items of the faults, list by list, tests the rule
+pub items_tested :
+    {A : Type 0} (faults : List Members) (found : List (List Members)) → found ≡ map items_of faults
+    → (r : Result A (Stop Refused)) → Tests 29 (λ place. HoldsOf found place (λ items. each_read change_in items ≡ None)) r → Tests 29 (BreaksItems faults) r
+items_tested faults found are r tests =
+    tests_same 29 (λ place. HoldsOf found place (λ items. each_read change_in items ≡ None)) (BreaksItems faults)
+    (λ at broken. let fault = from_map items_of faults at broken.entry (ap (λ xs. slice_get xs at) (sym are) ∙ broken.there) in
+    record { entry = fault.0; there = fault.1; holds = ap (each_read change_in) fault.2 ∙ broken.holds })
+    (λ at broken. record {
+      entry = items_of broken.entry;
+      there = ap (λ xs. slice_get xs at) are ∙ slice_get-map items_of faults at ∙ ap (option_map items_of) broken.there;
+      holds = broken.holds;
+    }) r tests
 
-pub fault_at :
-    (faults : List Members) (heads : List Head) (said : List (List Members)) (i : ℕ) (head : Head) (items : List Members)
-    → AreFaultsRead faults heads said → slice_get heads i ≡ Some head → slice_get said i ≡ Some items → FaultAt faults i head items
-fault_at faults heads said i head items read head_there items_there =
-    let found = from_map items_of faults i items (ap (λ ls. slice_get ls i) (sym read.items) ∙ items_there) in
-    let unit_stated : slice_get (map unit_of faults) i ≡ Some (Some head.unit) =
-    ap (λ ls. slice_get ls i) (sym read.units) ∙ slice_get-map (λ (h : Head). Some h.unit) heads i ∙ ap (λ o. option_map (λ (h : Head). Some h.unit) o) head_there in
-    let from_stated : slice_get (map from_of faults) i ≡ Some (Some head.from) =
-    ap (λ ls. slice_get ls i) (sym read.from) ∙ slice_get-map (λ (h : Head). Some h.from) heads i ∙ ap (λ o. option_map (λ (h : Head). Some h.from) o) head_there in
-    let unit_here : slice_get (map unit_of faults) i ≡ Some (unit_of found.0) = slice_get-map unit_of faults i ∙ ap (option_map unit_of) found.1 in
-    let from_here : slice_get (map from_of faults) i ≡ Some (from_of found.0) = slice_get-map from_of faults i ∙ ap (option_map from_of) found.1 in
-    let units : Some (unit_of found.0) ≡ Some (Some head.unit) = sym unit_here ∙ unit_stated in
-    let froms : Some (from_of found.0) ≡ Some (Some head.from) = sym from_here ∙ from_stated in
-    record { fault = found.0; there = found.1; unit = cc units; from = cc froms; items_are = found.2 }
+-- there are as many heads, and as many lists of changes, as faults
+pub faults_long : (faults : List Members) (heads : List Head) (said : List (List Change)) → AreFaultsRead faults heads said → (length heads ≡ length faults) × (length said ≡ length faults)
+faults_long faults heads said read = (
+  sym (length-map heads (λ head. Some head.unit)) ∙ ap length read.units ∙ length-map faults unit_of,
+  sym (length-map said (λ (c : List Change). Some c)) ∙ ap length read.changes ∙ length-map faults changes_of,
+)
 
--- the faults so far and one more
-pub faults_next :
-    (faults : List Members) (i : ℕ) (head : Head) (items : List Members) (changes : List Change) → FaultAt faults i head items → each_read change_in items ≡ Some changes
-    → take (i + 1) (map fault_in faults) ≡ take i (map fault_in faults) ++ (let f : Fault = record { unit = head.unit; from = head.from; plan = changing changes } in f) ∷ []
-faults_next faults i head items changes at is =
-    let low = slice_get_within faults i at.fault at.there in
-    let here : get_or (map fault_in faults) i (fault_in at.fault) ≡ fault_in at.fault =
-    get_or-map fault_in faults i at.fault (fault_in at.fault) low ∙ ap fault_in (get_or_from_slice_get faults i at.fault at.fault at.there) in
-    let stated : changes_of at.fault ≡ Some changes = ap (each_read change_in) at.items_are ∙ is in
-    take_more (map fault_in faults) i (fault_in at.fault) (rw length-map low)
-    ∙ ap (λ (f : Fault). take i (map fault_in faults) ++ f ∷ [])
-    (here
-    ∙ ap (λ o. let f : Fault = record { unit = unwrap_or o 0; from = unwrap_or (from_of at.fault) 0; plan = changing (unwrap_or (changes_of at.fault) []) } in f) at.unit
-    ∙ ap (λ o. let f : Fault = record { unit = head.unit; from = unwrap_or o 0; plan = changing (unwrap_or (changes_of at.fault) []) } in f) at.from
-    ∙ ap (λ o. let f : Fault = record { unit = head.unit; from = head.from; plan = changing (unwrap_or o []) } in f) stated)
+-- where two lists are read as the same, so are their entries at a place
+read_there :
+    {A B C : Type 0} (f : A → C) (g : B → C) (xs : List A) (ys : List B) (i : ℕ) (x : A) (y : B)
+    → map f xs ≡ map g ys → slice_get xs i ≡ Some x → slice_get ys i ≡ Some y → f x ≡ g y
+read_there f g xs ys i x y same there there' =
+    let both : Some (f x) ≡ Some (g y) =
+    sym (slice_get-map f xs i ∙ ap (option_map f) there) ∙ ap (λ zs. slice_get zs i) same ∙ slice_get-map g ys i ∙ ap (option_map g) there' in
+    cc both
+
+-- ---- one fault
+
+-- the plan that is made of a fault that has these changes is the one that it states
+plan_stated :
+    (storm : Option (Option Failing)) (changes : List Change) (plan : Failing)
+    → Some plan ≡ option_map (λ o. failing_from o changes) storm → failing_from (unwrap_or storm None) changes ≡ plan
+plan_stated None changes plan is = cc
+plan_stated (Some storm) changes plan is = cc is
+
+-- and its `storm` states a storm, where it has one
+pub planned_storm : {A : Type 0} (storm : Option (Option Failing)) (f : Option Failing → A) (plan : A) → Some plan ≡ option_map f storm → storm ≡ None → ⊥
+planned_storm None f plan is none = cc
+planned_storm (Some storm) f plan is none = cc
+
+-- where there is no plan it states none
+pub unplanned_storm : {A : Type 0} (storm : Option (Option Failing)) (f : Option Failing → A) → None ≡ option_map f storm → storm ≡ None
+unplanned_storm None f is = refl
+unplanned_storm (Some storm) f is = cc
+
+-- the fault at a place is that of its head and its plan
+fault_made :
+    (faults : List Members) (heads : List Head) (said : List (List Change)) (i : ℕ) (fault : Members) (head : Head) (changes : List Change) (plan : Failing)
+    → AreFaultsRead faults heads said → slice_get faults i ≡ Some fault → slice_get heads i ≡ Some head → slice_get said i ≡ Some changes
+    → Some plan ≡ option_map (λ storm. failing_from storm changes) (stated_storm fault)
+    → (let made : Fault = record { unit = head.unit; from = head.from; plan = plan } in made) ≡ fault_in fault
+fault_made faults heads said i fault head changes plan read there head_there said_there planned =
+    let unit = read_there (λ (h : Head). Some h.unit) unit_of heads faults i head fault read.units head_there there in
+    let from = read_there (λ (h : Head). Some h.from) from_of heads faults i head fault read.from head_there there in
+    let changed = read_there (λ (c : List Change). Some c) changes_of said faults i changes fault read.changes said_there there in
+    rw (← unit, ← from, ← changed, plan_stated (stated_storm fault) changes plan planned) refl
+
+-- what stands past the last head
+abbrev pub no_head : Head
+no_head = record { unit = 0; from = 0 }
+
+module _
+    {A C : Type 0} (shown : A → Members) (changes : C → List Change) (tables : List A) (heads : List Head) (said : List C)
+    (read : AreFaultsRead (map shown tables) heads (map changes said)) (i : ℕ) (table : A) (items : C) (low : i < length said)
+    (table_is : table ≡ get_or tables i table) (items_is : items ≡ get_or said i items) where
+  -- there is a table, and a head, for what a loop takes of what the faults say
+  pub table_low : i < length tables
+  table_low =
+      let long = faults_long (map shown tables) heads (map changes said) read in
+      omega (arith, low, long.1, length-map said changes, length-map tables shown)
+
+  head_low : i < length heads
+  head_low =
+      let long = faults_long (map shown tables) heads (map changes said) read in omega (arith, table_low, long.0, length-map tables shown)
+
+  -- so the fault of its head and its plan is the one that its table states
+  pub fault_taken :
+      (plan : Failing) → Some plan ≡ option_map (λ storm. failing_from storm (changes items)) (stated_storm (shown table))
+      → (let made : Fault = record { unit = (get_or heads i no_head).unit; from = (get_or heads i no_head).from; plan = plan } in made) ≡ fault_in (shown table)
+  fault_taken plan planned =
+      fault_made (map shown tables) heads (map changes said) i (shown table) (get_or heads i no_head) (changes items) plan read
+      (taken shown tables i table table_low table_is) (slice_get-get_or heads i no_head head_low) (taken changes said i items low items_is) planned
 
 -- ---- what was found, or not
 
@@ -100,30 +147,3 @@ some_from P Q None so holds = tt
 pub none_from : {A : Type 0} (P Q : Type 0) (o : Option A) → (P → Q) → IfNone o P → IfNone o Q
 none_from P Q (Some x) so holds = tt
 none_from P Q None so holds = so holds
-
--- the value of a fault's `say` is the one that is there
-pub saying_value : {fault : Members} (saying : IsSaying fault) (value : Data) → say_value fault ≡ Some value → saying.value ≡ value
-saying_value saying value is = let both : Some saying.value ≡ Some value = sym saying.there ∙ is in cc both
-
--- there are as many heads, and as many lists of items, as faults
-pub faults_long : (faults : List Members) (heads : List Head) (said : List (List Members)) → AreFaultsRead faults heads said → (length heads ≡ length faults) × (length said ≡ length faults)
-faults_long faults heads said read = (
-  sym (length-map heads (λ head. Some head.unit)) ∙ ap length read.units ∙ length-map faults unit_of,
-  ap length read.items ∙ length-map faults items_of,
-)
-
--- an item of the fault at a place states no change, or each does
-module _ (faults : List Members) (i : ℕ) (head : Head) (items : List Members) (at : FaultAt faults i head items) where
-  pub items_broken : each_read change_in items ≡ None → BreaksItems faults i
-  items_broken none = record { entry = at.fault; there = at.there; holds = ap (each_read change_in) at.items_are ∙ none }
-
-  pub items_kept : (changes : List Change) → each_read change_in items ≡ Some changes → ¬ BreaksItems faults i
-  items_kept changes is broken =
-      let both : Some broken.entry ≡ Some at.fault = sym broken.there ∙ at.there in
-      let one : broken.entry ≡ at.fault = cc both in
-      let wrong : Some changes ≡ None = sym (ap (each_read change_in) at.items_are ∙ is) ∙ ap changes_of (sym one) ∙ broken.holds in
-      cc wrong
-
--- where no place below the end breaks the rule none does
-pub none_past : (faults : List Members) (n : ℕ) → length faults ≤ n → ((at : ℕ) → at < n → ¬ BreaksItems faults at) → (at : ℕ) → ¬ BreaksItems faults at
-none_past faults n high none at broken = none at (let low = slice_get_within faults at broken.entry broken.there in omega (arith, low, high)) broken

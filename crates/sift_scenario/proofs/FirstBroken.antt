@@ -6,12 +6,12 @@ use Rattle.toml.specs.Data.{Data, Members}
 use Rattle.sift_base.specs.Layout.{sensor_limit, word_limit}
 use Rattle.sift_base.specs.Shapes.{task_limit}
 use Rattle.sift_scenario.proofs.Decided.{Decided, at_most, both, either, first_place, holds, negated, nothing, same_number}
-use Rattle.sift_scenario.proofs.Known.{form_known, known_array, known_entry, known_keys, known_saying, known_table, new_name_of}
+use Rattle.sift_scenario.proofs.Known.{form_known, known_array, known_entry, known_keys, known_way, known_table, new_name_of}
 use Rattle.sift_scenario.proofs.KnownStarts.{apart_known}
 use Rattle.sift_scenario.specs.Clock.{clock_keys, clock_rules, clock_themes, clock_value, drifts_of, error_of, errors_of, length_of, number_in, rate_of, skew_of, starts_of}
 use Rattle.sift_scenario.specs.Document.{entries_of, members_of}
 use Rattle.sift_scenario.specs.Entries.{HoldsOf}
-use Rattle.sift_scenario.specs.Fault.{IsFaultEntry, IsHeadless, IsSaying, changes_of, fault_keys, fault_limit, fault_rules, fault_value, faults_in, from_of, unit_of}
+use Rattle.sift_scenario.specs.Fault.{HasOneWay, IsFaultEntry, IsHeadless, changes_of, fault_keys, fault_limit, fault_rules, fault_value, faults_in, from_of, stated_storm, unit_of}
 use Rattle.sift_scenario.specs.Lawful.{rules_of, themes_for}
 use Rattle.sift_scenario.specs.Laws.{RulesAreKeptOrBroken}
 use Rattle.sift_scenario.specs.Root.{frames_of, period_of, root_keys, root_rules, units_of, version_of}
@@ -177,8 +177,11 @@ fault_known value = (
   (
     of_each (faults_in value) (λ place. IsHeadless) (λ place fault. either (nothing (unit_of fault)) (nothing (from_of fault))),
     (
-      of_each (faults_in value) (λ place fault. IsSaying fault → ⊥) (λ place fault. negated (known_saying fault)),
-      (of_each (faults_in value) (λ place fault. changes_of fault ≡ None) (λ place fault. nothing (changes_of fault)), tt),
+      of_each (faults_in value) (λ place fault. HasOneWay fault → ⊥) (λ place fault. negated (known_way fault)),
+      (
+        of_each (faults_in value) (λ place fault. changes_of fault ≡ None) (λ place fault. nothing (changes_of fault)),
+        (of_each (faults_in value) (λ place fault. stated_storm fault ≡ None) (λ place fault. nothing (stated_storm fault)), tt),
+      ),
     ),
   ),
 )

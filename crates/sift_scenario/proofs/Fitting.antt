@@ -8,14 +8,12 @@ use Rattle.sift_base.specs.Layout.{least_units}
 use Rattle.sift_base.specs.Units.{unit_limit}
 use Rattle.sift_base.specs.declared.layout.Layout.{Layout}
 use Rattle.sift_program.specs.Sound.{IsSoundProgram}
-use Rattle.sift_script.specs.Faults.{storm_of}
 use Rattle.sift_script.specs.Rules as scripts
 use Rattle.sift_script.specs.Script.{FaultScript}
 use Rattle.sift_table.specs.Schedule.{Schedule}
 use Rattle.sift_mission.specs.Data.{Clocks, MissionData}
 use Rattle.sift_mission.specs.PartsFit.{AreClocks, AreTables, HasWords, PartsFit, frame_limit, table_at}
 use Rattle.sift_scenario.proofs.Clocks.{clocks_fit}
-use Rattle.sift_scenario.proofs.Faulting.{calm}
 use Rattle.sift_scenario.proofs.Numbers.{between_at}
 use Rattle.sift_scenario.proofs.Order.{AreAllKept}
 use Rattle.sift_scenario.proofs.Periods.{period_between}
@@ -25,7 +23,7 @@ use Rattle.sift_scenario.proofs.SoundPrograms.{stated_is_sound}
 use Rattle.sift_scenario.proofs.Starts.{starts_long}
 use Rattle.sift_scenario.proofs.Themes.{kept_themes}
 use Rattle.sift_scenario.specs.Lawful.{themes_for}
-use Rattle.sift_scenario.specs.Laws.{StatedMissionsFit, StatedMissionsHaveNoStorms}
+use Rattle.sift_scenario.specs.Laws.{StatedMissionsFit}
 use Rattle.sift_scenario.specs.Mission.{HasGoodTables, IsStated}
 use Rattle.sift_scenario.specs.Sensor.{sensor_names}
 use Rattle.sift_scenario.specs.Table.{table_value}
@@ -98,10 +96,6 @@ module _
           good = good_script;
         };
       }
-
--- the mission that a document states has no storm
-pub stated_calm : StatedMissionsHaveNoStorms
-stated_calm document d u is = ap (λ (s : FaultScript). storm_of s.faults u) is.stated.script ∙ calm document u
 
 -- the mission that a document states has parts that fit
 pub stated_fit : StatedMissionsFit

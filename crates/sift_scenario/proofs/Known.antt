@@ -9,8 +9,9 @@ use Rattle.sift_scenario.proofs.Decided.{Decided, among, at_most, both, each, ei
 use Rattle.sift_scenario.proofs.ReadEntries.{array_between-long}
 use Rattle.sift_base.specs.Layout.{least_units}
 use Rattle.sift_scenario.specs.Document.{HasOnlyKeys, IsArrayOf, IsTableOf, entries_of, keys_of, list_of, members_of, read_at, word_array, word_value}
-use Rattle.sift_scenario.specs.Fault.{IsSaying, item_limit, say_value}
+use Rattle.sift_scenario.specs.Fault.{HasOneWay, IsSaying, IsStorming, item_limit, say_value, storm_value}
 use Rattle.sift_scenario.specs.Item.{item_keys}
+use Rattle.sift_scenario.specs.Storm.{storm_keys}
 use Rattle.sift_scenario.specs.Table.{IsTableEntry, size_of, table_keys}
 use Rattle.sift_scenario.specs.Task.{Form, HasForm, IsLinear, IsNewName, IsText, linear, name_of, task_outputs, text}
 
@@ -57,19 +58,30 @@ known_entry place entry = elim (both (known_table table_keys entry) (same_value 
   | inr other ↦ inr (λ h. other (h.known, h.sized))
 ]
 
--- a fault has items as it may, or not
+-- a fault says items as it may, or not
 saying_by : (fault : Members) (o : Option Data) → say_value fault ≡ o → Decided (IsSaying fault)
 saying_by fault None is = inr (λ h. let there = sym is ∙ h.there in cc)
 saying_by fault (Some value) is =
-    elim (both (known_array 1 item_limit value) (each (IsTableOf item_keys) (known_table item_keys) (entries_of (Some value)))) [
-      | inl h ↦ inl (record { value = value; there = is; few = h.0; known = h.1 })
+    elim (both (both (known_array 1 item_limit value) (each (IsTableOf item_keys) (known_table item_keys) (entries_of (Some value)))) (nothing (storm_value fault))) [
+      | inl h ↦ inl (record { value = value; there = is; items = record { few = h.0.0; known = h.0.1 }; alone = h.1 })
       | inr other ↦ inr (λ h. let there : Some value ≡ Some h.value = sym is ∙ h.there in
           let one : h.value ≡ value = cc there in
-          other (subst (IsArrayOf 1 item_limit) one h.few, subst (λ (v : Data). All (IsTableOf item_keys) (entries_of (Some v))) one h.known))
+          other ((subst (IsArrayOf 1 item_limit) one h.items.few, subst (λ (v : Data). All (IsTableOf item_keys) (entries_of (Some v))) one h.items.known), h.alone))
     ]
 
-pub known_saying : (fault : Members) → Decided (IsSaying fault)
-known_saying fault = saying_by fault (say_value fault) refl
+-- it has a storm as it may, or not
+storming_by : (fault : Members) (o : Option Data) → storm_value fault ≡ o → Decided (IsStorming fault)
+storming_by fault None is = inr (λ h. let there = sym is ∙ h.there in cc)
+storming_by fault (Some value) is = elim (both (known_table storm_keys value) (nothing (say_value fault))) [
+  | inl h ↦ inl (record { value = value; there = is; known = h.0; alone = h.1 })
+  | inr other ↦ inr (λ h. let there : Some value ≡ Some h.value = sym is ∙ h.there in
+      let one : h.value ≡ value = cc there in
+      other (subst (IsTableOf storm_keys) one h.known, h.alone))
+]
+
+-- it fails in one way, or not
+pub known_way : (fault : Members) → Decided (HasOneWay fault)
+known_way fault = either (saying_by fault (say_value fault) refl) (storming_by fault (storm_value fault) refl)
 
 -- ---- names
 

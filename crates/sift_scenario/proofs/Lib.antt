@@ -29,6 +29,7 @@ pub mod Sensing
 pub mod Sizes
 pub mod SoundPrograms
 pub mod Starts
+pub mod Storming
 pub mod TableReading
 pub mod TaskRefusals
 pub mod TaskTests

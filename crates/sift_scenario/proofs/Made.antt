@@ -7,7 +7,7 @@ use Rattle.std.specs.List.{All}
 use Rattle.std.specs.Prelude.{codes}
 use Rattle.toml.specs.Data.{Members, get_member}
 use Rattle.sift_base.specs.Layout.{IsLayout, least_units}
-use Rattle.sift_base.specs.Shapes.{AllShapes, AreShapes}
+use Rattle.sift_base.specs.Shapes.{AllShapes}
 use Rattle.sift_base.specs.Units.{unit_limit}
 use Rattle.sift_base.specs.declared.layout.Layout.{Layout}
 use Rattle.sift_compile.specs.Tasks.{AreCodesOf}

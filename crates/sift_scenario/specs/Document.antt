@@ -91,6 +91,11 @@ abbrev pub integer_between : (low high : ℕ) → Data → Option ℕ
 integer_between low high (integer (pos n)) = if nat_le low n && nat_le n high then Some n else None
 integer_between low high _ = None
 
+-- the number of an integer of at least 0
+abbrev pub natural : Data → Option ℕ
+natural (integer (pos n)) = Some n
+natural _ = None
+
 -- the word of a word value: an integer from -32,768 to 65,535, a negative one in two's complement
 abbrev pub word_value : Data → Option ℕ
 word_value (integer z) = if int_le (negsuc 32767) z && int_le z (pos 65535) then Some (word_of z) else None

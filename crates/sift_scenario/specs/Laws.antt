@@ -1,5 +1,5 @@
 -- The laws of what a document is answered with.
-use Rattle.std.specs.Prelude.{◌≡◌, ◌≢◌, ◌⊎◌, ℕ, List, Err, None}
+use Rattle.std.specs.Prelude.{◌≡◌, ◌≢◌, ◌⊎◌, ◌↔◌, ℕ, List, Err, Some}
 use Rattle.toml.specs.Data.{Members}
 use Rattle.sift_lang.specs.Tree.{TaskTree}
 use Rattle.sift_parse.specs.declared.stop.ParseStop.{ParseStop}
@@ -7,12 +7,15 @@ use Rattle.sift_parse.specs.declared.stop.ParseStop.TheVariants as parse
 use Rattle.sift_parse.specs.Outcome.{AreNames, IsTaskOf, Tells}
 use Rattle.sift_parse.specs.Roll.{Roll}
 use Rattle.sift_scenario.specs.declared.refused.Refused.{Refused}
+use Rattle.sift_scenario.specs.Entries.{HoldsOf}
+use Rattle.sift_scenario.specs.Fault.{fault_value, faults_in, from_of, stated_storm, unit_of}
 use Rattle.sift_scenario.specs.Lawful.{IsFirstBroken, IsLawful}
 use Rattle.sift_scenario.specs.Mission.{IsMission}
 use Rattle.sift_scenario.specs.Refusal.{IsRefusedWith}
 use Rattle.sift_mission.specs.Data.{MissionData}
 use Rattle.sift_mission.specs.PartsFit.{PartsFit}
 use Rattle.sift_script.specs.Faults.{storm_of}
+use Rattle.sift_script.specs.Script.{turning}
 
 -- a document that states a mission isn't refused
 abbrev pub MissionsAreAccepted : Type 0
@@ -30,10 +33,20 @@ OneMission = (document : Members) (one other : MissionData) → IsMission docume
 abbrev pub StatedMissionsFit : Type 0
 StatedMissionsFit = (document : Members) (mission : MissionData) → IsMission document mission → PartsFit mission
 
--- no document states a storm
-abbrev pub StatedMissionsHaveNoStorms : Type 0
-StatedMissionsHaveNoStorms = (document : Members) (mission : MissionData) (u : ℕ) → IsMission document mission →
-    storm_of mission.script.faults u ≡ None
+-- the fault is a storm of this unit: it comes in this frame, begins by this number, and has so many strays
+pub record IsStormOf (u from number strays : ℕ) (fault : Members) : Type 0 where
+  pub unit : unit_of fault ≡ Some u
+  pub comes : from_of fault ≡ Some from
+  pub storm : stated_storm fault ≡ Some (Some (turning number strays))
+
+-- one of the faults of the document is such a storm
+abbrev pub StatesStorm : (document : Members) (u from number strays : ℕ) → Type 0
+StatesStorm document u from number strays = (place : ℕ) × HoldsOf (faults_in (fault_value document)) place (IsStormOf u from number strays)
+
+-- the storms of the mission that a document states are those that the document states
+abbrev pub StormsAreStated : Type 0
+StormsAreStated = (document : Members) (mission : MissionData) (u from number strays : ℕ) → IsMission document mission →
+    (storm_of mission.script.faults u ≡ Some (from, number, strays)) ↔ StatesStorm document u from number strays
 
 -- a document keeps all rules, or one is the first that it breaks, at a first place
 abbrev pub RulesAreKeptOrBroken : Type 0

@@ -1,6 +1,7 @@
 pub mod Clock
 pub mod Document
 pub mod Entries
+pub mod Storm
 pub mod Fault
 pub mod Item
 pub mod Lawful

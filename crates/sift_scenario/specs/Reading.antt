@@ -3,7 +3,7 @@ use Rattle.std.specs.Prelude.{◌≡◌, ◌⊎◌, List, [], Some, None, length
 use Rattle.toml.specs.Data.{Members}
 use Rattle.sift_compile.specs.Tasks.{AreCodesOf}
 use Rattle.sift_program.specs.Program.{program_of}
-use Rattle.sift_script.specs.Script.{faults_of}
+use Rattle.sift_script.specs.Script.{Change, faults_of}
 use Rattle.sift_table.specs.Schedule.{schedule_of}
 use Rattle.sift_mission.specs.Parts as unit
 use Rattle.sift_scenario.specs.declared.document.Entries.{Entries}
@@ -12,7 +12,7 @@ use Rattle.sift_scenario.specs.declared.sensor.Sensors.{Sensors}
 use Rattle.sift_scenario.specs.declared.task.Tasks.{Tasks}
 use Rattle.sift_scenario.specs.Clock.{clocks_of}
 use Rattle.sift_scenario.specs.Fault as fault
-use Rattle.sift_scenario.specs.Fault.{from_of, items_of, unit_of}
+use Rattle.sift_scenario.specs.Fault.{changes_of, from_of, unit_of}
 use Rattle.sift_scenario.specs.declared.fault.Head.{Head}
 use Rattle.sift_scenario.specs.Lawful.{IsLawful}
 use Rattle.sift_scenario.specs.Program.{IsProgramOf}
@@ -43,11 +43,11 @@ pub record AreSensorsIn (tables : List Members) (sensors : Sensors) : Type 0 whe
 abbrev pub AreSensorsOf : Members → Sensors → Type 0
 AreSensorsOf document sensors = AreSensorsIn (sensors_in (sensor_value document)) sensors
 
--- these are the heads and the items of the faults in these tables
-pub record AreFaultsRead (faults : List Members) (heads : List Head) (said : List (List Members)) : Type 0 where
+-- these are the heads and the changes of the faults in these tables
+pub record AreFaultsRead (faults : List Members) (heads : List Head) (said : List (List Change)) : Type 0 where
   pub units : map (λ head. Some head.unit) heads ≡ map unit_of faults
   pub from : map (λ head. Some head.from) heads ≡ map from_of faults
-  pub items : said ≡ map items_of faults
+  pub changes : map (λ changes. Some changes) said ≡ map changes_of faults
 
 -- a part of the table isn't read
 abbrev pub IsPartial : Members → Type 0

@@ -1,12 +1,12 @@
 //! The faults of a document.
 
-ghost use Rattle.std.specs.Prelude.{◌≡◌, ◌≤◌, List, IfOk, IfSome, IfNone, Some, length, map, option_map};
+ghost use Rattle.std.specs.Prelude.{◌≡◌, ◌≤◌, IfOk, IfSome, IfNone, None, Some, length, map, option_map};
 ghost use Rattle.std.specs.List.{All};
-ghost use Rattle.toml.specs.Data.{Members};
 ghost use Rattle.toml.specs.View.{table_view, view};
-ghost use Rattle.sift_script.specs.Script.{change_of, fault_of, faults_of};
-ghost use Rattle.sift_scenario.specs.Document.{IsTableOf, each_read, members_of};
-ghost use Rattle.sift_scenario.specs.Fault.{BreaksFaults, BreaksHeads, BreaksItems, BreaksSays, IsHeadless, IsSaying, fault_in, fault_limit, fault_rules, fault_value, faults_in, from_of, items_of, unit_of};
+ghost use Rattle.sift_script.specs.Script.{change_of, failing_of, fault_of, faults_of};
+ghost use Rattle.sift_scenario.specs.Document.{IsTableOf, each_read, entries_of, members_of};
+ghost use Rattle.sift_scenario.specs.Entries.{HoldsOf};
+ghost use Rattle.sift_scenario.specs.Fault.{AreItems, BreaksFaults, BreaksHeads, BreaksStorms, BreaksWays, HasOneWay, IsHeadless, failing_from, fault_in, fault_limit, fault_rules, fault_value, faults_in, from_of, items_of, stated_storm, unit_of};
 ghost use Rattle.sift_scenario.specs.Item.{change_in, item_keys};
 ghost use Rattle.sift_scenario.specs.Reading.{AreFaultsRead};
 ghost use Rattle.sift_scenario.specs.Testing.{Tests, TestsEach};
@@ -14,6 +14,7 @@ ghost use Rattle.sift_scenario.specs.Testing.{Tests, TestsEach};
 use crate::entries::{entries_between, tables_in};
 use crate::item::item_of;
 use crate::refused::{Refused, broken};
+use crate::storm::storm_in;
 use crate::value::{member_of, number_at, table_of};
 use sift_base::{NoMemory, Stop};
 use sift_script::{Entry, Item, Plan, Script};
@@ -42,8 +43,9 @@ fn stated_script(alloc: Global, value: &Value) -> Result<Script, Stop<Refused>>
 {
     let tables = fault_tables(alloc, value)?;
     let heads = fault_heads(alloc, &tables)?;
-    let said = said_items(alloc, &tables)?;
-    let entries = fault_entries(alloc, &heads, &said)?;
+    let items = fault_items(alloc, &tables)?;
+    let said = stated_items(alloc, &items)?;
+    let entries = fault_entries(alloc, &tables, &heads, said)?;
     Ok(Script { entries })
 }
 
@@ -55,7 +57,7 @@ fn fault_tables(alloc: Global, value: &Value) -> Result<Vec<&Table>, Stop<Refuse
     ensures tests { Tests 26 (BreaksFaults (Some (view value.now))) result }
 {
     let entries = entries_between(value, 0, 16, 26)?;
-    tables_in(alloc, entries, &["unit", "from", "say"], 26)
+    tables_in(alloc, entries, &["unit", "from", "say", "storm"], 26)
 }
 
 /// Which unit fails, and from which frame on.
@@ -102,35 +104,52 @@ fn head_of(fault: &Table) -> Option<Head>
     }
 }
 
-/// The items of each fault.
-fn said_items<'a>(alloc: Global, tables: &[&'a Table]) -> Result<Vec<Vec<&'a Table>>, Stop<Refused>>
+/// The items of each fault, which fails in one way.
+fn fault_items<'a>(
+    alloc: Global,
+    tables: &[&'a Table],
+) -> Result<Vec<Vec<&'a Table>>, Stop<Refused>>
     requires { length tables.now ≤ fault_limit }
-    ensures items { IfOk result (λ said.
-        map (λ items. map (λ item. table_view item.now) items.items) said.items
+    ensures items { IfOk result (λ found.
+        map (λ items. map (λ item. table_view item.now) items.items) found.items
         ≡ map (λ fault. items_of (table_view fault.now)) tables.now) }
-    ensures tests { Tests 28 (BreaksSays (map (λ fault. table_view fault.now) tables.now)) result }
+    ensures tests { Tests 28 (BreaksWays (map (λ fault. table_view fault.now) tables.now)) result }
 {
-    let mut said = Vec::new(alloc);
+    let mut found = Vec::new(alloc);
     for (place, fault) in tables.iter().enumerate() {
         match items_of(alloc, fault)? {
-            Some(items) => said.push(items)?,
+            Some(items) => found.push(items)?,
             None => return Err(broken(28, place)),
         }
     }
-    Ok(said)
+    Ok(found)
 }
 
-/// The items of a fault, where it has as many as it may, each a table with no other keys than it may have.
+/// The items of a fault, where it fails in one way: by what it says, or by a storm, which has no items.
 fn items_of(alloc: Global, fault: &Table) -> Result<Option<Vec<&Table>>, NoMemory>
     ensures items { IfOk result (λ found. IfSome found (λ items.
         map (λ item. table_view item.now) items.items ≡ items_of (table_view fault.now))) }
-    ensures saying { IfOk result (λ found. IfSome found (λ _. IsSaying (table_view fault.now))) }
-    ensures none { IfOk result (λ found. IfNone found (IsSaying (table_view fault.now) → ⊥)) }
+    ensures one_way { IfOk result (λ found. IfSome found (λ _. HasOneWay (table_view fault.now))) }
+    ensures none { IfOk result (λ found. IfNone found (HasOneWay (table_view fault.now) → ⊥)) }
 {
-    let Some(value) = member_of(fault, "say") else {
-        return Ok(None);
-    };
-    match entries_between(value, 1, 64, 28) {
+    match (member_of(fault, "say"), member_of(fault, "storm")) {
+        (Some(said), None) => said_items(alloc, said),
+        (None, Some(storm)) => match table_of(storm, &["number", "strays"]) {
+            Some(_) => Ok(Some(Vec::new(alloc))),
+            None => Ok(None),
+        },
+        (Some(_), Some(_)) | (None, None) => Ok(None),
+    }
+}
+
+/// The items of a `say`, where it has as many as it may, each a table with no other keys than it may have.
+fn said_items(alloc: Global, said: &Value) -> Result<Option<Vec<&Table>>, NoMemory>
+    ensures items { IfOk result (λ found. IfSome found (λ items.
+        map (λ item. table_view item.now) items.items ≡ map members_of (entries_of (Some (view said.now))))) }
+    ensures right { IfOk result (λ found. IfSome found (λ _. AreItems (view said.now))) }
+    ensures none { IfOk result (λ found. IfNone found (AreItems (view said.now) → ⊥)) }
+{
+    match entries_between(said, 1, 64, 28) {
         Ok(entries) => known_items(alloc, entries),
         Err(_) => Ok(None),
     }
@@ -155,35 +174,23 @@ fn known_items(alloc: Global, entries: &[Value]) -> Result<Option<Vec<&Table>>, 
     Ok(Some(items))
 }
 
-/// The entries of faults, where these are their heads and their items.
-fn fault_entries(
-    alloc: Global,
-    heads: &[Head],
-    said: &[Vec<&Table>],
-) -> Result<Vec<Entry>, Stop<Refused>>
-    requires few { length said.now ≤ fault_limit }
-    requires read { (faults : List Members)
-        × AreFaultsRead faults heads.now (map (λ items. map (λ item. table_view item.now) items.items) said.now) }
-    ensures read { IfOk result (λ entries. (faults : List Members)
-        → AreFaultsRead faults heads.now (map (λ items. map (λ item. table_view item.now) items.items) said.now)
-        → map fault_of entries.items ≡ map fault_in faults) }
-    ensures tests { (faults : List Members)
-        → AreFaultsRead faults heads.now (map (λ items. map (λ item. table_view item.now) items.items) said.now)
-        → Tests 29 (BreaksItems faults) result }
+/// The items that the tables of each fault state.
+fn stated_items(alloc: Global, faults: &[Vec<&Table>]) -> Result<Vec<Vec<Item>>, Stop<Refused>>
+    requires { length faults.now ≤ fault_limit }
+    ensures changes { IfOk result (λ stated.
+        map (λ items. Some (map change_of items.items)) stated.items
+        ≡ map (λ tables. each_read change_in (map (λ item. table_view item.now) tables.items)) faults.now) }
+    ensures tests { Tests 29 (λ place. HoldsOf (map (λ tables. map (λ item. table_view item.now) tables.items) faults.now) place
+        (λ items. each_read change_in items ≡ None)) result }
 {
-    let mut entries = Vec::new(alloc);
-    for (place, items) in said.iter().enumerate() {
-        let head = heads[place];
-        match items_in(alloc, items)? {
-            Some(items) => entries.push(Entry {
-                unit: head.unit,
-                from: head.from,
-                plan: Plan::Say(items),
-            })?,
+    let mut stated = Vec::new(alloc);
+    for (place, tables) in faults.iter().enumerate() {
+        match items_in(alloc, tables)? {
+            Some(items) => stated.push(items)?,
             None => return Err(broken(29, place)),
         }
     }
-    Ok(entries)
+    Ok(stated)
 }
 
 /// The items that these tables state, where each states one.
@@ -199,4 +206,41 @@ fn items_in(alloc: Global, tables: &[&Table]) -> Result<Option<Vec<Item>>, NoMem
         }
     }
     Ok(Some(items))
+}
+
+/// The entries of faults, where these are their heads, and what they say.
+fn fault_entries(
+    alloc: Global,
+    tables: &[&Table],
+    heads: &[Head],
+    said: Vec<Vec<Item>>,
+) -> Result<Vec<Entry>, Stop<Refused>>
+    requires few { length tables.now ≤ fault_limit }
+    requires read { AreFaultsRead (map (λ fault. table_view fault.now) tables.now) heads.now
+        (map (λ items. map change_of items.items) said.items) }
+    ensures read { IfOk result (λ entries.
+        map fault_of entries.items ≡ map (λ fault. fault_in (table_view fault.now)) tables.now) }
+    ensures tests { Tests 30 (BreaksStorms (map (λ fault. table_view fault.now) tables.now)) result }
+{
+    let mut entries = Vec::new(alloc);
+    for items in said {
+        let place = entries.len();
+        let Head { unit, from } = heads[place];
+        match plan_of(tables[place], items) {
+            Some(plan) => entries.push(Entry { unit, from, plan })?,
+            None => return Err(broken(30, place)),
+        }
+    }
+    Ok(entries)
+}
+
+/// How a fault fails that says this: by its storm, where it has one. `None` where its `storm` states none.
+fn plan_of(fault: &Table, items: Vec<Item>) -> Option<Plan>
+    ensures { option_map failing_of result
+        ≡ option_map (λ storm. failing_from storm (map change_of items.items)) (stated_storm (table_view fault.now)) }
+{
+    match member_of(fault, "storm") {
+        Some(value) => storm_in(value),
+        None => Some(Plan::Say(items)),
+    }
 }

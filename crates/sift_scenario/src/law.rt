@@ -1,6 +1,6 @@
 //! The laws of what a document is answered with.
 
-ghost use Rattle.sift_scenario.specs.Laws.{DocumentsAreAnswered, MissionsAreAccepted, OneMission, OneRefusal, RulesAreKeptOrBroken, StatedMissionsFit, StatedMissionsHaveNoStorms};
+ghost use Rattle.sift_scenario.specs.Laws.{DocumentsAreAnswered, MissionsAreAccepted, OneMission, OneRefusal, RulesAreKeptOrBroken, StatedMissionsFit, StormsAreStated};
 
 /// A document that states a mission is refused by no rule, and none of its tasks is refused.
 pub fn missions_are_accepted()
@@ -22,9 +22,10 @@ pub fn stated_missions_fit()
     ensures { StatedMissionsFit }
 {}
 
-/// No unit of a mission that a document states turns stray.
-pub fn stated_missions_have_no_storms()
-    ensures { StatedMissionsHaveNoStorms }
+/// The storms of the mission that a document states are those that the document states: no unit turns stray otherwise, or in
+/// another frame, by another number or with another count of strays.
+pub fn storms_are_stated()
+    ensures { StormsAreStated }
 {}
 
 /// A document keeps all rules, or one is the first that it breaks, at a first place.

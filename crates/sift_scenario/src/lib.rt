@@ -17,6 +17,7 @@ mod program;
 mod refused;
 mod root;
 mod sensor;
+mod storm;
 mod table;
 mod task;
 mod tree;
@@ -24,7 +25,7 @@ mod value;
 
 pub use law::{
     documents_are_answered, missions_are_accepted, one_mission, one_refusal,
-    rules_are_kept_or_broken, stated_missions_fit, stated_missions_have_no_storms,
+    rules_are_kept_or_broken, stated_missions_fit, storms_are_stated,
 };
 pub use mission::mission_of;
 pub use refused::Refused;

@@ -4,7 +4,7 @@ ghost use Rattle.std.specs.Prelude.{◌≡◌, ◌≤◌, ◌↔◌, ℕ, IfOk, 
 ghost use Rattle.std.specs.List.{Contains};
 ghost use Rattle.toml.specs.Data.{get_member};
 ghost use Rattle.toml.specs.View.{table_view, view};
-ghost use Rattle.sift_scenario.specs.Document.{HasOnlyKeys, IsTableOf, array_of, digit_of, digits_of, each_read, entries_of, integer_between, members_of, read_at, read_or, word_array, word_value};
+ghost use Rattle.sift_scenario.specs.Document.{HasOnlyKeys, IsTableOf, array_of, digit_of, digits_of, each_read, entries_of, integer_between, members_of, natural, read_at, read_or, word_array, word_value};
 ghost use Rattle.sift_scenario.specs.Table.{subframe};
 
 use arrayvec::ArrayVec;
@@ -94,6 +94,20 @@ pub(crate) fn number_at(table: &Table, key: &str, low: u32, high: u32) -> Option
     ensures { result ≡ read_at (integer_between low high) key.now (table_view table.now) }
 {
     integer_between(member_of(table, key)?, low, high)
+}
+
+/// The number of an integer of at least 0.
+fn natural(value: &Value) -> Option<u64>
+    ensures { result ≡ natural (view value.now) }
+{
+    u64::try_from(value.as_integer()?).ok()
+}
+
+/// The number at a key that is there and is an integer of at least 0.
+pub(crate) fn natural_at(table: &Table, key: &str) -> Option<u64>
+    ensures { result ≡ read_at natural key.now (table_view table.now) }
+{
+    natural(member_of(table, key)?)
 }
 
 /// The number at a key, if it is there: `None` where what is there is no integer from `low` to `high`.

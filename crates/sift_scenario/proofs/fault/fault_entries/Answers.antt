@@ -1,68 +1,98 @@
-use Rattle.std.proofs.Common.{◌≡◌, ◌<◌, ◌≤◌, None, Some, length, get_or, map, below_more, sym, ◌∙◌, arith}
-use Rattle.std.proofs.lemmas.List.{length-map, map-append, take_all}
-use Rattle.std.proofs.lemmas.Option.{slice_get-get_or}
+use Rattle.std.proofs.Common.{◌≡◌, ◌<◌, ◌≤◌, ◌+◌, None, Some, below_more, get_or, length, map, rules, ◌∙◌, arith}
+use Rattle.std.proofs.lemmas.Iterator.Adapters.{YieldsList-from_vec}
+use Rattle.std.proofs.lemmas.Iterator.Consumers.{YieldsList-end, YieldsList-turn}
+use Rattle.std.proofs.lemmas.List.{length-append, length-map, take_all}
+use Rattle.std.specs.Prelude.{option_map}
 use Rattle.toml.specs.View.{table_view}
-use Rattle.sift_script.specs.Script.{change_of}
-use Rattle.sift_scenario.proofs.Faulting.{fault_at, faults_long, faults_next, items_broken, items_kept, none_past}
-use Rattle.sift_scenario.proofs.Places.{taken}
+use Rattle.sift_script.specs.Script.{change_of, failing_of, fault_of}
+use Rattle.sift_scenario.proofs.Faulting.{fault_taken, faults_long, planned_storm, table_low, unplanned_storm}
+use Rattle.sift_scenario.proofs.Places.{fails_here, holds_here, nowhere, read_more}
 use Rattle.sift_scenario.proofs.Testing.{first_broken}
-use Rattle.sift_scenario.specs.Document.{each_read}
-use Rattle.sift_scenario.specs.Fault.{fault_in}
-use Rattle.sift_scenario.specs.Item.{change_in}
-use Rattle.sift_scenario.specs.declared.fault.Head.{Head}
+use Rattle.sift_scenario.specs.Fault.{failing_from, fault_in, stated_storm}
 use Rattle.sift_scenario.proofs.fault.fault_entries.Goals as goal
 
--- what stands past the last head
-abbrev no_head : Head
-no_head = record { unit = 0; from = 0 }
+-- a `storm` states none
+pub returns-in-None-plan_of-clause-tests : goal.returns-in-None-plan_of-clause-tests
+returns-in-None-plan_of-clause-tests c =
+    let turn =
+    YieldsList-turn (YieldsList-from_vec {s = c.into_iter-items-iterator.result} c.args.said.items (search rules) (search rules))
+    c.loop-items.yielded c.loop-items.items-iterator c.loop-items.yielded_by c.next.result c.next.new.self c.in-Some.items c.in-Some.is c.next.ensures.steps in
+    let i = length c.loop-items.entries.items in
+    let place : c.len-place.result ≡ i = search rules in
+    let low : i < length c.args.said.items = rw c.loop-items.invariant.1 turn.0 in
+    let items_is : c.in-Some.items ≡ get_or c.args.said.items i c.in-Some.items = rw c.loop-items.invariant.1 turn.1 in
+    let table_is : c.index-tables-place.result ≡ get_or c.args.tables.now i c.index-tables-place.result = rw (← place) c.index-tables-place.is in
+    let there =
+    table_low (λ fault. table_view fault.now) (λ items. map change_of items.items) c.args.tables.now c.args.heads.now c.args.said.items c.requires.read i
+    c.index-tables-place.result c.in-Some.items low table_is items_is in
+    let none = unplanned_storm (stated_storm (table_view c.index-tables-place.result.now)) (λ storm. failing_from storm (map change_of c.in-Some.items.items))
+    (rw c.in-None-plan_of.is at c.plan_of.ensures) in
+    rw (c.broken.ensures, place)
+    (first_broken 30 _ _
+    (holds_here (λ fault. table_view fault.now) c.args.tables.now (λ at fault. stated_storm fault ≡ None) i c.index-tables-place.result there table_is none)
+    c.loop-items.invariant.2)
 
--- there is a head for each fault
-pub bounds-heads-place : goal.bounds-heads-place
-bounds-heads-place c =
-    let long = faults_long c.requires.read.0 c.args.heads.now _ c.requires.read.1 in
-    omega (arith, long.0, long.1, length-map c.args.said.now (λ items. map (λ item. table_view item.now) items.items), c.loop-place-test.true)
-
--- an item of a fault states no change
-pub returns-in-None-clause-tests : goal.returns-in-None-clause-tests
-returns-in-None-clause-tests c = λ faults read.
-    let said = map (λ items. map (λ item. table_view item.now) items.items) c.args.said.now in
-    let i = c.loop-place.place in
-    let items = map (λ item. table_view item.now) c.index-said-place.result.items in
-    let long = faults_long faults c.args.heads.now said read in
-    let low : i < length c.args.heads.now = omega (arith, long.0, long.1, length-map c.args.said.now (λ items. map (λ item. table_view item.now) items.items), c.loop-place-test.true) in
-    let there = taken (λ items. map (λ item. table_view item.now) items.items) c.args.said.now i c.index-said-place.result c.loop-place-test.true c.index-said-place.is in
-    let at = fault_at faults c.args.heads.now said i (get_or c.args.heads.now i no_head) items read (slice_get-get_or c.args.heads.now i no_head low) there in
-    let none : None ≡ each_read change_in items = rw (c.in-None.is, c.deref.ensures.value) at c.in_ok-items.ensures in
-    rw c.broken.ensures (first_broken 29 _ _ (items_broken faults i (get_or c.args.heads.now i no_head) items at (sym none)) (c.loop-place.invariant faults read).1)
-
--- a fault more has changes
-pub loop-place-preserved : goal.loop-place-preserved
-loop-place-preserved c = λ faults read.
-    let said = map (λ items. map (λ item. table_view item.now) items.items) c.args.said.now in
-    let i = c.loop-place.place in
-    let items = map (λ item. table_view item.now) c.index-said-place.result.items in
-    let long = faults_long faults c.args.heads.now said read in
-    let low : i < length c.args.heads.now = omega (arith, long.0, long.1, length-map c.args.said.now (λ items. map (λ item. table_view item.now) items.items), c.loop-place-test.true) in
-    let there = taken (λ items. map (λ item. table_view item.now) items.items) c.args.said.now i c.index-said-place.result c.loop-place-test.true c.index-said-place.is in
-    let head = get_or c.args.heads.now i no_head in
-    let at = fault_at faults c.args.heads.now said i head items read (slice_get-get_or c.args.heads.now i no_head low) there in
-    let changes = map change_of c.in-Some.items.items in
-    let some : Some changes ≡ each_read change_in items = rw (c.in-Some.is, c.deref.ensures.value) at c.in_ok-items.ensures in
-    let so = c.loop-place.invariant faults read in (
-      rw (c.in_ok-push-in-Some.ensures.items, map-append, so.0) (sym (faults_next faults i head items changes at (sym some))),
-      below_more _ _ so.1 (items_kept faults i head items at changes (sym some)),
+-- a fault more states one, where it has a `storm`
+pub loop-items-preserved : goal.loop-items-preserved
+loop-items-preserved c =
+    let turn =
+    YieldsList-turn (YieldsList-from_vec {s = c.into_iter-items-iterator.result} c.args.said.items (search rules) (search rules))
+    c.loop-items.yielded c.loop-items.items-iterator c.loop-items.yielded_by c.next.result c.next.new.self c.in-Some.items c.in-Some.is c.next.ensures.steps in
+    let i = length c.loop-items.entries.items in
+    let place : c.len-place.result ≡ i = search rules in
+    let low : i < length c.args.said.items = rw c.loop-items.invariant.1 turn.0 in
+    let items_is : c.in-Some.items ≡ get_or c.args.said.items i c.in-Some.items = rw c.loop-items.invariant.1 turn.1 in
+    let table_is : c.index-tables-place.result ≡ get_or c.args.tables.now i c.index-tables-place.result = rw (← place) c.index-tables-place.is in
+    let there =
+    table_low (λ fault. table_view fault.now) (λ items. map change_of items.items) c.args.tables.now c.args.heads.now c.args.said.items c.requires.read i
+    c.index-tables-place.result c.in-Some.items low table_is items_is in
+    let planned : Some (failing_of c.in-Some-plan_of.plan) ≡ option_map (λ storm. failing_from storm (map change_of c.in-Some.items.items)) (stated_storm (table_view c.index-tables-place.result.now)) =
+    rw c.in-Some-plan_of.is at c.plan_of.ensures in
+    let made =
+    fault_taken (λ fault. table_view fault.now) (λ items. map change_of items.items) c.args.tables.now c.args.heads.now c.args.said.items c.requires.read i
+    c.index-tables-place.result c.in-Some.items low table_is items_is (failing_of c.in-Some-plan_of.plan) planned in
+    let added = c.in_ok-push-in-Some-plan_of.ensures.items in
+    let long : length c.push.new.self.items ≡ i + 1 = rw (added, length-append) (omega arith) in (
+      rw long (read_more fault_of (λ fault. fault_in (table_view fault.now)) c.args.tables.now c.loop-items.entries.items c.push.new.self.items i _ _
+          there table_is c.loop-items.invariant.0 added (rw place made)),
+      rw (long, length-append) (omega (arith, c.loop-items.invariant.1)),
+      rw long (below_more _ _ c.loop-items.invariant.2
+          (fails_here (λ fault. table_view fault.now) c.args.tables.now (λ at fault. stated_storm fault ≡ None) i c.index-tables-place.result there table_is
+          (planned_storm (stated_storm (table_view c.index-tables-place.result.now)) (λ storm. failing_from storm (map change_of c.in-Some.items.items)) _ planned))),
     )
 
 -- all faults were read
 pub returns-clause-read : goal.returns-clause-read
-returns-clause-read c = λ faults read.
-    let long = faults_long faults c.args.heads.now _ read in
-    let as_many = length-map c.args.said.now (λ items. map (λ item. table_view item.now) items.items) in
-    let high : length (map fault_in faults) ≤ c.loop-place.place = omega (arith, long.1, as_many, c.loop-place-test.false, length-map faults fault_in) in
-    (c.loop-place.invariant faults read).0 ∙ take_all c.loop-place.place (map fault_in faults) high
+returns-clause-read c =
+    let end =
+    YieldsList-end (YieldsList-from_vec {s = c.into_iter-items-iterator.result} c.args.said.items (search rules) (search rules))
+    c.loop-items.yielded c.loop-items.items-iterator c.loop-items.yielded_by c.next.result c.next.new.self c.in-None.is c.next.ensures.steps in
+    let long = faults_long (map (λ fault. table_view fault.now) c.args.tables.now) c.args.heads.now (map (λ items. map change_of items.items) c.args.said.items) c.requires.read in
+    let high : length (map (λ fault. fault_in (table_view fault.now)) c.args.tables.now) ≤ length c.loop-items.entries.items =
+    omega (
+      arith,
+      end.1,
+      c.loop-items.invariant.1,
+      long.1,
+      length-map c.args.said.items (λ items. map change_of items.items),
+      length-map c.args.tables.now (λ fault. table_view fault.now),
+      length-map c.args.tables.now (λ fault. fault_in (table_view fault.now)),
+    ) in
+    c.loop-items.invariant.0 ∙ take_all (length c.loop-items.entries.items) (map (λ fault. fault_in (table_view fault.now)) c.args.tables.now) high
 
 pub returns-clause-tests : goal.returns-clause-tests
-returns-clause-tests c = λ faults read.
-    let long = faults_long faults c.args.heads.now _ read in
-    none_past faults c.loop-place.place (omega (arith, long.1, length-map c.args.said.now (λ items. map (λ item. table_view item.now) items.items), c.loop-place-test.false))
-    (c.loop-place.invariant faults read).1
+returns-clause-tests c =
+    let end =
+    YieldsList-end (YieldsList-from_vec {s = c.into_iter-items-iterator.result} c.args.said.items (search rules) (search rules))
+    c.loop-items.yielded c.loop-items.items-iterator c.loop-items.yielded_by c.next.result c.next.new.self c.in-None.is c.next.ensures.steps in
+    let long = faults_long (map (λ fault. table_view fault.now) c.args.tables.now) c.args.heads.now (map (λ items. map change_of items.items) c.args.said.items) c.requires.read in
+    nowhere (λ fault. table_view fault.now) c.args.tables.now (λ at fault. stated_storm fault ≡ None)
+    (λ at low. c.loop-items.invariant.2 at (omega (
+      arith,
+      low,
+      end.1,
+      c.loop-items.invariant.1,
+      long.1,
+      length-map c.args.said.items (λ items. map change_of items.items),
+      length-map c.args.tables.now (λ fault. table_view fault.now),
+    )))

@@ -1,37 +1,30 @@
-use Rattle.std.proofs.Common.{below_more, map, ◌∙◌, arith}
-use Rattle.std.proofs.lemmas.List.{length-map, take_all}
-use Rattle.toml.specs.View.{table_view}
-use Rattle.sift_scenario.proofs.Places.{fails_here, holds_here, nowhere, read_more}
-use Rattle.sift_scenario.proofs.Testing.{first_broken}
-use Rattle.sift_scenario.specs.Fault.{IsSaying, items_of}
+use Rattle.std.proofs.Common.{◌∙◌, List, map, sym, ap, subst}
+use Rattle.std.specs.List.{All}
+use Rattle.toml.specs.Data.{Data}
+use Rattle.toml.specs.View.{view}
+use Rattle.sift_scenario.proofs.Faulting.{none_from, some_from}
+use Rattle.sift_scenario.proofs.Order.{ok_from}
+use Rattle.sift_scenario.proofs.Places.{map_map}
+use Rattle.sift_scenario.specs.Document.{IsTableOf, members_of}
+use Rattle.sift_scenario.specs.Item.{item_keys}
 use Rattle.sift_scenario.proofs.fault.said_items.Goals as goal
 
--- a fault has no items as it may have
-pub returns-in-None-clause-tests : goal.returns-in-None-clause-tests
-returns-in-None-clause-tests c =
-    rw c.broken.ensures
-    (first_broken 28 _ _
-    (holds_here (λ fault. table_view fault.now) c.args.tables.now (λ at fault. IsSaying fault → ⊥) _ _
-    c.loop-place-test.true c.index-tables-place.is (rw c.in-None.is at c.in_ok-items.ensures.none))
-    c.loop-place.invariant.1)
+-- the tables are those of the entries
+pub returns-in-Ok-clause-items : goal.returns-in-Ok-clause-items
+returns-in-Ok-clause-items c =
+    ok_from _ _ c.known_items.result (λ found so. some_from _ _ found (λ items same.
+    same ∙ map_map members_of view c.in-Ok.entries.now ∙ ap (map members_of) c.in-Ok.ensures.entries) so)
+    c.known_items.ensures.items
 
--- a fault more has some
-pub loop-place-preserved : goal.loop-place-preserved
-loop-place-preserved c = (
-  read_more (λ items. map (λ item. table_view item.now) items.items) (λ fault. items_of (table_view fault.now)) c.args.tables.now _ _ _ _ _
-      c.loop-place-test.true c.index-tables-place.is c.loop-place.invariant.0 c.in_ok-push-in-Some.ensures.items
-      (rw c.in-Some.is at c.in_ok-items.ensures.items),
-  below_more _ _ c.loop-place.invariant.1
-      (fails_here (λ fault. table_view fault.now) c.args.tables.now (λ at fault. IsSaying fault → ⊥) _ _
-      c.loop-place-test.true c.index-tables-place.is (λ none. none (rw c.in-Some.is at c.in_ok-items.ensures.saying))),
-)
+pub returns-in-Ok-clause-right : goal.returns-in-Ok-clause-right
+returns-in-Ok-clause-right c =
+    ok_from _ _ c.known_items.result (λ found so. some_from _ _ found (λ items known. record {
+      few = c.in-Ok.ensures.right;
+      known = subst (λ (es : List Data). All (IsTableOf item_keys) es) c.in-Ok.ensures.entries known;
+    }) so) c.known_items.ensures.known
 
--- all faults were read
-pub returns-clause-items : goal.returns-clause-items
-returns-clause-items c =
-    c.loop-place.invariant.0 ∙ take_all c.loop-place.place (map (λ fault. items_of (table_view fault.now)) c.args.tables.now) (rw length-map c.loop-place-test.false)
-
-pub returns-clause-tests : goal.returns-clause-tests
-returns-clause-tests c =
-    nowhere (λ fault. table_view fault.now) c.args.tables.now (λ at fault. IsSaying fault → ⊥)
-    (λ at low. c.loop-place.invariant.1 at (omega (arith, low, c.loop-place-test.false)))
+pub returns-in-Ok-clause-none : goal.returns-in-Ok-clause-none
+returns-in-Ok-clause-none c =
+    ok_from _ _ c.known_items.result (λ found so. none_from _ _ found (λ other are.
+    other (subst (λ (es : List Data). All (IsTableOf item_keys) es) (sym c.in-Ok.ensures.entries) are.known)) so)
+    c.known_items.ensures.none

@@ -1,0 +1,125 @@
+-- The storms of a document are those of the mission that it states.
+use Rattle.std.proofs.Common.{◌≡◌, ◌==◌, ◌⊎◌, inl, inr, ℕ, zero, suc, List, [], ◌∷◌, Bool, true, false, map, take, Option, Some, None, refl, sym, ap, ◌∙◌, arith}
+use Rattle.std.proofs.lemmas.Bool.{or_parts}
+use Rattle.std.proofs.lemmas.Bool.Decides.{nat_tests}
+use Rattle.std.proofs.lemmas.List.{length-map}
+use Rattle.std.proofs.lemmas.Option.{get_or_from_slice_get, slice_get-map, slice_get_within}
+use Rattle.std.specs.List.{slice_get}
+use Rattle.std.specs.Prelude.{option_map, unwrap_or}
+use Rattle.sift_base.specs.Units.{has}
+use Rattle.sift_script.specs.Faults.{storm_from, storm_of}
+use Rattle.sift_script.specs.Rules.{fault_at, no_fault}
+use Rattle.sift_script.specs.Script.{Change, Failing, Fault, FaultScript, changing, turning}
+use Rattle.toml.specs.Data.{Members}
+use Rattle.sift_scenario.proofs.Themes.{kept_themes}
+use Rattle.sift_scenario.specs.Entries.{HoldsOf}
+use Rattle.sift_scenario.specs.Fault.{BreaksHeads, IsHeadless, failing_from, fault_in, fault_value, faults_in, from_of, stated_storm, unit_of}
+use Rattle.sift_scenario.specs.Laws.{IsStormOf, StormsAreStated}
+
+-- ---- one fault
+
+-- a number that is there is the one that is taken
+taken : (o : Option ℕ) → (o ≡ None → ⊥) → o ≡ Some (unwrap_or o 0)
+taken None some = absurd (some refl)
+taken (Some n) some = refl
+
+-- what comes of a fault is a storm only where it states one
+stated_by :
+    (storm : Option (Option Failing)) (changes : List Change) (first from number strays : ℕ)
+    → storm_from first (failing_from (unwrap_or storm None) changes) ≡ Some (from, number, strays)
+    → (first ≡ from) × (storm ≡ Some (Some (turning number strays)))
+stated_by None changes first from number strays is = cc
+stated_by (Some None) changes first from number strays is = cc
+stated_by (Some (Some (changing others))) changes first from number strays is = cc
+stated_by (Some (Some (turning n s))) changes first from number strays is =
+    let same : (let t : ℕ × ℕ × ℕ = (first, n, s) in t) ≡ (from, number, strays) = cc is in (
+      ap (λ (t : ℕ × ℕ × ℕ). t.0) same,
+      ap (λ (t : ℕ × ℕ × ℕ). Some (Some (turning t.1 t.2))) same,
+    )
+
+-- a fault with a unit and a first frame whose storm this is
+storm_here :
+    (fault : Members) (u from number strays : ℕ) → ¬ IsHeadless fault → ((fault_in fault).unit == u) ≡ true
+    → storm_from (fault_in fault).from (fault_in fault).plan ≡ Some (from, number, strays) → IsStormOf u from number strays fault
+storm_here fault u from number strays headed own is =
+    let storm = stated_by (stated_storm fault) _ (fault_in fault).from from number strays is in
+    let unit : unwrap_or (unit_of fault) 0 ≡ u = grind (arith, nat_tests) in record {
+      unit = taken (unit_of fault) (λ none. headed (inl none)) ∙ ap (λ n. Some n) unit;
+      comes = taken (from_of fault) (λ none. headed (inr none)) ∙ ap (λ n. Some n) storm.0;
+      storm = storm.1;
+    }
+
+-- ---- from the mission to the document
+
+-- the storm of a unit is that of the first fault, where this is the unit's, and else that of the others
+by_first :
+    (tables : List Members) (table : Members) (u : ℕ) (storm : ℕ × ℕ × ℕ) (b : Bool) → ((fault_in table).unit == u) ≡ b
+    → storm_of (map fault_in (table ∷ tables)) u ≡ Some storm
+    → ((b ≡ true) × (storm_from (fault_in table).from (fault_in table).plan ≡ Some storm)) ⊎ (storm_of (map fault_in tables) u ≡ Some storm)
+by_first tables table u storm true own is = inl (refl, rw own at is)
+by_first tables table u storm false other is = inr (rw other at is)
+
+-- a storm of the mission is one of these faults
+found :
+    (tables : List Members) (u from number strays : ℕ) → ((place : ℕ) → ¬ BreaksHeads tables place)
+    → storm_of (map fault_in tables) u ≡ Some (from, number, strays) → (place : ℕ) × HoldsOf tables place (IsStormOf u from number strays)
+found [] u from number strays headed is = cc
+found (table ∷ tables) u from number strays headed is =
+    elim (by_first tables table u (from, number, strays) ((fault_in table).unit == u) refl is) [
+      | inl here ↦ (
+        0,
+        record {
+          entry = table;
+          there = refl;
+          holds = storm_here table u from number strays (λ none. headed 0 (record { entry = table; there = refl; holds = none })) here.0 here.1;
+        },
+      )
+      | inr later ↦ let rest =
+          found tables u from number strays (λ place none. headed (suc place) (record { entry = none.entry; there = none.there; holds = none.holds })) later in
+          (suc rest.0, record { entry = rest.1.entry; there = rest.1.there; holds = rest.1.holds })
+    ]
+
+-- ---- from the document to the mission
+
+-- such a fault is of its unit, and its storm is this
+module _ (fault : Members) (u from number strays : ℕ) (storm : IsStormOf u from number strays fault) where
+  unit_is : (fault_in fault).unit ≡ u
+  unit_is = ap (λ o. unwrap_or o 0) storm.unit
+
+  storm_is : storm_from (fault_in fault).from (fault_in fault).plan ≡ Some (from, number, strays)
+  storm_is = rw (storm.comes, storm.storm) refl
+
+-- no fault before it names its unit, so it is the unit's storm
+kept :
+    (tables : List Members) (u from number strays place : ℕ) (fault : Members) → slice_get tables place ≡ Some fault → IsStormOf u from number strays fault
+    → has (map (λ f. f.unit) (take place (map fault_in tables))) u ≡ false → storm_of (map fault_in tables) u ≡ Some (from, number, strays)
+kept [] u from number strays zero fault there storm new = cc
+kept [] u from number strays (suc place) fault there storm new = cc
+kept (table ∷ tables) u from number strays zero fault there storm new =
+    let same : fault ≡ table = cc there in
+    let own : ((fault_in table).unit == u) ≡ true = rw (← same, unit_is fault u from number strays storm) (grind (arith, nat_tests)) in
+    rw own (ap (λ (f : Members). storm_from (fault_in f).from (fault_in f).plan) (sym same) ∙ storm_is fault u from number strays storm)
+kept (table ∷ tables) u from number strays (suc place) fault there storm new =
+    let parts = or_parts ((fault_in table).unit == u) (has (map (λ f. f.unit) (take place (map fault_in tables))) u) new in
+    rw parts.0 (kept tables u from number strays place fault there storm parts.1)
+
+-- ---- both
+
+pub stated_storms : StormsAreStated
+stated_storms document d u from number strays is =
+    let tables = faults_in (fault_value document) in
+    let themes = kept_themes document d.units is.stated.units is.stated.lawful in
+    let faults : d.script.faults ≡ map fault_in tables = ap (λ (s : FaultScript). s.faults) is.stated.script in (
+      λ storm. found tables u from number strays themes.1.1.1.1.1.0.1.0 (ap (λ (fs : List Fault). storm_of fs u) (sym faults) ∙ storm),
+      λ states.
+          let low = slice_get_within tables states.0 states.1.entry states.1.there in
+          let at : slice_get (map fault_in tables) states.0 ≡ Some (fault_in states.1.entry) =
+          slice_get-map fault_in tables states.0 ∙ ap (option_map fault_in) states.1.there in
+          let unit : (fault_at d.script states.0).unit ≡ u =
+          ap (λ (fs : List Fault). (fault_at (record d.script { faults = fs }) states.0).unit) faults
+          ∙ ap (λ (f : Fault). f.unit) (get_or_from_slice_get (map fault_in tables) states.0 (fault_in states.1.entry) no_fault at)
+          ∙ unit_is states.1.entry u from number strays states.1.holds in
+          let new = (is.good_script states.0 (rw (faults, length-map) low)).1.0 in
+          ap (λ (fs : List Fault). storm_of fs u) faults
+          ∙ kept tables u from number strays states.0 states.1.entry states.1.there states.1.holds (rw (← faults, ← unit) new),
+    )

@@ -1,0 +1,37 @@
+use Rattle.std.proofs.Common.{below_more, map, ◌∙◌, arith}
+use Rattle.std.proofs.lemmas.List.{length-map, take_all}
+use Rattle.toml.specs.View.{table_view}
+use Rattle.sift_scenario.proofs.Places.{fails_here, holds_here, nowhere, read_more}
+use Rattle.sift_scenario.proofs.Testing.{first_broken}
+use Rattle.sift_scenario.specs.Fault.{HasOneWay, items_of}
+use Rattle.sift_scenario.proofs.fault.fault_items.Goals as goal
+
+-- a fault doesn't fail in one way
+pub returns-in-None-clause-tests : goal.returns-in-None-clause-tests
+returns-in-None-clause-tests c =
+    rw c.broken.ensures
+    (first_broken 28 _ _
+    (holds_here (λ fault. table_view fault.now) c.args.tables.now (λ at fault. HasOneWay fault → ⊥) _ _
+    c.loop-place-test.true c.index-tables-place.is (rw c.in-None.is at c.in_ok-items.ensures.none))
+    c.loop-place.invariant.1)
+
+-- a fault more does
+pub loop-place-preserved : goal.loop-place-preserved
+loop-place-preserved c = (
+  read_more (λ items. map (λ item. table_view item.now) items.items) (λ fault. items_of (table_view fault.now)) c.args.tables.now _ _ _ _ _
+      c.loop-place-test.true c.index-tables-place.is c.loop-place.invariant.0 c.in_ok-push-in-Some.ensures.items
+      (rw c.in-Some.is at c.in_ok-items.ensures.items),
+  below_more _ _ c.loop-place.invariant.1
+      (fails_here (λ fault. table_view fault.now) c.args.tables.now (λ at fault. HasOneWay fault → ⊥) _ _
+      c.loop-place-test.true c.index-tables-place.is (λ none. none (rw c.in-Some.is at c.in_ok-items.ensures.one_way))),
+)
+
+-- all faults were read
+pub returns-clause-items : goal.returns-clause-items
+returns-clause-items c =
+    c.loop-place.invariant.0 ∙ take_all c.loop-place.place (map (λ fault. items_of (table_view fault.now)) c.args.tables.now) (rw length-map c.loop-place-test.false)
+
+pub returns-clause-tests : goal.returns-clause-tests
+returns-clause-tests c =
+    nowhere (λ fault. table_view fault.now) c.args.tables.now (λ at fault. HasOneWay fault → ⊥)
+    (λ at low. c.loop-place.invariant.1 at (omega (arith, low, c.loop-place-test.false)))
