@@ -6,7 +6,7 @@ use Rattle.toml.specs.Data.{Data, Members, table}
 use Rattle.sift_gen.specs.Entries.{array_of}
 use Rattle.sift_gen.specs.Scenario.{fault_entries, fault_item}
 use Rattle.sift_scenario.specs.Document.{HasOnlyKeys, IsTableOf, keys_of, members_of}
-use Rattle.sift_scenario.specs.Fault.{IsFaultEntry, IsHeadless, IsSaying, changes_of, fault_in, fault_keys, fault_rules, from_of, unit_of}
+use Rattle.sift_scenario.specs.Fault.{HasOneWay, IsFaultEntry, IsHeadless, IsSaying, changes_of, fault_in, fault_keys, fault_rules, from_of, stated_storm, unit_of}
 use Rattle.sift_scenario.specs.Item.{change_in, item_keys}
 use Rattle.sift_scenario.specs.Rules.{AreKept}
 use Rattle.sift_script.specs.Script.{Change, Fault, changing}
@@ -67,8 +67,11 @@ module _
   saying = record {
     value = array_of (fault_item units unit task value ∷ []);
     there = refl;
-    few = record { items = _; there = refl; enough = omega arith; few = omega arith };
-    known = All-cons (IsTableOf item_keys) (fault_item units unit task value) [] (item, refl, item_known) (All-nil (IsTableOf item_keys));
+    items = record {
+      few = record { items = _; there = refl; enough = omega arith; few = omega arith };
+      known = All-cons (IsTableOf item_keys) (fault_item units unit task value) [] (item, refl, item_known) (All-nil (IsTableOf item_keys));
+    };
+    alone = refl;
   }
 
   pub faults_kept : AreKept (fault_rules (Some faults_value))
@@ -83,8 +86,11 @@ module _
         | inr none ↦ cc (from_stated, none)
       ]),
       (
-        not_only entries (λ k fault. ¬ IsSaying fault) (λ fails. fails saying),
-        (not_only entries (λ k fault. changes_of fault ≡ None) (λ none. cc (changes_stated, none)), tt),
+        not_only entries (λ k fault. ¬ HasOneWay fault) (λ fails. fails (inl saying)),
+        (
+          not_only entries (λ k fault. changes_of fault ≡ None) (λ none. cc (changes_stated, none)),
+          (not_only entries (λ k fault. stated_storm fault ≡ None) (λ none. cc), tt),
+        ),
       ),
     ),
   )

@@ -10,6 +10,7 @@ mod Sensors
 mod Tasks
 mod Digits
 mod Faults
+mod Calm
 mod Script
 mod Shapes
 mod Program
