@@ -1,6 +1,6 @@
 -- What each status says.
 use Rattle.std.proofs.Common.{◌≡◌, ◌≢◌, ◌⊎◌, inl, inr, ℕ, List, [], Option, None, Some, Contains, lit<, refl, sym, ap, ◌∙◌, subst, arith}
-use Rattle.sift_reply.specs.Duty.{GivesOne, IsOwedWithin, IsWhole, MayEndWith, Owes, OwesOneTo, OwesWithin, shared_endings}
+use Rattle.sift_reply.specs.Duty.{GivesOne, GivesOneTo, IsOwedWithin, IsWhole, MayEndWith, Owes, OwesOneTo, OwesWithin, input_within, shared_endings}
 use Rattle.sift_reply.specs.Input.{Input}
 use Rattle.sift_reply.specs.Laws.{AsksOne, ShareNoStatus, IsExplained, StatusesAreExplained}
 use Rattle.sift_reply.specs.Output.{IsCut, IsGiven, IsWritten, Output}
@@ -47,12 +47,12 @@ ends_wanting : (limit : Option ℕ) → Contains (shared_endings limit) no_memor
 ends_wanting None = (1, lit< tt, refl)
 ends_wanting (Some limit) = (2, lit< tt, refl)
 
--- bytes are owed one reply by a command that gives one
+-- bytes are owed one reply by a command that gives one to their input
 pub one_owed : (limit : Option ℕ) (gives : List ℕ → Reply → Type 0) (bytes : List ℕ) (one other : Reply)
-    → GivesOne (record { limit = limit; gives = gives })
+    → GivesOneTo (record { limit = limit; gives = gives }) (input_within limit bytes)
     → IsOwedWithin limit gives bytes one → IsOwedWithin limit gives bytes other → one ≡ other
-one_owed None gives bytes one other alone a b = alone [] one other a b
-one_owed (Some limit) gives bytes one other alone (inl a) (inl b) = alone bytes one other a.1 b.1
+one_owed None gives bytes one other alone a b = alone one other a b
+one_owed (Some limit) gives bytes one other alone (inl a) (inl b) = alone one other a.1 b.1
 one_owed (Some limit) gives bytes one other alone (inl a) (inr b) = absurd (omega (arith, a.0, b.0))
 one_owed (Some limit) gives bytes one other alone (inr a) (inl b) = absurd (omega (arith, a.0, b.0))
 one_owed (Some limit) gives bytes one other alone (inr a) (inr b) = a.1 ∙ sym b.1

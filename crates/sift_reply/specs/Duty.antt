@@ -34,6 +34,11 @@ abbrev pub IsWhole : (limit : Option ℕ) → Input → List ℕ → Type 0
 IsWhole None input bytes = bytes ≡ []
 IsWhole (Some limit) input bytes = TakesAll input.before input.after bytes limit
 
+-- what a command with this limit takes for the input, where the source has these bytes: without one, nothing
+abbrev pub input_within : (limit : Option ℕ) → List ℕ → List ℕ
+input_within None bytes = []
+input_within (Some limit) bytes = bytes
+
 -- ---- what is owed to the bytes of an input that tells them
 
 -- by a command with this limit that gives these replies
@@ -73,6 +78,10 @@ pub record HasOwnStatuses (duty : Duty) (statuses : List ℕ) : Type 0 where
   pub among : (bytes : List ℕ) (reply : Reply) → duty.gives bytes reply → Contains statuses reply.status
   pub apart : SharesNoStatus duty
 
--- it gives one reply at most to an input
+-- it gives one reply at most to an input of these bytes
+abbrev pub GivesOneTo : Duty → List ℕ → Type 0
+GivesOneTo duty bytes = (one other : Reply) → duty.gives bytes one → duty.gives bytes other → one ≡ other
+
+-- and to each input
 abbrev pub GivesOne : Duty → Type 0
-GivesOne duty = (bytes : List ℕ) (one other : Reply) → duty.gives bytes one → duty.gives bytes other → one ≡ other
+GivesOne duty = (bytes : List ℕ) → GivesOneTo duty bytes

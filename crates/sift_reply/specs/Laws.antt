@@ -1,7 +1,7 @@
 -- What each status says: laws of the promise, whatever the commands are.
 use Rattle.std.specs.Prelude.{ℕ, ◌≡◌, ◌≢◌, ◌⊎◌, List, [], ◌∷◌, Contains, None}
 use Rattle.sift_io.specs.Fault.{Rose}
-use Rattle.sift_reply.specs.Duty.{Duty, GivesOne, SharesNoStatus, IsWhole, MayEndWith, OwesOneTo}
+use Rattle.sift_reply.specs.Duty.{Duty, GivesOne, GivesOneTo, SharesNoStatus, IsWhole, MayEndWith, OwesOneTo, input_within}
 use Rattle.sift_reply.specs.Input.{Input, IsTold}
 use Rattle.sift_reply.specs.Output.{IsCut, IsGiven, IsWritten, Output}
 use Rattle.sift_reply.specs.Promise.{Commands, IsAnswered, IsCommandLine, IsDue, IsOwed, MayWant}
@@ -52,6 +52,6 @@ module _ {Command : Type 0} (commands : Commands Command) where
       → (words : List (List ℕ)) (input : Input) (output : Output) (status : ℕ) → IsAnswered commands words input output status
       → IsExplained words input output status
 
--- a command that gives one reply to each input owes one to all bytes
+-- a command that gives one reply to an input owes one to its bytes
 abbrev pub GivesOneOwesOne : Duty → Type 0
-GivesOneOwesOne duty = GivesOne duty → (bytes : List ℕ) → OwesOneTo duty bytes
+GivesOneOwesOne duty = (bytes : List ℕ) → GivesOneTo duty (input_within duty.limit bytes) → OwesOneTo duty bytes

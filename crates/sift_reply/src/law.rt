@@ -10,7 +10,7 @@ pub fn statuses_are_explained<C: Asked>()
     ensures { StatusesAreExplained (commands_of C.asks C.duty) }
 {}
 
-/// A job that gives one reply to each input owes one to all bytes.
+/// A job that gives one reply to an input owes one to its bytes. The input of a job that reads nothing is empty.
 pub fn gives_one_owes_one<J: Job>()
     ensures { (job : J) → GivesOneOwesOne (J.duty job) }
 {}
