@@ -41,11 +41,11 @@ module _ (one_mission : OneMission) (accepted : MissionsAreAccepted) (one_refusa
 
   -- so one reply is given
   pub one_reply : (gives : MissionData → Reply → Type 0) → OneReplyIsGiven gives
-  one_reply gives alone bytes one other (inl (mission, states, given)) (inl (mission', states', given')) =
-      alone mission' one other (states'.0, states'.2) (subst (λ (m : MissionData). gives m one) (one_stated bytes mission mission' states states') given) given'
-  one_reply gives alone bytes one other (inl (mission, states, given)) (inr (why, none, is)) = absurd (stated_unrefused bytes mission why states none)
-  one_reply gives alone bytes one other (inr (why, none, is)) (inl (mission, states, given)) = absurd (stated_unrefused bytes mission why states none)
-  one_reply gives alone bytes one other (inr (why, none, is)) (inr (why', none', is')) =
+  one_reply gives bytes alone one other (inl (mission, states, given)) (inl (mission', states', given')) =
+      alone mission' one other states' (subst (λ (m : MissionData). gives m one) (one_stated bytes mission mission' states states') given) given'
+  one_reply gives bytes alone one other (inl (mission, states, given)) (inr (why, none, is)) = absurd (stated_unrefused bytes mission why states none)
+  one_reply gives bytes alone one other (inr (why, none, is)) (inl (mission, states, given)) = absurd (stated_unrefused bytes mission why states none)
+  one_reply gives bytes alone one other (inr (why, none, is)) (inr (why', none', is')) =
       is ∙ (ap reply_to (one_reason bytes why why' none none') ∙ sym is')
 
 -- ---- statuses

@@ -1,18 +1,18 @@
 -- The laws of loading.
 use Rattle.std.specs.Prelude.{ℕ, ◌≡◌, List, ◌++◌, Contains}
 use Rattle.sift_mission.specs.Data.{MissionData}
-use Rattle.sift_reply.specs.Duty.{GivesOne, HasOwnStatuses}
+use Rattle.sift_reply.specs.Duty.{GivesOneTo, HasOwnStatuses}
 use Rattle.sift_reply.specs.Reply.{Reply, shared_statuses}
 use Rattle.sift_load.specs.Loads.{mission_duty}
-use Rattle.sift_load.specs.Mission.{IsStated}
+use Rattle.sift_load.specs.Mission.{States}
 use Rattle.sift_load.specs.NoMission.{no_mission_statuses}
 
--- a command that gives one reply at most for a mission that a document states gives one to each input: bytes state one mission, or they state
--- none, for one reason
+-- a command that gives one reply at most for the mission that bytes state gives one to them: they state one mission, or they state none, for
+-- one reason
 abbrev pub OneReplyIsGiven : (gives : MissionData → Reply → Type 0) → Type 0
 OneReplyIsGiven gives =
-    ((mission : MissionData) (one other : Reply) → IsStated mission → gives mission one → gives mission other → one ≡ other)
-    → GivesOne (mission_duty gives)
+    (bytes : List ℕ) → ((mission : MissionData) (one other : Reply) → States bytes mission → gives mission one → gives mission other → one ≡ other)
+    → GivesOneTo (mission_duty gives) bytes
 
 -- a command whose replies for a mission have these statuses, none of them shared, has these and those of bytes that state none
 abbrev pub StatusesAreOwn : (gives : MissionData → Reply → Type 0) → Type 0

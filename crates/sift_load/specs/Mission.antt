@@ -16,10 +16,6 @@ IsDocument bytes document = IsUtf8 bytes × (parse_document bytes ≡ Some docum
 abbrev pub IsNoDocument : List ℕ → Type 0
 IsNoDocument bytes = (document : Members) → ¬ IsDocument bytes document
 
--- a document states the mission
-abbrev pub IsStated : MissionData → Type 0
-IsStated mission = (document : Members) × IsMission document mission
-
 -- the bytes are a document that states the mission
 abbrev pub States : List ℕ → MissionData → Type 0
 States bytes mission = (document : Members) × IsDocument bytes document × IsMission document mission

@@ -5,7 +5,7 @@ ghost use Rattle.sift_load.specs.Laws.{OneReplyIsGiven, StatusesAreOwn};
 use crate::mission_job::MissionJob;
 use sift_scenario::{missions_are_accepted, one_mission, one_refusal};
 
-/// A job that gives one reply at most for a mission gives one to each input.
+/// A job that gives one reply at most for the mission that bytes state gives one to them.
 pub fn loading_gives_one<J: MissionJob>()
     ensures { (job : J) → OneReplyIsGiven (J.gives_for job) }
 {
