@@ -142,9 +142,10 @@ ascii-kinds kinds = letters kinds.poll kinds.relay kinds.clock
 
 ascii-catches : (caught : Catches) (us : List ℕ) → AreInside us → AllAscii (map catch_text (map (catch_of caught) us))
 ascii-catches caught [] inside = tt
-ascii-catches caught (u ∷ us) inside =
-    ((ascii-digit u (inside u (here_first u us)), ascii-kinds (catch_of caught u).kinds),
-    ascii-catches caught us (λ v there. inside v (there_later u v us there)))
+ascii-catches caught (u ∷ us) inside = (
+  (ascii-digit u (inside u (here_first u us)), ascii-kinds (catch_of caught u).kinds),
+  ascii-catches caught us (λ v there. inside v (there_later u v us there)),
+)
 
 ascii-caught : (bad : Bad) → AreAscii (caught_text bad)
 ascii-caught (Plain units) = ascii-units (members units) (inside_set units)
@@ -155,8 +156,16 @@ ascii-caught (ByKind caught) = ascii-list (map catch_text (map (catch_of caught)
 
 fields_ascii : (line : ReportLine) → IsLine line → AllAscii (fields_of line)
 fields_ascii (unit n u cfg clk ins outs bad) holds =
-    search (rules, ascii-number n holds.0, ascii-digit u holds.1, ascii-units cfg holds.2.inside, ascii-signed clk holds.3,
-    ascii-words ins.items holds.4.0, ascii-words outs.items holds.5.0, ascii-caught bad)
+    search (
+      rules,
+      ascii-number n holds.0,
+      ascii-digit u holds.1,
+      ascii-units cfg holds.2.inside,
+      ascii-signed clk holds.3,
+      ascii-words ins.items holds.4.0,
+      ascii-words outs.items holds.5.0,
+      ascii-caught bad,
+    )
 fields_ascii (Faulty n u) holds = search (rules, ascii-number n holds.0, ascii-digit u holds.1)
 fields_ascii (Idle n u) holds = search (rules, ascii-number n holds.0, ascii-digit u holds.1)
 fields_ascii (Frame n skew slack margin) holds = search (rules, ascii-number n holds.0, ascii-ticks skew holds.1, ascii-ticks slack holds.2, ascii-margin margin)

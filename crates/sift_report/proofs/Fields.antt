@@ -59,7 +59,7 @@ above-caught : (bad : Bad) → IsAbove 32 (caught_text bad)
 above-caught (Plain units) = above-units (members units)
 above-caught (ByKind caught) = above-list (map catch_text (catches_in caught)) (above-map 32 catch_text (catches_in caught) above-catch)
 
-fields_above : (line : ReportLine) → IsLine line → AreAbove 32 (fields_of line)
+pub fields_above : (line : ReportLine) → IsLine line → AreAbove 32 (fields_of line)
 fields_above (unit n u cfg clk ins outs bad) holds = search (rules, above-number, above-digit, above-units, above-clock, above-words, above-caught)
 fields_above (Faulty n u) holds = search (rules, above-number, above-digit)
 fields_above (Idle n u) holds = search (rules, above-number, above-digit)

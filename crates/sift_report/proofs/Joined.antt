@@ -10,11 +10,11 @@ use Rattle.sift_report.proofs.Above.{all-lower, above-map}
 other : (c b : ℕ) → c < b → eqb b c ≡ false
 other c b low = grind (arith, nat_tests)
 
-itself : (c : ℕ) → eqb c c ≡ true
+pub itself : (c : ℕ) → eqb c c ≡ true
 itself c = grind (arith, nat_tests)
 
 -- a text above a byte doesn't have it
-without : (c : ℕ) (text : List ℕ) → IsAbove c text → All (λ b. eqb b c ≡ false) text
+pub without : (c : ℕ) (text : List ℕ) → IsAbove c text → All (λ b. eqb b c ≡ false) text
 without c [] h = All-nil (λ b. eqb b c ≡ false)
 without c (b ∷ bs) h = All-cons (λ x. eqb x c ≡ false) b bs (other c b h.0) (without c bs h.1)
 

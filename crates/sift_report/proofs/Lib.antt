@@ -14,6 +14,8 @@ mod SameTexts
 mod Places
 mod Versions
 mod Ascii
+mod LineFeeds
+mod SheetVersions
 mod SheetPlaces
 mod RoundFlights
 mod Alike

@@ -2,10 +2,10 @@
 //! is printed.
 
 ghost use Rattle.sift_report.specs.OneText.{AlikeFlightsHaveOneText};
-ghost use Rattle.sift_report.specs.Texts.{LinesAreTexts};
+ghost use Rattle.sift_report.specs.Texts.{LinesAreTexts, LinesComeApart};
 ghost use Rattle.sift_report.specs.Printed.{HeadlineIsPrinted, SheetsTellTheirFlights};
 ghost use Rattle.sift_report.specs.TwoCatchers.{FaultIsWithinTheHeadline};
-ghost use Rattle.sift_report.specs.Versions.{LinesTellTheirVersion};
+ghost use Rattle.sift_report.specs.Versions.{LinesTellTheirVersion, SheetsHaveTheirVersion};
 
 use sift_flight::{
     calm_missions_fly, headline_holds, margin_is_told, round_flights_have_accounts, skew_is_told,
@@ -24,9 +24,19 @@ pub fn lines_tell_their_version()
     ensures { LinesTellTheirVersion }
 {}
 
+/// Each line of a sheet is one of the version that was asked for.
+pub fn sheets_have_their_version()
+    ensures { SheetsHaveTheirVersion }
+{}
+
 /// The bytes of each line are a text: they are ASCII.
 pub fn lines_are_texts()
     ensures { LinesAreTexts }
+{}
+
+/// Line feeds cut the lines out of a report: no line has one.
+pub fn lines_come_apart()
+    ensures { LinesComeApart }
 {}
 
 /// The lines of the report of a round flight have the headline: the form of a report, one configuration, the same words, the

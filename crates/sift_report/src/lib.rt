@@ -25,8 +25,9 @@ mod word;
 pub use bad::Bad;
 pub use ideal::ideal_text;
 pub use law::{
-    alike_flights_have_one_text, fault_is_within_the_headline, lines_are_texts, lines_tell_their_version,
-    sheets_tell_their_flights, the_headline_is_printed,
+    alike_flights_have_one_text, fault_is_within_the_headline, lines_are_texts, lines_come_apart,
+    lines_tell_their_version, sheets_have_their_version, sheets_tell_their_flights,
+    the_headline_is_printed,
 };
 pub use line::ReportLine;
 pub use print::push_line;

@@ -15,9 +15,9 @@ loop-i-preserved c =
     let m = flown_of c.args.mission.now in
     let line = unit_line m (told m c.args.flight.now) c.args.version c.args.f in (
       line_more line c.everyone-everyone.result c.loop-i.i c.unit_at.result _ _ _
-      c.unit_at.ensures c.loop-i.invariant.0 (rw c.unit_line.ensures at c.in_ok-push_one.ensures.text),
+          c.unit_at.ensures c.loop-i.invariant.0 (rw c.unit_line.ensures at c.in_ok-push_one.ensures.text),
       one_more line c.everyone-everyone.result c.loop-i.i c.unit_at.result
-      c.unit_at.ensures c.loop-i.invariant.1 (rw c.unit_line.ensures at c.in_ok-push_one.ensures.line),
+          c.unit_at.ensures c.loop-i.invariant.1 (rw c.unit_line.ensures at c.in_ok-push_one.ensures.line),
     )
 
 pub returns-clause-text : goal.returns-clause-text
