@@ -8,9 +8,9 @@ use Rattle.sift_scenario.specs.Laws.{MissionsAreAccepted, OneMission, OneRefusal
 use Rattle.sift_scenario.specs.Mission.{IsMission}
 use Rattle.sift_scenario.specs.Refusal.{IsRefusedWith}
 use Rattle.sift_scenario.specs.declared.refused.Refused.TheVariants.{Scenario, Task, Table, Script}
-use Rattle.sift_load.specs.Laws.{OneReplyIsGiven, StatusesAreOwn}
+use Rattle.sift_load.specs.Laws.{OneMissionIsStated, OneReplyIsGiven, StatedMissionsAreUnrefused, StatusesAreOwn}
 use Rattle.sift_load.specs.Loads.{LoadsThen}
-use Rattle.sift_load.specs.Mission.{IsDocument, States, StatesNone}
+use Rattle.sift_load.specs.Mission.{IsDocument, StatesNone}
 use Rattle.sift_load.specs.NoMission.{no_mission_statuses, reply_to}
 use Rattle.sift_load.specs.declared.no_mission.NoMission.{NoMission}
 use Rattle.sift_load.specs.declared.no_mission.NoMission.TheVariants.{NotADocument, Refused}
@@ -19,18 +19,18 @@ use Rattle.sift_load.specs.declared.no_mission.NoMission.TheVariants.{NotADocume
 one_tree : (bytes : List ℕ) (one other : Members) → IsDocument bytes one → IsDocument bytes other → one ≡ other
 one_tree bytes one other reads reads' = cc (reads.1, reads'.1)
 
+-- bytes state one mission
+pub one_stated : OneMission → OneMissionIsStated
+one_stated one_mission bytes one other (tree, reads, states) (tree', reads', states') =
+    one_mission tree' one other (subst (λ (t : Members). IsMission t one) (one_tree bytes tree tree' reads reads') states) states'
+
+-- bytes that state one aren't refused
+pub stated_unrefused : MissionsAreAccepted → StatedMissionsAreUnrefused
+stated_unrefused accepted bytes mission NotADocument (tree, reads, states) none = none tree reads
+stated_unrefused accepted bytes mission (Refused reason) (tree, reads, states) (tree', reads', refused) =
+    accepted tree' mission reason (subst (λ (t : Members). IsMission t mission) (one_tree bytes tree tree' reads reads') states) refused
+
 module _ (one_mission : OneMission) (accepted : MissionsAreAccepted) (one_refusal : OneRefusal) where
-  -- bytes state one mission
-  one_stated : (bytes : List ℕ) (one other : MissionData) → States bytes one → States bytes other → one ≡ other
-  one_stated bytes one other (tree, reads, states) (tree', reads', states') =
-      one_mission tree' one other (subst (λ (t : Members). IsMission t one) (one_tree bytes tree tree' reads reads') states) states'
-
-  -- bytes that state one aren't refused
-  stated_unrefused : (bytes : List ℕ) (mission : MissionData) (why : NoMission) → States bytes mission → ¬ StatesNone bytes why
-  stated_unrefused bytes mission NotADocument (tree, reads, states) none = none tree reads
-  stated_unrefused bytes mission (Refused reason) (tree, reads, states) (tree', reads', refused) =
-      accepted tree' mission reason (subst (λ (t : Members). IsMission t mission) (one_tree bytes tree tree' reads reads') states) refused
-
   -- bytes are refused for one reason
   one_reason : (bytes : List ℕ) (one other : NoMission) → StatesNone bytes one → StatesNone bytes other → one ≡ other
   one_reason bytes NotADocument NotADocument none none' = refl
@@ -42,9 +42,9 @@ module _ (one_mission : OneMission) (accepted : MissionsAreAccepted) (one_refusa
   -- so one reply is given
   pub one_reply : (gives : MissionData → Reply → Type 0) → OneReplyIsGiven gives
   one_reply gives bytes alone one other (inl (mission, states, given)) (inl (mission', states', given')) =
-      alone mission' one other states' (subst (λ (m : MissionData). gives m one) (one_stated bytes mission mission' states states') given) given'
-  one_reply gives bytes alone one other (inl (mission, states, given)) (inr (why, none, is)) = absurd (stated_unrefused bytes mission why states none)
-  one_reply gives bytes alone one other (inr (why, none, is)) (inl (mission, states, given)) = absurd (stated_unrefused bytes mission why states none)
+      alone mission' one other states' (subst (λ (m : MissionData). gives m one) (one_stated one_mission bytes mission mission' states states') given) given'
+  one_reply gives bytes alone one other (inl (mission, states, given)) (inr (why, none, is)) = absurd (stated_unrefused accepted bytes mission why states none)
+  one_reply gives bytes alone one other (inr (why, none, is)) (inl (mission, states, given)) = absurd (stated_unrefused accepted bytes mission why states none)
   one_reply gives bytes alone one other (inr (why, none, is)) (inr (why', none', is')) =
       is ∙ (ap reply_to (one_reason bytes why why' none none') ∙ sym is')
 

@@ -4,8 +4,17 @@ use Rattle.sift_mission.specs.Data.{MissionData}
 use Rattle.sift_reply.specs.Duty.{GivesOneTo, HasOwnStatuses}
 use Rattle.sift_reply.specs.Reply.{Reply, shared_statuses}
 use Rattle.sift_load.specs.Loads.{mission_duty}
-use Rattle.sift_load.specs.Mission.{States}
+use Rattle.sift_load.specs.Mission.{States, StatesNone}
 use Rattle.sift_load.specs.NoMission.{no_mission_statuses}
+use Rattle.sift_load.specs.declared.no_mission.NoMission.{NoMission}
+
+-- bytes state at most one mission
+abbrev pub OneMissionIsStated : Type 0
+OneMissionIsStated = (bytes : List ℕ) (one other : MissionData) → States bytes one → States bytes other → one ≡ other
+
+-- bytes that state one state none for no reason
+abbrev pub StatedMissionsAreUnrefused : Type 0
+StatedMissionsAreUnrefused = (bytes : List ℕ) (mission : MissionData) (why : NoMission) → States bytes mission → ¬ StatesNone bytes why
 
 -- a command that gives one reply at most for the mission that bytes state gives one to them: they state one mission, or they state none, for
 -- one reason
