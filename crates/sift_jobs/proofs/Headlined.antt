@@ -24,7 +24,7 @@ headlined fit printed job bytes reply (inl (mission, states, (flight, flies, lin
   stated = states;
   flies = flies;
   told = ap (λ (r : Reply). r.text) is;
-  headline = printed mission flies.0 flight job.version (fit states.0 mission states.2) flies.1;
+  headline = printed mission flies.strays flight job.version (fit states.0 mission states.2) flies.round;
 }
 headlined fit printed job bytes reply (inr (why, none, is)) status =
     absurd (not_done why (sym (ap (λ (r : Reply). r.status) is) ∙ status))

@@ -1,7 +1,7 @@
 -- `plan` gives one reply, whose status is its own.
-use Rattle.std.proofs.Common.{◌≡◌, ◌≤◌, inl, inr, [], ◌∷◌, Contains, lit<, refl, sym, ap, ◌∙◌, subst, arith}
+use Rattle.std.proofs.Common.{◌≡◌, ◌≤◌, inl, inr, ℕ, List, [], ◌∷◌, Contains, lit<, refl, sym, ap, ◌∙◌, subst, arith}
 use Rattle.sift_base.specs.Shapes.{AreShapes}
-use Rattle.sift_load.specs.Mission.{IsStated}
+use Rattle.sift_load.specs.Mission.{States}
 use Rattle.sift_mission.specs.Data.{MissionData, shapes_in}
 use Rattle.sift_mission.specs.PartsFit.{PartsFit}
 use Rattle.sift_planner.specs.Plans.{ArePlannable}
@@ -21,18 +21,18 @@ plannable shapes d fit =
 
 module _ (fit : StatedMissionsFit) (shapes : SoundProgramsHaveShapes) (one_each : OnePlanEach) (one_refusal : OneSizeWithoutRoom) where
   -- a mission that a document states gets one reply
-  pub one_reply : (job : PlanNumbers) (d : MissionData) (one other : Reply) → IsStated d → PlanGives job d one → PlanGives job d other → one ≡ other
-  one_reply job d one other (document, states) (inl (tables, plans, is)) (inl (tables', plans', is')) =
+  pub one_reply : (job : PlanNumbers) (bytes : List ℕ) (d : MissionData) (one other : Reply) → States bytes d → PlanGives job d one → PlanGives job d other → one ≡ other
+  one_reply job bytes d one other (document, reads, states) (inl (tables, plans, is)) (inl (tables', plans', is')) =
       let can = plannable shapes d (fit document d states) in
       let same = one_each (shapes_in d) d.units job.period job.copies tables tables' can plans plans' in
       is ∙ (ap (λ ts. done (tables_text ts)) same ∙ sym is')
-  one_reply job d one other (document, states) (inl (tables, plans, is)) (inr (size, task, without, is')) =
+  one_reply job bytes d one other (document, reads, states) (inl (tables, plans, is)) (inr (size, task, without, is')) =
       let can = plannable shapes d (fit document d states) in
       absurd ((one_refusal (shapes_in d) d.units job.period job.copies size task can without).0 tables plans)
-  one_reply job d one other (document, states) (inr (size, task, without, is)) (inl (tables, plans, is')) =
+  one_reply job bytes d one other (document, reads, states) (inr (size, task, without, is)) (inl (tables, plans, is')) =
       let can = plannable shapes d (fit document d states) in
       absurd ((one_refusal (shapes_in d) d.units job.period job.copies size task can without).0 tables plans)
-  one_reply job d one other (document, states) (inr (size, task, without, is)) (inr (size', task', without', is')) =
+  one_reply job bytes d one other (document, reads, states) (inr (size, task, without, is)) (inr (size', task', without', is')) =
       let can = plannable shapes d (fit document d states) in
       let same = (one_refusal (shapes_in d) d.units job.period job.copies size' task' can without').1 size task without in
       is ∙ (rw (same.0, same.1) refl ∙ sym is')

@@ -1,7 +1,8 @@
 //! The laws of the commands: each gives one reply, whose status is its own.
 
-ghost use Rattle.std.specs.Prelude.{[], ◌∷◌, ◌++◌};
+ghost use Rattle.std.specs.Prelude.{ℕ, List, [], ◌∷◌, ◌++◌};
 ghost use Rattle.sift_jobs.specs.Check.{check_duty};
+ghost use Rattle.sift_jobs.specs.Flights.{AreCalm};
 ghost use Rattle.sift_jobs.specs.Gen.{gen_duty};
 ghost use Rattle.sift_jobs.specs.Headline.{RunIsHeadlined};
 ghost use Rattle.sift_jobs.specs.Ideal.{ideal_duty};
@@ -16,7 +17,7 @@ ghost use Rattle.sift_jobs.specs.declared.scenario.GenJob.{GenJob as Gen};
 ghost use Rattle.sift_jobs.specs.declared.trial.TrialJob.{TrialJob as Trial};
 ghost use Rattle.sift_jobs.specs.declared.votes.VotesJob.{VotesJob as Votes};
 ghost use Rattle.sift_load.specs.NoMission.{no_mission_statuses};
-ghost use Rattle.sift_reply.specs.Duty.{GivesOne, HasOwnStatuses};
+ghost use Rattle.sift_reply.specs.Duty.{GivesOne, GivesOneTo, HasOwnStatuses};
 ghost use Rattle.sift_reply.specs.Reply.{done_status};
 
 use crate::check::CheckJob;
@@ -31,7 +32,8 @@ use sift_mission::fitting_parts_make_a_flight;
 use sift_planner::{one_plan_each, one_size_without_room};
 use sift_program::sound_programs_have_shapes;
 use sift_report::{alike_flights_have_one_text, the_headline_is_printed};
-use sift_scenario::{one_mission, stated_missions_fit, stated_missions_have_no_storms};
+use sift_scenario::{one_mission, stated_missions_fit};
+use sift_trial::drawn_missions_have_no_storms;
 
 /// `run` ends with 0, or with the status of bytes that state no mission.
 pub fn run_has_own_statuses()
@@ -78,31 +80,30 @@ pub fn trial_has_own_statuses()
     ensures { (job : Trial) → HasOwnStatuses (trial_duty job) (done_status ∷ []) }
 {}
 
-/// `run` gives one reply to an input: the order of steps, and all else that a flight leaves open, shows in no report.
+/// `run` gives one reply to an input that states no storm: the order of steps, and all else that a flight leaves open, shows
+/// in no report.
 pub fn run_gives_one()
-    ensures { (job : Run) → GivesOne (run_duty job) }
+    ensures { (job : Run) (bytes : List ℕ) → AreCalm bytes → GivesOneTo (run_duty job) bytes }
 {
     loading_gives_one::<RunJob>();
     fitting_parts_make_a_flight();
     round_flights_are_alike();
     alike_flights_have_one_text();
     stated_missions_fit();
-    stated_missions_have_no_storms();
 }
 
 /// So does `votes`.
 pub fn votes_gives_one()
-    ensures { (job : Votes) → GivesOne (votes_duty job) }
+    ensures { (job : Votes) (bytes : List ℕ) → AreCalm bytes → GivesOneTo (votes_duty job) bytes }
 {
     loading_gives_one::<VotesJob>();
     fitting_parts_make_a_flight();
     round_flights_are_alike();
     alike_flights_have_one_text();
     stated_missions_fit();
-    stated_missions_have_no_storms();
 }
 
-/// So does `ideal`.
+/// `ideal` gives one reply to each input.
 pub fn ideal_gives_one()
     ensures { (job : Ideal) → GivesOne (ideal_duty job) }
 {
@@ -134,7 +135,7 @@ pub fn gen_gives_one()
     one_text_of_a_number();
 }
 
-/// `trial` gives one reply: a number has one mission, of which all flights end alike.
+/// `trial` gives one reply: a number has one mission, which has no storm, and of which all flights end alike.
 pub fn trial_gives_one()
     ensures { (job : Trial) → GivesOne (trial_duty job) }
 {
@@ -143,7 +144,7 @@ pub fn trial_gives_one()
     round_flights_are_alike();
     alike_flights_have_one_text();
     stated_missions_fit();
-    stated_missions_have_no_storms();
+    drawn_missions_have_no_storms();
 }
 
 /// Where `run` ends with 0 its text is the report of a flight of the mission that the input states, and the headline holds
