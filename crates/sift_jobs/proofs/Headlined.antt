@@ -24,6 +24,7 @@ headlined fit printed job bytes reply (inl (mission, states, (flight, flies, lin
   stated = states;
   flies = flies;
   told = ap (λ (r : Reply). r.text) is;
+  lines = lines;
   headline = printed mission flies.strays flight job.version (fit states.0 mission states.2) flies.round;
 }
 headlined fit printed job bytes reply (inr (why, none, is)) status =
