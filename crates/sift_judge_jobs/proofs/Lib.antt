@@ -1,4 +1,5 @@
 pub mod Divisions
+pub mod Judged
 pub mod OneReply
 pub mod Places
 pub mod Readings

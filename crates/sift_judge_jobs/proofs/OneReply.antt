@@ -37,4 +37,4 @@ one_reply verdicts loads job bytes one other (inr (document, report, divided, gi
     let same' = one_report bytes document report document' report' divided divided' in
     let there = subst (λ (behind : List ℕ). LoadsThen (ReportGives job.version behind) document' one) same'
     (subst (λ (front : List ℕ). LoadsThen (ReportGives job.version report) front one) same gives) in
-    loads job.version report' (λ mission a b stated. for_mission verdicts job.version report' mission a b) document' one other there gives'
+    loads job.version report' document' (λ mission a b states. for_mission verdicts job.version report' mission a b) one other there gives'

@@ -1,5 +1,5 @@
 -- A report is read line by line.
-use Rattle.std.proofs.Common.{◌≡◌, ◌≢◌, ◌≤◌, ◌<◌, ◌++◌, ◌+◌, ◌-◌, ◌∷◌, [], inl, inr, ⊎_elim, ℕ, List, Option, Some, None}
+use Rattle.std.proofs.Common.{◌≡◌, ◌≢◌, ◌≤◌, ◌<◌, ◌++◌, ◌+◌, ◌-◌, ◌∷◌, [], inl, inr, ⊎_elim, ℕ, List, Option, Some, None, IfSome}
 use Rattle.std.proofs.Common.{Result, Ok, Err, length, map, take, drop, append_assoc, cond, eqb, not, false, refl, sym, ap, ◌∙◌, subst, arith}
 use Rattle.std.proofs.lemmas.Bool.{cases_lt, le-ltb, lt-ltb}
 use Rattle.std.proofs.lemmas.List.{length-drop, map-append, take_all}
@@ -8,10 +8,11 @@ use Rattle.std.proofs.lemmas.List.Splits.{length-slice_split, slice_split_first,
 use Rattle.std.proofs.lemmas.List.Sums.{fails_before_first, prefix_len-le-length}
 use Rattle.std.specs.List.{All, position, position_or_len}
 use Rattle.std.specs.Result.{MatchResult, result_ok}
-use Rattle.sift_report.specs.Line.{line_text}
+use Rattle.sift_report.specs.Line.{HasVersion, IsLine, line_text}
+use Rattle.sift_report.specs.Texts.{texts_of}
 use Rattle.sift_report.specs.declared.line.ReportLine.{ReportLine}
 use Rattle.sift_report.specs.declared.version.Version.{Version}
-use Rattle.sift_judge_jobs.specs.Lines.{AreAllRead, BeginsRefused, IsFirstRefused, IsLineOf, IsNoLine, texts_of}
+use Rattle.sift_judge_jobs.specs.Lines.{AreAllRead, BeginsRefused, IsFirstRefused, IsLineOf, IsNoLine}
 use Rattle.sift_judge_jobs.proofs.Readings.{head_same, more, tail_same}
 
 -- a line that is a text, and is the only one with it
@@ -143,3 +144,13 @@ not_there found x none some = cc
 pub found_as : {X E : Type 0} (found : Result X E) (x : X) (Is : X → Type 0) (Not : E → Type 0) → result_ok found ≡ Some x → MatchResult found Is Not → Is x
 found_as (Ok y) x Is Not there is = let same : y ≡ x = cc in subst Is same is
 found_as (Err e) x Is Not there not = absurd cc
+
+-- and what wasn't found failed so
+pub failed_as : {X E : Type 0} (found : Result X E) (Is : X → Type 0) (Not : E → Type 0) → result_ok found ≡ None → MatchResult found Is Not → (e : E) × Not e
+failed_as (Ok y) Is Not there is = absurd cc
+failed_as (Err e) Is Not there not = (e, not)
+
+-- a line that is read in a version is one of it
+pub read_as : (version : Version) (found : Option ReportLine) → IfSome found IsLine → IfSome found (HasVersion version) → IfSome found (IsLineOf version)
+read_as version None holds told = tt
+read_as version (Some line) holds told = record { holds = holds; told = told }

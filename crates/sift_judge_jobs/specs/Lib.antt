@@ -1,3 +1,4 @@
 pub mod Divided
 pub mod Lines
 pub mod Judge
+pub mod Judged

@@ -1,25 +1,17 @@
 -- The lines that are read from a report, or the first that is refused.
-use Rattle.std.specs.Prelude.{ℕ, ◌≡◌, ◌≢◌, ◌==◌, ◌+◌, ◌⊎◌, List, [], ◌∷◌, ◌++◌, length, map, IsUtf8}
-use Rattle.std.specs.List.{All, slice_split}
+use Rattle.std.specs.Prelude.{ℕ, ◌≡◌, ◌≢◌, ◌+◌, ◌⊎◌, List, [], ◌∷◌, ◌++◌, length, map}
+use Rattle.std.specs.List.{All}
 use Rattle.sift_report.specs.Line.{HasVersion, IsLine, line_text}
+use Rattle.sift_report.specs.Texts.{texts_of}
 use Rattle.sift_report.specs.declared.line.ReportLine.{ReportLine}
 use Rattle.sift_report.specs.declared.version.Version.{Version}
 
--- the byte that ends a line
-abbrev pub line_feed : ℕ
-line_feed = 10
-
--- what stands between the line feeds of a report: the text of each line, and last what no line feed ends
-abbrev pub texts_of : List ℕ → List (List ℕ)
-texts_of report = slice_split (λ b. b == line_feed) report
-
 -- ---- a line
 
--- a line of this version that is a text
+-- a line of this version
 pub record IsLineOf (version : Version) (line : ReportLine) : Type 0 where
   pub holds : IsLine line
   pub told : HasVersion version line
-  pub text : IsUtf8 (line_text line)
 
 -- the text is no line's of this version
 abbrev pub IsNoLine : Version → List ℕ → Type 0

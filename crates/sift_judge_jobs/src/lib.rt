@@ -9,4 +9,4 @@ mod line;
 mod lines;
 
 pub use judge::JudgeJob;
-pub use law::{judge_gives_one, judge_has_own_statuses};
+pub use law::{judge_gives_one, judge_has_own_statuses, runs_are_judged_yes};
