@@ -9,8 +9,9 @@ KEYS = {
     "[[sensor]]": ("name", "words"),
     "[[task]]": ("name", "start", "text", "linear"),
     "[[table]]": ("size", "run", "poll", "at"),
-    "[[fault]]": ("unit", "from", "say"),
+    "[[fault]]": ("unit", "from", "say", "storm"),
     "[[fault.say]]": ("slot", "index", "word", "to", "frame", "value"),
+    "[fault.storm]": ("number", "strays"),
 }
 ROOT_KEYS = KEYS["the document"]
 
@@ -30,6 +31,12 @@ class Broken:
 def spot(thing):
     """The start and the end of a value or a key."""
     return thing.start, thing.end
+
+
+def items_of(fault):
+    """The tables of a fault's items, where a rule has found that they are some. A storm has none."""
+    say = fault.get("say")
+    return say.data if say else []
 
 
 class Mission:

@@ -1,5 +1,5 @@
-"""The rules on keys and values, 1 to 29: docs/missions.md has them."""
-from mission import KEYS, ROOT_KEYS, Broken, spot
+"""The rules on keys and values, 1 to 30: docs/missions.md has them."""
+from mission import KEYS, ROOT_KEYS, Broken, items_of, spot
 from places import KINDS
 from texts import choice, nearest
 from values import counted, wrong_array, wrong_digits, wrong_integer, wrong_name, wrong_word
@@ -7,6 +7,7 @@ from values import counted, wrong_array, wrong_digits, wrong_integer, wrong_name
 SLOTS = ("clock", "sense", "relay", "out", "report", "relay-report")
 INDEXED = {"sense": "the sensor", "relay": "the sensor", "out": "the task", "relay-report": "the unit whose report it is"}
 LARGEST_CLOCK = 8000
+LARGEST_NUMBERS = {"number": 2**63 - 1, "strays": 1_000_000}
 
 
 # The pieces of rules: each tells the faults of one key, in the order of the rule. What they yield are pairs of a place,
@@ -23,13 +24,15 @@ def stray(mission, name):
 
 def headed(root):
     """The tables that stand in a document, each with how its header is written."""
-    for header in list(KEYS)[1:-1]:
+    for header in list(KEYS)[1:-2]:
         name = header.strip("[]")
         for table in tables_of(root.get(name)):
             yield header, table
             if name == "fault":
                 for item in tables_of(table.get("say")):
                     yield "[[fault.say]]", item
+                for storm in tables_of(table.get("storm")):
+                    yield "[fault.storm]", storm
 
 
 def tables_of(value):
@@ -474,17 +477,40 @@ def rule_27(mission):
 
 def rule_28(mission):
     for number, fault in enumerate(mission.faults):
-        for place, why in item_list_faults(fault):
+        for place, why in way_faults(fault):
             yield number, place, why, False
 
 
-def item_list_faults(fault):
-    """The faults of a fault's list of items."""
-    say = fault.get("say")
-    if say is None:
-        mend = "`[[fault.say]]` with its keys, right behind the `[[fault]]`"
+def way_faults(fault):
+    """The faults of the way in which a unit fails."""
+    say, storm = fault.get("say"), fault.get("storm")
+    if say is None and storm is None:
+        mend = "`[[fault.say]]` with its keys, right behind the `[[fault]]`; or `[fault.storm]`, where it turns stray"
         yield spot(fault), ("`say` is missing here: what does the unit say?", mend)
-    elif say.kind == "table" and say.origin in ("header", "implicit"):
+    elif say is not None and storm is not None:
+        later = max(fault.data["say"], fault.data["storm"], key=lambda entry: entry.start)
+        yield spot(later), ("the fault has a `say` and a `storm`", "keep one of the two: a stray unit says nothing")
+    elif say is not None:
+        yield from item_list_faults(say)
+    else:
+        yield from storm_table_faults(storm)
+
+
+def storm_table_faults(storm):
+    """The faults of a storm as a whole."""
+    if storm.kind == "array" and storm.origin == "header":
+        why = "`[[fault.storm]]` makes a list, and a fault has one storm"
+        yield spot(storm), (why, "`[fault.storm]`, with single brackets")
+    elif storm.kind != "table":
+        why = f"`storm` is {KINDS[storm.kind]}, and is to be a table"
+        yield spot(storm), (why, "`[fault.storm]`, with `number` and `strays`")
+    else:
+        yield from unknown_keys(storm, "[fault.storm]")
+
+
+def item_list_faults(say):
+    """The faults of a fault's list of items."""
+    if say.kind == "table" and say.origin in ("header", "implicit"):
         why = "`[fault.say]` makes one table, and `say` is a list of them"
         yield spot(say), (why, "`[[fault.say]]`, with double brackets")
     elif say.kind != "array":
@@ -499,7 +525,7 @@ def item_list_faults(fault):
 
 def rule_29(mission):
     for number, fault in enumerate(mission.faults):
-        for item in fault.get("say").data:
+        for item in items_of(fault):
             for place, why in item_faults(item):
                 yield number, place, why, False
 
@@ -555,10 +581,27 @@ def rest_faults(item):
         yield spot(value), (why, mend or silence)
 
 
+def rule_30(mission):
+    for number, fault in enumerate(mission.faults):
+        storm = fault.get("storm")
+        for place, why in storm_number_faults(storm) if storm else []:
+            yield number, place, why, False
+
+
+def storm_number_faults(storm):
+    """The faults of the two numbers of a storm."""
+    for name, most in LARGEST_NUMBERS.items():
+        value = storm.get(name)
+        if value is None:
+            yield missing_key(storm, name, "[fault.storm]")
+        elif wrong_integer(name, value, 0, most):
+            yield spot(value), wrong_integer(name, value, 0, most)
+
+
 SCENARIO_RULES = [
     rule_1, rule_2, rule_3, rule_4, rule_5, rule_6, rule_7, rule_8, rule_9, rule_10, rule_11, rule_12, rule_13, rule_14,
     rule_15, rule_16, rule_17, rule_18, rule_19, rule_20, rule_21, rule_22, rule_23, rule_24, rule_25, rule_26, rule_27,
-    rule_28, rule_29,
+    rule_28, rule_29, rule_30,
 ]
 
 

@@ -1,5 +1,5 @@
 """The rules on scripts of faults, 1 to 6: docs/faults.md has them."""
-from mission import Broken, spot
+from mission import Broken, items_of, spot
 
 
 def broken_scripts(mission):
@@ -27,9 +27,9 @@ def script_faults(mission, number):
         yield 3, spot(begin), why, f"an earlier frame, or `frames = {begin.data + 1}`"
     if len({*before, unit.data}) >= mission.units:
         yield 4, spot(unit), f"with this fault each of the {mission.units} units has one", "let one work"
-    for item, table in enumerate(fault.get("say").data):
+    for item, table in enumerate(items_of(fault)):
         yield from named_faults(mission, fault, item, table)
-    for item, table in enumerate(fault.get("say").data):
+    for item, table in enumerate(items_of(fault)):
         yield from receiver_faults(mission, unit.data, item, table.get("to"))
 
 
