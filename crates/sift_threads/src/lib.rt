@@ -4,10 +4,18 @@
 
 mod dealing;
 mod driving;
+mod flight;
+mod flown;
 mod flying;
 mod pilot;
+mod piloting;
+mod seat;
+mod seating;
 #[cfg(test)]
 mod tests;
 
+pub use flight::{fly_seats, fly_threads};
+pub use flown::Flown;
 pub use flying::fly_all;
 pub use pilot::{NoProbe, Pilot, Probe, Went};
+pub use seat::Seat;

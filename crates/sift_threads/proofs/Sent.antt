@@ -1,0 +1,48 @@
+-- Boards may be sent to another thread, and a mission may be lent to several.
+use denote.Param.Send.{IsSend, IsSync, sendable}
+use denote.Param.SendFields.{declared_send, declared_sync}
+use denote.RattleType.{RattleType}
+use denote.Ref.{NamedLft}
+use Rattle.std.proofs.Crossing.{crosses}
+use Rattle.sift_threads.proofs.Trees.{task_sync}
+use Rattle.sift_program.specs.contracts.program.Program as Program
+use Rattle.sift_mission.specs.contracts.mission.Mission as Mission
+use Rattle.sift_mission.specs.contracts.mission.Mission.TheInside as Inside
+use Rattle.sift_mission.specs.contracts.parts.MissionParts as MissionParts
+use Rattle.sift_code.proofs.checked.Checked.TheSendSync as checked
+use Rattle.sift_script.proofs.checked.GoodScript.TheSendSync as script
+use Rattle.sift_skew.proofs.plan.ClockPlan.TheSendSync as clock
+use Rattle.sift_table.proofs.checked.GoodTable.TheSendSync as table
+use Rattle.sift_mission.proofs.crews.Crews.TheSendSync as crews
+use Rattle.sift_mission.proofs.timetable.Timetable.TheSendSync as timetable
+use Rattle.sift_unit.specs.contracts.board.Board as Board
+use Rattle.sift_unit.proofs.board.Board.TheSendSync as board
+use Rattle.sift_threads.specs.contracts.seat.Seat as Seat
+
+pub board_send : IsSend Board.the_row
+board_send = board.the_send
+
+program_sync : IsSync Program.the_row
+program_sync = search (sendable, crosses, task_sync) depth 60 fits 20000
+
+parts_sync : IsSync MissionParts.the_row
+parts_sync = declared_sync MissionParts.the_type (search (sendable, crosses) depth 40 fits 20000, (search (sendable, crosses) depth 40 fits 20000, (search (sendable, crosses) depth 40 fits 20000, (search (sendable, crosses) depth 40 fits 20000, (search (sendable, crosses) depth 40 fits 20000, (search (sendable, crosses, program_sync) depth 40 fits 20000, (search (sendable, crosses, checked.the_sync) depth 40 fits 20000, (search (sendable, crosses, table.the_sync) depth 40 fits 20000, (search (sendable, crosses) depth 40 fits 20000, (search (sendable, crosses, clock.the_sync) depth 40 fits 20000, (search (sendable, crosses, script.the_sync) depth 40 fits 20000, tt)))))))))))
+
+inside_sync : IsSync Inside.the_row
+inside_sync = declared_sync Inside.the_type (search (sendable, crosses, parts_sync) depth 40 fits 20000, (search (sendable, crosses) depth 40 fits 20000, (search (sendable, crosses) depth 40 fits 20000, (search (sendable, crosses, timetable.the_sync) depth 40 fits 20000, (search (sendable, crosses, crews.the_sync) depth 40 fits 20000, tt)))))
+
+pub mission_sync : IsSync Mission.the_row
+mission_sync = search (sendable, inside_sync) depth 40 fits 20000
+
+-- a seat may be sent where its port and its rogue may
+pub seat_send : (l : NamedLft) (T R : RattleType) → IsSend T → IsSend R → IsSend (Seat.the_row l T R)
+seat_send l T R port rogue = declared_send (Seat.the_type l T R) (
+  search (sendable, crosses, mission_sync) depth 40 fits 20000,
+  (
+    search (sendable, crosses) depth 40 fits 20000,
+    (
+      search (sendable, crosses, board_send) depth 40 fits 20000,
+      (search (sendable, crosses, port) depth 40 fits 20000, (search (sendable, crosses, rogue) depth 40 fits 20000, (search (sendable, crosses) depth 40 fits 20000, tt))),
+    ),
+  ),
+)

@@ -1,0 +1,42 @@
+use Rattle.std.proofs.Common.{◌≡◌, [], ◌∷◌, ◌++◌, List, length, length-append, sym, ap, ◌∙◌, subst, arith}
+use Rattle.std.proofs.lemmas.List.{append_assoc, append-nil, nil_from_length}
+use Rattle.sift_ether.specs.declared.seat.EtherSeat.{EtherSeat}
+use Rattle.sift_threads.specs.Crews.{AreLeftOf}
+use Rattle.sift_threads.specs.declared.seat.Seat.{Seat}
+use Rattle.sift_threads.proofs.Crews.{left_push}
+use Rattle.sift_threads.proofs.seating.leave_all.Goals as goal
+
+pub loop-seat-preserved : goal.loop-seat-preserved
+loop-seat-preserved g c =
+    let inv = c.loop-seat.invariant in let e = c.leave_one-token.ensures in let all = length-append c.loop-seat.yielded (c.in-Some.seat ∷ []) in record {
+      left = rw c.push_reserved.ensures.items (rw c.push_reserved-in-loop-seat.ensures.items (rw c.push_reserved-in-loop-seat-2.ensures.items
+          (left_push c.loop-seat.yielded c.in-Some.seat c.loop-seat.tokens.items c.leave_one-token.result.0 c.loop-seat.accounts.items
+          c.leave_one-token.result.1 c.loop-seat.rogues.items c.leave_one-token.result.2 inv.left e.token e.accounts e.rogue)));
+      all = append_assoc c.loop-seat.yielded (c.in-Some.seat ∷ []) c.next.new.self.rest.items
+          ∙ ((λ i. c.loop-seat.yielded ++ sym c.in-Some.ensures.steps.0 i) ∙ inv.all);
+      tokens = (
+        (let more = c.push_reserved.ensures.len in let len = inv.tokens.0 in omega arith),
+        (let same = c.push_reserved.ensures.capacity in let room = inv.tokens.1 in omega arith),
+      );
+      accounts = (
+        (let more = c.push_reserved-in-loop-seat.ensures.len in let len = inv.accounts.0 in omega arith),
+        (let same = c.push_reserved-in-loop-seat.ensures.capacity in let room = inv.accounts.1 in omega arith),
+      );
+      rogues = (
+        (let more = c.push_reserved-in-loop-seat-2.ensures.len in let len = inv.rogues.0 in omega arith),
+        (let same = c.push_reserved-in-loop-seat-2.ensures.capacity in let room = inv.rogues.1 in omega arith),
+      );
+    }
+
+pub returns : goal.returns
+returns g c =
+    let inv = c.loop-seat.invariant in
+    let none : c.loop-seat.seat-iterator.rest.items ≡ [] = nil_from_length c.loop-seat.seat-iterator.rest.items
+    (let zero = c.in-None.ensures.steps.0 in let long = c.loop-seat.seat-iterator.rest.ok.0 in omega arith) in
+    let all : c.loop-seat.yielded ≡ c.args.home.items =
+    sym (append-nil c.loop-seat.yielded) ∙ ((λ i. c.loop-seat.yielded ++ sym none i) ∙ inv.all) in record {
+      own = c.loop-seat.rogues.items;
+      left = subst (λ (xs : List (Seat EtherSeat g.row.R.Denot)). AreLeftOf xs c.loop-seat.tokens.items c.loop-seat.accounts.items c.loop-seat.rogues.items) all
+          inv.left;
+      rogues = c.put_behind.ensures;
+    }

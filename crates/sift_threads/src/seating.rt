@@ -1,0 +1,165 @@
+//! Tokens, boards and rogues at their seats, and from their seats again.
+ghost use Rattle.std.specs.Prelude.{◌≡◌, ◌+◌, ◌<◌, ◌≤◌, [], ◌∷◌, ◌++◌, drop, length, vec_len, vec_capacity, All};
+ghost use Rattle.std.specs.Vec.Iter.{into_iter_items, into_iter_len};
+ghost use Rattle.sift_mission.specs.Parts.{flown_of};
+ghost use Rattle.sift_core.specs.Machines.{AreNewBoards};
+ghost use Rattle.sift_ether.specs.Seating.{IsTokenBack};
+ghost use Rattle.sift_ether.specs.Seats.{view_of};
+ghost use Rattle.sift_ether.specs.Tokens.{IsMade, IsTokenOf};
+ghost use Rattle.sift_threads.specs.Crews.{IsSeated, AreSeated, AreLeft, ComeHome};
+ghost use Rattle.sift_threads.specs.Seats.{IsManned};
+
+use crate::flown::Flown;
+use crate::seat::Seat;
+use sift_base::UnitId;
+use sift_conduct::Account;
+use sift_ether::{Ether, EtherSeat, Token, tokens_come_back};
+use sift_mission::{Mission, a_mission_fits};
+use sift_rogue::Rogue;
+use sift_unit::{Board, boards_that_are_down_have_flown, new_boards_may_step};
+use std::vec::IntoIter;
+
+/// A seat at an ether.
+pub(crate) type Place<'a, R> = Seat<'a, EtherSeat<'a>, R>;
+
+/// The next item of a list that has one.
+fn take_next<X: Drop>(rest: &mut IntoIter<X>) -> X
+    requires { 0 < into_iter_len rest.old }
+    ensures item { into_iter_items rest.old ≡ result ∷ into_iter_items rest.new }
+    ensures left { into_iter_len rest.new + 1 ≡ into_iter_len rest.old }
+{
+    match rest.next() {
+        Some(item) => item,
+        None => unreachable!(),
+    }
+}
+
+/// A unit at its seat.
+fn seat_one<'a, R>(
+    mission: &'a Mission,
+    ether: &'a Ether,
+    unit: UnitId,
+    token: Token,
+    board: Board,
+    rogue: R,
+) -> Place<'a, R>
+    requires { IsTokenOf ether.now token }
+    ensures { IsSeated mission.now ether.now unit token board rogue result }
+{
+    Seat {
+        mission,
+        unit,
+        board,
+        port: ether.seat(token),
+        rogue,
+        left: None,
+    }
+}
+
+/// All units at their seats, in a list that has room for them. The rogues that are left are those beyond the units.
+pub(crate) fn seat_all<'a, R: Drop>(
+    mission: &'a Mission,
+    ether: &'a Ether,
+    tokens: Vec<Token>,
+    boards: Vec<Board>,
+    rogues: Vec<R>,
+    empty: Vec<Place<'a, R>>,
+) -> (Vec<Place<'a, R>>, IntoIter<R>)
+    requires made { IsMade ether.now tokens.items mission.now.layout mission.now.frames }
+    requires boards { AreNewBoards (flown_of mission.now) mission.now.units boards.items }
+    requires rogues { mission.now.units ≤ length rogues.items }
+    requires empty { empty.items ≡ [] }
+    requires room { mission.now.units ≤ vec_capacity empty }
+    ensures seated { AreSeated mission.now ether.now tokens.items boards.items rogues.items mission.now.units result.0.items }
+    ensures manned { All (IsManned view_of) result.0.items }
+    ensures beyond { into_iter_items result.1 ≡ drop mission.now.units rogues.items }
+{
+    a_mission_fits(mission);
+    new_boards_may_step();
+    let mut seats = empty;
+    let mut tokens = tokens.into_iter();
+    let mut boards = boards.into_iter();
+    let mut rogues = rogues.into_iter();
+    for number in 0..mission.parts().units {
+        if let Some(unit) = UnitId::of(number) {
+            let token = take_next(&mut tokens);
+            let board = take_next(&mut boards);
+            let rogue = take_next(&mut rogues);
+            seats.push_reserved(seat_one(mission, ether, unit, token, board, rogue));
+        }
+    }
+    (seats, rogues)
+}
+
+/// A unit's token, accounts and rogue, from its seat.
+fn leave_one<R>(seat: Place<'_, R>) -> (Token, Vec<Account>, R)
+    ensures token { IsTokenBack seat.entry.port result.0 }
+    ensures accounts { result.1 ≡ seat.entry.board.accounts }
+    ensures rogue { result.2 ≡ seat.entry.rogue }
+{
+    let Seat {
+        mission: _,
+        unit: _,
+        board,
+        port,
+        rogue,
+        left: _,
+    } = seat;
+    (port.end(), board.end(), rogue)
+}
+
+/// Puts rogues behind others, in a list that has room for all.
+fn put_behind<R: Drop>(rogues: Vec<R>, beyond: IntoIter<R>) -> Vec<R>
+    requires { vec_len rogues + length (into_iter_items beyond) ≤ vec_capacity rogues }
+    ensures { result.items ≡ rogues.items ++ into_iter_items beyond }
+{
+    let mut all = rogues;
+    for rogue in beyond {
+        all.push_reserved(rogue);
+    }
+    all
+}
+
+/// What is left of all seats and of the rogues beyond them, in lists that have room for it.
+fn leave_all<R: Drop>(home: Vec<Place<'_, R>>, beyond: IntoIter<R>, empty: Flown<R>) -> Flown<R>
+    requires no_tokens { (empty.tokens.items ≡ []) × (vec_len home ≤ vec_capacity empty.tokens) }
+    requires no_accounts { (empty.accounts.items ≡ []) × (vec_len home ≤ vec_capacity empty.accounts) }
+    requires no_rogues { (empty.rogues.items ≡ []) × (vec_len home + length (into_iter_items beyond) ≤ vec_capacity empty.rogues) }
+    ensures { AreLeft home.entry.items (into_iter_items beyond) result }
+{
+    let Flown {
+        mut tokens,
+        mut accounts,
+        mut rogues,
+    } = empty;
+    for seat in home {
+        let (token, list, rogue) = leave_one(seat);
+        tokens.push_reserved(token);
+        accounts.push_reserved(list);
+        rogues.push_reserved(rogue);
+    }
+    Flown {
+        tokens,
+        accounts,
+        rogues: put_behind(rogues, beyond),
+    }
+}
+
+/// What is left of units that have come home, in lists that have room for it.
+pub(crate) fn leave_home<R: Rogue>(
+    mission: &Mission,
+    ether: &Ether,
+    home: Vec<Place<'_, R>>,
+    beyond: IntoIter<R>,
+    empty: Flown<R>,
+) -> Flown<R>
+    requires no_tokens { (empty.tokens.items ≡ []) × (vec_len home ≤ vec_capacity empty.tokens) }
+    requires no_accounts { (empty.accounts.items ≡ []) × (vec_len home ≤ vec_capacity empty.accounts) }
+    requires no_rogues { (empty.rogues.items ≡ []) × (vec_len home + length (into_iter_items beyond) ≤ vec_capacity empty.rogues) }
+    ensures { ComeHome R.allows mission.now ether.now home.entry.items (into_iter_items beyond) result }
+{
+    boards_that_are_down_have_flown();
+    tokens_come_back();
+    let _parts = mission.parts();
+    leave_all(home, beyond, empty)
+}
