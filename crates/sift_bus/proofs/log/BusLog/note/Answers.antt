@@ -1,0 +1,8 @@
+use Rattle.sift_bus.proofs.Logs.{noted, entry_is}
+use Rattle.sift_bus.proofs.log.BusLog.note.Goals as goal
+
+pub returns-then-has : goal.returns-then-has
+returns-then-has c = let a = c.args in
+    rw (← c.has.ensures, c.if-has.true, c.index-entry.ensures.number)
+    (noted a.self.now.grid.layout a.self.now.grid.frames a.f a.slot a.from a.self.now.carried.items a.self.now.wrong.items a.carried a.wrong
+    (entry_is _ a.f a.slot a.from (rw (← c.has.ensures) c.if-has.true)) a.self.now.carried_long a.self.now.wrong_long)
