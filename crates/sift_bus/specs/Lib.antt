@@ -1,2 +1,4 @@
 pub mod Buses
+pub mod Following
+pub mod Links
 pub mod Logs

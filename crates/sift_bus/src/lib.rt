@@ -2,10 +2,15 @@
 #![tactic(auto)]
 
 mod bus;
+mod carrying;
 mod constant;
 mod log;
 mod noting;
+mod port;
+mod three;
 
 pub use bus::Bus;
 pub use constant::Constant;
 pub use log::BusLog;
+pub use port::BusPort;
+pub use three::one_bus_may_lie;
