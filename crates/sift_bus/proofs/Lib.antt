@@ -1,2 +1,3 @@
 pub mod Logs
 pub mod Outvoting
+pub mod Telling

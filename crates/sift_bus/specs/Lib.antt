@@ -2,3 +2,4 @@ pub mod Buses
 pub mod Following
 pub mod Links
 pub mod Logs
+pub mod Telling

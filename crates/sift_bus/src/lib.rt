@@ -4,6 +4,7 @@
 mod bus;
 mod carrying;
 mod constant;
+mod laws;
 mod log;
 mod noting;
 mod port;
@@ -11,6 +12,7 @@ mod three;
 
 pub use bus::Bus;
 pub use constant::Constant;
+pub use laws::logs_tell_what_was_heard;
 pub use log::BusLog;
 pub use port::BusPort;
 pub use three::one_bus_may_lie;
