@@ -1,3 +1,5 @@
 pub mod Logs
 pub mod Outvoting
+pub mod Sides
 pub mod Telling
+pub mod Turning

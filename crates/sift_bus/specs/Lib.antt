@@ -3,3 +3,4 @@ pub mod Following
 pub mod Links
 pub mod Logs
 pub mod Telling
+pub mod Turns

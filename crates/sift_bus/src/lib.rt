@@ -4,6 +4,7 @@
 mod bus;
 mod carrying;
 mod constant;
+mod flying;
 mod laws;
 mod log;
 mod noting;

@@ -1,0 +1,55 @@
+//! Boards over ports, stepped on one thread.
+ghost use Rattle.std.specs.Prelude.{◌≡◌, ◌≤◌, ◌*◌, [], All, IfSome, IfNone};
+ghost use Rattle.std.specs.List.{AllZip};
+ghost use Rattle.sift_mission.specs.Parts.{flown_of};
+ghost use Rattle.sift_unit.specs.Boards.{Drives};
+ghost use Rattle.sift_bus.specs.Turns.{IsNext};
+
+use sift_buffer::Port;
+use sift_mission::Mission;
+use sift_unit::Board;
+use std::sync::Wait;
+
+/// A unit's board at its port.
+#[derive(Drop)]
+pub(crate) struct Flyer<P: Port> {
+    pub(crate) board: Board,
+    pub(crate) port: P,
+}
+
+/// The lowest-numbered of those flyers whose progress is least, where it is below an end.
+fn next_of<P: Port>(flyers: &[Flyer<P>], end: u64) -> Option<usize>
+    ensures found { IfSome result (IsNext (λ flyer. (P.view flyer.port).conduct.progress) end flyers.now) }
+    ensures none { IfNone result (All (λ flyer. end ≤ (P.view flyer.port).conduct.progress) flyers.now) }
+{
+    let mut next = None;
+    let mut below = end;
+    for (number, flyer) in flyers.iter().enumerate() {
+        let progress = flyer.port.progress();
+        if progress < below {
+            next = Some(number);
+            below = progress;
+        }
+    }
+    next
+}
+
+/// Steps the lowest-numbered unit of least progress that hasn't landed, until all have landed or turned. No port tells another
+/// unit's number, so nothing says that this ends.
+pub(crate) fn fly_all<P: Port, H: Wait>(rt: &H, mission: &Mission, flyers: &mut [Flyer<P>])
+    requires { All (λ flyer. Drives (flown_of mission.now) flyer.board (P.view flyer.port)) flyers.old }
+    ensures drives { All (λ flyer. Drives (flown_of mission.now) flyer.board (P.view flyer.port)) flyers.new }
+    ensures follows { AllZip (λ before after. P.follows before.port [] after.port) flyers.old flyers.new }
+    ensures down { All (λ flyer. (flown_of mission.now).frames * (flown_of mission.now).period ≤ (P.view flyer.port).conduct.progress) flyers.new }
+{
+    let end = u64::from(mission.frames()) * u64::from(mission.period());
+    for _ in rt.forever() {
+        match next_of(flyers, end) {
+            Some(number) => {
+                let flyer = &mut flyers[number];
+                flyer.board.step(mission, &mut flyer.port);
+            }
+            None => break,
+        }
+    }
+}
