@@ -4,7 +4,7 @@ use Rattle.sift_buffer.specs.Conduct.{Hearing, put_at}
 use Rattle.sift_buffer.specs.Views.{View}
 use Rattle.sift_bus.specs.Buses.{Carriage, is_same}
 use Rattle.sift_bus.specs.Logs.{Log, log_of, log_with}
-use Rattle.sift_bus.specs.declared.log.BusLog.{BusLog}
+use Rattle.sift_bus.specs.declared.port.BusPort.{BusPort}
 
 -- a link: its unit, which bus is faulty, this bus, the log, and what the unit has heard, by frame, slot and sender
 pub record Link (B : Type 0) : Type 0 where
@@ -14,9 +14,13 @@ pub record Link (B : Type 0) : Type 0 where
   pub log : Log
   pub heard : ℕ → ℕ → ℕ → Option Hearing
 
--- the link of a port with this view
-abbrev pub link_of : {B : Type 0} → View → ℕ → ℕ → B → BusLog → Link B
-link_of v unit faulty bus log = record { unit = unit; faulty = faulty; bus = bus; log = log_of log; heard = v.conduct.heard }
+-- the link of a port with three buses before it, where this is the view of the port inside
+abbrev pub link_of : {T B : Type 0} → (T → View) → BusPort T B → Link B
+link_of view p = record { unit = p.unit; faulty = p.faulty; bus = p.bus; log = log_of p.log; heard = (view p.port).conduct.heard }
+
+-- the link of a unit that has heard nothing, with a log in which nothing stands
+abbrev pub first_link : {B : Type 0} → ℕ → ℕ → B → Log → Link B
+first_link unit faulty bus log = record { unit = unit; faulty = faulty; bus = bus; log = log; heard = λ _ _ _. None }
 
 -- nothing stands in the log
 abbrev pub IsBlank : Log → Type 0

@@ -2,7 +2,7 @@
 ghost use Rattle.std.specs.Prelude.{◌≡◌, ◌<◌};
 ghost use Rattle.sift_bus.specs.Buses.{bus_count};
 ghost use Rattle.sift_bus.specs.Following.{itself, further};
-ghost use Rattle.sift_bus.specs.Links.{GoesOn, HasHeardNothing, IsBlank, link_of};
+ghost use Rattle.sift_bus.specs.Links.{GoesOn, HasHeardNothing, IsBlank, first_link, link_of};
 ghost use Rattle.sift_bus.specs.Logs.{log_of};
 
 use crate::bus::Bus;
@@ -20,7 +20,7 @@ impl<T: Port, B: Bus> BusPort<T, B> {
         requires unheard { HasHeardNothing (T.view port).conduct.heard }
         requires blank { IsBlank (log_of log) }
         ensures port { result.port ≡ port }
-        ensures link { link_of (T.view result.port) result.unit result.faulty result.bus result.log ≡ link_of (T.view port) unit faulty bus log }
+        ensures link { link_of T.view result ≡ first_link unit faulty bus (log_of log) }
     {
         BusPort {
             port,
@@ -51,11 +51,11 @@ impl<T: Port, B: Bus> BusPort<T, B> {
 impl<T: Port, B: Bus> Look for BusPort<T, B> {
     ghost view = { λ p. T.view p.port };
 
-    ghost follows = { λ p strays q. T.follows p.port strays q.port × GoesOn B.allows (link_of (T.view p.port) p.unit p.faulty p.bus p.log) (link_of (T.view q.port) q.unit q.faulty q.bus q.log) };
+    ghost follows = { λ p strays q. T.follows p.port strays q.port × GoesOn B.allows (link_of T.view p) (link_of T.view q) };
 
     ghost stands = { λ p unit number. T.stands p.port unit number };
 
-    ghost follows_itself = { λ p. (T.follows_itself p.port, itself B.allows (link_of (T.view p.port) p.unit p.faulty p.bus p.log)) };
+    ghost follows_itself = { λ p. (T.follows_itself p.port, itself B.allows (link_of T.view p)) };
 
     ghost follows_on = { λ p q s earlier later a b. (T.follows_on p.port q.port s.port earlier later a.0 b.0, further B.allows _ _ _ a.1 b.1) };
 

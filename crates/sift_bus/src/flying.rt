@@ -12,7 +12,7 @@ use std::sync::Wait;
 
 /// A unit's board at its port.
 #[derive(Drop)]
-pub(crate) struct Flyer<P: Port> {
+pub(crate) struct Flyer<P> {
     pub(crate) board: Board,
     pub(crate) port: P,
 }

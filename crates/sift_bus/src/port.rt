@@ -2,15 +2,13 @@
 ghost use Rattle.std.specs.Prelude.{◌<◌};
 ghost use Rattle.sift_bus.specs.Buses.{bus_count};
 
-use crate::bus::Bus;
 use crate::log::BusLog;
 use sift_base::UnitId;
-use sift_buffer::Port;
 
 /// A unit's port with three buses before it, one of them faulty. What the unit hears is the majority of what the three
 /// give, and so what the port inside heard, whatever the faulty bus does.
 #[derive(Drop)]
-pub struct BusPort<T: Port, B: Bus> {
+pub struct BusPort<T, B> {
     pub(crate) port: T,
     pub(crate) unit: UnitId,
     pub(crate) faulty: u8,

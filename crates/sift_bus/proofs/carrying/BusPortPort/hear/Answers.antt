@@ -9,7 +9,7 @@ use Rattle.sift_bus.proofs.carrying.BusPortPort.hear.Goals as goal
 pub returns-clause-follows : goal.returns-clause-follows
 returns-clause-follows g c = let a = c.args in (c.hear-heard.ensures.follows, record {
   words = carriage a.f a.from a.self.now.unit a.slot c.hear-heard.result c.carry-carried.result ∷ [];
-  carried = (link_of (g.T.Look.view a.self.now.port) a.self.now.unit a.self.now.faulty a.self.now.bus a.self.now.log, refl, record {
+  carried = (link_of g.T.Look.view a.self.now, refl, record {
     to = refl;
     new = c.requires.frame;
     allowed = c.carry-carried.ensures;
