@@ -1,5 +1,7 @@
+pub mod FirstUnits
 pub mod Logs
 pub mod Outvoting
+pub mod Seating
 pub mod Sides
 pub mod Telling
 pub mod Turning

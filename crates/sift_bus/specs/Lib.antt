@@ -1,3 +1,4 @@
+pub mod Boarding
 pub mod Buses
 pub mod Following
 pub mod Links

@@ -1,6 +1,7 @@
 //! Three buses between the units: each word that a unit hears comes over all of them, and the unit takes the majority.
 #![tactic(auto)]
 
+mod boarding;
 mod bus;
 mod carrying;
 mod constant;
