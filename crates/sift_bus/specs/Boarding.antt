@@ -44,3 +44,12 @@ pub record IsBoarded {B : Type 0} (m : FlownMission) (e : Ether) (faulty : ℕ) 
   pub drives : Drives m x.board (seat_view x)
   pub seat : IsSeatOf e t x.port.port
   pub link : link_of view_of x.port ≡ first_link t.unit faulty bus (blank_log e.grid.layout e.grid.frames)
+
+-- so do the tokens' units one by one, each with its own bus
+abbrev pub AreBoarded : {B : Type 0} → FlownMission → Ether → ℕ → List Token → List B → List (Boarded B) → Type 0
+AreBoarded m e faulty [] [] [] = ⊤
+AreBoarded m e faulty [] [] (x ∷ xs) = ⊥
+AreBoarded m e faulty [] (b ∷ bs) xs = ⊥
+AreBoarded m e faulty (t ∷ ts) [] xs = ⊥
+AreBoarded m e faulty (t ∷ ts) (b ∷ bs) [] = ⊥
+AreBoarded m e faulty (t ∷ ts) (b ∷ bs) (x ∷ xs) = IsBoarded m e faulty t b x × AreBoarded m e faulty ts bs xs

@@ -1,15 +1,19 @@
 //! Units take their seats and leave them.
-ghost use Rattle.std.specs.Prelude.{◌≡◌, ◌<◌, IfOk, true};
-ghost use Rattle.sift_base.specs.Units.{has};
+ghost use Rattle.std.specs.Prelude.{◌≡◌, ◌<◌, IfOk, length, map, true};
+ghost use Rattle.std.specs.List.{AllZip};
+ghost use Rattle.sift_base.specs.Units.{has, unit_limit};
 ghost use Rattle.sift_mission.specs.Parts.{flown_of};
+ghost use Rattle.sift_ether.specs.Seating.{IsTokenBack};
+ghost use Rattle.sift_ether.specs.Tokens.{IsMade};
 ghost use Rattle.sift_bus.specs.Buses.{bus_count};
-ghost use Rattle.sift_bus.specs.Boarding.{IsBoarded, IsEtherFor, IsNewToken};
+ghost use Rattle.sift_bus.specs.Boarding.{AreBoarded, IsBoarded, IsEtherFor, IsNewToken};
 
 use crate::bus::Bus;
 use crate::flying::Flyer;
 use crate::log::BusLog;
 use crate::port::BusPort;
 use sift_base::{NoMemory, UnitId};
+use sift_conduct::Account;
 use sift_ether::{Ether, EtherSeat, Token};
 use sift_mission::{Mission, a_mission_fits};
 use sift_unit::{Board, new_boards_may_step};
@@ -38,4 +42,67 @@ fn board_unit<'a, B: Bus>(
     let board = Board::make(alloc, mission, unit)?;
     let port = BusPort::over(ether.seat(token), unit, faulty, bus, log);
     Ok(Flyer { board, port })
+}
+
+/// The unit of a number.
+fn unit_numbered(number: usize) -> UnitId
+    requires { number < unit_limit }
+    ensures { result ≡ number }
+{
+    match UnitId::of(number as u8) {
+        Some(unit) => unit,
+        None => unreachable!(),
+    }
+}
+
+/// All units of the mission take their seats, in order, each with its own bus, the faulty one of three.
+pub(crate) fn board_all<'a, B: Bus>(
+    alloc: Global,
+    mission: &Mission,
+    ether: &'a Ether,
+    tokens: Vec<Token>,
+    faulty: u8,
+    buses: Vec<B>,
+) -> Result<Vec<Flyer<BusPort<EtherSeat<'a>, B>>>, NoMemory>
+    requires made { IsMade ether.now tokens.items mission.now.layout mission.now.frames }
+    requires count { length buses.items ≡ mission.now.layout.units }
+    requires faulty { faulty < bus_count }
+    ensures { IfOk result (λ flyers. AreBoarded (flown_of mission.now) ether.now faulty tokens.items buses.items flyers.items) }
+{
+    let units = usize::from(mission.parts().units);
+    let mut flyers = Vec::with_capacity(alloc, units)?;
+    let mut tokens = tokens.into_iter();
+    for bus in buses {
+        let unit = unit_numbered(flyers.len());
+        match tokens.next() {
+            Some(token) => {
+                let flyer = board_unit(alloc, mission, ether, token, unit, faulty, bus)?;
+                flyers.push(flyer)?;
+            }
+            None => unreachable!(),
+        }
+    }
+    Ok(flyers)
+}
+
+/// What units leave behind, in order: their tokens, their accounts, and the logs of their buses.
+pub(crate) fn leave_all<B: Bus>(
+    alloc: Global,
+    flyers: Vec<Flyer<BusPort<EtherSeat<'_>, B>>>,
+) -> Result<(Vec<Token>, Vec<Vec<Account>>, Vec<BusLog>), NoMemory>
+    ensures tokens { IfOk result (λ left. AllZip (λ flyer token. IsTokenBack flyer.port.port token) flyers.entry.items left.0.items) }
+    ensures accounts { IfOk result (λ left. left.1.items ≡ map (λ flyer. flyer.board.accounts) flyers.entry.items) }
+    ensures logs { IfOk result (λ left. left.2.items ≡ map (λ flyer. flyer.port.log) flyers.entry.items) }
+{
+    let mut tokens = Vec::new(alloc);
+    let mut accounts = Vec::new(alloc);
+    let mut logs = Vec::new(alloc);
+    for flyer in flyers {
+        let Flyer { board, port } = flyer;
+        let (seat, _, log) = port.end();
+        tokens.push(seat.end())?;
+        accounts.push(board.end())?;
+        logs.push(log)?;
+    }
+    Ok((tokens, accounts, logs))
 }
