@@ -1,6 +1,7 @@
 pub mod FirstUnits
 pub mod Logs
 pub mod Outvoting
+pub mod Returning
 pub mod Seating
 pub mod SeatsTaken
 pub mod Sides

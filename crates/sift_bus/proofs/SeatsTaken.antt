@@ -1,15 +1,16 @@
 -- Units that take their seats one by one.
-use Rattle.std.proofs.Common.{◌≡◌, ℕ, zero, suc, ◌+◌, ◌<◌, List, [], ◌∷◌, ◌++◌, length, length-append, append-nil, slice_index_or, refl, sym, ap, ◌∙◌, subst, arith}
+use Rattle.std.proofs.Common.{◌≡◌, ℕ, zero, suc, ◌+◌, ◌<◌, List, [], ◌∷◌, ◌++◌, length, length-append, append-nil, slice_index_or, All, refl, sym, ap, ◌∙◌, subst, arith}
 use Rattle.std.proofs.lemmas.List.{append_assoc}
 use Rattle.std.proofs.Math.Seq.{get_or-append_seam}
 use Rattle.sift_base.specs.declared.layout.Layout.{Layout}
 use Rattle.sift_buffer.specs.Tables.{ranges_of}
 use Rattle.sift_buffer.specs.Views.{fresh_view}
 use Rattle.sift_mission.specs.Mission.{FlownMission}
+use Rattle.sift_unit.specs.Boards.{Drives}
 use Rattle.sift_ether.specs.Tokens.{IsMade, IsTokenOf, token_view}
 use Rattle.sift_ether.specs.declared.ether.Ether.{Ether}
 use Rattle.sift_ether.specs.declared.token.Token.{Token}
-use Rattle.sift_bus.specs.Boarding.{AreBoarded, Boarded, IsBoarded, IsNewToken}
+use Rattle.sift_bus.specs.Boarding.{AreBoarded, Boarded, IsBoarded, IsNewToken, seat_view}
 
 -- a list that is as long as itself and others together is all of them
 pub no_rest : {X : Type 0} (xs rest ys : List X) → xs ++ rest ≡ ys → length xs ≡ length ys → xs ≡ ys
@@ -66,3 +67,13 @@ module _ {B : Type 0} (m : FlownMission) (e : Ether) (faulty : ℕ) where
   boarded_at (s ∷ ss) (c ∷ cs) [] i t b x all low = absurd all
   boarded_at (s ∷ ss) (c ∷ cs) (y ∷ ys) zero t b x all low = all.0
   boarded_at (s ∷ ss) (c ∷ cs) (y ∷ ys) (suc i) t b x all low = boarded_at ss cs ys i t b x all.1 (omega arith)
+
+  -- each of them may step
+  pub boarded_drive : (ts : List Token) (bs : List B) (xs : List (Boarded B)) → AreBoarded m e faulty ts bs xs → All (λ x. Drives m x.board (seat_view x)) xs
+  boarded_drive [] [] [] all k d low = absurd (omega arith)
+  boarded_drive [] [] (x ∷ xs) all k d low = absurd all
+  boarded_drive [] (b ∷ bs) xs all k d low = absurd all
+  boarded_drive (t ∷ ts) [] xs all k d low = absurd all
+  boarded_drive (t ∷ ts) (b ∷ bs) [] all k d low = absurd all
+  boarded_drive (t ∷ ts) (b ∷ bs) (x ∷ xs) all zero d low = all.0.drives
+  boarded_drive (t ∷ ts) (b ∷ bs) (x ∷ xs) all (suc k) d low = boarded_drive ts bs xs all.1 k d (omega arith)

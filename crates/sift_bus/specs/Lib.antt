@@ -1,5 +1,6 @@
 pub mod Boarding
 pub mod Buses
+pub mod Flown
 pub mod Following
 pub mod Links
 pub mod Logs

@@ -5,6 +5,7 @@ mod boarding;
 mod bus;
 mod carrying;
 mod constant;
+mod flight;
 mod flying;
 mod laws;
 mod log;
@@ -14,6 +15,7 @@ mod three;
 
 pub use bus::Bus;
 pub use constant::Constant;
+pub use flight::fly_buses;
 pub use laws::logs_tell_what_was_heard;
 pub use log::BusLog;
 pub use port::BusPort;
