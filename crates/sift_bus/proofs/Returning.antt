@@ -1,16 +1,14 @@
 -- Units that have come home over three buses.
-use Rattle.std.proofs.Common.{◌≡◌, ℕ, zero, suc, ◌+◌, ◌*◌, ◌<◌, ◌≤◌, List, [], ◌∷◌, length, map, slice_index_or, Bool, true, false, Option, Some, None, option_map, if◌then◌else◌, All, Vec, Global, refl, sym, ap, ◌∙◌, subst, arith}
+use Rattle.std.proofs.Common.{◌≡◌, ℕ, zero, suc, ◌*◌, ◌<◌, ◌≤◌, List, [], ◌∷◌, length, map, slice_index_or, Bool, true, false, Option, Some, None, option_map, if◌then◌else◌, All, Vec, Global, refl, sym, ap, ◌∙◌, subst, arith}
 use Rattle.std.specs.List.{AllZip}
 use Rattle.std.specs.Prelude.{option_and_then}
 use Rattle.std.proofs.lemmas.List.{get_or-map, length-map}
 use Rattle.std.proofs.lemmas.List.FromFn.{length-range_with_len}
 use Rattle.sift_base.specs.Units.{has}
 use Rattle.sift_base.specs.declared.layout.Layout.{Layout}
-use Rattle.sift_base.specs.declared.slot.Slot.{Slot}
 use Rattle.sift_config.specs.Config.{first_units}
-use Rattle.sift_buffer.specs.Conduct.{Conduct, Hearing, Stray, fresh}
-use Rattle.sift_buffer.specs.Core.{Core}
-use Rattle.sift_buffer.specs.Journals.{Pages, HasWordsOf, IsJournalOf, heard_in}
+use Rattle.sift_buffer.specs.Conduct.{Conduct, Hearing, fresh}
+use Rattle.sift_buffer.specs.Journals.{Pages, HasWordsOf}
 use Rattle.sift_buffer.specs.Tables.{ranges_of}
 use Rattle.sift_buffer.specs.Views.{View}
 use Rattle.sift_mission.specs.Data.{MissionData}
@@ -18,17 +16,17 @@ use Rattle.sift_mission.specs.Fits.{Fits}
 use Rattle.sift_mission.specs.Flown.{flown}
 use Rattle.sift_mission.specs.PartsFit.{PartsFit}
 use Rattle.sift_mission.specs.Mission.{FlownMission}
-use Rattle.sift_mission.specs.Slots.{calls, heard_at, is_slot, stamp_of, turned_by}
+use Rattle.sift_mission.specs.Slots.{calls, heard_at, stamp_of, turned_by}
 use Rattle.sift_conduct.specs.Account.{Account, account_of}
 use Rattle.sift_conduct.specs.declared.account.Account.{Account as TheAccount}
-use Rattle.sift_conduct.specs.Acts.{ActsAre, BoardKeeps, stamp_and_moment}
-use Rattle.sift_conduct.specs.Frames.{Flies, frames_before}
+use Rattle.sift_conduct.specs.Acts.{BoardKeeps, stamp_and_moment}
+use Rattle.sift_conduct.specs.Frames.{frames_before}
 use Rattle.sift_unit.specs.Boards.{desk_of, Drives}
 use Rattle.sift_unit.specs.Down.{DownLaw, HasFlownAll}
 use Rattle.sift_ether.specs.Landed.{HaveLanded}
 use Rattle.sift_ether.specs.Seating.{IsTokenBack, TokensComeBack, ComesBack}
 use Rattle.sift_ether.specs.Seats.{view_of, Follows}
-use Rattle.sift_ether.specs.Tokens.{AreTokensOf, IsMade, IsTokenOf, conduct_at, conduct_of, token_view}
+use Rattle.sift_ether.specs.Tokens.{AreTokensOf, IsMade, IsTokenOf, conduct_at, conduct_of}
 use Rattle.sift_ether.specs.declared.ether.Ether.{Ether}
 use Rattle.sift_ether.specs.declared.token.Token.{Token}
 use Rattle.sift_flight.specs.Flight.{config_of}
@@ -40,14 +38,15 @@ use Rattle.sift_flight.specs.Told.{told, journal_of, accounts_of, no_pages, no_a
 use Rattle.sift_flight.specs.declared.flight.Flight.{Flight as TheFlight}
 use Rattle.sift_bus.specs.Boarding.{AreBoarded, Boarded, IsBoarded, seat_view}
 use Rattle.sift_bus.specs.Buses.{Carriage}
-use Rattle.sift_bus.specs.Flown.{HasHeardFlight, IsLogOf, AreLogsOf}
+use Rattle.sift_bus.specs.Flown.{IsLogOf, AreLogsOf}
 use Rattle.sift_bus.specs.Links.{GoesOn, Link, first_link, link_of}
 use Rattle.sift_bus.specs.Logs.{blank_log, log_of}
-use Rattle.sift_bus.specs.Telling.{LogsTellWhatWasHeard, TellsHeard}
+use Rattle.sift_bus.specs.Telling.{LogsTellWhatWasHeard}
 use Rattle.sift_bus.specs.declared.log.BusLog.{BusLog}
 use Rattle.sift_bus.proofs.FirstUnits.{low_unit, unit_low}
 use Rattle.sift_bus.proofs.Seating.{places_for, units_of}
 use Rattle.sift_bus.proofs.SeatsTaken.{boarded_long, boarded_at}
+use Rattle.sift_bus.proofs.Telling.{same_ranges}
 use Rattle.sift_bus.proofs.Sides.{side_at, side_long}
 
 -- what stands at a place of a list, whatever stands for places past its end
@@ -223,6 +222,8 @@ module _ {B : Type 0} (allows : B → Carriage → B → Type 0) where
           last = link_of view_of z.port;
           carried = went comes u low;
           log_is = refl;
+          ranges = same_ranges allows (first_link u faulty (bus comes u low) (blank_log layout m.frames)) (link_of view_of z.port) (went comes u low).words
+              (went comes u low).carried;
           heard = λ f k p inside slot. word_heard ((seat_view z).conduct.heard f (m.number k) p) (calls m (config_of (told m fl) u f) k p u)
               (stamp_of m (config_of (told m fl) u f) f k, heard_at m (config_of (told m fl) u f) f k) ((told m fl).heard u f k p)
               ((kept_at_seat.acts f inside (record { unit = above u low; whole = ap (λ (o : Option ℕ). turned_by o f) (calm u (above u low)) })).heard k p slot)

@@ -147,6 +147,16 @@ module _ {B : Type 0} (allows : B → Carriage → B → Type 0) where
   same_faulty x y [] all = λ i. (all i).faulty
   same_faulty x y (c ∷ cs) all = (λ i. (all.2.after i).faulty) ∙ same_faulty x all.0 cs all.1
 
+  -- nor of how many frames, slots and units the log is
+  pub same_ranges : (x y : Link B) (words : List Carriage) → CarriesAll allows x words y → y.log.ranges ≡ x.log.ranges
+  same_ranges x y [] all = λ i. (all i).log.ranges
+  same_ranges x z (c ∷ cs) all = (λ i. (all.2.after i).log.ranges) ∙ (kept (has_entry all.0.log.ranges c.frame c.slot c.from) all.0.log _ _ ∙ same_ranges x all.0 cs all.1)
+    where
+      kept : (b : Bool) (l : Log) (carried : ℕ → ℕ → ℕ → Option ℕ) (wrong : ℕ → ℕ → ℕ → ℕ → Bool) →
+          (if b then record l { carried = carried; wrong = wrong } else l).ranges ≡ l.ranges
+      kept true l carried wrong = refl
+      kept false l carried wrong = refl
+
   -- after any words
   pub each_word : (x y : Link B) (words : List Carriage) → HasHeardNothing x.heard → IsBlank x.log → CarriesAll allows x words y →
       TellsEach x.faulty y.heard y.log

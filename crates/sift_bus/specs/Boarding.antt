@@ -1,23 +1,19 @@
 -- Units at their seats, each with its board and with three buses before its port.
-use Rattle.std.specs.Prelude.{◌≡◌, ◌<◌, ℕ, List, [], ◌∷◌, length, ⊤}
+use Rattle.std.specs.Prelude.{◌≡◌, ℕ, List, [], ◌∷◌, ⊤}
 use Rattle.sift_base.specs.declared.layout.Layout.{Layout}
-use Rattle.sift_buffer.specs.Conduct.{Conduct}
 use Rattle.sift_buffer.specs.Tables.{ranges_of}
 use Rattle.sift_buffer.specs.Views.{View, fresh_view}
 use Rattle.sift_mission.specs.Mission.{FlownMission}
 use Rattle.sift_unit.specs.Boards.{Drives}
-use Rattle.sift_unit.specs.declared.board.Board.{Board}
 use Rattle.sift_ether.specs.Seating.{IsSeatOf}
 use Rattle.sift_ether.specs.Seats.{view_of}
 use Rattle.sift_ether.specs.Tokens.{IsTokenOf, token_view}
 use Rattle.sift_ether.specs.declared.ether.Ether.{Ether}
 use Rattle.sift_ether.specs.declared.seat.EtherSeat.{EtherSeat}
 use Rattle.sift_ether.specs.declared.token.Token.{Token}
-use Rattle.sift_bus.specs.Buses.{Carriage}
-use Rattle.sift_bus.specs.Links.{GoesOn, first_link, link_of}
-use Rattle.sift_bus.specs.Logs.{blank_log, log_of}
+use Rattle.sift_bus.specs.Links.{first_link, link_of}
+use Rattle.sift_bus.specs.Logs.{blank_log}
 use Rattle.sift_bus.specs.declared.flying.Flyer.{Flyer}
-use Rattle.sift_bus.specs.declared.log.BusLog.{BusLog}
 use Rattle.sift_bus.specs.declared.port.BusPort.{BusPort}
 
 -- a unit at its seat, with three buses before its port

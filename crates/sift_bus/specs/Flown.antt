@@ -3,6 +3,7 @@ use Rattle.std.specs.Prelude.{◌≡◌, ℕ, ◌<◌, true, List, length, slice
 use Rattle.sift_base.specs.declared.layout.Layout.{Layout}
 use Rattle.sift_base.specs.declared.slot.Slot.{Slot}
 use Rattle.sift_buffer.specs.Conduct.{Hearing}
+use Rattle.sift_buffer.specs.Tables.{ranges_of}
 use Rattle.sift_mission.specs.Mission.{FlownMission}
 use Rattle.sift_mission.specs.Slots.{calls, is_slot}
 use Rattle.sift_flight.specs.Flight.{Flight, config_of}
@@ -19,11 +20,12 @@ HasHeardFlight m fl u heard = (f : ℕ) (k : Slot) (p : ℕ) → f < m.frames �
 
 module _ {B : Type 0} (allows : B → Carriage → B → Type 0) (m : FlownMission) (fl : Flight) (layout : Layout) (faulty : ℕ) where
   -- the log of unit u: it heard its words of the flight one after the other, and the faulty bus, which was this one at first, carried each by a step
-  -- that it allows; the log has what it carried, and counts just the words that it carried as others
+  -- that it allows; the log is of the layout's slots and units and of all frames, it has what the bus carried, and it counts just the words that it carried as others
   pub record IsLogOf (u : ℕ) (bus : B) (log : Log) : Type 0 where
     pub last : Link B
     pub carried : GoesOn allows (first_link u faulty bus (blank_log layout m.frames)) last
     pub log_is : last.log ≡ log
+    pub ranges : log.ranges ≡ ranges_of layout m.frames
     pub heard : HasHeardFlight m fl u last.heard
     pub tells : TellsHeard faulty last.heard log
 

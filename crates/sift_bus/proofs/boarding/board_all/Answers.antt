@@ -1,9 +1,7 @@
-use Rattle.std.proofs.Common.{◌≡◌, ℕ, ◌<◌, [], ◌∷◌, ◌++◌, length, length-append, true, false, refl, sym, ap, ◌∙◌, subst, arith}
+use Rattle.std.proofs.Common.{◌≡◌, [], ◌∷◌, ◌++◌, length, length-append, true, false, sym, ap, ◌∙◌, arith}
 use Rattle.std.proofs.lemmas.List.{append_assoc}
 use Rattle.sift_base.specs.declared.layout.Layout.{Layout}
 use Rattle.sift_mission.specs.Parts.{flown_of}
-use Rattle.sift_ether.specs.declared.token.Token.{Token}
-use Rattle.sift_bus.specs.Boarding.{AreBoarded, IsEtherFor}
 use Rattle.sift_bus.proofs.SeatsTaken.{no_rest, shorter, new_token, boarded_long, boarded_push}
 use Rattle.sift_bus.proofs.FirstUnits.{low_unit}
 use Rattle.sift_bus.proofs.boarding.board_all.Goals as goal

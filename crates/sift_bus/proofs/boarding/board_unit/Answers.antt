@@ -1,6 +1,6 @@
 use Rattle.std.proofs.Common.{◌≡◌, ap, sym, ◌∙◌, subst}
 use Rattle.sift_buffer.specs.Tables.{ranges_of}
-use Rattle.sift_buffer.specs.Views.{View, fresh_view}
+use Rattle.sift_buffer.specs.Views.{fresh_view}
 use Rattle.sift_mission.specs.Parts.{data_of}
 use Rattle.sift_ether.specs.Seats.{view_of}
 use Rattle.sift_ether.specs.Seating.{IsSeatOf}
