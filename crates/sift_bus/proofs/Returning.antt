@@ -281,9 +281,11 @@ module _ {B : Type 0} (allows : B → Carriage → B → Type 0) where
       ((strays : Strays) × IsRound (flown d) strays (told (flown d) fl)) × IsLogged (flown d) d.layout fl
       × AreLogsOf allows (flown d) (told (flown d) fl) d.layout faulty buses logs
   all_told d e faulty tokens buses xs ys back fl logs fit fits calm have landed accounts are comes law round tell = (
-      (strays_in (record { words = landed.words; of = conduct_at back }),
+    (
+      strays_in (record { words = landed.words; of = conduct_at back }),
       round (flown d) (ranges_of d.layout d.frames) (record { words = landed.words; of = conduct_at back }) fl fits
-      (come_home (flown d) e d.layout faulty tokens buses xs ys back have fl comes law landed accounts (units_of d fit) (places_for d fit))),
-      logged (flown d) e d.layout faulty tokens buses xs ys back have fl comes law landed accounts (units_of d fit),
-      logs_are (flown d) e d.layout faulty tokens buses xs ys back have fl comes law landed accounts (units_of d fit) logs are calm tell,
-    )
+          (come_home (flown d) e d.layout faulty tokens buses xs ys back have fl comes law landed accounts (units_of d fit) (places_for d fit)),
+    ),
+    logged (flown d) e d.layout faulty tokens buses xs ys back have fl comes law landed accounts (units_of d fit),
+    logs_are (flown d) e d.layout faulty tokens buses xs ys back have fl comes law landed accounts (units_of d fit) logs are calm tell,
+  )

@@ -45,9 +45,12 @@ module _ {X : Type 0} (progress : X → ℕ) (end : ℕ) (xs : List X) where
   pub next_ends : (n below : ℕ) (next : Option ℕ) → n ≡ length xs → IsNextBelow n below next →
       IfSome next (IsNext progress end xs) × IfNone next (All (λ x. end ≤ progress x) xs)
   next_ends n below None all l = (tt, λ v d low. let a = l.found in let b = l.none_less v d (omega arith) in omega arith)
-  next_ends n below (Some u) all l = (record {
-    there = (let a = l.found.0 in omega arith);
-    below = λ d. let a = l.found.1 in let b = l.found.2 d in omega arith;
-    least = λ v d low. let a = l.found.2 d in let b = l.none_less v d (omega arith) in omega arith;
-    lowest = λ v d low. let a = l.found.2 d in let b = l.found.3 v d low in omega arith;
-  }, tt)
+  next_ends n below (Some u) all l = (
+    record {
+      there = (let a = l.found.0 in omega arith);
+      below = λ d. let a = l.found.1 in let b = l.found.2 d in omega arith;
+      least = λ v d low. let a = l.found.2 d in let b = l.none_less v d (omega arith) in omega arith;
+      lowest = λ v d low. let a = l.found.2 d in let b = l.found.3 v d low in omega arith;
+    },
+    tt,
+  )

@@ -55,7 +55,8 @@ fn unit_numbered(number: usize) -> UnitId
     }
 }
 
-/// All units of the mission take their seats, in order, each with its own bus, the faulty one of three.
+/// All units of the mission take their seats, in order, each with its own bus, the faulty one of
+/// three.
 pub(crate) fn board_all<'a, B: Bus>(
     alloc: Global,
     mission: &Mission,

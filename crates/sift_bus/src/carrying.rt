@@ -13,7 +13,8 @@ use sift_base::{UnitId, Word};
 use sift_buffer::{Entering, Look, Port};
 
 impl<T: Port, B: Bus> BusPort<T, B> {
-    /// A port of a unit that has heard nothing yet, with three buses before it, of which this one is faulty.
+    /// A port of a unit that has heard nothing yet, with three buses before it, of which this one
+    /// is faulty.
     pub fn over(port: T, unit: UnitId, faulty: u8, bus: B, log: BusLog) -> BusPort<T, B>
         requires faulty { faulty < bus_count }
         requires unit { (T.view port).unit ≡ unit }

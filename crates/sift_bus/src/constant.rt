@@ -4,8 +4,8 @@ ghost use Rattle.sift_bus.specs.Buses.{AllowsConstant};
 use crate::bus::Bus;
 use sift_base::{UnitId, Word};
 
-/// A bus that carries each word as it is before a frame, and from that frame on one value in place of every word and
-/// absence, or absence where there is no value.
+/// A bus that carries each word as it is before a frame, and from that frame on one value in place
+/// of every word and absence, or absence where there is no value.
 #[derive(Drop)]
 pub struct Constant {
     pub from: u32,

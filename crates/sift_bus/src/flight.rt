@@ -20,11 +20,11 @@ use sift_unit::boards_that_are_down_have_flown;
 use std::alloc::Global;
 use std::sync::Wait;
 
-/// Flies a mission without storms on one thread, each unit with three buses before its port. One of the three is faulty, the
-/// same for all units, and each unit has a bus of its own in its place.
+/// Flies a mission without storms on one thread, each unit with three buses before its port. One of
+/// the three is faulty, the same for all units, and each unit has a bus of its own in its place.
 ///
-/// It is always the lowest-numbered unit of least progress that steps, of those that haven't landed. No unit's seat tells
-/// another's number, so nothing says that this ends.
+/// It is always the lowest-numbered unit of least progress that steps, of those that haven't
+/// landed. No unit's seat tells another's number, so nothing says that this ends.
 pub fn fly_buses<B: Bus, H: Wait>(
     rt: &H,
     alloc: Global,

@@ -34,8 +34,8 @@ fn next_of<P: Port>(flyers: &[Flyer<P>], end: u64) -> Option<usize>
     next
 }
 
-/// Steps the lowest-numbered unit of least progress that hasn't landed, until all have landed or turned. No port tells another
-/// unit's number, so nothing says that this ends.
+/// Steps the lowest-numbered unit of least progress that hasn't landed, until all have landed or
+/// turned. No port tells another unit's number, so nothing says that this ends.
 pub(crate) fn fly_all<P: Port, H: Wait>(rt: &H, mission: &Mission, flyers: &mut [Flyer<P>])
     requires { All (λ flyer. Drives (flown_of mission.now) flyer.board (P.view flyer.port)) flyers.old }
     ensures drives { All (λ flyer. Drives (flown_of mission.now) flyer.board (P.view flyer.port)) flyers.new }

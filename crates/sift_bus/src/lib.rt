@@ -1,4 +1,5 @@
-//! Three buses between the units: each word that a unit hears comes over all of them, and the unit takes the majority.
+//! Three buses between the units: each word that a unit hears comes over all of them, and the unit
+//! takes the majority.
 #![tactic(auto)]
 
 mod boarding;

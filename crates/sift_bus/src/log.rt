@@ -5,8 +5,8 @@ ghost use Rattle.sift_buffer.specs.Tables.{ranges_of, entry_count};
 use sift_base::Word;
 use sift_buffer::Grid;
 
-/// What the faulty bus carried of each word that one unit heard, and which buses gave another word than the majority of
-/// the three. Its memory is taken once, for all frames.
+/// What the faulty bus carried of each word that one unit heard, and which buses gave another word
+/// than the majority of the three. Its memory is taken once, for all frames.
 #[derive(Drop)]
 pub struct BusLog {
     pub(crate) grid: Grid,

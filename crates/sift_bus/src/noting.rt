@@ -25,8 +25,8 @@ impl BusLog {
         })
     }
 
-    /// What the faulty bus carried of the word that was heard in a frame and slot from a unit. It is absent where absence
-    /// was carried, or nothing.
+    /// What the faulty bus carried of the word that was heard in a frame and slot from a unit. It
+    /// is absent where absence was carried, or nothing.
     pub fn carried(&self, f: u32, slot: usize, from: UnitId) -> Option<Word>
         requires { IsEntry (log_of self.now).ranges f slot from }
         ensures { result ≡ (log_of self.now).carried f slot from }
@@ -76,8 +76,8 @@ impl BusLog {
         wrong[usize::from(bus)]
     }
 
-    /// Notes what the faulty bus carried of one word, and which buses gave another word than the majority, where the log has
-    /// the frame, the slot and the unit.
+    /// Notes what the faulty bus carried of one word, and which buses gave another word than the
+    /// majority, where the log has the frame, the slot and the unit.
     pub(crate) fn note(
         &mut self,
         f: u32,

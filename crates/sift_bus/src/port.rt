@@ -5,8 +5,9 @@ ghost use Rattle.sift_bus.specs.Buses.{bus_count};
 use crate::log::BusLog;
 use sift_base::UnitId;
 
-/// A unit's port with three buses before it, one of them faulty. What the unit hears is the majority of what the three
-/// give, and so what the port inside heard, whatever the faulty bus does.
+/// A unit's port with three buses before it, one of them faulty. What the unit hears is the
+/// majority of what the three give, and so what the port inside heard, whatever the faulty bus
+/// does.
 #[derive(Drop)]
 pub struct BusPort<T, B> {
     pub(crate) port: T,

@@ -5,15 +5,16 @@ ghost use Rattle.sift_bus.specs.Buses.{OneBusMayLie, bus_count, is_same, three_o
 use sift_base::Word;
 use sift_vote::{majority, majority_is_found};
 
-/// Whichever of three buses is faulty, and whatever it carries in place of a word or of absence, the majority of the three
-/// is the word, or absence.
+/// Whichever of three buses is faulty, and whatever it carries in place of a word or of absence,
+/// the majority of the three is the word, or absence.
 pub fn one_bus_may_lie()
     ensures { OneBusMayLie }
 {
     majority_is_found();
 }
 
-/// What a unit takes of a word that came over three buses: the majority, and which buses gave another word than this.
+/// What a unit takes of a word that came over three buses: the majority, and which buses gave
+/// another word than this.
 pub(crate) fn vote_of_three(
     word: Option<Word>,
     faulty: u8,
@@ -30,11 +31,7 @@ pub(crate) fn vote_of_three(
 }
 
 /// What three buses give of a word: the faulty one what it carried, and the two true ones the word.
-fn three_of(
-    word: Option<Word>,
-    faulty: u8,
-    carried: Option<Word>,
-) -> [Option<Word>; 3]
+fn three_of(word: Option<Word>, faulty: u8, carried: Option<Word>) -> [Option<Word>; 3]
     requires { faulty < bus_count }
     ensures { result ≡ three_of word faulty carried }
 {

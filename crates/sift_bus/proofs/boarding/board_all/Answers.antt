@@ -12,7 +12,7 @@ unit_numbered-unit-requires g c =
     let b = c.loop-bus.invariant.boarded in
     let long = boarded_long (flown_of c.args.mission.now) c.args.ether.now c.args.faulty b.0 c.loop-bus.yielded c.loop-bus.flyers.items b.3 in
     let low = shorter c.loop-bus.yielded c.next.new.self.rest.items c.args.buses.items c.in-Some.bus
-      ((λ i. c.loop-bus.yielded ++ sym c.in-Some.ensures.steps.0 i) ∙ c.loop-bus.invariant.all) in
+    ((λ i. c.loop-bus.yielded ++ sym c.in-Some.ensures.steps.0 i) ∙ c.loop-bus.invariant.all) in
     let few = c.args.ether.now.grid.lawful.few_units in let size = c.loop-bus.flyers.ok.0 in
     omega (arith, long.1, low, few, size, c.len.ensures, c.requires.count, ap (λ (l : Layout). l.units) c.requires.made.layout_is)
 
@@ -21,7 +21,7 @@ board_unit-requires-clause-unit g c =
     let b = c.loop-bus.invariant.boarded in
     let long = boarded_long (flown_of c.args.mission.now) c.args.ether.now c.args.faulty b.0 c.loop-bus.yielded c.loop-bus.flyers.items b.3 in
     let low = shorter c.loop-bus.yielded c.next.new.self.rest.items c.args.buses.items c.in-Some.bus
-      ((λ i. c.loop-bus.yielded ++ sym c.in-Some.ensures.steps.0 i) ∙ c.loop-bus.invariant.all) in
+    ((λ i. c.loop-bus.yielded ++ sym c.in-Some.ensures.steps.0 i) ∙ c.loop-bus.invariant.all) in
     let size = c.loop-bus.flyers.ok.0 in
     low_unit c.args.mission.now.units c.unit_numbered-unit.result
     (omega (arith, long.1, low, size, c.unit_numbered-unit.ensures, c.len.ensures, c.requires.count, c.parts.ensures.fit.layout.units))
@@ -34,7 +34,7 @@ board_unit-requires-clause-token g c =
     let b = c.loop-bus.invariant.boarded in
     let long = boarded_long (flown_of c.args.mission.now) c.args.ether.now c.args.faulty b.0 c.loop-bus.yielded c.loop-bus.flyers.items b.3 in
     let low = shorter c.loop-bus.yielded c.next.new.self.rest.items c.args.buses.items c.in-Some.bus
-      ((λ i. c.loop-bus.yielded ++ sym c.in-Some.ensures.steps.0 i) ∙ c.loop-bus.invariant.all) in
+    ((λ i. c.loop-bus.yielded ++ sym c.in-Some.ensures.steps.0 i) ∙ c.loop-bus.invariant.all) in
     let size = c.loop-bus.flyers.ok.0 in
     new_token c.args.ether.now c.args.mission.now.layout c.args.mission.now.frames c.unit_numbered-unit.result c.args.tokens.items b.0
     c.next-in-loop-bus.new.self.rest.items c.in-Some-next.token c.requires.made ((λ i. b.0 ++ sym c.in-Some-next.ensures.items i) ∙ b.1)
@@ -45,11 +45,13 @@ pub loop-bus-preserved : goal.loop-bus-preserved
 loop-bus-preserved g c =
     let b = c.loop-bus.invariant.boarded in
     record {
-      boarded = (b.0 ++ (c.in-Some-next.token ∷ []),
-          append_assoc b.0 (c.in-Some-next.token ∷ []) c.next-in-loop-bus.new.self.rest.items ∙ ((λ i. b.0 ++ sym c.in-Some-next.ensures.items i) ∙ b.1),
-          (let less = c.in-Some-next.ensures.len in omega (arith, less, b.2, length-append b.0 (c.in-Some-next.token ∷ []))),
-          rw c.in_ok-push-in-Some-next.ensures.items (boarded_push (flown_of c.args.mission.now) c.args.ether.now c.args.faulty b.0 c.loop-bus.yielded c.loop-bus.flyers.items
-          c.in-Some-next.token c.in-Some.bus c.in_ok-flyer-in-Some-next.flyer b.3 c.in_ok-flyer-in-Some-next.ensures));
+      boarded = (
+        b.0 ++ (c.in-Some-next.token ∷ []),
+        append_assoc b.0 (c.in-Some-next.token ∷ []) c.next-in-loop-bus.new.self.rest.items ∙ ((λ i. b.0 ++ sym c.in-Some-next.ensures.items i) ∙ b.1),
+        (let less = c.in-Some-next.ensures.len in omega (arith, less, b.2, length-append b.0 (c.in-Some-next.token ∷ []))),
+        rw c.in_ok-push-in-Some-next.ensures.items (boarded_push (flown_of c.args.mission.now) c.args.ether.now c.args.faulty b.0 c.loop-bus.yielded c.loop-bus.flyers.items
+            c.in-Some-next.token c.in-Some.bus c.in_ok-flyer-in-Some-next.flyer b.3 c.in_ok-flyer-in-Some-next.ensures),
+      );
       all = append_assoc c.loop-bus.yielded (c.in-Some.bus ∷ []) c.next.new.self.rest.items
           ∙ ((λ i. c.loop-bus.yielded ++ sym c.in-Some.ensures.steps.0 i) ∙ c.loop-bus.invariant.all);
     }
@@ -60,15 +62,19 @@ unreachable-requires g c =
     let b = c.loop-bus.invariant.boarded in
     let long = boarded_long (flown_of c.args.mission.now) c.args.ether.now c.args.faulty b.0 c.loop-bus.yielded c.loop-bus.flyers.items b.3 in
     let low = shorter c.loop-bus.yielded c.next.new.self.rest.items c.args.buses.items c.in-Some.bus
-      ((λ i. c.loop-bus.yielded ++ sym c.in-Some.ensures.steps.0 i) ∙ c.loop-bus.invariant.all) in
+    ((λ i. c.loop-bus.yielded ++ sym c.in-Some.ensures.steps.0 i) ∙ c.loop-bus.invariant.all) in
     let len = c.in-None-next.ensures.variant in
     let count = c.requires.made.all.count ∙ ap (λ (l : Layout). l.units) c.requires.made.layout_is in
     let bad : false ≡ true = len.1 (omega (arith, long.0, low, b.2, count, c.requires.count)) in absurd (cc)
 
 pub loop-bus-init : goal.loop-bus-init
 loop-bus-init g c = record {
-  boarded = ([], c.into_iter-tokens.ensures.rest, (let size = c.args.tokens.ok.0 in omega (arith, size, c.into_iter-tokens.ensures.len)),
-      rw c.in_ok-flyers.ensures.items tt);
+  boarded = (
+    [],
+    c.into_iter-tokens.ensures.rest,
+    (let size = c.args.tokens.ok.0 in omega (arith, size, c.into_iter-tokens.ensures.len)),
+    rw c.in_ok-flyers.ensures.items tt,
+  );
   all = c.into_iter-bus-iterator.ensures.into_iter_gives.0;
 }
 
@@ -76,11 +82,16 @@ pub returns : goal.returns
 returns g c =
     let b = c.loop-bus.invariant.boarded in
     let seen : c.loop-bus.yielded ≡ c.args.buses.items =
-      no_rest c.loop-bus.yielded c.loop-bus.bus-iterator.rest.items c.args.buses.items c.loop-bus.invariant.all
-      (let none = c.in-None.ensures.steps.0 in let size = c.loop-bus.bus-iterator.rest.ok.0 in omega (arith, none, size, ap length c.loop-bus.invariant.all,
-      length-append c.loop-bus.yielded c.loop-bus.bus-iterator.rest.items)) in
+    no_rest c.loop-bus.yielded c.loop-bus.bus-iterator.rest.items c.args.buses.items c.loop-bus.invariant.all
+    (let none = c.in-None.ensures.steps.0 in let size = c.loop-bus.bus-iterator.rest.ok.0 in omega (
+      arith,
+      none,
+      size,
+      ap length c.loop-bus.invariant.all,
+      length-append c.loop-bus.yielded c.loop-bus.bus-iterator.rest.items,
+    )) in
     let long = boarded_long (flown_of c.args.mission.now) c.args.ether.now c.args.faulty b.0 c.loop-bus.yielded c.loop-bus.flyers.items b.3 in
     let count = c.requires.made.all.count ∙ ap (λ (l : Layout). l.units) c.requires.made.layout_is in
     let all : b.0 ≡ c.args.tokens.items =
-      no_rest b.0 c.loop-bus.tokens.rest.items c.args.tokens.items b.1 (long.0 ∙ (ap length seen ∙ (c.requires.count ∙ sym count))) in
+    no_rest b.0 c.loop-bus.tokens.rest.items c.args.tokens.items b.1 (long.0 ∙ (ap length seen ∙ (c.requires.count ∙ sym count))) in
     rw (← all, ← seen) b.3

@@ -56,7 +56,7 @@ land-requires g c = all_back g.B.Bus.allows (flown_of c.args.mission.now) c.in_o
 landed : (g : Over) (c : goal.In_ok-journals g) → HaveLanded c.args.mission.now.layout c.args.mission.now.frames c.in_ok-tokens.tokens.items
     c.in_ok-journals.journals.items
 landed g c = let made = subst (λ (p : MissionParts). IsMade c.in_ok-ether.ether c.in_ok-ether.tokens.items p.layout p.frames)
-      c.parts-parts.ensures.same c.in_ok-ether.ensures in
+    c.parts-parts.ensures.same c.in_ok-ether.ensures in
     landed_as g.B.Bus.allows c.in_ok-ether.ether c.args.mission.now.layout c.args.mission.now.frames c.in_ok-tokens.tokens.items
     c.in_ok-journals.journals.items made.layout_is made.frames_are c.in_ok-journals.ensures
 
@@ -64,7 +64,8 @@ pub returns-clause-round : goal.returns-clause-round
 returns-clause-round g c = let d = data_of c.args.mission.now in (all_told g.B.Bus.allows d c.in_ok-ether.ether c.args.faulty
     c.in_ok-ether.tokens.items c.args.buses.items c.in_ok-flyers.flyers.items c.fly_all.new.flyers c.in_ok-tokens.tokens.items
     (record { journals = c.in_ok-journals.journals; accounts = c.in_ok-tokens.accounts }) c.in_ok-tokens.logs.items
-    c.parts-parts.ensures.fit c.a_mission_fits.ensures.fits c.requires.calm (have_flown g c.before.before.before) (landed g c) (rw (← written_back g c.before.before.before) c.in_ok-tokens.ensures.accounts)
+    c.parts-parts.ensures.fit c.a_mission_fits.ensures.fits c.requires.calm (have_flown g c.before.before.before) (landed g c)
+    (rw (← written_back g c.before.before.before) c.in_ok-tokens.ensures.accounts)
     (rw (← written_back g c.before.before.before) c.in_ok-tokens.ensures.logs) c.tokens_come_back.ensures c.boards_that_are_down_have_flown.ensures c.flights_that_come_home_are_round.ensures
     c.logs_tell.ensures).0
 
@@ -72,7 +73,8 @@ pub returns-clause-logged : goal.returns-clause-logged
 returns-clause-logged g c = let d = data_of c.args.mission.now in (all_told g.B.Bus.allows d c.in_ok-ether.ether c.args.faulty
     c.in_ok-ether.tokens.items c.args.buses.items c.in_ok-flyers.flyers.items c.fly_all.new.flyers c.in_ok-tokens.tokens.items
     (record { journals = c.in_ok-journals.journals; accounts = c.in_ok-tokens.accounts }) c.in_ok-tokens.logs.items
-    c.parts-parts.ensures.fit c.a_mission_fits.ensures.fits c.requires.calm (have_flown g c.before.before.before) (landed g c) (rw (← written_back g c.before.before.before) c.in_ok-tokens.ensures.accounts)
+    c.parts-parts.ensures.fit c.a_mission_fits.ensures.fits c.requires.calm (have_flown g c.before.before.before) (landed g c)
+    (rw (← written_back g c.before.before.before) c.in_ok-tokens.ensures.accounts)
     (rw (← written_back g c.before.before.before) c.in_ok-tokens.ensures.logs) c.tokens_come_back.ensures c.boards_that_are_down_have_flown.ensures c.flights_that_come_home_are_round.ensures
     c.logs_tell.ensures).1
 
@@ -80,6 +82,7 @@ pub returns-clause-logs : goal.returns-clause-logs
 returns-clause-logs g c = let d = data_of c.args.mission.now in (all_told g.B.Bus.allows d c.in_ok-ether.ether c.args.faulty
     c.in_ok-ether.tokens.items c.args.buses.items c.in_ok-flyers.flyers.items c.fly_all.new.flyers c.in_ok-tokens.tokens.items
     (record { journals = c.in_ok-journals.journals; accounts = c.in_ok-tokens.accounts }) c.in_ok-tokens.logs.items
-    c.parts-parts.ensures.fit c.a_mission_fits.ensures.fits c.requires.calm (have_flown g c.before.before.before) (landed g c) (rw (← written_back g c.before.before.before) c.in_ok-tokens.ensures.accounts)
+    c.parts-parts.ensures.fit c.a_mission_fits.ensures.fits c.requires.calm (have_flown g c.before.before.before) (landed g c)
+    (rw (← written_back g c.before.before.before) c.in_ok-tokens.ensures.accounts)
     (rw (← written_back g c.before.before.before) c.in_ok-tokens.ensures.logs) c.tokens_come_back.ensures c.boards_that_are_down_have_flown.ensures c.flights_that_come_home_are_round.ensures
     c.logs_tell.ensures).2
