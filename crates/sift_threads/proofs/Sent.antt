@@ -19,18 +19,61 @@ use Rattle.sift_unit.specs.contracts.board.Board as Board
 use Rattle.sift_unit.proofs.board.Board.TheSendSync as board
 use Rattle.sift_threads.specs.contracts.seat.Seat as Seat
 
+-- ---- what may be sent, and what may be lent to several threads
+
+-- a board
 pub board_send : IsSend Board.the_row
 board_send = board.the_send
 
+-- a program, by its tasks' trees
 program_sync : IsSync Program.the_row
 program_sync = search (sendable, crosses, task_sync) depth 60 fits 20000
 
+-- the parts of a mission
 parts_sync : IsSync MissionParts.the_row
-parts_sync = declared_sync MissionParts.the_type (search (sendable, crosses) depth 40 fits 20000, (search (sendable, crosses) depth 40 fits 20000, (search (sendable, crosses) depth 40 fits 20000, (search (sendable, crosses) depth 40 fits 20000, (search (sendable, crosses) depth 40 fits 20000, (search (sendable, crosses, program_sync) depth 40 fits 20000, (search (sendable, crosses, checked.the_sync) depth 40 fits 20000, (search (sendable, crosses, table.the_sync) depth 40 fits 20000, (search (sendable, crosses) depth 40 fits 20000, (search (sendable, crosses, clock.the_sync) depth 40 fits 20000, (search (sendable, crosses, script.the_sync) depth 40 fits 20000, tt)))))))))))
+parts_sync = declared_sync MissionParts.the_type (
+  search (sendable, crosses) depth 40 fits 20000,
+  (
+    search (sendable, crosses) depth 40 fits 20000,
+    (
+      search (sendable, crosses) depth 40 fits 20000,
+      (
+        search (sendable, crosses) depth 40 fits 20000,
+        (
+          search (sendable, crosses) depth 40 fits 20000,
+          (
+            search (sendable, crosses, program_sync) depth 40 fits 20000,
+            (
+              search (sendable, crosses, checked.the_sync) depth 40 fits 20000,
+              (
+                search (sendable, crosses, table.the_sync) depth 40 fits 20000,
+                (
+                  search (sendable, crosses) depth 40 fits 20000,
+                  (search (sendable, crosses, clock.the_sync) depth 40 fits 20000, (search (sendable, crosses, script.the_sync) depth 40 fits 20000, tt)),
+                ),
+              ),
+            ),
+          ),
+        ),
+      ),
+    ),
+  ),
+)
 
+-- and what a mission keeps beside them
 inside_sync : IsSync Inside.the_row
-inside_sync = declared_sync Inside.the_type (search (sendable, crosses, parts_sync) depth 40 fits 20000, (search (sendable, crosses) depth 40 fits 20000, (search (sendable, crosses) depth 40 fits 20000, (search (sendable, crosses, timetable.the_sync) depth 40 fits 20000, (search (sendable, crosses, crews.the_sync) depth 40 fits 20000, tt)))))
+inside_sync = declared_sync Inside.the_type (
+  search (sendable, crosses, parts_sync) depth 40 fits 20000,
+  (
+    search (sendable, crosses) depth 40 fits 20000,
+    (
+      search (sendable, crosses) depth 40 fits 20000,
+      (search (sendable, crosses, timetable.the_sync) depth 40 fits 20000, (search (sendable, crosses, crews.the_sync) depth 40 fits 20000, tt)),
+    ),
+  ),
+)
 
+-- a mission
 pub mission_sync : IsSync Mission.the_row
 mission_sync = search (sendable, inside_sync) depth 40 fits 20000
 

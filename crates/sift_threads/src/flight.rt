@@ -21,11 +21,12 @@ use std::alloc::Global;
 use std::sync::Wait;
 use std::thread::Threads;
 
-/// Flies the units of a mission over an ether that was made for it, each at the seat of its token. Worker i drives
-/// the boards of the units u with `u mod workers = i`. The rogues are those of the units 0 to 7.
+/// Flies the units of a mission over an ether that was made for it, each at the seat of its token.
+/// Worker i drives the boards of the units u with `u mod workers = i`. The rogues are those of the
+/// units 0 to 7.
 ///
-/// It may wait, and may not return where workers can't be started. Want of memory gives up tokens and rogues.
-#[allow(clippy::too_many_arguments)]
+/// It may wait, and may not return where workers can't be started. Want of memory gives up tokens and
+/// rogues.
 pub fn fly_seats<R: Rogue + Send, B: Probe + Sync, H: Threads + Wait + Sync>(
     rt: &H,
     alloc: Global,
@@ -54,11 +55,12 @@ pub fn fly_seats<R: Rogue + Send, B: Probe + Sync, H: Threads + Wait + Sync>(
     Ok(leave_home(mission, ether, home, beyond, empty))
 }
 
-/// Flies a mission on so many workers: it makes an ether, flies the units over it, and lands them. Whatever the number
-/// of workers, the order of their steps and the bodies of rogues and probe, the flight is round over strays that
-/// these rogues gave.
+/// Flies a mission on so many workers: it makes an ether, flies the units over it, and lands them.
+/// Whatever the number of workers, the order of their steps and the bodies of rogues and probe, the
+/// flight is round over strays that these rogues gave.
 ///
-/// It may wait, and may not return where workers can't be started. Want of memory gives up the rogues.
+/// It may wait, and may not return where workers can't be started. Want of memory gives up the
+/// rogues.
 pub fn fly_threads<R: Rogue + Send, B: Probe + Sync, H: Threads + Wait + Sync>(
     rt: &H,
     alloc: Global,

@@ -3,8 +3,8 @@
 use sift_conduct::Account;
 use sift_ether::Token;
 
-/// The tokens of an ether after its units' flights, and the accounts of each unit, both in the order of
-/// the units; and the rogues, each in its place.
+/// The tokens of an ether after its units' flights, and the accounts of each unit, both in the order
+/// of the units; and the rogues, each in its place.
 #[derive(Drop)]
 pub struct Flown<R> {
     pub tokens: Vec<Token>,

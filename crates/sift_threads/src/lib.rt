@@ -1,5 +1,5 @@
-//! Workers: each drives the pilots that were dealt to it, in a thread of its own, and all come back in
-//! their order.
+//! Flights on threads. Workers drive the pilots that were dealt to them, each in a thread of its own,
+//! and all come back in their order; the pilots are units at their seats of an ether.
 #![tactic(auto)]
 
 mod dealing;

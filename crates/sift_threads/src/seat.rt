@@ -11,7 +11,8 @@ use sift_mission::Mission;
 use sift_rogue::{Rogue, next_shot, storms_add_up};
 use sift_unit::{Board, Stepped, boards_drive_beside_strays};
 
-/// A unit of a mission: its board at its port, and its rogue, which is called once the unit has turned.
+/// A unit of a mission: its board at its port, and its rogue, which is called once the unit has
+/// turned.
 #[derive(Drop)]
 pub struct Seat<'a, T, R> {
     pub(crate) mission: &'a Mission,

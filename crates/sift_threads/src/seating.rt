@@ -56,7 +56,8 @@ fn seat_one<'a, R>(
     }
 }
 
-/// All units at their seats, in a list that has room for them. The rogues that are left are those beyond the units.
+/// All units at their seats, in a list that has room for them. The rogues that are left are those
+/// beyond the units.
 pub(crate) fn seat_all<'a, R: Drop>(
     mission: &'a Mission,
     ether: &'a Ether,
