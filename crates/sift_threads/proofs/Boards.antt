@@ -1,5 +1,5 @@
 -- Steps of boards, as their ports show them.
-use Rattle.std.proofs.Common.{◌≡◌, ⊎_elim, ℕ, ◌+◌, ◌*◌, ◌-◌, ◌<◌, ◌≤◌, Bool, true, false, ap, ◌∙◌, arith, mul_comm}
+use Rattle.std.proofs.Common.{◌≡◌, ⊎_elim, ℕ, ◌+◌, ◌*◌, ◌<◌, ◌≤◌, Bool, true, false, ap, ◌∙◌, arith, mul_comm}
 use Rattle.std.proofs.lemmas.Nat.{mul-le, mul-add-lt}
 use Rattle.sift_buffer.specs.Conduct.{Conduct, never}
 use Rattle.sift_buffer.specs.Views.{View, KeepsOwn, EntersAfterRound, Turns, at_once, after_round}

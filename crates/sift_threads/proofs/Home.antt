@@ -1,10 +1,9 @@
 -- All units of an ether that have come home have flown.
-use Rattle.std.proofs.Common.{◌≡◌, ℕ, ◌+◌, ◌-◌, ◌<◌, ◌≤◌, List, [], ◌∷◌, ◌++◌, Vec, length, length-append, map, drop, length-drop, slice_index_or, refl, sym, ap, ◌∙◌, subst, arith}
+use Rattle.std.proofs.Common.{◌≡◌, ℕ, ◌+◌, ◌-◌, ◌<◌, ◌≤◌, List, ◌++◌, Vec, length, length-append, drop, length-drop, slice_index_or, sym, ap, ◌∙◌, subst, arith}
 use Rattle.std.specs.List.{AllZip}
 use Rattle.std.specs.declared.alloc.Global.{Global}
 use Rattle.std.proofs.lemmas.List.{append-nil, get_or-append_right, get_or-drop, get_or-map, get_or_append_left, length-map}
 use Rattle.std.proofs.lemmas.List.Elements.{AllZip-get_or, length_all_zip}
-use Rattle.sift_buffer.specs.Conduct.{Conduct, Stray}
 use Rattle.sift_buffer.specs.Conduct.{fresh as fresh_conduct}
 use Rattle.sift_buffer.specs.Tables.{ranges_of}
 use Rattle.sift_buffer.specs.Views.{View, fresh_view}
@@ -16,9 +15,9 @@ use Rattle.sift_rogue.specs.Calls.{Call}
 use Rattle.sift_unit.specs.Down.{DownLaw}
 use Rattle.sift_unit.specs.declared.board.Board.{Board}
 use Rattle.sift_ether.specs.Following.{itself}
-use Rattle.sift_ether.specs.Seating.{IsTokenBack, ComesBack, TokensComeBack}
+use Rattle.sift_ether.specs.Seating.{ComesBack, TokensComeBack}
 use Rattle.sift_ether.specs.Seats.{Follows, view_of}
-use Rattle.sift_ether.specs.Tokens.{IsMade, AreTokensOf, conduct_at, conduct_of}
+use Rattle.sift_ether.specs.Tokens.{IsMade, conduct_at, conduct_of}
 use Rattle.sift_ether.specs.declared.ether.Ether.{Ether}
 use Rattle.sift_ether.specs.declared.seat.EtherSeat.{EtherSeat}
 use Rattle.sift_ether.specs.declared.token.Token.{Token}

@@ -1,23 +1,20 @@
 -- Units that have come home have flown.
-use Rattle.std.proofs.Common.{◌≡◌, ℕ, ◌+◌, ◌*◌, ◌-◌, ◌<◌, ◌≤◌, List, [], ◌++◌, Vec, length, map, slice_index_or, Option, Some, None, refl, sym, ap, ◌∙◌, subst, arith}
-use Rattle.std.specs.declared.alloc.Global.{Global}
-use Rattle.std.proofs.lemmas.List.{append-nil, length-map}
-use Rattle.sift_buffer.specs.Conduct.{Conduct, Stray, never, last_progress}
+use Rattle.std.proofs.Common.{◌≡◌, ℕ, ◌-◌, ◌≤◌, List, [], slice_index_or, Option, Some, None, refl, sym, ap, ◌∙◌, subst, arith}
+use Rattle.std.proofs.lemmas.List.{length-map}
+use Rattle.sift_buffer.specs.Conduct.{Conduct, Stray}
 use Rattle.sift_buffer.specs.Views.{View}
-use Rattle.sift_mission.specs.Mission.{FlownMission}
-use Rattle.sift_mission.specs.Parts.{data_of, flown_of}
+use Rattle.sift_mission.specs.Parts.{data_of}
 use Rattle.sift_mission.specs.declared.parts.MissionParts.{MissionParts}
-use Rattle.sift_conduct.specs.Account.{Account, account_of}
+use Rattle.sift_conduct.specs.Account.{account_of}
 use Rattle.sift_conduct.specs.Acts.{BoardKeeps}
 use Rattle.sift_conduct.specs.Frames.{frames_before}
-use Rattle.sift_conduct.specs.declared.account.Account.{Account as TheAccount}
 use Rattle.sift_rogue.specs.Calls.{Call}
 use Rattle.sift_rogue.specs.Storms.{Bounds, Storms}
 use Rattle.sift_unit.specs.Boards.{desk_of}
 use Rattle.sift_unit.specs.Down.{DownLaw, HasFlownAll}
 use Rattle.sift_core.proofs.Stages.{end_low}
 use Rattle.sift_threads.specs.Flown.{HasLanded, HasStrayed, HasFlown}
-use Rattle.sift_threads.specs.Seats.{data_at, mission_at, end_at, storm_of, bounds_at, IsStraying, IsManned, IsDone, Came, Comes}
+use Rattle.sift_threads.specs.Seats.{data_at, mission_at, end_at, storm_of, bounds_at, IsStraying, IsManned, IsDone, Came}
 use Rattle.sift_threads.specs.declared.seat.Seat.{Seat}
 use Rattle.sift_threads.proofs.Seats.{none_some, storms_same, bounds_same}
 

@@ -1,5 +1,5 @@
 -- Units that have flown over an ether, and what is landed of it, as a flight that has come home.
-use Rattle.std.proofs.Common.{◌≡◌, ℕ, ◌<◌, ◌≤◌, List, [], ◌∷◌, Vec, length, map, slice_index_or, true, Option, Some, None, sym, ap, ◌∙◌, subst, arith}
+use Rattle.std.proofs.Common.{◌≡◌, ℕ, ◌<◌, List, [], ◌∷◌, Vec, length, map, slice_index_or, true, sym, ap, ◌∙◌, subst, arith}
 use Rattle.std.specs.declared.alloc.Global.{Global}
 use Rattle.std.proofs.lemmas.List.{get_or-map, length-map}
 use Rattle.std.proofs.lemmas.List.FromFn.{length-range_with_len}
@@ -19,13 +19,12 @@ use Rattle.sift_conduct.specs.Frames.{frames_before}
 use Rattle.sift_conduct.specs.declared.account.Account.{Account as TheAccount}
 use Rattle.sift_rogue.specs.Calls.{Call}
 use Rattle.sift_flight.specs.Homing.{HasComeHome, FlightsThatComeHomeAreRound}
-use Rattle.sift_flight.specs.Told.{told, no_pages, no_account, journal_of, accounts_of, IsLogged}
+use Rattle.sift_flight.specs.Told.{told, no_pages, no_account, accounts_of, IsLogged}
 use Rattle.sift_flight.specs.declared.flight.Flight.{Flight as TheFlight}
 use Rattle.sift_ether.specs.Landed.{HaveLanded}
 use Rattle.sift_ether.specs.Tokens.{IsMade, conduct_at}
 use Rattle.sift_ether.specs.declared.ether.Ether.{Ether}
 use Rattle.sift_ether.specs.declared.token.Token.{Token}
-use Rattle.sift_core.specs.Courses.{storm_at}
 use Rattle.sift_core.specs.Storms.{IsRoundByRogues}
 use Rattle.sift_core.proofs.FirstUnits.{unit_low}
 use Rattle.sift_threads.specs.Flown.{HaveFlown, HasFlown}

@@ -1,15 +1,11 @@
 -- Steps of seats: what they keep, and what comes of them.
-use Rattle.std.proofs.Common.{◌≡◌, ⊎_elim, ℕ, ◌+◌, ◌*◌, ◌-◌, ◌<◌, ◌≤◌, List, [], ◌++◌, Option, Some, None, option_map, option_to_list, refl, sym, ap, ◌∙◌, subst, arith}
-use Rattle.sift_buffer.specs.Conduct.{Conduct, Stray, never}
-use Rattle.sift_buffer.specs.Ranges.{Ranges}
-use Rattle.sift_buffer.specs.Tables.{ranges_of}
+use Rattle.std.proofs.Common.{◌≡◌, ⊎_elim, ℕ, ◌+◌, ◌-◌, ◌<◌, ◌≤◌, List, [], ◌++◌, Option, Some, None, option_map, option_to_list, refl, sym, ap, ◌∙◌, subst, arith}
+use Rattle.sift_buffer.specs.Conduct.{Stray, never}
 use Rattle.sift_buffer.specs.Views.{View}
 use Rattle.sift_mission.specs.Mission.{FlownMission}
-use Rattle.sift_mission.specs.declared.parts.MissionParts.{MissionParts}
 use Rattle.sift_mission.specs.Parts.{data_of}
 use Rattle.sift_rogue.specs.Calls.{Call, Started}
 use Rattle.sift_rogue.specs.Storms.{Bounds, Storms, StormsAddUp, Shoots, bounds_of, stray_of}
-use Rattle.sift_rogue.specs.declared.act.Shot.{Shot}
 use Rattle.sift_unit.specs.Boards.{desk_of, Drives}
 use Rattle.sift_unit.specs.Down.{StrayLaw}
 use Rattle.sift_unit.specs.Stepping.{Steps}

@@ -1,6 +1,5 @@
 -- Seats: a unit's board at its port, with its rogue; what a step wants and keeps, and what comes of a seat by its steps.
 use Rattle.std.specs.Prelude.{◌≡◌, ℕ, ◌*◌, ◌-◌, ◌<◌, ◌≤◌, List, [], Option, Some, None}
-use Rattle.std.specs.List.{AllZip}
 use Rattle.sift_buffer.specs.Conduct.{Stray, never}
 use Rattle.sift_buffer.specs.Tables.{ranges_of}
 use Rattle.sift_buffer.specs.Views.{View}

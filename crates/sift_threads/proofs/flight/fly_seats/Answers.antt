@@ -1,4 +1,4 @@
-use Rattle.std.proofs.Common.{◌≡◌, ℕ, ◌+◌, ◌≤◌, length, length-drop, ap, ◌∙◌, arith}
+use Rattle.std.proofs.Common.{length, length-drop, ap, ◌∙◌, arith}
 use Rattle.std.proofs.Crossing.{crosses}
 use denote.Param.Send.{Quiet-if, sendable}
 use denote.Param.{param}
