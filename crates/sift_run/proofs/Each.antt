@@ -1,6 +1,7 @@
 -- What holds of each command holds of all.
-use Rattle.std.proofs.Common.{[], ◌∷◌}
+use Rattle.std.proofs.Common.{ℕ, List, [], ◌∷◌}
 use Rattle.sift_jobs.specs.Check.{check_duty}
+use Rattle.sift_jobs.specs.Flights.{AreCalm}
 use Rattle.sift_jobs.specs.Gen.{gen_duty}
 use Rattle.sift_jobs.specs.Ideal.{ideal_duty}
 use Rattle.sift_jobs.specs.Plan.{plan_duty, plan_statuses}
@@ -21,9 +22,9 @@ use Rattle.sift_lab_jobs.specs.Clocks.{clocks_duty, clocks_statuses}
 use Rattle.sift_lab_jobs.specs.declared.byz.ByzJob.{ByzJob}
 use Rattle.sift_lab_jobs.specs.declared.clocks.ClocksJob.{ClocksJob}
 use Rattle.sift_load.specs.NoMission.{no_mission_statuses}
-use Rattle.sift_reply.specs.Duty.{GivesOne, HasOwnStatuses}
+use Rattle.sift_reply.specs.Duty.{GivesOne, GivesOneTo, HasOwnStatuses}
 use Rattle.sift_reply.specs.Reply.{done_status}
-use Rattle.sift_run.specs.Command.{duty_of}
+use Rattle.sift_run.specs.OneReply.{CommandsGiveOne}
 use Rattle.sift_run.specs.Statuses.{CommandsHaveOwnStatuses}
 use Rattle.sift_run.specs.declared.command.Command.{Command}
 use Rattle.sift_run.specs.declared.command.Command.TheVariants as command
@@ -53,20 +54,21 @@ module _
   own_statuses (command.Clocks job) = clocks job
 
 module _
-    (run : (job : RunJob) → GivesOne (run_duty job)) (votes : (job : VotesJob) → GivesOne (votes_duty job))
+    (run : (job : RunJob) (bytes : List ℕ) → AreCalm bytes → GivesOneTo (run_duty job) bytes)
+    (votes : (job : VotesJob) (bytes : List ℕ) → AreCalm bytes → GivesOneTo (votes_duty job) bytes)
     (ideal : (job : IdealJob) → GivesOne (ideal_duty job)) (check : (job : CheckJob) → GivesOne (check_duty job))
     (scenario : (job : GenJob) → GivesOne (gen_duty job)) (trial : (job : TrialJob) → GivesOne (trial_duty job))
     (plan : (job : PlanJob) → GivesOne (plan_duty job)) (judge : (job : JudgeJob) → GivesOne (judge_duty job))
     (byz : (job : ByzJob) → GivesOne (byz_duty job)) (clocks : (job : ClocksJob) → GivesOne (clocks_duty job)) where
-  -- each command gives one reply
-  pub gives_one : (one : Command) → GivesOne (duty_of one)
-  gives_one (command.Run job) = run job
-  gives_one (command.Votes job) = votes job
-  gives_one (command.Ideal job) = ideal job
-  gives_one (command.Check job) = check job
-  gives_one (command.Gen job) = scenario job
-  gives_one (command.Trial job) = trial job
-  gives_one (command.Plan job) = plan job
-  gives_one (command.Judge job) = judge job
-  gives_one (command.Byz job) = byz job
-  gives_one (command.Clocks job) = clocks job
+  -- each command gives one reply to calm bytes, and those that fly no input to all
+  pub gives_one : CommandsGiveOne
+  gives_one (command.Run job) bytes calm = run job bytes (calm tt)
+  gives_one (command.Votes job) bytes calm = votes job bytes (calm tt)
+  gives_one (command.Ideal job) bytes calm = ideal job bytes
+  gives_one (command.Check job) bytes calm = check job bytes
+  gives_one (command.Gen job) bytes calm = scenario job bytes
+  gives_one (command.Trial job) bytes calm = trial job bytes
+  gives_one (command.Plan job) bytes calm = plan job bytes
+  gives_one (command.Judge job) bytes calm = judge job bytes
+  gives_one (command.Byz job) bytes calm = byz job bytes
+  gives_one (command.Clocks job) bytes calm = clocks job bytes

@@ -2,3 +2,4 @@ pub mod Verb
 pub mod Command
 pub mod Headline
 pub mod Statuses
+pub mod OneReply

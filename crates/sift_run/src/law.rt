@@ -1,11 +1,10 @@
 //! The laws of the commands.
 
-ghost use Rattle.sift_reply.specs.Duty.{GivesOne};
 ghost use Rattle.sift_reply.specs.Laws.{ShareNoStatus};
-ghost use Rattle.sift_run.specs.Command.{OneCommand, commands, duty_of};
+ghost use Rattle.sift_run.specs.Command.{OneCommand, commands};
 ghost use Rattle.sift_run.specs.Headline.{HeadlineIsWritten};
+ghost use Rattle.sift_run.specs.OneReply.{CommandsGiveOne};
 ghost use Rattle.sift_run.specs.Statuses.{CommandsHaveOwnStatuses, StatusesAreKnown};
-ghost use Rattle.sift_run.specs.declared.command.Command.{Command as TheCommand};
 
 use crate::command::Command;
 use sift_jobs::{
@@ -45,9 +44,10 @@ pub fn commands_have_own_statuses()
     clocks_have_own_statuses();
 }
 
-/// Each command gives one reply at most to an input: no order of steps shows.
+/// Each command gives one reply at most to an input: no order of steps shows. Where the input states a storm, `run` and
+/// `votes` may give several, by what is heard of its strays.
 pub fn commands_give_one()
-    ensures { (command : TheCommand) → GivesOne (duty_of command) }
+    ensures { CommandsGiveOne }
 {
     run_gives_one();
     votes_gives_one();
