@@ -13,6 +13,7 @@ mod port;
 mod rule;
 mod seat;
 mod sit;
+mod sleep;
 mod steps;
 #[cfg(test)]
 mod tests;

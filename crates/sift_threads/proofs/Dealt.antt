@@ -9,7 +9,7 @@ use mathlib.Core.Logic.{dite}
 use native.Mathlib.Decide.{ℕ_discrete}
 use Rattle.sift_threads.specs.Going.{AtEachPlace}
 use Rattle.std.proofs.lemmas.List.{get_or_default}
-use Rattle.sift_threads.specs.Hands.{hand, IsDealt, InHands}
+use Rattle.sift_threads.specs.Hands.{thread_for, hand, IsDealt, InHands}
 
 -- what holds at each place holds place by place
 pub zip_of : {X : Type 0} (R : X → X → Type 0) (xs ys : List X) → AtEachPlace R xs ys → AllZip R xs ys
@@ -23,71 +23,71 @@ zip_of R (x ∷ xs) (y ∷ ys) e = (
 
 module _ {X : Type 0} where
   -- the first item goes to its own hand, and to no other
-  hand_here : (n w u : ℕ) (x : X) (xs : List X) → w ≡ u % n → hand n w u (x ∷ xs) ≡ hand n w (u + 1) xs ++ x ∷ []
-  hand_here n w u x xs is = rw (eq-eqb w (u % n) is) refl
+  hand_here : (m n w u : ℕ) (x : X) (xs : List X) → w ≡ thread_for m n u → hand m n w u (x ∷ xs) ≡ hand m n w (u + 1) xs ++ x ∷ []
+  hand_here m n w u x xs is = rw (eq-eqb w (thread_for m n u) is) refl
 
-  hand_else : (n w u : ℕ) (x : X) (xs : List X) → w ≢ u % n → hand n w u (x ∷ xs) ≡ hand n w (u + 1) xs
-  hand_else n w u x xs other = rw (ne_eqb w (u % n) other) refl
+  hand_else : (m n w u : ℕ) (x : X) (xs : List X) → w ≢ thread_for m n u → hand m n w u (x ∷ xs) ≡ hand m n w (u + 1) xs
+  hand_else m n w u x xs other = rw (ne_eqb w (thread_for m n u) other) refl
 
   -- no item is dealt to empty hands
-  pub dealt_none : (n u : ℕ) (hs : List (Vec X Global)) → length hs ≡ n → All (λ h. h.items ≡ []) hs → IsDealt n u [] hs
-  dealt_none n u hs count none = record { count = count; each = λ w d low. none w d (omega arith) }
+  pub dealt_none : (m n u : ℕ) (hs : List (Vec X Global)) → length hs ≡ n → All (λ h. h.items ≡ []) hs → IsDealt m n u [] hs
+  dealt_none m n u hs count none = record { count = count; each = λ w d low. none w d (omega arith) }
 
-  module _ (n u : ℕ) (some : 0 < n) (hs : List (Vec X Global)) (o v : Vec X Global) (at : ℕ) (here : at ≡ u % n) (was : o ≡ slice_index_or hs at o) where
+  module _ (m n u : ℕ) (some : 0 < n) (hs : List (Vec X Global)) (o v : Vec X Global) (at : ℕ) (here : at ≡ thread_for m n u) (was : o ≡ slice_index_or hs at o) where
     low : at < n
-    low = let m = mod_below u n some in omega arith
+    low = let small = mod_below (u % m) n some in omega arith
 
     -- the item before all that are dealt
-    pub dealt_more : (x : X) (xs : List X) → IsDealt n (u + 1) xs hs → v.items ≡ o.items ++ x ∷ [] → IsDealt n u (x ∷ xs) (slice_set hs at v)
+    pub dealt_more : (x : X) (xs : List X) → IsDealt m n (u + 1) xs hs → v.items ≡ o.items ++ x ∷ [] → IsDealt m n u (x ∷ xs) (slice_set hs at v)
     dealt_more x xs d is = record {
       count = length-set hs at v ∙ d.count;
       each = λ w e lw. dite (ℕ_discrete w at)
-          (λ same. subst (λ (k : ℕ). (slice_index_or (slice_set hs at v) k e).items ≡ hand n k u (x ∷ xs)) (sym same)
+          (λ same. subst (λ (k : ℕ). (slice_index_or (slice_set hs at v) k e).items ≡ hand m n k u (x ∷ xs)) (sym same)
           (ap (λ (z : Vec X Global). z.items) (get_or-set_same hs at v e (let c = d.count in omega arith))
-          ∙ (is ∙ (ap (λ (z : List X). z ++ x ∷ []) (ap (λ (z : Vec X Global). z.items) was ∙ d.each at o low) ∙ sym (hand_here n at u x xs here)))))
-          (λ ne. ap (λ (z : Vec X Global). z.items) (get_or-set_other hs at w v e ne) ∙ (d.each w e lw ∙ sym (hand_else n w u x xs (λ q. ne (q ∙ sym here)))));
+          ∙ (is ∙ (ap (λ (z : List X). z ++ x ∷ []) (ap (λ (z : Vec X Global). z.items) was ∙ d.each at o low) ∙ sym (hand_here m n at u x xs here)))))
+          (λ ne. ap (λ (z : Vec X Global). z.items) (get_or-set_other hs at w v e ne) ∙ (d.each w e lw ∙ sym (hand_else m n w u x xs (λ q. ne (q ∙ sym here)))));
     }
 
     -- what was taken from the first item's hand
     pub record Taken (p : X) (xs : List X) : Type 0 where
       pub rest : List X
       pub is : xs ≡ p ∷ rest
-      pub dealt : IsDealt n (u + 1) rest (slice_set hs at v)
+      pub dealt : IsDealt m n (u + 1) rest (slice_set hs at v)
 
     -- the first item is the last of its hand
-    pub dealt_less : (p : X) (xs : List X) → IsDealt n u xs hs → o.items ≡ v.items ++ p ∷ [] → 0 < length xs → Taken p xs
+    pub dealt_less : (p : X) (xs : List X) → IsDealt m n u xs hs → o.items ≡ v.items ++ p ∷ [] → 0 < length xs → Taken p xs
     dealt_less p [] d is there = absurd (omega arith)
     dealt_less p (x ∷ xs) d is there =
-        let two = same_from_push v.items (hand n at (u + 1) xs) p x
-        (sym is ∙ (ap (λ (z : Vec X Global). z.items) was ∙ (d.each at o low ∙ hand_here n at u x xs here))) in
+        let two = same_from_push v.items (hand m n at (u + 1) xs) p x
+        (sym is ∙ (ap (λ (z : Vec X Global). z.items) was ∙ (d.each at o low ∙ hand_here m n at u x xs here))) in
         record {
           rest = xs;
           is = λ i. sym two.1 i ∷ xs;
           dealt = record {
             count = length-set hs at v ∙ d.count;
             each = λ w e lw. dite (ℕ_discrete w at)
-                (λ same. subst (λ (k : ℕ). (slice_index_or (slice_set hs at v) k e).items ≡ hand n k (u + 1) xs) (sym same)
+                (λ same. subst (λ (k : ℕ). (slice_index_or (slice_set hs at v) k e).items ≡ hand m n k (u + 1) xs) (sym same)
                 (ap (λ (z : Vec X Global). z.items) (get_or-set_same hs at v e (let c = d.count in omega arith)) ∙ two.0))
                 (λ ne. ap (λ (z : Vec X Global). z.items) (get_or-set_other hs at w v e ne)
-                ∙ (d.each w e lw ∙ hand_else n w u x xs (λ q. ne (q ∙ sym here))));
+                ∙ (d.each w e lw ∙ hand_else m n w u x xs (λ q. ne (q ∙ sym here))));
           };
         }
 
     -- the first item's hand is not empty
-    pub dealt_some : (xs : List X) → IsDealt n u xs hs → 0 < length xs → 0 < length o.items
+    pub dealt_some : (xs : List X) → IsDealt m n u xs hs → 0 < length xs → 0 < length o.items
     dealt_some [] d there = absurd (omega arith)
     dealt_some (x ∷ xs) d there =
-        let e : o.items ≡ hand n at (u + 1) xs ++ x ∷ [] = ap (λ (z : Vec X Global). z.items) was ∙ (d.each at o low ∙ hand_here n at u x xs here) in
-        subst (λ (z : List X). 0 < length z) (sym e) (omega (arith, length_push (hand n at (u + 1) xs) x))
+        let e : o.items ≡ hand m n at (u + 1) xs ++ x ∷ [] = ap (λ (z : Vec X Global). z.items) was ∙ (d.each at o low ∙ hand_here m n at u x xs here) in
+        subst (λ (z : List X). 0 < length z) (sym e) (omega (arith, length_push (hand m n at (u + 1) xs) x))
 
   -- what holds of all items holds of those of each hand
-  pub all_dealt : (P : X → Type 0) (n w u : ℕ) (xs : List X) → All P xs → All P (hand n w u xs)
-  all_dealt P n w u [] all = all
-  all_dealt P n w u (x ∷ xs) all =
-      let rest = all_dealt P n w (u + 1) xs (All-tail P x xs all) in
-      dite (ℕ_discrete w (u % n))
-      (λ is. subst (λ (z : List X). All P z) (sym (hand_here n w u x xs is)) (All-push P (hand n w (u + 1) xs) x rest (All-head P x xs all)))
-      (λ other. subst (λ (z : List X). All P z) (sym (hand_else n w u x xs other)) rest)
+  pub all_dealt : (P : X → Type 0) (m n w u : ℕ) (xs : List X) → All P xs → All P (hand m n w u xs)
+  all_dealt P m n w u [] all = all
+  all_dealt P m n w u (x ∷ xs) all =
+      let rest = all_dealt P m n w (u + 1) xs (All-tail P x xs all) in
+      dite (ℕ_discrete w (thread_for m n u))
+      (λ is. subst (λ (z : List X). All P z) (sym (hand_here m n w u x xs is)) (All-push P (hand m n w (u + 1) xs) x rest (All-head P x xs all)))
+      (λ other. subst (λ (z : List X). All P z) (sym (hand_else m n w u x xs other)) rest)
 
   module _ (R : X → X → Type 0) where
     nil_zip : (ys : List X) → AllZip R [] ys → ys ≡ []
@@ -111,10 +111,10 @@ module _ {X : Type 0} where
         record { front = y ∷ b.front; last = b.last; is = λ i. y ∷ b.is i; zip = (z.0, b.zip); related = b.related }
 
     -- hands beside those that were dealt were dealt of one list too
-    pub record Undealt (n u : ℕ) (xs : List X) (b : ℕ → List X) : Type 0 where
+    pub record Undealt (m n u : ℕ) (xs : List X) (b : ℕ → List X) : Type 0 where
       pub ys : List X
       pub zip : AllZip R xs ys
-      pub each : (w : ℕ) → w < n → b w ≡ hand n w u ys
+      pub each : (w : ℕ) → w < n → b w ≡ hand m n w u ys
 
     abbrev less : (ℕ → List X) → ℕ → List X → ℕ → List X
     less b at front w = if w == at then front else b w
@@ -125,37 +125,37 @@ module _ {X : Type 0} where
     less_else : (b : ℕ → List X) (at : ℕ) (front : List X) (w : ℕ) → w ≢ at → less b at front w ≡ b w
     less_else b at front w other = rw (ne_eqb w at other) refl
 
-    pub undealt : (n u : ℕ) (xs : List X) (b : ℕ → List X) → 0 < n → ((w : ℕ) → w < n → AllZip R (hand n w u xs) (b w)) → Undealt n u xs b
-    undealt n u [] b some z = record { ys = []; zip = tt; each = λ w lw. nil_zip (b w) (z w lw) }
-    undealt n u (x ∷ xs) b some z =
-        let at : ℕ = u % n in
-        let own = beside (hand n at (u + 1) xs) x (b at) (subst (λ (h : List X). AllZip R h (b at)) (hand_here n at u x xs refl) (z at (mod_below u n some))) in
-        let rec = undealt n (u + 1) xs (less b at own.front) some (λ w lw. dite (ℕ_discrete w at)
-        (λ is. subst (λ (h : List X). AllZip R (hand n w (u + 1) xs) h) (sym (less_here b at own.front w is))
-        (subst (λ (k : ℕ). AllZip R (hand n k (u + 1) xs) own.front) (sym is) own.zip))
-        (λ ne. subst (λ (h : List X). AllZip R (hand n w (u + 1) xs) h) (sym (less_else b at own.front w ne))
-        (subst (λ (h : List X). AllZip R h (b w)) (hand_else n w u x xs ne) (z w lw)))) in
+    pub undealt : (m n u : ℕ) (xs : List X) (b : ℕ → List X) → 0 < n → ((w : ℕ) → w < n → AllZip R (hand m n w u xs) (b w)) → Undealt m n u xs b
+    undealt m n u [] b some z = record { ys = []; zip = tt; each = λ w lw. nil_zip (b w) (z w lw) }
+    undealt m n u (x ∷ xs) b some z =
+        let at : ℕ = thread_for m n u in
+        let own = beside (hand m n at (u + 1) xs) x (b at) (subst (λ (h : List X). AllZip R h (b at)) (hand_here m n at u x xs refl) (z at (mod_below (u % m) n some))) in
+        let rec = undealt m n (u + 1) xs (less b at own.front) some (λ w lw. dite (ℕ_discrete w at)
+        (λ is. subst (λ (h : List X). AllZip R (hand m n w (u + 1) xs) h) (sym (less_here b at own.front w is))
+        (subst (λ (k : ℕ). AllZip R (hand m n k (u + 1) xs) own.front) (sym is) own.zip))
+        (λ ne. subst (λ (h : List X). AllZip R (hand m n w (u + 1) xs) h) (sym (less_else b at own.front w ne))
+        (subst (λ (h : List X). AllZip R h (b w)) (hand_else m n w u x xs ne) (z w lw)))) in
         record {
           ys = own.last ∷ rec.ys;
           zip = (own.related, rec.zip);
           each = λ w lw. dite (ℕ_discrete w at)
-              (λ is. subst (λ (k : ℕ). b k ≡ hand n k u (own.last ∷ rec.ys)) (sym is)
-              (own.is ∙ (ap (λ (h : List X). h ++ own.last ∷ []) (sym (less_here b at own.front at refl) ∙ rec.each at (mod_below u n some))
-              ∙ sym (hand_here n at u own.last rec.ys refl))))
-              (λ ne. sym (less_else b at own.front w ne) ∙ (rec.each w lw ∙ sym (hand_else n w u own.last rec.ys ne)));
+              (λ is. subst (λ (k : ℕ). b k ≡ hand m n k u (own.last ∷ rec.ys)) (sym is)
+              (own.is ∙ (ap (λ (h : List X). h ++ own.last ∷ []) (sym (less_here b at own.front at refl) ∙ rec.each at (mod_below (u % m) n some))
+              ∙ sym (hand_here m n at u own.last rec.ys refl))))
+              (λ ne. sym (less_else b at own.front w ne) ∙ (rec.each w lw ∙ sym (hand_else m n w u own.last rec.ys ne)));
         }
 
     -- what comes back was dealt of one list, and R holds place by place
-    pub record Back (n : ℕ) (xs : List X) (bs : List (Vec X Global)) : Type 0 where
+    pub record Back (m n : ℕ) (xs : List X) (bs : List (Vec X Global)) : Type 0 where
       pub ys : List X
       pub zip : AllZip R xs ys
-      pub dealt : IsDealt n 0 ys bs
+      pub dealt : IsDealt m n 0 ys bs
 
-    pub back : (n : ℕ) (xs : List X) (hs bs : List (Vec X Global)) (e : Vec X Global) → 0 < n → IsDealt n 0 xs hs → length bs ≡ length hs →
-        InHands R hs bs → Back n xs bs
-    back n xs hs bs e some d long z =
+    pub back : (m n : ℕ) (xs : List X) (hs bs : List (Vec X Global)) (e : Vec X Global) → 0 < n → IsDealt m n 0 xs hs → length bs ≡ length hs →
+        InHands R hs bs → Back m n xs bs
+    back m n xs hs bs e some d long z =
         let c = d.count in
-        let u = undealt n 0 xs (λ w. (slice_index_or bs w e).items) some
+        let u = undealt m n 0 xs (λ w. (slice_index_or bs w e).items) some
         (λ w lw. subst (λ (h : List X). AllZip R h (slice_index_or bs w e).items) (d.each w e lw) (z w e (omega arith))) in
         record {
           ys = u.ys;

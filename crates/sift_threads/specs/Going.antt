@@ -6,7 +6,7 @@ use Rattle.sift_threads.specs.declared.pilot.Went.TheVariants.{Moved, Waits, Hom
 -- no step is left
 abbrev pub IsHome : Went → Type 0
 IsHome Moved = ⊥
-IsHome Waits = ⊥
+IsHome (Waits unit seen) = ⊥
 IsHome Home = ⊤
 
 -- R holds at each place of two lists that are equally long

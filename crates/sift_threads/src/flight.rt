@@ -7,6 +7,7 @@ ghost use Rattle.sift_flight.specs.Told.{IsLogged};
 ghost use Rattle.sift_mission.specs.Parts.{data_of, flown_of};
 ghost use Rattle.sift_threads.specs.Flown.{HaveFlown};
 
+use crate::bell::EtherBell;
 use crate::flown::Flown;
 use crate::flying::fly_all;
 use crate::pilot::Probe;
@@ -51,7 +52,8 @@ pub fn fly_seats<R: Rogue + Send, B: Probe + Sync, H: Threads + Wait + Sync>(
     let room = Vec::with_capacity(alloc, units)?;
     let boards = Machine::make_boards(alloc, mission)?;
     let (seats, beyond) = seat_all(mission, ether, tokens, boards, rogues, room);
-    let home = fly_all(rt, alloc, seats, workers, probe)?;
+    let bell = EtherBell::of(ether, probe);
+    let home = fly_all(rt, alloc, seats, workers, &bell)?;
     Ok(leave_home(mission, ether, home, beyond, empty))
 }
 

@@ -3,19 +3,38 @@ ghost use Rattle.std.specs.Prelude.{◌≡◌, ℕ, ◌<◌, ◌≤◌, All, IfO
 ghost use Rattle.std.specs.List.{AllZip};
 ghost use Rattle.sift_threads.specs.Hands.{InHands};
 
+use crate::bell::Bell;
 use crate::dealing::{collect, deal};
 use crate::driving::drive;
-use crate::pilot::{Pilot, Probe};
+use crate::pilot::Pilot;
 use sift_base::NoMemory;
 use std::alloc::{AllocError, Global};
 use std::sync::Wait;
 use std::thread::{self, Threads};
 
+/// How many threads run so many workers: as many as there are processors, but two at least, or as many as there are
+/// workers, if these are fewer. Where the processors can't be counted, it is two.
+fn count_threads<H: Threads>(rt: &H, workers: u8) -> u8
+    requires { 0 < workers }
+    ensures some { 0 < result }
+    ensures few { result ≤ workers }
+    ensures two { 2 ≤ workers → 2 ≤ result }
+{
+    let processors = match thread::available_parallelism(rt) {
+        Ok(count) => count.get(),
+        Err(_) => 2,
+    };
+    match u8::try_from(processors) {
+        Ok(count) => count.max(2).min(workers),
+        Err(_) => workers,
+    }
+}
+
 /// Each hand's flight, in a thread of its own where one can be had.
-fn drive_all<P: Pilot + Send, B: Probe + Sync, H: Threads + Wait + Sync>(
+fn drive_all<P: Pilot + Send, B: Bell + Sync, H: Threads + Wait + Sync>(
     rt: &H,
     hands: Vec<Vec<P>>,
-    probe: &B,
+    bell: &B,
 ) -> Result<Vec<Vec<P>>, AllocError>
     requires { All (λ hand. All P.drives hand.items) hands.items }
     ensures count { IfOk result (λ back. vec_len back ≡ vec_len hands) }
@@ -27,18 +46,19 @@ fn drive_all<P: Pilot + Send, B: Probe + Sync, H: Threads + Wait + Sync>(
         &|hand: Vec<P>| -> Vec<P>
             requires { All P.drives hand.items }
             ensures { AllZip (λ x y. P.comes x y × P.is_home y) hand.items result.items }
-        { drive(rt, hand, probe) },
+        { drive(rt, hand, bell) },
     )
 }
 
-/// Flies all pilots home: that at place u is driven by worker `u mod workers`. They come back in their
-/// order. Want of memory gives them up; it comes before any has flown, or after all have.
-pub fn fly_all<P: Pilot + Send, B: Probe + Sync, H: Threads + Wait + Sync>(
+/// Flies all pilots home: that at place u is driven by worker `u mod workers`, and worker i by thread `i mod threads`
+/// of as many threads as serve so many workers here. They come back in their order. Want of memory gives them up; it
+/// comes before any has flown, or after all have.
+pub fn fly_all<P: Pilot + Send, B: Bell + Sync, H: Threads + Wait + Sync>(
     rt: &H,
     alloc: Global,
     pilots: Vec<P>,
     workers: u8,
-    probe: &B,
+    bell: &B,
 ) -> Result<Vec<P>, NoMemory>
     requires some { 0 < workers }
     requires drives { All P.drives pilots.items }
@@ -46,7 +66,8 @@ pub fn fly_all<P: Pilot + Send, B: Probe + Sync, H: Threads + Wait + Sync>(
 {
     let count = pilots.len();
     let home = Vec::with_capacity(alloc, count)?;
-    let hands = deal(alloc, pilots, workers)?;
-    let back = drive_all(rt, hands, probe)?;
-    Ok(collect(back, home, count, workers))
+    let threads = count_threads(rt, workers);
+    let hands = deal(alloc, pilots, workers, threads)?;
+    let back = drive_all(rt, hands, bell)?;
+    Ok(collect(back, home, count, workers, threads))
 }

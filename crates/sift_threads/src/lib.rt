@@ -1,7 +1,8 @@
-//! Flights on threads. Workers drive the pilots that were dealt to them, each in a thread of its own,
+//! Flights on threads. Workers drive the pilots that were dealt to them, on as many threads as there are processors,
 //! and all come back in their order; the pilots are units at their seats of an ether.
 #![tactic(auto)]
 
+mod bell;
 mod dealing;
 mod driving;
 mod flight;
@@ -14,6 +15,7 @@ mod seating;
 #[cfg(test)]
 mod tests;
 
+pub use bell::Bell;
 pub use flight::{fly_seats, fly_threads};
 pub use flown::Flown;
 pub use flying::fly_all;

@@ -9,14 +9,16 @@ use sift_base::UnitId;
 pub enum Went {
     /// Something was done.
     Moved,
-    /// Nothing could be done: another pilot has to come first.
-    Waits,
+    /// Nothing could be done: this unit was seen at this progress number, and has to get further first.
+    Waits { unit: UnitId, seen: u64 },
     /// No step is left.
     Home,
 }
 
 impl Went {
-    /// What the steps of two pilots came to: home where both are, waiting where none moved, and else moved.
+    /// What the steps of two pilots came to: home where both are, waiting where none moved, and else moved. Where both
+    /// wait, it is for the unit that was seen farther back. Of the pilots that one thread drives none is that unit,
+    /// since it is behind the one of them that is farthest back.
     pub fn and(self, other: Went) -> Went
         ensures home { IsHome result → IsHome self × IsHome other }
         ensures both { IsHome self → result ≡ other }
@@ -24,8 +26,10 @@ impl Went {
         match (self, other) {
             (Went::Home, _) => other,
             (_, Went::Home) => self,
-            (Went::Waits, Went::Waits) => Went::Waits,
             (Went::Moved, _) | (_, Went::Moved) => Went::Moved,
+            (Went::Waits { seen, .. }, Went::Waits { seen: others, .. }) => {
+                if others < seen { other } else { self }
+            }
         }
     }
 }

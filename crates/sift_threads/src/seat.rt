@@ -61,7 +61,7 @@ impl<T: Port, R: Rogue> Seat<'_, T, R> {
                 self.tell_entry(before, probe);
                 Went::Moved
             }
-            Stepped::NotYet { .. } => Went::Waits,
+            Stepped::NotYet { unit, seen } => Went::Waits { unit, seen },
             Stepped::Turned => {
                 self.begin_storm();
                 Went::Moved

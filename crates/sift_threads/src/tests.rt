@@ -2,9 +2,11 @@
 ghost use Rattle.std.proofs.Common.{◌≡◌, refl, ◌∙◌};
 ghost use Rattle.std.specs.Prelude.{⊤};
 
+use crate::bell::Bell;
 use crate::flying::fly_all;
-use crate::pilot::{NoProbe, Pilot, Probe, Went};
+use crate::pilot::{Pilot, Probe, Went};
 use sift_base::{NoMemory, UnitId};
+use std::sync::Wait;
 use std::test::Fail;
 
 /// Counts down to 0, and waits at every other step.
@@ -31,15 +33,28 @@ impl Pilot for Countdown {
             return Went::Home;
         }
         self.waits = !self.waits;
+        let Some(unit) = UnitId::of(self.number) else {
+            return Went::Moved;
+        };
         if self.waits {
-            return Went::Waits;
+            let seen = u64::from(self.left);
+            return Went::Waits { unit, seen };
         }
         self.left -= 1;
-        if let Some(unit) = UnitId::of(self.number) {
-            probe.at(unit, u64::from(self.left));
-        }
+        probe.at(unit, u64::from(self.left));
         Went::Moved
     }
+}
+
+/// A bell that doesn't ring, and by which nobody sleeps.
+struct Still;
+
+impl Probe for Still {
+    fn at(&self, _unit: UnitId, _subframe: u64) {}
+}
+
+impl Bell for Still {
+    fn sleep_while<H: Wait>(&self, _rt: &H, _unit: UnitId, _seen: u64) {}
 }
 
 #[test]
@@ -53,7 +68,7 @@ fn pilots_come_back_in_their_order(rt: HostRuntime) -> Result<(), Fail> {
                 waits: false,
             })?;
         }
-        let home = fly_all(&rt, rt.alloc(), pilots, workers, &NoProbe)?;
+        let home = fly_all(&rt, rt.alloc(), pilots, workers, &Still)?;
         let count = home.len();
         assert!(rt; count == 5, "by {workers} workers");
         for place in 0..5 {

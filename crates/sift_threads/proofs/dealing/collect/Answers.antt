@@ -1,4 +1,4 @@
-use Rattle.std.proofs.Common.{ℕ, ◌%◌, List, [], ◌∷◌, ◌++◌, length, sym, ap, ◌∙◌, arith}
+use Rattle.std.proofs.Common.{List, [], ◌∷◌, ◌++◌, length, sym, ap, ◌∙◌, arith}
 use mathlib.Core.List.{append_assoc}
 use Rattle.std.proofs.lemmas.List.{length-append}
 use Rattle.sift_threads.proofs.Dealt.{dealt_less, dealt_some}
@@ -8,8 +8,8 @@ pub unreachable-requires : goal.unreachable-requires
 unreachable-requires g c =
     let d = c.requires.dealt in let r = c.loop-place.invariant.rest d.0 d.1 d.2 in
     let o = c.index_mut.result.now in
-    let some = dealt_some c.args.count c.loop-place.place c.requires.some c.loop-place.hands.items o c.pop.new.self (c.loop-place.place % c.from.result)
-    (ap (λ (n : ℕ). c.loop-place.place % n) c.from.ensures) c.index_mut.ensures.value r.0 r.2
+    let some = dealt_some c.args.workers c.args.threads c.loop-place.place c.requires.some.1 c.loop-place.hands.items o c.pop.new.self
+    c.thread_for-thread.result c.thread_for-thread.ensures.thread c.index_mut.ensures.value r.0 r.2
     (omega (arith, ap length r.1, length-append c.loop-place.all.items r.0, d.1, c.loop-place.invariant.count, c.loop-place-test.true)) in
     let none = c.in-None.ensures.cases.0 in let size = o.ok.0 in omega arith
 
@@ -20,8 +20,8 @@ loop-place-preserved g c = record {
   room = (let r = c.loop-place.invariant.room in let k = c.push_reserved.ensures.capacity in omega arith);
   rest = λ xs long dealt.
       let r = c.loop-place.invariant.rest xs long dealt in
-      let t = dealt_less c.args.count c.loop-place.place c.requires.some c.loop-place.hands.items c.index_mut.result.now c.pop.new.self
-      (c.loop-place.place % c.from.result) (ap (λ (n : ℕ). c.loop-place.place % n) c.from.ensures) c.index_mut.ensures.value c.in-Some.pilot r.0 r.2
+      let t = dealt_less c.args.workers c.args.threads c.loop-place.place c.requires.some.1 c.loop-place.hands.items c.index_mut.result.now c.pop.new.self
+      c.thread_for-thread.result c.thread_for-thread.ensures.thread c.index_mut.ensures.value c.in-Some.pilot r.0 r.2
       c.in-Some.ensures.items
       (omega (arith, ap length r.1, length-append c.loop-place.all.items r.0, long, c.loop-place.invariant.count, c.loop-place-test.true)) in (
         t.rest,

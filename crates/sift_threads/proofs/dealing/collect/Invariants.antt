@@ -8,6 +8,6 @@ invariant-loop-place g l = record {
   within : l.place ≤ l.size;
   count : length l.all.items ≡ l.place;
   room : l.size ≤ vec_capacity l.all;
-  rest : (xs : List g.row.P.Denot) → length xs ≡ l.size → IsDealt l.count 0 xs l.fn.hands.items →
-      (rest : List g.row.P.Denot) × (xs ≡ l.all.items ++ rest) × IsDealt l.count l.place rest l.hands.items;
+  rest : (xs : List g.row.P.Denot) → length xs ≡ l.size → IsDealt l.workers l.threads 0 xs l.fn.hands.items →
+      (rest : List g.row.P.Denot) × (xs ≡ l.all.items ++ rest) × IsDealt l.workers l.threads l.place rest l.hands.items;
 }

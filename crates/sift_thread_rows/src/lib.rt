@@ -1,0 +1,17 @@
+//! Rows of tests of flights on threads.
+#![tactic(auto)]
+
+#[cfg(test)]
+mod calls;
+#[cfg(test)]
+mod flights;
+#[cfg(test)]
+mod meeting;
+#[cfg(test)]
+mod seats;
+#[cfg(test)]
+mod stated;
+#[cfg(test)]
+mod storm;
+#[cfg(test)]
+mod workers;

@@ -1,0 +1,64 @@
+//! The missions of the rows, and the reports of them, which a plain simulator wrote that shares nothing with this program.
+
+ghost use Rattle.std.specs.Prelude.{◌≡◌, IfOk, length};
+
+use sift_base::NoMemory;
+use sift_mission::Mission;
+use sift_rogue::Silent;
+use sift_scenario::mission_of;
+use std::alloc::Global;
+use std::test::Fail;
+
+/// A frame of four units that count.
+pub(crate) const COUNT: &str =
+    "units = 4\nframes = 1\ntask = [{name = 'count', start = [5], linear = [3, 1]}]\n";
+
+/// Its report: 3 * 5 + 1 is 16.
+pub(crate) const COUNT_REPORT: &str = "f=0 u=0 cfg=0123 clk=0 in=- out=0010 bad=-\n\
+    f=0 u=1 cfg=0123 clk=0 in=- out=0010 bad=-\n\
+    f=0 u=2 cfg=0123 clk=0 in=- out=0010 bad=-\n\
+    f=0 u=3 cfg=0123 clk=0 in=- out=0010 bad=-\n\
+    f=0 skew=0 slack=1 margin=ok\n\
+    end frames=1 cfg=0123 margin=ok\n";
+
+/// Three frames of five units that count. From frame 1 on unit 4 says 7 in place of its word.
+pub(crate) const LIAR: &str =
+    "units = 5\nframes = 3\ntask = [{name = 'count', start = [5], linear = [3, 1]}]\n\
+    fault = [{unit = 4, from = 1, say = [{slot = 'out', index = 0, word = 0, to = '0123', value = 7}]}]\n";
+
+/// Its report: all catch the liar by their polls in frame 1, and it is out of the configuration of frame 2.
+pub(crate) const LIAR_REPORT: &str = "f=0 u=0 cfg=01234 clk=0 in=- out=0010 bad=-\n\
+    f=0 u=1 cfg=01234 clk=0 in=- out=0010 bad=-\n\
+    f=0 u=2 cfg=01234 clk=0 in=- out=0010 bad=-\n\
+    f=0 u=3 cfg=01234 clk=0 in=- out=0010 bad=-\n\
+    f=0 u=4 cfg=01234 clk=0 in=- out=0010 bad=-\n\
+    f=0 skew=0 slack=1 margin=ok\n\
+    f=1 u=0 cfg=01234 clk=0 in=- out=0031 bad=4p\n\
+    f=1 u=1 cfg=01234 clk=0 in=- out=0031 bad=4p\n\
+    f=1 u=2 cfg=01234 clk=0 in=- out=0031 bad=4p\n\
+    f=1 u=3 cfg=01234 clk=0 in=- out=0031 bad=4p\n\
+    f=1 u=4 faulty\n\
+    f=1 skew=0 slack=1 margin=ok\n\
+    f=2 u=0 cfg=0123 clk=0 in=- out=0094 bad=-\n\
+    f=2 u=1 cfg=0123 clk=0 in=- out=0094 bad=-\n\
+    f=2 u=2 cfg=0123 clk=0 in=- out=0094 bad=-\n\
+    f=2 u=3 cfg=0123 clk=0 in=- out=0094 bad=-\n\
+    f=2 u=4 faulty\n\
+    f=2 skew=0 slack=1 margin=ok\n\
+    end frames=3 cfg=0123 margin=ok\n";
+
+/// The mission that a document states.
+pub(crate) fn stated(alloc: Global, document: &str) -> Result<Mission, Fail> {
+    let table = toml::table_from_str(alloc, document)?;
+    Ok(mission_of(alloc, &table)?)
+}
+
+/// A rogue that rests, for each unit that there may be.
+pub(crate) fn silents(alloc: Global) -> Result<Vec<Silent>, NoMemory>
+    ensures { IfOk result (λ rogues. length rogues.items ≡ 8) }
+{
+    let rogues = [
+        Silent, Silent, Silent, Silent, Silent, Silent, Silent, Silent,
+    ];
+    Ok(Vec::from_array(alloc, rogues)?)
+}
