@@ -2,6 +2,7 @@
 use Rattle.std.proofs.Common.{◌≡◌, ◌<◌, ℕ, List, refl, sym, ◌∙◌, ap, subst, arith}
 use Rattle.sift_flight.specs.Alike.{RoundFlightsAreAlike}
 use Rattle.sift_flight.specs.Flight.{Flight}
+use Rattle.sift_flight.specs.Hearing.{Strays}
 use Rattle.sift_flight.specs.Round.{HasNoStorms}
 use Rattle.sift_gen.specs.Scenario.{tree_of}
 use Rattle.sift_gen.specs.Text.{OneTextOfANumber}
@@ -26,35 +27,36 @@ use Rattle.sift_jobs.specs.declared.scenario.GenJob.{GenJob}
 use Rattle.sift_jobs.specs.declared.trial.TrialJob.{TrialJob}
 use Rattle.sift_jobs.specs.declared.votes.VotesJob.{VotesJob}
 
-module _ (flies : PartsMakeItFlyable) (alike : RoundFlightsAreAlike) (texts : AlikeFlightsHaveOneText) (fit : StatedMissionsFit) where
+module _ (given : MissionData → Strays → Type 0)
+    (flies : PartsMakeItFlyable) (alike : RoundFlightsAreAlike) (texts : AlikeFlightsHaveOneText) (fit : StatedMissionsFit) where
   -- two flights of a mission without storms have one text of each kind
-  one_flight : (d : MissionData) (fl gl : Flight) → PartsFit d → HasNoStorms (flown d) → IsFlightOf d fl → IsFlightOf d gl → HaveOneText d fl gl
+  one_flight : (d : MissionData) (fl gl : Flight) → PartsFit d → HasNoStorms (flown d) → IsFlightOf given d fl → IsFlightOf given d gl → HaveOneText d fl gl
   one_flight d fl gl fits calm one other =
       let some : 0 < d.frames = omega (arith, fits.limits.some_frame) in
       texts d fl gl some (alike (flown d) one.strays other.strays fl gl (flies d fits).0 calm some one.round other.round)
 
   -- so `run` gives one report for such a mission
   pub one_report :
-      (job : RunJob) (bytes : List ℕ) → AreCalm bytes → (d : MissionData) (one other : Reply) → States bytes d → RunGives job d one → RunGives job d other → one ≡ other
-  one_report job bytes calm d one other states (fl, flies, lines, is) (gl, flies', lines', is') =
+      (job : RunJob) (bytes : List ℕ) → AreCalm bytes → (d : MissionData) (one other : Reply) → States bytes d → RunGives given job d one → RunGives given job d other → one ≡ other
+  one_report job bytes calm d one other states (text, (fl, flies, (lines, told)), is) (text', (gl, flies', (lines', told')), is') =
       let same = one_flight d fl gl (fit states.0 d states.2) (calm d states) flies flies' in
-      is ∙ (ap done (same.report job.version) ∙ sym is')
+      is ∙ (ap done (told ∙ (same.report job.version ∙ sym told')) ∙ sym is')
 
   -- and `votes` one text of votes
   pub one_votes :
-      (job : VotesJob) (bytes : List ℕ) → AreCalm bytes → (d : MissionData) (one other : Reply) → States bytes d → VotesGives job d one → VotesGives job d other → one ≡ other
-  one_votes job bytes calm d one other states (fl, flies, is) (gl, flies', is') =
+      (job : VotesJob) (bytes : List ℕ) → AreCalm bytes → (d : MissionData) (one other : Reply) → States bytes d → VotesGives given job d one → VotesGives given job d other → one ≡ other
+  one_votes job bytes calm d one other states (text, (fl, flies, told), is) (text', (gl, flies', told'), is') =
       let same = one_flight d fl gl (fit states.0 d states.2) (calm d states) flies flies' in
-      is ∙ (ap done same.votes ∙ sym is')
+      is ∙ (ap done (told ∙ (same.votes ∙ sym told')) ∙ sym is')
 
   -- and `trial` one last line for a number
-  pub one_end : OneMission → DrawnMissionsHaveNoStorms → (job : TrialJob) → GivesOne (trial_duty job)
-  one_end mission calm job bytes one other (d, fl, states, flies, is) (e, gl, states', flies', is') =
+  pub one_end : OneMission → DrawnMissionsHaveNoStorms → (job : TrialJob) → GivesOne (trial_duty given job)
+  one_end mission calm job bytes one other (d, states, (text, (fl, flies, told), is)) (e, states', (text', (gl, flies', told'), is')) =
       let same : e ≡ d = mission (tree_of job.number) e d states' states in
-      let here : IsFlightOf d gl = subst (λ (m : MissionData). IsFlightOf m gl) same flies' in
-      let theirs : other ≡ done (end_of (flown d) gl) = subst (λ (m : MissionData). other ≡ done (end_of (flown m) gl)) same is' in
+      let here : IsFlightOf given d gl = subst (λ (m : MissionData). IsFlightOf given m gl) same flies' in
+      let theirs : text' ≡ end_of (flown d) gl = subst (λ (m : MissionData). text' ≡ end_of (flown m) gl) same told' in
       let none : HasNoStorms (flown d) = λ u there. rw (calm job.number d u states) refl in
-      is ∙ (ap done (one_flight d fl gl (fit (tree_of job.number) d states) none flies here).end ∙ sym theirs)
+      is ∙ (ap done (told ∙ ((one_flight d fl gl (fit (tree_of job.number) d states) none flies here).end ∙ sym theirs)) ∙ sym is')
 
 -- a number has one text
 pub one_scenario : OneTextOfANumber → (job : GenJob) → GivesOne (gen_duty job)

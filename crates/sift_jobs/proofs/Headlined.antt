@@ -1,8 +1,10 @@
 -- The headline holds of the report that `run` gives.
 use Rattle.std.proofs.Common.{◌≡◌, inl, inr, sym, ap, ◌∙◌, arith}
+use Rattle.sift_flight.specs.Hearing.{Strays}
 use Rattle.sift_load.specs.NoMission.{reply_to}
 use Rattle.sift_load.specs.declared.no_mission.NoMission.{NoMission}
 use Rattle.sift_load.specs.declared.no_mission.NoMission.TheVariants.{NotADocument, Refused}
+use Rattle.sift_mission.specs.Data.{MissionData}
 use Rattle.sift_reply.specs.Reply.{Reply, done_status}
 use Rattle.sift_report.specs.Printed.{HeadlineIsPrinted}
 use Rattle.sift_scenario.specs.Laws.{StatedMissionsFit}
@@ -17,15 +19,15 @@ not_done (Refused (Task task kind at)) is = omega (arith, is)
 not_done (Refused (Table size row rule)) is = omega (arith, is)
 not_done (Refused (Script entry rule)) is = omega (arith, is)
 
-pub headlined : StatedMissionsFit → HeadlineIsPrinted → RunIsHeadlined
-headlined fit printed job bytes reply (inl (mission, states, (flight, flies, lines, is))) status = record {
+pub headlined : (given : MissionData → Strays → Type 0) → StatedMissionsFit → HeadlineIsPrinted → RunIsHeadlined given
+headlined given fit printed job bytes reply (inl (mission, states, (text, (flight, flies, (lines, told)), is))) status = record {
   mission = mission;
   flight = flight;
   stated = states;
   flies = flies;
-  told = ap (λ (r : Reply). r.text) is;
+  told = ap (λ (r : Reply). r.text) is ∙ told;
   lines = lines;
   headline = printed mission flies.strays flight job.version (fit states.0 mission states.2) flies.round;
 }
-headlined fit printed job bytes reply (inr (why, none, is)) status =
+headlined given fit printed job bytes reply (inr (why, none, is)) status =
     absurd (not_done why (sym (ap (λ (r : Reply). r.status) is) ∙ status))

@@ -1,4 +1,7 @@
+pub mod Several
+pub mod Workers
 pub mod Flights
+pub mod Telling
 pub mod Plan
 pub mod Run
 pub mod Votes

@@ -1,23 +1,30 @@
 -- The command `votes`: the votes of a flight.
-use Rattle.std.specs.Prelude.{◌≡◌}
-use Rattle.sift_flight.specs.Flight.{Flight}
+use Rattle.std.specs.Prelude.{Option, option_map}
+use Rattle.sift_flight.specs.Hearing.{Strays}
 use Rattle.sift_load.specs.Loads.{mission_duty}
 use Rattle.sift_mission.specs.Data.{MissionData}
 use Rattle.sift_options.specs.declared.setting.Options.{Options}
 use Rattle.sift_reply.specs.Duty.{Duty}
-use Rattle.sift_reply.specs.Reply.{Reply, done}
-use Rattle.sift_report.specs.Votes.{votes_of}
-use Rattle.sift_jobs.specs.Flights.{IsFlightOf, order_of}
+use Rattle.sift_reply.specs.Reply.{Reply}
+use Rattle.sift_jobs.specs.Telling.{RepliesWith}
+use Rattle.sift_jobs.specs.Workers.{workers_of}
+use Rattle.sift_jobs.specs.declared.telling.Telling.TheVariants.{Votes}
 use Rattle.sift_jobs.specs.declared.votes.VotesJob.{VotesJob}
+use Rattle.sift_jobs.specs.declared.workers.Workers.{Workers}
 
--- what options ask for: the order
-abbrev pub votes_job_of : Options → VotesJob
-votes_job_of options = record { order = order_of options }
+-- the votes of a flight by these workers
+abbrev pub votes_by : Workers → VotesJob
+votes_by workers = record { workers = workers }
 
--- the votes of a flight of the mission, whatever the order
-abbrev pub VotesGives : VotesJob → MissionData → Reply → Type 0
-VotesGives job mission came = (flight : Flight) × IsFlightOf mission flight × (came ≡ done (votes_of mission flight))
+-- what options ask for: the workers
+abbrev pub votes_job_of : Options → Option VotesJob
+votes_job_of options = option_map votes_by (workers_of options)
 
--- what it has to do
-abbrev pub votes_duty : VotesJob → Duty
-votes_duty job = mission_duty (VotesGives job)
+module _ (given : MissionData → Strays → Type 0) where
+  -- the votes of a flight of the mission, whatever the workers
+  abbrev pub VotesGives : VotesJob → MissionData → Reply → Type 0
+  VotesGives job mission = RepliesWith given mission Votes
+
+  -- what it has to do
+  abbrev pub votes_duty : VotesJob → Duty
+  votes_duty job = mission_duty (VotesGives job)

@@ -1,35 +1,35 @@
 //! The command `check`.
 
 use sift_base::NoMemory;
-use sift_load::{DOCUMENT_LIMIT, MissionJob, reply_for_bytes};
+use sift_load::{DOCUMENT_LIMIT, MissionJob, begin_for_bytes};
 use sift_mission::Mission;
-use sift_reply::{Job, Reply};
+use sift_reply::{Begun, Job, Reply, Work};
 use std::alloc::Global;
 
 /// `check`: tells that the input states a mission.
 #[derive(Clone, Copy)]
 pub struct CheckJob;
 
-impl MissionJob for CheckJob {
+impl<M: Drop, W: Work> MissionJob<M, W> for CheckJob {
     ghost use Rattle.sift_jobs.specs.Check.{CheckGives};
 
-    ghost gives_for = { CheckGives };
+    ghost gives_for = { λ means. CheckGives };
 
-    fn reply_for(self, _alloc: Global, _mission: &Mission) -> Result<Reply, NoMemory> {
-        Ok(Reply::fixed(0, "ok\n"))
+    fn begin_for(self, _alloc: Global, _means: M, _mission: Mission) -> Result<Begun<W>, NoMemory> {
+        Ok(Begun::Replied(Reply::fixed(0, "ok\n")))
     }
 }
 
-impl Job for CheckJob {
+impl<M: Drop, W: Work> Job<M, W> for CheckJob {
     ghost use Rattle.sift_jobs.specs.Check.{check_duty};
 
-    ghost duty = { check_duty };
+    ghost duty = { λ means. check_duty };
 
     fn limit(self) -> Option<u32> {
         Some(DOCUMENT_LIMIT)
     }
 
-    fn reply(self, alloc: Global, bytes: &[u8]) -> Result<Reply, NoMemory> {
-        reply_for_bytes(alloc, self, bytes)
+    fn begin(self, alloc: Global, means: M, bytes: &[u8]) -> Result<Begun<W>, NoMemory> {
+        begin_for_bytes(alloc, means, self, bytes)
     }
 }

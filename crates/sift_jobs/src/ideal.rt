@@ -1,9 +1,9 @@
 //! The command `ideal`.
 
 use sift_base::NoMemory;
-use sift_load::{DOCUMENT_LIMIT, MissionJob, reply_for_bytes};
+use sift_load::{DOCUMENT_LIMIT, MissionJob, begin_for_bytes};
 use sift_mission::Mission;
-use sift_reply::{Job, Reply};
+use sift_reply::{Begun, Job, Reply, Work};
 use sift_report::ideal_text;
 use std::alloc::Global;
 
@@ -11,26 +11,27 @@ use std::alloc::Global;
 #[derive(Clone, Copy)]
 pub struct IdealJob;
 
-impl MissionJob for IdealJob {
+impl<M: Drop, W: Work> MissionJob<M, W> for IdealJob {
     ghost use Rattle.sift_jobs.specs.Ideal.{IdealGives};
 
-    ghost gives_for = { IdealGives };
+    ghost gives_for = { λ means. IdealGives };
 
-    fn reply_for(self, alloc: Global, mission: &Mission) -> Result<Reply, NoMemory> {
-        Ok(Reply::done(ideal_text(alloc, mission)?))
+    fn begin_for(self, alloc: Global, _means: M, mission: Mission) -> Result<Begun<W>, NoMemory> {
+        let outputs = ideal_text(alloc, &mission)?;
+        Ok(Begun::Replied(Reply::done(outputs)))
     }
 }
 
-impl Job for IdealJob {
+impl<M: Drop, W: Work> Job<M, W> for IdealJob {
     ghost use Rattle.sift_jobs.specs.Ideal.{ideal_duty};
 
-    ghost duty = { ideal_duty };
+    ghost duty = { λ means. ideal_duty };
 
     fn limit(self) -> Option<u32> {
         Some(DOCUMENT_LIMIT)
     }
 
-    fn reply(self, alloc: Global, bytes: &[u8]) -> Result<Reply, NoMemory> {
-        reply_for_bytes(alloc, self, bytes)
+    fn begin(self, alloc: Global, means: M, bytes: &[u8]) -> Result<Begun<W>, NoMemory> {
+        begin_for_bytes(alloc, means, self, bytes)
     }
 }

@@ -21,7 +21,9 @@ ghost use Rattle.sift_reply.specs.Duty.{GivesOne, GivesOneTo, HasOwnStatuses};
 ghost use Rattle.sift_reply.specs.Reply.{done_status};
 
 use crate::check::CheckJob;
+use crate::flier::Flier;
 use crate::ideal::IdealJob;
+use crate::order::FlightOrder;
 use crate::plan::PlanJob;
 use crate::run::RunJob;
 use crate::votes::VotesJob;
@@ -31,43 +33,44 @@ use sift_load::{loading_gives_one, loading_has_own_statuses};
 use sift_mission::fitting_parts_make_a_flight;
 use sift_planner::{one_plan_each, one_size_without_room};
 use sift_program::sound_programs_have_shapes;
+use sift_reply::NoWork;
 use sift_report::{alike_flights_have_one_text, the_headline_is_printed};
 use sift_scenario::{one_mission, stated_missions_fit};
 use sift_trial::drawn_missions_have_no_storms;
 
 /// `run` ends with 0, or with the status of bytes that state no mission.
-pub fn run_has_own_statuses()
-    ensures { (job : Run) → HasOwnStatuses (run_duty job) (done_status ∷ no_mission_statuses) }
+pub fn run_has_own_statuses<F: Flier>()
+    ensures { (flier : F) (job : Run) → HasOwnStatuses (run_duty (F.gives flier) job) (done_status ∷ no_mission_statuses) }
 {
-    loading_has_own_statuses::<RunJob>();
+    loading_has_own_statuses::<F, FlightOrder<F>, RunJob>();
 }
 
 /// So does `votes`.
-pub fn votes_has_own_statuses()
-    ensures { (job : Votes) → HasOwnStatuses (votes_duty job) (done_status ∷ no_mission_statuses) }
+pub fn votes_has_own_statuses<F: Flier>()
+    ensures { (flier : F) (job : Votes) → HasOwnStatuses (votes_duty (F.gives flier) job) (done_status ∷ no_mission_statuses) }
 {
-    loading_has_own_statuses::<VotesJob>();
+    loading_has_own_statuses::<F, FlightOrder<F>, VotesJob>();
 }
 
 /// So does `ideal`.
 pub fn ideal_has_own_statuses()
     ensures { (job : Ideal) → HasOwnStatuses (ideal_duty job) (done_status ∷ no_mission_statuses) }
 {
-    loading_has_own_statuses::<IdealJob>();
+    loading_has_own_statuses::<(), NoWork, IdealJob>();
 }
 
 /// So does `check`.
 pub fn check_has_own_statuses()
     ensures { (job : Check) → HasOwnStatuses (check_duty job) (done_status ∷ no_mission_statuses) }
 {
-    loading_has_own_statuses::<CheckJob>();
+    loading_has_own_statuses::<(), NoWork, CheckJob>();
 }
 
 /// `plan` ends with 0, with 14 where a task has no room, or with the status of bytes that state no mission.
 pub fn plan_has_own_statuses()
     ensures { (job : PlanNumbers) → HasOwnStatuses (plan_duty job) plan_statuses }
 {
-    loading_has_own_statuses::<PlanJob>();
+    loading_has_own_statuses::<(), NoWork, PlanJob>();
 }
 
 /// `gen` ends with 0.
@@ -76,16 +79,16 @@ pub fn gen_has_own_statuses()
 {}
 
 /// So does `trial`.
-pub fn trial_has_own_statuses()
-    ensures { (job : Trial) → HasOwnStatuses (trial_duty job) (done_status ∷ []) }
+pub fn trial_has_own_statuses<F: Flier>()
+    ensures { (flier : F) (job : Trial) → HasOwnStatuses (trial_duty (F.gives flier) job) (done_status ∷ []) }
 {}
 
-/// `run` gives one reply to an input that states no storm: the order of steps, and all else that a flight leaves open, shows
-/// in no report.
-pub fn run_gives_one()
-    ensures { (job : Run) (bytes : List ℕ) → AreCalm bytes → GivesOneTo (run_duty job) bytes }
+/// `run` gives one reply to an input that states no storm: the workers, the order of their steps, and all else that a flight
+/// leaves open, show in no report.
+pub fn run_gives_one<F: Flier>()
+    ensures { (flier : F) (job : Run) (bytes : List ℕ) → AreCalm bytes → GivesOneTo (run_duty (F.gives flier) job) bytes }
 {
-    loading_gives_one::<RunJob>();
+    loading_gives_one::<F, FlightOrder<F>, RunJob>();
     fitting_parts_make_a_flight();
     round_flights_are_alike();
     alike_flights_have_one_text();
@@ -93,10 +96,10 @@ pub fn run_gives_one()
 }
 
 /// So does `votes`.
-pub fn votes_gives_one()
-    ensures { (job : Votes) (bytes : List ℕ) → AreCalm bytes → GivesOneTo (votes_duty job) bytes }
+pub fn votes_gives_one<F: Flier>()
+    ensures { (flier : F) (job : Votes) (bytes : List ℕ) → AreCalm bytes → GivesOneTo (votes_duty (F.gives flier) job) bytes }
 {
-    loading_gives_one::<VotesJob>();
+    loading_gives_one::<F, FlightOrder<F>, VotesJob>();
     fitting_parts_make_a_flight();
     round_flights_are_alike();
     alike_flights_have_one_text();
@@ -107,21 +110,21 @@ pub fn votes_gives_one()
 pub fn ideal_gives_one()
     ensures { (job : Ideal) → GivesOne (ideal_duty job) }
 {
-    loading_gives_one::<IdealJob>();
+    loading_gives_one::<(), NoWork, IdealJob>();
 }
 
 /// So does `check`.
 pub fn check_gives_one()
     ensures { (job : Check) → GivesOne (check_duty job) }
 {
-    loading_gives_one::<CheckJob>();
+    loading_gives_one::<(), NoWork, CheckJob>();
 }
 
 /// `plan` gives one reply: a mission's tasks have one plan for each size, or one first task without room.
 pub fn plan_gives_one()
     ensures { (job : PlanNumbers) → GivesOne (plan_duty job) }
 {
-    loading_gives_one::<PlanJob>();
+    loading_gives_one::<(), NoWork, PlanJob>();
     stated_missions_fit();
     sound_programs_have_shapes();
     one_plan_each();
@@ -136,8 +139,8 @@ pub fn gen_gives_one()
 }
 
 /// `trial` gives one reply: a number has one mission, which has no storm, and of which all flights end alike.
-pub fn trial_gives_one()
-    ensures { (job : Trial) → GivesOne (trial_duty job) }
+pub fn trial_gives_one<F: Flier>()
+    ensures { (flier : F) (job : Trial) → GivesOne (trial_duty (F.gives flier) job) }
 {
     one_mission();
     fitting_parts_make_a_flight();
@@ -149,8 +152,8 @@ pub fn trial_gives_one()
 
 /// Where `run` ends with 0 its text is the report of a flight of the mission that the input states, and the headline holds
 /// of its lines.
-pub fn run_is_headlined()
-    ensures { RunIsHeadlined }
+pub fn run_is_headlined<F: Flier>()
+    ensures { (flier : F) → RunIsHeadlined (F.gives flier) }
 {
     stated_missions_fit();
     the_headline_is_printed();

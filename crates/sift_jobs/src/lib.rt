@@ -2,16 +2,21 @@
 #![tactic(auto)]
 
 mod check;
-mod flight;
+mod flier;
 mod ideal;
 mod law;
+mod order;
 mod plan;
 mod run;
 mod scenario;
+mod telling;
 mod trial;
 mod votes;
+mod worker_count;
+mod workers;
 
 pub use check::CheckJob;
+pub use flier::Flier;
 pub use ideal::IdealJob;
 pub use law::{
     check_gives_one, check_has_own_statuses, gen_gives_one, gen_has_own_statuses, ideal_gives_one,
@@ -19,8 +24,12 @@ pub use law::{
     run_has_own_statuses, run_is_headlined, trial_gives_one, trial_has_own_statuses,
     votes_gives_one, votes_has_own_statuses,
 };
+pub use order::FlightOrder;
 pub use plan::PlanJob;
 pub use run::{RunJob, version_of};
 pub use scenario::GenJob;
+pub use telling::Telling;
 pub use trial::TrialJob;
 pub use votes::VotesJob;
+pub use worker_count::WorkerCount;
+pub use workers::Workers;

@@ -1,15 +1,16 @@
 //! The command `plan`.
 
 ghost use Rattle.std.specs.Prelude.{◌≡◌, IfOk};
-ghost use Rattle.sift_jobs.specs.Plan.{no_room, plan_job_of};
+ghost use Rattle.sift_jobs.specs.Plan.{PlanGives, no_room, plan_job_of};
+ghost use Rattle.sift_mission.specs.Parts.{data_of};
 
 use sift_base::{NoMemory, Stop};
-use sift_load::{DOCUMENT_LIMIT, MissionJob, reply_for_bytes};
+use sift_load::{DOCUMENT_LIMIT, MissionJob, begin_for_bytes};
 use sift_mission::Mission;
 use sift_options::{Options, within};
 use sift_planner::{NoRoomAt, plan_sizes, tables_text};
 use sift_program::shapes_of;
-use sift_reply::{Job, Reply};
+use sift_reply::{Begun, Job, Reply, Work};
 use std::alloc::Global;
 use std::marker::Model;
 
@@ -44,14 +45,11 @@ impl PlanJob {
         let period = within(options.subframes, 12, 64)? as u8;
         Some(PlanJob { copies, period })
     }
-}
 
-impl MissionJob for PlanJob {
-    ghost use Rattle.sift_jobs.specs.Plan.{PlanGives};
-
-    ghost gives_for = { PlanGives };
-
-    fn reply_for(self, alloc: Global, mission: &Mission) -> Result<Reply, NoMemory> {
+    /// The reply for a mission: the plans of its tasks, or the first without room.
+    fn reply_for(self, alloc: Global, mission: &Mission) -> Result<Reply, NoMemory>
+        ensures { IfOk result (PlanGives self (data_of mission.now)) }
+    {
         let parts = mission.parts();
         let shapes = shapes_of(alloc, &parts.program, parts.layout.sensors)?;
         match plan_sizes(alloc, &shapes, parts.units, self.period, self.copies) {
@@ -59,6 +57,16 @@ impl MissionJob for PlanJob {
             Err(Stop::Refused(none)) => no_room(alloc, none),
             Err(Stop::NoMemory) => Err(NoMemory),
         }
+    }
+}
+
+impl<M: Drop, W: Work> MissionJob<M, W> for PlanJob {
+    ghost use Rattle.sift_jobs.specs.Plan.{PlanGives};
+
+    ghost gives_for = { λ means. PlanGives };
+
+    fn begin_for(self, alloc: Global, _means: M, mission: Mission) -> Result<Begun<W>, NoMemory> {
+        Ok(Begun::Replied(self.reply_for(alloc, &mission)?))
     }
 }
 
@@ -72,16 +80,16 @@ fn no_room(alloc: Global, none: NoRoomAt) -> Result<Reply, NoMemory>
     Ok(Reply::made(14, line))
 }
 
-impl Job for PlanJob {
+impl<M: Drop, W: Work> Job<M, W> for PlanJob {
     ghost use Rattle.sift_jobs.specs.Plan.{plan_duty};
 
-    ghost duty = { plan_duty };
+    ghost duty = { λ means. plan_duty };
 
     fn limit(self) -> Option<u32> {
         Some(DOCUMENT_LIMIT)
     }
 
-    fn reply(self, alloc: Global, bytes: &[u8]) -> Result<Reply, NoMemory> {
-        reply_for_bytes(alloc, self, bytes)
+    fn begin(self, alloc: Global, means: M, bytes: &[u8]) -> Result<Begun<W>, NoMemory> {
+        begin_for_bytes(alloc, means, self, bytes)
     }
 }

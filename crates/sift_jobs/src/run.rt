@@ -3,31 +3,34 @@
 ghost use Rattle.std.specs.Prelude.{◌≡◌};
 ghost use Rattle.sift_jobs.specs.Run.{run_job_of, version_of};
 
-use crate::flight::{flight_of, order_of};
+use crate::flier::Flier;
+use crate::order::FlightOrder;
+use crate::telling::Telling;
+use crate::workers::Workers;
 use sift_base::NoMemory;
-use sift_load::{DOCUMENT_LIMIT, MissionJob, reply_for_bytes};
+use sift_load::{DOCUMENT_LIMIT, MissionJob, begin_for_bytes};
 use sift_mission::Mission;
 use sift_options::Options;
-use sift_reply::{Job, Reply};
-use sift_report::{Version, report_text};
+use sift_reply::{Begun, Job};
+use sift_report::Version;
 use std::alloc::Global;
 
-/// `run`: flies the mission that the input states, its units stepping in this order, and reports on it in this version.
+/// `run`: flies the mission that the input states by these workers, and reports on it in this version.
 #[derive(Clone, Copy)]
 pub struct RunJob {
-    pub order: u64,
+    pub workers: Workers,
     pub version: Version,
 }
 
 impl RunJob {
-    /// What the options ask for: the order, 0 where none is given, and the version of the report, 2 where none is.
-    pub fn of(options: Options) -> RunJob
+    /// What the options ask for: the workers, and the version of the report, 2 where none is given.
+    pub fn of(options: Options) -> Option<RunJob>
         ensures { result ≡ run_job_of options }
     {
-        RunJob {
-            order: order_of(options),
+        Some(RunJob {
+            workers: Workers::of(options)?,
             version: version_of(options),
-        }
+        })
     }
 }
 
@@ -41,28 +44,41 @@ pub fn version_of(options: Options) -> Version
     }
 }
 
-impl MissionJob for RunJob {
+impl<F: Flier> MissionJob<F, FlightOrder<F>> for RunJob {
     ghost use Rattle.sift_jobs.specs.Run.{RunGives};
 
-    ghost gives_for = { RunGives };
+    ghost gives_for = { λ flier. RunGives (F.gives flier) };
 
-    fn reply_for(self, alloc: Global, mission: &Mission) -> Result<Reply, NoMemory> {
-        let flight = flight_of(alloc, mission, self.order)?;
-        let report = report_text(alloc, mission, &flight, self.version)?;
-        Ok(Reply::done(report))
+    fn begin_for(
+        self,
+        _alloc: Global,
+        flier: F,
+        mission: Mission,
+    ) -> Result<Begun<FlightOrder<F>>, NoMemory> {
+        Ok(Begun::Left(FlightOrder {
+            flier,
+            mission,
+            workers: self.workers,
+            telling: Telling::Report(self.version),
+        }))
     }
 }
 
-impl Job for RunJob {
+impl<F: Flier> Job<F, FlightOrder<F>> for RunJob {
     ghost use Rattle.sift_jobs.specs.Run.{run_duty};
 
-    ghost duty = { run_duty };
+    ghost duty = { λ flier. run_duty (F.gives flier) };
 
     fn limit(self) -> Option<u32> {
         Some(DOCUMENT_LIMIT)
     }
 
-    fn reply(self, alloc: Global, bytes: &[u8]) -> Result<Reply, NoMemory> {
-        reply_for_bytes(alloc, self, bytes)
+    fn begin(
+        self,
+        alloc: Global,
+        flier: F,
+        bytes: &[u8],
+    ) -> Result<Begun<FlightOrder<F>>, NoMemory> {
+        begin_for_bytes(alloc, flier, self, bytes)
     }
 }

@@ -6,7 +6,7 @@ ghost use Rattle.sift_jobs.specs.Gen.{gen_job_of};
 use sift_base::NoMemory;
 use sift_gen::scenario_text;
 use sift_options::Options;
-use sift_reply::{Job, Reply};
+use sift_reply::{Begun, Job, Reply, Work};
 use std::alloc::Global;
 
 /// `gen`: writes the scenario that is drawn from this number, and reads nothing.
@@ -26,16 +26,17 @@ impl GenJob {
     }
 }
 
-impl Job for GenJob {
+impl<M: Drop, W: Work> Job<M, W> for GenJob {
     ghost use Rattle.sift_jobs.specs.Gen.{gen_duty};
 
-    ghost duty = { gen_duty };
+    ghost duty = { λ means. gen_duty };
 
     fn limit(self) -> Option<u32> {
         None
     }
 
-    fn reply(self, alloc: Global, _bytes: &[u8]) -> Result<Reply, NoMemory> {
-        Ok(Reply::done(scenario_text(alloc, self.number)?))
+    fn begin(self, alloc: Global, _means: M, _bytes: &[u8]) -> Result<Begun<W>, NoMemory> {
+        let text = scenario_text(alloc, self.number)?;
+        Ok(Begun::Replied(Reply::done(text)))
     }
 }

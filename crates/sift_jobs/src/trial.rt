@@ -3,47 +3,57 @@
 ghost use Rattle.std.specs.Prelude.{◌≡◌};
 ghost use Rattle.sift_jobs.specs.Trial.{trial_job_of};
 
-use crate::flight::{flight_of, order_of};
+use crate::flier::Flier;
+use crate::order::FlightOrder;
+use crate::telling::Telling;
+use crate::workers::Workers;
 use sift_base::NoMemory;
 use sift_options::Options;
-use sift_reply::{Job, Reply};
-use sift_report::last_line_text;
+use sift_reply::{Begun, Job};
 use sift_trial::drawn_mission;
 use std::alloc::Global;
 
-/// `trial`: flies the scenario that is drawn from this number, its units stepping in this order, and writes the last line
-/// of its report. It reads nothing.
+/// `trial`: flies the scenario that is drawn from this number by these workers, and writes the last line of its report. It
+/// reads nothing.
 #[derive(Clone, Copy)]
 pub struct TrialJob {
     pub number: u64,
-    pub order: u64,
+    pub workers: Workers,
 }
 
 impl TrialJob {
-    /// What the options ask for: the number has to be given; the order is 0 where none is.
+    /// What the options ask for: the number, which has to be given, and the workers.
     pub fn of(options: Options) -> Option<TrialJob>
         ensures { result ≡ trial_job_of options }
     {
         Some(TrialJob {
             number: options.number?,
-            order: order_of(options),
+            workers: Workers::of(options)?,
         })
     }
 }
 
-impl Job for TrialJob {
+impl<F: Flier> Job<F, FlightOrder<F>> for TrialJob {
     ghost use Rattle.sift_jobs.specs.Trial.{trial_duty};
 
-    ghost duty = { trial_duty };
+    ghost duty = { λ flier. trial_duty (F.gives flier) };
 
     fn limit(self) -> Option<u32> {
         None
     }
 
-    fn reply(self, alloc: Global, _bytes: &[u8]) -> Result<Reply, NoMemory> {
+    fn begin(
+        self,
+        alloc: Global,
+        flier: F,
+        _bytes: &[u8],
+    ) -> Result<Begun<FlightOrder<F>>, NoMemory> {
         let mission = drawn_mission(alloc, self.number)?;
-        let flight = flight_of(alloc, &mission, self.order)?;
-        let end = last_line_text(alloc, &mission, &flight)?;
-        Ok(Reply::done(end))
+        Ok(Begun::Left(FlightOrder {
+            flier,
+            mission,
+            workers: self.workers,
+            telling: Telling::LastLine,
+        }))
     }
 }

@@ -3,55 +3,69 @@
 ghost use Rattle.std.specs.Prelude.{◌≡◌};
 ghost use Rattle.sift_jobs.specs.Votes.{votes_job_of};
 
-use crate::flight::{flight_of, order_of};
+use crate::flier::Flier;
+use crate::order::FlightOrder;
+use crate::telling::Telling;
+use crate::workers::Workers;
 use sift_base::NoMemory;
-use sift_load::{DOCUMENT_LIMIT, MissionJob, reply_for_bytes};
+use sift_load::{DOCUMENT_LIMIT, MissionJob, begin_for_bytes};
 use sift_mission::Mission;
 use sift_options::Options;
-use sift_reply::{Job, Reply};
-use sift_report::votes_text;
+use sift_reply::{Begun, Job};
 use std::alloc::Global;
 
-/// `votes`: flies the mission that the input states, its units stepping in this order, and tells each vote with the words
-/// that were polled.
+/// `votes`: flies the mission that the input states by these workers, and tells each vote with the words that were polled.
 #[derive(Clone, Copy)]
 pub struct VotesJob {
-    pub order: u64,
+    pub workers: Workers,
 }
 
 impl VotesJob {
-    /// What the options ask for: the order, 0 where none is given.
-    pub fn of(options: Options) -> VotesJob
+    /// What the options ask for: the workers.
+    pub fn of(options: Options) -> Option<VotesJob>
         ensures { result ≡ votes_job_of options }
     {
-        VotesJob {
-            order: order_of(options),
-        }
+        Some(VotesJob {
+            workers: Workers::of(options)?,
+        })
     }
 }
 
-impl MissionJob for VotesJob {
+impl<F: Flier> MissionJob<F, FlightOrder<F>> for VotesJob {
     ghost use Rattle.sift_jobs.specs.Votes.{VotesGives};
 
-    ghost gives_for = { VotesGives };
+    ghost gives_for = { λ flier. VotesGives (F.gives flier) };
 
-    fn reply_for(self, alloc: Global, mission: &Mission) -> Result<Reply, NoMemory> {
-        let flight = flight_of(alloc, mission, self.order)?;
-        let votes = votes_text(alloc, mission, &flight)?;
-        Ok(Reply::done(votes))
+    fn begin_for(
+        self,
+        _alloc: Global,
+        flier: F,
+        mission: Mission,
+    ) -> Result<Begun<FlightOrder<F>>, NoMemory> {
+        Ok(Begun::Left(FlightOrder {
+            flier,
+            mission,
+            workers: self.workers,
+            telling: Telling::Votes,
+        }))
     }
 }
 
-impl Job for VotesJob {
+impl<F: Flier> Job<F, FlightOrder<F>> for VotesJob {
     ghost use Rattle.sift_jobs.specs.Votes.{votes_duty};
 
-    ghost duty = { votes_duty };
+    ghost duty = { λ flier. votes_duty (F.gives flier) };
 
     fn limit(self) -> Option<u32> {
         Some(DOCUMENT_LIMIT)
     }
 
-    fn reply(self, alloc: Global, bytes: &[u8]) -> Result<Reply, NoMemory> {
-        reply_for_bytes(alloc, self, bytes)
+    fn begin(
+        self,
+        alloc: Global,
+        flier: F,
+        bytes: &[u8],
+    ) -> Result<Begun<FlightOrder<F>>, NoMemory> {
+        begin_for_bytes(alloc, flier, self, bytes)
     }
 }

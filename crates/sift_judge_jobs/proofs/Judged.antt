@@ -1,5 +1,6 @@
 -- The report that `run` gives is judged yes.
 use Rattle.std.proofs.Common.{◌≡◌, ◌∙◌, inl, inr, ℕ, List, ap, refl, subst, sym}
+use Rattle.sift_flight.specs.Hearing.{Strays}
 use Rattle.sift_jobs.specs.Headline.{IsHeadlined, RunIsHeadlined}
 use Rattle.sift_judge.specs.Laws.{OneVerdict}
 use Rattle.sift_judge.specs.Verdict.{IsVerdict}
@@ -55,15 +56,15 @@ module _ (version : Version) (document report : List ℕ) (mission : MissionData
 -- ---- the report of `run` is one
 
 -- the sheet's lines are read from it
-sheet_read : SheetsHaveTheirVersion → LinesComeApart → (version : Version) (document report : List ℕ) (is : IsHeadlined version document report)
+sheet_read : (given : MissionData → Strays → Type 0) → SheetsHaveTheirVersion → LinesComeApart → (version : Version) (document report : List ℕ) (is : IsHeadlined given version document report)
     → AreRead version report (sheet_of (flown is.mission) is.flight version)
-sheet_read versions apart version document report is = record {
+sheet_read given versions apart version document report is = record {
   all = λ k d low. record { holds = is.lines k d low; told = versions (flown is.mission) is.flight version k d low };
   texts = apart (sheet_of (flown is.mission) is.flight version) is.lines ∙ ap texts_of (sym is.told);
 }
 
-pub judged_yes : OneVerdict → SheetsHaveTheirVersion → LinesComeApart → OneMissionIsStated → StatedMissionsAreUnrefused → RunIsHeadlined → RunsAreJudgedYes
-judged_yes verdicts versions apart one_mission unrefused headlined run judge document report came same gives divided judged =
-    let is : IsHeadlined run.version document report = headlined run document (done report) gives refl in
+pub judged_yes : (given : MissionData → Strays → Type 0) → OneVerdict → SheetsHaveTheirVersion → LinesComeApart → OneMissionIsStated → StatedMissionsAreUnrefused → RunIsHeadlined given → RunsAreJudgedYes given
+judged_yes given verdicts versions apart one_mission unrefused headlined run judge document report came same gives divided judged =
+    let is : IsHeadlined given run.version document report = headlined run document (done report) gives refl in
     of_input run.version document report is.mission (sheet_of (flown is.mission) is.flight run.version) verdicts
-    (sheet_read versions apart run.version document report is) is.headline one_mission unrefused is.stated judge _ came same divided judged
+    (sheet_read given versions apart run.version document report is) is.headline one_mission unrefused is.stated judge _ came same divided judged

@@ -1,7 +1,9 @@
 -- The report that `run` gives is judged yes.
 use Rattle.std.specs.Prelude.{codes, ℕ, ◌≡◌, List, ◌++◌}
+use Rattle.sift_flight.specs.Hearing.{Strays}
 use Rattle.sift_jobs.specs.Run.{run_duty}
 use Rattle.sift_jobs.specs.declared.run.RunJob.{RunJob}
+use Rattle.sift_mission.specs.Data.{MissionData}
 use Rattle.sift_reply.specs.Reply.{Reply, done}
 use Rattle.sift_judge_jobs.specs.Divided.{AreDivided, divider}
 use Rattle.sift_judge_jobs.specs.Judge.{judge_duty}
@@ -11,8 +13,9 @@ use Rattle.sift_judge_jobs.specs.declared.judge.JudgeJob.{JudgeJob}
 abbrev pub IsDividedThere : (document report : List ℕ) → Type 0
 IsDividedThere document report = AreDivided (document ++ (divider ++ report)) document report
 
--- where `run` gives the report to the document, each reply that `judge` gives to them in the same version is yes
-abbrev pub RunsAreJudgedYes : Type 0
-RunsAreJudgedYes = (run : RunJob) (judge : JudgeJob) (document report : List ℕ) (came : Reply) → run.version ≡ judge.version
-    → (run_duty run).gives document (done report) → IsDividedThere document report
+-- where `run` gives the report to the document, whatever its rogues may give, each reply that `judge` gives to them in the same version is
+-- yes
+abbrev pub RunsAreJudgedYes : (given : MissionData → Strays → Type 0) → Type 0
+RunsAreJudgedYes given = (run : RunJob) (judge : JudgeJob) (document report : List ℕ) (came : Reply) → run.version ≡ judge.version
+    → (run_duty given run).gives document (done report) → IsDividedThere document report
     → (judge_duty judge).gives (document ++ (divider ++ report)) came → came ≡ done (codes "yes\n")

@@ -1,17 +1,18 @@
 //! The command `judge`.
 
 ghost use Rattle.std.specs.Prelude.{◌≡◌, IfOk};
-ghost use Rattle.sift_judge_jobs.specs.Judge.{judge_job_of, no_line, told};
+ghost use Rattle.sift_judge_jobs.specs.Judge.{ReportGives, judge_job_of, no_line, told};
+ghost use Rattle.sift_mission.specs.Parts.{data_of};
 
 use crate::divided::{Divided, divide};
 use crate::lines::read_lines;
 use sift_base::{NoMemory, Stop};
 use sift_jobs::version_of;
 use sift_judge::{Verdict, judge};
-use sift_load::{MissionJob, reply_for_bytes};
+use sift_load::{MissionJob, begin_for_bytes};
 use sift_mission::Mission;
 use sift_options::Options;
-use sift_reply::{Job, Reply};
+use sift_reply::{Begun, Job, Reply, Work};
 use sift_report::Version;
 use std::alloc::Global;
 
@@ -36,22 +37,22 @@ impl JudgeJob {
     }
 }
 
-impl Job for JudgeJob {
+impl<M: Drop, W: Work> Job<M, W> for JudgeJob {
     ghost use Rattle.sift_judge_jobs.specs.Judge.{judge_duty};
 
-    ghost duty = { judge_duty };
+    ghost duty = { λ means. judge_duty };
 
     fn limit(self) -> Option<u32> {
         Some(INPUT_LIMIT)
     }
 
-    fn reply(self, alloc: Global, bytes: &[u8]) -> Result<Reply, NoMemory> {
+    fn begin(self, alloc: Global, means: M, bytes: &[u8]) -> Result<Begun<W>, NoMemory> {
         let version = self.version;
         match divide(bytes) {
             Some(Divided { document, report }) => {
-                reply_for_bytes(alloc, ReportJob { report, version }, document)
+                begin_for_bytes(alloc, means, ReportJob { report, version }, document)
             }
-            None => no_line(alloc, 0),
+            None => Ok(Begun::Replied(no_line(alloc, 0)?)),
         }
     }
 }
@@ -63,12 +64,21 @@ pub struct ReportJob<'a> {
     version: Version,
 }
 
-impl MissionJob for ReportJob<'_> {
+impl<M: Drop, W: Work> MissionJob<M, W> for ReportJob<'_> {
     ghost use Rattle.sift_judge_jobs.specs.Judge.{ReportGives};
 
-    ghost gives_for = { λ job. ReportGives job.version job.report.now };
+    ghost gives_for = { λ means job. ReportGives job.version job.report.now };
 
-    fn reply_for(self, alloc: Global, mission: &Mission) -> Result<Reply, NoMemory> {
+    fn begin_for(self, alloc: Global, _means: M, mission: Mission) -> Result<Begun<W>, NoMemory> {
+        Ok(Begun::Replied(self.reply_for(alloc, &mission)?))
+    }
+}
+
+impl ReportJob<'_> {
+    /// The reply for a mission: the verdict, or the first line that is none.
+    fn reply_for(self, alloc: Global, mission: &Mission) -> Result<Reply, NoMemory>
+        ensures { IfOk result (ReportGives self.entry.version self.entry.report.now (data_of mission.now)) }
+    {
         match read_lines(alloc, self.report, self.version) {
             Ok(lines) => told(alloc, judge(mission, &lines)),
             Err(Stop::Refused(number)) => no_line(alloc, number),

@@ -1,13 +1,13 @@
 //! The command `byz`.
 
 ghost use Rattle.std.specs.Prelude.{◌≡◌, IfOk};
-ghost use Rattle.sift_lab_jobs.specs.Byz.{ByzGivesFor, broken_rule};
+ghost use Rattle.sift_lab_jobs.specs.Byz.{ByzGives, ByzGivesFor, broken_rule};
 ghost use Rattle.toml.specs.View.{table_view};
 
 use sift_base::{NoMemory, Stop};
 use sift_byz::{ByzStop, exchange, read_byz, vectors_text};
 use sift_load::{DOCUMENT_LIMIT, read_document};
-use sift_reply::{Job, Reply};
+use sift_reply::{Begun, Job, Reply, Work};
 use std::alloc::Global;
 use toml::Table;
 
@@ -15,21 +15,28 @@ use toml::Table;
 #[derive(Clone, Copy)]
 pub struct ByzJob;
 
-impl Job for ByzJob {
+impl<M: Drop, W: Work> Job<M, W> for ByzJob {
     ghost use Rattle.sift_lab_jobs.specs.Byz.{byz_duty};
 
-    ghost duty = { byz_duty };
+    ghost duty = { λ means. byz_duty };
 
     fn limit(self) -> Option<u32> {
         Some(DOCUMENT_LIMIT)
     }
 
-    fn reply(self, alloc: Global, bytes: &[u8]) -> Result<Reply, NoMemory> {
-        match read_document(alloc, bytes) {
-            Ok(document) => reply_for(alloc, &document),
-            Err(Stop::Refused(why)) => why.reply(alloc),
-            Err(Stop::NoMemory) => Err(NoMemory),
-        }
+    fn begin(self, alloc: Global, _means: M, bytes: &[u8]) -> Result<Begun<W>, NoMemory> {
+        Ok(Begun::Replied(reply_to(alloc, bytes)?))
+    }
+}
+
+/// The reply to these bytes.
+fn reply_to(alloc: Global, bytes: &[u8]) -> Result<Reply, NoMemory>
+    ensures { IfOk result (ByzGives bytes.now) }
+{
+    match read_document(alloc, bytes) {
+        Ok(document) => reply_for(alloc, &document),
+        Err(Stop::Refused(why)) => why.reply(alloc),
+        Err(Stop::NoMemory) => Err(NoMemory),
     }
 }
 

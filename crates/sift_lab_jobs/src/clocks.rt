@@ -1,12 +1,12 @@
 //! The command `clocks`.
 
-ghost use Rattle.std.specs.Prelude.{◌≡◌};
-ghost use Rattle.sift_lab_jobs.specs.Clocks.{clocks_job_of};
+ghost use Rattle.std.specs.Prelude.{◌≡◌, [], IfOk};
+ghost use Rattle.sift_lab_jobs.specs.Clocks.{ClocksGives, clocks_job_of};
 
 use sift_base::NoMemory;
 use sift_clocklab::{LabStop, drawn, drawn_runs_are_of_the_draws, lab_text, run_lab};
 use sift_options::{Options, within};
-use sift_reply::{Job, Reply};
+use sift_reply::{Begun, Job, Reply, Work};
 use std::alloc::Global;
 use std::marker::Model;
 
@@ -59,18 +59,11 @@ impl ClocksJob {
             number,
         })
     }
-}
 
-impl Job for ClocksJob {
-    ghost use Rattle.sift_lab_jobs.specs.Clocks.{clocks_duty};
-
-    ghost duty = { clocks_duty };
-
-    fn limit(self) -> Option<u32> {
-        None
-    }
-
-    fn reply(self, alloc: Global, _bytes: &[u8]) -> Result<Reply, NoMemory> {
+    /// The reply: the text of the run that is drawn, or that its laboratory isn't admitted.
+    fn reply(self, alloc: Global) -> Result<Reply, NoMemory>
+        ensures { IfOk result (ClocksGives self []) }
+    {
         drawn_runs_are_of_the_draws();
         let (skew, error, rate) = (self.skew.into(), self.error.into(), self.rate.into());
         let (lab, mut face) = match drawn(
@@ -90,5 +83,19 @@ impl Job for ClocksJob {
         let run = run_lab(alloc, &lab, &mut face)?;
         let text = lab_text(alloc, &lab, &run)?;
         Ok(Reply::done(text))
+    }
+}
+
+impl<M: Drop, W: Work> Job<M, W> for ClocksJob {
+    ghost use Rattle.sift_lab_jobs.specs.Clocks.{clocks_duty};
+
+    ghost duty = { λ means. clocks_duty };
+
+    fn limit(self) -> Option<u32> {
+        None
+    }
+
+    fn begin(self, alloc: Global, _means: M, _bytes: &[u8]) -> Result<Begun<W>, NoMemory> {
+        Ok(Begun::Replied(self.reply(alloc)?))
     }
 }

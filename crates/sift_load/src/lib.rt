@@ -10,5 +10,5 @@ mod no_mission;
 
 pub use law::{bytes_state_one_mission, loading_gives_one, loading_has_own_statuses};
 pub use loading::{load, read_document};
-pub use mission_job::{DOCUMENT_LIMIT, MissionJob, reply_for_bytes};
+pub use mission_job::{DOCUMENT_LIMIT, MissionJob, begin_for_bytes};
 pub use no_mission::NoMission;

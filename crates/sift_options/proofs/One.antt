@@ -3,7 +3,7 @@ use Rattle.std.proofs.Common.{◌≡◌, ℕ, List, [], get_or, sym, ap, ◌∙�
 use Rattle.sift_options.specs.Options.{Adds, IsValue, Sets, more, none, with_given}
 use Rattle.sift_options.specs.Laws.{OneListOfOptions}
 use Rattle.sift_options.specs.declared.setting.Flag.{Flag}
-use Rattle.sift_options.specs.declared.setting.Flag.TheVariants.{Workers, Order, Report, Number, N, M, Skew, Error, Rate, Rounds, Copies, Subframes}
+use Rattle.sift_options.specs.declared.setting.Flag.TheVariants.{Workers, Order, Report, Number, N, M, Skew, Error, Rate, Rounds, Copies, Subframes, Bus, From, Value}
 use Rattle.sift_options.specs.declared.setting.Options.{Options}
 use Rattle.sift_options.proofs.Settings.{adds_nothing, begins, no_words}
 
@@ -21,6 +21,9 @@ one_value Rate text n k a b = sym a.value ∙ b.value
 one_value Rounds text n k a b = sym a.value ∙ b.value
 one_value Copies text n k a b = sym a.value ∙ b.value
 one_value Subframes text n k a b = sym a.value ∙ b.value
+one_value Bus text n k a b = sym a.value ∙ b.value
+one_value From text n k a b = sym a.value ∙ b.value
+one_value Value text n k a b = sym a.value ∙ b.value
 
 -- it sets an option in one way
 one_setting : (options : Options) (flag : Flag) (text : List ℕ) (one other : Options) → Sets options flag text one →

@@ -1,9 +1,9 @@
 -- Options in words: words begin with one option and one value at most.
-use Rattle.std.proofs.Common.{◌≡◌, ℕ, List, [], ◌∷◌, length, get_or, drop, Bool, true, false, cond, nat_eq, bytes_eq, Some, None, refl, ap, sym, ◌∙◌, subst, arith, inl, inr}
+use Rattle.std.proofs.Common.{◌≡◌, ℕ, ◌<◌, List, [], ◌∷◌, length, get_or, drop, Bool, true, false, cond, nat_eq, bytes_eq, Some, None, refl, ap, sym, ◌∙◌, subst, arith, inl, inr}
 use Rattle.std.specs.List.{after_first, before_first, list_any}
 use Rattle.sift_options.specs.Options.{Adds, more, none, BeginWith, Sets, joined, name_of}
 use Rattle.sift_options.specs.declared.setting.Flag.{Flag}
-use Rattle.sift_options.specs.declared.setting.Flag.TheVariants.{Workers, Order, Report, Number, N, M, Skew, Error, Rate, Rounds, Copies, Subframes}
+use Rattle.sift_options.specs.declared.setting.Flag.TheVariants.{Workers, Order, Report, Number, N, M, Skew, Error, Rate, Rounds, Copies, Subframes, Bus, From, Value}
 use Rattle.sift_options.specs.declared.setting.Options.{Options}
 
 -- ---- names
@@ -21,7 +21,10 @@ flag_with name =
     (cond (bytes_eq name (name_of Rate)) Rate
     (cond (bytes_eq name (name_of Rounds)) Rounds
     (cond (bytes_eq name (name_of Copies)) Copies
-    (cond (bytes_eq name (name_of Subframes)) Subframes Workers))))))))))
+    (cond (bytes_eq name (name_of Subframes)) Subframes
+    (cond (bytes_eq name (name_of Bus)) Bus
+    (cond (bytes_eq name (name_of From)) From
+    (cond (bytes_eq name (name_of Value)) Value Workers)))))))))))))
 
 -- an option is known by its name
 named : (flag : Flag) → flag_with (name_of flag) ≡ flag
@@ -37,6 +40,9 @@ named Rate = refl
 named Rounds = refl
 named Copies = refl
 named Subframes = refl
+named Bus = refl
+named From = refl
+named Value = refl
 
 -- so different options have different names
 pub names_differ : (f g : Flag) → name_of f ≡ name_of g → f ≡ g
@@ -62,6 +68,9 @@ signless Rate = refl
 signless Rounds = refl
 signless Copies = refl
 signless Subframes = refl
+signless Bus = refl
+signless From = refl
+signless Value = refl
 
 -- a name with its value has it
 pub signed : (flag : Flag) (v : List ℕ) → list_any is_sign (joined flag v) ≡ true
@@ -77,6 +86,9 @@ signed Rate v = refl
 signed Rounds v = refl
 signed Copies v = refl
 signed Subframes v = refl
+signed Bus v = refl
+signed From v = refl
+signed Value v = refl
 
 -- the name stands before the first sign
 pub name_in : (flag : Flag) (v : List ℕ) → before_first is_sign (joined flag v) ≡ name_of flag
@@ -92,6 +104,9 @@ name_in Rate v = refl
 name_in Rounds v = refl
 name_in Copies v = refl
 name_in Subframes v = refl
+name_in Bus v = refl
+name_in From v = refl
+name_in Value v = refl
 
 -- and the value behind it
 value_in : (flag : Flag) (v : List ℕ) → after_first is_sign (joined flag v) ≡ v
@@ -107,6 +122,9 @@ value_in Rate v = refl
 value_in Rounds v = refl
 value_in Copies v = refl
 value_in Subframes v = refl
+value_in Bus v = refl
+value_in From v = refl
+value_in Value v = refl
 
 -- the name alone is not the name with a value
 pub alone : (f g : Flag) (v : List ℕ) → name_of f ≡ joined g v → ⊥
@@ -145,6 +163,12 @@ begin_once flags words f g v w r s (_, inr a) (_, inr b) =
     let e = sym a ∙ b in
     let one = joined_once f g v w (head_same _ _ _ _ e) in
     record { flag = one.0; value = one.1; rest = tail_same _ _ _ _ e }
+
+-- fewer words stand behind it
+pub fewer_behind : (flags : List Flag) (words : List (List ℕ)) (flag : Flag) (value : List ℕ) (rest : List (List ℕ)) →
+    BeginWith flags words flag value rest → length rest < length words
+fewer_behind flags words flag value rest (_, inl e) = omega (arith, ap length e)
+fewer_behind flags words flag value rest (_, inr e) = omega (arith, ap length e)
 
 -- what words add that begin with an option: it is set, and then the rest adds
 pub record Begins (flags : List Flag) (options all : Options) (flag : Flag) (value : List ℕ) (rest : List (List ℕ)) : Type 0 where

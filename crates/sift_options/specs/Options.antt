@@ -2,7 +2,7 @@
 use Rattle.std.specs.Prelude.{codes, ℕ, ◌≡◌, ◌≤◌, ◌<◌, ◌+◌, ◌^◌, List, [], ◌∷◌, ◌++◌, ◌⊎◌, ◌&&◌, nat_le, if◌then◌else◌, length, Contains, Option, Some, None}
 use Rattle.std.specs.Str.Parse.{AllDigits, digits_value}
 use Rattle.sift_options.specs.declared.setting.Flag.{Flag}
-use Rattle.sift_options.specs.declared.setting.Flag.TheVariants.{Workers, Order, Report, Number, N, M, Skew, Error, Rate, Rounds, Copies, Subframes}
+use Rattle.sift_options.specs.declared.setting.Flag.TheVariants.{Workers, Order, Report, Number, N, M, Skew, Error, Rate, Rounds, Copies, Subframes, Bus, From, Value}
 use Rattle.sift_options.specs.declared.setting.Options.{Options}
 
 -- ---- one option
@@ -21,10 +21,13 @@ name_of Rate = codes "--rate"
 name_of Rounds = codes "--rounds"
 name_of Copies = codes "--copies"
 name_of Subframes = codes "--subframes"
+name_of Bus = codes "--bus"
+name_of From = codes "--from"
+name_of Value = codes "--value"
 
 -- the most workers
 abbrev pub worker_limit : ℕ
-worker_limit = 1
+worker_limit = 8
 
 -- the last version of reports
 abbrev pub version_limit : ℕ
@@ -69,6 +72,9 @@ IsValue Rate text n = IsNumber text n
 IsValue Rounds text n = IsNumber text n
 IsValue Copies text n = IsNumber text n
 IsValue Subframes text n = IsNumber text n
+IsValue Bus text n = IsNumber text n
+IsValue From text n = IsNumber text n
+IsValue Value text n = IsNumber text n
 
 -- ---- options
 
@@ -86,6 +92,9 @@ given options Rate = options.rate
 given options Rounds = options.rounds
 given options Copies = options.copies
 given options Subframes = options.subframes
+given options Bus = options.bus
+given options From = options.from
+given options Value = options.value
 
 -- no option is given
 abbrev pub no_options : Options
@@ -102,6 +111,9 @@ no_options = record {
   rounds = None;
   copies = None;
   subframes = None;
+  bus = None;
+  from = None;
+  value = None;
 }
 
 -- these options with the number of one
@@ -118,6 +130,9 @@ with_given options Rate n = record options { rate = Some n }
 with_given options Rounds n = record options { rounds = Some n }
 with_given options Copies n = record options { copies = Some n }
 with_given options Subframes n = record options { subframes = Some n }
+with_given options Bus n = record options { bus = Some n }
+with_given options From n = record options { from = Some n }
+with_given options Value n = record options { value = Some n }
 
 -- an option that wasn't given is set to what the text says, and the others stay
 abbrev pub Sets : Options → Flag → (value : List ℕ) → Options → Type 0

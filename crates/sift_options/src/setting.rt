@@ -30,6 +30,12 @@ pub enum Flag {
     Copies,
     /// `--subframes`: how many subframes a frame has.
     Subframes,
+    /// `--bus`: which bus is faulty.
+    Bus,
+    /// `--from`: from which frame on it is.
+    From,
+    /// `--value`: what it carries then.
+    Value,
 }
 
 /// The options of a command: the number of each one that is given.
@@ -47,6 +53,9 @@ pub struct Options {
     pub rounds: Option<u64>,
     pub copies: Option<u64>,
     pub subframes: Option<u64>,
+    pub bus: Option<u64>,
+    pub from: Option<u64>,
+    pub value: Option<u64>,
 }
 
 impl Flag {
@@ -67,6 +76,9 @@ impl Flag {
             Flag::Rounds => "--rounds",
             Flag::Copies => "--copies",
             Flag::Subframes => "--subframes",
+            Flag::Bus => "--bus",
+            Flag::From => "--from",
+            Flag::Value => "--value",
         }
     }
 }
@@ -86,6 +98,9 @@ impl Options {
         rounds: None,
         copies: None,
         subframes: None,
+        bus: None,
+        from: None,
+        value: None,
     };
 
     /// The number of an option, where it is given.
@@ -105,6 +120,9 @@ impl Options {
             Flag::Rounds => self.rounds,
             Flag::Copies => self.copies,
             Flag::Subframes => self.subframes,
+            Flag::Bus => self.bus,
+            Flag::From => self.from,
+            Flag::Value => self.value,
         }
     }
 
@@ -127,6 +145,9 @@ impl Options {
             Flag::Rounds => options.rounds = number,
             Flag::Copies => options.copies = number,
             Flag::Subframes => options.subframes = number,
+            Flag::Bus => options.bus = number,
+            Flag::From => options.from = number,
+            Flag::Value => options.value = number,
         }
         options
     }
@@ -238,7 +259,10 @@ fn value_of(flag: Flag, text: &str) -> Option<u64>
         | Flag::Rate
         | Flag::Rounds
         | Flag::Copies
-        | Flag::Subframes => number(text),
+        | Flag::Subframes
+        | Flag::Bus
+        | Flag::From
+        | Flag::Value => number(text),
     }
 }
 
@@ -247,8 +271,8 @@ fn worker_count(text: &str) -> Option<u64>
     ensures found { IfSome result (IsWorkerCount text.now) }
     ensures exact { (n : ℕ) → IsWorkerCount text.now n → result ≡ Some n }
 {
-    match text {
-        "1" => Some(1),
+    match text.as_bytes() {
+        [digit @ b'1'..=b'8'] => Some(u64::from(*digit - b'0')),
         _ => None,
     }
 }

@@ -1,4 +1,5 @@
 pub mod Reply
+pub mod Begun
 pub mod Duty
 pub mod Input
 pub mod Output

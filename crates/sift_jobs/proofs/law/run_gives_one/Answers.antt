@@ -2,7 +2,7 @@ use Rattle.sift_jobs.proofs.Alike.{one_report}
 use Rattle.sift_jobs.proofs.law.run_gives_one.Goals as goal
 
 pub returns : goal.returns
-returns c = λ job bytes calm.
-    c.loading_gives_one.ensures job bytes
-    (one_report c.fitting_parts_make_a_flight.ensures c.round_flights_are_alike.ensures c.alike_flights_have_one_text.ensures
+returns g c = λ flier job bytes calm.
+    c.loading_gives_one.ensures flier job bytes
+    (one_report (g.F.Flier.gives flier) c.fitting_parts_make_a_flight.ensures c.round_flights_are_alike.ensures c.alike_flights_have_one_text.ensures
     c.stated_missions_fit.ensures job bytes calm)

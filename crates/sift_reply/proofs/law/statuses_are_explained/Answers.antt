@@ -3,4 +3,4 @@ use Rattle.sift_reply.proofs.Explained.{statuses_are_explained}
 use Rattle.sift_reply.proofs.law.statuses_are_explained.Goals as goal
 
 pub returns : goal.returns
-returns g c = statuses_are_explained (commands_of g.C.Asked.asks g.C.Job.duty)
+returns g c = λ means. statuses_are_explained (commands_of g.C.Asked.asks (g.C.Job.duty means))

@@ -1,10 +1,19 @@
 use Rattle.std.proofs.Common.{◌≡◌, length, map, string_bytes, Global, ◌≤◌, sym, subst, arith}
 use Rattle.std.proofs.lemmas.Bool.Decides.{nat_tests}
+use Rattle.std.proofs.lemmas.List.{length-map}
 use Rattle.std.proofs.lemmas.Option.{IfSome_then}
 use Rattle.sift_options.specs.Options.{Adds, more, none}
-use Rattle.sift_options.proofs.Settings.{begins, adds_nothing, same_some, some_or_none}
+use Rattle.sift_options.proofs.Settings.{begins, fewer_behind, adds_nothing, same_some, some_or_none}
 use Rattle.sift_options.proofs.Words.{map-nothing, map-something}
 use Rattle.sift_options.proofs.setting.Options.+and.Goals as goal
+
+-- fewer words are left
+pub and-requires : goal.and-requires
+and-requires t c =
+    let fewer = fewer_behind c.args.flags.now _ c.in-Some.setting.flag _ _ c.in-Some.ensures.found in
+    let words = length-map c.args.words.now (string_bytes {Z = Global}) in
+    let rest = length-map c.in-Some.setting.rest.now (string_bytes {Z = Global}) in
+    (omega (arith, fewer, words, rest, c.decreases), tt {0})
 
 -- the first option sets nothing, so the words add nothing
 pub returns-in_err-with-in-Some-clause-exact : goal.returns-in_err-with-in-Some-clause-exact

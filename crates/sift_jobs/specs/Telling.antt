@@ -1,0 +1,29 @@
+-- What is told of a flight.
+use Rattle.std.specs.Prelude.{◌≡◌, ℕ, List}
+use Rattle.std.specs.List.{All}
+use Rattle.sift_flight.specs.Flight.{Flight}
+use Rattle.sift_flight.specs.Hearing.{Strays}
+use Rattle.sift_mission.specs.Data.{MissionData}
+use Rattle.sift_mission.specs.Flown.{flown}
+use Rattle.sift_reply.specs.Reply.{Reply, done}
+use Rattle.sift_report.specs.Line.{IsLine}
+use Rattle.sift_report.specs.Sheet.{end_of, report_of, sheet_of}
+use Rattle.sift_report.specs.Votes.{votes_of}
+use Rattle.sift_jobs.specs.Flights.{IsFlightOf}
+use Rattle.sift_jobs.specs.declared.telling.Telling.{Telling}
+use Rattle.sift_jobs.specs.declared.telling.Telling.TheVariants.{Report, Votes, LastLine}
+
+-- the text tells it of a flight of a mission: its report in a version, of which what it prints are lines; its votes; or the report's last line
+abbrev pub IsTelling : MissionData → Flight → Telling → (text : List ℕ) → Type 0
+IsTelling mission flight (Report version) text =
+    All IsLine (sheet_of (flown mission) flight version) × (text ≡ report_of (flown mission) flight version)
+IsTelling mission flight Votes text = text ≡ votes_of mission flight
+IsTelling mission flight LastLine text = text ≡ end_of (flown mission) flight
+
+-- it tells it of some flight of the mission, over strays that rogues may give
+abbrev pub TellsFlight : (given : MissionData → Strays → Type 0) → MissionData → Telling → (text : List ℕ) → Type 0
+TellsFlight given mission telling text = (flight : Flight) × IsFlightOf given mission flight × IsTelling mission flight telling text
+
+-- the reply has the status 0, and its text does
+abbrev pub RepliesWith : (given : MissionData → Strays → Type 0) → MissionData → Telling → Reply → Type 0
+RepliesWith given mission telling came = (text : List ℕ) × TellsFlight given mission telling text × (came ≡ done text)
