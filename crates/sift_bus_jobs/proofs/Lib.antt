@@ -1,0 +1,5 @@
+pub mod Counted
+pub mod Texts
+pub mod Told
+pub mod Coming
+pub mod OneReply

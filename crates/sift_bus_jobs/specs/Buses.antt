@@ -1,0 +1,61 @@
+-- The command `buses`: the report of a flight over three buses, and how many words the faulty one got wrong.
+use Rattle.std.specs.Prelude.{codes, ℕ, ◌≡◌, ◌⊎◌, List, ◌∷◌, ◌++◌, true, Some}
+use Rattle.sift_base.specs.Units.{has}
+use Rattle.sift_flight.specs.Flight.{Flight}
+use Rattle.sift_flight.specs.Hearing.{Strays}
+use Rattle.sift_flight.specs.Round.{HasNoStorms, IsRound}
+use Rattle.sift_load.specs.Loads.{mission_duty}
+use Rattle.sift_load.specs.NoMission.{no_mission_statuses}
+use Rattle.sift_mission.specs.Data.{MissionData}
+use Rattle.sift_mission.specs.Flown.{flown}
+use Rattle.sift_mission.specs.Mission.{FlownMission}
+use Rattle.sift_reply.specs.Duty.{Duty}
+use Rattle.sift_reply.specs.Reply.{Reply, done, done_status, reply}
+use Rattle.sift_report.specs.Sheet.{report_of}
+use Rattle.sift_report.specs.declared.version.Version.TheVariants.{Two}
+use Rattle.sift_bus_jobs.specs.Numbers.{BusNumbers}
+use Rattle.sift_bus_jobs.specs.Text.{words_text}
+use Rattle.sift_bus_jobs.specs.Wrong.{wrong_in}
+
+-- ---- storms
+
+-- a unit of the mission turns stray in some frame
+abbrev pub HasStorm : FlownMission → Type 0
+HasStorm m = (u : ℕ) × (from : ℕ) × (has m.units u ≡ true) × (m.storm u ≡ Some from)
+
+-- the status of a mission that has a storm
+abbrev pub storm_status : ℕ
+storm_status = 15
+
+-- the reply to it: it isn't flown
+abbrev pub storm : Reply
+storm = reply storm_status (codes "storm\n")
+
+-- ---- flights
+
+-- a flight of a mission without storms: in each frame each unit hears by the hearing equations and does what the conduct equations say. There
+-- is one such flight (buses change no word that a unit hears)
+pub record FliesCalm (mission : MissionData) (flight : Flight) : Type 0 where
+  pub calm : HasNoStorms (flown mission)
+  pub strays : Strays
+  pub round : IsRound (flown mission) strays flight
+
+-- the text of a flight: its report in version 2; and for each frame how many words the faulty bus got wrong of those that all units heard
+abbrev pub told : BusNumbers → MissionData → Flight → List ℕ
+told job mission flight = report_of (flown mission) flight Two ++ words_text job.bus mission.frames (wrong_in job (flown mission) flight)
+
+-- ---- what it gives
+
+-- the text of a flight of the mission, where it has no storm; that it has one
+abbrev pub BusesGives : BusNumbers → MissionData → Reply → Type 0
+BusesGives job mission came =
+    ((flight : Flight) × FliesCalm mission flight × (came ≡ done (told job mission flight)))
+    ⊎ (HasStorm (flown mission) × (came ≡ storm))
+
+-- what it has to do
+abbrev pub buses_duty : BusNumbers → Duty
+buses_duty job = mission_duty (BusesGives job)
+
+-- the statuses of its replies
+abbrev pub buses_statuses : List ℕ
+buses_statuses = done_status ∷ storm_status ∷ no_mission_statuses

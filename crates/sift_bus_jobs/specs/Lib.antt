@@ -1,0 +1,4 @@
+pub mod Numbers
+pub mod Wrong
+pub mod Text
+pub mod Buses

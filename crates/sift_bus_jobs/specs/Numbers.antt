@@ -1,0 +1,43 @@
+-- What options ask of `buses`: which bus is faulty, from which frame on, and what it carries then.
+use Rattle.std.specs.Prelude.{ℕ, ◌<◌, ◌≤◌, Option, Some, None, IfSome, option_map}
+use Rattle.sift_bus.specs.Buses.{bus_count}
+use Rattle.sift_options.specs.Options.{within}
+use Rattle.sift_options.specs.declared.setting.Options.{Options}
+
+-- a faulty bus, the frame from which on it is faulty, and the word that it carries then in place of every other, or absence
+pub record BusNumbers : Type 0 where
+  pub bus : ℕ
+  pub from : ℕ
+  pub value : Option ℕ
+
+-- the last of three buses
+abbrev pub last_bus : ℕ
+last_bus = 2
+
+-- the last frame of the longest mission
+abbrev pub last_frame : ℕ
+last_frame = 999
+
+-- the largest word
+abbrev pub last_word : ℕ
+last_word = 65535
+
+-- they are within these limits
+pub record AreWithinLimits (numbers : BusNumbers) : Type 0 where
+  pub bus : numbers.bus < bus_count
+  pub frame : numbers.from ≤ last_frame
+  pub word : IfSome numbers.value (λ word. word ≤ last_word)
+
+-- the word that is given, where one is; a number that is no word's is none
+abbrev pub word_given : Option ℕ → Option (Option ℕ)
+word_given None = Some None
+word_given (Some number) = option_map Some (within 0 last_word (Some number))
+
+-- a faulty bus with these numbers, where all are there
+abbrev pub buses_with : (bus from : Option ℕ) → (value : Option (Option ℕ)) → Option BusNumbers
+buses_with (Some bus) (Some from) (Some value) = Some (record { bus = bus; from = from; value = value })
+buses_with bus from value = None
+
+-- what options ask for: the bus and the frame have to be given, and a word may be, each in its range
+abbrev pub buses_job_of : Options → Option BusNumbers
+buses_job_of options = buses_with (within 0 last_bus options.bus) (within 0 last_frame options.from) (word_given options.value)

@@ -1,0 +1,134 @@
+//! The command `buses`.
+
+ghost use Rattle.std.specs.Prelude.{◌≡◌, IfOk, string_bytes};
+ghost use Rattle.sift_bus_jobs.specs.Buses.{BusesGives, FliesCalm, told};
+ghost use Rattle.sift_bus_jobs.specs.Numbers.{buses_job_of, word_given};
+ghost use Rattle.sift_flight.specs.Flight.{Flight as Flown};
+ghost use Rattle.sift_flight.specs.Round.{HasNoStorms};
+ghost use Rattle.sift_mission.specs.Parts.{data_of, flown_of};
+
+use crate::counts::push_words;
+use crate::flier::BusFlier;
+use crate::storms::has_storm;
+use sift_base::{NoMemory, Word};
+use sift_bus::{Constant, logs_tell_what_was_heard};
+use sift_flight::round_flights_are_whole;
+use sift_load::{DOCUMENT_LIMIT, MissionJob, begin_for_bytes};
+use sift_mission::{Mission, a_mission_fits};
+use sift_options::{Options, within};
+use sift_reply::{Begun, Job, Reply, Work};
+use sift_report::{Version, report_text};
+use std::alloc::Global;
+use std::marker::Model;
+
+/// `buses`: flies the mission that the input states over three buses, of which one is faulty, and
+/// tells the report and how many words that bus got wrong.
+#[derive(Clone, Copy)]
+pub struct BusesJob {
+    /// Which bus is faulty.
+    bus: u8,
+    /// From which frame on it is.
+    from: u32,
+    /// What it carries then in place of every word, and of absence.
+    value: Option<Word>,
+}
+
+impl Model for BusesJob {
+    ghost use Rattle.sift_bus_jobs.specs.Numbers.{AreWithinLimits, BusNumbers};
+
+    ghost Value = { BusNumbers };
+
+    ghost view = { λ job. record { bus = job.bus; from = job.from; value = job.value } };
+
+    ghost invariant = { λ job. AreWithinLimits (record { bus = job.bus; from = job.from; value = job.value }) };
+
+    ghost inverse = { λ numbers. record { bus = numbers.bus; from = numbers.from; value = numbers.value } };
+}
+
+impl BusesJob {
+    /// What the options ask for: the bus, from 0 to 2, and the frame, from 0 to 999, have to be given, and
+    /// the value may be, from 0 to 65,535. Without one the bus carries absence.
+    pub fn of(options: Options) -> Option<BusesJob>
+        ensures { result ≡ buses_job_of options }
+    {
+        let bus = within(options.bus, 0, 2)? as u8;
+        let from = within(options.from, 0, 999)? as u32;
+        let value = word_given(options.value)?;
+        Some(BusesJob { bus, from, value })
+    }
+
+    /// The reply for a mission: what is told of its flight over three buses, or that it has a storm.
+    fn reply_for<F: BusFlier>(
+        self,
+        alloc: Global,
+        flier: F,
+        mission: &Mission,
+    ) -> Result<Reply, NoMemory>
+        ensures { IfOk result (BusesGives self (data_of mission.now)) }
+    {
+        if has_storm(mission) {
+            return Ok(Reply::fixed(15, "storm\n"));
+        }
+        let text = self.text_of(alloc, flier, mission)?;
+        Ok(Reply::done(text))
+    }
+
+    /// The report of a flight over three buses, and what the logs of the faulty one tell.
+    fn text_of<F: BusFlier>(
+        self,
+        alloc: Global,
+        flier: F,
+        mission: &Mission,
+    ) -> Result<String, NoMemory>
+        requires calm { HasNoStorms (flown_of mission.now) }
+        ensures { IfOk result (λ text. (flight : Flown) × FliesCalm (data_of mission.now) flight
+            × (string_bytes text ≡ told self (data_of mission.now) flight)) }
+    {
+        let frames = mission.parts().frames;
+        let bus = Constant {
+            from: self.from,
+            value: self.value,
+        };
+        round_flights_are_whole();
+        a_mission_fits(mission);
+        logs_tell_what_was_heard(&bus);
+        let (flight, logs) = flier.fly_buses(alloc, mission, self.bus, bus)?;
+        let mut text = report_text(alloc, mission, &flight, Version::Two)?;
+        push_words(&mut text, self.bus, frames, &logs)?;
+        Ok(text)
+    }
+}
+
+/// The word that is given, where one is. There is nothing where a number is given that is no word's.
+fn word_given(given: Option<u64>) -> Option<Option<Word>>
+    ensures { result ≡ word_given given }
+{
+    match given {
+        None => Some(None),
+        Some(_) => Some(Some(Word::of(within(given, 0, 65_535)? as u16))),
+    }
+}
+
+impl<F: BusFlier, W: Work> MissionJob<F, W> for BusesJob {
+    ghost use Rattle.sift_bus_jobs.specs.Buses.{BusesGives};
+
+    ghost gives_for = { λ flier. BusesGives };
+
+    fn begin_for(self, alloc: Global, flier: F, mission: Mission) -> Result<Begun<W>, NoMemory> {
+        Ok(Begun::Replied(self.reply_for(alloc, flier, &mission)?))
+    }
+}
+
+impl<F: BusFlier, W: Work> Job<F, W> for BusesJob {
+    ghost use Rattle.sift_bus_jobs.specs.Buses.{buses_duty};
+
+    ghost duty = { λ flier. buses_duty };
+
+    fn limit(self) -> Option<u32> {
+        Some(DOCUMENT_LIMIT)
+    }
+
+    fn begin(self, alloc: Global, flier: F, bytes: &[u8]) -> Result<Begun<W>, NoMemory> {
+        begin_for_bytes(alloc, flier, self, bytes)
+    }
+}
