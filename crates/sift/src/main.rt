@@ -2,12 +2,18 @@
 //!
 //! It reads a mission, flies it, and reports what every unit did. The top call is `sift_run::sift`, whose contract says
 //! what each exit status means; `sift_run::exit_code` ends the program with it, and `main` hands on the real words,
-//! input and output.
+//! input and output, and the handle by which workers run in threads. The rogues are `Storm`s.
 #![tactic(auto)]
 
-use sift_base::NoMemory;
+ghost use Rattle.std.specs.Prelude.{◌≡◌, IfOk, length};
+ghost use Rattle.sift_base.specs.Units.{unit_limit};
+
+use sift_base::{Draw, NoMemory};
 use sift_io::{StdIn, StdOut};
+use sift_rogue::Storm;
 use sift_run::exit_code;
+use sift_threads::NoProbe;
+use std::alloc::Global;
 use std::env;
 use std::io::ErrorKind;
 use std::process::ExitCode;
@@ -15,10 +21,35 @@ use std::rt::Env;
 
 /// Hands the real words, input and output to `exit_code`, whose contract says how the program ends.
 fn main(rt: HostRuntime) -> ExitCode {
+    let alloc = rt.alloc();
     let words = command_words(&rt);
     let mut source = StdIn::new(rt.stdin());
     let mut sink = StdOut::new(rt.stdout());
-    exit_code(rt.alloc(), words, &mut source, &mut sink)
+    let rogues = storms(alloc);
+    exit_code(&rt, alloc, words, &mut source, &mut sink, rogues, &NoProbe)
+}
+
+/// A storm for each unit that there may be, none of which has begun.
+fn storms(alloc: Global) -> Result<Vec<Storm>, NoMemory>
+    ensures { IfOk result (λ storms. length storms.items ≡ unit_limit) }
+{
+    Ok(vec![in alloc;
+        storm(),
+        storm(),
+        storm(),
+        storm(),
+        storm(),
+        storm(),
+        storm(),
+        storm(),
+    ]?)
+}
+
+/// A storm that hasn't begun.
+fn storm() -> Storm {
+    Storm {
+        drawer: Draw::of(0),
+    }
 }
 
 /// The words after the program's name. Where one of them isn't UTF-8 there are none, and no words are no command line.

@@ -1,4 +1,4 @@
-//! Rows of tests of missions, boards, machines, the texts of flights, missions of numbers, and the top call.
+//! Rows of tests of missions, boards, machines, the texts of flights, and missions of numbers.
 #![tactic(auto)]
 
 #[cfg(test)]
@@ -13,8 +13,6 @@ mod stated;
 mod storm;
 #[cfg(test)]
 mod texts;
-#[cfg(test)]
-mod top;
 #[cfg(test)]
 mod trial;
 #[cfg(test)]

@@ -1,5 +1,8 @@
 -- What holds of each command holds of all.
 use Rattle.std.proofs.Common.{ℕ, List, [], ◌∷◌}
+use Rattle.sift_bus_jobs.specs.Buses.{buses_duty, buses_statuses}
+use Rattle.sift_bus_jobs.specs.declared.buses.BusesJob.{BusesJob}
+use Rattle.sift_flight.specs.Hearing.{Strays}
 use Rattle.sift_jobs.specs.Check.{check_duty}
 use Rattle.sift_jobs.specs.Flights.{AreCalm}
 use Rattle.sift_jobs.specs.Gen.{gen_duty}
@@ -22,6 +25,7 @@ use Rattle.sift_lab_jobs.specs.Clocks.{clocks_duty, clocks_statuses}
 use Rattle.sift_lab_jobs.specs.declared.byz.ByzJob.{ByzJob}
 use Rattle.sift_lab_jobs.specs.declared.clocks.ClocksJob.{ClocksJob}
 use Rattle.sift_load.specs.NoMission.{no_mission_statuses}
+use Rattle.sift_mission.specs.Data.{MissionData}
 use Rattle.sift_reply.specs.Duty.{GivesOne, GivesOneTo, HasOwnStatuses}
 use Rattle.sift_reply.specs.Reply.{done_status}
 use Rattle.sift_run.specs.OneReply.{CommandsGiveOne}
@@ -29,19 +33,20 @@ use Rattle.sift_run.specs.Statuses.{CommandsHaveOwnStatuses}
 use Rattle.sift_run.specs.declared.command.Command.{Command}
 use Rattle.sift_run.specs.declared.command.Command.TheVariants as command
 
-module _
-    (run : (job : RunJob) → HasOwnStatuses (run_duty job) (done_status ∷ no_mission_statuses))
-    (votes : (job : VotesJob) → HasOwnStatuses (votes_duty job) (done_status ∷ no_mission_statuses))
+module _ (given : MissionData → Strays → Type 0)
+    (run : (job : RunJob) → HasOwnStatuses (run_duty given job) (done_status ∷ no_mission_statuses))
+    (votes : (job : VotesJob) → HasOwnStatuses (votes_duty given job) (done_status ∷ no_mission_statuses))
     (ideal : (job : IdealJob) → HasOwnStatuses (ideal_duty job) (done_status ∷ no_mission_statuses))
     (check : (job : CheckJob) → HasOwnStatuses (check_duty job) (done_status ∷ no_mission_statuses))
     (scenario : (job : GenJob) → HasOwnStatuses (gen_duty job) (done_status ∷ []))
-    (trial : (job : TrialJob) → HasOwnStatuses (trial_duty job) (done_status ∷ []))
+    (trial : (job : TrialJob) → HasOwnStatuses (trial_duty given job) (done_status ∷ []))
     (plan : (job : PlanJob) → HasOwnStatuses (plan_duty job) plan_statuses)
     (judge : (job : JudgeJob) → HasOwnStatuses (judge_duty job) judge_statuses)
+    (buses : (job : BusesJob) → HasOwnStatuses (buses_duty job) buses_statuses)
     (byz : (job : ByzJob) → HasOwnStatuses (byz_duty job) byz_statuses)
     (clocks : (job : ClocksJob) → HasOwnStatuses (clocks_duty job) clocks_statuses) where
   -- the statuses of each command are its own
-  pub own_statuses : CommandsHaveOwnStatuses
+  pub own_statuses : CommandsHaveOwnStatuses given
   own_statuses (command.Run job) = run job
   own_statuses (command.Votes job) = votes job
   own_statuses (command.Ideal job) = ideal job
@@ -50,18 +55,19 @@ module _
   own_statuses (command.Trial job) = trial job
   own_statuses (command.Plan job) = plan job
   own_statuses (command.Judge job) = judge job
+  own_statuses (command.Buses job) = buses job
   own_statuses (command.Byz job) = byz job
   own_statuses (command.Clocks job) = clocks job
 
-module _
-    (run : (job : RunJob) (bytes : List ℕ) → AreCalm bytes → GivesOneTo (run_duty job) bytes)
-    (votes : (job : VotesJob) (bytes : List ℕ) → AreCalm bytes → GivesOneTo (votes_duty job) bytes)
+module _ (given : MissionData → Strays → Type 0)
+    (run : (job : RunJob) (bytes : List ℕ) → AreCalm bytes → GivesOneTo (run_duty given job) bytes)
+    (votes : (job : VotesJob) (bytes : List ℕ) → AreCalm bytes → GivesOneTo (votes_duty given job) bytes)
     (ideal : (job : IdealJob) → GivesOne (ideal_duty job)) (check : (job : CheckJob) → GivesOne (check_duty job))
-    (scenario : (job : GenJob) → GivesOne (gen_duty job)) (trial : (job : TrialJob) → GivesOne (trial_duty job))
+    (scenario : (job : GenJob) → GivesOne (gen_duty job)) (trial : (job : TrialJob) → GivesOne (trial_duty given job))
     (plan : (job : PlanJob) → GivesOne (plan_duty job)) (judge : (job : JudgeJob) → GivesOne (judge_duty job))
-    (byz : (job : ByzJob) → GivesOne (byz_duty job)) (clocks : (job : ClocksJob) → GivesOne (clocks_duty job)) where
+    (buses : (job : BusesJob) → GivesOne (buses_duty job)) (byz : (job : ByzJob) → GivesOne (byz_duty job)) (clocks : (job : ClocksJob) → GivesOne (clocks_duty job)) where
   -- each command gives one reply to calm bytes, and those that fly no input to all
-  pub gives_one : CommandsGiveOne
+  pub gives_one : CommandsGiveOne given
   gives_one (command.Run job) bytes calm = run job bytes (calm tt)
   gives_one (command.Votes job) bytes calm = votes job bytes (calm tt)
   gives_one (command.Ideal job) bytes calm = ideal job bytes
@@ -70,5 +76,6 @@ module _
   gives_one (command.Trial job) bytes calm = trial job bytes
   gives_one (command.Plan job) bytes calm = plan job bytes
   gives_one (command.Judge job) bytes calm = judge job bytes
+  gives_one (command.Buses job) bytes calm = buses job bytes
   gives_one (command.Byz job) bytes calm = byz job bytes
   gives_one (command.Clocks job) bytes calm = clocks job bytes

@@ -1,6 +1,8 @@
 -- The headline follows from the promise.
 use Rattle.std.proofs.Common.{ℕ, Contains, sym, subst, ◌∙◌, arith}
+use Rattle.sift_flight.specs.Hearing.{Strays}
 use Rattle.sift_jobs.specs.Headline.{RunIsHeadlined}
+use Rattle.sift_mission.specs.Data.{MissionData}
 use Rattle.sift_reply.specs.Laws.{ShareNoStatus, StatusesAreExplained}
 use Rattle.sift_reply.specs.Reply.{done_status, shared_statuses}
 use Rattle.sift_run.specs.Command.{OneCommand, commands}
@@ -11,8 +13,9 @@ use Rattle.sift_run.specs.declared.command.Command.TheVariants.{Run}
 done_is_own : ¬ Contains shared_statuses done_status
 done_is_own = grind arith
 
-pub headline : OneCommand → ShareNoStatus commands → StatusesAreExplained commands → RunIsHeadlined → HeadlineIsWritten
-headline one own explained headlined words input output status answered job asks is =
+pub headline : (given : MissionData → Strays → Type 0) → OneCommand → ShareNoStatus (commands given) → StatusesAreExplained (commands given) → RunIsHeadlined given
+    → HeadlineIsWritten given
+headline given one own explained headlined words input output status answered job asks is =
     let gave = (explained one own words input output status answered).given (Run job) asks
     (subst (λ (n : ℕ). ¬ Contains shared_statuses n) (sym is) done_is_own) in
     (gave.0, gave.1.text, gave.2, headlined job gave.0 gave.1 gave.3 (sym gave.4.0 ∙ is), gave.4.1)

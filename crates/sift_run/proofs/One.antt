@@ -1,11 +1,13 @@
 -- Words ask for one command at most.
-use Rattle.std.proofs.Common.{◌≡◌, ℕ, List, [], get_or, drop, Some, cond, bytes_eq, refl, sym, ap, ◌∙◌, subst}
+use Rattle.std.proofs.Common.{◌≡◌, ℕ, List, [], ◌∷◌, get_or, drop, Option, Some, None, IfNone, cond, bytes_eq, refl, sym, ap, ◌∙◌, subst}
 use Rattle.sift_options.specs.Laws.{OneListOfOptions}
 use Rattle.sift_options.specs.Options.{Adds, no_options}
-use Rattle.sift_run.specs.Command.{OneCommand, asked}
+use Rattle.sift_options.specs.declared.setting.Options.{Options}
+use Rattle.sift_run.specs.Command.{Asks, OneCommand, asked}
 use Rattle.sift_run.specs.Verb.{flags_of, name_of}
+use Rattle.sift_run.specs.declared.command.Command.{Command}
 use Rattle.sift_run.specs.declared.verb.Verb.{Verb}
-use Rattle.sift_run.specs.declared.verb.Verb.TheVariants.{Run, Votes, Ideal, Check, Gen, Trial, Plan, Judge, Byz, Clocks}
+use Rattle.sift_run.specs.declared.verb.Verb.TheVariants.{Run, Votes, Ideal, Check, Gen, Trial, Plan, Judge, Buses, Byz, Clocks}
 
 -- the verb with a name
 abbrev verb_with : List ℕ → Verb
@@ -17,8 +19,9 @@ verb_with name =
     (cond (bytes_eq name (name_of Trial)) Trial
     (cond (bytes_eq name (name_of Plan)) Plan
     (cond (bytes_eq name (name_of Judge)) Judge
+    (cond (bytes_eq name (name_of Buses)) Buses
     (cond (bytes_eq name (name_of Byz)) Byz
-    (cond (bytes_eq name (name_of Clocks)) Clocks Run))))))))
+    (cond (bytes_eq name (name_of Clocks)) Clocks Run)))))))))
 
 -- a verb is known by its name
 named : (verb : Verb) → verb_with (name_of verb) ≡ verb
@@ -30,6 +33,7 @@ named Gen = refl
 named Trial = refl
 named Plan = refl
 named Judge = refl
+named Buses = refl
 named Byz = refl
 named Clocks = refl
 
@@ -45,3 +49,25 @@ one_command one_list words one other a b =
     (subst (λ v. Adds (flags_of v) no_options a.rest a.options) verb a.gives) in
     let options = one_list (flags_of b.verb) no_options a.options b.options b.rest adds b.gives in
     same_some one other (sym a.asked_is ∙ (ap (λ (v : Verb). asked v a.options) verb ∙ (ap (asked b.verb) options ∙ b.asked_is)))
+
+-- words that begin with a verb's name and give no more options than these ask for no command, where these ask for none
+pub none_asked :
+    (word : List ℕ) (rest : List (List ℕ)) (verb : Verb) (options : Options) → name_of verb ≡ word
+    → ((other : Options) → Adds (flags_of verb) no_options rest other → Some options ≡ Some other)
+    → asked verb options ≡ None → (command : Command) → ¬ Asks (word ∷ rest) command
+none_asked word rest verb options name alone none command asks =
+    let is = sym name in
+    let verbs : asks.verb ≡ verb =
+    sym (named asks.verb) ∙ (ap (λ (ws : List (List ℕ)). verb_with (get_or ws 0 [])) (sym asks.words_are) ∙ (ap verb_with is ∙ named verb)) in
+    let rests : asks.rest ≡ rest = sym (ap (drop 1) asks.words_are) in
+    let adds = subst (λ ws. Adds (flags_of verb) no_options ws asks.options) rests
+    (subst (λ v. Adds (flags_of v) no_options asks.rest asks.options) verbs asks.gives) in
+    let options_are : options ≡ asks.options = same_some options asks.options (alone asks.options adds) in
+    let came : Some command ≡ None =
+    sym asks.asked_is ∙ (ap (λ (v : Verb). asked v asks.options) verbs ∙ (ap (asked verb) (sym options_are) ∙ none)) in
+    cc
+
+-- what follows where a value isn't there
+pub if_none : {A : Type 0} (found expected : Option A) (P : Type 0) → found ≡ expected → (expected ≡ None → P) → IfNone found P
+if_none (Some x) expected P is then = tt
+if_none None expected P is then = then (sym is)

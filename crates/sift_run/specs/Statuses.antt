@@ -1,10 +1,13 @@
 -- Which command may end with which status.
 use Rattle.std.specs.Prelude.{ℕ, List, [], ◌∷◌, ◌++◌, Contains}
+use Rattle.sift_bus_jobs.specs.Buses.{buses_statuses}
+use Rattle.sift_flight.specs.Hearing.{Strays}
 use Rattle.sift_jobs.specs.Plan.{plan_statuses}
 use Rattle.sift_judge_jobs.specs.Judge.{judge_statuses}
 use Rattle.sift_lab_jobs.specs.Byz.{byz_statuses}
 use Rattle.sift_lab_jobs.specs.Clocks.{clocks_statuses}
 use Rattle.sift_load.specs.NoMission.{no_mission_statuses}
+use Rattle.sift_mission.specs.Data.{MissionData}
 use Rattle.sift_reply.specs.Duty.{HasOwnStatuses, shared_endings}
 use Rattle.sift_reply.specs.Input.{Input}
 use Rattle.sift_reply.specs.Output.{Output}
@@ -12,7 +15,7 @@ use Rattle.sift_reply.specs.Promise.{IsAnswered, IsCommandLine}
 use Rattle.sift_reply.specs.Reply.{done_status, sink_fault_status, usage}
 use Rattle.sift_run.specs.Command.{Asks, commands, duty_of}
 use Rattle.sift_run.specs.declared.command.Command.{Command}
-use Rattle.sift_run.specs.declared.command.Command.TheVariants.{Run, Votes, Ideal, Check, Gen, Trial, Plan, Judge, Byz, Clocks}
+use Rattle.sift_run.specs.declared.command.Command.TheVariants.{Run, Votes, Ideal, Check, Gen, Trial, Plan, Judge, Buses, Byz, Clocks}
 
 -- the statuses of the replies that a command gives
 abbrev pub own_statuses : Command → List ℕ
@@ -24,20 +27,21 @@ own_statuses (Gen job) = done_status ∷ []
 own_statuses (Trial job) = done_status ∷ []
 own_statuses (Plan job) = plan_statuses
 own_statuses (Judge job) = judge_statuses
+own_statuses (Buses job) = buses_statuses
 own_statuses (Byz job) = byz_statuses
 own_statuses (Clocks job) = clocks_statuses
 
 -- they are its own
-abbrev pub CommandsHaveOwnStatuses : Type 0
-CommandsHaveOwnStatuses = (command : Command) → HasOwnStatuses (duty_of command) (own_statuses command)
+abbrev pub CommandsHaveOwnStatuses : (given : MissionData → Strays → Type 0) → Type 0
+CommandsHaveOwnStatuses given = (command : Command) → HasOwnStatuses (duty_of given command) (own_statuses command)
 
 -- a command ends with a status of its own, or a shared one: one that reads also with those of a reader; words that are no command line
 -- end with `usage`, or a fault of the sink
-pub record IsKnown (words : List (List ℕ)) (status : ℕ) : Type 0 where
-  pub asked : (command : Command) → Asks words command → Contains (own_statuses command ++ shared_endings (duty_of command).limit) status
-  pub other : ¬ IsCommandLine commands words → Contains (usage.status ∷ sink_fault_status ∷ []) status
+pub record IsKnown (given : MissionData → Strays → Type 0) (words : List (List ℕ)) (status : ℕ) : Type 0 where
+  pub asked : (command : Command) → Asks words command → Contains (own_statuses command ++ shared_endings (duty_of given command).limit) status
+  pub other : ¬ IsCommandLine (commands given) words → Contains (usage.status ∷ sink_fault_status ∷ []) status
 
 -- so it is with each answer
-abbrev pub StatusesAreKnown : Type 0
-StatusesAreKnown = (words : List (List ℕ)) (input : Input) (output : Output) (status : ℕ) → IsAnswered commands words input output status
-    → IsKnown words status
+abbrev pub StatusesAreKnown : (given : MissionData → Strays → Type 0) → Type 0
+StatusesAreKnown given = (words : List (List ℕ)) (input : Input) (output : Output) (status : ℕ)
+    → IsAnswered (commands given) words input output status → IsKnown given words status

@@ -1,7 +1,9 @@
 //! The exit code of the program.
 
-ghost use Rattle.std.specs.Prelude.{◌≡◌, IfOk, IsErr, map, string_bytes};
+ghost use Rattle.std.specs.Prelude.{◌≡◌, ◌⊎◌, IfOk, IsErr, length, map, string_bytes};
 ghost use Rattle.std.specs.Process.{exit_status};
+ghost use Rattle.sift_base.specs.Units.{unit_limit};
+ghost use Rattle.sift_fleet.specs.Given.{AreGiven};
 ghost use Rattle.sift_reply.specs.Input.{input};
 ghost use Rattle.sift_reply.specs.Output.{output};
 ghost use Rattle.sift_reply.specs.Promise.{IsAnswered};
@@ -12,26 +14,36 @@ use crate::top::sift;
 use sift_base::NoMemory;
 use sift_io::{Sink, Source};
 use sift_reply::NO_MEMORY_STATUS;
+use sift_rogue::Rogue;
+use sift_threads::Probe;
 use std::alloc::Global;
 use std::process::ExitCode;
+use std::sync::Wait;
+use std::thread::Threads;
 
 /// Does what the words ask for, and answers how the program ends: with the status that the top call answers, or with
-/// that of want of memory, having read and written nothing, where there was none for the words.
-pub fn exit_code<S: Source, K: Sink>(
+/// that of want of memory, having read and written nothing, where there was none for the words or the rogues.
+pub fn exit_code<S: Source, K: Sink, R: Rogue + Send, P: Probe + Sync, H: Threads + Wait + Sync>(
+    rt: &H,
     alloc: Global,
     words: Result<Vec<String>, NoMemory>,
     source: &mut S,
     sink: &mut K,
+    rogues: Result<Vec<R>, NoMemory>,
+    probe: &P,
 ) -> ExitCode
-    ensures answered { IfOk words (λ words. IsAnswered commands (map string_bytes words.items)
+    requires { IfOk rogues (λ rogues. length rogues.items ≡ unit_limit) }
+    ensures answered { IfOk words (λ words. IfOk rogues (λ rogues. IsAnswered (commands (AreGiven R.allows rogues.items)) (map string_bytes words.items)
         (input (S.inflow source.old) (S.inflow source.new))
-        (output (K.outflow sink.old) (K.outflow sink.new)) (exit_status result)) }
-    ensures no_memory { IsErr words → exit_status result ≡ no_memory_status }
-    ensures unread { IsErr words → source.new ≡ source.old }
+        (output (K.outflow sink.old) (K.outflow sink.new)) (exit_status result))) }
+    ensures no_memory { IsErr words ⊎ IsErr rogues → exit_status result ≡ no_memory_status }
+    ensures unread { IsErr words ⊎ IsErr rogues → source.new ≡ source.old }
     ensures unwritten { exit_status result ≡ no_memory_status → sink.new ≡ sink.old }
 {
-    match words {
-        Ok(words) => ExitCode::from(sift(alloc, &words, source, sink)),
-        Err(NoMemory) => ExitCode::from(NO_MEMORY_STATUS),
+    match (words, rogues) {
+        (Ok(words), Ok(rogues)) => {
+            ExitCode::from(sift(rt, alloc, &words, source, sink, rogues, probe))
+        }
+        (Err(NoMemory), _) | (_, Err(NoMemory)) => ExitCode::from(NO_MEMORY_STATUS),
     }
 }

@@ -7,11 +7,12 @@ ghost use Rattle.sift_run.specs.OneReply.{CommandsGiveOne};
 ghost use Rattle.sift_run.specs.Statuses.{CommandsHaveOwnStatuses, StatusesAreKnown};
 
 use crate::command::Command;
+use sift_bus_jobs::{BusFlier, buses_gives_one, buses_has_own_statuses};
 use sift_jobs::{
-    check_gives_one, check_has_own_statuses, gen_gives_one, gen_has_own_statuses, ideal_gives_one,
-    ideal_has_own_statuses, plan_gives_one, plan_has_own_statuses, run_gives_one,
-    run_has_own_statuses, run_is_headlined, trial_gives_one, trial_has_own_statuses,
-    votes_gives_one, votes_has_own_statuses,
+    Flier, FlightOrder, check_gives_one, check_has_own_statuses, gen_gives_one,
+    gen_has_own_statuses, ideal_gives_one, ideal_has_own_statuses, plan_gives_one,
+    plan_has_own_statuses, run_gives_one, run_has_own_statuses, run_is_headlined, trial_gives_one,
+    trial_has_own_statuses, votes_gives_one, votes_has_own_statuses,
 };
 use sift_judge_jobs::{judge_gives_one, judge_has_own_statuses};
 use sift_lab_jobs::{
@@ -28,54 +29,56 @@ pub fn one_command()
 }
 
 /// The statuses of each command's replies are its own.
-pub fn commands_have_own_statuses()
-    ensures own { CommandsHaveOwnStatuses }
-    ensures apart { ShareNoStatus commands }
+pub fn commands_have_own_statuses<F: Flier + BusFlier>()
+    ensures own { (flier : F) → CommandsHaveOwnStatuses (F.gives flier) }
+    ensures apart { (flier : F) → ShareNoStatus (commands (F.gives flier)) }
 {
-    run_has_own_statuses();
-    votes_has_own_statuses();
+    run_has_own_statuses::<F>();
+    votes_has_own_statuses::<F>();
     ideal_has_own_statuses();
     check_has_own_statuses();
     gen_has_own_statuses();
-    trial_has_own_statuses();
+    trial_has_own_statuses::<F>();
     plan_has_own_statuses();
     judge_has_own_statuses();
+    buses_has_own_statuses::<F>();
     byz_has_own_statuses();
     clocks_have_own_statuses();
 }
 
-/// Each command gives one reply at most to an input: no order of steps shows. Where the input states a storm, `run` and
+/// Each command gives one reply at most to an input: neither workers nor an order of steps show. Where the input states a storm, `run` and
 /// `votes` may give several, by what is heard of its strays.
-pub fn commands_give_one()
-    ensures { CommandsGiveOne }
+pub fn commands_give_one<F: Flier + BusFlier>()
+    ensures { (flier : F) → CommandsGiveOne (F.gives flier) }
 {
-    run_gives_one();
-    votes_gives_one();
+    run_gives_one::<F>();
+    votes_gives_one::<F>();
     ideal_gives_one();
     check_gives_one();
     gen_gives_one();
-    trial_gives_one();
+    trial_gives_one::<F>();
     plan_gives_one();
     judge_gives_one();
+    buses_gives_one::<F>();
     byz_gives_one();
     clocks_give_one();
 }
 
 /// The headline is a consequence of the promise.
-pub fn the_headline_is_written()
-    ensures { HeadlineIsWritten }
+pub fn the_headline_is_written<F: Flier + BusFlier>()
+    ensures { (flier : F) → HeadlineIsWritten (F.gives flier) }
 {
     one_command();
-    commands_have_own_statuses();
-    statuses_are_explained::<Command>();
-    run_is_headlined();
+    commands_have_own_statuses::<F>();
+    statuses_are_explained::<F, FlightOrder<F>, Command>();
+    run_is_headlined::<F>();
 }
 
 /// Which command may end with which status.
-pub fn statuses_are_known()
-    ensures { StatusesAreKnown }
+pub fn statuses_are_known<F: Flier + BusFlier>()
+    ensures { (flier : F) → StatusesAreKnown (F.gives flier) }
 {
     one_command();
-    commands_have_own_statuses();
-    statuses_are_explained::<Command>();
+    commands_have_own_statuses::<F>();
+    statuses_are_explained::<F, FlightOrder<F>, Command>();
 }

@@ -1,6 +1,10 @@
 //! The top call.
 
-ghost use Rattle.std.specs.Prelude.{◌≡◌, map, string_bytes};
+ghost use Rattle.std.specs.Prelude.{◌≡◌, IfOk, length, map, string_bytes};
+ghost use Rattle.sift_base.specs.Units.{unit_limit};
+ghost use Rattle.sift_fleet.specs.Given.{AreGiven};
+ghost use Rattle.sift_jobs.specs.Telling.{TellsFlight};
+ghost use Rattle.sift_mission.specs.Parts.{data_of};
 ghost use Rattle.sift_reply.specs.Input.{input};
 ghost use Rattle.sift_reply.specs.Output.{output};
 ghost use Rattle.sift_reply.specs.Promise.{AskForNoInput, IsAnswered, IsCertain};
@@ -10,32 +14,62 @@ ghost use Rattle.sift_run.specs.Headline.{IsHeadlineWritten};
 
 use crate::command::Command;
 use crate::law::{commands_have_own_statuses, the_headline_is_written};
+use sift_base::NoMemory;
+use sift_fleet::{Fleet, tell};
 use sift_io::{Sink, Source};
+use sift_jobs::FlightOrder;
 use sift_reply::answer;
+use sift_rogue::Rogue;
+use sift_threads::Probe;
 use std::alloc::Global;
+use std::sync::Wait;
+use std::thread::Threads;
 
 /// Does what the command words ask for, without the program's name: reads the source where the command does, writes a reply
 /// to the sink, and answers its exit status. The whole reply is made before any of it is written.
 ///
+/// The rogues are those of the units 0 to 7: that of a unit with a storm is called once the unit has turned stray. Where
+/// several workers fly, the probe is told of each entry of a unit into a subframe.
+///
 /// The tests come in the order of the statuses 2, 8 or 11, 3, 4, 5, 6, 7, those of one command alone, and 9; `judge` tests
 /// before 3 whether a line divides its input. Words that are no command line never get 10.
-/// Clauses on bytes hold where the source and the sink tell their bytes.
-pub fn sift<S: Source, K: Sink>(alloc: Global, words: &[String], source: &mut S, sink: &mut K) -> u8
-    ensures answered { IsAnswered commands (map string_bytes words.now)
+/// Clauses on bytes hold where the source and the sink tell their bytes. Several workers wait for one another, so all
+/// clauses hold if the call returns.
+pub fn sift<S: Source, K: Sink, R: Rogue + Send, P: Probe + Sync, H: Threads + Wait + Sync>(
+    rt: &H,
+    alloc: Global,
+    words: &[String],
+    source: &mut S,
+    sink: &mut K,
+    rogues: Vec<R>,
+    probe: &P,
+) -> u8
+    requires { length rogues.items ≡ unit_limit }
+    ensures answered { IsAnswered (commands (AreGiven R.allows rogues.items)) (map string_bytes words.now)
         (input (S.inflow source.old) (S.inflow source.new))
         (output (K.outflow sink.old) (K.outflow sink.new)) result }
-    ensures certain { IsCertain commands (map string_bytes words.now)
+    ensures certain { IsCertain (commands (AreGiven R.allows rogues.items)) (map string_bytes words.now)
         (input (S.inflow source.old) (S.inflow source.new))
         (output (K.outflow sink.old) (K.outflow sink.new)) result }
-    ensures headline { IsHeadlineWritten (map string_bytes words.now)
+    ensures headline { IsHeadlineWritten (AreGiven R.allows rogues.items) (map string_bytes words.now)
         (input (S.inflow source.old) (S.inflow source.new))
         (output (K.outflow sink.old) (K.outflow sink.new)) result }
 
     // Only a command that reads it reads the source, and want of memory writes nothing.
-    ensures unread { AskForNoInput commands (map string_bytes words.now) → source.new ≡ source.old }
+    ensures unread { AskForNoInput (commands (AreGiven R.allows rogues.items)) (map string_bytes words.now) → source.new ≡ source.old }
     ensures unwritten { result ≡ no_memory_status → sink.new ≡ sink.old }
 {
-    commands_have_own_statuses();
-    the_headline_is_written();
-    answer::<Command, S, K>(alloc, words, source, sink)
+    commands_have_own_statuses::<Fleet<'_, R, H>>();
+    the_headline_is_written::<Fleet<'_, R, H>>();
+    let fleet = Fleet::of(rt, rogues);
+    answer::<Fleet<'_, R, H>, FlightOrder<Fleet<'_, R, H>>, Command, S, K, _>(
+        alloc,
+        fleet,
+        words,
+        source,
+        sink,
+        &|order: FlightOrder<Fleet<'_, R, H>>| -> Result<String, NoMemory>
+            ensures { IfOk result (λ text. TellsFlight (AreGiven R.allows order.entry.flier.rogues.items) (data_of order.entry.mission) order.entry.telling (string_bytes text)) }
+        { tell(alloc, order, probe) },
+    )
 }

@@ -17,6 +17,7 @@ pub enum Verb {
     Trial,
     Plan,
     Judge,
+    Buses,
     Byz,
     Clocks,
 }
@@ -36,6 +37,7 @@ impl Verb {
             "trial" => Some(Verb::Trial),
             "plan" => Some(Verb::Plan),
             "judge" => Some(Verb::Judge),
+            "buses" => Some(Verb::Buses),
             "byz" => Some(Verb::Byz),
             "clocks" => Some(Verb::Clocks),
             _ => None,
@@ -54,6 +56,7 @@ impl Verb {
             Verb::Trial => &[Flag::Workers, Flag::Order, Flag::Number],
             Verb::Plan => &[Flag::Copies, Flag::Subframes],
             Verb::Judge => &[Flag::Report],
+            Verb::Buses => &[Flag::Bus, Flag::From, Flag::Value],
             Verb::Clocks => &[
                 Flag::N,
                 Flag::M,

@@ -1,4 +1,5 @@
 use Rattle.std.proofs.Common.{ℕ, List, String, Global, map, string_bytes, sym, subst}
+use Rattle.sift_fleet.specs.Given.{AreGiven}
 use Rattle.sift_reply.specs.Input.{input}
 use Rattle.sift_reply.specs.Output.{output}
 use Rattle.sift_reply.specs.Promise.{IsAnswered}
@@ -6,10 +7,12 @@ use Rattle.sift_run.specs.Command.{commands}
 use Rattle.sift_run.proofs.exit.exit_code.Goals as goal
 
 -- the program ends with the status that was answered
-pub returns-in-Ok-clause-answered : goal.returns-in-Ok-clause-answered
-returns-in-Ok-clause-answered g c =
+pub returns-in-Ok-Ok-clause-answered : goal.returns-in-Ok-Ok-clause-answered
+returns-in-Ok-Ok-clause-answered g c =
     let came = input (g.S.Source.inflow c.args.source.now) (g.S.Source.inflow c.sift.new.source) in
     let went = output (g.K.Sink.outflow c.args.sink.now) (g.K.Sink.outflow c.sift.new.sink) in
-    let answered = subst (λ (ws : List (String Global)). IsAnswered commands (map (string_bytes {Z = Global}) ws) came went c.sift.result)
+    let all = commands (AreGiven g.R.Rogue.allows c.in-Ok-Ok.rogues.items) in
+    let answered = subst (λ (ws : List (String Global)). IsAnswered all (map (string_bytes {Z = Global}) ws) came went c.sift.result)
     c.deref.ensures.value c.sift.ensures.answered in
-    rw c.in-Ok.is (subst (λ (n : ℕ). IsAnswered commands (map (string_bytes {Z = Global}) c.in-Ok.words.items) came went n) (sym c.from.ensures) answered)
+    rw c.in-Ok-Ok.is-0 (rw c.in-Ok-Ok.is-1
+    (subst (λ (n : ℕ). IsAnswered all (map (string_bytes {Z = Global}) c.in-Ok-Ok.words.items) came went n) (sym c.from.ensures) answered))

@@ -2,5 +2,5 @@ use Rattle.sift_run.proofs.Statuses.{known}
 use Rattle.sift_run.proofs.law.statuses_are_known.Goals as goal
 
 pub returns : goal.returns
-returns c =
-    known c.one_command.ensures c.commands_have_own_statuses.ensures.own c.commands_have_own_statuses.ensures.apart c.statuses_are_explained.ensures
+returns g c = λ flier.
+    known (g.F.Flier.gives flier) c.one_command.ensures (c.commands_have_own_statuses.ensures.own flier) (c.commands_have_own_statuses.ensures.apart flier) (c.statuses_are_explained.ensures flier)

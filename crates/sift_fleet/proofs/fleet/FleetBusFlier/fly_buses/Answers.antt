@@ -1,0 +1,5 @@
+use Rattle.sift_fleet.proofs.fleet.FleetBusFlier.fly_buses.Goals as goal
+
+-- the buses are those that were made, one for each unit
+pub returns-clause-logs : goal.returns-clause-logs
+returns-clause-logs g c = rw (← c.in_ok-buses.ensures) c.fly_buses.ensures.logs

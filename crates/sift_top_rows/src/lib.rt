@@ -1,0 +1,13 @@
+//! Rows of tests of the top call: devices that fail, one worker and several, and rogues and probes of the tests' own.
+#![tactic(auto)]
+
+#[cfg(test)]
+mod calling;
+#[cfg(test)]
+mod faults;
+#[cfg(test)]
+mod stated;
+#[cfg(test)]
+mod storms;
+#[cfg(test)]
+mod workers;

@@ -1,0 +1,89 @@
+//! Two workers fly at once, and all numbers of them write one text.
+
+use crate::calling::{Failing, call};
+use crate::stated::{COUNT, COUNT_REPORT};
+use sift_base::UnitId;
+use sift_rogue::Silent;
+use sift_threads::{NoProbe, Probe};
+use std::sync::atomic::AtomicBool;
+use std::sync::atomic::Ordering::SeqCst;
+use std::test::Fail;
+
+/// Holds the units 0 and 1 at their entry into the first subframe after the start, until both are there.
+#[derive(Drop)]
+struct Meeting {
+    first: AtomicBool,
+    second: AtomicBool,
+    missed: AtomicBool,
+}
+
+impl Meeting {
+    /// How often a unit looks for the other.
+    const LOOKS: u32 = 100_000_000;
+
+    /// Neither is there.
+    fn new() -> Meeting {
+        Meeting {
+            first: AtomicBool::new(false),
+            second: AtomicBool::new(false),
+            missed: AtomicBool::new(false),
+        }
+    }
+
+    /// A unit is there, and looks for the other.
+    fn meet(&self, own: &AtomicBool, other: &AtomicBool) {
+        own.store(true, SeqCst);
+        for _ in 0..Meeting::LOOKS {
+            if other.load(SeqCst) {
+                return;
+            }
+        }
+        self.missed.store(true, SeqCst);
+    }
+}
+
+impl Probe for Meeting {
+    fn at(&self, unit: UnitId, subframe: u64) {
+        match (unit.get(), subframe) {
+            (0, 1) => self.meet(&self.first, &self.second),
+            (1, 1) => self.meet(&self.second, &self.first),
+            _ => {}
+        }
+    }
+}
+
+#[test]
+fn two_workers_fly_at_once(rt: HostRuntime) -> Result<(), Fail> {
+    let alloc = rt.alloc();
+    let meeting = Meeting::new();
+    let rogues = vec![in alloc;
+        Silent, Silent, Silent, Silent, Silent, Silent, Silent, Silent,
+    ]?;
+    let words = ["run", "--workers", "2"];
+    let (status, sink) = call(&rt, alloc, &words, COUNT, Failing::NONE, rogues, &meeting)?;
+    assert_eq!(rt; status, 0);
+    assert_eq!(rt; sink.bytes.as_slice(), COUNT_REPORT.as_bytes());
+    assert!(rt; meeting.first.load(SeqCst), "unit 0 came there");
+    assert!(rt; meeting.second.load(SeqCst), "unit 1 came there");
+    assert!(rt; !meeting.missed.load(SeqCst), "they met");
+    Ok(())
+}
+
+#[test]
+fn all_workers_write_one_text(rt: HostRuntime) -> Result<(), Fail> {
+    let alloc = rt.alloc();
+    for workers in ["1", "2", "3", "4", "5", "6", "7", "8"] {
+        let rogues = vec![in alloc;
+            Silent, Silent, Silent, Silent, Silent, Silent, Silent, Silent,
+        ]?;
+        let words = ["run", "--workers", workers];
+        let (status, sink) = call(&rt, alloc, &words, COUNT, Failing::NONE, rogues, &NoProbe)?;
+        assert_eq!(rt; status, 0, "status by {workers} workers");
+        assert_eq!(rt;
+            sink.bytes.as_slice(),
+            COUNT_REPORT.as_bytes(),
+            "text by {workers} workers"
+        );
+    }
+    Ok(())
+}
