@@ -12,13 +12,14 @@ _sift() {
 
   case $before in
     '<') compopt -o filenames 2>/dev/null; mapfile -t COMPREPLY < <(compgen -f -- "$word"); return ;;
-    --workers) mapfile -t COMPREPLY < <(compgen -W 1 -- "$word"); return ;;
+    --workers) mapfile -t COMPREPLY < <(compgen -W '1 2 3 4 5 6 7 8' -- "$word"); return ;;
     --report) mapfile -t COMPREPLY < <(compgen -W '1 2' -- "$word"); return ;;
-    --order | --number | --n | --m | --skew | --error | --rate | --rounds | --copies | --subframes) return ;;
+    --order | --number | --n | --m | --skew | --error | --rate | --rounds | --copies | --subframes | \
+      --bus | --from | --value) return ;;
   esac
 
   if [ "$place" -eq 1 ]; then
-    mapfile -t COMPREPLY < <(compgen -W 'run votes ideal check gen trial plan judge byz clocks' -- "$word")
+    mapfile -t COMPREPLY < <(compgen -W 'run votes ideal check gen trial plan judge buses byz clocks' -- "$word")
     return
   fi
   case ${COMP_WORDS[1]} in
@@ -28,6 +29,7 @@ _sift() {
     trial) options='--number --order --workers' ;;
     plan) options='--copies --subframes' ;;
     judge) options='--report' ;;
+    buses) options='--bus --from --value' ;;
     clocks) options='--n --m --skew --error --rate --rounds --number' ;;
     *) return ;;
   esac

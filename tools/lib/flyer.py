@@ -17,23 +17,23 @@ class Flyer:
         self.seconds = 0.0
         self.source, self.sink = (open(os.memfd_create(name), "w+b", buffering=0) for name in ("document", "report"))
 
-    def run(self, word, text):
-        """The status of the program with a word, and what it writes."""
+    def run(self, words, text):
+        """The status of the program with words, and what it writes."""
         for file in (self.source, self.sink):
             file.seek(0)
             file.truncate()
         self.source.write(text)
         self.source.seek(0)
         actions = [(os.POSIX_SPAWN_DUP2, self.source.fileno(), 0), (os.POSIX_SPAWN_DUP2, self.sink.fileno(), 1)]
-        child = os.posix_spawn(self.program, [self.program, word], self.environment, file_actions=actions)
+        child = os.posix_spawn(self.program, [self.program, *words], self.environment, file_actions=actions)
         _, status, used = os.wait4(child, 0)
         self.seconds += used.ru_utime + used.ru_stime
         self.sink.seek(0)
         return os.waitstatus_to_exitcode(status), self.sink.read()
 
     def fly(self, document):
-        """The report of a document."""
-        status, report = self.run("run", document)
+        """The report of a document. One worker flies it: many flights at once keep all processors busy as it is."""
+        status, report = self.run(["run", "--workers", "1"], document)
         if status:
             line = report.decode(errors="replace").strip()
             raise NoFlight(f"the program ends with status {status}" + (f": {line}" if line else ""))
@@ -41,8 +41,8 @@ class Flyer:
 
     def judge(self, document, report):
         """What the program's judge says of a report."""
-        return self.run("judge", document + DIVIDER + report.encode())[1].decode().strip()
+        return self.run(["judge"], document + DIVIDER + report.encode())[1].decode().strip()
 
     def has_judge(self):
         """Whether the program has the command."""
-        return self.run("judge", b"")[0] != 2
+        return self.run(["judge"], b"")[0] != 2
