@@ -1,27 +1,26 @@
 -- What the rules say of when and where tasks run.
-use Rattle.std.proofs.Common.{◌≡◌, ℕ, zero, suc, ◌+◌, ◌<◌, ◌≤◌, inl, inr, List, [], ◌∷◌, length, Bool, true, false, cond, ap, subst, ◌||◌, arith, eqb, eq-eqb, eqb-true, count_by}
-use Rattle.std.proofs.lemmas.Bool.{cases_eq, cases_Bool}
-use Rattle.std.proofs.lemmas.List.Elements.{recursion_from_All}
+use Rattle.std.proofs.Common.{◌≡◌, ℕ, zero, suc, ◌+◌, ◌<◌, ◌≤◌, inl, inr, List, [], ◌∷◌, length, Bool, true, false, cond, ap, subst, sym, ◌∙◌, ◌||◌, arith, eqb, eq-eqb, eqb-true, count_by}
+use Rattle.std.proofs.lemmas.Bool.{cases_eq, cases_Bool, cases_order, true≢false}
+use Rattle.std.proofs.lemmas.List.Elements.{All-contains, recursion_from_All}
 use Rattle.std.proofs.lemmas.List.Sums.{sum_by-cons}
-use Rattle.std.specs.List.{AllByRecursion, range_with_len}
+use Rattle.std.specs.List.{AllByRecursion, Contains, range_with_len}
+use Rattle.sift_base.specs.Shapes.{AllShapes, shape_at}
 use Rattle.sift_base.specs.Units.{has, IsAscending, IsBelowAll}
 use Rattle.sift_base.specs.declared.slot.Slot.TheVariants.{Clock, Sense, RelaySense, Out, Report, RelayReport}
 use Rattle.sift_table.proofs.Words.{words_have_their_task}
-use Rattle.sift_table.specs.Laws.{SlotsAreHeardInTime, TasksHaveThreeExecutors}
-use Rattle.sift_table.specs.Schedule.{positions_of}
+use Rattle.sift_table.specs.Laws.{PositionsRunOneTaskAtATime, ShedTasksAreLeftOut, SlotsAreHeardInTime, TasksHaveThreeExecutors, TasksRunAfterTheirNeeds}
+use Rattle.sift_table.specs.Rules.{IsGood, IsLeftOut, MeetsEach, run_rules}
+use Rattle.sift_table.specs.Schedule.{Schedule, polled_in, positions_of, run_in, runs_at, sheds}
 use Rattle.sift_table.specs.Timing.{task_of}
 
-pub slots_are_heard_in_time : SlotsAreHeardInTime
-slots_are_heard_in_time table shapes layout Clock good long words there = (omega arith, omega arith)
-slots_are_heard_in_time table shapes layout (Sense x) good long words there = (omega arith, omega arith)
-slots_are_heard_in_time table shapes layout (RelaySense x) good long words there = (omega arith, omega arith)
-slots_are_heard_in_time table shapes layout (Out w) good long words there =
-    let row = good.rows (task_of shapes w) ((words_have_their_task shapes).1 w (omega (arith, there, words))) in
-    (row.1.1.0, omega (arith, row.1.0))
-slots_are_heard_in_time table shapes layout Report good long words there = (omega arith, omega arith)
-slots_are_heard_in_time table shapes layout (RelayReport u) good long words there = (omega arith, omega arith)
+-- a task that isn't shed meets the rules of its row
+run_row : (table : Schedule) (shapes : AllShapes) (t : ℕ) → IsGood table shapes → t < length shapes.tasks → sheds table t ≡ false
+    → MeetsEach run_rules table shapes t
+run_row table shapes t good low kept = rw kept at (good.rows t low)
 
--- ---- executors
+-- and one that is shed is left out
+shed_row : (table : Schedule) (shapes : AllShapes) (t : ℕ) → IsGood table shapes → t < length shapes.tasks → sheds table t ≡ true → IsLeftOut table t
+shed_row table shapes t good low shed = (rw shed at (good.rows t low)).0
 
 -- what holds of each number of a list holds of one that the list has
 all_has : (P : ℕ → Type 0) (ps : List ℕ) (p : ℕ) → AllByRecursion P ps → has ps p ≡ true → P p
@@ -30,6 +29,37 @@ all_has P (v ∷ ps) p all there = elim (cases_Bool (eqb v p)) [
   | inl same ↦ subst P (eqb-true v p same) all.0
   | inr other ↦ all_has P ps p all.1 (rw other at there)
 ]
+
+pub shed_tasks_are_left_out : ShedTasksAreLeftOut
+shed_tasks_are_left_out table shapes t good shed =
+    let low : t < length shapes.tasks = all_has (λ k. k < length shapes.tasks) table.shed t
+    (recursion_from_All (λ k. k < length shapes.tasks) table.shed good.whole.1.0.1) shed in
+    let left = shed_row table shapes t good low shed in
+    (low, left.0, left.1)
+
+pub slots_are_heard_in_time : SlotsAreHeardInTime
+slots_are_heard_in_time table shapes layout Clock good long words there = (λ kept. omega arith, omega arith)
+slots_are_heard_in_time table shapes layout (Sense x) good long words there = (λ kept. omega arith, omega arith)
+slots_are_heard_in_time table shapes layout (RelaySense x) good long words there = (λ kept. omega arith, omega arith)
+slots_are_heard_in_time table shapes layout (Out w) good long words there =
+    let t = task_of shapes w in
+    let low = (words_have_their_task shapes).1 w (omega (arith, there, words)) in elim (cases_Bool (sheds table t)) [
+      | inl shed ↦ let left = shed_row table shapes t good low shed in (λ kept. absurd (true≢false (sym shed ∙ kept)), omega (arith, left.1))
+      | inr kept ↦ let row = run_row table shapes t good low kept in (λ kept. row.1.1.0, omega (arith, row.1.0))
+    ]
+slots_are_heard_in_time table shapes layout Report good long words there = (λ kept. omega arith, omega arith)
+slots_are_heard_in_time table shapes layout (RelayReport u) good long words there = (λ kept. omega arith, omega arith)
+
+-- what a task that isn't shed reads of this frame is polled by its run: a task that is shed is polled at 0
+pub tasks_run_after_their_needs : TasksRunAfterTheirNeeds
+tasks_run_after_their_needs table shapes t good low kept =
+    let row = run_row table shapes t good low kept in
+    (row.0, λ needed there. elim (cases_Bool (sheds table needed)) [
+      | inl shed ↦ let left = (shed_tasks_are_left_out table shapes needed good shed).2 in omega (arith, left)
+      | inr polled ↦ All-contains (λ d. sheds table d ≡ false → polled_in table d ≤ run_in table t) (shape_at shapes t).needs needed row.1.1.1.1.1.1.0 there polled
+    ])
+
+-- ---- executors
 
 -- one number more to count
 count-cons : (p : ℕ → Bool) (x : ℕ) (xs : List ℕ) → count_by p (x ∷ xs) ≡ cond (p x) 1 0 + count_by p xs
@@ -76,8 +106,28 @@ none_below (p ∷ ps) = (omega arith, none_below ps)
 
 pub tasks_have_three_executors : TasksHaveThreeExecutors
 tasks_have_three_executors table shapes t good there =
-    let row = good.rows t there in
-    let ps = positions_of table t in
-    let inside : AllByRecursion (λ p. p < table.size) ps = recursion_from_All (λ p. p < table.size) ps row.1.1.1.1.0 in
-    let whole = counted_whole ps 0 table.size table.size (omega arith) row.1.1.1.1.1.0 (none_below ps) inside in
-    (omega (arith, whole, row.1.1.1.0), λ position here. all_has (λ p. p < table.size) ps position inside here)
+    let ps = positions_of table t in elim (cases_Bool (sheds table t)) [
+      | inl shed ↦
+          let nowhere : ps ≡ [] = (shed_row table shapes t good there shed).2 in
+          (λ kept. absurd (true≢false (sym shed ∙ kept)), λ position here. absurd (true≢false (sym here ∙ ap (λ qs. has qs position) nowhere)))
+      | inr kept ↦
+          let row = run_row table shapes t good there kept in
+          let inside : AllByRecursion (λ p. p < table.size) ps = recursion_from_All (λ p. p < table.size) ps row.1.1.1.1.0 in
+          let whole = counted_whole ps 0 table.size table.size (omega arith) row.1.1.1.1.1.0 (none_below ps) inside in
+          (λ kept. omega (arith, whole, row.1.1.1.0), λ position here. (kept, all_has (λ p. p < table.size) ps position inside here))
+    ]
+
+-- two tasks of one subframe share no position: each is tested against those before it
+pub positions_run_one_task_at_a_time : PositionsRunOneTaskAtATime
+positions_run_one_task_at_a_time table shapes t other position good low other_low different same here = elim (cases_Bool (runs_at table other position)) [
+  | inr apart ↦ apart
+  | inl there ↦
+      let kept = ((tasks_have_three_executors table shapes t good low).1 position here).0 in
+      let other_kept = ((tasks_have_three_executors table shapes other good other_low).1 position there).0 in
+      elim (cases_order t other) [
+        | inl is ↦ absurd (different is)
+        | inr (inl before) ↦ (run_row table shapes other good other_low other_kept).1.1.1.1.1.1.1.0 t before kept same position here
+        | inr (inr after) ↦
+            absurd (true≢false (sym here ∙ (run_row table shapes t good low kept).1.1.1.1.1.1.1.0 other after other_kept (sym same) position there))
+      ]
+]

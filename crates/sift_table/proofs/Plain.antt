@@ -6,7 +6,7 @@ use Rattle.std.specs.List.{All, range_with_len}
 use Rattle.sift_base.specs.Shapes.{AllShapes, AreShapes, shape_at}
 use Rattle.sift_base.specs.Units.{IsAscending, IsBelowAll}
 use Rattle.sift_table.specs.Laws.{PlainTablesAreGood}
-use Rattle.sift_table.specs.Rules.{MeetsEach, ReadsPolledWords, SharesNoPosition, row_rules}
+use Rattle.sift_table.specs.Rules.{MeetsEach, ReadsPolledWords, SharesNoPosition, run_rules}
 use Rattle.sift_table.specs.Schedule.{plain_of, polled_in, positions_of, run_in}
 
 -- consecutive numbers are above what comes before them
@@ -41,7 +41,7 @@ module _ (size period tasks t : ℕ) (there : t < tasks) where
 
 -- each row of the plain table meets the rules of a row
 plain_row : (size period : ℕ) (shapes : AllShapes) (t : ℕ) → 3 ≤ size → AreShapes shapes → 4 + 2 * length shapes.tasks + 6 ≤ period
-    → t < length shapes.tasks → MeetsEach row_rules (plain_of size period (length shapes.tasks)) shapes t
+    → t < length shapes.tasks → MeetsEach run_rules (plain_of size period (length shapes.tasks)) shapes t
 plain_row size period shapes t enough sound long there =
     let tasks = length shapes.tasks in
     let table = plain_of size period tasks in
@@ -51,11 +51,11 @@ plain_row size period shapes t enough sound long there =
     let few : 3 ≤ length (positions_of table t) = rw at (rw (length-range_with_len 0 size) enough) in
     let inside : All (λ p. p < size) (positions_of table t) = rw at (consecutive_below size) in
     let ascend : IsAscending (positions_of table t) = rw at (consecutive_ascend 0 size) in
-    let reads : ReadsPolledWords table shapes t = λ k d low.
+    let reads : ReadsPolledWords table shapes t = λ k d low kept.
     let needed = get_or (shape_at shapes t).needs k d in
     let earlier : needed < t = sound.earlier t there k d low in
     omega (arith, run, plain_poll size period tasks needed (omega (arith, there, earlier)), earlier) in
-    let apart : SharesNoPosition table t = λ earlier before same.
+    let apart : SharesNoPosition table t = λ earlier before kept same.
     absurd (omega (arith, run, same, plain_run size period tasks earlier (omega (arith, there, before)))) in
     (omega (arith, run), (omega (arith, poll), (omega (arith, run, poll), (few, (inside, (ascend, (reads, (apart, tt))))))))
 
@@ -69,7 +69,7 @@ plain_tables_are_good size period shapes enough sound long =
           length-map-range_with_len (λ k. 4 + 2 * k + 2) 0 tasks,
           length-map-range_with_len (λ k. range_with_len 0 size) 0 tasks,
         ),
-        tt,
+        ((tt, λ k d low. absurd (omega arith)), tt),
       );
       rows = λ t there. plain_row size period shapes t enough sound long there;
     }

@@ -25,14 +25,14 @@ one_number (rule ∷ rules) table shapes row number other (inr here) (inr there)
 one_row : (table : Schedule) (shapes : AllShapes) (number row other at : ℕ) → BreaksRow table shapes number row → BreaksRow table shapes other at → at ≡ row
 one_row table shapes number row other at one two = elim (cases_order at row) [
   | inl same ↦ same
-  | inr (inl before) ↦ absurd (met_unbroken row_rules table shapes at other (one.rows_before at before) two.broken)
-  | inr (inr after) ↦ absurd (met_unbroken row_rules table shapes row number (two.rows_before row after) one.broken)
+  | inr (inl before) ↦ absurd (met_unbroken (row_rules table at) table shapes at other (one.rows_before at before) two.broken)
+  | inr (inr after) ↦ absurd (met_unbroken (row_rules table row) table shapes row number (two.rows_before row after) one.broken)
 ]
 
 -- a table with a broken rule doesn't meet all rules
 refused_bad : (table : Schedule) (shapes : AllShapes) (number row : ℕ) → IsFirstBroken table shapes number row → ¬ IsGood table shapes
 refused_bad table shapes number row (inl whole) good = met_unbroken table_rules table shapes 0 number good.whole whole.0
-refused_bad table shapes number row (inr broken) good = met_unbroken row_rules table shapes row number (good.rows row broken.inside) broken.broken
+refused_bad table shapes number row (inr broken) good = met_unbroken (row_rules table row) table shapes row number (good.rows row broken.inside) broken.broken
 
 -- two first broken rules are one
 one_refusal : (table : Schedule) (shapes : AllShapes) (number row other at : ℕ)
@@ -42,7 +42,7 @@ one_refusal table shapes number row other at (inl one) (inr two) = absurd (met_u
 one_refusal table shapes number row other at (inr one) (inl two) = absurd (met_unbroken table_rules table shapes 0 other one.whole two.0)
 one_refusal table shapes number row other at (inr one) (inr two) =
     let same : at ≡ row = one_row table shapes number row other at one two in
-    (one_number row_rules table shapes row number other one.broken (rw same at two.broken), same)
+    (one_number (row_rules table row) table shapes row number other one.broken (rw same at two.broken), same)
 
 pub one_broken_rule : OneBrokenRule
 one_broken_rule table shapes number row broken = (refused_bad table shapes number row broken, λ other at again. one_refusal table shapes number row other at broken again)

@@ -1,5 +1,5 @@
 -- Tests that decide facts on numbers and lists.
-use Rattle.std.proofs.Common.{◌≡◌, ◌≤◌, ◌<◌, ◌⊎◌, inl, inr, ℕ, zero, suc, Bool, true, false, ◌&&◌, List, [], ◌∷◌, All, Decides, eqb, leb, ltb, leb-true, le-leb, refl}
+use Rattle.std.proofs.Common.{◌≡◌, ◌≤◌, ◌<◌, ◌⊎◌, inl, inr, ℕ, zero, suc, Bool, true, false, ◌&&◌, List, [], ◌∷◌, All, Decides, eqb, leb, ltb, leb-true, le-leb, refl, sym}
 use Rattle.std.proofs.lemmas.Bool.Decides.{Decides-and, Decides-below_and, Decides-by_and, Decides-eqb, Decides-like, Decides-ltb, not_from_Decides}
 use Rattle.std.specs.List.{list_all}
 use Rattle.sift_base.specs.Units.{IsAscending, IsBelowAll}
@@ -31,6 +31,16 @@ less a b = (ltb a b, Decides-ltb a b)
 
 pub same : (a b : ℕ) → Test (a ≡ b)
 same a b = (eqb a b, Decides-eqb a b)
+
+-- whether a truth value is false
+pub is_false : (b : Bool) → Test (b ≡ false)
+is_false true = (false, (λ e. sym e, λ e. sym e))
+is_false false = (true, (λ e. refl, λ e. refl))
+
+-- whether a list is empty
+pub is_empty : (xs : List ℕ) → Test (xs ≡ [])
+is_empty [] = (true, (λ e. refl, λ e. refl))
+is_empty (x ∷ xs) = (false, (λ e. absurd cc, λ e. absurd cc))
 
 -- what holds of each entry of a list
 pub each : {X : Type 0} (P : X → Type 0) → ((x : X) → Test (P x)) → (xs : List X) → Test (All P xs)

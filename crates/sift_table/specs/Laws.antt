@@ -6,31 +6,32 @@ use Rattle.sift_base.specs.Shapes.{AllShapes, AreShapes, first_word, shape_at, w
 use Rattle.sift_base.specs.declared.layout.Layout.{Layout}
 use Rattle.sift_base.specs.declared.slot.Slot.{Slot}
 use Rattle.sift_table.specs.Rules.{IsFirstBroken, IsGood, least_executors, report_lead}
-use Rattle.sift_table.specs.Schedule.{Schedule, agreed_in, hearing_delay, plain_of, polled_in, run_in, runs_at}
-use Rattle.sift_table.specs.Timing.{due_in, end_lead, heard_in, task_of}
+use Rattle.sift_table.specs.Schedule.{Schedule, agreed_in, hearing_delay, plain_of, polled_in, run_in, runs_at, sheds}
+use Rattle.sift_table.specs.Timing.{due_in, end_lead, heard_in, is_shed, task_of}
 
 -- the fewest subframes that a frame may have
 abbrev pub shortest_period : ℕ
 shortest_period = 12
 
--- the word of each slot is heard two subframes after it is said, or later, and two before the frame's end, or earlier
+-- the word of each slot is heard two subframes before the frame's end, or earlier, and two after it is said, or later, where no task is shed
 abbrev pub SlotsAreHeardInTime : Type 0
 SlotsAreHeardInTime =
     (table : Schedule) (shapes : AllShapes) (layout : Layout) (slot : Slot) → IsGood table shapes → shortest_period ≤ table.period
     → layout.words ≡ words_in shapes.tasks → IsSlot layout slot
-    → (due_in table shapes slot + hearing_delay ≤ heard_in table shapes slot) × (heard_in table shapes slot + end_lead ≤ table.period)
+    → (is_shed table shapes slot ≡ false → due_in table shapes slot + hearing_delay ≤ heard_in table shapes slot) × (heard_in table shapes slot + end_lead ≤ table.period)
 
--- a task runs in the subframe in which what it reads of this frame is polled, or later
+-- a task that isn't shed runs when the sensor words are agreed, or later, and when what it reads of this frame is polled, or later
 abbrev pub TasksRunAfterTheirNeeds : Type 0
 TasksRunAfterTheirNeeds =
-    (table : Schedule) (shapes : AllShapes) (t needed : ℕ) → IsGood table shapes → t < length shapes.tasks
-    → Contains (shape_at shapes t).needs needed → polled_in table needed ≤ run_in table t
+    (table : Schedule) (shapes : AllShapes) (t : ℕ) → IsGood table shapes → t < length shapes.tasks → sheds table t ≡ false
+    → (agreed_in ≤ run_in table t) × ((needed : ℕ) → Contains (shape_at shapes t).needs needed → polled_in table needed ≤ run_in table t)
 
--- each task runs at three or more of a configuration's positions, and at no others
+-- each task that isn't shed runs at three or more of a configuration's positions, one that is shed at none, and none at any others
 abbrev pub TasksHaveThreeExecutors : Type 0
 TasksHaveThreeExecutors =
     (table : Schedule) (shapes : AllShapes) (t : ℕ) → IsGood table shapes → t < length shapes.tasks
-    → (least_executors ≤ count_by (runs_at table t) (range_with_len 0 table.size)) × ((position : ℕ) → runs_at table t position ≡ true → position < table.size)
+    → (sheds table t ≡ false → least_executors ≤ count_by (runs_at table t) (range_with_len 0 table.size))
+    × ((position : ℕ) → runs_at table t position ≡ true → (sheds table t ≡ false) × (position < table.size))
 
 -- at no position two tasks run in one subframe
 abbrev pub PositionsRunOneTaskAtATime : Type 0
@@ -49,6 +50,12 @@ abbrev pub PlainTablesAreGood : Type 0
 PlainTablesAreGood =
     (size period : ℕ) (shapes : AllShapes) → least_executors ≤ size → AreShapes shapes
     → agreed_in + hearing_delay * length shapes.tasks + report_lead ≤ period → IsGood (plain_of size period (length shapes.tasks)) shapes
+
+-- a task that is shed has no subframes of its own
+abbrev pub ShedTasksAreLeftOut : Type 0
+ShedTasksAreLeftOut =
+    (table : Schedule) (shapes : AllShapes) (t : ℕ) → IsGood table shapes → sheds table t ≡ true
+    → (t < length shapes.tasks) × (run_in table t ≡ 0) × (polled_in table t ≡ 0)
 
 -- a table that breaks a rule has one first broken rule, in one row, and one that meets all rules has none
 abbrev pub OneBrokenRule : Type 0

@@ -1,20 +1,29 @@
--- A schedule table as contracts see it: when each task is run and polled in a frame, and at which positions of a configuration.
+-- A schedule table as contracts see it: when each task is run and polled in a frame, at which positions of a configuration, and which tasks it sheds.
 use Rattle.std.specs.Prelude.{ℕ, ◌+◌, ◌*◌, Bool, List, [], map, slice_index, slice_index_or}
 use Rattle.std.specs.List.{range_with_len}
 use Rattle.sift_base.specs.Units.{has}
 use Rattle.sift_table.specs.declared.table.Table.{Table}
 
--- a table for the configurations of one size. Entry t of each list belongs to task t, and position i stands for a configuration's i-th unit
+-- a table for the configurations of one size. Entry t of run, poll and at belongs to task t, and position i stands for a configuration's
+-- i-th unit; shed has the numbers of the tasks that the configurations leave out
 pub record Schedule : Type 0 where
   pub size : ℕ
   pub period : ℕ
   pub run : List ℕ
   pub poll : List ℕ
   pub at : List (List ℕ)
+  pub shed : List ℕ
 
 -- the schedule that a value of the code stands for
 abbrev pub schedule_of : Table → Schedule
-schedule_of table = record { size = table.size; period = table.period; run = table.run.items; poll = table.poll.items; at = map (λ row. row.items) table.at.items }
+schedule_of table = record {
+  size = table.size;
+  period = table.period;
+  run = table.run.items;
+  poll = table.poll.items;
+  at = map (λ row. row.items) table.at.items;
+  shed = table.shed.items;
+}
 
 -- the subframe in which task t runs
 abbrev pub run_in : Schedule → ℕ → ℕ
@@ -32,6 +41,10 @@ positions_of table t = slice_index_or table.at t []
 abbrev pub runs_at : Schedule → ℕ → ℕ → Bool
 runs_at table t position = has (positions_of table t) position
 
+-- the table sheds task t: no unit runs it, and its words stay what they were
+abbrev pub sheds : Schedule → ℕ → Bool
+sheds table t = has table.shed t
+
 -- the subframe in which the sensor words of a frame are agreed
 abbrev pub agreed_in : ℕ
 agreed_in = 4
@@ -40,7 +53,7 @@ agreed_in = 4
 abbrev pub hearing_delay : ℕ
 hearing_delay = 2
 
--- the plain table: each task at all positions, the first when the sensor words are agreed, and each next one when the one before it is polled
+-- the plain table sheds no task: it has each at all positions, the first when the sensor words are agreed, and each next one when the one before it is polled
 abbrev pub plain_of : ℕ → ℕ → ℕ → Schedule
 plain_of size period tasks = record {
   size = size;
@@ -48,4 +61,5 @@ plain_of size period tasks = record {
   run = map (λ t. agreed_in + hearing_delay * t) (range_with_len 0 tasks);
   poll = map (λ t. agreed_in + hearing_delay * t + hearing_delay) (range_with_len 0 tasks);
   at = map (λ t. range_with_len 0 size) (range_with_len 0 tasks);
+  shed = [];
 }

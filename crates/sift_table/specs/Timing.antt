@@ -1,10 +1,10 @@
 -- In which subframes a slot's word is said and heard, under a table.
-use Rattle.std.specs.Prelude.{ℕ, suc, ◌-◌, List, [], ◌∷◌, nat_lt, if◌then◌else◌}
+use Rattle.std.specs.Prelude.{ℕ, suc, ◌-◌, List, [], ◌∷◌, Bool, false, nat_lt, if◌then◌else◌}
 use Rattle.sift_base.specs.Shapes.{AllShapes, Shape}
 use Rattle.sift_base.specs.declared.slot.Slot.{Slot}
 use Rattle.sift_base.specs.declared.slot.Slot.TheVariants.{Clock, Sense, RelaySense, Out, Report, RelayReport}
 use Rattle.sift_table.specs.Rules.{report_lead}
-use Rattle.sift_table.specs.Schedule.{Schedule, agreed_in, hearing_delay, polled_in, run_in}
+use Rattle.sift_table.specs.Schedule.{Schedule, agreed_in, hearing_delay, polled_in, run_in, sheds}
 
 -- the task among these that puts out word w of all their words: each task's words follow those of the task before it
 abbrev pub task_among : List Shape → ℕ → ℕ
@@ -15,6 +15,15 @@ task_among (task ∷ rest) w = if nat_lt w task.outputs then 0 else suc (task_am
 abbrev pub task_of : AllShapes → ℕ → ℕ
 task_of shapes w = task_among shapes.tasks w
 
+-- the word of the slot is one of a task that the table sheds: nothing is said or heard there
+abbrev pub is_shed : Schedule → AllShapes → Slot → Bool
+is_shed table shapes Clock = false
+is_shed table shapes (Sense x) = false
+is_shed table shapes (RelaySense x) = false
+is_shed table shapes (Out w) = sheds table (task_of shapes w)
+is_shed table shapes Report = false
+is_shed table shapes (RelayReport u) = false
+
 -- so many subframes before a frame's end the reports are heard, and said again by those who heard them
 abbrev pub relay_lead : ℕ
 relay_lead = 4
@@ -23,7 +32,7 @@ relay_lead = 4
 abbrev pub end_lead : ℕ
 end_lead = 2
 
--- the subframe of a frame in which the word of a slot is said
+-- the subframe of a frame in which the word of a slot is said, and 0 for a task that is shed
 abbrev pub due_in : Schedule → AllShapes → Slot → ℕ
 due_in table shapes Clock = 0
 due_in table shapes (Sense x) = 0
@@ -32,7 +41,7 @@ due_in table shapes (Out w) = run_in table (task_of shapes w)
 due_in table shapes Report = table.period - report_lead
 due_in table shapes (RelayReport u) = table.period - relay_lead
 
--- the subframe of a frame in which the word of a slot is heard
+-- the subframe of a frame in which the word of a slot is heard, and 0 for a task that is shed
 abbrev pub heard_in : Schedule → AllShapes → Slot → ℕ
 heard_in table shapes Clock = hearing_delay
 heard_in table shapes (Sense x) = hearing_delay

@@ -2,8 +2,8 @@
 
 ghost use Rattle.std.specs.Prelude.{◌≡◌, ◌<◌, length, IfOk, IfErr, IfSome, IfNone};
 ghost use Rattle.sift_base.specs.Shapes.{shapes_of, AreShapes};
-ghost use Rattle.sift_table.specs.Schedule.{schedule_of, run_in, polled_in, runs_at};
-ghost use Rattle.sift_table.specs.Rules.{HasAnEntryEach, IsGood, IsFirstBroken, MeetsEach, BreaksFirst, row_rules};
+ghost use Rattle.sift_table.specs.Schedule.{schedule_of, run_in, polled_in, runs_at, sheds};
+ghost use Rattle.sift_table.specs.Rules.{HasAnEntryEach, IsGood, IsFirstBroken, MeetsEach, BreaksFirst, row_rules, run_rules};
 
 use crate::rules;
 use crate::table::Table;
@@ -13,9 +13,9 @@ use std::marker::Model;
 /// Why a table is refused: the number of the first rule that it breaks, and the first row in which it does.
 #[derive(Clone, Copy, Debug, PartialEq, Eq)]
 pub struct Broken {
-    /// 1 to 9.
+    /// 1 to 11.
     pub rule: u8,
-    /// The number of a task, and 0 for rule 1, which speaks of the whole table.
+    /// The number of a task, and 0 for rules 1 and 10, which speak of the whole table.
     pub row: u16,
 }
 
@@ -37,7 +37,7 @@ impl Model for GoodTable {
 }
 
 impl GoodTable {
-    /// The subframe in which task t runs.
+    /// The subframe in which task t runs, and 0 where it is shed.
     pub fn run_of(&self, t: usize) -> u8
         requires { t < length self.now.run }
         ensures { result ≡ run_in self.now t }
@@ -45,7 +45,7 @@ impl GoodTable {
         self.table.run[t]
     }
 
-    /// The subframe in which task t is polled.
+    /// The subframe in which task t is polled, and 0 where it is shed.
     pub fn poll_of(&self, t: usize) -> u8
         requires { t < length self.now.run }
         ensures { result ≡ polled_in self.now t }
@@ -63,6 +63,13 @@ impl GoodTable {
             .iter()
             .any(|at| usize::from(*at) == position)
     }
+
+    /// The numbers of the tasks that are shed, in ascending order.
+    pub fn shed(&self) -> &[u8]
+        ensures { result.now ≡ self.now.shed }
+    {
+        &self.table.shed
+    }
 }
 
 /// Checks a table for tasks of these shapes. It takes no memory.
@@ -78,6 +85,9 @@ pub fn check(table: Table, shapes: &Shapes) -> Result<GoodTable, Broken>
 {
     if !rules::has_an_entry_each(&table, shapes) {
         return Err(Broken { rule: 1, row: 0 });
+    }
+    if !rules::sheds_tasks(&table, shapes) {
+        return Err(Broken { rule: 10, row: 0 });
     }
     for row in 0..shapes.tasks.len() {
         if let Some(rule) = broken_rule(&table, shapes, row) {
@@ -96,9 +106,28 @@ fn broken_rule(table: &Table, shapes: &Shapes, row: usize) -> Option<u8>
     requires entries { HasAnEntryEach (schedule_of table.now) (shapes_of shapes.now) }
     requires row { row < length (shapes_of shapes.now).tasks }
     ensures broken { IfSome result
-        (BreaksFirst row_rules (schedule_of table.now) (shapes_of shapes.now) row) }
+        (BreaksFirst (row_rules (schedule_of table.now) row) (schedule_of table.now) (shapes_of shapes.now) row) }
     ensures met { IfNone result
-        (MeetsEach row_rules (schedule_of table.now) (shapes_of shapes.now) row) }
+        (MeetsEach (row_rules (schedule_of table.now) row) (schedule_of table.now) (shapes_of shapes.now) row) }
+{
+    if !table.sheds(row) {
+        return broken_run_rule(table, shapes, row);
+    }
+    if !rules::is_left_out(table, row) {
+        return Some(11);
+    }
+    None
+}
+
+/// The first rule that the row of a task breaks that isn't shed.
+fn broken_run_rule(table: &Table, shapes: &Shapes, row: usize) -> Option<u8>
+    requires shapes { AreShapes (shapes_of shapes.now) }
+    requires entries { HasAnEntryEach (schedule_of table.now) (shapes_of shapes.now) }
+    requires row { row < length (shapes_of shapes.now).tasks }
+    ensures broken { IfSome result
+        (BreaksFirst run_rules (schedule_of table.now) (shapes_of shapes.now) row) }
+    ensures met { IfNone result
+        (MeetsEach run_rules (schedule_of table.now) (shapes_of shapes.now) row) }
 {
     if !rules::runs_after_agreement(table, row) {
         return Some(2);

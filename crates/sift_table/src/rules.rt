@@ -1,10 +1,10 @@
 //! The rules of a row, one test a rule.
 
-ghost use Rattle.std.specs.Prelude.{◌≡◌, ◌<◌, ◌↔◌, length, IsTrue};
+ghost use Rattle.std.specs.Prelude.{◌≡◌, ◌<◌, ◌↔◌, All, length, IsTrue};
 ghost use Rattle.sift_base.specs.Shapes.{shapes_of, shape_at, AreShapes};
 ghost use Rattle.sift_table.specs.Schedule.{schedule_of};
 ghost use Rattle.sift_table.specs.Rules.{HasAnEntryEach, RunsAfterAgreement, IsPolledByReports, IsPolledAfterRun, HasEnoughPositions};
-ghost use Rattle.sift_table.specs.Rules.{HasPositionsInside, HasAscendingPositions, ReadsPolledWords, SharesNoPosition, AreApart};
+ghost use Rattle.sift_table.specs.Rules.{HasPositionsInside, HasAscendingPositions, ReadsPolledWords, SharesNoPosition, AreApart, IsLeftOut, ShedsTasks};
 
 use crate::table::Table;
 use sift_base::{Shapes, is_ascending};
@@ -27,6 +27,20 @@ pub fn has_an_entry_each(table: &Table, shapes: &Shapes) -> bool
 {
     let tasks = shapes.tasks.len();
     table.run.len() == tasks && table.poll.len() == tasks && table.at.len() == tasks
+}
+
+/// Whether the numbers of the tasks that are shed ascend, and each is that of a task.
+pub fn sheds_tasks(table: &Table, shapes: &Shapes) -> bool
+    ensures { IsTrue result ↔ ShedsTasks (schedule_of table.now) (shapes_of shapes.now) }
+{
+    is_ascending(&table.shed) && are_tasks(&table.shed, shapes.tasks.len())
+}
+
+/// Whether each number is below the count of tasks.
+fn are_tasks(numbers: &[u8], tasks: usize) -> bool
+    ensures { IsTrue result ↔ All (λ t. t < tasks) numbers.now }
+{
+    numbers.iter().all(|number| usize::from(*number) < tasks)
 }
 
 /// Whether a row's task runs when the sensor words are agreed, or later.
@@ -89,7 +103,7 @@ fn needs_of(shapes: &Shapes, t: usize) -> &[u8]
     &shapes.tasks[t].needs
 }
 
-/// Whether what a row's task reads of the frame is polled by the time it runs.
+/// Whether what a row's task reads of the frame is polled by the time it runs, or shed.
 pub fn reads_polled_words(table: &Table, shapes: &Shapes, row: usize) -> bool
     requires shapes { AreShapes (shapes_of shapes.now) }
     requires entries { HasAnEntryEach (schedule_of table.now) (shapes_of shapes.now) }
@@ -98,7 +112,8 @@ pub fn reads_polled_words(table: &Table, shapes: &Shapes, row: usize) -> bool
         ↔ ReadsPolledWords (schedule_of table.now) (shapes_of shapes.now) row }
 {
     for &needed in needs_of(shapes, row) {
-        if table.poll[usize::from(needed)] > table.run[row] {
+        let needed = usize::from(needed);
+        if !table.sheds(needed) && table.poll[needed] > table.run[row] {
             return false;
         }
     }
@@ -112,18 +127,29 @@ fn are_apart(some: &[u8], others: &[u8]) -> bool
     some.iter().all(|position| !others.contains(position))
 }
 
-/// Whether no earlier task runs in a row's subframe at one of its positions.
+/// Whether no earlier task that isn't shed runs in a row's subframe at one of its positions.
 pub fn shares_no_position(table: &Table, row: usize) -> bool
     requires run { row < length (schedule_of table.now).run }
     requires at { row < length (schedule_of table.now).at }
     ensures { IsTrue result ↔ SharesNoPosition (schedule_of table.now) row }
 {
     for earlier in 0..row {
-        if table.run[earlier] == table.run[row]
+        if !table.sheds(earlier)
+            && table.run[earlier] == table.run[row]
             && !are_apart(table.positions(earlier), table.positions(row))
         {
             return false;
         }
     }
     true
+}
+
+/// Whether a row's task has no run, no poll and no position.
+pub fn is_left_out(table: &Table, row: usize) -> bool
+    requires run { row < length (schedule_of table.now).run }
+    requires poll { row < length (schedule_of table.now).poll }
+    requires at { row < length (schedule_of table.now).at }
+    ensures { IsTrue result ↔ IsLeftOut (schedule_of table.now) row }
+{
+    table.run[row] == 0 && table.poll[row] == 0 && table.positions(row).is_empty()
 }

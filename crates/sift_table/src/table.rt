@@ -5,12 +5,12 @@ ghost use Rattle.std.specs.List.{range_with_len};
 ghost use Rattle.sift_base.specs.Shapes.{task_limit};
 ghost use Rattle.sift_base.specs.Units.{unit_limit};
 ghost use Rattle.sift_base.specs.Layout.{least_units};
-ghost use Rattle.sift_table.specs.Schedule.{schedule_of, plain_of, positions_of};
+ghost use Rattle.sift_table.specs.Schedule.{schedule_of, plain_of, positions_of, sheds};
 
 use sift_base::NoMemory;
 use std::alloc::{AllocError, Global};
 
-/// A schedule table for the configurations of one size. Entry t of each list belongs to task t.
+/// A schedule table for the configurations of one size. Entry t of `run`, `poll` and `at` belongs to task t.
 #[derive(Drop)]
 pub struct Table {
     /// How many units the configurations have.
@@ -23,6 +23,8 @@ pub struct Table {
     pub poll: Vec<u8>,
     /// The positions at which the task runs: position i stands for the configuration's i-th unit.
     pub at: Vec<Vec<u8>>,
+    /// The numbers of the tasks that are left out, in ascending order. Their words stay what they were.
+    pub shed: Vec<u8>,
 }
 
 impl Table {
@@ -33,9 +35,16 @@ impl Table {
     {
         &self.at[row]
     }
+
+    /// Whether the table leaves a task out.
+    pub(crate) fn sheds(&self, task: usize) -> bool
+        ensures { result ≡ sheds (schedule_of self.now) task }
+    {
+        self.shed.iter().any(|shed| usize::from(*shed) == task)
+    }
 }
 
-/// The table of a mission that states none for this size: every unit runs every task, one task after another.
+/// The table of a mission that states none for this size: every unit runs every task, one task after another, and none is shed.
 pub fn plain_table(alloc: Global, size: u8, period: u8, tasks: u8) -> Result<Table, NoMemory>
     requires enough_units { least_units ≤ size }
     requires few_units { size ≤ unit_limit }
@@ -52,6 +61,7 @@ pub fn plain_table(alloc: Global, size: u8, period: u8, tasks: u8) -> Result<Tab
         run: every_second(alloc, 4, tasks)?,
         poll: every_second(alloc, 6, tasks)?,
         at,
+        shed: Vec::new(alloc),
     })
 }
 

@@ -5,7 +5,7 @@ use Rattle.sift_table.proofs.checked.check.Goals as goal
 
 pub returns-in-Some-clause-broken : goal.returns-in-Some-clause-broken
 returns-in-Some-clause-broken c = inr (record {
-  whole = (c.has_an_entry_each.ensures.0 c.if-not-has_an_entry_each.false, tt);
+  whole = (c.has_an_entry_each.ensures.0 c.if-not-has_an_entry_each.false, (c.sheds_tasks.ensures.0 c.if-not-sheds_tasks.false, tt));
   inside = omega (arith, length-map c.args.shapes.now.tasks.items shape_of);
   rows_before = c.loop-row.invariant;
   broken = c.in-Some.ensures.broken;
@@ -15,7 +15,7 @@ pub invariant_of-result : goal.invariant_of-result
 invariant_of-result c = record {
   shapes = shapes_of c.args.shapes.now;
   good = record {
-    whole = (c.has_an_entry_each.ensures.0 c.if-not-has_an_entry_each.false, tt);
+    whole = (c.has_an_entry_each.ensures.0 c.if-not-has_an_entry_each.false, (c.sheds_tasks.ensures.0 c.if-not-sheds_tasks.false, tt));
     rows = λ t there. c.loop-row.invariant t (omega (arith, length-map c.args.shapes.now.tasks.items shape_of));
   };
 }

@@ -6,4 +6,4 @@ use Rattle.sift_table.proofs.checked.check.Given as goal
 
 -- each row before the one at hand meets the rules of a row
 abbrev pub invariant-loop-row : goal.invariant-loop-row
-invariant-loop-row l = (t : ℕ) → t < l.row → MeetsEach row_rules (schedule_of l.table) (shapes_of l.shapes) t
+invariant-loop-row l = (t : ℕ) → t < l.row → MeetsEach (row_rules (schedule_of l.table) t) (schedule_of l.table) (shapes_of l.shapes) t
