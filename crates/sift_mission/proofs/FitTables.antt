@@ -1,21 +1,22 @@
 -- The tables of a mission whose parts fit: when slots are said and heard, and by whom.
-use Rattle.std.proofs.Common.{◌≡◌, ℕ, ◌+◌, ◌-◌, ◌<◌, ◌≤◌, List, length, get_or, true, refl, ap, sym, ◌∙◌, subst, arith, count_by}
+use Rattle.std.proofs.Common.{◌≡◌, ℕ, ◌+◌, ◌-◌, ◌<◌, ◌≤◌, List, length, get_or, true, false, inl, inr, refl, ap, sym, ◌∙◌, subst, arith, count_by}
 use Rattle.std.specs.List.{range_with_len}
+use Rattle.std.proofs.lemmas.Bool.{and_parts, cases_Bool, true≢false}
 use Rattle.std.proofs.lemmas.List.{get_or_default}
 use Rattle.sift_base.specs.Layout.{least_units}
 use Rattle.sift_base.specs.Shapes.{words_in}
 use Rattle.sift_base.specs.declared.slot.Slot.{Slot}
 use Rattle.sift_base.specs.declared.slot.Slot.TheVariants.{Clock, Sense, RelaySense, Out, Report, RelayReport}
 use Rattle.sift_table.specs.Laws.{SlotsAreHeardInTime, TasksHaveThreeExecutors}
-use Rattle.sift_table.specs.Rules.{MeetsEach, row_rules}
-use Rattle.sift_table.specs.Schedule.{Schedule, runs_at}
-use Rattle.sift_table.specs.Timing.{due_in, heard_in, task_of}
+use Rattle.sift_table.specs.Rules.{MeetsEach, row_rules, run_rules}
+use Rattle.sift_table.specs.Schedule.{Schedule, runs_at, sheds}
+use Rattle.sift_table.specs.Timing.{due_in, heard_in, is_shed, task_of}
 use Rattle.sift_mission.specs.Mission.{IsConfigOf}
 use Rattle.sift_mission.specs.Data.{MissionData, shapes_in}
 use Rattle.sift_mission.specs.Fits.{IsTimed, HasExecutors, is_caught_in}
-use Rattle.sift_mission.specs.Flown.{flown, table_for}
+use Rattle.sift_mission.specs.Flown.{executes_in, flown, position_in, table_for}
 use Rattle.sift_mission.specs.PartsFit.{IsTableFor, PartsFit, table_at}
-use Rattle.sift_mission.specs.Slots.{is_slot}
+use Rattle.sift_mission.specs.Slots.{is_held, is_silent, is_slot}
 use Rattle.sift_mission.proofs.FitSlots.{is-slot}
 use Rattle.sift_mission.proofs.Numbers.{range-has}
 use Rattle.sift_mission.proofs.Positions.{length-ascending, positions-filtered}
@@ -62,18 +63,34 @@ module _ (d : MissionData) (fit : PartsFit d) where
   task-below w low = let words = words-are in among-below (shapes_in d).tasks w (omega arith)
 
   -- a word's task meets the rules of the table's rows
-  row-of : (us : List ℕ) (w : ℕ) → IsConfigOf (flown d) us → w < d.layout.words → MeetsEach row_rules (table_for d us) (shapes_in d) (task_of (shapes_in d) w)
+  row-of : (us : List ℕ) (w : ℕ) → IsConfigOf (flown d) us → w < d.layout.words
+      → MeetsEach (row_rules (table_for d us) (task_of (shapes_in d) w)) (table_for d us) (shapes_in d) (task_of (shapes_in d) w)
   row-of us w config low = (table-is us config).good.rows (task_of (shapes_in d) w) (task-below w low)
 
+  -- the task of a word that isn't held meets the rules of tasks that run
+  pub run-row : (us : List ℕ) (w : ℕ) → IsConfigOf (flown d) us → w < d.layout.words → is_held (flown d) us w ≡ false
+      → MeetsEach run_rules (table_for d us) (shapes_in d) (task_of (shapes_in d) w)
+  run-row us w config low kept = rw kept at (row-of us w config low)
+
   module _ (in_time : SlotsAreHeardInTime) where
+    -- a slot is silent just where its word is of a task that the table sheds
+    is-shed : (us : List ℕ) (k : Slot) → is_silent (flown d) us k ≡ is_shed (table_for d us) (shapes_in d) k
+    is-shed us Clock = refl
+    is-shed us (Sense x) = refl
+    is-shed us (RelaySense x) = refl
+    is-shed us (Out w) = refl
+    is-shed us Report = refl
+    is-shed us (RelayReport s) = refl
+
     -- a slot's word is heard in time
     heard-in-time : (us : List ℕ) (k : Slot) → IsConfigOf (flown d) us → is_slot (flown d) k ≡ true
-        → (due_in (table_for d us) (shapes_in d) k + 2 ≤ heard_in (table_for d us) (shapes_in d) k) × (heard_in (table_for d us) (shapes_in d) k + 2 ≤ d.period)
+        → (is_silent (flown d) us k ≡ false → due_in (table_for d us) (shapes_in d) k + 2 ≤ heard_in (table_for d us) (shapes_in d) k)
+        × (heard_in (table_for d us) (shapes_in d) k + 2 ≤ d.period)
     heard-in-time us k config there =
         let table = table-is us config in
         let long = fit.limits.long in
         let times = in_time (table_for d us) (shapes_in d) d.layout k table.good (omega (arith, table.timed)) words-are (is-slot d fit k there) in
-        (times.0, omega (arith, times.1, table.timed))
+        (λ said. times.0 (sym (is-shed us k) ∙ said), omega (arith, times.1, table.timed))
 
     -- what goes into a report is heard when it is said, or earlier
     caught-in-time : (us : List ℕ) (k : Slot) → IsConfigOf (flown d) us → is_slot (flown d) k ≡ true → is_caught_in k ≡ true
@@ -82,8 +99,10 @@ module _ (d : MissionData) (fit : PartsFit d) where
     caught-in-time us (Sense x) config there caught = absurd cc
     caught-in-time us (RelaySense x) config there caught = let long = fit.limits.long in let table = table-is us config in omega (arith, table.timed)
     caught-in-time us (Out w) config there caught =
-        let row = row-of us w config (is-slot d fit (Out w) there) in
-        omega (arith, row.1.0)
+        let low = is-slot d fit (Out w) there in elim (cases_Bool (is_held (flown d) us w)) [
+          | inl held ↦ let left = rw held at (row-of us w config low) in omega (arith, left.0.1)
+          | inr kept ↦ let row = run-row us w config low kept in omega (arith, row.1.0)
+        ]
     caught-in-time us Report config there caught = absurd cc
     caught-in-time us (RelayReport s) config there caught = absurd cc
 
@@ -93,15 +112,24 @@ module _ (d : MissionData) (fit : PartsFit d) where
       apart = λ us k config there. (heard-in-time us k config there).0;
       within = λ us k config there. (heard-in-time us k config there).1;
       relayed = λ us x config low. omega arith;
-      agreed = λ us x w config low task. (row-of us w config task).0;
+      agreed = λ us x w config low task kept. (run-row us w config task kept).0;
       caught = caught-in-time;
       reported = λ us s config there. omega arith;
     }
 
   pub executors : TasksHaveThreeExecutors → HasExecutors (flown d)
-  executors three us w config low =
-      let t = task_of (shapes_in d) w in
-      let table = table-is us config in
-      let enough = (three (table_for d us) (shapes_in d) t table.good (task-below w low)).0 in
-      let sized : 3 ≤ count_by (runs_at (table_for d us) t) (range_with_len 0 (length us)) = subst (λ n. 3 ≤ count_by (runs_at (table_for d us) t) (range_with_len 0 n)) table.sized enough in
-      omega (arith, positions-filtered (runs_at (table_for d us) t) us config.ascending, sized)
+  executors laws = record {
+    three = λ us w config low kept.
+        let t = task_of (shapes_in d) w in
+        let table = table-is us config in
+        let enough = (laws (table_for d us) (shapes_in d) t table.good (task-below w low)).0 kept in
+        let sized : 3 ≤ count_by (runs_at (table_for d us) t) (range_with_len 0 (length us)) = subst (λ n. 3 ≤ count_by (runs_at (table_for d us) t) (range_with_len 0 n)) table.sized enough in
+        omega (arith, positions-filtered (runs_at (table_for d us) t) us config.ascending, sized);
+    none = λ us w u config low held.
+        let t = task_of (shapes_in d) w in elim (cases_Bool (executes_in d us w u)) [
+          | inr idle ↦ idle
+          | inl runs ↦
+              let kept = ((laws (table_for d us) (shapes_in d) t (table-is us config).good (task-below w low)).1 (position_in us u) (and_parts _ _ runs).1).0 in
+              absurd (true≢false (sym held ∙ kept))
+        ];
+  }

@@ -106,9 +106,9 @@ module _ (d : MissionData) (fit : PartsFit d) where
   read after = record {
     reads = reads-same;
     earlier = λ w v low v_low needs. among-earlier (shapes_in d).tasks v w (needs-earlier w v low needs);
-    polled = λ us w v config low v_low needs. (
+    polled = λ us w v config low v_low kept needs. (
         let t = task_of (shapes_in d) w in
-        after (table_for d us) (shapes_in d) t (task_of (shapes_in d) v) (table-is d fit us config).good (task-below d fit w low)
+        (after (table_for d us) (shapes_in d) t (table-is d fit us config).good (task-below d fit w low) kept).1 (task_of (shapes_in d) v)
         (contains-has (shape_at (shapes_in d) t).needs (task_of (shapes_in d) v) needs));
   }
 

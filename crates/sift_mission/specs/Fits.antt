@@ -6,7 +6,7 @@ use Rattle.sift_base.specs.declared.slot.Slot.{Slot}
 use Rattle.sift_base.specs.declared.slot.Slot.TheVariants.{Clock, Sense, RelaySense, Out, Report, RelayReport}
 use Rattle.sift_clock.specs.Distance.{IsWithin}
 use Rattle.sift_mission.specs.Mission.{FlownMission, IsConfigOf}
-use Rattle.sift_mission.specs.Slots.{is_slot, executors}
+use Rattle.sift_mission.specs.Slots.{is_slot, is_held, is_silent, executors}
 use Rattle.sift_mission.specs.PartsFit.{frame_limit, longest_period, start_limit}
 use Rattle.sift_table.specs.Laws.{shortest_period}
 
@@ -35,14 +35,15 @@ is_caught_in (Out w) = true
 is_caught_in Report = false
 is_caught_in (RelayReport s) = false
 
--- under each configuration a slot is heard two subframes after it is said or later, and two before the frame's end or earlier, and what
--- goes into a word is heard when it is said, or earlier
+-- under each configuration a slot in which something is said is heard two subframes later or after that, and each two before the frame's end
+-- or earlier, and what goes into a word that is said is heard when it is said, or earlier
 pub record IsTimed (m : FlownMission) : Type 0 where
   pub run : (us : List ℕ) (w : ℕ) → IsConfigOf m us → w < m.words → m.due us (Out w) ≡ m.run_in us (m.task w)
-  pub apart : (us : List ℕ) (k : Slot) → IsConfigOf m us → is_slot m k ≡ true → m.due us k + 2 ≤ m.heard_in us k
+  pub apart : (us : List ℕ) (k : Slot) → IsConfigOf m us → is_slot m k ≡ true → is_silent m us k ≡ false → m.due us k + 2 ≤ m.heard_in us k
   pub within : (us : List ℕ) (k : Slot) → IsConfigOf m us → is_slot m k ≡ true → m.heard_in us k + 2 ≤ m.period
   pub relayed : (us : List ℕ) (x : ℕ) → IsConfigOf m us → x < m.sensors → m.heard_in us (Sense x) ≤ m.due us (RelaySense x)
-  pub agreed : (us : List ℕ) (x w : ℕ) → IsConfigOf m us → x < m.sensors → w < m.words → m.heard_in us (RelaySense x) ≤ m.due us (Out w)
+  pub agreed : (us : List ℕ) (x w : ℕ) → IsConfigOf m us → x < m.sensors → w < m.words → is_held m us w ≡ false →
+      m.heard_in us (RelaySense x) ≤ m.due us (Out w)
   pub caught : (us : List ℕ) (k : Slot) → IsConfigOf m us → is_slot m k ≡ true → is_caught_in k ≡ true → m.heard_in us k ≤ m.due us Report
   pub reported : (us : List ℕ) (s : ℕ) → IsConfigOf m us → has m.units s ≡ true → m.heard_in us Report ≤ m.due us (RelayReport s)
 
@@ -55,7 +56,8 @@ pub record IsRead (m : FlownMission) : Type 0 where
   pub reads : (w : ℕ) (ins ins' now now' last : List ℕ) → w < m.words → SameAt (λ x. true) m.sensors ins ins' → SameAt (m.needs w) m.words now now' →
       m.word w ins now last ≡ m.word w ins' now' last
   pub earlier : (w v : ℕ) → w < m.words → v < m.words → m.needs w v ≡ true → v < w
-  pub polled : (us : List ℕ) (w v : ℕ) → IsConfigOf m us → w < m.words → v < m.words → m.needs w v ≡ true → m.heard_in us (Out v) ≤ m.due us (Out w)
+  pub polled : (us : List ℕ) (w v : ℕ) → IsConfigOf m us → w < m.words → v < m.words → is_held m us w ≡ false → m.needs w v ≡ true →
+      m.heard_in us (Out v) ≤ m.due us (Out w)
 
 -- units, tasks, words, sensors and frames are counted within the limits
 pub record IsCounted (m : FlownMission) : Type 0 where
@@ -70,9 +72,10 @@ pub record IsCounted (m : FlownMission) : Type 0 where
   pub frames : m.frames ≤ frame_limit
   pub starts : length m.starts ≡ m.words
 
--- each word has at least three executors, all in the configuration
-abbrev pub HasExecutors : FlownMission → Type 0
-HasExecutors m = (us : List ℕ) (w : ℕ) → IsConfigOf m us → w < m.words → 3 ≤ length (executors m us w)
+-- each word that isn't held has at least three executors, all in the configuration, and one that is held has none
+pub record HasExecutors (m : FlownMission) : Type 0 where
+  pub three : (us : List ℕ) (w : ℕ) → IsConfigOf m us → w < m.words → is_held m us w ≡ false → 3 ≤ length (executors m us w)
+  pub none : (us : List ℕ) (w u : ℕ) → IsConfigOf m us → w < m.words → is_held m us w ≡ true → m.executes us w u ≡ false
 
 -- the clocks start near 0, and corrections and drifts are small
 pub record AreClocksNear (m : FlownMission) : Type 0 where

@@ -84,6 +84,7 @@ flown d = record {
   task = task_of (shapes_in d);
   run_in = λ us t. schedule.run_in (table_for d us) t;
   executes = executes_in d;
+  shed = λ us. (table_for d us).shed;
   needs = needs_word d;
   word = word_made d;
   starts = d.program.starts;

@@ -25,6 +25,8 @@ pub record FlownMission : Type 0 where
   pub task : ℕ → ℕ
   pub run_in : List ℕ → ℕ → ℕ
   pub executes : List ℕ → ℕ → ℕ → Bool
+  -- under a configuration: the numbers of the tasks that its table sheds
+  pub shed : List ℕ → List ℕ
   -- the task of the first word reads the second in the frame in which it is made
   pub needs : ℕ → ℕ → Bool
   -- the word that its task makes of the agreed words, this frame's words and those of the frame before; and the words before frame 0

@@ -57,7 +57,7 @@ pub record IsTableFor (d : MissionData) (size : ℕ) (table : Schedule) : Type 0
 
 -- the table that stands at a place, and an empty one past the list's end
 abbrev pub table_at : MissionData → ℕ → Schedule
-table_at d i = slice_index_or d.tables i (record { size = 0; period = 0; run = []; poll = []; at = [] })
+table_at d i = slice_index_or d.tables i (record { size = 0; period = 0; run = []; poll = []; at = []; shed = [] })
 
 -- there is a table for each size of a configuration, from the least to that of all units
 pub record AreTables (d : MissionData) : Type 0 where

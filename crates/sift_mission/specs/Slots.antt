@@ -20,6 +20,19 @@ is_slot m (RelayReport s) = has m.units s
 abbrev pub executors : FlownMission → List ℕ → ℕ → List ℕ
 executors m us w = filter (m.executes us w) us
 
+-- under a configuration word w is held: its task is shed, so the word stays what it was in the frame before
+abbrev pub is_held : FlownMission → List ℕ → ℕ → Bool
+is_held m us w = has (m.shed us) (m.task w)
+
+-- under a configuration nothing is said or heard in the slot: its word is held
+abbrev pub is_silent : FlownMission → List ℕ → Slot → Bool
+is_silent m us Clock = false
+is_silent m us (Sense x) = false
+is_silent m us (RelaySense x) = false
+is_silent m us (Out w) = is_held m us w
+is_silent m us Report = false
+is_silent m us (RelayReport s) = false
+
 -- what sets the sender p and the receiver q of a slot apart from other units: the reader says a sensor's word and the others relay it;
 -- executors say a task's words; a report is relayed by and to units other than the one that it is of
 abbrev pub is_senders : FlownMission → List ℕ → Slot → ℕ → ℕ → Bool
