@@ -14,7 +14,7 @@ use Rattle.sift_config.specs.Config.{reader_of}
 use Rattle.sift_clock.specs.Reading.{reading_of, is_too_far}
 use Rattle.sift_clock.specs.Correction.{next_offset}
 use Rattle.sift_mission.specs.Mission.{FlownMission}
-use Rattle.sift_mission.specs.Slots.{executors, calls}
+use Rattle.sift_mission.specs.Slots.{executors, is_held, calls}
 use Rattle.sift_conduct.specs.Account.{Account, Places}
 
 -- ---- sensors
@@ -40,10 +40,14 @@ made m a last w = m.word w a.ins a.outs last
 abbrev pub polled : FlownMission → ℕ → Account → Places → List ℕ → ℕ → ℕ → Option ℕ
 polled m u a h last w v = if nat_eq v u then Some (made m a last w) else h (Out w) v
 
--- the account has a word for each output: the agreed word of the executors' words
+-- the word of number w after the poll: the agreed word of the executors' words, and where it is held the word voted in the frame before
+abbrev pub voted : FlownMission → List ℕ → ℕ → Account → Places → List ℕ → ℕ → ℕ
+voted m us u a h last w = if is_held m us w then slice_index last w else agreed_of (map (polled m u a h last w) (executors m us w))
+
+-- the account has a word for each output, by this rule
 pub record TaskConduct (m : FlownMission) (us : List ℕ) (u : ℕ) (a : Account) (h : Places) (last : List ℕ) : Type 0 where
   pub count : length a.outs ≡ m.words
-  pub votes : (w : ℕ) → w < m.words → slice_index a.outs w ≡ agreed_of (map (polled m u a h last w) (executors m us w))
+  pub votes : (w : ℕ) → w < m.words → slice_index a.outs w ≡ voted m us u a h last w
 
 -- ---- catches
 

@@ -69,6 +69,7 @@ mission_of c = record {
   task = λ w. w;
   run_in = λ us t. slice_index c.runs t;
   executes = λ us w u. true;
+  shed = λ us. [];
   needs = c.needs;
   word = λ w ins now last. slice_index (meaning (task_at c w) ins now last) 0;
   starts = c.starts;

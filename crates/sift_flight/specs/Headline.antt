@@ -23,6 +23,10 @@ use Rattle.sift_mission.specs.Premises.{IsFlyable, RunsProgram}
 abbrev pub agreed_at : FlownMission → Flight → ℕ → List ℕ
 agreed_at m fl f = (fl.account (lead_of m f) f).ins
 
+-- the tasks that are shed in a frame: those that its configuration sheds
+abbrev pub shed_at : FlownMission → Flight → ℕ → List ℕ
+shed_at m fl f = m.shed (config_at m fl f)
+
 -- same configuration: each working unit has the configuration at the frame, is in it, and so isn't idle
 pub record SameConfiguration (m : FlownMission) (fl : Flight) (f : ℕ) : Type 0 where
   pub same : (u : ℕ) → Works m u f → config_of fl u f ≡ config_at m fl f
@@ -43,9 +47,10 @@ pub record SameReports (m : FlownMission) (fl : Flight) (f : ℕ) : Type 0 where
   pub same : (u v r : ℕ) → Works m u f → Works m v f → has (config_at m fl f) r ≡ true → report_at m fl f u r ≡ report_at m fl f v r
   pub own : (u r : ℕ) → Works m u f → Works m r f → report_at m fl f u r ≡ report_in (fl.account r f)
 
--- ideal outputs: each working unit has the ideal machine's words over the agreed words
+-- ideal outputs: each working unit has the ideal machine's words over the agreed words, where in each frame those tasks are shed that the
+-- table of its configuration sheds
 abbrev pub IdealOutputs : FlownMission → ProgramTree → Flight → ℕ → Type 0
-IdealOutputs m program fl f = (u : ℕ) → Works m u f → (fl.account u f).outs ≡ ideal_words program (agreed_at m fl) f
+IdealOutputs m program fl f = (u : ℕ) → Works m u f → (fl.account u f).outs ≡ ideal_words program (agreed_at m fl) (shed_at m fl) f
 
 -- ---- faults
 

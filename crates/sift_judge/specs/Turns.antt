@@ -4,7 +4,7 @@ use Rattle.sift_mission.specs.Data.{MissionData}
 use Rattle.sift_program.specs.Ideal.{words_before}
 use Rattle.sift_report.specs.Form.{HasForm}
 use Rattle.sift_report.specs.Headline.{FrameHeadline, TellsSameConfiguration, TellsTrueMargin}
-use Rattle.sift_report.specs.Told.{HadMarginTold, HasMarginTold, agreed_told}
+use Rattle.sift_report.specs.Told.{HadMarginTold, HasMarginTold, agreed_told, shed_told}
 use Rattle.sift_report.specs.declared.line.ReportLine.{ReportLine}
 use Rattle.sift_judge.specs.Verdict.{Breaks, IsAsked, Keeps, Rule, number_of}
 
@@ -50,7 +50,8 @@ KeepsBefore d lines f = (g : ℕ) → g < f → KeepsFrame d lines g
 
 -- ---- the ideal machine
 
--- while there is margin, the ideal machine's words are those before frame f, over the agreed words told so far; they are always as many
+-- while there is margin, the ideal machine's words are those before frame f, over the agreed words and the configurations told so far; they
+-- are always as many
 pub record RunsBefore (d : MissionData) (lines : List ReportLine) (f : ℕ) (margin : Bool) (words : List ℕ) : Type 0 where
-  pub words_are : margin ≡ true → words ≡ words_before d.program (agreed_told d lines) f
+  pub words_are : margin ≡ true → words ≡ words_before d.program (agreed_told d lines) (shed_told d lines) f
   pub as_many : length words ≡ length d.program.starts

@@ -11,7 +11,7 @@ use Rattle.sift_skew.specs.Figures.{IsSkew}
 use Rattle.sift_mission.specs.Data.{MissionData}
 use Rattle.sift_mission.specs.Flown.{word_sensed}
 use Rattle.sift_report.specs.Form.{HasForm}
-use Rattle.sift_report.specs.Told.{HadMarginTold, HasMarginTold, agreed_told, caught_told, clock_told, config_told, end_margin_told, inputs_told, margin_told, outputs_told, skew_told, slack_told, told_at}
+use Rattle.sift_report.specs.Told.{HadMarginTold, HasMarginTold, agreed_told, caught_told, clock_told, config_told, end_margin_told, inputs_told, margin_told, outputs_told, shed_told, skew_told, slack_told, told_at}
 use Rattle.sift_report.specs.Working.{IsWorking, works_in}
 use Rattle.sift_report.specs.declared.line.ReportLine.{ReportLine}
 
@@ -32,10 +32,10 @@ pub record TellsSameInputs (d : MissionData) (lines : List ReportLine) (f : ℕ)
   pub sensed : (us : List ℕ) (x : ℕ) → config_told d lines f ≡ Some us → x < d.layout.sensors →
       works_in d (reader_of us x) f ≡ true → slice_index (agreed_told d lines f) x ≡ word_sensed d x f
 
--- each working unit tells the ideal machine's words, over the agreed words told so far
+-- each working unit tells the ideal machine's words, over the agreed words and the configurations told so far
 abbrev pub TellsIdealOutputs : MissionData → List ReportLine → ℕ → Type 0
 TellsIdealOutputs d lines f =
-    (u : ℕ) → IsWorking d u f → outputs_told d lines f u ≡ ideal_words d.program (agreed_told d lines) f
+    (u : ℕ) → IsWorking d u f → outputs_told d lines f u ≡ ideal_words d.program (agreed_told d lines) (shed_told d lines) f
 
 -- ---- faults
 

@@ -20,9 +20,9 @@ outputs_text f outs = join_with_byte blank ((codes "f=" ++ decimal f) ∷ (codes
 abbrev pub frames_text : ℕ → List ℕ
 frames_text frames = join_with_byte blank (codes "end" ∷ (codes "frames=" ++ decimal frames) ∷ []) ++ codes "\n"
 
--- the line of a frame: what the ideal machine puts out in it
+-- the line of a frame: what the ideal machine puts out in it, where no task is shed
 abbrev pub ideal_line : MissionData → ℕ → List ℕ
-ideal_line d f = outputs_text f (ideal_words d.program (sensed_in (flown d)) f)
+ideal_line d f = outputs_text f (ideal_words d.program (sensed_in (flown d)) (λ g. []) f)
 
 -- the ideal machine's outputs in each frame
 abbrev pub ideal_of : MissionData → List ℕ

@@ -5,6 +5,7 @@ use Rattle.std.specs.List.{slice_get}
 use Rattle.sift_base.specs.Margin.{HasMargin}
 use Rattle.sift_base.specs.Units.{Units}
 use Rattle.sift_mission.specs.Data.{MissionData}
+use Rattle.sift_mission.specs.Flown.{table_for}
 use Rattle.sift_report.specs.Bad.{units_in}
 use Rattle.sift_report.specs.Working.{lead_in, works_in}
 use Rattle.sift_report.specs.declared.line.ReportLine.{ReportLine}
@@ -55,6 +56,15 @@ told_at d lines f i = told_in (line_at d lines f i)
 -- the configuration told at a frame: the lead unit's; after the last frame, that of the last line
 abbrev pub config_told : MissionData → List ReportLine → ℕ → Option (List ℕ)
 config_told d lines f = (told_at d lines f (if nat_lt f d.frames then lead_in d f else 0)).config
+
+-- the tasks that a configuration sheds, and none where none is told
+abbrev pub shed_by : MissionData → Option (List ℕ) → List ℕ
+shed_by d None = []
+shed_by d (Some us) = (table_for d us).shed
+
+-- the tasks that are shed in a frame: those that the configuration told at it sheds
+abbrev pub shed_told : MissionData → List ReportLine → ℕ → List ℕ
+shed_told d lines f = shed_by d (config_told d lines f)
 
 -- the agreed words that a unit tells in a frame
 abbrev pub inputs_told : MissionData → List ReportLine → (f u : ℕ) → List ℕ
