@@ -36,9 +36,12 @@ loop-number-preserved c =
       | else-contains w ↦ rw (w.made-is, w.run.ensures, w.deref-else-contains.ensures.0) (sym (rw w.if-contains.false at more))
     ]
 
+-- a word for each start
 pub returns-clause-as_many : goal.returns-clause-as_many
 returns-clause-as_many c =
-    let trees = (program_of c.args.program.now).tasks in
-    let all : c.loop-number.number ≡ length trees = omega (arith, length-map c.args.program.now.tasks.items tree_of, ap length c.deref-task-items.ensures.value, c.loop-number-test.false, c.loop-number.auto.number-end) in
-    let made = length-ideal_frame (program_of c.args.program.now) c.self.inside.words.items c.args.agreed.now c.args.shed.now in
-    rw (c.loop-number.invariant, all, made) (sym c.requires.sound.a_start_each ∙ c.requires.a_start_each)
+    let program = program_of c.args.program.now in
+    let long = ap length c.deref-task-items.ensures.value in
+    let all : c.loop-number.number ≡ length program.tasks =
+    omega (arith, length-map c.args.program.now.tasks.items tree_of, long, c.loop-number-test.false, c.loop-number.auto.number-end) in
+    let made = length-ideal_frame program c.self.inside.words.items c.args.agreed.now c.args.shed.now in
+    ap length c.loop-number.invariant ∙ (rw all made ∙ (sym c.requires.sound.a_start_each ∙ c.requires.a_start_each))
