@@ -1,11 +1,12 @@
 //! The ideal machine: its words, frame by frame.
-ghost use Rattle.std.specs.Prelude.{◌≡◌, ℕ, ◌+◌, ◌≤◌, List, length};
+ghost use Rattle.std.specs.Prelude.{◌≡◌, ℕ, ◌+◌, ◌≤◌, List, ◌++◌, length};
 ghost use Rattle.arrayvec.specs.ArrayVec.{array_vec_len};
 ghost use Rattle.sift_lang.specs.Tree.{tree_of};
+ghost use Rattle.sift_lang.specs.Meaning.{meaning};
 ghost use Rattle.sift_lang.specs.Sound.{IsSound, AllNowsBelow};
 ghost use Rattle.sift_program.specs.Program.{program_of};
 ghost use Rattle.sift_program.specs.Sound.{IsSoundProgram};
-ghost use Rattle.sift_program.specs.Ideal.{with_task, ideal_frame, words_before, ideal_words, IdealFrameIsUnique};
+ghost use Rattle.sift_program.specs.Ideal.{words_held, ideal_frame, words_before, ideal_words, IdealFrameIsUnique};
 
 use crate::program::{Program, WORD_LIMIT};
 use arrayvec::ArrayVec;
@@ -36,21 +37,27 @@ impl Ideal {
         Ideal { words }
     }
 
-    /// Runs the next frame: each task once, over the agreed words of the sensors in that frame.
-    pub fn frame(&mut self, program: &Program, agreed: &[Word])
+    /// Runs the next frame: each task once, over the agreed words of the sensors in that frame. A shed task, which is
+    /// named by its number in the list, doesn't run but holds its words of the frame before, and `now` reads these.
+    pub fn frame(&mut self, program: &Program, agreed: &[Word], shed: &[u8])
         requires sound { IsSoundProgram (length agreed.now) (program_of program.now) }
         requires a_start_each { length program.now.starts.items ≡ length self.old }
-        ensures ideal { self.new ≡ ideal_frame (program_of program.now) self.old agreed.now }
-        // Where the frames before f ran over their agreed words, this one is frame f.
-        ensures in_turn { (inputs : ℕ → List ℕ) (f : ℕ)
-            → self.old ≡ words_before (program_of program.now) inputs f
+        ensures ideal { self.new ≡ ideal_frame (program_of program.now) self.old agreed.now shed.now }
+        // Where the frames before f ran over their agreed words and with their shed tasks, this one is frame f.
+        ensures in_turn { (inputs sheds : ℕ → List ℕ) (f : ℕ)
+            → self.old ≡ words_before (program_of program.now) inputs sheds f
             → agreed.now ≡ inputs f
-            → self.new ≡ ideal_words (program_of program.now) inputs f }
+            → shed.now ≡ sheds f
+            → self.new ≡ ideal_words (program_of program.now) inputs sheds f }
         ensures as_many { length self.new ≡ length self.old }
     {
         let mut made = ArrayVec::new();
-        for task in &program.tasks {
-            run(task, agreed, &mut made, &self.words);
+        for (number, task) in program.tasks.iter().enumerate() {
+            if shed.contains(&(number as u8)) {
+                hold(task, &mut made, &self.words);
+            } else {
+                run(task, agreed, &mut made, &self.words);
+            }
         }
         self.words = made;
     }
@@ -68,14 +75,25 @@ fn run(task: &Task, agreed: &[Word], made: &mut ArrayVec<Word, WORD_LIMIT>, last
     requires sound { IsSound (length agreed.now) (length last.now) (tree_of task.now) }
     requires nows { AllNowsBelow (array_vec_len made.old) (tree_of task.now) }
     requires room { array_vec_len made.old + task.now.outputs ≤ WORD_LIMIT }
-    ensures { made.new.items ≡ with_task last.now agreed.now made.old.items (tree_of task.now) }
+    ensures { made.new.items ≡ made.old.items ++ meaning (tree_of task.now) agreed.now made.old.items last.now }
 {
     let outs = eval(task, agreed, made, last);
     made.try_extend_from_slice(&outs).unwrap();
 }
 
-/// The words of a frame are the one list in which the words of each task are its meaning over that very list. So they
-/// can be told without running the tasks in turn.
+/// Adds the words that a shed task had in the frame before. They stand at the same places.
+fn hold(task: &Task, made: &mut ArrayVec<Word, WORD_LIMIT>, last: &[Word])
+    requires held { array_vec_len made.old + task.now.outputs ≤ length last.now }
+    requires room { array_vec_len made.old + task.now.outputs ≤ WORD_LIMIT }
+    ensures { made.new.items ≡ made.old.items ++ words_held last.now (array_vec_len made.old) task.now.outputs }
+{
+    let first = made.len();
+    let held = &last[first..first + task.outputs as usize];
+    made.try_extend_from_slice(held).unwrap();
+}
+
+/// The words of a frame are the one list in which the words of each task are its meaning over that very list, or where
+/// it is shed its words of the frame before. So they can be told without running the tasks in turn.
 pub fn ideal_frame_is_unique()
     ensures { IdealFrameIsUnique }
 {}
