@@ -25,7 +25,7 @@ module _ (m : FlownMission) (fit : Fits m) (r : Ranges) (of : IsPortOf m r) (b :
   pub may_hear : AtHearing m fit b → MayHear r c b.unit b.other b.slot b.frame (stamp_of m b.cfg b.frame (m.kind b.slot))
   may_hear at =
       let call = call_of m b.cfg (m.kind b.slot) b.other b.unit at.call in
-      let apart = fit.timed.apart b.cfg (m.kind b.slot) g.range.config call.slot in
+      let apart = fit.timed.apart b.cfg (m.kind b.slot) g.range.config call.slot SPEAK in
       let slots = of.slots in let frames = of.frames in let low = at.slot in let sub = at.subframe in let p = g.progress in
       record {
         flies = g.left;

@@ -62,7 +62,7 @@ module _ (m : FlownMission) (us : List ℕ) (u f : ℕ) (clk : ℤ) (a : Account
       → ((p : ℕ) → calls m us k p u ≡ true → place_at heard p ≡ h k p)
       → ((k' : Slot) → is_slot m k' ≡ true → m.heard_in us k' < m.heard_in us k → Heard m us u f clk a h last b k')
       → ((w : ℕ) → w < m.words → m.due us (Out w) < m.heard_in us k → Ran m us u a last b w)
-      → Heard m us u f clk a h last (note m us u f clk k heard b) k
+      → Heard m us u f clk a h last (note m us u f clk last k heard b) k
   heard_new Clock heard b slot shape places before ran = (
     λ v. holds-gathered _ us v ∙ and_in (has us v) _ _ (λ t. and_in (not (nat_eq v u)) _ _ (λ o.
         ap (λ w. is_too_far (m.skew +ℤ m.error) (reading_of w clk (m.errors u v))) (places v (calling Clock v slot t (apart v u (not_true _ o)) refl)))),
@@ -80,7 +80,7 @@ module _ (m : FlownMission) (us : List ℕ) (u f : ℕ) (clk : ℤ) (a : Account
       let low : x < length b.ins = rw shape.ins few in
       let long = shape.relay in let low' : x < length b.relay = omega arith in
       let early = fit.timed.relayed us x config few in
-      let later = fit.timed.apart us (RelaySense x) config slot in
+      let later = fit.timed.apart us (RelaySense x) config slot refl in
       let r = reader_of us x in
       let sense : Heard m us u f clk a h last b (Sense x) = before (Sense x) slot (omega arith) in (
         get_or-set_same b.ins x _ 0 low ∙ elim (cases_Bool (nat_eq (reader_of us x) u)) [
@@ -98,10 +98,10 @@ module _ (m : FlownMission) (us : List ℕ) (u f : ℕ) (clk : ℤ) (a : Account
       let few : w < m.words = ltb-true w m.words slot in
       let low : w < length b.outs = rw shape.outs few in
       let long = shape.poll in let low' : w < length b.poll = omega arith in
-      let later = fit.timed.apart us (Out w) config slot in
-      let made : Ran m us u a last b w = ran w few (omega arith) in
+      let made : Ran m us u a last b w = λ runs.
+      let later = fit.timed.apart us (Out w) config slot (not_held m us w u fit.executors config few runs) in ran w few (omega arith) runs in
       let same = poll-same w heard b places few made in (
-        get_or-set_same b.outs w _ 0 low ∙ ap agreed_of same,
+        get_or-set_same b.outs w _ 0 low ∙ ap (λ word. if is_held m us w then slice_index last w else agreed_of word) same,
         λ v. ap (λ s. holds s v) (get_or-set_same b.poll w _ set.empty low') ∙ holds-gathered _ us v
             ∙ and_in (has us v) _ _ (λ t. and_in (m.executes us w v) _ _ (λ e. λ i. differs (polled-same w heard b places few made v t e i) (majority_of (same i)))),
       )
@@ -109,7 +109,7 @@ module _ (m : FlownMission) (us : List ℕ) (u f : ℕ) (clk : ℤ) (a : Account
   heard_new (RelayReport s) heard b slot shape places before ran = λ from other.
       let long = shape.agreed in let unit = fit.counted.units s (config.inside s from) in let low : s < length b.agreed = omega arith in
       let early = fit.timed.reported us s config slot in
-      let later = fit.timed.apart us (RelayReport s) config slot in
+      let later = fit.timed.apart us (RelayReport s) config slot refl in
       get_or-set_same b.agreed s _ 0 low
       ∙ taken-same s (place_at b.reports s) (h Report s) (place_at heard) (h (RelayReport s)) (before Report refl (omega arith) s from other)
       (λ v from' ne other'. places v (calling (RelayReport s) v slot from' other'

@@ -17,7 +17,7 @@ use Rattle.sift_unit.proofs.Sets.{renewed-other, length-renewed}
 module _ (m : FlownMission) (us : List ℕ) (u f : ℕ) (clk : ℤ) (a : Account) (h : Places) (last : List ℕ) where
   -- what comes of another slot stays
   pub heard_kept : (k k' : Slot) (heard : List (Option ℕ)) (b : Memory) → k' ≢ k → Heard m us u f clk a h last b k' →
-      Heard m us u f clk a h last (note m us u f clk k heard b) k'
+      Heard m us u f clk a h last (note m us u f clk last k heard b) k'
   heard_kept Clock Clock heard b ne z = absurd (ne refl)
   heard_kept (Sense x) (Sense y) heard b ne z = λ other. get_or-set_other b.direct x y _ _ (λ e. ne (ap Sense e)) ∙ z other
   heard_kept (RelaySense x) (RelaySense y) heard b ne z = (
@@ -34,7 +34,7 @@ module _ (m : FlownMission) (us : List ℕ) (u f : ℕ) (clk : ℤ) (a : Account
   heard_kept k k' heard b ne z = z
 
   -- a slot that is heard changes no word that was made
-  pub ran_heard : (w : ℕ) (k : Slot) (heard : List (Option ℕ)) (b : Memory) → Ran m us u a last b w → Ran m us u a last (note m us u f clk k heard b) w
+  pub ran_heard : (w : ℕ) (k : Slot) (heard : List (Option ℕ)) (b : Memory) → Ran m us u a last b w → Ran m us u a last (note m us u f clk last k heard b) w
   ran_heard w Clock heard b z = z
   ran_heard w (Sense x) heard b z = z
   ran_heard w k heard b z = z
@@ -50,7 +50,7 @@ module _ (m : FlownMission) (us : List ℕ) (u f : ℕ) (clk : ℤ) (a : Account
       renewed-other (is_made_by m us u t) (λ v. m.word v b.ins b.outs last) b.made w 0 w (omega arith) (rw (ne_eqb (m.task w) t ne) (false_last (nat_lt w m.words))) ∙ z e
 
   -- an account that matches afterwards matched in what another slot settled
-  pub matches_back : (k' k : Slot) (heard : List (Option ℕ)) (b : Memory) → k' ≢ k → Matches (note m us u f clk k heard b) a k' → Matches b a k'
+  pub matches_back : (k' k : Slot) (heard : List (Option ℕ)) (b : Memory) → k' ≢ k → Matches (note m us u f clk last k heard b) a k' → Matches b a k'
   matches_back (RelaySense y) (RelaySense x) heard b ne z = sym (get_or-set_other b.ins x y _ 0 (λ e. ne (ap RelaySense e))) ∙ z
   matches_back (Out y) (Out x) heard b ne z = sym (get_or-set_other b.outs x y _ 0 (λ e. ne (ap Out e))) ∙ z
   matches_back k' k heard b ne z = z
@@ -62,7 +62,7 @@ module _ (m : FlownMission) (us : List ℕ) (u f : ℕ) (clk : ℤ) (a : Account
 
   -- a slot that catches nobody for the report leaves the catches
   pub settled_back : (k : Slot) (heard : List (Option ℕ)) (b : Memory) → is_caught_in k ≡ false →
-      Settled m us (note m us u f clk k heard b) a → Settled m us b a
+      Settled m us (note m us u f clk last k heard b) a → Settled m us b a
   settled_back (Sense x) heard b none z = z
   settled_back Report heard b none z = z
   settled_back (RelayReport s) heard b none z = z
@@ -93,11 +93,11 @@ made_long m us u b s member = s.made ∙ rw member refl
 
 module _ (m : FlownMission) where
   -- a slot that is heard keeps the lengths
-  pub shape_noted : (us : List ℕ) (u f : ℕ) (clk : ℤ) (k : Slot) (heard : List (Option ℕ)) (b : Memory) → IsShaped m us u b →
-      IsShaped m us u (note m us u f clk k heard b)
-  shape_noted us u f clk Clock heard b s =
+  pub shape_noted : (us : List ℕ) (u f : ℕ) (clk : ℤ) (last : List ℕ) (k : Slot) (heard : List (Option ℕ)) (b : Memory) → IsShaped m us u b →
+      IsShaped m us u (note m us u f clk last k heard b)
+  shape_noted us u f clk last Clock heard b s =
       record { direct = s.direct; ins = s.ins; relay = s.relay; made = s.made; outs = s.outs; poll = s.poll; agreed = s.agreed }
-  shape_noted us u f clk (Sense x) heard b s = record {
+  shape_noted us u f clk last (Sense x) heard b s = record {
     direct = rw (length-set b.direct x _) s.direct;
     ins = s.ins;
     relay = s.relay;
@@ -106,7 +106,7 @@ module _ (m : FlownMission) where
     poll = s.poll;
     agreed = s.agreed;
   }
-  shape_noted us u f clk (RelaySense x) heard b s = record {
+  shape_noted us u f clk last (RelaySense x) heard b s = record {
     direct = s.direct;
     ins = length-set b.ins x _ ∙ s.ins;
     relay = rw (length-set b.relay x _) s.relay;
@@ -115,7 +115,7 @@ module _ (m : FlownMission) where
     poll = s.poll;
     agreed = s.agreed;
   }
-  shape_noted us u f clk (Out w) heard b s = record {
+  shape_noted us u f clk last (Out w) heard b s = record {
     direct = s.direct;
     ins = s.ins;
     relay = s.relay;
@@ -124,9 +124,9 @@ module _ (m : FlownMission) where
     poll = rw (length-set b.poll w _) s.poll;
     agreed = s.agreed;
   }
-  shape_noted us u f clk Report heard b s =
+  shape_noted us u f clk last Report heard b s =
       record { direct = s.direct; ins = s.ins; relay = s.relay; made = s.made; outs = s.outs; poll = s.poll; agreed = s.agreed }
-  shape_noted us u f clk (RelayReport v) heard b s = record {
+  shape_noted us u f clk last (RelayReport v) heard b s = record {
     direct = s.direct;
     ins = s.ins;
     relay = s.relay;

@@ -19,6 +19,7 @@ use Rattle.sift_unit.proofs.Tests.{apart, not_true}
 use Rattle.sift_unit.proofs.Sets.{renewed-here}
 use Rattle.sift_unit.proofs.Calls.{call_of}
 use Rattle.sift_unit.proofs.Kept.{made_long}
+use Rattle.sift_mission.proofs.Silent.{not_held}
 
 module _ (m : FlownMission) (us : List ℕ) (u f : ℕ) (clk : ℤ) (a : Account) (h : Places) (last : List ℕ) (fit : Fits m) (config : IsConfigOf m us) where
   -- a task's words, once it was run with all that it reads
@@ -27,11 +28,12 @@ module _ (m : FlownMission) (us : List ℕ) (u f : ℕ) (clk : ℤ) (a : Account
       → (w : ℕ) → w < m.words → m.task w ≡ t → Ran m us u a last (run m us u last t b) w
   ran_new t b shape member matches w few is = λ e.
       let long = made_long m us u b shape member in let low : w < length b.made = omega arith in
+      let kept = not_held m us w u fit.executors config few e in
       let at : m.due us (Out w) ≡ m.run_in us t = fit.timed.run us w config few ∙ ap (λ z. m.run_in us z) is in
       renewed-here (is_made_by m us u t) (λ v. m.word v b.ins b.outs last) b.made w 0 w (omega arith) low (rw (lt-ltb w m.words few, eq-eqb (m.task w) t is, e) refl)
       ∙ fit.read.reads w b.ins a.ins b.outs a.outs last few
-      (λ x lx any. matches (RelaySense x) (lt-ltb x m.sensors lx) (let z = fit.timed.agreed us x w config lx few in omega arith))
-      (λ v lv needed. matches (Out v) (lt-ltb v m.words lv) (let z = fit.read.polled us w v config few lv needed in omega arith))
+      (λ x lx any. matches (RelaySense x) (lt-ltb x m.sensors lx) (let z = fit.timed.agreed us x w config lx few kept in omega arith))
+      (λ v lv needed. matches (Out v) (lt-ltb v m.words lv) (let z = fit.read.polled us w v config few lv kept needed in omega arith))
 
   -- the own word of a slot, where all was heard and made that goes into it
   pub word_is : (k : Slot) (q : ℕ) (b : Memory) → calls m us k u q ≡ true → a.clk ≡ clk

@@ -26,7 +26,7 @@ module _ (m : FlownMission) (fit : Fits m) where
 
   -- the memory after the slot was heard at which the board stands
   abbrev pub noted : Desk → Memory
-  noted b = note m b.cfg b.unit b.frame b.clk (m.kind b.slot) b.places b.memory
+  noted b = note m b.cfg b.unit b.frame b.clk b.last (m.kind b.slot) b.places b.memory
 
   -- the board stays in range
   pub range_onto : (b : Desk) (memory : Memory) → InRange m b → b.slot < m.slots → IsShaped m b.cfg b.unit memory → InRange m (onto b memory)

@@ -12,7 +12,7 @@ use Rattle.sift_config.specs.Config.{reader_of}
 use Rattle.sift_clock.specs.Reading.{reading_of, is_too_far}
 use Rattle.sift_clock.specs.Correction.{next_offset}
 use Rattle.sift_mission.specs.Mission.{FlownMission}
-use Rattle.sift_mission.specs.Slots.{executors}
+use Rattle.sift_mission.specs.Slots.{executors, is_held}
 use Rattle.sift_unit.specs.FrameWords.{FrameWords}
 
 -- what a board remembers: whom it caught by their clocks, and its next offset; by sensor, the word that its reader said, the agreed word,
@@ -56,6 +56,10 @@ polled_at u b heard w v = if nat_eq v u then Some (slice_index b.made w) else pl
 abbrev pub poll_of : FlownMission → List ℕ → ℕ → Memory → List (Option ℕ) → ℕ → List (Option ℕ)
 poll_of m us u b heard w = map (polled_at u b heard w) (executors m us w)
 
+-- the word of number w after the poll: the agreed word of these words, and where it is held the word voted in the frame before
+abbrev pub voted_at : FlownMission → List ℕ → ℕ → List ℕ → Memory → List (Option ℕ) → ℕ → ℕ
+voted_at m us u last b heard w = if is_held m us w then slice_index last w else agreed_of (poll_of m us u b heard w)
+
 -- the word that u has for sensor x, where these relays were heard
 abbrev pub input_at : FlownMission → List ℕ → ℕ → ℕ → Memory → List (Option ℕ) → ℕ → ℕ
 input_at m us u f b heard x =
@@ -70,20 +74,20 @@ caught_by_clock m us u clk heard = gathered (λ v. not (nat_eq v u) && is_too_fa
 abbrev pub offset_after : FlownMission → List ℕ → ℕ → ℤ → List (Option ℕ) → ℤ
 offset_after m us u clk heard = next_offset (m.skew +ℤ m.error) us (reading_at m u clk heard) clk u (m.drift u)
 
--- the memory after all that is to be heard of a slot was heard
-abbrev pub note : FlownMission → List ℕ → ℕ → ℕ → ℤ → Slot → List (Option ℕ) → Memory → Memory
-note m us u f clk Clock heard b = record b { clock = caught_by_clock m us u clk heard; next_clk = offset_after m us u clk heard }
-note m us u f clk (Sense x) heard b = record b { direct = slice_set b.direct x (place_at heard (reader_of us x)) }
-note m us u f clk (RelaySense x) heard b = record b {
+-- the memory after all that is to be heard of a slot was heard, where last has the words voted in the frame before
+abbrev pub note : FlownMission → List ℕ → ℕ → ℕ → ℤ → List ℕ → Slot → List (Option ℕ) → Memory → Memory
+note m us u f clk last Clock heard b = record b { clock = caught_by_clock m us u clk heard; next_clk = offset_after m us u clk heard }
+note m us u f clk last (Sense x) heard b = record b { direct = slice_set b.direct x (place_at heard (reader_of us x)) }
+note m us u f clk last (RelaySense x) heard b = record b {
   ins = slice_set b.ins x (input_at m us u f b heard x);
   relay = slice_set b.relay x (gathered (λ v. not (nat_eq v u) && (nat_eq (reader_of us x) u && differs (place_at heard v) (Some (m.sensed x f)))) us);
 }
-note m us u f clk (Out w) heard b = record b {
-  outs = slice_set b.outs w (agreed_of (poll_of m us u b heard w));
+note m us u f clk last (Out w) heard b = record b {
+  outs = slice_set b.outs w (voted_at m us u last b heard w);
   poll = slice_set b.poll w (gathered (λ v. m.executes us w v && differs (polled_at u b heard w v) (majority_of (poll_of m us u b heard w))) us);
 }
-note m us u f clk Report heard b = record b { reports = heard }
-note m us u f clk (RelayReport s) heard b =
+note m us u f clk last Report heard b = record b { reports = heard }
+note m us u f clk last (RelayReport s) heard b =
     record b { agreed = slice_set b.agreed s (agreed_of (taken us s u (λ q. place_at b.reports s) (λ q p. place_at heard p))) }
 
 -- ---- what was made

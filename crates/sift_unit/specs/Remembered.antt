@@ -11,7 +11,7 @@ use Rattle.sift_clock.specs.Correction.{next_offset}
 use Rattle.sift_mission.specs.Mission.{FlownMission}
 use Rattle.sift_mission.specs.Slots.{executors}
 use Rattle.sift_conduct.specs.Account.{Account, Places}
-use Rattle.sift_conduct.specs.Conduct.{input_of, made, polled, reading_by, clock_catches}
+use Rattle.sift_conduct.specs.Conduct.{input_of, made, polled, voted, reading_by, clock_catches}
 use Rattle.sift_unit.specs.Memory.{Memory, place_at, units_at}
 use Rattle.sift_unit.specs.Tidings.{bad_now}
 
@@ -31,7 +31,7 @@ Heard m us u f clk a h last b (RelaySense x) =
     × ((v : ℕ) → holds (units_at b.relay x) v ≡
     (has us v && (not (nat_eq v u) && (nat_eq (reader_of us x) u && differs (h (RelaySense x) v) (Some (m.sensed x f))))))
 Heard m us u f clk a h last b (Out w) =
-    (slice_index b.outs w ≡ agreed_of (polled_words m us u a h last w))
+    (slice_index b.outs w ≡ voted m us u a h last w)
     × ((v : ℕ) → holds (units_at b.poll w) v ≡
     (has us v && (m.executes us w v && differs (polled m u a h last w v) (majority_of (polled_words m us u a h last w)))))
 Heard m us u f clk a h last b Report = (s : ℕ) → has us s ≡ true → s ≢ u → place_at b.reports s ≡ h Report s
