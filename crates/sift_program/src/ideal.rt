@@ -37,8 +37,8 @@ impl Ideal {
         Ideal { words }
     }
 
-    /// Runs the next frame: each task once, over the agreed words of the sensors in that frame. A shed task, which is
-    /// named by its number in the list, doesn't run but holds its words of the frame before, and `now` reads these.
+    /// Runs the next frame: each task that isn't shed once, over the agreed words of the sensors in that frame. A shed
+    /// task, by its number in the list, holds its words of the frame before, and `now` reads these.
     pub fn frame(&mut self, program: &Program, agreed: &[Word], shed: &[u8])
         requires sound { IsSoundProgram (length agreed.now) (program_of program.now) }
         requires a_start_each { length program.now.starts.items ≡ length self.old }
