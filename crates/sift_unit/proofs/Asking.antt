@@ -10,6 +10,7 @@ use Rattle.sift_buffer.specs.Conditions.{MaySay, MayHear}
 use Rattle.sift_mission.specs.Mission.{FlownMission}
 use Rattle.sift_mission.specs.Slots.{stamp_of}
 use Rattle.sift_mission.specs.Fits.{Fits}
+use Rattle.sift_mission.proofs.Silent.{speaks}
 use Rattle.sift_unit.specs.Desk.{Desk}
 use Rattle.sift_unit.specs.Going.{Going}
 use Rattle.sift_unit.specs.Boards.{IsPortOf}
@@ -25,7 +26,8 @@ module _ (m : FlownMission) (fit : Fits m) (r : Ranges) (of : IsPortOf m r) (b :
   pub may_hear : AtHearing m fit b → MayHear r c b.unit b.other b.slot b.frame (stamp_of m b.cfg b.frame (m.kind b.slot))
   may_hear at =
       let call = call_of m b.cfg (m.kind b.slot) b.other b.unit at.call in
-      let apart = fit.timed.apart b.cfg (m.kind b.slot) g.range.config call.slot SPEAK in
+      let apart = fit.timed.apart b.cfg (m.kind b.slot) g.range.config call.slot
+      (speaks m b.cfg (m.kind b.slot) b.other b.unit fit.executors g.range.config at.call) in
       let slots = of.slots in let frames = of.frames in let low = at.slot in let sub = at.subframe in let p = g.progress in
       record {
         flies = g.left;

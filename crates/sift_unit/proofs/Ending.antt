@@ -8,6 +8,7 @@ use Rattle.sift_base.specs.Units.{has}
 use Rattle.sift_skew.specs.Leading.{OffsetsChangeLittle}
 use Rattle.sift_buffer.specs.Conduct.{with_entered}
 use Rattle.sift_buffer.specs.Conduct.{Conduct as Acts}
+use Rattle.sift_mission.proofs.Silent.{speaks}
 use Rattle.sift_mission.specs.Mission.{FlownMission, IsConfigOf}
 use Rattle.sift_conduct.specs.Account.{Account}
 use Rattle.sift_conduct.specs.Frames.{last_of, BusyConduct}
@@ -99,7 +100,7 @@ module _ (m : FlownMission) (fit : Fits m) where
               let mt = g.meets a h fate in
               let acts = acts_next m fit b.unit a h b.frame b.cfg r.config fate.cfg c (cursor b)
               (λ k' q t. let sm = small_of m b.cfg k' b.unit q fit r.config t in let s1 = sm.number in let s2 = sm.to in
-              let w = fit.timed.within b.cfg k' r.config sm.slot in let ap' = fit.timed.apart b.cfg k' r.config sm.slot in omega arith)
+              let w = fit.timed.within b.cfg k' r.config sm.slot in let ap' = fit.timed.apart b.cfg k' r.config sm.slot (speaks m b.cfg k' b.unit q fit.executors r.config t) in omega arith)
               (λ k' q t. let sm = small_of m b.cfg k' q b.unit fit r.config t in let s1 = sm.number in let s2 = sm.from in
               let w = fit.timed.within b.cfg k' r.config sm.slot in omega arith)
               mt.acts in

@@ -5,6 +5,7 @@ use Rattle.std.proofs.lemmas.Bool.{cases_Bool, cases_lt}
 use Rattle.sift_base.specs.declared.slot.Slot.{Slot}
 use Rattle.sift_buffer.specs.Conduct.{Saying, Hearing, saying}
 use Rattle.sift_buffer.specs.Conduct.{Conduct as Acts}
+use Rattle.sift_mission.proofs.Silent.{speaks}
 use Rattle.sift_mission.specs.Mission.{FlownMission}
 use Rattle.sift_mission.specs.Slots.{is_slot, calls, stamp_of, heard_at}
 use Rattle.sift_conduct.specs.Frames.{FrameConduct, Flies}
@@ -74,7 +75,8 @@ module _ (m : FlownMission) (fit : Fits m) (b : Desk) (c : Acts) (g : Going m b 
         | inl after ↦ absurd (not_both _ (not_past_after b.frame (cursor b) f (say_spot m (accounts_of m b f).cfg k q) after) t.past)
         | inr low ↦
             let config = config_at m b g.range f low in
-            let apart = fit.timed.apart (accounts_of m b f).cfg k config slot in
+            let apart = fit.timed.apart (accounts_of m b f).cfg k config slot
+            (speaks m (accounts_of m b f).cfg k b.unit q fit.executors config t.called) in
             let within = fit.timed.within (accounts_of m b f).cfg k config slot in
             let is = t.stamp in
             (omega arith, omega arith)

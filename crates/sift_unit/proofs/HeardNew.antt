@@ -1,7 +1,7 @@
 -- What the memory holds of a slot, once all of it was heard.
 use Rattle.std.proofs.Common.{◌≡◌, ◌≢◌, inl, inr, ℕ, ◌<◌, List, ◌∷◌, length, true, not, nat_eq, Option}
 use Rattle.std.proofs.Common.{None, Some, refl, sym, ap, ◌∙◌, subst, arith, ne_eqb, eqb-true, ltb-true, lt-ltb, get_or-set_same}
-use Rattle.std.specs.Prelude.{ℤ, ◌+ℤ◌}
+use Rattle.std.specs.Prelude.{ℤ, ◌+ℤ◌, if◌then◌else◌, slice_index}
 use Rattle.std.specs.FinSet as set
 use Rattle.std.proofs.lemmas.Bool.{cases_Bool}
 use Rattle.sift_base.specs.Units.{has, holds, others}
@@ -16,7 +16,7 @@ use Rattle.sift_config.specs.Config.{reader_of}
 use Rattle.sift_clock.specs.Reading.{reading_of, is_too_far}
 use Rattle.sift_clock.specs.Correction.{correction_of}
 use Rattle.sift_mission.specs.Mission.{FlownMission, IsConfigOf}
-use Rattle.sift_mission.specs.Slots.{executors, is_slot, is_senders, calls}
+use Rattle.sift_mission.specs.Slots.{executors, is_held, is_slot, is_senders, calls}
 use Rattle.sift_conduct.specs.Account.{Account, Places}
 use Rattle.sift_conduct.specs.Conduct.{polled, reading_by}
 use Rattle.sift_mission.specs.Fits.{Fits}
@@ -26,6 +26,7 @@ use Rattle.sift_unit.proofs.Tests.{apart, and_in, both, not_true}
 use Rattle.sift_unit.proofs.Sets.{holds-gathered, filter_has, map-same}
 use Rattle.sift_unit.proofs.Calls.{call_is}
 use Rattle.sift_mission.proofs.Configs.{has-reader}
+use Rattle.sift_mission.proofs.Silent.{not_held}
 
 module _ (m : FlownMission) (us : List ℕ) (u f : ℕ) (clk : ℤ) (a : Account) (h : Places) (last : List ℕ) (fit : Fits m) (config : IsConfigOf m us) (member : has us u ≡ true) where
   -- what was heard of a slot stands in the places

@@ -48,7 +48,7 @@ module _ (m : FlownMission) (fit : Fits m) where
   }
 
   pub note_range : (b : Desk) → InRange m b → b.slot < m.slots → InRange m (onto b (noted b))
-  note_range b r low = range_onto b (noted b) r low (shape_noted m b.cfg b.unit b.frame b.clk (m.kind b.slot) b.places b.memory r.shape)
+  note_range b r low = range_onto b (noted b) r low (shape_noted m b.cfg b.unit b.frame b.clk b.last (m.kind b.slot) b.places b.memory r.shape)
 
   -- the acts at a slot's end
   pub slot_acts : (b : Desk) (c : Acts) (a : Accounts) (h : Words) → InRange m b → (a b.frame).cfg ≡ b.cfg → b.slot < m.slots → b.part ≤ 1 →

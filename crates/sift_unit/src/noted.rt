@@ -1,6 +1,6 @@
 //! What a board notes of a slot, all of which it has heard.
 
-ghost use Rattle.std.specs.Prelude.{◌≡◌, ◌<◌, length, ◌&&◌, ℕ, ℤ, pos, Some, map, not, nat_eq, true};
+ghost use Rattle.std.specs.Prelude.{◌≡◌, ◌<◌, length, ◌&&◌, ℕ, ℤ, List, pos, Some, if◌then◌else◌, map, not, nat_eq, slice_index, true, unwrap_or};
 ghost use Rattle.std.specs.List.{filter};
 ghost use Rattle.sift_base.specs.Units.{has, holds};
 ghost use Rattle.sift_vote.specs.Agreed.{majority_of};
@@ -9,6 +9,7 @@ ghost use Rattle.sift_clock.specs.Distance.{IsWithin};
 ghost use Rattle.sift_skew.specs.Limits.{offset_limit};
 ghost use Rattle.sift_mission.specs.Mission.{FlownMission, IsConfigOf};
 ghost use Rattle.sift_mission.specs.Fits.{Fits};
+ghost use Rattle.sift_mission.specs.Slots.{is_held};
 ghost use Rattle.sift_unit.specs.Memory.{place_at, polled_at, poll_of, note as note_of};
 ghost use Rattle.sift_unit.specs.Remembered.{IsShaped};
 ghost use Rattle.sift_unit.specs.Passing.{IsSlotOf};
@@ -43,7 +44,8 @@ impl Memory {
         requires frame { frame < (M.mission mission.now).frames }
         requires near { IsWithin offset_limit clk.now (pos 0) }
         requires shape { IsShaped (M.mission mission.now) config.now unit (memory_of self.old) }
-        ensures noted { memory_of self.new ≡ note_of (M.mission mission.now) config.now unit frame clk.now ((M.mission mission.now).kind slot) places.now (memory_of self.old) }
+        requires before { length self.old.words.before ≡ (M.mission mission.now).words }
+        ensures noted { memory_of self.new ≡ note_of (M.mission mission.now) config.now unit frame clk.now self.old.words.before ((M.mission mission.now).kind slot) places.now (memory_of self.old) }
         ensures before { self.new.words.before ≡ self.old.words.before }
     {
         match mission.kind(slot) {
@@ -72,7 +74,7 @@ impl Memory {
         requires config { IsConfigOf (M.mission mission.now) config.now }
         requires member { has config.now unit ≡ true }
         requires near { IsWithin offset_limit clk.now (pos 0) }
-        ensures noted { (f : ℕ) → memory_of self.new ≡ note_of (M.mission mission.now) config.now unit f clk.now Clock places.now (memory_of self.old) }
+        ensures noted { (f : ℕ) (last : List ℕ) → memory_of self.new ≡ note_of (M.mission mission.now) config.now unit f clk.now last Clock places.now (memory_of self.old) }
         ensures before { self.new.words.before ≡ self.old.words.before }
     {
         self.clock = far_clocks(mission, config, unit, clk, places);
@@ -93,7 +95,7 @@ impl Memory {
         requires sensor { sensor < (M.mission mission.now).sensors }
         requires frame { frame < (M.mission mission.now).frames }
         requires shape { IsShaped (M.mission mission.now) config.now unit (memory_of self.old) }
-        ensures noted { (clk : ℤ) → memory_of self.new ≡ note_of (M.mission mission.now) config.now unit frame clk (RelaySense sensor) places.now (memory_of self.old) }
+        ensures noted { (clk : ℤ) (last : List ℕ) → memory_of self.new ≡ note_of (M.mission mission.now) config.now unit frame clk last (RelaySense sensor) places.now (memory_of self.old) }
         ensures before { self.new.words.before ≡ self.old.words.before }
     {
         let reader = config.reader_of(sensor);
@@ -131,13 +133,36 @@ impl Memory {
         requires word { word < (M.mission mission.now).words }
         requires member { has config.now unit ≡ true }
         requires shape { IsShaped (M.mission mission.now) config.now unit (memory_of self.old) }
-        ensures noted { (f : ℕ) (clk : ℤ) → memory_of self.new ≡ note_of (M.mission mission.now) config.now unit f clk (Out word) places.now (memory_of self.old) }
+        requires before { length self.old.words.before ≡ (M.mission mission.now).words }
+        ensures noted { (f : ℕ) (clk : ℤ) → memory_of self.new ≡ note_of (M.mission mission.now) config.now unit f clk self.old.words.before (Out word) places.now (memory_of self.old) }
         ensures before { self.new.words.before ≡ self.old.words.before }
     {
         let vote = self.vote(mission, config, unit, word, places);
         let wrong = self.wrong_executors(mission, config, unit, word, places, &vote);
-        self.words.vote(word, vote.unwrap_or(Word::of(0)));
+        let voted = self.voted(mission, config, word, vote);
+        self.words.vote(word, voted);
         self.poll[usize::from(word)] = wrong;
+    }
+
+    /// The word of a number after its poll: the vote, or 0 where there is none. Where no unit puts the word out, its task is
+    /// shed, and it stays what it was in the frame before.
+    fn voted<M: Duty>(
+        &self,
+        mission: &M,
+        config: &Config,
+        word: u8,
+        vote: Option<Word>,
+    ) -> Word
+        requires fits { Fits (M.mission mission.now) }
+        requires config { IsConfigOf (M.mission mission.now) config.now }
+        requires word { word < (M.mission mission.now).words }
+        requires before { word < length self.now.words.before }
+        ensures { result ≡ (if is_held (M.mission mission.now) config.now word then slice_index self.now.words.before word else unwrap_or vote 0) }
+    {
+        if mission.executors(config, word) == UnitSet::empty() {
+            return self.words.before(word);
+        }
+        vote.unwrap_or(Word::of(0))
     }
 
     /// The majority of the executors' words.
@@ -228,7 +253,7 @@ impl Memory {
 
     /// Notes the agreed report of a unit.
     fn note_report(&mut self, config: &Config, unit: UnitId, of: UnitId, places: &[Option<Word>; 8])
-        ensures noted { (m : FlownMission) (f : ℕ) (clk : ℤ) → memory_of self.new ≡ note_of m config.now unit f clk (RelayReport of) places.now (memory_of self.old) }
+        ensures noted { (m : FlownMission) (f : ℕ) (clk : ℤ) (last : List ℕ) → memory_of self.new ≡ note_of m config.now unit f clk last (RelayReport of) places.now (memory_of self.old) }
         ensures before { self.new.words.before ≡ self.old.words.before }
     {
         let relays = relays_of(places, config, of, unit);

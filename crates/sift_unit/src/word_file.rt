@@ -94,6 +94,14 @@ impl WordFile {
         load(&self.pool, &self.agreed, self.inputs.agreed.len())
     }
 
+    /// A word of the frame before.
+    pub(crate) fn before(&self, word: u8) -> Word
+        requires { word < length self.now.before }
+        ensures { result ≡ slice_index self.now.before word }
+    {
+        self.inputs.before[usize::from(word)]
+    }
+
     /// The voted words.
     pub(crate) fn voted(&self) -> ArrayVec<Word, 64>
         ensures { result.items ≡ self.now.voted }

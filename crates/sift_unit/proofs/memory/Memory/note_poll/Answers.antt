@@ -1,10 +1,11 @@
 use Rattle.std.proofs.Common.{◌≡◌, ◌∙◌, ◌&&◌, ap}
-use Rattle.std.specs.Prelude.{slice_set, unwrap_or}
+use Rattle.std.specs.Prelude.{ℕ, Option, if◌then◌else◌, slice_index, slice_set, unwrap_or}
 use Rattle.sift_base.specs.Units.{has}
-use Rattle.sift_vote.specs.Agreed.{majority_of, agreed_of}
+use Rattle.sift_vote.specs.Agreed.{majority_of}
 use Rattle.sift_vote.specs.Differing.{differs}
 use Rattle.sift_unit.specs.FrameWords.{FrameWords, with_voted}
-use Rattle.sift_unit.specs.Memory.{polled_at, poll_of}
+use Rattle.sift_mission.specs.Slots.{is_held}
+use Rattle.sift_unit.specs.Memory.{polled_at, poll_of, voted_at}
 use Rattle.sift_unit.specs.Boards.{memory_of}
 use Rattle.sift_unit.proofs.Memories.{is_gathered}
 use Rattle.sift_unit.proofs.memory.Memory.note_poll.Goals as goal
@@ -18,8 +19,10 @@ returns-clause-noted g c =
     let w = c.args.word in
     let heard = c.args.places.now in
     let vote : c.vote-vote.result ≡ majority_of (poll_of m us u b heard w) = c.vote-vote.ensures in
-    let word : c.unwrap_or.result ≡ agreed_of (poll_of m us u b heard w) = c.unwrap_or.ensures ∙ (λ i. unwrap_or (vote i) (c.of.ensures i)) in
-    let words : c.vote.new.self ≡ with_voted c.args.self.now.words w (agreed_of (poll_of m us u b heard w)) = c.vote.ensures ∙ ap (λ x. with_voted c.args.self.now.words w x) word in
+    let last = c.args.self.now.words.before in
+    let word : c.voted-voted.result ≡ voted_at m us u last b heard w
+    = c.voted-voted.ensures ∙ ap (λ (v : Option ℕ). if is_held m us w then slice_index last w else unwrap_or v 0) vote in
+    let words : c.vote.new.self ≡ with_voted c.args.self.now.words w (voted_at m us u last b heard w) = c.vote.ensures ∙ ap (λ x. with_voted c.args.self.now.words w x) word in
     let wrong = is_gathered c.wrong_executors-wrong.result (λ v. m.executes us w v && differs (polled_at u b heard w v) (majority_of (poll_of m us u b heard w))) us
     (λ v. c.wrong_executors-wrong.ensures v ∙ ap (λ x. has us v && (m.executes us w v && differs (polled_at u b heard w v) x)) vote) in
     let at = c.from.ensures in

@@ -27,7 +27,7 @@ returns-then-eq-clause-noted g c =
     (λ v. c.liars.ensures v ∙ rw (own, c.sensed-own.ensures) refl) in
     let words : c.agree.new.self ≡ with_agreed c.args.self.now.words x (input_at m us u f b heard x) = c.agree.ensures ∙ ap (λ w. with_agreed c.args.self.now.words x w) word in
     let at = c.from.ensures in
-    λ clk i. record b { ins = (words i).agreed; made = (words i).made; outs = (words i).voted; relay = slice_set b.relay (at i) (liars i) }
+    λ clk last i. record b { ins = (words i).agreed; made = (words i).made; outs = (words i).voted; relay = slice_set b.relay (at i) (liars i) }
 
 -- the agreed word
 pub returns-clause-noted : goal.returns-clause-noted
@@ -49,7 +49,7 @@ returns-clause-noted g c =
     let words : c.agree-2.new.self ≡ with_agreed c.args.self.now.words x (input_at m us u f b heard x) = c.agree-2.ensures ∙ ap (λ w. with_agreed c.args.self.now.words x w) word in
     let liars = c.empty.ensures ∙ nobody_else us u (nat_eq (reader_of us x) u) (λ v. differs (place_at heard v) (Some (m.sensed x f))) other in
     let at = c.from-2.ensures in
-    λ clk i. record b { ins = (words i).agreed; made = (words i).made; outs = (words i).voted; relay = slice_set b.relay (at i) (liars i) }
+    λ clk last i. record b { ins = (words i).agreed; made = (words i).made; outs = (words i).voted; relay = slice_set b.relay (at i) (liars i) }
 
 -- the words before stay
 pub returns-then-eq-clause-before : goal.returns-then-eq-clause-before

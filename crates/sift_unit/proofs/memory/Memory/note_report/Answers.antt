@@ -17,4 +17,4 @@ returns-clause-noted c =
     let direct : c.place_of.result ≡ place_at b.reports of = c.place_of.ensures in
     let word = c.agree.ensures.exact ∙ (λ i. agreed_of (direct i ∷ relays i)) in
     let at = c.from.ensures ∙ c.get.ensures.number in
-    λ m f clk i. record b { agreed = slice_set b.agreed (at i) (word i) }
+    λ m f clk last i. record b { agreed = slice_set b.agreed (at i) (word i) }
