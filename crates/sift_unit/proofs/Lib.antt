@@ -27,6 +27,7 @@ pub mod Moving
 pub mod Nearness
 pub mod Noting
 pub mod Passing
+pub mod Polls
 pub mod Past
 pub mod Quiet
 pub mod Running

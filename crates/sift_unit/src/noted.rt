@@ -3,13 +3,11 @@
 ghost use Rattle.std.specs.Prelude.{◌≡◌, ◌<◌, length, ◌&&◌, ℕ, ℤ, List, pos, Some, if◌then◌else◌, map, not, nat_eq, slice_index, true, unwrap_or};
 ghost use Rattle.std.specs.List.{filter};
 ghost use Rattle.sift_base.specs.Units.{has, holds};
-ghost use Rattle.sift_vote.specs.Agreed.{majority_of};
 ghost use Rattle.sift_vote.specs.Differing.{differs as is_other};
 ghost use Rattle.sift_clock.specs.Distance.{IsWithin};
 ghost use Rattle.sift_skew.specs.Limits.{offset_limit};
 ghost use Rattle.sift_mission.specs.Mission.{FlownMission, IsConfigOf};
 ghost use Rattle.sift_mission.specs.Fits.{Fits};
-ghost use Rattle.sift_mission.specs.Slots.{is_held};
 ghost use Rattle.sift_unit.specs.Memory.{place_at, polled_at, poll_of, note as note_of};
 ghost use Rattle.sift_unit.specs.Remembered.{IsShaped};
 ghost use Rattle.sift_unit.specs.Passing.{IsSlotOf};
@@ -137,58 +135,50 @@ impl Memory {
         ensures noted { (f : ℕ) (clk : ℤ) → memory_of self.new ≡ note_of (M.mission mission.now) config.now unit f clk self.old.words.before (Out word) places.now (memory_of self.old) }
         ensures before { self.new.words.before ≡ self.old.words.before }
     {
-        let vote = self.vote(mission, config, unit, word, places);
+        let ballots = self.ballots(mission, config, unit, word, places);
+        let vote = majority(&ballots);
         let wrong = self.wrong_executors(mission, config, unit, word, places, &vote);
-        let voted = self.voted(mission, config, word, vote);
+        let voted = self.voted(word, &ballots, vote);
         self.words.vote(word, voted);
         self.poll[usize::from(word)] = wrong;
     }
 
-    /// The word of a number after its poll: the vote, or 0 where there is none. Where no unit puts the word out, its task is
-    /// shed, and it stays what it was in the frame before.
-    fn voted<M: Duty>(
-        &self,
-        mission: &M,
-        config: &Config,
-        word: u8,
-        vote: Option<Word>,
-    ) -> Word
-        requires fits { Fits (M.mission mission.now) }
-        requires config { IsConfigOf (M.mission mission.now) config.now }
-        requires word { word < (M.mission mission.now).words }
-        requires before { word < length self.now.words.before }
-        ensures { result ≡ (if is_held (M.mission mission.now) config.now word then slice_index self.now.words.before word else unwrap_or vote 0) }
+    /// The word of a number after its poll: the vote, or 0 where there is none. Where there are no ballots, its task is shed,
+    /// and it stays what it was in the frame before.
+    fn voted(&self, word: u8, ballots: &[Option<Word>], vote: Option<Word>) -> Word
+        requires { word < length self.now.words.before }
+        ensures { result ≡ (if nat_eq (length ballots.now) 0 then slice_index self.now.words.before word else unwrap_or vote 0) }
     {
-        if mission.executors(config, word) == UnitSet::empty() {
+        if ballots.is_empty() {
             return self.words.before(word);
         }
         vote.unwrap_or(Word::of(0))
     }
 
-    /// The majority of the executors' words.
-    fn vote<M: Duty>(
+    /// The executors' words, in the order of their units. There are none where the word's task is shed.
+    fn ballots<M: Duty>(
         &self,
         mission: &M,
         config: &Config,
         unit: UnitId,
         word: u8,
         places: &[Option<Word>; 8],
-    ) -> Option<Word>
+    ) -> ArrayVec<Option<Word>, 8>
         requires fits { Fits (M.mission mission.now) }
         requires config { IsConfigOf (M.mission mission.now) config.now }
         requires word { word < (M.mission mission.now).words }
         requires made { length (memory_of self.now).made ≡ (M.mission mission.now).words }
-        ensures { result ≡ majority_of (poll_of (M.mission mission.now) config.now unit (memory_of self.now) places.now word) }
+        ensures { result.items ≡ poll_of (M.mission mission.now) config.now unit (memory_of self.now) places.now word }
     {
         let executors = mission.executors(config, word);
-        let mut ballots = ArrayVec::<Option<Word>, 8>::new();
+        let mut ballots = ArrayVec::new();
         for position in 0..config.len() {
             let executor = config.unit_at(position);
             if executors.has(executor) {
                 ballots.push(self.ballot(unit, word, places, executor));
             }
         }
-        majority(&ballots)
+        ballots
     }
 
     /// The word of an executor in a poll: the own one as it was made, another's as it was heard.

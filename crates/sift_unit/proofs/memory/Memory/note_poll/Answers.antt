@@ -1,4 +1,4 @@
-use Rattle.std.proofs.Common.{◌≡◌, ◌∙◌, ◌&&◌, ap}
+use Rattle.std.proofs.Common.{◌≡◌, ◌∙◌, ◌&&◌, ap, nat_eq, length, List}
 use Rattle.std.specs.Prelude.{ℕ, Option, if◌then◌else◌, slice_index, slice_set, unwrap_or}
 use Rattle.sift_base.specs.Units.{has}
 use Rattle.sift_vote.specs.Agreed.{majority_of}
@@ -7,7 +7,8 @@ use Rattle.sift_unit.specs.FrameWords.{FrameWords, with_voted}
 use Rattle.sift_mission.specs.Slots.{is_held}
 use Rattle.sift_unit.specs.Memory.{polled_at, poll_of, voted_at}
 use Rattle.sift_unit.specs.Boards.{memory_of}
-use Rattle.sift_unit.proofs.Memories.{is_gathered}
+use Rattle.sift_unit.proofs.Memories.{is_gathered, majority_is}
+use Rattle.sift_unit.proofs.Polls.{empty_poll}
 use Rattle.sift_unit.proofs.memory.Memory.note_poll.Goals as goal
 
 pub returns-clause-noted : goal.returns-clause-noted
@@ -18,10 +19,15 @@ returns-clause-noted g c =
     let u = c.args.unit in
     let w = c.args.word in
     let heard = c.args.places.now in
-    let vote : c.vote-vote.result ≡ majority_of (poll_of m us u b heard w) = c.vote-vote.ensures in
     let last = c.args.self.now.words.before in
+    let ballots : c.deref.result.now ≡ poll_of m us u b heard w = c.deref.ensures.0 ∙ c.ballots-ballots.ensures in
+    let vote : c.majority-vote.result ≡ majority_of (poll_of m us u b heard w)
+    = majority_is c.deref.result.now c.majority-vote.result c.majority-vote.ensures.found c.majority-vote.ensures.none ∙ ap majority_of ballots in
+    let again : c.deref-2.result.now ≡ poll_of m us u b heard w = c.deref-2.ensures.0 ∙ c.ballots-ballots.ensures in
+    let empty : nat_eq (length c.deref-2.result.now) 0 ≡ is_held m us w
+    = ap (λ (ws : List (Option ℕ)). nat_eq (length ws) 0) again ∙ empty_poll m us u b heard w c.requires.fits c.requires.config c.requires.word in
     let word : c.voted-voted.result ≡ voted_at m us u last b heard w
-    = c.voted-voted.ensures ∙ ap (λ (v : Option ℕ). if is_held m us w then slice_index last w else unwrap_or v 0) vote in
+    = c.voted-voted.ensures ∙ (λ i. if empty i then slice_index last w else unwrap_or (vote i) 0) in
     let words : c.vote.new.self ≡ with_voted c.args.self.now.words w (voted_at m us u last b heard w) = c.vote.ensures ∙ ap (λ x. with_voted c.args.self.now.words w x) word in
     let wrong = is_gathered c.wrong_executors-wrong.result (λ v. m.executes us w v && differs (polled_at u b heard w v) (majority_of (poll_of m us u b heard w))) us
     (λ v. c.wrong_executors-wrong.ensures v ∙ ap (λ x. has us v && (m.executes us w v && differs (polled_at u b heard w v) x)) vote) in

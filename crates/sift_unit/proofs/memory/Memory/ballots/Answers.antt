@@ -1,14 +1,12 @@
 use Rattle.std.specs.Prelude.{Option, Bool, ℕ}
 use Rattle.std.proofs.Common.{◌≡◌, ◌++◌, ◌∷◌, [], ◌<◌, ap, ◌∙◌, sym, arith, length}
-use Rattle.sift_unit.specs.Memory.{polled_at, poll_of}
-use Rattle.sift_vote.specs.Agreed.{majority_of}
+use Rattle.sift_unit.specs.Memory.{polled_at}
 use Rattle.sift_unit.specs.Boards.{memory_of}
 use Rattle.sift_unit.proofs.InTurn.{passing_yes, passing_no, room_in_turn}
-use Rattle.sift_unit.proofs.Memories.{majority_is}
 use Rattle.std.proofs.Common.{take_all, map}
 use Rattle.std.specs.List.{filter}
-use Rattle.sift_unit.proofs.memory.Memory.vote.Goals as goal
-use Rattle.sift_unit.proofs.memory.Memory.vote.Goals.{then-has, else-has}
+use Rattle.sift_unit.proofs.memory.Memory.ballots.Goals as goal
+use Rattle.sift_unit.proofs.memory.Memory.ballots.Goals.{then-has, else-has}
 
 -- there is room for one more
 pub push-requires : goal.push-requires
@@ -35,13 +33,10 @@ loop-position-preserved g c =
           ∙ sym (passing_no f p us i t c.unit_at-executor.ensures (sym (c.executors-executors.ensures t) ∙ sym c.has.ensures ∙ w.if-has.false))
     ]
 
--- the majority of all of them
+-- all of them
 pub returns : goal.returns
 returns g c =
     let m = g.M.Duty.mission c.args.mission.now in
     let f : ℕ → Option ℕ = polled_at c.args.unit (memory_of c.args.self.now) c.args.places.now c.args.word in
-    let words : c.deref.result.now ≡
-    poll_of m c.args.config.now c.args.unit (memory_of c.args.self.now) c.args.places.now c.args.word
-    = c.deref.ensures.0 ∙ c.loop-position.invariant ∙ ap (λ us. map f (filter (m.executes c.args.config.now c.args.word) us))
-    (take_all c.loop-position.position c.args.config.now (let t = c.loop-position-test.false in let all = c.len-position-end.ensures.length in omega arith)) in
-    majority_is c.deref.result.now c.majority.result c.majority.ensures.found c.majority.ensures.none ∙ ap (λ ws. majority_of ws) words
+    c.loop-position.invariant ∙ ap (λ us. map f (filter (m.executes c.args.config.now c.args.word) us))
+    (take_all c.loop-position.position c.args.config.now (let t = c.loop-position-test.false in let all = c.len-position-end.ensures.length in omega arith))

@@ -2,7 +2,7 @@ use Rattle.std.proofs.Common.{◌≡◌, map, take}
 use Rattle.std.specs.List.{filter}
 use Rattle.sift_unit.specs.Memory.{polled_at}
 use Rattle.sift_unit.specs.Boards.{memory_of}
-use Rattle.sift_unit.proofs.memory.Memory.vote.Given as goal
+use Rattle.sift_unit.proofs.memory.Memory.ballots.Given as goal
 
 -- the words of the executors among the units so far
 abbrev pub invariant-loop-position : goal.invariant-loop-position
