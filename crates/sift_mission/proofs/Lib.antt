@@ -12,4 +12,5 @@ pub mod Numbers
 pub mod Positions
 pub mod Rows
 pub mod Sayers
+pub mod Silent
 pub mod Tasks
