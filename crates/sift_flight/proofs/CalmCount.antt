@@ -76,7 +76,7 @@ fits = fits_by count plain numbered
     (record {
       reads = λ w ins ins' now now' last low same_ins same_now. one_word (λ w. (mission_of count).word w ins now last ≡ (mission_of count).word w ins' now' last) refl w low;
       earlier = λ w v low v_low t. absurd cc;
-      polled = λ us w v config low v_low t. absurd cc;
+      polled = λ us w v config low v_low kept t. absurd cc;
     })
 
 -- ---- the frame

@@ -26,9 +26,12 @@ all_pass [] = refl
 all_pass (u ∷ us) = ap (λ vs. u ∷ vs) (all_pass us)
 
 module _ (c : Calm) where
-  -- each unit of a configuration runs each task
+  -- each unit of a configuration runs each task, and no word is held
   pub executors_run : HasExecutors (mission_of c)
-  executors_run us w config low = omega (arith, config.enough, ap length (all_pass us))
+  executors_run = record {
+    three = λ us w config low kept. omega (arith, config.enough, ap length (all_pass us));
+    none = λ us w u config low held. absurd (let z : ⊥ = cc in z);
+  }
 
   pub four_are_config : IsConfigOf (mission_of c) four_units
   four_are_config = record {
@@ -83,10 +86,10 @@ module _ (c : Calm) where
     numbered = numbered;
     timed = record {
       run = λ us w config low. refl;
-      apart = λ us k config slot. (in_time k slot).0;
+      apart = λ us k config slot said. (in_time k slot).0;
       within = λ us k config slot. (in_time k slot).1;
       relayed = λ us x config low. omega arith;
-      agreed = λ us x w config x_low low. times.late w low;
+      agreed = λ us x w config x_low low kept. times.late w low;
       caught = λ us k config slot t. caught k slot t;
       reported = λ us s config hs. omega arith;
     };

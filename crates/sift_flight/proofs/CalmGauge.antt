@@ -87,7 +87,7 @@ fits = fits_by gauge plain numbered
     (record {
       reads = reads;
       earlier = λ w v low v_low t. let e = needed w v t in omega (arith, e);
-      polled = λ us w v config low v_low t. let e = needed w v t in subst (λ w. runs_at v + 2 ≤ runs_at w) (sym e.0) (subst (λ v. runs_at v + 2 ≤ 6) (sym e.1) (omega arith));
+      polled = λ us w v config low v_low kept t. let e = needed w v t in subst (λ w. runs_at v + 2 ≤ runs_at w) (sym e.0) (subst (λ v. runs_at v + 2 ≤ 6) (sym e.1) (omega arith));
     })
   where
     reads : (w : ℕ) (ins ins' now now' last : List ℕ) → w < 2 → SameAt (λ x. true) 1 ins ins' → SameAt (gauge.needs w) 2 now now'

@@ -14,6 +14,7 @@ use Rattle.sift_conduct.specs.Account.{Account}
 use Rattle.sift_conduct.specs.Frames.{Flies}
 use Rattle.sift_conduct.specs.Acts.{ActsAre, BoardKeeps, word_in_saying, word_in_hearing}
 use Rattle.sift_mission.specs.Fits.{Fits}
+use Rattle.sift_mission.proofs.Silent.{speaks}
 use Rattle.sift_flight.specs.Hearing.{IsOfStray, absent, stray}
 use Rattle.sift_flight.specs.Landing.{HaveLanded, UnitsHearByTheEquations}
 use Rattle.sift_flight.proofs.Calls.{call_of}
@@ -66,7 +67,7 @@ module _ (m : FlownMission) (r : Ranges) (c : Core) (accounts : ℕ → ℕ → 
     here : (g : ℕ) (w : Option ℕ) → (c.of p).said g (m.number k) q ≡ Some (saying stamp w) → (g ≡ f) × ((c.of p).said f (m.number k) q ≡ Some (saying stamp w))
     here g w e =
         let a = kept.stamps g k q stamp w slot e in
-        let t = fits.timed.apart mine k config slot in let t' = fits.timed.within mine k config slot in
+        let t = fits.timed.apart mine k config slot (speaks m mine k p q fits.executors config called) in let t' = fits.timed.within mine k config slot in
         let same = same_frame m.period g f stamp a.0 a.1 (omega arith) (omega arith) in
         (same, sym (ap (λ (z : ℕ). (c.of p).said z (m.number k) q) same) ∙ e)
 

@@ -11,7 +11,7 @@ use Rattle.sift_flight.specs.Hearing.{Strays}
 use Rattle.sift_flight.specs.Round.{IsRound}
 use Rattle.sift_flight.specs.Configuration.{Works, lead_of, config_at, HasMarginAt}
 use Rattle.sift_mission.specs.Premises.{IsFlyable, RunsProgram}
-use Rattle.sift_flight.specs.Headline.{agreed_at, HeadlineHolds}
+use Rattle.sift_flight.specs.Headline.{agreed_at, shed_at, HeadlineHolds}
 use Rattle.sift_flight.proofs.Working.{InFrame, Member, member_of}
 use Rattle.sift_flight.proofs.Timing.{next_together}
 use Rattle.sift_flight.proofs.Leading.{lead_works, config_within}
@@ -20,7 +20,7 @@ use Rattle.sift_flight.proofs.OneFrame.{outputs, next, next_is, next_good, stays
 -- the induction's state: the configuration of all working units, and the words before
 record Stands (m : FlownMission) (program : ProgramTree) (strays : Strays) (fl : Flight) (f : ℕ) : Type 0 where
   frame : InFrame m strays fl f (config_at m fl f)
-  last : (u : ℕ) → Works m u f → last_of m (fl.account u) f ≡ words_before program (agreed_at m fl) f
+  last : (u : ℕ) → Works m u f → last_of m (fl.account u) f ≡ words_before program (agreed_at m fl) (shed_at m fl) f
 
 module _ (m : FlownMission) (program : ProgramTree) (strays : Strays) (fl : Flight) (flyable : IsFlyable m) (runs : RunsProgram m program) (round : IsRound m strays fl) where
   -- what a working unit does in a frame

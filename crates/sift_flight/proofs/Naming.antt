@@ -53,7 +53,7 @@ module _ (m : FlownMission) (strays : Strays) (fl : Flight) (f : ℕ) (us : List
   ]
 
   -- nor in any way
-  pub none_named : (ins before outs : List ℕ) → IsStep m ins before outs
+  pub none_named : (ins before outs : List ℕ) → IsStep m us ins before outs
       → ((u : ℕ) → Member m f us u → (fl.account u f).ins ≡ ins) → ((u : ℕ) → Member m f us u → last_of m (fl.account u) f ≡ before)
       → (u v : ℕ) → Member m f us u → Member m f us v → caught (fl.account u f) v ≡ false
   none_named ins before outs step same_ins same_last u v wu wv =

@@ -12,7 +12,7 @@ use Rattle.sift_flight.specs.Flight.{Flight}
 use Rattle.sift_flight.specs.Hearing.{Strays}
 use Rattle.sift_flight.specs.Configuration.{Works, lead_of, config_at}
 use Rattle.sift_mission.specs.Premises.{RunsProgram}
-use Rattle.sift_flight.specs.Headline.{agreed_at, Headline}
+use Rattle.sift_flight.specs.Headline.{agreed_at, shed_at, Headline}
 use Rattle.sift_flight.proofs.Configs.{reader_in}
 use Rattle.sift_flight.proofs.Ideal.{IsStep, ideal_step}
 use Rattle.sift_flight.proofs.Working.{InFrame, Member, works_in, member_of, busy_here, conduct_here}
@@ -24,15 +24,15 @@ use Rattle.sift_flight.proofs.Removing.{names, next_one, next_exact, stays, next
 use Rattle.sift_flight.proofs.Leading.{lead_works}
 
 module _ (m : FlownMission) (program : ProgramTree) (strays : Strays) (fl : Flight) (f : ℕ) (runs : RunsProgram m program) (here : InFrame m strays fl f (config_at m fl f))
-    (last_is : (u : ℕ) → Works m u f → last_of m (fl.account u) f ≡ words_before program (agreed_at m fl) f) where
+    (last_is : (u : ℕ) → Works m u f → last_of m (fl.account u) f ≡ words_before program (agreed_at m fl) (shed_at m fl) f) where
   abbrev us : List ℕ
   us = config_at m fl f
 
   lead_here : Member m f us (lead_of m f)
   lead_here = member_of m strays fl f us here (lead_of m f) (lead_works m here.flyable f)
 
-  step : IsStep m (agreed_at m fl f) (words_before program (agreed_at m fl) f) (ideal_words program (agreed_at m fl) f)
-  step = ideal_step m program (agreed_at m fl f) (words_before program (agreed_at m fl) f) runs
+  step : IsStep m us (agreed_at m fl f) (words_before program (agreed_at m fl) (shed_at m fl) f) (ideal_words program (agreed_at m fl) (shed_at m fl) f)
+  step = ideal_step m program us (agreed_at m fl f) (words_before program (agreed_at m fl) (shed_at m fl) f) runs
 
   -- all members have the lead unit's inputs
   inputs : (u : ℕ) → Member m f us u → (fl.account u f).ins ≡ agreed_at m fl f
@@ -43,11 +43,11 @@ module _ (m : FlownMission) (program : ProgramTree) (strays : Strays) (fl : Flig
       let within : x < m.sensors = omega (arith, c) in
       sensor_same m strays fl f us here x within (reader_in us x (omega (arith, here.config.enough))) u (lead_of m f) w lead_here)
 
-  lasts : (u : ℕ) → Member m f us u → last_of m (fl.account u) f ≡ words_before program (agreed_at m fl) f
+  lasts : (u : ℕ) → Member m f us u → last_of m (fl.account u) f ≡ words_before program (agreed_at m fl) (shed_at m fl) f
   lasts u w = last_is u (works_in m strays fl f us here u w)
 
   -- and the ideal outputs
-  pub outputs : (u : ℕ) → Member m f us u → (fl.account u f).outs ≡ ideal_words program (agreed_at m fl) f
+  pub outputs : (u : ℕ) → Member m f us u → (fl.account u f).outs ≡ ideal_words program (agreed_at m fl) (shed_at m fl) f
   outputs u w = output_is m strays fl f us here (agreed_at m fl f) _ _ step inputs lasts u w
 
   none : (u v : ℕ) → Member m f us u → Member m f us v → caught (fl.account u f) v ≡ false

@@ -9,8 +9,8 @@ use Rattle.sift_vote.specs.Agreed.{agreed_of}
 use Rattle.sift_agree.specs.Agreement.{taken}
 use Rattle.sift_config.specs.Config.{reader_of}
 use Rattle.sift_mission.specs.Mission.{FlownMission}
-use Rattle.sift_mission.specs.Slots.{executors}
-use Rattle.sift_conduct.specs.Conduct.{input_of, made, polled}
+use Rattle.sift_mission.specs.Slots.{executors, is_held}
+use Rattle.sift_conduct.specs.Conduct.{input_of, made, polled, voted}
 use Rattle.sift_conduct.specs.Frames.{last_of, BusyConduct, IdleConduct}
 use Rattle.sift_flight.specs.Flight.{Flight, config_of}
 use Rattle.sift_flight.specs.Hearing.{Strays}
@@ -79,9 +79,13 @@ module _ (m : FlownMission) (strays strays' : Strays) (fl gl : Flight) (f : ℕ)
       → polled m u (fl.account u f) (fl.heard u f) (last_one u) w ≡ polled m u (gl.account u f) (gl.heard u f) (last_other u) w
   polled_same w low outs u hu = λ i v. if nat_eq v u then Some (made_same w low outs u hu i) else heard_out w (λ z. outs) u hu i v
 
+  voted_same : (w : ℕ) → w < m.words → SameOuts w → (u : ℕ) → has m.units u ≡ true
+      → voted m (us u) u (fl.account u f) (fl.heard u f) (last_one u) w ≡ voted m (us u) u (gl.account u f) (gl.heard u f) (last_other u) w
+  voted_same w low outs u hu = λ i. if is_held m (us u) w then slice_index (b.last u hu i) w else agreed_of (map (polled_same w low outs u hu i) (executors m (us u) w))
+
   vote_same : (w : ℕ) → w < m.words → SameOuts w → (u : ℕ) → has m.units u ≡ true → slice_index (fl.account u f).outs w ≡ slice_index (gl.account u f).outs w
   vote_same w low outs u hu = by_place m strays strays' fl gl f b (λ u. slice_index (fl.account u f).outs w ≡ slice_index (gl.account u f).outs w) u
-      (λ t. (one u hu t).conduct.tasks.votes w low ∙ ((λ i. agreed_of (map (polled_same w low outs u hu i) (executors m (us u) w))) ∙ sym ((other u hu t).conduct.tasks.votes w low)))
+      (λ t. (one u hu t).conduct.tasks.votes w low ∙ (voted_same w low outs u hu ∙ sym ((other u hu t).conduct.tasks.votes w low)))
       (λ t. let i = idle u hu t in ap (λ l. slice_index l w) (i.0.outs ∙ sym i.1.outs))
 
   pub outs_same : (n : ℕ) → n ≤ m.words → SameOuts n

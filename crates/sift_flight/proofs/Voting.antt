@@ -2,7 +2,7 @@
 use Rattle.std.proofs.Common.{◌≡◌, inl, inr, ℕ, zero, suc, ◌<◌, ◌≤◌, List, [], ◌∷◌, map, slice_index, Bool, true, false, not, Option, Some, refl, sym, ap, ◌∙◌, arith}
 use Rattle.std.specs.Prelude.{count_by}
 use Rattle.std.specs.List.{filter}
-use Rattle.std.proofs.lemmas.Bool.{cases_Bool}
+use Rattle.std.proofs.lemmas.Bool.{cases_Bool, true≢false}
 use Rattle.std.proofs.lemmas.Bool.Decides.{eqb_tells}
 use Rattle.std.proofs.lemmas.List.{length-map}
 use Rattle.std.proofs.lemmas.Grind.{same_number_lists}
@@ -15,7 +15,7 @@ use Rattle.sift_vote.proofs.Found.{majority_is_found}
 use Rattle.sift_agree.proofs.Taking.{votes-working}
 use Rattle.sift_agree.proofs.Winners.{won-agreed}
 use Rattle.sift_mission.specs.Mission.{FlownMission}
-use Rattle.sift_mission.specs.Slots.{executors}
+use Rattle.sift_mission.specs.Slots.{executors, is_held}
 use Rattle.sift_conduct.specs.Conduct.{made, polled, any_below, poll_catches}
 use Rattle.sift_conduct.specs.Frames.{last_of}
 use Rattle.sift_flight.specs.Flight.{Flight}
@@ -48,7 +48,7 @@ pub same_not_differs : (w : ℕ) → differs (Some w) (Some w) ≡ true → ⊥
 same_not_differs w e = let z = rw (nat_eq-same w) at e in cc
 
 module _ (m : FlownMission) (strays : Strays) (fl : Flight) (f : ℕ) (us : List ℕ) (here : InFrame m strays fl f us)
-    (ins before outs : List ℕ) (step : IsStep m ins before outs)
+    (ins before outs : List ℕ) (step : IsStep m us ins before outs)
     (same_ins : (u : ℕ) → Member m f us u → (fl.account u f).ins ≡ ins)
     (same_last : (u : ℕ) → Member m f us u → last_of m (fl.account u) f ≡ before) where
   abbrev place : ℕ → ℕ → ℕ → Option ℕ
@@ -58,44 +58,61 @@ module _ (m : FlownMission) (strays : Strays) (fl : Flight) (f : ℕ) (us : List
   Earlier : ℕ → Type 0
   Earlier w = (v u : ℕ) → v < w → Member m f us u → slice_index (fl.account u f).outs v ≡ slice_index outs v
 
-  -- then so is the next word, as each member makes it
-  makes : (w : ℕ) → w < m.words → Earlier w → (u : ℕ) → Member m f us u → made m (fl.account u f) (last_of m (fl.account u) f) w ≡ slice_index outs w
+  -- the configuration holds no word that someone executes
+  kept_by : (w : ℕ) → w < m.words → (v : ℕ) → m.executes us w v ≡ true → is_held m us w ≡ false
+  kept_by w low v runs = elim (cases_Bool (is_held m us w)) [
+    | inr kept ↦ kept
+    | inl held ↦ absurd (true≢false (sym runs ∙ here.flyable.fits.executors.none us w v here.config low held))
+  ]
+
+  -- then so is the next word that isn't held, as each member makes it
+  makes : (w : ℕ) → w < m.words → is_held m us w ≡ false → Earlier w → (u : ℕ) → Member m f us u → made m (fl.account u f) (last_of m (fl.account u) f) w ≡ slice_index outs w
   unfolding Earlier
-  makes w low earlier u wu =
+  makes w low kept earlier u wu =
       here.flyable.fits.read.reads w (fl.account u f).ins (fl.account u f).ins (fl.account u f).outs outs (last_of m (fl.account u) f) low (λ x x_low t. refl)
       (λ v v_low t. earlier v u (here.flyable.fits.read.earlier w v low v_low t) wu)
-      ∙ ((λ i. m.word w (same_ins u wu i) outs (same_last u wu i)) ∙ sym (step.makes w low))
+      ∙ ((λ i. m.word w (same_ins u wu i) outs (same_last u wu i)) ∙ sym (rw kept at (step.makes w low)))
 
   -- and each working executor's place has it
   place_is : (w : ℕ) → w < m.words → Earlier w → (u : ℕ) → Member m f us u → (v : ℕ)
       → has (executors m us w) v ≡ true → m.works v f ≡ true → place u w v ≡ Some (slice_index outs w)
   place_is w low earlier u wu v hv wv =
       let t = filter_has (m.executes us w) us v hv in
+      let kept = kept_by w low v t.0 in
       let v' : Member m f us v = record { member = t.1; works = wv } in
       elim (eqb_tells v u) [
-        | inl e ↦ rw e.0 (ap (λ x. Some x) (makes w low earlier u wu))
-        | inr e ↦ rw e.0 (hears m strays fl f us here u v (Out w) wu v' (out_call m strays fl f us here w v u low t.0 v' wu e.1) ∙ ap (λ x. Some x) (makes w low earlier v v'))
+        | inl e ↦ rw e.0 (ap (λ x. Some x) (makes w low kept earlier u wu))
+        | inr e ↦ rw e.0 (hears m strays fl f us here u v (Out w) wu v' (out_call m strays fl f us here w v u low t.0 v' wu e.1) ∙ ap (λ x. Some x) (makes w low kept earlier v v'))
       ]
 
   -- so it is the majority
-  vote_is : (w : ℕ) → w < m.words → Earlier w → (u : ℕ) → Member m f us u → IsMajority (map (place u w) (executors m us w)) (slice_index outs w)
-  vote_is w low earlier u wu =
+  vote_is : (w : ℕ) → w < m.words → is_held m us w ≡ false → Earlier w → (u : ℕ) → Member m f us u → IsMajority (map (place u w) (executors m us w)) (slice_index outs w)
+  vote_is w low kept earlier u wu =
       let votes = votes-working (λ v. m.works v f) (executors m us w) (place u w) (slice_index outs w) (place_is w low earlier u wu) in
       omega (
         arith,
         votes,
         length-map (executors m us w) (place u w),
-        here.flyable.fits.executors us w here.config low,
+        here.flyable.fits.executors.three us w here.config low kept,
         count-filter-≤ (λ v. not (m.works v f)) (m.executes us w) us,
         here.margin.few,
       )
+
+  -- each member has the ideal word: by vote, or where it is held as the one of the frame before
+  word_is : (w : ℕ) → w < m.words → Earlier w → (u : ℕ) → Member m f us u → slice_index (fl.account u f).outs w ≡ slice_index outs w
+  word_is w low earlier u wu =
+      let votes = (conduct_here m strays fl f us here u wu).tasks.votes w low in
+      elim (cases_Bool (is_held m us w)) [
+        | inl held ↦ rw held at votes ∙ (ap (λ ws. slice_index ws w) (same_last u wu) ∙ sym (rw held at (step.makes w low)))
+        | inr kept ↦ rw kept at votes ∙ sym (won-agreed _ (slice_index outs w) (vote_is w low kept earlier u wu))
+      ]
 
   below : (n : ℕ) → n ≤ m.words → Earlier n
   unfolding Earlier
   below zero few v u h wu = absurd (omega arith)
   below (suc n) few v u h wu =
       elim (eqb_tells v n) [
-        | inl e ↦ rw e.1 ((conduct_here m strays fl f us here u wu).tasks.votes n few ∙ sym (won-agreed _ (slice_index outs n) (vote_is n few (below n (omega arith)) u wu)))
+        | inl e ↦ rw e.1 (word_is n few (below n (omega arith)) u wu)
         | inr e ↦ below n (omega arith) v u (omega (arith, e.1)) wu
       ]
 
@@ -116,6 +133,6 @@ module _ (m : FlownMission) (strays : Strays) (fl : Flight) (f : ℕ) (us : List
         let both = and_both (m.executes us w v) _ found.2 in
         let low = below w (omega (arith, found.1)) in
         let at_place = place_is w found.1 low u wu v (has_filter (m.executes us w) us v wv.member both.0) wv.works in
-        let vote = (majority_is_found (map (place u w) (executors m us w)) (slice_index outs w)).1 (vote_is w found.1 low u wu) in
+        let vote = (majority_is_found (map (place u w) (executors m us w)) (slice_index outs w)).1 (vote_is w found.1 (kept_by w found.1 v both.0) low u wu) in
         absurd (same_not_differs (slice_index outs w) (rw (at_place, vote) at both.1))
   ]
