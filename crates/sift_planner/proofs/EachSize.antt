@@ -10,7 +10,7 @@ use Rattle.sift_planner.proofs.Plans.{one_plan, one_refusal}
 
 pub one_plan_each : OnePlanEach
 one_plan_each shapes units period copies some others plannable a b =
-    let empty : Schedule = record { size = 0; period = 0; run = []; poll = []; at = [] } in
+    let empty : Schedule = record { size = 0; period = 0; run = []; poll = []; at = []; shed = [] } in
     let long : length some ≡ length others = omega (arith, a.count, b.count) in
     ext_get_or empty some others long
     (λ i low. one_plan shapes (wanted (least_units + i) period copies) (table_at some i) (table_at others i) plannable (a.each i low) (b.each i (omega (arith, low, long))))

@@ -1,12 +1,12 @@
 -- A plan meets all rules of schedule tables.
-use Rattle.std.proofs.Common.{◌≡◌, ℕ, zero, suc, ◌+◌, ◌<◌, List, [], ◌∷◌, length, take, Bool, true, false, not, nat_eq, ◌&&◌, inl, inr, ap, sym, subst, ◌∙◌, refl, eqb, eq-eqb, arith}
+use Rattle.std.proofs.Common.{◌≡◌, ℕ, zero, suc, ◌+◌, ◌<◌, List, [], ◌∷◌, length, take, Bool, true, false, if◌then◌else◌, not, nat_eq, ◌&&◌, inl, inr, ap, sym, subst, ◌∙◌, refl, eqb, eq-eqb, arith}
 use Rattle.std.proofs.lemmas.Bool.{and_from, cases_Bool, false≢true, ne_eqb, or_parts}
 use Rattle.std.proofs.lemmas.List.{length-take-le}
 use Rattle.std.proofs.lemmas.List.Elements.{All-filter, All-take}
 use Rattle.std.specs.List.{All, filter, range_with_len}
 use Rattle.sift_base.specs.Shapes.{AllShapes}
 use Rattle.sift_base.specs.Units.{has, IsAscending, IsBelowAll}
-use Rattle.sift_table.specs.Rules.{AreApart, MeetsEach, row_rules}
+use Rattle.sift_table.specs.Rules.{AreApart, MeetsEach, row_rules, run_rules, shed_rules}
 use Rattle.sift_table.specs.Schedule.{Schedule, positions_of, run_in, runs_at}
 use Rattle.sift_planner.specs.Earliest.{free_positions, is_used}
 use Rattle.sift_planner.specs.Laws.{PlansAreGood}
@@ -81,8 +81,9 @@ module _ (shapes : AllShapes) (w : Wanted) (table : Schedule) (limits : IsWithin
       let lacks = filter_lacks (λ q. not (is_used table t e q)) (range_with_len 0 table.size) p (ap not used) in
       ap (λ ps. has ps p) (plan.rows t low).at ∙ take_lacks (executors_of w) (free_positions table t e) p lacks
 
-  row_good : (t : ℕ) → t < length shapes.tasks → MeetsEach row_rules table shapes t
-  row_good t low =
+  -- each row meets the rules of a task that isn't shed
+  run_good : (t : ℕ) → t < length shapes.tasks → MeetsEach run_rules table shapes t
+  run_good t low =
       let row = plan.rows t low in
       let opened = row.run.open_here in
       let free = free_positions table t (run_in table t) in
@@ -105,8 +106,8 @@ module _ (shapes : AllShapes) (w : Wanted) (table : Schedule) (limits : IsWithin
                 (
                   subst (λ (ps : List ℕ). IsAscending ps) (sym at) ascend,
                   (
-                    opened.needs_polled,
-                    ((λ earlier before same. apart t earlier low before same), tt),
+                    (λ k d inside kept. opened.needs_polled k d inside),
+                    ((λ earlier before kept same. apart t earlier low before same), tt),
                   ),
                 ),
               ),
@@ -115,8 +116,13 @@ module _ (shapes : AllShapes) (w : Wanted) (table : Schedule) (limits : IsWithin
         ),
       )
 
+  -- and no task is shed
+  row_good : (t : ℕ) → t < length shapes.tasks → MeetsEach (row_rules table t) table shapes t
+  row_good t low =
+      subst (λ (shed : List ℕ). MeetsEach (if has shed t then shed_rules else run_rules) table shapes t) (sym plan.none_shed) (run_good t low)
+
 pub plans_are_good : PlansAreGood
 plans_are_good shapes w table limits plan = record {
-  whole = ((plan.runs, plan.polls, plan.positions), tt);
+  whole = ((plan.runs, plan.polls, plan.positions), (rw plan.none_shed (tt, λ k d low. absurd (omega arith)), tt));
   rows = row_good shapes w table limits plan;
 }

@@ -8,15 +8,17 @@ use Rattle.sift_planner.specs.Laws.{OnePlan, OneRefusal}
 use Rattle.sift_planner.specs.Plans.{ArePlannable, HasNoRoom, IsPlanned, Wanted, executors_of}
 use Rattle.sift_planner.proofs.Same.{SameBefore, open_same, row_more}
 
--- a schedule is its five parts
-pub same_schedule : (a b : Schedule) → a.size ≡ b.size → a.period ≡ b.period → a.run ≡ b.run → a.poll ≡ b.poll → a.at ≡ b.at → a ≡ b
-same_schedule a b size period run poll at =
-    let with_size = λ (s : ℕ). let t : Schedule = record { size = s; period = a.period; run = a.run; poll = a.poll; at = a.at } in t in
-    let with_period = λ (p : ℕ). let t : Schedule = record { size = b.size; period = p; run = a.run; poll = a.poll; at = a.at } in t in
-    let with_run = λ (rs : List ℕ). let t : Schedule = record { size = b.size; period = b.period; run = rs; poll = a.poll; at = a.at } in t in
-    let with_poll = λ (ps : List ℕ). let t : Schedule = record { size = b.size; period = b.period; run = b.run; poll = ps; at = a.at } in t in
-    let with_at = λ (rows : List (List ℕ)). let t : Schedule = record { size = b.size; period = b.period; run = b.run; poll = b.poll; at = rows } in t in
-    ap with_size size ∙ ap with_period period ∙ ap with_run run ∙ ap with_poll poll ∙ ap with_at at
+-- a schedule is its six parts
+pub same_schedule :
+    (a b : Schedule) → a.size ≡ b.size → a.period ≡ b.period → a.run ≡ b.run → a.poll ≡ b.poll → a.at ≡ b.at → a.shed ≡ b.shed → a ≡ b
+same_schedule a b size period run poll at shed =
+    let with_size = λ (s : ℕ). let t : Schedule = record { size = s; period = a.period; run = a.run; poll = a.poll; at = a.at; shed = a.shed } in t in
+    let with_period = λ (p : ℕ). let t : Schedule = record { size = b.size; period = p; run = a.run; poll = a.poll; at = a.at; shed = a.shed } in t in
+    let with_run = λ (rs : List ℕ). let t : Schedule = record { size = b.size; period = b.period; run = rs; poll = a.poll; at = a.at; shed = a.shed } in t in
+    let with_poll = λ (ps : List ℕ). let t : Schedule = record { size = b.size; period = b.period; run = b.run; poll = ps; at = a.at; shed = a.shed } in t in
+    let with_at = λ (rows : List (List ℕ)). let t : Schedule = record { size = b.size; period = b.period; run = b.run; poll = b.poll; at = rows; shed = a.shed } in t in
+    let with_shed = λ (ts : List ℕ). let t : Schedule = record { size = b.size; period = b.period; run = b.run; poll = b.poll; at = b.at; shed = ts } in t in
+    ap with_size size ∙ ap with_period period ∙ ap with_run run ∙ ap with_poll poll ∙ ap with_at at ∙ ap with_shed shed
 
 module _ (shapes : AllShapes) (w : Wanted) (plannable : ArePlannable shapes) where
   -- what holds of the rows before t and of row t holds of those before the next
@@ -56,8 +58,7 @@ module _ (shapes : AllShapes) (w : Wanted) (plannable : ArePlannable shapes) whe
       let run = ext_get_or 0 one.run other.run (a.runs ∙ sym b.runs) (λ i low. same.run i (omega (arith, low, a.runs))) in
       let poll = ext_get_or 0 one.poll other.poll (a.polls ∙ sym b.polls) (λ i low. same.poll i (omega (arith, low, a.polls))) in
       let at = ext_get_or [] one.at other.at (a.positions ∙ sym b.positions) (λ i low. same.at i (omega (arith, low, a.positions))) in
-      let size = same.size in let period = same.period in
-      same_schedule one other same.size same.period run poll at
+      same_schedule one other same.size same.period run poll at (a.none_shed ∙ sym b.none_shed)
 
   -- a task that has a row after the same rows has room
   pub room_there :

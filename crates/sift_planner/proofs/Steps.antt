@@ -64,7 +64,7 @@ pub tables_more :
     → ((i : ℕ) → i < length tables → P i (table_at (map schedule_of tables) i)) → P (length tables) (schedule_of table)
     → (i : ℕ) → i < length (tables ++ table ∷ []) → P i (table_at (map schedule_of (tables ++ table ∷ [])) i)
 tables_more P tables table before here i low =
-    let none : Schedule = record { size = 0; period = 0; run = []; poll = []; at = [] } in
+    let none : Schedule = record { size = 0; period = 0; run = []; poll = []; at = []; shed = [] } in
     let long = length-append tables (table ∷ []) in
     let as_many : length (map schedule_of tables) ≡ length tables = length-map tables schedule_of in
     elim (cases_lt i (length tables)) [

@@ -166,6 +166,7 @@ planned_more shapes w n table e plannable there plan first =
       runs = omega (arith, length-append table.run (e ∷ []), plan.runs);
       polls = omega (arith, length-append table.poll (poll ∷ []), plan.polls);
       positions = omega (arith, length-append table.at (at ∷ []), plan.positions);
+      none_shed = plan.none_shed;
       rows = λ t low. elim (cases_lt t n) [
         | inl less ↦
             row_same table new t (same_earlier table new (suc t) n (omega (arith, less)) before) (executors_of w) (shape_at shapes t).needs

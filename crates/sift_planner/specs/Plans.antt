@@ -1,5 +1,5 @@
 -- Plans: tables of which each row is the earliest.
-use Rattle.std.specs.Prelude.{◌≡◌, ℕ, ◌<◌, ◌≤◌, length, min}
+use Rattle.std.specs.Prelude.{◌≡◌, ℕ, ◌<◌, ◌≤◌, [], length, min}
 use Rattle.std.specs.List.{All}
 use Rattle.sift_base.specs.Layout.{least_units}
 use Rattle.sift_base.specs.Shapes.{AllShapes, shape_at, task_limit}
@@ -45,13 +45,14 @@ pub record ArePlannable (shapes : AllShapes) : Type 0 where
 
 -- ---- what is answered
 
--- the table is planned for the first so many tasks: it has a row for each of them, which is the earliest
+-- the table is planned for the first so many tasks: it has a row for each of them, which is the earliest, and sheds none
 pub record IsPlanned (shapes : AllShapes) (w : Wanted) (count : ℕ) (table : Schedule) : Type 0 where
   pub size : table.size ≡ w.size
   pub period : table.period ≡ w.period
   pub runs : length table.run ≡ count
   pub polls : length table.poll ≡ count
   pub positions : length table.at ≡ count
+  pub none_shed : table.shed ≡ []
   pub rows : (t : ℕ) → t < count → IsEarliestRow table (executors_of w) (shape_at shapes t).needs t
 
 -- the table is the plan: it is planned for all tasks

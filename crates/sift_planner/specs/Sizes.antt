@@ -7,7 +7,7 @@ use Rattle.sift_planner.specs.Plans.{ArePlannable, HasNoRoom, IsPlan, wanted}
 
 -- the table at a place, and an empty one past the list's end
 abbrev pub table_at : List Schedule → ℕ → Schedule
-table_at tables i = slice_index_or tables i (record { size = 0; period = 0; run = []; poll = []; at = [] })
+table_at tables i = slice_index_or tables i (record { size = 0; period = 0; run = []; poll = []; at = []; shed = [] })
 
 -- a plan for each size of a configuration, from the least to that of all units
 pub record ArePlans (shapes : AllShapes) (units period copies : ℕ) (tables : List Schedule) : Type 0 where

@@ -33,7 +33,7 @@ numbers_line key numbers = key ++ codes " = [" ++ numbers_text numbers ++ codes 
 abbrev pub rows_line : List (List ℕ) → List ℕ
 rows_line rows = codes "at = [" ++ rows_text rows ++ codes "]\n"
 
--- a table
+-- a table, as a document states it that sheds nothing
 abbrev pub table_text : Schedule → List ℕ
 table_text table =
     codes "[[table]]\nsize = " ++ decimal table.size ++ codes "\n" ++ numbers_line (codes "run") table.run ++ numbers_line (codes "poll") table.poll

@@ -1,6 +1,6 @@
 //! A table whose first rows stand.
 
-ghost use Rattle.std.specs.Prelude.{◌≡◌, ℕ, ◌+◌, ◌<◌, ◌≤◌, ◌↔◌, length, take, min, IfOk, IfNone, IfSome, IsTrue, OnOk};
+ghost use Rattle.std.specs.Prelude.{◌≡◌, ℕ, ◌+◌, ◌<◌, ◌≤◌, ◌↔◌, [], length, take, min, IfOk, IfNone, IfSome, IsTrue, OnOk};
 ghost use Rattle.std.specs.List.{All};
 ghost use Rattle.sift_table.specs.Rules.{report_lead};
 ghost use Rattle.sift_table.specs.Schedule.{agreed_in, hearing_delay, polled_in};
@@ -32,7 +32,7 @@ pub(crate) struct Draft {
 }
 
 impl Draft {
-    /// A table without rows.
+    /// A table without rows, which sheds nothing.
     pub(crate) fn new(alloc: Global, size: u8, period: u8, copies: u8) -> Draft
         requires { IsWithinLimits (wanted size period copies) }
         ensures kept { IsKept result }
@@ -40,6 +40,7 @@ impl Draft {
         ensures size { (drafted result).size ≡ size }
         ensures period { (drafted result).period ≡ period }
         ensures empty { rows_in result ≡ 0 }
+        ensures none_shed { (drafted result).shed ≡ [] }
     {
         Draft {
             table: Table {
@@ -48,6 +49,7 @@ impl Draft {
                 run: Vec::new(alloc),
                 poll: Vec::new(alloc),
                 at: Vec::new(alloc),
+                shed: Vec::new(alloc),
             },
             executors: copies.min(size),
             used: [0; 64],

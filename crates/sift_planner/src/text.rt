@@ -10,7 +10,8 @@ use sift_base::NoMemory;
 use sift_table::Table;
 use std::alloc::{AllocError, Global};
 
-/// The text of tables: each begins with a line `[[table]]`, and has a line for its size and for each of its three lists.
+/// The text of tables: each begins with a line `[[table]]`, and has a line for its size and for each of
+/// its lists of rows. What it sheds has no line: plans shed nothing.
 pub fn tables_text(alloc: Global, tables: &[Table]) -> Result<String, NoMemory>
     ensures { IfOk result (λ text. string_bytes text ≡ tables_text (map schedule_of tables.now)) }
 {

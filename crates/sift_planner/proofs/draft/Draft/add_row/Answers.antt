@@ -17,5 +17,5 @@ returns-clause-kept c =
     let rows = ap (map (λ row. row.items)) c.in_ok-push-3.ensures.items ∙ map_push (λ row. row.items) draft.table.at.items c.in_ok-positions.positions
     ∙ ap (λ ps. map (λ row. row.items) draft.table.at.items ++ ps ∷ []) c.in_ok-positions.ensures in
     kept_more draft _ c.args.run (c.args.run + hearing_delay) c.requires.kept c.requires.by_reports c.requires.room
-    (same_schedule _ (with_row (drafted draft) c.args.run (c.args.run + hearing_delay) at) refl refl c.in_ok-push.ensures.items c.in_ok-push-2.ensures.items rows)
+    (same_schedule _ (with_row (drafted draft) c.args.run (c.args.run + hearing_delay) at) refl refl c.in_ok-push.ensures.items c.in_ok-push-2.ensures.items rows refl)
     refl (ap (λ e. set draft.used e (slice_index draft.used e + draft.executors)) from)

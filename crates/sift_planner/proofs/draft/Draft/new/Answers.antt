@@ -14,6 +14,7 @@ returns-clause-kept c =
       run = c.new.result.items;
       poll = c.new-2.result.items;
       at = map (λ row. row.items) c.new-3.result.items;
+      shed = c.new-4.result.items;
     } in record {
       enough_units = c.requires.enough_units;
       few_units = c.requires.few_units;
