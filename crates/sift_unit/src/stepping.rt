@@ -63,10 +63,11 @@ impl Board {
         Stepped::Moved
     }
 
-    /// The stamp of the slot at which the board stands.
+    /// The stamp of the slot at which the board stands, and in which it says or hears a word.
     fn stamp<M: Duty>(&self, mission: &M) -> u32
         requires fits { Fits (M.mission mission.now) }
         requires slot { IsSlotOf (M.mission mission.now) self.now.cfg self.now.slot }
+        requires inside { (M.mission mission.now).due self.now.cfg ((M.mission mission.now).kind self.now.slot) < (M.mission mission.now).period }
         requires frame { self.now.frame < (M.mission mission.now).frames }
         ensures { result ≡ self.now.frame * (M.mission mission.now).period + (M.mission mission.now).due self.now.cfg ((M.mission mission.now).kind self.now.slot) + 1 }
     {

@@ -14,4 +14,4 @@ returns-clause-noted g c =
     let clk = c.args.clk.now in
     let heard = c.args.places.now in
     let far = is_gathered c.far_clocks-self.result (λ v. not (nat_eq v u) && is_too_far (m.skew +ℤ m.error) (reading_at m u clk heard v)) c.args.config.now c.far_clocks-self.ensures in
-    λ f. clocks_same b _ _ _ _ far (search (rules, c.next_offset-self.ensures))
+    λ f last. clocks_same b _ _ _ _ far (search (rules, c.next_offset-self.ensures))
