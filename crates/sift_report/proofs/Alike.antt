@@ -20,12 +20,13 @@ map_alike p q (u ∷ us) same =
     let rest = map_alike p q us (λ v h. same v (has-tail u us v h)) in
     rw (same u (has-head u us), rest) refl
 
--- agreed words that are the same in each frame before make the same words
-pub words_alike : (p : ProgramTree) (a b : ℕ → List ℕ) (f : ℕ) → ((g : ℕ) → g < f → a g ≡ b g) → words_before p a f ≡ words_before p b f
-words_alike p a b zero same = refl
-words_alike p a b (suc f) same =
-    let rest = words_alike p a b f (λ g low. same g (omega arith)) in
-    rw (rest, same f (omega arith)) refl
+-- agreed words and shed tasks that are the same in each frame before make the same words
+pub words_alike : (p : ProgramTree) (a b s t : ℕ → List ℕ) (f : ℕ) → ((g : ℕ) → g < f → a g ≡ b g) → ((g : ℕ) → g < f → s g ≡ t g)
+    → words_before p a s f ≡ words_before p b t f
+words_alike p a b s t zero agreed shed = refl
+words_alike p a b s t (suc f) agreed shed =
+    let rest = words_alike p a b s t f (λ g low. agreed g (omega arith)) (λ g low. shed g (omega arith)) in
+    rw (rest, agreed f (omega arith), shed f (omega arith)) refl
 
 -- what is told is one thing
 abbrev told_else : List ℕ → Option (List ℕ) → List ℕ

@@ -6,17 +6,17 @@ use Rattle.sift_mission.specs.Flown.{flown}
 use Rattle.sift_flight.specs.Configuration.{HasMarginAt}
 use Rattle.sift_flight.specs.Figures.{margin_at}
 use Rattle.sift_flight.specs.Flight.{Flight}
-use Rattle.sift_flight.specs.Headline.{agreed_at}
+use Rattle.sift_flight.specs.Headline.{agreed_at, shed_at}
 use Rattle.sift_report.specs.Headline.{FrameHeadline, TellsIdealOutputs, TellsTrueMargin}
 use Rattle.sift_report.specs.Headline.{ReportHeadline}
 use Rattle.sift_report.specs.Sheet.{sheet_of}
-use Rattle.sift_report.specs.Told.{HasMarginTold, agreed_told, told_in}
+use Rattle.sift_report.specs.Told.{HasMarginTold, agreed_told, shed_by, shed_told, told_in}
 use Rattle.sift_report.specs.declared.version.Version.{Version}
 use Rattle.sift_report.specs.declared.line.ReportLine.{ReportLine}
 use Rattle.sift_report.proofs.Alike.{words_alike}
 use Rattle.sift_report.proofs.FrameLines.{agrees, clock_skew, exact_removal, holds_here, no_false_accusation, same_inputs, tells_account, tells_config}
 use Rattle.sift_report.proofs.RoundFlights.{HasLaws}
-use Rattle.sift_report.proofs.SheetConfigs.{at_from, same_configuration, told_from}
+use Rattle.sift_report.proofs.SheetConfigs.{at_from, config_is, same_configuration, told_from}
 use Rattle.sift_report.proofs.SheetForm.{form_told, works_flying}
 use Rattle.sift_report.proofs.SheetPlaces.{end_at, frame_at}
 
@@ -26,13 +26,18 @@ module _ (d : MissionData) (fl : Flight) (version : Version) (laws : HasLaws d f
 
   -- ---- the ideal machine
 
-  -- the ideal machine's words over the agreed words told are those over the flight's
+  -- the tasks that are shed by the configuration told are those that the flight's sheds
+  sheds : (f : ℕ) → f < d.frames → HasMarginAt (flown d) fl f → shed_told d sheet f ≡ shed_at (flown d) fl f
+  sheds f within at = ap (shed_by d) (config_is d fl version laws f (omega arith) (λ g early. at g (omega arith)))
+
+  -- so the ideal machine's words over the agreed words and the configurations told are those over the flight's
   words_told : (f : ℕ) → f < d.frames → HasMarginAt (flown d) fl f
-      → ideal_words d.program (agreed_told d sheet) f ≡ ideal_words d.program (agreed_at (flown d) fl) f
+      → ideal_words d.program (agreed_told d sheet) (shed_told d sheet) f ≡ ideal_words d.program (agreed_at (flown d) fl) (shed_at (flown d) fl) f
   words_told f within at =
-      let before = words_alike d.program (agreed_told d sheet) (agreed_at (flown d) fl) f
-      (λ g early. agrees d fl version laws g (omega arith) (λ h up. at h (omega arith))) in
-      rw (before, agrees d fl version laws f within at) refl
+      let before = words_alike d.program (agreed_told d sheet) (agreed_at (flown d) fl) (shed_told d sheet) (shed_at (flown d) fl) f
+      (λ g early. agrees d fl version laws g (omega arith) (λ h up. at h (omega arith)))
+      (λ g early. sheds g (omega arith) (λ h up. at h (omega arith))) in
+      rw (before, agrees d fl version laws f within at, sheds f within at) refl
 
   ideal_outputs : (f : ℕ) → f < d.frames → HasMarginAt (flown d) fl f → TellsIdealOutputs d sheet f
   ideal_outputs f within at u w =

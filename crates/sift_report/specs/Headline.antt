@@ -11,7 +11,8 @@ use Rattle.sift_skew.specs.Figures.{IsSkew}
 use Rattle.sift_mission.specs.Data.{MissionData}
 use Rattle.sift_mission.specs.Flown.{word_sensed}
 use Rattle.sift_report.specs.Form.{HasForm}
-use Rattle.sift_report.specs.Told.{HadMarginTold, HasMarginTold, agreed_told, caught_told, clock_told, config_told, end_margin_told, inputs_told, margin_told, outputs_told, shed_told, skew_told, slack_told, told_at}
+use Rattle.sift_report.specs.Told.{HadMarginTold, HasMarginTold, agreed_told, caught_told, clock_told, config_told, end_margin_told, inputs_told, margin_told, outputs_told}
+use Rattle.sift_report.specs.Told.{shed_told, skew_told, slack_told, told_at}
 use Rattle.sift_report.specs.Working.{IsWorking, works_in}
 use Rattle.sift_report.specs.declared.line.ReportLine.{ReportLine}
 

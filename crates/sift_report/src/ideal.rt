@@ -12,7 +12,7 @@ use sift_mission::Mission;
 use sift_program::Ideal;
 use std::alloc::{AllocError, Global};
 
-/// The ideal machine's outputs in each frame, over the mission's own sensor words.
+/// The ideal machine's outputs in each frame, over the mission's own sensor words, where no task is shed.
 pub fn ideal_text(alloc: Global, mission: &Mission) -> Result<String, NoMemory>
     ensures { IfOk result (λ text. string_bytes text ≡ ideal_of (data_of mission.now)) }
 {
@@ -20,7 +20,7 @@ pub fn ideal_text(alloc: Global, mission: &Mission) -> Result<String, NoMemory>
     let mut text = String::new(alloc);
     let mut ideal = Ideal::start(program);
     for f in 0..mission.frames() {
-        ideal.frame(program, &sensed_in(mission, f));
+        ideal.frame(program, &sensed_in(mission, f), &[]);
         push_outputs(&mut text, f, ideal.outs())?;
     }
     let frames = mission.frames();

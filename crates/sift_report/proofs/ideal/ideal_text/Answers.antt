@@ -1,4 +1,4 @@
-use Rattle.std.proofs.Common.{◌≡◌, ◌∙◌, ◌++◌, length, sym, ap, arith, add-one, string_bytes}
+use Rattle.std.proofs.Common.{◌≡◌, ◌∙◌, ◌++◌, [], length, refl, sym, ap, arith, add-one, string_bytes}
 use Rattle.std.specs.List.{flat_map, range_with_len}
 use Rattle.std.proofs.lemmas.List.FromFn.{length-map-range_with_len}
 use Rattle.sift_program.specs.Ideal.{words_before}
@@ -20,14 +20,14 @@ pub frame-requires-clause-a_start_each : goal.frame-requires-clause-a_start_each
 frame-requires-clause-a_start_each c =
     let d = data_of c.args.mission.now in
     rw c.parts.ensures.same
-    (sym (ap length c.loop-f.invariant.1 ∙ words_as_many d.layout.sensors d.program (sensed_in (flown_of c.args.mission.now)) c.parts.ensures.fit.program c.loop-f.f))
+    (sym (ap length c.loop-f.invariant.1 ∙ words_as_many d.layout.sensors d.program (sensed_in (flown_of c.args.mission.now)) (λ g. []) c.parts.ensures.fit.program c.loop-f.f))
 
 pub loop-f-preserved : goal.loop-f-preserved
 loop-f-preserved c =
     let d = data_of c.args.mission.now in
     let agreed = c.deref.ensures.0 ∙ c.sensed_in.ensures in
-    let before : c.loop-f.ideal ≡ words_before d.program (sensed_in (flown_of c.args.mission.now)) c.loop-f.f = c.loop-f.invariant.1 in
-    let words = rw c.parts.ensures.same at (c.frame.ensures.in_turn (sensed_in (flown_of c.args.mission.now)) c.loop-f.f (rw c.parts.ensures.same before) agreed) in (
+    let before : c.loop-f.ideal ≡ words_before d.program (sensed_in (flown_of c.args.mission.now)) (λ g. []) c.loop-f.f = c.loop-f.invariant.1 in
+    let words = rw c.parts.ensures.same at (c.frame.ensures.in_turn (sensed_in (flown_of c.args.mission.now)) (λ g. []) c.loop-f.f (rw c.parts.ensures.same before) agreed refl) in (
       first_text_more (ideal_line d) c.loop-f.f _ _ c.loop-f.invariant.0
           (c.in_ok-push_outputs.ensures ∙ ap (λ ws. string_bytes c.loop-f.text ++ outputs_text c.loop-f.f ws) (c.outs.ensures ∙ words)),
       rw (add-one c.loop-f.f) words,
