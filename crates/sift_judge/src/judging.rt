@@ -5,7 +5,7 @@ ghost use Rattle.sift_mission.specs.Parts.{data_of};
 ghost use Rattle.sift_program.specs.Ideal.{ideal_words, words_before};
 ghost use Rattle.sift_report.specs.Form.{HasForm};
 ghost use Rattle.sift_report.specs.Headline.{FrameHeadline, TellsSameConfiguration};
-ghost use Rattle.sift_report.specs.Told.{HadMarginTold, HasMarginTold, agreed_told};
+ghost use Rattle.sift_report.specs.Told.{HadMarginTold, HasMarginTold, agreed_told, shed_told};
 ghost use Rattle.sift_judge.specs.Turns.{HasForms, IsFirstInFrame, KeepsFrame, RunsBefore};
 ghost use Rattle.sift_judge.specs.Verdict.{IsVerdict};
 
@@ -16,7 +16,7 @@ use crate::form::first_without_form;
 use crate::margin::has_true_margin;
 use crate::verdict::Verdict;
 use crate::words::{has_ideal_outputs, has_same_inputs};
-use crate::working::{agreed_told, is_sound_told};
+use crate::working::{agreed_told, is_sound_told, shed_told};
 use sift_mission::Mission;
 use sift_program::Ideal;
 use sift_report::ReportLine;
@@ -138,15 +138,19 @@ fn first_with_margin(
     None
 }
 
-/// Runs the ideal machine for a frame with margin, over the agreed words told in it.
+/// Runs the ideal machine for a frame with margin, over the agreed words and the configuration told in it.
 fn run_ideal(ideal: &mut Ideal, mission: &Mission, lines: &[ReportLine], f: u32)
     requires frame { f < (data_of mission.now).frames }
     requires form { HasForm (data_of mission.now) lines.now f }
     requires margin { HasMarginTold (data_of mission.now) lines.now f }
     requires as_many { length ideal.old ≡ length (data_of mission.now).program.starts }
-    requires before { ideal.old ≡ words_before (data_of mission.now).program (agreed_told (data_of mission.now) lines.now) f }
-    ensures words { ideal.new ≡ ideal_words (data_of mission.now).program (agreed_told (data_of mission.now) lines.now) f }
+    requires before { ideal.old ≡ words_before (data_of mission.now).program (agreed_told (data_of mission.now) lines.now) (shed_told (data_of mission.now) lines.now) f }
+    ensures words { ideal.new ≡ ideal_words (data_of mission.now).program (agreed_told (data_of mission.now) lines.now) (shed_told (data_of mission.now) lines.now) f }
     ensures as_many { length ideal.new ≡ length (data_of mission.now).program.starts }
 {
-    ideal.frame(&mission.parts().program, agreed_told(mission, lines, f));
+    ideal.frame(
+        &mission.parts().program,
+        agreed_told(mission, lines, f),
+        shed_told(mission, lines, f),
+    );
 }

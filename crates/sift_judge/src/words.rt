@@ -6,7 +6,7 @@ ghost use Rattle.sift_mission.specs.Flown.{word_sensed};
 ghost use Rattle.sift_mission.specs.Parts.{data_of};
 ghost use Rattle.sift_program.specs.Ideal.{ideal_words};
 ghost use Rattle.sift_report.specs.Headline.{TellsIdealOutputs, TellsSameInputs};
-ghost use Rattle.sift_report.specs.Told.{agreed_told, config_told, inputs_told, outputs_told};
+ghost use Rattle.sift_report.specs.Told.{agreed_told, config_told, inputs_told, outputs_told, shed_told};
 ghost use Rattle.sift_report.specs.Working.{works_in};
 
 use crate::told::{inputs_told, outputs_told};
@@ -84,7 +84,7 @@ fn word_at(words: &[Word], x: u8) -> Word
     }
 }
 
-/// Whether each working unit tells these words: the ideal machine's, over the agreed words told so far.
+/// Whether each working unit tells these words: the ideal machine's, over the agreed words and the configurations told so far.
 pub(crate) fn has_ideal_outputs(
     mission: &Mission,
     lines: &[ReportLine],
@@ -92,7 +92,7 @@ pub(crate) fn has_ideal_outputs(
     words: &[Word],
 ) -> bool
     requires frame { f < (data_of mission.now).frames }
-    requires words { words.now ≡ ideal_words (data_of mission.now).program (agreed_told (data_of mission.now) lines.now) f }
+    requires words { words.now ≡ ideal_words (data_of mission.now).program (agreed_told (data_of mission.now) lines.now) (shed_told (data_of mission.now) lines.now) f }
     ensures { IsTrue result ↔ TellsIdealOutputs (data_of mission.now) lines.now f }
 {
     all_tell_outputs(mission, lines, f, &working_at(mission, f), words)

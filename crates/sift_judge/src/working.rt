@@ -4,8 +4,9 @@ ghost use Rattle.std.specs.Prelude.{◌≡◌, ◌<◌, ◌≤◌, ◌↔◌, Is
 ghost use Rattle.std.specs.List.{filter};
 ghost use Rattle.sift_base.specs.Margin.{HasMargin};
 ghost use Rattle.sift_config.specs.Config.{first_units};
+ghost use Rattle.sift_mission.specs.Flown.{table_for};
 ghost use Rattle.sift_mission.specs.Parts.{data_of};
-ghost use Rattle.sift_report.specs.Told.{IsSoundTold, agreed_told, config_told};
+ghost use Rattle.sift_report.specs.Told.{IsSoundTold, agreed_told, config_told, shed_told};
 ghost use Rattle.sift_report.specs.Working.{lead_in, works_in};
 
 use crate::told::{config_at, inputs_told};
@@ -64,6 +65,27 @@ pub(crate) fn agreed_told<'a>(mission: &Mission, lines: &'a [ReportLine], f: u32
     ensures { result.now ≡ agreed_told (data_of mission.now) lines.now f }
 {
     inputs_told(mission, lines, f, lead_in(mission, f))
+}
+
+/// The tasks that are shed in a frame: those that the configuration told at it sheds, and none where none is told.
+pub(crate) fn shed_told<'a>(mission: &'a Mission, lines: &[ReportLine], f: u32) -> &'a [u8]
+    requires frame { f ≤ (data_of mission.now).frames }
+    ensures { result.now ≡ shed_told (data_of mission.now) lines.now f }
+{
+    match config_told(mission, lines, f) {
+        Some(config) => shed_by(mission, &config),
+        None => &[],
+    }
+}
+
+/// The tasks that a configuration sheds. One of more units than the mission has, as a line may tell it, has no table and sheds none.
+fn shed_by<'a>(mission: &'a Mission, config: &Config) -> &'a [u8]
+    ensures { result.now ≡ (table_for (data_of mission.now) config.now).shed }
+{
+    match mission.parts().tables.get(config.len() - 4) {
+        Some(table) => table.shed(),
+        None => &[],
+    }
 }
 
 /// Whether at most one unit of a configuration is faulty in a frame, and at least four work.
