@@ -81,6 +81,29 @@ const SHARING: [(Columns, Refusal, &str); 5] = [
     ),
 ];
 
+/// Tables of size 4, with 14 subframes, of two tasks of which the second reads the first, with the tasks that they shed.
+const SHEDDING: [(Columns, &str, Refusal, &str); 14] = [
+    (("40", "60", "0123 "), "1", None, "the second task"),
+    (("04", "06", " 0123"), "0", None, "the task that is read"),
+    (("00", "00", " "), "01", None, "both tasks"),
+    (("40", "60", "0123 "), "", Some((2, 1)), "none, and no run"),
+    (("46", "68", "0123 0123"), "1", Some((11, 1)), "one that runs"),
+    (("40", "68", "0123 "), "1", Some((11, 1)), "one that is polled"),
+    (("46", "60", "0123 "), "1", Some((11, 1)), "one with a run alone"),
+    (("40", "60", "0123 0"), "1", Some((11, 1)), "one with a position"),
+    (("40", "60", "0123 "), "2", Some((10, 0)), "one that isn't there"),
+    (("40", "60", "0123 "), "11", Some((10, 0)), "one twice"),
+    (("00", "00", " "), "10", Some((10, 0)), "numbers that fall"),
+    (("4", "60", "0123 "), "2", Some((1, 0)), "rules 1 and 10"),
+    (("36", "68", "012 012"), "2", Some((10, 0)), "rules 10 and 2"),
+    (
+        ("36", "68", "012 012"),
+        "1",
+        Some((2, 0)),
+        "rule 2 in row 0 and rule 11 in row 1",
+    ),
+];
+
 /// Whether task 0 and task 1 of a table run at a position.
 const POSITIONS: [(usize, [bool; 2]); 7] = [
     (0, [true, false]),
@@ -92,7 +115,18 @@ const POSITIONS: [(usize, [bool; 2]); 7] = [
     (256, [false, false]),
 ];
 
+/// A table with these columns that sheds no task.
 fn table(alloc: Global, size: u8, period: u8, columns: Columns) -> Result<Table, NoMemory> {
+    table_that_sheds(alloc, size, period, columns, "")
+}
+
+fn table_that_sheds(
+    alloc: Global,
+    size: u8,
+    period: u8,
+    columns: Columns,
+    shed: &str,
+) -> Result<Table, NoMemory> {
     let (run, poll, positions) = columns;
     let mut at = Vec::new(alloc);
     for row in positions.split(' ') {
@@ -104,6 +138,7 @@ fn table(alloc: Global, size: u8, period: u8, columns: Columns) -> Result<Table,
         run: digits(alloc, run)?,
         poll: digits(alloc, poll)?,
         at,
+        shed: digits(alloc, shed)?,
     })
 }
 
@@ -170,6 +205,7 @@ fn a_good_table_tells_its_rows(rt: HostRuntime) -> Result<(), Fail> {
         run: vec![in alloc; 4, 7]?,
         poll: vec![in alloc; 7, 11]?,
         at: vec![in alloc; vec![in alloc; 0, 2, 5]?, vec![in alloc; 1, 2, 3, 4]?]?,
+        shed: Vec::new(alloc),
     };
     let good = check(table, &shapes).ok().ok_or("a good table")?;
     let runs = [good.run_of(0), good.run_of(1)];
@@ -179,6 +215,32 @@ fn a_good_table_tells_its_rows(rt: HostRuntime) -> Result<(), Fail> {
     for (position, want) in POSITIONS {
         let runs = [good.runs(0, position), good.runs(1, position)];
         assert_eq!(rt; runs, want, "at position {position}");
+    }
+    assert!(rt; good.shed().is_empty(), "it sheds none");
+    Ok(())
+}
+
+#[test]
+fn tables_that_shed_tasks(rt: HostRuntime) -> Result<(), Fail> {
+    let alloc = rt.alloc();
+    let shapes = two_tasks(alloc)?;
+    for (columns, shed, want, case) in SHEDDING {
+        let table = table_that_sheds(alloc, 4, 14, columns, shed)?;
+        expect(&rt, table, &shapes, want, case);
+    }
+    Ok(())
+}
+
+#[test]
+fn a_task_that_is_shed_has_no_subframes(rt: HostRuntime) -> Result<(), Fail> {
+    let alloc = rt.alloc();
+    let shapes = two_tasks(alloc)?;
+    let table = table_that_sheds(alloc, 4, 14, ("40", "60", "0123 "), "1")?;
+    let good = check(table, &shapes).ok().ok_or("a good table")?;
+    assert_eq!(rt; good.shed(), [1].as_slice());
+    assert_eq!(rt; [good.run_of(1), good.poll_of(1)], [0, 0]);
+    for position in 0..4 {
+        assert!(rt; !good.runs(1, position), "at position {position}");
     }
     Ok(())
 }
@@ -192,6 +254,7 @@ fn the_plain_table_runs_one_task_after_another(rt: HostRuntime) -> Result<(), Fa
     assert_eq!(rt; plain.run.as_slice(), [4, 6, 8].as_slice());
     assert_eq!(rt; plain.poll.as_slice(), [6, 8, 10].as_slice());
     assert_eq!(rt; plain.at.len(), 3);
+    assert!(rt; plain.shed.is_empty(), "it sheds none");
     for positions in &plain.at {
         assert_eq!(rt; positions.as_slice(), [0, 1, 2, 3, 4].as_slice());
     }

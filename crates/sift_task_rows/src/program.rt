@@ -72,13 +72,16 @@ fn expect_words(rt: &impl Abort, words: &[Word], want: &[u16], row: &str) {
     }
 }
 
-/// Runs the program over the word that its sensor has in each frame, and expects the words beside it.
-fn expect<const W: usize>(rt: &impl Abort, program: &Program, frames: &[(u16, [u16; W])], row: &str)
+/// A frame: the word of the sensor, the tasks that are shed, and the words that are wanted.
+type Frame<const W: usize> = (u16, &'static [u8], [u16; W]);
+
+/// Runs the program frame by frame, and expects the words of each.
+fn expect<const W: usize>(rt: &impl Abort, program: &Program, frames: &[Frame<W>], row: &str)
     requires { IsSoundProgram 1 (program_of program.now) }
 {
     let mut ideal = Ideal::start(program);
-    for (sensed, want) in frames {
-        ideal.frame(program, &[Word::of(*sensed)]);
+    for (sensed, shed, want) in frames {
+        ideal.frame(program, &[Word::of(*sensed)], shed);
         expect_words(rt, ideal.outs(), want, row);
     }
 }
@@ -86,7 +89,7 @@ fn expect<const W: usize>(rt: &impl Abort, program: &Program, frames: &[(u16, [u
 #[test]
 fn each_frame_follows_the_one_before(rt: HostRuntime) -> Result<(), Fail> {
     let alloc = rt.alloc();
-    let frames = [(0, [0x0010, 0x0020]), (0, [0x0031, 0x0082])];
+    let frames: [Frame<2>; 2] = [(0, &[], [0x0010, 0x0020]), (0, &[], [0x0031, 0x0082])];
     let program = count_and_twice(alloc)?;
     expect_words(
         &rt,
@@ -95,10 +98,10 @@ fn each_frame_follows_the_one_before(rt: HostRuntime) -> Result<(), Fail> {
         "before frame 0",
     );
     expect(&rt, &program, &frames, "count and twice");
-    let frames = [
-        (10, [0x000a, 0x0001, 0x000b, 0x0007]),
-        (20, [0x0014, 0x000b, 0x001f, 0x0001]),
-        (0xffff, [0xffff, 0x001f, 0x001e, 0x000b]),
+    let frames: [Frame<4>; 3] = [
+        (10, &[], [0x000a, 0x0001, 0x000b, 0x0007]),
+        (20, &[], [0x0014, 0x000b, 0x001f, 0x0001]),
+        (0xffff, &[], [0xffff, 0x001f, 0x001e, 0x000b]),
     ];
     expect(
         &rt,
@@ -130,4 +133,28 @@ fn unsound_programs()
 #[test]
 fn programs_are_sound_or_not() {
     unsound_programs();
+}
+
+#[test]
+fn a_task_that_is_shed_holds_its_words(rt: HostRuntime) -> Result<(), Fail> {
+    let alloc = rt.alloc();
+    let frames: [Frame<2>; 5] = [
+        (0, &[], [0x0010, 0x0020]),
+        (0, &[1], [0x0031, 0x0020]),
+        (0, &[], [0x0094, 0x0148]),
+        (0, &[0], [0x0094, 0x0270]),
+        (0, &[0, 1], [0x0094, 0x0270]),
+    ];
+    expect(&rt, &count_and_twice(alloc)?, &frames, "count and twice");
+    let frames: [Frame<4>; 2] = [
+        (10, &[0], [0x0000, 0x0007, 0x0007, 0x0007]),
+        (20, &[1, 2], [0x0014, 0x0007, 0x0007, 0x0007]),
+    ];
+    expect(
+        &rt,
+        &pair_sum_and_delay(alloc)?,
+        &frames,
+        "pair, sum and delay",
+    );
+    Ok(())
 }
