@@ -48,6 +48,7 @@ def outline_of(mission):
         "sensors": [[each.get("name").data, [word.data % 65536 for word in each.get("words").data]] for each in mission.sensors],
         "tasks": [[each.get("name").data, mission.words_of(number)] for number, each in enumerate(mission.tasks)],
         "executors": {size: mission.executors(size) for size in range(FEWEST, mission.units + 1)},
+        "held": {size: sorted(mission.held(size)) for size in range(FEWEST, mission.units + 1)},
     }
 
 
@@ -61,12 +62,23 @@ class Schedule:
         self.tables = {int(size): executors for size, executors in outline["executors"].items()}
         self.outputs = [(task, word) for task, (_, words) in enumerate(outline["tasks"]) for word in range(words)]
         self.names = [f"{outline['tasks'][task][0]}.{word}" for task, word in self.outputs]
+        # Of each size the tasks whose words, where its table sheds some, may differ from the ideal machine's from then on.
+        self.held_tasks = {int(size): set(tasks) for size, tasks in outline["held"].items()}
         self.ideal = ideal
         self.memory = {}  # who says a slot under a configuration
 
     def executors(self, size):
         """Of each task the positions that run it where a configuration has this size."""
         return self.tables[size]
+
+    def sheds(self):
+        """Whether some table sheds a task."""
+        return any(self.held_tasks.values())
+
+    def compared(self, flight):
+        """Of each frame of a flight the places of the output words that are compared with the ideal machine's."""
+        for held in flight.held(self.held_tasks):
+            yield tuple(place for place, (task, _) in enumerate(self.outputs) if task not in held)
 
     def slots(self):
         """All slots, in the order in which a unit says them."""

@@ -8,12 +8,13 @@ KEYS = {
     "[clock]": ("skew", "error", "rate", "length", "start", "drift", "errors"),
     "[[sensor]]": ("name", "words"),
     "[[task]]": ("name", "start", "text", "linear"),
-    "[[table]]": ("size", "run", "poll", "at"),
+    "[[table]]": ("size", "run", "poll", "at", "shed"),
     "[[fault]]": ("unit", "from", "say", "storm"),
     "[[fault.say]]": ("slot", "index", "word", "to", "frame", "value"),
     "[fault.storm]": ("number", "strays"),
 }
 ROOT_KEYS = KEYS["the document"]
+SECOND_KEYS = {"[[table]]": ("shed",)}  # which of them documents of version 1 don't have
 
 
 @dataclass
@@ -57,6 +58,15 @@ class Mission:
     @property
     def frames(self):
         return self.integer("frames")
+
+    @property
+    def version(self):
+        return self.integer("version", 1)
+
+    def keys(self, header):
+        """The keys that a table of this document may have."""
+        later = SECOND_KEYS.get(header, ()) if self.version == 1 else ()
+        return [key for key in KEYS[header] if key not in later]
 
     @property
     def subframes(self):
@@ -116,5 +126,25 @@ class Mission:
         return [(4 + 2 * task, 6 + 2 * task, list(range(size))) for task in range(len(self.tasks))]
 
     def executors(self, size):
-        """Of each task the positions that run it where a configuration has this size."""
+        """Of each task the positions that run it where a configuration has this size. A task that is shed has none."""
         return [positions for _, _, positions in self.rows_of(size)]
+
+    def shed(self, size):
+        """The tasks that the table for a size sheds."""
+        value = self.tables[size - 4].get("shed") if self.tables else None
+        return {task.data for task in value.data} if value else set()
+
+    def sheds(self):
+        """Whether some table sheds a task."""
+        return any(self.shed(size) for size in range(4, self.units + 1))
+
+    def held(self, size):
+        """The tasks whose words may differ from the ideal machine's from a frame on that flies by the table for a size: those
+        that it sheds, and those that read them, directly or by others."""
+        parts = [list(texts.parts_of(self.statements(task))) for task in range(len(self.tasks))]
+        reads = [{part.task for part in each if isinstance(part, texts.Read)} for each in parts]
+        held, before = self.shed(size), None
+        while held != before:
+            before = held
+            held = held | {task for task, read in enumerate(reads) if read & held}
+        return held

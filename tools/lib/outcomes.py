@@ -8,7 +8,8 @@ from functools import lru_cache
 Trace = namedtuple("Trace", "said caught by out")
 
 # What came of a run: the traces of its faults; whether the margin held; how many output words of all frames differ from the
-# ideal machine's, the first frame in which they do, or None, and the names of those that do; the last line of the report.
+# ideal machine's where they are compared, the first frame in which they do, or None, and the names of those that do; the last
+# line of the report.
 Outcome = namedtuple("Outcome", "traces margin wrong first words last")
 
 
@@ -24,16 +25,16 @@ def trace_of(fault, flight, told, schedule):
 
 
 @lru_cache(maxsize=16384)
-def wrong_in(frame, ideal):
-    """The places of the output words that some unit votes other than the ideal machine has them."""
+def wrong_in(frame, ideal, compared):
+    """The places, of those that are compared, of the output words that some unit votes other than the ideal machine has them."""
     outputs = {words for words in frame.outputs if words is not None and words != ideal}
-    return tuple(place for place, word in enumerate(ideal) if any(words[place] != word for words in outputs))
+    return tuple(place for place in compared if any(words[place] != ideal[place] for words in outputs))
 
 
 def outcome_of(faults, flight, last, schedule):
     """What came of the run with these faults."""
     told = flight.configurations()
-    wrong = [wrong_in(frame, ideal) for frame, ideal in zip(flight.frames, schedule.ideal)]
+    wrong = list(map(wrong_in, flight.frames, schedule.ideal, schedule.compared(flight)))
     places = sorted(set().union(*wrong))
     return Outcome(
         tuple(trace_of(fault, flight, told, schedule) for fault in faults),

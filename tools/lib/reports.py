@@ -75,6 +75,14 @@ class Flight:
             frames[-1].catches = [dict.fromkeys(caught, "") for caught in frame.catches]
         return Flight(frames, self.last)
 
+    def held(self, tables):
+        """Of each frame the tasks whose words may differ from the ideal machine's since a table sheds tasks, in it or in one
+        before it, where it is told of each size which tasks these are."""
+        held = set()
+        for frame in self.frames:
+            held = held.union(*(tables.get(len(units), ()) for units in frame.configurations if units))
+            yield held
+
     def configurations(self):
         """The configuration of each frame and after the last; where no unit tells one, the next that is told."""
         told = [self.last]

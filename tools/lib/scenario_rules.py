@@ -1,5 +1,5 @@
-"""The rules on keys and values, 1 to 30: docs/missions.md has them."""
-from mission import KEYS, ROOT_KEYS, Broken, items_of, spot
+"""The rules on keys and values, 1 to 31: docs/missions.md has them."""
+from mission import KEYS, ROOT_KEYS, SECOND_KEYS, Broken, items_of, spot
 from places import KINDS
 from texts import choice, nearest
 from values import counted, wrong_array, wrong_digits, wrong_integer, wrong_name, wrong_word
@@ -68,15 +68,19 @@ def missing_key(table, name, header):
     return spot(table), (f"`{name}` is missing here", f"`{like}` isn't known" if like else None)
 
 
-def unknown_keys(table, header):
-    """The faults of keys that a table can't have."""
+def unknown_keys(table, header, keys=None):
+    """The faults of keys that a table can't have: others than these, or than all those of its kind."""
+    keys = KEYS[header] if keys is None else keys
     for name, entry in table.data.items():
-        if name in KEYS[header]:
+        if name in keys:
             continue
-        known = f"{header} has the keys {choice(KEYS[header])}"
-        owners = [other for other, keys in KEYS.items() if name in keys]
-        like = nearest(name, KEYS[header])
-        if header == "the document":
+        known = f"{header} has the keys {choice(keys)}"
+        owners = [other for other, inner in KEYS.items() if name in inner]
+        like = nearest(name, keys)
+        if name in SECOND_KEYS.get(header, ()):
+            why = f"`{name}` is a key of version 2, and this document is one of version 1"
+            yield spot(entry), (why, f"`version = 2` above the first `[..]` line, or no `{name}`")
+        elif header == "the document":
             yield spot(entry), unknown_root(name, entry.value, owners, like)
         elif header == "[[fault]]" and name in ("until", "end", "duration"):
             why = f"`{name}` is no key of {header}: a fault lasts to the end"
@@ -129,16 +133,16 @@ def list_faults(mission, name, least, most):
     elif not least <= len(value.data) <= most:
         yield 0, spot(value), (f"there are {len(value.data)} {header} tables, and {least} to {most} can be", None)
     else:
-        yield from entry_faults(value.data, name, header)
+        yield from entry_faults(value.data, name, header, mission.keys(header))
 
 
-def entry_faults(entries, name, header):
+def entry_faults(entries, name, header, keys=None):
     for number, entry in enumerate(entries):
         if entry.kind != "table":
             why = f"`{name}` has {KINDS[entry.kind]} here, and is to have tables alone"
             yield number, spot(entry), (why, f"`{header}`, with double brackets")
         else:
-            for place, fault in unknown_keys(entry, header):
+            for place, fault in unknown_keys(entry, header, keys):
                 yield number, place, fault
 
 
@@ -195,7 +199,7 @@ def rule_3(mission):
 
 
 def rule_4(mission):
-    for place, fault in integer_fault(mission, "version", 1, 1, False):
+    for place, fault in integer_fault(mission, "version", 1, 2, False):
         yield 0, place, fault, False
 
 
@@ -598,10 +602,28 @@ def storm_number_faults(storm):
             yield spot(value), wrong_integer(name, value, 0, most)
 
 
+def rule_31(mission):
+    for number, table in enumerate(mission.tables):
+        value = table.get("shed")
+        for place, fault in shed_faults(value) if value else []:
+            yield number, place, fault, False
+
+
+def shed_faults(value):
+    """The faults of a table's list of tasks that it sheds."""
+    if value.kind != "array":
+        mend = f"`shed = [{value.data}]`" if value.kind == "integer" else "`[` and `]` make an array"
+        yield spot(value), (f"`shed` is {KINDS[value.kind]}, and is to be an array of task numbers", mend)
+        return
+    for task in value.data:
+        if wrong_integer("shed", task, 0, 23):
+            yield spot(task), wrong_integer("shed", task, 0, 23)
+
+
 SCENARIO_RULES = [
     rule_1, rule_2, rule_3, rule_4, rule_5, rule_6, rule_7, rule_8, rule_9, rule_10, rule_11, rule_12, rule_13, rule_14,
     rule_15, rule_16, rule_17, rule_18, rule_19, rule_20, rule_21, rule_22, rule_23, rule_24, rule_25, rule_26, rule_27,
-    rule_28, rule_29, rule_30,
+    rule_28, rule_29, rule_30, rule_31,
 ]
 
 

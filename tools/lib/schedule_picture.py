@@ -41,9 +41,12 @@ class Grid:
         self.size = size
         self.subframes = mission.subframes
         self.sensors = [sensor.get("name").data for sensor in mission.sensors]
+        shed = mission.shed(size)
+        self.shed = [mission.tasks[number].get("name").data for number in sorted(shed)]
         self.tasks = [
             Task(chr(ord("A") + number), mission.tasks[number].get("name").data, run, poll, positions, reads_of(mission, number))
             for number, (run, poll, positions) in enumerate(mission.rows_of(size))
+            if number not in shed
         ]
 
     def head(self):
@@ -65,11 +68,13 @@ class Grid:
         return [task for task in self.tasks if task.poll == subframe]
 
     def notes(self):
-        """What each task reads, who reads each sensor, and what is free, in lines."""
+        """What each task reads, which tasks are shed, who reads each sensor, and what is free, in lines."""
         for task in self.tasks:
             at = "".join(map(str, task.positions))
             reads = f"; reads {', '.join(task.reads)}" if task.reads else "; reads nothing"
             yield f"{task.letter} {task.name}: runs in {task.run} at {at}, polled in {task.poll}{reads}"
+        if self.shed:
+            yield f"shed: {', '.join(self.shed)}"
         for number, name in enumerate(self.sensors):
             reader = number % self.size
             users = [task.name for task in self.tasks if f"sense {name}" in task.reads and reader in task.positions]
@@ -180,7 +185,7 @@ def draw_grid(page, grid):
         above = [other for other in grid.polled_in(task.poll) if other.letter < task.letter]
         more = f' stroke="{colour_of(task)}" stroke-width="2"'
         page.box(task.poll, y + ROW * len(above), "white", task.name, task.letter, f"all vote on {task.name} in subframe {task.poll}", more)
-    y += ROW * max(len(grid.polled_in(task.poll)) for task in grid.tasks)
+    y += ROW * max((len(grid.polled_in(task.poll)) for task in grid.tasks), default=1)
     for note in grid.notes():
         y += 17
         page.words(LEFT, y, note, 12)

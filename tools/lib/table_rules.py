@@ -1,4 +1,4 @@
-"""The rules on schedule tables, 1 to 9: docs/tables.md has them."""
+"""The rules on schedule tables, 1 to 11: docs/tables.md has them."""
 import texts
 from mission import Broken, spot
 from values import counted
@@ -23,10 +23,41 @@ def table_faults(mission, size):
             why = f"`{name}` has {counted(len(entries.data), 'entry', 'entries')}, and there {tasks}"
             yield Broken(f"table {size} row 0 rule 1", *spot(entries), why, "one for each task, in their order")
             return
+    for place, why, mend in shed_rules(mission, table):
+        yield Broken(f"table {size} row 0 rule 10", *place, why, mend)
+        return
     for row in range(len(mission.tasks)):
-        for rule, name, place, why, mend in row_rules(mission, size, row):
+        rules = shed_row_rules if row in mission.shed(size) else row_rules
+        for rule, name, place, why, mend in rules(mission, size, row):
             start, end = place if table else spot(mission.root.get("subframes"))
             yield Broken(f"table {size} row {row} rule {rule}", start, end, f"task {row}, {name}: {why}", mend)
+
+
+def shed_rules(mission, table):
+    """What breaks the rule on the list of tasks that a table sheds: the place, why and what to do."""
+    value = table.get("shed") if table else None
+    before = -1
+    for task in value.data if value else ():
+        if task.data <= before:
+            listed = sorted({each.data for each in value.data})
+            yield spot(task), f"{task.data} stands behind {before}, and the numbers of `shed` ascend", f"`shed = {listed}`"
+        elif task.data >= len(mission.tasks):
+            last = len(mission.tasks) - 1
+            why = f"there is no task {task.data}: tasks are numbered from 0, and the last one is {last}"
+            yield spot(task), why, "numbers of tasks that are there"
+        before = task.data
+
+
+def shed_row_rules(mission, size, row):
+    """What breaks the rule on a task that is shed: the rule, the task's name, the place, why and what to do."""
+    table = mission.tables[size - 4]
+    name = mission.tasks[row].get("name").data
+    for key, empty in (("run", 0), ("poll", 0), ("at", "")):
+        value = table.get(key).data[row]
+        if value.data != empty:
+            shown, left = (f"\"{value.data}\"", '""') if key == "at" else (value.data, 0)
+            why = f"this table sheds it, and its `{key}` is {shown}"
+            yield 11, name, spot(value), why, f"`{left}` in this place, or no {row} in `shed`"
 
 
 def row_rules(mission, size, row):
@@ -71,19 +102,19 @@ def digit_spot(table, row, digit):
 
 
 def shared_rules(mission, size, row, place):
-    """What breaks the rules on two tasks."""
-    rows = mission.rows_of(size)
+    """What breaks the rules on two tasks. With one that is shed none can be broken."""
+    rows, shed = mission.rows_of(size), mission.shed(size)
     run, _, at = rows[row]
     name = mission.tasks[row].get("name").data
     parts = texts.parts_of(mission.statements(row))
     for read in sorted({part.task for part in parts if isinstance(part, texts.Read) and part.now}):
-        if rows[read][1] > run:
+        if read not in shed and rows[read][1] > run:
             other = mission.tasks[read].get("name").data
             why = f"it runs in {run} and reads `now {other}.0`, which is voted in {rows[read][1]}"
             yield 8, name, place["run"], why, f"run it in {rows[read][1]} or later, or read `last {other}.0`"
     for before in range(row):
         shared = sorted(set(at) & set(rows[before][2]))
-        if rows[before][0] == run and shared:
+        if before not in shed and rows[before][0] == run and shared:
             other = mission.tasks[before].get("name").data
             why = f"position {shared[0]} runs task {before}, {other}, in subframe {run} too"
             yield 9, name, place["at"], why, "other positions, or another subframe"

@@ -9,7 +9,9 @@ NAME = re.compile(r"[a-z][a-z0-9_]{0,15}")
 
 def wrong_integer(name, value, low, high):
     """Why a value is no integer between two bounds, and what to do; or None."""
-    bounds = f"an integer from {low:,} to {high:,}" if low != high else f"the integer {low}"
+    bounds = f"an integer from {low:,} to {high:,}"
+    if high - low < 2:
+        bounds = f"the integer {low}" if low == high else f"the integer {low} or {high}"
     if value.kind == "string" and re.fullmatch(r"[+-]?[0-9]+", value.data):
         return f"`{name}` is the string \"{value.data}\", and is to be {bounds}", "a number has no quotes"
     if value.kind != "integer":

@@ -6,18 +6,18 @@ FLIGHT, IDEAL, MARK = "#1f78b4", "#fdbf6f", "#d7301f"
 
 
 class Series:
-    """A word over the frames of a flight: as each unit votes it, and as it is due."""
+    """A word over the frames of a flight: as each unit votes it, and as it is due, where that is known."""
 
     def __init__(self, name, of_units, due):
         self.name = name
         self.of_units = of_units  # of each frame the words of all units, None where one tells none
-        self.due = due
+        self.due = due  # of each frame the word, or None from the first frame on in which its task is shed, or one that it reads
         # The word of the lowest unit that tells one, or None.
         self.lead = [next((word for word in words if word is not None), None) for words in of_units]
 
     def differs(self, frame):
         """Whether a unit has another word in a frame than is due."""
-        return any(word not in (None, self.due[frame]) for word in self.of_units[frame])
+        return self.due[frame] is not None and any(word not in (None, self.due[frame]) for word in self.of_units[frame])
 
     def first(self):
         """The first frame in which the flight's word isn't the one that is due, or None."""
@@ -25,12 +25,15 @@ class Series:
 
     def told(self):
         """What the series shows, in words."""
-        first = self.first()
+        first, known = self.first(), len(self.due) - self.due.count(None)
+        whole = known == len(self.due)
+        rest = "" if whole else f"; from frame {known} on not compared, since its task is shed, or one that it reads"
         if first is None:
-            return f"{self.name}: as the ideal machine has it, in every frame"
+            when = "in every frame" if whole else f"before frame {known}"
+            return f"{self.name}: as the ideal machine has it, {when}{rest}" if known else f"{self.name}{rest[1:]}"
         words = sorted({word for word in self.of_units[first] if word not in (None, self.due[first])})
-        frames = f"{sum(map(self.differs, range(len(self.due))))} of {len(self.due)} frames"
-        return f"{self.name}: first differs in frame {first}: {', '.join(map(str, words))}, and not {self.due[first]}; in {frames}"
+        frames = f"{sum(map(self.differs, range(known)))} of {known} frames"
+        return f"{self.name}: first differs in frame {first}: {', '.join(map(str, words))}, and not {self.due[first]}; in {frames}{rest}"
 
 
 class Panel:
@@ -41,7 +44,7 @@ class Panel:
         self.series = series
         self.cell = cell
         self.top = page.bottom + GAP
-        words = [word for words in series.of_units for word in words if word is not None] + series.due
+        words = [word for words in [*series.of_units, series.due] for word in words if word is not None]
         self.low, self.high = min(words), max(words)
 
     def at(self, frame):
