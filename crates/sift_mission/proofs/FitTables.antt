@@ -9,7 +9,7 @@ use Rattle.sift_base.specs.declared.slot.Slot.{Slot}
 use Rattle.sift_base.specs.declared.slot.Slot.TheVariants.{Clock, Sense, RelaySense, Out, Report, RelayReport}
 use Rattle.sift_table.specs.Laws.{SlotsAreHeardInTime, TasksHaveThreeExecutors}
 use Rattle.sift_table.specs.Rules.{MeetsEach, row_rules, run_rules}
-use Rattle.sift_table.specs.Schedule.{Schedule, runs_at, sheds}
+use Rattle.sift_table.specs.Schedule.{Schedule, runs_at}
 use Rattle.sift_table.specs.Timing.{due_in, heard_in, is_shed, task_of}
 use Rattle.sift_mission.specs.Mission.{IsConfigOf}
 use Rattle.sift_mission.specs.Data.{MissionData, shapes_in}

@@ -3,7 +3,7 @@ use Rattle.std.proofs.Common.{◌≡◌, ℕ, zero, suc, ◌+◌, ◌<◌, ◌�
 use Rattle.std.proofs.lemmas.Bool.{cases_eq, cases_Bool, cases_order, true≢false}
 use Rattle.std.proofs.lemmas.List.Elements.{All-contains, recursion_from_All}
 use Rattle.std.proofs.lemmas.List.Sums.{sum_by-cons}
-use Rattle.std.specs.List.{AllByRecursion, Contains, range_with_len}
+use Rattle.std.specs.List.{AllByRecursion, range_with_len}
 use Rattle.sift_base.specs.Shapes.{AllShapes, shape_at}
 use Rattle.sift_base.specs.Units.{has, IsAscending, IsBelowAll}
 use Rattle.sift_base.specs.declared.slot.Slot.TheVariants.{Clock, Sense, RelaySense, Out, Report, RelayReport}
@@ -53,11 +53,13 @@ slots_are_heard_in_time table shapes layout (RelayReport u) good long words ther
 -- what a task that isn't shed reads of this frame is polled by its run: a task that is shed is polled at 0
 pub tasks_run_after_their_needs : TasksRunAfterTheirNeeds
 tasks_run_after_their_needs table shapes t good low kept =
-    let row = run_row table shapes t good low kept in
-    (row.0, λ needed there. elim (cases_Bool (sheds table needed)) [
-      | inl shed ↦ let left = (shed_tasks_are_left_out table shapes needed good shed).2 in omega (arith, left)
-      | inr polled ↦ All-contains (λ d. sheds table d ≡ false → polled_in table d ≤ run_in table t) (shape_at shapes t).needs needed row.1.1.1.1.1.1.0 there polled
-    ])
+    let row = run_row table shapes t good low kept in (
+      row.0,
+      λ needed there. elim (cases_Bool (sheds table needed)) [
+        | inl shed ↦ let left = (shed_tasks_are_left_out table shapes needed good shed).2 in omega (arith, left)
+        | inr polled ↦ All-contains (λ d. sheds table d ≡ false → polled_in table d ≤ run_in table t) (shape_at shapes t).needs needed row.1.1.1.1.1.1.0 there polled
+      ],
+    )
 
 -- ---- executors
 

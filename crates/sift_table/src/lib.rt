@@ -10,8 +10,8 @@ mod table;
 
 pub use checked::{Broken, GoodTable, check};
 pub use laws::{
-    one_broken_rule, plain_tables_are_good, positions_run_one_task_at_a_time, shed_tasks_are_left_out,
-    slots_are_heard_in_time, tables_are_answered, tasks_have_three_executors,
-    tasks_run_after_their_needs, words_have_their_task,
+    one_broken_rule, plain_tables_are_good, positions_run_one_task_at_a_time,
+    shed_tasks_are_left_out, slots_are_heard_in_time, tables_are_answered,
+    tasks_have_three_executors, tasks_run_after_their_needs, words_have_their_task,
 };
 pub use table::{Table, plain_table};

@@ -1,5 +1,5 @@
 -- A board drives on whatever strays its unit has stored: nothing that holds of it speaks of them.
-use Rattle.std.proofs.Common.{ℕ, ◌+◌, ◌*◌, List, Bool, true, false, sym, ap, ◌∙◌, subst}
+use Rattle.std.proofs.Common.{◌+◌, ◌*◌, List, Bool, true, false, sym, ap, ◌∙◌, subst}
 use Rattle.sift_buffer.specs.Conduct.{Stray}
 use Rattle.sift_buffer.specs.Conduct.{Conduct as Acts}
 use Rattle.sift_buffer.specs.Ranges.{Ranges}

@@ -1,5 +1,5 @@
 -- What a board has whose unit is down: it has landed, or turned. And boards drive on whatever their units have strayed.
-use Rattle.std.specs.Prelude.{◌≡◌, ℕ, ◌*◌, ◌≤◌, length, slice_index_or}
+use Rattle.std.specs.Prelude.{◌≡◌, ◌*◌, ◌≤◌, length, slice_index_or}
 use Rattle.sift_buffer.specs.Views.{View, IsButForStrays}
 use Rattle.sift_mission.specs.Mission.{FlownMission}
 use Rattle.sift_conduct.specs.Account.{Account}

@@ -1,5 +1,5 @@
 use Rattle.std.specs.Prelude.{Option, Bool, ℕ}
-use Rattle.std.proofs.Common.{◌≡◌, ◌++◌, ◌∷◌, [], ◌<◌, ap, ◌∙◌, sym, arith, length}
+use Rattle.std.proofs.Common.{◌++◌, ◌∷◌, [], ◌<◌, ap, ◌∙◌, sym, arith, length}
 use Rattle.sift_unit.specs.Memory.{polled_at}
 use Rattle.sift_unit.specs.Boards.{memory_of}
 use Rattle.sift_unit.proofs.InTurn.{passing_yes, passing_no, room_in_turn}
