@@ -43,7 +43,8 @@ module _ (units period tasks : ℕ) where
     number : IsArrayOf (size_count units) (size_count units) value
     number = stable (known_array (size_count units) (size_count units) value) (λ other. kept 0 (inl (refl, other)))
 
-    entry_fits : (i : ℕ) (entry : Data) → slice_get (entries_of (Some value)) i ≡ Some entry → IsTableEntry version i entry
+    -- each entry is a table of its size
+    pub entry_fits : (i : ℕ) (entry : Data) → slice_get (entries_of (Some value)) i ≡ Some entry → IsTableEntry version i entry
     entry_fits i entry there =
         stable (known_entry version i entry) (λ other. kept i (inr (record { entry = entry; there = there; holds = other })))
 
