@@ -17,7 +17,7 @@ use Rattle.sift_scenario.specs.Laws.{RulesAreKeptOrBroken}
 use Rattle.sift_scenario.specs.Root.{frames_of, period_of, root_keys, root_rules, units_of, version_of}
 use Rattle.sift_scenario.specs.Rules.{AreKept, BreaksEntries, BreaksFirst, IsFirstPlace, OfNoEntry, Rule, followed_by, joined, rule}
 use Rattle.sift_scenario.specs.Sensor.{IsSensorEntry, sensor_keys, sensor_rules, sensor_value, sensors_in, words_of}
-use Rattle.sift_scenario.specs.Table.{IsTableEntry, IsTimeless, positions_of, polls_of, runs_of, size_count, table_rules, table_value, tables_in}
+use Rattle.sift_scenario.specs.Table.{IsTableEntry, IsTimeless, later_table_rules, positions_of, polls_of, runs_of, shed_of, size_count, table_rules, table_value, tables_in}
 use Rattle.sift_scenario.specs.Task.{HasForm, IsNewName, counts_of, name_of, start_words, task_entries, task_keys, tasks_of}
 use Rattle.sift_scenario.specs.TaskRules.{BreaksNames, BreaksTasks, BreaksWords, task_rules}
 
@@ -162,14 +162,17 @@ task_known d = (
   ),
 )
 
-table_known : (units : ℕ) (value : Option Data) → AreDecided (table_rules units value)
-table_known units value = (
-  of_array (size_count units) (size_count units) IsTableEntry value known_entry,
+table_known : (version units : ℕ) (value : Option Data) → AreDecided (table_rules version units value)
+table_known version units value = (
+  of_array (size_count units) (size_count units) (IsTableEntry version) value (known_entry version),
   (
     of_each (tables_in value) (λ place. IsTimeless) (λ place table. either (nothing (runs_of table)) (nothing (polls_of table))),
     (of_each (tables_in value) (λ place table. positions_of table ≡ None) (λ place table. nothing (positions_of table)), tt),
   ),
 )
+
+later_table_known : (value : Option Data) → AreDecided (later_table_rules value)
+later_table_known value = (of_each (tables_in value) (λ place table. shed_of table ≡ None) (λ place table. nothing (shed_of table)), tt)
 
 fault_known : (value : Option Data) → AreDecided (fault_rules value)
 fault_known value = (
@@ -193,6 +196,15 @@ kept_or_broken d = kept_or_first (rules_of d)
       root_known d,
       (
         clock_known (unwrap_or (units_of d) 0) (clock_value d),
-        (sensor_known (sensor_value d), (task_known d, (table_known (unwrap_or (units_of d) 0) (table_value d), (fault_known (fault_value d), tt)))),
+        (
+          sensor_known (sensor_value d),
+          (
+            task_known d,
+            (
+              table_known (unwrap_or (version_of d) 0) (unwrap_or (units_of d) 0) (table_value d),
+              (fault_known (fault_value d), (later_table_known (table_value d), tt)),
+            ),
+          ),
+        ),
       ),
     ))

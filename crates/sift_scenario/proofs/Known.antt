@@ -52,8 +52,8 @@ known_array low high (datetime t) = inr (λ h. let e = h.there in cc)
 known_array low high (table ms) = inr (λ h. let e = h.there in cc)
 
 -- an entry is a table of its size, or not
-pub known_entry : (place : ℕ) (entry : Data) → Decided (IsTableEntry place entry)
-known_entry place entry = elim (both (known_table table_keys entry) (same_value (size_of (members_of entry)) (least_units + place))) [
+pub known_entry : (version place : ℕ) (entry : Data) → Decided (IsTableEntry version place entry)
+known_entry version place entry = elim (both (known_table (table_keys version) entry) (same_value (size_of (members_of entry)) (least_units + place))) [
   | inl h ↦ inl (record { known = h.0; sized = h.1 })
   | inr other ↦ inr (λ h. other (h.known, h.sized))
 ]

@@ -39,5 +39,6 @@ pub mod Ticks
 pub mod Turns
 pub mod UniqueForms
 pub mod UniqueRefusals
+pub mod Unshed
 pub mod Unrefused
 pub mod WordCounts

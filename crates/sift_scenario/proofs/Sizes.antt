@@ -22,7 +22,7 @@ pub record IsSized (period size : ℕ) (table : Schedule) : Type 0 where
 
 -- the schedule at a place of a list, or an empty one past its end
 abbrev pub schedule_at : List Schedule → ℕ → Schedule
-schedule_at tables i = get_or tables i (record { size = 0; period = 0; run = []; poll = []; at = [] })
+schedule_at tables i = get_or tables i (record { size = 0; period = 0; run = []; poll = []; at = []; shed = [] })
 
 module _ (units period tasks : ℕ) where
   -- ---- plain ones
@@ -39,13 +39,14 @@ module _ (units period tasks : ℕ) where
       record { sized = ap (λ (t : Schedule). t.size) here; timed = ap (λ (t : Schedule). t.period) here }
 
   -- ---- stated ones
-  module _ (value : Data) (kept : IsKept (rule 23 (BreaksTables units (Some value)))) where
+  module _ (version : ℕ) (value : Data) (kept : IsKept (rule 23 (BreaksTables version units (Some value)))) where
     number : IsArrayOf (size_count units) (size_count units) value
     number = stable (known_array (size_count units) (size_count units) value) (λ other. kept 0 (inl (refl, other)))
 
-    entry_fits : (i : ℕ) (entry : Data) → slice_get (entries_of (Some value)) i ≡ Some entry → IsTableEntry i entry
+    -- each entry is a table of its size
+    pub entry_fits : (i : ℕ) (entry : Data) → slice_get (entries_of (Some value)) i ≡ Some entry → IsTableEntry version i entry
     entry_fits i entry there =
-        stable (known_entry i entry) (λ other. kept i (inr (record { entry = entry; there = there; holds = other })))
+        stable (known_entry version i entry) (λ other. kept i (inr (record { entry = entry; there = there; holds = other })))
 
     entries_long : length (entries_of (Some value)) ≡ size_count units
     entries_long =
@@ -71,12 +72,12 @@ module _ (units period tasks : ℕ) where
         }
 
   -- ---- all of them
-  pub schedules_long : (value : Option Data) → IsKept (rule 23 (BreaksTables units value)) → length (schedules_by value units period tasks) ≡ size_count units
-  schedules_long None kept = plain_long
-  schedules_long (Some value) kept = stated_long value kept
+  pub schedules_long : (version : ℕ) (value : Option Data) → IsKept (rule 23 (BreaksTables version units value)) → length (schedules_by value units period tasks) ≡ size_count units
+  schedules_long version None kept = plain_long
+  schedules_long version (Some value) kept = stated_long version value kept
 
   pub schedules_sized :
-      (value : Option Data) → IsKept (rule 23 (BreaksTables units value)) → (i : ℕ) → i < length (schedules_by value units period tasks)
+      (version : ℕ) (value : Option Data) → IsKept (rule 23 (BreaksTables version units value)) → (i : ℕ) → i < length (schedules_by value units period tasks)
       → IsSized period (least_units + i) (schedule_at (schedules_by value units period tasks) i)
-  schedules_sized None kept i low = plain_sized i low
-  schedules_sized (Some value) kept i low = stated_sized value kept i low
+  schedules_sized version None kept i low = plain_sized i low
+  schedules_sized version (Some value) kept i low = stated_sized version value kept i low

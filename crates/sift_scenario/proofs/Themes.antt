@@ -5,7 +5,7 @@ use Rattle.std.specs.Prelude.{unwrap_or}
 use Rattle.toml.specs.Data.{Members}
 use Rattle.sift_scenario.proofs.Order.{AreAllKept, StopsIn, kept_each, kept_joined, stopped_in}
 use Rattle.sift_scenario.specs.Lawful.{IsLawful, rules_of, themes_for}
-use Rattle.sift_scenario.specs.Root.{root_rules, units_of}
+use Rattle.sift_scenario.specs.Root.{root_rules, units_of, version_of}
 use Rattle.sift_scenario.specs.Testing.{RefusesFirst}
 use Rattle.sift_scenario.specs.declared.refused.Refused.{Refused}
 
@@ -27,6 +27,10 @@ module _ (document : Members) (units : ℕ) (is : units_of document ≡ Some uni
   pub kept_themes : IsLawful document → AreAllKept (themes_for units document)
   kept_themes lawful =
       subst (λ (n : ℕ). AreAllKept (themes_for n document)) units_are (kept_each (themes_for (unwrap_or (units_of document) 0) document) lawful)
+
+-- the version that is read is the one that is stated
+pub for_version : (document : Members) (version : ℕ) → version_of document ≡ Some version → (P : ℕ → Type 0) → P version → P (unwrap_or (version_of document) 0)
+for_version document version is P holds = subst P (sym (ap (λ o. unwrap_or o 0) is)) holds
 
 -- a rule of the root is the first that is broken, however many units there are
 pub root_refused : (document : Members) (e : Stop Refused) → RefusesFirst (root_rules document) e → RefusesFirst (rules_of document) e

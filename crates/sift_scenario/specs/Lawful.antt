@@ -3,10 +3,10 @@ use Rattle.std.specs.Prelude.{ℕ, List, [], ◌∷◌, unwrap_or}
 use Rattle.toml.specs.Data.{Members}
 use Rattle.sift_scenario.specs.Clock.{clock_rules, clock_value}
 use Rattle.sift_scenario.specs.Fault.{fault_rules, fault_value}
-use Rattle.sift_scenario.specs.Root.{root_rules, units_of}
+use Rattle.sift_scenario.specs.Root.{root_rules, units_of, version_of}
 use Rattle.sift_scenario.specs.Rules.{AreKept, BreaksFirst, Rule, joined}
 use Rattle.sift_scenario.specs.Sensor.{sensor_rules, sensor_value}
-use Rattle.sift_scenario.specs.Table.{table_rules, table_value}
+use Rattle.sift_scenario.specs.Table.{later_table_rules, table_rules, table_value}
 use Rattle.sift_scenario.specs.TaskRules.{task_rules}
 
 -- the rules of a document of so many units, by what they speak of
@@ -16,8 +16,9 @@ themes_for units document =
     ∷ clock_rules units (clock_value document)
     ∷ sensor_rules (sensor_value document)
     ∷ task_rules document
-    ∷ table_rules units (table_value document)
+    ∷ table_rules (unwrap_or (version_of document) 0) units (table_value document)
     ∷ fault_rules (fault_value document)
+    ∷ later_table_rules (table_value document)
     ∷ []
 
 -- all rules of a document

@@ -1,5 +1,6 @@
 -- The laws of what a document is answered with.
-use Rattle.std.specs.Prelude.{◌≡◌, ◌≢◌, ◌⊎◌, ◌↔◌, ℕ, List, Err, Some}
+use Rattle.std.specs.Prelude.{◌≡◌, ◌≢◌, ◌⊎◌, ◌↔◌, ℕ, List, [], Err, Some}
+use Rattle.std.specs.List.{All}
 use Rattle.toml.specs.Data.{Members}
 use Rattle.sift_lang.specs.Tree.{TaskTree}
 use Rattle.sift_parse.specs.declared.stop.ParseStop.{ParseStop}
@@ -12,6 +13,7 @@ use Rattle.sift_scenario.specs.Fault.{fault_value, faults_in, from_of, stated_st
 use Rattle.sift_scenario.specs.Lawful.{IsFirstBroken, IsLawful}
 use Rattle.sift_scenario.specs.Mission.{IsMission}
 use Rattle.sift_scenario.specs.Refusal.{IsRefusedWith}
+use Rattle.sift_scenario.specs.Root.{version_of}
 use Rattle.sift_mission.specs.Data.{MissionData}
 use Rattle.sift_mission.specs.PartsFit.{PartsFit}
 use Rattle.sift_script.specs.Faults.{storm_of}
@@ -47,6 +49,11 @@ StatesStorm document u from number strays = (place : ℕ) × HoldsOf (faults_in 
 abbrev pub StormsAreStated : Type 0
 StormsAreStated = (document : Members) (mission : MissionData) (u from number strays : ℕ) → IsMission document mission →
     (storm_of mission.script.faults u ≡ Some (from, number, strays)) ↔ StatesStorm document u from number strays
+
+-- a document of version 1 sheds nothing: no table of its mission leaves out a task
+abbrev pub VersionOneShedsNothing : Type 0
+VersionOneShedsNothing = (document : Members) (mission : MissionData) → version_of document ≡ Some 1 → IsMission document mission
+    → All (λ table. table.shed ≡ []) mission.tables
 
 -- a document keeps all rules, or one is the first that it breaks, at a first place
 abbrev pub RulesAreKeptOrBroken : Type 0

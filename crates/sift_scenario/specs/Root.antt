@@ -25,9 +25,13 @@ units_of document = read_at (integer_between least_units unit_limit) (codes "uni
 abbrev pub frames_of : Members → Option ℕ
 frames_of document = read_at (integer_between 1 frame_limit) (codes "frames") document
 
+-- the newest version of the format of documents
+abbrev pub newest_version : ℕ
+newest_version = 2
+
 -- the version, which is 1 where none is stated
 abbrev pub version_of : Members → Option ℕ
-version_of document = read_or 1 (integer_between 1 1) (codes "version") document
+version_of document = read_or 1 (integer_between 1 newest_version) (codes "version") document
 
 -- the number of subframes of a frame, and another where none is stated
 abbrev pub period_or : ℕ → Members → Option ℕ
@@ -55,7 +59,7 @@ BreaksUnits document place = OfNoEntry (units_of document ≡ None) place
 abbrev pub BreaksFrames : Members → ℕ → Type 0
 BreaksFrames document place = OfNoEntry (frames_of document ≡ None) place
 
--- `version` is there, and isn't the integer 1
+-- `version` is there, and isn't the integer 1 or 2
 abbrev pub BreaksVersion : Members → ℕ → Type 0
 BreaksVersion document place = OfNoEntry (version_of document ≡ None) place
 

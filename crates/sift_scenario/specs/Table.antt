@@ -1,21 +1,27 @@
 -- What the tables of `table` say, and their rules, one predicate a rule.
-use Rattle.std.specs.Prelude.{codes, ℕ, ◌≡◌, ◌+◌, ◌-◌, ◌⊎◌, List, [], ◌∷◌, length, map, Option, Some, None, unwrap_or}
+use Rattle.std.specs.Prelude.{codes, ℕ, ◌≡◌, ◌+◌, ◌-◌, ◌⊎◌, List, [], ◌∷◌, length, map, nat_lt, if◌then◌else◌, Option, Some, None, unwrap_or}
 use Rattle.std.specs.List.{range_with_len}
 use Rattle.toml.specs.Data.{Data, Members, get_member}
 use Rattle.sift_base.specs.Layout.{least_units}
+use Rattle.sift_base.specs.Shapes.{task_limit}
 use Rattle.sift_base.specs.Units.{unit_limit}
 use Rattle.sift_table.specs.Schedule.{Schedule, plain_of}
 use Rattle.sift_mission.specs.PartsFit.{longest_period}
-use Rattle.sift_scenario.specs.Document.{IsTableOf, array_of, digits_of, entries_of, integer_between, members_of, read_at}
+use Rattle.sift_scenario.specs.Document.{IsTableOf, array_of, digits_of, entries_of, integer_between, members_of, read_at, read_or}
 use Rattle.sift_scenario.specs.Entries.{HoldsOf}
 use Rattle.sift_scenario.specs.Rules.{BreaksEntries, Rule, rule}
 use Rattle.sift_scenario.specs.Task.{task_entries}
 
 -- ---- what they say
 
--- the keys that a table of `table` may have
-abbrev pub table_keys : List (List ℕ)
-table_keys = codes "size" ∷ codes "run" ∷ codes "poll" ∷ codes "at" ∷ []
+-- the first version of documents whose tables may shed tasks
+abbrev pub shedding_version : ℕ
+shedding_version = 2
+
+-- the keys that a table of `table` may have in a document of this version
+abbrev pub table_keys : (version : ℕ) → List (List ℕ)
+table_keys version =
+    codes "size" ∷ codes "run" ∷ codes "poll" ∷ codes "at" ∷ (if nat_lt version shedding_version then [] else codes "shed" ∷ [])
 
 -- the value of `table`, where it is there
 abbrev pub table_value : Members → Option Data
@@ -44,24 +50,32 @@ polls_of table = read_at (array_of subframe) (codes "poll") table
 abbrev pub positions_of : Members → Option (List (List ℕ))
 positions_of table = read_at (array_of digits_of) (codes "at") table
 
+-- the number of a task
+abbrev pub task_number : Data → Option ℕ
+task_number value = integer_between 0 (task_limit - 1) value
+
+-- the numbers of the tasks that a table sheds; there are none where it doesn't say
+abbrev pub shed_of : Members → Option (List ℕ)
+shed_of table = read_or [] (array_of task_number) (codes "shed") table
+
 -- ---- their rules
 
--- the entry is a table with known keys, and the place tells its size
-pub record IsTableEntry (place : ℕ) (entry : Data) : Type 0 where
-  pub known : IsTableOf table_keys entry
+-- the entry is a table with keys that are known in this version, and the place tells its size
+pub record IsTableEntry (version place : ℕ) (entry : Data) : Type 0 where
+  pub known : IsTableOf (table_keys version) entry
   pub sized : size_of (members_of entry) ≡ Some (least_units + place)
 
 -- the entry isn't such a table
-abbrev pub IsNoTableEntry : (place : ℕ) → Data → Type 0
-IsNoTableEntry place entry = ¬ IsTableEntry place entry
+abbrev pub IsNoTableEntry : (version place : ℕ) → Data → Type 0
+IsNoTableEntry version place entry = ¬ IsTableEntry version place entry
 
 -- so many sizes have configurations of so many units, from the least to all
 abbrev pub size_count : (units : ℕ) → ℕ
 size_count units = units + 1 - least_units
 
 -- `table` is there, and is no array of one entry for each size, or has an entry that is no table, has an unknown key, or another size
-abbrev pub BreaksTables : (units : ℕ) → Option Data → ℕ → Type 0
-BreaksTables units value place = BreaksEntries (size_count units) (size_count units) IsTableEntry value place
+abbrev pub BreaksTables : (version units : ℕ) → Option Data → ℕ → Type 0
+BreaksTables version units value place = BreaksEntries (size_count units) (size_count units) (IsTableEntry version) value place
 
 -- `run` or `poll` of the table is missing, or is no array of integers from 0 to 63
 abbrev pub IsTimeless : Members → Type 0
@@ -75,13 +89,21 @@ BreaksTimes tables place = HoldsOf tables place IsTimeless
 abbrev pub BreaksPositions : List Members → ℕ → Type 0
 BreaksPositions tables place = HoldsOf tables place (λ table. positions_of table ≡ None)
 
+-- `shed` of a table is there, and is no array of integers from 0 to 23
+abbrev pub BreaksShed : List Members → ℕ → Type 0
+BreaksShed tables place = HoldsOf tables place (λ table. shed_of table ≡ None)
+
 -- the rules of each table, where these are all
 abbrev pub each_table_rules : List Members → List Rule
 each_table_rules tables = rule 24 (BreaksTimes tables) ∷ rule 25 (BreaksPositions tables) ∷ []
 
--- the rules of the tables in the value of `table`, for so many units
-abbrev pub table_rules : (units : ℕ) → Option Data → List Rule
-table_rules units value = rule 23 (BreaksTables units value) ∷ each_table_rules (tables_in value)
+-- the rules of the tables in the value of `table`, for a document of this version and so many units
+abbrev pub table_rules : (version units : ℕ) → Option Data → List Rule
+table_rules version units value = rule 23 (BreaksTables version units value) ∷ each_table_rules (tables_in value)
+
+-- the rule of each table that came with version 2, and has a later number than those of the faults
+abbrev pub later_table_rules : Option Data → List Rule
+later_table_rules value = rule 31 (BreaksShed (tables_in value)) ∷ []
 
 -- ---- the schedules
 
@@ -93,6 +115,7 @@ schedule_in period table = record {
   run = unwrap_or (runs_of table) [];
   poll = unwrap_or (polls_of table) [];
   at = unwrap_or (positions_of table) [];
+  shed = unwrap_or (shed_of table) [];
 }
 
 -- the plain tables of all sizes

@@ -14,7 +14,7 @@ use crate::fault::script_of;
 use crate::refused::Refused;
 use crate::root::root_of;
 use crate::sensor::{Sensors, sensors_of};
-use crate::table::tables_of;
+use crate::table::{check_sheds, tables_of};
 use crate::task::{Tasks, tasks_of};
 use sift_base::Stop;
 use sift_script::Script;
@@ -51,8 +51,9 @@ pub(crate) fn entries_of(
     let tasks = tasks_of(alloc, document)?;
     let count = tasks.forms.len() as u8;
     let period = period_of(root.subframes, count);
-    let tables = tables_of(alloc, document, root.units, period, count)?;
+    let tables = tables_of(alloc, document, root.version, root.units, period, count)?;
     let script = script_of(alloc, document)?;
+    check_sheds(alloc, document)?;
     Ok(Entries {
         units: root.units,
         frames: root.frames,

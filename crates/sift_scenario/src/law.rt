@@ -1,6 +1,6 @@
 //! The laws of what a document is answered with.
 
-ghost use Rattle.sift_scenario.specs.Laws.{DocumentsAreAnswered, MissionsAreAccepted, OneMission, OneRefusal, RulesAreKeptOrBroken, StatedMissionsFit, StormsAreStated};
+ghost use Rattle.sift_scenario.specs.Laws.{DocumentsAreAnswered, MissionsAreAccepted, OneMission, OneRefusal, RulesAreKeptOrBroken, StatedMissionsFit, StormsAreStated, VersionOneShedsNothing};
 
 /// A document that states a mission is refused by no rule, and none of its tasks is refused.
 pub fn missions_are_accepted()
@@ -26,6 +26,11 @@ pub fn stated_missions_fit()
 /// another frame, by another number or with another count of strays.
 pub fn storms_are_stated()
     ensures { StormsAreStated }
+{}
+
+/// A document of version 1 sheds nothing.
+pub fn version_one_sheds_nothing()
+    ensures { VersionOneShedsNothing }
 {}
 
 /// A document keeps all rules, or one is the first that it breaks, at a first place.

@@ -25,7 +25,7 @@ mod value;
 
 pub use law::{
     documents_are_answered, missions_are_accepted, one_mission, one_refusal,
-    rules_are_kept_or_broken, stated_missions_fit, storms_are_stated,
+    rules_are_kept_or_broken, stated_missions_fit, storms_are_stated, version_one_sheds_nothing,
 };
 pub use mission::mission_of;
 pub use refused::Refused;

@@ -2,7 +2,7 @@
 
 ghost use Rattle.std.specs.Prelude.{◌≡◌, ℕ, IfOk, Some, unwrap_or};
 ghost use Rattle.toml.specs.View.{table_view};
-ghost use Rattle.sift_scenario.specs.Root.{BreaksFrames, BreaksRootKeys, BreaksSubframes, BreaksUnits, BreaksVersion, frames_of, period_or, root_rules, units_of};
+ghost use Rattle.sift_scenario.specs.Root.{BreaksFrames, BreaksRootKeys, BreaksSubframes, BreaksUnits, BreaksVersion, frames_of, period_or, root_rules, units_of, version_of};
 ghost use Rattle.sift_scenario.specs.Testing.{Tests, TestsEach};
 
 use crate::refused::{Refused, broken};
@@ -10,9 +10,10 @@ use crate::value::{has_only_keys, number_at, optional_between};
 use sift_base::Stop;
 use toml::Table;
 
-/// How many units fly how many frames, and of how many subframes.
+/// The version, and how many units fly how many frames, and of how many subframes.
 #[derive(Clone, Copy)]
 pub(crate) struct Root {
+    pub version: u32,
     pub units: u8,
     pub frames: u32,
     /// Where the document states it.
@@ -21,6 +22,7 @@ pub(crate) struct Root {
 
 /// What the root states beside its entries.
 pub(crate) fn root_of(document: &Table) -> Result<Root, Stop<Refused>>
+    ensures version { IfOk result (λ root. version_of (table_view document.now) ≡ Some root.version) }
     ensures units { IfOk result (λ root. units_of (table_view document.now) ≡ Some root.units) }
     ensures frames { IfOk result (λ root. frames_of (table_view document.now) ≡ Some root.frames) }
     ensures subframes { IfOk result (λ root. (unstated : ℕ) →
@@ -30,9 +32,10 @@ pub(crate) fn root_of(document: &Table) -> Result<Root, Stop<Refused>>
     check_keys(document)?;
     let units = units_of(document)?;
     let frames = frames_of(document)?;
-    check_version(document)?;
+    let version = version_of(document)?;
     let subframes = subframes_of(document)?;
     Ok(Root {
+        version,
         units,
         frames,
         subframes,
@@ -82,12 +85,13 @@ fn frames_of(document: &Table) -> Result<u32, Stop<Refused>>
     number_at(document, "frames", 1, 1_000).ok_or(broken(3, 0))
 }
 
-/// Tests the version, where it is stated.
-fn check_version(document: &Table) -> Result<(), Stop<Refused>>
-    ensures { Tests 4 (BreaksVersion (table_view document.now)) result }
+/// The version, which is 1 where none is stated.
+fn version_of(document: &Table) -> Result<u32, Stop<Refused>>
+    ensures version { IfOk result (λ version. version_of (table_view document.now) ≡ Some version) }
+    ensures tests { Tests 4 (BreaksVersion (table_view document.now)) result }
 {
-    match optional_between(document, "version", 1, 1) {
-        Some(_) => Ok(()),
+    match optional_between(document, "version", 1, 2) {
+        Some(version) => Ok(version.unwrap_or(1)),
         None => Err(broken(4, 0)),
     }
 }

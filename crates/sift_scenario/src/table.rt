@@ -10,23 +10,25 @@ ghost use Rattle.sift_table.specs.Schedule.{schedule_of};
 ghost use Rattle.sift_scenario.specs.Document.{array_of, members_of, read_at};
 ghost use Rattle.sift_scenario.specs.Entries.{HoldsOf};
 ghost use Rattle.sift_scenario.specs.Rules.{IsKept, rule};
-ghost use Rattle.sift_scenario.specs.Table.{BreaksPositions, BreaksTables, BreaksTimes, IsNoTableEntry, IsTableEntry, IsTimeless, plain_tables, positions_of, schedule_in, schedules_by, size_of, subframe, table_rules, table_value, tables_in};
+ghost use Rattle.sift_scenario.specs.Table.{BreaksPositions, BreaksTables, BreaksTimes, IsNoTableEntry, IsTableEntry, IsTimeless, plain_tables, positions_of};
+ghost use Rattle.sift_scenario.specs.Table.{BreaksShed, schedule_in, schedules_by, shed_of, size_of, subframe, table_keys, table_rules, table_value, tables_in};
 ghost use Rattle.sift_scenario.specs.Reading.{IsPartial};
 ghost use Rattle.sift_scenario.specs.Testing.{Tests, TestsEach};
 
 use crate::entries::entries_between;
 use crate::refused::{Refused, broken};
-use crate::value::{digit_lists, member_of, number_at, subframes, table_of};
+use crate::value::{digit_lists, entries_at, member_of, number_at, numbers_to, table_of};
 use sift_base::{NoMemory, Stop};
 use sift_table::{Table, plain_table};
 use std::alloc::Global;
 use toml::Value;
 
-/// The tables of a document of so many units, subframes and tasks: those that it states, or else the
-/// plain ones.
+/// The tables of a document of this version and of so many units, subframes and tasks: those that it
+/// states, or else the plain ones.
 pub(crate) fn tables_of(
     alloc: Global,
     document: &toml::Table,
+    version: u32,
     units: u8,
     period: u8,
     tasks: u8,
@@ -36,10 +38,11 @@ pub(crate) fn tables_of(
     requires few_tasks { tasks ≤ task_limit }
     ensures read { IfOk result (λ tables.
         map schedule_of tables.items ≡ schedules_by (table_value (table_view document.now)) units period tasks) }
-    ensures tests { TestsEach (table_rules units (table_value (table_view document.now))) result }
+    ensures few { IfOk result (λ _. length (tables_in (table_value (table_view document.now))) ≤ unit_limit) }
+    ensures tests { TestsEach (table_rules version units (table_value (table_view document.now))) result }
 {
     match member_of(document, "table") {
-        Some(value) => stated_tables(alloc, value, units, period),
+        Some(value) => stated_tables(alloc, value, version, units, period),
         None => Ok(all_plain(alloc, units, period, tasks)?),
     }
 }
@@ -62,6 +65,7 @@ fn all_plain(alloc: Global, units: u8, period: u8, tasks: u8) -> Result<Vec<Tabl
 fn stated_tables(
     alloc: Global,
     value: &Value,
+    version: u32,
     units: u8,
     period: u8,
 ) -> Result<Vec<Table>, Stop<Refused>>
@@ -69,39 +73,49 @@ fn stated_tables(
     requires few_units { units ≤ unit_limit }
     ensures read { IfOk result (λ tables.
         map schedule_of tables.items ≡ map (schedule_in period) (tables_in (Some (view value.now)))) }
-    ensures tests { TestsEach (table_rules units (Some (view value.now))) result }
+    ensures few { IfOk result (λ _. length (tables_in (Some (view value.now))) ≤ unit_limit) }
+    ensures tests { TestsEach (table_rules version units (Some (view value.now))) result }
 {
-    let tables = sized_tables(alloc, value, units)?;
+    let tables = sized_tables(alloc, value, version, units)?;
     check_times(alloc, &tables)?;
     read_tables(alloc, &tables, period)
 }
 
 /// The tables in the value of `table`, one for each size.
-fn sized_tables(alloc: Global, value: &Value, units: u8) -> Result<Vec<&toml::Table>, Stop<Refused>>
+fn sized_tables(
+    alloc: Global,
+    value: &Value,
+    version: u32,
+    units: u8,
+) -> Result<Vec<&toml::Table>, Stop<Refused>>
     requires enough_units { least_units ≤ units }
     requires few_units { units ≤ unit_limit }
     ensures tables { IfOk result (λ tables.
         map (λ table. table_view table.now) tables.items ≡ tables_in (Some (view value.now))) }
     ensures few { IfOk result (λ tables. length tables.items ≤ unit_limit) }
     ensures sized { IfOk result (λ tables. All (λ table. size_of (table_view table.now) ≢ None) tables.items) }
-    ensures tests { Tests 23 (BreaksTables units (Some (view value.now))) result }
+    ensures tests { Tests 23 (BreaksTables version units (Some (view value.now))) result }
 {
     let sizes = usize::from(units) - 3;
     let entries = entries_between(value, sizes, sizes, 23)?;
-    entries_by_size(alloc, entries)
+    entries_by_size(alloc, entries, version)
 }
 
 /// The tables that these entries are, each of the size that its place tells.
-fn entries_by_size(alloc: Global, entries: &[Value]) -> Result<Vec<&toml::Table>, Stop<Refused>>
+fn entries_by_size<'a>(
+    alloc: Global,
+    entries: &'a [Value],
+    version: u32,
+) -> Result<Vec<&'a toml::Table>, Stop<Refused>>
     requires { length entries.now ≤ unit_limit }
     ensures tables { IfOk result (λ tables.
         map (λ table. table_view table.now) tables.items ≡ map (λ entry. members_of (view entry)) entries.now) }
     ensures sized { IfOk result (λ tables. All (λ table. size_of (table_view table.now) ≢ None) tables.items) }
-    ensures tests { Tests 23 (λ place. HoldsOf (map (λ entry. view entry) entries.now) place (IsNoTableEntry place)) result }
+    ensures tests { Tests 23 (λ place. HoldsOf (map (λ entry. view entry) entries.now) place (IsNoTableEntry version place)) result }
 {
     let mut tables = Vec::new(alloc);
     for (place, entry) in entries.iter().enumerate() {
-        match sized_table(entry, place) {
+        match sized_table(entry, version, place) {
             Some(table) => tables.push(table)?,
             None => return Err(broken(23, place)),
         }
@@ -110,17 +124,28 @@ fn entries_by_size(alloc: Global, entries: &[Value]) -> Result<Vec<&toml::Table>
 }
 
 /// The table that an entry is, where it has the size that its place tells.
-fn sized_table(entry: &Value, place: usize) -> Option<&toml::Table>
+fn sized_table(entry: &Value, version: u32, place: usize) -> Option<&toml::Table>
     requires { place ≤ unit_limit }
     ensures found { IfSome result (λ table. table_view table.now ≡ members_of (view entry.now)) }
-    ensures sized { IfSome result (λ _. IsTableEntry place (view entry.now)) }
-    ensures none { IfNone result (¬ IsTableEntry place (view entry.now)) }
+    ensures sized { IfSome result (λ _. IsTableEntry version place (view entry.now)) }
+    ensures none { IfNone result (¬ IsTableEntry version place (view entry.now)) }
 {
-    let table = table_of(entry, &["size", "run", "poll", "at"])?;
+    let table = table_of(entry, table_keys(version))?;
     if number_at(table, "size", 4, 8) == Some(4 + place as u32) {
         Some(table)
     } else {
         None
+    }
+}
+
+/// The keys that a table of `table` may have in a document of this version.
+fn table_keys(version: u32) -> &'static [&'static str]
+    ensures { map (λ key. key.now) result.now ≡ table_keys version }
+{
+    if version < 2 {
+        &["size", "run", "poll", "at"]
+    } else {
+        &["size", "run", "poll", "at", "shed"]
     }
 }
 
@@ -181,6 +206,10 @@ fn read_table(alloc: Global, table: &toml::Table, period: u8) -> Result<Option<T
     let run = subframes_at(alloc, table, "run")?;
     let poll = subframes_at(alloc, table, "poll")?;
     let at = positions_at(alloc, table)?;
+    let shed = match shed_at(alloc, table)? {
+        Some(shed) => shed,
+        None => Vec::new(alloc),
+    };
     match (size, run, poll, at) {
         (Some(size), Some(run), Some(poll), Some(at)) => Ok(Some(Table {
             size: size as u8,
@@ -188,6 +217,7 @@ fn read_table(alloc: Global, table: &toml::Table, period: u8) -> Result<Option<T
             run,
             poll,
             at,
+            shed,
         })),
         _ => Ok(None),
     }
@@ -199,7 +229,7 @@ fn subframes_at(alloc: Global, table: &toml::Table, key: &str) -> Result<Option<
         option_map (λ list. list.items) found ≡ read_at (array_of subframe) key.now (table_view table.now)) }
 {
     match member_of(table, key) {
-        Some(value) => subframes(alloc, value),
+        Some(value) => numbers_to(alloc, value, 63),
         None => Ok(None),
     }
 }
@@ -212,5 +242,48 @@ fn positions_at(alloc: Global, table: &toml::Table) -> Result<Option<Vec<Vec<u8>
     match member_of(table, "at") {
         Some(value) => digit_lists(alloc, value),
         None => Ok(None),
+    }
+}
+
+/// The numbers of the tasks that a table sheds, and none where it doesn't say.
+fn shed_at(alloc: Global, table: &toml::Table) -> Result<Option<Vec<u8>>, NoMemory>
+    ensures { IfOk result (λ found.
+        option_map (λ list. list.items) found ≡ shed_of (table_view table.now)) }
+{
+    match member_of(table, "shed") {
+        Some(value) => numbers_to(alloc, value, 23),
+        None => Ok(Some(Vec::new(alloc))),
+    }
+}
+
+/// Tests that each table of a document sheds numbers of tasks, where it says what it sheds.
+pub(crate) fn check_sheds(alloc: Global, document: &toml::Table) -> Result<(), Stop<Refused>>
+    requires { length (tables_in (table_value (table_view document.now))) ≤ unit_limit }
+    ensures { Tests 31 (BreaksShed (tables_in (table_value (table_view document.now)))) result }
+{
+    check_shed_entries(alloc, entries_at(document, "table"))
+}
+
+/// Tests the same of these entries.
+fn check_shed_entries(alloc: Global, entries: &[Value]) -> Result<(), Stop<Refused>>
+    requires { length entries.now ≤ unit_limit }
+    ensures { Tests 31 (BreaksShed (map (λ entry. members_of (view entry)) entries.now)) result }
+{
+    for (place, entry) in entries.iter().enumerate() {
+        let wrong = sheds_no_numbers(alloc, entry)?;
+        if wrong {
+            return Err(broken(31, place));
+        }
+    }
+    Ok(())
+}
+
+/// Whether an entry is a table that says what it sheds, but not by numbers of tasks.
+fn sheds_no_numbers(alloc: Global, entry: &Value) -> Result<bool, NoMemory>
+    ensures { IfOk result (λ wrong. IsTrue wrong ↔ (shed_of (members_of (view entry.now)) ≡ None)) }
+{
+    match entry.as_table() {
+        Some(table) => Ok(shed_at(alloc, table)?.is_none()),
+        None => Ok(false),
     }
 }

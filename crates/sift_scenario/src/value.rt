@@ -5,7 +5,6 @@ ghost use Rattle.std.specs.List.{Contains};
 ghost use Rattle.toml.specs.Data.{get_member};
 ghost use Rattle.toml.specs.View.{table_view, view};
 ghost use Rattle.sift_scenario.specs.Document.{HasOnlyKeys, IsTableOf, array_of, digit_of, digits_of, each_read, entries_of, integer_between, members_of, natural, read_at, read_or, word_array, word_value};
-ghost use Rattle.sift_scenario.specs.Table.{subframe};
 
 use arrayvec::ArrayVec;
 use sift_base::{NoMemory, Word};
@@ -151,17 +150,21 @@ pub(crate) fn word_array(value: &Value, low: usize, high: usize) -> Option<Array
     Some(words)
 }
 
-/// The numbers of an array of numbers of subframes.
-pub(crate) fn subframes(alloc: Global, value: &Value) -> Result<Option<Vec<u8>>, NoMemory>
+/// The numbers of an array of integers from 0 to `high`.
+pub(crate) fn numbers_to(
+    alloc: Global,
+    value: &Value,
+    high: u8,
+) -> Result<Option<Vec<u8>>, NoMemory>
     ensures { IfOk result (λ found.
-        option_map (λ list. list.items) found ≡ array_of subframe (view value.now)) }
+        option_map (λ list. list.items) found ≡ array_of (integer_between 0 high) (view value.now)) }
 {
     let Some(array) = value.as_array() else {
         return Ok(None);
     };
     let mut list = Vec::new(alloc);
     for entry in array.as_slice() {
-        match integer_between(entry, 0, 63) {
+        match integer_between(entry, 0, u32::from(high)) {
             Some(number) => list.push(number as u8)?,
             None => return Ok(None),
         }

@@ -9,11 +9,14 @@ use Rattle.sift_base.specs.Units.{unit_limit}
 use Rattle.sift_table.specs.Laws.{shortest_period}
 use Rattle.sift_mission.specs.PartsFit.{longest_period}
 use Rattle.sift_scenario.proofs.Numbers.{between_at, between_or}
+use Rattle.sift_scenario.proofs.Order.{stopped}
 use Rattle.sift_scenario.proofs.Read.{count_is}
-use Rattle.sift_scenario.proofs.Themes.{root_refused, theme_refused, themes_kept}
+use Rattle.sift_scenario.proofs.Themes.{for_version, root_refused, theme_refused, themes_kept}
 use Rattle.sift_scenario.specs.Root.{plain_period}
-use Rattle.sift_scenario.specs.Table.{schedules_by, table_value}
+use Rattle.sift_scenario.specs.Rules.{AreKept}
+use Rattle.sift_scenario.specs.Table.{later_table_rules, schedules_by, table_rules, table_value}
 use Rattle.sift_scenario.specs.Task.{task_entries}
+use Rattle.sift_scenario.specs.Testing.{RefusesFirst}
 use Rattle.sift_scenario.proofs.document.entries_of.Goals as goal
 
 -- a rule of the root is broken
@@ -79,40 +82,65 @@ tables_of-requires-clause-few_tasks c =
 pub returns-in_err-tables-clause-refused : goal.returns-in_err-tables-clause-refused
 returns-in_err-tables-clause-refused c =
     let same : c.from_residual-in_err-tables.result ≡ Err c.in_err-tables.field-0.0 = search rules in
-    rw same (theme_refused (table_view c.args.document.now) c.in_ok-root.root.units c.in_ok-root.ensures.units 4 c.in_err-tables.field-0.0
-    (c.in_ok-root.ensures.tests, (c.in_ok-clock.ensures.tests, (c.in_ok-sensors.ensures.tests, (c.in_ok-tasks.ensures.tests, c.in_err-tables.ensures.tests)))))
+    let document = table_view c.args.document.now in
+    let root = c.in_ok-root.root in
+    let refused = for_version document root.version c.in_ok-root.ensures.version
+    (λ v. RefusesFirst (table_rules v root.units (table_value document)) c.in_err-tables.field-0.0) c.in_err-tables.ensures.tests in
+    rw same (theme_refused document root.units c.in_ok-root.ensures.units 4 c.in_err-tables.field-0.0
+    (c.in_ok-root.ensures.tests, (c.in_ok-clock.ensures.tests, (c.in_ok-sensors.ensures.tests, (c.in_ok-tasks.ensures.tests, refused)))))
 
 -- a rule of the faults is broken
 pub returns-in_err-script-clause-refused : goal.returns-in_err-script-clause-refused
 returns-in_err-script-clause-refused c =
     let same : c.from_residual-in_err-script.result ≡ Err c.in_err-script.field-0.0 = search rules in
-    rw same (theme_refused (table_view c.args.document.now) c.in_ok-root.root.units c.in_ok-root.ensures.units 5 c.in_err-script.field-0.0
-    (c.in_ok-root.ensures.tests, (c.in_ok-clock.ensures.tests, (c.in_ok-sensors.ensures.tests, (c.in_ok-tasks.ensures.tests, (c.in_ok-tables.ensures.tests, c.in_err-script.ensures.tests))))))
+    let document = table_view c.args.document.now in
+    let root = c.in_ok-root.root in
+    let tables = for_version document root.version c.in_ok-root.ensures.version
+    (λ v. AreKept (table_rules v root.units (table_value document))) c.in_ok-tables.ensures.tests in
+    rw same (theme_refused document root.units c.in_ok-root.ensures.units 5 c.in_err-script.field-0.0
+    (c.in_ok-root.ensures.tests, (c.in_ok-clock.ensures.tests, (c.in_ok-sensors.ensures.tests, (c.in_ok-tasks.ensures.tests, (tables, c.in_err-script.ensures.tests))))))
+
+-- the later rule of the tables is broken
+pub returns-in_err-check_sheds-clause-refused : goal.returns-in_err-check_sheds-clause-refused
+returns-in_err-check_sheds-clause-refused c =
+    let same : c.from_residual-in_err-check_sheds.result ≡ Err c.in_err-check_sheds.field-0.0 = search rules in
+    let document = table_view c.args.document.now in
+    let root = c.in_ok-root.root in
+    let tables = for_version document root.version c.in_ok-root.ensures.version
+    (λ v. AreKept (table_rules v root.units (table_value document))) c.in_ok-tables.ensures.tests in
+    let refused = stopped 0 (later_table_rules (table_value document)) c.in_err-check_sheds.field-0.0 c.in_err-check_sheds.ensures in
+    rw same (theme_refused document root.units c.in_ok-root.ensures.units 6 c.in_err-check_sheds.field-0.0 (
+      c.in_ok-root.ensures.tests,
+      (c.in_ok-clock.ensures.tests, (c.in_ok-sensors.ensures.tests, (c.in_ok-tasks.ensures.tests, (tables, (c.in_ok-script.ensures.tests, refused))))),
+    ))
 
 -- no rule is broken
 pub returns-clause-read : goal.returns-clause-read
 returns-clause-read c =
     let document = table_view c.args.document.now in
+    let root = c.in_ok-root.root in
     let count : c.len-count.result ≡ length (task_entries document) = c.len-count.ensures ∙ c.in_ok-tasks.tasks.forms.ok.0 ∙ count_is document c.in_ok-tasks.tasks c.in_ok-tasks.ensures.read in
     let plain : plain_period c.len-count.result ≡ plain_period (length (task_entries document)) = ap plain_period count in
+    let tables = for_version document root.version c.in_ok-root.ensures.version
+    (λ v. AreKept (table_rules v root.units (table_value document))) c.in_ok-tables.ensures.tests in
     record {
-      lawful = themes_kept document c.in_ok-root.root.units c.in_ok-root.ensures.units (
+      lawful = themes_kept document root.units c.in_ok-root.ensures.units (
         c.in_ok-root.ensures.tests,
         (
           c.in_ok-clock.ensures.tests,
           (
             c.in_ok-sensors.ensures.tests,
-            (c.in_ok-tasks.ensures.tests, (c.in_ok-tables.ensures.tests, (c.in_ok-script.ensures.tests, tt))),
+            (c.in_ok-tasks.ensures.tests, (tables, (c.in_ok-script.ensures.tests, ((c.in_ok-check_sheds.ensures, tt), tt)))),
           ),
         ),
       );
       units = c.in_ok-root.ensures.units;
       frames = c.in_ok-root.ensures.frames;
       period = c.in_ok-root.ensures.subframes (plain_period (length (task_entries document)))
-          ∙ ap (λ n. Some (unwrap_or c.in_ok-root.root.subframes n)) (sym plain) ∙ ap (λ n. Some n) (sym c.period_of-period.ensures);
+          ∙ ap (λ n. Some (unwrap_or root.subframes n)) (sym plain) ∙ ap (λ n. Some n) (sym c.period_of-period.ensures);
       clock = c.in_ok-clock.ensures.read;
       sensors = c.in_ok-sensors.ensures.read;
       tasks = c.in_ok-tasks.ensures.read;
-      tables = c.in_ok-tables.ensures.read ∙ ap (λ n. schedules_by (table_value document) c.in_ok-root.root.units c.period_of-period.result n) count;
+      tables = c.in_ok-tables.ensures.read ∙ ap (λ n. schedules_by (table_value document) root.units c.period_of-period.result n) count;
       faults = c.in_ok-script.ensures.read;
     }

@@ -22,21 +22,21 @@ returns-in_err-frames-clause-tests c =
     rw same (stopped 2 (root_rules (table_view c.args.document.now)) c.in_err-frames.field-0.0
     (c.in_ok-check_keys.ensures, (c.in_ok-units.ensures.tests, c.in_err-frames.ensures.tests)))
 
-pub returns-in_err-check_version-clause-tests : goal.returns-in_err-check_version-clause-tests
-returns-in_err-check_version-clause-tests c =
-    let same : c.from_residual-in_err-check_version.result ≡ Err c.in_err-check_version.field-0.0 = search rules in
-    rw same (stopped 3 (root_rules (table_view c.args.document.now)) c.in_err-check_version.field-0.0
-    (c.in_ok-check_keys.ensures, (c.in_ok-units.ensures.tests, (c.in_ok-frames.ensures.tests, c.in_err-check_version.ensures))))
+pub returns-in_err-version-clause-tests : goal.returns-in_err-version-clause-tests
+returns-in_err-version-clause-tests c =
+    let same : c.from_residual-in_err-version.result ≡ Err c.in_err-version.field-0.0 = search rules in
+    rw same (stopped 3 (root_rules (table_view c.args.document.now)) c.in_err-version.field-0.0
+    (c.in_ok-check_keys.ensures, (c.in_ok-units.ensures.tests, (c.in_ok-frames.ensures.tests, c.in_err-version.ensures.tests))))
 
 pub returns-in_err-subframes-clause-tests : goal.returns-in_err-subframes-clause-tests
 returns-in_err-subframes-clause-tests c =
     let same : c.from_residual-in_err-subframes.result ≡ Err c.in_err-subframes.field-0.0 = search rules in
     rw same (stopped 4 (root_rules (table_view c.args.document.now)) c.in_err-subframes.field-0.0
-    (c.in_ok-check_keys.ensures, (c.in_ok-units.ensures.tests, (c.in_ok-frames.ensures.tests, (c.in_ok-check_version.ensures, c.in_err-subframes.ensures.tests)))))
+    (c.in_ok-check_keys.ensures, (c.in_ok-units.ensures.tests, (c.in_ok-frames.ensures.tests, (c.in_ok-version.ensures.tests, c.in_err-subframes.ensures.tests)))))
 
 -- none is broken
 pub returns-clause-tests : goal.returns-clause-tests
 returns-clause-tests c = (
   c.in_ok-check_keys.ensures,
-  (c.in_ok-units.ensures.tests, (c.in_ok-frames.ensures.tests, (c.in_ok-check_version.ensures, (c.in_ok-subframes.ensures.tests, tt)))),
+  (c.in_ok-units.ensures.tests, (c.in_ok-frames.ensures.tests, (c.in_ok-version.ensures.tests, (c.in_ok-subframes.ensures.tests, tt)))),
 )

@@ -11,4 +11,4 @@ abbrev pub invariant-loop-place : goal.invariant-loop-place
 invariant-loop-place l =
     (map (λ table. table_view table.now) l.tables.items ≡ take l.place (map (λ entry. members_of (view entry)) l.entries))
     × All (λ table. size_of (table_view table.now) ≢ None) l.tables.items
-    × ((at : ℕ) → at < l.place → ¬ HoldsOf (map (λ entry. view entry) l.entries) at (IsNoTableEntry at))
+    × ((at : ℕ) → at < l.place → ¬ HoldsOf (map (λ entry. view entry) l.entries) at (IsNoTableEntry l.version at))

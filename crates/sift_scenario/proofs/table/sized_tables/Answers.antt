@@ -10,7 +10,7 @@ pub returns-in_err-entries-clause-tests : goal.returns-in_err-entries-clause-tes
 returns-in_err-entries-clause-tests c =
     let same : c.from_residual.result ≡ Err c.in_err-entries.field-0.0 = search rules in
     let sizes : c.from-sizes.result - 3 ≡ size_count c.args.units = omega (arith, c.from-sizes.ensures) in
-    rw same (refused_whole 23 (size_count c.args.units) (size_count c.args.units) IsTableEntry (view c.args.value.now) _ (rw sizes at c.in_err-entries.ensures.wrong))
+    rw same (refused_whole 23 (size_count c.args.units) (size_count c.args.units) (IsTableEntry c.args.version) (view c.args.value.now) _ (rw sizes at c.in_err-entries.ensures.wrong))
 
 pub returns-clause-tables : goal.returns-clause-tables
 returns-clause-tables c =
@@ -19,5 +19,5 @@ returns-clause-tables c =
 pub returns-clause-tests : goal.returns-clause-tests
 returns-clause-tests c =
     let sizes : c.from-sizes.result - 3 ≡ size_count c.args.units = omega (arith, c.from-sizes.ensures) in
-    tested 23 (size_count c.args.units) (size_count c.args.units) IsTableEntry (view c.args.value.now) _ c.in_ok-entries.ensures.entries
+    tested 23 (size_count c.args.units) (size_count c.args.units) (IsTableEntry c.args.version) (view c.args.value.now) _ c.in_ok-entries.ensures.entries
     (rw sizes at c.in_ok-entries.ensures.right) c.entries_by_size.result c.entries_by_size.ensures.tests

@@ -11,7 +11,7 @@ use Rattle.sift_scenario.proofs.table.stated_tables.Goals as goal
 pub returns-in_err-tables-clause-tests : goal.returns-in_err-tables-clause-tests
 returns-in_err-tables-clause-tests c =
     let same : c.from_residual.result ≡ Err c.in_err-tables.field-0.0 = search rules in
-    rw same (stopped 0 (table_rules c.args.units (Some (view c.args.value.now))) c.in_err-tables.field-0.0 c.in_err-tables.ensures.tests)
+    rw same (stopped 0 (table_rules c.args.version c.args.units (Some (view c.args.value.now))) c.in_err-tables.field-0.0 c.in_err-tables.ensures.tests)
 
 -- a table doesn't say when
 pub returns-in_err-check_times-clause-tests : goal.returns-in_err-check_times-clause-tests
@@ -20,7 +20,7 @@ returns-in_err-check_times-clause-tests c =
     let tables : map (λ table. table_view table.now) c.deref.result.now ≡ tables_in (Some (view c.args.value.now)) = rw c.deref.ensures.value c.in_ok-tables.ensures.tables in
     let refused : RefusesBy 24 (BreaksTimes (tables_in (Some (view c.args.value.now)))) c.in_err-check_times.field-0.0 =
     subst (λ (ts : List Members). RefusesBy 24 (BreaksTimes ts) c.in_err-check_times.field-0.0) tables c.in_err-check_times.ensures in
-    rw same (stopped 1 (table_rules c.args.units (Some (view c.args.value.now))) c.in_err-check_times.field-0.0
+    rw same (stopped 1 (table_rules c.args.version c.args.units (Some (view c.args.value.now))) c.in_err-check_times.field-0.0
     (c.in_ok-tables.ensures.tests, refused))
 
 -- each does
@@ -42,6 +42,6 @@ returns-clause-tests c =
     let timed : (place : ℕ) → ¬ BreaksTimes all place = subst (λ (ts : List Members). (place : ℕ) → ¬ BreaksTimes ts place) first c.in_ok-check_times.ensures in
     let placed : Tests 25 (BreaksPositions all) c.read_tables.result =
     subst (λ (ts : List Members). Tests 25 (BreaksPositions ts) c.read_tables.result) tables c.read_tables.ensures.tests in
-    ended (table_rules c.args.units (Some (view c.args.value.now))) c.read_tables.result
+    ended (table_rules c.args.version c.args.units (Some (view c.args.value.now))) c.read_tables.result
     (λ schedules is. (c.in_ok-tables.ensures.tests, (timed, (rw is at placed, tt))))
-    (λ e is. stopped 2 (table_rules c.args.units (Some (view c.args.value.now))) e (c.in_ok-tables.ensures.tests, (timed, rw is at placed)))
+    (λ e is. stopped 2 (table_rules c.args.version c.args.units (Some (view c.args.value.now))) e (c.in_ok-tables.ensures.tests, (timed, rw is at placed)))
