@@ -18,7 +18,7 @@ use Rattle.sift_scenario.specs.Fault.{faults_of}
 use Rattle.sift_scenario.specs.Lawful.{IsLawful, themes_for}
 use Rattle.sift_scenario.specs.Mission.{HasGoodTables, IsMission, IsStated}
 use Rattle.sift_scenario.specs.Program.{AreTreesOf, IsProgramOf, all_starts, roll_for}
-use Rattle.sift_scenario.specs.Root.{plain_period, units_of}
+use Rattle.sift_scenario.specs.Root.{plain_period, units_of, version_of}
 use Rattle.sift_scenario.specs.Rules.{AreKept}
 use Rattle.sift_scenario.specs.Sensor.{sensor_names, sensor_value, sensor_words, sensors_in, words_of}
 use Rattle.sift_scenario.specs.Table.{schedules_of, table_rules}
@@ -93,8 +93,8 @@ module _
       )
 
   -- there are no tables of which one could be bad
-  no_tables : (n : ℕ) → AreKept (table_rules n None)
-  no_tables n = (λ place broken. broken, (λ place found. absurd (cc found.there), (λ place found. absurd (cc found.there), tt)))
+  no_tables : (version n : ℕ) → AreKept (table_rules version n None)
+  no_tables version n = (λ place broken. broken, (λ place found. absurd (cc found.there), (λ place found. absurd (cc found.there), tt)))
 
   -- so all rules are kept
   lawful : IsLawful d
@@ -110,11 +110,11 @@ module _
             (
               all_tasks_kept,
               (
-                no_tables (unwrap_or (units_of d) 0),
+                no_tables (unwrap_or (version_of d) 0) (unwrap_or (units_of d) 0),
                 (
                   faults_kept units unit from task value may.enough_units may.few_units may.a_unit (omega (arith, may.a_frame, may.few_frames))
                       (omega (arith, may.a_task, may.few_tasks)) may.a_word,
-                  tt,
+                  ((λ place found. absurd (cc found.there), tt), tt),
                 ),
               ),
             ),
