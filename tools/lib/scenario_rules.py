@@ -605,19 +605,23 @@ def storm_number_faults(storm):
 def rule_31(mission):
     for number, table in enumerate(mission.tables):
         value = table.get("shed")
-        for place, fault in shed_faults(value) if value else []:
+        for place, fault in shed_faults(mission, value) if value else []:
             yield number, place, fault, False
 
 
-def shed_faults(value):
+def shed_faults(mission, value):
     """The faults of a table's list of tasks that it sheds."""
     if value.kind != "array":
         mend = f"`shed = [{value.data}]`" if value.kind == "integer" else "`[` and `]` make an array"
         yield spot(value), (f"`shed` is {KINDS[value.kind]}, and is to be an array of task numbers", mend)
         return
+    numbers = {task.get("name").data: number for number, task in enumerate(mission.tasks)}
     for task in value.data:
-        if wrong_integer("shed", task, 0, 23):
-            yield spot(task), wrong_integer("shed", task, 0, 23)
+        fault = wrong_integer("shed", task, 0, 23)
+        if fault and task.kind == "string" and task.data in numbers:
+            fault = fault[0], f"`{numbers[task.data]}`, the number of this task"
+        if fault:
+            yield spot(task), fault
 
 
 SCENARIO_RULES = [

@@ -43,8 +43,7 @@ def shed_rules(mission, table):
             yield spot(task), f"{task.data} stands behind {before}, and the numbers of `shed` ascend", f"`shed = {listed}`"
         elif task.data >= len(mission.tasks):
             last = len(mission.tasks) - 1
-            why = f"there is no task {task.data}: tasks are numbered from 0, and the last one is {last}"
-            yield spot(task), why, "numbers of tasks that are there"
+            yield spot(task), f"there is no task {task.data}: tasks are numbered from 0, and the last one is {last}", None
         before = task.data
 
 
@@ -68,7 +67,8 @@ def row_rules(mission, size, row):
     place = {key: spot(table.get(key).data[row]) if table else None for key in ("run", "poll", "at")}
     if run < 4:
         why = f"it runs in subframe {run}, and the sensors' words are agreed on in 4"
-        yield 2, name, place["run"], why, "4, or later"
+        left_out = mission.version > 1 and run == 0
+        yield 2, name, place["run"], why, f"4, or later; or {row} in `shed`, where it isn't to run" if left_out else "4, or later"
     if poll > last:
         yield 3, name, place["poll"], *late_poll(mission, poll, last)
     if poll < run + 2:

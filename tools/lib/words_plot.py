@@ -30,7 +30,7 @@ class Series:
         rest = "" if whole else f"; from frame {known} on not compared, since its task is shed, or one that it reads"
         if first is None:
             when = "in every frame" if whole else f"before frame {known}"
-            return f"{self.name}: as the ideal machine has it, {when}{rest}" if known else f"{self.name}{rest[1:]}"
+            return f"{self.name}: as the ideal machine has it, {when}{rest}" if known else f"{self.name}:{rest[1:]}"
         words = sorted({word for word in self.of_units[first] if word not in (None, self.due[first])})
         frames = f"{sum(map(self.differs, range(known)))} of {known} frames"
         return f"{self.name}: first differs in frame {first}: {', '.join(map(str, words))}, and not {self.due[first]}; in {frames}{rest}"
