@@ -54,6 +54,8 @@ hearing_rows = record {
   no_stray = none;
   round = calm_round count count_flies 0 (omega arith);
   not_round = λ r. let e : 17 ≡ 16 = ((r.conduct 2 (fly 2 refl)).busy refl).conduct.tasks.votes 0 (omega arith) in omega (arith, e);
+  votes = refl;
+  holds = refl;
   not_silent = λ r. none-some 0 (sym ((r.turned 3 refl refl).said Report 0));
 }
   where
@@ -125,6 +127,8 @@ headline_rows = record {
   inputs = λ h. let e = ap (λ ws. slice_index ws 0) (h.same 2 (work gauge 2 refl)) in omega (arith, e);
   reports = λ h. let e : 4 ≡ 0 = h.own 1 0 (work count 1 refl) (work count 0 refl) ∙ no_report in omega (arith, e);
   outputs = λ h. let e = ap (λ ws. slice_index ws 0) (h 2 (work count 2 refl)) in omega (arith, e);
+  held = λ u w. refl;
+  not_held = λ h. let e = ap (λ ws. slice_index ws 0) (h 2 (record { unit = refl; works = refl })) in omega (arith, e);
   accusation = λ h. let e = sym caught_one ∙ h 2 1 (work count 2 refl) (work count 1 refl) in cc;
   removal = λ h. let e = ap length (h.found 2 (work count 2 refl)) in omega (arith, e);
   clock = λ h. let e = h.together 2 0 refl refl refl refl in omega (arith, ints, e);

@@ -12,6 +12,7 @@ use Rattle.sift_exec.specs.Conviction.{next_by}
 use Rattle.sift_clock.specs.Correction.{next_offset}
 use Rattle.sift_mission.specs.Mission.{FlownMission}
 use Rattle.sift_conduct.specs.Account.{Account}
+use Rattle.sift_conduct.specs.Conduct.{voted}
 use Rattle.sift_flight.specs.Calm.{Calm, four_units, mission_of, program_of}
 use Rattle.sift_flight.specs.CalmFlight.{account_of, core_of}
 use Rattle.sift_flight.specs.Calms.{count, gauge}
@@ -33,6 +34,10 @@ calm_flight c = flight_of (mission_of c) (core_of c) (λ u f. account_of c)
 abbrev pub with_account : Flight → ℕ → Account → Flight
 with_account fl u a = record fl { account = λ v f. if nat_eq v u then a else fl.account v f }
 
+-- the same flight, in which each unit has these outputs
+abbrev pub with_outputs : Flight → List ℕ → Flight
+with_outputs fl outs = record fl { account = λ u f. record (fl.account u f) { outs = outs } }
+
 -- the same flight, in which one unit hears another word of one unit in some slots
 abbrev pub with_heard : Flight → ℕ → (Slot → ℕ → Bool) → ℕ → Flight
 with_heard fl q at w = record fl { heard = λ v f k p. if nat_eq v q && at k p then Some w else fl.heard v f k p }
@@ -52,6 +57,14 @@ first_report k p = nat_eq 0 1
 abbrev pub with_failing : FlownMission → ℕ → ℕ → FlownMission
 with_failing m u below = record m { works = λ v f. not (nat_eq v u && nat_lt f below) }
 
+-- the same mission, whose configurations shed these tasks
+abbrev pub with_shed : FlownMission → List ℕ → FlownMission
+with_shed m tasks = record m { shed = λ us. tasks }
+
+-- the mission `count`, whose configurations shed its one task
+abbrev pub shedding : FlownMission
+shedding = with_shed (mission_of count) (0 ∷ [])
+
 -- five units
 abbrev pub five_units : List ℕ
 five_units = 0 ∷ 1 ∷ 2 ∷ 3 ∷ 4 ∷ []
@@ -69,6 +82,9 @@ pub record HearingRows : Type 0 where
   pub round : RoundAt (mission_of count) no_strays (calm_flight count) 0
   -- unit 2 votes 17
   pub not_round : ¬ RoundAt (mission_of count) no_strays (with_account (calm_flight count) 2 (record (account_of count) { outs = 17 ∷ [] })) 0
+  -- unit 2 votes 16, and where the task is shed it holds 5, the word of before the frame
+  pub votes : voted (mission_of count) four_units 2 (account_of count) ((calm_flight count).heard 2 0) (5 ∷ []) 0 ≡ 16
+  pub holds : voted shedding four_units 2 (account_of count) ((calm_flight count).heard 2 0) (5 ∷ []) 0 ≡ 5
   -- unit 3 has turned, and yet says its words
   pub not_silent : ¬ RoundAt (record (mission_of count) { storm = λ u. if nat_eq u 3 then Some 0 else None }) no_strays (calm_flight count) 0
 
@@ -109,6 +125,9 @@ pub record HeadlineRows : Type 0 where
   -- unit 1 hears of all that unit 0 reports unit 2
   pub reports : ¬ SameReports (mission_of count) (with_heard (calm_flight count) 1 first_report 4) 0
   pub outputs : ¬ IdealOutputs (mission_of count) (program_of count) (other_count (record (account_of count) { outs = 17 ∷ [] })) 0
+  -- where the task is shed, the ideal word is 5, that of before the frame, and not 16
+  pub held : IdealOutputs shedding (program_of count) (with_outputs (calm_flight count) (5 ∷ [])) 0
+  pub not_held : ¬ IdealOutputs shedding (program_of count) (calm_flight count) 0
   -- unit 2 catches unit 1
   pub accusation : ¬ NoFalseAccusation (mission_of count) (other_count (record (account_of count) { bad = record nobody { poll = set.insert set.empty 1 } })) 0
   pub removal : ¬ ExactRemoval (mission_of count) (other_count (record (account_of count) { next_cfg = 0 ∷ 1 ∷ 2 ∷ [] })) 0
