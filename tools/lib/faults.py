@@ -63,7 +63,7 @@ class Schedule:
         self.outputs = [(task, word) for task, (_, words) in enumerate(outline["tasks"]) for word in range(words)]
         self.names = [f"{outline['tasks'][task][0]}.{word}" for task, word in self.outputs]
         # Of each size the tasks whose words, where its table sheds some, may differ from the ideal machine's from then on.
-        self.held_tasks = {int(size): set(tasks) for size, tasks in outline["held"].items()}
+        self.held_tasks = {int(size): set(tasks) for size, tasks in outline.get("held", {}).items()}
         self.ideal = ideal
         self.memory = {}  # who says a slot under a configuration
 

@@ -134,10 +134,6 @@ class Mission:
         value = self.tables[size - 4].get("shed") if self.tables else None
         return {task.data for task in value.data} if value else set()
 
-    def sheds(self):
-        """Whether some table sheds a task."""
-        return any(self.shed(size) for size in range(4, self.units + 1))
-
     def held(self, size):
         """The tasks whose words may differ from the ideal machine's from a frame on that flies by the table for a size: those
         that it sheds, and those that read them, directly or by others."""
