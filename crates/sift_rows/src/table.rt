@@ -265,7 +265,14 @@ fn tables_that_shed_tasks(rt: HostRuntime) -> Result<(), Fail> {
 fn a_task_that_is_shed_has_no_subframes(rt: HostRuntime) -> Result<(), Fail> {
     let alloc = rt.alloc();
     let shapes = two_tasks(alloc)?;
-    let table = table_that_sheds(alloc, 4, 14, ("40", "60", "0123 "), "1")?;
+    let table = Table {
+        size: 4,
+        period: 14,
+        run: vec![in alloc; 4, 0]?,
+        poll: vec![in alloc; 6, 0]?,
+        at: vec![in alloc; vec![in alloc; 0, 1, 2, 3]?, Vec::new(alloc)]?,
+        shed: vec![in alloc; 1]?,
+    };
     let good = check(table, &shapes).ok().ok_or("a good table")?;
     assert_eq!(rt; good.shed(), [1].as_slice());
     assert_eq!(rt; [good.run_of(1), good.poll_of(1)], [0, 0]);
