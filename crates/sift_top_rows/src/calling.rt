@@ -28,7 +28,7 @@ pub fn call<R: Rogue + Send, P: Probe + Sync, H: Threads + Wait + Sync>(
     rt: &H,
     alloc: Global,
     words: &[&str],
-    input: &str,
+    input: &[u8],
     failing: Failing,
     rogues: Vec<R>,
     probe: &P,
@@ -39,7 +39,7 @@ pub fn call<R: Rogue + Send, P: Probe + Sync, H: Threads + Wait + Sync>(
     for word in words {
         command.push(String::from_str(alloc, word)?)?;
     }
-    let input = input.as_bytes().to_vec(alloc)?;
+    let input = input.to_vec(alloc)?;
     let mut source = BytesIn::new(input, 16, vec![in alloc; failing.read]?);
     let mut sink = BytesOut::new(alloc, 16, vec![in alloc; failing.write]?);
     let status = sift(rt, alloc, &command, &mut source, &mut sink, rogues, probe);

@@ -21,7 +21,15 @@ fn call_with_failing<H: Threads + Wait + Sync>(
     let rogues = vec![in alloc;
         Silent, Silent, Silent, Silent, Silent, Silent, Silent, Silent,
     ]?;
-    call(rt, alloc, &[word], input, failing, rogues, &NoProbe)
+    call(
+        rt,
+        alloc,
+        &[word],
+        input.as_bytes(),
+        failing,
+        rogues,
+        &NoProbe,
+    )
 }
 
 #[test]

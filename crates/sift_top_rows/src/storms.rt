@@ -84,7 +84,7 @@ fn only_the_rogue_of_a_stray_unit_is_called(rt: HostRuntime) -> Result<(), Fail>
             &rt,
             rt.alloc(),
             &words,
-            STRAY,
+            STRAY.as_bytes(),
             Failing::NONE,
             rogues,
             &NoProbe,

@@ -60,7 +60,15 @@ fn two_workers_fly_at_once(rt: HostRuntime) -> Result<(), Fail> {
         Silent, Silent, Silent, Silent, Silent, Silent, Silent, Silent,
     ]?;
     let words = ["run", "--workers", "2"];
-    let (status, sink) = call(&rt, alloc, &words, COUNT, Failing::NONE, rogues, &meeting)?;
+    let (status, sink) = call(
+        &rt,
+        alloc,
+        &words,
+        COUNT.as_bytes(),
+        Failing::NONE,
+        rogues,
+        &meeting,
+    )?;
     assert_eq!(rt; status, 0);
     assert_eq!(rt; sink.bytes.as_slice(), COUNT_REPORT.as_bytes());
     assert!(rt; meeting.first.load(SeqCst), "unit 0 came there");
@@ -77,7 +85,15 @@ fn all_workers_write_one_text(rt: HostRuntime) -> Result<(), Fail> {
             Silent, Silent, Silent, Silent, Silent, Silent, Silent, Silent,
         ]?;
         let words = ["run", "--workers", workers];
-        let (status, sink) = call(&rt, alloc, &words, COUNT, Failing::NONE, rogues, &NoProbe)?;
+        let (status, sink) = call(
+            &rt,
+            alloc,
+            &words,
+            COUNT.as_bytes(),
+            Failing::NONE,
+            rogues,
+            &NoProbe,
+        )?;
         assert_eq!(rt; status, 0, "status by {workers} workers");
         assert_eq!(rt;
             sink.bytes.as_slice(),
