@@ -1,5 +1,5 @@
 -- Hands that are dealt, one item more and one item less, and what holds of the items of all hands.
-use Rattle.std.proofs.Common.{◌≡◌, ◌≢◌, ℕ, suc, ◌+◌, ◌%◌, ◌<◌, ◌==◌, if◌then◌else◌, List, [], ◌∷◌, ◌++◌, Vec, length, slice_index_or, slice_set, All, length-set, refl, sym, ap, ◌∙◌, subst, arith, eq-eqb, ne_eqb}
+use Rattle.std.proofs.Common.{◌≡◌, ◌≢◌, ℕ, zero, suc, ◌+◌, ◌%◌, ◌<◌, ◌==◌, if◌then◌else◌, List, [], ◌∷◌, ◌++◌, Vec, length, slice_index_or, slice_set, All, length-set, refl, sym, ap, ◌∙◌, subst, arith, eq-eqb, ne_eqb}
 use Rattle.std.specs.List.{AllZip}
 use Rattle.std.specs.declared.alloc.Global.{Global}
 use Rattle.std.proofs.lemmas.List.{get_or-set_same, get_or-set_other, same_from_push, length_push}
@@ -172,3 +172,22 @@ home_zip R Q xs ys e all = zip_of (λ x y. R x y × Q y) xs ys (record {
   long = e.long;
   at = λ i d low. (e.at i d low, all i d (let l = e.long in omega arith));
 })
+
+-- what holds of each item afterwards, holds of all of them
+pub zip_all : {X : Type 0} (R : X → X → Type 0) (Q : X → Type 0) (xs ys : List X) → AllZip (λ x y. R x y × Q y) xs ys
+    → (i : ℕ) (d : X) → i < length ys → Q (slice_index_or ys i d)
+zip_all R Q [] [] z i d below = absurd (omega arith)
+zip_all R Q [] (y ∷ ys) z i d below = absurd z
+zip_all R Q (x ∷ xs) [] z i d below = absurd z
+zip_all R Q (x ∷ xs) (y ∷ ys) z zero d below = z.0.1
+zip_all R Q (x ∷ xs) (y ∷ ys) z (suc i) d below = zip_all R Q xs ys z.1 i d (omega arith)
+
+-- what comes of what came of the items comes of them
+pub zip_on : {X : Type 0} (R : X → X → Type 0) (P Q : X → Type 0) (on : (x y z : X) → R x y → R y z → R x z) (xs ys zs : List X)
+    → AllZip (λ x y. R x y × P y) xs ys → AllZip (λ y z. R y z × Q z) ys zs → AllZip (λ x z. R x z × Q z) xs zs
+zip_on R P Q on [] [] [] a b = tt
+zip_on R P Q on [] [] (z ∷ zs) a b = absurd b
+zip_on R P Q on [] (y ∷ ys) zs a b = absurd a
+zip_on R P Q on (x ∷ xs) [] zs a b = absurd a
+zip_on R P Q on (x ∷ xs) (y ∷ ys) [] a b = absurd b
+zip_on R P Q on (x ∷ xs) (y ∷ ys) (z ∷ zs) a b = ((on x y z a.0.0 b.0.0, b.0.1), zip_on R P Q on xs ys zs a.1 b.1)

@@ -1,5 +1,5 @@
 //! One thread, with all pilots that it drives.
-ghost use Rattle.std.specs.Prelude.{◌≡◌, All};
+ghost use Rattle.std.specs.Prelude.{◌≡◌, All, List};
 ghost use Rattle.std.specs.List.{AllZip};
 ghost use Rattle.sift_threads.specs.Going.{IsHome, AtEachPlace};
 
@@ -7,12 +7,17 @@ use crate::bell::Bell;
 use crate::pilot::{Pilot, Went};
 use crossbeam_utils::Backoff;
 use std::sync::Wait;
+use std::sync::atomic::{AtomicBool, Ordering};
 
 /// How many steps a pilot makes at most before the next pilot of its hand has its turn.
 const STEPS: u32 = 256;
 
 /// How often a thread looks again at pilots that all wait, before it sleeps.
 const LOOKS: u32 = 10;
+
+/// How often a thread sleeps in a row before it gives up: then nobody has moved for a second or more, as where another
+/// thread couldn't be started.
+const SLEEPS: u32 = 1000;
 
 /// Steps a pilot until it waits, is home, or has made so many steps.
 fn go_far<P: Pilot, B: Bell>(pilot: &mut P, bell: &B) -> Went
@@ -47,15 +52,30 @@ fn turn_each<P: Pilot, B: Bell>(hand: &mut [P], bell: &B) -> Went
     all
 }
 
-/// How a thread waits: how often it has looked since one of its pilots moved, and for how long it spins before it
-/// looks again.
+/// How a thread waits: how often it has looked and slept since one of its pilots moved, and for how long it spins
+/// before it looks again.
 #[derive(Drop)]
 struct Patience {
     looks: u32,
+    sleeps: u32,
     wait: Backoff,
 }
 
 impl Patience {
+    /// It hasn't waited yet.
+    fn new() -> Patience {
+        Patience {
+            looks: 0,
+            sleeps: 0,
+            wait: Backoff::new(),
+        }
+    }
+
+    /// Whether it has slept in vain for long.
+    fn is_out(&self) -> bool {
+        self.sleeps >= SLEEPS
+    }
+
     /// Starts anew where a pilot moved. Where all wait, it spins for a moment; and once it has looked often enough, it
     /// sleeps until the unit for which it waits has got further. It never yields: beside other work a yield gives the
     /// processor away for milliseconds, and there is one for each subframe.
@@ -63,6 +83,7 @@ impl Patience {
         match went {
             Went::Moved | Went::Home => {
                 self.looks = 0;
+                self.sleeps = 0;
                 self.wait.reset();
             }
             Went::Waits { unit, seen } => {
@@ -70,6 +91,7 @@ impl Patience {
                     self.looks += 1;
                     self.wait.spin();
                 } else {
+                    self.sleeps = self.sleeps.saturating_add(1);
                     bell.sleep_while(rt, unit, seen);
                 }
             }
@@ -77,31 +99,71 @@ impl Patience {
     }
 }
 
-/// Steps all pilots of a hand in turn until each is home.
-fn drive_home<P: Pilot, B: Bell, H: Wait>(rt: &H, hand: &mut Vec<P>, bell: &B)
+/// Steps all pilots of a hand in turn until each is home, or the threads are to stop. A thread that has waited for long
+/// has them all stop.
+fn drive_on<P: Pilot, B: Bell, H: Wait>(
+    rt: &H,
+    hand: &mut Vec<P>,
+    bell: &B,
+    stop: &AtomicBool,
+) -> Went
     requires { All P.drives hand.old.items }
+    ensures drives { All P.drives hand.new.items }
     ensures comes { AtEachPlace P.comes hand.old.items hand.new.items }
-    ensures home { All P.is_home hand.new.items }
+    ensures home { IsHome result → All P.is_home hand.new.items }
 {
-    let mut patience = Patience {
-        looks: 0,
-        wait: Backoff::new(),
-    };
+    let mut patience = Patience::new();
+    let mut went = turn_each(hand.as_mut_slice(), bell);
     for _ in rt.forever() {
-        let went = turn_each(hand.as_mut_slice(), bell);
-        if went == Went::Home {
+        if went == Went::Home || stop.load(Ordering::SeqCst) {
             break;
         }
         patience.pause(rt, bell, went);
+        if patience.is_out() {
+            stop.store(true, Ordering::SeqCst);
+        }
+        went = turn_each(hand.as_mut_slice(), bell);
+    }
+    went
+}
+
+/// One thread's flight: all pilots of a hand are driven home, or as far as they come until the threads are to stop. It
+/// may wait for those of other hands.
+pub(crate) fn drive<P: Pilot, B: Bell, H: Wait>(
+    rt: &H,
+    hand: Vec<P>,
+    bell: &B,
+    stop: &AtomicBool,
+) -> Vec<P>
+    requires { All P.drives hand.items }
+    ensures { AllZip (λ x y. P.comes x y × P.drives y) hand.items result.items }
+{
+    let mut hand = hand;
+    drive_on(rt, &mut hand, bell, stop);
+    hand
+}
+
+/// Steps all pilots in turn until each is home.
+fn come_home<P: Pilot, B: Bell, H: Wait>(rt: &H, pilots: &mut Vec<P>, bell: &B)
+    requires { All P.drives pilots.old.items }
+    ensures comes { AtEachPlace P.comes pilots.old.items pilots.new.items }
+    ensures home { All P.is_home pilots.new.items }
+{
+    let alone = AtomicBool::new(false);
+    for _ in rt.forever() {
+        if drive_on(rt, pilots, bell, &alone) == Went::Home {
+            break;
+        }
     }
 }
 
-/// One thread's flight: all pilots of a hand are driven home. It may wait for those of other hands.
-pub(crate) fn drive<P: Pilot, B: Bell, H: Wait>(rt: &H, hand: Vec<P>, bell: &B) -> Vec<P>
-    requires { All P.drives hand.items }
-    ensures { AllZip (λ x y. P.comes x y × P.is_home y) hand.items result.items }
+/// Drives all pilots home on this thread, wherever they come from. Where they are home already, each says so.
+pub(crate) fn drive_home<P: Pilot, B: Bell, H: Wait>(rt: &H, pilots: Vec<P>, bell: &B) -> Vec<P>
+    requires { All P.drives pilots.items }
+    ensures { (starts : List P) → AllZip (λ x y. P.comes x y × P.drives y) starts pilots.items
+        → AllZip (λ x y. P.comes x y × P.is_home y) starts result.items }
 {
-    let mut hand = hand;
-    drive_home(rt, &mut hand, bell);
-    hand
+    let mut pilots = pilots;
+    come_home(rt, &mut pilots, bell);
+    pilots
 }

@@ -26,8 +26,7 @@ use std::thread::Threads;
 /// Worker i drives the boards of the units u with `u mod workers = i`. The rogues are those of the
 /// units 0 to 7.
 ///
-/// It may wait, and may not return where workers can't be started. Want of memory gives up tokens and
-/// rogues.
+/// It may wait, and it isn't claimed that it returns. Want of memory gives up tokens and rogues.
 pub fn fly_seats<R: Rogue + Send, B: Probe + Sync, H: Threads + Wait + Sync>(
     rt: &H,
     alloc: Global,
@@ -61,8 +60,7 @@ pub fn fly_seats<R: Rogue + Send, B: Probe + Sync, H: Threads + Wait + Sync>(
 /// Whatever the number of workers, the order of their steps and the bodies of rogues and probe, the
 /// flight is round over strays that these rogues gave.
 ///
-/// It may wait, and may not return where workers can't be started. Want of memory gives up the
-/// rogues.
+/// It may wait, and it isn't claimed that it returns. Want of memory gives up the rogues.
 pub fn fly_threads<R: Rogue + Send, B: Probe + Sync, H: Threads + Wait + Sync>(
     rt: &H,
     alloc: Global,

@@ -5,11 +5,12 @@ ghost use Rattle.sift_threads.specs.Hands.{InHands};
 
 use crate::bell::Bell;
 use crate::dealing::{collect, deal};
-use crate::driving::drive;
+use crate::driving::{drive, drive_home};
 use crate::pilot::Pilot;
 use sift_base::NoMemory;
 use std::alloc::{AllocError, Global};
 use std::sync::Wait;
+use std::sync::atomic::AtomicBool;
 use std::thread::{self, Threads};
 
 /// How many threads run so many workers: as many as there are processors, but two at least, or as many as there are
@@ -30,7 +31,8 @@ fn count_threads<H: Threads>(rt: &H, workers: u8) -> u8
     }
 }
 
-/// Each hand's flight, in a thread of its own where one can be had.
+/// Each hand's flight, in a thread of its own where one can be had. Where one can't, its hand has this thread, before
+/// those behind it begin; so the threads that wait for these have all of them stop.
 fn drive_all<P: Pilot + Send, B: Bell + Sync, H: Threads + Wait + Sync>(
     rt: &H,
     hands: Vec<Vec<P>>,
@@ -38,21 +40,43 @@ fn drive_all<P: Pilot + Send, B: Bell + Sync, H: Threads + Wait + Sync>(
 ) -> Result<Vec<Vec<P>>, AllocError>
     requires { All (λ hand. All P.drives hand.items) hands.items }
     ensures count { IfOk result (λ back. vec_len back ≡ vec_len hands) }
-    ensures each { IfOk result (λ back. InHands (λ x y. P.comes x y × P.is_home y) hands.items back.items) }
+    ensures each { IfOk result (λ back. InHands (λ x y. P.comes x y × P.drives y) hands.items back.items) }
 {
+    let stop = AtomicBool::new(false);
     thread::map_vec(
         rt,
         hands,
         &|hand: Vec<P>| -> Vec<P>
             requires { All P.drives hand.items }
-            ensures { AllZip (λ x y. P.comes x y × P.is_home y) hand.items result.items }
-        { drive(rt, hand, bell) },
+            ensures { AllZip (λ x y. P.comes x y × P.drives y) hand.items result.items }
+        { drive(rt, hand, bell, &stop) },
     )
 }
 
-/// Flies all pilots home: that at place u is driven by worker `u mod workers`, and worker i by thread `i mod threads`
-/// of as many threads as serve so many workers here. They come back in their order. Want of memory gives them up; it
-/// comes before any has flown, or after all have.
+/// Flies all pilots in threads: that at place u is driven by worker `u mod workers`, and worker i by thread `i mod
+/// threads` of as many threads as serve so many workers here. They come back in their order. Want of memory gives them
+/// up; it comes before any has flown, or after all have.
+fn fly_far<P: Pilot + Send, B: Bell + Sync, H: Threads + Wait + Sync>(
+    rt: &H,
+    alloc: Global,
+    pilots: Vec<P>,
+    workers: u8,
+    bell: &B,
+) -> Result<Vec<P>, NoMemory>
+    requires some { 0 < workers }
+    requires drives { All P.drives pilots.items }
+    ensures { IfOk result (λ flown. AllZip (λ x y. P.comes x y × P.drives y) pilots.items flown.items) }
+{
+    let count = pilots.len();
+    let flown = Vec::with_capacity(alloc, count)?;
+    let threads = count_threads(rt, workers);
+    let hands = deal(alloc, pilots, workers, threads)?;
+    let back = drive_all(rt, hands, bell)?;
+    Ok(collect(back, flown, count, workers, threads))
+}
+
+/// Flies all pilots home, by so many workers. Those that the threads leave under way, since one of them couldn't be
+/// started, this thread drives by itself. They come back in their order.
 pub fn fly_all<P: Pilot + Send, B: Bell + Sync, H: Threads + Wait + Sync>(
     rt: &H,
     alloc: Global,
@@ -64,10 +88,6 @@ pub fn fly_all<P: Pilot + Send, B: Bell + Sync, H: Threads + Wait + Sync>(
     requires drives { All P.drives pilots.items }
     ensures { IfOk result (λ home. AllZip (λ x y. P.comes x y × P.is_home y) pilots.items home.items) }
 {
-    let count = pilots.len();
-    let home = Vec::with_capacity(alloc, count)?;
-    let threads = count_threads(rt, workers);
-    let hands = deal(alloc, pilots, workers, threads)?;
-    let back = drive_all(rt, hands, bell)?;
-    Ok(collect(back, home, count, workers, threads))
+    let flown = fly_far(rt, alloc, pilots, workers, bell)?;
+    Ok(drive_home(rt, flown, bell))
 }
