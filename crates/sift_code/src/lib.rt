@@ -18,6 +18,6 @@ mod work;
 pub use bad::Bad;
 pub use checked::{Checked, verify};
 pub use instr::Instr;
-pub use law::checked_code_ends;
+pub use law::{checked_code_ends, runs_have_room_in_352_words};
 pub use machine::run;
 pub use work::WORK_WORDS;
