@@ -1,7 +1,7 @@
 """The faults that a schedule is tried with: each unit, each slot that it says, each way of lying, each moment."""
 import re
 from collections import namedtuple
-from itertools import combinations
+from itertools import combinations, repeat
 
 from slots import FEWEST, configurations_of, sayers
 
@@ -77,8 +77,9 @@ class Schedule:
 
     def compared(self, flight):
         """Of each frame of a flight the places of the output words that are compared with the ideal machine's."""
-        for held in flight.held(self.held_tasks):
-            yield tuple(place for place, (task, _) in enumerate(self.outputs) if task not in held)
+        if not self.sheds():
+            return repeat(tuple(range(len(self.outputs))))
+        return (tuple(place for place, (task, _) in enumerate(self.outputs) if task not in held) for held in flight.held(self.held_tasks))
 
     def slots(self):
         """All slots, in the order in which a unit says them."""

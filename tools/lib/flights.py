@@ -3,6 +3,7 @@
 
 usage: flights.py BATCH      beside this file lie the campaign's mission, its options and the program
 """
+import gc
 import os
 import sys
 
@@ -25,6 +26,7 @@ def row(campaign, flyer, number):
 
 
 def main(batch):
+    gc.disable()  # nothing that is read of a report refers to itself, and what is kept of reports is bounded
     campaign = Campaign(os.path.dirname(os.path.realpath(__file__)))
     flyer = Flyer(campaign.program)
     rows = []

@@ -16,9 +16,9 @@ Outcome = namedtuple("Outcome", "traces margin wrong first words last")
 def trace_of(fault, flight, told, schedule):
     """What a report shows of a fault, where the configurations are told as these."""
     unit, frames = fault.unit, flight.frames
-    inside = {told[frame] for frame in range(fault.begin, len(frames))}
+    inside = set(told[fault.begin : len(frames)])
     said = any(schedule.says(unit, fault.slot, frozenset(units)) for units in inside)
-    caught = next((frame for frame in range(fault.begin, len(frames)) if any(unit in units for units in frames[frame].catches)), None)
+    caught = next((frame for frame in range(fault.begin, len(frames)) if unit in frames[frame].caught), None)
     by = tuple(frames[caught].caught_by(unit)) if caught is not None else ()
     out = next((frame for frame, units in enumerate(told) if unit not in units), None)
     return Trace(said, caught, by, out)
@@ -27,8 +27,8 @@ def trace_of(fault, flight, told, schedule):
 @lru_cache(maxsize=16384)
 def wrong_in(frame, ideal, compared):
     """The places, of those that are compared, of the output words that some unit votes other than the ideal machine has them."""
-    outputs = {words for words in frame.outputs if words is not None and words != ideal}
-    return tuple(place for place in compared if any(words[place] != ideal[place] for words in outputs))
+    others = set(frame.outputs) - {None, ideal}
+    return tuple(place for place in compared if any(words[place] != ideal[place] for words in others)) if others else ()
 
 
 def outcome_of(faults, flight, last, schedule):

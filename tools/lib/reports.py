@@ -1,6 +1,5 @@
 """Reads a report of `sift run`, of either version, and tells what its lines say. No flight is computed."""
 import re
-from copy import copy
 from functools import lru_cache
 
 NUMBER = "(0|[1-9][0-9]*)"
@@ -27,20 +26,17 @@ class NoReport(Exception):
 class Frame:
     """What the lines of one frame say. It is the same object for the same lines, and isn't changed."""
 
-    def __init__(self):
-        self.states = []  # of each unit: "works", "faulty" or "idle"
-        self.configurations = []  # of each unit: the units of its cfg, or None
-        self.clocks = []  # of each unit: its clk, or None
-        self.inputs = []  # of each unit: the words of its in, or None
-        self.outputs = []  # of each unit: the words of its out, or None
-        self.catches = []  # of each unit: the units of its bad, with the letters of the kinds; none in version 1
-        self.skew = None
-        self.slack = None
-        self.margin = True
-
-    def configuration(self):
-        """The configuration of the lowest unit that tells one, or None."""
-        return next((told for told in self.configurations if told is not None), None)
+    def __init__(self, units, figures):
+        told = [list(values) for values in zip(*units)] or [[]] * 6
+        # Of each unit: "works", "faulty" or "idle"; and else None, the units of its cfg, its clk, and the words of its in and out.
+        self.states, self.configurations, self.clocks, self.inputs, self.outputs = told[:5]
+        self.catches = told[5]  # of each unit: the units of its bad, with the letters of the kinds; none in version 1
+        self.skew, self.slack, self.margin = figures
+        # The configuration of the lowest unit that tells one, or None; the units that some unit caught; and the versions in which
+        # they are told, by unit.
+        self.configuration = next(filter(None, self.configurations), None)
+        self.caught = frozenset().union(*self.catches)
+        self.versions = {unit: 2 if any(caught.values()) else 1 for unit, caught in enumerate(self.catches) if caught}
 
     def split(self):
         """Whether two units tell different configurations."""
@@ -50,9 +46,11 @@ class Frame:
         """The units that caught this one in the frame."""
         return [by for by, caught in enumerate(self.catches) if unit in caught]
 
-    def versions(self):
-        """The versions in which caught units are told, by unit."""
-        return {unit: 2 if any(caught.values()) else 1 for unit, caught in enumerate(self.catches) if caught}
+    def without_kinds(self):
+        """What version 1 tells of the frame."""
+        units = zip(self.states, self.configurations, self.clocks, self.inputs, self.outputs, self.catches)
+        plain = [(*told, dict.fromkeys(caught, "")) for *told, caught in units]
+        return Frame(plain, (self.skew, self.slack, self.margin))
 
 
 class Flight:
@@ -65,15 +63,11 @@ class Flight:
 
     def version(self):
         """The version of the report, or None where nobody was caught, so that it is one of both."""
-        return next((version for frame in self.frames for version in frame.versions().values()), None)
+        return next((version for frame in self.frames for version in frame.versions.values()), None)
 
     def without_kinds(self):
         """What version 1 tells of the flight."""
-        frames = []
-        for frame in self.frames:
-            frames.append(copy(frame))
-            frames[-1].catches = [dict.fromkeys(caught, "") for caught in frame.catches]
-        return Flight(frames, self.last)
+        return Flight([frame.without_kinds() for frame in self.frames], self.last)
 
     def held(self, tables):
         """Of each frame the tasks whose words may differ from the ideal machine's since a table sheds tasks, in it or in one
@@ -87,7 +81,7 @@ class Flight:
         """The configuration of each frame and after the last; where no unit tells one, the next that is told."""
         told = [self.last]
         for frame in reversed(self.frames):
-            told.append(frame.configuration() or told[-1])
+            told.append(frame.configuration or told[-1])
         return told[::-1]
 
 
@@ -127,27 +121,12 @@ def unit_of(line):
     return (int(apart[1]), int(apart[2]), apart[3], None, None, None, None, {}) if apart else None
 
 
-def read_unit(line, number, frame):
-    """Takes the line of the next unit into the frame, or tells that it is none."""
-    told = unit_of(line)
-    if not told:
-        return False
-    if told[:2] != (number, len(frame.states)):
-        raise NoReport(f"frame {number} and unit {len(frame.states)} are due")
-    lists = frame.states, frame.configurations, frame.clocks, frame.inputs, frame.outputs, frame.catches
-    for values, value in zip(lists, told[2:]):
-        values.append(value)
-    return True
-
-
-def read_frame_line(line, number, frame):
-    """Takes the line of the frame as a whole."""
+def figures_of(line, number):
+    """The skew and the slack, or None, and whether the margin holds, as the line of the frame as a whole tells them."""
     found = FRAME.fullmatch(line)
     if not found or int(found[1]) != number:
         raise NoReport(f"a line of frame {number} is due")
-    frame.skew = int(found[2]) if found[2] else None
-    frame.slack = int(found[3]) if found[3] else None
-    frame.margin = found[5] == "ok"
+    return int(found[2]) if found[2] else None, int(found[3]) if found[3] else None, found[5] == "ok"
 
 
 def check_units(frame, count):
@@ -155,22 +134,25 @@ def check_units(frame, count):
     units = len(frame.states)
     if not 4 <= units <= 8 or count not in (units, None):
         raise NoReport("a frame has another number of units")
-    named_units = [unit for told in frame.configurations + frame.catches if told for unit in told]
-    if any(unit >= units for unit in named_units):
+    named_units = frame.caught.union(*filter(None, frame.configurations))
+    if max(named_units, default=0) >= units:
         raise NoReport("the frame names a unit that isn't there")
 
 
 @lru_cache(maxsize=16384)
 def frame_of(lines, number, count):
     """The frame that lines tell: of each unit one, and the line of the frame; None where that one is missing."""
-    frame = Frame()
+    units = []
     for place, line in enumerate(lines):
         try:
-            if read_unit(line, number, frame):
-                continue
-            read_frame_line(line, number, frame)
-            check_units(frame, count)
-            return frame
+            told = unit_of(line)
+            if told is None:
+                frame = Frame(units, figures_of(line, number))
+                check_units(frame, count)
+                return frame
+            if told[:2] != (number, place):
+                raise NoReport(f"frame {number} and unit {place} are due")
+            units.append(told[2:])
         except NoReport as fault:
             raise NoReport(str(fault), place) from None
     return None
@@ -206,17 +188,19 @@ def read_report(text):
             flight = read_end(lines, place, frames)
             if flight:
                 return flight
-            end = next((last for last in range(place, len(lines)) if " margin=" in lines[last]), len(lines)) + 1
-            frame = frame_of(tuple(lines[place:end]), len(frames), count)
+            end = place + (count or 0)  # where the line of the frame stands, if it has as many units as those before
+            if end >= len(lines) or not lines[end].startswith(f"f={len(frames)} s"):
+                end = next((last for last in range(place, len(lines)) if " margin=" in lines[last]), len(lines))
+            frame = frame_of(tuple(lines[place : end + 1]), len(frames), count)
             if not frame:
                 break
-            for unit, told in frame.versions().items():
+            for unit, told in frame.versions.items():
                 version = version or told
                 if told != version:
                     raise NoReport(f"a report of version {version} tells other units that were caught", unit)
             frames.append(frame)
             count = len(frame.states)
-            place = end
+            place = end + 1
     except NoReport as fault:
         raise NoReport(f"line {place + fault.line + 1}: {fault}") from None
     raise NoReport(f"line {len(lines) + 1}: the line of the mission's end is missing")
