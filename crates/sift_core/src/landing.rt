@@ -10,6 +10,7 @@ ghost use Rattle.sift_flight.specs.Told.{told, IsLogged};
 ghost use Rattle.sift_flight.specs.Round.{IsRound};
 ghost use Rattle.sift_flight.specs.Hearing.{Strays};
 ghost use Rattle.sift_core.specs.Machines.{Flies, IsFlying, layout_of};
+ghost use Rattle.sift_core.specs.Landing.{IsFlownInOrder, IsLandedFrom};
 ghost use Rattle.sift_core.specs.Storms.{IsRoundByRogues};
 ghost use Rattle.sift_core.specs.Turns.{AreAllDown};
 
@@ -38,6 +39,7 @@ pub fn fly<R: Rogue>(
     requires { length rogues.old ≡ unit_limit }
     ensures round { IfOk result (λ flight. IsRoundByRogues R.allows (data_of mission.now) rogues.old flight rogues.new) }
     ensures logged { IfOk result (λ flight. IsLogged (flown_of mission.now) mission.now.layout flight) }
+    ensures ordered { IfOk result (λ flight. IsFlownInOrder R.allows (data_of mission.now) order rogues.old flight rogues.new) }
     ensures untouched { OnErr result (rogues.new ≡ rogues.old) }
 {
     let mut machine = Machine::make(alloc, mission)?;
@@ -60,6 +62,7 @@ impl Machine {
         requires room_for_accounts { vec_len self.boards ≤ vec_capacity accounts }
         ensures round { (w : Strays) → Flies (flown_of mission.now) w self → IsRound (flown_of mission.now) w (told (flown_of mission.now) result) }
         ensures logged { IsLogged (flown_of mission.now) (layout_of self) result }
+        ensures landed { IsLandedFrom self result }
     {
         boards_that_are_down_have_flown();
         boards_drive_beside_strays();

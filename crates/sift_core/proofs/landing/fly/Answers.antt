@@ -32,3 +32,15 @@ returns-clause-round g c = round_by_rogues g.R.Rogue.allows (data_of c.args.miss
 pub returns-clause-logged : goal.returns-clause-logged
 returns-clause-logged g c = subst (λ (l : Layout). IsLogged (flown_of c.args.mission.now) l c.land.result)
     (c.fly_on.ensures.layout ∙ c.in_ok-machine.ensures.layout) c.land.ensures.logged
+
+pub returns-clause-ordered : goal.returns-clause-ordered
+returns-clause-ordered g c = record {
+  first = c.in_ok-machine.machine;
+  new = c.in_ok-machine.ensures.new;
+  calls = c.of-left.result;
+  all_left = c.of-left.ensures;
+  last = c.fly_on.new.self;
+  calls_left = c.fly_on.new.left;
+  turns = c.fly_on.ensures.order;
+  landed = c.land.ensures.landed;
+}
