@@ -1,5 +1,5 @@
-//! The laws of the texts: flights that tell the same have one text of each kind, lines tell their version, and the headline
-//! is printed.
+//! The laws of the texts: flights that tell the same have one text of each kind, a text has one sheet, lines tell their
+//! version, and the headline is printed.
 
 ghost use Rattle.sift_report.specs.OneSheet.{OneLineOfAText, OneSheetOfAText};
 ghost use Rattle.sift_report.specs.OneText.{AlikeFlightsHaveOneText};
