@@ -174,14 +174,13 @@ within true false inside = refl
 within false false inside = refl
 
 -- so the units that it tells in a way are those that were caught so
-set_again : (caught : Catches) (kind : Kind) (units told : Units) → AreUnits (everyone_in caught)
+list_tells_way : (caught : Catches) (kind : Kind) (units : Units) → AreUnits (everyone_in caught)
     → ((v : ℕ) → has_kind (kinds_of caught v) kind ≡ holds units v)
     → ((v : ℕ) → holds units v ≡ true → holds (everyone_in caught) v ≡ true)
-    → AreTold (catches_in caught) kind told → told ≡ units
-set_again caught kind units told are same inside t = set.same_set nat_cmp_total set.nat_cmp-IsAntisymmetric told units (λ v.
-    t v ∙ (any_listed caught kind (members (everyone_in caught)) v
+    → AreTold (catches_in caught) kind units
+list_tells_way caught kind units are same inside v = sym (any_listed caught kind (members (everyone_in caught)) v
     ∙ (ap (λ b. b && has_kind (kinds_of caught v) kind) (in_members (everyone_in caught) are v)
-    ∙ (ap (λ b. holds (everyone_in caught) v && b) (same v) ∙ within (holds (everyone_in caught) v) (holds units v) (inside v)))))
+    ∙ (ap (λ b. holds (everyone_in caught) v && b) (same v) ∙ within (holds (everyone_in caught) v) (holds units v) (inside v))))
 
 or_left : (a b c : Bool) → a ≡ true → ((a || b) || c) ≡ true
 or_left true b c t = refl
@@ -197,13 +196,29 @@ or_right true b c t = refl
 or_right false true c t = refl
 or_right false false c t = t
 
-pub caught_again : (caught told : Catches) → AreCatches caught → IsToldBy (catches_in caught) told → told ≡ caught
-caught_again caught told are by =
-    let all = everyone_units caught are in
-    let poll = set_again caught Poll caught.poll told.poll all (λ v. refl)
-    (λ v t. holds-everyone caught v ∙ or_left (holds caught.poll v) (holds caught.relay v) (holds caught.clock v) t) by.poll in
-    let relay = set_again caught Relay caught.relay told.relay all (λ v. refl)
-    (λ v t. holds-everyone caught v ∙ or_middle (holds caught.poll v) (holds caught.relay v) (holds caught.clock v) t) by.relay in
-    let clock = set_again caught Clock caught.clock told.clock all (λ v. refl)
-    (λ v t. holds-everyone caught v ∙ or_right (holds caught.poll v) (holds caught.relay v) (holds caught.clock v) t) by.clock in
+-- the list of catches tells them
+pub list_tells : (caught : Catches) → AreCatches caught → IsToldBy (catches_in caught) caught
+list_tells caught are =
+    let all = everyone_units caught are in record {
+      poll = list_tells_way caught Poll caught.poll all (λ v. refl)
+          (λ v t. holds-everyone caught v ∙ or_left (holds caught.poll v) (holds caught.relay v) (holds caught.clock v) t);
+      relay = list_tells_way caught Relay caught.relay all (λ v. refl)
+          (λ v t. holds-everyone caught v ∙ or_middle (holds caught.poll v) (holds caught.relay v) (holds caught.clock v) t);
+      clock = list_tells_way caught Clock caught.clock all (λ v. refl)
+          (λ v t. holds-everyone caught v ∙ or_right (holds caught.poll v) (holds caught.relay v) (holds caught.clock v) t);
+    }
+
+-- a list tells one set of units in each way
+one_set : (list : List Catch) (kind : Kind) (units told : Units) → AreTold list kind units → AreTold list kind told → told ≡ units
+one_set list kind units told are by = set.same_set nat_cmp_total set.nat_cmp-IsAntisymmetric told units (λ v. by v ∙ sym (are v))
+
+-- so it tells one record of catches
+pub one_told : (list : List Catch) (caught told : Catches) → IsToldBy list caught → IsToldBy list told → told ≡ caught
+one_told list caught told are by =
+    let poll = one_set list Poll caught.poll told.poll are.poll by.poll in
+    let relay = one_set list Relay caught.relay told.relay are.relay by.relay in
+    let clock = one_set list Clock caught.clock told.clock are.clock by.clock in
     λ i. record { poll = poll i; relay = relay i; clock = clock i }
+
+pub caught_again : (caught told : Catches) → AreCatches caught → IsToldBy (catches_in caught) told → told ≡ caught
+caught_again caught told are by = one_told (catches_in caught) caught told (list_tells caught are) by

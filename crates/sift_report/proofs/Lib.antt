@@ -15,6 +15,7 @@ mod Places
 mod Versions
 mod Ascii
 mod LineFeeds
+mod OneSheet
 mod SheetVersions
 mod SheetPlaces
 mod RoundFlights

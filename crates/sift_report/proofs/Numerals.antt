@@ -64,7 +64,8 @@ negative_from_plain [] plain more = absurd plain
 negative_from_plain (c ∷ []) plain more = (refl, (omega arith, plain.1))
 negative_from_plain (c ∷ d ∷ cs) plain more = (refl, plain)
 
-magnitude : (z : ℤ) → FitsSigned w64 z → mag z < 2 ^ 63
+-- ticks are below 2 ^ 63 in size
+pub magnitude : (z : ℤ) → FitsSigned w64 z → mag z < 2 ^ 63
 magnitude (pos n) fits = omega (arith, fits)
 magnitude (negsuc n) fits = omega (arith, fits)
 

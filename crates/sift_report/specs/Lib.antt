@@ -8,6 +8,7 @@ pub mod Poll
 pub mod Sheet
 pub mod Votes
 pub mod OneText
+pub mod OneSheet
 pub mod Versions
 pub mod Texts
 pub mod Working

@@ -1,6 +1,7 @@
-//! The laws of the texts: flights that tell the same have one text of each kind, lines tell their version, and the headline
-//! is printed.
+//! The laws of the texts: flights that tell the same have one text of each kind, a text has one sheet, lines tell their
+//! version, and the headline is printed.
 
+ghost use Rattle.sift_report.specs.OneSheet.{OneLineOfAText, OneSheetOfAText};
 ghost use Rattle.sift_report.specs.OneText.{AlikeFlightsHaveOneText};
 ghost use Rattle.sift_report.specs.Texts.{LinesAreTexts, LinesComeApart};
 ghost use Rattle.sift_report.specs.Printed.{HeadlineIsPrinted, SheetsTellTheirFlights};
@@ -37,6 +38,16 @@ pub fn lines_are_texts()
 /// Line feeds cut the lines out of a report: no line has one.
 pub fn lines_come_apart()
     ensures { LinesComeApart }
+{}
+
+/// A text is that of one line of a version at most.
+pub fn one_line_of_a_text()
+    ensures { OneLineOfAText }
+{}
+
+/// A text is that of one list of lines of a version at most: whoever reads a report reads one sheet.
+pub fn one_sheet_of_a_text()
+    ensures { OneSheetOfAText }
 {}
 
 /// The lines of the report of a round flight have the headline: the form of a report, one configuration, the same words, the

@@ -26,8 +26,8 @@ pub use bad::Bad;
 pub use ideal::ideal_text;
 pub use law::{
     alike_flights_have_one_text, fault_is_within_the_headline, lines_are_texts, lines_come_apart,
-    lines_tell_their_version, sheets_have_their_version, sheets_tell_their_flights,
-    the_headline_is_printed,
+    lines_tell_their_version, one_line_of_a_text, one_sheet_of_a_text, sheets_have_their_version,
+    sheets_tell_their_flights, the_headline_is_printed,
 };
 pub use line::ReportLine;
 pub use print::push_line;
