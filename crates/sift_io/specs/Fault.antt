@@ -1,4 +1,4 @@
--- Counts of faults and of calls: numbers of 64 bits that stay at their last value.
+-- Counts of faults, of ends and of calls: numbers of 64 bits that stay at their last value.
 use Rattle.std.specs.Prelude.{◌≡◌, ℕ, ◌+◌, ◌-◌, ◌^◌, ◌<◌, ◌≤◌, ◌⊎◌, ◌↔◌, min}
 
 -- the last value of a count

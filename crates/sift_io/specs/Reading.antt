@@ -38,6 +38,12 @@ faults_after_read Failed faults = next_count faults
 faults_after_read (Taken n) faults = faults
 faults_after_read End faults = faults
 
+-- how often the end was met, after a read
+abbrev pub ends_after_read : Got → ℕ → ℕ
+ends_after_read End ends = next_count ends
+ends_after_read (Taken n) ends = ends
+ends_after_read Failed ends = ends
+
 -- some bytes were taken, exactly so many
 abbrev pub TakesExactly : Inflow → Inflow → ℕ → Type 0
 TakesExactly old new count = (bytes : List ℕ) × Consumes old.left new.left bytes × (length bytes ≡ count)
@@ -46,12 +52,21 @@ TakesExactly old new count = (bytes : List ℕ) × Consumes old.left new.left by
 abbrev pub TakesAtMost : Inflow → Inflow → ℕ → Type 0
 TakesAtMost old new count = (bytes : List ℕ) × Consumes old.left new.left bytes × (length bytes ≤ count)
 
--- all that was left was taken, these bytes, at most so many
-abbrev pub TakesAll : Inflow → Inflow → List ℕ → ℕ → Type 0
-TakesAll old new bytes limit = Consumes old.left new.left bytes × IsAtEnd new.left × (length bytes ≤ limit)
+-- no fault was counted, and no end
+abbrev pub CountsNothing : Inflow → Inflow → Type 0
+CountsNothing old new = (new.faults ≡ old.faults) × (new.ends ≡ old.ends)
 
--- a whole read that stops took the byte past the limit, or stopped before that one, at a fault or for want of memory
+-- no fault was counted, and one end
+abbrev pub CountsOneEnd : Inflow → Inflow → Type 0
+CountsOneEnd old new = (new.faults ≡ old.faults) × (new.ends ≡ next_count old.ends)
+
+-- all that was left was taken, these bytes, at most so many; no read failed, and one met the end
+abbrev pub TakesAll : Inflow → Inflow → List ℕ → ℕ → Type 0
+TakesAll old new bytes limit = Consumes old.left new.left bytes × IsAtEnd new.left × (length bytes ≤ limit) × CountsOneEnd old new
+
+-- a whole read that stops took the byte past the limit, or stopped before that one, at a fault or for want of memory; it met
+-- no end, and no read failed but the one that stopped it
 abbrev pub StopsReading : ReadStop → Inflow → Inflow → ℕ → Type 0
-StopsReading TooLong old new limit = TakesExactly old new (limit + 1)
-StopsReading Faulty old new limit = Rose old.faults new.faults × TakesAtMost old new limit
-StopsReading NoMemory old new limit = TakesAtMost old new limit
+StopsReading TooLong old new limit = TakesExactly old new (limit + 1) × CountsNothing old new
+StopsReading Faulty old new limit = Rose old.faults new.faults × TakesAtMost old new limit × (new.ends ≡ old.ends)
+StopsReading NoMemory old new limit = TakesAtMost old new limit × CountsNothing old new

@@ -21,6 +21,8 @@ pub struct BytesIn {
     pub fails: Vec<u64>,
     /// How many calls failed. It stays at its last value.
     pub faults: u64,
+    /// How many calls met the end. It stays at its last value.
+    pub ends: u64,
     pub ghost within: { at ≤ length bytes.items },
     pub ghost moves: { 1 ≤ step },
 }
@@ -31,7 +33,7 @@ impl BytesIn {
         requires { 1 ≤ step }
         ensures bytes { result.bytes.items ≡ bytes.items }
         ensures script { (result.step ≡ step) × (result.fails.items ≡ fails.items) }
-        ensures fresh { (result.at ≡ 0) × (result.calls ≡ 0) × (result.faults ≡ 0) }
+        ensures fresh { (result.at ≡ 0) × (result.calls ≡ 0) × (result.faults ≡ 0) × (result.ends ≡ 0) }
     {
         BytesIn {
             bytes,
@@ -40,15 +42,16 @@ impl BytesIn {
             calls: 0,
             fails,
             faults: 0,
+            ends: 0,
         }
     }
 }
 
 impl Source for BytesIn {
-    ghost use Rattle.std.specs.Prelude.{◌<◌, ◌↔◌};
+    ghost use Rattle.std.specs.Prelude.{◌≢◌, ◌<◌, ◌↔◌};
     ghost use Rattle.sift_io.specs.BytesIn.{IsRead, ReadFailsNow, inflow_of};
     ghost use Rattle.sift_io.specs.Fault.{Rose};
-    ghost use Rattle.sift_io.specs.Reading.{FitsRoom, GivesNext};
+    ghost use Rattle.sift_io.specs.Reading.{FitsRoom, GivesNext, ends_after_read};
 
     ghost inflow = { inflow_of };
 
@@ -58,6 +61,8 @@ impl Source for BytesIn {
         ensures bytes { GivesNext result (inflow_of self.old).left (inflow_of self.new).left buf.new }
         ensures later { self.old.faults ≤ self.new.faults }
         ensures cause { result ≡ Got.Failed → Rose self.old.faults self.new.faults }
+        ensures calm { result ≢ Got.Failed → self.new.faults ≡ self.old.faults }
+        ensures ends { self.new.ends ≡ ends_after_read result self.old.ends }
         ensures listed { result ≡ Got.Failed ↔ ReadFailsNow self.new }
         ensures exact { IsRead result self.old self.new (length buf.old) }
     {
@@ -68,6 +73,7 @@ impl Source for BytesIn {
         }
         let got = give_next(&self.bytes, self.at, self.step, buf);
         self.at += got.count();
+        self.ends = got.ends_after(self.ends);
         got
     }
 }

@@ -55,6 +55,8 @@ impl Sink for BytesOut {
         ensures later { self.old.faults ≤ self.new.faults }
         ensures cause { TakesNothing result (length bytes.now)
             → Rose self.old.faults self.new.faults }
+        ensures calm { ¬ TakesNothing result (length bytes.now)
+            → self.new.faults ≡ self.old.faults }
         ensures listed { WriteFailsNow self.new → result ≡ Put.Failed }
         // At other calls it fails only where it is to take a byte: there may be no memory for it.
         ensures unlisted { result ≡ Put.Failed

@@ -1,9 +1,9 @@
 //! Sources: what a read gives, and the trait of what bytes come from.
 
-ghost use Rattle.std.specs.Prelude.{◌≡◌, ◌<◌, ◌≤◌, length};
+ghost use Rattle.std.specs.Prelude.{◌≡◌, ◌≢◌, ◌<◌, ◌≤◌, length};
 ghost use Rattle.sift_io.specs.Fault.{Rose};
 ghost use Rattle.sift_io.specs.Flow.{Inflow};
-ghost use Rattle.sift_io.specs.Reading.{FitsRoom, GivesNext, given_count};
+ghost use Rattle.sift_io.specs.Reading.{FitsRoom, GivesNext, ends_after_read, given_count};
 
 /// What one read gave.
 #[derive(Clone, Copy, Debug, PartialEq, Eq)]
@@ -26,12 +26,22 @@ impl Got {
             Got::End | Got::Failed => 0,
         }
     }
+
+    /// A count of ends after this read. It stays at its last value.
+    pub(crate) fn ends_after(self, ends: u64) -> u64
+        ensures { result ≡ ends_after_read self ends }
+    {
+        match self {
+            Got::End => ends.saturating_add(1),
+            Got::Taken(_) | Got::Failed => ends,
+        }
+    }
 }
 
 /// A place that bytes come from.
 pub trait Source {
-    /// The bytes that are left, where the source tells them, and how often reading has failed. That
-    /// count stays at its last value, 2 ^ 64 - 1.
+    /// The bytes that are left, where the source tells them, how often reading has failed, and how often
+    /// it met the end. Both counts stay at their last value, 2 ^ 64 - 1.
     ghost inflow: { Self → Inflow };
 
     /// Reads the next bytes to the front of the buffer, as many as are at hand and have room.
@@ -41,5 +51,8 @@ pub trait Source {
         ensures bytes { GivesNext result (inflow self.old).left (inflow self.new).left buf.new }
         ensures later { (inflow self.old).faults ≤ (inflow self.new).faults }
         ensures cause { result ≡ Got.Failed
-            → Rose (inflow self.old).faults (inflow self.new).faults };
+            → Rose (inflow self.old).faults (inflow self.new).faults }
+        ensures calm { result ≢ Got.Failed
+            → (inflow self.new).faults ≡ (inflow self.old).faults }
+        ensures ends { (inflow self.new).ends ≡ ends_after_read result (inflow self.old).ends };
 }

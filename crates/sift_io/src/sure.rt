@@ -14,6 +14,8 @@ pub struct SureIn {
     pub at: usize,
     /// The most bytes that one call gives.
     pub step: usize,
+    /// How many calls met the end. It stays at its last value.
+    pub ends: u64,
     pub ghost within: { at ≤ length bytes.items },
     pub ghost moves: { 1 ≤ step },
 }
@@ -23,16 +25,21 @@ impl SureIn {
     pub fn new(bytes: Vec<u8>, step: usize) -> SureIn
         requires { 1 ≤ step }
         ensures bytes { result.bytes.items ≡ bytes.items }
-        ensures fresh { (result.at ≡ 0) × (result.step ≡ step) }
+        ensures fresh { (result.at ≡ 0) × (result.step ≡ step) × (result.ends ≡ 0) }
     {
-        SureIn { bytes, at: 0, step }
+        SureIn {
+            bytes,
+            at: 0,
+            step,
+            ends: 0,
+        }
     }
 }
 
 impl Source for SureIn {
     ghost use Rattle.std.specs.Prelude.{◌≢◌, ◌<◌};
     ghost use Rattle.sift_io.specs.Sure.{IsSureRead, sure_inflow};
-    ghost use Rattle.sift_io.specs.Reading.{FitsRoom, GivesNext};
+    ghost use Rattle.sift_io.specs.Reading.{FitsRoom, GivesNext, ends_after_read};
 
     ghost inflow = { sure_inflow };
 
@@ -41,10 +48,12 @@ impl Source for SureIn {
         ensures within { FitsRoom result (length buf.old) }
         ensures bytes { GivesNext result (sure_inflow self.old).left (sure_inflow self.new).left buf.new }
         ensures sure { result ≢ Got.Failed }
+        ensures ends { self.new.ends ≡ ends_after_read result self.old.ends }
         ensures exact { IsSureRead result self.old self.new (length buf.old) }
     {
         let got = give_next(&self.bytes, self.at, self.step, buf);
         self.at += got.count();
+        self.ends = got.ends_after(self.ends);
         got
     }
 }

@@ -65,6 +65,7 @@ pub fn read_all<S: Source>(alloc: Global, source: &mut S, limit: usize) -> Resul
 pub fn write_all<K: Sink>(sink: &mut K, bytes: &[u8]) -> Result<(), WriteStop>
     ensures bytes { WritesAll result (K.outflow sink.old) (K.outflow sink.new) bytes.now }
     ensures later { (K.outflow sink.old).faults ≤ (K.outflow sink.new).faults }
+    ensures calm { IfOk result (λ _. (K.outflow sink.new).faults ≡ (K.outflow sink.old).faults) }
     ensures cause { IsErrOf result WriteStop.Failed
         → Rose (K.outflow sink.old).faults (K.outflow sink.new).faults }
 {

@@ -1,6 +1,6 @@
 //! Sinks: what a write does, and the trait of what bytes go to.
 
-ghost use Rattle.std.specs.Prelude.{◌≤◌, length};
+ghost use Rattle.std.specs.Prelude.{◌≡◌, ◌≤◌, length};
 ghost use Rattle.sift_io.specs.Fault.{Rose};
 ghost use Rattle.sift_io.specs.Flow.{Outflow};
 ghost use Rattle.sift_io.specs.Writing.{AddsFront, FitsPiece, TakesNothing};
@@ -27,5 +27,7 @@ pub trait Sink {
             (outflow self.old).written (outflow self.new).written bytes.now }
         ensures later { (outflow self.old).faults ≤ (outflow self.new).faults }
         ensures cause { TakesNothing result (length bytes.now)
-            → Rose (outflow self.old).faults (outflow self.new).faults };
+            → Rose (outflow self.old).faults (outflow self.new).faults }
+        ensures calm { ¬ TakesNothing result (length bytes.now)
+            → (outflow self.new).faults ≡ (outflow self.old).faults };
 }

@@ -9,9 +9,11 @@ returns-in-Taken-clause-stopped g c =
     let inflow = g.S.Source.inflow in
     let within = c.in-Taken.ensures.within.1 in
     let room = length-take c.min-room.result c.loop-n.piece in
+    let taken =
     TakesExactly-more (inflow c.args.source.now) (inflow c.loop-n.source) (inflow c.read.new.self)
     c.loop-n.all.items c.read.new.buf c.in-Taken.n (c.args.limit + 1)
-    c.loop-n.invariant.0 c.in-Taken.ensures.bytes (omega (arith, within)) (omega (arith, within, room))
+    c.loop-n.invariant.0 c.in-Taken.ensures.bytes (omega (arith, within)) (omega (arith, within, room)) in
+    (taken, grind arith)
 
 -- there was no memory for what this read gave
 pub returns-in_err-extend_from_slice-in-Taken-2-clause-stopped :

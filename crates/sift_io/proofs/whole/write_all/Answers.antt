@@ -9,7 +9,7 @@ loop-rest-preserved g c =
     let sent = c.loop-rest.invariant.0 in
     let more = take c.in-Took.n c.loop-rest.rest.now in
     let added = Appends-trans _ _ _ sent.0 more sent.1 c.in-Took.ensures.bytes in
-    ((sent.0 ++ more, added, append-take_rest sent.0 _ _ c.in-Took.n sent.2), omega arith)
+    ((sent.0 ++ more, added, append-take_rest sent.0 _ _ c.in-Took.n sent.2), grind arith)
 
 -- the sink took nothing
 pub returns-in-Took-eq0-clause-bytes : goal.returns-in-Took-eq0-clause-bytes

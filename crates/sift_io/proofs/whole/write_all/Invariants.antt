@@ -1,4 +1,4 @@
-use Rattle.std.proofs.Common.{◌≡◌, ◌++◌, ◌≤◌, List, ℕ, length}
+use Rattle.std.proofs.Common.{◌≡◌, ◌++◌, List, ℕ, length}
 use Rattle.std.specs.Io.KnownBytes.{Appends}
 use Rattle.sift_io.proofs.whole.write_all.Given as goal
 
@@ -8,7 +8,7 @@ invariant-loop-rest g l =
     let outflow = g.K.Sink.outflow in
     let begun = l.initial.sink in
     ((sent : List ℕ) × Appends (outflow begun).written (outflow l.sink).written sent × (sent ++ l.rest ≡ l.bytes))
-    × ((outflow begun).faults ≤ (outflow l.sink).faults)
+    × ((outflow l.sink).faults ≡ (outflow begun).faults)
 
 abbrev pub decreases-loop-rest : goal.decreases-loop-rest
 decreases-loop-rest g l = length l.rest

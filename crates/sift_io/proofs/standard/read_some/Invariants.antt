@@ -1,0 +1,7 @@
+use Rattle.std.proofs.Common.{◌≡◌, length}
+use Rattle.std.specs.Io.KnownBytes.{Keeps}
+use Rattle.sift_io.proofs.standard.read_some.Given as goal
+
+-- a failed read takes nothing, and the buffer keeps its length
+abbrev pub invariant-loop : goal.invariant-loop
+invariant-loop g l = (length l.buf ≡ length l.initial.buf) × Keeps (g.R.Read.remaining l.initial.input) (g.R.Read.remaining l.input)
