@@ -45,8 +45,8 @@ module _ (apart : LinesComeApart) where
       let text = line_text line in
       let none = no_feed line holds in
       subst (λ (whole : List ℕ). position_or_len (λ b. b == line_feed) whole ≡ length text) (sym (append_assoc text (10 ∷ []) later))
-          (position_or_len_is (λ b. b == line_feed) (text ++ 10 ∷ later) (length text) 0 (grind (arith, common_steps))
-              (λ k low. rw get_or_append_left (none k 0 low)) (λ _. rw (get_or_at text 10 later 0 (length text) refl) refl))
+      (position_or_len_is (λ b. b == line_feed) (text ++ 10 ∷ later) (length text) 0 (grind (arith, common_steps))
+      (λ k low. rw get_or_append_left (none k 0 low)) (λ _. rw (get_or_at text 10 later 0 (length text) refl) refl))
 
   -- so what stands before it is the line
   pub line_before : (line : ReportLine) (later : List ℕ) → IsLine line → before_first (λ b. b == line_feed) (printed line ++ later) ≡ line_text line

@@ -33,7 +33,7 @@ module _ (apart : LinesComeApart) (version : Version) where
   no_lines (line ∷ lines) (other ∷ before) rest all these some none same =
       no_lines lines before rest (All-tail (IsLineIn version) line lines all) (All-tail (IsLineIn version) other before these) some none
       (goes_on apart other line (text_of_lines before ++ rest) (text_of_lines lines) (All-head (IsLineIn version) other before these).0
-          (All-head (IsLineIn version) line lines all).0 (sym (append_assoc (printed other) (text_of_lines before) rest) ∙ same))
+      (All-head (IsLineIn version) line lines all).0 (sym (append_assoc (printed other) (text_of_lines before) rest) ∙ same))
 
   -- lines and something that begins with none are as many lines in each reading
   as_many : (lines before : List ReportLine) (end rest : List ℕ) → All (IsLineIn version) lines → All (IsLineIn version) before
@@ -42,15 +42,15 @@ module _ (apart : LinesComeApart) (version : Version) where
   as_many [] [] end rest all these none nor same = refl
   as_many (line ∷ lines) [] end rest all these none nor same =
       absurd (begins apart version line (text_of_lines lines ++ end) (All-head (IsLineIn version) line lines all)
-          (subst (BeginsWithNoLine version) (sym same ∙ append_assoc (printed line) (text_of_lines lines) end) nor))
+      (subst (BeginsWithNoLine version) (sym same ∙ append_assoc (printed line) (text_of_lines lines) end) nor))
   as_many [] (other ∷ before) end rest all these none nor same =
       absurd (begins apart version other (text_of_lines before ++ rest) (All-head (IsLineIn version) other before these)
-          (subst (BeginsWithNoLine version) (same ∙ append_assoc (printed other) (text_of_lines before) rest) none))
+      (subst (BeginsWithNoLine version) (same ∙ append_assoc (printed other) (text_of_lines before) rest) none))
   as_many (line ∷ lines) (other ∷ before) end rest all these none nor same =
       let later = as_many lines before end rest (All-tail (IsLineIn version) line lines all) (All-tail (IsLineIn version) other before these) none nor
-              (goes_on apart line other (text_of_lines lines ++ end) (text_of_lines before ++ rest) (All-head (IsLineIn version) line lines all).0
-                  (All-head (IsLineIn version) other before these).0
-                  (sym (append_assoc (printed line) (text_of_lines lines) end) ∙ same ∙ append_assoc (printed other) (text_of_lines before) rest)) in
+      (goes_on apart line other (text_of_lines lines ++ end) (text_of_lines before ++ rest) (All-head (IsLineIn version) line lines all).0
+      (All-head (IsLineIn version) other before these).0
+      (sym (append_assoc (printed line) (text_of_lines lines) end) ∙ same ∙ append_assoc (printed other) (text_of_lines before) rest)) in
       omega (arith, later)
 
   -- a report of a version doesn't stop in it
@@ -62,7 +62,7 @@ module _ (apart : LinesComeApart) (version : Version) where
   stops_once : (text : List ℕ) (one other : ℕ) → StopsIn version one text → StopsIn version other text → one ≡ other
   stops_once text one other stop again =
       sym stop.count ∙ ap (λ n. n + 1) (as_many stop.before again.before stop.rest again.rest stop.all again.all stop.none again.none
-          (stop.split ∙ sym again.split)) ∙ again.count
+      (stop.split ∙ sym again.split)) ∙ again.count
 
 pub nowhere : LinesComeApart → ReportsStopNowhere
 nowhere apart text number (One, report) stop = stops_not apart One text stop.0 report stop.2

@@ -20,9 +20,9 @@ module _ (texts : LinesAreTexts) where
   lines_are version [] all = IsUtf8-nil
   lines_are version (line ∷ lines) all =
       IsUtf8-append (printed line) (text_of_lines lines)
-          (IsUtf8-append (line_text line) (10 ∷ []) (texts line (All-head (IsLineIn version) line lines all).0)
-              (IsUtf8-from_ascii (10 ∷ []) feed_is_ascii))
-          (lines_are version lines (All-tail (IsLineIn version) line lines all))
+      (IsUtf8-append (line_text line) (10 ∷ []) (texts line (All-head (IsLineIn version) line lines all).0)
+      (IsUtf8-from_ascii (10 ∷ []) feed_is_ascii))
+      (lines_are version lines (All-tail (IsLineIn version) line lines all))
 
   pub reports_are : ReportsAreTexts
   reports_are text (version, report) = subst IsUtf8 report.2 (lines_are version report.0 report.1)

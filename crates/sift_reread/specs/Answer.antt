@@ -71,7 +71,7 @@ module _ (in_before in_after : Inflow) (out_before out_after : Outflow) where
       ((bytes : List ℕ) × TakesAll in_before in_after bytes report_limit × IsAnsweredTo out_before out_after bytes ending)
       ⊎ ((ending ≡ TooLong) × TakesExactly in_before in_after (report_limit + 1) × IsUnwritten out_before out_after)
       ⊎ ((ending ≡ ReadFault) × Rose in_before.faults in_after.faults × TakesAtMost in_before in_after report_limit
-          × IsUnwritten out_before out_after)
+      × IsUnwritten out_before out_after)
       ⊎ ((ending ≡ NoMemory) × TakesAtMost in_before in_after report_limit × IsUnwritten out_before out_after)
 
   -- what is certain, by the bytes of an input that tells them: within the limit they are answered, and past it they are too

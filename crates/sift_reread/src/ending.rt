@@ -1,7 +1,10 @@
 //! How the program ends.
 
 ghost use Rattle.std.specs.Prelude.{◌≡◌};
+ghost use Rattle.std.specs.Process.{exit_status};
 ghost use Rattle.sift_reread.specs.Ending.{status_of};
+
+use std::process::ExitCode;
 
 /// How the program ends, and why.
 #[derive(Clone, Copy, Debug, PartialEq, Eq)]
@@ -23,8 +26,15 @@ pub enum Ending {
 }
 
 impl Ending {
-    /// The exit status that says so.
-    pub fn status(self) -> u8
+    /// The exit code with its status.
+    pub fn exit_code(self) -> ExitCode
+        ensures { exit_status result ≡ status_of self }
+    {
+        ExitCode::from(self.status())
+    }
+
+    /// The status that says so.
+    fn status(self) -> u8
         ensures { result ≡ status_of self }
     {
         match self {
