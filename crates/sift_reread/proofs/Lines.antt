@@ -3,29 +3,29 @@ use Rattle.std.proofs.Common.{◌≡◌, ◌∙◌, ◌++◌, ◌∷◌, ◌+◌
 use Rattle.std.specs.List.{All}
 use Rattle.std.proofs.lemmas.List.Elements.{All-nil, All-push}
 use Rattle.std.proofs.lemmas.List.{flat_map_more, length_push, length-append}
-use Rattle.sift_report.specs.Line.{HasVersion, line_text, printed, text_of_lines}
+use Rattle.sift_report.specs.Line.{line_text, printed, text_of_lines}
 use Rattle.sift_report.specs.declared.line.ReportLine.{ReportLine}
 use Rattle.sift_report.specs.declared.version.Version.{Version}
-use Rattle.sift_reread.specs.Report.{BeginsWithNoLine, StopsIn}
+use Rattle.sift_reread.specs.Report.{BeginsWithNoLine, IsLineIn, StopsIn}
 
 -- the report is what was printed so far, which are so many lines, and the rest
 pub record IsReadTo (version : Version) (report text rest : List ℕ) (n : ℕ) : Type 0 where
   pub before : List ReportLine
-  pub all : All (HasVersion version) before
+  pub all : All (IsLineIn version) before
   pub read : text_of_lines before ≡ text
   pub split : text ++ rest ≡ report
   pub count : length before ≡ n
 
 pub begun : (version : Version) (report : List ℕ) → IsReadTo version report [] report 0
-begun version report = record { before = []; all = All-nil (HasVersion version); read = refl; split = refl; count = refl }
+begun version report = record { before = []; all = All-nil (IsLineIn version); read = refl; split = refl; count = refl }
 
 -- one line more
 pub one_more : (version : Version) (report text rest later : List ℕ) (count : ℕ) (line : ReportLine) → IsReadTo version report text rest count
-    → HasVersion version line → printed line ++ later ≡ rest
+    → IsLineIn version line → printed line ++ later ≡ rest
     → IsReadTo version report (text ++ printed line) later (count + 1)
 one_more version report text rest later count line so_far of more = record {
   before = so_far.before ++ line ∷ [];
-  all = All-push (HasVersion version) so_far.before line so_far.all of;
+  all = All-push (IsLineIn version) so_far.before line so_far.all of;
   read = sym (flat_map_more printed [] so_far.before line) ∙ ap (λ (front : List ℕ). front ++ printed line) so_far.read;
   split = append_assoc text (printed line) later ∙ ap (λ (back : List ℕ). text ++ back) more ∙ so_far.split;
   count = length_push so_far.before line ∙ ap (λ n. n + 1) so_far.count;

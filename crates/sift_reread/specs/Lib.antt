@@ -1,2 +1,4 @@
 pub mod Answer
+pub mod Ending
+pub mod Laws
 pub mod Report

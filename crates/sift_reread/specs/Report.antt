@@ -12,9 +12,13 @@ use Rattle.sift_reread.specs.declared.reread.Stop.TheVariants.{NoLine, NoMemory}
 abbrev pub line_feed : ℕ
 line_feed = 10
 
+-- it is a line, each field of which holds what it can, and one of a report of this version
+abbrev pub IsLineIn : Version → ReportLine → Type 0
+IsLineIn version line = IsLine line × HasVersion version line
+
 -- the text is that of some lines of this version, each with its line feed
 abbrev pub IsReportIn : Version → List ℕ → Type 0
-IsReportIn version text = (lines : List ReportLine) × All (HasVersion version) lines × (text_of_lines lines ≡ text)
+IsReportIn version text = (lines : List ReportLine) × All (IsLineIn version) lines × (text_of_lines lines ≡ text)
 
 -- so it is in some version
 abbrev pub IsReport : List ℕ → Type 0
@@ -22,7 +26,7 @@ IsReport text = (version : Version) × IsReportIn version text
 
 -- the text is no line's of this version
 abbrev pub IsNoLine : Version → List ℕ → Type 0
-IsNoLine version text = (line : ReportLine) → IsLine line → HasVersion version line → line_text line ≢ text
+IsNoLine version text = (line : ReportLine) → IsLineIn version line → line_text line ≢ text
 
 -- the text has no line feed, or what stands before its first is no line's
 abbrev pub BeginsWithNoLine : Version → List ℕ → Type 0
@@ -32,7 +36,7 @@ BeginsWithNoLine version text =
 -- so many lines of this version but one, and behind them something that begins with none
 pub record StopsIn (version : Version) (number : ℕ) (text : List ℕ) : Type 0 where
   pub before : List ReportLine
-  pub all : All (HasVersion version) before
+  pub all : All (IsLineIn version) before
   pub rest : List ℕ
   pub split : text_of_lines before ++ rest ≡ text
   pub count : length before + 1 ≡ number

@@ -1,8 +1,8 @@
 //! A report, read back line by line and printed again.
 
 ghost use Rattle.std.specs.Prelude.{◌≡◌, ◌++◌, IfErr, IfNone, IfOk, IfSome, string_bytes};
-ghost use Rattle.sift_report.specs.Line.{HasVersion, printed};
-ghost use Rattle.sift_reread.specs.Report.{BeginsWithNoLine, IsReport, IsReportIn, IsStopped, IsStoppedIn};
+ghost use Rattle.sift_report.specs.Line.{printed};
+ghost use Rattle.sift_reread.specs.Report.{BeginsWithNoLine, IsLineIn, IsReport, IsReportIn, IsStopped, IsStoppedIn};
 ghost use Rattle.sift_reread.specs.declared.reread.Stop.TheVariants.{NoMemory};
 
 use sift_report::{ReportLine, Version, push_line, read_line};
@@ -65,7 +65,7 @@ fn reread_in(alloc: Global, report: &str, version: Version) -> Result<String, St
 
 /// The line of this version that a text begins with, and the text behind it, where it begins with one.
 fn first_line(text: &str, version: Version) -> Option<(ReportLine, &str)>
-    ensures version { IfSome result (λ begun. HasVersion version begun.0) }
+    ensures line { IfSome result (λ begun. IsLineIn version begun.0) }
     ensures begun { IfSome result (λ begun. printed begun.0 ++ begun.1.now ≡ text.now) }
     ensures none { IfNone result (BeginsWithNoLine version text.now) }
 {

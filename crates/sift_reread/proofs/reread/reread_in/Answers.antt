@@ -7,7 +7,7 @@ use Rattle.sift_reread.proofs.reread.reread_in.Goals as goal
 pub loop-lines-preserved : goal.loop-lines-preserved
 loop-lines-preserved c = (
   rw c.in_ok-push_line.ensures (one_more c.args.version c.args.report.now (string_bytes c.loop-lines.text) c.loop-lines.rest.now c.in-Some.later.now
-      c.loop-lines.lines c.in-Some.line c.loop-lines.invariant.0 c.in-Some.ensures.version c.in-Some.ensures.begun),
+      c.loop-lines.lines c.in-Some.line c.loop-lines.invariant.0 c.in-Some.ensures.line c.in-Some.ensures.begun),
   search rules,
 )
 
