@@ -37,14 +37,16 @@ module _ (given : MissionData → Strays → Type 0)
 
   -- so `run` gives one report for such a mission
   pub one_report :
-      (job : RunJob) (bytes : List ℕ) → AreCalm bytes → (d : MissionData) (one other : Reply) → States bytes d → RunGives given job d one → RunGives given job d other → one ≡ other
+      (job : RunJob) (bytes : List ℕ) → AreCalm bytes → (d : MissionData) (one other : Reply) → States bytes d
+      → RunGives given job d one → RunGives given job d other → one ≡ other
   one_report job bytes calm d one other states (text, (fl, flies, (lines, told)), is) (text', (gl, flies', (lines', told')), is') =
       let same = one_flight d fl gl (fit states.0 d states.2) (calm d states) flies flies' in
       is ∙ (ap done (told ∙ (same.report job.version ∙ sym told')) ∙ sym is')
 
   -- and `votes` one text of votes
   pub one_votes :
-      (job : VotesJob) (bytes : List ℕ) → AreCalm bytes → (d : MissionData) (one other : Reply) → States bytes d → VotesGives given job d one → VotesGives given job d other → one ≡ other
+      (job : VotesJob) (bytes : List ℕ) → AreCalm bytes → (d : MissionData) (one other : Reply) → States bytes d
+      → VotesGives given job d one → VotesGives given job d other → one ≡ other
   one_votes job bytes calm d one other states (text, (fl, flies, told), is) (text', (gl, flies', told'), is') =
       let same = one_flight d fl gl (fit states.0 d states.2) (calm d states) flies flies' in
       is ∙ (ap done (told ∙ (same.votes ∙ sym told')) ∙ sym is')

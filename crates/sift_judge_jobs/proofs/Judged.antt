@@ -56,14 +56,18 @@ module _ (version : Version) (document report : List ℕ) (mission : MissionData
 -- ---- the report of `run` is one
 
 -- the sheet's lines are read from it
-sheet_read : (given : MissionData → Strays → Type 0) → SheetsHaveTheirVersion → LinesComeApart → (version : Version) (document report : List ℕ) (is : IsHeadlined given version document report)
+sheet_read :
+    (given : MissionData → Strays → Type 0) → SheetsHaveTheirVersion → LinesComeApart
+    → (version : Version) (document report : List ℕ) (is : IsHeadlined given version document report)
     → AreRead version report (sheet_of (flown is.mission) is.flight version)
 sheet_read given versions apart version document report is = record {
   all = λ k d low. record { holds = is.lines k d low; told = versions (flown is.mission) is.flight version k d low };
   texts = apart (sheet_of (flown is.mission) is.flight version) is.lines ∙ ap texts_of (sym is.told);
 }
 
-pub judged_yes : (given : MissionData → Strays → Type 0) → OneVerdict → SheetsHaveTheirVersion → LinesComeApart → OneMissionIsStated → StatedMissionsAreUnrefused → RunIsHeadlined given → RunsAreJudgedYes given
+pub judged_yes :
+    (given : MissionData → Strays → Type 0) → OneVerdict → SheetsHaveTheirVersion → LinesComeApart
+    → OneMissionIsStated → StatedMissionsAreUnrefused → RunIsHeadlined given → RunsAreJudgedYes given
 judged_yes given verdicts versions apart one_mission unrefused headlined run judge document report came same gives divided judged =
     let is : IsHeadlined given run.version document report = headlined run document (done report) gives refl in
     of_input run.version document report is.mission (sheet_of (flown is.mission) is.flight run.version) verdicts

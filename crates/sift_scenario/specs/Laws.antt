@@ -1,12 +1,7 @@
 -- The laws of what a document is answered with.
-use Rattle.std.specs.Prelude.{◌≡◌, ◌≢◌, ◌⊎◌, ◌↔◌, ℕ, List, [], Err, Some}
+use Rattle.std.specs.Prelude.{◌≡◌, ◌⊎◌, ◌↔◌, ℕ, [], Some}
 use Rattle.std.specs.List.{All}
 use Rattle.toml.specs.Data.{Members}
-use Rattle.sift_lang.specs.Tree.{TaskTree}
-use Rattle.sift_parse.specs.declared.stop.ParseStop.{ParseStop}
-use Rattle.sift_parse.specs.declared.stop.ParseStop.TheVariants as parse
-use Rattle.sift_parse.specs.Outcome.{AreNames, IsTaskOf, Tells}
-use Rattle.sift_parse.specs.Roll.{Roll}
 use Rattle.sift_scenario.specs.declared.refused.Refused.{Refused}
 use Rattle.sift_scenario.specs.Entries.{HoldsOf}
 use Rattle.sift_scenario.specs.Fault.{fault_value, faults_in, from_of, stated_storm, unit_of}
@@ -59,13 +54,11 @@ VersionOneShedsNothing = (document : Members) (mission : MissionData) → versio
 abbrev pub RulesAreKeptOrBroken : Type 0
 RulesAreKeptOrBroken = (document : Members) → IsLawful document ⊎ ((number place : ℕ) × IsFirstBroken document number place)
 
--- each text is a task, or is refused
-abbrev pub TextsAreAnswered : Type 0
-TextsAreAnswered = (roll : Roll) (bytes : List ℕ) → AreNames roll
-    → ((tree : TaskTree) × IsTaskOf roll bytes tree) ⊎ ((stop : ParseStop) × (stop ≢ parse.NoMemory) × Tells roll bytes (Err stop))
+-- what a document is: it states a mission, or is refused
+pub data HasAnswer (document : Members) : Type 0 where
+  a_mission : (mission : MissionData) → IsMission document mission → HasAnswer document
+  a_refusal : (refused : Refused) → IsRefusedWith document refused → HasAnswer document
 
--- where that is so, each document states a mission, or is refused
-abbrev pub DocumentsAreAnswered : Type 0
-DocumentsAreAnswered = TextsAreAnswered → (document : Members)
-    → ((mission : MissionData) × IsMission document mission)
-    ⊎ ((refused : Refused) × IsRefusedWith document refused)
+-- no document is without an answer other than want of memory
+abbrev pub NoDocumentIsUnanswered : Type 0
+NoDocumentIsUnanswered = (document : Members) → ¬ ¬ HasAnswer document

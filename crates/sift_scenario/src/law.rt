@@ -1,6 +1,6 @@
 //! The laws of what a document is answered with.
 
-ghost use Rattle.sift_scenario.specs.Laws.{DocumentsAreAnswered, MissionsAreAccepted, OneMission, OneRefusal, RulesAreKeptOrBroken, StatedMissionsFit, StormsAreStated, VersionOneShedsNothing};
+ghost use Rattle.sift_scenario.specs.Laws.{MissionsAreAccepted, NoDocumentIsUnanswered, OneMission, OneRefusal, RulesAreKeptOrBroken, StatedMissionsFit, StormsAreStated, VersionOneShedsNothing};
 
 /// A document that states a mission is refused by no rule, and none of its tasks is refused.
 pub fn missions_are_accepted()
@@ -38,7 +38,7 @@ pub fn rules_are_kept_or_broken()
     ensures { RulesAreKeptOrBroken }
 {}
 
-/// A document states a mission or is refused, where each text of a task is a task or refused.
-pub fn documents_are_answered()
-    ensures { DocumentsAreAnswered }
+/// No document is without an answer other than want of memory: it states a mission, or is refused.
+pub fn no_document_is_unanswered()
+    ensures { NoDocumentIsUnanswered }
 {}

@@ -24,7 +24,7 @@ mod tree;
 mod value;
 
 pub use law::{
-    documents_are_answered, missions_are_accepted, one_mission, one_refusal,
+    missions_are_accepted, no_document_is_unanswered, one_mission, one_refusal,
     rules_are_kept_or_broken, stated_missions_fit, storms_are_stated, version_one_sheds_nothing,
 };
 pub use mission::mission_of;

@@ -46,7 +46,8 @@ loop-items-preserved c =
     let there =
     table_low (λ fault. table_view fault.now) (λ items. map change_of items.items) c.args.tables.now c.args.heads.now c.args.said.items c.requires.read i
     c.index-tables-place.result c.in-Some.items low table_is items_is in
-    let planned : Some (failing_of c.in-Some-plan_of.plan) ≡ option_map (λ storm. failing_from storm (map change_of c.in-Some.items.items)) (stated_storm (table_view c.index-tables-place.result.now)) =
+    let storms = stated_storm (table_view c.index-tables-place.result.now) in
+    let planned : Some (failing_of c.in-Some-plan_of.plan) ≡ option_map (λ storm. failing_from storm (map change_of c.in-Some.items.items)) storms =
     rw c.in-Some-plan_of.is at c.plan_of.ensures in
     let made =
     fault_taken (λ fault. table_view fault.now) (λ items. map change_of items.items) c.args.tables.now c.args.heads.now c.args.said.items c.requires.read i
