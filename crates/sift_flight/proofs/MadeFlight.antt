@@ -1,5 +1,5 @@
 -- The flight that is made is round.
-use Rattle.std.proofs.Common.{◌≡◌, inl, inr, ℕ, zero, suc, true, false, None, unwrap_or, refl, ap, ◌∙◌, subst, eq-eqb, ne_eqb}
+use Rattle.std.proofs.Common.{◌≡◌, inl, inr, ℕ, zero, suc, true, false, unwrap_or, refl, ap, ◌∙◌, subst, eq-eqb, ne_eqb}
 use Rattle.std.proofs.lemmas.Bool.{cases_Bool}
 use Rattle.sift_base.specs.declared.slot.Slot.{Slot}
 use Rattle.sift_mission.specs.Mission.{FlownMission}
@@ -13,6 +13,7 @@ use Rattle.sift_flight.specs.Hearing.IsOfStray.{absent}
 use Rattle.sift_flight.specs.Round.{IsSilent, IsRound}
 use Rattle.sift_flight.specs.Existence.{StrayHearing, IsOfStrays, HearsStrays, EachMissionHasARoundFlight, EachStrayHearingHasARoundFlight}
 use Rattle.sift_flight.proofs.Making.{Start, own_by, out_word, report_word, said_by, start_of, made_flight}
+use Rattle.sift_flight.proofs.Unique.{nothing}
 use Rattle.sift_flight.proofs.MadeFrame.{own_is, busy_here, idle_here}
 
 module _ (m : FlownMission) (strays : Strays) (stray : StrayHearing) (fits : Fits m) (allowed : IsOfStrays m strays stray) where
@@ -71,15 +72,11 @@ module _ (m : FlownMission) (strays : Strays) (stray : StrayHearing) (fits : Fit
   made_round f low = record { hearing = hearing f; conduct = conduct f; turned = λ u hu turned. silent f u turned }
 
   made_hears : HearsStrays m stray fl
-  made_hears q f k p w turned t = rw (w.whole, t, turned) refl
+  made_hears f low q k p w turned t = rw (w.whole, t, turned) refl
 
 pub each_stray_hearing_has_a_round_flight : EachStrayHearingHasARoundFlight
 each_stray_hearing_has_a_round_flight m strays stray fits allowed =
     (made_flight m stray, made_round m strays stray fits allowed, made_hears m strays stray fits allowed)
-
--- nothing is heard of units that have turned
-abbrev nothing : StrayHearing
-nothing q f k p s = None
 
 pub each_mission_has_a_round_flight : EachMissionHasARoundFlight
 each_mission_has_a_round_flight m strays fits = (made_flight m nothing, made_round m strays nothing fits (λ q f k p s. absent refl))

@@ -1,7 +1,7 @@
 //! The laws of flights: where round flights come from, that there is one and at most one, and the headline.
 
 ghost use Rattle.sift_flight.specs.Calms.{CalmMissionsFly};
-ghost use Rattle.sift_flight.specs.Existence.{EachMissionHasARoundFlight, EachStrayHearingHasARoundFlight};
+ghost use Rattle.sift_flight.specs.Existence.{AtMostOneHearsThem, EachMissionHasARoundFlight, EachStrayHearingHasARoundFlight};
 ghost use Rattle.sift_flight.specs.Headline.{HeadlineHolds};
 ghost use Rattle.sift_flight.specs.Homing.{FlightsThatComeHomeAreRound};
 ghost use Rattle.sift_flight.specs.Landing.{LawfulCoresHearLawfully, UnitsHearByTheEquations, LandedFramesAreRound};
@@ -37,6 +37,11 @@ pub fn each_mission_has_a_round_flight()
 /// Whatever units may hear of the strays of those that have turned, they hear it in a round flight.
 pub fn each_stray_hearing_has_a_round_flight()
     ensures { EachStrayHearingHasARoundFlight }
+{}
+
+/// They hear it in one alone: two round flights in which the same is heard of strays are the same at each unit that hasn't turned.
+pub fn at_most_one_flight_hears_them()
+    ensures { AtMostOneHearsThem }
 {}
 
 /// A mission without storms has at most one round flight: two of them are the same in each account
