@@ -8,6 +8,9 @@ pub mod Same
 pub mod SameWords
 pub mod SameFrame
 pub mod Unique
+pub mod Making
+pub mod MadeFrame
+pub mod MadeFlight
 pub mod Bits
 pub mod Working
 pub mod Agreeing

@@ -38,7 +38,7 @@ abbrev reach : ℕ → ℤ
 reach n = pos (change + change * n)
 
 -- who has turned stays turned
-still_before : (storm : Option ℕ) (g f : ℕ) → g ≤ f → turned_by storm f ≡ false → turned_by storm g ≡ false
+pub still_before : (storm : Option ℕ) (g f : ℕ) → g ≤ f → turned_by storm f ≡ false → turned_by storm g ≡ false
 still_before None g f early still = refl
 still_before (Some from) g f early still = elim (cases_lt f from) [
   | inl before ↦ rw (lt-ltb g from (omega arith)) refl

@@ -6,61 +6,55 @@ use native.Mathlib.Decide.{ℕ_discrete}
 use Rattle.sift_base.specs.Units.{has}
 use Rattle.sift_base.specs.declared.slot.Slot.{Slot}
 use Rattle.sift_mission.specs.Mission.{FlownMission}
-use Rattle.sift_mission.specs.Slots.{calls, has_turned}
+use Rattle.sift_mission.specs.Slots.{calls, stamp_of, has_turned}
 use Rattle.sift_conduct.specs.Conduct.{own_word, said_of}
 use Rattle.sift_conduct.specs.Frames.{last_of, FrameConduct, IdleConduct, BusyConduct, Flies}
 use Rattle.sift_mission.specs.Fits.{Fits}
 use Rattle.sift_flight.specs.Flight.{Flight, config_of}
 use Rattle.sift_flight.specs.Hearing.{Strays}
-use Rattle.sift_flight.specs.Round.{RoundAt, HasNoStorms}
+use Rattle.sift_flight.specs.Existence.{StrayHearing, HearsStraysAt}
+use Rattle.sift_flight.specs.Round.{RoundAt}
 use Rattle.sift_flight.proofs.Calls.{call_of}
 
--- a frame of two round flights, without storms, that both begin alike
-pub record AreBothRound (m : FlownMission) (strays strays' : Strays) (fl gl : Flight) (f : ℕ) : Type 0 where
+-- a frame of two round flights that both begin alike, and in which the same is heard of strays
+pub record AreBothRound (m : FlownMission) (strays strays' : Strays) (stray : StrayHearing) (fl gl : Flight) (f : ℕ) : Type 0 where
   pub fits : Fits m
-  pub calm : HasNoStorms m
   pub one : RoundAt m strays fl f
   pub other : RoundAt m strays' gl f
-  pub cfg : (u : ℕ) → has m.units u ≡ true → config_of fl u f ≡ config_of gl u f
-  pub clk : (u : ℕ) → has m.units u ≡ true → (fl.account u f).clk ≡ (gl.account u f).clk
-  pub last : (u : ℕ) → has m.units u ≡ true → last_of m (fl.account u) f ≡ last_of m (gl.account u) f
-  pub inside : (u p : ℕ) → has m.units u ≡ true → has (config_of gl u f) p ≡ true → has m.units p ≡ true
-
--- a mission without storms has no unit that has turned
-pub whole_unit : (m : FlownMission) → HasNoStorms m → (u f : ℕ) → has m.units u ≡ true → has_turned m u f ≡ false
-whole_unit m calm u f hu = rw (calm u hu) refl
-
--- so each of its units flies in each frame
-pub flies_always : (m : FlownMission) → HasNoStorms m → (u f : ℕ) → has m.units u ≡ true → Flies m u f
-flies_always m calm u f hu = record { unit = hu; whole = whole_unit m calm u f hu }
+  pub strays_one : HearsStraysAt m stray fl f
+  pub strays_other : HearsStraysAt m stray gl f
+  pub cfg : (u : ℕ) → Flies m u f → config_of fl u f ≡ config_of gl u f
+  pub clk : (u : ℕ) → Flies m u f → (fl.account u f).clk ≡ (gl.account u f).clk
+  pub last : (u : ℕ) → Flies m u f → last_of m (fl.account u) f ≡ last_of m (gl.account u) f
+  pub inside : (u p : ℕ) → Flies m u f → has (config_of gl u f) p ≡ true → has m.units p ≡ true
 
 -- in a frame of two flights each unit says a slot alike
 abbrev pub SayAlike : FlownMission → Flight → Flight → ℕ → Slot → Type 0
-SayAlike m fl gl f k = (u q : ℕ) → has m.units u ≡ true → fl.said u f k q ≡ gl.said u f k q
+SayAlike m fl gl f k = (u q : ℕ) → Flies m u f → fl.said u f k q ≡ gl.said u f k q
 
 -- and hears it alike
 abbrev pub HearAlike : FlownMission → Flight → Flight → ℕ → Slot → Type 0
-HearAlike m fl gl f k = (u : ℕ) → has m.units u ≡ true → fl.heard u f k ≡ gl.heard u f k
+HearAlike m fl gl f k = (u : ℕ) → Flies m u f → fl.heard u f k ≡ gl.heard u f k
 
-module _ (m : FlownMission) (strays strays' : Strays) (fl gl : Flight) (f : ℕ) (b : AreBothRound m strays strays' fl gl f) where
+module _ (m : FlownMission) (strays strays' : Strays) (stray : StrayHearing) (fl gl : Flight) (f : ℕ) (b : AreBothRound m strays strays' stray fl gl f) where
   abbrev us : ℕ → List ℕ
   us u = config_of gl u f
 
   -- the conduct of both
-  pub conduct_one : (u : ℕ) → has m.units u ≡ true → FrameConduct m u (fl.account u) (fl.heard u) (fl.said u) f
-  conduct_one u hu = b.one.conduct u (flies_always m b.calm u f hu)
+  pub conduct_one : (u : ℕ) → Flies m u f → FrameConduct m u (fl.account u) (fl.heard u) (fl.said u) f
+  conduct_one u hu = b.one.conduct u hu
 
-  pub conduct_other : (u : ℕ) → has m.units u ≡ true → FrameConduct m u (gl.account u) (gl.heard u) (gl.said u) f
-  conduct_other u hu = b.other.conduct u (flies_always m b.calm u f hu)
+  pub conduct_other : (u : ℕ) → Flies m u f → FrameConduct m u (gl.account u) (gl.heard u) (gl.said u) f
+  conduct_other u hu = b.other.conduct u hu
 
   -- that of the first under the second's configuration, where the unit is in it and where it is not
-  pub busy_one : (u : ℕ) → has m.units u ≡ true → has (us u) u ≡ true → BusyConduct m (us u) u f (fl.account u f) (fl.heard u f) (last_of m (fl.account u) f)
+  pub busy_one : (u : ℕ) → Flies m u f → has (us u) u ≡ true → BusyConduct m (us u) u f (fl.account u f) (fl.heard u f) (last_of m (fl.account u) f)
   busy_one u hu t =
       let e = b.cfg u hu in
       subst (λ c. BusyConduct m c u f (fl.account u f) (fl.heard u f) (last_of m (fl.account u) f)) e
       ((conduct_one u hu).busy (subst (λ c. has c u ≡ true) (sym e) t))
 
-  pub idle_one : (u : ℕ) → has m.units u ≡ true → has (us u) u ≡ false → IdleConduct (fl.account u f)
+  pub idle_one : (u : ℕ) → Flies m u f → has (us u) u ≡ false → IdleConduct (fl.account u f)
   idle_one u hu t = (conduct_one u hu).idle (subst (λ c. has c u ≡ false) (sym (b.cfg u hu)) t)
 
   -- by the two cases of a unit
@@ -80,7 +74,7 @@ module _ (m : FlownMission) (strays strays' : Strays) (fl gl : Flight) (f : ℕ)
   said_other u k q = said_of m (us u) u f (gl.account u f) (gl.heard u f) (last_of m (gl.account u) f) k q
 
   -- where the own words are the same, the same is said
-  pub say : (k : Slot) → ((u q : ℕ) → has m.units u ≡ true → calls m (us u) k u q ≡ true → word_one u k ≡ word_other u k) → SayAlike m fl gl f k
+  pub say : (k : Slot) → ((u q : ℕ) → Flies m u f → calls m (us u) k u q ≡ true → word_one u k ≡ word_other u k) → SayAlike m fl gl f k
   say k same u q hu = (conduct_one u hu).said k q ∙ (ap (λ c. said_one u c k q) (b.cfg u hu) ∙ (here ∙ sym ((conduct_other u hu).said k q)))
     where
       here : said_one u (us u) k q ≡ said_other u k q
@@ -96,18 +90,23 @@ module _ (m : FlownMission) (strays strays' : Strays) (fl gl : Flight) (f : ℕ)
       at : (p : ℕ) → fl.heard u f k p ≡ gl.heard u f k p
       at p =
           let e = b.cfg u hu in
-          let hf = b.one.hearing u k p (flies_always m b.calm u f hu) in
-          let hg = b.other.hearing u k p (flies_always m b.calm u f hu) in
+          let hf = b.one.hearing u k p hu in
+          let hg = b.other.hearing u k p hu in
           elim (cases_Bool (calls m (us u) k p u)) [
             | inl t ↦
-                let cf = hf.called (subst (λ c. calls m c k p u ≡ true) (sym e) t) in
+                let t' = subst (λ c. calls m c k p u ≡ true) (sym e) t in
+                let cf = hf.called t' in
                 let cg = hg.called t in
-                let hp = b.inside u p hu (call_of m (us u) k p u t).from in
-                let whole = whole_unit m b.calm p f hp in
+                ⊎_elim
+                (λ (turned : has_turned m p f ≡ true).
+                b.strays_one u k p hu turned t' ∙ (ap (λ c. stray u f k p (stamp_of m c f k)) e ∙ sym (b.strays_other u k p hu turned t)))
+                (λ (whole : has_turned m p f ≡ false).
+                let hp : Flies m p f = record { unit = b.inside u p hu (call_of m (us u) k p u t).from; whole = whole } in
                 let due_p : m.due (config_of fl p f) k ≡ m.due (us p) k = ap (λ c. m.due c k) (b.cfg p hp) in
                 let due_u : m.due (config_of fl u f) k ≡ m.due (us u) k = ap (λ c. m.due c k) e in
                 dite (ℕ_discrete (m.due (us p) k) (m.due (us u) k))
                 (λ d. cf.as_said whole (due_p ∙ (d ∙ sym due_u)) ∙ (same p u hp ∙ sym (cg.as_said whole d)))
-                (λ n. cf.apart whole (λ d. n (sym due_p ∙ (d ∙ due_u))) ∙ sym (cg.apart whole n))
+                (λ n. cf.apart whole (λ d. n (sym due_p ∙ (d ∙ due_u))) ∙ sym (cg.apart whole n)))
+                (cases_Bool (has_turned m p f))
             | inr t ↦ hf.silent (subst (λ c. calls m c k p u ≡ false) (sym e) t) ∙ sym (hg.silent t)
           ]

@@ -18,9 +18,10 @@ use Rattle.sift_clock.specs.Reading.{reading_of, is_too_far}
 use Rattle.sift_mission.specs.Mission.{FlownMission}
 use Rattle.sift_mission.specs.Slots.{executors}
 use Rattle.sift_conduct.specs.Conduct.{polled, any_below, poll_catches, relay_catches, clock_catches, report_of, said_of}
-use Rattle.sift_conduct.specs.Frames.{last_of, BusyConduct, IdleConduct}
+use Rattle.sift_conduct.specs.Frames.{last_of, BusyConduct, Flies, IdleConduct}
 use Rattle.sift_flight.specs.Flight.{Flight, config_of}
 use Rattle.sift_flight.specs.Hearing.{Strays}
+use Rattle.sift_flight.specs.Existence.{StrayHearing}
 use Rattle.sift_flight.specs.Round.{AreSameAt}
 use Rattle.sift_flight.proofs.Same.{AreBothRound, HearAlike, conduct_one, conduct_other, busy_one, idle_one, by_place, say, hear}
 use Rattle.sift_flight.proofs.SameWords.{heard_clock, heard_sense, heard_relay, heard_out, ins_same, polled_same, outs_same, all_outs}
@@ -34,7 +35,7 @@ any_same : (n : ℕ) (p q : ℕ → Bool) → ((x : ℕ) → x < n → p x ≡ q
 any_same zero p q same = refl
 any_same (suc n) p q same = rw (any_same n p q (λ x low. same x (omega arith)), same n (omega arith)) refl
 
-module _ (m : FlownMission) (strays strays' : Strays) (fl gl : Flight) (f : ℕ) (b : AreBothRound m strays strays' fl gl f) where
+module _ (m : FlownMission) (strays strays' : Strays) (stray : StrayHearing) (fl gl : Flight) (f : ℕ) (b : AreBothRound m strays strays' stray fl gl f) where
   abbrev us : ℕ → List ℕ
   us u = config_of gl u f
 
@@ -45,36 +46,36 @@ module _ (m : FlownMission) (strays strays' : Strays) (fl gl : Flight) (f : ℕ)
   last_other u = last_of m (gl.account u) f
 
   -- the places of one slot
-  alike : (k : Slot) → HearAlike m fl gl f k → (u : ℕ) → has m.units u ≡ true → fl.heard u f k ≡ gl.heard u f k
+  alike : (k : Slot) → HearAlike m fl gl f k → (u : ℕ) → Flies m u f → fl.heard u f k ≡ gl.heard u f k
   alike k same u hu = same u hu
 
-  abbrev one : (u : ℕ) → has m.units u ≡ true → has (us u) u ≡ true → BusyConduct m (us u) u f (fl.account u f) (fl.heard u f) (last_one u)
-  one u hu t = busy_one m strays strays' fl gl f b u hu t
+  abbrev one : (u : ℕ) → Flies m u f → has (us u) u ≡ true → BusyConduct m (us u) u f (fl.account u f) (fl.heard u f) (last_one u)
+  one u hu t = busy_one m strays strays' stray fl gl f b u hu t
 
-  abbrev other : (u : ℕ) → has m.units u ≡ true → has (us u) u ≡ true → BusyConduct m (us u) u f (gl.account u f) (gl.heard u f) (last_other u)
-  other u hu t = (conduct_other m strays strays' fl gl f b u hu).busy t
+  abbrev other : (u : ℕ) → Flies m u f → has (us u) u ≡ true → BusyConduct m (us u) u f (gl.account u f) (gl.heard u f) (last_other u)
+  other u hu t = (conduct_other m strays strays' stray fl gl f b u hu).busy t
 
-  idle : (u : ℕ) → has m.units u ≡ true → has (us u) u ≡ false → IdleConduct (fl.account u f) × IdleConduct (gl.account u f)
-  idle u hu t = (idle_one m strays strays' fl gl f b u hu t, (conduct_other m strays strays' fl gl f b u hu).idle t)
+  idle : (u : ℕ) → Flies m u f → has (us u) u ≡ false → IdleConduct (fl.account u f) × IdleConduct (gl.account u f)
+  idle u hu t = (idle_one m strays strays' stray fl gl f b u hu t, (conduct_other m strays strays' stray fl gl f b u hu).idle t)
 
   -- ---- catches
 
-  poll_same : (u : ℕ) → has m.units u ≡ true → (v : ℕ) →
+  poll_same : (u : ℕ) → Flies m u f → (v : ℕ) →
       poll_catches m (us u) (polled m u (fl.account u f) (fl.heard u f) (last_one u)) v ≡ poll_catches m (us u) (polled m u (gl.account u f) (gl.heard u f) (last_other u)) v
   poll_same u hu v = ap (λ t. has (us u) v && t) (any_same m.words _ _ (λ w low.
       ap (λ (place : ℕ → Option ℕ). m.executes (us u) w v && differs (place v) (majority_of (map place (executors m (us u) w))))
-      (polled_same m strays strays' fl gl f b w low (outs_same m strays strays' fl gl f b w (omega arith)) u hu)))
+      (polled_same m strays strays' stray fl gl f b w low (outs_same m strays strays' stray fl gl f b w (omega arith)) u hu)))
 
-  relay_same : (u : ℕ) → has m.units u ≡ true → (v : ℕ) → relay_catches m (us u) u f (fl.heard u f) v ≡ relay_catches m (us u) u f (gl.heard u f) v
+  relay_same : (u : ℕ) → Flies m u f → (v : ℕ) → relay_catches m (us u) u f (fl.heard u f) v ≡ relay_catches m (us u) u f (gl.heard u f) v
   relay_same u hu v = ap (λ t. has (us u) v && (not (nat_eq v u) && t)) (any_same m.sensors _ _ (λ x low.
-      ap (λ (place : ℕ → Option ℕ). nat_eq (reader_of (us u) x) u && differs (place v) (Some (m.sensed x f))) (alike (RelaySense x) (heard_relay m strays strays' fl gl f b x) u hu)))
+      ap (λ (place : ℕ → Option ℕ). nat_eq (reader_of (us u) x) u && differs (place v) (Some (m.sensed x f))) (alike (RelaySense x) (heard_relay m strays strays' stray fl gl f b x) u hu)))
 
-  clock_same : (u : ℕ) → has m.units u ≡ true → (v : ℕ) → clock_catches m (us u) u (fl.account u f).clk (fl.heard u f) v ≡ clock_catches m (us u) u (gl.account u f).clk (gl.heard u f) v
+  clock_same : (u : ℕ) → Flies m u f → (v : ℕ) → clock_catches m (us u) u (fl.account u f).clk (fl.heard u f) v ≡ clock_catches m (us u) u (gl.account u f).clk (gl.heard u f) v
   clock_same u hu v = λ i. has (us u) v && (not (nat_eq v u) && is_too_far (m.skew +ℤ m.error)
-      (reading_of (alike Clock (heard_clock m strays strays' fl gl f b) u hu i v) (b.clk u hu i) (m.errors u v)))
+      (reading_of (alike Clock (heard_clock m strays strays' stray fl gl f b) u hu i v) (b.clk u hu i) (m.errors u v)))
 
-  bad_same : (u : ℕ) → has m.units u ≡ true → (fl.account u f).bad ≡ (gl.account u f).bad
-  bad_same u hu = by_place m strays strays' fl gl f b (λ u. (fl.account u f).bad ≡ (gl.account u f).bad) u
+  bad_same : (u : ℕ) → Flies m u f → (fl.account u f).bad ≡ (gl.account u f).bad
+  bad_same u hu = by_place m strays strays' stray fl gl f b (λ u. (fl.account u f).bad ≡ (gl.account u f).bad) u
       (λ t.
       let cf = (one u hu t).conduct.catches in
       let cg = (other u hu t).conduct.catches in
@@ -88,41 +89,41 @@ module _ (m : FlownMission) (strays strays' : Strays) (fl gl : Flight) (f : ℕ)
   -- ---- reports, the next configuration and the next offset
 
   heard_report : HearAlike m fl gl f Report
-  heard_report = hear m strays strays' fl gl f b Report (say m strays strays' fl gl f b Report (λ u q hu t. ap (λ (c : Catches). Some (bits_of (everyone_in c))) (bad_same u hu)))
+  heard_report = hear m strays strays' stray fl gl f b Report (say m strays strays' stray fl gl f b Report (λ u q hu t. ap (λ (c : Catches). Some (bits_of (everyone_in c))) (bad_same u hu)))
 
   heard_relayed : (s : ℕ) → HearAlike m fl gl f (RelayReport s)
-  heard_relayed s = hear m strays strays' fl gl f b (RelayReport s)
-      (say m strays strays' fl gl f b (RelayReport s) (λ u q hu t. ap (λ (h : ℕ → Option ℕ). h s) (alike Report heard_report u hu)))
+  heard_relayed s = hear m strays strays' stray fl gl f b (RelayReport s)
+      (say m strays strays' stray fl gl f b (RelayReport s) (λ u q hu t. ap (λ (h : ℕ → Option ℕ). h s) (alike Report heard_report u hu)))
 
-  report_same : (u : ℕ) → has m.units u ≡ true → (r : ℕ) → report_of (us u) u (fl.account u f) (fl.heard u f) r ≡ report_of (us u) u (gl.account u f) (gl.heard u f) r
+  report_same : (u : ℕ) → Flies m u f → (r : ℕ) → report_of (us u) u (fl.account u f) (fl.heard u f) r ≡ report_of (us u) u (gl.account u f) (gl.heard u f) r
   report_same u hu r = λ i. if nat_eq r u then bits_of (everyone_in (bad_same u hu i)) else agreed_of (taken (us u) r u
       (λ q. alike Report heard_report u hu i r) (λ q p. alike (RelayReport r) (heard_relayed r) u hu i p))
 
-  pub next_cfg_same : (u : ℕ) → has m.units u ≡ true → (fl.account u f).next_cfg ≡ (gl.account u f).next_cfg
-  next_cfg_same u hu = by_place m strays strays' fl gl f b (λ u. (fl.account u f).next_cfg ≡ (gl.account u f).next_cfg) u
+  pub next_cfg_same : (u : ℕ) → Flies m u f → (fl.account u f).next_cfg ≡ (gl.account u f).next_cfg
+  next_cfg_same u hu = by_place m strays strays' stray fl gl f b (λ u. (fl.account u f).next_cfg ≡ (gl.account u f).next_cfg) u
       (λ t. (one u hu t).conduct.reports.next ∙ ((λ i. next_by (λ r v. has_bit (report_same u hu r i) v) (us u)) ∙ sym (other u hu t).conduct.reports.next))
       (λ t. let i = idle u hu t in i.0.next_cfg ∙ (b.cfg u hu ∙ sym i.1.next_cfg))
 
-  pub next_clk_same : (u : ℕ) → has m.units u ≡ true → (fl.account u f).next_clk ≡ (gl.account u f).next_clk
-  next_clk_same u hu = by_place m strays strays' fl gl f b (λ u. (fl.account u f).next_clk ≡ (gl.account u f).next_clk) u
+  pub next_clk_same : (u : ℕ) → Flies m u f → (fl.account u f).next_clk ≡ (gl.account u f).next_clk
+  next_clk_same u hu = by_place m strays strays' stray fl gl f b (λ u. (fl.account u f).next_clk ≡ (gl.account u f).next_clk) u
       (λ t. (one u hu t).conduct.clocks.next ∙ ((λ i. next_offset (m.skew +ℤ m.error) (us u)
-      (λ p. reading_of (alike Clock (heard_clock m strays strays' fl gl f b) u hu i p) (b.clk u hu i) (m.errors u p)) (b.clk u hu i) u (m.drift u)) ∙ sym (other u hu t).conduct.clocks.next))
+      (λ p. reading_of (alike Clock (heard_clock m strays strays' stray fl gl f b) u hu i p) (b.clk u hu i) (m.errors u p)) (b.clk u hu i) u (m.drift u)) ∙ sym (other u hu t).conduct.clocks.next))
       (λ t. let i = idle u hu t in i.0.next_clk ∙ (b.clk u hu ∙ sym i.1.next_clk))
 
-  idle_same : (u : ℕ) → has m.units u ≡ true → (fl.account u f).idle ≡ (gl.account u f).idle
-  idle_same u hu = by_place m strays strays' fl gl f b (λ u. (fl.account u f).idle ≡ (gl.account u f).idle) u
+  idle_same : (u : ℕ) → Flies m u f → (fl.account u f).idle ≡ (gl.account u f).idle
+  idle_same u hu = by_place m strays strays' stray fl gl f b (λ u. (fl.account u f).idle ≡ (gl.account u f).idle) u
       (λ t. (one u hu t).busy ∙ sym (other u hu t).busy)
       (λ t. let i = idle u hu t in i.0.idle ∙ sym i.1.idle)
 
   -- ---- all of it
 
-  account_same : (u : ℕ) → has m.units u ≡ true → fl.account u f ≡ gl.account u f
+  account_same : (u : ℕ) → Flies m u f → fl.account u f ≡ gl.account u f
   account_same u hu = λ i. record {
     cfg = b.cfg u hu i;
     idle = idle_same u hu i;
     clk = b.clk u hu i;
-    ins = ins_same m strays strays' fl gl f b u hu i;
-    outs = all_outs m strays strays' fl gl f b u hu i;
+    ins = ins_same m strays strays' stray fl gl f b u hu i;
+    outs = all_outs m strays strays' stray fl gl f b u hu i;
     bad = bad_same u hu i;
     next_cfg = next_cfg_same u hu i;
     next_clk = next_clk_same u hu i;
@@ -130,21 +131,21 @@ module _ (m : FlownMission) (strays strays' : Strays) (fl gl : Flight) (f : ℕ)
 
   -- each slot of the mission is heard alike; no other is heard at all
   heard_slot : (k : Slot) → HearAlike m fl gl f k
-  heard_slot Clock = heard_clock m strays strays' fl gl f b
-  heard_slot (Sense x) = heard_sense m strays strays' fl gl f b x
-  heard_slot (RelaySense x) = heard_relay m strays strays' fl gl f b x
-  heard_slot (Out w) = heard_out m strays strays' fl gl f b w (λ low. outs_same m strays strays' fl gl f b w (omega arith))
+  heard_slot Clock = heard_clock m strays strays' stray fl gl f b
+  heard_slot (Sense x) = heard_sense m strays strays' stray fl gl f b x
+  heard_slot (RelaySense x) = heard_relay m strays strays' stray fl gl f b x
+  heard_slot (Out w) = heard_out m strays strays' stray fl gl f b w (λ low. outs_same m strays strays' stray fl gl f b w (omega arith))
   heard_slot Report = heard_report
   heard_slot (RelayReport s) = heard_relayed s
 
-  heard_same : (u : ℕ) → has m.units u ≡ true → fl.heard u f ≡ gl.heard u f
+  heard_same : (u : ℕ) → Flies m u f → fl.heard u f ≡ gl.heard u f
   heard_same u hu = λ i k. alike k (heard_slot k) u hu i
 
-  said_same : (u : ℕ) → has m.units u ≡ true → fl.said u f ≡ gl.said u f
+  said_same : (u : ℕ) → Flies m u f → fl.said u f ≡ gl.said u f
   said_same u hu = λ i k q. (
-      (conduct_one m strays strays' fl gl f b u hu).said k q
+      (conduct_one m strays strays' stray fl gl f b u hu).said k q
       ∙ ((λ j. said_of m (b.cfg u hu j) u f (account_same u hu j) (heard_same u hu j) (b.last u hu j) k q)
-      ∙ sym ((conduct_other m strays strays' fl gl f b u hu).said k q))) i
+      ∙ sym ((conduct_other m strays strays' stray fl gl f b u hu).said k q))) i
 
-  pub same_here : (u : ℕ) → has m.units u ≡ true → AreSameAt fl gl u f
+  pub same_here : (u : ℕ) → Flies m u f → AreSameAt fl gl u f
   same_here u hu = record { account = account_same u hu; said = said_same u hu; heard = heard_same u hu }

@@ -12,13 +12,14 @@ use Rattle.sift_config.specs.Config.{reader_of}
 use Rattle.sift_mission.specs.Mission.{FlownMission}
 use Rattle.sift_mission.specs.Slots.{executors, is_held}
 use Rattle.sift_conduct.specs.Conduct.{input_of, made, polled, voted}
-use Rattle.sift_conduct.specs.Frames.{last_of, BusyConduct, IdleConduct}
+use Rattle.sift_conduct.specs.Frames.{last_of, BusyConduct, Flies, IdleConduct}
 use Rattle.sift_flight.specs.Flight.{Flight, config_of}
 use Rattle.sift_flight.specs.Hearing.{Strays}
+use Rattle.sift_flight.specs.Existence.{StrayHearing}
 use Rattle.sift_flight.proofs.Calls.{call_of}
 use Rattle.sift_flight.proofs.Same.{AreBothRound, HearAlike, conduct_other, busy_one, idle_one, by_place, say, hear}
 
-module _ (m : FlownMission) (strays strays' : Strays) (fl gl : Flight) (f : ℕ) (b : AreBothRound m strays strays' fl gl f) where
+module _ (m : FlownMission) (strays strays' : Strays) (stray : StrayHearing) (fl gl : Flight) (f : ℕ) (b : AreBothRound m strays strays' stray fl gl f) where
   abbrev us : ℕ → List ℕ
   us u = config_of gl u f
 
@@ -29,27 +30,27 @@ module _ (m : FlownMission) (strays strays' : Strays) (fl gl : Flight) (f : ℕ)
   last_other u = last_of m (gl.account u) f
 
   pub heard_clock : HearAlike m fl gl f Clock
-  heard_clock = hear m strays strays' fl gl f b Clock (say m strays strays' fl gl f b Clock (λ u q hu t. ap (λ c. Some (word_of c)) (b.clk u hu)))
+  heard_clock = hear m strays strays' stray fl gl f b Clock (say m strays strays' stray fl gl f b Clock (λ u q hu t. ap (λ c. Some (word_of c)) (b.clk u hu)))
 
   pub heard_sense : (x : ℕ) → HearAlike m fl gl f (Sense x)
-  heard_sense x = hear m strays strays' fl gl f b (Sense x) (say m strays strays' fl gl f b (Sense x) (λ u q hu t. refl))
+  heard_sense x = hear m strays strays' stray fl gl f b (Sense x) (say m strays strays' stray fl gl f b (Sense x) (λ u q hu t. refl))
 
   pub heard_relay : (x : ℕ) → HearAlike m fl gl f (RelaySense x)
-  heard_relay x = hear m strays strays' fl gl f b (RelaySense x) (say m strays strays' fl gl f b (RelaySense x) (λ u q hu t. ap (λ h. h (reader_of (us u) x)) (heard_sense x u hu)))
+  heard_relay x = hear m strays strays' stray fl gl f b (RelaySense x) (say m strays strays' stray fl gl f b (RelaySense x) (λ u q hu t. ap (λ h. h (reader_of (us u) x)) (heard_sense x u hu)))
 
   -- the busy conduct of both
-  abbrev one : (u : ℕ) → has m.units u ≡ true → has (us u) u ≡ true → BusyConduct m (us u) u f (fl.account u f) (fl.heard u f) (last_one u)
-  one u hu t = busy_one m strays strays' fl gl f b u hu t
+  abbrev one : (u : ℕ) → Flies m u f → has (us u) u ≡ true → BusyConduct m (us u) u f (fl.account u f) (fl.heard u f) (last_one u)
+  one u hu t = busy_one m strays strays' stray fl gl f b u hu t
 
-  abbrev other : (u : ℕ) → has m.units u ≡ true → has (us u) u ≡ true → BusyConduct m (us u) u f (gl.account u f) (gl.heard u f) (last_other u)
-  other u hu t = (conduct_other m strays strays' fl gl f b u hu).busy t
+  abbrev other : (u : ℕ) → Flies m u f → has (us u) u ≡ true → BusyConduct m (us u) u f (gl.account u f) (gl.heard u f) (last_other u)
+  other u hu t = (conduct_other m strays strays' stray fl gl f b u hu).busy t
 
-  abbrev idle : (u : ℕ) → has m.units u ≡ true → has (us u) u ≡ false → IdleConduct (fl.account u f) × IdleConduct (gl.account u f)
-  idle u hu t = (idle_one m strays strays' fl gl f b u hu t, (conduct_other m strays strays' fl gl f b u hu).idle t)
+  abbrev idle : (u : ℕ) → Flies m u f → has (us u) u ≡ false → IdleConduct (fl.account u f) × IdleConduct (gl.account u f)
+  idle u hu t = (idle_one m strays strays' stray fl gl f b u hu t, (conduct_other m strays strays' stray fl gl f b u hu).idle t)
 
   -- the inputs are the same
-  pub ins_same : (u : ℕ) → has m.units u ≡ true → (fl.account u f).ins ≡ (gl.account u f).ins
-  ins_same u hu = by_place m strays strays' fl gl f b (λ u. (fl.account u f).ins ≡ (gl.account u f).ins) u
+  pub ins_same : (u : ℕ) → Flies m u f → (fl.account u f).ins ≡ (gl.account u f).ins
+  ins_same u hu = by_place m strays strays' stray fl gl f b (λ u. (fl.account u f).ins ≡ (gl.account u f).ins) u
       (λ t.
       let cf = (one u hu t).conduct.sensors in
       let cg = (other u hu t).conduct.sensors in
@@ -63,9 +64,9 @@ module _ (m : FlownMission) (strays strays' : Strays) (fl gl : Flight) (f : ℕ)
 
   -- words below a number are voted alike
   pub SameOuts : ℕ → Type 0
-  SameOuts n = (w u : ℕ) → w < n → has m.units u ≡ true → slice_index (fl.account u f).outs w ≡ slice_index (gl.account u f).outs w
+  SameOuts n = (w u : ℕ) → w < n → Flies m u f → slice_index (fl.account u f).outs w ≡ slice_index (gl.account u f).outs w
 
-  pub made_same : (w : ℕ) → w < m.words → SameOuts w → (u : ℕ) → has m.units u ≡ true → made m (fl.account u f) (last_one u) w ≡ made m (gl.account u f) (last_other u) w
+  pub made_same : (w : ℕ) → w < m.words → SameOuts w → (u : ℕ) → Flies m u f → made m (fl.account u f) (last_one u) w ≡ made m (gl.account u f) (last_other u) w
   unfolding SameOuts
   made_same w low outs u hu =
       b.fits.read.reads w (fl.account u f).ins (fl.account u f).ins (fl.account u f).outs (gl.account u f).outs (last_one u) low (λ x x_low t. refl)
@@ -73,19 +74,19 @@ module _ (m : FlownMission) (strays strays' : Strays) (fl gl : Flight) (f : ℕ)
       ∙ (λ i. m.word w (ins_same u hu i) (gl.account u f).outs (b.last u hu i))
 
   pub heard_out : (w : ℕ) → (w < m.words → SameOuts w) → HearAlike m fl gl f (Out w)
-  heard_out w outs = hear m strays strays' fl gl f b (Out w) (say m strays strays' fl gl f b (Out w) (λ u q hu t.
+  heard_out w outs = hear m strays strays' stray fl gl f b (Out w) (say m strays strays' stray fl gl f b (Out w) (λ u q hu t.
       let low = ltb-true w m.words (call_of m (us u) (Out w) u q t).slot in ap (λ n. Some n) (made_same w low (outs low) u hu)))
 
-  pub polled_same : (w : ℕ) → w < m.words → SameOuts w → (u : ℕ) → has m.units u ≡ true
+  pub polled_same : (w : ℕ) → w < m.words → SameOuts w → (u : ℕ) → Flies m u f
       → polled m u (fl.account u f) (fl.heard u f) (last_one u) w ≡ polled m u (gl.account u f) (gl.heard u f) (last_other u) w
   polled_same w low outs u hu = λ i v. if nat_eq v u then Some (made_same w low outs u hu i) else heard_out w (λ z. outs) u hu i v
 
-  voted_same : (w : ℕ) → w < m.words → SameOuts w → (u : ℕ) → has m.units u ≡ true
+  voted_same : (w : ℕ) → w < m.words → SameOuts w → (u : ℕ) → Flies m u f
       → voted m (us u) u (fl.account u f) (fl.heard u f) (last_one u) w ≡ voted m (us u) u (gl.account u f) (gl.heard u f) (last_other u) w
   voted_same w low outs u hu = λ i. if is_held m (us u) w then slice_index (b.last u hu i) w else agreed_of (map (polled_same w low outs u hu i) (executors m (us u) w))
 
-  vote_same : (w : ℕ) → w < m.words → SameOuts w → (u : ℕ) → has m.units u ≡ true → slice_index (fl.account u f).outs w ≡ slice_index (gl.account u f).outs w
-  vote_same w low outs u hu = by_place m strays strays' fl gl f b (λ u. slice_index (fl.account u f).outs w ≡ slice_index (gl.account u f).outs w) u
+  vote_same : (w : ℕ) → w < m.words → SameOuts w → (u : ℕ) → Flies m u f → slice_index (fl.account u f).outs w ≡ slice_index (gl.account u f).outs w
+  vote_same w low outs u hu = by_place m strays strays' stray fl gl f b (λ u. slice_index (fl.account u f).outs w ≡ slice_index (gl.account u f).outs w) u
       (λ t. (one u hu t).conduct.tasks.votes w low ∙ (voted_same w low outs u hu ∙ sym ((other u hu t).conduct.tasks.votes w low)))
       (λ t. let i = idle u hu t in ap (λ l. slice_index l w) (i.0.outs ∙ sym i.1.outs))
 
@@ -97,9 +98,9 @@ module _ (m : FlownMission) (strays strays' : Strays) (fl gl : Flight) (f : ℕ)
       subst (λ v. slice_index (fl.account u f).outs v ≡ slice_index (gl.account u f).outs v) e (vote_same n few (outs_same n (omega arith)) u hu)) (cases_lt w n)
 
   -- all outputs
-  pub all_outs : (u : ℕ) → has m.units u ≡ true → (fl.account u f).outs ≡ (gl.account u f).outs
+  pub all_outs : (u : ℕ) → Flies m u f → (fl.account u f).outs ≡ (gl.account u f).outs
   unfolding SameOuts
-  all_outs u hu = by_place m strays strays' fl gl f b (λ u. (fl.account u f).outs ≡ (gl.account u f).outs) u
+  all_outs u hu = by_place m strays strays' stray fl gl f b (λ u. (fl.account u f).outs ≡ (gl.account u f).outs) u
       (λ t.
       let cf = (one u hu t).conduct.tasks in
       let cg = (other u hu t).conduct.tasks in

@@ -16,8 +16,7 @@ use Rattle.sift_flight.specs.Configuration.{config_at, lead_of, working_at, offs
 use Rattle.sift_flight.specs.Figures.{is_sound_at, margin_before, skew_of, slack_of}
 use Rattle.sift_flight.proofs.Configs.{filter_has}
 use Rattle.sift_flight.proofs.Leading.{lead_works, config_within}
-use Rattle.sift_flight.proofs.Unique.{both_round}
-use Rattle.sift_flight.proofs.SameFrame.{same_here}
+use Rattle.sift_flight.proofs.Unique.{at_most_one_flight_is_round, flies_always, inside as units_inside}
 
 -- what is the same at each unit of a list is the same of the list
 pub map-same : {A : Type 0} (f g : ℕ → A) (us : List ℕ) → ((u : ℕ) → has us u ≡ true → f u ≡ g u) → map f us ≡ map g us
@@ -29,7 +28,7 @@ module _ (m : FlownMission) (s s' : Strays) (fl gl : Flight) (flyable : IsFlyabl
     (R : IsRound m s fl) (S : IsRound m s' gl) where
   -- each unit tells the same in each frame
   same_unit : (u f : ℕ) → has m.units u ≡ true → f < m.frames → AreSameAt fl gl u f
-  same_unit u f hu low = same_here m s s' fl gl f (both_round m s s' fl gl flyable.fits calm R S f low) u hu
+  same_unit u f hu low = at_most_one_flight_is_round m s s' fl gl flyable.fits calm R S u f hu low
 
   -- the lead unit is one of the mission
   lead_in : (f : ℕ) → has m.units (lead_of m f) ≡ true
@@ -43,7 +42,7 @@ module _ (m : FlownMission) (s s' : Strays) (fl gl : Flight) (flyable : IsFlyabl
   -- and its units are the mission's
   inside : (f : ℕ) → f < m.frames → (p : ℕ) → has (config_at m gl f) p ≡ true → has m.units p ≡ true
   inside f low p h =
-      (both_round m s s' fl gl flyable.fits calm R S f low).inside (lead_of m f) p (lead_in f) (subst (λ us. has us p ≡ true) (config_within m gl f low) h)
+      units_inside m s' gl S f low (lead_of m f) p (flies_always m calm (lead_of m f) f (lead_in f)) (subst (λ us. has us p ≡ true) (config_within m gl f low) h)
 
   -- the configuration after the last frame is the same
   same_end : (f : ℕ) → nat_lt f m.frames ≡ false → f ≤ m.frames → config_at m fl f ≡ config_at m gl f

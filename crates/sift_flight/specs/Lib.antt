@@ -2,6 +2,7 @@ pub mod Flight
 pub mod Told
 pub mod Hearing
 pub mod Round
+pub mod Existence
 pub mod Landing
 pub mod Homing
 pub mod Configuration

@@ -1,6 +1,7 @@
-//! The laws of flights: where round flights come from, that there is at most one, and the headline.
+//! The laws of flights: where round flights come from, that there is one and at most one, and the headline.
 
 ghost use Rattle.sift_flight.specs.Calms.{CalmMissionsFly};
+ghost use Rattle.sift_flight.specs.Existence.{AtMostOneHearsThem, EachMissionHasARoundFlight, EachStrayHearingHasARoundFlight};
 ghost use Rattle.sift_flight.specs.Headline.{HeadlineHolds};
 ghost use Rattle.sift_flight.specs.Homing.{FlightsThatComeHomeAreRound};
 ghost use Rattle.sift_flight.specs.Landing.{LawfulCoresHearLawfully, UnitsHearByTheEquations, LandedFramesAreRound};
@@ -26,6 +27,21 @@ pub fn landed_frames_are_round()
 /// What a flight that has come home from a lawful core tells is a round flight over the core's strays.
 pub fn flights_that_come_home_are_round()
     ensures { FlightsThatComeHomeAreRound }
+{}
+
+/// Each mission that fits has a round flight over any strays.
+pub fn each_mission_has_a_round_flight()
+    ensures { EachMissionHasARoundFlight }
+{}
+
+/// Whatever units may hear of the strays of those that have turned, they hear it in a round flight.
+pub fn each_stray_hearing_has_a_round_flight()
+    ensures { EachStrayHearingHasARoundFlight }
+{}
+
+/// They hear it in one alone: two round flights in which the same is heard of strays are the same at each unit that hasn't turned.
+pub fn at_most_one_flight_hears_them()
+    ensures { AtMostOneHearsThem }
 {}
 
 /// A mission without storms has at most one round flight: two of them are the same in each account

@@ -1,0 +1,82 @@
+-- The flight that is made is round.
+use Rattle.std.proofs.Common.{◌≡◌, inl, inr, ℕ, zero, suc, true, false, unwrap_or, refl, ap, ◌∙◌, subst, eq-eqb, ne_eqb}
+use Rattle.std.proofs.lemmas.Bool.{cases_Bool}
+use Rattle.sift_base.specs.declared.slot.Slot.{Slot}
+use Rattle.sift_mission.specs.Mission.{FlownMission}
+use Rattle.sift_mission.specs.Slots.{calls, stamp_of, has_turned}
+use Rattle.sift_mission.specs.Fits.{Fits}
+use Rattle.sift_conduct.specs.Conduct.{said_of}
+use Rattle.sift_conduct.specs.Frames.{BeginConduct, BusyConduct, FrameConduct, Flies, last_of}
+use Rattle.sift_flight.specs.Flight.{Flight, config_of}
+use Rattle.sift_flight.specs.Hearing.{Strays, Hears}
+use Rattle.sift_flight.specs.Hearing.IsOfStray.{absent}
+use Rattle.sift_flight.specs.Round.{IsSilent, IsRound}
+use Rattle.sift_flight.specs.Existence.{StrayHearing, IsOfStrays, HearsStrays, EachMissionHasARoundFlight, EachStrayHearingHasARoundFlight}
+use Rattle.sift_flight.proofs.Making.{Start, own_by, out_word, report_word, said_by, start_of, made_flight}
+use Rattle.sift_flight.proofs.Unique.{nothing}
+use Rattle.sift_flight.proofs.MadeFrame.{own_is, busy_here, idle_here}
+
+module _ (m : FlownMission) (strays : Strays) (stray : StrayHearing) (fits : Fits m) (allowed : IsOfStrays m strays stray) where
+  abbrev fl : Flight
+  fl = made_flight m stray
+
+  abbrev start : ℕ → ℕ → Start
+  start f = start_of m stray f
+
+  -- each frame begins as it ought to
+  begins : (u f : ℕ) → BeginConduct m u (fl.account u) f
+  begins u zero = record { cfg = refl; clk = refl }
+  begins u (suc f) = record { cfg = refl; clk = refl }
+
+  last_is : (u f : ℕ) → (start f u).last ≡ last_of m (fl.account u) f
+  last_is u zero = refl
+  last_is u (suc f) = refl
+
+  -- what a unit hears of one that has not turned is what that one says of its own word
+  heard_said : (f : ℕ) (k : Slot) (p q : ℕ) → Flies m q f → calls m (config_of fl q f) k p q ≡ true → has_turned m p f ≡ false →
+      m.due (config_of fl p f) k ≡ m.due (config_of fl q f) k →
+      fl.heard q f k p ≡ said_by m stray f (start f) (own_by m stray f (start f) (out_word m stray f (start f)) (report_word m stray f (start f)) k) k p q
+  heard_said f k p q w t whole due = rw (w.whole, t, whole, eq-eqb _ _ due) refl
+
+  -- and that is what was said
+  as_said : (f : ℕ) (k : Slot) (p q : ℕ) → has_turned m p f ≡ false →
+      said_by m stray f (start f) (own_by m stray f (start f) (out_word m stray f (start f)) (report_word m stray f (start f)) k) k p q ≡ fl.said p f k q
+  as_said f k p q whole = elim (cases_Bool (calls m (start f p).cfg k p q)) [
+    | inl t ↦ rw (whole, t) (ap (λ w. unwrap_or (m.override p f k q) w) (own_is m stray f (start f) fits k p q t))
+    | inr t ↦ rw (whole, t) refl
+  ]
+
+  -- so units hear by the hearing equations
+  hearing : (f q : ℕ) (k : Slot) (p : ℕ) → Flies m q f → Hears m strays fl q f k p
+  hearing f q k p w = record {
+    called = λ t. record {
+      as_said = λ whole due. heard_said f k p q w t whole due ∙ as_said f k p q whole;
+      apart = λ whole other. rw (w.whole, t, whole, ne_eqb _ _ other) refl;
+      strayed = λ turned. rw (w.whole, t, turned) (allowed q f k p (stamp_of m (config_of fl q f) f k));
+    };
+    silent = λ t. rw (w.whole, t) refl;
+  }
+
+  conduct : (f u : ℕ) → Flies m u f → FrameConduct m u (fl.account u) (fl.heard u) (fl.said u) f
+  conduct f u w = record {
+    begins = begins u f;
+    said = λ k q. rw w.whole (ap (λ last. said_of m (config_of fl u f) u f (fl.account u f) (fl.heard u f) last k q) (last_is u f));
+    busy = λ t. subst (λ last. BusyConduct m (config_of fl u f) u f (fl.account u f) (fl.heard u f) last) (last_is u f) (busy_here m stray f (start f) fits u t);
+    idle = λ t. idle_here m stray f (start f) fits u t;
+  }
+
+  silent : (f u : ℕ) → has_turned m u f ≡ true → IsSilent fl u f
+  silent f u turned = record { said = λ k q. rw turned refl; heard = λ k p. rw turned refl }
+
+  made_round : IsRound m strays fl
+  made_round f low = record { hearing = hearing f; conduct = conduct f; turned = λ u hu turned. silent f u turned }
+
+  made_hears : HearsStrays m stray fl
+  made_hears f low q k p w turned t = rw (w.whole, t, turned) refl
+
+pub each_stray_hearing_has_a_round_flight : EachStrayHearingHasARoundFlight
+each_stray_hearing_has_a_round_flight m strays stray fits allowed =
+    (made_flight m stray, made_round m strays stray fits allowed, made_hears m strays stray fits allowed)
+
+pub each_mission_has_a_round_flight : EachMissionHasARoundFlight
+each_mission_has_a_round_flight m strays fits = (made_flight m nothing, made_round m strays nothing fits (λ q f k p s. absent refl))
