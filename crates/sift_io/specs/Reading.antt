@@ -65,7 +65,7 @@ abbrev pub TakesAll : Inflow → Inflow → List ℕ → ℕ → Type 0
 TakesAll old new bytes limit = Consumes old.left new.left bytes × IsAtEnd new.left × (length bytes ≤ limit) × CountsOneEnd old new
 
 -- a whole read that stops took the byte past the limit, or stopped before that one, at a fault or for want of memory; it met
--- no end, and no read failed but the one that stopped it
+-- no end, and where no fault stopped it no read failed
 abbrev pub StopsReading : ReadStop → Inflow → Inflow → ℕ → Type 0
 StopsReading TooLong old new limit = TakesExactly old new (limit + 1) × CountsNothing old new
 StopsReading Faulty old new limit = Rose old.faults new.faults × TakesAtMost old new limit × (new.ends ≡ old.ends)
