@@ -1,4 +1,4 @@
-use Rattle.std.proofs.Common.{◌≡◌, ◌∙◌, ◌+◌, length, sym, arith}
+use Rattle.std.proofs.Common.{◌≡◌, ◌∙◌, length, sym, arith}
 use Rattle.std.proofs.lemmas.Bool.{eqb-true}
 use Rattle.sift_judge_jobs.proofs.Steps.{finished, one_more, stops}
 use Rattle.sift_judge_jobs.proofs.lines.read_lines.Goals as goal
@@ -7,7 +7,7 @@ use Rattle.sift_judge_jobs.proofs.lines.read_lines.Goals as goal
 pub returns-in_default-clause-refused : goal.returns-in_default-clause-refused
 returns-in_default-clause-refused c =
     stops c.args.version c.args.report.now c.loop-rest.rest.now c.loop-rest.lines.items c.loop-rest.invariant c.in_default.ensures.none
-    (c.len.result + 1) (omega (arith, c.len.ensures, c.loop-rest.lines.ok))
+    _ (omega (arith, c.len.ensures, c.loop-rest.lines.ok))
 
 -- the rest gets shorter
 pub loop-rest-smaller : goal.loop-rest-smaller
