@@ -1,4 +1,5 @@
 pub mod Alike
+pub mod Existing
 pub mod Headlined
 pub mod Planned
 pub mod Statuses

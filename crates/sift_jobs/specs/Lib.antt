@@ -10,3 +10,4 @@ pub mod Check
 pub mod Gen
 pub mod Trial
 pub mod Headline
+pub mod Existence

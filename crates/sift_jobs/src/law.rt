@@ -2,6 +2,7 @@
 
 ghost use Rattle.std.specs.Prelude.{ℕ, List, [], ◌∷◌, ◌++◌};
 ghost use Rattle.sift_jobs.specs.Check.{check_duty};
+ghost use Rattle.sift_jobs.specs.Existence.{MissionsHaveFlights, TrialsAreThere, VotesAreThere};
 ghost use Rattle.sift_jobs.specs.Flights.{AreCalm};
 ghost use Rattle.sift_jobs.specs.Gen.{gen_duty};
 ghost use Rattle.sift_jobs.specs.Headline.{RunIsHeadlined};
@@ -27,7 +28,7 @@ use crate::order::FlightOrder;
 use crate::plan::PlanJob;
 use crate::run::RunJob;
 use crate::votes::VotesJob;
-use sift_flight::round_flights_are_alike;
+use sift_flight::{each_mission_has_a_round_flight, round_flights_are_alike};
 use sift_gen::one_text_of_a_number;
 use sift_load::{loading_gives_one, loading_has_own_statuses};
 use sift_mission::fitting_parts_make_a_flight;
@@ -36,7 +37,7 @@ use sift_program::sound_programs_have_shapes;
 use sift_reply::NoWork;
 use sift_report::{alike_flights_have_one_text, the_headline_is_printed};
 use sift_scenario::{one_mission, stated_missions_fit};
-use sift_trial::drawn_missions_have_no_storms;
+use sift_trial::{drawn_missions_have_no_storms, drawn_trees_are_missions};
 
 /// `run` ends with 0, or with the status of bytes that state no mission.
 pub fn run_has_own_statuses<F: Flier>()
@@ -157,4 +158,16 @@ pub fn run_is_headlined<F: Flier>()
 {
     stated_missions_fit();
     the_headline_is_printed();
+}
+
+/// Each mission has a flight over any strays that the rogues may give, so `votes` and `trial` have a reply.
+pub fn missions_have_flights<F: Flier>()
+    ensures flights { (flier : F) → MissionsHaveFlights (F.gives flier) }
+    ensures votes { (flier : F) → VotesAreThere (F.gives flier) }
+    ensures trials { (flier : F) → TrialsAreThere (F.gives flier) }
+{
+    fitting_parts_make_a_flight();
+    each_mission_has_a_round_flight();
+    stated_missions_fit();
+    drawn_trees_are_missions();
 }
