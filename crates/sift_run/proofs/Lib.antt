@@ -2,3 +2,4 @@ pub mod Each
 pub mod Headline
 pub mod One
 pub mod Statuses
+pub mod Stated

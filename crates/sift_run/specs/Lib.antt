@@ -3,3 +3,4 @@ pub mod Command
 pub mod Headline
 pub mod Statuses
 pub mod OneReply
+pub mod Stated

@@ -4,6 +4,7 @@ ghost use Rattle.sift_reply.specs.Laws.{ShareNoStatus};
 ghost use Rattle.sift_run.specs.Command.{OneCommand, commands};
 ghost use Rattle.sift_run.specs.Headline.{HeadlineIsWritten};
 ghost use Rattle.sift_run.specs.OneReply.{CommandsGiveOne};
+ghost use Rattle.sift_run.specs.Stated.{MissionsAreAnswered, MissionsEndWell};
 ghost use Rattle.sift_run.specs.Statuses.{CommandsHaveOwnStatuses, StatusesAreKnown};
 
 use crate::command::Command;
@@ -18,6 +19,7 @@ use sift_judge_jobs::{judge_gives_one, judge_has_own_statuses};
 use sift_lab_jobs::{
     byz_gives_one, byz_has_own_statuses, clocks_give_one, clocks_have_own_statuses,
 };
+use sift_load::bytes_state_one_mission;
 use sift_options::one_list_of_options;
 use sift_reply::statuses_are_explained;
 
@@ -81,4 +83,14 @@ pub fn statuses_are_known<F: Flier + BusFlier>()
     one_command();
     commands_have_own_statuses::<F>();
     statuses_are_explained::<F, FlightOrder<F>, Command>();
+}
+
+/// An input that states a mission gets a reply that the command gives for it, or memory was wanting, where neither side fails; and
+/// 0 or 10 from a command that does what was asked for each mission. No flight is asked of the caller.
+pub fn missions_are_answered<F: Flier + BusFlier>()
+    ensures answered { (flier : F) → MissionsAreAnswered (F.gives flier) }
+    ensures well { (flier : F) → MissionsEndWell (F.gives flier) }
+{
+    one_command();
+    bytes_state_one_mission();
 }
