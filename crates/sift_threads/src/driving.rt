@@ -5,18 +5,15 @@ ghost use Rattle.sift_threads.specs.Going.{IsHome, AtEachPlace};
 
 use crate::bell::Bell;
 use crate::pilot::{Pilot, Went};
-use std::hint;
+use crossbeam_utils::Backoff;
 use std::sync::Wait;
 use std::sync::atomic::{AtomicBool, Ordering};
 
 /// How many steps a pilot makes at most before the next pilot of its hand has its turn.
 const STEPS: u32 = 256;
 
-/// How often a thread looks again at pilots that all wait, before it sleeps. It comes to some ten microseconds.
-const LOOKS: u32 = 64;
-
-/// How often a thread spins before it looks again: a few times, so that it sees soon that it may go on.
-const SPINS: u32 = 2;
+/// How often a thread looks again at pilots that all wait, before it sleeps.
+const LOOKS: u32 = 10;
 
 /// How often a thread sleeps in a row before it gives up: then nobody has moved for a second or more, as where another
 /// thread couldn't be started.
@@ -55,11 +52,13 @@ fn turn_each<P: Pilot, B: Bell>(hand: &mut [P], bell: &B) -> Went
     all
 }
 
-/// How a thread waits: how often it has looked and slept since one of its pilots moved.
+/// How a thread waits: how often it has looked and slept since one of its pilots moved, and for how long it spins
+/// before it looks again.
 #[derive(Drop)]
 struct Patience {
     looks: u32,
     sleeps: u32,
+    wait: Backoff,
 }
 
 impl Patience {
@@ -68,6 +67,7 @@ impl Patience {
         Patience {
             looks: 0,
             sleeps: 0,
+            wait: Backoff::new(),
         }
     }
 
@@ -84,13 +84,12 @@ impl Patience {
             Went::Moved | Went::Home => {
                 self.looks = 0;
                 self.sleeps = 0;
+                self.wait.reset();
             }
             Went::Waits { unit, seen } => {
                 if self.looks < LOOKS {
                     self.looks += 1;
-                    for _ in 0..SPINS {
-                        hint::spin_loop();
-                    }
+                    self.wait.spin();
                 } else {
                     self.sleeps = self.sleeps.saturating_add(1);
                     bell.sleep_while(rt, unit, seen);
