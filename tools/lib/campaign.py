@@ -10,7 +10,6 @@ from reports import read_ideal
 
 LONGEST = 2.0  # seconds of a batch, by the time that the mission took without faults
 GOLDEN = (math.sqrt(5) - 1) / 2
-BATCHES_EACH = 2  # so many for each processor at least, so that all of them end together
 
 
 def read(path):
@@ -53,8 +52,10 @@ class Campaign:
         """How many runs a batch has."""
         if self.options["batch"]:
             return self.options["batch"]
-        even = -(-len(self.numbers()) // (BATCHES_EACH * self.options["processors"]))
-        return max(1, min(even, int(LONGEST / self.options["flight"])))
+        # As many for each processor, so that all of them end together.
+        runs, processors = len(self.numbers()), self.options["processors"]
+        rounds = math.ceil(runs / (processors * max(1, int(LONGEST / self.options["flight"]))))
+        return math.ceil(runs / (processors * rounds))
 
     def batches(self):
         """The numbers of the batches, from 1."""
