@@ -40,6 +40,7 @@ floatless_tasks : (tasks sensors x : ℕ) → NoItemHasFloat (items_in (task_tab
 floatless_tasks tasks sensors x =
     floatless_list (λ t. task_table t sensors (task_place t x)) 0 tasks (λ t. floatless_task t sensors (task_place t x))
 
+-- the tree of every number has no float in it
 pub floatless_tree : (n : ℕ) → NoMemberHasFloat (tree_of n)
 floatless_tree n =
     floatless_document (unit_count n) (frame_count n) (sensor_tables (sensor_count n) (sensor_place n))

@@ -42,6 +42,7 @@ shallow_tasks : (tasks sensors x : ℕ) → items_depth (items_in (task_tables t
 shallow_tasks tasks sensors x =
     shallow_list 2 (λ t. task_table t sensors (task_place t x)) 0 tasks (λ t. shallow_task t sensors (task_place t x))
 
+-- in the tree of every number arrays and tables nest 80 deep at most
 pub shallow_tree : (n : ℕ) → members_depth (tree_of n) ≤ 80
 shallow_tree n =
     shallow_document (unit_count n) (frame_count n) (sensor_tables (sensor_count n) (sensor_place n))

@@ -176,10 +176,12 @@ pub record Begins (flags : List Flag) (options all : Options) (flag : Flag) (val
   pub sets : Sets options flag value after
   pub adds : Adds flags after rest all
 
+-- an empty list of words begins with no option
 pub no_words : (flags : List Flag) (flag : Flag) (value : List ℕ) (rest : List (List ℕ)) → BeginWith flags [] flag value rest → ⊥
 no_words flags flag value rest (_, inl e) = omega (arith, ap length e)
 no_words flags flag value rest (_, inr e) = omega (arith, ap length e)
 
+-- words that give options and begin with one set it, and the words behind it give the others
 pub begins : (flags : List Flag) (options all : Options) (words : List (List ℕ)) (flag : Flag) (value : List ℕ) (rest : List (List ℕ)) →
     BeginWith flags words flag value rest → Adds flags options words all → Begins flags options all flag value rest
 begins flags options all words flag value rest begin (none o) = absurd (no_words flags flag value rest begin)
@@ -200,8 +202,10 @@ adds_nothing flags options all words begin (more o after a g w ws s begin' sets 
 
 -- ---- what is there
 
+-- `None` is `Some` of no value
 pub some_or_none : {A : Type 0} (x : A) → None ≡ Some x → ⊥
 some_or_none x e = cc
 
+-- where `Some` of two values is the same, so are the values
 pub same_some : {A : Type 0} (x y : A) → Some x ≡ Some y → x ≡ y
 same_some x y e = cc

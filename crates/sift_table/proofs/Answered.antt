@@ -71,6 +71,7 @@ rows_met table shapes (suc n) = elim (rows_met table shapes n) [
   ]
 ]
 
+-- a table meets all rules for given tasks, or one is the first that it breaks, in a first row
 pub tables_are_answered : TablesAreAnswered
 tables_are_answered table shapes = elim (met_or_broken table_rules table shapes 0) [
   | inr broken ↦ inr (broken.0, 0, inl (broken.1, refl))

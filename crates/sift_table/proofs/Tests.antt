@@ -26,9 +26,11 @@ where_so (false, tells) q = (true, (λ e so. absurd (not_from_Decides false tell
 pub at_most : (a b : ℕ) → Test (a ≤ b)
 at_most a b = (leb a b, (leb-true a b, le-leb a b))
 
+-- whether a number is below another
 pub less : (a b : ℕ) → Test (a < b)
 less a b = (ltb a b, Decides-ltb a b)
 
+-- whether two numbers are the same
 pub same : (a b : ℕ) → Test (a ≡ b)
 same a b = (eqb a b, Decides-eqb a b)
 

@@ -28,6 +28,7 @@ task_among-first d (task ∷ tasks) (suc t) j there own =
     let left : words_in (take (suc t) (task ∷ tasks)) + j - task.outputs ≡ words_in (take t tasks) + j = omega (arith, more) in
     rw (le-ltb (words_in (take (suc t) (task ∷ tasks)) + j) task.outputs past, left) (ap suc (task_among-first d tasks t j (omega arith) own))
 
+-- the words of a task are put out by that task, and each word is put out by a task that is there
 pub words_have_their_task : WordsHaveTheirTask
 words_have_their_task shapes = (
   λ t j there own. task_among-first (record { outputs = 0; needs = [] }) shapes.tasks t j there own,

@@ -20,6 +20,7 @@ calm_by : (n u : ℕ) (b : Bool) → ((fault_in (fault_of_number n)).unit == u) 
 calm_by n u true own = rw own refl
 calm_by n u false other = rw other refl
 
+-- no unit of a drawn mission has a storm
 pub calm : DrawnMissionsHaveNoStorms
 calm n mission u is =
     ap (λ (s : FaultScript). storm_of s.faults u) is.stated.script ∙ calm_by n u ((fault_in (fault_of_number n)).unit == u) refl

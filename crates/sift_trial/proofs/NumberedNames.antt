@@ -60,9 +60,11 @@ numbered_named c n lower small =
 
 -- ---- sensors and tasks
 
+-- `s` and a number of 16 bits, as a drawn sensor is called, are a name
 pub sensor_named : (k : ℕ) → k < 2 ^ 16 → IsName (sensor_name k)
 sensor_named k small = numbered_named 115 k (omega arith, omega arith) small
 
+-- `t` and a number of 16 bits, as a drawn task is called, are a name
 pub task_named : (k : ℕ) → k < 2 ^ 16 → IsName (task_name k)
 task_named k small = numbered_named 116 k (omega arith, omega arith) small
 
@@ -70,9 +72,11 @@ task_named k small = numbered_named 116 k (omega arith, omega arith) small
 pub record AreNumbered (name : ℕ → List ℕ) : Type 0 where
   pub tells : (i k : ℕ) → i < 2 ^ 16 → k < 2 ^ 16 → name i ≡ name k → i ≡ k
 
+-- drawn sensors of one name have one number, among numbers of 16 bits
 pub sensors_numbered : AreNumbered sensor_name
 sensors_numbered = record { tells = λ i k low small same. decimal_injective i k (omega (arith, low)) (omega (arith, small)) (cc same) }
 
+-- drawn tasks of one name have one number, among numbers of 16 bits
 pub tasks_numbered : AreNumbered task_name
 tasks_numbered = record { tells = λ i k low small same. decimal_injective i k (omega (arith, low)) (omega (arith, small)) (cc same) }
 

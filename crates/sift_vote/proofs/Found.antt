@@ -40,6 +40,7 @@ among_found all (Some v ∷ places) w most some =
         let e = ap (λ x. nat_lt (length all) (2 * votes_for all x)) same in
         cc
 
+-- the search finds a word just where it stands in more than half of all places
 pub majority_is_found : MajorityIsFound
 majority_is_found places w = (among_is places places w, λ most. among_found places places w most (omega arith))
 

@@ -46,6 +46,7 @@ votes_for-apart (place ∷ places) v w apart =
       votes_for-apart places v w apart,
     )
 
+-- at most one word stands in more than half of all places
 pub majority_is_unique : MajorityIsUnique
 majority_is_unique places v w most_v most_w =
     elim (cases_eq v w) [
@@ -111,6 +112,7 @@ agreed_is_zero : (places : List (Option ℕ)) (w : ℕ) → HasNoMajority places
 agreed_is_zero places w none (decided most) = absurd (none w most)
 agreed_is_zero places w none (undecided _ zero) = zero
 
+-- any places have one agreed word and no other: their majority, or 0 where they have none
 pub agreement_is_unique : AgreementIsUnique
 agreement_is_unique places =
     elim (found_or_lost places places) [
@@ -133,6 +135,7 @@ votes_for-unanimous (place ∷ places) w same =
       votes_for-unanimous places w (All-tail (λ p. p ≡ Some w) place places same),
     )
 
+-- where all places hold one word, and there are some, only that word is agreed
 pub unanimity_is_agreed : UnanimityIsAgreed
 unanimity_is_agreed places w some same v =
     agreed_is_majority places w v (omega (arith, votes_for-unanimous places w same))

@@ -109,6 +109,7 @@ one_number bytes m n (inr x) (inr y) =
     let same : x.written ≡ y.written = cc in
     x.value ∙ (ap (λ w. kept (digits_value 16 w)) same ∙ sym y.value)
 
+-- the same bytes spell one lexeme at most
 pub one_spelling : (l m : Lexeme) (bytes : List ℕ) → Spells l bytes → Spells m bytes → l ≡ m
 one_spelling (word w) (word v) bytes x y = ap word (x.1 ∙ sym y.1)
 one_spelling (word w) (numeral n) bytes x y = absurd (word-number bytes n x.0 y)

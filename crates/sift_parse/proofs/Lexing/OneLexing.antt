@@ -118,6 +118,7 @@ parts-by total text (p ∷ ps) qs all rest (a_lexeme us vs ws l ls x h) e =
     let same : (let q : Placed = record { lexeme = l; at = total - length (after_gap us) } in q) ≡ p = cc in
     record { mid = i.mid; first = subst (λ q. Lexes total us (q ∷ ps) i.mid) same (a_lexeme us vs i.mid l ps x i.first); second = i.second }
 
+-- lexemes that are read one after another may be parted anywhere: where the first ones end, the others are read from there
 pub lexes_split : (total : ℕ) (text rest : List ℕ) (ps qs : List Placed) → Lexes total text (ps ++ qs) rest → Parts total text ps qs rest
 lexes_split total text rest ps qs h = parts-by total text ps qs (ps ++ qs) rest h refl
 
@@ -145,6 +146,7 @@ ends_gap : (total : ℕ) (text : List ℕ) (ps : List Placed) (rest : List ℕ) 
 ends_gap total text ps rest (no_lexeme us) = after_gap-twice us
 ends_gap total text ps rest (a_lexeme us mid ws l ls x h) = ends_gap total mid ls ws h
 
+-- where the lexemes before another one end, that one begins the text and has that place, and those behind it are read after it
 pub next_lexeme : (total : ℕ) (text : List ℕ) (before : List Placed) (p : Placed) (more : List Placed) (rest end : List ℕ)
     → Lexes total text (before ++ (p ∷ more)) end → Lexes total text before rest → Next total p more rest end
 next_lexeme total text before p more rest end h k =

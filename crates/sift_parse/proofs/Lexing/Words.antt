@@ -65,6 +65,7 @@ hex-begun b ts front back n h e =
     let same : b ≡ 48 = cc in
     (omega arith, omega arith)
 
+-- the first byte of a lexeme is a lower-case letter for a word, a digit for a number, and neither for an operator or another sign
 pub begun : (l : Lexeme) (b : ℕ) (ts front back : List ℕ) → Spells l front → b ∷ ts ≡ front ++ back → Begun l b
 begun (word w) b ts front back h e = word-begun b ts front back h.0 e
 begun (numeral n) b ts front back (inl h) e = decimal-begun b ts front back n h e
@@ -74,6 +75,7 @@ begun (mark s) b ts front back h e = sign-begun s b ts back (e ∙ ap (λ l. l +
 
 -- ---- runs
 
+-- a number that isn't below another is that one at least
 pub unless : (m n : ℕ) → (n < m → ⊥) → m ≤ n
 unless m n h = omega arith
 

@@ -144,6 +144,7 @@ block_by-lawful expr block e b =
     (then_lawful (Option Statement) Block Maybe Stepping (statement_by expr block) (block_from block) (statement_lawful expr block e b)
     (step_lawful block b))
 
+-- the reader of blocks is lawful for the grammar, whatever number bounds its calls
 pub block_lawful : (fuel : ℕ) → Lawful Block IsBlock (read_block fuel)
 unfolding read_block
 block_lawful zero = nowhere Block IsBlock (record { back = []; made = end; rest = no_statement })

@@ -49,6 +49,7 @@ pub record Lawful (A : Type 0) (D : Rel A) (R : List Token → Outcome A) : Type
 
 -- ---- readers that take no token
 
+-- an outcome that takes no token, and that is given whatever follows the first one, is given again while that one stays
 pub looks : (A : Type 0) (R : List Token → Outcome A) (t : Token) (ts : List Token) (o : Outcome A) → left_of o ≡ t ∷ ts
     → ((us : List Token) → R (t ∷ us) ≡ with_left o (t ∷ us)) → LocalAt A R (t ∷ ts) o
 looks A R t ts o is same =
@@ -59,6 +60,7 @@ looks A R t ts o is same =
           subst (λ v. R (v ∷ others) ≡ with_left o (v ∷ others)) h (same others));
     }
 
+-- where the tokens end, an outcome leaves no token that could stay, so nothing more is asked of the reader
 pub ends : (A : Type 0) (R : List Token → Outcome A) (o : Outcome A) → left_of o ≡ [] → LocalAt A R [] o
 ends A R o is = record { used = []; split = sym is; again = λ u more others e. (let g = sym is ∙ e in cc) }
 

@@ -87,6 +87,7 @@ prim_picks prim expr p e (Keyword Last) =
     takes (mapped ℕ Term WordHere (λ ts t rest. IsPrim (Keyword Last ∷ ts) t rest) read_word last_frame last_rule word_lawful)
 prim_picks prim expr p e t = leaves (λ ts. refl)
 
+-- the reader of prims is lawful for the grammar, where its readers of a prim and of an expression inside it are
 pub prim_lawful : (prim expr : List Token → Outcome Term) → Lawful Term IsPrim prim → Lawful Term (IsLevel 0) expr
     → Lawful Term IsPrim (prim_by prim expr)
 prim_lawful prim expr p e =

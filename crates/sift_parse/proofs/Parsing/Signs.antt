@@ -72,6 +72,7 @@ name_picks : (t : Token) → Picks ℕ NameHere (λ ts. fault ts) t (λ ts. read
 name_picks (Name n) = takes (done ℕ (λ ts a rest. NameHere (Name n ∷ ts) a rest) n (is_name n))
 name_picks t = leaves (λ ts. refl)
 
+-- the reader of a name is lawful for a name that stands here
 pub name_lawful : Lawful ℕ NameHere read_name
 name_lawful =
     choice ℕ NameHere (λ ts. fault ts) read_name
@@ -81,6 +82,7 @@ number_picks : (t : Token) → Picks ℕ NumberHere (λ ts. fault ts) t (λ ts. 
 number_picks (Number n) = takes (done ℕ (λ ts a rest. NumberHere (Number n ∷ ts) a rest) n (is_number n))
 number_picks t = leaves (λ ts. refl)
 
+-- the reader of a number is lawful for a number that stands here
 pub number_lawful : Lawful ℕ NumberHere read_number
 number_lawful =
     choice ℕ NumberHere (λ ts. fault ts) read_number
@@ -90,6 +92,7 @@ index_picks : (t : Token) → Picks ℕ IndexHere (λ ts. fault ts) t (λ ts. re
 index_picks (Index n) = takes (done ℕ (λ ts a rest. IndexHere (Index n ∷ ts) a rest) n (is_index n))
 index_picks t = leaves (λ ts. refl)
 
+-- the reader of a word's number is lawful for such a number that stands here
 pub index_lawful : Lawful ℕ IndexHere read_index
 index_lawful =
     choice ℕ IndexHere (λ ts. fault ts) read_index
@@ -99,6 +102,7 @@ word_rule : (ts rest : List Token) (w : ℕ) → Then ℕ ℕ NameHere (λ _. Th
     → WordHere ts w rest
 word_rule ts rest w (in_turn us mid vs a b (is_name task m) (in_turn m1 m2 vs1 c d (is_sign e m3) (is_index n m4))) = is_word task n m4
 
+-- the reader of a task's word is lawful for a name, a dot and a word's number that stand here
 pub word_lawful : Lawful ℕ WordHere read_word
 word_lawful =
     widened ℕ (Then ℕ ℕ NameHere (λ _. Then (Unit {0}) ℕ (SignHere Dot) (λ _. IndexHere))) WordHere read_word word_rule
@@ -115,6 +119,7 @@ closed_rule : (A : Type 0) (s : signs.Sign) (D : Rel A) (ts rest : List Token) (
     → Then A A D (λ a. Then (Unit {0}) A (SignHere s) (λ _. Same A a)) ts a rest → Closed A s D ts a rest
 closed_rule A s D ts rest a (in_turn us mid vs b c d (in_turn m1 m2 vs1 e f (is_sign g m3) (same m4))) = d
 
+-- a lawful reader that goes on to read a sign is lawful for what it reads with that sign after it
 pub closed_lawful : (A : Type 0) (s : signs.Sign) (D : Rel A) (R : List Token → Outcome A) → Lawful A D R
     → Lawful A (Closed A s D) (closed_by s R)
 closed_lawful A s D R r =
@@ -131,6 +136,7 @@ after_rule : (A : Type 0) (s : signs.Sign) (D : Rel A) (ts rest : List Token) (a
     → After A s D ts a rest
 after_rule A s D ts rest a (in_turn us mid vs b c (is_sign g m3) d) = after_sign m3 vs c d
 
+-- a lawful reader that first reads a sign is lawful for what it reads with that sign before it
 pub after_lawful : (A : Type 0) (s : signs.Sign) (D : Rel A) (R : List Token → Outcome A) → Lawful A D R
     → Lawful A (After A s D) (λ ts. and_then (read_sign s ts) (λ _ us. R us))
 after_lawful A s D R r =

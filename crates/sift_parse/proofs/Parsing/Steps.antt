@@ -13,6 +13,7 @@ pub data Then (A B : Type 0) (D : Rel A) (E : A → Rel B) : List Token → B �
 pub data Stepped (A B : Type 0) (o : Outcome A) (f : A → List Token → Outcome B) (b : B) (rest : List Token) : Type 0 where
   both : (a : A) (mid : List Token) → o ≡ found a mid → f a mid ≡ found b rest → Stepped A B o f b rest
 
+-- what two readers find in turn, the second finds behind what the first found
 pub stepped : (A B : Type 0) (o : Outcome A) (f : A → List Token → Outcome B) (b : B) (rest : List Token) → and_then o f ≡ found b rest
     → Stepped A B o f b rest
 stepped A B (found a mid) f b rest h = both a mid refl h
@@ -22,6 +23,7 @@ pub data Failed (A B : Type 0) (o : Outcome A) (f : A → List Token → Outcome
   first_fails : o ≡ fault bad → Failed A B o f bad
   second_fails : (a : A) (mid : List Token) → o ≡ found a mid → f a mid ≡ fault bad → Failed A B o f bad
 
+-- where two readers in turn come to a token that offends, the first did, or the second did behind what the first found
 pub failed : (A B : Type 0) (o : Outcome A) (f : A → List Token → Outcome B) (bad : List Token) → and_then o f ≡ fault bad → Failed A B o f bad
 failed A B (found a mid) f bad h = second_fails a mid refl h
 failed A B (fault b) f bad h = let e : b ≡ bad = cc in first_fails (ap (λ l. fault l) e)

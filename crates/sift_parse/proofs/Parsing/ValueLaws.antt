@@ -33,6 +33,7 @@ let_rule : (ts rest : List Token) (s : Statement) → Then ℕ Statement NameHer
     → IsStatement (Keyword Let ∷ ts) s rest
 let_rule ts rest s (in_turn us mid vs a b (is_name n ws) (valued zs qs t d)) = a_let n zs qs t d
 
+-- the reader of a `let` from its name on is lawful for the grammar, where that of expressions is
 pub let_lawful : (expr : List Token → Outcome Term) → Lawful Term IsExpr expr
     → Lawful Statement (λ ts s rest. IsStatement (Keyword Let ∷ ts) s rest) (λ ts. and_then (read_name ts) (λ _ us. value_by expr bind us))
 let_lawful expr e =
@@ -44,6 +45,7 @@ let_lawful expr e =
 assign_rule : (l : ℕ) (ts rest : List Token) (s : Statement) → Valued (assign l) ts s rest → IsStatement (Name l ∷ ts) s rest
 assign_rule l ts rest s (valued zs qs t d) = an_assignment l zs qs t d
 
+-- the reader of an assignment from its `=` on is lawful for the grammar, where that of expressions is
 pub assign_lawful : (expr : List Token → Outcome Term) (l : ℕ) → Lawful Term IsExpr expr
     → Lawful Statement (λ ts s rest. IsStatement (Name l ∷ ts) s rest) (value_by expr (assign l))
 assign_lawful expr l e =
@@ -54,6 +56,7 @@ out_rule : (ts rest : List Token) (s : Statement) → Then ℕ Statement IndexHe
     → IsStatement (Keyword Out ∷ ts) s rest
 out_rule ts rest s (in_turn us mid vs a b (is_index n ws) (valued zs qs t d)) = an_output n zs qs t d
 
+-- the reader of an output from its word's number on is lawful for the grammar, where that of expressions is
 pub out_lawful : (expr : List Token → Outcome Term) → Lawful Term IsExpr expr
     → Lawful Statement (λ ts s rest. IsStatement (Keyword Out ∷ ts) s rest) (λ ts. and_then (read_index ts) (λ j us. value_by expr (output j) us))
 out_lawful expr e =

@@ -44,6 +44,7 @@ run-one : (k : Open) (o : Option ℕ) (b : Option Lexeme) (ls : List Lexeme) (x 
 run-one k o b [] x = refl
 run-one k o b (l ∷ ls) x = run-one k (chain o (λ n. step_to k n b l)) (Some l) ls x
 
+-- the entry of a level of this kind, with its depth, or none where the level is closed
 abbrev pub listed : Open → Option ℕ → List Entry
 listed k None = []
 listed k (Some n) = record { kind = k; depth = n } ∷ []
@@ -59,6 +60,7 @@ abbrev pub entries : Option Lexeme → List Lexeme → List Entry
 entries b [] = []
 entries b (l ∷ ls) = entries (Some l) ls ++ (if opens_after b l then listed (kind_of l) (run (kind_of l) (Some 0) (Some l) ls) else [])
 
+-- of these levels, those that a lexeme after this one leaves open, with their depths behind it
 abbrev pub moved : Option Lexeme → Lexeme → List Entry → List Entry
 moved b x [] = []
 moved b x (e ∷ es) = listed e.kind (step_to e.kind e.depth b x) ++ moved b x es

@@ -80,6 +80,7 @@ parens-is r front zero (mark CloseParen ∷ ls) = refl
 parens-is r front (suc n) (mark CloseParen ∷ ls) = parens-is r (front ++ mark CloseParen ∷ []) n ls
 parens-is r front n (l ∷ ls) = parens-is r (front ++ l ∷ []) n ls
 
+-- the lexemes of an expression end no statement, no block and no parenthesis that is open before them
 pub expressions_end_nothing : ExpressionsEndNothing
 expressions_end_nothing r front c t e = record {
   statements =
@@ -93,6 +94,7 @@ expressions_end_nothing r front c t e = record {
       ∙ (level-same qs 0 (tokens_after r front c) [] t e).parens n ∙ sym (parens-is r (front ++ c) n d));
 }
 
+-- the lexemes of a block end no block that is open before them
 pub blocks_end_no_block : BlocksEndNoBlock
 blocks_end_no_block r front c b e n d =
     let qs = tokens_after r (front ++ c) d in

@@ -9,11 +9,13 @@ use Rattle.sift_parse.specs.Grammar.{IsPrim, a_number, a_minus, in_parens, a_loc
 
 -- ---- by the tokens, whatever follows them
 
+-- a `;` is among the tokens: the statement in which they begin is over
 abbrev pub over : List Token → Bool
 over [] = false
 over (Sign Semicolon ∷ ts) = true
 over (t ∷ ts) = over ts
 
+-- a `}` among the tokens closes none of the blocks that they open, nor of n others that are open before them
 abbrev pub out : ℕ → List Token → Bool
 out n [] = false
 out n (Sign OpenBrace ∷ ts) = out (suc n) ts
@@ -21,6 +23,7 @@ out zero (Sign CloseBrace ∷ ts) = true
 out (suc n) (Sign CloseBrace ∷ ts) = out n ts
 out n (t ∷ ts) = out n ts
 
+-- a `)` among the tokens closes none of the parentheses that they open, nor of n others that are open before them
 abbrev pub paren_out : ℕ → List Token → Bool
 paren_out n [] = false
 paren_out n (Sign OpenParen ∷ ts) = paren_out (suc n) ts

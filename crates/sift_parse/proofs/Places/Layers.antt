@@ -42,6 +42,7 @@ layered-braces (minus ∷ ls) h = absurd h
 
 -- ---- lexemes that are no bracket
 
+-- the lexeme is no parenthesis and no brace
 abbrev pub NoBracket : Lexeme → Type 0
 NoBracket (mark OpenParen) = ⊥
 NoBracket (mark CloseParen) = ⊥

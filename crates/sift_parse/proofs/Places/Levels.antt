@@ -50,6 +50,7 @@ walk r front f (l ∷ ls) c h =
     subst (λ x. Counts x (fold advance (advance f l) ls)) (append_assoc front (l ∷ []) ls)
     (walk r (front ++ l ∷ []) (advance f l) ls (counts-one r front f l c h.0) tidy)
 
+-- after lexemes that begin a task, as many levels are in force as are open
 pub levels_open : (r : Roll) (front : List Lexeme) → Begins (tokens_of r front) → length (force_after front).levels ≡ spec_levels_open front
 levels_open r front b =
     let f : Force = force_after front in

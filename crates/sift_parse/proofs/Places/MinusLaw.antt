@@ -83,6 +83,7 @@ cut r front back (Some rest) whole h g e =
     absurd (let k : Some (rest ++ tokens_after r front back) ≡ Some [] = sym g
     ∙ e in let m : rest ++ tokens_after r front back ≡ [] = cc in some-left r front back rest h m)
 
+-- by its lexemes, the prim after a minus is over after the last of them, and not earlier
 pub minus_ends_with_prim : MinusEndsWithPrim
 minus_ends_with_prim r front prim t d =
     let f : List Lexeme = front ++ operator Sub ∷ [] in

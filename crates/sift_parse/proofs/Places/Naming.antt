@@ -16,6 +16,7 @@ use Rattle.sift_parse.proofs.Places.Lets.{plain-still, plain-bound, let-step, na
 
 -- ---- what is in force
 
+-- how many locals lived at the `{` of each block that is open, the innermost first
 abbrev pub blocks_of : List Level → List ℕ
 blocks_of [] = []
 blocks_of (block n ∷ ls) = n ∷ blocks_of ls
@@ -28,6 +29,7 @@ blocks-bare (block n ∷ ls) = refl
 blocks-bare (parenthesis ∷ ls) = refl
 blocks-bare (negation ∷ ls) = blocks-bare ls
 
+-- how far a `let` has come: its name was read and its statement isn't over, its keyword was read just now, or none is open
 abbrev pub phase : Option (List ℕ) → Role → Phase
 phase (Some w) role = bound w
 phase None new_local = let_read
@@ -35,6 +37,7 @@ phase None a_sensor = still
 phase None a_task = still
 phase None old_local = still
 
+-- the locals, the blocks and the `let` that are in force are those that the lexemes before tell
 abbrev pub Holds : List Lexeme → Force → Type 0
 Holds front f = J front f.locals (blocks_of f.levels) (phase f.pending (role_after (keyword_before f)))
 
@@ -64,6 +67,7 @@ pub by-word : (o : Option keywords.Keyword) (w : List ℕ) (f : Force) → after
 by-word (Some k) w f = refl
 by-word None w f = refl
 
+-- the same, where a name that follows has this role
 abbrev pub After : List Lexeme → Force → Role → Type 0
 After front g role = J front g.locals (blocks_of g.levels) (phase g.pending role)
 

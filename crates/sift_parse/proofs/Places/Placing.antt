@@ -134,5 +134,6 @@ begins-told r ls b = subst Begins (sym (tokens-told r ls b)) b
 pub begins-found : (r : Roll) (ls : List Lexeme) → Begins (tokens_of r ls) → Begins (force.tokens_of r ls)
 begins-found r ls b = subst Begins (tokens-found r ls b) b
 
+-- after lexemes that begin a task, what the fold finds to be in force is what is told there
 pub places_are_force : PlacesAreForce
 places_are_force r front b = place-told r front (begins-found r front b)

@@ -7,6 +7,7 @@ use Rattle.sift_parse.proofs.Places.Seen.{Balanced, Stays, balanced-stays, balan
 
 -- ---- lexemes inside a `let`
 
+-- the lexeme may stand inside a `let`: it is no `let`, no brace and no `;`
 abbrev pub IsPlain : Lexeme → Type 0
 IsPlain (word w) = is_let (word w) ≡ false
 IsPlain (mark OpenBrace) = ⊥
@@ -14,6 +15,7 @@ IsPlain (mark CloseBrace) = ⊥
 IsPlain (mark Semicolon) = ⊥
 IsPlain l = Unit {0}
 
+-- each of the lexemes may stand inside a `let`
 abbrev pub Plain : List Lexeme → Type 0
 Plain [] = Unit {0}
 Plain (l ∷ ls) = IsPlain l × Plain ls
@@ -51,6 +53,7 @@ pub plain-living : (b d : List Lexeme) → Plain b → living d ≡ [] → livin
 plain-living [] d h e = e
 plain-living (l ∷ b) d h e = no-local (is_let l) (b ++ d) (living (b ++ d)) (plain-no-let l h.0) (plain-living b d h.1 e)
 
+-- where a `let` stands before these lexemes, a word is the first of them and a `;` is among the others: its statement is over
 abbrev pub LetOf : Bool → List Lexeme → Type 0
 LetOf b ls = Rattle.sift_parse.proofs.Places.Seen.SettledLet b ls
 
@@ -78,6 +81,7 @@ pub record IsBound (ls : List Lexeme) (w : List ℕ) : Type 0 where
   pub is_name : is_let (word w) ≡ false
   pub plain : Plain inside
 
+-- the lexemes are those of a `let` that has come so far: none, its keyword alone, or its keyword, its name and plain ones
 abbrev pub Hangs : List Lexeme → Phase → Type 0
 Hangs ls still = ls ≡ []
 Hangs ls let_read = JustLet ls

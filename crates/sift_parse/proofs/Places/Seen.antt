@@ -68,6 +68,7 @@ SettledLet true (word w ∷ ls) = ends ls ≡ true
 SettledLet true _ = ⊥
 SettledLet false ls = Unit {0}
 
+-- behind each `let` among the lexemes a word stands, and a `;` behind that: its statement is over
 abbrev pub Settled : List Lexeme → Type 0
 Settled [] = Unit {0}
 Settled (l ∷ ls) = SettledLet (is_let l) ls × Settled ls

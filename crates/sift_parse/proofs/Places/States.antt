@@ -13,11 +13,13 @@ use Rattle.sift_parse.specs.Tokens.{Role, new_local, a_sensor, a_task, old_local
 use Rattle.sift_parse.specs.Levels.{ends_operand}
 use Rattle.sift_parse.proofs.Places.Tidy.{Open, brace, paren, minus, State, bare, tail_of, start, done, next_name, next_operator, next}
 
+-- the kind of a level that is open, without how many locals lived at a `{`
 abbrev pub shape : Level → Open
 shape (block n) = brace
 shape parenthesis = paren
 shape negation = minus
 
+-- a name is there of a `let` whose statement isn't over
 abbrev pub is_open : Option (List ℕ) → Bool
 is_open (Some w) = true
 is_open None = false
@@ -41,6 +43,7 @@ pub number-next : (s : State) (r : Roll) (before : Option Lexeme) (asked : Optio
 number-next s r before (Some task) n = refl
 number-next s r before None n = refl
 
+-- the operator is a minus that opens a level: a `-` where no operand ends before it
 abbrev pub opens_by : Bool → Op → Bool
 opens_by b Sub = not b
 opens_by b _ = false

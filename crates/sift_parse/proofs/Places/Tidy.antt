@@ -28,6 +28,7 @@ abbrev pub bare : List Open → List Open
 bare (minus ∷ ls) = bare ls
 bare ls = ls
 
+-- the levels without the innermost one
 abbrev pub tail_of : List Open → List Open
 tail_of [] = []
 tail_of (l ∷ ls) = ls
@@ -36,15 +37,18 @@ tail_of (l ∷ ls) = ls
 abbrev pub start : List Open → Bool → State
 start ls b = record { levels = ls; bound = b; role = old_local; operand = false }
 
+-- what is known after an operand: a `-` that follows is no minus before a prim
 abbrev pub done : List Open → Bool → State
 done ls b = record { levels = ls; bound = b; role = old_local; operand = true }
 
+-- what is known after a name: with a new local a `let` is bound, with a sensor or an old local a prim ends, and with a task no level changes
 abbrev pub next_name : Role → State → State
 next_name new_local s = done s.levels true
 next_name a_task s = done s.levels s.bound
 next_name a_sensor s = done (bare s.levels) s.bound
 next_name old_local s = done (bare s.levels) s.bound
 
+-- what is known after an operator: a `-` where no operand ends before it is a minus, and opens a level
 abbrev pub next_operator : Bool → Op → State → State
 next_operator false Sub s = start (minus ∷ s.levels) s.bound
 next_operator _ op s = start s.levels s.bound
@@ -57,6 +61,7 @@ next_sign CloseBrace s = start (tail_of s.levels) s.bound
 next_sign Semicolon s = start s.levels false
 next_sign _ s = start s.levels s.bound
 
+-- what is known once this token is read too
 abbrev pub next : State → Token → State
 next s (Keyword k) = record { levels = s.levels; bound = s.bound; role = role_after (Some k); operand = false }
 next s (Name n) = next_name s.role s
@@ -89,10 +94,12 @@ OkHere s (Sign OpenBrace) = (s.bound ≡ false) × OnlyBraces s.levels
 OkHere s (Sign CloseBrace) = (s.bound ≡ false) × InBlock s.levels
 OkHere s _ = Unit {0}
 
+-- the token may stand behind the keyword `let`: it is a name, no other `let` is bound, and blocks alone are open
 abbrev pub OkLet : State → Token → Type 0
 OkLet s (Name n) = (s.bound ≡ false) × OnlyBraces s.levels
 OkLet s _ = ⊥
 
+-- the token may stand where a name has this role: behind the keyword `let` as its name, and elsewhere as it may stand here
 abbrev pub Ok : Role → State → Token → Type 0
 Ok new_local s t = OkLet s t
 Ok a_sensor s t = OkHere s t

@@ -127,6 +127,7 @@ asked_by r (after_key Out) = Some r.this
 asked_by r (after_dot task) = Some task
 asked_by r _ = None
 
+-- the number of the word that a number asks for there: of the voted words after a dot, and of the output words elsewhere
 abbrev pub index_by : Roll → Before → ℕ → ℕ → ℕ
 index_by r (after_dot t) task n = first_word r task + n
 index_by r _ task n = n

@@ -150,6 +150,7 @@ module _ (r : Roll) (text : List ℕ) (short : length text ≤ text_limit) (none
   absurd-short : ⊥
   absurd-short = climb (length (after_gap text)) [] (after_gap text) (omega arith) (no_lexeme text) none-first
 
+-- it can't be that a text is neither the text of a task nor refused
 pub no_text_is_unanswered : NoTextIsUnanswered
 no_text_is_unanswered r text none = elim (cases_lt text_limit (length text)) [
   | inl long ↦ none (a_refusal (stop.Limit which.Text text_limit) (λ e. cc) (refl, long))

@@ -122,6 +122,7 @@ one_answer-by r text a b (refused k x e h) (too_long f g) = absurd (let s = h.sh
 one_answer-by r text a b (refused k x e h) (refused j y f g) =
     as_said a b (Err (stop_for k x)) (Err (stop_for j y)) e f (same-refused k j x y (same_refusal r text k j x y h.refused g.refused))
 
+-- two answers to a text, neither of them want of memory, are tasks with one tree or one refusal at one place
 pub one_answer : OneAnswer
 one_answer r text a b m n x y = one_answer-by r text a b (told r text a m x) (told r text b n y)
 
@@ -131,5 +132,6 @@ task_is_answered-by r text tree a x (a_task t e h) = subst (IsAnswerOf tree) (sy
 task_is_answered-by r text tree a x (too_long e h) = absurd (let s = x.short in omega arith)
 task_is_answered-by r text tree a x (refused k at e h) = absurd (not_both r text tree.body k at x.parsed h.refused)
 
+-- the text of a task is answered with a task of the same tree, where memory is not wanting
 pub task_is_answered : TaskIsAnswered
 task_is_answered r text tree a n x h = task_is_answered-by r text tree a x (told r text a n h)

@@ -35,6 +35,7 @@ sided-by total text other ps qs rest back (a_lexeme us mid ws l ls x h) (a_lexem
     ∙ ap (λ k. let n : Placed = record { lexeme = k; at = total - length (after_gap vs) } in n) one.0 in
     subst (λ n. Sided (p ∷ ls) (n ∷ ms)) same (sided-more p ls ms (sided-by total mid mad ls ms ws xs h k one.1))
 
+-- of two lists of lexemes that are read from the front of a text, one goes on where the other ends, or they are one
 pub sided : (total : ℕ) (text : List ℕ) (ps qs : List Placed) (rest back : List ℕ) → Lexes total text ps rest → Lexes total text qs back
     → Sided ps qs
 sided total text ps qs rest back x y = sided-by total text text ps qs rest back x y refl
@@ -84,5 +85,6 @@ same_refusal-by r text k j x y h g (at_one e) =
 same_refusal-by r text k j x y h g (earlier p more e) = absurd (g.first_place h.front (p ∷ more) h.rest k e (λ z. cc) h.lexes h.stands)
 same_refusal-by r text k j x y h g (later p more e) = absurd (h.first_place g.front (p ∷ more) g.rest j e (λ z. cc) g.lexes g.stands)
 
+-- two refusals that one text is answered with are of one kind and at one place
 pub same_refusal : (r : Roll) (text : List ℕ) (k j : Kind) (x y : ℕ) → IsRefused r text k x → IsRefused r text j y → (k ≡ j) × (x ≡ y)
 same_refusal r text k j x y h g = same_refusal-by r text k j x y h g (sided (length text) text h.front g.front h.rest g.rest h.lexes g.lexes)

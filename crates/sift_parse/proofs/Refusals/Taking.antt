@@ -37,6 +37,7 @@ pub data Standing {A : Type 0} (xs : List A) (x : A) (front : List A) (y : A) : 
   the_last : front ≡ xs → y ≡ x → Standing xs x front y
   earlier : (more : List A) → xs ≡ front ++ y ∷ more → Standing xs x front y
 
+-- an element of a list is its last one, or stands among those before the last
 pub standing : {A : Type 0} (xs : List A) (x : A) (front more : List A) (y : A) → xs ++ x ∷ [] ≡ front ++ y ∷ more → Standing xs x front y
 standing [] x [] more y e = the_last refl (cc)
 standing [] x (z ∷ front) more y e =

@@ -115,6 +115,7 @@ leave_force ls f = record (leave_block ls f) { before = Some (mark CloseBrace) }
 length-oldest : (n : ℕ) (xs : List (List ℕ)) → n ≤ length xs → length (oldest n xs) ≡ n
 length-oldest n xs le = omega (arith, length-drop (length xs - n) xs)
 
+-- a block that is read between braces is sound, and behind it the levels and the number of locals are as they were before it
 pub braced : (r : Roll) (f : Force) (us rest : List Token) (b : Block)
     → ((g : Force) → Fresh g → Place r g us → IsThrough r g (Sign CloseBrace ∷ rest) b) → f.pending ≡ None → Place r f (Sign OpenBrace ∷ us)
     → IsBraced r f rest b

@@ -46,9 +46,11 @@ name-number r f role n ts h e = subst (λ role. named_by r f role h.text ≡ Som
 abbrev operator_force : Bool → Op → Force → Force
 operator_force b op f = record (if b then record f { levels = negation ∷ f.levels } else f) { before = Some (operator op) }
 
+-- what is in force after a minus before a prim, which opens a level
 abbrev pub minus_force : Force → Force
 minus_force f = record f { levels = negation ∷ f.levels; before = Some (operator Sub) }
 
+-- what is in force after an operator between operands, which opens no level
 abbrev pub joined_force : Op → Force → Force
 joined_force op f = record f { before = Some (operator op) }
 

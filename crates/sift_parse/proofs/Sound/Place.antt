@@ -43,6 +43,7 @@ head-by : (r : Roll) (f : Force) (t : Token) (ts : List Token) (ls : List Lexeme
 head-by r f t ts [] e h = cc
 head-by r f t ts (l ∷ ls) e h = record { lexeme = l; is = (cc); fits = h.0; place = record { lexemes = ls; tokens = (cc); fits = h.1 } }
 
+-- the next lexeme stands for the next token, no refusal stands at it, and the other tokens follow it
 pub head : (r : Roll) (f : Force) (t : Token) (ts : List Token) → Place r f (t ∷ ts) → Head r f t ts
 head r f t ts p = head-by r f t ts p.lexemes p.tokens p.fits
 

@@ -16,6 +16,7 @@ use Rattle.sift_parse.proofs.Sound.Names.{local_of-below}
 use Rattle.sift_parse.proofs.Sound.Force.{word_force, name_force, keyword-place, name-place, name-number}
 use Rattle.sift_parse.proofs.Sound.Block.{Fresh, IsDone, valued, sound-term, end_force, end-place, value-done}
 
+-- a number that isn't below another is that one at least
 pub unless : (m n : ℕ) → (n < m → ⊥) → m ≤ n
 unless m n h = omega arith
 
