@@ -110,6 +110,7 @@ pub product_in : (code : List Instr) (p k prod : ℕ) → slice_get code p ≡ S
     → min (prod * k) kept_limit ≡ kept (product (rounds_at code (p + 1)))
 product_in code p k prod at e = rw e (kept-mul (product (rounds_at code p)) k ∙ ap (λ rs. kept (product rs)) (sym (rounds_here code p (Begin k) at)))
 
+-- behind a Begin the products outside the open loops are those before it and, last, the product that was kept at the Begin
 pub outside_in : (code : List Instr) (p k prod : ℕ) (outside : List ℕ) → slice_get code p ≡ Some (Begin k)
     → prod ≡ kept (product (rounds_at code p)) → outside ≡ products_outside (rounds_at code p)
     → outside ++ prod ∷ [] ≡ products_outside (rounds_at code (p + 1))
@@ -129,12 +130,14 @@ product_out (k ∷ ks) outside o e is =
     ∙ (ap (λ l. slice_get l (length (products_outside ks))) e ∙ last_of (products_outside ks) (kept (product ks))) in
     ap (λ v. unwrap_or v 1) (is ∙ last)
 
+-- behind an End the products outside the open loops are those before it without the last
 pub outside_out : (rounds outside left : List ℕ) → outside ≡ products_outside rounds → left ≡ take (length outside - 1) outside → left ≡ products_outside (drop 1 rounds)
 outside_out [] outside left e is = rw (is, e) refl
 outside_out (k ∷ ks) outside left e is =
     let long = all_but_last k ks outside e in
     is ∙ (ap (λ n. take n outside) long ∙ (ap (take (length (products_outside ks))) e ∙ take-append_seam (products_outside ks) (kept (product ks) ∷ [])))
 
+-- behind an End the rounds of the open loops are those before it without the innermost loop's
 pub rounds_end : (code : List Instr) (p : ℕ) → slice_get code p ≡ Some End → rounds_at code (p + 1) ≡ drop 1 (rounds_at code p)
 rounds_end code p at = rounds_here code p End at
 
@@ -143,6 +146,7 @@ rounds_plain (Begin k) rounds no_brace = absurd (no_brace.0 k refl)
 rounds_plain End rounds no_brace = absurd (no_brace.1 refl)
 rounds_plain _ rounds no_brace = refl
 
+-- behind an instruction that is neither a Begin nor an End the rounds of the open loops are those before it
 pub rounds_other : (code : List Instr) (p : ℕ) (i : Instr) → slice_get code p ≡ Some i → IsNoBrace i → rounds_at code (p + 1) ≡ rounds_at code p
 rounds_other code p i at no_brace = rounds_here code p i at ∙ rounds_plain i (rounds_at code p) no_brace
 

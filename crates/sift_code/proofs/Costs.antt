@@ -10,14 +10,17 @@ use Rattle.sift_code.specs.Machine.{through_end, one_more}
 use Rattle.sift_code.specs.Enclosing.{opened, opened_by, enclosing}
 use Rattle.sift_code.proofs.Enclosing.{AreOpen, enclosing_here, opened_before, open_between}
 
+-- the first of some numbers, and 0 where there is none
 abbrev pub head0 : List ℕ → ℕ
 head0 [] = 0
 head0 (c ∷ cs) = c
 
+-- all but the first of some numbers
 abbrev pub tail0 : List ℕ → List ℕ
 tail0 [] = []
 tail0 (c ∷ cs) = cs
 
+-- the costs from an instruction on, by those behind it: a Begin counts all rounds of its loop, and at an End just the End is left of its loop
 abbrev pub cost_step : Instr → List ℕ → List ℕ
 cost_step (Begin k) cs = (1 + k * head0 cs + head0 (tail0 cs)) ∷ tail0 (tail0 cs)
 cost_step End cs = 1 ∷ cs
@@ -28,11 +31,13 @@ abbrev pub costs : List Instr → List ℕ
 costs [] = 0 ∷ []
 costs (i ∷ rest) = cost_step i (costs rest)
 
+-- what is left of a code from a place on is the instruction there, and then what is left from the next place on
 pub drop_here : (code : List Instr) (p : ℕ) (i : Instr) → slice_get code p ≡ Some i → drop p code ≡ i ∷ drop (p + 1) code
 drop_here code p i e =
     let within : p < length code = slice_get_within code p i e in
     rw (add-one, drop-cons code p i within) (ap (λ x. x ∷ drop (suc p) code) (get_or_from_slice_get code p i i e))
 
+-- the costs from a place on are those of the instruction there, by the costs from the next place on
 pub costs_here : (code : List Instr) (p : ℕ) (i : Instr) → slice_get code p ≡ Some i → costs (drop p code) ≡ cost_step i (costs (drop (p + 1) code))
 costs_here code p i e = ap costs (drop_here code p i e)
 
@@ -79,6 +84,7 @@ append_same : (extra base : List ℕ) → base ≡ extra ++ base → extra ≡ [
 append_same [] base e = refl
 append_same (x ∷ extra) base e = absurd (omega (arith, ap length e, length-append extra base))
 
+-- where one more is a number, there was a number before, and it is less by 1
 pub one_more_some : (o : Option ℕ) (n : ℕ) → one_more o ≡ Some n → (m : ℕ) × (o ≡ Some m) × (n ≡ suc m)
 one_more_some None n e = cc
 one_more_some (Some m) n e = (m, refl, cc)

@@ -12,6 +12,7 @@ use Rattle.sift_code.specs.Heights.{Arrival, Trail, trail_at, height_at, brought
 pub trail_here : (code : List Instr) (p : ℕ) (i : Instr) → slice_get code p ≡ Some i → trail_at code (p + 1) ≡ followed (Some i) (p + 1) (trail_at code p)
 trail_here code p i at = rw add-one (ap (λ o. followed o (suc p) (trail_at code p)) at)
 
+-- the height at the next place is the one to which the instruction at this place leads, from what is known on arrival there
 pub height_here : (code : List Instr) (p : ℕ) (i : Instr) → slice_get code p ≡ Some i → height_at code (p + 1) ≡ next_height i (p + 1) (trail_at code p)
 height_here code p i at = ap (λ t. t.height) (trail_here code p i at)
 
@@ -64,12 +65,14 @@ carries_there code p to height i at brings ahead =
     subst (λ q. Carries (trail_at code q).brought to height) e
     (carries_on code (to - (p + 1)) (p + 1) to height (subst (λ (t : Trail). Carries t.brought to height) (sym (trail_here code p i at)) (brings (trail_at code p) refl)))
 
+-- a JumpZ brings the height behind it to its target ahead: where all heights that were brought there are one, they are this one
 pub jumpz_carries : (code : List Instr) (p to : ℕ) → slice_get code p ≡ Some (JumpZ to) → p < to → Carries (trail_at code to).brought to (height_after (JumpZ to) (height_at code p))
 jumpz_carries code p to at ahead =
     carries_there code p to (height_after (JumpZ to) (height_at code p)) (JumpZ to) at
     (λ trail e. subst (λ (h : ℕ). Carries (brought_by (JumpZ to) trail) to (height_after (JumpZ to) h)) (ap (λ (t : Trail). t.height) e)
     (carries_new trail.brought to (height_after (JumpZ to) trail.height))) ahead
 
+-- a Jump brings the height before it to its target ahead: where all heights that were brought there are one, they are this one
 pub jump_carries : (code : List Instr) (p to : ℕ) → slice_get code p ≡ Some (Jump to) → p < to → Carries (trail_at code to).brought to (height_at code p)
 jump_carries code p to at ahead =
     carries_there code p to (height_at code p) (Jump to) at

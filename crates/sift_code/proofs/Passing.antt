@@ -85,6 +85,7 @@ target_within code p to i at bad good =
 
 -- ---- depth
 
+-- behind a Begin that has its End one loop more is open than before it
 pub deeper : (code : List Instr) (p k : ℕ) → slice_get code p ≡ Some (Begin k) → (IsBadJump code p → ⊥) → length (enclosing code (p + 1)) ≡ length (enclosing code p) + 1
 deeper code p k at good = ap (length {A = ℕ}) (enclosing_here code p (Begin k) at) ∙ by (through_end 0 (drop (p + 1) code)) refl
   where
@@ -92,14 +93,17 @@ deeper code p k at good = ap (length {A = ℕ}) (enclosing_here code p (Begin k)
     by None none = absurd (good (subst (λ o. IsBadJumpAt code p o) (sym at) none))
     by (Some n) some = ap (λ o. length (opened_by o (p + 1) (enclosing code p))) some ∙ omega arith
 
+-- behind an End one loop fewer is open than before it, and none where none was
 pub shallower : (code : List Instr) (p : ℕ) → slice_get code p ≡ Some End → length (enclosing code (p + 1)) ≡ length (enclosing code p) - 1
 shallower code p at = ap (length {A = ℕ}) (enclosing_here code p End at) ∙ length-drop 1 (enclosing code p)
 
+-- behind an instruction that is neither a Begin nor an End as many loops are open as before it
 pub as_deep : (code : List Instr) (p : ℕ) (i : Instr) → slice_get code p ≡ Some i → IsNoBrace i → length (enclosing code (p + 1)) ≡ length (enclosing code p)
 as_deep code p i at no_brace = ap (length {A = ℕ}) (enclosing_here code p i at ∙ opened_plain code (p + 1) i (enclosing code p) no_brace)
 
 -- ---- the walk
 
+-- an instruction that is no jump adds nothing to what was brought
 pub brings_nothing : (i : Instr) (trail : Trail) → ((to : ℕ) → i ≡ JumpZ to → ⊥) → ((to : ℕ) → i ≡ Jump to → ⊥) → brought_by i trail ≡ trail.brought
 brings_nothing (JumpZ to) trail not_jumpz not_jump = absurd (not_jumpz to refl)
 brings_nothing (Jump to) trail not_jumpz not_jump = absurd (not_jump to refl)
@@ -156,15 +160,18 @@ brought_by_jump code p to i w h pop push table written at here brings bad good h
 abbrev pub IsJump : Instr → ℕ → Type 0
 IsJump i to = (i ≡ JumpZ to) ⊎ (i ≡ Jump to)
 
+-- a jump adds to what was brought the height behind it, at its target
 pub jump_brings : (code : List Instr) (p to : ℕ) (i : Instr) → IsJump i to
     → brought_by i (trail_at code p) ≡ record { place = to; height = height_after i (height_at code p) } ∷ (trail_at code p).brought
 jump_brings code p to i (inl e) = rw e refl
 jump_brings code p to i (inr e) = let same : height_at code p - 0 + 0 ≡ height_at code p = omega arith in rw (e, same) refl
 
+-- a jump whose target is bad is a bad jump
 pub jump_may_be_bad : (code : List Instr) (p to : ℕ) (i : Instr) → IsJump i to → IsBadTarget code p to → IsBadJumpAt code p (Some i)
 jump_may_be_bad code p to i (inl e) bad = rw e bad
 jump_may_be_bad code p to i (inr e) bad = rw e bad
 
+-- at the place behind a jump as many loops are open as at the jump
 pub jump_depth : (code : List Instr) (p to : ℕ) (i : Instr) → slice_get code p ≡ Some i → IsJump i to → length (enclosing code (p + 1)) ≡ length (enclosing code p)
 jump_depth code p to i at (inl e) = as_deep code p i at (λ k f. cc, λ f. cc)
 jump_depth code p to i at (inr e) = as_deep code p i at (λ k f. cc, λ f. cc)

@@ -35,6 +35,7 @@ pub record Leads (program : Program) (s : State) (r : Option State) : Type 0 whe
   pub agrees : Agrees program state
   pub less : left_of program state < left_of program s
 
+-- a list has a word at each place that isn't its length or past it
 pub present : (xs : List ℕ) (n k : ℕ) → length xs ≡ n → (n ≤ k → ⊥) → slice_get xs k ≡ Some (get_or xs k 0)
 present xs n k long h = slice_get-get_or xs k 0 (omega arith)
 

@@ -64,6 +64,7 @@ pub read_from : (entry : ℕ → Option ℕ) (at last : ℕ) (table : List (Opti
     → at ≤ k → k ≤ last → v ≡ slice_index_or table k v → v ≡ entry k
 read_from entry at last table k v tells from to is = read_entry table k v (omega (arith, tells.0)) is ∙ tells.1 k from to
 
+-- what was read of a table with the entries up to a place is the entry, at this place or before it
 pub read_to : (entry : ℕ → Option ℕ) (at last : ℕ) (table : List (Option ℕ)) (k : ℕ) (v : Option ℕ) → TellsTo entry at last table
     → k ≤ at → at ≤ last → v ≡ slice_index_or table k v → v ≡ entry k
 read_to entry at last table k v tells to within is = read_entry table k v (omega (arith, tells.0)) is ∙ tells.1 k to
@@ -72,6 +73,7 @@ read_to entry at last table k v tells to within is = read_entry table k v (omega
 pub read_instr : (code : List Instr) (k : ℕ) (i : Instr) → k < length code → i ≡ slice_index_or code k i → slice_get code k ≡ Some i
 read_instr code k i within is = slice_get-get_or code k i within ∙ ap Some (sym is)
 
+-- the instruction that was read of items which are the code is the one at that place of the code
 pub read_item : (items code : List Instr) (k : ℕ) (i : Instr) → items ≡ code → k < length items → i ≡ slice_index_or items k i → slice_get code k ≡ Some i
 read_item items code k i same within is = subst (λ l. slice_get l k ≡ Some i) same (read_instr items k i within is)
 

@@ -58,6 +58,7 @@ differ_from hs b x e (inr differ) all = differ ((summary_sums hs b e).latest x a
 pub agree_with : (hs : List ℕ) (b : Brought) (x : ℕ) → summary hs ≡ Some b → b.same ≡ true → b.height ≡ x → All (λ h. h ≡ x) hs
 agree_with hs b x e same is = subst (λ (y : ℕ). All (λ h. h ≡ y) hs) is ((summary_sums hs b e).alike same)
 
+-- heights without a summary are none, so each of them is this one
 pub none_agree : (hs : List ℕ) (x : ℕ) → summary hs ≡ None → All (λ h. h ≡ x) hs
 none_agree hs x e = subst (λ (l : List ℕ). All (λ h. h ≡ x) l) (sym (summary_none hs e)) (All-nil (λ h. h ≡ x))
 
@@ -68,6 +69,7 @@ read_height table k v n within is e =
     let b : slice_get table k ≡ Some (get_or table k 0) = slice_get-get_or table k 0 within in
     is ∙ ((let f = sym a ∙ b in cc) ∙ e)
 
+-- a summary that was read of the table is the entry
 pub read_brought : (table : List (Option Brought)) (k : ℕ) (v w : Option Brought) → k < length table → v ≡ slice_index_or table k v → slice_index_or table k None ≡ w → v ≡ w
 read_brought table k v w within is e =
     let a : slice_get table k ≡ Some (get_or table k v) = slice_get-get_or table k v within in
@@ -78,9 +80,11 @@ read_brought table k v w within is e =
 abbrev pub Meets : Bool → List ℕ → ℕ → Type 0
 Meets r hs x = (r ≡ true → All (λ h. h ≡ x) hs → ⊥) × ((All (λ h. h ≡ x) hs → ⊥) → r ≡ true)
 
+-- where the summary says that the heights differ, this is the answer: they aren't all this one
 pub differs : (hs : List ℕ) (b : Brought) (x : ℕ) → summary hs ≡ Some b → not b.same ≡ true → Meets (not b.same) hs x
 differs hs b x e unlike = (λ t all. differ_from hs b x e (inl (grind arith)) all, λ differ. unlike)
 
+-- where the summary says that the heights are alike, the answer is whether the latest of them is another than this one
 pub agrees : (hs : List ℕ) (b : Brought) (x v : ℕ) → summary hs ≡ Some b → not b.same ≡ false → v ≡ x → Meets (not (b.height == v)) hs x
 agrees hs b x v e alike is = by (eqb_tells b.height v)
   where

@@ -14,5 +14,6 @@ counted body n is = is ∙ ap kept (sym (length-block_code 0 0 body))
 pub kept_over : (limit n : ℕ) → limit < kept n → limit < n
 kept_over limit n over = omega (arith, over)
 
+-- a number is within a limit below the most that is kept where the number that is kept of it is
 pub kept_within : (limit n : ℕ) → limit < kept_limit → kept n ≤ limit → n ≤ limit
 kept_within limit n few within = omega (arith, few, within)

@@ -19,6 +19,7 @@ narrowed : (from to f t place : ℕ) → from ≤ f → t ≤ to → (place ≤ 
 narrowed from to f t place a b (inl x) = inl (omega arith)
 narrowed from to f t place a b (inr x) = inr (omega arith)
 
+-- arrivals that keep clear of the places between two keep clear of each part of these places
 pub clear_narrow : (from to f t : ℕ) (arrivals : List Arrival) → from ≤ f → t ≤ to → IsClear from to arrivals → IsClear f t arrivals
 clear_narrow from to f t [] a b clear = tt
 clear_narrow from to f t (x ∷ rest) a b clear =
@@ -54,14 +55,17 @@ pub data Grown : ℕ → List Arrival → List Arrival → Type 0 where
   as_before : (last : ℕ) (arrivals : List Arrival) → Grown last arrivals arrivals
   one_grown : (last p : ℕ) (before arrivals : List Arrival) → p ≤ last → Grown last before arrivals → Grown last before (empty_at p ∷ arrivals)
 
+-- arrivals that grew from some to others, and from these to others again, grew from the first to the last, up to the same place
 pub grown_on : (last : ℕ) (a b c : List Arrival) → Grown last a b → Grown last b c → Grown last a c
 grown_on last a b c g (as_before n arrivals) = g
 grown_on last a b c g (one_grown n p before arrivals le h) = one_grown last p a arrivals le (grown_on last a b arrivals g h)
 
+-- arrivals that grew up to a place grew up to each later place
 pub grown_later : (m n : ℕ) (a b : List Arrival) → m ≤ n → Grown m a b → Grown n a b
 grown_later m n a b le (as_before l arrivals) = as_before n arrivals
 grown_later m n a b le (one_grown l p before arrivals lt h) = one_grown n p a arrivals (omega arith) (grown_later m n a arrivals le h)
 
+-- arrivals that keep clear of the places between two still do where they have grown up to the first of the two or an earlier place
 pub clear_grown : (last from to : ℕ) (a b : List Arrival) → last ≤ from → Grown last a b → IsClear from to a → IsClear from to b
 clear_grown last from to a b le (as_before l arrivals) clear = clear
 clear_grown last from to a b le (one_grown l p before arrivals lt h) clear = (refl, inl (omega arith), clear_grown last from to a arrivals le h clear)

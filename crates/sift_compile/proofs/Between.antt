@@ -39,11 +39,13 @@ limits_of b = record { sensors = b.sensors; words = b.words; outputs = b.outputs
 below : (k n : ℕ) → k < n → nat_lt k n ≡ true
 below k n h = grind (arith, nat_tests)
 
+-- a Store to a local that is there moves the upper word into it and goes on to the next place
 pub stored_there : (l : ℕ) (s : Machine.State) (w : ℕ) (stack : List ℕ) → l < length s.locals
     → stored l s (w ∷ stack) ≡ Some (record s { place = s.place + 1; stack = stack; locals = slice_set s.locals l w })
 stored_there l s w stack within =
     ap (λ (b : Bool). if b then Some (let t : Machine.State = record s { place = s.place + 1; stack = stack; locals = slice_set s.locals l w } in t) else None) (below l (length s.locals) within)
 
+-- an Out to an output word that is there moves the upper word into it and goes on to the next place
 pub put_there : (j : ℕ) (s : Machine.State) (w : ℕ) (stack : List ℕ) → j < length s.outs
     → put_out j s (w ∷ stack) ≡ Some (record s { place = s.place + 1; stack = stack; outs = slice_set s.outs j w })
 put_there j s w stack within =

@@ -9,13 +9,16 @@ use Rattle.sift_compile.specs.Code.{term_code, behind, statement_code, block_cod
 use Rattle.sift_compile.specs.Length.{term_length, statement_length, block_length, IsSoundFor, AreSoundFor}
 use Rattle.sift_compile.proofs.Lengths.{length-term_code, length-block_code}
 
+-- code with a term's code behind it is longer by the length of the term
 pub term_long : (old code : List Instr) (t : Term) → code ≡ old ++ term_code t → length code ≡ length old + term_length t
 term_long old code t is =
     omega (arith, ap (length {A = Instr}) is, length-append old (term_code t), length-term_code t)
 
+-- code with an instruction behind it is longer by 1
 pub instr_long : (old code : List Instr) (i : Instr) → code ≡ old ++ i ∷ [] → length code ≡ length old + 1
 instr_long old code i is = omega (arith, ap (length {A = Instr}) is, length-append old (i ∷ []))
 
+-- code with a block's code behind it is longer by the length of the block
 pub block_long : (old code : List Instr) (at locals : ℕ) (block : Block) → code ≡ old ++ block_code at locals block → length code ≡ length old + block_length block
 block_long old code at locals block is =
     omega (arith, ap (length {A = Instr}) is, length-append old (block_code at locals block), length-block_code at locals block)
@@ -24,6 +27,7 @@ block_long old code at locals block is =
 pub kept_same : (n : ℕ) → n ≤ CODE_LIMIT → kept n ≡ n
 kept_same n few = omega (arith, few)
 
+-- code with a test's code and its jump behind it is longer by the length of the test and 1
 pub test_long : (old code : List Instr) (t : Term) (to : ℕ) → code ≡ old ++ (term_code t ++ JumpZ to ∷ []) → length code ≡ length old + term_length t + 1
 test_long old code t to is =
     omega (arith, ap (length {A = Instr}) is, length-append old (term_code t ++ JumpZ to ∷ []), length-append (term_code t) (JumpZ to ∷ []), length-term_code t)
@@ -94,5 +98,6 @@ rest_room old code at now locals live whole rest statement limit is room =
       length-block_code now live (step statement rest),
     )
 
+-- the first statement of a sound block is sound, where as many locals live
 pub rest_sound : (live : ℕ) (statement : Statement) (rest : Block) → AreSoundFor live (step statement rest) → IsSoundFor live statement
 rest_sound live statement rest sound = (sound.0, sound.1.0)

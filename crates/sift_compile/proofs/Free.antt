@@ -51,12 +51,15 @@ calm_brought i t calm = refl
 abbrev pub AreFree : Program → ℕ → ℕ → Type 0
 AreFree program p q = (x : ℕ) → p ≤ x → x < q → IsFree program x
 
+-- nothing offends from a place up to itself, since no place lies there
 pub free_none : (program : Program) (p : ℕ) → AreFree program p p
 free_none program p x from before = absurd (omega arith)
 
+-- where nothing offends at a place, nothing offends from it up to the next
 pub free_one : (program : Program) (p : ℕ) → IsFree program p → AreFree program p (p + 1)
 free_one program p free x from before = let e : p ≡ x = omega arith in subst (IsFree program) e free
 
+-- where nothing offends from one place up to another, nor from there up to a third, nothing does from the first up to the third
 pub free_both : (program : Program) (p q r : ℕ) → AreFree program p q → AreFree program q r → AreFree program p r
 free_both program p q r a b x from before = by (cases_lt x q)
   where

@@ -59,6 +59,7 @@ keeps_loop k body matched keeps =
 
 -- ---- compiled code
 
+-- the same loops enclose the places before and behind the code of a term
 pub keeps_term : (t : Term) → KeepsLoops (term_code t)
 keeps_term (number n) = keeps_one _ tt
 keeps_term (local l) = keeps_one _ tt
@@ -74,9 +75,11 @@ keeps_term (middle t u v) =
 keeps_use : (t : Term) (i : Instr) → IsPlain i → KeepsLoops (term_code t ++ i ∷ [])
 keeps_use t i plain = keeps_both (term_code t) _ (keeps_term t) (keeps_one i plain)
 
+-- the same loops enclose both ends of an `if` without an `else` where they enclose both ends of its block
 pub keeps_choose : (at : ℕ) (t : Term) (first : List Instr) → KeepsLoops first → KeepsLoops (choose_code at (term_code t) first)
 keeps_choose at t first keeps = keeps_both (term_code t) _ (keeps_term t) (keeps_more _ first tt keeps)
 
+-- the same loops enclose both ends of an `if` with an `else` where they enclose both ends of each of its blocks
 pub keeps_choose_else : (at : ℕ) (t : Term) (first second : List Instr) → KeepsLoops first → KeepsLoops second → KeepsLoops (choose_else_code at (term_code t) first second)
 keeps_choose_else at t first second a b =
     keeps_both (term_code t) _ (keeps_term t) (keeps_more _ _ tt (keeps_both first _ a (keeps_more _ second tt b)))

@@ -88,6 +88,7 @@ closes code p body matched stands =
 
 -- ---- compiled code
 
+-- the instruction of an operator is neither a Begin nor an End
 pub plain_operator : (o : Op) → IsPlain (operator_code o)
 plain_operator Add = tt
 plain_operator Sub = tt

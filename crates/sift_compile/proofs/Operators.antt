@@ -18,6 +18,7 @@ pub record IsOperator (limits : Limits) (i : Instr) (popped : ℕ) : Type 0 wher
   pub pushes_one : pushes i ≡ 1
   pub named : IsBadOperandAt limits (Some i) → ⊥
 
+-- the instruction of an operator pops two words and pushes one; it is no jump, no Begin and no End, and has no bad operand
 pub operator_of : (limits : Limits) (o : Op) → IsOperator limits (operator_code o) 2
 operator_of limits Add = record { calm = tt; pops_are = refl; pushes_one = refl; named = λ bad. bad }
 operator_of limits Sub = record { calm = tt; pops_are = refl; pushes_one = refl; named = λ bad. bad }
@@ -32,6 +33,7 @@ operator_of limits Shr = record { calm = tt; pops_are = refl; pushes_one = refl;
 operator_of limits Lt = record { calm = tt; pops_are = refl; pushes_one = refl; named = λ bad. bad }
 operator_of limits Eq = record { calm = tt; pops_are = refl; pushes_one = refl; named = λ bad. bad }
 
+-- a term needs at least one word on the stack
 pub needs_some : (t : Term) → 1 ≤ need t
 needs_some (number n) = omega arith
 needs_some (local l) = omega arith

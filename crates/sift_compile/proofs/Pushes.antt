@@ -24,6 +24,7 @@ IsQuiet p q brought = (x : ℕ) → p < x → x ≤ q → brought_to x brought �
 abbrev pub Meets : ℕ → ℕ → List Arrival → Type 0
 Meets p height brought = All (λ x. x ≡ height) (brought_to p brought)
 
+-- where nothing was brought to a place, no height that meets there is another than this
 pub quiet_meets : (p height : ℕ) (brought : List Arrival) → brought_to p brought ≡ [] → Meets p height brought
 quiet_meets p height brought e = subst (λ l. All (λ x. x ≡ height) l) (sym e) (All-nil (λ x. x ≡ height))
 

@@ -5,6 +5,7 @@ use Rattle.sift_code.specs.declared.bad.Bad.{Bad}
 use Rattle.sift_code.specs.declared.bad.Bad.TheVariants.{BadJump, Underflow, Unequal, TooDeep, BadOperand, NoMemory}
 use Rattle.sift_code.specs.Refusal.{Program, IsSound, IsFirst}
 
+-- a refusal of sound code is want of memory, where it would else name the first place that offends
 pub never_refused : (program : Program) → IsSound program → (bad : Bad) → (bad ≢ NoMemory → IsFirst program bad) → bad ≡ NoMemory
 never_refused program sound NoMemory first = refl
 never_refused program sound (BadJump p) first =

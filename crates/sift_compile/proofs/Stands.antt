@@ -12,9 +12,11 @@ pub record Stands (code : List Instr) (p : ℕ) (piece : List Instr) : Type 0 wh
 pub stands_whole : (code : List Instr) → Stands code 0 code
 stands_whole code = record { back = []; is = sym (append-nil code) }
 
+-- of two pieces that stand one behind the other, the first stands where both do
 pub stands_front : (code : List Instr) (p : ℕ) (a b : List Instr) → Stands code p (a ++ b) → Stands code p a
 stands_front code p a b s = record { back = b ++ s.back; is = s.is ∙ append_assoc a b s.back }
 
+-- and the second stands as far behind that place as the first is long
 pub stands_back : (code : List Instr) (p : ℕ) (a b : List Instr) → Stands code p (a ++ b) → Stands code (p + length a) b
 stands_back code p a b s =
     record { back = s.back; is = sym (drop-drop (length a) p code) ∙ (ap (drop (length a)) (s.is ∙ append_assoc a b s.back) ∙ drop_at a (b ++ s.back) (length a) refl) }

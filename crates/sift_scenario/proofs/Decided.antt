@@ -43,6 +43,7 @@ same_number m n = elim (cases_order m n) [
   | inr (inr more) ↦ inr (λ e. omega (arith, more, e))
 ]
 
+-- two texts are the same, or they aren't
 pub same_text : (xs ys : List ℕ) → Decided (xs ≡ ys)
 same_text [] [] = inl refl
 same_text [] (y ∷ ys) = inr (λ e. cc)
@@ -52,6 +53,7 @@ same_text (x ∷ xs) (y ∷ ys) = elim (both (same_number x y) (same_text xs ys)
   | inr other ↦ inr (λ e. other (cc e, cc e))
 ]
 
+-- two texts, each of which may be missing, are the same, or they aren't
 pub same_option : (a b : Option (List ℕ)) → Decided (a ≡ b)
 same_option None None = inl refl
 same_option None (Some b) = inr (λ e. cc)

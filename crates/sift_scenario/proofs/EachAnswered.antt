@@ -242,6 +242,7 @@ answer_of d units frames period lawful units_is frames_is period_is known = elim
       ]
 ]
 
+-- no document is without an answer: it can't be that it neither states a mission nor is refused
 pub each_answered : NoDocumentIsUnanswered
 each_answered d none = elim (kept_or_broken d) [
   | inr broken ↦ none (a_refusal (Scenario broken.0 broken.1) broken.2)

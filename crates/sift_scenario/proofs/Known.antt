@@ -102,6 +102,7 @@ name_known bytes = elim (both (name_form bytes) (both (at_most (length bytes) 16
   | inr other ↦ inr (λ h. other (h.formed, (h.short, h.free)))
 ]
 
+-- a task has a name that no earlier entry has, or not
 pub new_name_of :
     (earlier : List (Option (List ℕ))) (task : Members) (o : Option (List ℕ)) → name_of task ≡ o
     → Decided ((name : List ℕ) × IsNewName earlier task name)

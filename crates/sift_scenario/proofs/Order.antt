@@ -74,10 +74,12 @@ abbrev pub AreAllKept : List (List Rule) → Type 0
 AreAllKept [] = Unit {0}
 AreAllKept (rules ∷ rest) = AreKept rules × AreAllKept rest
 
+-- where the rules of each list are kept, so are those of all lists, one after the other
 pub kept_joined : (themes : List (List Rule)) → AreAllKept themes → AreKept (joined themes)
 kept_joined [] kept = tt
 kept_joined (rules ∷ rest) kept = kept_both rules (joined rest) kept.0 (kept_joined rest kept.1)
 
+-- where the rules of all lists, one after the other, are kept, so are those of each list
 pub kept_each : (themes : List (List Rule)) → AreKept (joined themes) → AreAllKept themes
 kept_each [] kept = tt
 kept_each (rules ∷ rest) kept = (kept_first rules (joined rest) kept, kept_each rest (kept_second rules (joined rest) kept))

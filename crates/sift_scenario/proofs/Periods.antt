@@ -23,5 +23,6 @@ by_cases :
 by_cases tasks n None number is = let same : plain_period tasks ≡ n = cc is in (omega (arith, same, number.0), omega (arith, same, number.1))
 by_cases tasks n (Some d) number is = between shortest_period longest_period d n is
 
+-- where the rules of the tasks are kept, a frame has 12 to 64 subframes, whether they are stated or those of the plain table
 pub period_between : (d : Members) (n : ℕ) → AreKept (task_rules d) → period_of d ≡ Some n → (shortest_period ≤ n) × (n ≤ longest_period)
 period_between d n kept is = by_cases (length (task_entries d)) n (get_member (codes "subframes") d) (task_number d kept) is

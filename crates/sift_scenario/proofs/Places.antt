@@ -29,6 +29,7 @@ in_two_steps g f zero xs = refl
 in_two_steps g f (suc n) [] = refl
 in_two_steps g f (suc n) (x ∷ xs) = ap (λ ys. g (f x) ∷ ys) (in_two_steps g f n xs)
 
+-- a list mapped by two functions in turn is mapped by the first, and what comes of that by the second
 pub map_map : {A B C : Type 0} (g : B → C) (f : A → B) (xs : List A) → map (λ x. g (f x)) xs ≡ map g (map f xs)
 map_map g f [] = refl
 map_map g f (x ∷ xs) = ap (λ ys. g (f x) ∷ ys) (map_map g f xs)

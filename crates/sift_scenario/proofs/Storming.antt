@@ -105,6 +105,7 @@ kept (table ∷ tables) u from number strays (suc place) fault there storm new =
 
 -- ---- both
 
+-- the mission that a document states has a storm of a unit exactly where a fault of the document states it
 pub stated_storms : StormsAreStated
 stated_storms document d u from number strays is =
     let tables = faults_in (fault_value document) in

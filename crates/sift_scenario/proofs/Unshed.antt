@@ -62,6 +62,7 @@ module _ (units period tasks : ℕ) where
       let fits = entry_fits units period tasks 1 value kept i entry (slice_get-get_or (entries_of (Some value)) i d low) in
       ap (λ o. unwrap_or o []) (entry_unshed i entry fits)))
 
+-- no table of a mission sheds a task where a document of version 1 states the mission
 pub unshed : VersionOneShedsNothing
 unshed document mission first is =
     let value = table_value document in

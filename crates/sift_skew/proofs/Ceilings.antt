@@ -22,6 +22,8 @@ fewer_shares n m faulty s e rest few wide =
     let shares : faulty * (3 * s) ≤ m * (3 * s) = mul-le-mul_right (3 * s) few in
     omega arith
 
+-- of n clocks, at most m of them faulty, the corrected offsets of the working ones differ by at most the ceiling of (2nE + 3mS) / n,
+-- with the skew S and the reading error E
 pub corrected_offsets_are_close : CorrectedOffsetsAreClose
 corrected_offsets_are_close (negsuc s) error us works clock read m ceiling some together readings few is =
     λ p q p_in p_works q_in q_works. absurd (omega (arith, ints, together p p p_in p_works p_in p_works))
@@ -66,6 +68,7 @@ times-sub a n k =
     let turned = *ℤ_comm a (pos n -ℤ pos k) in
     omega (arith, ints, whole, turned)
 
+-- the ceiling of (2nE + 3mS) / n and two drifts R are at most S exactly where S * (n - 3m) >= 2n * (E + R)
 pub ceiling_fits_exactly_where : CeilingFitsExactlyWhere
 ceiling_fits_exactly_where skew error rate n m ceiling is =
     let drifts = scaled-add n rate rate in

@@ -62,6 +62,7 @@ correction_within limit clocks readings some few =
     let below = scaled-cancel clocks (pos 0) (correction +ℤ pos limit) (omega (arith, ints)) in
     (omega (arith, ints), omega (arith, ints))
 
+-- an offset changes at a boundary by at most the limit of readings and that of drifts together, whatever is read
 pub offsets_change_little : OffsetsChangeLittle
 offsets_change_little (pos limit) rate us read own drift u u_in positive drifts =
     let few : length (map read (others u us)) ≤ length us = rw length-map (length-others-≤ u us) in

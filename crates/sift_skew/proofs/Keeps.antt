@@ -46,6 +46,8 @@ two_errors n m faulty s e r rest parts few wide =
     let shares : faulty * (3 * s) ≤ m * (3 * s) = mul-le-mul_right (3 * s) few in
     omega arith
 
+-- of n clocks, at most m of them faulty, the working ones stay within the skew S if S * (n - 3m) >= 2n * (E + R),
+-- with the reading error E and the drift R
 pub skew_is_kept : SkewIsKept
 skew_is_kept skew error rate us works clock drift read m within few wide =
     kept_from (λ s e r. (pos (2 * length us) *ℤ (e +ℤ r)) ≤ℤ (s *ℤ (pos (length us) -ℤ pos (3 * m)))) us works clock drift read
@@ -67,6 +69,7 @@ none_or_one (suc (suc k)) few = absurd (omega arith)
 no_fault : (n s e r : ℕ) → 2 * (e + r) ≤ s → n * (2 * e) ≤ n * (s - 2 * r)
 no_fault n s e r wide = mul-le-mul_left n (omega arith)
 
+-- where no clock is faulty, the clocks stay within the skew S if S >= 2 * (E + R), with the reading error E and the drift R
 pub skew_is_kept_without_faults : SkewIsKeptWithoutFaults
 skew_is_kept_without_faults skew error rate us works clock drift read within none wide =
     kept_from (λ s e r. (pos 2 *ℤ (e +ℤ r)) ≤ℤ s) us works clock drift read
@@ -96,6 +99,7 @@ with_margin works us s e r margin wide =
       | inr one ↦ rw one (let least = five_clocks (length us) s e r (omega (arith, margin.enough)) wide in omega arith)
     ]
 
+-- in a configuration with margin, the working clocks stay within the skew S if S >= 5 * (E + R), with the reading error E and the drift R
 pub skew_is_kept_with_margin : SkewIsKeptWithMargin
 skew_is_kept_with_margin skew error rate us works clock drift read within margin wide =
     kept_from (λ s e r. (pos 5 *ℤ (e +ℤ r)) ≤ℤ s) us works clock drift read

@@ -20,6 +20,8 @@ offset_at f (u ∷ us) z (suc k) below at =
 pub Contains-map : (f : ℕ → ℤ) (us : List ℕ) (z : ℤ) → Contains (map f us) z → (u : ℕ) × (has us u ≡ true) × (z ≡ f u)
 Contains-map f us z among = offset_at f us z among.0 among.1 among.2
 
+-- the slack is at least 1 where clocks of admitted limits are within the skew, and change at the boundary by at most the skew,
+-- the reading error and the drift together
 pub slack_is_positive : SlackIsPositive
 slack_is_positive skew error rate length slack us clock next admitted together change figure =
     let p = Contains-map clock us figure.attained.0 figure.attained.2 in
@@ -32,16 +34,19 @@ slack_is_positive skew error rate length slack us clock next admitted together c
           omega (arith, ints, p.2, q.2, together q.0 p.0 q.1 p.1, change q.0 q.1, admitted.long, figure.attained.4)
     ]
 
+-- where the slack is at least 1, each clock enters the next subframe before any clock enters the one after it
 pub lead_is_at_most_one : LeadIsAtMostOne
 lead_is_at_most_one length slack now next figure some p q p_in q_in subframe =
     omega (arith, ints, figure.least p q p_in q_in)
 
+-- offsets have at most one skew
 pub skew_is_unique : SkewIsUnique
 skew_is_unique offsets a b is_a is_b =
     let at_a = is_a.attained in
     let at_b = is_b.attained in
     omega (arith, ints, at_a.4, at_b.4, is_a.largest at_b.0 at_b.1 at_b.2 at_b.3, is_b.largest at_a.0 at_a.1 at_a.2 at_a.3)
 
+-- a frame's clocks have at most one slack
 pub slack_is_unique : SlackIsUnique
 slack_is_unique length now next a b is_a is_b =
     let at_a = is_a.attained in

@@ -54,9 +54,12 @@ difference_is theirs own near =
     (λ low. low_is (theirs -ℤ own) _ (word_of ahead) splits small low)
     (λ high. high_is (theirs -ℤ own) _ (word_of ahead) splits small high)
 
+-- a clock word is read as the difference of the two offsets and the reading error, where the offsets are at most 8,000 ticks apart
 pub words_are_read_right : WordsAreReadRight
 words_are_read_right theirs own error near = ap (λ z. Some (z +ℤ error)) (difference_is theirs own near)
 
+-- where the skew is at most 8,000 ticks, a unit that hears the words of the other working clocks, and misreads each
+-- by at most the error, reads them well
 pub heard_clocks_are_read_well : HeardClocksAreReadWell
 heard_clocks_are_read_well skew error us works clock u heard errors low together u_in u_works hears v v_in v_works other =
     let word = hears v v_in v_works other in
