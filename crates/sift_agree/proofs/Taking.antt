@@ -93,6 +93,7 @@ takes_direct works us s q direct relayed ascending margin relays s_in s_faulty q
     let of_us = has-others s us r r_in in
     relays q r q_in q_works of_us.0 (others_work works us s margin s_in s_faulty r r_in) differ of_us.1 other))
 
+-- in a configuration with margin all working units agree on one word of a faulty unit, whatever it says to each of them
 pub faulty_unit_is_agreed_on : FaultyUnitIsAgreedOn
 faulty_unit_is_agreed_on works us s p q direct relayed ascending margin relays s_in s_faulty p_in p_works q_in q_works =
     takes_direct works us s p direct relayed ascending margin relays s_in s_faulty p_in p_works
@@ -100,6 +101,7 @@ faulty_unit_is_agreed_on works us s p q direct relayed ascending margin relays s
 
 -- ---- a working unit
 
+-- in a configuration with margin all other working units agree on the word that a working unit said to them, whatever a faulty unit relays
 pub working_unit_is_agreed_on : WorkingUnitIsAgreedOn
 working_unit_is_agreed_on works us s q word direct relayed ascending margin relays s_in s_works says q_in q_works differ =
     let rest : List ℕ = others q (others s us) in

@@ -40,10 +40,12 @@ one_first (rule ∷ rest) n place n' place' (inr one) (inr other) = one_first re
 
 -- ---- answers
 
+-- what refuses a document that states a plan is want of memory
 pub plans_are_accepted : PlansAreAccepted
 plans_are_accepted document plan (stop.Rule number place) stated refused = absurd (kept_none (rules_of document) number place stated.lawful refused)
 plans_are_accepted document plan stop.NoMemory stated refused = refl
 
+-- two refusals of a document, neither for want of memory, are one
 pub one_refusal : OneRefusal
 one_refusal document (stop.Rule n place) (stop.Rule n' place') some some' one other =
     let same = one_first (rules_of document) n place n' place' one other in ap (λ x. stop.Rule x place) same.0 ∙ ap (λ x. stop.Rule n' x) same.1
@@ -79,6 +81,7 @@ module _ {A : Type 0} (document : Members) (result : Result A ByzStop) (refused 
 one_value : {A : Type 0} (found : Option A) (one other : A) → found ≡ Some one → found ≡ Some other → one ≡ other
 one_value found one other is is' = let both : Some one ≡ Some other = sym is ∙ is' in cc both
 
+-- a document states at most one plan
 pub one_plan : OnePlan
 one_plan document one other stated stated' =
     let m : one.m ≡ other.m = one_value _ one.m other.m stated.m stated'.m in
@@ -126,6 +129,7 @@ values_long : (count : ℕ) (ys : List ℕ) (value : Option Data) → option_and
 values_long count ys None is = cc
 values_long count ys (Some d) is = words_long count ys d is
 
+-- a plan that a document states is within the limits, and its traitors are few
 pub stated_plans_are_lawful : StatedPlansAreLawful
 stated_plans_are_lawful document plan stated =
     let m = between 0 most_traitors plan.m (get_member (codes "m") document) stated.m in

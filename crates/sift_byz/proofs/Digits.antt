@@ -7,6 +7,7 @@ use Rattle.std.proofs.Math.Nat.{div-le_self, mul-le-mul_right, pow-le-pow_left, 
 pub pow-one : (n : ℕ) → n ^ 1 ≡ n
 pow-one n = pow-suc n 0 ∙ ap (λ x. x * n) (pow-zero n) ∙ omega arith
 
+-- a number to the power of two is the number times itself
 pub square : (n : ℕ) → n ^ 2 ≡ n * n
 square n = pow-suc n 1 ∙ ap (λ x. x * n) (pow-one n)
 
@@ -21,6 +22,7 @@ digit_below n m row u row_low u_low =
     let split : suc row * n ≡ row * n + n = grind arith in
     omega arith
 
+-- a number of k digits to the base n, with one digit more behind it, is below the power k + 1 of n
 pub longer : (n k row u : ℕ) → row < n ^ k → u < n → row * n + u < n ^ suc k
 longer n k row u row_low u_low = subst (λ x. row * n + u < x) (sym (pow-suc n k)) (digit_below n (n ^ k) row u row_low u_low)
 

@@ -114,6 +114,7 @@ believed plan q s few q_low s_low q_loyal s_loyal other =
     (omega (arith, one_left plan s s_low, traitors_left plan s, traitors_are plan, few.enough, few.few))
     s_loyal (other_left plan s q q_low other) q_loyal)
 
+-- where the traitors are few, the entry of each loyal unit in the vector of a loyal unit is its value
 pub loyal_values_are_kept : LoyalValuesAreKept
 loyal_values_are_kept plan q s few q_low s_low q_loyal s_loyal =
     elim (cases_Bool (nat_eq s q)) [
@@ -148,11 +149,13 @@ entries_equal plan p q s few p_low q_low s_low p_loyal q_loyal =
       ]
     ]
 
+-- where the traitors are few, all loyal units have one vector
 pub vectors_are_equal : VectorsAreEqual
 vectors_are_equal plan p q few p_low q_low p_loyal q_loyal =
     map_same (entry plan p) (entry plan q) (all_units plan)
     (λ s s_in. entries_equal plan p q s few p_low q_low (omega (arith, row_low 0 plan.units s s_in)) p_loyal q_loyal)
 
+-- where one unit at most may lie, the entry of another unit is the agreed word of what was heard from it and of the relays of that, as in a flight
 pub one_traitor_is_as_in_flights : OneTraitorIsAsInFlights
 one_traitor_is_as_in_flights plan q s one other =
     let us : List ℕ = all_units plan in
@@ -163,6 +166,7 @@ one_traitor_is_as_in_flights plan q s one other =
 
 -- ---- the vectors in their rows
 
+-- the entry of a unit in another's row of the vectors is the entry that this one has of it
 pub vectors_hold_the_entries : VectorsHoldTheEntries
 vectors_hold_the_entries plan q s q_low s_low =
     ap (λ (row : List ℕ). get_or row s 0) (get_or-map-range_with_len (vector plan) 0 plan.units q q [] q_low (omega arith))

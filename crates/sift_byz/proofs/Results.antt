@@ -28,6 +28,8 @@ module _ (us : List ℕ) (heard : Hearing) (ascending : IsAscending us) where
 abbrev read_at : (q own : ℕ) → (ℕ → Option ℕ) → ℕ → ℕ
 read_at q own results t = if nat_eq t q then own else unwrap_or (results t) 0
 
+-- a loyal unit's result for what another loyal unit relays is what this one holds, if the units outside are at least as many
+-- as the rounds and twice the traitors among them. Absence is read as 0
 pub loyal_unit_is_believed : LoyalUnitIsBelieved
 loyal_unit_is_believed us loyal heard zero r path q ascending relays enough r_loyal q_in q_loyal =
     ap (λ x. unwrap_or x 0) (relays r path q r_loyal)
@@ -88,6 +90,8 @@ both_believe us loyal heard rounds r path p q ascending relays few many r_loyal 
 two_units : (loyal : ℕ → Bool) (t p : ℕ) → loyal t ≡ false → loyal p ≡ true → t ≢ p
 two_units loyal t p t_lies p_loyal same = let e = ap loyal same in cc
 
+-- two loyal units have one result for any unit, loyal or not, if there are at most as many traitors left, that unit among
+-- them, as there are rounds, and at least three times as many units outside. Absence is read as 0
 pub any_unit_is_agreed_on : AnyUnitIsAgreedOn
 any_unit_is_agreed_on us loyal heard zero r path p q ascending relays few many p_in p_loyal q_in q_loyal =
     elim (cases_Bool (loyal r)) [

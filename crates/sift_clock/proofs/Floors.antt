@@ -9,5 +9,6 @@ pub floor_is : (a : ℤ) (k : ℕ) → 0 < k → ((pos k *ℤ int_div_euclid a (
 floor_is (pos a) k some = (omega (arith, ints), omega (arith, ints))
 floor_is (negsuc a) k some = (omega (arith, ints), omega (arith, ints))
 
+-- the correction for each clock comes to at most the counted sum, and with a tick more for each to more than it
 pub correction_is_the_floor : CorrectionIsTheFloor
 correction_is_the_floor limit clocks readings some = floor_is (counted_sum limit readings) clocks some

@@ -76,6 +76,7 @@ starts_together lab skew x p q p_low q_low =
       get_or-map-range_with_len (start_drawn skew x) 0 (working_of lab) q q (pos 0) q_low (omega arith),
     ) (omega (arith, ints, start_within skew x p, start_within skew x q))
 
+-- the laboratory that is drawn from a number can be run, where its sizes are in range and admitted
 pub drawn_ready : (n m : ℕ) (skew error rate : ℤ) (rounds number : ℕ) → AreInRange n m skew error rate rounds
     → IsAdmitted n m skew error rate
     → IsReady (drawn_lab n m skew error rate rounds number)

@@ -46,6 +46,7 @@ length-pairs faulty a (suc n) =
       length-pairs faulty (a + 1) n,
     )
 
+-- a run of a number's laboratory with its drawn faulty clocks is the run of the draws: in what is shown, and so in the offsets
 pub drawn_runs_are_of_the_draws : DrawnRunsAreOfTheDraws
 drawn_runs_are_of_the_draws n m skew error rate rounds number run face ran =
     let lab = drawn_lab n m skew error rate rounds number in

@@ -93,6 +93,7 @@ skews_kept lab far (l ∷ lists) (s ∷ skews) kept figures =
     All-cons (λ skew. skew ≤ℤ lab.skew) s skews (skew_kept lab far l s (All-head (AreKept lab far) l lists kept) figures.0)
     (skews_kept lab far lists skews (All-tail (AreKept lab far) l lists kept) figures.1)
 
+-- where a run is kept, the largest skew that its text tells is no more than the bound
 pub most_is_within_the_bound : MostIsWithinTheBound
 most_is_within_the_bound lab offsets text kept told =
     All-contains (λ skew. skew ≤ℤ lab.skew) told.skews told.most
@@ -117,6 +118,7 @@ one_highest numbers a b top_a top_b =
     let b_low = All-contains (λ n. n ≤ℤ a) numbers b top_a.above top_b.among in
     omega (arith, ints)
 
+-- a run has at most one text
 pub one_text_of_a_run : OneTextOfARun
 one_text_of_a_run lab offsets a b told_a told_b =
     let skews = one_skews offsets told_a.skews told_b.skews told_a.of_rounds told_b.of_rounds in

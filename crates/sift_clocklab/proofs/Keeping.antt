@@ -139,5 +139,7 @@ all_kept lab (readings ∷ rounds) far offsets ready kept (suc k) d below =
 pub starts_kept : (lab : Laboratory) → IsReady lab → AreKept lab 8000 lab.start
 starts_kept lab ready = record { together = ready.together; of_clocks = ready.start }
 
+-- in each round of a laboratory that can be run, whatever is shown, working clocks are at most the skew apart, and none is farther from 0 than the
+-- rounds let it
 pub offsets_are_kept : OffsetsAreKept
 offsets_are_kept lab shown ready = all_kept lab shown 8000 lab.start ready (starts_kept lab ready)

@@ -57,6 +57,7 @@ by_size P k (pos s) (pos t) some wide at = at s t (omega (arith, ints))
 by_size P k (negsuc s) (pos t) some wide at = absurd (omega (arith, ints))
 by_size P k skew (negsuc t) some wide at = absurd (omega (arith, ints))
 
+-- a skew of five times the errors and drifts, or more, has room for those of a configuration with margin
 pub margin_leaves_room : MarginLeavesRoom
 margin_leaves_room skew error rate us works some margin wide =
     by_size (HasRoomFor (length us) (faulty_count works us)) 5 skew (error +ℤ rate) some wide
@@ -64,6 +65,7 @@ margin_leaves_room skew error rate us works some margin wide =
     (with_margin (length us) (faulty_count works us) (working_count works us) s t (both_counts works us)
     margin.few margin.enough five))
 
+-- a skew of twice the errors and drifts, or more, has room for those of a configuration without faulty clocks
 pub no_fault_leaves_room : NoFaultLeavesRoom
 no_fault_leaves_room skew error rate us works some none wide =
     by_size (HasRoomFor (length us) (faulty_count works us)) 2 skew (error +ℤ rate) some wide

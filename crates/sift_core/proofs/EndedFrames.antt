@@ -45,6 +45,8 @@ board_keeps law stray m w x d u n flies there ended =
 pub has_places : (m : FlownMission) (x : Machine) → IsFlying m x → HasPlacesFor m (ranges_for x.rack)
 has_places m x flying = record { units = λ u there. unit_below m x u flying there; slots = (flyable m x flying).ranges.slots }
 
+-- whatever the order of steps and strays, a frame that each unit which has not turned has ended is one of a round flight over the strays that
+-- were stored
 pub ended_round : DriveLaw → StrayLaw → LawfulCoresHearLawfully → LandedFramesAreRound → EndedFramesAreRound
 ended_round law stray hear round m w x d f flies within ended =
     round m (ranges_for x.rack) (core_of x.rack w) (accounts_at m x d) (f + 1) f (flyable m x (w, flies)).fits (record {

@@ -43,6 +43,7 @@ pub record MakesEvent (a b : Rack) (e : Event) (F : Conduct → Conduct) (at : �
   pub of : (w : Strays) → (after (ranges_for a) (core_of a w) e).of ≡ put (core_of a w).of a.unit (F ((core_of a w).of a.unit))
   pub words : (w : Strays) → (after (ranges_for a) (core_of a w) e).words ≡ b.words.items
 
+-- a rack that differs from another by one allowed event of its unit, which that unit's entry notes, follows it with no stray
 pub follows_by : (a b : Rack) (e : Event) (F : Conduct → Conduct) (at : ℕ) (o l : Ledger) → MakesEvent a b e F at o l → Follows a [] b
 follows_by a b e F at o l made = record {
   layout = made.layout;

@@ -85,6 +85,8 @@ module _ (works : ℕ → Bool) (us : List ℕ) (names : ℕ → ℕ → Bool) (
       let most = count_of_more works (λ u. not (is_convicted names us u)) us (λ r there working. ap not (safe r there working)) in
       rw (length-filter (λ u. not (is_convicted names us u)) us) (omega (arith, most, margin.enough))
 
+-- where no working unit names a working one, conviction within the margin is just: it convicts no working unit, and exactly those that two working
+-- units name, and at least four units remain
 pub conviction_holds : ConvictionIsJust
 conviction_holds works us names margin clean =
     record { safe = safe works us names margin clean; exact = exact works us names margin clean; enough = four_remain works us names margin clean }

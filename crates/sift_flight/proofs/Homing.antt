@@ -77,5 +77,6 @@ module _ (m : FlownMission) (r : Ranges) (c : Core) (fl : TheFlight) (fits : Fit
     };
   }
 
+-- what a flight tells that has come home from a core is a round flight over the core's strays, where the mission fits
 pub flights_that_come_home_are_round : FlightsThatComeHomeAreRound
 flights_that_come_home_are_round m r c fl fits home = home_round m r c fl fits home

@@ -74,9 +74,11 @@ module _ (m : FlownMission) (strays : Strays) (stray : StrayHearing) (fits : Fit
   made_hears : HearsStrays m stray fl
   made_hears f low q k p w turned t = rw (w.whole, t, turned) refl
 
+-- whatever may be heard of the strays, a mission that fits has a round flight over them in which just this is heard
 pub each_stray_hearing_has_a_round_flight : EachStrayHearingHasARoundFlight
 each_stray_hearing_has_a_round_flight m strays stray fits allowed =
     (made_flight m stray, made_round m strays stray fits allowed, made_hears m strays stray fits allowed)
 
+-- a mission that fits has a round flight over any strays
 pub each_mission_has_a_round_flight : EachMissionHasARoundFlight
 each_mission_has_a_round_flight m strays fits = (made_flight m nothing, made_round m strays nothing fits (λ q f k p s. absent refl))

@@ -182,9 +182,11 @@ starts_near m flyable u unit =
     let start = flyable.fits.clocks.starts u unit in
     (omega (arith, ints, start.0, start.1), omega (arith, ints, start.0, start.1))
 
+-- the accounts of each round flight of a mission that can be flown are those of its units
 pub round_flights_have_accounts : RoundFlightsHaveAccounts
 round_flights_have_accounts m strays fl flyable round = accounts_are m flyable (starts_near m flyable) strays fl round
 
+-- a flight of a mission whose parts fit is whole, where each unit has its journal and its accounts and what they tell is round
 pub round_flights_are_whole : PartsMakeItFlyable → RoundFlightsAreWhole
 round_flights_are_whole flies d strays fl fit logged round = record {
   logged = logged;

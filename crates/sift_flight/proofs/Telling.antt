@@ -53,6 +53,7 @@ module _ (m : FlownMission) (fl : Flight) where
     | inr other ↦ rw (stays_lost n later (omega arith) lost) refl
   ]
 
+-- a frame is told to have margin just where it has it
 pub margin_is_told : MarginIsTold
 margin_is_told m fl f =
     ((λ told g low. before_has m fl (suc f) told g (omega arith)), (λ has. has_before m fl (suc f) (λ g low. has g (omega arith))))
@@ -116,6 +117,7 @@ one_slack length now next a b is_a is_b =
 none_among : (z : ℤ) → Contains [] z → ⊥
 none_among z among = omega (arith, among.1)
 
+-- the skew of offsets is told as it is, and none is told just where there is no offset
 pub skew_is_told : SkewIsTold
 skew_is_told [] = ((λ skew. ((λ e. absurd cc), (λ is. absurd (none_among _ is.attained.2)))), ((λ e. refl), (λ e. refl)))
 skew_is_told (p ∷ ps) = (
@@ -126,6 +128,7 @@ skew_is_told (p ∷ ps) = (
   ((λ e. absurd cc), (λ e. absurd cc)),
 )
 
+-- the slack of a frame's offsets is told as it is, and none is told just where there is no offset
 pub slack_is_told : SlackIsTold
 slack_is_told length [] next = ((λ slack. ((λ e. absurd cc), (λ is. absurd (none_among _ is.attained.2)))), ((λ e. refl), (λ e. refl)))
 slack_is_told length (p ∷ ps) next = (

@@ -12,6 +12,7 @@ use Rattle.sift_mission.specs.declared.parts.MissionParts.{MissionParts}
 use Rattle.sift_mission.proofs.Numbers.{range-has}
 use Rattle.sift_flight_rows.specs.Alone.{IsPortOfOne, few}
 
+-- a port that looks the same as one of unit 1 is one of unit 1 too
 pub stays_one : (p q : LonePort) → IsPortOfOne p → view_of q ≡ view_of p → IsPortOfOne q
 stays_one p q one same = record { unit = ap (λ (v : View). v.unit) same ∙ one.unit; ranges = ap (λ (v : View). v.ranges) same ∙ one.ranges }
 

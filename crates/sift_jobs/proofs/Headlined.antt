@@ -19,6 +19,8 @@ not_done (Refused (Task task kind at)) is = omega (arith, is)
 not_done (Refused (Table size row rule)) is = omega (arith, is)
 not_done (Refused (Script entry rule)) is = omega (arith, is)
 
+-- the text of a reply of `run` with the status 0 is the report, in the version asked for, of a flight of the mission that the bytes state, and
+-- the headline holds of its lines
 pub headlined : (given : MissionData → Strays → Type 0) → StatedMissionsFit → HeadlineIsPrinted → RunIsHeadlined given
 headlined given fit printed job bytes reply (inl (mission, states, (text, (flight, flies, (lines, told)), is))) status = record {
   mission = mission;

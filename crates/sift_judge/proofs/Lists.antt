@@ -14,6 +14,7 @@ first_passing : (passes : ℕ → Bool) (us : List ℕ) → find passes us ≡ s
 first_passing passes [] = refl
 first_passing passes (u ∷ us) = elim (cases_Bool (passes u)) [ inl t ↦ rw t refl | inr f ↦ rw f (first_passing passes us) ]
 
+-- the first of the units that pass a test is the one that a search for such a unit finds; where none passes there is neither
 pub first_found : (passes : ℕ → Bool) (us passing : List ℕ) → passing ≡ filter passes us → slice_get passing 0 ≡ find passes us
 first_found passes us passing are = ap (λ units. slice_get units 0) are ∙ sym (first_passing passes us)
 
@@ -62,5 +63,6 @@ abbrev the : List ℕ → Option (List ℕ) → List ℕ
 the other None = other
 the other (Some us) = us
 
+-- an option has at most one list for its value
 pub one_told : (us vs : List ℕ) (o : Option (List ℕ)) → o ≡ Some us → o ≡ Some vs → us ≡ vs
 one_told us vs o a b = ap (the us) (sym a ∙ b)

@@ -66,6 +66,7 @@ filter_both p q (u ∷ us) = elim (cases_Bool (p u)) [
   | inr f ↦ rw (f, filter_both p q us) refl
 ]
 
+-- the members of one set without another are those members of the first that the second doesn't have
 pub members_left : (a b : Units) → members (set.difference a b) ≡ filter (λ w. not (holds b w)) (members a)
 unfolding members
 members_left a b =

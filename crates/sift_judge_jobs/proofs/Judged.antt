@@ -65,6 +65,7 @@ sheet_read given versions apart version document report is = record {
   texts = apart (sheet_of (flown is.mission) is.flight version) is.lines ∙ ap texts_of (sym is.told);
 }
 
+-- a report that `run` gives to a document is judged yes behind that document, in the same version
 pub judged_yes :
     (given : MissionData → Strays → Type 0) → OneVerdict → SheetsHaveTheirVersion → LinesComeApart
     → OneMissionIsStated → StatedMissionsAreUnrefused → RunIsHeadlined given → RunsAreJudgedYes given

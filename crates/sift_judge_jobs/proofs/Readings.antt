@@ -11,6 +11,7 @@ use Rattle.sift_judge_jobs.specs.Lines.{AreRead, IsFirstRefused, IsLineOf, IsRef
 pub head_same : {A : Type 0} (x y : A) (xs ys : List A) → x ∷ xs ≡ y ∷ ys → x ≡ y
 head_same x y xs ys e = cc
 
+-- behind their first elements equal lists are equal
 pub tail_same : {A : Type 0} (x y : A) (xs ys : List A) → x ∷ xs ≡ y ∷ ys → xs ≡ ys
 tail_same x y xs ys e = cc
 

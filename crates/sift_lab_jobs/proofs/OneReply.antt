@@ -58,6 +58,7 @@ unrefused : (n m : ℕ) (skew error rate : ℤ) → IsAdmitted n m skew error ra
 unrefused n m skew error rate admitted (inl few) = omega (arith, few, admitted.enough)
 unrefused n m skew error rate admitted (inr tight) = omega (arith, ints, tight, admitted.room)
 
+-- `clocks` gives at most one reply to an input
 pub one_clocks : OneTextOfARun → (lab : LabNumbers) → GivesOne (clocks_duty lab)
 one_clocks one_text lab bytes one other (inl (text, admitted, tells, is)) (inl (text', admitted', tells', is')) =
     is ∙ (ap done (one_text (lab_of lab) (run_of lab).offsets text text' tells tells') ∙ sym is')

@@ -19,6 +19,7 @@ of_byz bytes came (inl (document, read, inl (plan, states, is))) = same byz_stat
 of_byz bytes came (inl (document, read, inr (rule, place, breaks, is))) = same byz_statuses came _ is ((2, lit< tt, refl), grind arith)
 of_byz bytes came (inr (none, is)) = same byz_statuses came _ is ((1, lit< tt, refl), grind arith)
 
+-- each reply of `byz` has one of the command's statuses, and none that is shared
 pub byz_own : (job : ByzJob) → HasOwnStatuses (byz_duty job) byz_statuses
 byz_own job = record {
   among = λ bytes came gives. (of_byz bytes came gives).0;
@@ -29,6 +30,7 @@ of_clocks : (lab : LabNumbers) (bytes : List ℕ) (came : Reply) → ClocksGives
 of_clocks lab bytes came (inl (text, admitted, tells, is)) = same clocks_statuses came _ is ((0, lit< tt, refl), grind arith)
 of_clocks lab bytes came (inr (refused, is)) = same clocks_statuses came _ is ((1, lit< tt, refl), grind arith)
 
+-- each reply of `clocks` has one of the command's statuses, and none that is shared
 pub clocks_own : (lab : LabNumbers) → HasOwnStatuses (clocks_duty lab) clocks_statuses
 clocks_own lab = record {
   among = λ bytes came gives. (of_clocks lab bytes came gives).0;

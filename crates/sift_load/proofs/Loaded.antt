@@ -79,5 +79,6 @@ module _ (gives : MissionData → Reply → Type 0) (statuses : List ℕ)
   other bytes reply (inl (mission, states, given)) = (own mission reply given).1
   other bytes reply (inr (why, none, is)) = subst (λ (r : Reply). ¬ Contains shared_statuses r.status) (sym is) (apart why)
 
+-- a command whose replies for a mission have these statuses, none of them shared, has these and those of bytes that state none
 pub statuses_are_own : (gives : MissionData → Reply → Type 0) → StatusesAreOwn gives
 statuses_are_own gives statuses own = record { among = among gives statuses own; apart = other gives statuses own }

@@ -69,9 +69,11 @@ module _ (shapes : AllShapes) (w : Wanted) (plannable : ArePlannable shapes) whe
       (open_same table none.before task before (executors_of w) (shape_at shapes task).needs (run_in table task) (plannable.earlier task none.there)
       (plan.rows task low).run.open_here)
 
+-- tasks that can be planned have at most one plan
 pub one_plan : OnePlan
 one_plan shapes w one other plannable a b = planned_once shapes w plannable (length shapes.tasks) one other (omega arith) a b
 
+-- where there is no room for a task there is no plan, and no other task without room
 pub one_refusal : OneRefusal
 one_refusal shapes w task plannable none = (
   (λ table plan. room_there shapes w plannable task (length shapes.tasks) table none plan none.there),

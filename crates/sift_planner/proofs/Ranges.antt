@@ -25,6 +25,7 @@ range_below n =
 
 -- ---- tests of the numbers below a bound
 
+-- a truth value or `false` is that truth value
 pub or_false : (b : Bool) → (b || false) ≡ b
 or_false true = refl
 or_false false = refl

@@ -37,6 +37,7 @@ filter-one : (p : ℕ → Bool) (n : ℕ) (b : Bool) → p n ≡ b → filter p 
 filter-one p n true is = rw is refl
 filter-one p n false is = rw is refl
 
+-- of the numbers below n + 1 those pass a test that pass it below n, and n behind them where it does
 pub filter_next : (p : ℕ → Bool) (n : ℕ) (b : Bool) → b ≡ p n → filter p (range_with_len 0 (n + 1)) ≡ filter p (range_with_len 0 n) ++ cond b (n ∷ []) []
 filter_next p n b is =
     ap (filter p) (below_next n) ∙ filter-append p (range_with_len 0 n) (n ∷ [])

@@ -33,5 +33,6 @@ abbrev told_else : List ℕ → Option (List ℕ) → List ℕ
 told_else us None = us
 told_else us (Some vs) = vs
 
+-- an option has at most one list for its value
 pub one_told : (us vs : List ℕ) (o : Option (List ℕ)) → o ≡ Some us → o ≡ Some vs → us ≡ vs
 one_told us vs o a b = ap (told_else us) (sym a ∙ b)

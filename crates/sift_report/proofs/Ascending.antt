@@ -57,6 +57,7 @@ none_has digits k least units so_far there none vs h e =
 
 -- ---- where no digit is left
 
+-- units that were read digit by digit ascend
 pub whole_ascend : (digits : List ℕ) (k least : ℕ) (units : List ℕ) → UnitsRead digits k least units → AscendFrom 0 units
 whole_ascend digits k least units so_far = subst (AscendFrom 0) (append-nil units) (so_far.ascend [] tt)
 
@@ -64,14 +65,17 @@ text_of_digits : (units bs : List ℕ) → map unit_digit units ≡ bs → 0 < l
 text_of_digits [] bs e some = absurd (omega (arith, ap length e))
 text_of_digits (u ∷ us) bs e some = e
 
+-- where all digits were read, and there is one, they are the text of the units
 pub whole_printed : (digits : List ℕ) (k least : ℕ) (units : List ℕ) → UnitsRead digits k least units → length digits ≤ k → 0 < length digits
     → units_text units ≡ digits
 whole_printed digits k least units so_far seen some = text_of_digits units digits (so_far.printed ∙ take_all k digits seen) some
 
+-- the text of units is their digits, where it isn't `-`
 pub digits_of_text : (vs bs : List ℕ) → units_text vs ≡ bs → (bs ≡ codes "-" → ⊥) → map unit_digit vs ≡ bs
 digits_of_text [] bs e apart = absurd (apart (sym e))
 digits_of_text (u ∷ us) bs e apart = e
 
+-- where all digits were read, ascending units with these digits are the units that were read
 pub whole_exact : (digits : List ℕ) (k least : ℕ) (units : List ℕ) → UnitsRead digits k least units → length digits ≤ k
     → (vs : List ℕ) → AscendFrom 0 vs → map unit_digit vs ≡ digits → units ≡ vs
 whole_exact digits k least units so_far seen vs h e = so_far.exact vs h e ∙ take_all k vs (omega (arith, as_many digits vs e))

@@ -176,5 +176,6 @@ is_ascii [] h i = omega arith
 is_ascii (b ∷ bs) h zero = h.0
 is_ascii (b ∷ bs) h (suc i) = is_ascii bs h.1 i
 
+-- the text of a line is UTF-8
 pub line_is_a_text : (line : ReportLine) → IsLine line → IsUtf8 (line_text line)
 line_is_a_text line holds = IsUtf8-from_ascii (line_text line) (is_ascii (line_text line) (ascii-join 32 (fields_of line) (omega arith) (fields_ascii line holds)))

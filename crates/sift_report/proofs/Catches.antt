@@ -61,6 +61,7 @@ or_elim P true b c x y z t = x refl
 or_elim P false true c x y z t = y refl
 or_elim P false false c x y z t = z t
 
+-- where the units that were caught in each way are units, so is each that was caught in some way
 pub everyone_units : (caught : Catches) → AreCatches caught → AreUnits (everyone_in caught)
 everyone_units caught are v there = or_elim (v < 8) _ _ _ (are.0 v) (are.1 v) (are.2 v) (some_kind caught v there)
 
@@ -76,6 +77,7 @@ pub few_members : (units : Units) → length (members units) ≤ 8
 unfolding members
 few_members units = filter-≤ (holds units) unit_numbers
 
+-- there are at most eight catches
 pub few_catches : (caught : Catches) → length (catches_in caught) ≤ 8
 few_catches caught = let few = few_members (everyone_in caught) in omega (arith, few, length-map (members (everyone_in caught)) (catch_of caught))
 
@@ -140,6 +142,7 @@ abbrev same_catch : Catch → Catch → Bool
 same_catch a b =
     nat_eq a.unit b.unit && (beq a.kinds.poll b.kinds.poll && (beq a.kinds.relay b.kinds.relay && beq a.kinds.clock b.kinds.clock))
 
+-- the comparison of two catches, field by field, says just whether they are one
 pub catch_decides : (a b : Catch) → Decides (same_catch a b) (a ≡ b)
 catch_decides a b =
     let all = Decides-and _ _ (Decides-eqb a.unit b.unit) (Decides-and _ _ (same_truth a.kinds.poll b.kinds.poll)
@@ -220,5 +223,6 @@ one_told list caught told are by =
     let clock = one_set list Clock caught.clock told.clock are.clock by.clock in
     λ i. record { poll = poll i; relay = relay i; clock = clock i }
 
+-- what the list of the catches tells is those catches
 pub caught_again : (caught told : Catches) → AreCatches caught → IsToldBy (catches_in caught) told → told ≡ caught
 caught_again caught told are by = one_told (catches_in caught) caught told (list_tells caught are) by

@@ -59,6 +59,7 @@ above-caught : (bad : Bad) → IsAbove 32 (caught_text bad)
 above-caught (Plain units) = above-units (members units)
 above-caught (ByKind caught) = above-list (map catch_text (catches_in caught)) (above-map 32 catch_text (catches_in caught) above-catch)
 
+-- the fields of a line have only bytes above the blank
 pub fields_above : (line : ReportLine) → IsLine line → AreAbove 32 (fields_of line)
 fields_above (unit n u cfg clk ins outs bad) holds = search (rules, above-number, above-digit, above-units, above-clock, above-words, above-caught)
 fields_above (Faulty n u) holds = search (rules, above-number, above-digit)
@@ -79,12 +80,14 @@ come_apart : (texts : List (List ℕ)) → 0 < length texts → AreAbove 32 text
 come_apart [] some above = absurd (omega arith)
 come_apart (x ∷ xs) some above = split-join 32 x xs above
 
+-- the fields of a line are what the blanks of its text cut out
 pub fields_of_text : (line : ReportLine) (bs : List ℕ) → IsLine line → line_text line ≡ bs → fields_of line ≡ slice_split (λ b. eqb b 32) bs
 fields_of_text line bs holds e = sym (come_apart (fields_of line) (some_field line) (fields_above line holds)) ∙ ap (slice_split (λ b. eqb b 32)) e
 
 text_of_fields : (line : ReportLine) (bs : List ℕ) → fields_of line ≡ slice_split (λ b. eqb b 32) bs → line_text line ≡ bs
 text_of_fields line bs e = ap (join_with_byte 32) e ∙ join_with_byte-slice_split 32 bs
 
+-- where a line is read whose fields are what the blanks of a text cut out, it has that text
 pub text_where_read : (result : Option ReportLine) (bs : List ℕ) → IfSome result (λ line. fields_of line ≡ slice_split (λ b. eqb b 32) bs)
     → IfSome result (λ line. line_text line ≡ bs)
 text_where_read None bs h = tt

@@ -10,6 +10,7 @@ use Rattle.sift_report.proofs.Above.{all-lower, above-map}
 other : (c b : ℕ) → c < b → eqb b c ≡ false
 other c b low = grind (arith, nat_tests)
 
+-- a byte passes the test of being that byte
 pub itself : (c : ℕ) → eqb c c ≡ true
 itself c = grind (arith, nat_tests)
 

@@ -12,11 +12,13 @@ use Rattle.sift_report.specs.Line.{HasVersion, IsLine, fields_of}
 abbrev pub text_at : List (Bor (List ℕ)) → ℕ → List ℕ
 text_at xs k = (get_or xs k (record { ref_ptr = (0, 0); now = [] })).now
 
+-- the texts of a slice of four are those at its places 0 to 3
 pub four_texts : (xs : List (Bor (List ℕ))) → 4 ≤ length xs → length xs < 5
     → map (λ f. f.now) xs ≡ text_at xs 0 ∷ text_at xs 1 ∷ text_at xs 2 ∷ text_at xs 3 ∷ []
 four_texts (a ∷ b ∷ c ∷ d ∷ []) low high = refl
 four_texts xs low high = absurd (omega arith)
 
+-- the texts of a slice of seven are those at its places 0 to 6
 pub seven_texts : (xs : List (Bor (List ℕ))) → 7 ≤ length xs → length xs < 8
     → map (λ f. f.now) xs ≡ text_at xs 0 ∷ text_at xs 1 ∷ text_at xs 2 ∷ text_at xs 3 ∷ text_at xs 4 ∷ text_at xs 5 ∷ text_at xs 6 ∷ []
 seven_texts (a ∷ b ∷ c ∷ d ∷ e ∷ f ∷ g ∷ []) low high = refl

@@ -32,6 +32,7 @@ one_or_more (suc n) small = inr (first_decimal (suc n) (omega arith) small)
 decimal_plain : (n : ℕ) → n < 2 ^ 64 → IsPlain (decimal n)
 decimal_plain n small = let told = decimal_is_IsNumeral n small in plain_digits (decimal n) told.0.1 told.0.0 (one_or_more n small)
 
+-- the decimal text of a number below 2 ^ 64 begins as a number without a sign
 pub decimal_is_plain : (n : ℕ) (bs : List ℕ) → n < 2 ^ 64 → decimal n ≡ bs → IsPlain bs
 decimal_is_plain n bs small e = subst IsPlain e (decimal_plain n small)
 
@@ -75,6 +76,7 @@ signed_begins (negsuc n) small =
     let below : suc n < 2 ^ 64 = omega (arith, small) in
     inl (negative_from_plain (decimal (suc n)) (decimal_plain (suc n) below) (first_decimal (suc n) (omega arith) below))
 
+-- the text of an integer of 64 bits begins as a number with or without a sign
 pub signed_is_signed : (z : ℤ) (bs : List ℕ) → FitsSigned w64 z → signed_decimal z ≡ bs → IsSigned bs
 signed_is_signed z bs fits e = subst IsSigned e (signed_begins z (magnitude z fits))
 
@@ -109,10 +111,12 @@ plain_is_printed bs r plain parsed =
       | Err e ↦ λ _. tt
     ] told
 
+-- an integer that is read of a text that begins as a number, with or without a sign, is printed as that text
 pub signed_is_printed : {E : Type 0} (bs : List ℕ) (r : Result ℤ E) → IsSigned bs → ParsesSigned w64 10 bs r → IfSome (result_ok r) (λ z. signed_decimal z ≡ bs)
 signed_is_printed bs r (inl negative) parsed = negative_is_printed bs r negative parsed
 signed_is_printed bs r (inr plain) parsed = plain_is_printed bs r plain parsed
 
+-- an integer of 64 bits is read back from the text that it is printed as
 pub signed_is_read : {E : Type 0} (bs : List ℕ) (r : Result ℤ E) (z : ℤ) → ParsesSigned w64 10 bs r → FitsSigned w64 z → signed_decimal z ≡ bs → result_ok r ≡ Some z
 signed_is_read bs r z parsed fits e = ap result_ok (parse-signed_decimal w64 z bs r fits (magnitude z fits) (sym e) parsed)
 
@@ -121,6 +125,7 @@ dash_is_none : IsSigned (codes "-") → ⊥
 dash_is_none (inl h) = h
 dash_is_none (inr h) = omega (arith, h)
 
+-- where the text of ticks is `-`, there is no number of them
 pub no_ticks : (ticks : Option ℤ) (bs : List ℕ) → AreTicks ticks → ticks_text ticks ≡ bs → bs ≡ codes "-" → ticks ≡ None
 no_ticks None bs fit e none = refl
 no_ticks (Some z) bs fit e none = absurd (dash_is_none (signed_is_signed z (codes "-") fit (e ∙ none)))

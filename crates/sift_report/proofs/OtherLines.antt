@@ -67,5 +67,6 @@ other_lines_are_refused = record {
     sound_still (suc zero) up = (four_left, refl, record { few = omega arith; enough = omega arith })
     sound_still (suc (suc g)) up = absurd (omega arith)
 
+-- the headline holds of the report of two catchers, in which unit 4 is faulty, and each of its items refuses other lines
 pub fault_is_within_the_headline : PlainTablesAreGood → CalmMissionsFly → FaultIsWithinTheHeadline
 fault_is_within_the_headline plain calm = record { holds = headline_holds (parts_fit plain calm); refuses = other_lines_are_refused }

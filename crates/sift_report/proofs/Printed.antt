@@ -27,6 +27,7 @@ digits_are_text : (us : List ℕ) → 0 < length us → map unit_digit us ≡ un
 digits_are_text [] some = absurd (omega arith)
 digits_are_text (u ∷ us) some = refl
 
+-- where the digits of all units stand behind the old bytes, and there is a unit, the text of the units does
 pub digits_all : (us : List ℕ) (i : ℕ) (old now : List ℕ) → now ≡ old ++ map unit_digit (take i us) → length us ≤ i → 0 < length us
     → now ≡ old ++ units_text us
 digits_all us i old now so_far seen some =
@@ -39,6 +40,7 @@ pub list_text-cons : {V : Type 0} (text : V → List ℕ) (v : V) (vs : List V) 
 list_text-cons text v [] = sym (append-nil (text v))
 list_text-cons text v (w ∷ ws) = ap (λ bs. text v ++ 44 ∷ bs) (list_text-cons text w ws)
 
+-- where the first part stands behind the old bytes, and then each other one behind a comma, the text of the whole list does
 pub parts_all : {V : Type 0} (text : V → List ℕ) (vs : List V) (first : V) (others : List V) (k : ℕ) (old before now : List ℕ) → vs ≡ first ∷ others
     → length others ≤ k → before ≡ old ++ text first → now ≡ before ++ flat_map (λ w. 44 ∷ text w) (take k others)
     → now ≡ old ++ list_text (map text vs)
@@ -57,6 +59,7 @@ pub text_more : (text : ℕ → List ℕ) (n : ℕ) (old now new : List ℕ) →
 text_more text n old now new so_far here =
     rw (here, so_far, range-more n, flat_map-append text) (simp (append_assoc, append-nil))
 
+-- the texts of the numbers below n, and that of n behind them, are the texts of the numbers below n + 1
 pub first_text_more : (text : ℕ → List ℕ) (n : ℕ) (now new : List ℕ) → now ≡ flat_map text (range_with_len 0 n) → new ≡ now ++ text n
     → new ≡ flat_map text (range_with_len 0 (n + 1))
 first_text_more text n now new so_far here = text_more text n [] now new so_far here

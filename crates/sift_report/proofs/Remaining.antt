@@ -33,9 +33,11 @@ rest_is units = filter_same (λ u. not (holds (set.difference (units_of 255) uni
 abbrev pub set_of_config : List ℕ → Units
 set_of_config us = set.from_list {R = nat_cmp} us
 
+-- the members of a configuration's set are the configuration
 pub config_members : (us : List ℕ) → IsConfig us → members (set_of_config us) ≡ us
 config_members us config = members_of_list (set_of_config us) us (config_up us config) (λ u. set.contains-from_list_nat us u)
 
+-- each member of a configuration's set is a unit's number
 pub config_units : (us : List ℕ) → IsConfig us → AreUnits (set_of_config us)
 config_units us config = units_of_list (set_of_config us) us (config_up us config) (λ u. set.contains-from_list_nat us u)
 

@@ -23,6 +23,8 @@ pub record HasLaws (d : MissionData) (fl : Flight) : Type 0 where
   pub skew : SkewIsTold
   pub slack : SlackIsTold
 
+-- where its parts fit a mission can be flown, and configurations at the start, accounts, frames with margin and figures of its round flight are as the
+-- laws say
 pub round_flight_has_laws : PartsMakeItFlyable → HeadlineHolds → RoundFlightsHaveAccounts → MarginIsTold → SkewIsTold → SlackIsTold
     → (d : MissionData) (s : Strays) (fl : Flight) → PartsFit d → IsRound (flown d) s fl → HasLaws d fl
 round_flight_has_laws flies holds accounts margin skew slack d s fl fits round =

@@ -75,6 +75,7 @@ module _ (d : MissionData) (fl gl : Flight) (some : 0 < d.frames) (alike : AreAl
       ap (λ xs. xs ++ end_of (flown d) fl) (flat-same (frame_votes d fl) (frame_votes d gl) 0 d.frames (λ f low. same_frame_votes f (omega arith)))
       ∙ ap (λ xs. flat_map (frame_votes d gl) (range_with_len 0 d.frames) ++ xs) same_end
 
+-- flights of one frame or more that tell the same have one report in each version, one text of votes and one last line
 pub one_text : AlikeFlightsHaveOneText
 one_text d fl gl some alike = record {
   report = λ version. ap text_of_lines (same_sheet d fl gl some alike version);

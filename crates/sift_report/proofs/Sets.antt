@@ -47,6 +47,7 @@ up_from least (u ∷ us) up inside =
     let here = inside u (has-head u us) in
     (here.0, here.1, up_from (u + 1) us up.1 (λ v there. (omega (arith, below_has u us v up.0 there), (inside v (has-tail u us v there)).1)))
 
+-- the units of a configuration ascend, from 0 or a later one
 pub config_up : (us : List ℕ) → IsConfig us → AscendFrom 0 us
 config_up us config = up_from 0 us config.ascending (λ u there. (omega arith, config.inside u there))
 

@@ -133,6 +133,7 @@ module _ (d : MissionData) (fl : Flight) (version : Version) (laws : HasLaws d f
         ]) u (works_flying d u f w);
       }
 
+-- the sheet of a flight that has the laws tells the flight's margins, and while there is margin its configurations and agreed words
 pub tells_its_flight : (d : MissionData) (fl : Flight) (version : Version) → HasLaws d fl → TellsItsFlight d fl version
 tells_its_flight d fl version laws = record {
   margin = λ f within. (at_from d fl version laws f within, told_from d fl version laws f within);

@@ -45,6 +45,7 @@ module _ (m : FlownMission) (fl : Flight) (version : Version) where
       (All-map (HasVersion version) (unit_line m fl version f) m.units (λ k d low. of_unit f (get_or m.units k d)))
       (All-cons (HasVersion version) (frame_line m fl f) [] tt (All-nil (HasVersion version)))
 
+-- each line of a sheet is one of the sheet's version
 pub have_their_version : SheetsHaveTheirVersion
 have_their_version m fl version =
     All-append (HasVersion version) (flat_map (frame_lines m fl version) (range_with_len 0 m.frames)) (last_line m fl ∷ [])

@@ -178,6 +178,7 @@ four_right = pos 0 ∷ pos 0 ∷ pos 0 ∷ pos 0 ∷ []
 right : (z : ℤ) → Contains four_right z → z ≡ pos 0
 right z among = (Contains-map (λ u. pos 0) four_left z among).2
 
+-- the skew of the four clocks that are right is 0
 pub no_skew : IsSkew four_right (pos 0)
 no_skew = record {
   attained = (pos 0, pos 0, (0, omega arith, refl), (0, omega arith, refl), refl);
@@ -207,6 +208,8 @@ true_margin (suc zero) low = record {
 }
 true_margin (suc (suc f)) low = absurd (omega arith)
 
+-- where the mission's parts fit, the headline holds of its report: both frames have margin by what is told, and unit 4, faulty in each, is out
+-- after the first
 pub headline_holds : PartsFit mission → HeadlineOfAFault
 headline_holds fits = record {
   fits = fits;

@@ -131,6 +131,7 @@ scripted = record { layout = refl; outputs = refl; frames = refl; good = rules }
 
 -- ---- all of them
 
+-- the parts of the mission of two catchers fit
 pub parts_fit : PlainTablesAreGood → CalmMissionsFly → PartsFit mission
 parts_fit plain calm = record {
   limits = within_limits;

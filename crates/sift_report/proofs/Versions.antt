@@ -111,6 +111,7 @@ fields_tell (Idle n u) two holds_one holds_two first second e = (tt, few_name_no
 fields_tell (Frame n s l m) two holds_one holds_two first second e = (tt, few_name_nobody two (omega (arith, ap length e)))
 fields_tell (Last n cfg m) two holds_one holds_two first second e = (tt, few_name_nobody two (omega (arith, ap length e)))
 
+-- a line of version 1 and one of version 2 that are printed alike name nobody
 pub lines_tell : LinesTellTheirVersion
 lines_tell one two holds_one holds_two first second e =
     fields_tell one two holds_one holds_two first second

@@ -84,6 +84,7 @@ module _ (nowhere : ReportsStopNowhere) (once : TextsStopOnce) (texts : ReportsA
     too_long = λ long. past ending told certain long;
   }
 
+-- whatever is certain of an input that tells its bytes, its ending is explained by them
 pub endings_are : ReportsStopNowhere → TextsStopOnce → ReportsAreTexts → EndingsAreExplained
 endings_are nowhere once texts in_before in_after out_before out_after ending certain bytes told =
     explained nowhere once texts in_before in_after out_before out_after bytes ending told certain

@@ -64,10 +64,12 @@ module _ (apart : LinesComeApart) (version : Version) where
       sym stop.count ∙ ap (λ n. n + 1) (as_many stop.before again.before stop.rest again.rest stop.all again.all stop.none again.none
       (stop.split ∙ sym again.split)) ∙ again.count
 
+-- a report has no line at which it stops to be one
 pub nowhere : LinesComeApart → ReportsStopNowhere
 nowhere apart text number (One, report) stop = stops_not apart One text stop.0 report stop.2
 nowhere apart text number (Two, report) stop = stops_not apart Two text stop.1 report stop.3
 
+-- a text has at most one line at which it stops to be a report
 pub once : LinesComeApart → TextsStopOnce
 once apart text one other stop again =
     let ones = stops_once apart One text stop.0 again.0 stop.2 again.2 in

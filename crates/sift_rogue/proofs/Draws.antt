@@ -34,6 +34,7 @@ drawn_count : (number count : ℕ) → length (drawn_acts number count) ≡ coun
 drawn_count number zero = refl
 drawn_count number (suc count) = ap suc (drawn_count number count)
 
+-- a storm that is drawn has the strays of its draws and no others, there is one for each number and each count of calls, and it may have a stray
 pub are_the_draws : DrawnStormsAreTheDraws
 are_the_draws = record {
   strays = storm_drawn;

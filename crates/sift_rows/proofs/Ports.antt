@@ -8,6 +8,7 @@ use Rattle.sift_buffer.specs.declared.port.Entering.{Entering}
 use Rattle.sift_buffer.specs.declared.port.Entering.TheVariants.{Entered, NotYet}
 use Rattle.sift_rows.specs.Ports.{KeepsActs, HasTurned}
 
+-- a port that tried to enter is of the same unit, which said and heard what it had, and has not turned unless it had before
 pub tries_keep : (v : View) (e : Entering) (v' : View) → Tries v e v' → KeepsActs v v'
 tries_keep v Entered v' t = let own = t.round.own in record {
   ranges = ap (λ (w : View). w.ranges) t.after ∙ own.ranges;

@@ -13,6 +13,8 @@ use Rattle.sift_run.specs.declared.command.Command.TheVariants.{Run}
 done_is_own : ¬ Contains shared_statuses done_status
 done_is_own = grind arith
 
+-- where words ask for a run and the status is 0, what was written is the report of a flight of the mission that the input states, and its lines
+-- have the headline
 pub headline : (given : MissionData → Strays → Type 0) → OneCommand → ShareNoStatus (commands given) → StatusesAreExplained (commands given) → RunIsHeadlined given
     → HeadlineIsWritten given
 headline given one own explained headlined words input output status answered job asks is =

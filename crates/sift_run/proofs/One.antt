@@ -40,6 +40,7 @@ named Clocks = refl
 same_some : {A : Type 0} (x y : A) → Some x ≡ Some y → x ≡ y
 same_some x y e = cc
 
+-- words ask for at most one command
 pub one_command : OneListOfOptions → OneCommand
 one_command one_list words one other a b =
     let e = sym a.words_are ∙ b.words_are in

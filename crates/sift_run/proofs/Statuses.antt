@@ -17,6 +17,7 @@ among given own command status (inl (bytes, reply, gives, is)) =
     (subst (λ (n : ℕ). Contains (own_statuses command) n) (sym is) ((own command).among bytes reply gives))
 among given own command status (inr shared) = Contains-append_right (own_statuses command) (shared_endings (duty_of given command).limit) status shared
 
+-- each command ends with a status of its own or a shared one of its kind; words that are no command line end with `usage`, or a fault of the sink
 pub known : (given : MissionData → Strays → Type 0) → OneCommand → CommandsHaveOwnStatuses given → ShareNoStatus (commands given) → StatusesAreExplained (commands given)
     → StatusesAreKnown given
 known given one own apart explained words input output status answered =

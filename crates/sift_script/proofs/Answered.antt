@@ -81,5 +81,6 @@ entries_met script (suc n) within = elim (entries_met script n (omega (arith, wi
   ]
 ]
 
+-- a script meets all rules, or there is the first entry at which it breaks one, and the first that it breaks there
 pub scripts_are_answered : ScriptsAreAnswered
 scripts_are_answered script = entries_met script (length script.faults) (omega arith)

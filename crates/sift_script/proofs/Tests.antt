@@ -30,6 +30,7 @@ absent false = (true, (λ e. refl, λ e. refl))
 pub at_most : (a b : ℕ) → Test (a ≤ b)
 at_most a b = (leb a b, (leb-true a b, le-leb a b))
 
+-- a test tells whether a number is less than another
 pub less : (a b : ℕ) → Test (a < b)
 less a b = (ltb a b, Decides-ltb a b)
 

@@ -43,6 +43,7 @@ called_place b v b' v' (said k q s w may e subframe frame) = record { unit = ap 
 called_place b v b' v' (heard k p s w may e subframe frame) = record { unit = ap (λ (z : View). z.unit) e; ranges = ap (λ (z : View). z.ranges) e }
 called_place b v b' v' (entered e) = entered_place v v' e
 
+-- whatever a step comes to, its port stays of the same unit and the same ranges
 pub step_place : (m : FlownMission) (b : Desk) (v : View) (r : Stepped) (b' : Desk) (v' : View) (stands : ℕ → ℕ → Type 0) →
     Steps m b v r b' v' stands → KeepsPlace v v'
 step_place m b v Moved b' v' stands s = called_place b v b' v' s.call

@@ -37,6 +37,7 @@ pub record IsNext {A : Type 0} (xs : List A) (n : ℕ) (x : A) (rest : List A) :
   pub here : (d : A) → slice_index_or xs n d ≡ x
   pub rest_is : rest ≡ drop (n + 1) xs
 
+-- a list that from a place on has a first item and others has it at the place, and the others from the next place on
 pub is_next : {A : Type 0} (xs : List A) (n : ℕ) (x : A) (rest : List A) → drop n xs ≡ x ∷ rest → IsNext xs n x rest
 is_next [] zero x rest e = absurd cc
 is_next [] (suc n) x rest e = absurd cc

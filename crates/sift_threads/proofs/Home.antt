@@ -130,6 +130,7 @@ module _ {R : Type 0} (allows : R → Call → R → Type 0) (down : DownLaw) (b
     beyond = beyond_are;
   }
 
+-- where the seats of all units of a new ether came home by their own steps, all units have flown, by what is left of the seats
 pub come_home : {R : Type 0} (allows : R → Call → R → Type 0) → DownLaw → TokensComeBack → (parts : MissionParts) → PartsFit (data_of parts) →
     (e : Ether) (home : List (Seat EtherSeat R)) (beyond : List R) (fl : Flown R) → AreLeft home beyond fl → ComeHome allows parts e home beyond fl
 come_home allows down back parts fit e home beyond fl left tokens boards rogues seats made seated enough rest came =

@@ -130,5 +130,6 @@ stmt_sync = variants_sync Stmt.enum (
   ),
 )
 
+-- a task may be lent to several threads
 pub task_sync : IsSync Task.the_row
 task_sync = search (sendable, crosses, stmt_sync) depth 60 fits 20000

@@ -73,5 +73,6 @@ module _ (m : FlownMission) (b : TheBoard) (v : View) (d : Drives m b v) (down :
   count_all = range.count ∙ ⊎_elim (λ ended. ended.0 ∙ sym (ap (λ (o : Option ℕ). frames_before o m.frames) ended.1))
       (λ (t : Turned m (desk_of b) v.conduct). sym (ap (λ (o : Option ℕ). frames_before o m.frames) t.storm ∙ min-eq_left range.frame)) at_end
 
+-- a board that has driven, and whose unit is down, has kept to its conduct in each frame in which its unit flies, and has an account of each
 pub down_law : DownLaw
 down_law m b v d down = record { kept = kept_all m b v d down; count = count_all m b v d down }

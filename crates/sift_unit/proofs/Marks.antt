@@ -47,6 +47,7 @@ pub record FliesOn (m : FlownMission) (turned : Bool) (b : Desk) (c : Acts) : Ty
   pub mark : turned ≡ false
   pub going : Going m b c
 
+-- a board in a frame before its storm, which keeps to its conduct as its mark says, has not turned by it, and flies
 pub early_flies : (m : FlownMission) (turned : Bool) (b : Desk) (c : Acts) → KeepsAs m turned b c → IsEarly m b → FliesOn m turned b c
 early_flies m true b c k early = absurd (let low = early b.frame k.storm in omega arith)
 early_flies m false b c k early = record { mark = refl; going = k.going }

@@ -47,6 +47,7 @@ module _ (m : FlownMission) (b : Desk) (strays : List Stray) where
   }
   keeps_with false c keeps = record { before = keeps.before; going = going_with c keeps.going }
 
+-- a board that drives on a port drives on it whatever strays its unit has stored
 pub stray_law : StrayLaw
 stray_law m b v v' drives other = record {
   fits = drives.fits;
