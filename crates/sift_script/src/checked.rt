@@ -9,9 +9,10 @@ ghost use Rattle.sift_script.specs.Faults.{works, storm_of};
 ghost use Rattle.sift_script.specs.Rules.{IsGood, IsFirstBroken, MeetsEach, BreaksFirst, entry_rules};
 ghost use Rattle.sift_script.specs.Parts.{script_of};
 
-use crate::parts::Parts;
+use crate::parts::{Parts, first_words};
 use crate::rules;
 use crate::script::{Plan, Script, items_of};
+use arrayvec::ArrayVec;
 use sift_base::{Layout, Shapes, Slot, UnitId, Word};
 use std::marker::Model;
 
@@ -29,18 +30,21 @@ pub struct Broken {
 #[derive(Drop)]
 pub struct GoodScript {
     parts: Parts,
+    /// The numbers of the tasks' first output words, and of the word behind them all.
+    first_words: ArrayVec<u16, 25>,
 }
 
 impl Model for GoodScript {
     ghost use Rattle.sift_script.specs.Script.{FaultScript};
-    ghost use Rattle.sift_script.specs.Parts.{script_of};
+    ghost use Rattle.sift_script.specs.Parts.{script_of, AreFirstWords};
     ghost use Rattle.sift_script.specs.Rules.{IsGood};
 
     ghost Value = { FaultScript };
 
     ghost view = { λ good. script_of good.parts };
 
-    ghost invariant = { λ good. IsGood (script_of good.parts) };
+    ghost invariant = { λ good. IsGood (script_of good.parts)
+        × AreFirstWords good.parts.outputs.items good.first_words.items };
 }
 
 impl GoodScript {
@@ -59,7 +63,9 @@ impl GoodScript {
         if f < entry.from {
             return None;
         }
-        self.parts.replacement(items_of(&entry.plan), f, slot, to)
+        let items = items_of(&entry.plan);
+        self.parts
+            .replacement(&self.first_words, items, f, slot, to)
     }
 
     /// The storm of a unit, where it has one: the frame before which it turns stray, the number that its strays are
@@ -103,7 +109,8 @@ pub fn check(
             });
         }
     }
-    Ok(GoodScript { parts })
+    let first_words = first_words(&parts.outputs);
+    Ok(GoodScript { parts, first_words })
 }
 
 /// The first rule that an entry breaks.

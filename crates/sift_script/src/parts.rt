@@ -1,12 +1,12 @@
 //! A script with what it is for: the mission's layout, its tasks' output words and its frames.
 
-ghost use Rattle.std.specs.Prelude.{◌≡◌, ◌≤◌, ◌*◌, length, map, sum};
+ghost use Rattle.std.specs.Prelude.{◌≡◌, ℕ, List, ◌≤◌, length, map};
 ghost use Rattle.std.specs.Option.{option_map};
 ghost use Rattle.sift_base.specs.Shapes.{shapes_of, AreShapes};
 ghost use Rattle.sift_script.specs.Script.{script_for, change_of, fault_of};
 ghost use Rattle.sift_script.specs.Changes.{slot_of, is_same_slot, fits, first_word_of, replacement_by};
 ghost use Rattle.sift_script.specs.Faults.{fault_of_unit, is_faulty};
-ghost use Rattle.sift_script.specs.Parts.{script_of};
+ghost use Rattle.sift_script.specs.Parts.{script_of, AreFirstWords};
 
 use crate::script::{Entry, Item, Script, SlotKind};
 use arrayvec::ArrayVec;
@@ -63,8 +63,9 @@ impl Parts {
         self.script.entries.iter().find(|entry| entry.unit == unit)
     }
 
-    /// Whether an item is about a slot.
-    fn is_about(&self, item: &Item, slot: Slot) -> bool
+    /// Whether an item is about a slot, where the tasks' words begin at these numbers.
+    fn is_about(&self, firsts: &[u16], item: &Item, slot: Slot) -> bool
+        requires { AreFirstWords (script_of self.now).outputs firsts.now }
         ensures { let about = slot_of (script_of self.now).outputs (change_of item.now) in
             result ≡ is_same_slot about slot }
     {
@@ -74,7 +75,7 @@ impl Parts {
             Slot::RelaySense(x) => item.kind == SlotKind::Relay && item.index == x,
             Slot::Out(w) => {
                 item.kind == SlotKind::Out
-                    && first_word(&self.outputs, item.index) + usize::from(item.word)
+                    && usize::from(first_word(firsts, item.index)) + usize::from(item.word)
                         == usize::from(w)
             }
             Slot::Report => item.kind == SlotKind::Report,
@@ -83,10 +84,11 @@ impl Parts {
     }
 
     /// Whether an item is about what is said to a receiver in a slot of frame f.
-    pub fn fits(&self, item: &Item, f: u32, slot: Slot, to: UnitId) -> bool
+    fn fits(&self, firsts: &[u16], item: &Item, f: u32, slot: Slot, to: UnitId) -> bool
+        requires { AreFirstWords (script_of self.now).outputs firsts.now }
         ensures { result ≡ fits (script_of self.now).outputs f slot to (change_of item.now) }
     {
-        self.is_about(item, slot)
+        self.is_about(firsts, item, slot)
             && item.to.contains(&to.get())
             && item.frame.is_none_or(|frame| frame == f)
     }
@@ -94,39 +96,42 @@ impl Parts {
     /// What the first of these items that fits says to a receiver in a slot of frame f, if one fits.
     pub fn replacement(
         &self,
+        firsts: &[u16],
         items: &[Item],
         f: u32,
         slot: Slot,
         to: UnitId,
     ) -> Option<Option<Word>>
+        requires { AreFirstWords (script_of self.now).outputs firsts.now }
         ensures { let changes = map change_of items.now in
             result ≡ replacement_by (script_of self.now).outputs f slot to changes }
     {
         items
             .iter()
-            .find(|item| self.fits(item, f, slot, to))
+            .find(|item| self.fits(firsts, item, f, slot, to))
             .map(|item| item.value)
     }
 }
 
-/// How many output words tasks have together, where they have so many each.
-fn words_of(counts: &[u8]) -> usize
+/// The numbers of the tasks' first output words, where the tasks have so many each, and of the word behind them all.
+pub(crate) fn first_words(counts: &[u8]) -> ArrayVec<u16, 25>
     requires { length counts.now ≤ 24 }
-    ensures words { result ≡ sum counts.now }
-    ensures few { result ≤ 24 * 255 }
+    ensures { AreFirstWords counts.now result.items }
 {
-    let mut words = 0;
+    let mut firsts = ArrayVec::new();
+    let mut first = 0;
+    firsts.push(first);
     for count in counts {
-        words += usize::from(*count);
+        first += u16::from(*count);
+        firsts.push(first);
     }
-    words
+    firsts
 }
 
-/// The number of a task's first output word, where the tasks have so many each.
-fn first_word(outputs: &[u8], task: u8) -> usize
-    requires { length outputs.now ≤ 24 }
-    ensures first { result ≡ first_word_of outputs.now task }
-    ensures few { result ≤ 24 * 255 }
+/// The number of a task's first output word, and of one behind all where there is no such task.
+fn first_word(firsts: &[u16], task: u8) -> u16
+    requires { (counts : List ℕ) × AreFirstWords counts firsts.now }
+    ensures { (counts : List ℕ) → AreFirstWords counts firsts.now → result ≡ first_word_of counts task }
 {
-    words_of(&outputs[..usize::from(task).min(outputs.len())])
+    firsts[usize::from(task).min(firsts.len() - 1)]
 }

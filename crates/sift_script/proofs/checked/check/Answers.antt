@@ -24,7 +24,7 @@ pub loop-at-preserved : goal.loop-at-preserved
 loop-at-preserved c = below_more (MeetsEach entry_rules (script_of c.of-parts.result)) c.loop-at.at c.loop-at.invariant c.in_default.ensures.met
 
 pub invariant_of-result : goal.invariant_of-result
-invariant_of-result c = λ at low. c.loop-at.invariant at (omega (arith, length-map c.of-parts.result.script.entries.items fault_of))
+invariant_of-result c = (λ at low. c.loop-at.invariant at (omega (arith, length-map c.of-parts.result.script.entries.items fault_of)), rw (← c.deref.ensures.0) c.first_words-first_words.ensures)
 
 pub returns-clause-good : goal.returns-clause-good
 returns-clause-good c = λ at low. c.loop-at.invariant at (omega (arith, length-map c.of-parts.result.script.entries.items fault_of))
