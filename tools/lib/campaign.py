@@ -8,7 +8,7 @@ from documents import faults_text
 from faults import Faults, Schedule
 from reports import read_ideal
 
-LONGEST = 2.0  # seconds of a batch, by the time that the mission took without faults
+LONGEST = 4.0  # seconds of a batch, by the time that the mission took without faults
 GOLDEN = (math.sqrt(5) - 1) / 2
 
 

@@ -45,6 +45,7 @@ class Mission:
 
     def __init__(self, root):
         self.root = root
+        self.read = {}  # the statements of each task whose text was read
 
     def integer(self, name, missing=0):
         """The integer of a key of the root, where a rule has found that it is one."""
@@ -110,6 +111,12 @@ class Mission:
 
     def statements(self, task):
         """The statements of a task, whose text is accepted, or that has a `linear`."""
+        if task not in self.read:
+            self.read[task] = self.read_statements(task)
+        return self.read[task]
+
+    def read_statements(self, task):
+        """The same, read now."""
         text = self.tasks[task].get("text")
         if text is not None:
             return texts.read_text(text.data, self.scope(task))

@@ -140,10 +140,10 @@ def check_units(frame, count):
 
 
 @lru_cache(maxsize=16384)
-def frame_of(lines, number, count):
+def frame_of(text, number, count):
     """The frame that lines tell: of each unit one, and the line of the frame; None where that one is missing."""
     units = []
-    for place, line in enumerate(lines):
+    for place, line in enumerate(lines_of(text)):
         try:
             told = unit_of(line)
             if told is None:
@@ -158,12 +158,12 @@ def frame_of(lines, number, count):
     return None
 
 
-def read_end(lines, place, frames):
-    """The flight, where a line is the last one of the report; or None."""
-    end = END.fullmatch(lines[place])
+def read_end(line, is_last, frames):
+    """The flight, where a line is the end of the report; or None."""
+    end = END.fullmatch(line)
     if not end or not frames:
         return None
-    if int(end[1]) != len(frames) or place + 1 != len(lines):
+    if int(end[1]) != len(frames) or not is_last:
         raise NoReport(f"the end of {len(frames)} frames is due, and nothing after it")
     flight = Flight(frames, units_of(end[2]))
     if flight.last[-1] >= flight.units:
@@ -171,27 +171,39 @@ def read_end(lines, place, frames):
     return flight
 
 
+def whole_lines(text):
+    """A text of whole lines, which end as the program's do, or with CR LF as some copies' do."""
+    text = text.replace("\r\n", "\n")
+    if text and not text.endswith("\n"):
+        raise NoReport(f"line {line_number(text, len(text))}: the last line has no end")
+    return text
+
+
 def lines_of(text):
-    """The lines of a text, which end as the program's do, or with CR LF as some copies' do."""
-    lines = text.replace("\r\n", "\n").split("\n")
-    if lines.pop() != "":
-        raise NoReport(f"line {len(lines) + 1}: the last line has no end")
-    return lines
+    """The lines of a text of whole lines."""
+    return text.split("\n")[:-1]
+
+
+def line_number(text, place):
+    """The number of the line at a place of a text, from 1."""
+    return text.count("\n", 0, place) + 1
 
 
 def read_report(text):
     """The flight that a report tells."""
-    lines = lines_of(text)
+    text = whole_lines(text)
     frames, place, count, version = [], 0, None, None
     try:
-        while place < len(lines):
-            flight = read_end(lines, place, frames)
-            if flight:
-                return flight
-            end = place + (count or 0)  # where the line of the frame stands, if it has as many units as those before
-            if end >= len(lines) or not lines[end].startswith(f"f={len(frames)} s"):
-                end = next((last for last in range(place, len(lines)) if " margin=" in lines[last]), len(lines))
-            frame = frame_of(tuple(lines[place : end + 1]), len(frames), count)
+        while place < len(text):
+            # The lines of a frame end with the one that tells its margin; so does the end of the report.
+            margin = text.find(" margin=", place)
+            end = text.index("\n", margin) + 1 if margin >= 0 else len(text)
+            lines = text[place:end]
+            if lines.startswith("end "):
+                flight = read_end(lines[:-1], end == len(text), frames)
+                if flight:
+                    return flight
+            frame = frame_of(lines, len(frames), count)
             if not frame:
                 break
             for unit, told in frame.versions.items():
@@ -200,15 +212,15 @@ def read_report(text):
                     raise NoReport(f"a report of version {version} tells other units that were caught", unit)
             frames.append(frame)
             count = len(frame.states)
-            place = end + 1
+            place = end
     except NoReport as fault:
-        raise NoReport(f"line {place + fault.line + 1}: {fault}") from None
-    raise NoReport(f"line {len(lines) + 1}: the line of the mission's end is missing")
+        raise NoReport(f"line {line_number(text, place) + fault.line}: {fault}") from None
+    raise NoReport(f"line {line_number(text, len(text))}: the line of the mission's end is missing")
 
 
 def read_ideal(text):
     """Of each frame the output words of the ideal machine, from the text of `sift ideal`."""
-    lines = lines_of(text)
+    lines = lines_of(whole_lines(text))
     frames = [IDEAL.fullmatch(line) for line in lines[:-1]]
     for number, found in enumerate(frames):
         if not found or int(found[1]) != number:
