@@ -3,6 +3,7 @@ use Rattle.std.proofs.Common.{◌≡◌, inl, inr, ℕ, zero, suc, ◌+◌, ◌<
 use Rattle.std.specs.List.{range_with_len, sum_by}
 use Rattle.std.proofs.lemmas.List.{get_or-replicate, length-replicate}
 use Rattle.std.proofs.lemmas.List.Sums.{sum_by-cons}
+use Rattle.std.proofs.lemmas.Option.{same_Some}
 use Rattle.sift_base.specs.Layout.{slot_count}
 use Rattle.sift_base.specs.declared.layout.Layout.{Layout}
 use Rattle.sift_buffer.specs.Conduct.{Hearing}
@@ -67,9 +68,6 @@ carried_so x y (d ∷ ds) c all (inr later) = carried_so x all.0 ds c all.1 late
 
 -- ---- one unit
 
-some_same : {A : Type 0} (x y : A) → Some x ≡ Some y → x ≡ y
-some_same x y e = cc
-
 -- a word that was called is wrong where the bus carries another, and none that wasn't
 wrong_word : (o : Option Hearing) (called : Bool) (word carried : Option ℕ) (job : BusNumbers) (f : ℕ) →
     option_map (λ act. act.word) o ≡ (if called then Some word else None) → ((act : Hearing) → o ≡ Some act → carried ≡ carried_for job f act.word) →
@@ -77,7 +75,7 @@ wrong_word : (o : Option Hearing) (called : Bool) (word carried : Option ℕ) (j
 wrong_word None true word carried job f heard of = absurd cc
 wrong_word None false word carried job f heard of = refl
 wrong_word (Some act) true word carried job f heard of =
-    ap (λ (v : Option ℕ). not (is_same v act.word)) (of act refl) ∙ ap (λ (w : Option ℕ). is_changed job f w) (some_same act.word word heard)
+    ap (λ (v : Option ℕ). not (is_same v act.word)) (of act refl) ∙ ap (λ (w : Option ℕ). is_changed job f w) (same_Some act.word word heard)
 wrong_word (Some act) false word carried job f heard of = absurd cc
 
 -- a frame, a slot and a unit below the ranges are an entry

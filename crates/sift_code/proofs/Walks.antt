@@ -50,11 +50,12 @@ summary_sums (h ∷ hs) b e =
     let same : joined h (summary hs) ≡ b = cc in
     subst (Sums (h ∷ hs)) same (sums_joined h hs (λ b' e'. summary_sums hs b' e') (summary hs) refl)
 
--- the heights are those of a summary where they agree with it
+-- the heights are not all one number where their summary says that they differ, or has another height
 pub differ_from : (hs : List ℕ) (b : Brought) (x : ℕ) → summary hs ≡ Some b → (b.same ≡ false) ⊎ (b.height ≢ x) → All (λ h. h ≡ x) hs → ⊥
 differ_from hs b x e (inl same) all = (summary_sums hs b e).unlike same x all
 differ_from hs b x e (inr differ) all = differ ((summary_sums hs b e).latest x all)
 
+-- the heights are all the height of their summary, where it says that they agree
 pub agree_with : (hs : List ℕ) (b : Brought) (x : ℕ) → summary hs ≡ Some b → b.same ≡ true → b.height ≡ x → All (λ h. h ≡ x) hs
 agree_with hs b x e same is = subst (λ (y : ℕ). All (λ h. h ≡ y) hs) is ((summary_sums hs b e).alike same)
 

@@ -2,6 +2,7 @@
 use Rattle.std.proofs.Common.{◌≡◌, ◌≢◌, ℕ, ◌+◌, ◌-◌, ◌*◌, ◌<◌, ◌≤◌, List, [], ◌∷◌, ◌++◌, length, slice_index, slice_index_or, slice_set, length-set, true, Option, Some, None, IfSome, option_map, option_to_list, refl, sym, ap, ◌∙◌, subst, arith, eq-eqb, ne_eqb}
 use Rattle.std.proofs.lemmas.List.{get_or-set_same, get_or-set_other}
 use Rattle.std.proofs.lemmas.Nat.{mul-le}
+use Rattle.std.proofs.lemmas.Option.{same_Some}
 use mathlib.Core.Logic.{dite}
 use native.Mathlib.Decide.{ℕ_discrete}
 use Rattle.sift_base.specs.Units.{has, unit_limit}
@@ -35,16 +36,9 @@ use Rattle.sift_core.proofs.FirstUnits.{low_unit, unit_low}
 use Rattle.sift_core.proofs.Progress.{flyable, others_progress, step_comes}
 use Rattle.sift_core.proofs.Stages.{end_low}
 
--- no option is both, and two values are one where their options are
+-- no option is both
 none_some : {A B : Type 0} {x : A} → None ≡ Some x → B
 none_some e = absurd cc
-
-abbrev got : {A : Type 0} → A → Option A → A
-got d (Some x) = x
-got d None = d
-
-some_same : {A : Type 0} {x y : A} → Some x ≡ Some y → x ≡ y
-some_same {A} {x} {y} e = ap (got x) e
 
 -- the strays of a unit with some before its others, and another's
 strays_here : (w : Strays) (u : ℕ) (ss : List Stray) → with_strays w u ss u ≡ ss ++ w u
@@ -195,7 +189,7 @@ module _ {R : Type 0} (allows : R → Call → R → Type 0) (d : MissionData) (
     left = left_by d x u x' one ls ls' (left_long started u ys ls ys' ls' begun.called) (others_left started u ys ls ys' ls' begun.called) way.left (record {
       calm = λ e. none_some (sym e ∙ begun.storm_is);
       before = λ t at up. absurd (not_up up);
-      after = λ t at down. (let same = ap (λ (z : ℕ × ℕ × ℕ). z.2) (some_same (sym begun.storm_is ∙ at)) in let is = begun_left in omega arith, turned);
+      after = λ t at down. (let same = ap (λ (z : ℕ × ℕ × ℕ). z.2) (same_Some _ _ (sym begun.storm_is ∙ at)) in let is = begun_left in omega arith, turned);
     });
   }
 
@@ -216,7 +210,7 @@ module _ {R : Type 0} (allows : R → Call → R → Type 0) (d : MissionData) (
             let first = was.before begun.storm begun.storm_is aloft in let many = way.rogues in
             let now : slice_index_or ys' u r ≡ begun.called.after = own_rogue started u ys ls ys' ls' begun.called (let f = begun_few in omega arith) r in
             subst (λ (z : ℕ × ℕ × ℕ). Storms allows (bounds_of (layout_of x') u) z.1 q (z.2 - slice_index ls' u) (k.strays u) (slice_index_or ys' u r))
-            (some_same (sym begun.storm_is ∙ at)) (record {
+            (same_Some _ _ (sym begun.storm_is ∙ at)) (record {
               begun = slice_index_or ys' u r;
               start = subst (λ (z : R). allows q (Started begun.storm.1) z) (sym now)
                   (subst (λ (z : R). allows z (Started begun.storm.1) begun.called.after) first.0 (begun.called.called r));

@@ -199,13 +199,3 @@ pub adds_nothing : (flags : List Flag) (options all : Options) (words : List (Li
     (words ≡ []) × (all ≡ options)
 adds_nothing flags options all words begin (none o) = (refl, refl)
 adds_nothing flags options all words begin (more o after a g w ws s begin' sets adds) = absurd (begin g w s begin')
-
--- ---- what is there
-
--- `None` is `Some` of no value
-pub some_or_none : {A : Type 0} (x : A) → None ≡ Some x → ⊥
-some_or_none x e = cc
-
--- where `Some` of two values is the same, so are the values
-pub same_some : {A : Type 0} (x y : A) → Some x ≡ Some y → x ≡ y
-same_some x y e = cc

@@ -1,5 +1,6 @@
 -- Words ask for one command at most.
 use Rattle.std.proofs.Common.{◌≡◌, ℕ, List, [], ◌∷◌, get_or, drop, Option, Some, None, IfNone, cond, bytes_eq, refl, sym, ap, ◌∙◌, subst}
+use Rattle.std.proofs.lemmas.Option.{same_Some}
 use Rattle.sift_options.specs.Laws.{OneListOfOptions}
 use Rattle.sift_options.specs.Options.{Adds, no_options}
 use Rattle.sift_options.specs.declared.setting.Options.{Options}
@@ -37,9 +38,6 @@ named Buses = refl
 named Byz = refl
 named Clocks = refl
 
-same_some : {A : Type 0} (x y : A) → Some x ≡ Some y → x ≡ y
-same_some x y e = cc
-
 -- words ask for at most one command
 pub one_command : OneListOfOptions → OneCommand
 one_command one_list words one other a b =
@@ -49,7 +47,7 @@ one_command one_list words one other a b =
     let adds = subst (λ ws. Adds (flags_of b.verb) no_options ws a.options) rest
     (subst (λ v. Adds (flags_of v) no_options a.rest a.options) verb a.gives) in
     let options = one_list (flags_of b.verb) no_options a.options b.options b.rest adds b.gives in
-    same_some one other (sym a.asked_is ∙ (ap (λ (v : Verb). asked v a.options) verb ∙ (ap (asked b.verb) options ∙ b.asked_is)))
+    same_Some one other (sym a.asked_is ∙ (ap (λ (v : Verb). asked v a.options) verb ∙ (ap (asked b.verb) options ∙ b.asked_is)))
 
 -- words that begin with a verb's name and give no more options than these ask for no command, where these ask for none
 pub none_asked :
@@ -63,7 +61,7 @@ none_asked word rest verb options name alone none command asks =
     let rests : asks.rest ≡ rest = sym (ap (drop 1) asks.words_are) in
     let adds = subst (λ ws. Adds (flags_of verb) no_options ws asks.options) rests
     (subst (λ v. Adds (flags_of v) no_options asks.rest asks.options) verbs asks.gives) in
-    let options_are : options ≡ asks.options = same_some options asks.options (alone asks.options adds) in
+    let options_are : options ≡ asks.options = same_Some options asks.options (alone asks.options adds) in
     let came : Some command ≡ None =
     sym asks.asked_is ∙ (ap (λ (v : Verb). asked v asks.options) verbs ∙ (ap (asked verb) (sym options_are) ∙ none)) in
     cc

@@ -14,7 +14,7 @@ use Rattle.sift_clock.proofs.Floors.{floor_is}
 use Rattle.sift_skew.specs.Leading.{OffsetsChangeLittle}
 use Rattle.sift_skew.proofs.Products.{scaled-cancel, scaled-add}
 
--- a reading that isn't too far counts as it is, and any other for 0
+-- what a reading from 0 on counts for is no farther from 0 than the limit
 counted-pos : (limit n : ℕ) → IsWithin (pos limit) (counted (pos limit) (Some (pos n))) (pos 0)
 counted-pos limit n =
     elim (cases_Bool (nat_lt limit n)) [

@@ -3,7 +3,8 @@ use Rattle.std.proofs.lemmas.Bool.Decides.{nat_tests}
 use Rattle.std.proofs.lemmas.List.{length-map}
 use Rattle.std.proofs.lemmas.Option.{IfSome_then}
 use Rattle.sift_options.specs.Options.{Adds, more, none}
-use Rattle.sift_options.proofs.Settings.{begins, fewer_behind, adds_nothing, same_some, some_or_none}
+use Rattle.std.proofs.lemmas.Option.{none-some, same_Some}
+use Rattle.sift_options.proofs.Settings.{begins, fewer_behind, adds_nothing}
 use Rattle.sift_options.proofs.Words.{map-nothing, map-something}
 use Rattle.sift_options.proofs.setting.Options.+and.Goals as goal
 
@@ -19,7 +20,7 @@ and-requires t c =
 pub returns-in_err-with-in-Some-clause-exact : goal.returns-in_err-with-in-Some-clause-exact
 returns-in_err-with-in-Some-clause-exact n c = λ options adds.
     let one = begins c.args.flags.now c.args.self options _ _ _ _ c.in-Some.ensures.found adds in
-    absurd (some_or_none _ (c.in_err-with-in-Some.ensures.exact one.after one.sets))
+    absurd (none-some _ (c.in_err-with-in-Some.ensures.exact one.after one.sets))
 
 -- the first option is set, and then the rest adds
 pub returns-in_ok-with-in-Some-clause-found : goal.returns-in_ok-with-in-Some-clause-found
@@ -29,7 +30,7 @@ returns-in_ok-with-in-Some-clause-found n c =
 pub returns-in_ok-with-in-Some-clause-exact : goal.returns-in_ok-with-in-Some-clause-exact
 returns-in_ok-with-in-Some-clause-exact n c = λ options adds.
     let one = begins c.args.flags.now c.args.self options _ _ _ _ c.in-Some.ensures.found adds in
-    let set = same_some _ _ (c.in_ok-with-in-Some.ensures.exact one.after one.sets) in
+    let set = same_Some _ _ (c.in_ok-with-in-Some.ensures.exact one.after one.sets) in
     c.and.ensures.exact options (subst (λ after. Adds c.args.flags.now after (map (string_bytes {Z = Global}) c.in-Some.setting.rest.now) options) (sym set) one.adds)
 
 -- there is no word
