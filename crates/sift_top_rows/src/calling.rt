@@ -24,7 +24,7 @@ impl Failing {
 }
 
 /// Calls `sift` on words and bytes in memory. The source and the sink move 16 bytes a call.
-pub fn call<R: Rogue + Send, P: Probe + Sync, H: Threads + Wait + Sync>(
+pub(crate) fn call<R: Rogue + Send, P: Probe + Sync, H: Threads + Wait + Sync>(
     rt: &H,
     alloc: Global,
     words: &[&str],

@@ -5,4 +5,6 @@ use Rattle.sift_script.proofs.parts.first_words.Given as goal
 
 -- the numbers of the tasks so far, and the number behind their words
 abbrev pub invariant-loop-count : goal.invariant-loop-count
-invariant-loop-count l = (l.firsts.items ≡ map (first_word_of l.counts) (range_with_len 0 (l.count-index + 1))) × (l.first ≡ sum (take l.count-index l.counts)) × (l.first ≤ l.count-index * 255)
+invariant-loop-count l =
+    (l.firsts.items ≡ map (first_word_of l.counts) (range_with_len 0 (l.count-index + 1))) ×
+    (l.first ≡ sum (take l.count-index l.counts)) × (l.first ≤ l.count-index * 255)
