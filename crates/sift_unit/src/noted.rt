@@ -6,11 +6,12 @@ ghost use Rattle.sift_base.specs.Units.{has, holds};
 ghost use Rattle.sift_vote.specs.Differing.{differs as is_other};
 ghost use Rattle.sift_clock.specs.Distance.{IsWithin};
 ghost use Rattle.sift_skew.specs.Limits.{offset_limit};
-ghost use Rattle.sift_mission.specs.Mission.{FlownMission, IsConfigOf};
+ghost use Rattle.sift_mission.specs.Mission.{FlownMission};
 ghost use Rattle.sift_mission.specs.Fits.{Fits};
 ghost use Rattle.sift_unit.specs.Memory.{place_at, polled_at, poll_of, note as note_of};
 ghost use Rattle.sift_unit.specs.Remembered.{IsShaped};
-ghost use Rattle.sift_unit.specs.Passing.{IsSlotOf};
+ghost use Rattle.sift_unit.specs.Passing.{IsUnitOf, IsOutputOf, IsSensedIn, IsSlotOfFrame};
+ghost use Rattle.sift_unit.specs.Conditions.{MayNote};
 ghost use Rattle.sift_unit.specs.Boards.{memory_of};
 ghost use Rattle.sift_base.specs.declared.slot.Slot.TheVariants.{Clock, RelaySense, Out, RelayReport};
 
@@ -36,13 +37,9 @@ impl Memory {
         slot: usize,
         places: &[Option<Word>; 8],
     )
-        requires fits { Fits (M.mission mission.now) }
-        requires slot { IsSlotOf (M.mission mission.now) config.now slot }
-        requires member { has config.now unit ≡ true }
-        requires frame { frame < (M.mission mission.now).frames }
+        requires slot { IsSlotOfFrame (M.mission mission.now) config.now frame slot }
         requires near { IsWithin offset_limit clk.now (pos 0) }
-        requires shape { IsShaped (M.mission mission.now) config.now unit (memory_of self.old) }
-        requires before { length self.old.words.before ≡ (M.mission mission.now).words }
+        requires notes { MayNote (M.mission mission.now) config.now unit (memory_of self.old) self.old.words.before }
         ensures noted { memory_of self.new ≡ note_of (M.mission mission.now) config.now unit frame clk.now self.old.words.before ((M.mission mission.now).kind slot) places.now (memory_of self.old) }
         ensures before { self.new.words.before ≡ self.old.words.before }
     {
@@ -69,8 +66,7 @@ impl Memory {
         places: &[Option<Word>; 8],
     )
         requires fits { Fits (M.mission mission.now) }
-        requires config { IsConfigOf (M.mission mission.now) config.now }
-        requires member { has config.now unit ≡ true }
+        requires unit { IsUnitOf (M.mission mission.now) config.now unit }
         requires near { IsWithin offset_limit clk.now (pos 0) }
         ensures noted { (f : ℕ) (last : List ℕ) → memory_of self.new ≡ note_of (M.mission mission.now) config.now unit f clk.now last Clock places.now (memory_of self.old) }
         ensures before { self.new.words.before ≡ self.old.words.before }
@@ -90,8 +86,7 @@ impl Memory {
         places: &[Option<Word>; 8],
     )
         requires fits { Fits (M.mission mission.now) }
-        requires sensor { sensor < (M.mission mission.now).sensors }
-        requires frame { frame < (M.mission mission.now).frames }
+        requires sensed { IsSensedIn (M.mission mission.now) sensor frame }
         requires shape { IsShaped (M.mission mission.now) config.now unit (memory_of self.old) }
         ensures noted { (clk : ℤ) (last : List ℕ) → memory_of self.new ≡ note_of (M.mission mission.now) config.now unit frame clk last (RelaySense sensor) places.now (memory_of self.old) }
         ensures before { self.new.words.before ≡ self.old.words.before }
@@ -127,11 +122,8 @@ impl Memory {
         places: &[Option<Word>; 8],
     )
         requires fits { Fits (M.mission mission.now) }
-        requires config { IsConfigOf (M.mission mission.now) config.now }
-        requires word { word < (M.mission mission.now).words }
-        requires member { has config.now unit ≡ true }
-        requires shape { IsShaped (M.mission mission.now) config.now unit (memory_of self.old) }
-        requires before { length self.old.words.before ≡ (M.mission mission.now).words }
+        requires word { IsOutputOf (M.mission mission.now) config.now word }
+        requires notes { MayNote (M.mission mission.now) config.now unit (memory_of self.old) self.old.words.before }
         ensures noted { (f : ℕ) (clk : ℤ) → memory_of self.new ≡ note_of (M.mission mission.now) config.now unit f clk self.old.words.before (Out word) places.now (memory_of self.old) }
         ensures before { self.new.words.before ≡ self.old.words.before }
     {
@@ -165,8 +157,7 @@ impl Memory {
         places: &[Option<Word>; 8],
     ) -> ArrayVec<Option<Word>, 8>
         requires fits { Fits (M.mission mission.now) }
-        requires config { IsConfigOf (M.mission mission.now) config.now }
-        requires word { word < (M.mission mission.now).words }
+        requires word { IsOutputOf (M.mission mission.now) config.now word }
         requires made { length (memory_of self.now).made ≡ (M.mission mission.now).words }
         ensures { result.items ≡ poll_of (M.mission mission.now) config.now unit (memory_of self.now) places.now word }
     {
@@ -209,8 +200,7 @@ impl Memory {
         vote: &Option<Word>,
     ) -> UnitSet
         requires fits { Fits (M.mission mission.now) }
-        requires config { IsConfigOf (M.mission mission.now) config.now }
-        requires word { word < (M.mission mission.now).words }
+        requires word { IsOutputOf (M.mission mission.now) config.now word }
         requires made { length (memory_of self.now).made ≡ (M.mission mission.now).words }
         ensures { (v : ℕ) → holds result v ≡ (has config.now v && ((M.mission mission.now).executes config.now word v && is_other (polled_at unit (memory_of self.now) places.now word v) vote.now)) }
     {

@@ -25,7 +25,7 @@ returns-clause-noted g c =
     = majority_is c.deref.result.now c.majority-vote.result c.majority-vote.ensures.found c.majority-vote.ensures.none ∙ ap majority_of ballots in
     let again : c.deref-2.result.now ≡ poll_of m us u b heard w = c.deref-2.ensures.0 ∙ c.ballots-ballots.ensures in
     let empty : nat_eq (length c.deref-2.result.now) 0 ≡ is_held m us w
-    = ap (λ (ws : List (Option ℕ)). nat_eq (length ws) 0) again ∙ empty_poll m us u b heard w c.requires.fits c.requires.config c.requires.word in
+    = ap (λ (ws : List (Option ℕ)). nat_eq (length ws) 0) again ∙ empty_poll m us u b heard w c.requires.fits c.requires.word.config c.requires.word.word in
     let word : c.voted-voted.result ≡ voted_at m us u last b heard w
     = c.voted-voted.ensures ∙ (λ i. if empty i then slice_index last w else unwrap_or (vote i) 0) in
     let words : c.vote.new.self ≡ with_voted c.args.self.now.words w (voted_at m us u last b heard w) = c.vote.ensures ∙ ap (λ x. with_voted c.args.self.now.words w x) word in
