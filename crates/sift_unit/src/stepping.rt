@@ -194,7 +194,7 @@ impl Board {
     /// Accounts for the frame, and begins the next.
     #[inline(never)]
     fn end_frame<M: Duty>(&mut self, mission: &M)
-        requires goes_on { MayGoOn (M.mission mission.now) self.old }
+        requires may { MayGoOn (M.mission mission.now) self.old }
         requires last { self.old.subframe + 1 ≡ (M.mission mission.now).period }
         ensures goes_on { GoesOn (M.mission mission.now) self.old self.new }
         ensures begins { BeginsNext self.old self.new }

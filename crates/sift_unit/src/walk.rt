@@ -94,7 +94,7 @@ impl Board {
     /// Goes on where nothing is to be said or heard. What isn't due is not looked at.
     #[inline(never)]
     fn pass<M: Duty>(&mut self, mission: &M)
-        requires passes { MayPass (M.mission mission.now) (desk_of self.old) }
+        requires may { MayPass (M.mission mission.now) (desk_of self.old) }
         requires inside { at_end (M.mission mission.now) (desk_of self.old) ≡ false }
         ensures onward { Onward (M.mission mission.now) (desk_of self.old) (desk_of self.new) }
         ensures same { IsSameBoard self.old self.new }
@@ -152,7 +152,7 @@ impl Board {
 
     /// Goes past a slot. If it was heard, all of it was, and its words are noted.
     fn pass_hearing<M: Duty>(&mut self, mission: &M)
-        requires passes { MayPass (M.mission mission.now) (desk_of self.old) }
+        requires may { MayPass (M.mission mission.now) (desk_of self.old) }
         requires member { has self.old.cfg self.old.unit ≡ true }
         requires at { IsAtSlot (M.mission mission.now) 0 (desk_of self.old) }
         ensures onward { Onward (M.mission mission.now) (desk_of self.old) (desk_of self.new) }

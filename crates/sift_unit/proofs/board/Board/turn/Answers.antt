@@ -12,8 +12,8 @@ turn-requires g c =
     (flies_here _ c.args.self.now v c.requires.drives (early_next _ c.args.self.now v c.requires.drives c.requires.next)).going.left
 
 -- and end its frame
-pub end_frame-requires-clause-goes_on : goal.end_frame-requires-clause-goes_on
-end_frame-requires-clause-goes_on g c = record {
+pub end_frame-requires-clause-may : goal.end_frame-requires-clause-may
+end_frame-requires-clause-may g c = record {
   walks = record { fits = c.requires.drives.fits; range = range_as _ _ (desk_of c.args.self.now) _ c.requires.drives.keeps };
   frame = room_next _ c.args.self.now (g.T.Look.view c.args.port.now) c.requires.drives c.requires.next;
   frames = c.requires.drives.frames;
