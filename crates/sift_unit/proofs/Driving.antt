@@ -12,6 +12,7 @@ use Rattle.sift_unit.specs.Going.{Going}
 use Rattle.sift_unit.specs.Passing.{Passes}
 use Rattle.sift_unit.specs.Stepping.{HasMoved, said, heard}
 use Rattle.sift_unit.specs.Keeping.{Turned, KeepsAs, IsEarly}
+use Rattle.sift_unit.specs.Conditions.{IsInFlight}
 use Rattle.sift_unit.specs.Boards.{desk_of, IsPortOf, Drives, IsSameBoard, IsMarked, GoesOn, TurnsNext, BeginsNext}
 use Rattle.sift_unit.specs.declared.board.Board.{Board as TheBoard}
 use Rattle.sift_unit.proofs.Hearing.{hearing_is, hear_going}
@@ -92,9 +93,13 @@ module _ (m : FlownMission) (b : TheBoard) (v : View) (d : Drives m b v) (early 
   pub looks_drive : (v' : View) → KeepsOwn v v' → Drives m b v'
   looks_drive v' own = flies_on b v' (same_itself b) early own.unit own.ranges (looks_going m (desk_of b) v v' own flies_here.going)
 
-  -- a board that has passed places drives on
-  pub pass_drives : (b' : TheBoard) → Passes m (desk_of b) (desk_of b') → IsSameBoard b b' → Drives m b' v
-  pass_drives b' p same = flies_on b' v same (early_same m (desk_of b) (desk_of b') p.unit p.frame early) refl refl (p.going v.conduct flies_here.going)
+  -- a board that has passed places of a frame of the flight is in flight
+  pass_flight : (b.frame ≡ m.frames → ⊥) → (b' : TheBoard) → Passes m (desk_of b) (desk_of b') → IsSameBoard b b' → IsInFlight m b' v
+  pass_flight more b' p same = let still = early_same m (desk_of b) (desk_of b') p.unit p.frame early in record {
+    drives = flies_on b' v same still refl refl (p.going v.conduct flies_here.going);
+    early = still;
+    frame = (let most = flies_here.going.range.frame in let is = p.frame in let ne = more in omega arith);
+  }
 
   -- where it does not turn next, it is before its storm in the next subframe
   pub early_there : (b' : TheBoard) → GoesOn m b b' → (TurnsNext m b → ⊥) → IsEarly m (desk_of b')
@@ -127,6 +132,11 @@ module _ (m : FlownMission) (b : TheBoard) (v : View) (d : Drives m b v) (early 
 pub early_at : (m : FlownMission) (b : TheBoard) (v : View) → Drives m b v → (b.storm ≡ Some b.frame → ⊥) → IsEarly m (desk_of b)
 early_at m b v d other = is_early m b.turned (desk_of b) v.conduct d.keeps (λ storm. other (d.storm ∙ storm))
 
+-- so it is in flight, before the end, and where it passes places
+pub in_flight : (m : FlownMission) (b : TheBoard) (v : View) → Drives m b v → (b.storm ≡ Some b.frame → ⊥) → (b.frame ≡ m.frames → ⊥) →
+    (b' : TheBoard) → Passes m (desk_of b) (desk_of b') → IsSameBoard b b' → IsInFlight m b' v
+in_flight m b v d other = pass_flight m b v d (early_at m b v d other)
+
 -- a board whose unit turns next is before its storm
 pub early_next : (m : FlownMission) (b : TheBoard) (v : View) → Drives m b v → TurnsNext m b → IsEarly m (desk_of b)
 early_next m b v d next = early_before m (desk_of b) (sym d.storm ∙ next.1)
@@ -135,10 +145,14 @@ early_next m b v d next = early_before m (desk_of b) (sym d.storm ∙ next.1)
 pub room_next : (m : FlownMission) (b : TheBoard) (v : View) → Drives m b v → TurnsNext m b → b.frame < m.frames
 room_next m b v d next = let come = d.storms b.unit (b.frame + 1) (sym d.storm ∙ next.1) in omega arith
 
-module _ (m : FlownMission) (fit : Fits m) (b : TheBoard) (v : View) (d : Drives m b v) (early : IsEarly m (desk_of b)) (low : b.frame < m.frames) where
+module _ (m : FlownMission) (b : TheBoard) (v : View) (flight : IsInFlight m b v) where
+  -- its mission fits
+  abbrev fit : Fits m
+  fit = flight.drives.fits
+
   -- the board flies
   going_here : Going m (desk_of b) v.conduct
-  going_here = (flies_here m b v d early).going
+  going_here = (flies_here m b v flight.drives flight.early).going
 
   -- the stamp of the slot at which the board stands
   abbrev pub stamp_here : ℕ
@@ -146,11 +160,11 @@ module _ (m : FlownMission) (fit : Fits m) (b : TheBoard) (v : View) (d : Drives
 
   -- it may hear there
   pub may_hear_at : is_hearing m (desk_of b) ≡ true → (p s : ℕ) → p ≡ b.other → s ≡ stamp_here → MayHear v.ranges v.conduct v.unit p b.slot b.frame s
-  may_hear_at e p s ep es = rw (d.unit, ep, es) (may_hear m fit v.ranges d.ranges (desk_of b) v.conduct going_here low (hearing_is m fit (desk_of b) e))
+  may_hear_at e p s ep es = rw (flight.drives.unit, ep, es) (may_hear m fit v.ranges flight.drives.ranges (desk_of b) v.conduct going_here flight.frame (hearing_is m fit (desk_of b) e))
 
   -- it may say there
   pub may_say_at : is_saying m (desk_of b) ≡ true → (q s : ℕ) → q ≡ b.other → s ≡ stamp_here → MaySay v.ranges v.conduct v.unit q b.slot b.frame s
-  may_say_at e q s eq es = rw (d.unit, eq, es) (may_say m fit v.ranges d.ranges (desk_of b) v.conduct going_here low (saying_is m fit (desk_of b) e))
+  may_say_at e q s eq es = rw (flight.drives.unit, eq, es) (may_say m fit v.ranges flight.drives.ranges (desk_of b) v.conduct going_here flight.frame (saying_is m fit (desk_of b) e))
 
   -- the board that has heard a word
   abbrev pub heard_desk : ℕ → Option ℕ → Desk
@@ -164,7 +178,7 @@ module _ (m : FlownMission) (fit : Fits m) (b : TheBoard) (v : View) (d : Drives
   pub hear_drives : is_hearing m (desk_of b) ≡ true → (b' : TheBoard) (i p s : ℕ) (w : Option ℕ) (v' : View) → IsSameBoard b b' → desk_of b' ≡ heard_desk i w →
       i ≡ b.other → p ≡ b.other → s ≡ stamp_here → v' ≡ view_with_heard v b.frame b.slot p s w → Drives m b' v'
   hear_drives e b' i p s w v' same desk ei ep es ev = subst (λ z. Drives m b' z) (sym ev)
-      (flies_on m b v d early b' (view_with_heard v b.frame b.slot p s w) same (subst (λ z. IsEarly m z) (sym desk) early) refl refl
+      (flies_on m b v flight.drives flight.early b' (view_with_heard v b.frame b.slot p s w) same (subst (λ z. IsEarly m z) (sym desk) flight.early) refl refl
       (subst (λ z. Going m z (view_with_heard v b.frame b.slot p s w).conduct) (sym desk)
       (rw (ei, ep) (hear_going m fit (desk_of b) v.conduct s w going_here (hearing_is m fit (desk_of b) e) es))))
 
@@ -172,7 +186,7 @@ module _ (m : FlownMission) (fit : Fits m) (b : TheBoard) (v : View) (d : Drives
       q ≡ b.other → s ≡ stamp_here → w ≡ word_to m b.cfg b.unit b.frame b.clk (desk_of b).memory (m.kind b.slot) q → v' ≡ view_with_said v b.frame b.slot q s w →
       Drives m b' v'
   say_drives e b' q s w v' same desk eq es ew ev = subst (λ z. Drives m b' z) (sym ev)
-      (flies_on m b v d early b' (view_with_said v b.frame b.slot q s w) same (subst (λ z. IsEarly m z) (sym desk) early) refl refl
+      (flies_on m b v flight.drives flight.early b' (view_with_said v b.frame b.slot q s w) same (subst (λ z. IsEarly m z) (sym desk) flight.early) refl refl
       (subst (λ z. Going m z (view_with_said v b.frame b.slot q s w).conduct) (sym desk)
       (rw eq (say_going m fit (desk_of b) v.conduct s w going_here (saying_is m fit (desk_of b) e) es
       (subst (λ z. w ≡ word_to m b.cfg b.unit b.frame b.clk (desk_of b).memory (m.kind b.slot) z) eq ew)))))
@@ -184,7 +198,7 @@ module _ (m : FlownMission) (fit : Fits m) (b : TheBoard) (v : View) (d : Drives
       let at = hearing_is m fit (desk_of b) e in let r = going_here.range in let few = fit.numbered.few in let part = at.part in let slot = at.slot in let other = r.other in
       record {
         call = heard b.slot p s w (may_hear_at e p s ep es) ev refl refl;
-        unfinished = low;
+        unfinished = flight.frame;
         nearer = omega arith;
         flies = ap (λ (z : View). z.conduct.left) ev ∙ going_here.left;
       }
@@ -195,7 +209,7 @@ module _ (m : FlownMission) (fit : Fits m) (b : TheBoard) (v : View) (d : Drives
       let at = saying_is m fit (desk_of b) e in let r = going_here.range in let few = fit.numbered.few in let part = at.part in let slot = at.slot in let other = r.other in
       record {
         call = said b.slot q s w (may_say_at e q s eq es) ev refl refl;
-        unfinished = low;
+        unfinished = flight.frame;
         nearer = omega arith;
         flies = ap (λ (z : View). z.conduct.left) ev ∙ going_here.left;
       }

@@ -1,5 +1,6 @@
 -- The words that a board has in a frame.
-use Rattle.std.specs.Prelude.{ℕ, ◌+◌, ◌++◌, List, [], Bool, length, take, drop, replicate, slice_set, if◌then◌else◌}
+use Rattle.std.specs.Prelude.{◌≡◌, ℕ, ◌+◌, ◌++◌, List, [], Bool, length, take, drop, replicate, slice_set, if◌then◌else◌}
+use Rattle.sift_mission.specs.Mission.{FlownMission}
 
 -- the agreed words, by sensor; and by output word those that were voted in the frame before, those that are voted in this one, and those that
 -- the unit makes itself, of which there are none while it is outside its configuration
@@ -8,6 +9,13 @@ pub record FrameWords : Type 0 where
   pub before : List ℕ
   pub voted : List ℕ
   pub made : List ℕ
+
+-- there is a word for each sensor and each output word of the mission, and the unit makes its own
+pub record HasAllWords (m : FlownMission) (w : FrameWords) : Type 0 where
+  pub agreed : length w.agreed ≡ m.sensors
+  pub voted : length w.voted ≡ m.words
+  pub before : length w.before ≡ m.words
+  pub made : length w.made ≡ m.words
 
 -- so many zeros, and none where there are to be none
 abbrev pub zeros_where : Bool → ℕ → List ℕ

@@ -1,6 +1,7 @@
 pub mod BoardLaws
 pub mod Boards
 pub mod Carving
+pub mod Conditions
 pub mod Desk
 pub mod Down
 pub mod FrameWords

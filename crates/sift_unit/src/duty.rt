@@ -10,7 +10,8 @@ ghost use Rattle.sift_mission.specs.Fits.{Fits};
 ghost use Rattle.sift_unit.specs.Memory.{with_task_made};
 ghost use Rattle.sift_unit.specs.Desk.{spot};
 ghost use Rattle.sift_unit.specs.Stops.{IsNothingBetween};
-ghost use Rattle.sift_unit.specs.Passing.{IsSlotOf, IsTaskOf};
+ghost use Rattle.sift_unit.specs.Passing.{IsSlotOf, IsTaskOf, IsOutputOf, IsSensedIn};
+ghost use Rattle.sift_unit.specs.FrameWords.{HasAllWords};
 ghost use Rattle.sift_unit.specs.Boards.{part_of};
 
 use crate::part::Part;
@@ -68,8 +69,7 @@ pub(crate) trait Duty {
 
     /// The word of a sensor in a frame.
     fn sensed(&self, sensor: u8, frame: u32) -> Word
-        requires sensor { sensor < (mission self.now).sensors }
-        requires frame { frame < (mission self.now).frames }
+        requires { IsSensedIn (mission self.now) sensor frame }
         ensures { result ≡ (mission self.now).sensed sensor frame };
 
     /// What the script of faults puts in the place of a unit's word.
@@ -132,8 +132,7 @@ pub(crate) trait Duty {
 
     /// The units that put out a word.
     fn executors(&self, config: &Config, word: u8) -> UnitSet
-        requires config { IsConfigOf (mission self.now) config.now }
-        requires word { word < (mission self.now).words }
+        requires { IsOutputOf (mission self.now) config.now word }
         ensures { (u : ℕ) → holds result u ≡ (mission self.now).executes config.now word u };
 
     /// Whether a unit runs a task.
@@ -146,9 +145,6 @@ pub(crate) trait Duty {
     /// task's checked code.
     fn make_words(&self, task: usize, words: &mut WordFile)
         requires task { task < (mission self.now).tasks }
-        requires agreed { length words.old.agreed ≡ (mission self.now).sensors }
-        requires voted { length words.old.voted ≡ (mission self.now).words }
-        requires before { length words.old.before ≡ (mission self.now).words }
-        requires made { length words.old.made ≡ (mission self.now).words }
+        requires all { HasAllWords (mission self.now) words.old }
         ensures { words.new ≡ with_task_made (mission self.now) task words.old };
 }

@@ -6,11 +6,12 @@ ghost use Rattle.sift_base.specs.Units.{has, holds};
 ghost use Rattle.sift_vote.specs.Differing.{differs as is_other};
 ghost use Rattle.sift_clock.specs.Distance.{IsWithin};
 ghost use Rattle.sift_skew.specs.Limits.{offset_limit};
-ghost use Rattle.sift_mission.specs.Mission.{FlownMission, IsConfigOf};
+ghost use Rattle.sift_mission.specs.Mission.{FlownMission};
 ghost use Rattle.sift_mission.specs.Fits.{Fits};
-ghost use Rattle.sift_unit.specs.Memory.{place_at, polled_at, poll_of, note as note_of};
+ghost use Rattle.sift_unit.specs.Memory.{place_at, polled_at, note as note_of};
 ghost use Rattle.sift_unit.specs.Remembered.{IsShaped};
-ghost use Rattle.sift_unit.specs.Passing.{IsSlotOf};
+ghost use Rattle.sift_unit.specs.Passing.{IsUnitOf, IsOutputOf, IsSensedIn, IsSlotOfFrame};
+ghost use Rattle.sift_unit.specs.Conditions.{MayNote};
 ghost use Rattle.sift_unit.specs.Boards.{memory_of};
 ghost use Rattle.sift_base.specs.declared.slot.Slot.TheVariants.{Clock, RelaySense, Out, RelayReport};
 
@@ -22,6 +23,19 @@ use sift_agree::agree;
 use sift_base::{Slot, UnitId, UnitSet, Word};
 use sift_config::Config;
 use sift_vote::majority;
+
+/// A poll of an output word, as a unit takes it.
+#[derive(Clone, Copy)]
+struct Poll<'a> {
+    unit: UnitId,
+    /// The word's number.
+    word: u8,
+    /// The units that put the word out.
+    executors: UnitSet,
+    /// What was heard of it, by unit.
+    places: &'a [Option<Word>; 8],
+    ghost eight: { length places.now ≡ 8 },
+}
 
 impl Memory {
     /// Notes what was heard of a slot, by unit.
@@ -36,13 +50,9 @@ impl Memory {
         slot: usize,
         places: &[Option<Word>; 8],
     )
-        requires fits { Fits (M.mission mission.now) }
-        requires slot { IsSlotOf (M.mission mission.now) config.now slot }
-        requires member { has config.now unit ≡ true }
-        requires frame { frame < (M.mission mission.now).frames }
+        requires slot { IsSlotOfFrame (M.mission mission.now) config.now frame slot }
         requires near { IsWithin offset_limit clk.now (pos 0) }
-        requires shape { IsShaped (M.mission mission.now) config.now unit (memory_of self.old) }
-        requires before { length self.old.words.before ≡ (M.mission mission.now).words }
+        requires may { MayNote (M.mission mission.now) config.now unit (memory_of self.old) self.old.words.before }
         ensures noted { memory_of self.new ≡ note_of (M.mission mission.now) config.now unit frame clk.now self.old.words.before ((M.mission mission.now).kind slot) places.now (memory_of self.old) }
         ensures before { self.new.words.before ≡ self.old.words.before }
     {
@@ -69,8 +79,7 @@ impl Memory {
         places: &[Option<Word>; 8],
     )
         requires fits { Fits (M.mission mission.now) }
-        requires config { IsConfigOf (M.mission mission.now) config.now }
-        requires member { has config.now unit ≡ true }
+        requires unit { IsUnitOf (M.mission mission.now) config.now unit }
         requires near { IsWithin offset_limit clk.now (pos 0) }
         ensures noted { (f : ℕ) (last : List ℕ) → memory_of self.new ≡ note_of (M.mission mission.now) config.now unit f clk.now last Clock places.now (memory_of self.old) }
         ensures before { self.new.words.before ≡ self.old.words.before }
@@ -90,8 +99,7 @@ impl Memory {
         places: &[Option<Word>; 8],
     )
         requires fits { Fits (M.mission mission.now) }
-        requires sensor { sensor < (M.mission mission.now).sensors }
-        requires frame { frame < (M.mission mission.now).frames }
+        requires sensed { IsSensedIn (M.mission mission.now) sensor frame }
         requires shape { IsShaped (M.mission mission.now) config.now unit (memory_of self.old) }
         ensures noted { (clk : ℤ) (last : List ℕ) → memory_of self.new ≡ note_of (M.mission mission.now) config.now unit frame clk last (RelaySense sensor) places.now (memory_of self.old) }
         ensures before { self.new.words.before ≡ self.old.words.before }
@@ -127,17 +135,21 @@ impl Memory {
         places: &[Option<Word>; 8],
     )
         requires fits { Fits (M.mission mission.now) }
-        requires config { IsConfigOf (M.mission mission.now) config.now }
-        requires word { word < (M.mission mission.now).words }
-        requires member { has config.now unit ≡ true }
-        requires shape { IsShaped (M.mission mission.now) config.now unit (memory_of self.old) }
-        requires before { length self.old.words.before ≡ (M.mission mission.now).words }
+        requires word { IsOutputOf (M.mission mission.now) config.now word }
+        requires may { MayNote (M.mission mission.now) config.now unit (memory_of self.old) self.old.words.before }
         ensures noted { (f : ℕ) (clk : ℤ) → memory_of self.new ≡ note_of (M.mission mission.now) config.now unit f clk self.old.words.before (Out word) places.now (memory_of self.old) }
         ensures before { self.new.words.before ≡ self.old.words.before }
     {
-        let ballots = self.ballots(mission, config, unit, word, places);
+        let executors = mission.executors(config, word);
+        let poll = Poll {
+            unit,
+            word,
+            executors,
+            places,
+        };
+        let ballots = self.ballots(config, &poll);
         let vote = majority(&ballots);
-        let wrong = self.wrong_executors(mission, config, unit, word, places, &vote);
+        let wrong = self.wrong_executors(config, &poll, &vote);
         let voted = self.voted(word, &ballots, vote);
         self.words.vote(word, voted);
         self.poll[usize::from(word)] = wrong;
@@ -156,69 +168,40 @@ impl Memory {
     }
 
     /// The executors' words, in the order of their units. There are none where the word's task is shed.
-    fn ballots<M: Duty>(
-        &self,
-        mission: &M,
-        config: &Config,
-        unit: UnitId,
-        word: u8,
-        places: &[Option<Word>; 8],
-    ) -> ArrayVec<Option<Word>, 8>
-        requires fits { Fits (M.mission mission.now) }
-        requires config { IsConfigOf (M.mission mission.now) config.now }
-        requires word { word < (M.mission mission.now).words }
-        requires made { length (memory_of self.now).made ≡ (M.mission mission.now).words }
-        ensures { result.items ≡ poll_of (M.mission mission.now) config.now unit (memory_of self.now) places.now word }
+    fn ballots(&self, config: &Config, poll: &Poll<'_>) -> ArrayVec<Option<Word>, 8>
+        requires { poll.now.word < length (memory_of self.now).made }
+        ensures { result.items ≡ map (polled_at poll.now.unit (memory_of self.now) poll.now.places.now poll.now.word) (filter (holds poll.now.executors) config.now) }
     {
-        let executors = mission.executors(config, word);
         let mut ballots = ArrayVec::new();
         for position in 0..config.len() {
             let executor = config.unit_at(position);
-            if executors.has(executor) {
-                ballots.push(self.ballot(unit, word, places, executor));
+            if poll.executors.has(executor) {
+                ballots.push(self.ballot(poll, executor));
             }
         }
         ballots
     }
 
     /// The word of an executor in a poll: the own one as it was made, another's as it was heard.
-    fn ballot(
-        &self,
-        unit: UnitId,
-        word: u8,
-        places: &[Option<Word>; 8],
-        executor: UnitId,
-    ) -> Option<Word>
-        requires { word < length (memory_of self.now).made }
-        ensures { result ≡ polled_at unit (memory_of self.now) places.now word executor }
+    fn ballot(&self, poll: &Poll<'_>, executor: UnitId) -> Option<Word>
+        requires { poll.now.word < length (memory_of self.now).made }
+        ensures { result ≡ polled_at poll.now.unit (memory_of self.now) poll.now.places.now poll.now.word executor }
     {
-        if executor == unit {
-            return Some(self.words.made(word));
+        if executor == poll.unit {
+            return Some(self.words.made(poll.word));
         }
-        places[usize::from(executor.get())]
+        poll.places[usize::from(executor.get())]
     }
 
     /// The executors whose word is absent, or differs from a vote that is there.
-    fn wrong_executors<M: Duty>(
-        &self,
-        mission: &M,
-        config: &Config,
-        unit: UnitId,
-        word: u8,
-        places: &[Option<Word>; 8],
-        vote: &Option<Word>,
-    ) -> UnitSet
-        requires fits { Fits (M.mission mission.now) }
-        requires config { IsConfigOf (M.mission mission.now) config.now }
-        requires word { word < (M.mission mission.now).words }
-        requires made { length (memory_of self.now).made ≡ (M.mission mission.now).words }
-        ensures { (v : ℕ) → holds result v ≡ (has config.now v && ((M.mission mission.now).executes config.now word v && is_other (polled_at unit (memory_of self.now) places.now word v) vote.now)) }
+    fn wrong_executors(&self, config: &Config, poll: &Poll<'_>, vote: &Option<Word>) -> UnitSet
+        requires { poll.now.word < length (memory_of self.now).made }
+        ensures { (v : ℕ) → holds result v ≡ (has config.now v && (holds poll.now.executors v && is_other (polled_at poll.now.unit (memory_of self.now) poll.now.places.now poll.now.word v) vote.now)) }
     {
-        let executors = mission.executors(config, word);
         let mut wrong = UnitSet::empty();
         for position in 0..config.len() {
             let executor = config.unit_at(position);
-            if self.is_wrong(executors, unit, word, places, vote, executor) {
+            if self.is_wrong(poll, vote, executor) {
                 wrong = wrong.with(executor);
             }
         }
@@ -226,19 +209,11 @@ impl Memory {
     }
 
     /// Whether a unit is an executor whose word is absent, or differs from a vote that is there.
-    fn is_wrong(
-        &self,
-        executors: UnitSet,
-        unit: UnitId,
-        word: u8,
-        places: &[Option<Word>; 8],
-        vote: &Option<Word>,
-        executor: UnitId,
-    ) -> bool
-        requires { word < length (memory_of self.now).made }
-        ensures { result ≡ (holds executors executor && is_other (polled_at unit (memory_of self.now) places.now word executor) vote.now) }
+    fn is_wrong(&self, poll: &Poll<'_>, vote: &Option<Word>, executor: UnitId) -> bool
+        requires { poll.now.word < length (memory_of self.now).made }
+        ensures { result ≡ (holds poll.now.executors executor && is_other (polled_at poll.now.unit (memory_of self.now) poll.now.places.now poll.now.word executor) vote.now) }
     {
-        executors.has(executor) && differs(&self.ballot(unit, word, places, executor), vote)
+        poll.executors.has(executor) && differs(&self.ballot(poll, executor), vote)
     }
 
     /// Notes the agreed report of a unit.

@@ -5,9 +5,9 @@ ghost use Rattle.sift_base.specs.Units.{has, holds, others};
 ghost use Rattle.sift_clock.specs.Distance.{IsWithin};
 ghost use Rattle.sift_clock.specs.Reading.{is_too_far};
 ghost use Rattle.sift_skew.specs.Limits.{offset_limit};
-ghost use Rattle.sift_mission.specs.Mission.{IsConfigOf};
 ghost use Rattle.sift_mission.specs.Fits.{Fits};
 ghost use Rattle.sift_unit.specs.Memory.{reading_at, offset_after};
+ghost use Rattle.sift_unit.specs.Passing.{IsUnitOf};
 
 use crate::duty::Duty;
 use crate::noted::place_of;
@@ -26,8 +26,7 @@ pub(crate) fn next_offset<M: Duty>(
     places: &[Option<Word>; 8],
 ) -> i64
     requires fits { Fits (M.mission mission.now) }
-    requires config { IsConfigOf (M.mission mission.now) config.now }
-    requires member { has config.now unit ≡ true }
+    requires unit { IsUnitOf (M.mission mission.now) config.now unit }
     requires near { IsWithin offset_limit clk.now (pos 0) }
     ensures { result ≡ offset_after (M.mission mission.now) config.now unit clk.now places.now }
 {
@@ -45,8 +44,7 @@ fn readings_of<M: Duty>(
     clk: &i64,
     places: &[Option<Word>; 8],
 ) -> ArrayVec<Option<i32>, 8>
-    requires config { IsConfigOf (M.mission mission.now) config.now }
-    requires member { has config.now unit ≡ true }
+    requires { IsUnitOf (M.mission mission.now) config.now unit }
     ensures { result.items ≡ map (reading_at (M.mission mission.now) unit clk.now places.now) (others unit config.now) }
 {
     let mut readings = ArrayVec::new();
@@ -82,8 +80,7 @@ pub(crate) fn far_clocks<M: Duty>(
     clk: &i64,
     places: &[Option<Word>; 8],
 ) -> UnitSet
-    requires config { IsConfigOf (M.mission mission.now) config.now }
-    requires member { has config.now unit ≡ true }
+    requires { IsUnitOf (M.mission mission.now) config.now unit }
     ensures { (v : ℕ) → holds result v ≡ (has config.now v && (not (nat_eq v unit) && is_too_far ((M.mission mission.now).skew +ℤ (M.mission mission.now).error) (reading_at (M.mission mission.now) unit clk.now places.now v))) }
 {
     let mut far = UnitSet::empty();

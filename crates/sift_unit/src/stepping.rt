@@ -4,12 +4,10 @@ ghost use Rattle.std.specs.Prelude.{◌≡◌, ◌<◌, ◌+◌, ◌*◌, ℕ, [
 ghost use Rattle.sift_buffer.specs.Conditions.{MayTurn};
 ghost use Rattle.sift_buffer.specs.Views.{Turns};
 ghost use Rattle.sift_unit.specs.Desk.{is_hearing as at_hearing, is_saying as at_saying, is_end as at_end};
-ghost use Rattle.sift_mission.specs.Fits.{Fits};
 ghost use Rattle.sift_mission.specs.Parts.{flown_of};
-ghost use Rattle.sift_unit.specs.Going.{InRange};
-ghost use Rattle.sift_unit.specs.Passing.{IsSlotOf};
+ghost use Rattle.sift_unit.specs.Passing.{IsSlotOfFrame};
 ghost use Rattle.sift_unit.specs.Stepping.{Steps, HasMoved};
-ghost use Rattle.sift_unit.specs.Keeping.{IsEarly};
+ghost use Rattle.sift_unit.specs.Conditions.{IsInFlight, MayWalk, MayGoOn};
 ghost use Rattle.sift_unit.specs.Boards.{desk_of, Drives, IsMarked, GoesOn, TurnsNext, BeginsNext};
 
 use crate::board::Board;
@@ -65,10 +63,8 @@ impl Board {
 
     /// The stamp of the slot at which the board stands, and in which it says or hears a word.
     fn stamp<M: Duty>(&self, mission: &M) -> u32
-        requires fits { Fits (M.mission mission.now) }
-        requires slot { IsSlotOf (M.mission mission.now) self.now.cfg self.now.slot }
+        requires slot { IsSlotOfFrame (M.mission mission.now) self.now.cfg self.now.frame self.now.slot }
         requires inside { (M.mission mission.now).due self.now.cfg ((M.mission mission.now).kind self.now.slot) < (M.mission mission.now).period }
-        requires frame { self.now.frame < (M.mission mission.now).frames }
         ensures { result ≡ self.now.frame * (M.mission mission.now).period + (M.mission mission.now).due self.now.cfg ((M.mission mission.now).kind self.now.slot) + 1 }
     {
         self.frame * mission.period() + mission.due(&self.cfg, self.slot) + 1
@@ -76,9 +72,7 @@ impl Board {
 
     /// Hears the word at which the board stands.
     fn hear<M: Duty, T: Port>(&mut self, mission: &M, port: &mut T)
-        requires drives { Drives (M.mission mission.now) self.old (T.view port.old) }
-        requires early { IsEarly (M.mission mission.now) (desk_of self.old) }
-        requires frame { self.old.frame < (M.mission mission.now).frames }
+        requires flight { IsInFlight (M.mission mission.now) self.old (T.view port.old) }
         requires here { at_hearing (M.mission mission.now) (desk_of self.old) ≡ true }
         ensures drives { Drives (M.mission mission.now) self.new (T.view port.new) }
         ensures moved { HasMoved (M.mission mission.now) (desk_of self.old) (T.view port.old) (desk_of self.new) (T.view port.new) }
@@ -96,9 +90,7 @@ impl Board {
 
     /// Says the word at which the board stands.
     fn say<M: Duty, T: Port>(&mut self, mission: &M, port: &mut T)
-        requires drives { Drives (M.mission mission.now) self.old (T.view port.old) }
-        requires early { IsEarly (M.mission mission.now) (desk_of self.old) }
-        requires frame { self.old.frame < (M.mission mission.now).frames }
+        requires flight { IsInFlight (M.mission mission.now) self.old (T.view port.old) }
         requires here { at_saying (M.mission mission.now) (desk_of self.old) ≡ true }
         ensures drives { Drives (M.mission mission.now) self.new (T.view port.new) }
         ensures moved { HasMoved (M.mission mission.now) (desk_of self.old) (T.view port.old) (desk_of self.new) (T.view port.new) }
@@ -119,9 +111,7 @@ impl Board {
     /// Tries to enter the next subframe, or to turn in its place.
     #[inline(never)]
     fn enter<M: Duty, T: Port>(&mut self, mission: &M, port: &mut T) -> Stepped
-        requires drives { Drives (M.mission mission.now) self.old (T.view port.old) }
-        requires early { IsEarly (M.mission mission.now) (desk_of self.old) }
-        requires frame { self.old.frame < (M.mission mission.now).frames }
+        requires flight { IsInFlight (M.mission mission.now) self.old (T.view port.old) }
         requires end { at_end (M.mission mission.now) (desk_of self.old) ≡ true }
         ensures drives { Drives (M.mission mission.now) self.new (T.view port.new) }
         ensures steps { Steps (M.mission mission.now) (desk_of self.old) (T.view port.old) result (desk_of self.new) (T.view port.new) (T.stands port.new) }
@@ -144,8 +134,7 @@ impl Board {
 
     /// Whether the unit turns in place of entering the next subframe.
     fn turns_next<M: Duty>(&self, mission: &M) -> bool
-        requires fits { Fits (M.mission mission.now) }
-        requires range { InRange (M.mission mission.now) (desk_of self.now) }
+        requires walks { MayWalk (M.mission mission.now) (desk_of self.now) }
         requires frame { self.now.frame < self.now.frames }
         ensures turns { result ≡ true → TurnsNext (M.mission mission.now) self.now }
         ensures enters { result ≡ false → ¬ TurnsNext (M.mission mission.now) self.now }
@@ -189,11 +178,7 @@ impl Board {
 
     /// Begins the next subframe, and the next frame after the last subframe.
     fn go_on<M: Duty>(&mut self, mission: &M)
-        requires fits { Fits (M.mission mission.now) }
-        requires range { InRange (M.mission mission.now) (desk_of self.old) }
-        requires frame { self.old.frame < (M.mission mission.now).frames }
-        requires frames { self.old.frames ≡ (M.mission mission.now).frames }
-        requires end { at_end (M.mission mission.now) (desk_of self.old) ≡ true }
+        requires { MayGoOn (M.mission mission.now) self.old }
         ensures { GoesOn (M.mission mission.now) self.old self.new }
     {
         if self.subframe + 1 < mission.period() {
@@ -209,11 +194,7 @@ impl Board {
     /// Accounts for the frame, and begins the next.
     #[inline(never)]
     fn end_frame<M: Duty>(&mut self, mission: &M)
-        requires fits { Fits (M.mission mission.now) }
-        requires range { InRange (M.mission mission.now) (desk_of self.old) }
-        requires frame { self.old.frame < (M.mission mission.now).frames }
-        requires frames { self.old.frames ≡ (M.mission mission.now).frames }
-        requires end { at_end (M.mission mission.now) (desk_of self.old) ≡ true }
+        requires may { MayGoOn (M.mission mission.now) self.old }
         requires last { self.old.subframe + 1 ≡ (M.mission mission.now).period }
         ensures goes_on { GoesOn (M.mission mission.now) self.old self.new }
         ensures begins { BeginsNext self.old self.new }

@@ -8,7 +8,7 @@ ghost use Rattle.sift_conduct.specs.Conduct.{any_below};
 ghost use Rattle.sift_unit.specs.Memory.{units_at};
 ghost use Rattle.sift_unit.specs.Tidings.{bad_now, report_now, word_now, word_to as word_for};
 ghost use Rattle.sift_unit.specs.Remembered.{IsShaped};
-ghost use Rattle.sift_unit.specs.Passing.{IsSlotOf};
+ghost use Rattle.sift_unit.specs.Passing.{IsSlotOfFrame};
 ghost use Rattle.sift_unit.specs.Boards.{memory_of};
 
 use crate::duty::Duty;
@@ -30,9 +30,7 @@ impl Memory {
         slot: usize,
         to: UnitId,
     ) -> Option<Word>
-        requires fits { Fits (M.mission mission.now) }
-        requires slot { IsSlotOf (M.mission mission.now) config.now slot }
-        requires frame { frame < (M.mission mission.now).frames }
+        requires slot { IsSlotOfFrame (M.mission mission.now) config.now frame slot }
         requires member { has config.now unit ≡ true }
         requires shape { IsShaped (M.mission mission.now) config.now unit (memory_of self.now) }
         ensures { result ≡ word_for (M.mission mission.now) config.now unit frame clk.now (memory_of self.now) ((M.mission mission.now).kind slot) to }

@@ -3,9 +3,8 @@
 ghost use Rattle.std.specs.Prelude.{◌≡◌, ◌⊎◌, ◌<◌, ◌≤◌, true, false, nat_eq};
 ghost use Rattle.sift_base.specs.Units.{has};
 ghost use Rattle.sift_unit.specs.Desk.{is_call as at_call, is_end as at_end};
-ghost use Rattle.sift_mission.specs.Fits.{Fits};
-ghost use Rattle.sift_unit.specs.Going.{InRange};
-ghost use Rattle.sift_unit.specs.Passing.{Passes, Onward, Finds, IsWhole, left};
+ghost use Rattle.sift_unit.specs.Passing.{Passes, Onward, Finds, left};
+ghost use Rattle.sift_unit.specs.Conditions.{MayWalk, MayPass, IsAtSlot};
 ghost use Rattle.sift_unit.specs.Boards.{desk_of, IsSameBoard};
 
 use crate::board::Board;
@@ -35,8 +34,7 @@ impl Board {
 
     /// Goes on to the next call of this subframe, or to its end.
     pub(crate) fn find_call<M: Duty>(&mut self, mission: &M)
-        requires fits { Fits (M.mission mission.now) }
-        requires range { InRange (M.mission mission.now) (desk_of self.old) }
+        requires walks { MayWalk (M.mission mission.now) (desk_of self.old) }
         requires frame { self.old.frame < (M.mission mission.now).frames }
         ensures passes { Passes (M.mission mission.now) (desk_of self.old) (desk_of self.new) }
         ensures nearer { left (desk_of self.new) ≤ left (desk_of self.old) }
@@ -51,8 +49,7 @@ impl Board {
     /// Goes on to the next unit with which there is a call in the slot, and past them all where there is none; whether
     /// there is one.
     fn finds_unit<M: Duty>(&mut self, mission: &M) -> bool
-        requires fits { Fits (M.mission mission.now) }
-        requires range { InRange (M.mission mission.now) (desk_of self.old) }
+        requires { MayWalk (M.mission mission.now) (desk_of self.old) }
         ensures finds { Finds (M.mission mission.now) (desk_of self.old) result (desk_of self.new) }
         ensures same { IsSameBoard self.old self.new }
     {
@@ -68,10 +65,8 @@ impl Board {
 
     /// Goes on to the next unit from which the slot is heard, if it is heard now; whether there is one.
     fn finds_caller<M: Duty>(&mut self, mission: &M) -> bool
-        requires fits { Fits (M.mission mission.now) }
-        requires range { InRange (M.mission mission.now) (desk_of self.old) }
-        requires part { (desk_of self.old).part ≡ 0 }
-        requires slot { self.old.slot < (M.mission mission.now).slots }
+        requires walks { MayWalk (M.mission mission.now) (desk_of self.old) }
+        requires at { IsAtSlot (M.mission mission.now) 0 (desk_of self.old) }
         ensures finds { Finds (M.mission mission.now) (desk_of self.old) result (desk_of self.new) }
         ensures same { IsSameBoard self.old self.new }
     {
@@ -84,10 +79,8 @@ impl Board {
 
     /// Goes on to the next unit to which the slot is said, if it is said now; whether there is one.
     fn finds_called<M: Duty>(&mut self, mission: &M) -> bool
-        requires fits { Fits (M.mission mission.now) }
-        requires range { InRange (M.mission mission.now) (desk_of self.old) }
-        requires part { (desk_of self.old).part ≡ 2 }
-        requires slot { self.old.slot < (M.mission mission.now).slots }
+        requires walks { MayWalk (M.mission mission.now) (desk_of self.old) }
+        requires at { IsAtSlot (M.mission mission.now) 2 (desk_of self.old) }
         ensures finds { Finds (M.mission mission.now) (desk_of self.old) result (desk_of self.new) }
         ensures same { IsSameBoard self.old self.new }
     {
@@ -101,10 +94,7 @@ impl Board {
     /// Goes on where nothing is to be said or heard. What isn't due is not looked at.
     #[inline(never)]
     fn pass<M: Duty>(&mut self, mission: &M)
-        requires fits { Fits (M.mission mission.now) }
-        requires range { InRange (M.mission mission.now) (desk_of self.old) }
-        requires frame { self.old.frame < (M.mission mission.now).frames }
-        requires whole { IsWhole (M.mission mission.now) (desk_of self.old) }
+        requires may { MayPass (M.mission mission.now) (desk_of self.old) }
         requires inside { at_end (M.mission mission.now) (desk_of self.old) ≡ false }
         ensures onward { Onward (M.mission mission.now) (desk_of self.old) (desk_of self.new) }
         ensures same { IsSameBoard self.old self.new }
@@ -136,8 +126,7 @@ impl Board {
 
     /// Goes to the subframe's end, since the unit is outside its configuration.
     fn rest<M: Duty>(&mut self, mission: &M)
-        requires fits { Fits (M.mission mission.now) }
-        requires range { InRange (M.mission mission.now) (desk_of self.old) }
+        requires walks { MayWalk (M.mission mission.now) (desk_of self.old) }
         requires out { has self.old.cfg self.old.unit ≡ false }
         requires inside { at_end (M.mission mission.now) (desk_of self.old) ≡ false }
         ensures onward { Onward (M.mission mission.now) (desk_of self.old) (desk_of self.new) }
@@ -150,8 +139,7 @@ impl Board {
 
     /// Goes on to the next part of the subframe.
     fn next_part<M: Duty>(&mut self, mission: &M)
-        requires fits { Fits (M.mission mission.now) }
-        requires range { InRange (M.mission mission.now) (desk_of self.old) }
+        requires walks { MayWalk (M.mission mission.now) (desk_of self.old) }
         requires end { (self.old.slot ≡ (M.mission mission.now).slots) ⊎ (((desk_of self.old).part ≡ 1) × ((M.mission mission.now).tasks ≤ self.old.slot)) }
         requires inside { (desk_of self.old).part < 2 }
         ensures onward { Onward (M.mission mission.now) (desk_of self.old) (desk_of self.new) }
@@ -164,13 +152,9 @@ impl Board {
 
     /// Goes past a slot. If it was heard, all of it was, and its words are noted.
     fn pass_hearing<M: Duty>(&mut self, mission: &M)
-        requires fits { Fits (M.mission mission.now) }
-        requires range { InRange (M.mission mission.now) (desk_of self.old) }
-        requires frame { self.old.frame < (M.mission mission.now).frames }
+        requires may { MayPass (M.mission mission.now) (desk_of self.old) }
         requires member { has self.old.cfg self.old.unit ≡ true }
-        requires part { (desk_of self.old).part ≡ 0 }
-        requires slot { self.old.slot < (M.mission mission.now).slots }
-        requires whole { IsWhole (M.mission mission.now) (desk_of self.old) }
+        requires at { IsAtSlot (M.mission mission.now) 0 (desk_of self.old) }
         ensures onward { Onward (M.mission mission.now) (desk_of self.old) (desk_of self.new) }
         ensures same { IsSameBoard self.old self.new }
     {
@@ -194,10 +178,8 @@ impl Board {
 
     /// Goes past a task, which it runs if it is due.
     fn pass_running<M: Duty>(&mut self, mission: &M)
-        requires fits { Fits (M.mission mission.now) }
-        requires range { InRange (M.mission mission.now) (desk_of self.old) }
-        requires part { (desk_of self.old).part ≡ 1 }
-        requires slot { self.old.slot < (M.mission mission.now).slots }
+        requires walks { MayWalk (M.mission mission.now) (desk_of self.old) }
+        requires at { IsAtSlot (M.mission mission.now) 1 (desk_of self.old) }
         ensures onward { Onward (M.mission mission.now) (desk_of self.old) (desk_of self.new) }
         ensures same { IsSameBoard self.old self.new }
     {

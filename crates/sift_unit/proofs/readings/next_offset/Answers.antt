@@ -24,7 +24,7 @@ overflow_cast-len g c =
 pub correction-mean-requires-clause-others : goal.correction-mean-requires-clause-others
 correction-mean-requires-clause-others g c =
     let us = c.args.config.now in
-    rw (c.deref.ensures.0, c.readings_of-readings.ensures, length-map, c.len.ensures.length) (others_and_one c.args.unit us c.requires.config.ascending c.requires.member)
+    rw (c.deref.ensures.0, c.readings_of-readings.ensures, length-map, c.len.ensures.length) (others_and_one c.args.unit us c.requires.unit.config.ascending c.requires.unit.member)
 
 -- the sum is the next offset, which fits
 pub advance-requires : goal.advance-requires
@@ -34,12 +34,12 @@ advance-requires g c =
     let u = c.args.unit in
     let clk = c.args.clk.now in
     let read = reading_at m u clk c.args.places.now in
-    let unit = c.requires.config.inside u c.requires.member in
+    let unit = c.requires.unit.config.inside u c.requires.unit.member in
     let little = c.offsets_change_little.ensures in
-    let sum = offset_sum m c.requires.fits little us read clk u c.requires.member unit c.correction-mean.result c.drift_of.result c.limit.result c.deref.result.now c.len.result
+    let sum = offset_sum m c.requires.fits little us read clk u c.requires.unit.member unit c.correction-mean.result c.drift_of.result c.limit.result c.deref.result.now c.len.result
     c.requires.near (c.deref.ensures.0 ∙ c.readings_of-readings.ensures) c.len.ensures.length c.limit.ensures c.correction-mean.ensures c.drift_of.ensures in
     subst (λ n. FitsSigned w64 n) (sym sum)
-    (advanced_fits (offset_after m us u clk c.args.places.now) clk c.requires.near (next_little m c.requires.fits little us read clk u c.requires.member unit))
+    (advanced_fits (offset_after m us u clk c.args.places.now) clk c.requires.near (next_little m c.requires.fits little us read clk u c.requires.unit.member unit))
 
 pub returns : goal.returns
 returns g c =
@@ -48,9 +48,9 @@ returns g c =
     let u = c.args.unit in
     let clk = c.args.clk.now in
     let read = reading_at m u clk c.args.places.now in
-    let unit = c.requires.config.inside u c.requires.member in
+    let unit = c.requires.unit.config.inside u c.requires.unit.member in
     let little = c.offsets_change_little.ensures in
     let fits : SFits w64 c.advance.result = search rules in
     to_z-of_z w64 c.advance.result fits ∙ (c.advance.ensures
-    ∙ offset_sum m c.requires.fits little us read clk u c.requires.member unit c.correction-mean.result c.drift_of.result c.limit.result c.deref.result.now c.len.result
+    ∙ offset_sum m c.requires.fits little us read clk u c.requires.unit.member unit c.correction-mean.result c.drift_of.result c.limit.result c.deref.result.now c.len.result
     c.requires.near (c.deref.ensures.0 ∙ c.readings_of-readings.ensures) c.len.ensures.length c.limit.ensures c.correction-mean.ensures c.drift_of.ensures)

@@ -7,12 +7,12 @@ use Rattle.sift_unit.proofs.board.Board.end_frame.Goals as goal
 
 pub returns-clause-goes_on : goal.returns-clause-goes_on
 returns-clause-goes_on g c = let m = g.M.Duty.mission c.args.mission.now in record {
-  going = frame_on _ c.requires.fits (desk_of c.args.self.now) c.requires.end c.offsets_change_little.ensures c.requires.last c.requires.frame
+  going = frame_on _ c.requires.may.walks.fits (desk_of c.args.self.now) c.requires.may.end c.offsets_change_little.ensures c.requires.last c.requires.may.frame
       (account_of c.account-account.result) _ _ _ _ _ c.account-account.ensures
-      (c.turn_over.ensures.shape m c.args.self.now.clk c.requires.range.shape c.account-account.ensures)
+      (c.turn_over.ensures.shape m c.args.self.now.clk c.requires.may.walks.range.shape c.account-account.ensures)
       refl (search (rules, c.copied-self.ensures)) (c.turn_over.ensures.before m c.args.self.now.clk c.account-account.ensures)
       (ap (λ xs. map account_of xs) c.push_reserved.ensures.items ∙ map-append account_of c.args.self.now.accounts.items (c.account-account.result ∷ []));
   same = record { unit = refl; frames = refl; storm = refl; turned = refl };
   frame = inr (c.requires.last, refl);
-  place = next_place _ c.requires.fits (desk_of c.args.self.now) c.requires.end c.requires.last;
+  place = next_place _ c.requires.may.walks.fits (desk_of c.args.self.now) c.requires.may.end c.requires.last;
 }

@@ -4,15 +4,15 @@ use Rattle.sift_unit.proofs.board.Board.hear.Goals as goal
 
 pub hear-word-requires : goal.hear-word-requires
 hear-word-requires g c =
-    may_hear_at _ c.requires.drives.fits c.args.self.now (g.T.Look.view c.args.port.now) c.requires.drives c.requires.early c.requires.frame c.requires.here
+    may_hear_at _ c.args.self.now (g.T.Look.view c.args.port.now) c.requires.flight c.requires.here
     _ _ c.in-Some.ensures.found.0 c.stamp-stamp.ensures
 
 pub returns-in-Some-clause-drives : goal.returns-in-Some-clause-drives
 returns-in-Some-clause-drives g c =
-    hear_drives _ c.requires.drives.fits c.args.self.now (g.T.Look.view c.args.port.now) c.requires.drives c.requires.early c.requires.frame c.requires.here
+    hear_drives _ c.args.self.now (g.T.Look.view c.args.port.now) c.requires.flight c.requires.here
     _ _ _ _ _ _ (record { unit = refl; frames = refl; storm = refl; turned = refl }) refl c.from.ensures c.in-Some.ensures.found.0 c.stamp-stamp.ensures c.hear-word.ensures.heard
 
 pub returns-in-Some-clause-moved : goal.returns-in-Some-clause-moved
 returns-in-Some-clause-moved g c =
-    hear_moves _ c.requires.drives.fits c.args.self.now (g.T.Look.view c.args.port.now) c.requires.drives c.requires.early c.requires.frame c.requires.here
+    hear_moves _ c.args.self.now (g.T.Look.view c.args.port.now) c.requires.flight c.requires.here
     _ _ _ _ _ c.in-Some.ensures.found.0 c.stamp-stamp.ensures c.hear-word.ensures.heard

@@ -6,13 +6,13 @@ use Rattle.sift_unit.proofs.board.Board.pass_hearing.Goals as goal
 -- past a slot that isn't heard now
 pub returns-then-self-heard_in-clause-onward : goal.returns-then-self-heard_in-clause-onward
 returns-then-self-heard_in-clause-onward g c =
-    let part = c.requires.part in
-    slot_onward _ c.requires.fits (desk_of c.args.self.now) c.requires.range c.requires.slot
+    let part = c.requires.at.part in
+    slot_onward _ c.requires.may.walks.fits (desk_of c.args.self.now) c.requires.may.walks.range c.requires.at.slot
     (record { hears = λ p s. c.if-self-heard_in.true (s ∙ sym c.heard_in.ensures); runs = λ p. absurd (omega arith); says = λ p. absurd (omega arith) })
 
 -- past a slot that was heard
 pub returns-clause-onward : goal.returns-clause-onward
 returns-clause-onward g c =
     let now = c.if-self-heard_in.false ∙ c.heard_in.ensures in
-    note_onward _ c.requires.fits (desk_of c.args.self.now) c.requires.range (memory_of c.note.new.self)
-    (record { part = c.requires.part; slot = c.requires.slot; other = c.requires.whole.heard c.requires.part c.requires.slot now; subframe = now }) c.note.ensures.noted _ c.note.ensures.before
+    note_onward _ c.requires.may.walks.fits (desk_of c.args.self.now) c.requires.may.walks.range (memory_of c.note.new.self)
+    (record { part = c.requires.at.part; slot = c.requires.at.slot; other = c.requires.may.whole.heard c.requires.at.part c.requires.at.slot now; subframe = now }) c.note.ensures.noted _ c.note.ensures.before

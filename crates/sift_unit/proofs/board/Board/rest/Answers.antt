@@ -10,4 +10,4 @@ returns-clause-onward g c =
     let m = g.M.Duty.mission c.args.mission.now in
     let b = desk_of c.args.self.now in
     subst (λ z. Onward m b (moved b b.subframe 2 z 0 b.places)) (sym c.slots-self.ensures)
-    (idle_onward m c.requires.fits (desk_of c.args.self.now) c.requires.range c.requires.out c.requires.inside)
+    (idle_onward m c.requires.walks.fits (desk_of c.args.self.now) c.requires.walks.range c.requires.out c.requires.inside)

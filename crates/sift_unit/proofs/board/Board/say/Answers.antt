@@ -4,15 +4,15 @@ use Rattle.sift_unit.proofs.board.Board.say.Goals as goal
 
 pub say-requires : goal.say-requires
 say-requires g c =
-    may_say_at _ c.requires.drives.fits c.args.self.now (g.T.Look.view c.args.port.now) c.requires.drives c.requires.early c.requires.frame c.requires.here
+    may_say_at _ c.args.self.now (g.T.Look.view c.args.port.now) c.requires.flight c.requires.here
     _ _ c.in-Some.ensures.found.0 c.stamp-stamp.ensures
 
 pub returns-in-Some-clause-drives : goal.returns-in-Some-clause-drives
 returns-in-Some-clause-drives g c =
-    say_drives _ c.requires.drives.fits c.args.self.now (g.T.Look.view c.args.port.now) c.requires.drives c.requires.early c.requires.frame c.requires.here
+    say_drives _ c.args.self.now (g.T.Look.view c.args.port.now) c.requires.flight c.requires.here
     _ _ _ _ _ (record { unit = refl; frames = refl; storm = refl; turned = refl }) refl c.in-Some.ensures.found.0 c.stamp-stamp.ensures c.word_to-word.ensures c.say.ensures.said
 
 pub returns-in-Some-clause-moved : goal.returns-in-Some-clause-moved
 returns-in-Some-clause-moved g c =
-    say_moves _ c.requires.drives.fits c.args.self.now (g.T.Look.view c.args.port.now) c.requires.drives c.requires.early c.requires.frame c.requires.here
+    say_moves _ c.args.self.now (g.T.Look.view c.args.port.now) c.requires.flight c.requires.here
     _ _ _ _ c.in-Some.ensures.found.0 c.stamp-stamp.ensures c.say.ensures.said

@@ -1,31 +1,31 @@
 use Rattle.std.proofs.Common.{◌∙◌, sym, arith}
 use Rattle.sift_unit.specs.Boards.{desk_of}
 use Rattle.sift_unit.proofs.Quiet.{call_says, call_hears}
-use Rattle.sift_unit.proofs.Driving.{early_at, flies_here, pass_drives}
+use Rattle.sift_unit.proofs.Driving.{early_at, flies_here, in_flight}
 use Rattle.sift_unit.proofs.Continuing.{moves_from, steps_from}
 use Rattle.sift_unit.proofs.Marks.{apart_by, not_never}
 use Rattle.sift_unit.proofs.board.Board.step_by.Goals as goal
 
--- where it found its call, it drives on
-pub enter-requires-clause-drives : goal.enter-requires-clause-drives
-enter-requires-clause-drives g c =
-    let early = early_at (g.M.Duty.mission c.args.mission.now) c.args.self.now (g.T.Look.view c.args.port.now) c.requires
-    (apart_by c.args.self.now.storm c.args.self.now.frame (sym c.eq.ensures ∙ c.if-eq.false)) in
-    pass_drives (g.M.Duty.mission c.args.mission.now) c.args.self.now (g.T.Look.view c.args.port.now) c.requires early c.find_call.new.self c.find_call.ensures.passes
+-- where it found its call, it is in flight
+pub enter-requires-clause-flight : goal.enter-requires-clause-flight
+enter-requires-clause-flight g c =
+    in_flight (g.M.Duty.mission c.args.mission.now) c.args.self.now (g.T.Look.view c.args.port.now) c.requires
+    (apart_by c.args.self.now.storm c.args.self.now.frame (sym c.eq.ensures ∙ c.if-eq.false)) (λ end. c.if-self-frames.false (end ∙ sym c.frames.ensures))
+    c.find_call.new.self c.find_call.ensures.passes
     (record { unit = c.find_call.ensures.same.unit; frames = c.find_call.ensures.same.frames; storm = c.find_call.ensures.same.storm; turned = c.find_call.ensures.same.turned })
 
-pub say-requires-clause-drives : goal.say-requires-clause-drives
-say-requires-clause-drives g c =
-    let early = early_at (g.M.Duty.mission c.args.mission.now) c.args.self.now (g.T.Look.view c.args.port.now) c.requires
-    (apart_by c.args.self.now.storm c.args.self.now.frame (sym c.eq.ensures ∙ c.if-eq.false)) in
-    pass_drives (g.M.Duty.mission c.args.mission.now) c.args.self.now (g.T.Look.view c.args.port.now) c.requires early c.find_call.new.self c.find_call.ensures.passes
+pub say-requires-clause-flight : goal.say-requires-clause-flight
+say-requires-clause-flight g c =
+    in_flight (g.M.Duty.mission c.args.mission.now) c.args.self.now (g.T.Look.view c.args.port.now) c.requires
+    (apart_by c.args.self.now.storm c.args.self.now.frame (sym c.eq.ensures ∙ c.if-eq.false)) (λ end. c.if-self-frames.false (end ∙ sym c.frames.ensures))
+    c.find_call.new.self c.find_call.ensures.passes
     (record { unit = c.find_call.ensures.same.unit; frames = c.find_call.ensures.same.frames; storm = c.find_call.ensures.same.storm; turned = c.find_call.ensures.same.turned })
 
-pub hear-requires-clause-drives : goal.hear-requires-clause-drives
-hear-requires-clause-drives g c =
-    let early = early_at (g.M.Duty.mission c.args.mission.now) c.args.self.now (g.T.Look.view c.args.port.now) c.requires
-    (apart_by c.args.self.now.storm c.args.self.now.frame (sym c.eq.ensures ∙ c.if-eq.false)) in
-    pass_drives (g.M.Duty.mission c.args.mission.now) c.args.self.now (g.T.Look.view c.args.port.now) c.requires early c.find_call.new.self c.find_call.ensures.passes
+pub hear-requires-clause-flight : goal.hear-requires-clause-flight
+hear-requires-clause-flight g c =
+    in_flight (g.M.Duty.mission c.args.mission.now) c.args.self.now (g.T.Look.view c.args.port.now) c.requires
+    (apart_by c.args.self.now.storm c.args.self.now.frame (sym c.eq.ensures ∙ c.if-eq.false)) (λ end. c.if-self-frames.false (end ∙ sym c.frames.ensures))
+    c.find_call.new.self c.find_call.ensures.passes
     (record { unit = c.find_call.ensures.same.unit; frames = c.find_call.ensures.same.frames; storm = c.find_call.ensures.same.storm; turned = c.find_call.ensures.same.turned })
 
 -- there it says, or else hears

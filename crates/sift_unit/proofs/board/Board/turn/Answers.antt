@@ -12,11 +12,13 @@ turn-requires g c =
     (flies_here _ c.args.self.now v c.requires.drives (early_next _ c.args.self.now v c.requires.drives c.requires.next)).going.left
 
 -- and end its frame
-pub end_frame-requires-clause-range : goal.end_frame-requires-clause-range
-end_frame-requires-clause-range g c = range_as _ _ (desk_of c.args.self.now) _ c.requires.drives.keeps
-
-pub end_frame-requires-clause-frame : goal.end_frame-requires-clause-frame
-end_frame-requires-clause-frame g c = room_next _ c.args.self.now (g.T.Look.view c.args.port.now) c.requires.drives c.requires.next
+pub end_frame-requires-clause-may : goal.end_frame-requires-clause-may
+end_frame-requires-clause-may g c = record {
+  walks = record { fits = c.requires.drives.fits; range = range_as _ _ (desk_of c.args.self.now) _ c.requires.drives.keeps };
+  frame = room_next _ c.args.self.now (g.T.Look.view c.args.port.now) c.requires.drives c.requires.next;
+  frames = c.requires.drives.frames;
+  end = c.requires.end;
+}
 
 -- the board that has turned
 pub returns-in-Entered-clause-drives : goal.returns-in-Entered-clause-drives

@@ -20,7 +20,7 @@ keep_made-requires c =
     let program = (data_of c.args.self.now).program in
     let room = task_room m program c.a_mission_flies.ensures.program c.args.task (task_at program.tasks c.args.task) (there program c.args.task c.requires.task) in
     rw (c.run-made.ensures.same, c.deref.ensures.0, c.run-made.ensures.count, c.first_word.ensures, c.code.ensures.limits_are)
-    (omega (arith, room, c.requires.made))
+    (omega (arith, room, c.requires.all.made))
 
 -- the words stand in their places
 pub returns : goal.returns
@@ -31,8 +31,8 @@ returns c =
     let ws : c.deref.result.now ≡ c.run-made.result.items = c.deref.ensures.0 in
     let made = run_makes m program c.a_mission_flies.ensures.program c.args.task (task_at program.tasks c.args.task)
     (there program c.args.task c.requires.task)
-    c.code.result.now c.code.ensures old.agreed old.voted old.before c.requires.agreed c.requires.voted c.requires.before
-    c.run-made.result.items old.made c.run-made.ensures.ran c.run-made.ensures.count c.requires.made in
+    c.code.result.now c.code.ensures old.agreed old.voted old.before c.requires.all.agreed c.requires.all.voted c.requires.all.before
+    c.run-made.result.items old.made c.run-made.ensures.ran c.run-made.ensures.count c.requires.all.made in
     let put : c.keep_made.new.self ≡ record old { made = take (c.first_word.result) old.made ++ (c.run-made.result.items ++ drop (c.first_word.result + length c.run-made.result.items) old.made) }
     = c.keep_made.ensures ∙ (λ i. let w : FrameWords = c.run-made.ensures.same i in
     record w { made = take c.first_word.result w.made ++ (ws i ++ drop (c.first_word.result + length (ws i)) w.made) }) in

@@ -10,19 +10,18 @@ use Rattle.sift_unit.proofs.memory.Memory.wrong_executors.Goals as goal
 use Rattle.sift_unit.proofs.memory.Memory.wrong_executors.Goals.{then-is_wrong, else-is_wrong}
 
 pub loop-position-init : goal.loop-position-init
-loop-position-init g c = λ v. ap (λ units. holds units v) c.empty-wrong.ensures ∙ set.contains-empty nat_cmp v
+loop-position-init c = λ v. ap (λ units. holds units v) c.empty-wrong.ensures ∙ set.contains-empty nat_cmp v
 
 -- one unit more
 pub loop-position-preserved : goal.loop-position-preserved
-loop-position-preserved g c = λ v.
+loop-position-preserved c = λ v.
     let us = c.args.config.now in
     let i = c.loop-position.position in
     let t = c.unit_at-executor.result in
     let seen = λ (u : ℕ). has (take i us) u in
-    let polled = λ (u : ℕ). polled_at c.args.unit (memory_of c.args.self.now) c.args.places.now c.args.word u in
-    let caught = λ (u : ℕ). (g.M.Duty.mission c.args.mission.now).executes us c.args.word u && differs (polled u) c.args.vote.now in
-    let told : c.is_wrong.result ≡ caught t =
-    c.is_wrong.ensures ∙ ap (λ b. b && differs (polled t) c.args.vote.now) (c.executors-executors.ensures t) in
+    let polled = λ (u : ℕ). polled_at c.args.poll.now.unit (memory_of c.args.self.now) c.args.poll.now.places.now c.args.poll.now.word u in
+    let caught = λ (u : ℕ). holds c.args.poll.now.executors u && differs (polled u) c.args.vote.now in
+    let told : c.is_wrong.result ≡ caught t = c.is_wrong.ensures in
     let front = ap (λ b. b && caught v) (has_front us v i t (get-drop us i ∙ c.unit_at-executor.ensures)) in
     elim c.if-is_wrong.branch [
       | then-is_wrong w ↦ ap (λ units. holds units v) (w.wrong-is ∙ w.with-wrong.ensures)

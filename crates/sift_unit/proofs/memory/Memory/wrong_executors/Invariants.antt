@@ -7,5 +7,5 @@ use Rattle.sift_unit.proofs.memory.Memory.wrong_executors.Given as goal
 
 -- wrong so far are those among the units seen
 abbrev pub invariant-loop-position : goal.invariant-loop-position
-invariant-loop-position g l = (v : ℕ) → holds l.wrong v ≡ (has (take l.position l.fn.config) v
-    && ((g.M.Duty.mission l.fn.mission).executes l.fn.config l.fn.word v && differs (polled_at l.fn.unit (memory_of l.fn.self) l.fn.places l.fn.word v) l.fn.vote))
+invariant-loop-position l = (v : ℕ) → holds l.wrong v ≡ (has (take l.position l.fn.config) v
+    && (holds l.fn.poll.executors v && differs (polled_at l.fn.poll.unit (memory_of l.fn.self) l.fn.poll.places.now l.fn.poll.word v) l.fn.vote))
