@@ -1,6 +1,7 @@
 //! The ideal machine of a mission, which runs the compiled code of its tasks.
 
 ghost use Rattle.std.specs.Prelude.{◌≡◌, ℕ, ◌+◌, ◌<◌, ◌≤◌, ◌++◌, List, [], IfOk, drop, length, take};
+ghost use Rattle.sift_code.specs.declared.work.TheConstants.{WORK_WORDS};
 ghost use Rattle.sift_lang.specs.Meaning.{meaning};
 ghost use Rattle.sift_mission.specs.Parts.{data_of, flown_of};
 ghost use Rattle.sift_pool.specs.Region.{IsLive};
@@ -18,7 +19,7 @@ use std::marker::Model;
 
 /// The ideal machine of a mission, where no task is shed. A clause sees it as its words, in the order of their numbers.
 ///
-/// It gives what `sift_program::Ideal` gives, and runs checked code in place of trees. For that it has a span of its own.
+/// It gives what `sift_program::Ideal` gives, but runs checked code in place of trees, in a span of a pool of its own.
 #[derive(Drop)]
 pub(crate) struct CompiledIdeal {
     pool: Pool,
@@ -31,7 +32,7 @@ impl Model for CompiledIdeal {
 
     ghost view = { λ ideal. ideal.words.items };
 
-    ghost invariant = { λ ideal. IsLive ideal.pool ideal.work × (ideal.work.len ≡ 352) };
+    ghost invariant = { λ ideal. IsLive ideal.pool ideal.work × (ideal.work.len ≡ WORK_WORDS) };
 }
 
 impl CompiledIdeal {
@@ -60,20 +61,20 @@ impl CompiledIdeal {
             → self.new ≡ ideal_words (data_of mission.now).program inputs (λ g. []) f }
         ensures as_many { length self.new ≡ length self.old }
     {
-        // Code takes as many words of this frame as there are: those that no task has made yet, and that none reads, are
-        // still those of the frame before.
+        // Code is run on as many words of this frame as there are. Those that aren't made yet are still the words of the
+        // frame before, and no task reads them.
         a_mission_flies(mission);
         let mut made = ArrayVec::new();
         made.try_extend_from_slice(&self.words).unwrap();
         for t in 0..mission.tasks() {
-            let outs = self.run(mission, t, agreed, &made);
+            let outs = self.words_of(mission, t, agreed, &made);
             put(&mut made, mission.first_word(t), &outs);
         }
         self.words = made;
     }
 
-    /// The words of a task, over those that this frame has so far.
-    fn run(
+    /// The words of a task, over those that this frame has so far. It runs the task's code.
+    fn words_of(
         &mut self,
         mission: &Mission,
         task: usize,
@@ -84,7 +85,8 @@ impl CompiledIdeal {
         requires agreed { length agreed.now ≡ (flown_of mission.now).sensors }
         requires made { length made.now ≡ (flown_of mission.now).words }
         requires words { length self.old ≡ (flown_of mission.now).words }
-        ensures words { result.items ≡ meaning (task_at (data_of mission.now).program.tasks task) agreed.now made.now self.old }
+        ensures words { let tree = task_at (data_of mission.now).program.tasks task in
+            result.items ≡ meaning tree agreed.now made.now self.old }
         ensures same { self.new ≡ self.old }
     {
         let mut outs = ArrayVec::new();
@@ -111,7 +113,8 @@ impl CompiledIdeal {
 /// Puts words in the place of others, from a place on.
 fn put(list: &mut ArrayVec<Word, WORD_LIMIT>, at: usize, words: &[Word])
     requires { at + length words.now ≤ length list.old.items }
-    ensures { list.new.items ≡ take at list.old.items ++ (words.now ++ drop (at + length words.now) list.old.items) }
+    ensures { let behind = drop (at + length words.now) list.old.items in
+        list.new.items ≡ take at list.old.items ++ (words.now ++ behind) }
 {
     list[at..at + words.len()].copy_from_slice(words);
 }

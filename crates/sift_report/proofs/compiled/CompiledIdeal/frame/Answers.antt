@@ -10,9 +10,9 @@ low : (c : goal.After-deref-in-loop-t-2) → c.loop-t.t < length (data_of c.args
 low c = omega (arith, c.loop-t-test.true, c.loop-t.auto.t-end, c.tasks-t-end.ensures.count)
 
 -- its words are its meaning
-are : (c : goal.After-deref-in-loop-t-2) → c.run-outs.result.items
+are : (c : goal.After-deref-in-loop-t-2) → c.words_of-outs.result.items
     ≡ meaning (task_at (data_of c.args.mission.now).program.tasks c.loop-t.t) c.args.agreed.now c.loop-t.made.items c.args.self.now
-are c = rw (c.deref-in-loop-t.ensures.0, c.loop-t.invariant.0) at c.run-outs.ensures.words
+are c = rw (c.deref-in-loop-t.ensures.0, c.loop-t.invariant.0) at c.words_of-outs.ensures.words
 
 -- there is room for them
 pub put-requires : goal.put-requires
@@ -28,7 +28,7 @@ loop-t-preserved c =
     let program = (data_of c.args.mission.now).program in
     let runs = c.a_mission_flies.ensures.program in
     let made = rw (c.first_word.ensures, c.deref-in-loop-t-2.ensures.0) at c.put.ensures in (
-      c.run-outs.ensures.same ∙ c.loop-t.invariant.0,
+      c.words_of-outs.ensures.same ∙ c.loop-t.invariant.0,
       ap length c.put.ensures ∙ put-long c.loop-t.made.items _ _ (put-requires c.before) ∙ c.loop-t.invariant.1,
       rw made (put-begins program c.args.self.now c.args.agreed.now _ runs.sound c.loop-t.t c.loop-t.made.items _ (low c.before) (c.loop-t.invariant.1 ∙ c.requires.words ∙ runs.words) (are c.before)
           c.loop-t.invariant.2),
