@@ -7,6 +7,7 @@ pub mod Ascending
 pub mod Sets
 pub mod LineForms
 mod Catches
+mod CompiledFrames
 pub mod Fields
 pub mod Printed
 mod Held
@@ -27,7 +28,6 @@ mod HeadlineLines
 mod TwoCatchersFit
 mod TwoCatchers
 mod OtherLines
-pub mod Machine
 pub mod Polls
 pub mod Heard
 pub mod Remaining

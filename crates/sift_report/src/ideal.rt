@@ -5,22 +5,21 @@ ghost use Rattle.sift_base.specs.Layout.{sensor_limit};
 ghost use Rattle.sift_mission.specs.Parts.{data_of, flown_of};
 ghost use Rattle.sift_report.specs.Ideal.{frames_text, ideal_of, outputs_text, sensed_in};
 
+use crate::compiled::CompiledIdeal;
 use crate::list::push_list;
 use arrayvec::ArrayVec;
 use sift_base::{NoMemory, Word};
 use sift_mission::Mission;
-use sift_program::Ideal;
 use std::alloc::{AllocError, Global};
 
 /// The ideal machine's outputs in each frame, over the mission's own sensor words, where no task is shed.
 pub fn ideal_text(alloc: Global, mission: &Mission) -> Result<String, NoMemory>
     ensures { IfOk result (λ text. string_bytes text ≡ ideal_of (data_of mission.now)) }
 {
-    let program = &mission.parts().program;
     let mut text = String::new(alloc);
-    let mut ideal = Ideal::start(program);
+    let mut ideal = CompiledIdeal::start(alloc, mission)?;
     for f in 0..mission.frames() {
-        ideal.frame(program, &sensed_in(mission, f), &[]);
+        ideal.frame(mission, &sensed_in(mission, f));
         push_outputs(&mut text, f, ideal.outs())?;
     }
     let frames = mission.frames();

@@ -3,6 +3,7 @@
 
 mod bad;
 mod catch;
+mod compiled;
 mod form;
 mod holding;
 mod ideal;

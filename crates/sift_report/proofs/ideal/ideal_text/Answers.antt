@@ -1,36 +1,25 @@
-use Rattle.std.proofs.Common.{◌≡◌, ◌∙◌, ◌++◌, [], length, refl, sym, ap, arith, add-one, string_bytes}
+use Rattle.std.proofs.Common.{◌≡◌, ◌∙◌, ◌++◌, length, ap, arith, add-one, string_bytes}
 use Rattle.std.specs.List.{flat_map, range_with_len}
 use Rattle.std.proofs.lemmas.List.FromFn.{length-map-range_with_len}
-use Rattle.sift_program.specs.Ideal.{words_before}
 use Rattle.sift_mission.specs.Parts.{data_of, flown_of}
 use Rattle.sift_report.specs.Ideal.{frames_text, ideal_line, outputs_text, sensed_in}
-use Rattle.sift_report.proofs.Machine.{words_as_many}
 use Rattle.sift_report.proofs.Printed.{first_text_more}
 use Rattle.sift_report.proofs.ideal.ideal_text.Goals as goal
 
 -- the words of the sensors are as many as the sensors
-pub frame-requires-clause-sound : goal.frame-requires-clause-sound
-frame-requires-clause-sound c =
-    let count : length c.deref.result.now ≡ c.args.mission.now.layout.sensors =
-    ap length (c.deref.ensures.0 ∙ c.sensed_in.ensures) ∙ length-map-range_with_len (λ x. (flown_of c.args.mission.now).sensed x c.loop-f.f) 0 c.args.mission.now.layout.sensors in
-    rw (count, c.parts.ensures.same) c.parts.ensures.fit.program
-
--- the machine has a word for each that it started with
-pub frame-requires-clause-a_start_each : goal.frame-requires-clause-a_start_each
-frame-requires-clause-a_start_each c =
-    let d = data_of c.args.mission.now in
-    rw c.parts.ensures.same
-    (sym (ap length c.loop-f.invariant.1 ∙ words_as_many d.layout.sensors d.program (sensed_in (flown_of c.args.mission.now)) (λ g. []) c.parts.ensures.fit.program c.loop-f.f))
+pub frame-requires-clause-agreed : goal.frame-requires-clause-agreed
+frame-requires-clause-agreed c =
+    ap length (c.deref.ensures.0 ∙ c.sensed_in.ensures) ∙ length-map-range_with_len (λ x. (flown_of c.args.mission.now).sensed x c.loop-f.f) 0 c.args.mission.now.layout.sensors
 
 pub loop-f-preserved : goal.loop-f-preserved
 loop-f-preserved c =
     let d = data_of c.args.mission.now in
     let agreed = c.deref.ensures.0 ∙ c.sensed_in.ensures in
-    let before : c.loop-f.ideal ≡ words_before d.program (sensed_in (flown_of c.args.mission.now)) (λ g. []) c.loop-f.f = c.loop-f.invariant.1 in
-    let words = rw c.parts.ensures.same at (c.frame.ensures.in_turn (sensed_in (flown_of c.args.mission.now)) (λ g. []) c.loop-f.f (rw c.parts.ensures.same before) agreed refl) in (
+    let words = c.frame.ensures.in_turn (sensed_in (flown_of c.args.mission.now)) c.loop-f.f c.loop-f.invariant.1 agreed in (
       first_text_more (ideal_line d) c.loop-f.f _ _ c.loop-f.invariant.0
           (c.in_ok-push_outputs.ensures ∙ ap (λ ws. string_bytes c.loop-f.text ++ outputs_text c.loop-f.f ws) (c.outs.ensures ∙ words)),
       rw (add-one c.loop-f.f) words,
+      c.frame.ensures.as_many ∙ c.loop-f.invariant.2,
     )
 
 pub returns : goal.returns

@@ -1,4 +1,4 @@
-use Rattle.std.proofs.Common.{◌≡◌, [], string_bytes}
+use Rattle.std.proofs.Common.{◌≡◌, [], length, string_bytes}
 use Rattle.std.specs.List.{flat_map, range_with_len}
 use Rattle.sift_program.specs.Ideal.{words_before}
 use Rattle.sift_mission.specs.Parts.{data_of, flown_of}
@@ -10,3 +10,4 @@ abbrev pub invariant-loop-f : goal.invariant-loop-f
 invariant-loop-f l =
     (string_bytes l.text ≡ flat_map (ideal_line (data_of l.mission)) (range_with_len 0 l.f))
     × (l.ideal ≡ words_before (data_of l.mission).program (sensed_in (flown_of l.mission)) (λ g. []) l.f)
+    × (length l.ideal ≡ (flown_of l.mission).words)
