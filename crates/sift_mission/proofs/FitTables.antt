@@ -16,6 +16,7 @@ use Rattle.sift_mission.specs.Data.{MissionData, shapes_in}
 use Rattle.sift_mission.specs.Fits.{IsTimed, HasExecutors, is_caught_in}
 use Rattle.sift_mission.specs.Flown.{executes_in, flown, position_in, table_for}
 use Rattle.sift_mission.specs.PartsFit.{IsTableFor, PartsFit, table_at}
+use Rattle.sift_mission.specs.Timetable.{HasRowsFor}
 use Rattle.sift_mission.specs.Slots.{is_held, is_silent, is_slot}
 use Rattle.sift_mission.proofs.FitSlots.{is-slot}
 use Rattle.sift_mission.proofs.Numbers.{range-has}
@@ -45,7 +46,7 @@ module _ (d : MissionData) (fit : PartsFit d) where
   pub table-rows : (us : List ℕ) → IsConfigOf (flown d) us → length (table_for d us).run ≡ length d.program.tasks
   table-rows us config = (table-is us config).good.whole.0.0 ∙ length-shapes d.program.tasks 0 d.program.tasks
 
-  -- a table that stands at a place is the one there, and has a row for each task
+  -- a table that stands at a place is the one there; it has a row for each task, and the subframes of the mission
   pub table-placed : (i : ℕ) (table : Schedule) → i < length d.tables → table ≡ get_or d.tables i table → table_at d i ≡ table
   table-placed i table low is = get_or_default d.tables i _ table low ∙ sym is
 
@@ -53,6 +54,12 @@ module _ (d : MissionData) (fit : PartsFit d) where
   placed-rows i table low is =
       ap (λ (t : Schedule). length t.run) (sym (table-placed i table low is))
       ∙ ((fit.tables.each i low).good.whole.0.0 ∙ length-shapes d.program.tasks 0 d.program.tasks)
+
+  pub placed-has-rows : (i : ℕ) (table : Schedule) → i < length d.tables → table ≡ get_or d.tables i table → HasRowsFor d table
+  placed-has-rows i table low is = record {
+    rows = placed-rows i table low is;
+    period = ap (λ (t : Schedule). t.period) (sym (table-placed i table low is)) ∙ (fit.tables.each i low).timed;
+  }
 
   -- the shapes have the mission's words
   pub words-are : d.layout.words ≡ words_in (shapes_in d).tasks

@@ -28,6 +28,11 @@ pub record IsAgendaOf (count : ℕ) (time : ℕ → ℕ) (a : Agenda) : Type 0 w
   pub size : a.count ≡ count
   pub each : (i : ℕ) → i < count → slice_index a.times i ≡ time i
 
+-- the table has a row for each task of the mission, and as many subframes
+pub record HasRowsFor (d : MissionData) (table : Schedule) : Type 0 where
+  pub rows : length table.run ≡ length d.program.tasks
+  pub period : table.period ≡ d.period
+
 -- when slots are heard and said and tasks are run: those of a table
 pub record IsTimetableOf (d : MissionData) (table : Schedule) (t : Timetable) : Type 0 where
   pub heard : IsAgendaOf (slot_count d.layout) (λ i. heard_in table (shapes_in d) (slot_kind d.layout i)) t.heard

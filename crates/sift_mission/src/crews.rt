@@ -4,7 +4,7 @@ ghost use Rattle.std.specs.Prelude.{◌≡◌, ◌<◌, ◌≤◌, length, slice
 ghost use Rattle.sift_base.specs.Shapes.{task_limit};
 ghost use Rattle.sift_base.specs.Units.{members, units_of};
 ghost use Rattle.sift_mission.specs.Mission.{IsConfigOf};
-ghost use Rattle.sift_mission.specs.ByWord.{by_word};
+ghost use Rattle.sift_mission.specs.ByWord.{KnowsTasks};
 ghost use Rattle.sift_mission.specs.Crews.{AreAllCrews, AreCrewsBy, AreCrewsOf, IsCrewBy};
 ghost use Rattle.sift_mission.specs.Parts.{data_of, flown_of};
 ghost use Rattle.sift_mission.specs.PartsFit.{PartsFit};
@@ -47,8 +47,7 @@ impl Crews {
 
 /// By the byte of a configuration's units, its crews.
 pub(crate) fn all_crews(parts: &MissionParts, tasks: &[u8]) -> [Crews; 256]
-    requires fit { PartsFit (data_of parts.now) }
-    requires tasks { tasks.now ≡ by_word 0 (data_of parts.now).program.tasks }
+    requires knows { KnowsTasks (data_of parts.now) tasks.now }
     ensures { AreAllCrews (data_of parts.now) result }
 {
     let mut rows = [Crews::none(); 256];
@@ -60,8 +59,7 @@ pub(crate) fn all_crews(parts: &MissionParts, tasks: &[u8]) -> [Crews; 256]
 
 /// The crews of the configuration whose units' bits the byte has, where it is one.
 fn crews_of(parts: &MissionParts, tasks: &[u8], bits: u8) -> Crews
-    requires fit { PartsFit (data_of parts.now) }
-    requires tasks { tasks.now ≡ by_word 0 (data_of parts.now).program.tasks }
+    requires knows { KnowsTasks (data_of parts.now) tasks.now }
     ensures { let us = members (units_of bits) in
         IsConfigOf (flown_of parts.now) us → AreCrewsOf (data_of parts.now) us result }
 {
@@ -73,8 +71,7 @@ fn crews_of(parts: &MissionParts, tasks: &[u8], bits: u8) -> Crews
 
 /// The crews of a configuration, by the table of its size, where there is one.
 fn crews_under(parts: &MissionParts, tasks: &[u8], config: &Config) -> Crews
-    requires fit { PartsFit (data_of parts.now) }
-    requires tasks { tasks.now ≡ by_word 0 (data_of parts.now).program.tasks }
+    requires knows { KnowsTasks (data_of parts.now) tasks.now }
     ensures { IsConfigOf (flown_of parts.now) config.now → AreCrewsOf (data_of parts.now) config.now result }
 {
     let place = config.len() - 4;

@@ -4,7 +4,7 @@ ghost use Rattle.std.specs.Prelude.{◌≡◌, ◌<◌, ◌&&◌, ℕ, length, t
 ghost use Rattle.sift_base.specs.Layout.{IsLayout, slot_count};
 ghost use Rattle.sift_base.specs.Units.{has, holds};
 ghost use Rattle.sift_mission.specs.Mission.{IsConfigOf};
-ghost use Rattle.sift_mission.specs.ByWord.{by_word};
+ghost use Rattle.sift_mission.specs.ByWord.{KnowsTasks};
 ghost use Rattle.sift_mission.specs.Crews.{AreAllRoles, AreCrewsBy, AreReceiversOf, AreRolesOf, AreSendersOf};
 ghost use Rattle.sift_mission.specs.Parts.{data_of, flown_of};
 ghost use Rattle.sift_mission.specs.Flown.{table_for};
@@ -39,8 +39,7 @@ pub(crate) fn all_roles(
     config: &Config,
     crews: &[UnitSet; 24],
 ) -> [Roles; 90]
-    requires fit { PartsFit (data_of parts.now) }
-    requires tasks { tasks.now ≡ by_word 0 (data_of parts.now).program.tasks }
+    requires knows { KnowsTasks (data_of parts.now) tasks.now }
     requires crews { let d = data_of parts.now in AreCrewsBy (table_for d config.now) config.now (length d.program.tasks) crews.now }
     ensures { IsConfigOf (flown_of parts.now) config.now → AreAllRoles (data_of parts.now) config.now (slot_count parts.now.layout) result }
 {
@@ -59,8 +58,7 @@ fn roles_of(
     crews: &[UnitSet; 24],
     slot: usize,
 ) -> Roles
-    requires fit { PartsFit (data_of parts.now) }
-    requires tasks { tasks.now ≡ by_word 0 (data_of parts.now).program.tasks }
+    requires knows { KnowsTasks (data_of parts.now) tasks.now }
     requires crews { let d = data_of parts.now in AreCrewsBy (table_for d config.now) config.now (length d.program.tasks) crews.now }
     requires slot { slot < slot_count parts.now.layout }
     ensures { IsConfigOf (flown_of parts.now) config.now → AreRolesOf (data_of parts.now) config.now slot result }
@@ -79,8 +77,7 @@ fn senders_of(
     crews: &[UnitSet; 24],
     slot: usize,
 ) -> UnitSet
-    requires fit { PartsFit (data_of parts.now) }
-    requires tasks { tasks.now ≡ by_word 0 (data_of parts.now).program.tasks }
+    requires knows { KnowsTasks (data_of parts.now) tasks.now }
     requires crews { let d = data_of parts.now in AreCrewsBy (table_for d config.now) config.now (length d.program.tasks) crews.now }
     requires slot { slot < slot_count parts.now.layout }
     ensures { IsConfigOf (flown_of parts.now) config.now → AreSendersOf (data_of parts.now) config.now slot result }

@@ -4,11 +4,11 @@ ghost use Rattle.std.specs.Prelude.{◌≡◌, ◌-◌, ◌<◌, ◌≤◌, leng
 ghost use Rattle.sift_base.specs.Layout.{slot_count, slot_kind};
 ghost use Rattle.sift_table.specs.Schedule.{run_in};
 ghost use Rattle.sift_table.specs.Timing.{due_in, heard_in};
-ghost use Rattle.sift_mission.specs.ByWord.{by_word};
+ghost use Rattle.sift_mission.specs.ByWord.{KnowsTasks};
 ghost use Rattle.sift_mission.specs.Parts.{data_of};
 ghost use Rattle.sift_mission.specs.Data.{shapes_in};
 ghost use Rattle.sift_mission.specs.PartsFit.{PartsFit};
-ghost use Rattle.sift_mission.specs.Timetable.{IsAgendaOf, IsTimetableOf, AreTimetables};
+ghost use Rattle.sift_mission.specs.Timetable.{HasRowsFor, IsAgendaOf, IsTimetableOf, AreTimetables};
 
 use crate::agenda::Agenda;
 use crate::parts::MissionParts;
@@ -39,10 +39,8 @@ impl Timetable {
 
     /// The timetable of a table.
     pub(crate) fn of(parts: &MissionParts, tasks: &[u8], table: &GoodTable) -> Timetable
-        requires fit { PartsFit (data_of parts.now) }
-        requires tasks { tasks.now ≡ by_word 0 (data_of parts.now).program.tasks }
-        requires rows { length table.now.run ≡ length (data_of parts.now).program.tasks }
-        requires period { table.now.period ≡ parts.now.period }
+        requires knows { KnowsTasks (data_of parts.now) tasks.now }
+        requires table { HasRowsFor (data_of parts.now) table.now }
         ensures { IsTimetableOf (data_of parts.now) table.now result }
     {
         Timetable {
@@ -55,8 +53,7 @@ impl Timetable {
 
 /// The timetables of a mission's tables, in their order.
 pub(crate) fn timetables(parts: &MissionParts, tasks: &[u8]) -> [Timetable; 5]
-    requires fit { PartsFit (data_of parts.now) }
-    requires tasks { tasks.now ≡ by_word 0 (data_of parts.now).program.tasks }
+    requires knows { KnowsTasks (data_of parts.now) tasks.now }
     ensures { AreTimetables (data_of parts.now) result }
 {
     let mut times = [Timetable::blank(); 5];
@@ -68,10 +65,8 @@ pub(crate) fn timetables(parts: &MissionParts, tasks: &[u8]) -> [Timetable; 5]
 
 /// When slots are heard.
 fn heard_times(parts: &MissionParts, tasks: &[u8], table: &GoodTable) -> Agenda
-    requires fit { PartsFit (data_of parts.now) }
-    requires tasks { tasks.now ≡ by_word 0 (data_of parts.now).program.tasks }
-    requires rows { length table.now.run ≡ length (data_of parts.now).program.tasks }
-    requires period { table.now.period ≡ parts.now.period }
+    requires knows { KnowsTasks (data_of parts.now) tasks.now }
+    requires table { HasRowsFor (data_of parts.now) table.now }
     ensures { IsAgendaOf (slot_count parts.now.layout) (λ i. heard_in table.now (shapes_in (data_of parts.now)) (slot_kind parts.now.layout i)) result }
 {
     let mut times = [0; 90];
@@ -84,10 +79,8 @@ fn heard_times(parts: &MissionParts, tasks: &[u8], table: &GoodTable) -> Agenda
 
 /// When slots are said.
 fn said_times(parts: &MissionParts, tasks: &[u8], table: &GoodTable) -> Agenda
-    requires fit { PartsFit (data_of parts.now) }
-    requires tasks { tasks.now ≡ by_word 0 (data_of parts.now).program.tasks }
-    requires rows { length table.now.run ≡ length (data_of parts.now).program.tasks }
-    requires period { table.now.period ≡ parts.now.period }
+    requires knows { KnowsTasks (data_of parts.now) tasks.now }
+    requires table { HasRowsFor (data_of parts.now) table.now }
     ensures { IsAgendaOf (slot_count parts.now.layout) (λ i. due_in table.now (shapes_in (data_of parts.now)) (slot_kind parts.now.layout i)) result }
 {
     let mut times = [0; 90];
@@ -101,8 +94,7 @@ fn said_times(parts: &MissionParts, tasks: &[u8], table: &GoodTable) -> Agenda
 /// When tasks are run.
 fn run_times(parts: &MissionParts, table: &GoodTable) -> Agenda
     requires fit { PartsFit (data_of parts.now) }
-    requires rows { length table.now.run ≡ length (data_of parts.now).program.tasks }
-    requires period { table.now.period ≡ parts.now.period }
+    requires table { HasRowsFor (data_of parts.now) table.now }
     ensures { IsAgendaOf (length (data_of parts.now).program.tasks) (run_in table.now) result }
 {
     let mut times = [0; 90];
@@ -115,10 +107,8 @@ fn run_times(parts: &MissionParts, table: &GoodTable) -> Agenda
 
 /// The subframe in which the slot of a number is heard.
 fn heard_by(parts: &MissionParts, tasks: &[u8], table: &GoodTable, i: usize) -> u8
-    requires fit { PartsFit (data_of parts.now) }
-    requires tasks { tasks.now ≡ by_word 0 (data_of parts.now).program.tasks }
-    requires rows { length table.now.run ≡ length (data_of parts.now).program.tasks }
-    requires period { table.now.period ≡ parts.now.period }
+    requires knows { KnowsTasks (data_of parts.now) tasks.now }
+    requires table { HasRowsFor (data_of parts.now) table.now }
     requires slot { i < slot_count parts.now.layout }
     ensures { result ≡ heard_in table.now (shapes_in (data_of parts.now)) (slot_kind parts.now.layout i) }
 {
@@ -133,10 +123,8 @@ fn heard_by(parts: &MissionParts, tasks: &[u8], table: &GoodTable, i: usize) -> 
 
 /// The subframe in which the slot of a number is said.
 fn said_by(parts: &MissionParts, tasks: &[u8], table: &GoodTable, i: usize) -> u8
-    requires fit { PartsFit (data_of parts.now) }
-    requires tasks { tasks.now ≡ by_word 0 (data_of parts.now).program.tasks }
-    requires rows { length table.now.run ≡ length (data_of parts.now).program.tasks }
-    requires period { table.now.period ≡ parts.now.period }
+    requires knows { KnowsTasks (data_of parts.now) tasks.now }
+    requires table { HasRowsFor (data_of parts.now) table.now }
     requires slot { i < slot_count parts.now.layout }
     ensures { result ≡ due_in table.now (shapes_in (data_of parts.now)) (slot_kind parts.now.layout i) }
 {

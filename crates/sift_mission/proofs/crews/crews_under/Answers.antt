@@ -11,12 +11,12 @@ pub crews_by-by_task-requires-clause-rows : goal.crews_by-by_task-requires-claus
 crews_by-by_task-requires-clause-rows c =
     let d = data_of c.args.parts.now in
     let low : c.len-place.result - 4 < length d.tables = omega (arith, c.if-place-len.true, c.len.ensures, c.args.parts.now.tables.ok.0) in
-    let rows = placed-rows d c.requires.fit (c.len-place.result - 4) c.index.result.now low c.index.ensures in
+    let rows = placed-rows d c.requires.knows.fit (c.len-place.result - 4) c.index.result.now low c.index.ensures in
     omega (arith, rows, c.len-then-place-len.ensures, length-map c.args.parts.now.program.tasks.items tree_of, c.args.parts.now.program.tasks.ok.0)
 
 -- a configuration has a table
 pub returns : goal.returns
-returns c = λ config. absurd (let low = table-low (data_of c.args.parts.now) c.requires.fit c.args.config.now config in
+returns c = λ config. absurd (let low = table-low (data_of c.args.parts.now) c.requires.knows.fit c.args.config.now config in
     omega (arith, c.if-place-len.false, c.len.ensures, c.args.parts.now.tables.ok.0, c.len-place.ensures.length))
 
 -- and by it the crews and the roles of its size

@@ -16,12 +16,12 @@ loop-slot-preserved c =
       size,
       low,
       c.count-slot-end.ensures,
-      c.requires.fit.layout.units,
-      c.requires.fit.layout.sensors,
-      c.requires.fit.layout.words,
-      c.requires.fit.limits.few_units,
-      c.requires.fit.limits.few_sensors,
-      c.requires.fit.program.few_words,
+      c.requires.knows.fit.layout.units,
+      c.requires.knows.fit.layout.sensors,
+      c.requires.knows.fit.layout.words,
+      c.requires.knows.fit.limits.few_units,
+      c.requires.knows.fit.limits.few_sensors,
+      c.requires.knows.fit.program.few_words,
     ) in (
       length-set c.loop-slot.roles i c.roles_of.result ∙ size,
       (λ config j roles below. dite (ℕ_discrete j i)

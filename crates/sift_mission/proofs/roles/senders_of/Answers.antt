@@ -11,22 +11,22 @@ use Rattle.sift_mission.proofs.roles.senders_of.Goals as goal
 -- the word's task stands in the list
 pub bounds-tasks-from : goal.bounds-tasks-from
 bounds-tasks-from c =
-    let low = out_low (data_of c.args.parts.now) c.requires.fit c.args.slot c.in-Out.w c.requires.slot (sym c.in-Out.ensures) in
-    rw c.from.ensures (held-place c.args.parts.now c.args.tasks.now c.requires.fit c.requires.tasks c.in-Out.w low)
+    let low = out_low (data_of c.args.parts.now) c.requires.knows.fit c.args.slot c.in-Out.w c.requires.slot (sym c.in-Out.ensures) in
+    rw c.from.ensures (held-place c.args.parts.now c.args.tasks.now c.requires.knows.fit c.requires.knows.listed c.in-Out.w low)
 
 -- and has a crew
 pub listed : goal.listed
 listed c =
-    let low = out_low (data_of c.args.parts.now) c.requires.fit c.args.slot c.in-Out.w c.requires.slot (sym c.in-Out.ensures) in
-    let there = held-there c.args.parts.now c.args.tasks.now c.requires.fit c.requires.tasks c.in-Out.w low in
-    let few = c.requires.fit.program.few_tasks in
+    let low = out_low (data_of c.args.parts.now) c.requires.knows.fit c.args.slot c.in-Out.w c.requires.slot (sym c.in-Out.ensures) in
+    let there = held-there c.args.parts.now c.args.tasks.now c.requires.knows.fit c.requires.knows.listed c.in-Out.w low in
+    let few = c.requires.knows.fit.program.few_tasks in
     rw (c.from-in-Out.ensures, c.from.ensures) (omega (arith, there, few, c.type_inv.crews))
 
 pub bounds-crews-from : goal.bounds-crews-from
 bounds-crews-from c =
-    let low = out_low (data_of c.args.parts.now) c.requires.fit c.args.slot c.in-Out.w c.requires.slot (sym c.in-Out.ensures) in
-    let there = held-there c.args.parts.now c.args.tasks.now c.requires.fit c.requires.tasks c.in-Out.w low in
-    let few = c.requires.fit.program.few_tasks in
+    let low = out_low (data_of c.args.parts.now) c.requires.knows.fit c.args.slot c.in-Out.w c.requires.slot (sym c.in-Out.ensures) in
+    let there = held-there c.args.parts.now c.args.tasks.now c.requires.knows.fit c.requires.knows.listed c.in-Out.w low in
+    let few = c.requires.knows.fit.program.few_tasks in
     rw (c.from-in-Out.ensures, c.from.ensures) (omega (arith, there, few))
 
 -- the reader alone says a sensor's word
@@ -55,10 +55,10 @@ returns-in-Out c = λ config p.
     let parts = c.args.parts.now in
     let m = flown_of parts in
     let us = c.args.config.now in
-    let low = out_low (data_of parts) c.requires.fit c.args.slot c.in-Out.w c.requires.slot (sym c.in-Out.ensures) in
-    let listed_task = held-task parts c.args.tasks.now c.requires.fit c.requires.tasks c.in-Out.w low in
+    let low = out_low (data_of parts) c.requires.knows.fit c.args.slot c.in-Out.w c.requires.slot (sym c.in-Out.ensures) in
+    let listed_task = held-task parts c.args.tasks.now c.requires.knows.fit c.requires.knows.listed c.in-Out.w low in
     let task : c.from-in-Out.result ≡ m.task c.in-Out.w = c.from-in-Out.ensures ∙ (ap (λ n. slice_index c.args.tasks.now n) c.from.ensures ∙ listed_task) in
-    let there = subst (λ t. t < m.tasks) listed_task (held-there parts c.args.tasks.now c.requires.fit c.requires.tasks c.in-Out.w low) in
+    let there = subst (λ t. t < m.tasks) listed_task (held-there parts c.args.tasks.now c.requires.knows.fit c.requires.knows.listed c.in-Out.w low) in
     ap (λ t. holds (slice_index_or c.args.crews.now t c.index-crews-from.result) p) task
     ∙ c.requires.crews (m.task c.in-Out.w) c.index-crews-from.result there p
     ∙ twice (has us p) _

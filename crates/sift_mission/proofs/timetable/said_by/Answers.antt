@@ -9,20 +9,20 @@ use Rattle.sift_mission.proofs.timetable.said_by.Goals as goal
 -- the word's task stands in the list
 pub bounds-tasks-from : goal.bounds-tasks-from
 bounds-tasks-from c =
-    let low = out_low (data_of c.args.parts.now) c.requires.fit c.args.i c.in-Out.w c.requires.slot (sym c.in-Out.ensures) in
-    rw c.from.ensures (held-place c.args.parts.now c.args.tasks.now c.requires.fit c.requires.tasks c.in-Out.w low)
+    let low = out_low (data_of c.args.parts.now) c.requires.knows.fit c.args.i c.in-Out.w c.requires.slot (sym c.in-Out.ensures) in
+    rw c.from.ensures (held-place c.args.parts.now c.args.tasks.now c.requires.knows.fit c.requires.knows.listed c.in-Out.w low)
 
 -- and is one of the table's
 pub run_of-requires : goal.run_of-requires
 run_of-requires c =
-    let low = out_low (data_of c.args.parts.now) c.requires.fit c.args.i c.in-Out.w c.requires.slot (sym c.in-Out.ensures) in
-    let there = held-there c.args.parts.now c.args.tasks.now c.requires.fit c.requires.tasks c.in-Out.w low in
-    rw (c.from-in-Out.ensures, c.from.ensures, c.requires.rows) there
+    let low = out_low (data_of c.args.parts.now) c.requires.knows.fit c.args.i c.in-Out.w c.requires.slot (sym c.in-Out.ensures) in
+    let there = held-there c.args.parts.now c.args.tasks.now c.requires.knows.fit c.requires.knows.listed c.in-Out.w low in
+    rw (c.from-in-Out.ensures, c.from.ensures, c.requires.table.rows) there
 
 pub returns-in-Out : goal.returns-in-Out
 returns-in-Out c =
-    let low = out_low (data_of c.args.parts.now) c.requires.fit c.args.i c.in-Out.w c.requires.slot (sym c.in-Out.ensures) in
-    let task = held-task c.args.parts.now c.args.tasks.now c.requires.fit c.requires.tasks c.in-Out.w low in
+    let low = out_low (data_of c.args.parts.now) c.requires.knows.fit c.args.i c.in-Out.w c.requires.slot (sym c.in-Out.ensures) in
+    let task = held-task c.args.parts.now c.args.tasks.now c.requires.knows.fit c.requires.knows.listed c.in-Out.w low in
     c.run_of.ensures
     ∙ ap (run_in c.args.table.now) (c.from-in-Out.ensures ∙ (ap (λ n. slice_index c.args.tasks.now n) c.from.ensures ∙ task))
     ∙ ap (λ k. due_in c.args.table.now (shapes_in (data_of c.args.parts.now)) k) c.in-Out.ensures
