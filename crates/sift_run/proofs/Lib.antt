@@ -3,3 +3,4 @@ pub mod Headline
 pub mod One
 pub mod Statuses
 pub mod Stated
+pub mod Workers

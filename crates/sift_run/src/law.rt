@@ -3,7 +3,7 @@
 ghost use Rattle.sift_reply.specs.Laws.{ShareNoStatus};
 ghost use Rattle.sift_run.specs.Command.{OneCommand, commands};
 ghost use Rattle.sift_run.specs.Headline.{HeadlineIsWritten};
-ghost use Rattle.sift_run.specs.OneReply.{CommandsGiveOne};
+ghost use Rattle.sift_run.specs.OneReply.{CommandsGiveOne, WorkersDoNotShow};
 ghost use Rattle.sift_run.specs.Stated.{MissionsAreAnswered, MissionsEndWell};
 ghost use Rattle.sift_run.specs.Statuses.{CommandsHaveOwnStatuses, StatusesAreKnown};
 
@@ -64,6 +64,13 @@ pub fn commands_give_one<F: Flier + BusFlier>()
     buses_gives_one::<F>();
     byz_gives_one();
     clocks_give_one();
+}
+
+/// A command's text is one whatever its workers and the order of their steps: commands that differ in these alone give one reply to an input.
+pub fn workers_do_not_show<F: Flier + BusFlier>()
+    ensures { (flier : F) → WorkersDoNotShow (F.gives flier) }
+{
+    commands_give_one::<F>();
 }
 
 /// The headline is a consequence of the promise.
