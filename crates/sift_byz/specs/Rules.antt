@@ -17,7 +17,7 @@ OfNoEntry fault place = (place ≡ 0) × fault
 
 -- ---- the first broken rule
 
--- a rule that is broken at these places is broken at none
+-- a rule is kept: it is broken at no place
 abbrev pub IsKept : (ℕ → Type 0) → Type 0
 IsKept BrokenAt = (place : ℕ) → ¬ BrokenAt place
 
