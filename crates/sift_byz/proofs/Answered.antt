@@ -1,25 +1,26 @@
 -- A document is answered in one way.
 use Rattle.std.proofs.Common.{◌≡◌, ◌≢◌, ◌≤◌, ◌+◌, ◌*◌, ◌⊎◌, inl, inr, List, [], ◌∷◌, ℕ, length, map, pos, negsuc, Option, Some, None, Result, Ok, Err, IfOk, IfErr, refl, sym, ap, subst, ◌∙◌, arith}
-use Rattle.std.specs.Prelude.{codes, option_and_then}
-use Rattle.std.proofs.lemmas.Bool.{cases_order}
+use Rattle.std.specs.Prelude.{codes, if◌then◌else◌, nat_eq, option_and_then}
+use Rattle.std.proofs.lemmas.Bool.{cases_Bool, cases_order, eqb-true}
 use Rattle.toml.specs.Data.{Data, string, integer, float, boolean, datetime, array, table, Members, get_member}
 use Rattle.sift_byz.specs.declared.stop.ByzStop.{ByzStop}
 use Rattle.sift_byz.specs.declared.stop.ByzStop.TheVariants as stop
-use Rattle.sift_byz.specs.Document.{each_read, integer_between, list_of, of_length, word_value, words_of}
+use Rattle.sift_byz.specs.Document.{each_read, integer_between, list_of, word_value, words_of}
 use Rattle.sift_byz.specs.Lawful.{IsPlanOf, IsRefusedWith, OnePlan, OneRefusal, OnlyRefuses, PlansAreAccepted, StatedPlansAreLawful, rules_of}
 use Rattle.sift_byz.specs.Plan.{LieData, PlanData, teller_count, most_traitors, most_units}
-use Rattle.sift_byz.specs.Rules.{AreKept, BreaksFirst, IsFirstPlace, Rule}
+use Rattle.sift_byz.specs.Rules.{AreKept, BreaksFirst, IsFirstPlace, Rule, rule}
 use Rattle.sift_byz.specs.Stated.{lie_in, lies_of}
 use Rattle.sift_byz.proofs.Stopping.{kept_for_units}
 use Rattle.sift_byz.proofs.Tellers.{few_tellers}
+use Rattle.sift_byz.proofs.Values.{length-each_read}
 
 -- ---- the first broken rule
 
 -- where all rules are kept, none is the first that is broken
 kept_none : (rules : List Rule) (number place : ℕ) → AreKept rules → ¬ BreaksFirst rules number place
 kept_none [] number place kept broken = broken
-kept_none (rule ∷ rest) number place kept (inl broken) = kept.0 place broken.1.broken
-kept_none (rule ∷ rest) number place kept (inr broken) = kept_none rest number place kept.1 broken.1
+kept_none (rule n BrokenAt ∷ rest) number place kept (inl broken) = kept.0 place broken.1.broken
+kept_none (rule n BrokenAt ∷ rest) number place kept (inr broken) = kept_none rest number place kept.1 broken.1
 
 -- a rule has one first place
 one_place : (Breaks : ℕ → Type 0) (one other : ℕ) → IsFirstPlace Breaks one → IsFirstPlace Breaks other → one ≡ other
@@ -33,10 +34,10 @@ one_place Breaks one other first second = elim (cases_order one other) [
 one_first :
     (rules : List Rule) (n place n' place' : ℕ) → BreaksFirst rules n place → BreaksFirst rules n' place' → (n ≡ n') × (place ≡ place')
 one_first [] n place n' place' one other = absurd one
-one_first (rule ∷ rest) n place n' place' (inl one) (inl other) = (one.0 ∙ sym other.0, one_place rule.BrokenAt place place' one.1 other.1)
-one_first (rule ∷ rest) n place n' place' (inl one) (inr other) = absurd (other.0 place one.1.broken)
-one_first (rule ∷ rest) n place n' place' (inr one) (inl other) = absurd (one.0 place' other.1.broken)
-one_first (rule ∷ rest) n place n' place' (inr one) (inr other) = one_first rest n place n' place' one.1 other.1
+one_first (rule k BrokenAt ∷ rest) n place n' place' (inl one) (inl other) = (one.0 ∙ sym other.0, one_place BrokenAt place place' one.1 other.1)
+one_first (rule k BrokenAt ∷ rest) n place n' place' (inl one) (inr other) = absurd (other.0 place one.1.broken)
+one_first (rule k BrokenAt ∷ rest) n place n' place' (inr one) (inl other) = absurd (one.0 place' other.1.broken)
+one_first (rule k BrokenAt ∷ rest) n place n' place' (inr one) (inr other) = one_first rest n place n' place' one.1 other.1
 
 -- ---- answers
 
@@ -109,15 +110,15 @@ between low high n None is = cc
 between low high n (Some d) is = between_in low high n d is
 
 -- as many words are read as are asked for
-long_enough : (count : ℕ) (xs ys : List ℕ) → of_length count xs ≡ Some ys → length ys ≡ count
-long_enough count xs ys is = grind arith
-
-counted : (count : ℕ) (read : Option (List ℕ)) (ys : List ℕ) → option_and_then (of_length count) read ≡ Some ys → length ys ≡ count
-counted count None ys is = cc
-counted count (Some xs) ys is = long_enough count xs ys is
+long_enough : (count : ℕ) (xs : List Data) (ys : List ℕ)
+    → (if nat_eq (length xs) count then each_read word_value xs else None) ≡ Some ys → length ys ≡ count
+long_enough count xs ys is = elim (cases_Bool (nat_eq (length xs) count)) [
+  | inl t ↦ length-each_read word_value xs ys (rw t at is) ∙ eqb-true (length xs) count t
+  | inr f ↦ let none : None ≡ Some ys = rw f at is in absurd cc
+]
 
 words_long : (count : ℕ) (ys : List ℕ) (d : Data) → words_of count d ≡ Some ys → length ys ≡ count
-words_long count ys (array xs) is = counted count (each_read word_value (list_of xs)) ys is
+words_long count ys (array xs) is = long_enough count (list_of xs) ys is
 words_long count ys (string s) is = cc
 words_long count ys (integer z) is = cc
 words_long count ys (float x) is = cc

@@ -1,5 +1,5 @@
 -- The vectors of a plan.
-use Rattle.std.proofs.Common.{◌≡◌, ℕ, suc, ◌<◌, ◌≤◌, ◌||◌, inl, inr, List, [], ◌∷◌, ◌++◌, length, map, reverse, get_or, Bool, true, false, not, nat_eq, Option, None, refl, sym, ap, ◌∙◌, arith}
+use Rattle.std.proofs.Common.{◌≡◌, ℕ, suc, ◌<◌, ◌≤◌, ◌||◌, ◌&&◌, inl, inr, List, [], ◌∷◌, ◌++◌, length, map, reverse, get_or, Bool, true, false, not, nat_eq, Option, None, refl, sym, ap, ◌∙◌, arith}
 use Rattle.std.specs.Str.{bytes_eq}
 use Rattle.std.proofs.lemmas.Bool.{and_parts, cases_Bool, eqb-true}
 use Rattle.std.proofs.lemmas.List.{reverse-append}
@@ -10,7 +10,7 @@ use Rattle.sift_base.specs.Units.{has, others}
 use Rattle.sift_base.proofs.Counts.{apart, count-no, count-yes, nat_eq-same}
 use Rattle.sift_vote.specs.Agreed.{agreed_of}
 use Rattle.sift_byz.specs.Laws.{LoyalValuesAreKept, OneTraitorIsAsInFlights, VectorsAreEqual, VectorsHoldTheEntries}
-use Rattle.sift_byz.specs.Plan.{IsSquare, LieData, PlanData, TraitorsAreFew, all_units, entry, first_lie, heard, is_loyal, is_told, is_traitor, stands_last, tells_some, traitor_count, value_of, vector, vectors_of}
+use Rattle.sift_byz.specs.Plan.{IsSquare, LieData, PlanData, TraitorsAreFew, all_units, entry, first_lie, heard, is_loyal, stands_last, tells_some, traitor_count, value_of, vector, vectors_of}
 use Rattle.sift_byz.specs.Relaying.{LoyalUnitsRelay, outside, result_of}
 use Rattle.sift_byz.proofs.Outside.{map_same, no_more, one_fewer, outside-cons, outside-nil, row_ascends, row_has, row_low, still_outside, traitor_gone}
 use Rattle.sift_byz.proofs.Places.{agreed_one}
@@ -41,7 +41,7 @@ no_lie : (lies : List LieData) (r : ℕ) (path : List ℕ) (q : ℕ) → tells_s
 no_lie [] r path q none = refl
 no_lie (lie ∷ lies) r path q none =
     let parts = neither (stands_last r lie.path) (tells_some lies r) none in
-    elim (cases_Bool (is_told (reverse (r ∷ path)) q lie)) [
+    elim (cases_Bool (bytes_eq lie.path (reverse (r ∷ path)) && has lie.to q)) [
       | inl told ↦
           let same = and_parts (bytes_eq lie.path (reverse (r ∷ path))) (has lie.to q) told in
           let last = sym (last_written lie.path r path same.0) ∙ parts.0 in absurd cc
@@ -61,7 +61,7 @@ relays plan r path q r_loyal = rw (no_lie plan.lies r path q (not_true _ r_loyal
 
 -- the traitors are those that aren't loyal
 traitors_are : (plan : PlanData) → faulty_count (is_loyal plan) (all_units plan) ≡ traitor_count plan
-traitors_are plan = count-same (is_traitor plan) (λ u. not (is_loyal plan u)) (all_units plan) (λ u. twice (is_traitor plan u))
+traitors_are plan = count-same (tells_some plan.lies) (λ u. not (is_loyal plan u)) (all_units plan) (λ u. twice (tells_some plan.lies u))
   where
     twice : (b : Bool) → not (not b) ≡ b
     twice true = refl

@@ -34,18 +34,18 @@ made_more shown f see xs old new i x d low is so_far added same =
 
 module _ {A B : Type 0} (f : A → B) (xs : List A) (P : B → Type 0) where
   -- what holds of the entry that a loop takes holds at its place
-  pub holds_here : (i : ℕ) (x : A) → i < length xs → x ≡ get_or xs i x → P (f x) → HoldsOf (map f xs) i P
+  pub holds_here : (i : ℕ) (x : A) → i < length xs → x ≡ get_or xs i x → P (f x) → HoldsOf (map f xs) P i
   holds_here i x low is holds = record { entry = f x; there = taken f xs i x low is; holds = holds }
 
   -- what doesn't hold of it doesn't hold there
-  pub fails_here : (i : ℕ) (x : A) → i < length xs → x ≡ get_or xs i x → (P (f x) → ⊥) → ¬ HoldsOf (map f xs) i P
+  pub fails_here : (i : ℕ) (x : A) → i < length xs → x ≡ get_or xs i x → (P (f x) → ⊥) → ¬ HoldsOf (map f xs) P i
   fails_here i x low is fails found =
       let same : Some found.entry ≡ Some (f x) = sym found.there ∙ taken f xs i x low is in
       let entry_is : found.entry ≡ f x = cc same in
       fails (subst P entry_is found.holds)
 
   -- what holds at no place below the length holds nowhere
-  pub nowhere : ((at : ℕ) → at < length xs → ¬ HoldsOf (map f xs) at P) → (at : ℕ) → ¬ HoldsOf (map f xs) at P
+  pub nowhere : ((at : ℕ) → at < length xs → ¬ HoldsOf (map f xs) P at) → (at : ℕ) → ¬ HoldsOf (map f xs) P at
   nowhere none at found = none at (rw (← length-map xs f) (slice_get_within (map f xs) at found.entry found.there)) found
 
 -- ---- answers

@@ -1,14 +1,15 @@
 -- Tables, arrays and strings of a document, beside the values that hold them.
 use Rattle.std.proofs.Common.{◌≡◌, ◌≢◌, ◌<◌, ◌≤◌, ◌+◌, ℕ, zero, suc, List, [], ◌∷◌, ◌++◌, length, get_or, map, take, String, Global, string_bytes, Option, Some, None, refl, sym, ap, subst, ◌∙◌, arith}
 use Rattle.std.specs.List.{All, Contains, slice_get}
-use Rattle.std.specs.Prelude.{option_and_then}
+use Rattle.std.specs.Prelude.{Bool, true, false, if◌then◌else◌, nat_eq, option_and_then, option_map, unwrap_or}
+use Rattle.std.proofs.lemmas.Bool.{eq-eqb, ne_eqb}
 use Rattle.std.proofs.lemmas.List.{get_or-map, length-map, take_all, take_more}
 use Rattle.std.proofs.lemmas.List.Elements.{All-map}
 use Rattle.std.proofs.lemmas.Option.{get_or_from_slice_get, slice_get_within}
-use Rattle.toml.specs.Data.{Data, string, integer, float, boolean, datetime, array, table, Items, as_array}
+use Rattle.toml.specs.Data.{Data, string, integer, float, boolean, datetime, array, table, Items, as_array, no_items}
 use Rattle.toml.specs.View.{items_view, members_view, view}
 use Rattle.toml.specs.declared.value.Value.{Value}
-use Rattle.sift_byz.specs.Document.{IsArrayOf, each_read, entries_of, keys_of, list_of, of_length, with_front, word_value, words_of}
+use Rattle.sift_byz.specs.Document.{each_read, keys_of, list_of, word_value, words_of}
 
 -- ---- one among others
 
@@ -63,25 +64,33 @@ pub list_of-view : (vs : List Value) → list_of (items_view vs) ≡ map view vs
 list_of-view [] = refl
 list_of-view (v ∷ vs) = ap (λ ds. view v ∷ ds) (list_of-view vs)
 
-pub entries_of-values : (d : Data) (vs : List Value) → Some (items_view vs) ≡ as_array d → map view vs ≡ entries_of (Some d)
+pub entries_of-values : (d : Data) (vs : List Value) → Some (items_view vs) ≡ as_array d → map view vs ≡ list_of (unwrap_or (as_array d) no_items)
 entries_of-values d vs is = rw (array_from d _ is) (sym (list_of-view vs))
 
 -- they are as many as the values
 long : (vs : List Value) → length (list_of (items_view vs)) ≡ length vs
 long vs = ap length (list_of-view vs) ∙ length-map vs view
 
--- an array of few enough values is one of few enough entries
-pub is_array : (high : ℕ) (d : Data) (vs : List Value) → Some (items_view vs) ≡ as_array d → length vs ≤ high → IsArrayOf high d
-is_array high d vs is few = record { items = items_view vs; there = sym is; few = omega (arith, long vs, few) }
+-- an array of too many values is one of too many entries
+pub too_many :
+    (high : ℕ) (d : Data) (vs : List Value) → Some (items_view vs) ≡ as_array d → high < length vs
+    → (items : Items) → as_array d ≡ Some items → high < length (list_of items)
+too_many high d vs is many items there =
+    let both : Some items ≡ Some (items_view vs) = sym there ∙ sym is in
+    let one : items ≡ items_view vs = cc both in
+    omega (arith, ap (λ (xs : Items). length (list_of xs)) one, long vs, many)
 
--- and one of too many isn't
-pub no_array : (high : ℕ) (d : Data) (vs : List Value) → Some (items_view vs) ≡ as_array d → high < length vs → ¬ IsArrayOf high d
-no_array high d vs is many right =
-    let both : Some right.items ≡ Some (items_view vs) = sym right.there ∙ sym is in
-    let one : right.items ≡ items_view vs = cc both in
-    omega (arith, ap (λ (xs : Items). length (list_of xs)) one, long vs, right.few, many)
+-- and one of few enough isn't
+pub not_many :
+    (high : ℕ) (d : Data) (vs : List Value) → Some (items_view vs) ≡ as_array d → length vs ≤ high
+    → ¬ ((items : Items) → as_array d ≡ Some items → high < length (list_of items))
+not_many high d vs is few many = omega (arith, many (items_view vs) (sym is), long vs, few)
 
 -- ---- what is read of each
+
+-- what was read of one thing more, in front
+abbrev with_front : {A : Type 0} → Option A → Option (List A) → Option (List A)
+with_front first rest = option_and_then (λ x. option_map (λ xs. x ∷ xs) rest) first
 
 -- what is read of a value and of those after it, where the whole is read
 with_front-parts :
@@ -132,33 +141,24 @@ module _ {A B : Type 0} (read : A → Option B) where
   pub read_all : (ins : List A) (i : ℕ) (xs : List B) → length ins ≤ i → each_read read (take i ins) ≡ Some xs → each_read read ins ≡ Some xs
   read_all ins i xs high is = rw (take_all i ins high) at is
 
--- a list of the length that is asked for, and one of another
-of_length-same : {A : Type 0} (count : ℕ) (xs : List A) → length xs ≡ count → of_length count xs ≡ Some xs
-of_length-same count xs is = grind arith
-
-of_length-other : {A : Type 0} (count : ℕ) (xs : List A) → length xs ≢ count → of_length count xs ≡ None
-of_length-other count xs other = grind arith
-
--- what has another length isn't kept
-lengthless : {A : Type 0} (count n : ℕ) (xs : Option (List A)) → n ≢ count → ((ys : List A) → xs ≡ Some ys → length ys ≡ n) → option_and_then (of_length count) xs ≡ None
-lengthless count n None other is = refl
-lengthless count n (Some ys) other is = of_length-other count ys (λ same. other (sym (is ys refl) ∙ same))
+-- what both branches are
+either : {A : Type 0} (b : Bool) (x : A) → (if b then x else x) ≡ x
+either true x = refl
+either false x = refl
 
 -- the words of an array of so many values, where each is a word value
 pub words_of-whole :
     (count : ℕ) (d : Data) (vs : List Value) (xs : List ℕ) → Some (items_view vs) ≡ as_array d → length vs ≡ count
     → each_read word_value (map view vs) ≡ Some xs → words_of count d ≡ Some xs
 words_of-whole count d vs xs is same whole =
-    rw (array_from d _ is, list_of-view vs, whole) (of_length-same count xs (length-each_read word_value (map view vs) xs whole ∙ length-map vs view ∙ same))
+    rw (array_from d _ is, list_of-view vs, length-map vs view, eq-eqb (length vs) count same, whole) refl
 
 -- there are none where one isn't
 pub words_of-none :
     (count : ℕ) (d : Data) (vs : List Value) (i : ℕ) (e : Data) → Some (items_view vs) ≡ as_array d → i < length (map view vs)
     → word_value (get_or (map view vs) i e) ≡ None → words_of count d ≡ None
-words_of-none count d vs i e is low none = rw (array_from d _ is, list_of-view vs, each_read-none word_value (map view vs) i e low none) refl
+words_of-none count d vs i e is low none = rw (array_from d _ is, list_of-view vs, each_read-none word_value (map view vs) i e low none) (either (nat_eq (length (map view vs)) count) None)
 
 -- nor where the array has another length
 pub words_of-other : (count : ℕ) (d : Data) (vs : List Value) → Some (items_view vs) ≡ as_array d → length vs ≢ count → words_of count d ≡ None
-words_of-other count d vs is other =
-    rw (array_from d _ is, list_of-view vs) (lengthless count (length vs) (each_read word_value (map view vs)) other
-    (λ xs read. length-each_read word_value (map view vs) xs read ∙ length-map vs view))
+words_of-other count d vs is other = rw (array_from d _ is, list_of-view vs, length-map vs view, ne_eqb (length vs) count other) refl

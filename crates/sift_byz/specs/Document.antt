@@ -1,8 +1,8 @@
 -- What single values and tables of a document say, over the tree that `toml` reads.
-use Rattle.std.specs.Prelude.{ℕ, ◌≡◌, ◌≤◌, ◌-◌, pos, negsuc, int_le, nat_eq, nat_le, ◌&&◌, List, [], ◌∷◌, length, if◌then◌else◌, Option, Some, None, option_and_then}
+use Rattle.std.specs.Prelude.{ℕ, ◌≡◌, ◌-◌, pos, negsuc, int_le, nat_eq, nat_le, ◌&&◌, List, [], ◌∷◌, length, if◌then◌else◌, Option, Some, None, option_and_then, option_map}
 use Rattle.std.specs.List.{All, Contains}
 use Rattle.std.specs.Str.{byte}
-use Rattle.toml.specs.Data.{Data, string, integer, array, table, Items, no_items, item, Members, no_members, member, get_member, as_array, as_table}
+use Rattle.toml.specs.Data.{Data, string, integer, array, table, Items, no_items, item, Members, no_members, member, as_table}
 use Rattle.sift_base.specs.Word.{word_of}
 
 -- ---- tables
@@ -20,11 +20,6 @@ HasOnlyKeys known members = All (Contains known) (keys_of members)
 abbrev pub IsTableOf : List (List ℕ) → Data → Type 0
 IsTableOf known value = (members : Members) × (as_table value ≡ Some members) × HasOnlyKeys known members
 
--- the value at a key of a value, which has none where it is no table
-abbrev pub member_in : Data → List ℕ → Option Data
-member_in (table members) key = get_member key members
-member_in _ key = None
-
 -- ---- arrays
 
 -- the entries of an array
@@ -32,30 +27,10 @@ abbrev pub list_of : Items → List Data
 list_of no_items = []
 list_of (item entry rest) = entry ∷ list_of rest
 
--- the entries of a value, which has none where no array is
-abbrev pub entries_of : Option Data → List Data
-entries_of (Some (array items)) = list_of items
-entries_of _ = []
-
--- the value is an array of at most so many entries
-pub record IsArrayOf (high : ℕ) (value : Data) : Type 0 where
-  pub items : Items
-  pub there : as_array value ≡ Some items
-  pub few : length (list_of items) ≤ high
-
--- what was read of one thing more, in front
-abbrev pub with_front : {A : Type 0} → Option A → Option (List A) → Option (List A)
-with_front (Some first) (Some rest) = Some (first ∷ rest)
-with_front _ _ = None
-
 -- what is read of each, where something is read of each
 abbrev pub each_read : {A B : Type 0} → (A → Option B) → List A → Option (List B)
 each_read read [] = Some []
-each_read read (first ∷ rest) = with_front (read first) (each_read read rest)
-
--- a list that is so long
-abbrev pub of_length : {A : Type 0} → ℕ → List A → Option (List A)
-of_length count list = if nat_eq (length list) count then Some list else None
+each_read read (first ∷ rest) = option_and_then (λ x. option_map (λ xs. x ∷ xs) (each_read read rest)) (read first)
 
 -- ---- values
 
@@ -71,7 +46,7 @@ word_value _ = None
 
 -- the words of an array of so many word values
 abbrev pub words_of : ℕ → Data → Option (List ℕ)
-words_of count (array items) = option_and_then (of_length count) (each_read word_value (list_of items))
+words_of count (array items) = if nat_eq (length (list_of items)) count then each_read word_value (list_of items) else None
 words_of count _ = None
 
 -- the number of a digit

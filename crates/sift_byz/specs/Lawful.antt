@@ -1,50 +1,24 @@
 -- The nine rules of a document, in the order in which they are tested, and the plan that a document states.
-use Rattle.std.specs.Prelude.{ℕ, ◌≡◌, ◌≢◌, ◌+◌, ◌<◌, ◌⊎◌, List, [], ◌∷◌, length, map, take, Some, None, Result, IsErr, IfErr, unwrap_or, ⊤}
-use Rattle.toml.specs.Data.{Data, Members}
+use Rattle.std.specs.Prelude.{codes, ℕ, ◌≡◌, ◌≢◌, ◌+◌, ◌<◌, ◌⊎◌, List, [], ◌∷◌, length, map, take, Some, None, Result, IsErr, IfErr, unwrap_or, ⊤}
+use Rattle.toml.specs.Data.{Data, Items, Members, as_array, get_member}
 use Rattle.sift_byz.specs.declared.stop.ByzStop.{ByzStop}
 use Rattle.sift_byz.specs.declared.stop.ByzStop.TheVariants as stop
-use Rattle.sift_byz.specs.Document.{HasOnlyKeys, IsArrayOf, IsTableOf}
+use Rattle.sift_byz.specs.Document.{HasOnlyKeys, IsTableOf, list_of}
 use Rattle.sift_byz.specs.Plan.{IsInRange, LieData, PlanData, TraitorsAreFew, teller_count}
 use Rattle.sift_byz.specs.Rules.{AreKept, BreaksFirst, HoldsOf, OfNoEntry, Rule, rule}
-use Rattle.sift_byz.specs.Stated.{HasPath, HasReceivers, HasWord, lie_in, lie_keys, lie_limit, lie_value, lies_of, m_of, root_keys, units_of, values_of}
+use Rattle.sift_byz.specs.Stated.{HasPath, HasReceivers, HasWord, lie_in, lie_keys, lie_limit, lies_of, m_of, root_keys, units_of, values_of}
 
 -- ---- the rules
 
--- 1: a key of the root is unknown
-abbrev pub BreaksKeys : Members → ℕ → Type 0
-BreaksKeys document place = OfNoEntry (¬ HasOnlyKeys root_keys document) place
-
--- 2: `m` is missing, or is no integer from 0 to 2
-abbrev pub BreaksM : Members → ℕ → Type 0
-BreaksM document place = OfNoEntry (m_of document ≡ None) place
-
--- 3: `units` is missing, or is no integer from 3m + 1 to 10
-abbrev pub BreaksUnits : (m : ℕ) → Members → ℕ → Type 0
-BreaksUnits m document place = OfNoEntry (units_of m document ≡ None) place
-
--- 4: `values` is missing, or is no array of as many word values as units
-abbrev pub BreaksValues : (units : ℕ) → Members → ℕ → Type 0
-BreaksValues units document place = OfNoEntry (values_of units document ≡ None) place
-
 -- `lie` is there, and is no array of at most 6,000 entries
 abbrev pub HasNoLies : Members → Type 0
-HasNoLies document = (value : Data) × (lie_value document ≡ Some value) × ¬ IsArrayOf lie_limit value
+HasNoLies document =
+    (value : Data) × (get_member (codes "lie") document ≡ Some value)
+    × ((items : Items) → as_array value ≡ Some items → lie_limit < length (list_of items))
 
 -- 5: that, or an entry is no table, or has an unknown key
 abbrev pub BreaksLies : Members → ℕ → Type 0
-BreaksLies document place = OfNoEntry (HasNoLies document) place ⊎ HoldsOf (lies_of document) place (λ lie. ¬ IsTableOf lie_keys lie)
-
--- 6: `path` of an entry is missing, or is no string of 1 to m + 1 different digits below `units`
-abbrev pub BreaksPaths : (units m : ℕ) → List Data → ℕ → Type 0
-BreaksPaths units m lies place = HoldsOf lies place (λ lie. ¬ HasPath units m lie)
-
--- 7: with its path, `to` of an entry is missing, or is no string of some ascending digits below `units`, none of them in the path
-abbrev pub BreaksReceivers : (units m : ℕ) → List Data → ℕ → Type 0
-BreaksReceivers units m lies place = HoldsOf lies place (λ lie. ¬ HasReceivers units m lie)
-
--- 8: `value` of an entry is there, and is no word value
-abbrev pub BreaksWords : List Data → ℕ → Type 0
-BreaksWords lies place = HoldsOf lies place (λ lie. ¬ HasWord lie)
+BreaksLies document place = OfNoEntry (HasNoLies document) place ⊎ HoldsOf (lies_of document) (λ lie. ¬ IsTableOf lie_keys lie) place
 
 -- 9: up to the entry, more than m units stand last in a path
 pub record BreaksFew (units m : ℕ) (lies : List LieData) (place : ℕ) : Type 0 where
@@ -54,27 +28,27 @@ pub record BreaksFew (units m : ℕ) (lies : List LieData) (place : ℕ) : Type 
 -- the rules where m of so many units may lie
 abbrev pub rules_for : (units m : ℕ) → Members → List Rule
 rules_for units m document =
-    rule 1 (BreaksKeys document)
-    ∷ rule 2 (BreaksM document)
-    ∷ rule 3 (BreaksUnits m document)
-    ∷ rule 4 (BreaksValues units document)
+    -- a key of the root is unknown
+    rule 1 (OfNoEntry (¬ HasOnlyKeys root_keys document))
+    -- `m` is missing, or is no integer from 0 to 2
+    ∷ rule 2 (OfNoEntry (m_of document ≡ None))
+    -- `units` is missing, or is no integer from 3m + 1 to 10
+    ∷ rule 3 (OfNoEntry (units_of m document ≡ None))
+    -- `values` is missing, or is no array of as many word values as units
+    ∷ rule 4 (OfNoEntry (values_of units document ≡ None))
     ∷ rule 5 (BreaksLies document)
-    ∷ rule 6 (BreaksPaths units m (lies_of document))
-    ∷ rule 7 (BreaksReceivers units m (lies_of document))
-    ∷ rule 8 (BreaksWords (lies_of document))
+    -- `path` of an entry is missing, or is no string of 1 to m + 1 different digits below `units`
+    ∷ rule 6 (HoldsOf (lies_of document) (λ lie. ¬ HasPath units m lie))
+    -- with its path, `to` of an entry is missing, or is no string of some ascending digits below `units`, none of them in the path
+    ∷ rule 7 (HoldsOf (lies_of document) (λ lie. ¬ HasReceivers units m lie))
+    -- `value` of an entry is there, and is no word value
+    ∷ rule 8 (HoldsOf (lies_of document) (λ lie. ¬ HasWord lie))
     ∷ rule 9 (BreaksFew units m (map lie_in (lies_of document)))
     ∷ []
 
--- how many units may lie, and how many there are; 0 where that isn't stated
-abbrev pub m_in : Members → ℕ
-m_in document = unwrap_or (m_of document) 0
-
-abbrev pub units_in : Members → ℕ
-units_in document = unwrap_or (units_of (m_in document) document) 0
-
--- the rules of a document
+-- the rules of a document, where a number that isn't stated is read as 0
 abbrev pub rules_of : Members → List Rule
-rules_of document = rules_for (units_in document) (m_in document) document
+rules_of document = let m = unwrap_or (m_of document) 0 in rules_for (unwrap_or (units_of m document) 0) m document
 
 -- ---- what a document is answered with
 

@@ -56,7 +56,7 @@ stands_last u [] = false
 stands_last u (v ∷ []) = nat_eq v u
 stands_last u (v ∷ w ∷ rest) = stands_last u (w ∷ rest)
 
--- the unit stands last in the path of some lie
+-- the unit stands last in the path of some lie: it tells it, and so is a traitor
 abbrev pub tells_some : List LieData → ℕ → Bool
 tells_some lies u = list_any (λ (lie : LieData). stands_last u lie.path) lies
 
@@ -64,12 +64,9 @@ tells_some lies u = list_any (λ (lie : LieData). stands_last u lie.path) lies
 abbrev pub teller_count : (units : ℕ) → List LieData → ℕ
 teller_count units lies = count_by (tells_some lies) (range_with_len 0 units)
 
--- traitors tell lies, and all other units are loyal
-abbrev pub is_traitor : PlanData → ℕ → Bool
-is_traitor plan u = tells_some plan.lies u
-
+-- all other units are loyal
 abbrev pub is_loyal : PlanData → ℕ → Bool
-is_loyal plan u = not (is_traitor plan u)
+is_loyal plan u = not (tells_some plan.lies u)
 
 -- how many traitors there are
 abbrev pub traitor_count : PlanData → ℕ
@@ -77,13 +74,10 @@ traitor_count plan = teller_count plan.units plan.lies
 
 -- ---- what is heard
 
--- the lie comes by the path that is written so, and goes to q
-abbrev pub is_told : (written : List ℕ) → (q : ℕ) → LieData → Bool
-is_told written q lie = bytes_eq lie.path written && has lie.to q
-
 -- what the first lie by the path that is written so tells q, if there is one
 abbrev pub first_lie : List LieData → (written : List ℕ) → (q : ℕ) → Option (Option ℕ)
-first_lie lies written q = option_map (λ (lie : LieData). lie.value) (find (is_told written q) lies)
+first_lie lies written q =
+    option_map (λ (lie : LieData). lie.value) (find (λ (lie : LieData). bytes_eq lie.path written && has lie.to q) lies)
 
 -- what q heard by a path: what the first lie tells, or else what the path's last unit heard by the path before it. On the
 -- empty path a unit holds its own value

@@ -1,10 +1,9 @@
 -- What a document states: how many units there are and how many of them may lie, their values, and the lies.
-use Rattle.std.specs.Prelude.{codes, ℕ, ◌≡◌, ◌+◌, ◌*◌, ◌<◌, ◌≤◌, List, [], ◌∷◌, length, false, Option, Some, None, option_and_then, unwrap_or, ⊤}
+use Rattle.std.specs.Prelude.{codes, ℕ, ◌≡◌, ◌≢◌, ◌+◌, ◌*◌, ◌<◌, ◌≤◌, List, [], ◌∷◌, length, false, Option, Some, None, option_and_then, unwrap_or, ⊤}
 use Rattle.std.specs.List.{All, list_any}
-use Rattle.std.specs.Option.{option_map}
-use Rattle.toml.specs.Data.{Data, Members, get_member}
+use Rattle.toml.specs.Data.{Data, Members, as_array, get, get_member, no_items}
 use Rattle.sift_base.specs.Units.{has, IsAscending}
-use Rattle.sift_byz.specs.Document.{digits_of, entries_of, integer_between, member_in, word_value, words_of}
+use Rattle.sift_byz.specs.Document.{digits_of, integer_between, list_of, word_value, words_of}
 use Rattle.sift_byz.specs.Plan.{LieData, most_traitors, most_units}
 
 -- ---- the root
@@ -25,13 +24,9 @@ units_of m document = option_and_then (integer_between (3 * m + 1) most_units) (
 abbrev pub values_of : (units : ℕ) → Members → Option (List ℕ)
 values_of units document = option_and_then (words_of units) (get_member (codes "values") document)
 
--- the value of `lie`, where it is there
-abbrev pub lie_value : Members → Option Data
-lie_value document = get_member (codes "lie") document
-
--- the entries of `lie`; there are none where it is missing
+-- the entries of `lie`; there are none where it is missing, or no array
 abbrev pub lies_of : Members → List Data
-lies_of document = entries_of (lie_value document)
+lies_of document = list_of (unwrap_or (option_and_then as_array (get_member (codes "lie") document)) no_items)
 
 -- ---- an entry of `lie`
 
@@ -45,18 +40,10 @@ lie_limit = 6000
 
 -- the digits of its path and of its receivers
 abbrev pub path_of : Data → Option (List ℕ)
-path_of lie = option_and_then digits_of (member_in lie (codes "path"))
+path_of lie = option_and_then digits_of (get (codes "path") lie)
 
 abbrev pub to_of : Data → Option (List ℕ)
-to_of lie = option_and_then digits_of (member_in lie (codes "to"))
-
--- what is told: a word, or nothing where no value is stated
-abbrev pub said_by : Option Data → Option (Option ℕ)
-said_by None = Some None
-said_by (Some value) = option_map (λ w. Some w) (word_value value)
-
-abbrev pub said_of : Data → Option (Option ℕ)
-said_of lie = said_by (member_in lie (codes "value"))
+to_of lie = option_and_then digits_of (get (codes "to") lie)
 
 -- no unit of the list stands in it twice
 abbrev pub AreDifferent : List ℕ → Type 0
@@ -86,10 +73,10 @@ abbrev pub HasReceivers : (units m : ℕ) → Data → Type 0
 HasReceivers units m lie =
     (path : List ℕ) × (to : List ℕ) × (path_of lie ≡ Some path) × IsPath units m path × (to_of lie ≡ Some to) × AreReceivers units path to
 
--- it has a word to tell, or nothing
+-- it states no value, or a word value
 abbrev pub HasWord : Data → Type 0
-HasWord lie = (value : Option ℕ) × (said_of lie ≡ Some value)
+HasWord lie = (value : Data) → get (codes "value") lie ≡ Some value → word_value value ≢ None
 
--- the lie that an entry states
+-- the lie that an entry states: it tells nothing where no value is stated
 abbrev pub lie_in : Data → LieData
-lie_in lie = record { path = unwrap_or (path_of lie) []; to = unwrap_or (to_of lie) []; value = unwrap_or (said_of lie) None }
+lie_in lie = record { path = unwrap_or (path_of lie) []; to = unwrap_or (to_of lie) []; value = option_and_then word_value (get (codes "value") lie) }

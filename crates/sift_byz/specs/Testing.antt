@@ -32,12 +32,17 @@ number_of Keys = 5
 number_of (Path units m) = 6
 number_of (Receivers units m) = 7
 
+-- there may be so many units, and so many traitors among them
+pub record MayBe (units m : ℕ) : Type 0 where
+  pub few_units : units ≤ most_units
+  pub few_traitors : m ≤ most_traitors
+
 -- the numbers that it speaks of are within their limits
 abbrev pub IsLimited : EntryRule → Type 0
 IsLimited Keys = ⊤
 IsLimited (Path units m) = m ≤ most_traitors
-IsLimited (Receivers units m) = (units ≤ most_units) × (m ≤ most_traitors)
+IsLimited (Receivers units m) = MayBe units m
 
 -- an entry doesn't keep the rule
 abbrev pub BreaksEntry : EntryRule → List Data → ℕ → Type 0
-BreaksEntry rule lies place = HoldsOf lies place (λ lie. ¬ Keeps rule lie)
+BreaksEntry rule lies place = HoldsOf lies (λ lie. ¬ Keeps rule lie) place

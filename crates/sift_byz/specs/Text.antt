@@ -2,11 +2,8 @@
 use Rattle.std.specs.Prelude.{codes, ℕ, ◌/◌, ◌%◌, List, [], ◌∷◌, ◌++◌, map, if◌then◌else◌, false}
 use Rattle.std.specs.Fmt.{decimal, digit_glyph}
 use Rattle.std.specs.List.{flat_map, join_with_byte}
-use Rattle.sift_byz.specs.Plan.{PlanData, all_units, is_traitor, vector}
-
--- the byte between the words of a vector
-abbrev pub comma : ℕ
-comma = 44
+use Rattle.std.specs.Str.{byte}
+use Rattle.sift_byz.specs.Plan.{PlanData, all_units, tells_some, vector}
 
 -- a word: four hexadecimal digits
 abbrev pub word_text : ℕ → List ℕ
@@ -14,15 +11,12 @@ word_text w = digit_glyph false (w / 4096) ∷ digit_glyph false (w / 256 % 16) 
 
 -- words, with commas between them
 abbrev pub words_text : List ℕ → List ℕ
-words_text words = join_with_byte comma (map word_text words)
+words_text words = join_with_byte (byte ",") (map word_text words)
 
--- what is said of a unit: that it is a traitor, or its vector
-abbrev pub told_text : PlanData → (u : ℕ) → (vector : List ℕ) → List ℕ
-told_text plan u vector = if is_traitor plan u then codes " liar" else codes " vector=" ++ words_text vector
-
--- its line
+-- the line of a unit: that it is a traitor, or its vector
 abbrev pub line_text : PlanData → (u : ℕ) → (vector : List ℕ) → List ℕ
-line_text plan u vector = codes "u=" ++ decimal u ++ told_text plan u vector ++ codes "\n"
+line_text plan u vector =
+    codes "u=" ++ decimal u ++ (if tells_some plan.lies u then codes " liar" else codes " vector=" ++ words_text vector) ++ codes "\n"
 
 -- the lines of all units, with their vectors
 abbrev pub text_of : PlanData → List ℕ

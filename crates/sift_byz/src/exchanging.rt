@@ -3,7 +3,7 @@
 ghost use Rattle.std.specs.Prelude.{◌≡◌, ℕ, suc, ◌+◌, ◌*◌, ◌^◌, ◌<◌, ◌≤◌, length, map, IfOk, not, ◌∷◌};
 ghost use Rattle.sift_base.specs.Units.{has};
 ghost use Rattle.sift_vote.specs.Agreed.{agreed_of};
-ghost use Rattle.sift_byz.specs.Charts.{ShowsHeard, ShowsResults, heard_at, path_in, places_at, relay_at};
+ghost use Rattle.sift_byz.specs.Charts.{AreRelayed, HasRelays, HasResults, ShowsHeard, ShowsResults, heard_at, path_in, places_at, relay_at};
 ghost use Rattle.sift_byz.specs.Plan.{IsInRange, all_units, entry, first_lie, lie_of, plan_of, vector, vectors_of};
 ghost use Rattle.sift_byz.specs.Relaying.{outside};
 
@@ -138,9 +138,7 @@ fn fold(
     longer: &[Option<Word>],
 ) -> Result<Vec<Option<Word>>, NoMemory>
     requires range { IsInRange (plan_of plan.now) }
-    requires short { count < 3 }
-    requires heard { ShowsHeard (plan_of plan.now) count heard.now }
-    requires long { length longer.now ≡ plan.now.units ^ suc (suc count) }
+    requires relayed { AreRelayed (plan_of plan.now) count heard.now longer.now }
     ensures { IfOk result (λ chart. (rounds : ℕ) → ShowsResults (plan_of plan.now) (suc count) rounds longer.now
         → ShowsResults (plan_of plan.now) count (suc rounds) chart.items) }
 {
@@ -160,9 +158,7 @@ fn agreed_at(
     place: usize,
 ) -> Word
     requires range { IsInRange (plan_of plan.now) }
-    requires short { count < 3 }
-    requires heard { ShowsHeard (plan_of plan.now) count heard.now }
-    requires long { length longer.now ≡ plan.now.units ^ suc (suc count) }
+    requires relayed { AreRelayed (plan_of plan.now) count heard.now longer.now }
     requires within { place < length heard.now }
     ensures { result ≡ agreed_of (places_at (plan_of plan.now) count heard.now longer.now place) }
 {
@@ -182,9 +178,7 @@ fn relays(
     longer: &[Option<Word>],
 ) -> ArrayVec<Option<Word>, 10>
     requires range { IsInRange (plan_of plan.now) }
-    requires few { row ≤ 10000 }
-    requires unit { to < plan.now.units }
-    requires within { (r : ℕ) → r < plan.now.units → (row * plan.now.units + r) * plan.now.units + to < length longer.now }
+    requires relayed { HasRelays (plan_of plan.now) longer.now row to }
     ensures { result.items ≡ map (relay_at (plan_of plan.now) longer.now row to) (outside (all_units (plan_of plan.now)) (to ∷ path.now)) }
 {
     let units = usize::from(plan.units);
@@ -208,8 +202,7 @@ fn is_outside(unit: u8, other: u8, path: &[u8]) -> bool
 
 /// The vector of a unit.
 fn vector_of(plan: &ByzPlan, results: &[Option<Word>], q: u8) -> ArrayVec<Word, 10>
-    requires range { IsInRange (plan_of plan.now) }
-    requires results { ShowsResults (plan_of plan.now) 1 plan.now.m results.now }
+    requires results { HasResults (plan_of plan.now) results.now }
     requires unit { q < plan.now.units }
     ensures { result.items ≡ vector (plan_of plan.now) q }
 {
@@ -222,8 +215,7 @@ fn vector_of(plan: &ByzPlan, results: &[Option<Word>], q: u8) -> ArrayVec<Word, 
 
 /// The entry of a unit in the vector of another.
 fn entry_of(plan: &ByzPlan, results: &[Option<Word>], q: u8, s: u8) -> Word
-    requires range { IsInRange (plan_of plan.now) }
-    requires results { ShowsResults (plan_of plan.now) 1 plan.now.m results.now }
+    requires results { HasResults (plan_of plan.now) results.now }
     requires unit { q < plan.now.units }
     requires other { s < plan.now.units }
     ensures { result ≡ entry (plan_of plan.now) q s }

@@ -1,13 +1,16 @@
 //! The entries of `lie`, and the lies that they state.
 
-ghost use Rattle.std.specs.Prelude.{◌≡◌, ◌≤◌, ◌↔◌, ℕ, List, IfOk, IfSome, IfNone, IsTrue, Some, length, map};
+ghost use Rattle.std.specs.Prelude.{codes, ◌≡◌, ◌≤◌, ◌↔◌, ℕ, List, IfOk, IfSome, IfNone, IsTrue, Some, length, map, option_and_then};
 ghost use Rattle.std.specs.List.{All, list_any};
+ghost use Rattle.toml.specs.Data.{get};
 ghost use Rattle.toml.specs.View.{table_view, view};
 ghost use Rattle.sift_base.specs.Units.{has};
-ghost use Rattle.sift_byz.specs.Lawful.{BreaksLies, BreaksReceivers, BreaksWords, HasNoLies};
+ghost use Rattle.sift_byz.specs.Document.{word_value};
+ghost use Rattle.sift_byz.specs.Lawful.{BreaksLies, HasNoLies};
 ghost use Rattle.sift_byz.specs.Plan.{lie_of, most_traitors, most_units};
-ghost use Rattle.sift_byz.specs.Stated.{AreDifferent, AreReceivers, HasPath, HasReceivers, HasWord, IsPath, lie_in, lie_limit, lies_of, path_of, said_of, to_of};
-ghost use Rattle.sift_byz.specs.Testing.{BreaksEntry, IsLimited, Keeps, Tests, number_of};
+ghost use Rattle.sift_byz.specs.Rules.{HoldsOf};
+ghost use Rattle.sift_byz.specs.Stated.{AreDifferent, AreReceivers, HasPath, HasReceivers, HasWord, IsPath, lie_in, lie_limit, lies_of, path_of, to_of};
+ghost use Rattle.sift_byz.specs.Testing.{BreaksEntry, IsLimited, Keeps, MayBe, Tests, number_of};
 
 use crate::plan::Lie;
 use crate::stop::{ByzStop, broken};
@@ -106,8 +109,7 @@ fn has_path(entry: &Value, units: u8, m: u8) -> bool
 }
 
 fn has_receivers(entry: &Value, units: u8, m: u8) -> bool
-    requires few { units ≤ most_units }
-    requires traitors { m ≤ most_traitors }
+    requires { MayBe units m }
     ensures { IsTrue result ↔ HasReceivers units m (view entry.now) }
 {
     match path_of(entry, units, m) {
@@ -129,12 +131,11 @@ pub(crate) fn lies_in(
     m: u8,
 ) -> Result<Vec<Lie>, ByzStop>
     requires few { length entries.now ≤ lie_limit }
-    requires units { units ≤ most_units }
-    requires traitors { m ≤ most_traitors }
-    requires received { (place : ℕ) → ¬ BreaksReceivers units m (map (λ entry. view entry) entries.now) place }
+    requires limited { MayBe units m }
+    requires received { (place : ℕ) → ¬ HoldsOf (map (λ entry. view entry) entries.now) (λ lie. ¬ HasReceivers units m lie) place }
     ensures lies { IfOk result (λ lies. map lie_of lies.items ≡ map lie_in (map (λ entry. view entry) entries.now)) }
     ensures paths { IfOk result (λ lies. All (λ lie. IsPath units m lie.path.items) lies.items) }
-    ensures tests { Tests 8 (BreaksWords (map (λ entry. view entry) entries.now)) result }
+    ensures tests { Tests 8 (HoldsOf (map (λ entry. view entry) entries.now) (λ lie. ¬ HasWord lie)) result }
 {
     let mut lies = Vec::new(alloc);
     for (place, entry) in entries.iter().enumerate() {
@@ -148,8 +149,7 @@ pub(crate) fn lies_in(
 
 /// The lie that an entry states.
 fn lie_in(entry: &Value, units: u8, m: u8) -> Option<Lie>
-    requires few { units ≤ most_units }
-    requires traitors { m ≤ most_traitors }
+    requires { MayBe units m }
     ensures found { IfSome result (λ lie. lie_of lie ≡ lie_in (view entry.now)) }
     ensures path { IfSome result (λ lie. IsPath units m lie.path.items) }
     ensures word { IfSome result (λ _. HasWord (view entry.now)) }
@@ -193,7 +193,9 @@ fn receivers_of(entry: &Value, units: u8, path: &[u8]) -> Option<ArrayVec<u8, 10
 
 /// The word that an entry tells, if it tells one: `None` where what is there is no word value.
 fn said_of(entry: &Value) -> Option<Option<Word>>
-    ensures { result ≡ said_of (view entry.now) }
+    ensures found { IfSome result (λ said. said ≡ option_and_then word_value (get (codes "value") (view entry.now))) }
+    ensures word { IfSome result (λ _. HasWord (view entry.now)) }
+    ensures none { IfNone result (¬ HasWord (view entry.now)) }
 {
     match member_in(entry, "value") {
         Some(value) => match word_value(value) {

@@ -1,13 +1,14 @@
 //! The plan that a document states.
 
-ghost use Rattle.std.specs.Prelude.{◌≡◌, ◌≢◌, ◌≤◌, IfErr, IfOk, Some, length, map, option_and_then, option_map};
+ghost use Rattle.std.specs.Prelude.{◌≡◌, ◌≢◌, ◌≤◌, IfErr, IfOk, Some, None, length, map, option_and_then, option_map};
 ghost use Rattle.std.specs.List.{All};
 ghost use Rattle.toml.specs.Data.{get_member};
 ghost use Rattle.toml.specs.View.{table_view};
-ghost use Rattle.sift_byz.specs.Document.{integer_between, words_of};
-ghost use Rattle.sift_byz.specs.Lawful.{BreaksFew, BreaksKeys, BreaksM, BreaksUnits, BreaksValues, IsPlanOf, IsRefusedWith, OnlyRefuses};
+ghost use Rattle.sift_byz.specs.Document.{HasOnlyKeys, integer_between, words_of};
+ghost use Rattle.sift_byz.specs.Lawful.{BreaksFew, IsPlanOf, IsRefusedWith, OnlyRefuses};
 ghost use Rattle.sift_byz.specs.Plan.{IsInRange, PlanData, TraitorsAreFew, lie_of, plan_of, most_traitors, most_units};
-ghost use Rattle.sift_byz.specs.Stated.{IsPath, lie_limit, m_of, units_of, values_of};
+ghost use Rattle.sift_byz.specs.Rules.{OfNoEntry};
+ghost use Rattle.sift_byz.specs.Stated.{IsPath, lie_limit, m_of, root_keys, units_of, values_of};
 ghost use Rattle.sift_byz.specs.Testing.{Tests};
 
 use crate::lies::{EntryRule, check_each, lie_entries, lies_in};
@@ -60,7 +61,7 @@ fn read_plan(alloc: Global, document: &Table) -> Result<ByzPlan, ByzStop>
 
 /// Tests the keys of the root.
 fn check_keys(document: &Table) -> Result<(), ByzStop>
-    ensures { Tests 1 (BreaksKeys (table_view document.now)) result }
+    ensures { Tests 1 (OfNoEntry (¬ HasOnlyKeys root_keys (table_view document.now))) result }
 {
     if has_only_keys(document, &["units", "m", "values", "lie"]) {
         Ok(())
@@ -73,7 +74,7 @@ fn check_keys(document: &Table) -> Result<(), ByzStop>
 fn m_of(document: &Table) -> Result<u8, ByzStop>
     ensures m { IfOk result (λ m. m_of (table_view document.now) ≡ Some m) }
     ensures few { IfOk result (λ m. m ≤ most_traitors) }
-    ensures tests { Tests 2 (BreaksM (table_view document.now)) result }
+    ensures tests { Tests 2 (OfNoEntry (m_of (table_view document.now) ≡ None)) result }
 {
     match number_at(document, "m", 0, 2) {
         Some(m) => Ok(m as u8),
@@ -86,7 +87,7 @@ fn units_of(document: &Table, m: u8) -> Result<u8, ByzStop>
     requires { m ≤ most_traitors }
     ensures units { IfOk result (λ units. units_of m (table_view document.now) ≡ Some units) }
     ensures few { IfOk result (λ units. units ≤ most_units) }
-    ensures tests { Tests 3 (BreaksUnits m (table_view document.now)) result }
+    ensures tests { Tests 3 (OfNoEntry (units_of m (table_view document.now) ≡ None)) result }
 {
     match number_at(document, "units", 3 * u32::from(m) + 1, 10) {
         Some(units) => Ok(units as u8),
@@ -105,7 +106,7 @@ fn number_at(document: &Table, key: &str, low: u32, high: u32) -> Option<u32>
 fn values_of(document: &Table, units: u8) -> Result<ArrayVec<Word, 10>, ByzStop>
     requires { units ≤ most_units }
     ensures values { IfOk result (λ values. values_of units (table_view document.now) ≡ Some values.items) }
-    ensures tests { Tests 4 (BreaksValues units (table_view document.now)) result }
+    ensures tests { Tests 4 (OfNoEntry (values_of units (table_view document.now) ≡ None)) result }
 {
     match words_at(document, "values", usize::from(units)) {
         Some(values) => Ok(values),

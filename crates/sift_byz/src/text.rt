@@ -1,9 +1,9 @@
 //! The text of vectors.
 
-ghost use Rattle.std.specs.Prelude.{◌≡◌, ◌<◌, ◌++◌, IfOk, OnOk, string_bytes, false};
+ghost use Rattle.std.specs.Prelude.{codes, ◌≡◌, ◌<◌, ◌++◌, if◌then◌else◌, IfOk, OnOk, string_bytes, false};
 ghost use Rattle.std.specs.Fmt.{digit_glyph};
-ghost use Rattle.sift_byz.specs.Plan.{is_traitor, plan_of, stands_last, vectors_of};
-ghost use Rattle.sift_byz.specs.Text.{line_text, text_of, told_text, word_text, words_text};
+ghost use Rattle.sift_byz.specs.Plan.{plan_of, stands_last, tells_some, vectors_of};
+ghost use Rattle.sift_byz.specs.Text.{line_text, text_of, word_text, words_text};
 
 use crate::plan::{ByzPlan, Lie};
 use crate::vectors::Vectors;
@@ -36,7 +36,8 @@ fn push_line(text: &mut String, plan: &ByzPlan, unit: u8, vector: &[Word]) -> Re
 
 /// Appends what is said of a unit.
 fn push_told(text: &mut String, plan: &ByzPlan, unit: u8, vector: &[Word]) -> Result<(), AllocError>
-    ensures { OnOk result (string_bytes text.new ≡ string_bytes text.old ++ told_text (plan_of plan.now) unit vector.now) }
+    ensures { OnOk result (string_bytes text.new ≡ string_bytes text.old
+        ++ (if tells_some (plan_of plan.now).lies unit then codes " liar" else codes " vector=" ++ words_text vector.now)) }
 {
     if is_traitor(plan, unit) {
         text.push_str(" liar")
@@ -48,7 +49,7 @@ fn push_told(text: &mut String, plan: &ByzPlan, unit: u8, vector: &[Word]) -> Re
 
 /// Whether a unit stands last in the path of a lie.
 fn is_traitor(plan: &ByzPlan, unit: u8) -> bool
-    ensures { result ≡ is_traitor (plan_of plan.now) unit }
+    ensures { result ≡ tells_some (plan_of plan.now).lies unit }
 {
     plan.lies.iter().any(|lie| tells(lie, unit))
 }

@@ -2,9 +2,9 @@
 
 ghost use Rattle.std.specs.Prelude.{◌≡◌, ◌≤◌, ◌<◌, ◌↔◌, ℕ, List, IfSome, IfNone, IsTrue, Some, length, map, option_map};
 ghost use Rattle.std.specs.List.{Contains};
-ghost use Rattle.toml.specs.Data.{get_member};
+ghost use Rattle.toml.specs.Data.{get, get_member};
 ghost use Rattle.toml.specs.View.{table_view, view};
-ghost use Rattle.sift_byz.specs.Document.{HasOnlyKeys, IsTableOf, digit_of, digits_of, each_read, entries_of, integer_between, member_in, word_value, words_of};
+ghost use Rattle.sift_byz.specs.Document.{HasOnlyKeys, IsTableOf, digit_of, digits_of, each_read, integer_between, word_value, words_of};
 
 use arrayvec::ArrayVec;
 use sift_base::Word;
@@ -19,7 +19,7 @@ pub(crate) fn member_of<'a>(table: &'a Table, key: &str) -> Option<&'a Value>
 
 /// The value at a key of a value, if that is a table.
 pub(crate) fn member_in<'a>(value: &'a Value, key: &str) -> Option<&'a Value>
-    ensures { option_map (λ member. view member.now) result ≡ member_in (view value.now) key.now }
+    ensures { option_map (λ member. view member.now) result ≡ get key.now (view value.now) }
 {
     match value.as_table() {
         Some(table) => member_of(table, key),

@@ -23,6 +23,10 @@ tick_limit = pos 8000
 abbrev pub AreTicks : ℤ → Type 0
 AreTicks ticks = (pos 0 ≤ℤ ticks) × (ticks ≤ℤ tick_limit)
 
+-- the ticks are the farthest that a reading may be and isn't too far: a skew and an error
+abbrev pub AreFarthest : ℤ → Type 0
+AreFarthest ticks = (pos 0 ≤ℤ ticks) × (ticks ≤ℤ pos 16000)
+
 -- the numbers are in the ranges of a laboratory
 pub record AreInRange (n m : ℕ) (skew error rate : ℤ) (rounds : ℕ) : Type 0 where
   pub some_clocks : 1 ≤ n
@@ -38,6 +42,11 @@ pub record AreInRange (n m : ℕ) (skew error rate : ℤ) (rounds : ℕ) : Type 
 pub record AreOfClocks (lab : Laboratory) (far : ℤ) (numbers : List ℤ) : Type 0 where
   pub each : length numbers ≡ working_of lab
   pub near : All (λ number. IsWithin far number (pos 0)) numbers
+
+-- both clocks work
+pub record BothWork (lab : Laboratory) (q p : ℕ) : Type 0 where
+  pub own : q < working_of lab
+  pub other : p < working_of lab
 
 -- two of these offsets of working clocks are at most the skew apart
 abbrev pub AreTogether : Laboratory → List ℤ → Type 0

@@ -1,19 +1,18 @@
 //! The correction of a clock among up to 32.
 
-ghost use Rattle.std.specs.Prelude.{◌≡◌, ◌+◌, ◌≤◌, pos, ◌≤ℤ◌, length};
+ghost use Rattle.std.specs.Prelude.{◌≡◌, ◌+◌, ◌≤◌, length};
 ghost use Rattle.sift_clock.specs.Reading.{counted};
 ghost use Rattle.sift_clock.specs.Correction.{correction_of};
+ghost use Rattle.sift_clocklab.specs.Conditions.{AreFarthest};
 
 use sift_clock::too_far;
 
 /// The correction of a clock among `n`, in ticks: the floor of the mean of what it reads of all of them,
 /// its own clock read as 0. A reading that is absent or too far counts as 0.
 pub fn correct(readings: &[Option<i32>], limit: i32, n: u8) -> i64
-    requires some { 1 ≤ n }
     requires few { n ≤ 32 }
     requires others { length readings.now + 1 ≡ n }
-    requires low { pos 0 ≤ℤ limit }
-    requires high { limit ≤ℤ pos 16000 }
+    requires limit { AreFarthest limit }
     ensures { result ≡ correction_of limit n readings.now }
 {
     let mut sum: i64 = 0;

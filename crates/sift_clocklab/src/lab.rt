@@ -38,7 +38,7 @@ pub struct LabRun {
 
 impl Lab {
     ghost use Rattle.sift_clocklab.specs.Laboratory.{laboratory_of, noise_of, reading_limit, working_of};
-    ghost use Rattle.sift_clocklab.specs.Conditions.{IsReady};
+    ghost use Rattle.sift_clocklab.specs.Conditions.{BothWork, IsReady};
 
     /// How many clocks work.
     pub fn working(&self) -> u8
@@ -59,8 +59,7 @@ impl Lab {
     /// By how much the working clock `own` misreads another one that works.
     pub(crate) fn noise_between(&self, own: u8, other: u8) -> i32
         requires ready { IsReady (laboratory_of self.now) }
-        requires own { own < working_of (laboratory_of self.now) }
-        requires other { other < working_of (laboratory_of self.now) }
+        requires working { BothWork (laboratory_of self.now) own other }
         ensures { result ≡ noise_of (laboratory_of self.now) own other }
     {
         self.noise[usize::from(own)][usize::from(other)]

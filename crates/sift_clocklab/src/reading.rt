@@ -4,7 +4,7 @@ ghost use Rattle.std.specs.Prelude.{◌≡◌, ◌<◌, map};
 ghost use Rattle.sift_base.specs.Units.{others};
 ghost use Rattle.sift_clocklab.specs.Laboratory.{laboratory_of, clocks_of, working_of};
 ghost use Rattle.sift_clocklab.specs.Rounds.{offset_after, reading_of, ticks_ahead};
-ghost use Rattle.sift_clocklab.specs.Conditions.{IsReady};
+ghost use Rattle.sift_clocklab.specs.Conditions.{BothWork, IsReady};
 ghost use Rattle.sift_clocklab.specs.Skew.{AreKept, IsRound, farthest};
 
 use crate::correcting::correct;
@@ -16,8 +16,7 @@ use sift_clock::advance;
 fn ahead(lab: &Lab, offsets: &[i64], own: u8, other: u8) -> i32
     requires ready { IsReady (laboratory_of lab.now) }
     requires kept { AreKept (laboratory_of lab.now) farthest offsets.now }
-    requires own { own < working_of (laboratory_of lab.now) }
-    requires other { other < working_of (laboratory_of lab.now) }
+    requires working { BothWork (laboratory_of lab.now) own other }
     ensures { result ≡ ticks_ahead (laboratory_of lab.now) offsets.now own other }
 {
     let difference = offsets[usize::from(other)] - offsets[usize::from(own)];

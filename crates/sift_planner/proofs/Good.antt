@@ -94,9 +94,9 @@ module _ (shapes : AllShapes) (w : Wanted) (table : Schedule) (limits : IsWithin
       All-take (λ p. p < table.size) (executors_of w) free (All-filter keeps (λ p. p < table.size) (range_with_len 0 table.size) (range_below table.size)) in
       let ascend : IsAscending (take (executors_of w) free) = take_ascends (executors_of w) free (filter_ascends keeps (range_with_len 0 table.size) (range_ascends 0 table.size)) in
       let poll = row.poll in (
-        opened.agreed,
+        opened.in_time.agreed,
         (
-          omega (arith, opened.by_reports, poll),
+          omega (arith, opened.in_time.by_reports, poll),
           (
             omega (arith, poll),
             (

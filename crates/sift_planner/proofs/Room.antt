@@ -35,8 +35,7 @@ module _ (shapes : AllShapes) (w : Wanted) (plannable : ArePlannable shapes) whe
       → IsOpen table (executors_of w) (shape_at shapes t).needs t (agreed_in + hearing_delay * t)
   plain_open t count table plan few low early long =
       let free = all_free table t (agreed_in + hearing_delay * t) (λ d before. omega (arith, early d before, before)) in record {
-        agreed = omega arith;
-        by_reports = omega (arith, long, plan.period);
+        in_time = record { agreed = omega arith; by_reports = omega (arith, long, plan.period) };
         needs_polled = λ i d inside.
             let needed = get_or (shape_at shapes t).needs i d in
             let earlier : needed < t = plannable.earlier t low i d inside in
@@ -63,7 +62,7 @@ module _ (shapes : AllShapes) (w : Wanted) (plannable : ArePlannable shapes) whe
               | inl late ↦
                   absurd (row.run.least plain late
                   (plain_open t count table plan (omega (arith, few)) (omega (arith, low)) earlier
-                  (omega (arith, late, row.run.open_here.by_reports, plan.period))))
+                  (omega (arith, late, row.run.open_here.in_time.by_reports, plan.period))))
             ] in
             rw at early
       ]

@@ -52,8 +52,7 @@ module _ (a b : Schedule) (t : ℕ) (same : SameBefore a b t) where
   -- so what is open in the one is open in the other
   pub open_same : (executors : ℕ) (needs : List ℕ) (e : ℕ) → All (λ needed. needed < t) needs → IsOpen a executors needs t e → IsOpen b executors needs t e
   open_same executors needs e earlier opened = record {
-    agreed = opened.agreed;
-    by_reports = omega (arith, opened.by_reports, same.period);
+    in_time = record { agreed = opened.in_time.agreed; by_reports = omega (arith, opened.in_time.by_reports, same.period) };
     needs_polled = λ i d low.
         omega (arith, opened.needs_polled i d low, same.poll (get_or needs i d) (earlier i d low));
     room = subst (λ (ps : List ℕ). executors ≤ length ps) (free_same e) opened.room;

@@ -12,11 +12,15 @@ is_used table t subframe position = list_any (λ d. nat_eq (run_in table d) subf
 abbrev pub free_positions : Schedule → (t subframe : ℕ) → List ℕ
 free_positions table t subframe = filter (λ position. not (is_used table t subframe position)) (range_with_len 0 table.size)
 
--- the subframe is open for the task of row t, which reads these tasks of the same frame: the sensor words are agreed, what the task puts
--- out is polled by the reports, what it reads has been polled, and as many positions are free as are to execute it
-pub record IsOpen (table : Schedule) (executors : ℕ) (needs : List ℕ) (t subframe : ℕ) : Type 0 where
+-- a task may run in the subframe: the sensor words are agreed, and what the task puts out is polled by the reports
+pub record IsInTime (table : Schedule) (subframe : ℕ) : Type 0 where
   pub agreed : agreed_in ≤ subframe
   pub by_reports : subframe + hearing_delay + report_lead ≤ table.period
+
+-- the subframe is open for the task of row t, which reads these tasks of the same frame: a task may run in it, what the task reads has
+-- been polled, and as many positions are free as are to execute it
+pub record IsOpen (table : Schedule) (executors : ℕ) (needs : List ℕ) (t subframe : ℕ) : Type 0 where
+  pub in_time : IsInTime table subframe
   pub needs_polled : All (λ needed. polled_in table needed ≤ subframe) needs
   pub room : executors ≤ length (free_positions table t subframe)
 

@@ -3,9 +3,9 @@
 ghost use Rattle.std.specs.Prelude.{◌≡◌, ℕ, ◌+◌, ◌<◌, ◌≤◌, ◌↔◌, [], length, take, min, IfOk, IfNone, IfSome, IsTrue, OnOk};
 ghost use Rattle.std.specs.List.{All};
 ghost use Rattle.sift_table.specs.Rules.{report_lead};
-ghost use Rattle.sift_table.specs.Schedule.{agreed_in, hearing_delay, polled_in};
+ghost use Rattle.sift_table.specs.Schedule.{hearing_delay, polled_in};
 ghost use Rattle.sift_planner.specs.Drafts.{IsKept, drafted, rows_in, with_row};
-ghost use Rattle.sift_planner.specs.Earliest.{IsLeastOpen, IsOpen, free_positions};
+ghost use Rattle.sift_planner.specs.Earliest.{IsInTime, IsLeastOpen, IsOpen, free_positions};
 ghost use Rattle.sift_planner.specs.Plans.{IsPlanned, IsWithinLimits, executors_of, wanted};
 
 use sift_base::NoMemory;
@@ -78,8 +78,7 @@ impl Draft {
     fn is_open(&self, needs: &[u8], subframe: u8) -> bool
         requires kept { IsKept self.now }
         requires needs { All (λ needed. needed < rows_in self.now) needs.now }
-        requires agreed { agreed_in ≤ subframe }
-        requires by_reports { subframe + hearing_delay + report_lead ≤ (drafted self.now).period }
+        requires in_time { IsInTime (drafted self.now) subframe }
         ensures { IsTrue result
             ↔ IsOpen (drafted self.now) self.now.executors needs.now (rows_in self.now) subframe }
     {

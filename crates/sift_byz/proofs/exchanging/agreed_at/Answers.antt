@@ -9,18 +9,17 @@ use Rattle.sift_byz.proofs.Digits.{few_rows, relay_within}
 use Rattle.sift_byz.proofs.exchanging.agreed_at.Goals as goal
 
 -- the row and the places of the relays are in the charts
-pub relays-relays-requires-clause-few : goal.relays-relays-requires-clause-few
-relays-relays-requires-clause-few c =
+pub relays-relays-requires-clause-relayed : goal.relays-relays-requires-clause-relayed
+relays-relays-requires-clause-relayed c =
     let n : ℕ = c.args.plan.now.units in
-    let low : c.args.place < n ^ suc c.args.count = rw (sym c.requires.heard.long) c.requires.within in
-    rw c.from-units.ensures (few_rows n c.args.count c.args.place c.requires.range.few (omega (arith, c.requires.short)) low)
-
-pub relays-relays-requires-clause-within : goal.relays-relays-requires-clause-within
-relays-relays-requires-clause-within c =
-    let n : ℕ = c.args.plan.now.units in
-    let low : c.args.place < n ^ suc c.args.count = rw (sym c.requires.heard.long) c.requires.within in
-    rw (c.from-units.ensures, c.requires.long)
-    (λ r r_low. relay_within n c.args.count c.args.place r (c.args.place % n) c.requires.range.some low r_low (mod_below c.args.place n c.requires.range.some))
+    let relayed = c.requires.relayed in
+    let low : c.args.place < n ^ suc c.args.count = rw (sym relayed.shown.long) c.requires.within in
+    let q_low : c.args.place % n < n = mod_below c.args.place n c.requires.range.some in
+    rw c.from-units.ensures (record {
+      few = few_rows n c.args.count c.args.place c.requires.range.few (omega (arith, relayed.short)) low;
+      unit = q_low;
+      each = rw relayed.long (λ r r_low. relay_within n c.args.count c.args.place r (c.args.place % n) c.requires.range.some low r_low q_low);
+    })
 
 -- it is agreed on from what was heard and the relays
 pub returns : goal.returns

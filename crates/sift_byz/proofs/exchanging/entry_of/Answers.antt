@@ -13,10 +13,10 @@ returns c =
     let n : ℕ = c.args.plan.now.units in
     let at : ℕ = c.args.s * n + c.args.q in
     let within : at < length c.args.results.now =
-    subst (λ x. at < x) (sym (c.requires.results.long ∙ square n)) (digit_below n n c.args.s c.args.q c.requires.other c.requires.unit) in
+    subst (λ x. at < x) (sym (c.requires.results.shown.long ∙ square n)) (digit_below n n c.args.s c.args.q c.requires.other c.requires.unit) in
     let is : c.index-results-from.result ≡ get_or c.args.results.now at c.index-results-from.result =
     rw (c.from-2.ensures, c.from-3.ensures, c.from-4.ensures) at c.index-results-from.is in
     rw (ne_eqb c.args.s c.args.q c.if-s-q.false)
     (c.agree.ensures.exact ∙ ap (λ x. agreed_of (x ∷ []))
     (is ∙ get_or_default c.args.results.now at c.index-results-from.result None within
-    ∙ result_shown (plan_of c.args.plan.now) c.args.plan.now.m c.args.results.now c.requires.results c.args.q c.args.s c.requires.unit c.requires.other))
+    ∙ result_shown (plan_of c.args.plan.now) c.args.plan.now.m c.args.results.now c.requires.results.shown c.args.q c.args.s c.requires.unit c.requires.other))

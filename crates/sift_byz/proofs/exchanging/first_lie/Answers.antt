@@ -1,17 +1,19 @@
-use Rattle.std.proofs.Common.{◌≡◌, ap, rules, sym, tests, ◌∙◌}
+use Rattle.std.proofs.Common.{◌≡◌, ◌&&◌, ap, rules, sym, tests, ◌∙◌}
 use Rattle.std.proofs.lemmas.Iterator.{YieldsList-from_slice}
 use Rattle.std.proofs.lemmas.Iterator.Search.{find_from_yields_List}
 use Rattle.std.specs.List.{find}
+use Rattle.std.specs.Str.{bytes_eq}
+use Rattle.sift_base.specs.Units.{has}
 use Rattle.std.specs.Option.{option_map}
 use Rattle.sift_byz.specs.declared.plan.Lie.{Lie}
-use Rattle.sift_byz.specs.Plan.{LieData, is_told, lie_of}
+use Rattle.sift_byz.specs.Plan.{LieData, lie_of}
 use Rattle.sift_byz.proofs.Searches.{find-map, option_map-twice}
 use Rattle.sift_byz.proofs.exchanging.first_lie.Goals as goal
 
 -- the first lie that is told so is the first of those that the code holds
 pub returns : goal.returns
 returns c =
-    let told = is_told c.args.written.now c.args.to in
+    let told = λ (lie : LieData). bytes_eq lie.path c.args.written.now && has lie.to c.args.to in
     let said = λ (lie : LieData). lie.value in
     let lies = c.args.lies.now in
     let here = λ (lie : Lie). told (lie_of lie) in

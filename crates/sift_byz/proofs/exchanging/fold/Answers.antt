@@ -19,4 +19,4 @@ returns c rounds shown =
     let next : ℕ → Option ℕ = λ i. Some (agreed_of (places_at (plan_of c.args.plan.now) c.args.count c.args.heard.now c.args.longer.now i)) in
     let all : c.loop-place.place ≡ length c.args.heard.now = omega (arith, c.loop-place.auto, c.loop-place-test.false) in
     folded_shown (plan_of c.args.plan.now) c.requires.range.some c.args.count rounds c.args.heard.now c.args.longer.now c.loop-place.chart.items
-    c.requires.heard shown (c.loop-place.invariant.filled ∙ ap (λ n. map next (range_with_len 0 n)) all)
+    c.requires.relayed.shown shown (c.loop-place.invariant.filled ∙ ap (λ n. map next (range_with_len 0 n)) all)

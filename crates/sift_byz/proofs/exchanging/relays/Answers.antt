@@ -27,7 +27,7 @@ loop-r-preserved c =
           let is : w.index-longer-row.result ≡ get_or c.args.longer.now at w.index-longer-row.result =
           rw (c.from-units.ensures, w.from.ensures, w.from-then-is_outside.ensures) at w.index-longer-row.is in
           let place : w.index-longer-row.result ≡ relay r =
-          is ∙ get_or_default c.args.longer.now at w.index-longer-row.result None (c.requires.within r low) in
+          is ∙ get_or_default c.args.longer.now at w.index-longer-row.result None (c.requires.relayed.each r low) in
           let one : map relay (outside (r ∷ []) path) ≡ relay r ∷ [] = rw out in record {
             filled = ap (λ v. v.items) w.relays-is ∙ w.push.ensures.items ∙ ap (λ x. c.loop-r.relays.items ++ x ∷ []) place
                 ∙ ap (λ xs. xs ++ relay r ∷ []) c.loop-r.invariant.filled

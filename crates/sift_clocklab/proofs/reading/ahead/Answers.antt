@@ -11,7 +11,7 @@ pub overflow_add-result : goal.overflow_add-result
 overflow_add-result c =
     let offset = offset_of c.args.offsets.now in
     let near = are_near (laboratory_of c.args.lab.now) farthest c.args.offsets.now c.args.own c.args.other
-    c.requires.ready c.requires.kept c.requires.own c.requires.other in
+    c.requires.ready c.requires.kept c.requires.working.own c.requires.working.other in
     omega (arith, ints, near, ap offset c.from.ensures, ap offset c.from-2.ensures)
 
 -- so what is read fits as well
@@ -19,12 +19,12 @@ pub overflow_cast-result : goal.overflow_cast-result
 overflow_cast-result c =
     let offset = offset_of c.args.offsets.now in
     let near = are_near (laboratory_of c.args.lab.now) farthest c.args.offsets.now c.args.own c.args.other
-    c.requires.ready c.requires.kept c.requires.own c.requires.other in
+    c.requires.ready c.requires.kept c.requires.working.own c.requires.working.other in
     omega (arith, ints, near, ap offset c.from.ensures, ap offset c.from-2.ensures)
 
 pub returns : goal.returns
 returns c =
     let offset = offset_of c.args.offsets.now in
     let near = are_near (laboratory_of c.args.lab.now) farthest c.args.offsets.now c.args.own c.args.other
-    c.requires.ready c.requires.kept c.requires.own c.requires.other in
+    c.requires.ready c.requires.kept c.requires.working.own c.requires.working.other in
     omega (arith, ints, near, ap offset c.from.ensures, ap offset c.from-2.ensures)

@@ -11,5 +11,5 @@ loop-subframe-preserved c =
 pub returns-clause-shut : goal.returns-clause-shut
 returns-clause-shut c = λ e opened. elim (cases_lt e c.loop-subframe.subframe) [
   | inl before ↦ c.loop-subframe.invariant e before opened
-  | inr behind ↦ absurd (omega (arith, behind, opened.by_reports, c.requires.kept.long))
+  | inr behind ↦ absurd (omega (arith, behind, opened.in_time.by_reports, c.requires.kept.long))
 ]
