@@ -1,13 +1,33 @@
--- The poll of one output word by one unit, as the code holds it.
-use Rattle.std.specs.Prelude.{◌≡◌, ℕ, ◌<◌, List, map, length}
+-- The poll of one output word by one unit, as the code holds it; and when the code asks for one.
+use Rattle.std.specs.Prelude.{◌≡◌, ℕ, ◌+◌, ◌<◌, ◌≤◌, List, map, length, true}
+use Rattle.sift_base.specs.Layout.{word_limit}
+use Rattle.sift_base.specs.Units.{has}
 use Rattle.sift_mission.specs.Data.{MissionData}
 use Rattle.sift_mission.specs.Mission.{FlownMission}
+use Rattle.sift_mission.specs.Parts.{flown_of}
+use Rattle.sift_mission.specs.declared.parts.MissionParts.{MissionParts}
 use Rattle.sift_program.specs.Needs.{task_at}
+use Rattle.sift_program.specs.Sound.{first_word}
 use Rattle.sift_flight.specs.Flight.{Flight}
+use Rattle.sift_flight.specs.Told.{IsWhole, told}
+use Rattle.sift_flight.specs.declared.flight.Flight.{Flight as TheFlight}
 use Rattle.sift_report.specs.Part.{list_text}
-use Rattle.sift_report.specs.Votes.{place_of, poll_text, polled_units, word_number}
+use Rattle.sift_report.specs.Votes.{place_of, poll_text, polled_units, tells, word_number}
 use Rattle.sift_report.specs.declared.poll.Output.{Output}
 use Rattle.sift_report.specs.declared.poll.Poll.{Poll}
+
+-- the flight is whole for the mission, and this unit of the mission tells its account in this frame of it
+pub record TellsIn (mission : MissionParts) (flight : TheFlight) (f u : ℕ) : Type 0 where
+  pub whole : IsWhole (flown_of mission) mission.layout flight
+  pub frame : f < (flown_of mission).frames
+  pub unit : has (flown_of mission).units u ≡ true
+  pub account : tells (flown_of mission) (told (flown_of mission) flight) f u ≡ true
+
+-- a task of the mission, whose outputs have the numbers from this one on, within the limit of all words
+pub record HasWordsFrom (d : MissionData) (t first : ℕ) : Type 0 where
+  pub task : t < length d.program.tasks
+  pub first_is : first ≡ first_word d.program.tasks t
+  pub room : first + (task_at d.program.tasks t).outputs ≤ word_limit
 
 -- an output of a task of the mission, with its number among all words
 pub record IsOutput (d : MissionData) (output : Output) : Type 0 where

@@ -10,9 +10,9 @@ ghost use Rattle.sift_mission.specs.Parts.{data_of, flown_of};
 ghost use Rattle.sift_program.specs.Needs.{task_at};
 ghost use Rattle.sift_mission.specs.Slots.{executors};
 ghost use Rattle.sift_flight.specs.Flight.{config_of};
-ghost use Rattle.sift_flight.specs.Told.{IsWhole, told};
-ghost use Rattle.sift_report.specs.Poll.{IsOutput, poll_of, polled_text, polls_of};
-ghost use Rattle.sift_report.specs.Votes.{lowest_other, place_of, place_text, poll_text, polled_units, tells, vote_text};
+ghost use Rattle.sift_flight.specs.Told.{told};
+ghost use Rattle.sift_report.specs.Poll.{IsOutput, TellsIn, poll_of, polled_text, polls_of};
+ghost use Rattle.sift_report.specs.Votes.{lowest_other, place_of, place_text, poll_text, polled_units, vote_text};
 
 use crate::list::{Item, push_list};
 use crate::print::{push_head, push_unit, push_word};
@@ -53,10 +53,7 @@ pub fn push_vote(
     u: UnitId,
     output: Output,
 ) -> Result<(), AllocError>
-    requires whole { IsWhole (flown_of mission.now) mission.now.layout flight.now }
-    requires tells { tells (flown_of mission.now) (told (flown_of mission.now) flight.now) f u ≡ true }
-    requires unit { has (flown_of mission.now).units u ≡ true }
-    requires frame { f < (flown_of mission.now).frames }
+    requires tells { TellsIn mission.now flight.now f u }
     requires output { IsOutput (data_of mission.now) output }
     ensures { OnOk result (string_bytes text.new ≡ string_bytes text.old
         ++ vote_text (data_of mission.now) (told (flown_of mission.now) flight.now) f u output.t output.j) }
@@ -100,10 +97,7 @@ fn vote_of(polls: &[Poll]) -> Option<Word>
 
 /// The words of a word's executors, as a unit has them.
 fn polls_of(mission: &Mission, flight: &Flight, f: u32, u: UnitId, word: u8) -> ArrayVec<Poll, 8>
-    requires whole { IsWhole (flown_of mission.now) mission.now.layout flight.now }
-    requires tells { tells (flown_of mission.now) (told (flown_of mission.now) flight.now) f u ≡ true }
-    requires unit { has (flown_of mission.now).units u ≡ true }
-    requires frame { f < (flown_of mission.now).frames }
+    requires tells { TellsIn mission.now flight.now f u }
     requires word { word < (flown_of mission.now).words }
     ensures { result.items ≡ polls_of (flown_of mission.now) (told (flown_of mission.now) flight.now) f u word }
 {
@@ -130,10 +124,7 @@ fn place_of(
     word: u8,
     from: UnitId,
 ) -> Option<Word>
-    requires whole { IsWhole (flown_of mission.now) mission.now.layout flight.now }
-    requires tells { tells (flown_of mission.now) (told (flown_of mission.now) flight.now) f u ≡ true }
-    requires unit { has (flown_of mission.now).units u ≡ true }
-    requires frame { f < (flown_of mission.now).frames }
+    requires tells { TellsIn mission.now flight.now f u }
     requires word { word < (flown_of mission.now).words }
     requires from { has (flown_of mission.now).units from ≡ true }
     ensures { result ≡ place_of (flown_of mission.now) (told (flown_of mission.now) flight.now) f u word from }

@@ -1,12 +1,10 @@
 //! The votes of a flight.
 
-ghost use Rattle.std.specs.Prelude.{◌≡◌, ◌+◌, ◌<◌, ◌≤◌, ◌++◌, IfOk, OnOk, length, true, string_bytes};
-ghost use Rattle.sift_base.specs.Layout.{word_limit};
+ghost use Rattle.std.specs.Prelude.{◌≡◌, ◌<◌, ◌++◌, IfOk, OnOk, length, true, string_bytes};
 ghost use Rattle.sift_base.specs.Units.{has};
-ghost use Rattle.sift_program.specs.Sound.{first_word};
 ghost use Rattle.sift_mission.specs.Parts.{data_of, flown_of};
-ghost use Rattle.sift_program.specs.Needs.{task_at};
 ghost use Rattle.sift_flight.specs.Told.{IsWhole, told};
+ghost use Rattle.sift_report.specs.Poll.{HasWordsFrom, TellsIn};
 ghost use Rattle.sift_report.specs.Votes.{frame_votes, task_votes, tells, unit_votes, vote_text, votes_of};
 
 use crate::poll::{Output, push_vote};
@@ -95,13 +93,8 @@ fn push_task_votes(
     t: usize,
     first: u8,
 ) -> Result<(), AllocError>
-    requires whole { IsWhole (flown_of mission.now) mission.now.layout flight.now }
-    requires tells { tells (flown_of mission.now) (told (flown_of mission.now) flight.now) f u ≡ true }
-    requires unit { has (flown_of mission.now).units u ≡ true }
-    requires frame { f < (flown_of mission.now).frames }
-    requires task { t < (flown_of mission.now).tasks }
-    requires first { first ≡ first_word (data_of mission.now).program.tasks t }
-    requires room { first + (task_at (data_of mission.now).program.tasks t).outputs ≤ word_limit }
+    requires tells { TellsIn mission.now flight.now f u }
+    requires words { HasWordsFrom (data_of mission.now) t first }
     ensures { OnOk result (string_bytes text.new ≡ string_bytes text.old
         ++ task_votes (data_of mission.now) (told (flown_of mission.now) flight.now) f u t) }
 {

@@ -16,16 +16,16 @@ said-requires c =
     let slot : c.number-slot.result ≡ slot_number c.args.mission.now.layout (Out c.args.word) =
     c.number-slot.ensures.number ∙ ap (λ parts. slot_number parts.layout (Out c.args.word)) c.parts.ensures.same in
     let there = c.account_at.ensures.account.config.inside c.lowest_other.result c.lowest_other.ensures.there in
-    rw slot (journal-place c.args.mission.now c.parts.ensures.fit c.args.flight.now c.requires.whole c.args.u c.requires.unit c.index-journal.result.now at
-    c.args.word c.args.f c.lowest_other.result c.requires.word c.requires.frame there c.lowest_other.ensures.other)
+    rw slot (journal-place c.args.mission.now c.parts.ensures.fit c.args.flight.now c.requires.tells.whole c.args.u c.requires.tells.unit c.index-journal.result.now at
+    c.args.word c.args.f c.lowest_other.result c.requires.word c.requires.tells.frame there c.lowest_other.ensures.other)
 
 pub heard-requires : goal.heard-requires
 heard-requires c =
     let at = c.index-journal.ensures ∙ ap (λ i. get_or c.args.flight.now.journals.items i c.index-journal.result.now) (c.from.ensures ∙ c.get.ensures.number) in
     let slot : c.number-slot.result ≡ slot_number c.args.mission.now.layout (Out c.args.word) =
     c.number-slot.ensures.number ∙ ap (λ parts. slot_number parts.layout (Out c.args.word)) c.parts.ensures.same in
-    rw slot (journal-place c.args.mission.now c.parts.ensures.fit c.args.flight.now c.requires.whole c.args.u c.requires.unit c.index-journal.result.now at
-    c.args.word c.args.f c.args.from c.requires.word c.requires.frame c.requires.from (apart c.args.from c.args.u (sym c.eq.ensures ∙ c.if-eq.false)))
+    rw slot (journal-place c.args.mission.now c.parts.ensures.fit c.args.flight.now c.requires.tells.whole c.args.u c.requires.tells.unit c.index-journal.result.now at
+    c.args.word c.args.f c.args.from c.requires.word c.requires.tells.frame c.requires.from (apart c.args.from c.args.u (sym c.eq.ensures ∙ c.if-eq.false)))
 
 pub returns-then-eq : goal.returns-then-eq
 returns-then-eq c =
@@ -36,7 +36,7 @@ returns-then-eq c =
     c.number-slot.ensures.number ∙ ap (λ parts. slot_number parts.layout (Out c.args.word)) c.parts.ensures.same in
     let lowest = c.lowest_other.ensures.lowest ∙ ap (λ a. lowest_other a.cfg c.args.u) c.account_at.ensures.told in
     c.said.ensures ∙ ap (λ k. said_in c.index-journal.result.now c.args.f k c.lowest_other.result) slot
-    ∙ journal-said c.args.mission.now c.parts.ensures.fit c.args.flight.now c.requires.whole c.args.u c.requires.unit c.index-journal.result.now at
+    ∙ journal-said c.args.mission.now c.parts.ensures.fit c.args.flight.now c.requires.tells.whole c.args.u c.requires.tells.unit c.index-journal.result.now at
     c.args.word c.args.f c.lowest_other.result c.requires.word
     ∙ ap (λ q. fl.said c.args.u c.args.f (Out c.args.word) q) lowest
     ∙ sym (place-own m fl c.args.f c.args.u c.args.word c.args.from (eqb-true c.args.from c.args.u (sym c.eq.ensures ∙ c.if-eq.true)))
@@ -49,6 +49,6 @@ returns-else-eq c =
     let slot : c.number-slot.result ≡ slot_number c.args.mission.now.layout (Out c.args.word) =
     c.number-slot.ensures.number ∙ ap (λ parts. slot_number parts.layout (Out c.args.word)) c.parts.ensures.same in
     c.heard.ensures ∙ ap (λ k. heard_in c.index-journal.result.now c.args.f k c.args.from) slot
-    ∙ journal-heard c.args.mission.now c.parts.ensures.fit c.args.flight.now c.requires.whole c.args.u c.requires.unit c.index-journal.result.now at
+    ∙ journal-heard c.args.mission.now c.parts.ensures.fit c.args.flight.now c.requires.tells.whole c.args.u c.requires.tells.unit c.index-journal.result.now at
     c.args.word c.args.f c.args.from c.requires.word
     ∙ sym (place-other m fl c.args.f c.args.u c.args.word c.args.from (apart c.args.from c.args.u (sym c.eq.ensures ∙ c.if-eq.false)))

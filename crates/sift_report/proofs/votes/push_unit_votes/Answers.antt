@@ -6,11 +6,15 @@ use Rattle.sift_report.proofs.Polls.{next_first, task_there, word_room}
 use Rattle.sift_report.proofs.Printed.{text_more}
 use Rattle.sift_report.proofs.votes.push_unit_votes.Goals as goal
 
-pub push_task_votes-requires-clause-room : goal.push_task_votes-requires-clause-room
-push_task_votes-requires-clause-room c =
+pub push_task_votes-requires-clause-words : goal.push_task_votes-requires-clause-words
+push_task_votes-requires-clause-words c =
     let d = data_of c.args.mission.now in
     let there = task_there c.parts.result.now c.args.mission.now c.parts.ensures.same c.loop-t.t c.len-t-end.result c.loop-t-test.true c.len-t-end.ensures in
-    omega (arith, word_room d c.parts.ensures.fit c.loop-t.t there, c.loop-t.invariant.1)
+    record {
+      task = there;
+      first_is = c.loop-t.invariant.1;
+      room = omega (arith, word_room d c.parts.ensures.fit c.loop-t.t there, c.loop-t.invariant.1);
+    }
 
 pub loop-t-preserved : goal.loop-t-preserved
 loop-t-preserved c =
