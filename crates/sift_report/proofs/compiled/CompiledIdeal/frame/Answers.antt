@@ -30,6 +30,7 @@ loop-t-preserved c =
     let made = rw (c.first_word.ensures, c.deref-in-loop-t-2.ensures.0) at c.put.ensures in (
       c.words_of-outs.ensures.same ∙ c.loop-t.invariant.0,
       ap length c.put.ensures ∙ put-long c.loop-t.made.items _ _ (put-requires c.before) ∙ c.loop-t.invariant.1,
-      rw made (put-begins program c.args.self.now c.args.agreed.now _ runs.sound c.loop-t.t c.loop-t.made.items _ (low c.before) (c.loop-t.invariant.1 ∙ c.requires.words ∙ runs.words) (are c.before)
+      rw made (put-begins program c.args.self.now c.args.agreed.now _ runs.sound c.loop-t.t c.loop-t.made.items _
+          (low c.before) (c.loop-t.invariant.1 ∙ c.requires.words ∙ runs.words) (are c.before)
           c.loop-t.invariant.2),
     )
