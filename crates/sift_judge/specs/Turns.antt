@@ -1,5 +1,5 @@
 -- What a judge knows as it goes: frame by frame, the forms of all frames first.
-use Rattle.std.specs.Prelude.{◌≡◌, ℕ, ◌<◌, ◌≤◌, List, length, Bool, true}
+use Rattle.std.specs.Prelude.{◌≡◌, ◌↔◌, ℕ, ◌<◌, ◌≤◌, List, length, Bool, true}
 use Rattle.sift_mission.specs.Data.{MissionData}
 use Rattle.sift_program.specs.Ideal.{words_before}
 use Rattle.sift_report.specs.Form.{HasForm}
@@ -55,3 +55,13 @@ KeepsBefore d lines f = (g : ℕ) → g < f → KeepsFrame d lines g
 pub record RunsBefore (d : MissionData) (lines : List ReportLine) (f : ℕ) (margin : Bool) (words : List ℕ) : Type 0 where
   pub words_are : margin ≡ true → words ≡ words_before d.program (agreed_told d lines) (shed_told d lines) f
   pub as_many : length words ≡ length d.program.starts
+
+-- ---- a frame to come
+
+-- what a judge knows before it asks the rules behind the form of frame f: it is a frame of the mission and has its form, the flag tells
+-- whether it has margin, and where it has, these are the ideal machine's words before it
+pub record KnowsBefore (d : MissionData) (lines : List ReportLine) (f : ℕ) (margin : Bool) (words : List ℕ) : Type 0 where
+  pub frame : f < d.frames
+  pub form : HasForm d lines f
+  pub margin_is : (margin ≡ true) ↔ HasMarginTold d lines f
+  pub runs : RunsBefore d lines f margin words

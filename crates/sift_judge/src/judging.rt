@@ -2,11 +2,10 @@
 
 ghost use Rattle.std.specs.Prelude.{◌≡◌, ◌+◌, ◌<◌, ◌↔◌, IfNone, IfSome, IsTrue, length, true};
 ghost use Rattle.sift_mission.specs.Parts.{data_of};
-ghost use Rattle.sift_program.specs.Ideal.{ideal_words, words_before};
-ghost use Rattle.sift_report.specs.Form.{HasForm};
+ghost use Rattle.sift_program.specs.Ideal.{ideal_words};
 ghost use Rattle.sift_report.specs.Headline.{FrameHeadline, TellsSameConfiguration};
 ghost use Rattle.sift_report.specs.Told.{HadMarginTold, HasMarginTold, agreed_told, shed_told};
-ghost use Rattle.sift_judge.specs.Turns.{HasForms, IsFirstInFrame, KeepsFrame, RunsBefore};
+ghost use Rattle.sift_judge.specs.Turns.{HasForms, IsFirstInFrame, KeepsFrame, KnowsBefore, RunsBefore};
 ghost use Rattle.sift_judge.specs.Verdict.{IsVerdict};
 
 use crate::clocks::has_clock_skew;
@@ -69,11 +68,8 @@ fn first_broken(
     has_margin: bool,
     ideal: &mut Ideal,
 ) -> Option<u8>
-    requires frame { f < (data_of mission.now).frames }
-    requires form { HasForm (data_of mission.now) lines.now f }
+    requires known { KnowsBefore (data_of mission.now) lines.now f has_margin ideal.old }
     requires had { IsTrue had_margin ↔ HadMarginTold (data_of mission.now) lines.now f }
-    requires has { IsTrue has_margin ↔ HasMarginTold (data_of mission.now) lines.now f }
-    requires runs { RunsBefore (data_of mission.now) lines.now f has_margin ideal.old }
     ensures found { IfSome result (IsFirstInFrame (data_of mission.now) lines.now f) }
     ensures none { IfNone result (KeepsFrame (data_of mission.now) lines.now f) }
     ensures runs { IfNone result (RunsBefore (data_of mission.now) lines.now (f + 1) has_margin ideal.new) }
@@ -107,11 +103,8 @@ fn first_with_margin(
     has_margin: bool,
     ideal: &mut Ideal,
 ) -> Option<u8>
-    requires frame { f < (data_of mission.now).frames }
-    requires form { HasForm (data_of mission.now) lines.now f }
-    requires has { IsTrue has_margin ↔ HasMarginTold (data_of mission.now) lines.now f }
+    requires known { KnowsBefore (data_of mission.now) lines.now f has_margin ideal.old }
     requires configuration { HadMarginTold (data_of mission.now) lines.now f → TellsSameConfiguration (data_of mission.now) lines.now f }
-    requires runs { RunsBefore (data_of mission.now) lines.now f has_margin ideal.old }
     ensures found { IfSome result (IsFirstInFrame (data_of mission.now) lines.now f) }
     ensures none { IfNone result (HasMarginTold (data_of mission.now) lines.now f → FrameHeadline (data_of mission.now) lines.now f) }
     ensures runs { IfNone result (RunsBefore (data_of mission.now) lines.now (f + 1) has_margin ideal.new) }
@@ -140,11 +133,7 @@ fn first_with_margin(
 
 /// Runs the ideal machine for a frame with margin, over the agreed words and the configuration told in it.
 fn run_ideal(ideal: &mut Ideal, mission: &Mission, lines: &[ReportLine], f: u32)
-    requires frame { f < (data_of mission.now).frames }
-    requires form { HasForm (data_of mission.now) lines.now f }
-    requires margin { HasMarginTold (data_of mission.now) lines.now f }
-    requires as_many { length ideal.old ≡ length (data_of mission.now).program.starts }
-    requires before { ideal.old ≡ words_before (data_of mission.now).program (agreed_told (data_of mission.now) lines.now) (shed_told (data_of mission.now) lines.now) f }
+    requires known { KnowsBefore (data_of mission.now) lines.now f true ideal.old }
     ensures words { ideal.new ≡ ideal_words (data_of mission.now).program (agreed_told (data_of mission.now) lines.now) (shed_told (data_of mission.now) lines.now) f }
     ensures as_many { length ideal.new ≡ length (data_of mission.now).program.starts }
 {

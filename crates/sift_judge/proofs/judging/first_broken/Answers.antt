@@ -10,7 +10,7 @@ returns-then-not-keeps_configuration-clause-found c =
     let lines = c.args.lines.now in
     let f = c.args.f in
     is_first d lines f same_configuration (omega arith) (none_below d lines f)
-    (breaks_if d lines f same_configuration c.requires.frame c.args.had_margin c.requires.had c.keeps_configuration.result c.keeps_configuration.ensures
+    (breaks_if d lines f same_configuration c.requires.known.frame c.args.had_margin c.requires.had c.keeps_configuration.result c.keeps_configuration.ensures
     c.if-not-keeps_configuration.true)
 
 pub returns-then-not-has_true_margin-clause-found : goal.returns-then-not-has_true_margin-clause-found
@@ -20,4 +20,4 @@ returns-then-not-has_true_margin-clause-found c =
     let f = c.args.f in
     let two = c.keeps_configuration.ensures.0 c.if-not-keeps_configuration.false in
     is_first d lines f true_margin (omega arith) (seven_kept d lines f two c.in_default.ensures.none)
-    (breaks d lines f true_margin c.requires.frame tt c.has_true_margin.result c.has_true_margin.ensures c.if-not-has_true_margin.true)
+    (breaks d lines f true_margin c.requires.known.frame tt c.has_true_margin.result c.has_true_margin.ensures c.if-not-has_true_margin.true)

@@ -9,55 +9,55 @@ returns-then-not-has_same_inputs-clause-found c =
     let d = data_of c.args.mission.now in
     let lines = c.args.lines.now in
     let f = c.args.f in
-    let margin = c.requires.has.0 c.if-not-has_margin.false in
+    let margin = c.requires.known.margin_is.0 c.if-not-has_margin.false in
     is_first d lines f same_inputs (omega arith) (two_kept d lines f c.requires.configuration)
-    (breaks d lines f same_inputs c.requires.frame margin c.has_same_inputs.result c.has_same_inputs.ensures c.if-not-has_same_inputs.true)
+    (breaks d lines f same_inputs c.requires.known.frame margin c.has_same_inputs.result c.has_same_inputs.ensures c.if-not-has_same_inputs.true)
 
 pub returns-then-not-has_ideal_outputs-clause-found : goal.returns-then-not-has_ideal_outputs-clause-found
 returns-then-not-has_ideal_outputs-clause-found c =
     let d = data_of c.args.mission.now in
     let lines = c.args.lines.now in
     let f = c.args.f in
-    let margin = c.requires.has.0 c.if-not-has_margin.false in
+    let margin = c.requires.known.margin_is.0 c.if-not-has_margin.false in
     let three = c.has_same_inputs.ensures.0 c.if-not-has_same_inputs.false in
     is_first d lines f ideal_outputs (omega arith) (three_kept d lines f c.requires.configuration three)
-    (breaks d lines f ideal_outputs c.requires.frame margin c.has_ideal_outputs.result c.has_ideal_outputs.ensures c.if-not-has_ideal_outputs.true)
+    (breaks d lines f ideal_outputs c.requires.known.frame margin c.has_ideal_outputs.result c.has_ideal_outputs.ensures c.if-not-has_ideal_outputs.true)
 
 pub returns-then-not-has_no_false_accusation-clause-found : goal.returns-then-not-has_no_false_accusation-clause-found
 returns-then-not-has_no_false_accusation-clause-found c =
     let d = data_of c.args.mission.now in
     let lines = c.args.lines.now in
     let f = c.args.f in
-    let margin = c.requires.has.0 c.if-not-has_margin.false in
+    let margin = c.requires.known.margin_is.0 c.if-not-has_margin.false in
     let three = c.has_same_inputs.ensures.0 c.if-not-has_same_inputs.false in
     let four = c.has_ideal_outputs.ensures.0 c.if-not-has_ideal_outputs.false in
     is_first d lines f no_false_accusation (omega arith) (four_kept d lines f c.requires.configuration three four)
-    (breaks d lines f no_false_accusation c.requires.frame margin c.has_no_false_accusation.result c.has_no_false_accusation.ensures c.if-not-has_no_false_accusation.true)
+    (breaks d lines f no_false_accusation c.requires.known.frame margin c.has_no_false_accusation.result c.has_no_false_accusation.ensures c.if-not-has_no_false_accusation.true)
 
 pub returns-then-not-has_exact_removal-clause-found : goal.returns-then-not-has_exact_removal-clause-found
 returns-then-not-has_exact_removal-clause-found c =
     let d = data_of c.args.mission.now in
     let lines = c.args.lines.now in
     let f = c.args.f in
-    let margin = c.requires.has.0 c.if-not-has_margin.false in
+    let margin = c.requires.known.margin_is.0 c.if-not-has_margin.false in
     let three = c.has_same_inputs.ensures.0 c.if-not-has_same_inputs.false in
     let four = c.has_ideal_outputs.ensures.0 c.if-not-has_ideal_outputs.false in
     let five = c.has_no_false_accusation.ensures.0 c.if-not-has_no_false_accusation.false in
     is_first d lines f exact_removal (omega arith) (five_kept d lines f c.requires.configuration three four five)
-    (breaks d lines f exact_removal c.requires.frame margin c.has_exact_removal.result c.has_exact_removal.ensures c.if-not-has_exact_removal.true)
+    (breaks d lines f exact_removal c.requires.known.frame margin c.has_exact_removal.result c.has_exact_removal.ensures c.if-not-has_exact_removal.true)
 
 pub returns-then-not-has_clock_skew-clause-found : goal.returns-then-not-has_clock_skew-clause-found
 returns-then-not-has_clock_skew-clause-found c =
     let d = data_of c.args.mission.now in
     let lines = c.args.lines.now in
     let f = c.args.f in
-    let margin = c.requires.has.0 c.if-not-has_margin.false in
+    let margin = c.requires.known.margin_is.0 c.if-not-has_margin.false in
     let three = c.has_same_inputs.ensures.0 c.if-not-has_same_inputs.false in
     let four = c.has_ideal_outputs.ensures.0 c.if-not-has_ideal_outputs.false in
     let five = c.has_no_false_accusation.ensures.0 c.if-not-has_no_false_accusation.false in
     let six = c.has_exact_removal.ensures.0 c.if-not-has_exact_removal.false in
     is_first d lines f clock_skew (omega arith) (six_kept d lines f c.requires.configuration three four five six)
-    (breaks d lines f clock_skew c.requires.frame margin c.has_clock_skew.result c.has_clock_skew.ensures c.if-not-has_clock_skew.true)
+    (breaks d lines f clock_skew c.requires.known.frame margin c.has_clock_skew.result c.has_clock_skew.ensures c.if-not-has_clock_skew.true)
 
 pub returns-clause-none : goal.returns-clause-none
 returns-clause-none c = λ margin. record {

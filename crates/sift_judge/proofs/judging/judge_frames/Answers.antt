@@ -1,4 +1,4 @@
-use Rattle.std.proofs.Common.{◌≡◌, ◌∙◌, ap, below_more, length, refl, subst, arith}
+use Rattle.std.proofs.Common.{◌≡◌, ◌<◌, ◌∙◌, ap, below_more, length, refl, subst, arith}
 use Rattle.sift_mission.specs.Parts.{data_of}
 use Rattle.sift_mission.specs.declared.parts.MissionParts.{MissionParts}
 use Rattle.sift_judge.specs.Turns.{KeepsBefore, KeepsFrame}
@@ -16,13 +16,21 @@ loop-frame-init c =
     )
 
 -- a frame with margin comes behind frames with margin
-pub first_broken-requires-clause-runs : goal.first_broken-requires-clause-runs
-first_broken-requires-clause-runs c =
+pub first_broken-requires-clause-known : goal.first_broken-requires-clause-known
+first_broken-requires-clause-known c =
     let d = data_of c.args.mission.now in
+    let f = c.loop-frame.frame in
     let seen = c.loop-frame.invariant in
+    let has = c.has_margin_told-has_margin.ensures in
+    let low : f < d.frames = omega (arith, c.loop-frame-test.true, c.frames-frame-end.ensures) in
     record {
-      words_are = λ t. seen.1.words_are (seen.0.1 (had_margin d c.args.lines.now c.loop-frame.frame (c.has_margin_told-has_margin.ensures.0 t)));
-      as_many = seen.1.as_many;
+      frame = low;
+      form = c.requires.forms f low;
+      margin_is = has;
+      runs = record {
+        words_are = λ t. seen.1.words_are (seen.0.1 (had_margin d c.args.lines.now f (has.0 t)));
+        as_many = seen.1.as_many;
+      };
     }
 
 pub returns-in-Some : goal.returns-in-Some

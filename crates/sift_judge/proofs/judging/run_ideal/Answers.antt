@@ -1,4 +1,4 @@
-use Rattle.std.proofs.Common.{◌≡◌, ◌∙◌, length, ap, subst, sym}
+use Rattle.std.proofs.Common.{◌≡◌, ◌∙◌, length, ap, refl, subst, sym}
 use Rattle.sift_mission.specs.Parts.{data_of}
 use Rattle.sift_mission.specs.declared.parts.MissionParts.{MissionParts}
 use Rattle.sift_program.specs.Program.{program_of}
@@ -12,6 +12,7 @@ frame-requires-clause-sound c =
     let d = data_of c.args.mission.now in
     let fit = c.parts.ensures.fit in
     let count : length c.agreed_told.result.now ≡ d.layout.sensors =
-    ap length c.agreed_told.ensures ∙ agreed_length d c.args.lines.now c.args.f fit c.requires.frame c.requires.form c.requires.margin in
+    ap length c.agreed_told.ensures ∙ agreed_length d c.args.lines.now c.args.f fit c.requires.known.frame c.requires.known.form
+    (c.requires.known.margin_is.0 refl) in
     subst (λ (p : MissionParts). IsSoundProgram (length c.agreed_told.result.now) (program_of p.program)) (sym c.parts.ensures.same)
     (subst (λ n. IsSoundProgram n d.program) (sym count) fit.program)
