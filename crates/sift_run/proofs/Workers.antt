@@ -41,4 +41,4 @@ module _ (given : MissionData → Strays → Type 0) where
   pub workers_do_not_show : CommandsGiveOne given → WorkersDoNotShow given
   workers_do_not_show gives_one one other bytes came there same calm gives others =
       gives_one (by_one one) bytes (λ flies. calm (flies_too one flies)) came there (gives_alike one bytes came gives)
-          (subst (λ (c : Command). (duty_of given c).gives bytes there) (sym same) (gives_alike other bytes there others))
+      (subst (λ (c : Command). (duty_of given c).gives bytes there) (sym same) (gives_alike other bytes there others))

@@ -16,4 +16,4 @@ returns-clause-onward g c =
     let now = c.if-self-heard_in.false ∙ c.heard_in.ensures in
     note_onward _ c.requires.may.walks.fits (desk_of c.args.self.now) c.requires.may.walks.range (memory_of c.note.new.self)
     (record { part = c.requires.at.part; slot = c.requires.at.slot; other = c.requires.may.whole.heard c.requires.at.part c.requires.at.slot now; subframe = now })
-        c.note.ensures.noted _ c.note.ensures.before
+    c.note.ensures.noted _ c.note.ensures.before
