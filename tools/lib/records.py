@@ -1,8 +1,9 @@
 """The folder of a campaign: its kit, the engine's log, the rows of its batches, and its table."""
+import contextlib
 import glob
 import os
 import re
-import secrets
+import shutil
 
 from campaign import Campaign, checksum, read
 from rows import COLUMNS
@@ -20,11 +21,27 @@ def written(path, text):
     os.replace(path + ".new", path)
 
 
-def new_kit(folder):
-    """Makes the folder for a kit, under a name that no other has."""
-    kit = os.path.join(folder, KIT + secrets.token_hex(4))
+def new_kit(folder, undo):
+    """Makes the folder for a kit, under a name that no other has. What takes all of it away again goes to `undo`."""
+    kit = os.path.join(folder, KIT + os.urandom(4).hex())
+    made = [os.path.abspath(folder)]
+    while not os.path.exists(made[-1]):
+        made.append(os.path.dirname(made[-1]))
+    for path in reversed(made[:-1]):
+        undo.callback(taken_away, os.rmdir, path)
+    for name in ("jobs.log", "jobs.txt"):
+        path = os.path.join(folder, name)
+        if not os.path.exists(path):
+            undo.callback(taken_away, os.remove, path)
+    undo.callback(shutil.rmtree, kit, ignore_errors=True)
     os.makedirs(kit)
     return kit
+
+
+def taken_away(remove, path):
+    """Takes away a file or an empty folder, where it is there."""
+    with contextlib.suppress(OSError):
+        remove(path)
 
 
 def kit_of(folder):
