@@ -1,13 +1,15 @@
 """Prints documents: the one place where the tools write TOML."""
 import json
 
+quoted = json.JSONEncoder(ensure_ascii=False).encode
+
 
 def value_of(value):
     """A value that stands in a line, as TOML writes it."""
     if isinstance(value, list):
         return "[" + ", ".join(map(value_of, value)) + "]"
     if isinstance(value, str):
-        return json.dumps(value, ensure_ascii=False).replace("\x7f", "\\u007F")
+        return quoted(value).replace("\x7f", "\\u007F")
     return str(value)
 
 

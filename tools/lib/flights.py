@@ -14,28 +14,48 @@ from reports import NoReport, read_report
 from rows import row_of
 
 
-def row(campaign, flyer, number):
-    """The row of a run, which is flown."""
-    faults = campaign.faults[number - 1]
-    document = campaign.document(faults)
-    report = flyer.fly(document)
-    last = report.rstrip("\n").rsplit("\n", 1)[-1]
-    outcome = outcome_of(faults, read_report(report), last, campaign.schedule)
-    verdict = flyer.judge(document, report) if campaign.options["judge"] else "-"
-    return row_of(number, faults, outcome, verdict)
+class Run:
+    """A run of a campaign, which begins to fly."""
+
+    def __init__(self, campaign, flyer, number):
+        self.campaign = campaign
+        self.flyer = flyer
+        self.number = number
+        self.faults = campaign.faults[number - 1]
+        self.document = campaign.document(self.faults)
+        self.flight = flyer.begin_flight(self.document)
+
+    def row(self):
+        """The row of the run. It is judged while its report is read."""
+        report = self.flyer.end_flight(self.flight)
+        judging = self.flyer.begin_judging(self.document, report) if self.campaign.options["judge"] else None
+        text = report.decode("ascii")
+        last = text.rstrip("\n").rsplit("\n", 1)[-1]
+        outcome = outcome_of(self.faults, read_report(text), last, self.campaign.schedule)
+        verdict = self.flyer.end_judging(judging) if judging else "-"
+        return row_of(self.number, self.faults, outcome, verdict)
+
+
+def overlapped(runs):
+    """Each run, when the one behind it has begun: so the program always has something to do."""
+    before = next(runs)
+    for run in runs:
+        yield before
+        before = run
+    yield before
 
 
 def main(batch):
     gc.disable()  # nothing that is read of a report refers to itself, and what is kept of reports is bounded
     campaign = Campaign(os.path.dirname(os.path.realpath(__file__)))
     flyer = Flyer(campaign.program)
-    rows = []
-    for number in campaign.batch(batch):
-        try:
-            rows.append(row(campaign, flyer, number))
-        except (NoFlight, NoReport, UnicodeDecodeError, OSError) as fault:
-            print(f"row {number}: {fault}", file=sys.stderr)
-            return 1
+    numbers, rows = campaign.batch(batch), []
+    try:
+        for run in overlapped(Run(campaign, flyer, number) for number in numbers):
+            rows.append(run.row())
+    except (NoFlight, NoReport, UnicodeDecodeError, OSError) as fault:
+        print(f"row {numbers[len(rows)]}: {fault}", file=sys.stderr)
+        return 1
     print(f"batch {batch}", *rows, f"done {batch} {flyer.seconds:.3f} {checksum(rows):08x}", sep="\n", flush=True)
     return 0
 

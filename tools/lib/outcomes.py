@@ -25,22 +25,27 @@ def trace_of(fault, flight, told, schedule):
 
 
 @lru_cache(maxsize=16384)
-def wrong_in(frame, ideal, compared):
+def wrong_in(votes, ideal, compared):
     """The places, of those that are compared, of the output words that some unit votes other than the ideal machine has them."""
-    others = set(frame.outputs) - {None, ideal}
-    return tuple(place for place in compared if any(words[place] != ideal[place] for words in others)) if others else ()
+    return tuple(place for place in compared if any(words[place] != ideal[place] for words in votes))
+
+
+def wrong_words(flight, schedule):
+    """Of each frame in which output words are wrong their places."""
+    frames = enumerate(zip(flight.frames, schedule.ideal, schedule.compared(flight)))
+    differing = ((number, wrong_in(frame.votes, ideal, compared)) for number, (frame, ideal, compared) in frames if not frame.votes <= {ideal})
+    return {number: places for number, places in differing if places}
 
 
 def outcome_of(faults, flight, last, schedule):
     """What came of the run with these faults."""
     told = flight.configurations()
-    wrong = list(map(wrong_in, flight.frames, schedule.ideal, schedule.compared(flight)))
-    places = sorted(set().union(*wrong))
+    wrong = wrong_words(flight, schedule)
     return Outcome(
         tuple(trace_of(fault, flight, told, schedule) for fault in faults),
         flight.frames[-1].margin,
-        sum(map(len, wrong)),
-        next((frame for frame, places in enumerate(wrong) if places), None),
-        tuple(schedule.names[place] for place in places),
+        sum(map(len, wrong.values())),
+        next(iter(wrong), None),
+        tuple(schedule.names[place] for place in sorted(set().union(*wrong.values()))),
         last,
     )

@@ -1,15 +1,20 @@
 """Reads a report of `sift run`, of either version, and tells what its lines say. No flight is computed."""
+import itertools
 import re
 from functools import lru_cache
 
 NUMBER = "(0|[1-9][0-9]*)"
 WORDS_LISTED = "(-|[0-9a-f]{4}(?:,[0-9a-f]{4})*)"
 CAUGHT_LISTED = "(-|[0-7]+|[0-7](?:pr?c?|rc?|c)(?:,[0-7](?:pr?c?|rc?|c))*)"  # in version 1 digits, in version 2 with kinds
-ACCOUNT = re.compile(
-    f"f={NUMBER} u=([0-7]) cfg=([0-7]+) clk=(-?{NUMBER}) in={WORDS_LISTED} out={WORDS_LISTED} bad={CAUGHT_LISTED}"
-)
+UNIT = re.compile(f"f={NUMBER} u=[0-7] ")
+ACCOUNT = re.compile(f"cfg=([0-7]+) clk=(-?{NUMBER}) in={WORDS_LISTED} out={WORDS_LISTED} bad={CAUGHT_LISTED}")
+# What no outcome of a run asks for: the numbers of the clocks. In place of them stands what they are blanked with.
+CLOCKS = {
+    " clk=0 ": re.compile(f" clk=-?{NUMBER} "),
+    " skew=0 slack=0 ": re.compile(f" skew={NUMBER} slack=-?{NUMBER} "),
+}
+STRETCH = 10  # frames of a report that are looked for at once among those that were read before
 KINDS = {"p": "poll", "r": "relay", "c": "clock"}
-APART = re.compile(f"f={NUMBER} u=([0-7]) (faulty|idle)")
 FRAME = re.compile(f"f={NUMBER} (?:skew={NUMBER} slack=(-?{NUMBER})|skew=- slack=-) margin=(ok|lost)")
 END = re.compile(f"end frames={NUMBER} cfg=([0-7]+) margin=(ok|lost)")
 IDEAL = re.compile(f"f={NUMBER} out={WORDS_LISTED}")
@@ -32,11 +37,13 @@ class Frame:
         self.states, self.configurations, self.clocks, self.inputs, self.outputs = told[:5]
         self.catches = told[5]  # of each unit: the units of its bad, with the letters of the kinds; none in version 1
         self.skew, self.slack, self.margin = figures
-        # The configuration of the lowest unit that tells one, or None; the units that some unit caught; and the versions in which
-        # they are told, by unit.
+        # The configuration of the lowest unit that tells one, or None; the units that some unit caught; the versions in which
+        # they are told; the greatest unit that is named; and the words of the outs, each once.
         self.configuration = next(filter(None, self.configurations), None)
         self.caught = frozenset().union(*self.catches)
         self.versions = {unit: 2 if any(caught.values()) else 1 for unit, caught in enumerate(self.catches) if caught}
+        self.greatest = max(self.caught.union(*filter(None, self.configurations)), default=0)
+        self.votes = frozenset(self.outputs) - {None}
 
     def split(self):
         """Whether two units tell different configurations."""
@@ -110,15 +117,26 @@ def words_of(text):
     return () if text == "-" else tuple(int(word, 16) for word in text.split(","))
 
 
-@lru_cache(maxsize=65536)
-def unit_of(line):
-    """What the line of a unit tells: the frame, the unit, its state, and its cfg, clk, in, out and bad; or None."""
-    account = ACCOUNT.fullmatch(line)
-    if account:
-        words = words_of(account[6]), words_of(account[7])
-        return int(account[1]), int(account[2]), "works", units_of(account[3]), int(account[4]), *words, catches_of(account[8])
-    apart = APART.fullmatch(line)
-    return (int(apart[1]), int(apart[2]), apart[3], None, None, None, None, {}) if apart else None
+@lru_cache(maxsize=16384)
+def account_of(text):
+    """What the line of a unit tells behind the frame and the unit: its state, and its cfg, clk, in, out and bad; or None."""
+    if text in ("faulty", "idle"):
+        return text, None, None, None, None, {}
+    found = ACCOUNT.fullmatch(text)
+    if not found:
+        return None
+    return "works", units_of(found[1]), int(found[2]), words_of(found[4]), words_of(found[5]), catches_of(found[6])
+
+
+def unit_of(line, number, unit):
+    """What the line of a unit in a frame tells, or None where it is no unit's."""
+    begin = f"f={number} u={unit} "
+    if line.startswith(begin):
+        return account_of(line[len(begin) :])
+    other = UNIT.match(line)
+    if other and account_of(line[other.end() :]):
+        raise NoReport(f"frame {number} and unit {unit} are due")
+    return None
 
 
 def figures_of(line, number):
@@ -134,8 +152,7 @@ def check_units(frame, count):
     units = len(frame.states)
     if not 4 <= units <= 8 or count not in (units, None):
         raise NoReport("a frame has another number of units")
-    named_units = frame.caught.union(*filter(None, frame.configurations))
-    if max(named_units, default=0) >= units:
+    if frame.greatest >= units:
         raise NoReport("the frame names a unit that isn't there")
 
 
@@ -145,35 +162,34 @@ def frame_of(text, number, count):
     units = []
     for place, line in enumerate(lines_of(text)):
         try:
-            told = unit_of(line)
+            told = unit_of(line, number, place)
             if told is None:
                 frame = Frame(units, figures_of(line, number))
                 check_units(frame, count)
                 return frame
-            if told[:2] != (number, place):
-                raise NoReport(f"frame {number} and unit {place} are due")
-            units.append(told[2:])
+            units.append(told)
         except NoReport as fault:
             raise NoReport(str(fault), place) from None
     return None
 
 
-def read_end(line, is_last, frames):
-    """The flight, where a line is the end of the report; or None."""
+def read_end(line, is_last, number, count):
+    """The configuration after so many frames of so many units, where a line is the end of the report; or None."""
     end = END.fullmatch(line)
-    if not end or not frames:
+    if not end or not number:
         return None
-    if int(end[1]) != len(frames) or not is_last:
-        raise NoReport(f"the end of {len(frames)} frames is due, and nothing after it")
-    flight = Flight(frames, units_of(end[2]))
-    if flight.last[-1] >= flight.units:
+    if int(end[1]) != number or not is_last:
+        raise NoReport(f"the end of {number} frames is due, and nothing after it")
+    last = units_of(end[2])
+    if last[-1] >= count:
         raise NoReport("the configuration has a unit that isn't there")
-    return flight
+    return last
 
 
 def whole_lines(text):
     """A text of whole lines, which end as the program's do, or with CR LF as some copies' do."""
-    text = text.replace("\r\n", "\n")
+    if "\r" in text:
+        text = text.replace("\r\n", "\n")
     if text and not text.endswith("\n"):
         raise NoReport(f"line {line_number(text, len(text))}: the last line has no end")
     return text
@@ -189,10 +205,25 @@ def line_number(text, place):
     return text.count("\n", 0, place) + 1
 
 
-def read_report(text):
-    """The flight that a report tells."""
-    text = whole_lines(text)
-    frames, place, count, version = [], 0, None, None
+def stretches(text):
+    """The parts of a report of whole lines, each of them so many frames, the last one with the end."""
+    place = 0
+    for number in itertools.count(STRETCH, STRETCH):
+        cut = text.find(f"\nf={number} u=0 ", place) + 1
+        before = text.rfind("\n", place, cut - 1) + 1 or place
+        # No frame goes on behind the line of its margin.
+        if not cut or not text.startswith("f=", before) or text.find(" margin=", before, cut) < 0:
+            break
+        yield text[place:cut]
+        place = cut
+    yield text[place:]
+
+
+@lru_cache(maxsize=1024)
+def stretch_of(text, number, count, version):
+    """What a part of a report tells, from the frame with this number on: its frames, the configuration after the last, or None,
+    and the number of units and the version of the report, which may be known from before."""
+    frames, place = [], 0
     try:
         while place < len(text):
             # The lines of a frame end with the one that tells its margin; so does the end of the report.
@@ -200,10 +231,10 @@ def read_report(text):
             end = text.index("\n", margin) + 1 if margin >= 0 else len(text)
             lines = text[place:end]
             if lines.startswith("end "):
-                flight = read_end(lines[:-1], end == len(text), frames)
-                if flight:
-                    return flight
-            frame = frame_of(lines, len(frames), count)
+                last = read_end(lines[:-1], end == len(text), number + len(frames), count)
+                if last:
+                    return tuple(frames), last, count, version
+            frame = frame_of(lines, number + len(frames), count)
             if not frame:
                 break
             for unit, told in frame.versions.items():
@@ -214,8 +245,32 @@ def read_report(text):
             count = len(frame.states)
             place = end
     except NoReport as fault:
+        raise NoReport(str(fault), text.count("\n", 0, place) + fault.line) from None
+    return tuple(frames), None, count, version
+
+
+@lru_cache(maxsize=1024)
+def blanked_stretch_of(text, *before):
+    """The same with 0 for what the clocks show. Most reports of a mission differ in that alone from one that was read before."""
+    for blank, clock in CLOCKS.items():
+        text = clock.sub(blank, text)
+    return stretch_of(text, *before)
+
+
+def read_report(text, stretch=stretch_of):
+    """The flight that a report tells; with `blanked_stretch_of` without what the clocks show, and sooner."""
+    text = whole_lines(text)
+    frames, place, last, count, version = [], 0, None, None, None
+    try:
+        for part in stretches(text):
+            told, last, count, version = stretch(part, len(frames), count, version)
+            frames += told
+            place += len(part)
+    except NoReport as fault:
         raise NoReport(f"line {line_number(text, place) + fault.line}: {fault}") from None
-    raise NoReport(f"line {line_number(text, len(text))}: the line of the mission's end is missing")
+    if not last:
+        raise NoReport(f"line {line_number(text, len(text))}: the line of the mission's end is missing")
+    return Flight(frames, last)
 
 
 def read_ideal(text):
