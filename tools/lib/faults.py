@@ -5,7 +5,6 @@ from itertools import combinations, repeat
 
 from slots import FEWEST, configurations_of, sayers
 
-KINDS = ("wrong", "silence", "two-faces")
 FAR = -32768  # a clock's offset that is too far from every other one
 FIRST_WORD = 999  # where the search for a word begins that is never the right one
 FAULT = re.compile(r"unit ([0-7]) (.+) (wrong|silence|two-faces) from (\d+)")

@@ -10,39 +10,51 @@ import sys
 from campaign import Campaign, checksum
 from flyer import Flyer, NoFlight
 from outcomes import outcome_of
-from reports import NoReport, read_report
+from reports import NoReport, blanked_stretch_of, read_report
 from rows import row_of
+
+IN_A_ROW = 16  # runs that fly, and whose reports are read then: what is done many times in a row goes faster each time
+
+
+class NoRow(Exception):
+    """Why a run has no row."""
 
 
 class Run:
-    """A run of a campaign, which begins to fly."""
+    """A run of a campaign: its document, and when it has flown its report and what the judge says of it."""
 
-    def __init__(self, campaign, flyer, number):
-        self.campaign = campaign
-        self.flyer = flyer
+    def __init__(self, campaign, number):
         self.number = number
         self.faults = campaign.faults[number - 1]
         self.document = campaign.document(self.faults)
-        self.flight = flyer.begin_flight(self.document)
+        self.report = ""
+        self.verdict = "-"
 
-    def row(self):
-        """The row of the run. It is judged while its report is read."""
-        report = self.flyer.end_flight(self.flight)
-        judging = self.flyer.begin_judging(self.document, report) if self.campaign.options["judge"] else None
-        text = report.decode("ascii")
-        last = text.rstrip("\n").rsplit("\n", 1)[-1]
-        outcome = outcome_of(self.faults, read_report(text), last, self.campaign.schedule)
-        verdict = self.flyer.end_judging(judging) if judging else "-"
-        return row_of(self.number, self.faults, outcome, verdict)
+    def fly(self, flyer, judged):
+        """Flies, and is judged where that is wanted."""
+        try:
+            self.report = flyer.fly(self.document)
+            if judged:
+                self.verdict = flyer.judge(self.document, self.report)
+        except (NoFlight, UnicodeDecodeError, OSError) as fault:
+            raise NoRow(f"row {self.number}: {fault}") from None
+
+    def row(self, schedule):
+        """The row of the run, which has flown."""
+        last = self.report.rstrip("\n").rsplit("\n", 1)[-1]
+        try:
+            flight = read_report(self.report, blanked_stretch_of)
+        except NoReport as fault:
+            raise NoRow(f"row {self.number}: {fault}") from None
+        return row_of(self.number, self.faults, outcome_of(self.faults, flight, last, schedule), self.verdict)
 
 
-def overlapped(runs):
-    """Each run, when the one behind it has begun: so the program always has something to do."""
-    before = next(runs)
+def rows_of(campaign, flyer, numbers):
+    """The rows of some runs, which are flown."""
+    runs = [Run(campaign, number) for number in numbers]
     for run in runs:
-        yield before
-        before = run
-    yield before
+        run.fly(flyer, campaign.options["judge"])
+    return [run.row(campaign.schedule) for run in runs]
 
 
 def main(batch):
@@ -51,10 +63,10 @@ def main(batch):
     flyer = Flyer(campaign.program)
     numbers, rows = campaign.batch(batch), []
     try:
-        for run in overlapped(Run(campaign, flyer, number) for number in numbers):
-            rows.append(run.row())
-    except (NoFlight, NoReport, UnicodeDecodeError, OSError) as fault:
-        print(f"row {numbers[len(rows)]}: {fault}", file=sys.stderr)
+        for begin in range(0, len(numbers), IN_A_ROW):
+            rows += rows_of(campaign, flyer, numbers[begin : begin + IN_A_ROW])
+    except NoRow as fault:
+        print(fault, file=sys.stderr)
         return 1
     print(f"batch {batch}", *rows, f"done {batch} {flyer.seconds:.3f} {checksum(rows):08x}", sep="\n", flush=True)
     return 0

@@ -15,55 +15,33 @@ class Flyer:
         self.program = program
         self.environment = dict(os.environb)
         self.seconds = 0.0
-        self.files = []  # pairs that no program uses: one that it reads, and one that it writes
-
-    def begin(self, words, text):
-        """Lets the program begin with words on a text. It is ended by one of the functions below."""
-        source, sink = self.files.pop() if self.files else (os.memfd_create("document"), os.memfd_create("report"))
-        os.pwrite(source, text, 0)
-        os.truncate(source, len(text))
-        for file in (source, sink):
-            os.lseek(file, 0, os.SEEK_SET)
-        actions = [(os.POSIX_SPAWN_DUP2, source, 0), (os.POSIX_SPAWN_DUP2, sink, 1)]
-        return os.posix_spawn(self.program, [self.program, *words], self.environment, file_actions=actions), source, sink
-
-    def end(self, begun):
-        """The status of a program that has begun, and what it writes."""
-        child, source, sink = begun
-        _, status, used = os.wait4(child, 0)
-        self.seconds += used.ru_utime + used.ru_stime
-        # It writes over what an earlier one wrote, up to where it stops.
-        written = os.pread(sink, os.lseek(sink, 0, os.SEEK_CUR), 0)
-        self.files.append((source, sink))
-        return os.waitstatus_to_exitcode(status), written
+        self.source, self.sink = map(os.memfd_create, ("document", "report"))  # what it reads, and what it writes
 
     def run(self, words, text):
         """The status of the program with words, and what it writes."""
-        return self.end(self.begin(words, text))
+        os.pwrite(self.source, text, 0)
+        os.truncate(self.source, len(text))
+        for file in (self.source, self.sink):
+            os.lseek(file, 0, os.SEEK_SET)
+        actions = [(os.POSIX_SPAWN_DUP2, self.source, 0), (os.POSIX_SPAWN_DUP2, self.sink, 1)]
+        child = os.posix_spawn(self.program, [self.program, *words], self.environment, file_actions=actions)
+        _, status, used = os.wait4(child, 0)
+        self.seconds += used.ru_utime + used.ru_stime
+        # It wrote over what it wrote before, up to here.
+        written = os.pread(self.sink, os.lseek(self.sink, 0, os.SEEK_CUR), 0)
+        return os.waitstatus_to_exitcode(status), written
 
-    def begin_flight(self, document):
-        """Lets a document begin to fly. One worker flies it: many flights at once keep all processors busy as it is."""
-        return self.begin(["run", "--workers", "1"], document)
-
-    def end_flight(self, begun):
-        """The report of a document that has begun to fly, in bytes."""
-        status, report = self.end(begun)
+    def fly(self, document):
+        """The report of a document. One worker flies it: many flights at once keep all processors busy as it is."""
+        status, report = self.run(["run", "--workers", "1"], document)
         if status:
             line = report.decode(errors="replace").strip()
             raise NoFlight(f"the program ends with status {status}" + (f": {line}" if line else ""))
-        return report
+        return report.decode("ascii")
 
-    def fly(self, document):
-        """The report of a document."""
-        return self.end_flight(self.begin_flight(document)).decode("ascii")
-
-    def begin_judging(self, document, report):
-        """Lets the program's judge begin on a report."""
-        return self.begin(["judge"], document + DIVIDER + report)
-
-    def end_judging(self, begun):
-        """What the program's judge says."""
-        return self.end(begun)[1].decode().strip()
+    def judge(self, document, report):
+        """What the program's judge says of a report."""
+        return self.run(["judge"], document + DIVIDER + report.encode())[1].decode().strip()
 
     def has_judge(self):
         """Whether the program has the command."""

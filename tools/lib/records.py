@@ -1,15 +1,12 @@
 """The folder of a campaign: its kit, the engine's log, the rows of its batches, and its table."""
-import contextlib
-import glob
 import os
 import re
-import shutil
 
 from campaign import Campaign, checksum, read
+from kits import kit_of
 from rows import COLUMNS
 
 DONE = re.compile(r"done ([0-9]+) ([0-9]+\.[0-9]{3}) ([0-9a-f]{8})")
-KIT = "sift-campaign-"  # what the name of a kit's folder begins with; it lies under that name on other machines, too
 
 
 def written(path, text):
@@ -21,42 +18,12 @@ def written(path, text):
     os.replace(path + ".new", path)
 
 
-def new_kit(folder, undo):
-    """Makes the folder for a kit, under a name that no other has. What takes all of it away again goes to `undo`."""
-    kit = os.path.join(folder, KIT + os.urandom(4).hex())
-    made = [os.path.abspath(folder)]
-    while not os.path.exists(made[-1]):
-        made.append(os.path.dirname(made[-1]))
-    for path in reversed(made[:-1]):
-        undo.callback(taken_away, os.rmdir, path)
-    for name in ("jobs.log", "jobs.txt"):
-        path = os.path.join(folder, name)
-        if not os.path.exists(path):
-            undo.callback(taken_away, os.remove, path)
-    undo.callback(shutil.rmtree, kit, ignore_errors=True)
-    os.makedirs(kit)
-    return kit
-
-
-def taken_away(remove, path):
-    """Takes away a file or an empty folder, where it is there."""
-    with contextlib.suppress(OSError):
-        remove(path)
-
-
-def kit_of(folder):
-    """The kit of a campaign's folder, or None where no campaign has begun in it."""
-    begun = glob.glob(os.path.join(glob.escape(folder), KIT + "*", "campaign.json"))
-    return os.path.dirname(begun[0]) if begun else None
-
-
 class Records:
     """What is kept of a campaign that has begun in a folder."""
 
     def __init__(self, folder):
         self.folder = os.path.abspath(folder)
         self.campaign = Campaign(kit_of(self.folder))
-        self.kit = os.path.basename(self.campaign.kit)
 
     def path(self, name):
         return os.path.join(self.folder, name)

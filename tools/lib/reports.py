@@ -219,7 +219,7 @@ def stretches(text):
     yield text[place:]
 
 
-@lru_cache(maxsize=1024)
+@lru_cache(maxsize=512)
 def stretch_of(text, number, count, version):
     """What a part of a report tells, from the frame with this number on: its frames, the configuration after the last, or None,
     and the number of units and the version of the report, which may be known from before."""
@@ -249,7 +249,7 @@ def stretch_of(text, number, count, version):
     return tuple(frames), None, count, version
 
 
-@lru_cache(maxsize=1024)
+@lru_cache(maxsize=512)
 def blanked_stretch_of(text, *before):
     """The same with 0 for what the clocks show. Most reports of a mission differ in that alone from one that was read before."""
     for blank, clock in CLOCKS.items():

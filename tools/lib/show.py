@@ -1,7 +1,4 @@
-"""How the tools read a file, show a place in it, and end."""
-import os
-import sys
-
+"""How the tools show a place in a file."""
 import places
 
 WIDTH = 100  # of what is shown of a line
@@ -37,30 +34,3 @@ def header_line(text, root, number, place):
 def lines_of(told):
     """More lines below a place, each with what it is."""
     return "".join(f"  {what}: {words}\n" for what, words in told)
-
-
-def read_source(name):
-    """The bytes of a file, or of standard input where the name is -."""
-    if name != "-":
-        with open(name, "rb") as source:
-            return source.read()
-    try:
-        return sys.stdin.buffer.read()
-    except OSError as fault:
-        fault.filename = "standard input"
-        raise
-
-
-def run(name, main, words, unread, unwritten):
-    """The status of a tool's main function: `unread` where an input fails, and `unwritten` where standard output does."""
-    try:
-        status = main(words)
-        sys.stdout.flush()
-        return status
-    except OSError as fault:
-        # Standard output is let go, so that nothing more is written to it when Python ends.
-        os.dup2(os.open(os.devnull, os.O_WRONLY), sys.stdout.fileno())
-        if not isinstance(fault, BrokenPipeError):
-            where = f"{fault.filename}: " if fault.filename else ""
-            print(f"{name}: {where}{fault.strerror}", file=sys.stderr)
-        return unread if fault.filename else unwritten

@@ -2,6 +2,7 @@
 import itertools
 
 FEWEST = 4  # units of a configuration
+KINDS = ("wrong", "silence", "two-faces")  # the ways of saying a word that is not the right one
 
 
 def configurations_of(units):

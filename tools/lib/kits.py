@@ -1,0 +1,41 @@
+"""The kit of a campaign: a folder in its folder, with the mission, the program and the tools as they were when it began."""
+import contextlib
+import glob
+import os
+import shutil
+
+KIT = "sift-campaign-"  # what the name of a kit's folder begins with; it lies under that name on other machines, too
+
+
+def new_kit(folder, undo):
+    """Makes the folder for a kit, under a name that no other has. What takes all of it away again goes to `undo`."""
+    kit = os.path.join(folder, KIT + os.urandom(4).hex())
+    made = [os.path.abspath(folder)]
+    while not os.path.exists(made[-1]):
+        made.append(os.path.dirname(made[-1]))
+    for path in reversed(made[:-1]):
+        undo.callback(taken_away, os.rmdir, path)
+    for name in ("jobs.log", "jobs.txt"):
+        path = os.path.join(folder, name)
+        if not os.path.exists(path):
+            undo.callback(taken_away, os.remove, path)
+    undo.callback(shutil.rmtree, kit, ignore_errors=True)
+    os.makedirs(kit)
+    return kit
+
+
+def taken_away(remove, path):
+    """Takes away a file or an empty folder, where it is there."""
+    with contextlib.suppress(OSError):
+        remove(path)
+
+
+def kit_of(folder):
+    """The kit of a campaign's folder, or None where no campaign has begun in it."""
+    begun = glob.glob(os.path.join(glob.escape(folder), KIT + "*", "campaign.json"))
+    return os.path.dirname(begun[0]) if begun else None
+
+
+def can_fly(program):
+    """Whether there is such a program."""
+    return os.access(program, os.X_OK) and os.path.isfile(program)
