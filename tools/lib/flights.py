@@ -6,6 +6,7 @@ usage: flights.py BATCH      beside this file lie the campaign's mission, its op
 import gc
 import os
 import sys
+from itertools import islice
 
 from campaign import Campaign, checksum
 from flyer import Flyer, NoFlight
@@ -13,7 +14,7 @@ from outcomes import outcome_of
 from reports import NoReport, blanked_stretch_of, read_report
 from rows import row_of
 
-IN_A_ROW = 16  # runs that fly, and whose reports are read then: what is done many times in a row goes faster each time
+IN_A_ROW = 16  # runs whose documents are made, and whose reports are read, one behind the other: the next one goes faster
 
 
 class NoRow(Exception):
@@ -27,17 +28,30 @@ class Run:
         self.number = number
         self.faults = campaign.faults[number - 1]
         self.document = campaign.document(self.faults)
+        self.flight = None
         self.report = ""
         self.verdict = "-"
 
-    def fly(self, flyer, judged):
-        """Flies, and is judged where that is wanted."""
+    def begin(self, flyer):
+        """Begins to fly."""
         try:
-            self.report = flyer.fly(self.document)
-            if judged:
-                self.verdict = flyer.judge(self.document, self.report)
-        except (NoFlight, UnicodeDecodeError, OSError) as fault:
-            raise NoRow(f"row {self.number}: {fault}") from None
+            self.flight = flyer.begin_flight(self.document)
+        except OSError as fault:
+            raise self.no_row(fault) from None
+
+    def end(self, flyer):
+        """Waits for the report."""
+        try:
+            self.report = flyer.end_flight(self.flight)
+        except (NoFlight, UnicodeDecodeError) as fault:
+            raise self.no_row(fault) from None
+
+    def judge(self, flyer):
+        """Asks the program's judge."""
+        try:
+            self.verdict = flyer.judge(self.document, self.report)
+        except OSError as fault:
+            raise self.no_row(fault) from None
 
     def row(self, schedule):
         """The row of the run, which has flown."""
@@ -45,26 +59,45 @@ class Run:
         try:
             flight = read_report(self.report, blanked_stretch_of)
         except NoReport as fault:
-            raise NoRow(f"row {self.number}: {fault}") from None
+            raise self.no_row(fault) from None
         return row_of(self.number, self.faults, outcome_of(self.faults, flight, last, schedule), self.verdict)
 
+    def no_row(self, fault):
+        return NoRow(f"row {self.number}: {fault}")
 
-def rows_of(campaign, flyer, numbers):
-    """The rows of some runs, which are flown."""
-    runs = [Run(campaign, number) for number in numbers]
-    for run in runs:
-        run.fly(flyer, campaign.options["judge"])
-    return [run.row(campaign.schedule) for run in runs]
+
+def in_rows(things):
+    """The same things, some at a time."""
+    things = iter(things)
+    while some := list(islice(things, IN_A_ROW)):
+        yield some
+
+
+def flown(runs, flyer, judged):
+    """The runs, each when it has flown. It is judged while the next one flies, so that no processor waits."""
+    runs = iter(runs)
+    run = next(runs)
+    run.begin(flyer)
+    while run:
+        run.end(flyer)
+        following = next(runs, None)
+        if following:
+            following.begin(flyer)
+        if judged:
+            run.judge(flyer)
+        yield run
+        run = following
 
 
 def main(batch):
     gc.disable()  # nothing that is read of a report refers to itself, and what is kept of reports is bounded
     campaign = Campaign(os.path.dirname(os.path.realpath(__file__)))
     flyer = Flyer(campaign.program)
-    numbers, rows = campaign.batch(batch), []
+    runs = (run for numbers in in_rows(campaign.batch(batch)) for run in [Run(campaign, number) for number in numbers])
+    rows = []
     try:
-        for begin in range(0, len(numbers), IN_A_ROW):
-            rows += rows_of(campaign, flyer, numbers[begin : begin + IN_A_ROW])
+        for some in in_rows(flown(runs, flyer, campaign.options["judge"])):
+            rows += [run.row(campaign.schedule) for run in some]
     except NoRow as fault:
         print(fault, file=sys.stderr)
         return 1

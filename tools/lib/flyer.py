@@ -15,29 +15,47 @@ class Flyer:
         self.program = program
         self.environment = dict(os.environb)
         self.seconds = 0.0
-        self.source, self.sink = map(os.memfd_create, ("document", "report"))  # what it reads, and what it writes
+        self.files = []  # for programs to come: pairs of one that is read and one that is written
+
+    def begin(self, words, text):
+        """Lets the program begin with words on a text. `end` tells what came of it."""
+        source, sink = self.files.pop() if self.files else map(os.memfd_create, ("document", "report"))
+        os.pwrite(source, text, 0)
+        os.truncate(source, len(text))
+        for file in (source, sink):
+            os.lseek(file, 0, os.SEEK_SET)
+        actions = [(os.POSIX_SPAWN_DUP2, source, 0), (os.POSIX_SPAWN_DUP2, sink, 1)]
+        return os.posix_spawn(self.program, [self.program, *words], self.environment, file_actions=actions), source, sink
+
+    def end(self, begun):
+        """The status of a program that has begun, and what it writes."""
+        child, source, sink = begun
+        _, status, used = os.wait4(child, 0)
+        self.seconds += used.ru_utime + used.ru_stime
+        # It wrote over what another one wrote, up to here.
+        written = os.pread(sink, os.lseek(sink, 0, os.SEEK_CUR), 0)
+        self.files.append((source, sink))
+        return os.waitstatus_to_exitcode(status), written
 
     def run(self, words, text):
         """The status of the program with words, and what it writes."""
-        os.pwrite(self.source, text, 0)
-        os.truncate(self.source, len(text))
-        for file in (self.source, self.sink):
-            os.lseek(file, 0, os.SEEK_SET)
-        actions = [(os.POSIX_SPAWN_DUP2, self.source, 0), (os.POSIX_SPAWN_DUP2, self.sink, 1)]
-        child = os.posix_spawn(self.program, [self.program, *words], self.environment, file_actions=actions)
-        _, status, used = os.wait4(child, 0)
-        self.seconds += used.ru_utime + used.ru_stime
-        # It wrote over what it wrote before, up to here.
-        written = os.pread(self.sink, os.lseek(self.sink, 0, os.SEEK_CUR), 0)
-        return os.waitstatus_to_exitcode(status), written
+        return self.end(self.begin(words, text))
 
-    def fly(self, document):
-        """The report of a document. One worker flies it: many flights at once keep all processors busy as it is."""
-        status, report = self.run(["run", "--workers", "1"], document)
+    def begin_flight(self, document):
+        """Lets a document begin to fly. One worker flies it: many flights at once keep all processors busy as it is."""
+        return self.begin(["run", "--workers", "1"], document)
+
+    def end_flight(self, begun):
+        """The report of a document that has begun to fly."""
+        status, report = self.end(begun)
         if status:
             line = report.decode(errors="replace").strip()
             raise NoFlight(f"the program ends with status {status}" + (f": {line}" if line else ""))
         return report.decode("ascii")
+
+    def fly(self, document):
+        """The report of a document."""
+        return self.end_flight(self.begin_flight(document))
 
     def judge(self, document, report):
         """What the program's judge says of a report."""
