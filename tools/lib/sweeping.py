@@ -1,6 +1,7 @@
 """A campaign from its begin to its end: what tools/sweep does when it has read its words."""
 import json
 import os
+import py_compile
 import shutil
 import subprocess
 import sys
@@ -18,6 +19,8 @@ from summary import summary_of
 
 LIB = os.path.dirname(os.path.realpath(__file__))
 TOP = os.path.dirname(os.path.dirname(LIB))
+# What flies a batch, and what that stands on.
+MODULES = ("campaign", "documents", "faults", "flights", "flyer", "outcomes", "reports", "rows", "slots")
 INSTALL = "a campaign's runs are jobs of GNU parallel, which isn't here: on Debian, apt-get install parallel"
 
 
@@ -87,8 +90,10 @@ def begin(options, kit, undo):
 
 def fill(kit, options, base, mission):
     """Puts all that a kit has into it."""
-    for path in [os.path.join(LIB, name) for name in os.listdir(LIB) if name.endswith(".py")]:
-        shutil.copy(path, kit)
+    for name in MODULES:
+        path = shutil.copy(os.path.join(LIB, f"{name}.py"), kit)
+        # Each job reads them. Another Python passes over what this one compiled.
+        py_compile.compile(path, doraise=True, invalidation_mode=py_compile.PycInvalidationMode.CHECKED_HASH)
     program = shutil.copy(options.program, os.path.join(kit, "sift"))
     written(os.path.join(kit, "mission.toml"), base)
 
