@@ -1,7 +1,7 @@
 """Draws the runs of a campaign: slots by units, for each way of lying, and what became of the worst run of each."""
 from drawing import INK, Drawing
-from faults import KINDS
 from rows import FATES, headlines
+from slots import KINDS
 
 # Of each fate its letter, or None where the frames to removal stand for it; its colour; and what it is.
 LOOKS = {
