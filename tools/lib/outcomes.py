@@ -32,9 +32,11 @@ def wrong_in(votes, ideal, compared):
 
 def wrong_words(flight, schedule):
     """Of each frame in which output words are wrong their places."""
-    frames = enumerate(zip(flight.frames, schedule.ideal, schedule.compared(flight)))
-    differing = ((number, wrong_in(frame.votes, ideal, compared)) for number, (frame, ideal, compared) in frames if not frame.votes <= {ideal})
-    return {number: places for number, places in differing if places}
+    wrong = {}
+    for number, (frame, ideal, compared) in enumerate(zip(flight.frames, schedule.ideal, schedule.compared(flight))):
+        if not frame.votes <= {ideal}:
+            wrong[number] = wrong_in(frame.votes, ideal, compared)
+    return {number: places for number, places in wrong.items() if places}
 
 
 def outcome_of(faults, flight, last, schedule):
