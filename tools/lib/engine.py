@@ -4,6 +4,9 @@ import shlex
 import subprocess
 import sys
 
+# How many more runs of a job fly while one is waited for, where it isn't told how many jobs there are to be at once: so no
+# processor waits, and at the end those of the jobs that have ended fly the last runs of the others.
+MORE = "1"
 REMOTE_SHELL = "ssh -o BatchMode=yes -o ConnectTimeout=10 -o ServerAliveInterval=5 -o ServerAliveCountMax=3"
 
 
@@ -35,7 +38,7 @@ class Engine:
         with open(os.path.join(folder, "jobs.txt"), "ab") as output:
             output.write(b"\n")  # behind what may be cut off
             output.flush()
-            self.process = start([*words, *python, f"{self.kit}/flights.py", "{}"], folder, output)
+            self.process = start([*words, *python, f"{self.kit}/flights.py", "{}", "0" if jobs else MORE], folder, output)
 
     def fly(self, numbers):
         """Lets it fly those of the batches that its log doesn't have, and tells its status."""

@@ -1,11 +1,14 @@
 #!/usr/bin/env python3
 """Flies a batch of a campaign's runs, and writes their rows. It is what GNU parallel calls as a job.
 
-usage: flights.py BATCH      beside this file lie the campaign's mission, its options and the program
+usage: flights.py BATCH [MORE]      so many more runs fly while one is waited for; none where it isn't given
+
+Beside this file lie the campaign's mission, its options and the program.
 """
 import gc
 import os
 import sys
+from collections import deque
 from itertools import islice
 
 from campaign import Campaign, checksum
@@ -39,18 +42,13 @@ class Run:
         except OSError as fault:
             raise self.no_row(fault) from None
 
-    def end(self, flyer):
-        """Waits for the report."""
+    def end(self, flyer, judged):
+        """Waits for the report, and has it judged where that is wanted."""
         try:
             self.report = flyer.end_flight(self.flight)
-        except (NoFlight, UnicodeDecodeError) as fault:
-            raise self.no_row(fault) from None
-
-    def judge(self, flyer):
-        """Asks the program's judge."""
-        try:
-            self.verdict = flyer.judge(self.document, self.report)
-        except OSError as fault:
+            if judged:
+                self.verdict = flyer.judge(self.document, self.report)
+        except (NoFlight, UnicodeDecodeError, OSError) as fault:
             raise self.no_row(fault) from None
 
     def row(self, schedule):
@@ -73,30 +71,28 @@ def in_rows(things):
         yield some
 
 
-def flown(runs, flyer, judged):
-    """The runs, each when it has flown. It is judged while the next one flies, so that no processor waits."""
-    runs = iter(runs)
-    run = next(runs)
-    run.begin(flyer)
-    while run:
-        run.end(flyer)
-        following = next(runs, None)
-        if following:
-            following.begin(flyer)
-        if judged:
-            run.judge(flyer)
+def flown(runs, flyer, judged, more):
+    """The runs, each when it has flown and was judged, while so many more fly."""
+    flying = deque()
+    for run in runs:
+        run.begin(flyer)
+        flying.append(run)
+        if len(flying) > more:
+            flying[0].end(flyer, judged)
+            yield flying.popleft()
+    for run in flying:
+        run.end(flyer, judged)
         yield run
-        run = following
 
 
-def main(batch):
+def main(batch, more=0):
     gc.disable()  # nothing that is read of a report refers to itself, and what is kept of reports is bounded
     campaign = Campaign(os.path.dirname(os.path.realpath(__file__)))
     flyer = Flyer(campaign.program)
     runs = (run for numbers in in_rows(campaign.batch(batch)) for run in [Run(campaign, number) for number in numbers])
     rows = []
     try:
-        for some in in_rows(flown(runs, flyer, campaign.options["judge"])):
+        for some in in_rows(flown(runs, flyer, campaign.options["judge"], more)):
             rows += [run.row(campaign.schedule) for run in some]
     except NoRow as fault:
         print(fault, file=sys.stderr)
@@ -106,4 +102,4 @@ def main(batch):
 
 
 if __name__ == "__main__":
-    sys.exit(main(int(sys.argv[1])))
+    sys.exit(main(*map(int, sys.argv[1:])))
