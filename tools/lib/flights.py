@@ -102,4 +102,4 @@ def main(batch, more=0):
 
 
 if __name__ == "__main__":
-    sys.exit(main(*map(int, sys.argv[1:])))
+    os._exit(main(*map(int, sys.argv[1:])))  # at once: what was kept of reports is many things to let go
