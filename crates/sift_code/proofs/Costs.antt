@@ -95,6 +95,7 @@ module _ (code : List Instr) (braced : IsBraced code) where
   nested_step p End at = refl
   nested_step p _ at = refl
 
+  -- the loops behind an instruction are those before it, one more behind a Begin, one less behind an End
   pub nested_here : (p : ℕ) (i : Instr) → slice_get code p ≡ Some i → enclosing code (p + 1) ≡ nested i (p + 1) (enclosing code p)
   nested_here p i at = enclosing_here code p i at ∙ nested_step p i at
 

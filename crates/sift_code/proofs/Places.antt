@@ -10,6 +10,7 @@ use Rattle.sift_code.specs.Work.{stack_of, locals_of, loops_of, lefts_start, sta
 
 -- ---- the stack
 
+-- a stack of some height has as many words
 pub length-stack_of : (h : ℕ) (ws : List ℕ) → length (stack_of h ws) ≡ h
 length-stack_of zero ws = refl
 length-stack_of (suc h) ws = omega (arith, length-stack_of h ws)
@@ -55,9 +56,11 @@ stack_of-put h k ws w next within = ap (λ q. stack_of q (slice_set ws k w)) nex
 
 -- ---- the locals
 
+-- a write before the locals leaves them
 pub locals_of-below : (ws : List ℕ) (k w : ℕ) → k < 256 → locals_of (slice_set ws k w) ≡ locals_of ws
 locals_of-below ws k w below = ap (take 32) (drop-set-lt 256 ws k w below)
 
+-- a write behind the locals leaves them
 pub locals_of-above : (ws : List ℕ) (k w : ℕ) → 288 ≤ k → locals_of (slice_set ws k w) ≡ locals_of ws
 locals_of-above ws k w above =
     let e : k ≡ 256 + (k - 256) = omega arith in
@@ -67,6 +70,7 @@ locals_of-above ws k w above =
 pub locals_of-set : (ws : List ℕ) (l w : ℕ) → l < 32 → locals_of (slice_set ws (256 + l) w) ≡ slice_set (locals_of ws) l w
 locals_of-set ws l w there = ap (take 32) (drop-set-add 256 ws l w) ∙ take-set-lt 32 (drop 256 ws) l w there
 
+-- there are 32 locals in words that reach as far as the rounds left
 pub length-locals_of : (ws : List ℕ) → 288 ≤ length ws → length (locals_of ws) ≡ 32
 length-locals_of ws room = length-take-le 32 (drop 256 ws) (omega (arith, length-drop 256 ws))
 

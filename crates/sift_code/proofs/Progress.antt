@@ -74,12 +74,14 @@ module _ (program : Program) (sound : IsSound program) (inputs : Inputs) (fits :
         less = omega arith;
       }
 
+  -- an instruction that pushes a word which is there leads on, with less left to do
   pub push : (i : Instr) (s : State) (o : Option ℕ) (w : ℕ) → IsPlain i → slice_get program.code s.place ≡ Some i → Agrees program s
       → ((h : ℕ) → height_after i h ≡ h + 1) → o ≡ Some w → Leads program s (on_with s (pushed o s.stack))
   push i s o w plain at a more e =
       subst (λ o'. Leads program s (on_with s (pushed o' s.stack))) (sym e)
       (on i s (record s { place = s.place + 1; stack = w ∷ s.stack }) plain at a refl (omega (arith, more (length s.stack))) refl refl refl)
 
+  -- an instruction that makes one word of the two upper ones leads on, with less left to do
   pub combine : (i : Instr) (s : State) (op : ℕ → ℕ → ℕ) → IsPlain i → slice_get program.code s.place ≡ Some i → Agrees program s
       → ((h : ℕ) → height_after i h ≡ h - 2 + 1) → 2 ≤ height_at program.code s.place → Leads program s (on_with s (combined op s.stack))
   combine i s op plain at a less enough = by s.stack refl
@@ -90,6 +92,7 @@ module _ (program : Program) (sound : IsSound program) (inputs : Inputs) (fits :
       by (b ∷ c ∷ stack) e =
           on i s (record s { place = s.place + 1; stack = op c b ∷ stack }) plain at a refl (omega (arith, less (length s.stack), ap (length {A = ℕ}) e)) refl refl refl
 
+  -- a Mid of sound code leads on, with less left to do
   pub middle : (s : State) → slice_get program.code s.place ≡ Some Mid → Agrees program s → Leads program s (on_with s (middled s.stack))
   middle s at a = by s.stack refl
     where
@@ -105,6 +108,7 @@ module _ (program : Program) (sound : IsSound program) (inputs : Inputs) (fits :
           (record { nests = λ next loops. refl; costs = λ cs. refl; heights = λ next trail. refl }) at a refl
           (omega (arith, ap (length {A = ℕ}) e)) refl refl refl
 
+  -- a Store of sound code leads on, with less left to do
   pub store : (l : ℕ) (s : State) → slice_get program.code s.place ≡ Some (Store l) → Agrees program s → Leads program s (stored l s s.stack)
   store l s at a = by s.stack refl
     where
@@ -122,6 +126,7 @@ module _ (program : Program) (sound : IsSound program) (inputs : Inputs) (fits :
           (on (Store l) s t (record { nests = λ next loops. refl; costs = λ cs. refl; heights = λ next trail. refl }) at a refl
           (omega (arith, ap (length {A = ℕ}) e)) refl (length-set s.locals l x) refl)
 
+  -- an Out of sound code leads on, with less left to do
   pub put : (j : ℕ) (s : State) → slice_get program.code s.place ≡ Some (Out j) → Agrees program s → Leads program s (put_out j s s.stack)
   put j s at a = by s.stack refl
     where

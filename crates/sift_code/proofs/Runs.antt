@@ -24,6 +24,7 @@ pub started_state : (program : Program) (ws outs : List ℕ) → locals_of ws �
 started_state program ws outs locals puts = rw (locals, puts) refl
 
 module _ (program : Program) (sound : IsSound program) (inputs : Inputs) (fits : Fits inputs program.limits) where
+  -- at place 0, with locals and output words of 0, a run stands as the code says, and goes on as one from the start
   pub starts : (ws outs : List ℕ) → locals_of ws ≡ replicate 32 0 → outs ≡ replicate program.limits.outputs 0
       → Stands program (machine 0 0 0) ws outs × GoesOn program inputs (state_of program.code (machine 0 0 0) ws outs)
   starts ws outs locals puts =

@@ -79,9 +79,11 @@ module _ (program : Program) (sound : IsSound program) where
       let inside : to ≤ length program.code = (let h : (length program.code < to) → ⊥ = λ past. good (inr (inl past)) in omega arith) in
       record { ahead = ahead; within = inside; same_loops = same_enclosing program.code to p (λ others. good (inr (inr others))); same_height = sym (brought_same to height inside (carries ahead)) }
 
+  -- a JumpZ lands ahead, in the code and in the same loops, where the height is that after it
   pub jumpz_lands : (p to : ℕ) → slice_get program.code p ≡ Some (JumpZ to) → Lands program.code p to (height_after (JumpZ to) (height_at program.code p))
   jumpz_lands p to at = target_lands p to _ (no_bad_jump p (JumpZ to) at) (jumpz_carries program.code p to at)
 
+  -- a Jump lands ahead, in the code and in the same loops, where the height is that before it
   pub jump_lands : (p to : ℕ) → slice_get program.code p ≡ Some (Jump to) → Lands program.code p to (height_at program.code p)
   jump_lands p to at = target_lands p to _ (no_bad_jump p (Jump to) at) (jump_carries program.code p to at)
 

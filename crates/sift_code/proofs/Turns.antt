@@ -43,6 +43,7 @@ module _ {program : Program} (inputs : Inputs) {m : Machine} {ws outs : List ℕ
       (locals_of ws) outs does (f.stands.depth ∙ ap (length {A = ℕ}) (sym inside)) refl stacks
       (ap (λ e. loops_of e ws) (sym inside)) refl refl)
 
+  -- a Jump is a step to its target, with the same height, loops and words
   pub jumps : {to : ℕ} {n : Machine} → Fetched program m ws outs (Jump to) → n ≡ machine to m.height m.depth → Steps program inputs m ws outs n ws outs
   jumps {to} {n} f machine_is = lands (Jump to) n (stack_of m.height ws) to m.height f refl (jump_lands program f.sound m.place to f.at).same_loops refl machine_is
 

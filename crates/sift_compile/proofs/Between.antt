@@ -65,9 +65,11 @@ sizes_behind statement r depth outputs t has =
     record { locals_are = h.locals_are ∙ ap (λ n. locals_after n statement) has.locals_are; outs_are = h.outs_are ∙ has.outs_are }
 
 module _ (code : List Instr) (inputs : Inputs) where
+  -- a machine that comes to a place with the locals and output words of a state comes so to any equal place
   pub runs_to : (s : Machine.State) (q r : ℕ) (loops : List Loop) (t : State) → q ≡ r → Runs code inputs s q loops t → Runs code inputs s r loops t
   runs_to s q r loops t e run = subst (λ p. Runs code inputs s p loops t) e run
 
+  -- a machine that comes to a state from which it runs to a place runs to that place
   pub runs_from : (s u : Machine.State) (q : ℕ) (loops : List Loop) (t : State) → Comes code inputs s u → Runs code inputs u q loops t → Runs code inputs s q loops t
   runs_from s u q loops t c run = record { locals = run.locals; begins = run.begins; long = run.long; comes = comes_on code inputs s u _ c run.comes }
 

@@ -13,6 +13,7 @@ use Rattle.sift_compile.proofs.Between.{at, Runs, tested_on, runs_to, runs_from}
 
 module _ (code : List Instr) (inputs : Inputs) where
   module _ (p : ℕ) (loops : List Loop) (locals : List ℕ) (t : State) (ct first : List Instr) (u : State) where
+    -- an `if` runs to its end with what its block leaves, or with what was there where the word of its test is 0
     pub choose_run : (v : ℕ) → BeginWith locals t.locals → length locals ≡ local_count → Stands code p (choose_code p ct first)
         → Comes code inputs (at p loops locals t.outs) (pushing (at p loops locals t.outs) ct v)
         → Runs code inputs (at (behind p ct) loops locals t.outs) (behind p ct + length first) loops u
@@ -32,6 +33,7 @@ module _ (code : List Instr) (inputs : Inputs) where
         runs_to code inputs s _ _ loops u whole (runs_from code inputs s there _ loops u (comes_on code inputs s (pushing s ct (suc v)) there c on) run)
 
     module _ (second : List Instr) (w : State) where
+      -- an `if` with an `else` runs to its end with what its first block leaves, or its second where its word is 0
       pub choose_else_run : (v : ℕ) → Stands code p (choose_else_code p ct first second)
           → Comes code inputs (at p loops locals t.outs) (pushing (at p loops locals t.outs) ct v)
           → Runs code inputs (at (behind p ct) loops locals t.outs) (behind p ct + length first) loops u

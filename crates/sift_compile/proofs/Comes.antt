@@ -11,9 +11,11 @@ pub record Comes (code : List Instr) (inputs : Inputs) (s t : State) : Type 0 wh
   pub by : (k : ℕ) → (j : ℕ) × (exec code inputs j s ≡ exec code inputs k t)
 
 module _ (code : List Instr) (inputs : Inputs) where
+  -- the machine comes from each state to itself
   pub comes_nowhere : (s : State) → Comes code inputs s s
   comes_nowhere s = record { by = λ k. (k, refl) }
 
+  -- a machine that comes from one state to a second, and from there to a third, comes from the first to the third
   pub comes_on : (s t u : State) → Comes code inputs s t → Comes code inputs t u → Comes code inputs s u
   comes_on s t u a b = record { by = λ k. let y = b.by k in let x = a.by y.0 in (x.0, x.1 ∙ y.1) }
 

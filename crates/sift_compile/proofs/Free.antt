@@ -98,6 +98,7 @@ module _ (program : Program) (p : ℕ) (i : Instr) (height : ℕ) (brought : Lis
   calm_free calm meets filled shallow named =
       free_at (calm_jump program.code p i calm) meets (calm_end program.code p i calm) filled shallow (calm_begin (length (enclosing program.code p)) i calm) named
 
+  -- behind a calm instruction the height is the one after it, and no more was brought than before it
   pub calm_trail : IsCalm i → trail_at program.code (p + 1) ≡ trail (height_after i height) brought
   calm_trail calm =
       trail_here program.code p i at

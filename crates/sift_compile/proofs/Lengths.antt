@@ -7,6 +7,7 @@ use Rattle.sift_lang.specs.Sound.{locals_after}
 use Rattle.sift_compile.specs.Code.{operator_code, term_code, behind, choose_code, choose_else_code, statement_code, block_code}
 use Rattle.sift_compile.specs.Length.{term_length, statement_length, block_length}
 
+-- the code of a term has as many instructions as its tree tells
 pub length-term_code : (t : Term) → length (term_code t) ≡ term_length t
 length-term_code (number n) = refl
 length-term_code (local l) = refl
@@ -58,6 +59,7 @@ mutual
   length-statement_code at locals (repeat k body) =
       omega (arith, length-block_code (at + 1) locals body, length-append (block_code (at + 1) locals body) (instr.End ∷ []))
 
+  -- the code of a block has as many instructions as its tree tells, wherever it begins and whatever locals live
   pub length-block_code : (at locals : ℕ) (block : Block) → length (block_code at locals block) ≡ block_length block
   length-block_code at locals end = refl
   length-block_code at locals (step statement rest) =

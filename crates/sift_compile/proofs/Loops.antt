@@ -85,6 +85,7 @@ keeps_choose_else at t first second a b =
     keeps_both (term_code t) _ (keeps_term t) (keeps_more _ _ tt (keeps_both first _ a (keeps_more _ second tt b)))
 
 mutual
+  -- the same loops enclose both ends of a statement's code
   pub keeps_statement : (at locals : ℕ) (statement : Statement) → KeepsLoops (statement_code at locals statement)
   keeps_statement at locals (bind t) = keeps_use t _ tt
   keeps_statement at locals (assign l t) = keeps_use t _ tt
@@ -94,6 +95,7 @@ mutual
       keeps_choose_else at t _ _ (keeps_block _ locals first) (keeps_block _ locals second)
   keeps_statement at locals (repeat k body) = keeps_loop k _ (matched_block (at + 1) locals body) (keeps_block (at + 1) locals body)
 
+  -- the same loops enclose both ends of a block's code
   pub keeps_block : (at locals : ℕ) (block : Block) → KeepsLoops (block_code at locals block)
   keeps_block at locals end = keeps_none
   keeps_block at locals (step statement rest) =

@@ -136,6 +136,7 @@ mutual
       matched_choose_else at t _ _ (matched_block _ locals first) (matched_block _ locals second)
   matched_statement at locals (repeat k body) = matched_loop k _ (matched_block (at + 1) locals body)
 
+  -- the code of a block closes all loops that it opens, and no others
   pub matched_block : (at locals : ℕ) (block : Block) → IsMatched (block_code at locals block)
   matched_block at locals end = matched_none
   matched_block at locals (step statement rest) =

@@ -27,6 +27,7 @@ module _ (program : Program) where
     pub pushes_none : pushes i ≡ 0
     pub named : IsBadOperandAt program.limits (Some i) → ⊥
 
+  -- nothing offends in a term's code and one instruction that takes its word, where the term needs no more than may be
   pub use_passes : (x : Term) (i : Instr) (p : ℕ) → AllPush program x → need x ≤ stack_limit → Takes i → AllPass program p (term_code x ++ i ∷ [])
   use_passes x i p all low takes to brought stands inside here clear before =
       let ct = term_code x in
@@ -44,6 +45,7 @@ module _ (program : Program) where
         grown = as_before (q + 1) brought;
       })
 
+  -- nothing offends in the code of an `if` where nothing does in its test and in its block, which keeps the loops
   pub choose_passes : (x : Term) (first : List Instr) (p : ℕ) → AllPush program x → need x ≤ stack_limit → KeepsLoops first
       → AllPass program (behind p (term_code x)) first → AllPass program p (choose_code p (term_code x) first)
   choose_passes x first p all low keeps passes to brought stands inside here clear before =
@@ -68,6 +70,7 @@ module _ (program : Program) where
         grown = grown_on end brought now body.arrivals (one_grown end end brought brought (omega arith) (as_before end brought)) body.grown;
       })
 
+  -- nothing offends in the code of an `if` with an `else` where nothing does in its test and in both its blocks
   pub choose_else_passes : (x : Term) (first second : List Instr) (p : ℕ) → AllPush program x → need x ≤ stack_limit → KeepsLoops first
       → KeepsLoops second → AllPass program (behind p (term_code x)) first → AllPass program (behind (behind p (term_code x)) first) second
       → AllPass program p (choose_else_code p (term_code x) first second)
@@ -115,6 +118,7 @@ module _ (program : Program) where
       jump_loops : (q : ℕ) → slice_get program.code q ≡ Some (JumpZ (behind (behind p (term_code x)) first)) → enclosing program.code (q + 1) ≡ enclosing program.code q
       jump_loops q at = enclosing_here program.code q (JumpZ (behind (behind p (term_code x)) first)) at
 
+  -- nothing offends in the code of a `repeat` where nothing does in its body, and one loop more may be open
   pub repeat_passes : (k : ℕ) (body : List Instr) (p : ℕ) → length (enclosing program.code p) < loop_limit → IsMatched body
       → KeepsLoops body → AllPass program (p + 1) body → AllPass program p (Begin k ∷ (body ++ End ∷ []))
   repeat_passes k body p room matched keeps passes to brought stands inside here clear before =
@@ -142,10 +146,12 @@ module _ (program : Program) where
         grown = grown_later q (q + 1) brought inner.arrivals (omega arith) inner.grown;
       })
 
+  -- nothing offends in a piece of no code
   pub none_passes : (p : ℕ) → AllPass program p []
   none_passes p to brought stands inside here clear before =
       passes_to program p p _ brought (omega arith) (record { free = free_none program p; arrivals = brought; empty = here; grown = as_before p brought })
 
+  -- nothing offends in two pieces of code, one behind the other, where nothing does in either
   pub both_pass : (p : ℕ) (a b : List Instr) → AllPass program p a → AllPass program (p + length a) b → AllPass program p (a ++ b)
   both_pass p a b pa pb to brought stands inside here clear before =
       let q = p + length a in

@@ -32,6 +32,7 @@ module _ (code : List Instr) (inputs : Inputs) where
         let more = rounds_run n run.locals (round t) (record { begins = run.begins; long = run.long; sizes = keeps t holds.sizes }) in
         runs_from code inputs _ there _ loops _ (comes_on code inputs _ here there run.comes (comes_by code inputs here there End ends refl)) more
 
+    -- a `repeat` runs to its end with what its rounds make of a state, where its body runs as one round
     pub repeat_run : (start : ℕ) (body : List Instr) (k : ℕ) (locals : List ℕ) (t : State) → start + 1 ≡ p → p + length body ≡ q
         → IsMatched body → Stands code start (Begin k ∷ (body ++ End ∷ [])) → Holds depth outputs locals t
         → Runs code inputs (at start loops locals t.outs) (start + length (Begin k ∷ (body ++ End ∷ []))) loops (times k round t)

@@ -107,6 +107,7 @@ module _ (code : List Instr) (inputs : Inputs) where
           (block_runs body (p + 1) depth (record { start = p + 1; left = left } ∷ loops) now u sound.1 h
           (stands_front code (p + 1) cb _ here))) p cb k locals t refl refl (matched_block (p + 1) depth body) stands holds
 
+      -- the code of a sound block runs to its end with the state that the block means
       pub block_runs : (block : Block) (p depth : ℕ) (loops : List Loop) (locals : List ℕ) (t : State) → IsSoundBlock b depth block
           → Holds depth b.outputs locals t → Stands code p (block_code p depth block)
           → Runs code inputs (at p loops locals t.outs) (p + length (block_code p depth block)) loops

@@ -107,6 +107,7 @@ module _ (code : List Instr) (inputs : Inputs) where
       comes_to s t _ whole (comes_on code inputs s one t a (comes_on code inputs one two t b (comes_on code inputs two three t c (comes_by code inputs three t instr.Mid at refl))))
 
   module _ (limits : Limits) (fits : Fits inputs limits) where
+    -- the code of a term comes to its end with the term's value on the stack, where it names what is there
     pub term_runs : (t : Term) (live : List ℕ) (s : State) → NamesWithin limits.sensors limits.words (length live) t
         → BeginWith s.locals live → Stands code s.place (term_code t)
         → Comes code inputs s (pushing s (term_code t) (value_of t (readings_from inputs) live))
