@@ -52,14 +52,18 @@ here p before others = put_here others p.unit (conduct_with p.acts before)
 
 -- a unit may say, hear, enter and stray whatever strays it has stored
 module _ (r : Ranges) (l : Ledger) (before : List Stray) where
+  -- a unit that may say a word may say it whatever strays it has stored
   pub may_say : (u q k f s : ℕ) → MaySay r (conduct_in l) u q k f s → MaySay r (conduct_with l before) u q k f s
   may_say u q k f s m = record { flies = m.flies; place = m.place; stamp = m.stamp; frame = m.frame; fresh = m.fresh }
 
+  -- a unit that may hear a word may hear it whatever strays it has stored
   pub may_hear : (u p k f s : ℕ) → MayHear r (conduct_in l) u p k f s → MayHear r (conduct_with l before) u p k f s
   may_hear u p k f s m = record { flies = m.flies; place = m.place; stamp = m.stamp; frame = m.frame }
 
+  -- a unit that may try to enter may do so whatever strays it has stored
   pub may_enter : MayEnter (conduct_in l) → MayEnter (conduct_with l before)
   may_enter m = record { flies = m.flies; below = m.below }
 
+  -- a unit that may store a stray may store it whatever others it has stored
   pub may_stray : (u q k : ℕ) → MayStray r (conduct_in l) u q k → MayStray r (conduct_with l before) u q k
   may_stray u q k m = record { turned = m.turned; cell = m.cell }

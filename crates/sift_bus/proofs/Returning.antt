@@ -109,6 +109,7 @@ module _ {B : Type 0} (allows : B → Carriage → B → Type 0) where
       unfolding bus there_is
       bus_is = (there_is buses u (omega (arith, have.count, low))).1
 
+      -- the unit as it took its seat
       pub x : Boarded B
       x = (there_is xs u (omega (arith, long_xs, low))).0
 
@@ -116,6 +117,7 @@ module _ {B : Type 0} (allows : B → Carriage → B → Type 0) where
       unfolding x there_is
       x_is = (there_is xs u (omega (arith, long_xs, low))).1 x
 
+      -- the unit as it left its seat
       pub y : Boarded B
       y = (there_is ys u (omega (arith, long_ys, low))).0
 
@@ -135,13 +137,16 @@ module _ {B : Type 0} (allows : B → Carriage → B → Type 0) where
           (subst (λ (z : Boarded B). IsBoarded m e faulty (slice_index_or tokens u t) (slice_index_or buses u bus) z) x_is
           (boarded_at m e faulty tokens buses xs u t bus x have.boarded (omega (arith, have.count, low)))))
 
+      -- the seat that the unit left follows the one that it took, and words came over its buses
       pub flew : Flew x y
       flew = subst (λ (z : Boarded B). Flew z y) x_is (subst (λ (z : Boarded B). Flew (slice_index_or xs u x) z) y_is
           (side_at Flew xs ys u x y have.flew (omega (arith, long_xs, low))))
 
+      -- the board that the unit left drives on its port
       pub drives : Drives m y.board (seat_view y)
       drives = subst (λ (z : Boarded B). Drives m z.board (seat_view z)) y_is (have.drives u y (omega (arith, long_ys, low)))
 
+      -- the unit has come to the end of the last frame
       pub down : m.frames * m.period ≤ (seat_view y).conduct.progress
       down = subst (λ (z : Boarded B). m.frames * m.period ≤ (seat_view z).conduct.progress) y_is (have.down u y (omega (arith, long_ys, low)))
 

@@ -45,6 +45,7 @@ none_more : (of : ℕ → Conduct) (seat_of : ℕ → ℕ) (views : List (List C
 none_more of seat_of views stand j view e = ⊎_elim (λ at. stand j view at) (λ (t : ([] ≡ view) × (j ≡ length views)). subst (StandsFor of seat_of j) t.0 tt) (at_snoc views [] view j e)
 
 module _ {S : Type 0} where
+  -- a new table, of words that are 0 and one seat for all units, is lawful
   pub opens : FreshIsLawful → (r : Ranges) (ws : List ℕ) (xs : List S) → ws ≡ replicate (shared_words r) 0 → IsLawfulTable r (opening ws xs (blanks_from 0 r.units))
   opens law r ws xs e = record {
     of = λ _. fresh;
@@ -192,6 +193,7 @@ module _ {S : Type 0} where
           (at_set joined other j [] seen e);
     }
 
+  -- a table in which a seat takes in another's chronicles stays lawful, and the other stands for no unit then
   pub joins : (r : Ranges) (id : ℕ) (view : List Chronicle) (other : ℕ) (view' : List Chronicle) → Joins {S = S} (IsLawfulTable r) id view other view' (view ++ view') []
   joins r id view other view' s h at ne at' = joins_both r s h id other view view' at ne
       (⊎_elim (λ (t : (other ≡ id) × (view ++ view' ≡ view')). absurd (ne t.0)) (λ (t : (other ≢ id) × (get_elem? s.views other ≡ some view')). t.1)
@@ -199,6 +201,7 @@ module _ {S : Type 0} where
 
   -- ---- a new seat comes, which stands for no unit
 
+  -- a table to which a seat comes that stands for no unit stays lawful
   pub arrives : (r : Ranges) (slots i : ℕ) → Enters {S = S} (IsLawfulTable r) slots i (λ _ view. view ≡ [])
   arrives r slots i s h _ _ = (
     [],

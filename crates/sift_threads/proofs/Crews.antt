@@ -106,6 +106,7 @@ module _ {R : Type 0} (parts : MissionParts) (fit : PartsFit (data_of parts)) (l
       strays = λ left some. absurd (none_some sits.flies some);
     }
 
+  -- all seats that were just taken, each with a new board, have what a step wants and keeps
   pub all_manned : (seats : List (Seat EtherSeat R)) → AreSeated parts e tokens boards rogues parts.units seats → All (IsManned view_of) seats
   all_manned seats seated u x low =
       let at : u < parts.units = rw (sym seated.count) low in

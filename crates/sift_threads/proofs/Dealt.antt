@@ -151,6 +151,7 @@ module _ {X : Type 0} where
       pub zip : AllZip R xs ys
       pub dealt : IsDealt m n 0 ys bs
 
+    -- hands beside dealt ones, item by item under R, were dealt of one list that is so beside the dealt list
     pub back : (m n : ℕ) (xs : List X) (hs bs : List (Vec X Global)) (e : Vec X Global) → 0 < n → IsDealt m n 0 xs hs → length bs ≡ length hs →
         InHands R hs bs → Back m n xs bs
     back m n xs hs bs e some d long z =

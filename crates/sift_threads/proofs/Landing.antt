@@ -80,6 +80,7 @@ module _ {R : Type 0} (allows : R → Call → R → Type 0) (d : MissionData) (
     boards = kept;
   }
 
+  -- a flight of units that have flown and landed is round over the strays that their rogues gave
   pub landed_round : FlightsThatComeHomeAreRound → Fits m → IsRoundByRogues allows d xs flight fl.rogues.items
   landed_round law fits = record {
     strays = λ u. (conduct_at fl.tokens.items u).strays;
@@ -93,6 +94,7 @@ module _ {R : Type 0} (allows : R → Call → R → Type 0) (d : MissionData) (
   units_long : length m.units ≡ d.units
   units_long = length-range_with_len 0 d.units
 
+  -- a flight that has landed has a journal for each unit, and an account for each frame before the unit turned
   pub landed_logged : IsLogged m d.layout flight
   landed_logged = record {
     journals = landed.count ∙ (fit.layout.units ∙ sym units_long);

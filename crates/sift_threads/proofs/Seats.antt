@@ -62,9 +62,11 @@ module _ {T R : Type 0} (view : T → View) (x : Seat T R) (man : IsManned view 
     strays = λ left some. absurd (none_some up some);
   }
 
+  -- a seat whose unit has moved is manned still
   pub manned_moved : Tells Moved → IsManned view y
   manned_moved tells = manned Moved tells (record { flies = tells.flies; low = (let low = below_end m b (view p) drives tells.flies tells.unfinished in omega arith) })
 
+  -- a seat whose unit waits for another is manned still
   pub manned_waits : (q n : ℕ) → Tells (NotYet q n) → IsManned view y
   manned_waits q n tells = manned (NotYet q n) tells (record {
     flies = tells.0.flies;
@@ -77,6 +79,7 @@ module _ {T R : Type 0} (view : T → View) (x : Seat T R) (man : IsManned view 
       (λ enters. let e = entered_progress (view x.port) (view p) enters.1 in
       let low = below_end m x.board (view x.port) man.drives aloft.flies enters.0 in omega arith) tells.cause
 
+  -- a seat whose unit has landed is manned still
   pub manned_landed : Tells Landed → IsManned view y
   manned_landed tells = manned Landed tells (record { flies = tells.flies; low = landed_low tells })
 
@@ -84,6 +87,7 @@ module _ {T R : Type 0} (view : T → View) (x : Seat T R) (man : IsManned view 
   unit_is : (r : Stepped) → Tells r → b.unit ≡ x.unit
   unit_is r tells = sym drives.unit ∙ ((place r tells).unit ∙ man.unit)
 
+  -- no step is left for a seat whose unit has landed
   pub done_landed : Tells Landed → IsDone view y
   done_landed tells = record {
     landed = λ none. (
@@ -118,6 +122,7 @@ module _ {T R : Type 0} (view : T → View) (x : Seat T R) (man : IsManned view 
       };
     }
 
+    -- a seat whose unit has turned is manned still, once its storm has begun
     pub manned_begun : Tells Turned → IsManned view z
     manned_begun tells = subst (λ (s : Seat T R). IsManned view s) (sym begins.rest) (begun tells)
 
@@ -143,6 +148,7 @@ module _ {T R : Type 0} (view : T → View) (follows : T → List Stray → T �
     };
   }
 
+  -- a seat whose rogue was asked for its next act is manned still, with one call less left
   pub manned_stored : IsManned view (record y { left = Some (left - 1) })
   manned_stored = subst (λ (s : Seat T R). IsManned view (record s { left = Some (left - 1) })) (sym next.rest) stored
 
@@ -157,9 +163,11 @@ few_of view x left straying storm is =
 
 -- two seats of one unit and mission have one storm, with the same bounds
 module _ {T R : Type 0} (w x : Seat T R) (mission : x.mission.now ≡ w.mission.now) (unit : x.unit ≡ w.unit) where
+  -- two seats of one unit and mission have one storm
   pub storms_same : storm_of x ≡ storm_of w
   storms_same i = storm_at (data_of (mission i)) (unit i)
 
+  -- two seats of one unit and mission have the same bounds of their acts
   pub bounds_same : bounds_at x ≡ bounds_at w
   bounds_same i = bounds_of (mission i).layout (unit i)
 

@@ -102,6 +102,7 @@ module _ (m : FlownMission) (fit : Fits m) (u : ℕ) (a : Accounts) (h : Words) 
   said_none at k q low = choice_none {A = Saying} (calls m (a frame).cfg k u q) _ _
       (not_past_here frame at (say_spot m (a frame).cfg k q) (subst (λ vs. at ≤ say_spot m vs k q) (sym mine) low))
 
+  -- a slot's word isn't heard before its place is past
   pub heard_none : (at : ℕ) (k : Slot) (p : ℕ) → at ≤ hear_spot m us k p → heard_by m u a frame at frame k p ≡ None
   heard_none at k p low = choice_none {A = ℕ × ℕ} (calls m (a frame).cfg k p u) _ _
       (not_past_here frame at (hear_spot m (a frame).cfg k p) (subst (λ vs. at ≤ hear_spot m vs k p) (sym mine) low))

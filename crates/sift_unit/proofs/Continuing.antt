@@ -112,6 +112,7 @@ module _ (m : FlownMission) (b b1 b' : Desk) (v v' : View) (p : Passes m b b1) (
       (es ∙ p.subframe) (ef ∙ p.frame)
   call_from (entered e) = entered e
 
+  -- a board that has moved on from a place of its frame has moved on from a place before it too
   pub moves_from : HasMoved m b1 v b' v' → HasMoved m b v b' v'
   moves_from h = record { call = call_from h.call; unfinished = h.unfinished; nearer = (let n = no_farther in let x = h.nearer in omega arith); flies = h.flies }
 

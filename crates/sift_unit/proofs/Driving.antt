@@ -121,6 +121,7 @@ module _ (m : FlownMission) (b : TheBoard) (v : View) (d : Drives m b v) (early 
       subst (λ (z : View). Turned m (desk_of b') z.conduct) (sym t.after)
       (turned_on m (desk_of b') t.before.conduct g.left (on.going t.before.conduct g) from begins.1)
 
+  -- a board whose unit turns in place of the next frame drives on, once it is marked as turned
   pub turn_drives : (b' b'' : TheBoard) (v' : View) → GoesOn m b b' → BeginsNext b b' → IsMarked b' b'' → TurnsNext m b → Turns v v' → Drives m b'' v'
   turn_drives b' b'' v' on begins marked next turns =
       let t = turns_from v v' turns in
@@ -182,6 +183,7 @@ module _ (m : FlownMission) (b : TheBoard) (v : View) (flight : IsInFlight m b v
       (subst (λ z. Going m z (view_with_heard v b.frame b.slot p s w).conduct) (sym desk)
       (rw (ei, ep) (hear_going m fit (desk_of b) v.conduct s w going_here (hearing_is m fit (desk_of b) e) es))))
 
+  -- a board that has said its word to a unit drives on, at the next unit
   pub say_drives : is_saying m (desk_of b) ≡ true → (b' : TheBoard) (q s : ℕ) (w : Option ℕ) (v' : View) → IsSameBoard b b' → desk_of b' ≡ said_desk →
       q ≡ b.other → s ≡ stamp_here → w ≡ word_to m b.cfg b.unit b.frame b.clk (desk_of b).memory (m.kind b.slot) q → v' ≡ view_with_said v b.frame b.slot q s w →
       Drives m b' v'
@@ -203,6 +205,7 @@ module _ (m : FlownMission) (b : TheBoard) (v : View) (flight : IsInFlight m b v
         flies = ap (λ (z : View). z.conduct.left) ev ∙ going_here.left;
       }
 
+  -- a board that has said its word to a unit has moved on by that one call
   pub say_moves : is_saying m (desk_of b) ≡ true → (q s : ℕ) (w : Option ℕ) (v' : View) → q ≡ b.other → s ≡ stamp_here →
       v' ≡ view_with_said v b.frame b.slot q s w → HasMoved m (desk_of b) v said_desk v'
   say_moves e q s w v' eq es ev =

@@ -71,6 +71,7 @@ module _ (p0 p1 p2 p3 p4 p5 p6 : Region) (agreed before voted work made : Extent
   pub first_is : words_in p6 agreed before voted (Some made) true ≡ first_words sensors starts
   first_is = λ i. record { agreed = first_agreed i; before = first_before i; voted = first_voted i; made = first_made i }
 
+  -- before the flight lists that are the pool's words are copies of them, for at most 8 sensors and 64 words
   pub first_file : (xs ys zs : List ℕ) → sensors ≤ 8 → words ≤ 64 → xs ≡ words_at p6 agreed.number → ys ≡ words_at p6 before.number → zs ≡ words_at p6 voted.number →
       IsFile p6 agreed before voted work mark (Some made) true xs ys zs
   first_file xs ys zs few_sensors few_words ea eb ev = record {
@@ -132,6 +133,7 @@ module _ (pool : Region) (agreed before voted work : Extent) (mark : ℕ) (made 
       copies_voted = file.copies_voted ∙ sym same_voted;
     }
 
+    -- with no span for made words, the pool has the words of the next frame for a unit that leaves
     pub turned_is : words_in next agreed before voted None true ≡ next_words false (words_in pool agreed before voted made follows)
     turned_is = λ i. record { agreed = same_agreed i; before = (now_before ∙ read_is) i; voted = same_voted i; made = [] }
 
@@ -166,6 +168,7 @@ module _ (pool : Region) (agreed before voted work : Extent) (mark : ℕ) (made 
         copies_voted = turned_file.copies_voted ∙ sym kept_voted;
       }
 
+      -- with a span for made words, the pool has the words of the next frame for a unit that stays
       pub begun_is : words_in new agreed before voted (Some span) true ≡ next_words true (words_in pool agreed before voted made follows)
       begun_is =
           let zeros : words_at new span.number ≡ replicate (length (words_at pool voted.number)) 0 =

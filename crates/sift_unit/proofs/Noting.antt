@@ -47,6 +47,7 @@ module _ (m : FlownMission) (fit : Fits m) where
     shape = shape;
   }
 
+  -- a board that goes on to the next slot, with the memory after this one, stays in range
   pub note_range : (b : Desk) → InRange m b → b.slot < m.slots → InRange m (onto b (noted b))
   note_range b r low = range_onto b (noted b) r low (shape_noted m b.cfg b.unit b.frame b.clk b.last (m.kind b.slot) b.places b.memory r.shape)
 
