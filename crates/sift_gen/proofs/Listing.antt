@@ -41,6 +41,7 @@ digits-kept n unit same =
     let yes : nat_eq n unit ≡ true = grind (arith, nat_tests, same) in
     digits-more n unit ∙ (ap (λ b. other_digits n unit ++ cond (not b) (decimal n) []) yes ∙ append-nil (other_digits n unit))
 
+-- one unit more, which isn't the one left out, adds its digits at the end
 pub digits-added : (n unit : ℕ) → n ≢ unit → other_digits (n + 1) unit ≡ other_digits n unit ++ decimal n
 digits-added n unit other =
     let no : nat_eq n unit ≡ false = grind (arith, nat_tests, other) in

@@ -9,16 +9,19 @@ use Rattle.toml.specs.Text.{IsDocumentText, IsItemsText, IsLineText, IsLinesText
 -- ---- no float is in it
 
 abbrev mutual
+  -- there is no float in a value, nor in what it holds
   pub HasNoFloat : Data → Type 0
   HasNoFloat (float x) = ⊥
   HasNoFloat (array ds) = NoItemHasFloat ds
   HasNoFloat (table ms) = NoMemberHasFloat ms
   HasNoFloat _ = ⊤
 
+  -- there is no float in any item of an array
   pub NoItemHasFloat : Items → Type 0
   NoItemHasFloat no_items = ⊤
   NoItemHasFloat (item d ds) = HasNoFloat d × NoItemHasFloat ds
 
+  -- there is no float in any member of a table
   pub NoMemberHasFloat : Members → Type 0
   NoMemberHasFloat no_members = ⊤
   NoMemberHasFloat (member k d ms) = HasNoFloat d × NoMemberHasFloat ms

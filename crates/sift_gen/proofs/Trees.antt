@@ -7,9 +7,11 @@ use Rattle.sift_gen.specs.Scenario.{document_of, fault_place, fault_table, first
 pub same-two : {C : Type 0} (f : ℕ → ℕ → C) (a a' b b' : ℕ) → a ≡ a' → b ≡ b' → f a b ≡ f a' b'
 same-two f a a' b b' p q = ap (λ x. f x b) p ∙ ap (f a') q
 
+-- what is made of the same three numbers is the same
 pub same-three : {C : Type 0} (f : ℕ → ℕ → ℕ → C) (a a' b b' c c' : ℕ) → a ≡ a' → b ≡ b' → c ≡ c' → f a b c ≡ f a' b' c'
 same-three f a a' b b' c c' p q r = same-two (λ x y. f x y c) a a' b b' p q ∙ ap (f a' b') r
 
+-- what is made of the same four numbers is the same
 pub same-four : {C : Type 0} (f : ℕ → ℕ → ℕ → ℕ → C) (a a' b b' c c' d d' : ℕ) → a ≡ a' → b ≡ b' → c ≡ c' → d ≡ d' → f a b c d ≡ f a' b' c' d'
 same-four f a a' b b' c c' d d' p q r s = same-three (λ x y z. f x y z d) a a' b b' c c' p q r ∙ ap (f a' b' c') s
 

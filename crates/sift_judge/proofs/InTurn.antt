@@ -30,17 +30,21 @@ module _ (d : MissionData) (lines : List ReportLine) where
   pub two_kept : (f : ℕ) → KeepsIfAsked d lines f same_configuration → KeepsBelow d lines f 3
   two_kept f two = one_more f same_configuration (none_below f) two
 
+  -- lines that keep the rules of configuration and inputs in a frame keep rules 2 and 3 there
   pub three_kept : (f : ℕ) → KeepsIfAsked d lines f same_configuration → Keeps same_inputs d lines f → KeepsBelow d lines f 4
   three_kept f two three = one_more f same_inputs (two_kept f two) (λ asked. three)
 
+  -- lines that keep the rules of configuration, inputs and outputs in a frame keep rules 2 to 4 there
   pub four_kept : (f : ℕ) → KeepsIfAsked d lines f same_configuration → Keeps same_inputs d lines f → Keeps ideal_outputs d lines f
       → KeepsBelow d lines f 5
   four_kept f two three four = one_more f ideal_outputs (three_kept f two three) (λ asked. four)
 
+  -- lines that keep the rules of configuration, inputs, outputs and accusations in a frame keep rules 2 to 5 there
   pub five_kept : (f : ℕ) → KeepsIfAsked d lines f same_configuration → Keeps same_inputs d lines f → Keeps ideal_outputs d lines f
       → Keeps no_false_accusation d lines f → KeepsBelow d lines f 6
   five_kept f two three four five = one_more f no_false_accusation (four_kept f two three four) (λ asked. five)
 
+  -- lines that keep a frame's rules from that of the configuration to that of removals keep rules 2 to 6 there
   pub six_kept : (f : ℕ) → KeepsIfAsked d lines f same_configuration → Keeps same_inputs d lines f → Keeps ideal_outputs d lines f
       → Keeps no_false_accusation d lines f → Keeps exact_removal d lines f → KeepsBelow d lines f 7
   six_kept f two three four five six = one_more f exact_removal (five_kept f two three four five) (λ asked. six)
@@ -67,6 +71,7 @@ module _ (d : MissionData) (lines : List ReportLine) where
   frame_keeps f frame clock_skew behind b = b.broken (frame.frame b.asked).clock_skew
   frame_keeps f frame true_margin behind b = b.broken frame.true_margin
 
+  -- in the first frame without its form, the form is the first rule that the lines break
   pub first_form : (f : ℕ) → IsFirstWithoutForm d lines f → IsFirstBroken d lines form f
   first_form f found = record {
     broken = record { inside = found.inside; asked = tt; broken = found.broken };

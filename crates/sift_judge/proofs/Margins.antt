@@ -26,9 +26,11 @@ module _ (d : MissionData) (lines : List ReportLine) (f : ℕ) where
     | inr more ↦ let last : f ≡ g = omega (arith, low, more) in subst (IsSoundTold d lines) last here
   ]
 
+  -- where a frame has margin, each frame before it had
   pub had_margin : HasMarginTold d lines f → HadMarginTold d lines f
   had_margin has g low = has g (omega (arith, low))
 
+  -- where a frame has margin, its own configuration is sound
   pub is_sound : HasMarginTold d lines f → IsSoundTold d lines f
   is_sound has = has f (omega arith)
 
@@ -36,6 +38,7 @@ module _ (d : MissionData) (lines : List ReportLine) (f : ℕ) where
   pub margin_after : HasMarginTold d lines f → HadMarginTold d lines (f + 1)
   margin_after has g low = has g (omega (arith, low))
 
+  -- where each frame before the next had margin, this frame has it
   pub margin_until : HadMarginTold d lines (f + 1) → HasMarginTold d lines f
   margin_until had g low = had g (omega (arith, low))
 

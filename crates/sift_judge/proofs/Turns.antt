@@ -93,6 +93,7 @@ breaks_none d lines report exact_removal f b = b.broken (report.frames f b.insid
 breaks_none d lines report clock_skew f b = b.broken (report.frames f b.inside b.asked).clock_skew
 breaks_none d lines report true_margin f b = b.broken (report.true_margin f b.inside)
 
+-- lines have one verdict at most
 pub one_verdict : OneVerdict
 one_verdict d lines Yes Yes one other = refl
 one_verdict d lines Yes (No g k) one other = absurd (breaks_none d lines one other.0 g other.2.broken)

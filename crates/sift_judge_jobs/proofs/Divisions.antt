@@ -24,9 +24,11 @@ module _ (bytes document report other behind : List ℕ) (divided : AreDivided b
   same : document ++ (divider ++ report) ≡ other ++ (divider ++ behind)
   same = divided.between.parts ∙ sym divided'.between.parts
 
+  -- two divisions of an input have one document
   pub one_document : document ≡ other
   one_document = same_front document other (divider ++ report) (divider ++ behind) as_long same
 
+  -- two divisions of an input have one report
   pub one_report : report ≡ behind
   one_report =
       let rest : divider ++ report ≡ divider ++ behind = same_back document other (divider ++ report) (divider ++ behind) as_long same in

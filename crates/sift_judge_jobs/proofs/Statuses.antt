@@ -38,6 +38,7 @@ module _ (loads : (version : Version) (report : List ℕ) → StatusesAreOwn (Re
       let here = loads job.version report report_statuses (of_report job.version report) in
       (here.among document came gives, here.apart document came gives)
 
+  -- the replies of `judge` have its own statuses, and none that is shared
   pub judge_own : (job : JudgeJob) → HasOwnStatuses (judge_duty job) judge_statuses
   judge_own job = record {
     among = λ bytes came gives. (of_judge job bytes came gives).0;

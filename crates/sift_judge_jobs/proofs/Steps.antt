@@ -25,6 +25,7 @@ pub record IsReadTo (version : Version) (report : List ℕ) (lines : List Report
   pub all : All (IsOnly version) lines
   pub texts : map line_text lines ++ texts_of rest ≡ texts_of report
 
+-- before a line is read, a report is that of no lines and of the whole rest
 pub begun : (version : Version) (report : List ℕ) → IsReadTo version report [] report
 begun version report = record { all = All-nil (IsOnly version); texts = refl }
 

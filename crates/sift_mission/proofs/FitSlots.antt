@@ -45,6 +45,7 @@ module _ (d : MissionData) (fit : PartsFit d) where
   pub few-words : d.layout.words ≤ 64
   few-words = let words = fit.layout.words in let starts = fit.program.a_start_each in let few = fit.program.few_words in omega arith
 
+  -- in a mission whose parts fit each slot has a number of its own, and each number below their count its slot
   pub numbered : IsNumbered (flown d)
   numbered = record {
     few =

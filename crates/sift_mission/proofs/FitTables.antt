@@ -50,11 +50,13 @@ module _ (d : MissionData) (fit : PartsFit d) where
   pub table-placed : (i : ℕ) (table : Schedule) → i < length d.tables → table ≡ get_or d.tables i table → table_at d i ≡ table
   table-placed i table low is = get_or_default d.tables i _ table low ∙ sym is
 
+  -- a table that stands at a place has a row for each task
   pub placed-rows : (i : ℕ) (table : Schedule) → i < length d.tables → table ≡ get_or d.tables i table → length table.run ≡ length d.program.tasks
   placed-rows i table low is =
       ap (λ (t : Schedule). length t.run) (sym (table-placed i table low is))
       ∙ ((fit.tables.each i low).good.whole.0.0 ∙ length-shapes d.program.tasks 0 d.program.tasks)
 
+  -- a table that stands at a place has a row for each task, and as many subframes as the mission
   pub placed-has-rows : (i : ℕ) (table : Schedule) → i < length d.tables → table ≡ get_or d.tables i table → HasRowsFor d table
   placed-has-rows i table low is = record {
     rows = placed-rows i table low is;
@@ -113,6 +115,7 @@ module _ (d : MissionData) (fit : PartsFit d) where
     caught-in-time us Report config there caught = absurd cc
     caught-in-time us (RelayReport s) config there caught = absurd cc
 
+    -- in a mission whose parts fit slots are heard in time, and no later than a word is said that wants them
     pub timed : IsTimed (flown d)
     timed = record {
       run = λ us w config low. refl;
@@ -124,6 +127,7 @@ module _ (d : MissionData) (fit : PartsFit d) where
       reported = λ us s config there. omega arith;
     }
 
+  -- each word that isn't held has three executors or more, all in the configuration, and one that is held has none
   pub executors : TasksHaveThreeExecutors → HasExecutors (flown d)
   executors laws = record {
     three = λ us w config low kept.

@@ -102,6 +102,7 @@ module _ (d : MissionData) (fit : PartsFit d) where
       ap (λ outs. slice_index outs (w - first_word (shapes_in d) t))
       (meaning-same d.layout.sensors (length d.program.starts) (program.first_word d.program.tasks t) (task_for w) ins ins' now now' last sound nows (λ x x_low. sensed x x_low refl) read)
 
+  -- a task reads the agreed words, this frame's words that it needs, heard by then, and those of the frame before
   pub read : TasksRunAfterTheirNeeds → IsRead (flown d)
   read after = record {
     reads = reads-same;
@@ -112,6 +113,7 @@ module _ (d : MissionData) (fit : PartsFit d) where
         (contains-has (shape_at (shapes_in d) t).needs (task_of (shapes_in d) v) needs));
   }
 
+  -- in a mission whose parts fit units, tasks, words, sensors and frames are counted within the limits
   pub counted : IsCounted (flown d)
   counted = record {
     units = λ u there. (let low = range-has 0 d.units u there in let few = fit.limits.few_units in omega (arith, low.1));

@@ -27,6 +27,7 @@ one_entry script number at other place one two = elim (cases_order place at) [
   | inr (inr after) ↦ absurd (met_unbroken entry_rules script at number (two.entries_before at after) one.broken)
 ]
 
+-- a script that breaks a rule first at an entry isn't good, and breaks no other rule first, nor at another entry
 pub one_broken_rule : OneBrokenRule
 one_broken_rule script number at broken = (
   λ good. met_unbroken entry_rules script at number (good at broken.inside) broken.broken,

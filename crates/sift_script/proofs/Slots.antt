@@ -27,6 +27,7 @@ itself (Out w) = eq-eqb w w refl
 itself Report = refl
 itself (RelayReport u) = eq-eqb u u refl
 
+-- the test of two slots tells that they are the same exactly where they are one slot
 pub slots_are_compared_whole : SlotsAreComparedWhole
 slots_are_compared_whole one other = (one_slot one other, λ is. subst (λ (slot : Slot). is_same_slot one slot ≡ true) is (itself one))
 
@@ -39,5 +40,6 @@ words_counted (task ∷ tasks) (suc t) =
     sum_by-cons (λ n. n) task.outputs (take t (map (λ s. s.outputs) tasks)) ∙ ap (λ n. task.outputs + n) (words_counted tasks t)
     ∙ sym (sum_by-cons (λ s. s.outputs) task (take t tasks))
 
+-- an item counts the words of the tasks before its own as a mission does
 pub words_are_numbered_alike : WordsAreNumberedAlike
 words_are_numbered_alike shapes t = words_counted shapes.tasks t

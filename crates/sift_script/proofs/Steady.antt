@@ -33,6 +33,7 @@ steady_among script (fault ∷ faults) is good some =
     let all : take (length faults + 1) script.faults ≡ script.faults = take_all (length faults + 1) script.faults (rw is (omega arith)) in
     (left.0, left.1, λ f. ap not (unnamed_works script.faults left.0 f (rw all at left.2)))
 
+-- in a good script for some units, one of these works in every frame
 pub one_unit_is_steady : OneUnitIsSteady
 one_unit_is_steady script good some = steady_among script script.faults refl good some
 
@@ -53,6 +54,7 @@ not_faulty_before (fault ∷ faults) u f later before none =
     let parts = or_parts (is_faulted_by u later fault) (is_faulty faults u later) none in
     or_from (is_faulted_by u f fault) (is_faulty faults u f) (not_come_before u f later fault before parts.0) (not_faulty_before faults u f later before parts.1)
 
+-- a unit that works in a frame has worked in each frame before it
 pub faults_are_for_good : FaultsAreForGood
 faults_are_for_good faults u f later before working = ap not (not_faulty_before faults u f later before (not_true (is_faulty faults u later) working))
 
@@ -87,10 +89,12 @@ no_storm (Some fault) f none = storm_later fault.from fault.plan none
     storm_later from (changing changes) later = refl
     storm_later from (turning number strays) later = later
 
+-- what a unit says in a frame in which it works isn't changed
 pub working_units_say_their_words : WorkingUnitsSayTheirWords
 working_units_say_their_words script u f slot receiver working =
     rw (no_changes (fault_of_unit script.faults u) f (not_come script.faults u f (not_true (is_faulty script.faults u f) working))) refl
 
+-- a unit that works in a frame hasn't turned by then
 pub working_units_have_not_turned : WorkingUnitsHaveNotTurned
 working_units_have_not_turned faults u f working = no_storm (fault_of_unit faults u) f (not_come faults u f (not_true (is_faulty faults u f) working))
 
@@ -112,6 +116,7 @@ storm_comes (Some fault) frames from number strays below is = of_plan fault.plan
     of_plan (changing changes) low is' = absurd (none-some _ is')
     of_plan (turning n s) low is' = let same : fault.from ≡ from = ap (λ storm. storm.0) (same_Some _ _ is') in omega (arith, same, low)
 
+-- in a good script each storm comes in a frame of the mission
 pub storms_come_in_the_mission : StormsComeInTheMission
 storms_come_in_the_mission script u from number strays good is =
     storm_comes (fault_of_unit script.faults u) script.frames from number strays
