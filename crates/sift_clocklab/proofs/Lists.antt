@@ -21,6 +21,7 @@ last_has : {X : Type 0} (P : X → Type 0) (xs : List X) (x : X) → All P (xs +
 last_has P [] x all = All-head P x [] all
 last_has P (y ∷ xs) x all = last_has P xs x (All-tail P y (xs ++ x ∷ []) all)
 
+-- what holds of each element of a list holds of its last
 pub All-last : {X : Type 0} (P : X → Type 0) (all xs : List X) (x : X) → all ≡ xs ++ x ∷ [] → All P all → P x
 All-last P all xs x are each = last_has P xs x (All-same P (xs ++ x ∷ []) all (sym are) each)
 
@@ -29,6 +30,7 @@ front_has : {X : Type 0} (P : X → Type 0) (xs ys : List X) → All P (xs ++ ys
 front_has P [] ys all = All-nil P
 front_has P (x ∷ xs) ys all = All-cons P x xs (All-head P x (xs ++ ys) all) (front_has P xs ys (All-tail P x (xs ++ ys) all))
 
+-- what holds of each element of a list holds of each before its last
 pub All-front : {X : Type 0} (P : X → Type 0) (all xs : List X) (x : X) → all ≡ xs ++ x ∷ [] → All P all → All P xs
 All-front P all xs x are each = front_has P xs (x ∷ []) (All-same P (xs ++ x ∷ []) all (sym are) each)
 

@@ -14,17 +14,20 @@ use Rattle.sift_trial.specs.Laws.{DrawnTreesAreMissions}
 use Rattle.sift_jobs.specs.Existence.{MissionsHaveFlights, VotesAreThere, TrialsAreThere}
 
 module _ (given : MissionData → Strays → Type 0) (flies : PartsMakeItFlyable) (round : EachMissionHasARoundFlight) where
+  -- a mission whose parts fit has a flight over any strays that rogues may give
   pub flights : MissionsHaveFlights given
   flights mission strays fits may =
       let found = round (flown mission) strays (flies mission fits).0.fits in
       (found.0, record { strays = strays; given_are = may; round = found.1 })
 
+  -- `votes` has a reply to bytes that state a mission, where rogues may give it some strays
   pub votes_there : StatedMissionsFit → VotesAreThere given
   votes_there fit job bytes mission strays stated may =
       let found = flights mission strays (fit stated.0 mission stated.2) may in
       let text = votes_of mission found.0 in
       (done text, inl (mission, stated, (text, (found.0, found.1, refl), refl)))
 
+  -- `trial` has a reply for each number, where rogues may give some strays to the mission that is drawn by it
   pub trials_there : StatedMissionsFit → DrawnTreesAreMissions → TrialsAreThere given
   trials_there fit drawn job may =
       let (mission, states) = drawn job.number in

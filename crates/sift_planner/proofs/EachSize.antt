@@ -8,6 +8,7 @@ use Rattle.sift_planner.specs.Plans.{HasNoRoom, IsPlan, wanted}
 use Rattle.sift_planner.specs.Sizes.{OnePlanEach, OneSizeWithoutRoom, table_at}
 use Rattle.sift_planner.proofs.Plans.{one_plan, one_refusal}
 
+-- there are plans for all sizes in one way at most
 pub one_plan_each : OnePlanEach
 one_plan_each shapes units period copies some others plannable a b =
     let empty : Schedule = record { size = 0; period = 0; run = []; poll = []; at = []; shed = [] } in
@@ -15,6 +16,7 @@ one_plan_each shapes units period copies some others plannable a b =
     ext_get_or empty some others long
     (λ i low. one_plan shapes (wanted (least_units + i) period copies) (table_at some i) (table_at others i) plannable (a.each i low) (b.each i (omega (arith, low, long))))
 
+-- a first size without room for a task is the only one, with that task, and then there are no plans for all sizes
 pub one_size_without_room : OneSizeWithoutRoom
 one_size_without_room shapes units period copies size task plannable none = (
   (λ tables plans.

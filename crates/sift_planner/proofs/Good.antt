@@ -121,6 +121,7 @@ module _ (shapes : AllShapes) (w : Wanted) (table : Schedule) (limits : IsWithin
   row_good t low =
       subst (λ (shed : List ℕ). MeetsEach (if has shed t then shed_rules else run_rules) table shapes t) (sym plan.none_shed) (run_good t low)
 
+-- a plan within the limits meets all rules of schedule tables
 pub plans_are_good : PlansAreGood
 plans_are_good shapes w table limits plan = record {
   whole = ((plan.runs, plan.polls, plan.positions), (rw plan.none_shed (tt, λ k d low. absurd (omega arith)), tt));

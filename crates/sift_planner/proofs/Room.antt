@@ -67,10 +67,12 @@ module _ (shapes : AllShapes) (w : Wanted) (plannable : ArePlannable shapes) whe
             rw at early
       ]
 
+-- a plan runs no task later than the plain table does
 pub plans_run_early : PlansRunEarly
 plans_run_early shapes w table t plannable plan low =
     runs_early shapes w plannable (length shapes.tasks) (length shapes.tasks) table plan (omega arith) (omega arith) t low
 
+-- a frame that is long enough for the plain table has room for every task
 pub long_frames_have_room : LongFramesHaveRoom
 long_frames_have_room shapes w task plannable long none =
     none.shut (agreed_in + hearing_delay * task)

@@ -24,6 +24,7 @@ module _ (sensors : ℕ) (program : ProgramTree) (few : sensors ≤ sensor_limit
       shape-there program.tasks t 0 program.tasks empty within
       ∙ ap (λ (n : ℕ). shape_in program.tasks n (task_at program.tasks t)) (let e : 0 + t ≡ t = omega arith in e)
 
+  -- the tasks of a sound program, with no more than 8 sensors, have shapes that a mission may have
   pub sound_shapes : AreShapes (program_shapes sensors program)
   sound_shapes =
       let none : TaskTree = record { outputs = 0; body = end } in

@@ -16,6 +16,7 @@ pub record IsReadTo (version : Version) (report text rest : List ℕ) (n : ℕ) 
   pub split : text ++ rest ≡ report
   pub count : length before ≡ n
 
+-- before a line was printed, a report is no text so far, of 0 lines, and the whole rest
 pub begun : (version : Version) (report : List ℕ) → IsReadTo version report [] report 0
 begun version report = record { before = []; all = All-nil (IsLineIn version); read = refl; split = refl; count = refl }
 

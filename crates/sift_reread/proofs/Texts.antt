@@ -24,5 +24,6 @@ module _ (texts : LinesAreTexts) where
       (IsUtf8-from_ascii (10 ∷ []) feed_is_ascii))
       (lines_are version lines (All-tail (IsLineIn version) line lines all))
 
+  -- a report is UTF-8, where its lines are
   pub reports_are : ReportsAreTexts
   reports_are text (version, report) = subst IsUtf8 report.2 (lines_are version report.0 report.1)

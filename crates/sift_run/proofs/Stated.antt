@@ -58,6 +58,7 @@ module _ (given : MissionData → Strays → Type 0) (one : OneCommand) (one_sta
       owed command bytes mission reply reads short stated
       (subst (λ (c : Command). IsOwedTo (duty_of given c) bytes reply) (one words other command asks asked) owes)
 
+  -- an input that states a mission gets a reply that the command gives for it, or memory was wanting
   pub answered : MissionsAreAnswered given
   answered words command input output mission status certain reads is = came (certain is.bytes is.told)
     where
@@ -99,6 +100,7 @@ module _ (given : MissionData → Strays → Type 0) (one : OneCommand) (one_sta
   done (Byz job) mission reply does gave = absurd does
   done (Clocks job) mission reply does gave = absurd does
 
+  -- an input that states a mission gets status 0 or 10 from a command that does what was asked for each mission
   pub end_well : MissionsEndWell given
   end_well words command input output mission status certain does is =
       ⊎_elim

@@ -46,6 +46,7 @@ kept-true skew error rate length small passed =
     le_z-true (pos 5 *ℤ (error +ℤ rate)) skew
     (rw (held-number skew small.0, five_times-is skew error rate length small) at passed)
 
+-- where five times the error and the rate together is no more than the skew, the first test passes
 pub kept-holds : (skew error rate length : ℤ) → AreNumbers skew error rate length
     → (pos 5 *ℤ (error +ℤ rate)) ≤ℤ skew → le_z (five_times error rate) (held skew) ≡ true
 kept-holds skew error rate length small kept =
@@ -56,6 +57,7 @@ kept-holds skew error rate length small kept =
 pub told-true : (skew : ℤ) → IsNumber skew → le_z (held skew) skew_limit ≡ true → skew ≤ℤ skew_limit
 told-true skew small passed = le_z-true skew skew_limit (rw (held-number skew small) at passed)
 
+-- where the skew is within the limit at which clock words are read right, the second test passes
 pub told-holds : (skew : ℤ) → IsNumber skew → skew ≤ℤ skew_limit → le_z (held skew) skew_limit ≡ true
 told-holds skew small told = rw (held-number skew small) (le_z-holds skew skew_limit told)
 

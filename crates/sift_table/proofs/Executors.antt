@@ -30,6 +30,7 @@ all_has P (v ∷ ps) p all there = elim (cases_Bool (eqb v p)) [
   | inr other ↦ all_has P ps p all.1 (rw other at there)
 ]
 
+-- a good table gives no subframes of its own to a task that it sheds
 pub shed_tasks_are_left_out : ShedTasksAreLeftOut
 shed_tasks_are_left_out table shapes t good shed =
     let low : t < length shapes.tasks = all_has (λ k. k < length shapes.tasks) table.shed t
@@ -37,6 +38,7 @@ shed_tasks_are_left_out table shapes t good shed =
     let left = shed_row table shapes t good low shed in
     (low, left.0, left.1)
 
+-- under a good table a word is heard 2 subframes or more before the frame's end, and 2 after it is said unless shed
 pub slots_are_heard_in_time : SlotsAreHeardInTime
 slots_are_heard_in_time table shapes layout Clock good long words there = (λ kept. omega arith, omega arith)
 slots_are_heard_in_time table shapes layout (Sense x) good long words there = (λ kept. omega arith, omega arith)
@@ -106,6 +108,7 @@ none_below : (ps : List ℕ) → AllByRecursion (λ p. 0 ≤ p) ps
 none_below [] = tt
 none_below (p ∷ ps) = (omega arith, none_below ps)
 
+-- under a good table a task runs at three or more of a configuration's positions, and one that is shed at none
 pub tasks_have_three_executors : TasksHaveThreeExecutors
 tasks_have_three_executors table shapes t good there =
     let ps = positions_of table t in elim (cases_Bool (sheds table t)) [

@@ -59,6 +59,7 @@ plain_row size period shapes t enough sound long there =
     absurd (omega (arith, run, same, plain_run size period tasks earlier (omega (arith, there, before)))) in
     (omega (arith, run), (omega (arith, poll), (omega (arith, run, poll), (few, (inside, (ascend, (reads, (apart, tt))))))))
 
+-- the plain table is good in a frame that is long enough to poll its last task by the reports
 pub plain_tables_are_good : PlainTablesAreGood
 plain_tables_are_good size period shapes enough sound long =
     let tasks = length shapes.tasks in

@@ -44,5 +44,6 @@ one_refusal table shapes number row other at (inr one) (inr two) =
     let same : at ≡ row = one_row table shapes number row other at one two in
     (one_number (row_rules table row) table shapes row number other one.broken (rw same at two.broken), same)
 
+-- a table that breaks a rule first in a row isn't good, and breaks no other rule first, nor in another row
 pub one_broken_rule : OneBrokenRule
 one_broken_rule table shapes number row broken = (refused_bad table shapes number row broken, λ other at again. one_refusal table shapes number row other at broken again)

@@ -36,6 +36,7 @@ pub Fits-choose_else-first : (b : Bounds) (locals repeats made : ℕ) (t : Term)
 Fits-choose_else-first b locals repeats made t first second r fails is_first =
     (λ y. absurd (false≢true (sym fails ∙ y)), λ h. is_first.1 (h.0.1, omega (arith, h.1), h.2.1))
 
+-- whether a body fits, with one repeat less, tells whether the `repeat` fits, where one may open and its rounds are few
 pub Fits-repeat : (b : Bounds) (locals repeats made k : ℕ) (body : Block) (r : Bool) → 1 ≤ repeats → k ≤ round_limit → (IsTrue r ↔ Fits b locals (repeats - 1) made body)
     → IsTrue r ↔ FitsStatement b locals repeats made (repeat k body)
 Fits-repeat b locals repeats made k body r more few is_body =
