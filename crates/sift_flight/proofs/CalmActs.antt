@@ -39,6 +39,7 @@ module _ (c : Calm) (plain : IsPlain c) where
     pub stamped : stamp n ≡ s
     pub worded : word n ≡ w
 
+  -- what a unit said it said in frame 0 to a unit that it calls in the slot, with the slot's stamp and word
   pub said_act : (u f n q s : ℕ) (w : Option ℕ) → (acts_of c u).said f n q ≡ Some (saying s w) → Said u f n q s w
   said_act u f n q s w e =
       let t = cond_some (nat_eq f 0 && calls_in n u q) (saying (stamp n) (word n)) (saying s w) e in
@@ -94,6 +95,7 @@ module _ (c : Calm) (plain : IsPlain c) where
       none : (f : ℕ) → calls_in n p q ≡ false → (acts_of c p).said f n q ≡ None
       none f t = elim (cases_Bool (nat_eq f 0)) [ inl z ↦ rw (z, t) refl | inr z ↦ rw z refl ]
 
+  -- the core of a plain calm mission is lawful
   pub lawful : Lawful (ranges_of c) (core_of c)
   lawful = record {
     formed = record {

@@ -100,6 +100,7 @@ module _ (c : Calm) (calm : IsCalm c) where
         subst (FrameConduct (mission_of c) u (λ f. account_of c) (heard_places (mission_of c) (acts_of c u)) (said_places (mission_of c) (acts_of c u))) z (frame u hu);
   }
 
+  -- the units have landed: they have heard lawfully, and each board has kept its conduct in the one frame
   pub calm_landed : HaveLanded (mission_of c) (ranges_of c) (core_of c) (λ u f. account_of c) 1
   calm_landed = record {
     places = record { units = calm.below; slots = omega arith };
@@ -108,5 +109,6 @@ module _ (c : Calm) (calm : IsCalm c) where
     within = omega arith;
   }
 
+  -- the core of a calm mission, in which each unit does what it ought to, is lawful
   pub calm_lawful : Lawful (ranges_of c) (core_of c)
   calm_lawful = lawful c calm.plain

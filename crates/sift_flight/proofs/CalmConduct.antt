@@ -78,6 +78,7 @@ module _ (c : Calm) where
     pub cfg : four_units ≡ next_by (names_with u 0) four_units
     pub clk : pos 0 ≡ next_offset (pos 0) four_units (reading_by (mission_of c) u (pos 0) (heard_by c u)) (pos 0) u (pos 0)
 
+  -- a unit with these figures does in the frame what it ought to, where each task has its output word
   pub conduct_by : length c.outs ≡ length c.tasks → (u : ℕ) → HasFigures u → Conduct (mission_of c) four_units u 0 (account_of c) (heard_by c u) c.starts
   conduct_by count u g = record {
     sensors = record { count = refl; agrees = g.ins };

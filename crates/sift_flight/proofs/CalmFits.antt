@@ -40,6 +40,7 @@ module _ (c : Calm) where
     inside = λ u h. h;
   }
 
+  -- the four units have numbers below each number from 4 on
   pub four_are_below : (n : ℕ) → 4 ≤ n → (u : ℕ) → has four_units u ≡ true → u < n
   four_are_below n long u hu = four (λ u. u < n) (omega arith) (omega arith) (omega arith) (omega arith) u hu
 
@@ -58,6 +59,7 @@ module _ (c : Calm) where
   always : IsPlain c → (f : ℕ) → not (nat_lt 0 f && c.turns 0) ≡ true
   always plain f = rw (plain.steady, false_last (nat_lt 0 f)) refl
 
+  -- a plain calm mission that fits can be flown
   pub flyable_by : IsPlain c → Fits (mission_of c) → IsFlyable (mission_of c)
   flyable_by plain fits = record {
     fits = fits;
@@ -70,6 +72,7 @@ module _ (c : Calm) where
     };
   }
 
+  -- the one frame of a calm mission has margin
   pub has_margin : HasMarginAt (mission_of c) (flight_of (mission_of c) (core_of c) (λ u f. account_of c)) 0
   has_margin g low =
       let z : 0 ≡ g = omega arith in
@@ -81,6 +84,7 @@ module _ (c : Calm) where
     pub late : (w : ℕ) → w < length c.tasks → 4 ≤ slice_index c.runs w
     pub early : (w : ℕ) → w < length c.tasks → slice_index c.runs w + 8 ≤ c.period
 
+  -- a plain calm mission fits, where its slots are numbered, and its tasks run in time and read what they may
   pub fits_by : IsPlain c → IsNumbered (mission_of c) → RunsInTime → IsRead (mission_of c) → Fits (mission_of c)
   fits_by plain numbered times read = record {
     numbered = numbered;

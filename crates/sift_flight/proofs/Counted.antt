@@ -75,9 +75,11 @@ module _ (passes : ℕ → Bool) (us : List ℕ) (i u : ℕ) (there : slice_get 
       filter_more passes us i u (place_there us i u there)
       ∙ ap (λ v. filter passes (take i us) ++ cond (passes v) (v ∷ []) []) (place_holds us i u u there)
 
+  -- where the unit of the place passes, it comes behind the units that pass before it
   pub filter-yes : passes u ≡ true → filter passes (take (i + 1) us) ≡ filter passes (take i us) ++ u ∷ []
   filter-yes t = one_more ∙ ap (λ b. filter passes (take i us) ++ cond b (u ∷ []) []) t
 
+  -- where the unit of the place doesn't pass, the units that pass up to it are those before it
   pub filter-no : passes u ≡ false → filter passes (take (i + 1) us) ≡ filter passes (take i us)
   filter-no f = one_more ∙ ap (λ b. filter passes (take i us) ++ cond b (u ∷ []) []) f ∙ append-nil (filter passes (take i us))
 
@@ -96,11 +98,13 @@ module _ (works : ℕ → Bool) (us : List ℕ) (all working : ℕ) (all_are : a
   pub faulty-are : all - working ≡ faulty_count works us
   faulty-are = omega (arith, faulty-rest works us)
 
+  -- where at most one unit is faulty, a configuration is sound just where four of its units work
   pub enough_decides : all - working ≤ 1 → nat_le 4 working ≡ (nat_le (faulty_count works us) 1 && nat_le 4 (working_count works us))
   enough_decides few =
       let test : nat_le (faulty_count works us) 1 ≡ true = le-leb (faulty_count works us) 1 (omega (arith, faulty-are)) in
       rw (test, working-are) refl
 
+  -- where more than one unit is faulty, the test of the faulty ones fails, as that of a sound configuration does
   pub few_decides : 1 < all - working → nat_le (all - working) 1 ≡ (nat_le (faulty_count works us) 1 && nat_le 4 (working_count works us))
   few_decides many =
       let test : nat_le (faulty_count works us) 1 ≡ false = lt-leb (faulty_count works us) 1 (omega (arith, faulty-are)) in

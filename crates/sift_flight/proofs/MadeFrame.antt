@@ -103,6 +103,7 @@ module _ (m : FlownMission) (stray : StrayHearing) (f : ℕ) (start : ℕ → St
   account_is : (u : ℕ) → has (start u).cfg u ≡ true → account_here m stray f start u ≡ busy_account m stray f start u
   account_is u t = rw t refl
 
+  -- a unit in its configuration is busy, and does in the frame that is made what it ought to
   pub busy_here : (u : ℕ) → has (start u).cfg u ≡ true →
       BusyConduct m (start u).cfg u f (account_here m stray f start u) (heard_here m stray f start u) (start u).last
   busy_here u t = record {

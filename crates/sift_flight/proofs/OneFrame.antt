@@ -57,12 +57,15 @@ module _ (m : FlownMission) (program : ProgramTree) (strays : Strays) (fl : Flig
   abbrev pub next : List ℕ
   next = next_by (names m strays fl f us here (lead_of m f)) us
 
+  -- each member finds the next configuration that the lead unit finds
   pub next_is : (u : ℕ) → Member m f us u → (fl.account u f).next_cfg ≡ next
   next_is u w = next_one m strays fl f us here u (lead_of m f) w lead_here
 
+  -- what each member finds next is a configuration of the mission
   pub next_good : IsConfigOf m next
   next_good = next_is_config m strays fl f us here none (lead_of m f) lead_here
 
+  -- each member is in the next configuration
   pub stays_in : (u : ℕ) → Member m f us u → has next u ≡ true
   stays_in u w = stays m strays fl f us here none (lead_of m f) lead_here u w
 

@@ -56,6 +56,7 @@ module _ (m : FlownMission) (strays : Strays) (fl : Flight) (f : ℕ) (us : List
     next_kept : next_by (names q) us ≡ kept_by (names q) us
     next_kept = rw (le-leb least_units (length (kept_by (names q) us)) just.enough) refl
 
+    -- where no member catches a member, exactly the units that two working units caught are gone
     pub next_exact : next_by (names q) us ≡ filter (λ v. not (nat_lt 1 (working_accusers (λ u. m.works u f) (λ u. caught (fl.account u f)) us v))) us
     next_exact = next_kept ∙ filter_same (λ v. not (is_convicted (names q) us v)) _ us (λ v hv. ap not (convicted_is v hv))
 

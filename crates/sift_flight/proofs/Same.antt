@@ -44,6 +44,7 @@ module _ (m : FlownMission) (strays strays' : Strays) (stray : StrayHearing) (fl
   pub conduct_one : (u : ℕ) → Flies m u f → FrameConduct m u (fl.account u) (fl.heard u) (fl.said u) f
   conduct_one u hu = b.one.conduct u hu
 
+  -- in the second flight, too, a unit that flies does in the frame what it ought to
   pub conduct_other : (u : ℕ) → Flies m u f → FrameConduct m u (gl.account u) (gl.heard u) (gl.said u) f
   conduct_other u hu = b.other.conduct u hu
 
@@ -54,6 +55,7 @@ module _ (m : FlownMission) (strays strays' : Strays) (stray : StrayHearing) (fl
       subst (λ c. BusyConduct m c u f (fl.account u f) (fl.heard u f) (last_of m (fl.account u) f)) e
       ((conduct_one u hu).busy (subst (λ c. has c u ≡ true) (sym e) t))
 
+  -- a unit outside its configuration in the second flight is idle in the first
   pub idle_one : (u : ℕ) → Flies m u f → has (us u) u ≡ false → IdleConduct (fl.account u f)
   idle_one u hu t = (conduct_one u hu).idle (subst (λ c. has c u ≡ false) (sym (b.cfg u hu)) t)
 

@@ -99,11 +99,13 @@ module _ (m : FlownMission) (strays strays' : Strays) (stray : StrayHearing) (fl
   report_same u hu r = λ i. if nat_eq r u then bits_of (everyone_in (bad_same u hu i)) else agreed_of (taken (us u) r u
       (λ q. alike Report heard_report u hu i r) (λ q p. alike (RelayReport r) (heard_relayed r) u hu i p))
 
+  -- a unit that flies finds the same next configuration in both flights
   pub next_cfg_same : (u : ℕ) → Flies m u f → (fl.account u f).next_cfg ≡ (gl.account u f).next_cfg
   next_cfg_same u hu = by_place m strays strays' stray fl gl f b (λ u. (fl.account u f).next_cfg ≡ (gl.account u f).next_cfg) u
       (λ t. (one u hu t).conduct.reports.next ∙ ((λ i. next_by (λ r v. has_bit (report_same u hu r i) v) (us u)) ∙ sym (other u hu t).conduct.reports.next))
       (λ t. let i = idle u hu t in i.0.next_cfg ∙ (b.cfg u hu ∙ sym i.1.next_cfg))
 
+  -- a unit that flies has the same offset in force after the frame in both flights
   pub next_clk_same : (u : ℕ) → Flies m u f → (fl.account u f).next_clk ≡ (gl.account u f).next_clk
   next_clk_same u hu = by_place m strays strays' stray fl gl f b (λ u. (fl.account u f).next_clk ≡ (gl.account u f).next_clk) u
       (λ t. (one u hu t).conduct.clocks.next ∙ ((λ i. next_offset (m.skew +ℤ m.error) (us u)
@@ -147,5 +149,6 @@ module _ (m : FlownMission) (strays strays' : Strays) (stray : StrayHearing) (fl
       ∙ ((λ j. said_of m (b.cfg u hu j) u f (account_same u hu j) (heard_same u hu j) (b.last u hu j) k q)
       ∙ sym ((conduct_other m strays strays' stray fl gl f b u hu).said k q))) i
 
+  -- a unit that flies has the same account in both flights, and says and hears the same
   pub same_here : (u : ℕ) → Flies m u f → AreSameAt fl gl u f
   same_here u hu = record { account = account_same u hu; said = said_same u hu; heard = heard_same u hu }

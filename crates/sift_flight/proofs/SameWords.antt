@@ -29,12 +29,15 @@ module _ (m : FlownMission) (strays strays' : Strays) (stray : StrayHearing) (fl
   abbrev last_other : ℕ → List ℕ
   last_other u = last_of m (gl.account u) f
 
+  -- the clocks' words are heard alike in both flights
   pub heard_clock : HearAlike m fl gl f Clock
   heard_clock = hear m strays strays' stray fl gl f b Clock (say m strays strays' stray fl gl f b Clock (λ u q hu t. ap (λ c. Some (word_of c)) (b.clk u hu)))
 
+  -- the word of each sensor is heard alike, as its reader says it
   pub heard_sense : (x : ℕ) → HearAlike m fl gl f (Sense x)
   heard_sense x = hear m strays strays' stray fl gl f b (Sense x) (say m strays strays' stray fl gl f b (Sense x) (λ u q hu t. refl))
 
+  -- the relays of each sensor's word are heard alike
   pub heard_relay : (x : ℕ) → HearAlike m fl gl f (RelaySense x)
   heard_relay x = hear m strays strays' stray fl gl f b (RelaySense x) (say m strays strays' stray fl gl f b (RelaySense x) (λ u q hu t. ap (λ h. h (reader_of (us u) x)) (heard_sense x u hu)))
 
@@ -73,10 +76,12 @@ module _ (m : FlownMission) (strays strays' : Strays) (stray : StrayHearing) (fl
       (λ v v_low t. outs v u (b.fits.read.earlier w v low v_low t) hu)
       ∙ (λ i. m.word w (ins_same u hu i) (gl.account u f).outs (b.last u hu i))
 
+  -- an output word is heard alike, where the words below it are voted alike
   pub heard_out : (w : ℕ) → (w < m.words → SameOuts w) → HearAlike m fl gl f (Out w)
   heard_out w outs = hear m strays strays' stray fl gl f b (Out w) (say m strays strays' stray fl gl f b (Out w) (λ u q hu t.
       let low = ltb-true w m.words (call_of m (us u) (Out w) u q t).slot in ap (λ n. Some n) (made_same w low (outs low) u hu)))
 
+  -- a unit polls the same places of an output word in both flights, where the words below it are voted alike
   pub polled_same : (w : ℕ) → w < m.words → SameOuts w → (u : ℕ) → Flies m u f
       → polled m u (fl.account u f) (fl.heard u f) (last_one u) w ≡ polled m u (gl.account u f) (gl.heard u f) (last_other u) w
   polled_same w low outs u hu = λ i v. if nat_eq v u then Some (made_same w low outs u hu i) else heard_out w (λ z. outs) u hu i v
@@ -90,6 +95,7 @@ module _ (m : FlownMission) (strays strays' : Strays) (stray : StrayHearing) (fl
       (λ t. (one u hu t).conduct.tasks.votes w low ∙ (voted_same w low outs u hu ∙ sym ((other u hu t).conduct.tasks.votes w low)))
       (λ t. let i = idle u hu t in ap (λ l. slice_index l w) (i.0.outs ∙ sym i.1.outs))
 
+  -- all output words of the mission below a number are voted alike in both flights
   pub outs_same : (n : ℕ) → n ≤ m.words → SameOuts n
   unfolding SameOuts
   outs_same zero few w u w_low hu = absurd (omega arith)

@@ -156,17 +156,20 @@ module _ (f : ℕ → ℤ) (us : List ℕ) (r : Option ℤ) where
     | Some skew ↦ λ is. sym (((skew_is_told (map f us)).0 skew).1 is)
   ] h
 
+  -- a skew that is missing only for want of offsets is missing only for want of units
   pub skew_of_units : MatchOption r (map f us ≡ []) (IsSkew (map f us)) → MatchOption r (us ≡ []) (IsSkew (map f us))
   skew_of_units h = mapped f us r (IsSkew (map f us)) h
 
   -- and so is the slack
   module _ (length : ℤ) (next : List ℤ) where
+    -- the slack that is found of units' offsets, and those in force next, is the one that is told
     pub slack_found : MatchOption r (map f us ≡ []) (IsSlack length (map f us) next) → r ≡ slack_of length (map f us) next
     slack_found h = elim r as (λ r. MatchOption r (map f us ≡ []) (IsSlack length (map f us) next) → r ≡ slack_of length (map f us) next) [
       | None ↦ λ none. sym ((slack_is_told length (map f us) next).1.1 none)
       | Some slack ↦ λ is. sym (((slack_is_told length (map f us) next).0 slack).1 is)
     ] h
 
+    -- a slack that is missing only for want of offsets is missing only for want of units
     pub slack_of_units : MatchOption r (map f us ≡ []) (IsSlack length (map f us) next) → MatchOption r (us ≡ []) (IsSlack length (map f us) next)
     slack_of_units h = mapped f us r (IsSlack length (map f us) next) h
 

@@ -36,6 +36,7 @@ module _ (m : FlownMission) (strays : Strays) (fl : Flight) (f : ℕ) (us : List
   pub works_in : (u : ℕ) → Member m f us u → Works m u f
   works_in u w = record { unit = here.config.inside u w.member; works = w.works }
 
+  -- a unit of the mission that works is a member
   pub member_of : (u : ℕ) → Works m u f → Member m f us u
   member_of u w = record { member = (here.share u w).1; works = w.works }
 
@@ -52,9 +53,11 @@ module _ (m : FlownMission) (strays : Strays) (fl : Flight) (f : ℕ) (us : List
       subst (λ c. BusyConduct m c u f (fl.account u f) (fl.heard u f) (last_of m (fl.account u) f)) e
       ((here.round.conduct u (flies u w)).busy (subst (λ c. has c u ≡ true) (sym e) w.member))
 
+  -- a member does in the frame what a unit of this configuration ought to do
   pub conduct_here : (u : ℕ) → Member m f us u → Conduct m us u f (fl.account u f) (fl.heard u f) (last_of m (fl.account u) f)
   conduct_here u w = (busy_conduct u w).conduct
 
+  -- a member isn't idle
   pub busy_here : (u : ℕ) → Member m f us u → (fl.account u f).idle ≡ false
   busy_here u w = (busy_conduct u w).busy
 
@@ -77,23 +80,29 @@ module _ (m : FlownMission) (strays : Strays) (fl : Flight) (f : ℕ) (us : List
 
   -- ---- who says what to whom
 
+  -- a member says its clock's word to each other member
   pub clock_call : (p q : ℕ) → Member m f us p → Member m f us q → p ≢ q → Call m us Clock p q
   clock_call p q wp wq ne = record { slot = refl; from = wp.member; to = wq.member; other = ne; sender = refl }
 
+  -- a member says its report to each other member
   pub report_call : (p q : ℕ) → Member m f us p → Member m f us q → p ≢ q → Call m us Report p q
   report_call p q wp wq ne = record { slot = refl; from = wp.member; to = wq.member; other = ne; sender = refl }
 
+  -- the member that reads a sensor says the sensor's word to each other member
   pub sense_call : (x p q : ℕ) → x < m.sensors → reader_of us x ≡ p → Member m f us p → Member m f us q → p ≢ q → Call m us (Sense x) p q
   sense_call x p q low e wp wq ne =
       record { slot = lt-ltb x m.sensors low; from = wp.member; to = wq.member; other = ne; sender = eq-eqb p (reader_of us x) (sym e) }
 
+  -- a member that doesn't read a sensor relays the sensor's word to each other member
   pub relay_call : (x p q : ℕ) → x < m.sensors → reader_of us x ≢ p → Member m f us p → Member m f us q → p ≢ q → Call m us (RelaySense x) p q
   relay_call x p q low e wp wq ne =
       record { slot = lt-ltb x m.sensors low; from = wp.member; to = wq.member; other = ne; sender = ap not (ne_eqb p (reader_of us x) (λ z. e (sym z))) }
 
+  -- a member that runs the task of a word says the word to each other member
   pub out_call : (w p q : ℕ) → w < m.words → m.executes us w p ≡ true → Member m f us p → Member m f us q → p ≢ q → Call m us (Out w) p q
   out_call w p q low e wp wq ne = record { slot = lt-ltb w m.words low; from = wp.member; to = wq.member; other = ne; sender = e }
 
+  -- a member relays the report of another unit of the configuration to each member but these two
   pub relayed_call : (s p q : ℕ) → has us s ≡ true → Member m f us p → Member m f us q → p ≢ s → q ≢ s → p ≢ q → Call m us (RelayReport s) p q
   relayed_call s p q hs wp wq ps qs ne = record {
     slot = here.config.inside s hs;
