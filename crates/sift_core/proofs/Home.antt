@@ -73,6 +73,7 @@ module _ (m : FlownMission) (x : Machine) (fl : TheFlight) (lands : Lands m x fl
     count_is : length (accounts_of fl u) ≡ frames_before (m.storm u) m.frames
     count_is = ap length accounts_are ∙ (all.count ∙ ap (λ (v : ℕ). frames_before (m.storm v) m.frames) (sym unit_is))
 
+  -- what the flight made of the machine tells is round over the strays with which the machine flies
   pub landed_round : DownLaw → StrayLaw → FlightsThatComeHomeAreRound → (w : Strays) → Flies m w x → IsRound m w (told m fl)
   landed_round down stray round w flies = round m (ranges_for x.rack) (core_of x.rack w) fl (flyable m x lands.flying).fits (record {
     lawful = flies.lawful;
@@ -81,6 +82,7 @@ module _ (m : FlownMission) (x : Machine) (fl : TheFlight) (lands : Lands m x fl
     boards = boards_kept down stray w flies;
   })
 
+  -- that flight has a journal of the layout for each unit, and an account for each frame before the unit turned
   pub landed_logged : DownLaw → StrayLaw → IsLogged m (layout_of x) fl
   landed_logged down stray = record {
     journals = ap length lands.journals ∙ (length-map x.rack.acts.items (λ (l : Ledger). l.pages) ∙ (x.rack.crew ∙ sym (unit_count m x lands.flying)));

@@ -123,6 +123,7 @@ module _ (m : FlownMission) (x : Machine) (u : ℕ) (c : Rack) (at : ℕ) (b : B
   other_board : (p : ℕ) (e : Board) → p ≢ u → slice_index_or bs.items p e ≡ board_at x e p
   other_board p e ne = ap (λ (z : List Board). slice_index_or z p e) items ∙ get_or-set_other x.boards.items u p b' e ne
 
+  -- after the step the machine flies the mission with the strays with which it flew before
   pub step_flies : (w : Strays) → Flies m w x → Flies m w (record { rack = d; boards = bs })
   step_flies w flies = record {
     units = flies.units ∙ ap (λ (l : Layout). first_units l.units) (sym layout);
@@ -139,6 +140,7 @@ module _ (m : FlownMission) (x : Machine) (u : ℕ) (c : Rack) (at : ℕ) (b : B
         (flies.drives p e (subst (λ (l : Layout). p < l.units) layout hp))));
   }
 
+  -- what the unit's board did is a step of this unit of the machine, with the same answer
   pub step_stepped : StepsUnit m u x r (record { rack = d; boards = bs })
   step_stepped = record {
     layout = layout;

@@ -107,6 +107,7 @@ module _ (m : FlownMission) (x : Machine) (u : ℕ) (r : Stepped) (x' : Machine)
       (λ e. subst (λ (v : ℕ). progress_at x' v ≡ progress_at x v) (sym e) (ap (λ (d : Conduct). d.progress) st.0.behind.own.conduct))
       (λ ne. others_progress p ne)
 
+  -- where the unit that steps waits, no unit's progress changes
   pub waits_in_place : IsWaiting r → (p : ℕ) → progress_at x' p ≡ progress_at x p
   waits_in_place waits = progress_kept r outcome waits
 
@@ -132,6 +133,7 @@ module _ (m : FlownMission) (x : Machine) (u : ℕ) (r : Stepped) (x' : Machine)
       let few : b.slot ≤ 90 = let a = range.slot in let c = drives.fits.numbered.few in omega arith in
       let less = landed_nearer m (desk_of b) (desk_of b') st.ended low range.part few range.other in omega arith
 
+  -- a step of a unit that had yet to land or turn comes as near to the end as its answer tells
   pub step_near : IsAloft m x u → ComesNear r
   step_near aloft = comes_near r outcome aloft
 
@@ -150,6 +152,7 @@ module _ (m : FlownMission) (x : Machine) (u : ℕ) (r : Stepped) (x' : Machine)
   comes Turned st aloft = (st.number, (b'.frame, ap m.storm drives'.unit ∙ st.storm))
   comes Landed st aloft = ap m.storm drives'.unit ∙ st.calm
 
+  -- after its step a unit that had yet to land or turn stands where its answer tells
   pub step_comes : IsAloft m x u → Comes r
   step_comes aloft = comes r outcome aloft
 
@@ -170,5 +173,6 @@ module _ (m : FlownMission) (x : Machine) (u : ℕ) (r : Stepped) (x' : Machine)
       let most = least.least q there in
       omega arith
 
+  -- the least unit doesn't wait in its step
   pub least_goes : IsLeast m x u → ¬ IsWaiting r
   least_goes least = least_waits r outcome least

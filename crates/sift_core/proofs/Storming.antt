@@ -256,6 +256,7 @@ module _ {R : Type 0} (allows : R → Call → R → Type 0) (d : MissionData) (
   spent_less : slice_index s'.left u ≡ slice_index s.left u - 1
   spent_less = own_left spent_shot u s.rogues s.left s'.rogues s'.left spent.called (let long = way.left.long in let f = spent_few in omega arith)
 
+  -- after one call more of the rogue of a unit that is down the flight is under way still
   pub spent_way : IsUnderWay d s'
   spent_way = record {
     flies = (with_strays way.flies.0 u spent_more, on way.flies.0 way.flies.1);
@@ -268,6 +269,7 @@ module _ {R : Type 0} (allows : R → Call → R → Type 0) (d : MissionData) (
         });
   }
 
+  -- the machine flies on by its rogues, with the stray to which the call came, if it came to one
   pub spent_storms : CarriesOn allows d s s'
   spent_storms xs k = record {
     strays = with_strays k.strays u spent_more;
@@ -336,12 +338,15 @@ module _ {R : Type 0} (allows : R → Call → R → Type 0) (d : MissionData) (
     storms = quiet_storms allows d u x x' (step_one a stepped) step_low aloft up on ls ys;
   }
 
+  -- where the unit moved the flight goes on, and no rogue was called
   pub moved : StepsUnit (flown d) u x Moved x' → GoesOn allows d (course x ls ys) (course x' ls ys)
   moved stepped = step_quiet Moved stepped (λ t at. step_comes (flown d) x u Moved x' way.flies flying there stepped aloft)
 
+  -- where the unit had to wait for another the flight goes on, with all rogues and calls as they were
   pub waited : (p n : ℕ) → StepsUnit (flown d) u x (NotYet p n) x' → GoesOn allows d (course x ls ys) (course x' ls ys)
   waited p n stepped = step_quiet (NotYet p n) stepped (λ t at. step_comes (flown d) x u (NotYet p n) x' way.flies flying there stepped aloft)
 
+  -- where the unit landed the flight goes on, with the same rogues and calls
   pub landed : StepsUnit (flown d) u x Landed x' → GoesOn allows d (course x ls ys) (course x' ls ys)
   landed stepped = step_quiet Landed stepped
       (λ t at. none_some (sym (no_frame (storm_at d u) (step_comes (flown d) x u Landed x' way.flies flying there stepped aloft)) ∙ at))
@@ -350,9 +355,11 @@ module _ {R : Type 0} (allows : R → Call → R → Type 0) (d : MissionData) (
   pub has_storm : StepsUnit (flown d) u x Turned x' → (t : ℕ × ℕ × ℕ) × (storm_at d u ≡ Some t)
   has_storm stepped = let comes = step_comes (flown d) x u Turned x' way.flies flying there stepped aloft in frame_of (storm_at d u) comes.1.0 comes.1.1
 
+  -- where the unit turned, calls of its rogue were left before the step
   pub some_left : StepsUnit (flown d) u x Turned x' → 0 < slice_index ls u
   some_left stepped = let storm = has_storm stepped in let all = (way.left.each u step_low).before storm.0 storm.1 aloft in omega arith
 
+  -- where the unit turned and its storm began the flight goes on, with the rogues and calls that this left
   pub turned : StepsUnit (flown d) u x Turned x' → (ls' : List ℕ) (ys' : List R) → BeginsStorm allows d u ys ls ys' ls' →
       GoesOn allows d (course x ls ys) (course x' ls' ys')
   turned stepped ls' ys' begun =
@@ -374,6 +381,7 @@ module _ (d : MissionData) (x : Machine) (flies : Flies (flown d) no_strays x) (
       let come = can.storms u t.0 (ap (option_map (λ (s : ℕ × ℕ × ℕ). s.0)) at) in let period = can.fits.counted.period in
       let some : 1 * 1 ≤ d.frames * d.period = mul-le 1 1 d.frames d.period (omega arith) (omega arith) in omega arith
 
+  -- the calls that are left are those of a flight under way: all of each storm, and no others
   pub first_left : AreLeft d x ls
   first_left = record {
     long = all.long;
@@ -384,6 +392,7 @@ module _ (d : MissionData) (x : Machine) (flies : Flies (flown d) no_strays x) (
     };
   }
 
+  -- the machine flies with no strays, by rogues of which none was called
   pub first_storms : {R : Type 0} (allows : R → Call → R → Type 0) (xs : List R) → FliesByRogues allows d xs (course x ls xs)
   first_storms allows xs = record {
     strays = no_strays;

@@ -82,6 +82,7 @@ module _ {R : Type 0} (allows : R → Call → R → Type 0) (d : MissionData) w
         let same = stored_distances (option_map stray_of t.shot) t.stored in
         let less = one_less (λ x y. Shoots allows (bounds_of (layout_of s.machine) u) x t.shot y) u s s' way there some t.called in omega arith
 
+    -- a unit that goes itself, by a step or a call, brings the flight nearer to its end
     pub own_nearer : Tries allows d u s true s' → rest d s' < rest d s
     own_nearer = ⊎_elim (λ (t : StepsItself allows d u s s'). steps_nearer t) (λ (t : SpendsItself allows d u s s'). spend_nearer t.some t.spends)
 
@@ -126,27 +127,33 @@ module _ {R : Type 0} (allows : R → Call → R → Type 0) (d : MissionData) w
     is : u ≡ drawn n' (length m.units)
     is = drawn_same m s.machine n' u way.flies drawn_is.drawn_is
 
+    -- the unit that was drawn is one of the mission
     pub drawn_there : has m.units u ≡ true
     drawn_there = unit_there m s.machine u way.flies drawn_is.there
 
     takes : (v : ℕ) (z : Course R) → TakesTurn allows d u s v z → TurnsAt allows d n s (Some v) n' z
     takes v z turn = (drawn_is.next, subst (λ (w : ℕ). TakesTurn allows d w s v z) is turn)
 
+    -- where the unit that was drawn goes itself, this is the turn, and it goes last
     pub own_turn : Tries allows d u s true y → TurnsAt allows d n s (Some u) n' y
     own_turn goes = takes u y (inl (refl, goes))
 
     module _ (given : GivesAway allows d u s y) (v : ℕ) (z : Course R) (way'' : IsUnderWay d z) where
+      -- where the drawn unit gives its turn away and the least unit steps, this is the turn, and the least goes last
       pub least_turn : IsLeast m y.machine v → StepsItself allows d v y z → TurnsAt allows d n s (Some v) n' z
       least_turn least steps = takes v z (inr (inl (record { between = y; given = given; least = least; steps = steps })))
 
+      -- a turn that is given to the least unit brings the flight nearer to its end
       pub least_nearer : IsLeast m y.machine v → StepsItself allows d v y z → rest d z < rest d s
       least_nearer least steps =
           let first = given_no_farther u s y way way' drawn_there given in
           let second = steps_nearer v y z way' way'' least.unit steps in omega arith
 
+      -- where its turn is given away, all are down, and the first with calls left makes one, this is the turn drawn
       pub first_turn : AreAllDown m y.machine → IsFirstLeft m y.left v → Spends allows v y z → TurnsAt allows d n s (Some v) n' z
       first_turn down first spends = takes v z (inr (inr (record { between = y; given = given; down = down; first = first; spends = spends })))
 
+      -- a turn that is given to the first unit with calls left brings the flight nearer to its end
       pub first_nearer : IsFirstLeft m y.left v → Spends allows v y z → rest d z < rest d s
       first_nearer first spends =
           let before = given_no_farther u s y way way' drawn_there given in
