@@ -31,6 +31,7 @@ pub above-lower : (b c : ℕ) (text : List ℕ) → b ≤ c → IsAbove c text �
 above-lower b c [] low h = tt
 above-lower b c (x ∷ xs) low h = (omega (arith, h.0), above-lower b c xs low h.1)
 
+-- texts that are above a byte are above each lower one
 pub all-lower : (b c : ℕ) (texts : List (List ℕ)) → b ≤ c → AreAbove c texts → AreAbove b texts
 all-lower b c [] low h = tt
 all-lower b c (x ∷ xs) low h = (above-lower b c x low h.0, all-lower b c xs low h.1)
@@ -41,9 +42,11 @@ above-digits : (c : ℕ) (ds : List ℕ) → c < 48 → AllDigits 10 ds → IsAb
 above-digits c [] low h = tt
 above-digits c (d ∷ ds) low h = let range = digit_from_value d h.0 in (omega (arith, range.0), above-digits c ds low h.1)
 
+-- the text of a number of 64 bits is above each byte below the digits
 pub above-decimal : (c n : ℕ) → c < 48 → n < 2 ^ 64 → IsAbove c (decimal n)
 above-decimal c n low small = above-digits c (decimal n) low (decimal_is_IsNumeral n small).0.1
 
+-- the text of a signed number of 64 bits is above each byte below the dash
 pub above-signed : (c : ℕ) (z : ℤ) → c < 45 → FitsSigned w64 z → IsAbove c (signed_decimal z)
 above-signed c (pos n) low fits = above-decimal c n (omega arith) (omega (arith, fits))
 above-signed c (negsuc n) low fits = (low, above-decimal c (suc n) (omega arith) (omega (arith, fits)))
@@ -51,5 +54,6 @@ above-signed c (negsuc n) low fits = (low, above-decimal c (suc n) (omega arith)
 above-digit : (c d : ℕ) → c < 48 → c < digit_glyph false d
 above-digit c d low = grind (arith, nat_tests)
 
+-- the text of a word is above each byte below the digits
 pub above-word : (c w : ℕ) → c < 48 → IsAbove c (word_text w)
 above-word c w low = (above-digit c _ low, (above-digit c _ low, (above-digit c _ low, (above-digit c _ low, tt))))

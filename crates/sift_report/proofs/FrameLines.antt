@@ -48,6 +48,7 @@ module _ (d : MissionData) (fl : Flight) (version : Version) (laws : HasLaws d f
   sheet = sheet_of (flown d) fl version
 
   module _ (f : ℕ) (within : f < d.frames) (at : HasMarginAt (flown d) fl f) where
+    -- the headline of flights holds of the frame
     pub holds_here : Headline (flown d) d.program fl f
     holds_here = laws.headline f within at
 
@@ -80,9 +81,11 @@ module _ (d : MissionData) (fl : Flight) (version : Version) (laws : HasLaws d f
 
     -- ---- words
 
+    -- the agreed words that are told of the frame are the flight's
     pub agrees : agreed_told d sheet f ≡ agreed_at (flown d) fl f
     agrees = agreed_is d fl version laws f within (λ g early. at g (omega arith))
 
+    -- all working units tell the same agreed words, and of a sensor that a working unit reads the mission's word
     pub same_inputs : TellsSameInputs d sheet f
     same_inputs = record {
       same = λ u w.
@@ -96,6 +99,7 @@ module _ (d : MissionData) (fl : Flight) (version : Version) (laws : HasLaws d f
     caught_is : (u : ℕ) → Works (flown d) u f → caught_told d sheet f u ≡ everyone_in (fl.account u f).bad
     caught_is u w = ap (λ t. t.caught) (tells_account u w) ∙ units_told version (fl.account u f).bad
 
+    -- no working unit tells that it caught a working unit
     pub no_false_accusation : TellsNoFalseAccusation d sheet f
     no_false_accusation u v w x =
         let works = works_flying d u f w in
@@ -108,6 +112,7 @@ module _ (d : MissionData) (fl : Flight) (version : Version) (laws : HasLaws d f
           | inr faulty ↦ rw faulty refl
         ]))
 
+    -- the next configuration told lacks exactly the units that two working units tell that they caught
     pub exact_removal : TellsExactRemoval d sheet f
     exact_removal us next told told_next =
         let then_is : next ≡ config_at (flown d) fl (suc f) =
@@ -144,6 +149,7 @@ module _ (d : MissionData) (fl : Flight) (version : Version) (laws : HasLaws d f
         let is_slack = ((laws.slack (flown d).length (offsets_at (flown d) fl f) (next_offsets_at (flown d) fl f)).0 b.0).0 b.1 in
         subst (λ o. IsSomeAnd o (λ slack. pos 1 ≤ℤ slack)) (sym (ap (λ o. (told_in o).slack) (frame_at d fl version f within) ∙ b.1)) (holds_here.clock_skew.slack b.0 is_slack)
 
+    -- the frame's line tells the skew of the working clocks, within the mission's, and a slack of at least 1
     pub clock_skew : TellsClockSkew d sheet f
     clock_skew = record {
       skew = λ us told.

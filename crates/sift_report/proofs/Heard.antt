@@ -70,6 +70,7 @@ module _ (parts : MissionParts) (fit : PartsFit (data_of parts)) (fl : TheFlight
   pub journal-said : (w f v : ℕ) → w < parts.layout.words → said_in journal f (slot_number parts.layout (Out w)) v ≡ (told (flown_of parts) fl).said u f (Out w) v
   journal-said w f v low = rw (lt-ltb w parts.layout.words low, journal-is) refl
 
+  -- the unit's journal tells what the unit heard of an output word
   pub journal-heard : (w f v : ℕ) → w < parts.layout.words → heard_in journal f (slot_number parts.layout (Out w)) v ≡ (told (flown_of parts) fl).heard u f (Out w) v
   journal-heard w f v low = rw (lt-ltb w parts.layout.words low, journal-is) refl
 
@@ -77,5 +78,6 @@ module _ (parts : MissionParts) (fit : PartsFit (data_of parts)) (fl : TheFlight
 pub place-own : (m : FlownMission) (fl : Flight) (f u w v : ℕ) → v ≡ u → place_of m fl f u w v ≡ fl.said u f (Out w) (lowest_other ((fl.account u f).cfg) u)
 place-own m fl f u w v same = let test : nat_eq v u ≡ true = rw same (nat_eq-same u) in rw test refl
 
+-- the place of another executor is its word as the unit heard it
 pub place-other : (m : FlownMission) (fl : Flight) (f u w v : ℕ) → v ≢ u → place_of m fl f u w v ≡ fl.heard u f (Out w) v
 place-other m fl f u w v other = rw (not_same v u other) refl

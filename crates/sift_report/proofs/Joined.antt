@@ -49,12 +49,15 @@ no_parts ((b ∷ bs) ∷ y ∷ ys) above e = let same : b ≡ 45 = (cc) in absur
 
 -- the same of the texts of values
 module _ {V : Type 0} (text : V → List ℕ) (apart : (v : V) → IsAbove 45 (text v)) where
+  -- values' texts are what commas cut out of the text of their list, where this isn't a dash
   pub values_cut : (vs : List V) (bs : List ℕ) → list_text (map text vs) ≡ bs → bs ≢ codes "-" → map text vs ≡ slice_split (λ b. eqb b 44) bs
   values_cut vs bs e more = parts_cut (map text vs) bs (above-map 45 text vs apart) e more
 
+  -- a text is that of the list of values whose texts commas cut out of it
   pub cut_values : (vs : List V) (bs : List ℕ) → map text vs ≡ slice_split (λ b. eqb b 44) bs → list_text (map text vs) ≡ bs
   cut_values vs bs e = cut_parts (map text vs) bs e
 
+  -- a list of values whose text is a dash is empty
   pub no_values : (vs : List V) (bs : List ℕ) → list_text (map text vs) ≡ bs → bs ≡ codes "-" → vs ≡ []
   no_values [] bs e none = refl
   no_values (v ∷ vs) bs e none = let empty = no_parts (map text (v ∷ vs)) (above-map 45 text (v ∷ vs) apart) (e ∙ none) in (cc)

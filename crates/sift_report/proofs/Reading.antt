@@ -53,6 +53,7 @@ module _ {V X : Type 0} (text : V → X) (Holds : V → Type 0) where
   pub whole_printed : (parts : List X) (k : ℕ) (items : List V) → IsRead parts k items → k ≡ length parts → map text items ≡ parts
   whole_printed parts k items so_far seen = so_far.printed ∙ take_all k parts (omega arith)
 
+  -- where no part is left, a list of values with these texts is the one that was read
   pub whole_exact : (parts : List X) (k : ℕ) (items : List V) → IsRead parts k items → k ≡ length parts
       → (vs : List V) → All Holds vs → map text vs ≡ parts → items ≡ vs
   whole_exact parts k items so_far seen vs all e = so_far.exact vs all e ∙ take_all k vs (omega (arith, as_many parts vs e))

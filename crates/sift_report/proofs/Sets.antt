@@ -98,6 +98,7 @@ pub same_members : (one other : Units) → AreUnits one → AreUnits other → m
 same_members one other are_one are_other same =
     sym (set-members one are_one) ∙ ap (λ us. set.from_list {R = nat_cmp} us) same ∙ set-members other are_other
 
+-- two units are told to be one whichever of them comes first
 pub nat_eq-swap : (u v : ℕ) → nat_eq u v ≡ nat_eq v u
 nat_eq-swap u v = elim (cases_eq u v) [
   | inl same ↦ rw same refl

@@ -72,6 +72,7 @@ module _ (d : MissionData) (fl : Flight) (version : Version) (laws : HasLaws d f
       ap (λ b. (told_at d sheet d.frames (if b then lead_of (flown d) d.frames else 0)).config) (le-ltb d.frames d.frames (omega arith))
       ∙ ap (λ o. (told_in o).config) (end_at d fl version)
 
+  -- where each frame before gives margin, the configuration told at a frame is the flight's
   pub config_is : (f : ℕ) → f ≤ d.frames → HadMargin f → config_told d sheet f ≡ Some (config_at (flown d) fl f)
   config_is f up had = elim (cases_lt f d.frames) [
     | inl within ↦ frame_tells f within had
@@ -82,6 +83,7 @@ module _ (d : MissionData) (fl : Flight) (version : Version) (laws : HasLaws d f
 
   -- ---- agreed words
 
+  -- where each frame before gives margin, the agreed words told of a frame are the flight's
   pub agreed_is : (f : ℕ) → f < d.frames → HadMargin f → agreed_told d sheet f ≡ agreed_at (flown d) fl f
   agreed_is f within had = ap (λ t. t.inputs) (lead_tells f within had)
 
@@ -102,9 +104,11 @@ module _ (d : MissionData) (fl : Flight) (version : Version) (laws : HasLaws d f
             subst IsSound e (sound_from n (omega arith) rest (before n (omega arith)))
       ]
 
+  -- a frame that has margin by what is told has it in the flight
   pub at_from : (f : ℕ) → f < d.frames → HasMarginTold d sheet f → HasMarginAt (flown d) fl f
   at_from f within told = λ g up. had_from (suc f) (omega arith) (λ h early. told h (omega arith)) g (omega arith)
 
+  -- a frame that has margin in the flight has it by what is told
   pub told_from : (f : ℕ) → f < d.frames → HasMarginAt (flown d) fl f → HasMarginTold d sheet f
   told_from f within at = λ g up. (config_at (flown d) fl g, config_is g (omega arith) (λ h small. at h (omega arith)), at g up)
 

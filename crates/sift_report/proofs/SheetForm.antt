@@ -33,6 +33,7 @@ module _ (d : MissionData) (fl : Flight) (version : Version) (f u : ℕ) where
   pub line_of_idle : (flown d).works u f ≡ true → has (fl.account u f).cfg u ≡ false → unit_line (flown d) fl version f u ≡ Idle f u
   line_of_idle works outside = line_of_working works ∙ ap (λ b. if b then account_line version f u (fl.account u f) else Idle f u) outside
 
+  -- the line of a unit that works in its own configuration tells its account
   pub line_of_member : (flown d).works u f ≡ true → has (fl.account u f).cfg u ≡ true →
       unit_line (flown d) fl version f u ≡ account_line version f u (fl.account u f)
   line_of_member works member = line_of_working works ∙ ap (λ b. if b then account_line version f u (fl.account u f) else Idle f u) member
@@ -75,6 +76,7 @@ module _ (d : MissionData) (fl : Flight) (version : Version) (laws : HasLaws d f
         ]
   ]
 
+  -- the lines of each frame stand in their places on the sheet, with the end behind the last
   pub form_told : (f : ℕ) → f < d.frames → HasForm d (sheet_of (flown d) fl version) f
   form_told f within = record {
     units = λ u low. subst (λ o. IsSomeAnd o (IsUnitsLine d f u)) (sym (unit_at d fl version f u within low)) (units_line f u within low);

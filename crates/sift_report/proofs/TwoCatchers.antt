@@ -54,9 +54,11 @@ or_twice false = refl
 in_empty : (v : ℕ) → holds set.empty v ≡ false
 in_empty v = set.contains-empty nat_cmp v
 
+-- where nobody was caught, no unit is named
 pub holds-none : (v : ℕ) → holds (units_in no_unit) v ≡ false
 holds-none v = holds-everyone nobody v ∙ rw (in_empty v) refl
 
+-- where one unit was caught, that unit alone is named
 pub holds-only : (u v : ℕ) → holds (units_in (only u)) v ≡ (nat_eq v u || false)
 holds-only u v =
     let one : holds (set.insert set.empty u) v ≡ (nat_eq v u || false) =
