@@ -63,6 +63,7 @@ pub first_is : (sensors tasks t k : ℕ) → k ≤ tasks → first_word (drawn_r
 first_is sensors tasks t k within = ap sum (take-map-range_with_len (λ t. 1) 0 tasks k within) ∙ words_sum k
 
 module _ (sensors tasks t : ℕ) (few_sensors : sensors ≤ 8) (few_tasks : tasks ≤ 24) (low : t < tasks) where
+  -- with at most 8 sensors and 24 tasks the names of the roll are as names may be
   pub drawn_names : AreNames (drawn_roll sensors tasks t)
   drawn_names =
       let many_sensors = length-map-range_with_len sensor_name 0 sensors in

@@ -55,6 +55,7 @@ module _ (law : PrintedTreeIsTask) where
       (law roll drawn_naming tree (drawn_names sensors tasks t may.few_sensors may.few_tasks may.among)
       (drawn_named sensors tasks t may.few_sensors may.few_tasks may.among _ good.one_local) printable)
 
+  -- each text that may be drawn is a task's, with the tree of its pattern
   pub drawn_texts_are_tasks : DrawnTextsAreTasks
   drawn_texts_are_tasks p sensors tasks t x may =
       printed_is_task p sensors tasks t (text_by p t sensors x) (drawn_tree p t sensors x) may (drawn_good p sensors tasks t x may)

@@ -80,6 +80,7 @@ module _ (sensors tasks t a : ℕ) (few_sensors : sensors ≤ 8) (few_tasks : ta
   this_task : length (task_name t) ≤ 128
   this_task = task_short t (omega (arith, low, few_tasks))
 
+  -- the tree that sums up a sensor's words prints its text, and is sound and small
   pub sum_good : IsPrintedAs sensors tasks t (sum_text t a) (sum_tree t a)
   sum_good = record {
     printed = sum_printed t a;
@@ -99,6 +100,7 @@ module _ (sensors tasks t a : ℕ) (few_sensors : sensors ≤ 8) (few_tasks : ta
     one_local = omega arith;
   }
 
+  -- the tree of the middle one of two sensors and the word before prints its text, and is sound and small
   pub middle_good : (b : ℕ) → b < sensors → IsPrintedAs sensors tasks t (middle_text t a b) (middle_tree t a b)
   middle_good b other = record {
     printed = middle_printed t a b;
@@ -127,6 +129,7 @@ module _ (sensors tasks t a : ℕ) (few_sensors : sensors ≤ 8) (few_tasks : ta
   chase_back : IsSoundTerm (record { sensors = sensors; words = tasks; outputs = 1 }) 1 (binary Sub (last_frame t) (number 1))
   chase_back = record { names = (low, tt); needs = omega arith }
 
+  -- the tree that goes after a sensor step by step prints its text, and is sound and small
   pub chase_good : IsPrintedAs sensors tasks t (chase_text t a) (chase_tree t a)
   chase_good = record {
     printed = chase_printed t a;
@@ -152,6 +155,7 @@ module _ (sensors tasks t a : ℕ) (few_sensors : sensors ≤ 8) (few_tasks : ta
     one_local = omega arith;
   }
 
+  -- the tree of three times an earlier task's word and a sensor prints its text, and is sound and small
   pub triple_good : (d : ℕ) → d < t → IsPrintedAs sensors tasks t (triple_text d a) (triple_tree d a)
   triple_good d before = record {
     printed = triple_printed d a;

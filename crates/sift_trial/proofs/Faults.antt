@@ -51,6 +51,7 @@ module _
   changes_stated : changes_of entries ≡ Some (drawn_change units unit task value ∷ [])
   changes_stated = rw change_stated refl
 
+  -- the entries state the fault that was drawn, with its one item
   pub fault_stated : fault_in entries ≡ drawn_fault units unit from task value
   fault_stated = rw (unit_stated, from_stated, changes_stated) refl
 
@@ -74,6 +75,7 @@ module _
     alone = refl;
   }
 
+  -- the one fault keeps the rules of faults
   pub faults_kept : AreKept (fault_rules (Some faults_value))
   faults_kept = (
     λ place broken. elim broken [

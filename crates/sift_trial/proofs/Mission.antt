@@ -240,5 +240,6 @@ module _
       (script_good mission.layout outputs frames unit from task value may.enough_units may.few_units may.a_unit may.a_frame
       (omega (arith, among, long)) (omega (arith, output_is (length (sensor_words d)) program few_sensors few_trees one_word task among)))
 
+  -- this is the mission that the document states, with good tables and a good script
   pub is_mission : IsMission d mission
   is_mission = record { stated = stated; good_tables = good_tables; good_script = good_script }

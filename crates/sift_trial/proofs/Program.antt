@@ -58,6 +58,7 @@ module _ (texts : DrawnTextsAreTasks) (brief : DrawnTasksAreBrief) (tasks sensor
   abbrev pub drawn_trees : List TaskTree
   drawn_trees = map tree_at (range_with_len 0 tasks)
 
+  -- the program has as many trees as tasks were drawn
   pub trees_long : length drawn_trees ≡ tasks
   trees_long = length-map-range_with_len tree_at 0 tasks
 

@@ -14,9 +14,11 @@ module _ (units frames : ℕ) (sensors tasks : List Data) (fault : Data) where
   abbrev drawn : Members
   drawn = document_of units frames sensors tasks fault
 
+  -- the document says how many units there are, where they are 5 to 8
   pub units_are : 5 ≤ units → units ≤ 8 → units_of drawn ≡ Some units
   units_are from to = number_read 4 8 units (omega (arith, from)) to
 
+  -- the document says how many frames there are, where they are 20 to 200
   pub frames_are : 20 ≤ frames → frames ≤ 200 → frames_of drawn ≡ Some frames
   frames_are from to = number_read 1 1000 frames (omega (arith, from)) (omega (arith, to))
 

@@ -29,6 +29,7 @@ module _
   abbrev pub drawn_script : FaultScript
   drawn_script = record { faults = drawn_fault layout.units unit from task value ∷ []; layout = layout; outputs = outputs; frames = frames }
 
+  -- the script is good, where its unit, its frame and its task are there and the task has a word
   pub script_good : IsGood drawn_script
   script_good zero low =
       let change = drawn_change layout.units unit task value in (

@@ -47,6 +47,7 @@ module _ (sensors x : ℕ) where
   abbrev pub sensors_value : Data
   sensors_value = array_of (sensor_tables sensors x)
 
+  -- the document's sensors have these entries, one table after the other
   pub sensors_are : sensors_in (Some sensors_value) ≡ map entries_at (range_with_len 0 sensors)
   sensors_are = members_are entries_at sensors
 

@@ -27,6 +27,7 @@ words_are (tree ∷ trees) one =
     omega (arith, sum_by-cons (λ (x : TaskTree). x.outputs) tree trees, here, rest)
 
 module _ (sensors : ℕ) (program : ProgramTree) (few : sensors ≤ 8) (few_tasks : length program.tasks ≤ 24) (one : AreOfOneWord program.tasks) where
+  -- the program has a shape for each of its trees
   pub shapes_long : length (program_shapes sensors program).tasks ≡ length program.tasks
   shapes_long = length-shapes program.tasks 0 program.tasks
 
@@ -58,6 +59,7 @@ module _ (sensors : ℕ) (program : ProgramTree) (few : sensors ≤ 8) (few_task
   pub outputs_long : length (outputs_of (program_shapes sensors program)) ≡ length program.tasks
   outputs_long = length-map (program_shapes sensors program).tasks (λ (s : Shape). s.outputs) ∙ shapes_long
 
+  -- for each task the script counts one output word
   pub output_is : (t : ℕ) → t < length program.tasks → slice_index (outputs_of (program_shapes sensors program)) t ≡ 1
   output_is t low =
       let empty : Shape = record { outputs = 0; needs = [] } in

@@ -27,9 +27,11 @@ module _ (f : ℕ → Members) (n : ℕ) where
   abbrev pub tables : List Data
   tables = map (λ k. table (f k)) (range_with_len 0 n)
 
+  -- the array has so many tables
   pub tables_long : length (list_of (items_in tables)) ≡ n
   tables_long = ap length (listed tables) ∙ length-map-range_with_len (λ k. table (f k)) 0 n
 
+  -- it is an array of a length between two bounds, where so many tables lie between them
   pub is_array : (low high : ℕ) → low ≤ n → n ≤ high → IsArrayOf low high (array_of tables)
   is_array low high from to = record {
     items = items_in tables;

@@ -65,6 +65,7 @@ module _ (tasks sensors x : ℕ) where
   abbrev pub task_members : List Members
   task_members = map members_of (entries_of (Some tasks_value))
 
+  -- the document's tasks have these entries, one table after the other
   pub tasks_are : task_members ≡ map entries_at (range_with_len 0 tasks)
   tasks_are = members_are entries_at tasks
 
@@ -111,6 +112,7 @@ module _ (tasks sensors x : ℕ) where
   pub tasks_long : length (entries_of (Some tasks_value)) ≡ tasks
   tasks_long = tables_long entries_at tasks
 
+  -- each entry of `task` is a table whose keys are known
   pub all_known : (place : ℕ) → ¬ HoldsOf (entries_of (Some tasks_value)) place (IsNoTableOf task_keys)
   all_known =
       entries_kept entries_at tasks (λ t entry. IsTableOf task_keys entry)
