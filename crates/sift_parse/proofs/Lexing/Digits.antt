@@ -112,6 +112,7 @@ sixteen-longest ts n some run =
 prefix-split : (text : List ℕ) → take 2 text ≡ codes "0x" → text ≡ 48 ∷ 120 ∷ drop 2 text
 prefix-split text e = sym (take-append-drop 2 text) ∙ ap (λ l. l ++ drop 2 text) e
 
+-- the digits at the front, with their `0x` where it is there, are the longest lexeme: what is kept of their number
 pub number-longest : (text : List ℕ) (radix start n : ℕ) → BeginsDigit text → IsNumberAt text radix start n
     → IsLongest text (kept (digits_value radix (take n (drop start text)))) (start + n) (drop n (drop start text))
 number-longest [] radix start n d p = absurd d

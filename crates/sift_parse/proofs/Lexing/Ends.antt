@@ -24,6 +24,7 @@ ends-name b (inr h) (inl x) = omega arith
 ends-name b (inr h) (inr (inl x)) = omega arith
 ends-name b (inr h) (inr (inr x)) = omega arith
 
+-- a byte that ends words and numbers is no letter and no `_`
 pub ends-letter : (b : ℕ) → Ends b → IsAsciiAlphabetic b ⊎ (b ≡ byte "_") → ⊥
 ends-letter b (inl h) (inl (inl x)) = omega arith
 ends-letter b (inl h) (inl (inr x)) = omega arith
@@ -32,10 +33,12 @@ ends-letter b (inr h) (inl (inl x)) = omega arith
 ends-letter b (inr h) (inl (inr x)) = omega arith
 ends-letter b (inr h) (inr x) = omega arith
 
+-- a byte that ends words and numbers is no decimal digit
 pub ends-digit : (b : ℕ) → Ends b → digit_value b < 10 → ⊥
 ends-digit b (inl h) x = let d = digit_from_value b x in omega arith
 ends-digit b (inr h) x = let d = digit_from_value b x in omega arith
 
+-- no byte above `;` is one that ends words and numbers
 pub ends-low : (b c : ℕ) → Ends b → c ≡ b → 59 < c → ⊥
 ends-low b c (inl h) e lt = omega arith
 ends-low b c (inr h) e lt = omega arith

@@ -71,6 +71,7 @@ no_word (b ∷ ts) l d = (l, d)
 pub signs-found : (text : List ℕ) (l : Lexeme) (n : ℕ) → ¬ BeginsLetter text → ¬ BeginsDigit text → IsSignAt text l n → IsLexemeAt text l n
 signs-found text l n a b = sign-lexeme text l n (no_word text a b)
 
+-- no lexeme begins a text that begins with no lower-case letter, no digit, no operator and no other sign
 pub signs-none : (text : List ℕ) → ¬ BeginsLetter text → ¬ BeginsDigit text → NoSignAt text → NoLexemeAt text
 signs-none text a b = sign-none text (no_word text a b)
 

@@ -32,6 +32,7 @@ pub record OneMore (text : List ℕ) (at len gap : ℕ) (l : Lexeme) (ps : List 
   pub within : at + len + gap ≤ length text
   pub lexes : Lexes (length text) text (ps ++ (record { lexeme = l; at = at } ∷ [])) (drop (at + len + gap) text)
 
+-- after the lexemes up to a place the one there is read too, and the next would begin behind its gap, within the text
 pub one-more : (text : List ℕ) (at len gap : ℕ) (l : Lexeme) (ps : List Placed) → at ≤ length text
     → Lexes (length text) text ps (drop at text) → IsLexemeAt (drop at text) l len → IsGap (drop (at + len) text) gap
     → OneMore text at len gap l ps

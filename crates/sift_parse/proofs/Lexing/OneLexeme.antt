@@ -51,6 +51,7 @@ sign_read-mark Comma = refl
 sign_read-mark Dot = refl
 sign_read-mark Semicolon = refl
 
+-- no operator begins with a lower-case letter or a digit
 pub operator-no_word : (op : Op) → NoWord (operator_bytes op)
 operator-no_word Add = (λ x. omega arith, λ x. omega arith)
 operator-no_word Sub = (λ x. omega arith, λ x. omega arith)
@@ -65,6 +66,7 @@ operator-no_word Shr = (λ x. omega arith, λ x. omega arith)
 operator-no_word Lt = (λ x. omega arith, λ x. omega arith)
 operator-no_word Eq = (λ x. omega arith, λ x. omega arith)
 
+-- no sign begins with a lower-case letter or a digit
 pub mark-no_word : (s : Sign) → NoWord (sign_bytes s)
 mark-no_word Assign = (λ x. omega arith, λ x. omega arith)
 mark-no_word OpenParen = (λ x. omega arith, λ x. omega arith)

@@ -79,9 +79,11 @@ begun (mark s) b ts front back h e = sign-begun s b ts back (e ∙ ap (λ l. l +
 pub unless : (m n : ℕ) → (n < m → ⊥) → m ≤ n
 unless m n h = omega arith
 
+-- each byte of what begins a text is the text's byte at the same place
 pub front-byte : (text front back : List ℕ) (k : ℕ) → text ≡ front ++ back → k < length front → slice_index text k ≡ slice_index front k
 front-byte text front back k e lt = ap (λ l. slice_index l k) e ∙ get_or_append_left front back 0 k lt
 
+-- what begins a text is no longer than the text
 pub front-within : (text front back : List ℕ) → text ≡ front ++ back → length front ≤ length text
 front-within text front back e = let h : length text ≡ length front + length back = ap length e ∙ length-append front back in omega arith
 
@@ -93,17 +95,20 @@ within-run P text front back n run e each =
     (λ lt. run.stops (let w = front-within text front back e in omega arith)
     (subst P (sym (front-byte text front back n e lt)) (each n lt)))
 
+-- each byte of a word that has the form of a name is one that a name may hold
 pub name-bytes : (front : List ℕ) → HasNameForm front → (k : ℕ) → k < length front → IsNameByte (slice_index front k)
 name-bytes [] h k lt = absurd h
 name-bytes (x ∷ xs) h zero lt = inl h.0
 name-bytes (x ∷ xs) h (suc k) lt = h.1 k 0 (omega arith)
 
+-- where all bytes are digits of a radix, each has a value below that radix
 pub digit-bytes : (radix : ℕ) (front : List ℕ) → AllDigits radix front → (k : ℕ) → k < length front
     → digit_value (slice_index front k) < radix
 digit-bytes radix [] h k lt = absurd (omega arith)
 digit-bytes radix (x ∷ xs) h zero lt = h.0
 digit-bytes radix (x ∷ xs) h (suc k) lt = digit-bytes radix xs h.1 k (omega arith)
 
+-- bytes of which each has a digit's value below a radix are all digits of that radix
 pub all-digits : (radix : ℕ) (front : List ℕ) → ((k : ℕ) → k < length front → digit_value (slice_index front k) < radix)
     → AllDigits radix front
 all-digits radix [] h = tt
@@ -130,6 +135,7 @@ word-longest b ts n lower run (numeral m) front back e h k = absurd (omega arith
 word-longest b ts n lower run (operator op) front back e h k = absurd (k.0 lower)
 word-longest b ts n lower run (mark s) front back e h k = absurd (k.0 lower)
 
+-- the run of a name's bytes from a lower-case letter on is the lexeme at the front: a word
 pub word-at : (b : ℕ) (ts : List ℕ) (n : ℕ) → IsAsciiLowercase b → IsRun IsNameByte (b ∷ ts) n
     → IsLexemeAt (b ∷ ts) (word (take n (b ∷ ts))) n
 word-at b ts zero lower run = absurd (run.stops (omega arith) (inl lower))

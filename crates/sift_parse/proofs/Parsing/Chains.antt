@@ -16,6 +16,7 @@ pub record Leads (n : ℕ) (x : Term) (ts : List Token) (y : Term) (us : List To
   pub least : ℕ
   pub from : (fuel : ℕ) → least ≤ fuel → tail (more + fuel) n x ts ≡ tail fuel n y us
 
+-- before any operator is taken, reading what follows x leads to just that
 pub leads-start : (n : ℕ) (x : Term) (ts : List Token) → Leads n x ts x ts
 leads-start n x ts = record { more = 0; least = 0; from = λ fuel le. (let e : 0 + fuel ≡ fuel = omega arith in ap (λ f. tail f n x ts) e) }
 

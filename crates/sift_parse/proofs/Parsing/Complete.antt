@@ -42,6 +42,7 @@ mutual
       (λ u ws. and_then (closed_by CloseParen (read fuel 0) ws) (λ v rest. found (middle t u v) rest))) us vs r x (middle x y z) i n in
       record { least = o.least; from = o.from }
 
+  -- an expression of level n is read, from some number of calls on, where no operator of level n or above follows it
   pub level_read : (n : ℕ) (ts rest : List Token) (t : Term) → IsLevel n ts t rest → Stops n rest
       → Read Term (λ fuel. read fuel n) ts t rest
   level_read n ts rest t (a_prim us r x p) s = lifted us r x (prim_read us r x p)

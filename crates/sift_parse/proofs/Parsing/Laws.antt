@@ -102,8 +102,10 @@ done A D a d =
       fills = record { back = []; made = a; rest = d };
     }
 
+-- the reader that faults at all tokens is a default, where some tokens have the relation whatever follows
 pub default-fault : (A : Type 0) (D : Rel A) → Goes A D [] → Default A D (λ ts. fault ts)
 default-fault A D fills = record { lawful = nowhere A D fills; left = λ ts. refl; again = λ ts us. refl }
 
+-- the reader that finds this and takes no token is a default, where it has the relation before all tokens
 pub default-found : (A : Type 0) (D : Rel A) (a : A) → ((r : List Token) → D r a r) → Default A D (λ ts. found a ts)
 default-found A D a d = record { lawful = done A D a d; left = λ ts. refl; again = λ ts us. refl }

@@ -11,6 +11,7 @@ use Rattle.sift_parse.specs.Parsing.{Settles, Reading}
 
 -- ---- one reader after another
 
+-- where one reader finds something, the two in turn answer what the next one answers behind it
 pub reads-then : (A B : Type 0) (R : ℕ → List Token → Outcome A) (S : ℕ → A → List Token → Outcome B) (ts mid : List Token) (a : A) (o : Outcome B)
     → Settles A R ts (found a mid) → Settles B (λ fuel. S fuel a) mid o → Settles B (λ fuel ts. and_then (R fuel ts) (S fuel)) ts o
 reads-then A B R S ts mid a o r s =
@@ -20,6 +21,7 @@ reads-then A B R S ts mid a o r s =
           ∙ s.from fuel (omega arith);
     }
 
+-- where the first of two readers comes to a token that offends, the two in turn come to it too
 pub reads-then_fault : (A B : Type 0) (R : ℕ → List Token → Outcome A) (S : ℕ → A → List Token → Outcome B) (ts bad : List Token)
     → Settles A R ts (fault bad) → Settles B (λ fuel ts. and_then (R fuel ts) (S fuel)) ts (fault bad)
 reads-then_fault A B R S ts bad r = record { least = r.least; from = λ fuel le. ap (λ o. and_then o (S fuel)) (r.from fuel le) }
@@ -68,6 +70,7 @@ middle-step ts us o e r =
           ∙ r.from fuel le;
     }
 
+-- where the second part of a `mid` offends, behind its `(` and its first part, the `mid` offends there
 pub middle-second : (ts us vs bad : List Token) (t : Term) → read_sign OpenParen ts ≡ found tt us
     → Settles Term (λ fuel. closed_by Comma (read fuel 0)) us (found t vs) → Settles Term (λ fuel. closed_by Comma (read fuel 0)) vs (fault bad)
     → Settles Term (λ fuel. middle_by (read fuel 0)) ts (fault bad)
@@ -76,6 +79,7 @@ middle-second ts us vs bad t e r s =
     (reads-then Term Term (λ fuel. closed_by Comma (read fuel 0)) second_by us vs t (fault bad) r
     (reads-then_fault Term Term (λ fuel. closed_by Comma (read fuel 0)) (λ fuel. third_by fuel t) vs bad s))
 
+-- where the third part of a `mid` offends, behind its first and its second, the `mid` offends there
 pub middle-third : (ts us vs ws bad : List Token) (t u : Term) → read_sign OpenParen ts ≡ found tt us
     → Settles Term (λ fuel. closed_by Comma (read fuel 0)) us (found t vs)
     → Settles Term (λ fuel. closed_by Comma (read fuel 0)) vs (found u ws)
@@ -86,6 +90,7 @@ middle-third ts us vs ws bad t u e r s q =
     (reads-then Term Term (λ fuel. closed_by Comma (read fuel 0)) (λ fuel. third_by fuel t) vs ws u (fault bad) s
     (reads-then_fault Term Term (λ fuel. closed_by CloseParen (read fuel 0)) (λ fuel v rest. found (middle t u v) rest) ws bad q)))
 
+-- a `mid` is found where its `(` is, and its three parts, each with the sign after it
 pub middle-found : (ts us vs ws left : List Token) (t u v : Term) → read_sign OpenParen ts ≡ found tt us
     → Settles Term (λ fuel. closed_by Comma (read fuel 0)) us (found t vs)
     → Settles Term (λ fuel. closed_by Comma (read fuel 0)) vs (found u ws)

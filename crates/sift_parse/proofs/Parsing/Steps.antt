@@ -83,6 +83,7 @@ join A B R S ts mid a r s =
     first [] is t more others e = ap (λ o. and_then o S) (r.again t more others (is ∙ e))
     first (v ∷ u) is t more others e = ap (λ o. and_then o S) (r.again v (u ++ left_of (S a mid)) (u ++ t ∷ others) is)
 
+-- two readers in turn answer the same while the first token left stays, where each of the two does
 pub then-local : (A B : Type 0) (R : List Token → Outcome A) (S : A → List Token → Outcome B)
     → ((a : A) (ts : List Token) → LocalAt B (S a) ts (S a ts)) → (ts : List Token) (o : Outcome A) → LocalAt A R ts o
     → LocalAt B (λ ts. and_then (R ts) S) ts (and_then o S)

@@ -43,6 +43,7 @@ Ends [] = Unit {0}
 Ends (Sign CloseBrace ∷ ts) = Unit {0}
 Ends _ = ⊥
 
+-- an `if` behind whose first block no `else` stands is read without a second block
 pub else_by-none : (block : List Token → Outcome Block) (t : Term) (first : Block) (ts : List Token) → NoElse ts
     → else_by block t first ts ≡ found (choose t first) ts
 else_by-none block t first [] n = refl
