@@ -30,6 +30,7 @@ let-lives false c w d h k e s x = absurd (let g : false ≡ true = h in cc)
 plain-end : (b : List Lexeme) → Plain b → Balanced (b ++ mark Semicolon ∷ [])
 plain-end b h = balanced-append b (mark Semicolon ∷ []) (plain-leaves b h) (λ n d. refl)
 
+-- after the `;` of a bound `let` its name is the newest local, the same blocks are open, and no `let` is
 pub end-bound : (front : List Lexeme) (w : List ℕ) (ls : List (List ℕ)) (bs : List ℕ) → J front ls bs (bound w)
     → J (front ++ mark Semicolon ∷ []) (w ∷ ls) bs still
 end-bound front w ls bs j =
@@ -59,6 +60,7 @@ end-bound front w ls bs j =
     ∙ append_assoc j.base (word k.key ∷ word w ∷ k.inside) (mark Semicolon ∷ []) in
     subst (λ f. J f (w ∷ ls) bs still) (sym same) after
 
+-- after a `{` where no `let` is open the same locals live, and one more block is open, with their number
 pub open-step : (front : List Lexeme) (ls : List (List ℕ)) (bs : List ℕ) → J front ls bs still
     → J (front ++ mark OpenBrace ∷ []) ls (length ls ∷ bs) still
 open-step front ls bs j =
@@ -85,6 +87,7 @@ pub record Closed (base : List Lexeme) (n : ℕ) (ns : List ℕ) : Type 0 where
 closed : (base : List Lexeme) (n : ℕ) (ns : List ℕ) → Nest base (n ∷ ns) → Closed base n ns
 closed base n ns (inside f a c m ms e k s b x) = record { a = a; c = c; is = e; lived = k; settled = s; balanced = b; nest = x }
 
+-- after a `}` where no `let` is open the innermost block is closed, and those live that lived at its `{`
 pub close-step : (front : List Lexeme) (ls : List (List ℕ)) (n : ℕ) (bs : List ℕ) → J front ls (n ∷ bs) still
     → J (front ++ mark CloseBrace ∷ []) (oldest n ls) bs still
 close-step front ls n bs j =

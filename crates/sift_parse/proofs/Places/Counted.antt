@@ -66,6 +66,7 @@ one-counted b (operator Sub) ls =
     (minus-there 0 (Some (operator Sub)) ls)
 one-counted b l ls = refl
 
+-- lexemes leave as many levels open as they have entries, each a level with its depth
 pub opened-is : (b : Option Lexeme) (ls : List Lexeme) → opened b ls ≡ length (entries b ls)
 opened-is b [] = refl
 opened-is b (l ∷ ls) =

@@ -85,6 +85,7 @@ one-moved : (c : Bool) (k : Open) (b : Option Lexeme) (ls : List Lexeme) (x : Le
 one-moved true k b ls x = ap (listed k) (run-one k (Some 0) b ls x) ∙ listed-moved k (run k (Some 0) b ls) (last_of b ls) x
 one-moved false k b ls x = refl
 
+-- the entries after one more lexeme are what it opens, and what it leaves open of those before it
 pub entries-one : (b : Option Lexeme) (ls : List Lexeme) (x : Lexeme)
     → entries b (ls ++ x ∷ []) ≡ fresh (last_of b ls) x ++ moved (last_of b ls) x (entries b ls)
 entries-one b [] x = sym (append-nil (fresh b x))

@@ -66,6 +66,7 @@ module _ (qs : List Token) where
           parens = λ n. i.parens (suc n) ∙ j.parens (suc n) ∙ k.parens (suc n);
         }
 
+    -- an expression's tokens end no statement, block or parenthesis that is open before them, whatever follows
     pub level-same : (m : ℕ) (ts rest : List Token) (t : Term) → IsLevel m ts t rest → Same ts rest qs
     level-same m ts rest t (a_prim us r u d) = prim-same ts rest t d
     level-same m ts rest t (a_chain k us mid r x u lt d e) = then_same ts mid rest qs (level-same (suc m) ts mid x d) (tail-same m x mid t rest e)
@@ -91,6 +92,7 @@ module _ (qs : List Token) where
         ∙ block-same ws (Sign CloseBrace ∷ rest) second c (suc n)
     statement-same ts rest s (a_repeat k us r body a) n = block-same us (Sign CloseBrace ∷ rest) body a (suc n)
 
+    -- a block's tokens end no block that is open before them, whatever follows
     pub block-same : (ts rest : List Token) (b : Block) → IsBlock ts b rest → (n : ℕ) → out n (ts ++ qs) ≡ out n (rest ++ qs)
     block-same ts rest b (no_statement r) n = refl
     block-same ts rest b (a_statement us mid r s x d a) n = statement-same ts mid s d n ∙ block-same mid rest x a n

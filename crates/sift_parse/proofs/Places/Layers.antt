@@ -15,6 +15,7 @@ ann p q (brace ∷ ls) = record { kind = brace; depth = q } ∷ ann p (suc q) ls
 ann p q (paren ∷ ls) = record { kind = paren; depth = p } ∷ ann (suc p) q ls
 ann p q (minus ∷ ls) = record { kind = minus; depth = p } ∷ ann p q ls
 
+-- there are as many entries as levels, however many parentheses and blocks are open inside them
 pub ann-length : (p q : ℕ) (ls : List Open) → length (ann p q ls) ≡ length ls
 ann-length p q [] = refl
 ann-length p q (brace ∷ ls) = ap suc (ann-length p (suc q) ls)
@@ -28,12 +29,14 @@ Layered (brace ∷ ls) = OnlyBraces ls
 Layered (paren ∷ ls) = Layered ls
 Layered (minus ∷ ls) = Layered ls
 
+-- levels with no parenthesis and no minus outside a block are so without the minuses of a prim that ends
 pub layered-bare : (ls : List Open) → Layered ls → Layered (bare ls)
 layered-bare [] h = h
 layered-bare (brace ∷ ls) h = h
 layered-bare (paren ∷ ls) h = h
 layered-bare (minus ∷ ls) h = layered-bare ls h
 
+-- where blocks alone are open, no parenthesis and no minus stands outside a block
 pub layered-braces : (ls : List Open) → OnlyBraces ls → Layered ls
 layered-braces [] h = h
 layered-braces (brace ∷ ls) h = h
@@ -90,12 +93,14 @@ module _ (b : Option Lexeme) (x : Lexeme) (no : NoBracket x) where
       one-moves b x paren (suc p) (ann (suc (suc p)) q ls) (ann (suc (suc p)) q ls) (paren-step (suc p) b x no) (moved-deep (suc p) q ls)
   moved-deep p q (minus ∷ ls) = one-moves b x minus (suc p) (ann (suc p) q ls) (ann (suc p) q ls) (deep-step p b x no) (moved-deep p q ls)
 
+  -- where blocks alone are open, a lexeme that is no bracket leaves the levels and their depths as they are
   pub moved-braces : (p q : ℕ) (ls : List Open) → OnlyBraces ls → moved b x (ann p q ls) ≡ ann p q ls
   moved-braces p q [] h = refl
   moved-braces p q (brace ∷ ls) h = one-moves b x brace q (ann p (suc q) ls) (ann p (suc q) ls) (brace-step q b x no) (moved-braces p (suc q) ls h)
   moved-braces p q (paren ∷ ls) h = absurd h
   moved-braces p q (minus ∷ ls) h = absurd h
 
+  -- a lexeme that is no bracket and ends no prim leaves the levels and their depths as they are
   pub moved-quiet : (p q : ℕ) (ls : List Open) → ends_prim b x ≡ false → moved b x (ann p q ls) ≡ ann p q ls
   moved-quiet p q [] e = refl
   moved-quiet p q (brace ∷ ls) e = one-moves b x brace q (ann p (suc q) ls) (ann p (suc q) ls) (brace-step q b x no) (moved-quiet p (suc q) ls e)
@@ -105,6 +110,7 @@ module _ (b : Option Lexeme) (x : Lexeme) (no : NoBracket x) where
       (moved-quiet zero q ls e)
   moved-quiet (suc p) q (minus ∷ ls) e = one-moves b x minus (suc p) (ann (suc p) q ls) (ann (suc p) q ls) (deep-step p b x no) (moved-quiet (suc p) q ls e)
 
+  -- a lexeme that is no bracket and ends a prim closes the innermost minuses of layered levels, and nothing else
   pub moved-end : (q : ℕ) (ls : List Open) → ends_prim b x ≡ true → Layered ls → moved b x (ann 0 q ls) ≡ ann 0 q (bare ls)
   moved-end q [] e h = refl
   moved-end q (brace ∷ ls) e h = one-moves b x brace q (ann 0 (suc q) ls) (ann 0 (suc q) ls) (brace-step q b x no) (moved-braces 0 (suc q) ls h)

@@ -24,12 +24,14 @@ grow front d ls new bs h s e j =
       hangs = refl;
     }
 
+-- a lexeme that may stand inside a `let`, where none is open, opens none, and leaves locals and blocks as they are
 pub plain-still : (front : List Lexeme) (l : Lexeme) (ls : List (List ℕ)) (bs : List ℕ) → IsPlain l → J front ls bs still
     → J (front ++ l ∷ []) ls bs still
 plain-still front l ls bs h j =
     grow front (l ∷ []) ls [] bs (plain-leaves (l ∷ []) (h, tt)) (plain-settled (l ∷ []) [] (h, tt) tt)
     (plain-living (l ∷ []) [] (h, tt) refl) j
 
+-- a lexeme that may stand inside a bound `let` leaves it bound, and locals and blocks as they are
 pub plain-bound : (front : List Lexeme) (l : Lexeme) (ls : List (List ℕ)) (bs : List ℕ) (w : List ℕ) → IsPlain l → J front ls bs (bound w)
     → J (front ++ l ∷ []) ls bs (bound w)
 plain-bound front l ls bs w h j =
@@ -52,6 +54,7 @@ plain-bound front l ls bs w h j =
           };
     }
 
+-- after the keyword `let`, where no `let` is open, a `let` was read just now, and locals and blocks are as before
 pub let-step : (front : List Lexeme) (v : List ℕ) (ls : List (List ℕ)) (bs : List ℕ) → is_let (word v) ≡ true → J front ls bs still
     → J (front ++ word v ∷ []) ls bs let_read
 let-step front v ls bs h j = record {
@@ -64,6 +67,7 @@ let-step front v ls bs h j = record {
   hangs = record { key = v; is = refl; is_key = h };
 }
 
+-- a word other than `let` directly after a `let` is the name that it binds, and no local yet
 pub name-step : (front : List Lexeme) (w : List ℕ) (ls : List (List ℕ)) (bs : List ℕ) → is_let (word w) ≡ false → J front ls bs let_read
     → J (front ++ word w ∷ []) ls bs (bound w)
 name-step front w ls bs h j =
@@ -78,5 +82,6 @@ name-step front w ls bs h j =
       hangs = record { key = k.key; inside = []; is = ap (λ x. x ++ word w ∷ []) k.is; is_key = k.is_key; is_name = h; plain = tt };
     }
 
+-- a `;` where no `let` is open leaves locals and blocks as they are, and opens none
 pub end-still : (front : List Lexeme) (ls : List (List ℕ)) (bs : List ℕ) → J front ls bs still → J (front ++ mark Semicolon ∷ []) ls bs still
 end-still front ls bs j = grow front (mark Semicolon ∷ []) ls [] bs (λ n d. refl) (tt, tt) refl j

@@ -47,6 +47,7 @@ mutual
   tail-deep m x ts t rest (compared op y z us r lv d) n = level-deep 1 us rest z d n
   tail-deep m x ts t rest (more k op y z u us mid r lt lv d f) n = level-deep (suc m) us mid z d n ∙ tail-deep m _ mid t rest f n
 
+-- by the tokens, the prim that begins here is over where the grammar ends it
 pub prim-skip : (ts rest : List Token) (t : Term) → IsPrim ts t rest → skip 0 false ts ≡ Some rest
 prim-skip ts rest t (a_number x r) = refl
 prim-skip ts rest t (a_local l r) = refl
@@ -63,6 +64,7 @@ abbrev pub grown : Option (List Token) → List Token → Option (List Token) �
 grown None ys o = Unit {0}
 grown (Some rest) ys o = o ≡ Some (rest ++ ys)
 
+-- a prim that is over by the tokens is over at the same place where more tokens follow
 pub skip-grows : (n : ℕ) (k : Bool) (xs ys : List Token) → grown (skip n k xs) ys (skip n k (xs ++ ys))
 skip-grows n k [] ys = tt
 skip-grows n k (Sign OpenParen ∷ ts) ys = skip-grows (suc n) false ts ys

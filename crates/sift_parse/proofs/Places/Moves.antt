@@ -157,6 +157,7 @@ sign-ok a_sensor s x h = h
 sign-ok a_task s x h = h
 sign-ok old_local s x h = h
 
+-- a lexeme whose token may stand here moves layered levels as that token says, and leaves them layered
 pub lexeme-moves : (r : Roll) (f : Force) (l : Lexeme) → Layered (state_of f).levels
     → Ok (role_after (keyword_before f)) (state_of f) (token_of r f l)
     → Moves f.before l (state_of f).levels (next (state_of f) (token_of r f l)).levels

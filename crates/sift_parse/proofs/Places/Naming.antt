@@ -23,6 +23,7 @@ blocks_of (block n ∷ ls) = n ∷ blocks_of ls
 blocks_of (parenthesis ∷ ls) = blocks_of ls
 blocks_of (negation ∷ ls) = blocks_of ls
 
+-- without the minuses of a prim that ends the same blocks are open, with as many locals at each `{`
 pub blocks-bare : (ls : List Level) → blocks_of (without_minuses ls) ≡ blocks_of ls
 blocks-bare [] = refl
 blocks-bare (block n ∷ ls) = refl
@@ -41,6 +42,7 @@ phase None old_local = still
 abbrev pub Holds : List Lexeme → Force → Type 0
 Holds front f = J front f.locals (blocks_of f.levels) (phase f.pending (role_after (keyword_before f)))
 
+-- a lexeme that may stand inside a `let` leaves locals, blocks and `let` as they are, whether one is bound or none open
 pub plain-step : (front : List Lexeme) (l : Lexeme) (ls : List (List ℕ)) (bs : List ℕ) (p : Option (List ℕ)) → IsPlain l
     → J front ls bs (phase p old_local) → J (front ++ l ∷ []) ls bs (phase p old_local)
 plain-step front l ls bs (Some w) h j = plain-bound front l ls bs w h j
@@ -63,6 +65,7 @@ abbrev pub after_by : Option keywords.Keyword → Role → List ℕ → Force �
 after_by (Some k) role w f = f
 after_by None role w f = after_name role w f
 
+-- in the role that the keyword before it gives a name, a word leaves in force what the fold finds after it
 pub by-word : (o : Option keywords.Keyword) (w : List ℕ) (f : Force) → after_by o (role_after (keyword_before f)) w f ≡ after_word o w f
 by-word (Some k) w f = refl
 by-word None w f = refl
@@ -71,10 +74,12 @@ by-word None w f = refl
 abbrev pub After : List Lexeme → Force → Role → Type 0
 After front g role = J front g.locals (blocks_of g.levels) (phase g.pending role)
 
+-- a `let` has come as far where a sensor's name is next as where an old local's is
 pub phase-free : (p : Option (List ℕ)) → phase p a_sensor ≡ phase p old_local
 phase-free (Some w) = refl
 phase-free None = refl
 
+-- a `let` has come as far where a task's name is next as where an old local's is
 pub phase-task : (p : Option (List ℕ)) → phase p a_task ≡ phase p old_local
 phase-task (Some w) = refl
 phase-task None = refl
@@ -84,6 +89,7 @@ bound-name : (front : List Lexeme) (w : List ℕ) (ls : List (List ℕ)) (bs : L
 bound-name front w ls bs (Some v) h e j = absurd (let g : true ≡ false = e in cc)
 bound-name front w ls bs None h e j = name-step front w ls bs h j
 
+-- where locals, blocks and `let` are those that the lexemes tell, they are so after a word that may stand there
 pub word-step : (r : Roll) (front : List Lexeme) (f : Force) (w : List ℕ) (o : Option keywords.Keyword) (role : Role) → keyword_of w ≡ o
     → After front f role → Ok role (state_of f) (word_token r f w o) → After (front ++ word w ∷ []) (after_by o role w f) (role_after o)
 word-step r front f w (Some k) new_local e j ok = absurd ok

@@ -23,6 +23,7 @@ oldest-reverse n xs =
     let count : length (reverse xs) - n ≡ length a = ap (λ k. k - n) (length-reverse xs) ∙ (sym (length-drop n xs) ∙ sym (length-reverse (drop n xs))) in
     ap (λ k. drop k (reverse xs)) count ∙ (ap (drop (length a)) split ∙ drop-append_seam a b)
 
+-- of names listed from the last element on, the n oldest are those of the first n elements
 pub oldest-reverse-map : {A : Type 0} (f : A → List ℕ) (n : ℕ) (xs : List A) → oldest n (reverse (map f xs)) ≡ reverse (map f (take n xs))
 oldest-reverse-map f n xs = oldest-reverse n (map f xs) ∙ ap reverse (take-map f n xs)
 

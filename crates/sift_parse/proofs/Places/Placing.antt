@@ -72,6 +72,7 @@ place-told r front b =
     place-by (place_of (force_after front)) (place_after front) (last-is at_start front) (locals_live r front b) (levels-open r front b)
     (named-is at_start front)
 
+-- behind other lexemes, the tokens of joined ones are those of the first, and then those of the rest behind them
 pub tokens_after-append : (r : Roll) (front xs ys : List Lexeme)
     → tokens_after r front (xs ++ ys) ≡ tokens_after r front xs ++ tokens_after r (front ++ xs) ys
 tokens_after-append r front [] ys = ap (λ l. tokens_after r l ys) (sym (append-nil front))
@@ -80,6 +81,7 @@ tokens_after-append r front (x ∷ xs) ys =
     (tokens_after-append r (front ++ x ∷ []) xs ys
     ∙ ap (λ l. tokens_after r (front ++ x ∷ []) xs ++ tokens_after r l ys) (append_assoc front (x ∷ []) xs))
 
+-- the tokens of a text's lexemes are those of the first, and then those of the others as they stand after them
 pub tokens_of-append : (r : Roll) (xs ys : List Lexeme) → tokens_of r (xs ++ ys) ≡ tokens_of r xs ++ tokens_after r xs ys
 tokens_of-append r xs ys = tokens_after-append r [] xs ys
 
@@ -109,6 +111,7 @@ same-from r front (l ∷ ls) e b =
     rest ∙ ap (λ f. tokens_from r f ls) (force-one front l) in
     ap (λ t. t ∷ tokens_after r (front ++ l ∷ []) ls) head ∙ ap (λ ts. force.token_of r (force_after front) l ∷ ts) after
 
+-- where the tokens that are told of lexemes begin a task, the fold finds the same tokens
 pub tokens-found : (r : Roll) (ls : List Lexeme) → Begins (tokens_of r ls) → tokens_of r ls ≡ force.tokens_of r ls
 tokens-found r ls b = same-from r [] ls refl b
 
@@ -125,12 +128,15 @@ told-from r front (l ∷ ls) b =
     ∙ ap (λ f. tokens_from r f ls) (force-one front l) in
     ap (λ t. t ∷ tokens_after r (front ++ l ∷ []) ls) head ∙ ap (λ ts. force.token_of r (force_after front) l ∷ ts) rest
 
+-- where the tokens that the fold finds for lexemes begin a task, the same tokens are told
 pub tokens-told : (r : Roll) (ls : List Lexeme) → Begins (force.tokens_of r ls) → tokens_of r ls ≡ force.tokens_of r ls
 tokens-told r ls b = told-from r [] ls b
 
+-- where the tokens that the fold finds for lexemes begin a task, those that are told begin one
 pub begins-told : (r : Roll) (ls : List Lexeme) → Begins (force.tokens_of r ls) → Begins (tokens_of r ls)
 begins-told r ls b = subst Begins (sym (tokens-told r ls b)) b
 
+-- where the tokens that are told of lexemes begin a task, those that the fold finds begin one
 pub begins-found : (r : Roll) (ls : List Lexeme) → Begins (tokens_of r ls) → Begins (force.tokens_of r ls)
 begins-found r ls b = subst Begins (tokens-found r ls b) b
 

@@ -20,6 +20,7 @@ abbrev pub Plain : List Lexeme → Type 0
 Plain [] = Unit {0}
 Plain (l ∷ ls) = IsPlain l × Plain ls
 
+-- lexemes that may stand inside a `let`, and one more that may, may all stand there
 pub plain-append : (b : List Lexeme) (l : Lexeme) → Plain b → IsPlain l → Plain (b ++ l ∷ [])
 plain-append [] l h k = (k, tt)
 plain-append (m ∷ b) l h k = (h.0, plain-append b l h.1 k)
@@ -28,6 +29,7 @@ plain-no-let : (l : Lexeme) → IsPlain l → is_let l ≡ false
 plain-no-let (word w) h = h
 plain-no-let l h = refl
 
+-- lexemes that may stand inside a `let` close what blocks they open, and no more
 pub plain-leaves : (b : List Lexeme) → Plain b → Balanced b
 plain-leaves [] h n d = refl
 plain-leaves (mark OpenBrace ∷ b) h n d = absurd h.0
@@ -35,11 +37,13 @@ plain-leaves (mark CloseBrace ∷ b) h n d = absurd h.0
 plain-leaves (mark Semicolon ∷ b) h n d = absurd h.0
 plain-leaves (l ∷ b) h n d = plain-leaves b h.1 n d
 
+-- lexemes that may stand inside a `let` don't end its statement
 pub plain-goes-on : (b : List Lexeme) → Plain b → ends b ≡ false
 plain-goes-on [] h = refl
 plain-goes-on (mark Semicolon ∷ b) h = absurd h.0
 plain-goes-on (l ∷ b) h = plain-goes-on b h.1
 
+-- a `;` after lexemes that may stand inside a `let` ends the statement
 pub plain-ends : (b : List Lexeme) → Plain b → ends (b ++ mark Semicolon ∷ []) ≡ true
 plain-ends [] h = refl
 plain-ends (mark Semicolon ∷ b) h = refl
@@ -49,6 +53,7 @@ no-local : (b : Bool) (ls : List Lexeme) (xs : List (List ℕ)) → b ≡ false 
 no-local true ls xs h e = absurd (let g : true ≡ false = h in cc)
 no-local false ls xs h e = ap (λ xs. xs ++ []) e
 
+-- no local lives after lexemes that may stand inside a `let`, and others that make none live
 pub plain-living : (b d : List Lexeme) → Plain b → living d ≡ [] → living (b ++ d) ≡ []
 plain-living [] d h e = e
 plain-living (l ∷ b) d h e = no-local (is_let l) (b ++ d) (living (b ++ d)) (plain-no-let l h.0) (plain-living b d h.1 e)
@@ -57,6 +62,7 @@ plain-living (l ∷ b) d h e = no-local (is_let l) (b ++ d) (living (b ++ d)) (p
 abbrev pub LetOf : Bool → List Lexeme → Type 0
 LetOf b ls = Rattle.sift_parse.proofs.Places.Seen.SettledLet b ls
 
+-- where the `let` statements among lexemes are over, they are so with plain lexemes before them
 pub plain-settled : (b d : List Lexeme) → Plain b → Settled d → Settled (b ++ d)
 plain-settled [] d h k = k
 plain-settled (l ∷ b) d h k = (subst (λ x. LetOf x (b ++ d)) (sym (plain-no-let l h.0)) tt, plain-settled b d h.1 k)
@@ -93,6 +99,7 @@ pub data Nest : List Lexeme → List ℕ → Type 0 where
   inside : (front a c : List Lexeme) (n : ℕ) (ns : List ℕ) → front ≡ a ++ mark OpenBrace ∷ c → n ≡ length (living a) → Settled a
       → Balanced c → Nest a ns → Nest front (n ∷ ns)
 
+-- the same blocks are open after balanced lexemes at the end, with as many locals at each `{`
 pub nest-append : (front d : List Lexeme) (ns : List ℕ) → Balanced d → Nest front ns → Nest (front ++ d) ns
 nest-append front d ns h (outside f) = outside (front ++ d)
 nest-append front d ns h (inside f a c n ms e k s b x) =

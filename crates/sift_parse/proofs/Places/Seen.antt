@@ -16,15 +16,19 @@ Balanced c = (n : ℕ) (d : List Lexeme) → leaves n (c ++ d) ≡ leaves n d
 abbrev pub Stays : List Lexeme → Type 0
 Stays d = (n : ℕ) → leaves n d ≡ false
 
+-- lexemes that close what they open, and no more, leave no block
 pub balanced-stays : (c : List Lexeme) → Balanced c → Stays c
 balanced-stays c h n = subst (λ l. leaves n l ≡ false) (append-nil c) (h n [])
 
+-- balanced lexemes one after another are balanced
 pub balanced-append : (c d : List Lexeme) → Balanced c → Balanced d → Balanced (c ++ d)
 balanced-append c d h k n e = ap (leaves n) (append_assoc c d e) ∙ h n (d ++ e) ∙ k n e
 
+-- balanced lexemes in braces are balanced
 pub balanced-block : (c : List Lexeme) → Balanced c → Balanced (mark OpenBrace ∷ (c ++ mark CloseBrace ∷ []))
 balanced-block c h n e = ap (leaves (suc n)) (append_assoc c (mark CloseBrace ∷ []) e) ∙ h (suc n) (mark CloseBrace ∷ e)
 
+-- a `{` and balanced lexemes after it leave no block
 pub opened-stays : (c : List Lexeme) → Balanced c → Stays (mark OpenBrace ∷ c)
 opened-stays c h n = balanced-stays c h (suc n)
 
@@ -84,6 +88,7 @@ settled-let true [] d h = absurd h
 settled-let true (l ∷ ls) d h = absurd h
 settled-let false ls d h = tt
 
+-- where the `let` statements of lexemes are over, and those of others, they are over in both joined
 pub settled-append : (a d : List Lexeme) → Settled a → Settled d → Settled (a ++ d)
 settled-append [] d h k = k
 settled-append (l ∷ a) d h k = (settled-let (is_let l) a d h.0, settled-append a d h.1 k)
@@ -140,6 +145,7 @@ drop-front : (xs ys : List (List ℕ)) → drop (length xs) (xs ++ ys) ≡ ys
 drop-front [] ys = refl
 drop-front (x ∷ xs) ys = drop-front xs ys
 
+-- of newer locals before older ones, the oldest, as many as the older ones are, are just these
 pub oldest-append : (xs ys : List (List ℕ)) → oldest (length ys) (xs ++ ys) ≡ ys
 oldest-append xs ys =
     let n : length (xs ++ ys) - length ys ≡ length xs = (let h = length-append xs ys in omega arith) in

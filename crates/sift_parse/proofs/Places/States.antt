@@ -38,6 +38,7 @@ shape-paren : (ls : List Level) → map shape (without_minuses (drop 1 ls)) ≡ 
 shape-paren [] = refl
 shape-paren (l ∷ ls) = shape-bare ls
 
+-- with the token of a numeral, whatever it asks for, an operand ends, and the minuses of its prim are closed
 pub number-next : (s : State) (r : Roll) (before : Option Lexeme) (asked : Option ℕ) (n : ℕ)
     → next s (number_token r before asked n) ≡ done (bare s.levels) s.bound
 number-next s r before (Some task) n = refl
