@@ -102,6 +102,7 @@ else-printed r N t b c k blank h first second o e named few =
 -- ---- all statements and blocks
 
 mutual
+  -- a statement that is named, and within the limit of levels, is printed as itself where one may start
   pub statement-printed : (r : Roll) (N : Naming) (s : Statement) (k : ℕ) (blank : Bool) (h : Known) → Opens r h → k ≡ length h.locals
       → IsNamedStatement r N h.locals s → length h.levels + depth_of s ≤ level_limit → Stated r N h s (print_statement N k s blank)
   statement-printed r N (bind t) k blank h o e named few =
@@ -129,6 +130,7 @@ mutual
       repeat-written r N h n b (print_block N k b) blank o (omega arith) named.0
       (block-printed r N b k (in_brace g) (brace-opens r g o.none) e named.1 (omega arith))
 
+  -- a block that is named, and within the limit of levels, is printed as itself where a statement may start
   pub block-printed : (r : Roll) (N : Naming) (b : Block) (k : ℕ) (h : Known) → Opens r h → k ≡ length h.locals → IsNamedBlock r N h.locals b
       → length h.levels + depth_in b ≤ level_limit → Blocked r h b (print_block N k b)
   block-printed r N end k h o e named few = record {

@@ -47,6 +47,7 @@ mutual
   )
   statement-named r N many k (repeat n b) is few most h m s = (h.0, block-named r N many k b is few (omega arith) h.1 m s)
 
+  -- all that a sound block names has its name, with small numbers, `now`s of earlier tasks and few enough locals
   pub block-named : (r : Roll) (N : Naming) (many k : ℕ) (b : Block) → Named r N many → k ≤ many → most_locals_in k b ≤ many
       → IsSoundBlock (bounds r) k b → EachTerm (NowsBelow (first_word r r.this)) b → EachTerm HasSmallNumbers b → IsNamedBlock r N (local_names N k) b
   block-named r N many k end is few most h m s = tt

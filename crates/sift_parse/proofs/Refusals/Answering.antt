@@ -24,6 +24,7 @@ use Rattle.sift_parse.proofs.Refusals.Stops.{IsWhole, StopsAfter}
 
 -- ---- the end
 
+-- the tokens of a task begin a task
 pub begins-task : (ts : List Token) (body : Block) → IsTask ts body → Begins ts
 begins-task ts body t = record { back = []; body = body; whole = subst (λ l. IsTask l body) (sym (append-nil ts)) t }
 

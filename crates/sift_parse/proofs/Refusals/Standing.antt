@@ -90,6 +90,7 @@ stands-in r front text mid l later_task x b h = begins-with (λ l. StandsIn r (p
 begins-to : (r : Roll) (front : List Lexeme) (l : Lexeme) → Begins (tokens_of r (front ++ l ∷ [])) → Begins (tokens_of r front)
 begins-to r front l b = begins-front (tokens_of r front) (tokens_after r front (l ∷ [])) (subst Begins (tokens_of-append r front (l ∷ [])) b)
 
+-- what stands at a lexeme's place stands at it with what is in force there, where the tokens to it begin a task
 pub stands-at : (r : Roll) (front : List Lexeme) (text mid : List ℕ) (l : Lexeme) (kind : Kind) → IsLexeme text l mid
     → Begins (tokens_of r (front ++ l ∷ [])) → Stands r front text kind → StandsAt r (force_after front) l kind
 stands-at r front text mid l kind x b h =
@@ -106,10 +107,12 @@ told-here r front text mid l variant.DeepLevel x h = record { lexeme = l; rest =
 told-here r front text mid l variant.UnknownName x h = record { lexeme = l; rest = mid; is_lexeme = x; holds = h }
 told-here r front text mid l variant.LaterTask x h = record { lexeme = l; rest = mid; is_lexeme = x; holds = h }
 
+-- what stands at a lexeme with what is in force stands at its place, where the tokens before it begin a task
 pub stands-here : (r : Roll) (front : List Lexeme) (text mid : List ℕ) (l : Lexeme) (k : held.Refusal) → IsLexeme text l mid
     → Begins (tokens_of r front) → StandsAt r (force_after front) l (kind_of k) → Stands r front text (kind_of k)
 stands-here r front text mid l k x b h = told-here r front text mid l k x (subst (λ p. StandsIn r p l (kind_of k)) (places_are_force r front b) h)
 
+-- the refusal of grammar stands at a lexeme's place, where the tokens before it begin a task, and with it don't
 pub syntax-here : (r : Roll) (front : List Lexeme) (text mid : List ℕ) (l : Lexeme) → IsLexeme text l mid → Begins (tokens_of r front)
     → ¬ Begins (tokens_of r (front ++ l ∷ [])) → IsNoSyntax r front text
 syntax-here r front [] mid l x b h = absurd (no_lexeme-of-nothing l mid x)
@@ -123,9 +126,11 @@ begins-before r ps qs b =
     begins-front (tokens_of r (lexemes_of ps)) (tokens_after r (lexemes_of ps) (lexemes_of qs))
     (subst Begins (ap (tokens_of r) (map-append (λ p. p.lexeme) ps qs) ∙ tokens_of-append r (lexemes_of ps) (lexemes_of qs)) b)
 
+-- the lexemes of placed ones and of one more are theirs, and then its own
 pub lexemes_of-one : (ps : List Placed) (p : Placed) → lexemes_of (ps ++ p ∷ []) ≡ lexemes_of ps ++ p.lexeme ∷ []
 lexemes_of-one ps p = map-append (λ p. p.lexeme) ps (p ∷ [])
 
+-- the tokens up to a lexeme, with its own, begin a task, where those with the lexemes after it do
 pub begins-one : (r : Roll) (ps qs : List Placed) (p : Placed) → Begins (tokens_of r (lexemes_of (ps ++ p ∷ qs)))
     → Begins (tokens_of r (lexemes_of ps ++ p.lexeme ∷ []))
 begins-one r ps qs p b =

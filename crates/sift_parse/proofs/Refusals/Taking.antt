@@ -121,6 +121,7 @@ placed-one ps i d lt =
     ap (λ n. placed_of (take n ps)) (add-one i)
     ∙ (ap placed_of (take-suc ps i d lt) ∙ map-append placed_here (take i ps) (get_or ps i d ∷ []))
 
+-- the lexemes that the code holds are those before one of them, that one, and those after it
 pub placed-split : (ps : List (held_placed.Placed)) (i : ℕ) (d : held_placed.Placed) → i < length ps
     → placed_of ps ≡ placed_of (take i ps) ++ placed_here (get_or ps i d) ∷ placed_of (drop (i + 1) ps)
 placed-split ps i d lt =

@@ -72,6 +72,7 @@ valued r f ts rest t d few p =
     carried r f g rest t (7 * length (without_minuses f.levels) + 0) 0
     (level-past r g 0 ts rest t d few (record { before = refl; role = refl }) a.place) refl refl refl (omega arith)
 
+-- a term that is past is sound for what is there, and for the locals that live before it
 pub sound-term : (r : Roll) (f : Force) (rest : List Token) (t : Term) (bound : ℕ) → IsPast r f rest t bound
     → IsSoundTerm (bounds r) (length f.locals) t
 sound-term r f rest t bound i = record { names = i.names; needs = (let n = i.needs in omega arith) }
@@ -80,6 +81,7 @@ sound-term r f rest t bound i = record { names = i.names; needs = (let n = i.nee
 abbrev pub end_force : Option (List ℕ) → Force → Force
 end_force o f = record (end_let o f) { before = Some (mark Semicolon) }
 
+-- the tokens after a `;` follow it, with what is in force once the `let` before it, if there is one, is over
 pub end-place : (r : Roll) (f : Force) (o : Option (List ℕ)) (rest : List Token) → f.pending ≡ o → Place r f (Sign Semicolon ∷ rest)
     → Place r (end_force o f) rest
 end-place r f o rest e p = subst (λ o. Place r (end_force o f) rest) e (sign-at r f Semicolon rest p).place

@@ -26,16 +26,19 @@ word_force o w f = record (after_word o w f) { named = w; before = Some (word w)
 abbrev pub name_force : Role → List ℕ → Force → Force
 name_force role w f = record (after_name role w f) { named = w; before = Some (word w) }
 
+-- the tokens after a keyword follow it, with what is in force after that keyword
 pub keyword-place : (r : Roll) (f : Force) (k : Keyword) (ts : List Token) (h : IsKeyword r f k ts)
     → Place r (word_force (Some k) h.text f) ts
 keyword-place r f k ts h = subst (λ o. Place r (word_force o h.text f) ts) h.is h.goes.place
 
+-- the tokens after a name of this role follow it, with what is in force after a name of this role
 pub name-place : (r : Roll) (f : Force) (role : Role) (n : ℕ) (ts : List Token) (h : IsNamed r f n ts)
     → role_after (keyword_before f) ≡ role → Place r (name_force role h.text f) ts
 name-place r f role n ts h e =
     let p : Place r (name_force (role_after (keyword_before f)) h.text f) ts = subst (λ o. Place r (word_force o h.text f) ts) h.is h.goes.place in
     subst (λ role. Place r (name_force role h.text f) ts) e p
 
+-- in the role that a name has here, it names what its token has the number of
 pub name-number : (r : Roll) (f : Force) (role : Role) (n : ℕ) (ts : List Token) (h : IsNamed r f n ts)
     → role_after (keyword_before f) ≡ role → named_by r f role h.text ≡ Some n
 name-number r f role n ts h e = subst (λ role. named_by r f role h.text ≡ Some n) e h.names
@@ -54,9 +57,11 @@ minus_force f = record f { levels = negation ∷ f.levels; before = Some (operat
 abbrev pub joined_force : Op → Force → Force
 joined_force op f = record f { before = Some (operator op) }
 
+-- where an expression may start, a `-` opens a level
 pub minus-opens : (f : Force) → Starts f → opens f (operator Sub) ≡ true
 minus-opens f s = ap not s.before
 
+-- the tokens after a `-` where an expression may start follow it, with one more level open, which is a minus
 pub minus-place : (r : Roll) (f : Force) (ts : List Token) → Starts f → Goes r f (operator Sub) ts → Place r (minus_force f) ts
 minus-place r f ts s h = subst (λ b. Place r (operator_force b Sub f) ts) (minus-opens f s) h.place
 
@@ -74,6 +79,7 @@ joins f Shr e = refl
 joins f Lt e = refl
 joins f Eq e = refl
 
+-- the tokens after an operator with an operand before it follow it, with the same levels open
 pub joined-place : (r : Roll) (f : Force) (op : Op) (ts : List Token) → ends_operand f.before ≡ true → Goes r f (operator op) ts
     → Place r (joined_force op f) ts
 joined-place r f op ts e h = subst (λ b. Place r (operator_force b op f) ts) (joins f op e) h.place
@@ -94,6 +100,7 @@ bare-twice (block n ∷ ls) = refl
 bare-twice (parenthesis ∷ ls) = refl
 bare-twice (negation ∷ ls) = bare-twice ls
 
+-- no more levels are open once the minuses of a prim that ends are closed
 pub bare-short : (ls : List Level) → length (without_minuses ls) ≤ length ls
 bare-short [] = omega arith
 bare-short (block n ∷ ls) = omega arith

@@ -39,6 +39,7 @@ number-by r f n ts (numeral m) e h p =
 number-by r f n ts (operator op) e h p = cc
 number-by r f n ts (mark s) e h p = cc
 
+-- where the next token is a number, the next lexeme is a numeral of this number or of a greater one
 pub number-at : (r : Roll) (f : Force) (n : ℕ) (ts : List Token) → Place r f (Number n ∷ ts) → IsNumber r f n ts
 number-at r f n ts p = let h = head r f (Number n) ts p in number-by r f n ts h.lexeme h.is h.fits h.place
 
@@ -83,5 +84,6 @@ index-by r f n ts (numeral m) e h p =
 index-by r f n ts (operator op) e h p = cc
 index-by r f n ts (mark s) e h p = cc
 
+-- where the next token is the number of a word, the next lexeme is a numeral for that word, which is there
 pub index-at : (r : Roll) (f : Force) (n : ℕ) (ts : List Token) → Place r f (Index n ∷ ts) → IsIndex r f n ts
 index-at r f n ts p = let h = head r f (Index n) ts p in index-by r f n ts h.lexeme h.is h.fits h.place

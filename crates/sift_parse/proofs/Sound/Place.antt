@@ -71,6 +71,7 @@ sign-is r f (numeral n) s e = absurd (number-sign r f.before (task_asked r f f.b
 sign-is r f (operator op) s e = cc
 sign-is r f (mark u) s e = let h : u ≡ s = cc in ap mark h
 
+-- where the next token is a sign, the next lexeme is this sign, and the other tokens follow it
 pub sign-at : (r : Roll) (f : Force) (s : signs.Sign) (ts : List Token) → Place r f (Sign s ∷ ts) → Goes r f (mark s) ts
 sign-at r f s ts p = let h = head r f (Sign s) ts p in goes r f h.lexeme (mark s) ts (sign-is r f h.lexeme s h.is) h.fits h.place
 
@@ -88,6 +89,7 @@ operator-is r f (numeral n) op e = absurd (number-operator r f.before (task_aske
 operator-is r f (operator oq) op e = let h : oq ≡ op = cc in ap operator h
 operator-is r f (mark u) op e = cc
 
+-- where the next token is an operator, the next lexeme is this operator, and the other tokens follow it
 pub operator-at : (r : Roll) (f : Force) (op : ops.Op) (ts : List Token) → Place r f (Operator op ∷ ts) → Goes r f (operator op) ts
 operator-at r f op ts p = let h = head r f (Operator op) ts p in goes r f h.lexeme (operator op) ts (operator-is r f h.lexeme op h.is) h.fits h.place
 
@@ -115,6 +117,7 @@ keyword-by r f k ts (numeral n) e h p = absurd (number-keyword r f.before (task_
 keyword-by r f k ts (operator op) e h p = cc
 keyword-by r f k ts (mark s) e h p = cc
 
+-- where the next token is a keyword, the next lexeme is the word of this keyword, and the other tokens follow it
 pub keyword-at : (r : Roll) (f : Force) (k : keywords.Keyword) (ts : List Token) → Place r f (Keyword k ∷ ts) → IsKeyword r f k ts
 keyword-at r f k ts p = let h = head r f (Keyword k) ts p in keyword-by r f k ts h.lexeme h.is h.fits h.place
 
@@ -147,5 +150,6 @@ name-by r f n ts (numeral m) e h p = absurd (number-name r f.before (task_asked 
 name-by r f n ts (operator op) e h p = cc
 name-by r f n ts (mark s) e h p = cc
 
+-- where the next token is a name, the next lexeme is a word that is no keyword and names what the token tells
 pub name-at : (r : Roll) (f : Force) (n : ℕ) (ts : List Token) → Place r f (Name n ∷ ts) → IsNamed r f n ts
 name-at r f n ts p = let h = head r f (Name n) ts p in name-by r f n ts h.lexeme h.is h.fits h.place

@@ -48,6 +48,7 @@ carried r f g rest t bound other i levels locals pending le = record {
 
 -- ---- a local, a sensor
 
+-- a local is past where an expression may start and 32 levels are open at most, and it is one that lives
 pub local-past : (r : Roll) (f : Force) (l : ℕ) (rest : List Token) → length f.levels ≤ 32 → Starts f → Place r f (Name l ∷ rest)
     → IsPast r f rest (local l) (7 * length f.levels + 5)
 local-past r f l rest few s p =
@@ -64,6 +65,7 @@ local-past r f l rest few s p =
       needs = omega arith;
     }
 
+-- a sensor is past where 32 levels are open at most, and it is one that is there
 pub sensor-past : (r : Roll) (f : Force) (x : ℕ) (rest : List Token) → length f.levels ≤ 32 → Place r f (Keyword Sense ∷ Name x ∷ rest)
     → IsPast r f rest (sense x) (7 * length f.levels + 5)
 sensor-past r f x rest few p =
@@ -102,6 +104,7 @@ unless r o task e h = below task r.this (λ le. h (subst (IsNotBefore r) (sym e)
     below : (m n : ℕ) → (n ≤ m → ⊥) → m < n
     below m n h = omega arith
 
+-- what is read of `now` or `last`, a name, a dot and a number is a voted word, after `now` of an earlier task
 pub word-past : (r : Roll) (f : Force) (k : keywords.Keyword) (task w : ℕ) (rest : List Token) → role_after (Some k) ≡ a_task
     → Place r f (Keyword k ∷ Name task ∷ Sign Dot ∷ Index w ∷ rest) → IsPastWord r f k w rest
 word-past r f k task w rest at p =

@@ -157,6 +157,7 @@ mutual
       (second-braced r f ws qs first second x (block-through r ws (Sign CloseBrace ∷ qs) second b))
   statement-done r ts rest s (a_repeat k us vs body a) f fresh p = repeat-done r f k us vs body fresh p (block-through r us (Sign CloseBrace ∷ vs) body a)
 
+  -- a block that is read from where a statement may start is sound, leaves the levels as they were and loses no local
   pub block-through : (r : Roll) (ts rest : List Token) (b : Block) → IsBlock ts b rest → (f : Force) → Fresh f → Place r f ts
       → IsThrough r f rest b
   block-through r ts rest b (no_statement us) f fresh p =

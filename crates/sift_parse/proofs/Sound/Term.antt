@@ -61,6 +61,7 @@ mutual
       carried r f g rs (middle x y z) (7 * length g.levels + 5) (7 * length f.levels + 5)
       (middle-past r g (Sign Comma ∷ vs) (Sign Comma ∷ ws) rs x y z i j l) refl refl refl (omega arith)
 
+  -- an expression of level n is past where one may start and 32 levels are open at most: it names what is there
   pub level-past : (r : Roll) (f : Force) (n : ℕ) (ts rest : List Token) (t : Term) → IsLevel n ts t rest → length f.levels ≤ 32 → Starts f
       → Place r f ts → IsPast r f rest t (7 * length (without_minuses f.levels) + n)
   level-past r f n ts rest t (a_prim us vs x d) few s p =

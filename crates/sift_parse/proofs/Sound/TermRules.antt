@@ -18,6 +18,7 @@ use Rattle.sift_parse.proofs.Sound.Prim.{IsPast, carried, IsPastWord}
 
 -- ---- one rule each
 
+-- a number is past where 32 levels are open at most, and it names nothing
 pub number-past : (r : Roll) (f : Force) (n : ℕ) (rest : List Token) → length f.levels ≤ 32 → Place r f (Number n ∷ rest)
     → IsPast r f rest (number n) (7 * length f.levels + 5)
 number-past r f n rest few p =
@@ -51,14 +52,17 @@ voted-past r f k w rest t bound h names nows needs =
       needs = needs;
     }
 
+-- a voted word that was read after `now` is past as a term, where 32 levels are open at most
 pub this_frame-past : (r : Roll) (f : Force) (w : ℕ) (rest : List Token) → length f.levels ≤ 32 → IsPastWord r f Now w rest
     → IsPast r f rest (this_frame w) (7 * length f.levels + 5)
 this_frame-past r f w rest few h = voted-past r f Now w rest (this_frame w) (7 * length f.levels + 5) h h.within (h.earlier refl) (omega arith)
 
+-- a voted word that was read after `last` is past as a term, where 32 levels are open at most
 pub last_frame-past : (r : Roll) (f : Force) (w : ℕ) (rest : List Token) → length f.levels ≤ 32 → IsPastWord r f Last w rest
     → IsPast r f rest (last_frame w) (7 * length f.levels + 5)
 last_frame-past r f w rest few h = voted-past r f Last w rest (last_frame w) (7 * length f.levels + 5) h h.within tt (omega arith)
 
+-- a minus is past where the prim after it is, which was read one level deeper
 pub minus-past : (r : Roll) (f : Force) (rest : List Token) (t : Term) → IsPast r (minus_force f) rest t (7 * (length f.levels + 1) + 5)
     → IsPast r f rest (minus t) (7 * length f.levels + 5)
 minus-past r f rest t i =
@@ -78,6 +82,7 @@ minus-past r f rest t i =
 abbrev pub paren_force : Force → Force
 paren_force f = advance f (mark OpenParen)
 
+-- an expression may start after a `(`
 pub paren-starts : (f : Force) → Starts (paren_force f)
 paren-starts f = record { before = refl; role = refl }
 
@@ -102,9 +107,11 @@ closed-past r f rest t bound i =
 abbrev pub comma_force : Force → Force
 comma_force f = advance f (mark Comma)
 
+-- an expression may start after a comma
 pub comma-starts : (f : Force) → Starts (comma_force f)
 comma-starts f = record { before = refl; role = refl }
 
+-- an expression may start after an operator between operands
 pub joined-starts : (op : Op) (f : Force) → Starts (joined_force op f)
 joined-starts op f = record { before = refl; role = refl }
 
@@ -118,6 +125,7 @@ after-comma r f us rest t u i j =
     (let same : length (without_minuses i.force.levels) ≡ suc (length f.levels) = ap (λ ls. length (without_minuses ls)) i.levels in
     omega arith)
 
+-- a `mid` is past where its first two parts are, inside its parenthesis, and its third, with the `)`
 pub middle-past : (r : Roll) (f : Force) (us vs rest : List Token) (t u v : Term) → IsPast r (paren_force f) us t (7 * (length f.levels + 1))
     → IsPast r (paren_force f) vs u (7 * (length f.levels + 1)) → IsPast r f rest v (7 * (length f.levels + 1))
     → IsPast r f rest (middle t u v) (7 * length f.levels + 5)
@@ -134,6 +142,7 @@ middle-past r f us vs rest t u v i j k =
       needs = (let a = i.needs in let b = j.needs in let c = k.needs in omega arith);
     }
 
+-- no more than 32 levels are open after a term that is past, where no more are open before it
 pub few-after : (r : Roll) (f : Force) (us : List Token) (t : Term) (bound : ℕ) → (i : IsPast r f us t bound) → length f.levels ≤ 32
     → length i.force.levels ≤ 32
 few-after r f us t bound i few = let h : length i.force.levels ≡ length (without_minuses f.levels) = ap length i.levels in omega (arith, bare-short f.levels)

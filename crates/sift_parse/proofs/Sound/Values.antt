@@ -22,6 +22,7 @@ unless m n h = omega arith
 
 -- ---- statements with a value
 
+-- a `let` that is read where a statement may start is sound, and one more local lives after it
 pub let-done : (r : Roll) (f : Force) (l : ℕ) (ts rest : List Token) (t : Term) → IsExpr ts t (Sign Semicolon ∷ rest) → Fresh f
     → Place r f (Keyword Let ∷ Name l ∷ Sign Assign ∷ ts) → IsDone r f rest (bind t)
 let-done r f l ts rest t d fresh p =
@@ -44,6 +45,7 @@ let-done r f l ts rest t d fresh p =
       repeats = omega arith;
     }
 
+-- an assignment that is read where a statement may start is sound: its local is one that lives
 pub assign-done : (r : Roll) (f : Force) (l : ℕ) (ts rest : List Token) (t : Term) → IsExpr ts t (Sign Semicolon ∷ rest) → Fresh f
     → Place r f (Name l ∷ Sign Assign ∷ ts) → IsDone r f rest (assign l t)
 assign-done r f l ts rest t d fresh p =
@@ -57,6 +59,7 @@ assign-done r f l ts rest t d fresh p =
     value-done r f g rest t (assign l t) v (ap without_minuses fresh.bare ∙ fresh.bare) fresh.pending refl refl
     (sound-term r g (Sign Semicolon ∷ rest) t 0 v, below) v.nows (omega arith)
 
+-- an output that is read where a statement may start is sound: its word is one that the task has
 pub output-done : (r : Roll) (f : Force) (j : ℕ) (ts rest : List Token) (t : Term) → IsExpr ts t (Sign Semicolon ∷ rest) → Fresh f
     → Place r f (Keyword Out ∷ Index j ∷ Sign Assign ∷ ts) → IsDone r f rest (output j t)
 output-done r f j ts rest t d fresh p =
