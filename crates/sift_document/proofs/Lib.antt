@@ -1,0 +1,6 @@
+pub mod DocumentLemmas
+pub mod EntryTests
+pub mod Order
+pub mod Places
+pub mod ReadEntries
+pub mod Testing

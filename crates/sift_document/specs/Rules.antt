@@ -1,0 +1,56 @@
+-- Rules of a document, each with its number and the places at which it is broken, and the first of them that is broken.
+use Rattle.std.specs.Prelude.{ℕ, ◌≡◌, ◌<◌, ◌⊎◌, List, [], ◌∷◌, Option, Some, None, ⊤}
+use Rattle.toml.specs.Data.{Data}
+use Rattle.sift_document.specs.Document.{IsArrayOf, entries_of}
+use Rattle.sift_document.specs.Entries.{HoldsOf}
+
+-- a rule: its number, and at which places it is broken. A place is the number of an entry, or 0 where the rule speaks of none
+pub record Rule : Type 1 where
+  pub number : ℕ
+  pub BrokenAt : ℕ → Type 0
+
+-- the rule of this number, from the places at which it is broken
+abbrev pub rule : ℕ → (ℕ → Type 0) → Rule
+rule number broken = record { number = number; BrokenAt = broken }
+
+-- some rules, followed by others
+abbrev pub followed_by : List Rule → List Rule → List Rule
+followed_by [] others = others
+followed_by (first ∷ rest) others = first ∷ followed_by rest others
+
+-- the rules of some lists, one list after the other
+abbrev pub joined : List (List Rule) → List Rule
+joined [] = []
+joined (rules ∷ rest) = followed_by rules (joined rest)
+
+-- what breaks a rule that speaks of no entry: its place is 0
+abbrev pub OfNoEntry : Type 0 → ℕ → Type 0
+OfNoEntry fault place = (place ≡ 0) × fault
+
+-- the value is there, and is no array of `low` to `high` entries, or has an entry at the place that isn't as it should be
+abbrev pub BreaksEntries : (low high : ℕ) → (ℕ → Data → Type 0) → Option Data → ℕ → Type 0
+BreaksEntries low high IsEntry None place = ⊥
+BreaksEntries low high IsEntry (Some value) place =
+    OfNoEntry (¬ IsArrayOf low high value) place ⊎ HoldsOf (entries_of (Some value)) place (λ entry. ¬ IsEntry place entry)
+
+-- ---- the first broken rule
+
+-- the rule is broken nowhere
+abbrev pub IsKept : Rule → Type 0
+IsKept rule = (place : ℕ) → ¬ rule.BrokenAt place
+
+-- each of these rules is kept
+abbrev pub AreKept : List Rule → Type 0
+AreKept [] = ⊤
+AreKept (rule ∷ rest) = IsKept rule × AreKept rest
+
+-- the first place at which a rule is broken
+pub record IsFirstPlace (BrokenAt : ℕ → Type 0) (place : ℕ) : Type 0 where
+  pub broken : BrokenAt place
+  pub first : (at : ℕ) → at < place → ¬ BrokenAt at
+
+-- this is the number of the first of these rules that is broken, and the first place at which it is
+abbrev pub BreaksFirst : List Rule → (number place : ℕ) → Type 0
+BreaksFirst [] number place = ⊥
+BreaksFirst (rule ∷ rest) number place =
+    ((number ≡ rule.number) × IsFirstPlace rule.BrokenAt place) ⊎ (IsKept rule × BreaksFirst rest number place)

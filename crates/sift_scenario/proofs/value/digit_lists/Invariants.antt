@@ -1,8 +1,0 @@
-use Rattle.std.proofs.Common.{◌≡◌, Some, map, take}
-use Rattle.toml.specs.View.{view}
-use Rattle.sift_scenario.specs.Document.{digits_of, each_read}
-use Rattle.sift_scenario.proofs.value.digit_lists.Given as goal
-
--- the lists so far
-abbrev pub invariant-loop-entry : goal.invariant-loop-entry
-invariant-loop-entry l = each_read digits_of (take l.entry-index (map view l.entry-items)) ≡ Some (map (λ list. list.items) l.lists.items)
