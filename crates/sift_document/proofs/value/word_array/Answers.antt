@@ -10,7 +10,7 @@ use Rattle.sift_document.proofs.value.word_array.Goals.{then-entries-low-via-the
 
 -- an array of another length
 pub returns-then-entries-low : goal.returns-then-entries-low
-returns-then-entries-low c =
+returns-then-entries-low g c =
     rw (array_from _ _ c.in_ok-as_array.ensures, ← c.as_slice-entries.ensures.value)
     (sym (array_between-other word_value c.args.low c.args.high c.as_slice-entries.result.now (elim c.then-entries-low.branch [
       | then-entries-low-via-then-entries-low w ↦ inl w.if-entries-low.true
@@ -19,7 +19,7 @@ returns-then-entries-low c =
 
 -- an entry is no word value
 pub returns-in_err-word_value : goal.returns-in_err-word_value
-returns-in_err-word_value c =
+returns-in_err-word_value g c =
     let entries = c.as_slice-entries.result.now in
     let here = get_or-map view entries c.loop-entry.entry-index c.entry-item.result (view c.entry-item.result) c.loop-entry-test.true ∙ ap view (sym c.entry-item.is) in
     rw (c.from_residual-in_err-word_value.ensures, array_from _ _ c.in_ok-as_array.ensures, ← c.as_slice-entries.ensures.value)
@@ -28,7 +28,7 @@ returns-in_err-word_value c =
 
 -- one word more
 pub loop-entry-preserved : goal.loop-entry-preserved
-loop-entry-preserved c =
+loop-entry-preserved g c =
     let entries = c.as_slice-entries.result.now in (
       rw (so_far view entries c.loop-entry.entry-index c.entry-item.result c.loop-entry-test.true c.entry-item.is, c.push.ensures.items)
           (each_read-push word_value (take c.loop-entry.entry-index (map view entries)) (view c.entry-item.result) _ _ c.loop-entry.invariant.0 (sym c.in_ok-word_value.ensures)),
@@ -37,7 +37,7 @@ loop-entry-preserved c =
 
 -- all entries were read
 pub returns : goal.returns
-returns c =
+returns g c =
     let entries = c.as_slice-entries.result.now in
     let whole = take_all c.loop-entry.entry-index (map view entries) (rw length-map (omega (arith, c.loop-entry-test.false))) in
     rw (array_from _ _ c.in_ok-as_array.ensures, ← c.as_slice-entries.ensures.value)

@@ -5,4 +5,4 @@ use Rattle.sift_document.proofs.value.word_array.Given as goal
 
 -- the words so far
 abbrev pub invariant-loop-entry : goal.invariant-loop-entry
-invariant-loop-entry l = (each_read word_value (take l.entry-index (map view l.entries)) ≡ Some l.words.items) × (length l.words.items ≡ l.entry-index)
+invariant-loop-entry g l = (each_read word_value (take l.entry-index (map view l.entries)) ≡ Some l.words.items) × (length l.words.items ≡ l.entry-index)
