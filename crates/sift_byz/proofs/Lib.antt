@@ -11,4 +11,3 @@ pub mod Searches
 pub mod Stopping
 pub mod Tellers
 pub mod Testing
-pub mod Values

@@ -1,26 +1,14 @@
--- Rules one after another: where a test stops, the first broken rule is refused.
-use Rattle.std.proofs.Common.{◌≡◌, inl, inr, List, [], ◌∷◌, ℕ, zero, suc, Some, sym, ap, subst, ◌∙◌}
+-- The rules of a document, where it is known how many units there are and how many may lie.
+use Rattle.std.proofs.Common.{◌≡◌, ℕ, Some, sym, ap, subst, ◌∙◌}
 use Rattle.std.specs.Prelude.{unwrap_or}
 use Rattle.toml.specs.Data.{Members}
-use Rattle.sift_byz.specs.declared.stop.ByzStop.{ByzStop}
-use Rattle.sift_byz.specs.declared.stop.ByzStop.TheVariants as stop
-use Rattle.sift_byz.specs.Lawful.{RefusesFirst, rules_for, rules_of}
-use Rattle.sift_byz.specs.Rules.{AreKept, IsKept, Rule, rule}
+use Rattle.sift_base.specs.declared.stop.Stop.{Stop}
+use Rattle.sift_document.proofs.Order.{StopsAt, stopped}
+use Rattle.sift_document.specs.Rules.{AreKept}
+use Rattle.sift_document.specs.Testing.{RefusesFirst}
+use Rattle.sift_document.specs.declared.rule.BrokenRule.{BrokenRule}
+use Rattle.sift_byz.specs.Lawful.{rules_for, rules_of}
 use Rattle.sift_byz.specs.Stated.{m_of, units_of}
-use Rattle.sift_byz.specs.Testing.{RefusesBy}
-
--- the rule so many places on is refused, and those before it are kept
-abbrev pub StopsAt : ℕ → List Rule → ByzStop → Type 0
-StopsAt k [] e = ⊥
-StopsAt zero (rule number BrokenAt ∷ rest) e = RefusesBy number BrokenAt e
-StopsAt (suc k) (rule number BrokenAt ∷ rest) e = IsKept BrokenAt × StopsAt k rest e
-
--- so it is the first that is broken
-pub stopped : (k : ℕ) (rules : List Rule) (e : ByzStop) → StopsAt k rules e → RefusesFirst rules e
-stopped k [] e stops = absurd stops
-stopped zero (rule n BrokenAt ∷ rest) (stop.Rule number place) stops = inl stops
-stopped (suc k) (rule n BrokenAt ∷ rest) (stop.Rule number place) stops = inr (stops.0, stopped k rest (stop.Rule number place) stops.1)
-stopped k (rule n BrokenAt ∷ rest) stop.NoMemory stops = tt
 
 module _ (document : Members) (m : ℕ) (m_is : m_of document ≡ Some m) where
   module _ (units : ℕ) (units_is : units_of m document ≡ Some units) where
@@ -31,7 +19,7 @@ module _ (document : Members) (m : ℕ) (m_is : m_of document ≡ Some m) where
         ∙ ap (λ x. rules_for x m document) (ap (λ x. unwrap_or x 0) units_is)
 
     -- a rule is refused that stands on both, and all are kept
-    pub stopped_with_units : (k : ℕ) (e : ByzStop) → StopsAt k (rules_for units m document) e → RefusesFirst (rules_of document) e
+    pub stopped_with_units : (k : ℕ) (e : Stop BrokenRule) → StopsAt k (rules_for units m document) e → RefusesFirst (rules_of document) e
     stopped_with_units k e stops = subst (λ rules. RefusesFirst rules e) (sym rules_stated) (stopped k (rules_for units m document) e stops)
 
     pub kept_with_units : AreKept (rules_for units m document) → AreKept (rules_of document)

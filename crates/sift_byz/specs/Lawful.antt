@@ -1,24 +1,18 @@
 -- The nine rules of a document, in the order in which they are tested, and the plan that a document states.
-use Rattle.std.specs.Prelude.{codes, ℕ, ◌≡◌, ◌≢◌, ◌+◌, ◌<◌, ◌⊎◌, List, [], ◌∷◌, length, map, take, Some, None, Result, IsErr, IfErr, unwrap_or, ⊤}
-use Rattle.toml.specs.Data.{Data, Items, Members, as_array, get_member}
-use Rattle.sift_byz.specs.declared.stop.ByzStop.{ByzStop}
-use Rattle.sift_byz.specs.declared.stop.ByzStop.TheVariants as stop
-use Rattle.sift_byz.specs.Document.{HasOnlyKeys, IsTableOf, list_of}
+use Rattle.std.specs.Prelude.{ℕ, ◌≡◌, ◌+◌, ◌<◌, List, [], ◌∷◌, length, map, take, Option, None, Some, unwrap_or}
+use Rattle.toml.specs.Data.{Data, Members}
+use Rattle.sift_document.specs.Document.{HasOnlyKeys, IsTableOf}
+use Rattle.sift_document.specs.Entries.{HoldsOf}
+use Rattle.sift_document.specs.Rules.{AreKept, BreaksEntries, BreaksFirst, OfNoEntry, Rule, rule}
+use Rattle.sift_document.specs.declared.rule.BrokenRule.{BrokenRule}
 use Rattle.sift_byz.specs.Plan.{IsInRange, LieData, PlanData, TraitorsAreFew, teller_count}
-use Rattle.sift_byz.specs.Rules.{AreKept, BreaksFirst, HoldsOf, OfNoEntry, Rule, rule}
-use Rattle.sift_byz.specs.Stated.{HasPath, HasReceivers, HasWord, lie_in, lie_keys, lie_limit, lies_of, m_of, root_keys, units_of, values_of}
+use Rattle.sift_byz.specs.Stated.{HasPath, HasReceivers, HasWord, lie_in, lie_keys, lie_limit, lie_value, lies_of, m_of, root_keys, units_of, values_of}
 
 -- ---- the rules
 
--- `lie` is there, and is no array of at most 6,000 entries
-abbrev pub HasNoLies : Members → Type 0
-HasNoLies document =
-    (value : Data) × (get_member (codes "lie") document ≡ Some value)
-    × ((items : Items) → as_array value ≡ Some items → lie_limit < length (list_of items))
-
--- 5: that, or an entry is no table, or has an unknown key
-abbrev pub BreaksLies : Members → ℕ → Type 0
-BreaksLies document place = OfNoEntry (HasNoLies document) place ⊎ HoldsOf (lies_of document) (λ lie. ¬ IsTableOf lie_keys lie) place
+-- 5: `lie` is there, and is no array of at most 6,000 entries; or an entry is no table, or has an unknown key
+abbrev pub BreaksLies : Option Data → ℕ → Type 0
+BreaksLies value place = BreaksEntries 0 lie_limit (λ at. IsTableOf lie_keys) value place
 
 -- 9: up to the entry, more than m units stand last in a path
 pub record BreaksFew (units m : ℕ) (lies : List LieData) (place : ℕ) : Type 0 where
@@ -36,13 +30,13 @@ rules_for units m document =
     ∷ rule 3 (OfNoEntry (units_of m document ≡ None))
     -- `values` is missing, or is no array of as many word values as units
     ∷ rule 4 (OfNoEntry (values_of units document ≡ None))
-    ∷ rule 5 (BreaksLies document)
+    ∷ rule 5 (BreaksLies (lie_value document))
     -- `path` of an entry is missing, or is no string of 1 to m + 1 different digits below `units`
-    ∷ rule 6 (HoldsOf (lies_of document) (λ lie. ¬ HasPath units m lie))
+    ∷ rule 6 (λ place. HoldsOf (lies_of document) place (λ lie. ¬ HasPath units m lie))
     -- with its path, `to` of an entry is missing, or is no string of some ascending digits below `units`, none of them in the path
-    ∷ rule 7 (HoldsOf (lies_of document) (λ lie. ¬ HasReceivers units m lie))
+    ∷ rule 7 (λ place. HoldsOf (lies_of document) place (λ lie. ¬ HasReceivers units m lie))
     -- `value` of an entry is there, and is no word value
-    ∷ rule 8 (HoldsOf (lies_of document) (λ lie. ¬ HasWord lie))
+    ∷ rule 8 (λ place. HoldsOf (lies_of document) place (λ lie. ¬ HasWord lie))
     ∷ rule 9 (BreaksFew units m (map lie_in (lies_of document)))
     ∷ []
 
@@ -60,18 +54,9 @@ pub record IsPlanOf (document : Members) (plan : PlanData) : Type 0 where
   pub values : values_of plan.units document ≡ Some plan.values
   pub lies : plan.lies ≡ map lie_in (lies_of document)
 
--- this is the first of some rules that is broken, and the first place at which it is; want of memory says nothing
-abbrev pub RefusesFirst : List Rule → ByzStop → Type 0
-RefusesFirst rules (stop.Rule number place) = BreaksFirst rules number place
-RefusesFirst rules stop.NoMemory = ⊤
-
--- what stands where a document is refused
-abbrev pub IsRefusedWith : Members → ByzStop → Type 0
-IsRefusedWith document refused = RefusesFirst (rules_of document) refused
-
--- the document is refused so, unless memory was wanting
-abbrev pub OnlyRefuses : {A : Type 0} → ByzStop → Result A ByzStop → Type 0
-OnlyRefuses owed result = IsErr result × IfErr result (λ e. (e ≡ owed) ⊎ (e ≡ stop.NoMemory))
+-- the document breaks this rule first, and this is the first place at which it does
+abbrev pub IsRefusedWith : Members → BrokenRule → Type 0
+IsRefusedWith document broken = BreaksFirst (rules_of document) broken.number broken.place
 
 -- ---- laws
 
@@ -79,17 +64,13 @@ OnlyRefuses owed result = IsErr result × IfErr result (λ e. (e ≡ owed) ⊎ (
 abbrev pub OnePlan : Type 0
 OnePlan = (document : Members) (one other : PlanData) → IsPlanOf document one → IsPlanOf document other → one ≡ other
 
--- a document that states a plan isn't refused, where memory is not wanting
+-- a document that states a plan isn't refused
 abbrev pub PlansAreAccepted : Type 0
-PlansAreAccepted =
-    (document : Members) (plan : PlanData) (refused : ByzStop) → IsPlanOf document plan → IsRefusedWith document refused →
-    refused ≡ stop.NoMemory
+PlansAreAccepted = (document : Members) (plan : PlanData) (broken : BrokenRule) → IsPlanOf document plan → ¬ IsRefusedWith document broken
 
--- a document is refused in one way, where memory is not wanting
+-- a document is refused in one way
 abbrev pub OneRefusal : Type 0
-OneRefusal =
-    (document : Members) (one other : ByzStop) → one ≢ stop.NoMemory → other ≢ stop.NoMemory →
-    IsRefusedWith document one → IsRefusedWith document other → one ≡ other
+OneRefusal = (document : Members) (one other : BrokenRule) → IsRefusedWith document one → IsRefusedWith document other → one ≡ other
 
 -- a plan that a document states is within the limits, and its traitors are few
 abbrev pub StatedPlansAreLawful : Type 0

@@ -1,11 +1,9 @@
 pub mod Charts
-pub mod Document
 pub mod Laws
 pub mod Lawful
 pub mod Plan
 pub mod Relaying
 pub mod Rows
-pub mod Rules
 pub mod Stated
 pub mod Testing
 pub mod Text

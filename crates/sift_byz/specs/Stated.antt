@@ -1,9 +1,9 @@
 -- What a document states: how many units there are and how many of them may lie, their values, and the lies.
 use Rattle.std.specs.Prelude.{codes, ℕ, ◌≡◌, ◌≢◌, ◌+◌, ◌*◌, ◌<◌, ◌≤◌, List, [], ◌∷◌, length, false, Option, Some, None, option_and_then, unwrap_or, ⊤}
 use Rattle.std.specs.List.{All, list_any}
-use Rattle.toml.specs.Data.{Data, Members, as_array, get, get_member, no_items}
+use Rattle.toml.specs.Data.{Data, Members, get, get_member}
 use Rattle.sift_base.specs.Units.{has, IsAscending}
-use Rattle.sift_byz.specs.Document.{digits_of, integer_between, list_of, word_value, words_of}
+use Rattle.sift_document.specs.Document.{digits_to, entries_of, integer_between, read_at, word_array, word_value}
 use Rattle.sift_byz.specs.Plan.{LieData, most_traitors, most_units}
 
 -- ---- the root
@@ -14,19 +14,23 @@ root_keys = codes "units" ∷ codes "m" ∷ codes "values" ∷ codes "lie" ∷ [
 
 -- how many units may lie
 abbrev pub m_of : Members → Option ℕ
-m_of document = option_and_then (integer_between 0 most_traitors) (get_member (codes "m") document)
+m_of document = read_at (integer_between 0 most_traitors) (codes "m") document
 
 -- how many units there are, where m may lie
 abbrev pub units_of : (m : ℕ) → Members → Option ℕ
-units_of m document = option_and_then (integer_between (3 * m + 1) most_units) (get_member (codes "units") document)
+units_of m document = read_at (integer_between (3 * m + 1) most_units) (codes "units") document
 
 -- the values of so many units
 abbrev pub values_of : (units : ℕ) → Members → Option (List ℕ)
-values_of units document = option_and_then (words_of units) (get_member (codes "values") document)
+values_of units document = read_at (word_array units units) (codes "values") document
+
+-- the value of `lie`
+abbrev pub lie_value : Members → Option Data
+lie_value document = get_member (codes "lie") document
 
 -- the entries of `lie`; there are none where it is missing, or no array
 abbrev pub lies_of : Members → List Data
-lies_of document = list_of (unwrap_or (option_and_then as_array (get_member (codes "lie") document)) no_items)
+lies_of document = entries_of (lie_value document)
 
 -- ---- an entry of `lie`
 
@@ -40,10 +44,10 @@ lie_limit = 6000
 
 -- the digits of its path and of its receivers
 abbrev pub path_of : Data → Option (List ℕ)
-path_of lie = option_and_then digits_of (get (codes "path") lie)
+path_of lie = option_and_then (digits_to 9) (get (codes "path") lie)
 
 abbrev pub to_of : Data → Option (List ℕ)
-to_of lie = option_and_then digits_of (get (codes "to") lie)
+to_of lie = option_and_then (digits_to 9) (get (codes "to") lie)
 
 -- no unit of the list stands in it twice
 abbrev pub AreDifferent : List ℕ → Type 0

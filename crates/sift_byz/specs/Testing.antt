@@ -1,24 +1,12 @@
--- What the tests of rules answer. No public clause cites this module.
-use Rattle.std.specs.Prelude.{◌≡◌, ◌≤◌, ℕ, List, Result, Ok, Err, ⊤}
+-- What the rules of the entries of `lie` ask. No public clause cites this module.
+use Rattle.std.specs.Prelude.{◌≤◌, ℕ, List, ⊤}
 use Rattle.toml.specs.Data.{Data}
 use Rattle.sift_byz.specs.declared.lies.EntryRule.{EntryRule}
 use Rattle.sift_byz.specs.declared.lies.EntryRule.TheVariants.{Keys, Path, Receivers}
-use Rattle.sift_byz.specs.declared.stop.ByzStop.{ByzStop}
-use Rattle.sift_byz.specs.declared.stop.ByzStop.TheVariants as stop
-use Rattle.sift_byz.specs.Document.{IsTableOf}
+use Rattle.sift_document.specs.Document.{IsTableOf}
+use Rattle.sift_document.specs.Entries.{HoldsOf}
 use Rattle.sift_byz.specs.Plan.{most_traitors, most_units}
-use Rattle.sift_byz.specs.Rules.{HoldsOf, IsFirstPlace}
 use Rattle.sift_byz.specs.Stated.{HasPath, HasReceivers, lie_keys}
-
--- the rule is refused, at the first place at which it is broken; or memory was wanting
-abbrev pub RefusesBy : ℕ → (ℕ → Type 0) → ByzStop → Type 0
-RefusesBy number BrokenAt (stop.Rule broken place) = (broken ≡ number) × IsFirstPlace BrokenAt place
-RefusesBy number BrokenAt stop.NoMemory = ⊤
-
--- the rule is broken nowhere, or it is refused
-abbrev pub Tests : {A : Type 0} → ℕ → (ℕ → Type 0) → Result A ByzStop → Type 0
-Tests number BrokenAt (Ok value) = (place : ℕ) → ¬ BrokenAt place
-Tests number BrokenAt (Err refused) = RefusesBy number BrokenAt refused
 
 -- what a rule asks of each entry of `lie`
 abbrev pub Keeps : EntryRule → Data → Type 0
@@ -45,4 +33,4 @@ IsLimited (Receivers units m) = MayBe units m
 
 -- an entry doesn't keep the rule
 abbrev pub BreaksEntry : EntryRule → List Data → ℕ → Type 0
-BreaksEntry rule lies place = HoldsOf lies (λ lie. ¬ Keeps rule lie) place
+BreaksEntry rule lies place = HoldsOf lies place (λ lie. ¬ Keeps rule lie)

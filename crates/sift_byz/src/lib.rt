@@ -7,7 +7,6 @@ mod law;
 mod lies;
 mod plan;
 mod reading;
-mod stop;
 mod text;
 mod value;
 mod vectors;
@@ -20,6 +19,5 @@ pub use law::{
 };
 pub use plan::{ByzPlan, Lie};
 pub use reading::read_byz;
-pub use stop::ByzStop;
 pub use text::vectors_text;
 pub use vectors::Vectors;

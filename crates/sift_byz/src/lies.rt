@@ -5,49 +5,43 @@ ghost use Rattle.std.specs.List.{All, list_any};
 ghost use Rattle.toml.specs.Data.{get};
 ghost use Rattle.toml.specs.View.{table_view, view};
 ghost use Rattle.sift_base.specs.Units.{has};
-ghost use Rattle.sift_byz.specs.Document.{word_value};
-ghost use Rattle.sift_byz.specs.Lawful.{BreaksLies, HasNoLies};
+ghost use Rattle.sift_document.specs.Document.{entries_of, word_value};
+ghost use Rattle.sift_document.specs.Entries.{HoldsOf};
+ghost use Rattle.sift_document.specs.Testing.{Tests};
+ghost use Rattle.sift_byz.specs.Lawful.{BreaksLies};
 ghost use Rattle.sift_byz.specs.Plan.{lie_of, most_traitors, most_units};
-ghost use Rattle.sift_byz.specs.Rules.{HoldsOf};
-ghost use Rattle.sift_byz.specs.Stated.{AreDifferent, AreReceivers, HasPath, HasReceivers, HasWord, IsPath, lie_in, lie_limit, lies_of, path_of, to_of};
-ghost use Rattle.sift_byz.specs.Testing.{BreaksEntry, IsLimited, Keeps, MayBe, Tests, number_of};
+ghost use Rattle.sift_byz.specs.Stated.{AreDifferent, AreReceivers, HasPath, HasReceivers, HasWord, IsPath, lie_in, lie_limit, lie_value, lies_of, path_of, to_of};
+ghost use Rattle.sift_byz.specs.Testing.{BreaksEntry, IsLimited, Keeps, MayBe, number_of};
 
 use crate::plan::Lie;
-use crate::stop::{ByzStop, broken};
-use crate::value::{digits_of, is_table_of, member_in, member_of, word_value};
+use crate::value::{digits_of, member_in};
 use arrayvec::ArrayVec;
-use sift_base::{Word, is_ascending};
+use sift_base::{Stop, Word, is_ascending};
+use sift_document::{BrokenRule, broken, entries_between, member_of, table_of, word_value};
 use std::alloc::Global;
 use toml::{Table, Value};
 
 /// The entries of `lie`, by rule 5. There are none where it is missing.
-pub(crate) fn lie_entries(document: &Table) -> Result<&[Value], ByzStop>
+pub(crate) fn lie_entries(document: &Table) -> Result<&[Value], Stop<BrokenRule>>
     ensures entries { IfOk result (λ entries. map (λ entry. view entry) entries.now ≡ lies_of (table_view document.now)) }
     ensures few { IfOk result (λ entries. length entries.now ≤ lie_limit) }
-    ensures tests { Tests 5 (BreaksLies (table_view document.now)) result }
+    ensures tests { Tests 5 (BreaksLies (lie_value (table_view document.now))) result }
 {
-    let Some(entries) = entries_of(document) else {
-        return Err(broken(5, 0));
-    };
-    check_each(entries, EntryRule::Keys)?;
-    Ok(entries)
+    match member_of(document, "lie") {
+        Some(value) => stated_entries(value),
+        None => Ok(&[]),
+    }
 }
 
-/// The entries of `lie`, where it has no more than it may have.
-fn entries_of(document: &Table) -> Option<&[Value]>
-    ensures entries { IfSome result (λ entries. map (λ entry. view entry) entries.now ≡ lies_of (table_view document.now)) }
-    ensures few { IfSome result (λ entries. length entries.now ≤ lie_limit) }
-    ensures right { IfSome result (λ _. ¬ HasNoLies (table_view document.now)) }
-    ensures none { IfNone result (HasNoLies (table_view document.now)) }
+/// The entries that the value of `lie` states.
+fn stated_entries(value: &Value) -> Result<&[Value], Stop<BrokenRule>>
+    ensures entries { IfOk result (λ entries. map (λ entry. view entry) entries.now ≡ entries_of (Some (view value.now))) }
+    ensures few { IfOk result (λ entries. length entries.now ≤ lie_limit) }
+    ensures tests { Tests 5 (BreaksLies (Some (view value.now))) result }
 {
-    let Some(value) = member_of(document, "lie") else {
-        return Some(&[]);
-    };
-    let entries = value.as_array()?.as_slice();
-    if entries.len() > 6_000 {
-        return None;
-    }
-    Some(entries)
+    let entries = entries_between(value, 0, 6_000, 5)?;
+    check_each(entries, EntryRule::Keys)?;
+    Ok(entries)
 }
 
 /// A rule that asks something of each entry.
@@ -62,7 +56,7 @@ pub(crate) enum EntryRule {
 }
 
 /// Tests each entry by a rule.
-pub(crate) fn check_each(entries: &[Value], rule: EntryRule) -> Result<(), ByzStop>
+pub(crate) fn check_each(entries: &[Value], rule: EntryRule) -> Result<(), Stop<BrokenRule>>
     requires few { length entries.now ≤ lie_limit }
     requires limited { IsLimited rule }
     ensures { Tests (number_of rule) (BreaksEntry rule (map (λ entry. view entry) entries.now)) result }
@@ -92,7 +86,7 @@ fn keeps(entry: &Value, rule: EntryRule) -> bool
     ensures { IsTrue result ↔ Keeps rule (view entry.now) }
 {
     match rule {
-        EntryRule::Keys => is_table_of(entry, &["path", "to", "value"]),
+        EntryRule::Keys => table_of(entry, &["path", "to", "value"]).is_some(),
         EntryRule::Path { units, m } => has_path(entry, units, m),
         EntryRule::Receivers { units, m } => has_receivers(entry, units, m),
     }
@@ -129,13 +123,13 @@ pub(crate) fn lies_in(
     entries: &[Value],
     units: u8,
     m: u8,
-) -> Result<Vec<Lie>, ByzStop>
+) -> Result<Vec<Lie>, Stop<BrokenRule>>
     requires few { length entries.now ≤ lie_limit }
     requires limited { MayBe units m }
-    requires received { (place : ℕ) → ¬ HoldsOf (map (λ entry. view entry) entries.now) (λ lie. ¬ HasReceivers units m lie) place }
+    requires received { (place : ℕ) → ¬ HoldsOf (map (λ entry. view entry) entries.now) place (λ lie. ¬ HasReceivers units m lie) }
     ensures lies { IfOk result (λ lies. map lie_of lies.items ≡ map lie_in (map (λ entry. view entry) entries.now)) }
     ensures paths { IfOk result (λ lies. All (λ lie. IsPath units m lie.path.items) lies.items) }
-    ensures tests { Tests 8 (HoldsOf (map (λ entry. view entry) entries.now) (λ lie. ¬ HasWord lie)) result }
+    ensures tests { Tests 8 (λ place. HoldsOf (map (λ entry. view entry) entries.now) place (λ lie. ¬ HasWord lie)) result }
 {
     let mut lies = Vec::new(alloc);
     for (place, entry) in entries.iter().enumerate() {

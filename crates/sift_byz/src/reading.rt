@@ -1,46 +1,44 @@
 //! The plan that a document states.
 
-ghost use Rattle.std.specs.Prelude.{◌≡◌, ◌≢◌, ◌≤◌, IfErr, IfOk, Some, None, length, map, option_and_then, option_map};
+ghost use Rattle.std.specs.Prelude.{◌≡◌, ◌≤◌, IfErr, IfOk, Some, None, length, map, option_map};
 ghost use Rattle.std.specs.List.{All};
-ghost use Rattle.toml.specs.Data.{get_member};
 ghost use Rattle.toml.specs.View.{table_view};
-ghost use Rattle.sift_byz.specs.Document.{HasOnlyKeys, integer_between, words_of};
-ghost use Rattle.sift_byz.specs.Lawful.{BreaksFew, IsPlanOf, IsRefusedWith, OnlyRefuses};
+ghost use Rattle.sift_base.specs.Stop.{IfRefused};
+ghost use Rattle.sift_document.specs.Document.{HasOnlyKeys};
+ghost use Rattle.sift_document.specs.Rules.{OfNoEntry};
+ghost use Rattle.sift_document.specs.Testing.{OnlyRefuses, RefusesFirst, Tests};
+ghost use Rattle.sift_byz.specs.Lawful.{BreaksFew, IsPlanOf, IsRefusedWith, rules_of};
 ghost use Rattle.sift_byz.specs.Plan.{IsInRange, PlanData, TraitorsAreFew, lie_of, plan_of, most_traitors, most_units};
-ghost use Rattle.sift_byz.specs.Rules.{OfNoEntry};
 ghost use Rattle.sift_byz.specs.Stated.{IsPath, lie_limit, m_of, root_keys, units_of, values_of};
-ghost use Rattle.sift_byz.specs.Testing.{Tests};
 
 use crate::lies::{EntryRule, check_each, lie_entries, lies_in};
 use crate::plan::{ByzPlan, Lie};
-use crate::stop::{ByzStop, broken};
-use crate::value::{has_only_keys, integer_between, member_of, words_of};
 use arrayvec::ArrayVec;
-use sift_base::Word;
+use sift_base::{Stop, Word};
+use sift_document::{BrokenRule, broken, has_only_keys, member_of, number_at, word_array};
 use std::alloc::Global;
 use toml::Table;
 
 /// The plan that a document states.
 ///
 /// The nine rules are tested in the order of their numbers, and each for the entries of `lie` in their order.
-pub fn read_byz(alloc: Global, document: &Table) -> Result<ByzPlan, ByzStop>
+pub fn read_byz(alloc: Global, document: &Table) -> Result<ByzPlan, Stop<BrokenRule>>
     ensures accepted { IfOk result (λ plan. IsPlanOf (table_view document.now) (plan_of plan)) }
     ensures within { IfOk result (λ plan. IsInRange (plan_of plan)) }
     ensures few { IfOk result (λ plan. TraitorsAreFew (plan_of plan)) }
-    ensures refused { IfErr result (IsRefusedWith (table_view document.now)) }
+    ensures refused { IfErr result (IfRefused (IsRefusedWith (table_view document.now))) }
 
     // A document that states a plan, or is owed a refusal, gets it, unless memory is wanting.
-    ensures complete { (plan : PlanData) → IsPlanOf (table_view document.now) plan → IfErr result (λ e. e ≡ ByzStop.NoMemory) }
-    ensures exact { (owed : ByzStop) → owed ≢ ByzStop.NoMemory → IsRefusedWith (table_view document.now) owed
-        → OnlyRefuses owed result }
+    ensures complete { (plan : PlanData) → IsPlanOf (table_view document.now) plan → IfErr result (λ why. why ≡ Stop.NoMemory) }
+    ensures exact { (owed : BrokenRule) → IsRefusedWith (table_view document.now) owed → OnlyRefuses owed result }
 {
     read_plan(alloc, document)
 }
 
 /// The plan that a document states, or the first rule that it breaks.
-fn read_plan(alloc: Global, document: &Table) -> Result<ByzPlan, ByzStop>
+fn read_plan(alloc: Global, document: &Table) -> Result<ByzPlan, Stop<BrokenRule>>
     ensures accepted { IfOk result (λ plan. IsPlanOf (table_view document.now) (plan_of plan)) }
-    ensures refused { IfErr result (IsRefusedWith (table_view document.now)) }
+    ensures refused { IfErr result (RefusesFirst (rules_of (table_view document.now))) }
 {
     check_keys(document)?;
     let m = m_of(document)?;
@@ -60,7 +58,7 @@ fn read_plan(alloc: Global, document: &Table) -> Result<ByzPlan, ByzStop>
 }
 
 /// Tests the keys of the root.
-fn check_keys(document: &Table) -> Result<(), ByzStop>
+fn check_keys(document: &Table) -> Result<(), Stop<BrokenRule>>
     ensures { Tests 1 (OfNoEntry (¬ HasOnlyKeys root_keys (table_view document.now))) result }
 {
     if has_only_keys(document, &["units", "m", "values", "lie"]) {
@@ -71,7 +69,7 @@ fn check_keys(document: &Table) -> Result<(), ByzStop>
 }
 
 /// How many units may lie.
-fn m_of(document: &Table) -> Result<u8, ByzStop>
+fn m_of(document: &Table) -> Result<u8, Stop<BrokenRule>>
     ensures m { IfOk result (λ m. m_of (table_view document.now) ≡ Some m) }
     ensures few { IfOk result (λ m. m ≤ most_traitors) }
     ensures tests { Tests 2 (OfNoEntry (m_of (table_view document.now) ≡ None)) result }
@@ -83,7 +81,7 @@ fn m_of(document: &Table) -> Result<u8, ByzStop>
 }
 
 /// How many units there are, where so many may lie.
-fn units_of(document: &Table, m: u8) -> Result<u8, ByzStop>
+fn units_of(document: &Table, m: u8) -> Result<u8, Stop<BrokenRule>>
     requires { m ≤ most_traitors }
     ensures units { IfOk result (λ units. units_of m (table_view document.now) ≡ Some units) }
     ensures few { IfOk result (λ units. units ≤ most_units) }
@@ -95,36 +93,28 @@ fn units_of(document: &Table, m: u8) -> Result<u8, ByzStop>
     }
 }
 
-/// The number at a key that is there and is an integer from `low` to `high`.
-fn number_at(document: &Table, key: &str, low: u32, high: u32) -> Option<u32>
-    ensures { result ≡ option_and_then (integer_between low high) (get_member key.now (table_view document.now)) }
-{
-    integer_between(member_of(document, key)?, low, high)
-}
-
 /// The values of so many units.
-fn values_of(document: &Table, units: u8) -> Result<ArrayVec<Word, 10>, ByzStop>
+fn values_of(document: &Table, units: u8) -> Result<ArrayVec<Word, 10>, Stop<BrokenRule>>
     requires { units ≤ most_units }
     ensures values { IfOk result (λ values. values_of units (table_view document.now) ≡ Some values.items) }
     ensures tests { Tests 4 (OfNoEntry (values_of units (table_view document.now) ≡ None)) result }
 {
-    match words_at(document, "values", usize::from(units)) {
+    match stated_values(document, usize::from(units)) {
         Some(values) => Ok(values),
         None => Err(broken(4, 0)),
     }
 }
 
-/// The words at a key that is there and is an array of so many word values.
-fn words_at(document: &Table, key: &str, count: usize) -> Option<ArrayVec<Word, 10>>
-    requires { count ≤ most_units }
-    ensures { option_map (λ words. words.items) result
-        ≡ option_and_then (words_of count) (get_member key.now (table_view document.now)) }
+/// The words of `values`, if there are as many as units.
+fn stated_values(document: &Table, units: usize) -> Option<ArrayVec<Word, 10>>
+    requires { units ≤ most_units }
+    ensures { option_map (λ values. values.items) result ≡ values_of units (table_view document.now) }
 {
-    words_of(member_of(document, key)?, count)
+    word_array(member_of(document, "values")?, units, units)
 }
 
 /// Tests that at most `m` units stand last in a path.
-fn check_few(lies: &[Lie], units: u8, m: u8) -> Result<(), ByzStop>
+fn check_few(lies: &[Lie], units: u8, m: u8) -> Result<(), Stop<BrokenRule>>
     requires few { length lies.now ≤ lie_limit }
     requires traitors { m ≤ most_traitors }
     requires paths { All (λ lie. IsPath units m lie.path.items) lies.now }

@@ -11,6 +11,6 @@ mod value;
 pub use entries::{entries_between, tables_in};
 pub use rule::{BrokenRule, broken};
 pub use value::{
-    digit_lists, digits, entries_at, has_only_keys, integer_between, is_among, member_of,
+    digit_lists, digit_to, digits, entries_at, has_only_keys, integer_between, member_of,
     natural_at, number_at, numbers_to, optional_between, table_of, word_array, word_value,
 };

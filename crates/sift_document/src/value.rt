@@ -31,7 +31,7 @@ pub fn has_only_keys(table: &Table, known: &[&str]) -> bool
 }
 
 /// Whether the text is one of these.
-pub fn is_among(text: &str, texts: &[&str]) -> bool
+fn is_among(text: &str, texts: &[&str]) -> bool
     ensures { IsTrue result ↔ Contains (map (λ other. other.now) texts.now) text.now }
 {
     for other in texts {

@@ -2,17 +2,17 @@
 use Rattle.std.proofs.Common.{◌≡◌, ℕ, Some, sym, ap, subst}
 use Rattle.sift_base.specs.declared.stop.Stop.{Stop}
 use Rattle.toml.specs.Data.{Data, Members}
-use Rattle.sift_scenario.proofs.Order.{kept_joined, stopped, stopped_in}
+use Rattle.sift_document.proofs.Order.{kept_joined, stopped, stopped_in}
 use Rattle.sift_scenario.specs.Clock.{BreaksClock, BreaksDrift, BreaksErrors, BreaksStart, clock_rules, clock_themes, error_of, figure_rules, number_in, rate_of, skew_of, unit_rules}
-use Rattle.sift_scenario.specs.Document.{members_of}
-use Rattle.sift_scenario.specs.Rules.{AreKept, IsKept, rule}
-use Rattle.sift_scenario.specs.Testing.{RefusesBy, RefusesFirst}
-use Rattle.sift_scenario.specs.declared.refused.Refused.{Refused}
+use Rattle.sift_document.specs.Document.{members_of}
+use Rattle.sift_document.specs.Rules.{AreKept, IsKept, rule}
+use Rattle.sift_document.specs.Testing.{RefusesBy, RefusesFirst}
+use Rattle.sift_document.specs.declared.rule.BrokenRule.{BrokenRule}
 
 -- a value, and the table that it is
 module _ (units : ℕ) (value : Data) (clock : Members) (same : clock ≡ members_of value) (known : IsKept (rule 6 (BreaksClock value))) where
   -- one of its figures is refused
-  pub figure_refused : (e : Stop Refused) → RefusesFirst (figure_rules clock) e → RefusesFirst (clock_rules units (Some value)) e
+  pub figure_refused : (e : Stop BrokenRule) → RefusesFirst (figure_rules clock) e → RefusesFirst (clock_rules units (Some value)) e
   figure_refused e refused =
       stopped_in 1 (clock_themes units value) e ((known, tt), subst (λ (members : Members). RefusesFirst (figure_rules members) e) same refused)
 
@@ -22,7 +22,7 @@ module _ (units : ℕ) (value : Data) (clock : Members) (same : clock ≡ member
     kept = subst (λ (members : Members). AreKept (figure_rules members)) same figures
 
     -- a rule of what it says of the units is refused
-    pub units_refused : (e : Stop Refused) → RefusesFirst (unit_rules units clock) e → RefusesFirst (clock_rules units (Some value)) e
+    pub units_refused : (e : Stop BrokenRule) → RefusesFirst (unit_rules units clock) e → RefusesFirst (clock_rules units (Some value)) e
     units_refused e refused =
         stopped_in 2 (clock_themes units value) e ((known, tt), (kept, subst (λ (members : Members). RefusesFirst (unit_rules units members) e) same refused))
 
@@ -36,7 +36,7 @@ module _
     (units : ℕ) (clock : Members) (skew error rate : ℕ)
     (skew_is : skew_of clock ≡ Some skew) (error_is : error_of clock ≡ Some error) (rate_is : rate_of clock ≡ Some rate) where
   -- the starts, the drifts or the errors are refused
-  pub start_refused : (e : Stop Refused) → RefusesBy 12 (BreaksStart units skew clock) e → RefusesFirst (unit_rules units clock) e
+  pub start_refused : (e : Stop BrokenRule) → RefusesBy 12 (BreaksStart units skew clock) e → RefusesFirst (unit_rules units clock) e
   start_refused e refused =
       stopped 0 (unit_rules units clock) e (subst (λ (n : ℕ). RefusesBy 12 (BreaksStart units n clock) e) (sym (ap number_in skew_is)) refused)
 
@@ -51,12 +51,12 @@ module _
   errors_kept kept = subst (λ (n : ℕ). IsKept (rule 14 (BreaksErrors units n clock))) (sym (ap number_in error_is)) kept
 
   pub drift_refused :
-      (e : Stop Refused) → IsKept (rule 12 (BreaksStart units skew clock)) → RefusesBy 13 (BreaksDrift units rate clock) e → RefusesFirst (unit_rules units clock) e
+      (e : Stop BrokenRule) → IsKept (rule 12 (BreaksStart units skew clock)) → RefusesBy 13 (BreaksDrift units rate clock) e → RefusesFirst (unit_rules units clock) e
   drift_refused e starts refused =
       stopped 1 (unit_rules units clock) e (start_kept starts, subst (λ (n : ℕ). RefusesBy 13 (BreaksDrift units n clock) e) (sym (ap number_in rate_is)) refused)
 
   pub errors_refused :
-      (e : Stop Refused) → IsKept (rule 12 (BreaksStart units skew clock)) → IsKept (rule 13 (BreaksDrift units rate clock))
+      (e : Stop BrokenRule) → IsKept (rule 12 (BreaksStart units skew clock)) → IsKept (rule 13 (BreaksDrift units rate clock))
       → RefusesBy 14 (BreaksErrors units error clock) e → RefusesFirst (unit_rules units clock) e
   errors_refused e starts drifts refused =
       stopped 2 (unit_rules units clock) e

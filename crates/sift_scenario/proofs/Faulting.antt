@@ -7,17 +7,17 @@ use Rattle.std.proofs.lemmas.Option.{slice_get-get_or, slice_get-map}
 use Rattle.std.specs.List.{slice_get}
 use Rattle.std.specs.Prelude.{option_map, unwrap_or}
 use Rattle.sift_script.specs.Script.{Change, Failing, Fault}
-use Rattle.sift_scenario.specs.Entries.{HoldsOf}
+use Rattle.sift_document.specs.Entries.{HoldsOf}
 use Rattle.sift_scenario.specs.Fault.{BreaksItems, changes_of, failing_from, fault_in, from_of, items_of, stated_storm, unit_of}
-use Rattle.sift_scenario.proofs.Places.{map_map, taken}
+use Rattle.sift_document.proofs.Places.{map_map, taken}
 use Rattle.sift_scenario.proofs.Starts.{read_values}
-use Rattle.sift_scenario.proofs.Testing.{tests_same}
-use Rattle.sift_scenario.specs.Document.{each_read}
+use Rattle.sift_document.proofs.Testing.{tests_same}
+use Rattle.sift_document.specs.Document.{each_read}
 use Rattle.sift_scenario.specs.Item.{change_in}
 use Rattle.sift_scenario.specs.Reading.{AreFaultsRead}
-use Rattle.sift_scenario.specs.Testing.{Tests}
+use Rattle.sift_document.specs.Testing.{Tests}
 use Rattle.sift_scenario.specs.declared.fault.Head.{Head}
-use Rattle.sift_scenario.specs.declared.refused.Refused.{Refused}
+use Rattle.sift_document.specs.declared.rule.BrokenRule.{BrokenRule}
 
 -- ---- faults, one after another
 
@@ -52,7 +52,7 @@ from_map g (x ∷ xs) (suc i) y there = from_map g xs i y there
 -- what tests the items of the faults, list by list, tests the rule
 pub items_tested :
     {A : Type 0} (faults : List Members) (found : List (List Members)) → found ≡ map items_of faults
-    → (r : Result A (Stop Refused)) → Tests 29 (λ place. HoldsOf found place (λ items. each_read change_in items ≡ None)) r → Tests 29 (BreaksItems faults) r
+    → (r : Result A (Stop BrokenRule)) → Tests 29 (λ place. HoldsOf found place (λ items. each_read change_in items ≡ None)) r → Tests 29 (BreaksItems faults) r
 items_tested faults found are r tests =
     tests_same 29 (λ place. HoldsOf found place (λ items. each_read change_in items ≡ None)) (BreaksItems faults)
     (λ at broken. let fault = from_map items_of faults at broken.entry (ap (λ xs. slice_get xs at) (sym are) ∙ broken.there) in

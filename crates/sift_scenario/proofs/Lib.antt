@@ -4,9 +4,7 @@ pub mod ClockTests
 pub mod Clocks
 pub mod Codes
 pub mod Decided
-pub mod DocumentLemmas
 pub mod EachAnswered
-pub mod EntryTests
 pub mod Faulting
 pub mod Figures
 pub mod FirstBroken
@@ -18,12 +16,9 @@ pub mod Made
 pub mod NewNames
 pub mod Numbers
 pub mod OneMission
-pub mod Order
 pub mod Periods
-pub mod Places
 pub mod Programs
 pub mod Read
-pub mod ReadEntries
 pub mod Rolls
 pub mod Sensing
 pub mod Sizes

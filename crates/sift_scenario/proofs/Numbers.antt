@@ -2,7 +2,7 @@
 use Rattle.std.proofs.Common.{◌≡◌, ◌≤◌, ℕ, suc, Option, Some, None, IfSome, arith}
 use Rattle.std.specs.Prelude.{pos, negsuc, option_and_then, unwrap_or}
 use Rattle.toml.specs.Data.{Data, string, integer, float, boolean, datetime, array, table}
-use Rattle.sift_scenario.specs.Document.{integer_between, read_by}
+use Rattle.sift_document.specs.Document.{integer_between, read_by}
 
 -- a number that is read lies between the two
 pub between : (low high : ℕ) (d : Data) (n : ℕ) → integer_between low high d ≡ Some n → (low ≤ n) × (n ≤ high)

@@ -12,7 +12,9 @@ use Rattle.sift_scenario.specs.Lawful.{IsLawful, rules_of}
 use Rattle.sift_scenario.specs.Refusal.{IsFormRefused, IsOver, IsRefusedWith, TasksAreRefused, refusal_of}
 use Rattle.sift_scenario.specs.Sensor.{sensor_names}
 use Rattle.sift_scenario.specs.Task.{Form, tasks_of}
-use Rattle.sift_scenario.specs.Testing.{RefusesFirst}
+use Rattle.sift_document.specs.Testing.{RefusesFirst}
+use Rattle.sift_document.specs.declared.rule.BrokenRule.{BrokenRule}
+use Rattle.sift_scenario.specs.Testing.{rule_refusal_of}
 use Rattle.sift_scenario.specs.declared.refused.Refused.{Refused}
 use Rattle.sift_scenario.specs.declared.refused.Refused.TheVariants.{Scenario, Task, Table, Script}
 
@@ -54,9 +56,6 @@ text_refused_by d (Table size row n) lawful r = absurd (form_refusal-other _ _ _
 text_refused_by d (Script entry n) lawful r = absurd (form_refusal-other _ _ _ _ (Script entry n) r.2.here.holds tt)
 
 -- the first rule that is broken is refused
-pub rule_refused : (d : Members) (why : Stop Refused) → RefusesFirst (rules_of d) why → IfRefused (IsRefusedWith d) why
-rule_refused d (stop.Refused (Scenario n at)) refused = refused
-rule_refused d (stop.Refused (Task t k at)) refused = absurd refused
-rule_refused d (stop.Refused (Table size row n)) refused = absurd refused
-rule_refused d (stop.Refused (Script entry n)) refused = absurd refused
+pub rule_refused : (d : Members) (why : Stop BrokenRule) → RefusesFirst (rules_of d) why → IfRefused (IsRefusedWith d) (rule_refusal_of why)
+rule_refused d (stop.Refused broken) refused = refused
 rule_refused d stop.NoMemory refused = tt

@@ -4,29 +4,25 @@ use Rattle.sift_base.specs.declared.stop.Stop.{Stop}
 use Rattle.sift_base.specs.declared.stop.Stop.TheVariants as stop
 use Rattle.toml.specs.Data.{Data, Members}
 use Rattle.sift_scenario.proofs.Testing.{keeps_tasks}
-use Rattle.sift_scenario.specs.Document.{IsNoTableOf}
-use Rattle.sift_scenario.specs.Entries.{HoldsOf}
+use Rattle.sift_document.specs.Document.{IsNoTableOf}
+use Rattle.sift_document.specs.Entries.{HoldsOf}
 use Rattle.sift_scenario.specs.Task.{task_entries, task_keys}
 use Rattle.sift_scenario.specs.TaskRules.{BreaksTasks, IsTaskNumber}
-use Rattle.sift_scenario.specs.Testing.{RefusesBy, Tests}
-use Rattle.sift_scenario.specs.declared.refused.Refused.{Refused}
-use Rattle.sift_scenario.specs.declared.refused.Refused.TheVariants.{Scenario, Task, Table, Script}
+use Rattle.sift_document.specs.Testing.{RefusesBy, Tests}
+use Rattle.sift_document.specs.declared.rule.BrokenRule.{BrokenRule}
 
 module _ (document : Members) (entries : List Data) (same : entries ≡ task_entries document) (number : IsTaskNumber (length entries)) where
-  refused_task : (e : Stop Refused) → RefusesBy 18 (λ place. HoldsOf entries place (IsNoTableOf task_keys)) e → RefusesBy 18 (BreaksTasks document) e
-  refused_task (stop.Refused (Scenario n place)) refused = (
+  refused_task : (e : Stop BrokenRule) → RefusesBy 18 (λ place. HoldsOf entries place (IsNoTableOf task_keys)) e → RefusesBy 18 (BreaksTasks document) e
+  refused_task (stop.Refused broken) refused = (
     refused.0,
     record {
       broken = inr (subst (λ (es : List Data). HoldsOf es place (IsNoTableOf task_keys)) same refused.1.broken);
       first = λ at low. keeps_tasks document entries at same number (refused.1.first at low);
     },
   )
-  refused_task (stop.Refused (Task t k at)) refused = refused
-  refused_task (stop.Refused (Table size row n)) refused = refused
-  refused_task (stop.Refused (Script entry n)) refused = refused
   refused_task stop.NoMemory refused = tt
 
   -- what tests the entries tests the rule
-  pub tested_tasks : {A : Type 0} (r : Result A (Stop Refused)) → Tests 18 (λ place. HoldsOf entries place (IsNoTableOf task_keys)) r → Tests 18 (BreaksTasks document) r
+  pub tested_tasks : {A : Type 0} (r : Result A (Stop BrokenRule)) → Tests 18 (λ place. HoldsOf entries place (IsNoTableOf task_keys)) r → Tests 18 (BreaksTasks document) r
   tested_tasks (Ok x) tests = λ place. keeps_tasks document entries place same number (tests place)
   tested_tasks (Err e) tests = refused_task e tests

@@ -3,11 +3,11 @@ use Rattle.std.proofs.Common.{◌≡◌, ℕ, Some, sym, ap, subst}
 use Rattle.sift_base.specs.declared.stop.Stop.{Stop}
 use Rattle.std.specs.Prelude.{unwrap_or}
 use Rattle.toml.specs.Data.{Members}
-use Rattle.sift_scenario.proofs.Order.{AreAllKept, StopsIn, kept_each, kept_joined, stopped_in}
+use Rattle.sift_document.proofs.Order.{AreAllKept, StopsIn, kept_each, kept_joined, stopped_in}
 use Rattle.sift_scenario.specs.Lawful.{IsLawful, rules_of, themes_for}
 use Rattle.sift_scenario.specs.Root.{root_rules, units_of, version_of}
-use Rattle.sift_scenario.specs.Testing.{RefusesFirst}
-use Rattle.sift_scenario.specs.declared.refused.Refused.{Refused}
+use Rattle.sift_document.specs.Testing.{RefusesFirst}
+use Rattle.sift_document.specs.declared.rule.BrokenRule.{BrokenRule}
 
 module _ (document : Members) (units : ℕ) (is : units_of document ≡ Some units) where
   -- the number of units that is read is the one that is stated
@@ -15,7 +15,7 @@ module _ (document : Members) (units : ℕ) (is : units_of document ≡ Some uni
   units_are = ap (λ o. unwrap_or o 0) is
 
   -- a rule of a theme is the first that is broken
-  pub theme_refused : (k : ℕ) (e : Stop Refused) → StopsIn k (themes_for units document) e → RefusesFirst (rules_of document) e
+  pub theme_refused : (k : ℕ) (e : Stop BrokenRule) → StopsIn k (themes_for units document) e → RefusesFirst (rules_of document) e
   theme_refused k e stops =
       stopped_in k (themes_for (unwrap_or (units_of document) 0) document) e (subst (λ (n : ℕ). StopsIn k (themes_for n document) e) (sym units_are) stops)
 
@@ -33,5 +33,5 @@ pub for_version : (document : Members) (version : ℕ) → version_of document �
 for_version document version is P holds = subst P (sym (ap (λ o. unwrap_or o 0) is)) holds
 
 -- a rule of the root is the first that is broken, however many units there are
-pub root_refused : (document : Members) (e : Stop Refused) → RefusesFirst (root_rules document) e → RefusesFirst (rules_of document) e
+pub root_refused : (document : Members) (e : Stop BrokenRule) → RefusesFirst (root_rules document) e → RefusesFirst (rules_of document) e
 root_refused document e refused = stopped_in 0 (themes_for (unwrap_or (units_of document) 0) document) e refused

@@ -23,13 +23,14 @@ use Rattle.sift_mission.specs.Parts.{data_of}
 use Rattle.sift_mission.specs.declared.parts.MissionParts.{MissionParts}
 use Rattle.sift_scenario.proofs.OneMission.{one_stated}
 use Rattle.sift_scenario.proofs.UniqueForms.{one_forms, one_tree}
-use Rattle.sift_scenario.proofs.Unrefused.{first_trees, kept_unbroken, no_want, one_entry, tree_unrefused, unrefused_among}
+use Rattle.sift_document.proofs.OneBroken.{kept_unbroken, one_broken}
+use Rattle.sift_scenario.proofs.Unrefused.{first_trees, no_want, one_entry, tree_unrefused, unrefused_among}
+use Rattle.sift_document.specs.Testing.{OnlyRefuses}
 use Rattle.sift_scenario.specs.Lawful.{rules_of}
 use Rattle.sift_scenario.specs.Laws.{MissionsAreAccepted, OneRefusal}
 use Rattle.sift_scenario.specs.Mission.{HasGoodTables, IsMission, IsStated}
 use Rattle.sift_scenario.specs.Program.{roll_for, steps_left, turn_of}
-use Rattle.sift_scenario.specs.Refusal.{IsFirstBadTable, IsFirstRefused, IsFormRefused, IsNoTask, IsOver, IsRefusedWith, OnlyRefuses, TablesAreRefused, TasksAreRefused, ScriptIsRefused, refusal_of}
-use Rattle.sift_scenario.specs.Rules.{BreaksFirst, IsFirstPlace, Rule}
+use Rattle.sift_scenario.specs.Refusal.{IsFirstBadTable, IsFirstRefused, IsFormRefused, IsNoTask, IsOver, IsRefusedWith, TablesAreRefused, TasksAreRefused, ScriptIsRefused, refusal_of}
 use Rattle.sift_scenario.specs.Sensor.{sensor_names}
 use Rattle.sift_scenario.specs.Task.{Form, text, tasks_of}
 use Rattle.sift_scenario.specs.declared.refused.Refused.{Refused}
@@ -78,24 +79,6 @@ missions_are_accepted d mission (Scenario n at) states refused = kept_unbroken (
 missions_are_accepted d mission (Task t k at) states refused = stated_tasks d mission (Task t k at) states.stated refused.1
 missions_are_accepted d mission (Table size row rule) states refused = stated_tables d mission size row rule states.stated states.good_tables refused
 missions_are_accepted d mission (Script entry rule) states refused = stated_script d mission entry rule states.stated states.good_script refused
-
--- ---- a broken rule
-
--- the first place of a rule is one
-one_place : (P : ℕ → Type 0) (at other : ℕ) → IsFirstPlace P at → IsFirstPlace P other → at ≡ other
-one_place P at other one two = elim (cases_order at other) [
-  | inl same ↦ same
-  | inr (inl before) ↦ absurd (two.first at before one.broken)
-  | inr (inr after) ↦ absurd (one.first other after two.broken)
-]
-
--- the first broken rule is one, at one place
-one_broken : (rules : List Rule) (n m at other : ℕ) → BreaksFirst rules n at → BreaksFirst rules m other → (n ≡ m) × (at ≡ other)
-one_broken [] n m at other a b = absurd a
-one_broken (rule ∷ rest) n m at other (inl a) (inl b) = (a.0 ∙ sym b.0, one_place rule.BrokenAt at other a.1 b.1)
-one_broken (rule ∷ rest) n m at other (inl a) (inr b) = absurd (b.0 at a.1.broken)
-one_broken (rule ∷ rest) n m at other (inr a) (inl b) = absurd (a.0 other b.1.broken)
-one_broken (rule ∷ rest) n m at other (inr a) (inr b) = one_broken rest n m at other a.1 b.1
 
 -- ---- a text, or its code
 
@@ -204,7 +187,7 @@ one_script_refusal d entry rule other_entry other one two =
 
 pub one_refusal : OneRefusal
 one_refusal d (Scenario n at) (Scenario m other) one two =
-    let same = one_broken (rules_of d) n m at other one two in rw (same.0, same.1) refl
+    let same = one_broken (rules_of d) n at m other one two in rw (same.0, same.1) refl
 one_refusal d (Scenario n at) (Task t k x) one two = absurd (kept_unbroken (rules_of d) n at two.0 one)
 one_refusal d (Scenario n at) (Table size row rule) one two = absurd (kept_unbroken (rules_of d) n at two.stated.lawful one)
 one_refusal d (Scenario n at) (Script entry rule) one two = absurd (kept_unbroken (rules_of d) n at two.stated.lawful one)

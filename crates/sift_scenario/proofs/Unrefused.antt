@@ -11,18 +11,11 @@ use Rattle.sift_parse.specs.Roll.{Roll}
 use Rattle.sift_parse.specs.declared.stop.ParseStop.{ParseStop}
 use Rattle.sift_parse.specs.declared.stop.ParseStop.TheVariants as parse
 use Rattle.sift_scenario.proofs.UniqueForms.{one_tree, same_entries}
-use Rattle.sift_scenario.specs.Entries.{EachMatches}
+use Rattle.sift_document.specs.Entries.{EachMatches}
 use Rattle.sift_scenario.specs.Program.{AreAllowed, IsTreeOf, IsWithin, steps_left, turn_of}
 use Rattle.sift_scenario.specs.Refusal.{IsFirstRefused, IsFormRefused, IsNoTask, IsOver, refusal_of}
-use Rattle.sift_scenario.specs.Rules.{AreKept, BreaksFirst, Rule}
 use Rattle.sift_scenario.specs.Task.{Form}
 use Rattle.sift_scenario.specs.declared.refused.Refused.{Refused}
-
--- where rules are kept none is broken
-pub kept_unbroken : (rules : List Rule) (n at : ℕ) → AreKept rules → BreaksFirst rules n at → ⊥
-kept_unbroken [] n at kept broken = broken
-kept_unbroken (rule ∷ rest) n at kept (inl broken) = kept.0 at broken.1.broken
-kept_unbroken (rule ∷ rest) n at kept (inr broken) = kept_unbroken rest n at kept.1 broken.1
 
 -- a text that is a task isn't refused
 task_unrefused : (roll : Roll) (bytes : List ℕ) (tree : TaskTree) (parsed : ParseStop) → parsed ≢ parse.NoMemory → IsTaskOf roll bytes tree → Tells roll bytes (Err parsed) → ⊥

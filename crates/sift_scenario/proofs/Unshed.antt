@@ -9,10 +9,10 @@ use Rattle.sift_base.specs.Layout.{least_units}
 use Rattle.sift_table.specs.Schedule.{Schedule, plain_of}
 use Rattle.sift_scenario.proofs.Sizes.{entry_fits}
 use Rattle.sift_scenario.proofs.Themes.{kept_themes}
-use Rattle.sift_scenario.specs.Document.{HasOnlyKeys, entries_of, keys_of, members_of, read_by}
+use Rattle.sift_document.specs.Document.{HasOnlyKeys, entries_of, keys_of, members_of, read_by}
 use Rattle.sift_scenario.specs.Laws.{VersionOneShedsNothing}
 use Rattle.sift_scenario.specs.Root.{version_of}
-use Rattle.sift_scenario.specs.Rules.{IsKept, rule}
+use Rattle.sift_document.specs.Rules.{IsKept, rule}
 use Rattle.sift_scenario.specs.Table.{BreaksTables, IsTableEntry, schedule_in, schedules_by, shed_of, size_count, table_keys, table_value, tables_in}
 use Rattle.sift_scenario.specs.Task.{task_entries}
 

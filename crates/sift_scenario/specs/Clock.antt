@@ -3,8 +3,8 @@ use Rattle.std.specs.Prelude.{codes, ℕ, ◌≡◌, ◌<◌, ◌+◌, ◌*◌, 
 use Rattle.std.specs.List.{All}
 use Rattle.toml.specs.Data.{Data, integer, Members, get_member}
 use Rattle.sift_mission.specs.Data.{Clocks}
-use Rattle.sift_scenario.specs.Document.{IsNoTableOf, array_between, integer_between, members_of, read_at, read_or}
-use Rattle.sift_scenario.specs.Rules.{OfNoEntry, Rule, joined, rule}
+use Rattle.sift_document.specs.Document.{IsNoTableOf, array_between, integer_between, members_of, read_at, read_or}
+use Rattle.sift_document.specs.Rules.{OfNoEntry, Rule, joined, rule}
 
 -- ---- what it says
 

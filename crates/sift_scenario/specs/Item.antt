@@ -1,11 +1,12 @@
 -- What an item of `say` states: how a faulty unit's words in a slot are changed.
-use Rattle.std.specs.Prelude.{codes, ℕ, List, [], ◌∷◌, Bool, true, false, Option, Some, None, option_and_then, option_map, if◌then◌else◌}
+use Rattle.std.specs.Prelude.{codes, ℕ, ◌-◌, List, [], ◌∷◌, Bool, true, false, Option, Some, None, option_and_then, option_map, if◌then◌else◌}
 use Rattle.std.specs.Str.{bytes_eq}
 use Rattle.toml.specs.Data.{Data, Members, as_str, get_member}
+use Rattle.sift_base.specs.Units.{unit_limit}
 use Rattle.sift_script.specs.Script.{Change}
 use Rattle.sift_script.specs.declared.script.SlotKind.{SlotKind}
 use Rattle.sift_script.specs.declared.script.SlotKind.TheVariants.{Clock, Sense, Relay, Out, Report, RelayReport}
-use Rattle.sift_scenario.specs.Document.{digits_of, integer_between, read_at, read_or, word_value}
+use Rattle.sift_document.specs.Document.{digits_to, integer_between, read_at, read_or, word_value}
 
 -- the keys that an item may have
 abbrev pub item_keys : List (List ℕ)
@@ -64,7 +65,7 @@ number_where false key item = zero_without (get_member key item)
 
 -- the receivers of an item
 abbrev pub receivers_of : Members → Option (List ℕ)
-receivers_of item = read_at digits_of (codes "to") item
+receivers_of item = read_at (digits_to (unit_limit - 1)) (codes "to") item
 
 -- the frame that an item is about, or none where no frame is stated
 abbrev pub frame_of : Members → Option (Option ℕ)

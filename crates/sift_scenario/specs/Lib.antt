@@ -1,6 +1,4 @@
 pub mod Clock
-pub mod Document
-pub mod Entries
 pub mod Storm
 pub mod Fault
 pub mod Item
@@ -11,7 +9,6 @@ pub mod Program
 pub mod Reading
 pub mod Refusal
 pub mod Root
-pub mod Rules
 pub mod Sensor
 pub mod Table
 pub mod Task

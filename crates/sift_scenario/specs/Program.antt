@@ -8,7 +8,7 @@ use Rattle.sift_parse.specs.Outcome.{IsTaskOf}
 use Rattle.sift_parse.specs.Roll.{first_word, Roll}
 use Rattle.sift_parse.specs.Linear.{linear_tree}
 use Rattle.sift_program.specs.Program.{ProgramTree}
-use Rattle.sift_scenario.specs.Entries.{AreMatched}
+use Rattle.sift_document.specs.Entries.{AreMatched}
 use Rattle.sift_scenario.specs.Task.{AreForms, Form, linear, text, counts_of, names_of, start_words}
 
 -- ---- trees

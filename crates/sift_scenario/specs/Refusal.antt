@@ -1,5 +1,5 @@
 -- Why a document states no mission.
-use Rattle.std.specs.Prelude.{◌≡◌, ◌<◌, ◌≤◌, ◌⊎◌, ℕ, min, List, Err, IsErr, IfErr, Result, length, take}
+use Rattle.std.specs.Prelude.{◌≡◌, ◌<◌, ◌≤◌, ◌⊎◌, ℕ, min, List, Err, length, take}
 use Rattle.std.specs.List.{All}
 use Rattle.toml.specs.Data.{Members}
 use Rattle.sift_base.specs.Shapes.{AllShapes}
@@ -17,7 +17,7 @@ use Rattle.sift_table.specs.Schedule.{Schedule}
 use Rattle.sift_mission.specs.Data.{MissionData, shapes_in}
 use Rattle.sift_scenario.specs.declared.refused.Refused.{Refused}
 use Rattle.sift_scenario.specs.declared.refused.Refused.TheVariants.{Scenario, Task, Table, Script}
-use Rattle.sift_scenario.specs.Entries.{EachMatches, HoldsOf}
+use Rattle.sift_document.specs.Entries.{EachMatches, HoldsOf}
 use Rattle.sift_scenario.specs.Lawful.{IsFirstBroken, IsLawful}
 use Rattle.sift_scenario.specs.Mission.{HasGoodTables, IsStated}
 use Rattle.sift_scenario.specs.Program.{AreAllowed, IsTreeOf, roll_for, steps_left, turn_of}
@@ -115,7 +115,3 @@ IsRefusedWith document (Task task kind at) =
     IsLawful document × TasksAreRefused (sensor_names document) (tasks_of document) (Task task kind at)
 IsRefusedWith document (Table size row rule) = TablesAreRefused document size row rule
 IsRefusedWith document (Script entry rule) = ScriptIsRefused document entry rule
-
--- the document is refused so, unless memory was wanting
-abbrev pub OnlyRefuses : {A : Type 0} → Refused → Result A (Stop Refused) → Type 0
-OnlyRefuses owed result = IsErr result × IfErr result (λ why. (why ≡ stop.Refused owed) ⊎ (why ≡ stop.NoMemory))

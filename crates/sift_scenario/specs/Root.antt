@@ -7,8 +7,8 @@ use Rattle.sift_table.specs.Laws.{shortest_period}
 use Rattle.sift_table.specs.Rules.{report_lead}
 use Rattle.sift_table.specs.Schedule.{agreed_in, hearing_delay}
 use Rattle.sift_mission.specs.PartsFit.{frame_limit, longest_period}
-use Rattle.sift_scenario.specs.Document.{HasOnlyKeys, integer_between, read_at, read_or}
-use Rattle.sift_scenario.specs.Rules.{OfNoEntry, Rule, rule}
+use Rattle.sift_document.specs.Document.{HasOnlyKeys, integer_between, read_at, read_or}
+use Rattle.sift_document.specs.Rules.{OfNoEntry, Rule, rule}
 use Rattle.sift_scenario.specs.Task.{task_entries}
 
 -- ---- what it says

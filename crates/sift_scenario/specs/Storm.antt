@@ -2,7 +2,7 @@
 use Rattle.std.specs.Prelude.{codes, ℕ, List, [], ◌∷◌, Option, Some, None}
 use Rattle.toml.specs.Data.{Data, Members}
 use Rattle.sift_script.specs.Script.{Failing, turning}
-use Rattle.sift_scenario.specs.Document.{integer_between, members_of, natural, read_at}
+use Rattle.sift_document.specs.Document.{integer_between, members_of, natural, read_at}
 
 -- the keys that a storm may have
 abbrev pub storm_keys : List (List ℕ)

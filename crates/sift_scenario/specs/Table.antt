@@ -7,9 +7,9 @@ use Rattle.sift_base.specs.Shapes.{task_limit}
 use Rattle.sift_base.specs.Units.{unit_limit}
 use Rattle.sift_table.specs.Schedule.{Schedule, plain_of}
 use Rattle.sift_mission.specs.PartsFit.{longest_period}
-use Rattle.sift_scenario.specs.Document.{IsTableOf, array_of, digits_of, entries_of, integer_between, members_of, read_at, read_or}
-use Rattle.sift_scenario.specs.Entries.{HoldsOf}
-use Rattle.sift_scenario.specs.Rules.{BreaksEntries, Rule, rule}
+use Rattle.sift_document.specs.Document.{IsTableOf, array_of, digits_to, entries_of, integer_between, members_of, read_at, read_or}
+use Rattle.sift_document.specs.Entries.{HoldsOf}
+use Rattle.sift_document.specs.Rules.{BreaksEntries, Rule, rule}
 use Rattle.sift_scenario.specs.Task.{task_entries}
 
 -- ---- what they say
@@ -48,7 +48,7 @@ polls_of table = read_at (array_of subframe) (codes "poll") table
 
 -- the positions at which a table has the tasks run
 abbrev pub positions_of : Members → Option (List (List ℕ))
-positions_of table = read_at (array_of digits_of) (codes "at") table
+positions_of table = read_at (array_of (digits_to (unit_limit - 1))) (codes "at") table
 
 -- the number of a task
 abbrev pub task_number : Data → Option ℕ

@@ -3,9 +3,9 @@ use Rattle.std.specs.Prelude.{ℕ, ◌≡◌, ◌+◌, ◌<◌, ◌≤◌, ◌�
 use Rattle.toml.specs.Data.{Members}
 use Rattle.sift_base.specs.Layout.{word_limit}
 use Rattle.sift_base.specs.Shapes.{task_limit}
-use Rattle.sift_scenario.specs.Document.{IsNoTableOf}
-use Rattle.sift_scenario.specs.Entries.{HoldsOf}
-use Rattle.sift_scenario.specs.Rules.{OfNoEntry, Rule, rule}
+use Rattle.sift_document.specs.Document.{IsNoTableOf}
+use Rattle.sift_document.specs.Entries.{HoldsOf}
+use Rattle.sift_document.specs.Rules.{OfNoEntry, Rule, rule}
 use Rattle.sift_scenario.specs.Task.{Form, HasForm, IsNewName, counts_of, name_of, start_words, task_entries, task_keys, tasks_of}
 
 -- there are 1 to 24 entries

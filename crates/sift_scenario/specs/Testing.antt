@@ -1,5 +1,5 @@
--- What the tests of rules answer. No public clause cites this module.
-use Rattle.std.specs.Prelude.{◌≡◌, ◌<◌, ℕ, List, [], ◌∷◌, Some, Result, Ok, Err, ⊤}
+-- What rules, texts, code, tables and the script are answered with. No public clause cites this module.
+use Rattle.std.specs.Prelude.{◌≡◌, ◌<◌, ℕ, List, [], ◌∷◌, Some, ⊤}
 use Rattle.toml.specs.Data.{Data}
 use Rattle.sift_base.specs.Shapes.{AllShapes}
 use Rattle.sift_base.specs.declared.stop.Stop.{Stop}
@@ -18,35 +18,18 @@ use Rattle.sift_scenario.specs.declared.refused.Refused.{Refused}
 use Rattle.sift_scenario.specs.declared.refused.Refused.TheVariants.{Scenario, Task, Table, Script}
 use Rattle.sift_scenario.specs.declared.task.Form as held
 use Rattle.sift_scenario.specs.declared.task.Form.TheVariants as variant
-use Rattle.sift_scenario.specs.Document.{word_array}
+use Rattle.sift_document.specs.Document.{word_array}
+use Rattle.sift_document.specs.declared.rule.BrokenRule.{BrokenRule}
 use Rattle.sift_scenario.specs.Program.{turn_of}
 use Rattle.sift_scenario.specs.Refusal.{IsFirstBadTable, IsOver}
-use Rattle.sift_scenario.specs.Rules.{AreKept, BreaksFirst, IsFirstPlace, Rule}
 use Rattle.sift_scenario.specs.Task.{Form, linear, text}
 
 -- ---- rules
 
--- the rule is refused, at the first place at which it is broken; or memory was wanting
-abbrev pub RefusesBy : ℕ → (ℕ → Type 0) → Stop Refused → Type 0
-RefusesBy number BrokenAt (stop.Refused (Scenario rule place)) = (rule ≡ number) × IsFirstPlace BrokenAt place
-RefusesBy number BrokenAt stop.NoMemory = ⊤
-RefusesBy number BrokenAt other = ⊥
-
--- the rule is broken nowhere, or it is refused
-abbrev pub Tests : {A : Type 0} → ℕ → (ℕ → Type 0) → Result A (Stop Refused) → Type 0
-Tests number BrokenAt (Ok value) = (place : ℕ) → ¬ BrokenAt place
-Tests number BrokenAt (Err why) = RefusesBy number BrokenAt why
-
--- the first of the rules that is broken is refused; or memory was wanting
-abbrev pub RefusesFirst : List Rule → Stop Refused → Type 0
-RefusesFirst rules (stop.Refused (Scenario number place)) = BreaksFirst rules number place
-RefusesFirst rules stop.NoMemory = ⊤
-RefusesFirst rules other = ⊥
-
--- each of the rules is kept, or the first that is broken is refused
-abbrev pub TestsEach : {A : Type 0} → List Rule → Result A (Stop Refused) → Type 0
-TestsEach rules (Ok value) = AreKept rules
-TestsEach rules (Err why) = RefusesFirst rules why
+-- the refusal of a rule; or want of memory
+abbrev pub rule_refusal_of : Stop BrokenRule → Stop Refused
+rule_refusal_of (stop.Refused broken) = stop.Refused (Scenario broken.number broken.place)
+rule_refusal_of stop.NoMemory = stop.NoMemory
 
 -- ---- the forms of tasks
 

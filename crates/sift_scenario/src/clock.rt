@@ -7,13 +7,12 @@ ghost use Rattle.sift_base.specs.Units.{unit_limit};
 ghost use Rattle.sift_mission.specs.Parts.{clocks_of};
 ghost use Rattle.sift_scenario.specs.Clock.{BreaksClock, BreaksDrift, BreaksErrorOrRate, BreaksErrors, BreaksLength, BreaksSkew, BreaksStart, IsLengthSmall, IsSkewSmall, StartTogether, clock_rules, clock_value, clocks_in, drifts_of, error_of, errors_of, figure_rules, length_of, plain_clocks, rate_of, skew_of, starts_of, tick_limit, ticks_within, unit_ticks, zeros};
 ghost use Rattle.sift_clock.specs.Distance.{IsWithin};
-ghost use Rattle.sift_scenario.specs.Document.{array_between, integer_between, members_of, read_or};
-ghost use Rattle.sift_scenario.specs.Testing.{Tests, TestsEach};
+ghost use Rattle.sift_document.specs.Document.{array_between, integer_between, members_of, read_or};
+ghost use Rattle.sift_document.specs.Testing.{Tests, TestsEach};
 
-use crate::refused::{Refused, broken};
-use crate::value::{member_of, number_at, optional_between, table_of};
 use arrayvec::ArrayVec;
 use sift_base::Stop;
+use sift_document::{BrokenRule, broken, member_of, number_at, optional_between, table_of};
 use sift_skew::ClockPlan;
 use toml::{Table, Value};
 
@@ -31,7 +30,7 @@ struct Figures {
 }
 
 /// The clocks of a document, for so many units.
-pub(crate) fn plan_of(document: &Table, units: u8) -> Result<ClockPlan, Stop<Refused>>
+pub(crate) fn plan_of(document: &Table, units: u8) -> Result<ClockPlan, Stop<BrokenRule>>
     requires { units ≤ unit_limit }
     ensures read { IfOk result (λ plan. clocks_of plan ≡ clocks_in units (clock_value (table_view document.now))) }
     ensures tests { TestsEach (clock_rules units (clock_value (table_view document.now))) result }
@@ -43,7 +42,7 @@ pub(crate) fn plan_of(document: &Table, units: u8) -> Result<ClockPlan, Stop<Ref
 }
 
 /// The clocks that the value of `clock` states.
-fn stated_plan(value: &Value, units: u8) -> Result<ClockPlan, Stop<Refused>>
+fn stated_plan(value: &Value, units: u8) -> Result<ClockPlan, Stop<BrokenRule>>
     requires { units ≤ unit_limit }
     ensures read { IfOk result (λ plan. clocks_of plan ≡ clocks_in units (Some (view value.now))) }
     ensures tests { TestsEach (clock_rules units (Some (view value.now))) result }
@@ -65,7 +64,7 @@ fn stated_plan(value: &Value, units: u8) -> Result<ClockPlan, Stop<Refused>>
 }
 
 /// The table of a clock.
-fn clock_table(value: &Value) -> Result<&Table, Stop<Refused>>
+fn clock_table(value: &Value) -> Result<&Table, Stop<BrokenRule>>
     ensures read { IfOk result (λ clock. table_view clock.now ≡ members_of (view value.now)) }
     ensures tests { Tests 6 (BreaksClock (view value.now)) result }
 {
@@ -81,7 +80,7 @@ fn clock_table(value: &Value) -> Result<&Table, Stop<Refused>>
 }
 
 /// The four figures of a clock.
-fn figures_of(clock: &Table) -> Result<Figures, Stop<Refused>>
+fn figures_of(clock: &Table) -> Result<Figures, Stop<BrokenRule>>
     ensures skew { IfOk result (λ figures. skew_of (table_view clock.now) ≡ Some figures.skew) }
     ensures error { IfOk result (λ figures. error_of (table_view clock.now) ≡ Some figures.error) }
     ensures rate { IfOk result (λ figures. rate_of (table_view clock.now) ≡ Some figures.rate) }
@@ -102,7 +101,7 @@ fn figures_of(clock: &Table) -> Result<Figures, Stop<Refused>>
 }
 
 /// The most that working clocks differ by.
-fn skew_of(clock: &Table) -> Result<u32, Stop<Refused>>
+fn skew_of(clock: &Table) -> Result<u32, Stop<BrokenRule>>
     ensures read { IfOk result (λ skew. skew_of (table_view clock.now) ≡ Some skew) }
     ensures tests { Tests 7 (BreaksSkew (table_view clock.now)) result }
 {
@@ -110,7 +109,7 @@ fn skew_of(clock: &Table) -> Result<u32, Stop<Refused>>
 }
 
 /// The most that a reading is wrong by, and the most that a clock drifts by in a frame.
-fn error_and_rate(clock: &Table) -> Result<(u32, u32), Stop<Refused>>
+fn error_and_rate(clock: &Table) -> Result<(u32, u32), Stop<BrokenRule>>
     ensures error { IfOk result (λ both. error_of (table_view clock.now) ≡ Some both.0) }
     ensures rate { IfOk result (λ both. rate_of (table_view clock.now) ≡ Some both.1) }
     ensures tests { Tests 8 (BreaksErrorOrRate (table_view clock.now)) result }
@@ -132,7 +131,7 @@ fn number_or_zero(clock: &Table, key: &str) -> Option<u32>
 }
 
 /// The length of a subframe.
-fn length_of(clock: &Table) -> Result<u32, Stop<Refused>>
+fn length_of(clock: &Table) -> Result<u32, Stop<BrokenRule>>
     ensures read { IfOk result (λ length. length_of (table_view clock.now) ≡ Some length) }
     ensures tests { Tests 9 (BreaksLength (table_view clock.now)) result }
 {
@@ -140,7 +139,7 @@ fn length_of(clock: &Table) -> Result<u32, Stop<Refused>>
 }
 
 /// Tests that the correction of the clocks keeps the skew.
-fn check_skew(skew: u32, error: u32, rate: u32) -> Result<(), Stop<Refused>>
+fn check_skew(skew: u32, error: u32, rate: u32) -> Result<(), Stop<BrokenRule>>
     requires error { error ≤ tick_limit }
     requires rate { rate ≤ tick_limit }
     ensures { Tests 10 (IsSkewSmall skew error rate) result }
@@ -153,7 +152,7 @@ fn check_skew(skew: u32, error: u32, rate: u32) -> Result<(), Stop<Refused>>
 }
 
 /// Tests that a subframe is longer than any clock leads another.
-fn check_length(skew: u32, error: u32, rate: u32, length: u32) -> Result<(), Stop<Refused>>
+fn check_length(skew: u32, error: u32, rate: u32, length: u32) -> Result<(), Stop<BrokenRule>>
     requires skew { skew ≤ tick_limit }
     requires error { error ≤ tick_limit }
     requires rate { rate ≤ tick_limit }
@@ -167,7 +166,7 @@ fn check_length(skew: u32, error: u32, rate: u32, length: u32) -> Result<(), Sto
 }
 
 /// The offset of each unit's clock at the start.
-fn starts_of(clock: &Table, units: u8, skew: u32) -> Result<ArrayVec<i32, 8>, Stop<Refused>>
+fn starts_of(clock: &Table, units: u8, skew: u32) -> Result<ArrayVec<i32, 8>, Stop<BrokenRule>>
     requires units { units ≤ unit_limit }
     requires skew { skew ≤ tick_limit }
     ensures read { IfOk result (λ starts. starts_of units (table_view clock.now) ≡ Some starts.items) }
@@ -180,7 +179,7 @@ fn starts_of(clock: &Table, units: u8, skew: u32) -> Result<ArrayVec<i32, 8>, St
 }
 
 /// The drift of each unit's clock in a frame.
-fn drifts_of(clock: &Table, units: u8, rate: u32) -> Result<ArrayVec<i32, 8>, Stop<Refused>>
+fn drifts_of(clock: &Table, units: u8, rate: u32) -> Result<ArrayVec<i32, 8>, Stop<BrokenRule>>
     requires units { units ≤ unit_limit }
     requires rate { rate ≤ tick_limit }
     ensures read { IfOk result (λ drifts. drifts_of units rate (table_view clock.now) ≡ Some drifts.items) }
@@ -194,7 +193,7 @@ fn errors_of(
     clock: &Table,
     units: u8,
     error: u32,
-) -> Result<ArrayVec<ArrayVec<i32, 8>, 8>, Stop<Refused>>
+) -> Result<ArrayVec<ArrayVec<i32, 8>, 8>, Stop<BrokenRule>>
     requires units { units ≤ unit_limit }
     requires error { error ≤ tick_limit }
     ensures read { IfOk result (λ rows. errors_of units error (table_view clock.now) ≡ Some (map (λ row. row.items) rows.items)) }

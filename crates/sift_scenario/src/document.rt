@@ -7,16 +7,16 @@ ghost use Rattle.sift_mission.specs.PartsFit.{longest_period};
 ghost use Rattle.sift_scenario.specs.Lawful.{rules_of};
 ghost use Rattle.sift_scenario.specs.Reading.{IsReadOf};
 ghost use Rattle.sift_scenario.specs.Root.{plain_period};
-ghost use Rattle.sift_scenario.specs.Testing.{RefusesFirst};
+ghost use Rattle.sift_document.specs.Testing.{RefusesFirst};
 
 use crate::clock::plan_of;
 use crate::fault::script_of;
-use crate::refused::Refused;
 use crate::root::root_of;
 use crate::sensor::{Sensors, sensors_of};
 use crate::table::{check_sheds, tables_of};
 use crate::task::{Tasks, tasks_of};
 use sift_base::Stop;
+use sift_document::BrokenRule;
 use sift_script::Script;
 use sift_skew::ClockPlan;
 use sift_table::Table;
@@ -41,7 +41,7 @@ pub(crate) struct Entries<'a> {
 pub(crate) fn entries_of(
     alloc: Global,
     document: &toml::Table,
-) -> Result<Entries<'_>, Stop<Refused>>
+) -> Result<Entries<'_>, Stop<BrokenRule>>
     ensures read { IfOk result (IsReadOf (table_view document.now)) }
     ensures refused { IfErr result (RefusesFirst (rules_of (table_view document.now))) }
 {

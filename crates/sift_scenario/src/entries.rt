@@ -2,15 +2,14 @@
 
 ghost use Rattle.std.specs.Prelude.{◌≡◌, ◌<◌, ◌≤◌, ◌↔◌, ◌^◌, ℕ, List, Contains, IfErr, IfOk, IfSome, IfNone, IsTrue, Some, length, map};
 ghost use Rattle.toml.specs.View.{table_view, view};
-ghost use Rattle.sift_scenario.specs.Document.{IsArrayOf, IsNoTableOf, entries_of, members_of};
-ghost use Rattle.sift_scenario.specs.Entries.{HoldsOf};
+ghost use Rattle.sift_document.specs.Document.{IsArrayOf, IsNoTableOf, entries_of, members_of};
+ghost use Rattle.sift_document.specs.Entries.{HoldsOf};
 ghost use Rattle.sift_scenario.specs.Task.{IsNewName, name_of};
 ghost use Rattle.sift_scenario.specs.TaskRules.{BreaksNames};
-ghost use Rattle.sift_scenario.specs.Testing.{Tests};
+ghost use Rattle.sift_document.specs.Testing.{Tests};
 
-use crate::refused::{Refused, broken};
-use crate::value::{member_of, table_of};
 use sift_base::{Name, Stop, is_name};
+use sift_document::{BrokenRule, broken, member_of, table_of};
 use std::alloc::Global;
 use toml::{Table, Value};
 
@@ -19,7 +18,7 @@ pub(crate) fn names_in(
     alloc: Global,
     tables: &[&Table],
     rule: u32,
-) -> Result<Vec<Name>, Stop<Refused>>
+) -> Result<Vec<Name>, Stop<BrokenRule>>
     requires { length tables.now < 2 ^ 32 }
     ensures names { IfOk result (λ names.
         map (λ name. Some name.bytes) names.items ≡ map (λ entry. name_of (table_view entry.now)) tables.now) }

@@ -4,25 +4,23 @@ ghost use Rattle.std.specs.Prelude.{◌≡◌, ◌≤◌, IfOk, IfSome, IfNone, 
 ghost use Rattle.std.specs.List.{All};
 ghost use Rattle.toml.specs.View.{table_view, view};
 ghost use Rattle.sift_script.specs.Script.{change_of, failing_of, fault_of, faults_of};
-ghost use Rattle.sift_scenario.specs.Document.{IsTableOf, each_read, entries_of, members_of};
-ghost use Rattle.sift_scenario.specs.Entries.{HoldsOf};
+ghost use Rattle.sift_document.specs.Document.{IsTableOf, each_read, entries_of, members_of};
+ghost use Rattle.sift_document.specs.Entries.{HoldsOf};
 ghost use Rattle.sift_scenario.specs.Fault.{AreItems, BreaksFaults, BreaksHeads, BreaksStorms, BreaksWays, HasOneWay, IsHeadless, failing_from, fault_in, fault_limit, fault_rules, fault_value, faults_in, from_of, items_of, stated_storm, unit_of};
 ghost use Rattle.sift_scenario.specs.Item.{change_in, item_keys};
 ghost use Rattle.sift_scenario.specs.Reading.{AreFaultsRead};
-ghost use Rattle.sift_scenario.specs.Testing.{Tests, TestsEach};
+ghost use Rattle.sift_document.specs.Testing.{Tests, TestsEach};
 
-use crate::entries::{entries_between, tables_in};
 use crate::item::item_of;
-use crate::refused::{Refused, broken};
 use crate::storm::storm_in;
-use crate::value::{member_of, number_at, table_of};
 use sift_base::{NoMemory, Stop};
+use sift_document::{BrokenRule, broken, entries_between, member_of, number_at, table_of, tables_in};
 use sift_script::{Entry, Item, Plan, Script};
 use std::alloc::Global;
 use toml::{Table, Value};
 
 /// The script of the faults of a document, which may have none.
-pub(crate) fn script_of(alloc: Global, document: &Table) -> Result<Script, Stop<Refused>>
+pub(crate) fn script_of(alloc: Global, document: &Table) -> Result<Script, Stop<BrokenRule>>
     ensures read { IfOk result (λ script.
         faults_of script ≡ map fault_in (faults_in (fault_value (table_view document.now)))) }
     ensures tests { TestsEach (fault_rules (fault_value (table_view document.now))) result }
@@ -36,7 +34,7 @@ pub(crate) fn script_of(alloc: Global, document: &Table) -> Result<Script, Stop<
 }
 
 /// The script that the value of `fault` states.
-fn stated_script(alloc: Global, value: &Value) -> Result<Script, Stop<Refused>>
+fn stated_script(alloc: Global, value: &Value) -> Result<Script, Stop<BrokenRule>>
     ensures read { IfOk result (λ script.
         faults_of script ≡ map fault_in (faults_in (Some (view value.now)))) }
     ensures tests { TestsEach (fault_rules (Some (view value.now))) result }
@@ -50,7 +48,7 @@ fn stated_script(alloc: Global, value: &Value) -> Result<Script, Stop<Refused>>
 }
 
 /// The tables of the faults.
-fn fault_tables(alloc: Global, value: &Value) -> Result<Vec<&Table>, Stop<Refused>>
+fn fault_tables(alloc: Global, value: &Value) -> Result<Vec<&Table>, Stop<BrokenRule>>
     ensures tables { IfOk result (λ tables.
         map (λ fault. table_view fault.now) tables.items ≡ faults_in (Some (view value.now))) }
     ensures few { IfOk result (λ tables. length tables.items ≤ fault_limit) }
@@ -68,7 +66,7 @@ struct Head {
 }
 
 /// Which unit of each fault fails, and from which frame on.
-fn fault_heads(alloc: Global, tables: &[&Table]) -> Result<Vec<Head>, Stop<Refused>>
+fn fault_heads(alloc: Global, tables: &[&Table]) -> Result<Vec<Head>, Stop<BrokenRule>>
     requires { length tables.now ≤ fault_limit }
     ensures units { IfOk result (λ heads.
         map (λ head. Some head.unit) heads.items ≡ map (λ fault. unit_of (table_view fault.now)) tables.now) }
@@ -108,7 +106,7 @@ fn head_of(fault: &Table) -> Option<Head>
 fn fault_items<'a>(
     alloc: Global,
     tables: &[&'a Table],
-) -> Result<Vec<Vec<&'a Table>>, Stop<Refused>>
+) -> Result<Vec<Vec<&'a Table>>, Stop<BrokenRule>>
     requires { length tables.now ≤ fault_limit }
     ensures items { IfOk result (λ found.
         map (λ items. map (λ item. table_view item.now) items.items) found.items
@@ -175,7 +173,7 @@ fn known_items(alloc: Global, entries: &[Value]) -> Result<Option<Vec<&Table>>, 
 }
 
 /// The items that the tables of each fault state.
-fn stated_items(alloc: Global, faults: &[Vec<&Table>]) -> Result<Vec<Vec<Item>>, Stop<Refused>>
+fn stated_items(alloc: Global, faults: &[Vec<&Table>]) -> Result<Vec<Vec<Item>>, Stop<BrokenRule>>
     requires { length faults.now ≤ fault_limit }
     ensures changes { IfOk result (λ stated.
         map (λ items. Some (map change_of items.items)) stated.items
@@ -214,7 +212,7 @@ fn fault_entries(
     tables: &[&Table],
     heads: &[Head],
     said: Vec<Vec<Item>>,
-) -> Result<Vec<Entry>, Stop<Refused>>
+) -> Result<Vec<Entry>, Stop<BrokenRule>>
     requires few { length tables.now ≤ fault_limit }
     requires read { AreFaultsRead (map (λ fault. table_view fault.now) tables.now) heads.now
         (map (λ items. map change_of items.items) said.items) }

@@ -5,8 +5,8 @@ ghost use Rattle.toml.specs.View.{table_view};
 ghost use Rattle.sift_script.specs.Script.{change_of};
 ghost use Rattle.sift_scenario.specs.Item.{change_in, frame_of, has_index, has_word, kind_named, kind_of, number_where, receivers_of, said_of};
 
-use crate::value::{digits, integer_between, member_of, number_at, word_value};
 use sift_base::{NoMemory, Word};
+use sift_document::{digits, integer_between, member_of, number_at, word_value};
 use sift_script::{Item, SlotKind};
 use std::alloc::Global;
 use toml::Table;
@@ -105,7 +105,7 @@ fn receivers_of(alloc: Global, table: &Table) -> Result<Option<Vec<u8>>, NoMemor
         option_map (λ list. list.items) found ≡ receivers_of (table_view table.now)) }
 {
     match member_of(table, "to") {
-        Some(value) => digits(alloc, value),
+        Some(value) => digits(alloc, value, 7),
         None => Ok(None),
     }
 }

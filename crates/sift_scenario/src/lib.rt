@@ -21,7 +21,6 @@ mod storm;
 mod table;
 mod task;
 mod tree;
-mod value;
 
 pub use law::{
     missions_are_accepted, no_document_is_unanswered, one_mission, one_refusal,

@@ -6,14 +6,15 @@ ghost use Rattle.toml.specs.Data.{Members};
 ghost use Rattle.toml.specs.View.{table_view};
 ghost use Rattle.sift_mission.specs.Data.{MissionData};
 ghost use Rattle.sift_mission.specs.Parts.{data_of};
+ghost use Rattle.sift_document.specs.Testing.{OnlyRefuses};
 ghost use Rattle.sift_scenario.specs.Mission.{IsMission};
 ghost use Rattle.sift_scenario.specs.Reading.{IsReadOf, IsRunningOf};
-ghost use Rattle.sift_scenario.specs.Refusal.{IsRefusedWith, OnlyRefuses};
+ghost use Rattle.sift_scenario.specs.Refusal.{IsRefusedWith};
 
 use crate::checked::{check_script, check_tables};
 use crate::document::{Entries, entries_of};
 use crate::program::{Running, run_entries};
-use crate::refused::Refused;
+use crate::refused::{Refused, rule_refused};
 use sift_base::{Layout, Stop};
 use sift_mission::{Mission, MissionParts};
 use sift_program::shapes_of;
@@ -42,9 +43,20 @@ fn read_mission(alloc: Global, document: &Table) -> Result<Mission, Stop<Refused
     ensures accepted { IfOk result (λ mission. IsMission (table_view document.now) (data_of mission)) }
     ensures refused { IfErr result (IfRefused (IsRefusedWith (table_view document.now))) }
 {
-    let entries = entries_of(alloc, document)?;
+    let entries = lawful_entries(alloc, document)?;
     let running = run_entries(alloc, &entries)?;
     assemble(alloc, entries, running)
+}
+
+/// What a document states, or the rule that refuses it.
+fn lawful_entries(alloc: Global, document: &Table) -> Result<Entries<'_>, Stop<Refused>>
+    ensures read { IfOk result (IsReadOf (table_view document.now)) }
+    ensures refused { IfErr result (IfRefused (IsRefusedWith (table_view document.now))) }
+{
+    match entries_of(alloc, document) {
+        Ok(entries) => Ok(entries),
+        Err(stop) => Err(rule_refused(stop)),
+    }
 }
 
 /// The mission of these entries and their program, where its tables and its script are good.

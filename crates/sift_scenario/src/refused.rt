@@ -2,10 +2,11 @@
 
 ghost use Rattle.std.specs.Prelude.{◌≡◌, ◌<◌, ◌^◌};
 ghost use Rattle.sift_scenario.specs.Refusal.{refusal_of};
-ghost use Rattle.sift_scenario.specs.Testing.{code_refusal_of};
+ghost use Rattle.sift_scenario.specs.Testing.{code_refusal_of, rule_refusal_of};
 
 use sift_base::Stop;
 use sift_compile::CompileStop;
+use sift_document::BrokenRule;
 use sift_parse::ParseStop;
 
 /// Why a document states no mission.
@@ -28,15 +29,17 @@ pub enum Refused {
     Script { entry: u32, rule: u32 },
 }
 
-/// The refusal of a rule that is broken at an entry.
-pub(crate) fn broken(rule: u32, entry: usize) -> Stop<Refused>
-    requires { entry < 2 ^ 32 }
-    ensures { result ≡ Stop.Refused (Refused.Scenario rule entry) }
+/// The refusal of a rule, or want of memory.
+pub(crate) fn rule_refused(stop: Stop<BrokenRule>) -> Stop<Refused>
+    ensures { result ≡ rule_refusal_of stop }
 {
-    Stop::Refused(Refused::Scenario {
-        rule,
-        place: entry as u32,
-    })
+    match stop {
+        Stop::Refused(broken) => Stop::Refused(Refused::Scenario {
+            rule: broken.number,
+            place: broken.place,
+        }),
+        Stop::NoMemory => Stop::NoMemory,
+    }
 }
 
 /// The refusal of a task's text, or want of memory.

@@ -3,11 +3,10 @@
 ghost use Rattle.std.specs.Prelude.{◌≡◌, ℕ, IfOk, Some, unwrap_or};
 ghost use Rattle.toml.specs.View.{table_view};
 ghost use Rattle.sift_scenario.specs.Root.{BreaksFrames, BreaksRootKeys, BreaksSubframes, BreaksUnits, BreaksVersion, frames_of, period_or, root_rules, units_of, version_of};
-ghost use Rattle.sift_scenario.specs.Testing.{Tests, TestsEach};
+ghost use Rattle.sift_document.specs.Testing.{Tests, TestsEach};
 
-use crate::refused::{Refused, broken};
-use crate::value::{has_only_keys, number_at, optional_between};
 use sift_base::Stop;
+use sift_document::{BrokenRule, broken, has_only_keys, number_at, optional_between};
 use toml::Table;
 
 /// The version, and how many units fly how many frames, and of how many subframes.
@@ -21,7 +20,7 @@ pub(crate) struct Root {
 }
 
 /// What the root states beside its entries.
-pub(crate) fn root_of(document: &Table) -> Result<Root, Stop<Refused>>
+pub(crate) fn root_of(document: &Table) -> Result<Root, Stop<BrokenRule>>
     ensures version { IfOk result (λ root. version_of (table_view document.now) ≡ Some root.version) }
     ensures units { IfOk result (λ root. units_of (table_view document.now) ≡ Some root.units) }
     ensures frames { IfOk result (λ root. frames_of (table_view document.now) ≡ Some root.frames) }
@@ -43,7 +42,7 @@ pub(crate) fn root_of(document: &Table) -> Result<Root, Stop<Refused>>
 }
 
 /// Tests the keys of the root.
-fn check_keys(document: &Table) -> Result<(), Stop<Refused>>
+fn check_keys(document: &Table) -> Result<(), Stop<BrokenRule>>
     ensures { Tests 1 (BreaksRootKeys (table_view document.now)) result }
 {
     if has_only_keys(
@@ -67,7 +66,7 @@ fn check_keys(document: &Table) -> Result<(), Stop<Refused>>
 }
 
 /// How many units fly.
-fn units_of(document: &Table) -> Result<u8, Stop<Refused>>
+fn units_of(document: &Table) -> Result<u8, Stop<BrokenRule>>
     ensures units { IfOk result (λ units. units_of (table_view document.now) ≡ Some units) }
     ensures tests { Tests 2 (BreaksUnits (table_view document.now)) result }
 {
@@ -78,7 +77,7 @@ fn units_of(document: &Table) -> Result<u8, Stop<Refused>>
 }
 
 /// How many frames are flown.
-fn frames_of(document: &Table) -> Result<u32, Stop<Refused>>
+fn frames_of(document: &Table) -> Result<u32, Stop<BrokenRule>>
     ensures frames { IfOk result (λ frames. frames_of (table_view document.now) ≡ Some frames) }
     ensures tests { Tests 3 (BreaksFrames (table_view document.now)) result }
 {
@@ -86,7 +85,7 @@ fn frames_of(document: &Table) -> Result<u32, Stop<Refused>>
 }
 
 /// The version, which is 1 where none is stated.
-fn version_of(document: &Table) -> Result<u32, Stop<Refused>>
+fn version_of(document: &Table) -> Result<u32, Stop<BrokenRule>>
     ensures version { IfOk result (λ version. version_of (table_view document.now) ≡ Some version) }
     ensures tests { Tests 4 (BreaksVersion (table_view document.now)) result }
 {
@@ -97,7 +96,7 @@ fn version_of(document: &Table) -> Result<u32, Stop<Refused>>
 }
 
 /// How many subframes a frame has, where it is stated.
-fn subframes_of(document: &Table) -> Result<Option<u32>, Stop<Refused>>
+fn subframes_of(document: &Table) -> Result<Option<u32>, Stop<BrokenRule>>
     ensures subframes { IfOk result (λ subframes. (unstated : ℕ) →
         period_or unstated (table_view document.now) ≡ Some (unwrap_or subframes unstated)) }
     ensures tests { Tests 5 (BreaksSubframes (table_view document.now)) result }

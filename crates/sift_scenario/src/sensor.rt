@@ -3,15 +3,14 @@
 ghost use Rattle.std.specs.Prelude.{◌≡◌, ◌≤◌, ◌<◌, ◌^◌, IfOk, Some, length, map, option_map};
 ghost use Rattle.toml.specs.View.{table_view, view};
 ghost use Rattle.sift_base.specs.Layout.{sensor_limit};
-ghost use Rattle.sift_scenario.specs.Document.{word_array};
+ghost use Rattle.sift_document.specs.Document.{word_array};
 ghost use Rattle.sift_scenario.specs.Reading.{AreSensorsIn, AreSensorsOf};
 ghost use Rattle.sift_scenario.specs.Sensor.{BreaksSensed, BreaksSensors, sensor_rules, sensor_value, sensors_in, words_of};
-ghost use Rattle.sift_scenario.specs.Testing.{Tests, TestsEach};
+ghost use Rattle.sift_document.specs.Testing.{Tests, TestsEach};
 
-use crate::entries::{entries_between, names_in, tables_in};
-use crate::refused::{Refused, broken};
-use crate::value::{member_of, word_value};
+use crate::entries::names_in;
 use sift_base::{Name, NoMemory, Stop, Word};
+use sift_document::{BrokenRule, broken, entries_between, member_of, tables_in, word_value};
 use std::alloc::Global;
 use toml::{Table, Value};
 
@@ -23,7 +22,7 @@ pub(crate) struct Sensors {
 }
 
 /// The sensors of a document, which may have none.
-pub(crate) fn sensors_of(alloc: Global, document: &Table) -> Result<Sensors, Stop<Refused>>
+pub(crate) fn sensors_of(alloc: Global, document: &Table) -> Result<Sensors, Stop<BrokenRule>>
     ensures read { IfOk result (AreSensorsOf (table_view document.now)) }
     ensures tests { TestsEach (sensor_rules (sensor_value (table_view document.now))) result }
 {
@@ -37,7 +36,7 @@ pub(crate) fn sensors_of(alloc: Global, document: &Table) -> Result<Sensors, Sto
 }
 
 /// The sensors that the value of `sensor` states.
-fn stated_sensors(alloc: Global, value: &Value) -> Result<Sensors, Stop<Refused>>
+fn stated_sensors(alloc: Global, value: &Value) -> Result<Sensors, Stop<BrokenRule>>
     ensures read { IfOk result (AreSensorsIn (sensors_in (Some (view value.now)))) }
     ensures tests { TestsEach (sensor_rules (Some (view value.now))) result }
 {
@@ -48,7 +47,7 @@ fn stated_sensors(alloc: Global, value: &Value) -> Result<Sensors, Stop<Refused>
 }
 
 /// The tables of the sensors.
-fn sensor_tables(alloc: Global, value: &Value) -> Result<Vec<&Table>, Stop<Refused>>
+fn sensor_tables(alloc: Global, value: &Value) -> Result<Vec<&Table>, Stop<BrokenRule>>
     ensures tables { IfOk result (λ tables.
         map (λ sensor. table_view sensor.now) tables.items ≡ sensors_in (Some (view value.now))) }
     ensures few { IfOk result (λ tables. length tables.items ≤ sensor_limit) }
@@ -59,7 +58,7 @@ fn sensor_tables(alloc: Global, value: &Value) -> Result<Vec<&Table>, Stop<Refus
 }
 
 /// The words of each sensor.
-fn sensed_words(alloc: Global, tables: &[&Table]) -> Result<Vec<Vec<Word>>, Stop<Refused>>
+fn sensed_words(alloc: Global, tables: &[&Table]) -> Result<Vec<Vec<Word>>, Stop<BrokenRule>>
     requires { length tables.now < 2 ^ 32 }
     ensures words { IfOk result (λ words.
         map (λ list. Some list.items) words.items ≡ map (λ sensor. words_of (table_view sensor.now)) tables.now) }

@@ -5,7 +5,7 @@ ghost use Rattle.toml.specs.View.{view};
 ghost use Rattle.sift_script.specs.Script.{failing_of};
 ghost use Rattle.sift_scenario.specs.Storm.{storm_in};
 
-use crate::value::{natural_at, number_at};
+use sift_document::{natural_at, number_at};
 use sift_script::Plan;
 use toml::Value;
 

@@ -7,18 +7,16 @@ ghost use Rattle.sift_base.specs.Layout.{least_units};
 ghost use Rattle.sift_base.specs.Shapes.{task_limit};
 ghost use Rattle.sift_base.specs.Units.{unit_limit};
 ghost use Rattle.sift_table.specs.Schedule.{schedule_of};
-ghost use Rattle.sift_scenario.specs.Document.{array_of, members_of, read_at};
-ghost use Rattle.sift_scenario.specs.Entries.{HoldsOf};
-ghost use Rattle.sift_scenario.specs.Rules.{IsKept, rule};
+ghost use Rattle.sift_document.specs.Document.{array_of, members_of, read_at};
+ghost use Rattle.sift_document.specs.Entries.{HoldsOf};
+ghost use Rattle.sift_document.specs.Rules.{IsKept, rule};
 ghost use Rattle.sift_scenario.specs.Table.{BreaksPositions, BreaksTables, BreaksTimes, IsNoTableEntry, IsTableEntry, IsTimeless, plain_tables, positions_of};
 ghost use Rattle.sift_scenario.specs.Table.{BreaksShed, schedule_in, schedules_by, shed_of, size_of, subframe, table_keys, table_rules, table_value, tables_in};
 ghost use Rattle.sift_scenario.specs.Reading.{IsPartial};
-ghost use Rattle.sift_scenario.specs.Testing.{Tests, TestsEach};
+ghost use Rattle.sift_document.specs.Testing.{Tests, TestsEach};
 
-use crate::entries::entries_between;
-use crate::refused::{Refused, broken};
-use crate::value::{digit_lists, entries_at, member_of, number_at, numbers_to, table_of};
 use sift_base::{NoMemory, Stop};
+use sift_document::{BrokenRule, broken, digit_lists, entries_at, entries_between, member_of, number_at, numbers_to, table_of};
 use sift_table::{Table, plain_table};
 use std::alloc::Global;
 use toml::Value;
@@ -32,7 +30,7 @@ pub(crate) fn tables_of(
     units: u8,
     period: u8,
     tasks: u8,
-) -> Result<Vec<Table>, Stop<Refused>>
+) -> Result<Vec<Table>, Stop<BrokenRule>>
     requires enough_units { least_units ≤ units }
     requires few_units { units ≤ unit_limit }
     requires few_tasks { tasks ≤ task_limit }
@@ -68,7 +66,7 @@ fn stated_tables(
     version: u32,
     units: u8,
     period: u8,
-) -> Result<Vec<Table>, Stop<Refused>>
+) -> Result<Vec<Table>, Stop<BrokenRule>>
     requires enough_units { least_units ≤ units }
     requires few_units { units ≤ unit_limit }
     ensures read { IfOk result (λ tables.
@@ -87,7 +85,7 @@ fn sized_tables(
     value: &Value,
     version: u32,
     units: u8,
-) -> Result<Vec<&toml::Table>, Stop<Refused>>
+) -> Result<Vec<&toml::Table>, Stop<BrokenRule>>
     requires enough_units { least_units ≤ units }
     requires few_units { units ≤ unit_limit }
     ensures tables { IfOk result (λ tables.
@@ -106,7 +104,7 @@ fn entries_by_size<'a>(
     alloc: Global,
     entries: &'a [Value],
     version: u32,
-) -> Result<Vec<&'a toml::Table>, Stop<Refused>>
+) -> Result<Vec<&'a toml::Table>, Stop<BrokenRule>>
     requires { length entries.now ≤ unit_limit }
     ensures tables { IfOk result (λ tables.
         map (λ table. table_view table.now) tables.items ≡ map (λ entry. members_of (view entry)) entries.now) }
@@ -150,7 +148,7 @@ fn table_keys(version: u32) -> &'static [&'static str]
 }
 
 /// Tests that each table says when the tasks are run and polled.
-fn check_times(alloc: Global, tables: &[&toml::Table]) -> Result<(), Stop<Refused>>
+fn check_times(alloc: Global, tables: &[&toml::Table]) -> Result<(), Stop<BrokenRule>>
     requires { length tables.now ≤ unit_limit }
     ensures { Tests 24 (BreaksTimes (map (λ table. table_view table.now) tables.now)) result }
 {
@@ -177,7 +175,7 @@ fn read_tables(
     alloc: Global,
     tables: &[&toml::Table],
     period: u8,
-) -> Result<Vec<Table>, Stop<Refused>>
+) -> Result<Vec<Table>, Stop<BrokenRule>>
     requires few { length tables.now ≤ unit_limit }
     requires sized { All (λ table. size_of (table_view table.now) ≢ None) tables.now }
     requires timed { IsKept (rule 24 (BreaksTimes (map (λ table. table_view table.now) tables.now))) }
@@ -240,7 +238,7 @@ fn positions_at(alloc: Global, table: &toml::Table) -> Result<Option<Vec<Vec<u8>
         option_map (λ lists. map (λ list. list.items) lists.items) found ≡ positions_of (table_view table.now)) }
 {
     match member_of(table, "at") {
-        Some(value) => digit_lists(alloc, value),
+        Some(value) => digit_lists(alloc, value, 7),
         None => Ok(None),
     }
 }
@@ -257,7 +255,7 @@ fn shed_at(alloc: Global, table: &toml::Table) -> Result<Option<Vec<u8>>, NoMemo
 }
 
 /// Tests that each table of a document sheds numbers of tasks, where it says what it sheds.
-pub(crate) fn check_sheds(alloc: Global, document: &toml::Table) -> Result<(), Stop<Refused>>
+pub(crate) fn check_sheds(alloc: Global, document: &toml::Table) -> Result<(), Stop<BrokenRule>>
     requires { length (tables_in (table_value (table_view document.now))) ≤ unit_limit }
     ensures { Tests 31 (BreaksShed (tables_in (table_value (table_view document.now)))) result }
 {
@@ -265,7 +263,7 @@ pub(crate) fn check_sheds(alloc: Global, document: &toml::Table) -> Result<(), S
 }
 
 /// Tests the same of these entries.
-fn check_shed_entries(alloc: Global, entries: &[Value]) -> Result<(), Stop<Refused>>
+fn check_shed_entries(alloc: Global, entries: &[Value]) -> Result<(), Stop<BrokenRule>>
     requires { length entries.now ≤ unit_limit }
     ensures { Tests 31 (BreaksShed (map (λ entry. members_of (view entry)) entries.now)) result }
 {

@@ -3,17 +3,17 @@
 ghost use Rattle.std.specs.Prelude.{◌≡◌, ◌≢◌, ◌≤◌, ◌∷◌, [], ℕ, IfOk, IfSome, IfNone, Some, length, map, option_map};
 ghost use Rattle.toml.specs.View.{table_view, view};
 ghost use Rattle.sift_base.specs.Shapes.{task_limit};
-ghost use Rattle.sift_scenario.specs.Document.{word_array};
+ghost use Rattle.sift_document.specs.Document.{word_array};
 ghost use Rattle.sift_scenario.specs.Reading.{AreTasksOf, AreTasksRead};
 ghost use Rattle.sift_scenario.specs.TaskRules.{BreaksForms, BreaksStarts, BreaksTasks, BreaksWords, IsTaskNumber, each_task_rules, task_rules};
-ghost use Rattle.sift_scenario.specs.Testing.{Tests, TestsEach, IsLinearForm, form_of};
+ghost use Rattle.sift_document.specs.Testing.{Tests, TestsEach};
+ghost use Rattle.sift_scenario.specs.Testing.{IsLinearForm, form_of};
 ghost use Rattle.sift_scenario.specs.Task.{AreForms, Form as Stated, HasForm, counts_of, start_words, tasks_of, task_outputs};
 
-use crate::entries::{names_in, tables_in};
-use crate::refused::{Refused, broken};
-use crate::value::{entries_at, member_of, word_array};
+use crate::entries::names_in;
 use arrayvec::ArrayVec;
 use sift_base::{Name, Stop, Word};
+use sift_document::{BrokenRule, broken, entries_at, member_of, tables_in, word_array};
 use sift_program::{TASK_LIMIT, WORD_LIMIT};
 use std::alloc::Global;
 use toml::{Table, Value};
@@ -40,7 +40,7 @@ pub(crate) struct Tasks<'a> {
 }
 
 /// The tasks of a document.
-pub(crate) fn tasks_of(alloc: Global, document: &Table) -> Result<Tasks<'_>, Stop<Refused>>
+pub(crate) fn tasks_of(alloc: Global, document: &Table) -> Result<Tasks<'_>, Stop<BrokenRule>>
     ensures read { IfOk result (AreTasksOf (table_view document.now)) }
     ensures tests { TestsEach (task_rules (table_view document.now)) result }
 {
@@ -49,7 +49,7 @@ pub(crate) fn tasks_of(alloc: Global, document: &Table) -> Result<Tasks<'_>, Sto
 }
 
 /// What these tables state, where no rule of the tasks is broken.
-fn read_tasks<'a>(alloc: Global, tables: &[&'a Table]) -> Result<Tasks<'a>, Stop<Refused>>
+fn read_tasks<'a>(alloc: Global, tables: &[&'a Table]) -> Result<Tasks<'a>, Stop<BrokenRule>>
     requires { IsTaskNumber (length tables.now) }
     ensures read { IfOk result (AreTasksRead (map (λ task. table_view task.now) tables.now)) }
     ensures tests { TestsEach (each_task_rules (map (λ task. table_view task.now) tables.now)) result }
@@ -66,7 +66,7 @@ fn read_tasks<'a>(alloc: Global, tables: &[&'a Table]) -> Result<Tasks<'a>, Stop
 }
 
 /// The tables of the tasks.
-fn task_tables(alloc: Global, document: &Table) -> Result<Vec<&Table>, Stop<Refused>>
+fn task_tables(alloc: Global, document: &Table) -> Result<Vec<&Table>, Stop<BrokenRule>>
     ensures tables { IfOk result (λ tables.
         map (λ task. table_view task.now) tables.items ≡ tasks_of (table_view document.now)) }
     ensures few { IfOk result (λ tables. IsTaskNumber (length tables.items)) }
@@ -80,7 +80,7 @@ fn task_tables(alloc: Global, document: &Table) -> Result<Vec<&Table>, Stop<Refu
 }
 
 /// The start words of each task.
-fn task_starts(alloc: Global, tasks: &[&Table]) -> Result<Vec<Starts>, Stop<Refused>>
+fn task_starts(alloc: Global, tasks: &[&Table]) -> Result<Vec<Starts>, Stop<BrokenRule>>
     requires { length tasks.now ≤ task_limit }
     ensures starts { IfOk result (λ starts.
         map (λ words. Some words.items) starts.items ≡ map (λ task. start_words (table_view task.now)) tasks.now) }
@@ -104,7 +104,7 @@ fn start_words(task: &Table) -> Option<Starts>
 }
 
 /// Tests how many output words there are, where these are the start words of the tasks.
-fn check_words(starts: &[Starts]) -> Result<(), Stop<Refused>>
+fn check_words(starts: &[Starts]) -> Result<(), Stop<BrokenRule>>
     requires { length starts.now ≤ task_limit }
     ensures { Tests 21 (BreaksWords (map (λ words. length words.items) starts.now)) result }
 {
@@ -123,7 +123,7 @@ fn task_forms<'a>(
     alloc: Global,
     tasks: &[&'a Table],
     starts: &[Starts],
-) -> Result<Vec<Form<'a>>, Stop<Refused>>
+) -> Result<Vec<Form<'a>>, Stop<BrokenRule>>
     requires few { length tasks.now ≤ task_limit }
     requires starts { map (λ words. length words.items) starts.now
         ≡ counts_of (map (λ task. table_view task.now) tasks.now) }
@@ -160,7 +160,7 @@ fn linear_form(rule: &Value) -> Option<Form<'_>>
     ensures none { IfNone result ((factor addend : ℕ) →
         word_array 2 2 (view rule.now) ≢ Some (factor ∷ addend ∷ [])) }
 {
-    let pair = word_array(rule, 2, 2)?;
+    let pair = word_array::<2>(rule, 2, 2)?;
     Some(Form::Linear {
         factor: pair[0],
         addend: pair[1],

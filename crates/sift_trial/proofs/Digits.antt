@@ -12,7 +12,7 @@ use Rattle.sift_base.proofs.Others.{length-others, times_in-ascending}
 use Rattle.sift_base.proofs.Sets.{passing_ascend}
 use Rattle.sift_base.specs.Units.{has, others}
 use Rattle.sift_gen.specs.Scenario.{other_digits}
-use Rattle.sift_scenario.specs.Document.{digit_of, digits_of, each_read}
+use Rattle.sift_document.specs.Document.{digit_of, digits_of, each_read}
 use Rattle.sift_script.specs.Rules.{AreReceivers}
 use Rattle.sift_mission.proofs.Numbers.{range-ascends}
 

@@ -12,14 +12,14 @@ use Rattle.sift_gen.specs.Scenario.{document_of, fault_entries, sensor_tables, t
 use Rattle.sift_gen.specs.Tasks.{sensor_name, task_name}
 use Rattle.sift_parse.specs.Roll.{Roll}
 use Rattle.sift_program.specs.Program.{ProgramTree}
-use Rattle.sift_scenario.proofs.Order.{kept_joined}
+use Rattle.sift_document.proofs.Order.{kept_joined}
 use Rattle.sift_scenario.specs.Clock.{clocks_of}
 use Rattle.sift_scenario.specs.Fault.{faults_of}
 use Rattle.sift_scenario.specs.Lawful.{IsLawful, themes_for}
 use Rattle.sift_scenario.specs.Mission.{HasGoodTables, IsMission, IsStated}
 use Rattle.sift_scenario.specs.Program.{AreTreesOf, IsProgramOf, all_starts, roll_for}
 use Rattle.sift_scenario.specs.Root.{plain_period, units_of, version_of}
-use Rattle.sift_scenario.specs.Rules.{AreKept}
+use Rattle.sift_document.specs.Rules.{AreKept}
 use Rattle.sift_scenario.specs.Sensor.{sensor_names, sensor_value, sensor_words, sensors_in, words_of}
 use Rattle.sift_scenario.specs.Table.{schedules_of, table_rules}
 use Rattle.sift_scenario.specs.Task.{Form, counts_of, names_of, task_entries, tasks_of, text}

@@ -3,7 +3,7 @@ use Rattle.std.proofs.Common.{◌≡◌, ◌<◌, ◌≤◌, ℕ, Some, arith}
 use Rattle.std.proofs.lemmas.Bool.Decides.{nat_tests}
 use Rattle.sift_gen.specs.Draws.{draw_at}
 use Rattle.sift_gen.specs.Entries.{number}
-use Rattle.sift_scenario.specs.Document.{integer_between, word_value}
+use Rattle.sift_document.specs.Document.{integer_between, word_value}
 
 -- a number that lies between the two is read
 pub number_read : (low high n : ℕ) → low ≤ n → n ≤ high → integer_between low high (number n) ≡ Some n

@@ -1,7 +1,8 @@
 use Rattle.std.proofs.Common.{below_more, arith}
 use Rattle.toml.specs.View.{view}
 use Rattle.sift_byz.specs.Testing.{Keeps, number_of}
-use Rattle.sift_byz.proofs.Testing.{fails_here, first_broken, holds_here, nowhere}
+use Rattle.sift_document.proofs.Places.{fails_here, holds_here, nowhere}
+use Rattle.sift_document.proofs.Testing.{first_broken}
 use Rattle.sift_byz.proofs.lies.check_each.Goals as goal
 
 -- this entry is the first that doesn't keep the rule
@@ -9,7 +10,7 @@ pub returns-then-not-keeps : goal.returns-then-not-keeps
 returns-then-not-keeps c =
     rw (c.broken.ensures, c.number_of.ensures)
     (first_broken (number_of c.args.rule) _ _
-    (holds_here (λ entry. view entry) c.args.entries.now (λ lie. ¬ Keeps c.args.rule lie) _ _
+    (holds_here (λ entry. view entry) c.args.entries.now (λ at lie. ¬ Keeps c.args.rule lie) _ _
     c.loop-place-test.true c.index-entries-place.is (λ kept. let is = c.keeps.ensures.1 kept in cc))
     c.loop-place.invariant)
 
@@ -17,11 +18,11 @@ returns-then-not-keeps c =
 pub loop-place-preserved : goal.loop-place-preserved
 loop-place-preserved c =
     below_more _ _ c.loop-place.invariant
-    (fails_here (λ entry. view entry) c.args.entries.now (λ lie. ¬ Keeps c.args.rule lie) _ _
+    (fails_here (λ entry. view entry) c.args.entries.now (λ at lie. ¬ Keeps c.args.rule lie) _ _
     c.loop-place-test.true c.index-entries-place.is (λ not_kept. not_kept (c.keeps.ensures.0 c.if-not-keeps.false)))
 
 -- all do
 pub returns : goal.returns
 returns c =
-    nowhere (λ entry. view entry) c.args.entries.now (λ lie. ¬ Keeps c.args.rule lie)
+    nowhere (λ entry. view entry) c.args.entries.now (λ at lie. ¬ Keeps c.args.rule lie)
     (λ at low. c.loop-place.invariant at (omega (arith, low, c.loop-place-test.false)))

@@ -4,7 +4,9 @@ use Rattle.std.proofs.lemmas.List.Elements.{All-push}
 use Rattle.toml.specs.View.{view}
 use Rattle.sift_byz.specs.Plan.{lie_of}
 use Rattle.sift_byz.specs.Stated.{HasReceivers, HasWord, IsPath, lie_in}
-use Rattle.sift_byz.proofs.Testing.{fails_here, first_broken, holds_here, made_more, nowhere}
+use Rattle.sift_document.proofs.Places.{fails_here, holds_here, nowhere}
+use Rattle.sift_document.proofs.Testing.{first_broken}
+use Rattle.sift_byz.proofs.Testing.{made_more}
 use Rattle.sift_byz.proofs.lies.lies_in.Goals as goal
 
 -- this entry, which has receivers, is the first that has no word
@@ -13,9 +15,9 @@ returns-in-None-clause-tests c =
     let entries = c.args.entries.now in
     rw c.broken.ensures
     (first_broken 8 _ _
-    (holds_here (λ entry. view entry) entries (λ lie. ¬ HasWord lie) _ _ c.loop-place-test.true c.index-entries-place.is
+    (holds_here (λ entry. view entry) entries (λ at lie. ¬ HasWord lie) _ _ c.loop-place-test.true c.index-entries-place.is
     (λ word. c.requires.received c.loop-place.place
-    (holds_here (λ entry. view entry) entries (λ lie. ¬ HasReceivers c.args.units c.args.m lie) _ _ c.loop-place-test.true c.index-entries-place.is
+    (holds_here (λ entry. view entry) entries (λ at lie. ¬ HasReceivers c.args.units c.args.m lie) _ _ c.loop-place-test.true c.index-entries-place.is
     (λ received. c.in-None.ensures.none received word))))
     c.loop-place.invariant.kept)
 
@@ -28,7 +30,7 @@ loop-place-preserved c =
       paths = rw c.in_ok-push-in-Some.ensures.items
           (All-push (λ lie. IsPath c.args.units c.args.m lie.path.items) c.loop-place.lies.items _ c.loop-place.invariant.paths c.in-Some.ensures.path);
       kept = below_more _ _ c.loop-place.invariant.kept
-          (fails_here (λ entry. view entry) c.args.entries.now (λ lie. ¬ HasWord lie) _ _ c.loop-place-test.true c.index-entries-place.is
+          (fails_here (λ entry. view entry) c.args.entries.now (λ at lie. ¬ HasWord lie) _ _ c.loop-place-test.true c.index-entries-place.is
           (λ none. none c.in-Some.ensures.word));
     }
 
@@ -40,5 +42,5 @@ returns-clause-lies c =
 
 pub returns-clause-tests : goal.returns-clause-tests
 returns-clause-tests c =
-    nowhere (λ entry. view entry) c.args.entries.now (λ lie. ¬ HasWord lie)
+    nowhere (λ entry. view entry) c.args.entries.now (λ at lie. ¬ HasWord lie)
     (λ at low. c.loop-place.invariant.kept at (omega (arith, low, c.loop-place-test.false)))

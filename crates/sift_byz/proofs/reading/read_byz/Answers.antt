@@ -17,4 +17,4 @@ returns-clause-complete c = complete_of (table_view c.args.document.now) c.read_
 
 pub returns-clause-exact : goal.returns-clause-exact
 returns-clause-exact c =
-    exact_of (table_view c.args.document.now) c.read_plan.result c.read_plan.ensures.refused plan_of c.read_plan.ensures.accepted
+    exact_of (table_view c.args.document.now) plan_of c.read_plan.result c.read_plan.ensures.accepted c.read_plan.ensures.refused

@@ -1,17 +1,17 @@
 use Rattle.std.proofs.Common.{◌≡◌, ◌∙◌, None, Some, List, ℕ, arith, sym}
-use Rattle.sift_byz.specs.Document.{digit_of, each_read}
-use Rattle.sift_byz.proofs.Values.{each_read-none, length-each_read, read_more}
+use Rattle.sift_document.specs.Document.{digit_to, each_read}
+use Rattle.sift_document.proofs.ReadEntries.{each_read-none, length-each_read, read-step}
 use Rattle.sift_byz.proofs.value.digits_in.Goals as goal
 
 -- a text of more bytes is none of fewer digits
 pub returns-then-text-clause-none : goal.returns-then-text-clause-none
-returns-then-text-clause-none g c digits read = omega (arith, length-each_read digit_of c.args.text.now digits read)
+returns-then-text-clause-none g c digits read = omega (arith, length-each_read (digit_to 9) c.args.text.now digits read)
 
 -- a byte that is no digit spoils the text
-pub returns-in_err-digit_of-clause-none : goal.returns-in_err-digit_of-clause-none
-returns-in_err-digit_of-clause-none g c =
+pub returns-in_err-digit_to-clause-none : goal.returns-in_err-digit_to-clause-none
+returns-in_err-digit_to-clause-none g c =
     let bytes : List ℕ = c.as_bytes-byte-items.result.now in
-    let none : each_read digit_of bytes ≡ None = each_read-none digit_of bytes c.loop-byte.byte-index 0 c.loop-byte-test.true (sym c.in_err-digit_of.ensures) in
+    let none : each_read (digit_to 9) bytes ≡ None = each_read-none (digit_to 9) bytes c.loop-byte.byte-index 0 c.loop-byte-test.true (sym c.in_err-digit_to.ensures) in
     rw c.from_residual.ensures (λ digits read.
     let both : None ≡ Some digits = sym none ∙ rw c.as_bytes-byte-items.ensures.value read in absurd cc)
 
@@ -19,7 +19,7 @@ returns-in_err-digit_of-clause-none g c =
 pub loop-byte-preserved : goal.loop-byte-preserved
 loop-byte-preserved g c =
     record {
-      read = rw c.push.ensures.items (read_more digit_of c.as_bytes-byte-items.result.now c.loop-byte.byte-index 0 _ _
-          c.loop-byte-test.true c.loop-byte.invariant.read (sym c.in_ok-digit_of.ensures));
+      read = rw c.push.ensures.items (read-step (digit_to 9) c.as_bytes-byte-items.result.now c.loop-byte.byte-index 0 _ _
+          c.loop-byte-test.true c.loop-byte.invariant.read (sym c.in_ok-digit_to.ensures));
       long = omega (arith, c.push.ensures.len, c.loop-byte.invariant.long);
     }

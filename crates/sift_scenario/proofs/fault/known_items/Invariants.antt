@@ -1,7 +1,7 @@
 use Rattle.std.proofs.Common.{◌≡◌, map, take}
 use Rattle.std.specs.List.{All}
 use Rattle.toml.specs.View.{table_view, view}
-use Rattle.sift_scenario.specs.Document.{IsTableOf, members_of}
+use Rattle.sift_document.specs.Document.{IsTableOf, members_of}
 use Rattle.sift_scenario.specs.Item.{item_keys}
 use Rattle.sift_scenario.proofs.fault.known_items.Given as goal
 

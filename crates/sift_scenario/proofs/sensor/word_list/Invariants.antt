@@ -1,6 +1,6 @@
 use Rattle.std.proofs.Common.{◌≡◌, Some, map, take}
 use Rattle.toml.specs.View.{view}
-use Rattle.sift_scenario.specs.Document.{each_read, word_value}
+use Rattle.sift_document.specs.Document.{each_read, word_value}
 use Rattle.sift_scenario.proofs.sensor.word_list.Given as goal
 
 -- the words so far

@@ -1,6 +1,6 @@
 use Rattle.std.proofs.Common.{◌≡◌, ◌+◌, ◌∙◌, Some, None, List, ℕ, ap, rules, subst, sym}
 use Rattle.toml.specs.View.{view}
-use Rattle.sift_scenario.specs.Document.{IsTableOf}
+use Rattle.sift_document.specs.Document.{IsTableOf}
 use Rattle.sift_scenario.specs.Table.{size_of}
 use Rattle.sift_scenario.proofs.table.sized_table.Goals as goal
 

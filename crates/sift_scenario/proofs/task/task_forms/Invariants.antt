@@ -1,6 +1,6 @@
 use Rattle.std.proofs.Common.{◌≡◌, ◌<◌, ◌≤◌, ℕ, map, length, vec_capacity}
 use Rattle.toml.specs.View.{table_view}
-use Rattle.sift_scenario.specs.Entries.{EachMatches}
+use Rattle.sift_document.specs.Entries.{EachMatches}
 use Rattle.sift_scenario.specs.TaskRules.{BreaksForms}
 use Rattle.sift_scenario.specs.Task.{HasForm}
 use Rattle.sift_scenario.specs.Testing.{form_of}

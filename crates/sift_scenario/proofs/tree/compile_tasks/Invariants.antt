@@ -1,7 +1,7 @@
 use Rattle.std.proofs.Common.{◌≡◌, length, map}
 use Rattle.sift_lang.specs.Tree.{tree_of}
 use Rattle.sift_parse.specs.Roll.{roll_of}
-use Rattle.sift_scenario.specs.Entries.{EachMatches}
+use Rattle.sift_document.specs.Entries.{EachMatches}
 use Rattle.sift_compile.specs.Tasks.{AreCodesOf}
 use Rattle.sift_scenario.specs.Program.{AreAllowed, IsTreeOf, steps_left, turn_of}
 use Rattle.sift_scenario.specs.Testing.{form_of}
