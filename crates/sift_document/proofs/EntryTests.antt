@@ -38,14 +38,14 @@ module _ (number low high : ℕ) (IsEntry : ℕ → Data → Type 0) (value : Da
   )
 
   -- it is one, and no entry breaks the rule
-  kept_entries :
+  pub kept_entries :
       IsArrayOf low high value → (place : ℕ) → (HoldsOf (entries_of (Some value)) place (λ entry. IsEntry place entry → ⊥) → ⊥)
       → BreaksEntries low high IsEntry (Some value) place → ⊥
   kept_entries right place kept (inl wrong) = wrong.1 right
   kept_entries right place kept (inr broken) = kept broken
 
   -- it is one, and an entry breaks the rule first
-  refused_entry :
+  pub refused_entry :
       IsArrayOf low high value → (e : Stop BrokenRule) → RefusesBy number (λ place. HoldsOf (entries_of (Some value)) place (λ entry. IsEntry place entry → ⊥)) e
       → RefusesBy number (BreaksEntries low high IsEntry (Some value)) e
   refused_entry right (stop.Refused broken) refused = (

@@ -7,7 +7,7 @@ use Rattle.sift_scenario.proofs.mission.read_mission.Goals as goal
 pub returns-in_err-entries-clause-refused : goal.returns-in_err-entries-clause-refused
 returns-in_err-entries-clause-refused c =
     let same : c.from_residual.result ≡ Err c.in_err-entries.field-0.0 = search rules in
-    rw same (rule_refused (table_view c.args.document.now) c.in_err-entries.field-0.0 c.in_err-entries.ensures.refused)
+    rw same c.in_err-entries.ensures.refused
 
 pub run_entries-requires : goal.run_entries-requires
 run_entries-requires c = (table_view c.args.document.now, c.in_ok-entries.ensures.read)
