@@ -1,10 +1,10 @@
 -- What the rules of the entries of `lie` ask. No public clause cites this module.
 use Rattle.std.specs.Prelude.{◌≤◌, ℕ, List, ⊤}
 use Rattle.toml.specs.Data.{Data}
-use Rattle.sift_byz.specs.declared.lies.EntryRule.{EntryRule}
-use Rattle.sift_byz.specs.declared.lies.EntryRule.TheVariants.{Keys, Path, Receivers}
 use Rattle.sift_document.specs.Document.{IsTableOf}
 use Rattle.sift_document.specs.Entries.{HoldsOf}
+use Rattle.sift_byz.specs.declared.lies.EntryRule.{EntryRule}
+use Rattle.sift_byz.specs.declared.lies.EntryRule.TheVariants.{Keys, Path, Receivers}
 use Rattle.sift_byz.specs.Plan.{most_traitors, most_units}
 use Rattle.sift_byz.specs.Stated.{HasPath, HasReceivers, lie_keys}
 

@@ -1,11 +1,10 @@
 -- Each command about a laboratory gives one reply.
-use Rattle.std.proofs.Common.{◌≡◌, ◌≢◌, inl, inr, ℕ, List, ℤ, sym, ap, ◌∙◌, subst, arith}
+use Rattle.std.proofs.Common.{◌≡◌, inl, inr, ℕ, List, ℤ, sym, ap, ◌∙◌, subst, arith}
 use Rattle.std.proofs.lemmas.Int.{ints}
 use Rattle.toml.specs.Data.{Members}
 use Rattle.sift_byz.specs.Lawful.{OnePlan, OneRefusal, PlansAreAccepted}
 use Rattle.sift_byz.specs.Plan.{PlanData}
 use Rattle.sift_byz.specs.Text.{text_of}
-use Rattle.sift_byz.specs.declared.stop.ByzStop.TheVariants.{NoMemory, Rule}
 use Rattle.sift_clocklab.specs.Conditions.{IsAdmitted, IsRefused}
 use Rattle.sift_clocklab.specs.Text.{OneTextOfARun}
 use Rattle.sift_load.specs.Mission.{IsDocument}
@@ -17,14 +16,6 @@ use Rattle.sift_lab_jobs.specs.declared.byz.ByzJob.{ByzJob}
 
 -- ---- `byz`
 
--- a rule that is broken is no want of memory
-no_want : (rule place : ℕ) → Rule rule place ≢ NoMemory
-no_want rule place e = cc
-
--- one refusal has one line
-one_line : (rule place rule' place' : ℕ) → Rule rule place ≡ Rule rule' place' → broken_rule rule place ≡ broken_rule rule' place'
-one_line rule place rule' place' e = cc
-
 -- a document has one tree
 one_tree : (bytes : List ℕ) (one other : Members) → IsDocument bytes one → IsDocument bytes other → one ≡ other
 one_tree bytes one other reads reads' = cc (reads.1, reads'.1)
@@ -34,13 +25,10 @@ module _ (one_plan : OnePlan) (accepted : PlansAreAccepted) (one_refusal : OneRe
   for_document : (document : Members) (one other : Reply) → ByzGivesFor document one → ByzGivesFor document other → one ≡ other
   for_document document one other (inl (plan, states, is)) (inl (plan', states', is')) =
       is ∙ (ap (λ (p : PlanData). done (text_of p)) (one_plan document plan plan' states states') ∙ sym is')
-  for_document document one other (inl (plan, states, is)) (inr (rule, place, breaks, is')) =
-      absurd (no_want rule place (accepted document plan (Rule rule place) states breaks))
-  for_document document one other (inr (rule, place, breaks, is)) (inl (plan, states, is')) =
-      absurd (no_want rule place (accepted document plan (Rule rule place) states breaks))
-  for_document document one other (inr (rule, place, breaks, is)) (inr (rule', place', breaks', is')) =
-      let same = one_refusal document (Rule rule place) (Rule rule' place') (no_want rule place) (no_want rule' place') breaks breaks' in
-      is ∙ (one_line rule place rule' place' same ∙ sym is')
+  for_document document one other (inl (plan, states, is)) (inr (broken, breaks, is')) = absurd (accepted document plan broken states breaks)
+  for_document document one other (inr (broken, breaks, is)) (inl (plan, states, is')) = absurd (accepted document plan broken states breaks)
+  for_document document one other (inr (broken, breaks, is)) (inr (broken', breaks', is')) =
+      is ∙ (ap broken_rule (one_refusal document broken broken' breaks breaks') ∙ sym is')
 
   -- and so do bytes
   pub one_byz : (job : ByzJob) → GivesOne (byz_duty job)

@@ -3,9 +3,9 @@ use Rattle.std.specs.Prelude.{codes, ℕ, ◌≡◌, ◌⊎◌, List, [], ◌∷
 use Rattle.std.specs.Fmt.{decimal}
 use Rattle.std.specs.List.{concat}
 use Rattle.toml.specs.Data.{Members}
-use Rattle.sift_byz.specs.Lawful.{IsPlanOf, rules_of}
+use Rattle.sift_document.specs.declared.rule.BrokenRule.{BrokenRule}
+use Rattle.sift_byz.specs.Lawful.{IsPlanOf, IsRefusedWith}
 use Rattle.sift_byz.specs.Plan.{PlanData}
-use Rattle.sift_byz.specs.Rules.{BreaksFirst}
 use Rattle.sift_byz.specs.Text.{text_of}
 use Rattle.sift_load.specs.Loads.{document_limit}
 use Rattle.sift_load.specs.Mission.{IsDocument, IsNoDocument}
@@ -15,15 +15,15 @@ use Rattle.sift_reply.specs.Duty.{Duty}
 use Rattle.sift_reply.specs.Reply.{Reply, done, done_status, reply}
 use Rattle.sift_lab_jobs.specs.declared.byz.ByzJob.{ByzJob}
 
--- the reply to a document of which this rule is the first that is broken, and this the first entry of `lie` that breaks it
-abbrev pub broken_rule : (rule place : ℕ) → Reply
-broken_rule rule place = reply 16 (concat (codes "byz rule " ∷ decimal rule ∷ codes " at " ∷ decimal place ∷ codes "\n" ∷ []))
+-- the reply to a document that breaks this rule first
+abbrev pub broken_rule : BrokenRule → Reply
+broken_rule broken = reply 16 (concat (codes "byz rule " ∷ decimal broken.number ∷ codes " at " ∷ decimal broken.place ∷ codes "\n" ∷ []))
 
 -- the text of the vectors of the plan that a document states, or which rule it breaks
 abbrev pub ByzGivesFor : Members → Reply → Type 0
 ByzGivesFor document came =
     ((plan : PlanData) × IsPlanOf document plan × (came ≡ done (text_of plan)))
-    ⊎ ((rule : ℕ) × (place : ℕ) × BreaksFirst (rules_of document) rule place × (came ≡ broken_rule rule place))
+    ⊎ ((broken : BrokenRule) × IsRefusedWith document broken × (came ≡ broken_rule broken))
 
 -- the reply for the document that the input is, or to an input that is none
 abbrev pub ByzGives : List ℕ → Reply → Type 0

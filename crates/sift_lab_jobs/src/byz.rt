@@ -5,7 +5,8 @@ ghost use Rattle.sift_lab_jobs.specs.Byz.{ByzGives, ByzGivesFor, broken_rule};
 ghost use Rattle.toml.specs.View.{table_view};
 
 use sift_base::{NoMemory, Stop};
-use sift_byz::{ByzStop, exchange, read_byz, vectors_text};
+use sift_byz::{exchange, read_byz, vectors_text};
+use sift_document::BrokenRule;
 use sift_load::{DOCUMENT_LIMIT, read_document};
 use sift_reply::{Begun, Job, Reply, Work};
 use std::alloc::Global;
@@ -50,16 +51,17 @@ fn reply_for(alloc: Global, document: &Table) -> Result<Reply, NoMemory>
             let text = vectors_text(alloc, &plan, &vectors)?;
             Ok(Reply::done(text))
         }
-        Err(ByzStop::Rule { rule, place }) => broken_rule(alloc, rule, place),
-        Err(ByzStop::NoMemory) => Err(NoMemory),
+        Err(Stop::Refused(broken)) => broken_rule(alloc, broken),
+        Err(Stop::NoMemory) => Err(NoMemory),
     }
 }
 
 /// The reply to a document that breaks a rule, at the entry of a lie.
-fn broken_rule(alloc: Global, rule: u32, place: u32) -> Result<Reply, NoMemory>
-    ensures { IfOk result (λ reply. reply ≡ broken_rule rule place) }
+fn broken_rule(alloc: Global, broken: BrokenRule) -> Result<Reply, NoMemory>
+    ensures { IfOk result (λ reply. reply ≡ broken_rule broken) }
 {
+    let BrokenRule { number, place } = broken;
     let mut line = String::new(alloc);
-    write!(line, "byz rule {rule} at {place}\n")?;
+    write!(line, "byz rule {number} at {place}\n")?;
     Ok(Reply::made(16, line))
 }

@@ -1,12 +1,14 @@
 //! Rows of documents of lies: the texts of their vectors, or the rules that they break.
 
-use sift_byz::{ByzPlan, ByzStop, exchange, read_byz, vectors_text};
+use sift_base::Stop;
+use sift_byz::{ByzPlan, exchange, read_byz, vectors_text};
+use sift_document::BrokenRule;
 use std::alloc::Global;
 use std::process::Abort;
 use std::test::Fail;
 
 /// The plan that a document states, or why it states none.
-fn read(alloc: Global, document: &str) -> Result<Result<ByzPlan, ByzStop>, Fail> {
+fn read(alloc: Global, document: &str) -> Result<Result<ByzPlan, Stop<BrokenRule>>, Fail> {
     let table = toml::table_from_str(alloc, document)?;
     Ok(read_byz(alloc, &table))
 }
@@ -72,12 +74,16 @@ fn expect(
     rt: &impl Abort,
     alloc: Global,
     document: &str,
-    rule: u32,
+    number: u32,
     place: u32,
 ) -> Result<(), Fail> {
     match read(alloc, document)? {
         Ok(_) => assert!(rt; false, "no rule: {document}"),
-        Err(stop) => assert_eq!(rt; stop, ByzStop::Rule { rule, place }, "{document}"),
+        Err(stop) => assert_eq!(rt;
+            stop,
+            Stop::Refused(BrokenRule { number, place }),
+            "{document}"
+        ),
     }
     Ok(())
 }

@@ -3,11 +3,11 @@ use Rattle.std.proofs.Common.{◌≡◌, ℕ, Some, sym, ap, subst}
 use Rattle.sift_base.specs.declared.stop.Stop.{Stop}
 use Rattle.toml.specs.Data.{Data, Members}
 use Rattle.sift_document.proofs.Order.{kept_joined, stopped, stopped_in}
-use Rattle.sift_scenario.specs.Clock.{BreaksClock, BreaksDrift, BreaksErrors, BreaksStart, clock_rules, clock_themes, error_of, figure_rules, number_in, rate_of, skew_of, unit_rules}
 use Rattle.sift_document.specs.Document.{members_of}
 use Rattle.sift_document.specs.Rules.{AreKept, IsKept, rule}
 use Rattle.sift_document.specs.Testing.{RefusesBy, RefusesFirst}
 use Rattle.sift_document.specs.declared.rule.BrokenRule.{BrokenRule}
+use Rattle.sift_scenario.specs.Clock.{BreaksClock, BreaksDrift, BreaksErrors, BreaksStart, clock_rules, clock_themes, error_of, figure_rules, number_in, rate_of, skew_of, unit_rules}
 
 -- a value, and the table that it is
 module _ (units : ℕ) (value : Data) (clock : Members) (same : clock ≡ members_of value) (known : IsKept (rule 6 (BreaksClock value))) where

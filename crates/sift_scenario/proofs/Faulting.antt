@@ -7,17 +7,17 @@ use Rattle.std.proofs.lemmas.Option.{slice_get-get_or, slice_get-map}
 use Rattle.std.specs.List.{slice_get}
 use Rattle.std.specs.Prelude.{option_map, unwrap_or}
 use Rattle.sift_script.specs.Script.{Change, Failing, Fault}
-use Rattle.sift_document.specs.Entries.{HoldsOf}
-use Rattle.sift_scenario.specs.Fault.{BreaksItems, changes_of, failing_from, fault_in, from_of, items_of, stated_storm, unit_of}
 use Rattle.sift_document.proofs.Places.{map_map, taken}
-use Rattle.sift_scenario.proofs.Starts.{read_values}
 use Rattle.sift_document.proofs.Testing.{tests_same}
 use Rattle.sift_document.specs.Document.{each_read}
+use Rattle.sift_document.specs.Entries.{HoldsOf}
+use Rattle.sift_document.specs.Testing.{Tests}
+use Rattle.sift_document.specs.declared.rule.BrokenRule.{BrokenRule}
+use Rattle.sift_scenario.specs.Fault.{BreaksItems, changes_of, failing_from, fault_in, from_of, items_of, stated_storm, unit_of}
+use Rattle.sift_scenario.proofs.Starts.{read_values}
 use Rattle.sift_scenario.specs.Item.{change_in}
 use Rattle.sift_scenario.specs.Reading.{AreFaultsRead}
-use Rattle.sift_document.specs.Testing.{Tests}
 use Rattle.sift_scenario.specs.declared.fault.Head.{Head}
-use Rattle.sift_document.specs.declared.rule.BrokenRule.{BrokenRule}
 
 -- ---- faults, one after another
 

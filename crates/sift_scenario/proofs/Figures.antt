@@ -2,9 +2,9 @@
 use Rattle.std.proofs.Common.{◌≡◌, ◌≤◌, ℕ, Option, Some, None, arith}
 use Rattle.std.specs.Prelude.{codes}
 use Rattle.toml.specs.Data.{Data, Members, get_member}
+use Rattle.sift_document.specs.Document.{integer_between, read_by}
 use Rattle.sift_scenario.proofs.Numbers.{between, between_at}
 use Rattle.sift_scenario.specs.Clock.{error_of, length_limit, length_of, rate_of, skew_of, tick_limit}
-use Rattle.sift_document.specs.Document.{integer_between, read_by}
 
 -- a number that is read, or 0 where none is there, is at most the limit
 few_or : (high : ℕ) (d : Option Data) (n : ℕ) → read_by 0 (integer_between 0 high) d ≡ Some n → n ≤ high

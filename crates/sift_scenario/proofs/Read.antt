@@ -6,16 +6,16 @@ use Rattle.toml.specs.Data.{Members}
 use Rattle.sift_compile.specs.Tasks.{AreCodesOf}
 use Rattle.sift_lang.specs.Tree.{tree_of}
 use Rattle.sift_parse.specs.Roll.{Roll}
+use Rattle.sift_document.specs.Document.{members_of}
+use Rattle.sift_document.specs.Rules.{AreKept}
 use Rattle.sift_scenario.proofs.Rolls.{few_words, turns}
 use Rattle.sift_scenario.proofs.Sensing.{few_sensors, sensors_differ}
 use Rattle.sift_scenario.proofs.Starts.{all_starts_from, counts_from, names_from, starts_long}
 use Rattle.sift_scenario.proofs.Themes.{kept_themes}
 use Rattle.sift_scenario.proofs.TaskRefusals.{text_refused_by}
-use Rattle.sift_document.specs.Document.{members_of}
 use Rattle.sift_scenario.specs.Program.{AreAllowed, AreTreesOf, all_starts, roll_for}
 use Rattle.sift_scenario.specs.Reading.{AreTasksOf, IsReadOf, IsRunningOf}
 use Rattle.sift_scenario.specs.Refusal.{IsFirstRefused, IsRefusedWith}
-use Rattle.sift_document.specs.Rules.{AreKept}
 use Rattle.sift_scenario.specs.Sensor.{sensor_names}
 use Rattle.sift_scenario.specs.Task.{counts_of, task_entries, tasks_of}
 use Rattle.sift_scenario.specs.TaskRules.{each_task_rules}

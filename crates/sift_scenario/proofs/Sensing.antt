@@ -8,16 +8,16 @@ use Rattle.toml.specs.Data.{Data, Members, get_member, no_members}
 use Rattle.sift_parse.specs.Outcome.{AreDistinct}
 use Rattle.sift_mission.specs.PartsFit.{HasWords, sensed_limit}
 use Rattle.sift_base.specs.Layout.{sensor_limit}
-use Rattle.sift_scenario.proofs.Decided.{stable}
 use Rattle.sift_document.proofs.DocumentLemmas.{array_entries}
-use Rattle.sift_scenario.proofs.Known.{known_array}
 use Rattle.sift_document.proofs.ReadEntries.{array_between-long}
+use Rattle.sift_document.specs.Document.{IsArrayOf, entries_of, members_of, word_array, word_value}
+use Rattle.sift_document.specs.Rules.{AreKept, IsKept, rule}
+use Rattle.sift_scenario.proofs.Decided.{stable}
+use Rattle.sift_scenario.proofs.Known.{known_array}
 use Rattle.sift_scenario.proofs.Rolls.{distinct}
 use Rattle.sift_scenario.proofs.Themes.{kept_themes}
-use Rattle.sift_document.specs.Document.{IsArrayOf, entries_of, members_of, word_array, word_value}
 use Rattle.sift_scenario.specs.Lawful.{IsLawful}
 use Rattle.sift_scenario.specs.Root.{units_of}
-use Rattle.sift_document.specs.Rules.{AreKept, IsKept, rule}
 use Rattle.sift_scenario.specs.Sensor.{BreaksSensors, sensor_names, sensor_rules, sensor_value, sensor_words, sensors_in, words_of}
 use Rattle.sift_scenario.specs.Task.{name_of}
 

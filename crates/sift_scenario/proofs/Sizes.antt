@@ -9,10 +9,10 @@ use Rattle.toml.specs.Data.{Data, boolean, no_members}
 use Rattle.sift_base.specs.Layout.{least_units}
 use Rattle.sift_table.specs.Schedule.{Schedule, plain_of}
 use Rattle.sift_document.proofs.DocumentLemmas.{array_entries}
-use Rattle.sift_scenario.proofs.Decided.{stable}
-use Rattle.sift_scenario.proofs.Known.{known_array, known_entry}
 use Rattle.sift_document.specs.Document.{IsArrayOf, entries_of, members_of}
 use Rattle.sift_document.specs.Rules.{IsKept, rule}
+use Rattle.sift_scenario.proofs.Decided.{stable}
+use Rattle.sift_scenario.proofs.Known.{known_array, known_entry}
 use Rattle.sift_scenario.specs.Table.{BreaksTables, IsTableEntry, plain_tables, schedule_in, schedules_by, size_count, tables_in}
 
 -- the schedule of a place has a size and a period

@@ -3,8 +3,8 @@ use Rattle.std.proofs.Common.{◌≡◌, ◌≢◌, ◌<◌, inl, inr, ℕ, List
 use Rattle.std.specs.List.{All}
 use Rattle.toml.specs.Data.{Members}
 use Rattle.sift_document.proofs.Places.{holds_here}
-use Rattle.sift_scenario.specs.Reading.{IsPartial}
 use Rattle.sift_document.specs.Rules.{IsKept, rule}
+use Rattle.sift_scenario.specs.Reading.{IsPartial}
 use Rattle.sift_scenario.specs.Table.{BreaksTimes, IsTimeless, positions_of, size_of}
 
 -- where the sizes are there, and the times are, what isn't read is the positions

@@ -3,20 +3,20 @@ use Rattle.std.proofs.Common.{◌≡◌, inr, List, length, Result, Ok, Err, sub
 use Rattle.sift_base.specs.declared.stop.Stop.{Stop}
 use Rattle.sift_base.specs.declared.stop.Stop.TheVariants as stop
 use Rattle.toml.specs.Data.{Data, Members}
-use Rattle.sift_scenario.proofs.Testing.{keeps_tasks}
 use Rattle.sift_document.specs.Document.{IsNoTableOf}
 use Rattle.sift_document.specs.Entries.{HoldsOf}
-use Rattle.sift_scenario.specs.Task.{task_entries, task_keys}
-use Rattle.sift_scenario.specs.TaskRules.{BreaksTasks, IsTaskNumber}
 use Rattle.sift_document.specs.Testing.{RefusesBy, Tests}
 use Rattle.sift_document.specs.declared.rule.BrokenRule.{BrokenRule}
+use Rattle.sift_scenario.proofs.Testing.{keeps_tasks}
+use Rattle.sift_scenario.specs.Task.{task_entries, task_keys}
+use Rattle.sift_scenario.specs.TaskRules.{BreaksTasks, IsTaskNumber}
 
 module _ (document : Members) (entries : List Data) (same : entries ≡ task_entries document) (number : IsTaskNumber (length entries)) where
   refused_task : (e : Stop BrokenRule) → RefusesBy 18 (λ place. HoldsOf entries place (IsNoTableOf task_keys)) e → RefusesBy 18 (BreaksTasks document) e
   refused_task (stop.Refused broken) refused = (
     refused.0,
     record {
-      broken = inr (subst (λ (es : List Data). HoldsOf es place (IsNoTableOf task_keys)) same refused.1.broken);
+      broken = inr (subst (λ (es : List Data). HoldsOf es broken.place (IsNoTableOf task_keys)) same refused.1.broken);
       first = λ at low. keeps_tasks document entries at same number (refused.1.first at low);
     },
   )

@@ -4,10 +4,10 @@ use Rattle.sift_base.specs.declared.stop.Stop.{Stop}
 use Rattle.std.specs.Prelude.{unwrap_or}
 use Rattle.toml.specs.Data.{Members}
 use Rattle.sift_document.proofs.Order.{AreAllKept, StopsIn, kept_each, kept_joined, stopped_in}
-use Rattle.sift_scenario.specs.Lawful.{IsLawful, rules_of, themes_for}
-use Rattle.sift_scenario.specs.Root.{root_rules, units_of, version_of}
 use Rattle.sift_document.specs.Testing.{RefusesFirst}
 use Rattle.sift_document.specs.declared.rule.BrokenRule.{BrokenRule}
+use Rattle.sift_scenario.specs.Lawful.{IsLawful, rules_of, themes_for}
+use Rattle.sift_scenario.specs.Root.{root_rules, units_of, version_of}
 
 module _ (document : Members) (units : ℕ) (is : units_of document ≡ Some units) where
   -- the number of units that is read is the one that is stated

@@ -1,5 +1,5 @@
 -- A document that states a mission isn't refused, and one that is refused is refused in one way.
-use Rattle.std.proofs.Common.{◌≡◌, ◌<◌, inl, inr, ℕ, List, [], ◌∷◌, length, get_or, take, Some, Result, Ok, Err, IfOk, IfErr, refl, sym, ap, subst, ◌∙◌, arith}
+use Rattle.std.proofs.Common.{◌≡◌, ◌<◌, inl, inr, ℕ, List, length, get_or, take, Some, Result, Ok, Err, IfOk, IfErr, refl, sym, ap, subst, ◌∙◌, arith}
 use Rattle.sift_base.specs.Stop.{IfRefused}
 use Rattle.sift_base.specs.declared.stop.Stop.{Stop}
 use Rattle.sift_base.specs.declared.stop.Stop.TheVariants as stop
@@ -21,11 +21,11 @@ use Rattle.sift_table.specs.Schedule.{Schedule}
 use Rattle.sift_mission.specs.Data.{MissionData, shapes_in}
 use Rattle.sift_mission.specs.Parts.{data_of}
 use Rattle.sift_mission.specs.declared.parts.MissionParts.{MissionParts}
+use Rattle.sift_document.proofs.OneBroken.{kept_unbroken, one_broken}
+use Rattle.sift_document.specs.Testing.{OnlyRefuses}
 use Rattle.sift_scenario.proofs.OneMission.{one_stated}
 use Rattle.sift_scenario.proofs.UniqueForms.{one_forms, one_tree}
-use Rattle.sift_document.proofs.OneBroken.{kept_unbroken, one_broken}
 use Rattle.sift_scenario.proofs.Unrefused.{first_trees, no_want, one_entry, tree_unrefused, unrefused_among}
-use Rattle.sift_document.specs.Testing.{OnlyRefuses}
 use Rattle.sift_scenario.specs.Lawful.{rules_of}
 use Rattle.sift_scenario.specs.Laws.{MissionsAreAccepted, OneRefusal}
 use Rattle.sift_scenario.specs.Mission.{HasGoodTables, IsMission, IsStated}

@@ -7,12 +7,12 @@ use Rattle.std.specs.Prelude.{codes, unwrap_or}
 use Rattle.toml.specs.Data.{Data, Members, string, integer, float, boolean, datetime, array, table, no_members, member, as_table, get_member}
 use Rattle.sift_base.specs.Layout.{least_units}
 use Rattle.sift_table.specs.Schedule.{Schedule, plain_of}
+use Rattle.sift_document.specs.Document.{HasOnlyKeys, entries_of, keys_of, members_of, read_by}
+use Rattle.sift_document.specs.Rules.{IsKept, rule}
 use Rattle.sift_scenario.proofs.Sizes.{entry_fits}
 use Rattle.sift_scenario.proofs.Themes.{kept_themes}
-use Rattle.sift_document.specs.Document.{HasOnlyKeys, entries_of, keys_of, members_of, read_by}
 use Rattle.sift_scenario.specs.Laws.{VersionOneShedsNothing}
 use Rattle.sift_scenario.specs.Root.{version_of}
-use Rattle.sift_document.specs.Rules.{IsKept, rule}
 use Rattle.sift_scenario.specs.Table.{BreaksTables, IsTableEntry, schedule_in, schedules_by, shed_of, size_count, table_keys, table_value, tables_in}
 use Rattle.sift_scenario.specs.Task.{task_entries}
 

@@ -1,10 +1,10 @@
 -- The rules of a document, in the order of their numbers.
 use Rattle.std.specs.Prelude.{ℕ, List, [], ◌∷◌, unwrap_or}
 use Rattle.toml.specs.Data.{Members}
+use Rattle.sift_document.specs.Rules.{AreKept, BreaksFirst, Rule, joined}
 use Rattle.sift_scenario.specs.Clock.{clock_rules, clock_value}
 use Rattle.sift_scenario.specs.Fault.{fault_rules, fault_value}
 use Rattle.sift_scenario.specs.Root.{root_rules, units_of, version_of}
-use Rattle.sift_document.specs.Rules.{AreKept, BreaksFirst, Rule, joined}
 use Rattle.sift_scenario.specs.Sensor.{sensor_rules, sensor_value}
 use Rattle.sift_scenario.specs.Table.{later_table_rules, table_rules, table_value}
 use Rattle.sift_scenario.specs.TaskRules.{task_rules}

@@ -4,8 +4,8 @@ use Rattle.std.specs.List.{Contains}
 use Rattle.toml.specs.Data.{Data, Members, get_member, as_str}
 use Rattle.sift_base.specs.Name.{IsName}
 use Rattle.sift_base.specs.Shapes.{output_limit}
-use Rattle.sift_document.specs.Entries.{AreMatched}
 use Rattle.sift_document.specs.Document.{entries_of, members_of, read_at, word_array}
+use Rattle.sift_document.specs.Entries.{AreMatched}
 
 -- the entries of `task`
 abbrev pub task_entries : Members → List Data

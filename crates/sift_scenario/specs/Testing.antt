@@ -14,12 +14,12 @@ use Rattle.sift_script.specs.Rules as scripts
 use Rattle.sift_script.specs.Script.{FaultScript}
 use Rattle.sift_table.specs.Rules as tables
 use Rattle.sift_table.specs.Schedule.{Schedule}
+use Rattle.sift_document.specs.Document.{word_array}
+use Rattle.sift_document.specs.declared.rule.BrokenRule.{BrokenRule}
 use Rattle.sift_scenario.specs.declared.refused.Refused.{Refused}
 use Rattle.sift_scenario.specs.declared.refused.Refused.TheVariants.{Scenario, Task, Table, Script}
 use Rattle.sift_scenario.specs.declared.task.Form as held
 use Rattle.sift_scenario.specs.declared.task.Form.TheVariants as variant
-use Rattle.sift_document.specs.Document.{word_array}
-use Rattle.sift_document.specs.declared.rule.BrokenRule.{BrokenRule}
 use Rattle.sift_scenario.specs.Program.{turn_of}
 use Rattle.sift_scenario.specs.Refusal.{IsFirstBadTable, IsOver}
 use Rattle.sift_scenario.specs.Task.{Form, linear, text}

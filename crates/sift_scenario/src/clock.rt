@@ -5,10 +5,10 @@ ghost use Rattle.std.specs.List.{All};
 ghost use Rattle.toml.specs.View.{table_view, view};
 ghost use Rattle.sift_base.specs.Units.{unit_limit};
 ghost use Rattle.sift_mission.specs.Parts.{clocks_of};
-ghost use Rattle.sift_scenario.specs.Clock.{BreaksClock, BreaksDrift, BreaksErrorOrRate, BreaksErrors, BreaksLength, BreaksSkew, BreaksStart, IsLengthSmall, IsSkewSmall, StartTogether, clock_rules, clock_value, clocks_in, drifts_of, error_of, errors_of, figure_rules, length_of, plain_clocks, rate_of, skew_of, starts_of, tick_limit, ticks_within, unit_ticks, zeros};
-ghost use Rattle.sift_clock.specs.Distance.{IsWithin};
 ghost use Rattle.sift_document.specs.Document.{array_between, integer_between, members_of, read_or};
 ghost use Rattle.sift_document.specs.Testing.{Tests, TestsEach};
+ghost use Rattle.sift_scenario.specs.Clock.{BreaksClock, BreaksDrift, BreaksErrorOrRate, BreaksErrors, BreaksLength, BreaksSkew, BreaksStart, IsLengthSmall, IsSkewSmall, StartTogether, clock_rules, clock_value, clocks_in, drifts_of, error_of, errors_of, figure_rules, length_of, plain_clocks, rate_of, skew_of, starts_of, tick_limit, ticks_within, unit_ticks, zeros};
+ghost use Rattle.sift_clock.specs.Distance.{IsWithin};
 
 use arrayvec::ArrayVec;
 use sift_base::Stop;

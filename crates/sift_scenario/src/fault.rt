@@ -6,15 +6,17 @@ ghost use Rattle.toml.specs.View.{table_view, view};
 ghost use Rattle.sift_script.specs.Script.{change_of, failing_of, fault_of, faults_of};
 ghost use Rattle.sift_document.specs.Document.{IsTableOf, each_read, entries_of, members_of};
 ghost use Rattle.sift_document.specs.Entries.{HoldsOf};
+ghost use Rattle.sift_document.specs.Testing.{Tests, TestsEach};
 ghost use Rattle.sift_scenario.specs.Fault.{AreItems, BreaksFaults, BreaksHeads, BreaksStorms, BreaksWays, HasOneWay, IsHeadless, failing_from, fault_in, fault_limit, fault_rules, fault_value, faults_in, from_of, items_of, stated_storm, unit_of};
 ghost use Rattle.sift_scenario.specs.Item.{change_in, item_keys};
 ghost use Rattle.sift_scenario.specs.Reading.{AreFaultsRead};
-ghost use Rattle.sift_document.specs.Testing.{Tests, TestsEach};
 
 use crate::item::item_of;
 use crate::storm::storm_in;
 use sift_base::{NoMemory, Stop};
-use sift_document::{BrokenRule, broken, entries_between, member_of, number_at, table_of, tables_in};
+use sift_document::{
+    BrokenRule, broken, entries_between, member_of, number_at, table_of, tables_in,
+};
 use sift_script::{Entry, Item, Plan, Script};
 use std::alloc::Global;
 use toml::{Table, Value};

@@ -2,8 +2,8 @@
 
 ghost use Rattle.std.specs.Prelude.{◌≡◌, ℕ, IfOk, Some, unwrap_or};
 ghost use Rattle.toml.specs.View.{table_view};
-ghost use Rattle.sift_scenario.specs.Root.{BreaksFrames, BreaksRootKeys, BreaksSubframes, BreaksUnits, BreaksVersion, frames_of, period_or, root_rules, units_of, version_of};
 ghost use Rattle.sift_document.specs.Testing.{Tests, TestsEach};
+ghost use Rattle.sift_scenario.specs.Root.{BreaksFrames, BreaksRootKeys, BreaksSubframes, BreaksUnits, BreaksVersion, frames_of, period_or, root_rules, units_of, version_of};
 
 use sift_base::Stop;
 use sift_document::{BrokenRule, broken, has_only_keys, number_at, optional_between};

@@ -4,9 +4,9 @@ ghost use Rattle.std.specs.Prelude.{◌≡◌, ◌≤◌, ◌<◌, ◌^◌, IfOk
 ghost use Rattle.toml.specs.View.{table_view, view};
 ghost use Rattle.sift_base.specs.Layout.{sensor_limit};
 ghost use Rattle.sift_document.specs.Document.{word_array};
+ghost use Rattle.sift_document.specs.Testing.{Tests, TestsEach};
 ghost use Rattle.sift_scenario.specs.Reading.{AreSensorsIn, AreSensorsOf};
 ghost use Rattle.sift_scenario.specs.Sensor.{BreaksSensed, BreaksSensors, sensor_rules, sensor_value, sensors_in, words_of};
-ghost use Rattle.sift_document.specs.Testing.{Tests, TestsEach};
 
 use crate::entries::names_in;
 use sift_base::{Name, NoMemory, Stop, Word};

@@ -10,13 +10,16 @@ ghost use Rattle.sift_table.specs.Schedule.{schedule_of};
 ghost use Rattle.sift_document.specs.Document.{array_of, members_of, read_at};
 ghost use Rattle.sift_document.specs.Entries.{HoldsOf};
 ghost use Rattle.sift_document.specs.Rules.{IsKept, rule};
+ghost use Rattle.sift_document.specs.Testing.{Tests, TestsEach};
 ghost use Rattle.sift_scenario.specs.Table.{BreaksPositions, BreaksTables, BreaksTimes, IsNoTableEntry, IsTableEntry, IsTimeless, plain_tables, positions_of};
 ghost use Rattle.sift_scenario.specs.Table.{BreaksShed, schedule_in, schedules_by, shed_of, size_of, subframe, table_keys, table_rules, table_value, tables_in};
 ghost use Rattle.sift_scenario.specs.Reading.{IsPartial};
-ghost use Rattle.sift_document.specs.Testing.{Tests, TestsEach};
 
 use sift_base::{NoMemory, Stop};
-use sift_document::{BrokenRule, broken, digit_lists, entries_at, entries_between, member_of, number_at, numbers_to, table_of};
+use sift_document::{
+    BrokenRule, broken, digit_lists, entries_at, entries_between, member_of, number_at, numbers_to,
+    table_of,
+};
 use sift_table::{Table, plain_table};
 use std::alloc::Global;
 use toml::Value;

@@ -3,10 +3,10 @@ use Rattle.std.proofs.Common.{◌≡◌, ◌==◌, ℕ, [], ◌∷◌, Bool, tru
 use Rattle.toml.specs.Data.{Members}
 use Rattle.sift_gen.specs.Draws.{draw_at}
 use Rattle.sift_gen.specs.Scenario.{fault_entries, fault_place, frame_count, task_count, unit_count}
-use Rattle.sift_document.specs.Document.{members_of}
 use Rattle.sift_scenario.specs.Fault.{fault_in}
 use Rattle.sift_script.specs.Faults.{storm_of}
 use Rattle.sift_script.specs.Script.{FaultScript}
+use Rattle.sift_document.specs.Document.{members_of}
 use Rattle.sift_trial.specs.Laws.{DrawnMissionsHaveNoStorms}
 
 -- what it states

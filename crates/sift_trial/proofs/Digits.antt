@@ -12,18 +12,18 @@ use Rattle.sift_base.proofs.Others.{length-others, times_in-ascending}
 use Rattle.sift_base.proofs.Sets.{passing_ascend}
 use Rattle.sift_base.specs.Units.{has, others}
 use Rattle.sift_gen.specs.Scenario.{other_digits}
-use Rattle.sift_document.specs.Document.{digit_of, digits_of, each_read}
 use Rattle.sift_script.specs.Rules.{AreReceivers}
 use Rattle.sift_mission.proofs.Numbers.{range-ascends}
+use Rattle.sift_document.specs.Document.{digit_to, digits_to, each_read}
 
 -- ---- digits
 
 -- the digit of a number below 8 is read as it
-digit_read : (u : ℕ) → u < 8 → digit_of (48 + u) ≡ Some u
+digit_read : (u : ℕ) → u < 8 → digit_to 7 (48 + u) ≡ Some u
 digit_read u low = let back : 48 + u - 48 ≡ u = omega arith in grind (arith, nat_tests)
 
 -- the digits of numbers below 8 are read as these numbers
-digits_read : (us : List ℕ) → All (λ u. u < 8) us → each_read digit_of (flat_map decimal us) ≡ Some us
+digits_read : (us : List ℕ) → All (λ u. u < 8) us → each_read (digit_to 7) (flat_map decimal us) ≡ Some us
 digits_read [] low = refl
 digits_read (u ∷ us) low =
     let here = All-head (λ u. u < 8) u us low in
@@ -50,7 +50,7 @@ other_units units unit = others unit (range_with_len 0 units)
 
 module _ (units unit : ℕ) (enough : 5 ≤ units) (few : units ≤ 8) where
   -- they are what is read of their digits
-  pub others_read : digits_of (string (other_digits units unit)) ≡ Some (other_units units unit)
+  pub others_read : digits_to 7 (string (other_digits units unit)) ≡ Some (other_units units unit)
   others_read =
       digits_read (other_units units unit) (All-filter (λ u. not (nat_eq u unit)) (λ u. u < 8) (range_with_len 0 units)
       (λ k d low. omega (arith, all_below units k d low, few)))

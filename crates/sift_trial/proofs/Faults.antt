@@ -5,12 +5,12 @@ use Rattle.std.specs.List.{Contains}
 use Rattle.toml.specs.Data.{Data, Members, table}
 use Rattle.sift_gen.specs.Entries.{array_of}
 use Rattle.sift_gen.specs.Scenario.{fault_entries, fault_item}
-use Rattle.sift_document.specs.Document.{HasOnlyKeys, IsTableOf, keys_of, members_of}
 use Rattle.sift_scenario.specs.Fault.{HasOneWay, IsFaultEntry, IsHeadless, IsSaying, changes_of, fault_in, fault_keys, fault_rules, from_of, stated_storm, unit_of}
 use Rattle.sift_scenario.specs.Item.{change_in, item_keys}
-use Rattle.sift_document.specs.Rules.{AreKept}
 use Rattle.sift_script.specs.Script.{Change, Fault, changing}
 use Rattle.sift_script.specs.declared.script.SlotKind.TheVariants.{Out}
+use Rattle.sift_document.specs.Document.{HasOnlyKeys, IsTableOf, keys_of, members_of}
+use Rattle.sift_document.specs.Rules.{AreKept}
 use Rattle.sift_trial.proofs.Digits.{other_units, others_read}
 use Rattle.sift_trial.proofs.Tables.{not_only}
 use Rattle.sift_trial.proofs.Values.{number_read, word_read}

@@ -4,8 +4,8 @@ use Rattle.std.proofs.lemmas.List.Elements.{All-from_recursion}
 use Rattle.std.specs.List.{Contains}
 use Rattle.toml.specs.Data.{Data, Members}
 use Rattle.sift_gen.specs.Scenario.{document_of}
-use Rattle.sift_document.specs.Document.{HasOnlyKeys, keys_of}
 use Rattle.sift_scenario.specs.Root.{frames_of, root_keys, root_rules, units_of}
+use Rattle.sift_document.specs.Document.{HasOnlyKeys, keys_of}
 use Rattle.sift_document.specs.Rules.{AreKept}
 use Rattle.sift_trial.proofs.Values.{number_read}
 

@@ -9,9 +9,9 @@ use Rattle.sift_gen.specs.Draws.{after, draw_at}
 use Rattle.sift_gen.specs.Entries.{array_of, items_in, number, placed}
 use Rattle.sift_gen.specs.Scenario.{sensor_tables, sensor_words, words_each}
 use Rattle.sift_gen.specs.Tasks.{sensor_name, word_values}
+use Rattle.sift_scenario.specs.Sensor.{IsSensorEntry, sensor_keys, sensor_rules, sensors_in, words_of}
 use Rattle.sift_document.specs.Document.{HasOnlyKeys, each_read, keys_of, list_of, word_value}
 use Rattle.sift_document.specs.Rules.{AreKept}
-use Rattle.sift_scenario.specs.Sensor.{IsSensorEntry, sensor_keys, sensor_rules, sensors_in, words_of}
 use Rattle.sift_trial.proofs.Ranges.{nowhere}
 use Rattle.sift_trial.proofs.Tables.{entries_kept, is_array, members_are, names_kept}
 use Rattle.sift_trial.proofs.Values.{draw_below, word_read}

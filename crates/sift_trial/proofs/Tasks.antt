@@ -10,11 +10,11 @@ use Rattle.sift_gen.specs.Draws.{after, draw_at}
 use Rattle.sift_gen.specs.Entries.{array_of, number, placed}
 use Rattle.sift_gen.specs.Scenario.{pattern_from, task_place, task_tables}
 use Rattle.sift_gen.specs.Tasks.{task_name, text_by, word_values}
+use Rattle.sift_scenario.specs.Task.{AreForms, Form, HasForm, counts_of, start_words, task_keys, task_outputs, text}
+use Rattle.sift_scenario.specs.TaskRules.{BreaksWords, each_task_rules}
 use Rattle.sift_document.specs.Document.{HasOnlyKeys, IsNoTableOf, IsTableOf, entries_of, keys_of, members_of}
 use Rattle.sift_document.specs.Entries.{HoldsOf}
 use Rattle.sift_document.specs.Rules.{AreKept}
-use Rattle.sift_scenario.specs.Task.{AreForms, Form, HasForm, counts_of, start_words, task_keys, task_outputs, text}
-use Rattle.sift_scenario.specs.TaskRules.{BreaksWords, each_task_rules}
 use Rattle.sift_trial.proofs.DrawnRoll.{words_sum}
 use Rattle.sift_trial.proofs.Ranges.{made_alike, made_of, matched, nowhere}
 use Rattle.sift_trial.proofs.Tables.{entries_kept, members_are, names_kept, tables_long}

@@ -1,8 +1,8 @@
 use Rattle.std.proofs.Common.{below_more, arith}
 use Rattle.toml.specs.View.{view}
-use Rattle.sift_byz.specs.Testing.{Keeps, number_of}
 use Rattle.sift_document.proofs.Places.{fails_here, holds_here, nowhere}
 use Rattle.sift_document.proofs.Testing.{first_broken}
+use Rattle.sift_byz.specs.Testing.{Keeps, number_of}
 use Rattle.sift_byz.proofs.lies.check_each.Goals as goal
 
 -- this entry is the first that doesn't keep the rule

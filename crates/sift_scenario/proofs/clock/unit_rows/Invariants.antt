@@ -1,7 +1,7 @@
 use Rattle.std.proofs.Common.{◌≡◌, Some, map, take, length}
 use Rattle.toml.specs.View.{view}
-use Rattle.sift_scenario.specs.Clock.{unit_ticks}
 use Rattle.sift_document.specs.Document.{each_read}
+use Rattle.sift_scenario.specs.Clock.{unit_ticks}
 use Rattle.sift_scenario.proofs.clock.unit_rows.Given as goal
 
 -- the rows so far

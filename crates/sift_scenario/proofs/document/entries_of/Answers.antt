@@ -1,22 +1,22 @@
 use Rattle.std.proofs.Common.{◌≡◌, Some, Err, rules, length, sym, ap, ◌∙◌, arith}
 use Rattle.std.specs.Prelude.{codes, unwrap_or}
 use Rattle.std.proofs.lemmas.List.{length-map}
-use Rattle.sift_document.specs.Document.{members_of}
 use Rattle.toml.specs.Data.{get_member}
 use Rattle.toml.specs.View.{table_view}
 use Rattle.sift_base.specs.Layout.{least_units}
 use Rattle.sift_base.specs.Units.{unit_limit}
 use Rattle.sift_table.specs.Laws.{shortest_period}
 use Rattle.sift_mission.specs.PartsFit.{longest_period}
-use Rattle.sift_scenario.proofs.Numbers.{between_at, between_or}
 use Rattle.sift_document.proofs.Order.{stopped}
+use Rattle.sift_document.specs.Document.{members_of}
+use Rattle.sift_document.specs.Rules.{AreKept}
+use Rattle.sift_document.specs.Testing.{RefusesFirst}
+use Rattle.sift_scenario.proofs.Numbers.{between_at, between_or}
 use Rattle.sift_scenario.proofs.Read.{count_is}
 use Rattle.sift_scenario.proofs.Themes.{for_version, root_refused, theme_refused, themes_kept}
 use Rattle.sift_scenario.specs.Root.{plain_period}
-use Rattle.sift_document.specs.Rules.{AreKept}
 use Rattle.sift_scenario.specs.Table.{later_table_rules, schedules_by, table_rules, table_value}
 use Rattle.sift_scenario.specs.Task.{task_entries}
-use Rattle.sift_document.specs.Testing.{RefusesFirst}
 use Rattle.sift_scenario.proofs.document.entries_of.Goals as goal
 
 -- a rule of the root is broken

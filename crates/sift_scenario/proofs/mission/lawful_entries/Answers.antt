@@ -1,7 +1,7 @@
 use Rattle.toml.specs.View.{table_view}
-use Rattle.sift_scenario.proofs.TaskRefusals.{rule_refused}
+use Rattle.sift_scenario.proofs.TaskRefusals as refusals
 use Rattle.sift_scenario.proofs.mission.lawful_entries.Goals as goal
 
 -- a rule is broken
-pub returns-in_err-clause-refused : goal.returns-in_err-clause-refused
-returns-in_err-clause-refused c = rule_refused _ _ c.entries_of.ensures.refused
+pub returns-in-Err-clause-refused : goal.returns-in-Err-clause-refused
+returns-in-Err-clause-refused c = rw c.rule_refused.ensures (refusals.rule_refused (table_view c.args.document.now) _ c.in-Err.ensures.refused)

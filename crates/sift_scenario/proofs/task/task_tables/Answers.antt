@@ -3,9 +3,9 @@ use Rattle.std.proofs.lemmas.List.{length-map}
 use Rattle.toml.specs.View.{table_view, view}
 use Rattle.sift_document.proofs.Order.{ok_from}
 use Rattle.sift_document.proofs.Places.{map_map}
+use Rattle.sift_document.specs.Document.{members_of}
 use Rattle.sift_scenario.proofs.TaskTests.{tested_tasks}
 use Rattle.sift_scenario.proofs.Testing.{some_entry}
-use Rattle.sift_document.specs.Document.{members_of}
 use Rattle.sift_scenario.specs.TaskRules.{IsTaskNumber}
 use Rattle.sift_scenario.proofs.task.task_tables.Goals as goal
 
