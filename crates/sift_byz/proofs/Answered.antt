@@ -1,13 +1,14 @@
 -- A document is answered in one way.
-use Rattle.std.proofs.Common.{◌≡◌, ◌≤◌, ◌+◌, ◌*◌, inl, inr, List, ℕ, length, map, pos, negsuc, Option, Some, None, Result, Ok, Err, IfOk, IfErr, refl, sym, ap, subst, ◌∙◌, arith}
+use Rattle.std.proofs.Common.{◌≡◌, ◌≤◌, ◌+◌, ◌*◌, inl, inr, List, ℕ, length, map, Option, Some, None, Result, Ok, Err, IfOk, IfErr, refl, sym, ap, subst, ◌∙◌, arith}
 use Rattle.std.specs.Prelude.{codes, option_and_then}
-use Rattle.toml.specs.Data.{Data, string, integer, float, boolean, datetime, array, table, Members, get_member}
+use Rattle.toml.specs.Data.{Data, Members, get_member}
 use Rattle.sift_base.specs.Stop.{IfRefused}
 use Rattle.sift_base.specs.declared.stop.Stop.{Stop}
 use Rattle.sift_base.specs.declared.stop.Stop.TheVariants as stop
+use Rattle.sift_document.proofs.Numbers.{between_at}
 use Rattle.sift_document.proofs.OneBroken.{kept_unbroken, one_broken}
 use Rattle.sift_document.proofs.ReadEntries.{array_between-long}
-use Rattle.sift_document.specs.Document.{integer_between, word_array, word_value}
+use Rattle.sift_document.specs.Document.{word_array, word_value}
 use Rattle.sift_document.specs.Testing.{OnlyRefuses}
 use Rattle.sift_document.specs.declared.rule.BrokenRule.{BrokenRule}
 use Rattle.sift_byz.specs.Lawful.{IsPlanOf, IsRefusedWith, OnePlan, OneRefusal, PlansAreAccepted, StatedPlansAreLawful, rules_of}
@@ -63,21 +64,6 @@ one_plan document one other stated stated' =
     ∙ ap (λ x. record { units = other.units; m = other.m; values = x; lies = one.lies }) values
     ∙ ap (λ x. record { units = other.units; m = other.m; values = other.values; lies = x }) lies
 
--- an integer between two numbers is no less and no more
-between_in : (low high n : ℕ) (d : Data) → integer_between low high d ≡ Some n → (low ≤ n) × (n ≤ high)
-between_in low high n (integer (pos k)) is = grind arith
-between_in low high n (integer (negsuc k)) is = cc
-between_in low high n (string s) is = cc
-between_in low high n (float x) is = cc
-between_in low high n (boolean b) is = cc
-between_in low high n (datetime t) is = cc
-between_in low high n (array xs) is = cc
-between_in low high n (table ms) is = cc
-
-between : (low high n : ℕ) (value : Option Data) → option_and_then (integer_between low high) value ≡ Some n → (low ≤ n) × (n ≤ high)
-between low high n None is = cc
-between low high n (Some d) is = between_in low high n d is
-
 -- as many words are read as are asked for
 values_long : (count : ℕ) (ys : List ℕ) (value : Option Data) → option_and_then (word_array count count) value ≡ Some ys → length ys ≡ count
 values_long count ys None is = cc
@@ -86,8 +72,8 @@ values_long count ys (Some d) is = let long = array_between-long count count wor
 -- a plan that a document states is within the limits, and its traitors are few
 pub stated_plans_are_lawful : StatedPlansAreLawful
 stated_plans_are_lawful document plan stated =
-    let m = between 0 most_traitors plan.m (get_member (codes "m") document) stated.m in
-    let units = between (3 * plan.m + 1) most_units plan.units (get_member (codes "units") document) stated.units in
+    let m = between_at 0 most_traitors (get_member (codes "m") document) plan.m stated.m in
+    let units = between_at (3 * plan.m + 1) most_units (get_member (codes "units") document) plan.units stated.units in
     let kept = kept_for_units document plan.m stated.m plan.units stated.units stated.lawful in
     let few : teller_count plan.units (map lie_in (lies_of document)) ≤ plan.m =
     few_tellers plan.units plan.m (map lie_in (lies_of document)) kept.1.1.1.1.1.1.1.1.0 in (

@@ -9,6 +9,7 @@ pub find-map : {X Y : Type 0} (f : X → Y) (p : Y → Bool) (xs : List X) → f
 find-map f p [] = refl
 find-map f p (x ∷ xs) = elim (cases_Bool (p (f x))) [ inl t ↦ rw t refl | inr e ↦ rw e (find-map f p xs) ]
 
+-- an option mapped by two functions in turn is mapped by both at once
 pub option_map-twice : {X Y Z : Type 0} (f : X → Y) (g : Y → Z) (o : Option X) → option_map g (option_map f o) ≡ option_map (λ x. g (f x)) o
 option_map-twice f g None = refl
 option_map-twice f g (Some x) = refl

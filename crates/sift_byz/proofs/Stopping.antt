@@ -22,8 +22,10 @@ module _ (document : Members) (m : ℕ) (m_is : m_of document ≡ Some m) where
     pub stopped_with_units : (k : ℕ) (e : Stop BrokenRule) → StopsAt k (rules_for units m document) e → RefusesFirst (rules_of document) e
     stopped_with_units k e stops = subst (λ rules. RefusesFirst rules e) (sym rules_stated) (stopped k (rules_for units m document) e stops)
 
+    -- where the rules for these numbers are kept, so are those of the document
     pub kept_with_units : AreKept (rules_for units m document) → AreKept (rules_of document)
     kept_with_units kept = subst AreKept (sym rules_stated) kept
 
+    -- where the rules of the document are kept, so are those for these numbers
     pub kept_for_units : AreKept (rules_of document) → AreKept (rules_for units m document)
     kept_for_units kept = subst AreKept rules_stated kept

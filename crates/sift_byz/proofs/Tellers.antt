@@ -166,6 +166,7 @@ module _ (units m : ℕ) (lies : List Lie) (paths : All (λ (lie : Lie). IsPath 
       subst (λ ls. AreTellers units ls tellers) (sym (one_more lies i lie low is))
       (teller_again units t last_low (take i (map lie_of lies)) (lie_of lie) last tellers are again)
 
+  -- a unit that no lie before this one has last is one teller more
   pub told_first : has tellers t ≡ false → AreTellers units (take (i + 1) (map lie_of lies)) (tellers ++ t ∷ [])
   told_first new =
       subst (λ ls. AreTellers units ls (tellers ++ t ∷ [])) (sym (one_more lies i lie low is))

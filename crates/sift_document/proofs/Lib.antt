@@ -1,5 +1,6 @@
 pub mod DocumentLemmas
 pub mod EntryTests
+pub mod Numbers
 pub mod OneBroken
 pub mod Order
 pub mod Places

@@ -44,17 +44,21 @@ module _
   pub start_kept : IsKept (rule 12 (BreaksStart units skew clock)) → IsKept (rule 12 (BreaksStart units (number_in (skew_of clock)) clock))
   start_kept kept = subst (λ (n : ℕ). IsKept (rule 12 (BreaksStart units n clock))) (sym (ap number_in skew_is)) kept
 
+  -- where the drifts are within the rate that is stated, their rule is kept
   pub drift_kept : IsKept (rule 13 (BreaksDrift units rate clock)) → IsKept (rule 13 (BreaksDrift units (number_in (rate_of clock)) clock))
   drift_kept kept = subst (λ (n : ℕ). IsKept (rule 13 (BreaksDrift units n clock))) (sym (ap number_in rate_is)) kept
 
+  -- where the errors are within the error that is stated, their rule is kept
   pub errors_kept : IsKept (rule 14 (BreaksErrors units error clock)) → IsKept (rule 14 (BreaksErrors units (number_in (error_of clock)) clock))
   errors_kept kept = subst (λ (n : ℕ). IsKept (rule 14 (BreaksErrors units n clock))) (sym (ap number_in error_is)) kept
 
+  -- where the starts keep their rule, a drift beyond the stated rate breaks the first rule of the units' clocks
   pub drift_refused :
       (e : Stop BrokenRule) → IsKept (rule 12 (BreaksStart units skew clock)) → RefusesBy 13 (BreaksDrift units rate clock) e → RefusesFirst (unit_rules units clock) e
   drift_refused e starts refused =
       stopped 1 (unit_rules units clock) e (start_kept starts, subst (λ (n : ℕ). RefusesBy 13 (BreaksDrift units n clock) e) (sym (ap number_in rate_is)) refused)
 
+  -- where starts and drifts keep their rules, so does an error beyond the stated one
   pub errors_refused :
       (e : Stop BrokenRule) → IsKept (rule 12 (BreaksStart units skew clock)) → IsKept (rule 13 (BreaksDrift units rate clock))
       → RefusesBy 14 (BreaksErrors units error clock) e → RefusesFirst (unit_rules units clock) e

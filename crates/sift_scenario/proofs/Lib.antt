@@ -14,7 +14,6 @@ pub mod KnownStarts
 pub mod Limits
 pub mod Made
 pub mod NewNames
-pub mod Numbers
 pub mod OneMission
 pub mod Periods
 pub mod Programs

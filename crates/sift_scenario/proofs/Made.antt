@@ -21,7 +21,7 @@ use Rattle.sift_program.specs.Needs.{program_shapes}
 use Rattle.sift_mission.specs.PartsFit.{PartsFit}
 use Rattle.sift_scenario.proofs.Assembling.{is_stated, layout_read, made, script_read, script_refused, table_refused}
 use Rattle.sift_scenario.proofs.Fitting.{fit}
-use Rattle.sift_scenario.proofs.Numbers.{between_at}
+use Rattle.sift_document.proofs.Numbers.{between_at}
 use Rattle.sift_scenario.proofs.Sensing.{as_many_sensors, few_sensors}
 use Rattle.sift_scenario.proofs.SoundPrograms.{stated_is_sound}
 use Rattle.sift_scenario.specs.Mission.{HasGoodTables, IsMission, IsStated}
@@ -38,6 +38,7 @@ module _ (document : Members) (entries : Entries) (running : Running) (read : Is
   sensors_are : length entries.sensors.words.items ≡ length (sensor_names document)
   sensors_are = sym (length-map entries.sensors.words.items (λ words. words.items)) ∙ ap length read.sensors.words ∙ as_many_sensors document
 
+  -- there are at most eight sensors
   pub sensors_few : length entries.sensors.words.items ≤ 8
   sensors_few = omega (arith, sensors_are, few_sensors document entries.units read.units read.lawful)
 

@@ -69,5 +69,6 @@ one_stated d one other a b =
     ∙ ap (λ (p : ProgramTree). data_from d other.units other.frames other.period p) program
     ∙ sym (from_stated d other b)
 
+-- a document states at most one mission
 pub one_mission : OneMission
 one_mission d one other a b = one_stated d one other a.stated b.stated

@@ -60,6 +60,7 @@ module _ (document : Members) (entries : Entries) (read : IsReadOf document entr
   pub length_is : (starts : List ℕ) → starts ≡ flat_map (λ words. words.items) entries.tasks.starts.items → length starts ≡ sum (counts_of (tasks_of document))
   length_is starts is = ap length (starts_are starts is) ∙ starts_long (tasks_of document)
 
+  -- the tasks have at most 64 output words
   pub words_few : sum (counts_of (tasks_of document)) ≤ 64
   words_few = few_words (tasks_of document) read.tasks.few.0 tasks_kept.1.1.0
 

@@ -76,6 +76,7 @@ module _ (units period tasks : ℕ) where
   schedules_long version None kept = plain_long
   schedules_long version (Some value) kept = stated_long version value kept
 
+  -- where the rule of tables is kept, the table at each place is of the size and the period that the place asks for
   pub schedules_sized :
       (version : ℕ) (value : Option Data) → IsKept (rule 23 (BreaksTables version units value)) → (i : ℕ) → i < length (schedules_by value units period tasks)
       → IsSized period (least_units + i) (schedule_at (schedules_by value units period tasks) i)

@@ -24,6 +24,7 @@ module _ (document : Members) (units : ℕ) (is : units_of document ≡ Some uni
   themes_kept kept =
       kept_joined (themes_for (unwrap_or (units_of document) 0) document) (subst (λ (n : ℕ). AreAllKept (themes_for n document)) (sym units_are) kept)
 
+  -- where the document keeps all rules, the rules of each theme are kept
   pub kept_themes : IsLawful document → AreAllKept (themes_for units document)
   kept_themes lawful =
       subst (λ (n : ℕ). AreAllKept (themes_for n document)) units_are (kept_each (themes_for (unwrap_or (units_of document) 0) document) lawful)

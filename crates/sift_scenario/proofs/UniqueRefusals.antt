@@ -74,6 +74,7 @@ stated_script d m entry rule states good refused =
     let bad : scripts.IsFirstBroken m.script rule entry = subst (λ (x : MissionData). scripts.IsFirstBroken x.script rule entry) same refused.bad in
     (script_laws.one_broken_rule m.script rule entry bad).0 good
 
+-- a document that states a mission isn't refused
 pub missions_are_accepted : MissionsAreAccepted
 missions_are_accepted d mission (Scenario n at) states refused = kept_unbroken (rules_of d) n at states.stated.lawful refused
 missions_are_accepted d mission (Task t k at) states refused = stated_tasks d mission (Task t k at) states.stated refused.1
@@ -185,6 +186,7 @@ one_script_refusal d entry rule other_entry other one two =
 
 -- ---- all of them
 
+-- a document is refused in one way
 pub one_refusal : OneRefusal
 one_refusal d (Scenario n at) (Scenario m other) one two =
     let same = one_broken (rules_of d) n at m other one two in rw (same.0, same.1) refl
