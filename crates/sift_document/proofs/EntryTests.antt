@@ -28,7 +28,9 @@ as_many_entries shown tables entries so =
 
 module _ (number low high : ℕ) (IsEntry : ℕ → Data → Type 0) (value : Data) where
   -- the value is no array of so many
-  pub refused_whole : (e : Stop BrokenRule) → (e ≡ stop.Refused (record { number = number; place = 0 })) × (IsArrayOf low high value → ⊥) → RefusesBy number (BreaksEntries low high IsEntry (Some value)) e
+  pub refused_whole :
+      (e : Stop BrokenRule) → (e ≡ stop.Refused (record { number = number; place = 0 })) × (IsArrayOf low high value → ⊥)
+      → RefusesBy number (BreaksEntries low high IsEntry (Some value)) e
   refused_whole e wrong = rw wrong.0 (
     refl,
     record {
