@@ -16,7 +16,7 @@ same statuses one other is own = subst (IsOwn statuses) (sym is) own
 
 of_byz : (bytes : List ℕ) (came : Reply) → ByzGives bytes came → IsOwn byz_statuses came
 of_byz bytes came (inl (document, read, inl (plan, states, is))) = same byz_statuses came _ is ((0, lit< tt, refl), grind arith)
-of_byz bytes came (inl (document, read, inr (rule, place, breaks, is))) = same byz_statuses came _ is ((2, lit< tt, refl), grind arith)
+of_byz bytes came (inl (document, read, inr (broken, breaks, is))) = same byz_statuses came _ is ((2, lit< tt, refl), grind arith)
 of_byz bytes came (inr (none, is)) = same byz_statuses came _ is ((1, lit< tt, refl), grind arith)
 
 -- each reply of `byz` has one of the command's statuses, and none that is shared
