@@ -10,7 +10,7 @@ use Rattle.sift_buffer.specs.Ledgers.{Ledger, saying_of, hearing_of, sayings_by,
 use Rattle.sift_buffer.specs.Sizes.{IsFull}
 use Rattle.sift_buffer.proofs.Sound.{flies_low}
 use Rattle.sift_buffer.proofs.Notes.{entry_of}
-use Rattle.sift_buffer.proofs.Tables.{entry_set}
+use Rattle.sift_buffer.proofs.lemmas.Tables.{entry_set}
 
 -- three functions with new values at one place, seen through another function
 put_all : {A B C D : Type 0} (F : A → B → C → D) (a : ℕ → ℕ → ℕ → A) (b : ℕ → ℕ → ℕ → B) (c : ℕ → ℕ → ℕ → C)

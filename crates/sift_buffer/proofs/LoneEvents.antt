@@ -9,7 +9,7 @@ use Rattle.sift_buffer.specs.Ledgers.{Ledger, conduct_in, conduct_with}
 use Rattle.sift_buffer.specs.Following.{reaches_one}
 use Rattle.sift_buffer.specs.LonePorts.{Follows, ranges_for, core_beside}
 use Rattle.sift_buffer.specs.declared.lone.LonePort.{LonePort}
-use Rattle.sift_buffer.proofs.Puts.{put_here, put_cases, put_else}
+use Rattle.sift_buffer.proofs.lemmas.Puts.{put_here, put_cases, put_else}
 
 -- the later of two values put at one place stands
 put_twice : {A : Type 0} (g : ℕ → A) (u : ℕ) (x y : A) → put (put g u x) u y ≡ put g u y

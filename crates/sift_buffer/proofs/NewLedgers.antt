@@ -4,7 +4,7 @@ use Rattle.sift_buffer.specs.Conduct.{fresh, never}
 use Rattle.sift_buffer.specs.Tables.{entry_at}
 use Rattle.sift_buffer.specs.Journals.{ranges_in, said_in, heard_in}
 use Rattle.sift_buffer.specs.Ledgers.{Ledger, saying_of, hearing_of, conduct_in}
-use Rattle.sift_buffer.proofs.Tables.{entry_none}
+use Rattle.sift_buffer.proofs.lemmas.Tables.{entry_none}
 
 -- a list of zeros has nothing else
 zeros : (n i : ℕ) → ◌≡◌ {A = ℕ} (slice_index_or (replicate n 0) i 0) 0

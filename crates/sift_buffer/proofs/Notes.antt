@@ -4,7 +4,7 @@ use Rattle.sift_buffer.specs.Ranges.{IsPlace}
 use Rattle.sift_buffer.specs.Tables.{IsEntry, entry_number}
 use Rattle.sift_buffer.specs.Journals.{Pages, ranges_in, NotesSaid, NotesHeard}
 use Rattle.sift_buffer.specs.Sizes.{IsSized}
-use Rattle.sift_buffer.proofs.Tables.{entry_set}
+use Rattle.sift_buffer.proofs.lemmas.Tables.{entry_set}
 
 -- the entry of a place is there
 pub entry_of : (j : Pages) (f k q : ℕ) → IsPlace (ranges_in j) j.unit q k f → IsEntry (ranges_in j) f k q

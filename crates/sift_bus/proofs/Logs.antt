@@ -4,7 +4,7 @@ use Rattle.sift_base.specs.declared.layout.Layout.{Layout}
 use Rattle.sift_buffer.specs.Conduct.{put_at}
 use Rattle.sift_buffer.specs.Ranges.{Ranges}
 use Rattle.sift_buffer.specs.Tables.{IsEntry, ranges_of, entry_at, entry_count, entry_number}
-use Rattle.sift_buffer.proofs.Tables.{entry_none, entry_set}
+use Rattle.sift_buffer.proofs.lemmas.Tables.{entry_none, entry_set}
 use Rattle.sift_bus.specs.Logs.{log_by, blank_log, has_entry, none_wrong}
 
 -- a list of one value has nothing else

@@ -2,7 +2,7 @@
 use Rattle.std.proofs.Common.{◌≡◌, inl, inr, ℕ, zero, suc, ◌+◌, ◌<◌, ◌==◌, ◌&&◌, Bool, true, false, not, List, [], ◌∷◌, Option, Some, None, if◌then◌else◌, refl, sym, ap, ◌∙◌, subst, arith, lt-ltb, ne_eqb, eq-eqb}
 use Rattle.sift_buffer.specs.Conduct.{Hearing, put_at}
 use Rattle.sift_buffer.specs.Ranges.{Ranges}
-use Rattle.sift_buffer.proofs.Puts.{some_same}
+use Rattle.sift_buffer.proofs.lemmas.Puts.{some_same}
 use Rattle.sift_bus.specs.Buses.{Carriage, is_same}
 use Rattle.sift_bus.specs.Links.{Link, CarriesAll, IsBlank, HasHeardNothing, gets_wrong}
 use Rattle.sift_bus.specs.Logs.{Log, log_with, has_entry, count_below, count_places}

@@ -3,7 +3,7 @@ use Rattle.std.proofs.Common.{◌≡◌, ℕ, Some, sym, ap, subst, ◌∙◌}
 use Rattle.std.specs.Prelude.{unwrap_or}
 use Rattle.toml.specs.Data.{Members}
 use Rattle.sift_base.specs.declared.stop.Stop.{Stop}
-use Rattle.sift_document.proofs.Order.{StopsAt, stopped}
+use Rattle.sift_document.proofs.lemmas.Order.{StopsAt, stopped}
 use Rattle.sift_document.specs.Rules.{AreKept}
 use Rattle.sift_document.specs.Testing.{RefusesFirst}
 use Rattle.sift_document.specs.declared.rule.BrokenRule.{BrokenRule}

@@ -6,8 +6,8 @@ use Rattle.std.proofs.lemmas.Bool.{cases_Bool, cases_lt, eqb-true}
 use Rattle.std.proofs.lemmas.List.{get_or-map, length-map, take_all, take_more}
 use Rattle.std.proofs.lemmas.List.Folds.{list_any-append}
 use Rattle.sift_base.specs.Units.{has}
-use Rattle.sift_base.proofs.Counts.{count-cons, count-no, count-yes, nat_eq-same}
-use Rattle.sift_base.proofs.Others.{count-others-<, times_in, times_in-ascending}
+use Rattle.sift_base.proofs.lemmas.Counts.{count-cons, count-no, count-yes, nat_eq-same}
+use Rattle.sift_base.proofs.lemmas.Others.{count-others-<, times_in, times_in-ascending}
 use Rattle.sift_byz.specs.declared.plan.Lie.{Lie}
 use Rattle.sift_byz.specs.Lawful.{BreaksFew}
 use Rattle.sift_byz.specs.Plan.{LieData, lie_of, stands_last, teller_count, tells_some}

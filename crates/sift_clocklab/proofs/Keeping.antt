@@ -6,8 +6,8 @@ use Rattle.std.proofs.lemmas.Bool.{lt-ltb, ltb-true}
 use Rattle.std.proofs.lemmas.List.FromFn.{length-map-range_with_len, length-range_with_len, get_or-map-range_with_len}
 use Rattle.sift_clock.specs.Distance.{IsWithin}
 use Rattle.sift_skew.specs.Keeping.{AreWithin}
-use Rattle.sift_skew.proofs.Keeps.{skew_is_kept}
-use Rattle.sift_skew.proofs.Changes.{offsets_change_little}
+use Rattle.sift_skew.proofs.lemmas.Keeps.{skew_is_kept}
+use Rattle.sift_skew.proofs.lemmas.Changes.{offsets_change_little}
 use Rattle.sift_clocklab.specs.Laboratory.{Laboratory, clocks_of, working_of, works, drift_of, noise_of, reading_limit}
 use Rattle.sift_clocklab.specs.Conditions.{AreOfClocks, AreTicks, AreTogether, IsReady}
 use Rattle.sift_clocklab.specs.Rounds.{offset_of, ticks_ahead, reading_of, offset_after, offsets_after, offsets_from}

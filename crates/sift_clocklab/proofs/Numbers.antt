@@ -3,7 +3,7 @@ use Rattle.std.proofs.Common.{◌≡◌, ◌≢◌, ℕ, nat_eq, true, pos, eq-e
 use Rattle.std.specs.Fn.{iterate}
 use Rattle.std.proofs.lemmas.Bool.Decides.{nat_tests}
 use Rattle.sift_base.specs.Draw.{next_number}
-use Rattle.sift_base.proofs.Others.{not_same}
+use Rattle.sift_base.proofs.lemmas.Others.{not_same}
 use Rattle.sift_clocklab.specs.Draws.{after, noise_drawn, others_before, spread}
 
 -- once more

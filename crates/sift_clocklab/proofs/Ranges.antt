@@ -5,8 +5,8 @@ use Rattle.std.proofs.lemmas.Bool.{cases_Bool, eqb-true}
 use Rattle.std.proofs.lemmas.List.{append-nil}
 use Rattle.std.proofs.lemmas.List.Elements.{filter-append}
 use Rattle.sift_base.specs.Units.{others}
-use Rattle.sift_base.proofs.Counts.{apart, nat_eq-same}
-use Rattle.sift_base.proofs.Others.{not_same}
+use Rattle.sift_base.proofs.lemmas.Counts.{apart, nat_eq-same}
+use Rattle.sift_base.proofs.lemmas.Others.{not_same}
 
 -- a number more
 pub range-more : (a n : ℕ) → range_with_len a (suc n) ≡ range_with_len a n ++ (a + n) ∷ []

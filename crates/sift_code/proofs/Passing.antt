@@ -13,10 +13,10 @@ use Rattle.sift_code.specs.Enclosing.{opened_by, enclosing}
 use Rattle.sift_code.specs.Heights.{Arrival, Trail, trail_at, height_at, height_after, pops, pushes, next_height, height_behind, behind_jump, brought_by, brought_to}
 use Rattle.sift_code.specs.Refusal.{IsBadJump, IsBadJumpAt, IsBadTarget}
 use Rattle.sift_code.specs.Walk.{joined, summary, behind, AreBrought, IsAt}
-use Rattle.sift_code.proofs.Enclosing.{IsNoBrace, enclosing_here, opened_plain}
+use Rattle.sift_code.proofs.lemmas.Enclosing.{IsNoBrace, enclosing_here, opened_plain}
 use Rattle.sift_code.proofs.Walks.{read_height, read_brought}
 use Rattle.std.proofs.lemmas.Option.{slice_get_within}
-use Rattle.sift_code.proofs.Heights.{trail_here, height_here}
+use Rattle.sift_code.proofs.lemmas.Heights.{trail_here, height_here}
 
 -- ---- heights
 

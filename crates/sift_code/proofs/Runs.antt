@@ -10,7 +10,7 @@ use Rattle.sift_code.specs.Ends.{Fits, RunsTo}
 use Rattle.sift_code.specs.Work.{Agrees, Stands, Steps, locals_of, state_of}
 use Rattle.sift_code.proofs.Progress.{left_of}
 use Rattle.sift_code.proofs.Leading.{step_leads}
-use Rattle.sift_code.proofs.Ending.{start_agrees, sound_ends}
+use Rattle.sift_code.proofs.lemmas.Ending.{start_agrees, sound_ends}
 use Rattle.sift_code.proofs.Standing.{machine}
 
 -- a run that goes on from here as a run from the start does

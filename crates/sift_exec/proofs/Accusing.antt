@@ -2,9 +2,9 @@
 use Rattle.std.proofs.Common.{◌≡◌, ℕ, zero, suc, ◌+◌, Bool, not, ◌&&◌, cond, nat_eq, List, [], ◌∷◌, length, take, get_or, slice_get, Some, unwrap_or, arith, ap, ◌∙◌, refl, inl, inr}
 use Rattle.std.proofs.lemmas.Bool.{cases_Bool, eq-eqb, ne_eqb}
 use Rattle.sift_base.specs.Units.{others, IsAscending}
-use Rattle.sift_base.proofs.Counts.{count-cons}
-use Rattle.sift_base.proofs.Sets.{below_has}
-use Rattle.sift_config.proofs.Joining.{has_at}
+use Rattle.sift_base.proofs.lemmas.Counts.{count-cons}
+use Rattle.sift_base.proofs.lemmas.Sets.{below_has}
+use Rattle.sift_config.proofs.lemmas.Joining.{has_at}
 use Rattle.sift_exec.specs.Conviction.{accusers, report_by}
 
 -- the report of the unit at a position is the one at that position

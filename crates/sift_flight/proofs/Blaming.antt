@@ -9,7 +9,7 @@ use Rattle.sift_conduct.specs.Account.{Account, Places, caught}
 use Rattle.sift_conduct.specs.Conduct.{CatchConduct}
 use Rattle.sift_mission.specs.Mission.{FlownMission}
 use Rattle.sift_flight.proofs.Calls.{and_both}
-use Rattle.sift_flight.proofs.Naming.{holds-everyone}
+use Rattle.sift_flight.proofs.lemmas.Naming.{holds-everyone}
 
 -- where one of three tests is passed, what follows from each follows
 one_of : (a b c : Bool) (P : Type 0) → ((a || b) || c) ≡ true → (a ≡ true → P) → (b ≡ true → P) → (c ≡ true → P) → P

@@ -17,8 +17,8 @@ use Rattle.sift_conduct.specs.Conduct.{input_of, made, polled, poll_catches, rel
 use Rattle.sift_flight.specs.Calm.{Calm, four_units, mission_of}
 use Rattle.sift_flight.specs.CalmFlight.{word_in, account_of}
 use Rattle.sift_flight.proofs.Calls.{Call, call_of, call_is, and_both, told_apart}
-use Rattle.sift_flight.proofs.Configs.{reader_in}
-use Rattle.sift_flight.proofs.Naming.{holds-everyone}
+use Rattle.sift_flight.proofs.lemmas.Configs.{reader_in}
+use Rattle.sift_flight.proofs.lemmas.Naming.{holds-everyone}
 use Rattle.sift_flight.proofs.CalmBoards.{heard_by}
 
 -- one more unit of a list

@@ -10,7 +10,7 @@ use Rattle.sift_lang.specs.Tree.{TaskTree}
 use Rattle.sift_program.specs.Program.{ProgramTree}
 use Rattle.sift_program.specs.Sound.{output_count, first_word}
 use Rattle.sift_program.specs.Ideal.{ideal_frame, MeetsEachTask}
-use Rattle.sift_program.proofs.Unique.{ideal_frame-unique}
+use Rattle.sift_program.proofs.lemmas.Unique.{ideal_frame-unique}
 use Rattle.sift_mission.specs.Mission.{FlownMission}
 use Rattle.sift_mission.specs.Slots.{is_held}
 use Rattle.sift_mission.specs.Premises.{RunsProgram}

@@ -10,7 +10,7 @@ use Rattle.sift_conduct.specs.declared.account.Account.{Account as TheAccount}
 use Rattle.sift_mission.specs.Parts.{flown_of}
 use Rattle.sift_mission.specs.Premises.{IsFlyable}
 use Rattle.sift_mission.specs.declared.parts.MissionParts.{MissionParts}
-use Rattle.sift_mission.proofs.Numbers.{range-has}
+use Rattle.sift_mission.proofs.lemmas.Numbers.{range-has}
 use Rattle.sift_flight.specs.Configuration.{Works}
 use Rattle.sift_conduct.specs.Frames.{frames_before}
 use Rattle.sift_flight.specs.Told.{IsAccountOf, IsWhole, accounts_of, no_account, told}

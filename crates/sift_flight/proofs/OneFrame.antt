@@ -13,15 +13,15 @@ use Rattle.sift_flight.specs.Hearing.{Strays}
 use Rattle.sift_flight.specs.Configuration.{Works, lead_of, config_at}
 use Rattle.sift_mission.specs.Premises.{RunsProgram}
 use Rattle.sift_flight.specs.Headline.{agreed_at, shed_at, Headline}
-use Rattle.sift_flight.proofs.Configs.{reader_in}
+use Rattle.sift_flight.proofs.lemmas.Configs.{reader_in}
 use Rattle.sift_flight.proofs.Ideal.{IsStep, ideal_step}
 use Rattle.sift_flight.proofs.Working.{InFrame, Member, works_in, member_of, busy_here, conduct_here}
 use Rattle.sift_flight.proofs.Agreeing.{sensor_own, sensor_same, report_own, report_same}
 use Rattle.sift_flight.proofs.Timing.{leads, skew_within, slack_positive}
 use Rattle.sift_flight.proofs.Voting.{output_is}
-use Rattle.sift_flight.proofs.Naming.{none_named}
+use Rattle.sift_flight.proofs.lemmas.Naming.{none_named}
 use Rattle.sift_flight.proofs.Removing.{names, next_one, next_exact, stays, next_is_config}
-use Rattle.sift_flight.proofs.Leading.{lead_works}
+use Rattle.sift_flight.proofs.lemmas.Leading.{lead_works}
 
 module _ (m : FlownMission) (program : ProgramTree) (strays : Strays) (fl : Flight) (f : ℕ) (runs : RunsProgram m program) (here : InFrame m strays fl f (config_at m fl f))
     (last_is : (u : ℕ) → Works m u f → last_of m (fl.account u) f ≡ words_before program (agreed_at m fl) (shed_at m fl) f) where

@@ -6,10 +6,10 @@ use Rattle.std.proofs.lemmas.Bool.{cases_Bool, cases_lt, cases_eq, le-ltb, lt-lt
 use Rattle.std.proofs.lemmas.Int.{ints}
 use Rattle.sift_base.specs.Units.{has}
 use Rattle.sift_base.specs.Layout.{least_units}
-use Rattle.sift_base.proofs.Sets.{passing_ascend}
+use Rattle.sift_base.proofs.lemmas.Sets.{passing_ascend}
 use Rattle.sift_clock.specs.Distance.{IsWithin}
 use Rattle.sift_exec.specs.Conviction.{is_convicted, kept_by, next_by}
-use Rattle.sift_skew.proofs.Changes.{offsets_change_little}
+use Rattle.sift_skew.proofs.lemmas.Changes.{offsets_change_little}
 use Rattle.sift_mission.specs.Mission.{IsConfigOf, FlownMission}
 use Rattle.sift_conduct.specs.Conduct.{reading_by}
 use Rattle.sift_mission.specs.Flown.{flown}
@@ -22,7 +22,7 @@ use Rattle.sift_flight.specs.Round.{IsRound}
 use Rattle.sift_flight.specs.Told.{AreAccountsOf, IsAccountOf, told}
 use Rattle.sift_flight.specs.Whole.{RoundFlightsAreWhole, RoundFlightsHaveAccounts}
 use Rattle.sift_flight.proofs.Blaming.{caught_inside, nobody_caught}
-use Rattle.sift_flight.proofs.Configs.{next_inside}
+use Rattle.sift_flight.proofs.lemmas.Configs.{next_inside}
 
 -- a test isn't passed and failed
 never_both : (b : Bool) → b ≡ true → b ≡ false → ⊥

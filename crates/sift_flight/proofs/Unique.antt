@@ -11,7 +11,7 @@ use Rattle.sift_flight.specs.Hearing.{Strays}
 use Rattle.sift_flight.specs.Existence.{StrayHearing, HearsStrays, AtMostOneHearsThem}
 use Rattle.sift_flight.specs.Round.{IsRound, HasNoStorms, AtMostOneIsRound}
 use Rattle.sift_flight.proofs.Calls.{call_of}
-use Rattle.sift_flight.proofs.Configs.{next_inside}
+use Rattle.sift_flight.proofs.lemmas.Configs.{next_inside}
 use Rattle.sift_flight.proofs.Reaching.{still_before}
 use Rattle.sift_flight.proofs.Same.{AreBothRound}
 use Rattle.sift_flight.proofs.SameWords.{all_outs}

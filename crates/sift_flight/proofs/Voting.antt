@@ -8,12 +8,12 @@ use Rattle.std.proofs.lemmas.List.{length-map}
 use Rattle.std.proofs.lemmas.Grind.{same_number_lists}
 use Rattle.sift_base.specs.Units.{has}
 use Rattle.sift_base.specs.declared.slot.Slot.TheVariants.{Out}
-use Rattle.sift_base.proofs.Counts.{count-cons, nat_eq-same}
+use Rattle.sift_base.proofs.lemmas.Counts.{count-cons, nat_eq-same}
 use Rattle.sift_vote.specs.Majority.{IsMajority}
 use Rattle.sift_vote.specs.Differing.{differs}
-use Rattle.sift_vote.proofs.Found.{majority_is_found}
-use Rattle.sift_agree.proofs.Taking.{votes-working}
-use Rattle.sift_agree.proofs.Winners.{won-agreed}
+use Rattle.sift_vote.proofs.lemmas.Found.{majority_is_found}
+use Rattle.sift_agree.proofs.lemmas.Taking.{votes-working}
+use Rattle.sift_agree.proofs.lemmas.Winners.{won-agreed}
 use Rattle.sift_mission.specs.Mission.{FlownMission}
 use Rattle.sift_mission.specs.Slots.{executors, is_held}
 use Rattle.sift_conduct.specs.Conduct.{made, polled, any_below, poll_catches}
@@ -21,7 +21,7 @@ use Rattle.sift_conduct.specs.Frames.{last_of}
 use Rattle.sift_flight.specs.Flight.{Flight}
 use Rattle.sift_flight.specs.Hearing.{Strays}
 use Rattle.sift_flight.proofs.Calls.{and_both}
-use Rattle.sift_flight.proofs.Configs.{filter_has, has_filter}
+use Rattle.sift_flight.proofs.lemmas.Configs.{filter_has, has_filter}
 use Rattle.sift_flight.proofs.Ideal.{IsStep}
 use Rattle.sift_flight.proofs.Working.{InFrame, Member, conduct_here, hears, out_call}
 

@@ -7,8 +7,8 @@ use Rattle.std.specs.FinSet as set
 use Rattle.std.proofs.lemmas.Bool.{cases_Bool}
 use Rattle.std.proofs.lemmas.Bool.Decides.{nat_tests}
 use Rattle.sift_base.specs.Units.{Units, has, holds}
-use Rattle.sift_base.proofs.Sets.{holds-insert}
-use Rattle.sift_flight.proofs.Counted.{filter-count}
+use Rattle.sift_base.proofs.lemmas.Sets.{holds-insert}
+use Rattle.sift_flight.proofs.lemmas.Counted.{filter-count}
 use Rattle.sift_judge.proofs.UnitSets.{filter_both}
 
 -- those of the working units that pass are as many as are counted of all

@@ -21,8 +21,8 @@ use Rattle.sift_mission.specs.Premises.{IsAmong, RunsProgram}
 use Rattle.sift_mission.proofs.FitSlots.{few-words}
 use Rattle.sift_mission.proofs.FitTables.{table-is, task-below, words-are}
 use Rattle.sift_mission.proofs.Meanings.{SameRead, meaning-same}
-use Rattle.sift_mission.proofs.Numbers.{has-range, range-has}
-use Rattle.sift_program.proofs.ShapeLists.{length-shapes, shape-there, take-shapes, words-shapes}
+use Rattle.sift_mission.proofs.lemmas.Numbers.{has-range, range-has}
+use Rattle.sift_program.proofs.lemmas.ShapeLists.{length-shapes, shape-there, take-shapes, words-shapes}
 use Rattle.sift_mission.proofs.Tasks.{among-before, among-earlier, among-own, any-has, contains-has, filter-has, has-filter}
 
 -- sound tasks have a word each, or more

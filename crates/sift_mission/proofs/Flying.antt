@@ -11,7 +11,7 @@ use Rattle.sift_mission.specs.Premises.{AreClocksSound, IsScriptSound, PartsMake
 use Rattle.sift_mission.specs.Slots.{turned_by, StormsCome}
 use Rattle.sift_mission.proofs.FitTasks.{program-is}
 use Rattle.sift_mission.proofs.Rows.{drift-low, error-low, errors-low, start-low}
-use Rattle.sift_mission.proofs.Numbers.{has-range}
+use Rattle.sift_mission.proofs.lemmas.Numbers.{has-range}
 
 -- a storm has come where its first frame has
 turned-is : (storm : Option (ℕ × ℕ × ℕ)) (f : ℕ) → turned_by (option_map (λ s. s.0) storm) f ≡ faults.has_come storm f

@@ -8,8 +8,8 @@ use Rattle.std.proofs.lemmas.Bool.{cases_Bool, cases_lt}
 use Rattle.std.proofs.lemmas.Nat.{shr-shr}
 use Rattle.std.proofs.lemmas.Nat.Bits.{bit_at-zero, bit_at_above, bit_at-trailing_zeros}
 use Rattle.sift_base.specs.Units.{Units, has, holds, units_of}
-use Rattle.sift_base.proofs.Counts.{apart}
-use Rattle.sift_base.proofs.Sets.{holds_low, holds-insert}
+use Rattle.sift_base.proofs.lemmas.Counts.{apart}
+use Rattle.sift_base.proofs.lemmas.Sets.{holds_low, holds-insert}
 use Rattle.sift_base.specs.declared.slot.Slot.{Slot}
 use Rattle.sift_mission.specs.Mission.{FlownMission}
 use Rattle.sift_base.specs.declared.slot.Slot.TheVariants.{Clock, Sense, RelaySense, Out, Report, RelayReport}

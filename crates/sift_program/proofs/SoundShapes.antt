@@ -8,7 +8,7 @@ use Rattle.sift_base.specs.Shapes.{AreShapes, Shape, shape_at}
 use Rattle.sift_lang.specs.Tree.{TaskTree, end}
 use Rattle.sift_program.specs.Program.{ProgramTree}
 use Rattle.sift_program.specs.Sound.{IsSoundProgram}
-use Rattle.sift_program.proofs.ShapeLists.{length-shapes, shape-there, words-shapes}
+use Rattle.sift_program.proofs.lemmas.ShapeLists.{length-shapes, shape-there, words-shapes}
 use Rattle.sift_program.specs.Needs.{program_shapes, reads_task, shape_in, task_at}
 
 -- the numbers from 0 on are below so many

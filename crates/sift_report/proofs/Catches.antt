@@ -13,15 +13,15 @@ use Rattle.std.proofs.lemmas.List.Folds.{list_any_more}
 use Rattle.std.proofs.lemmas.List.Elements.{All-cons, All-map, All-nil}
 use Rattle.sift_base.specs.Units.{Units, AreUnits, has, holds, members, unit_numbers}
 use Rattle.sift_base.specs.ReadBack.{has-filter, has_low}
-use Rattle.sift_base.proofs.Counts.{has-head, has-tail}
-use Rattle.sift_base.proofs.Sets.{holds-insert}
+use Rattle.sift_base.proofs.lemmas.Counts.{has-head, has-tail}
+use Rattle.sift_base.proofs.lemmas.Sets.{holds-insert}
 use Rattle.sift_exec.specs.Record.{everyone_in, has_kind, kinds_of}
 use Rattle.sift_exec.specs.declared.catches.Catches.{Catches}
 use Rattle.sift_exec.specs.declared.catches.Kind.{Kind}
 use Rattle.sift_exec.specs.declared.catches.Kind.TheVariants.{Poll, Relay, Clock}
 use Rattle.sift_exec.specs.declared.catches.Kinds.{Kinds}
-use Rattle.sift_flight.proofs.Counted.{filter-≤}
-use Rattle.sift_flight.proofs.Naming.{holds-everyone}
+use Rattle.sift_flight.proofs.lemmas.Counted.{filter-≤}
+use Rattle.sift_flight.proofs.lemmas.Naming.{holds-everyone}
 use Rattle.sift_report.specs.Bad.{AreCatches, AreTold, IsCatch, IsSomeKind, IsToldBy, bad_in, catch_of, catches_in, units_in}
 use Rattle.sift_report.specs.declared.catch.Catch.{Catch}
 use Rattle.sift_report.proofs.Sets.{nat_eq-swap}

@@ -5,9 +5,9 @@ use Rattle.std.proofs.lemmas.List.Sums.{sum_by_more_le}
 use Rattle.std.proofs.lemmas.Option.{slice_get-get_or}
 use Rattle.sift_lang.specs.Tree.{TaskTree, end}
 use Rattle.sift_lang.specs.Meaning.{meaning}
-use Rattle.sift_lang.proofs.States.{length-meaning}
-use Rattle.sift_program.proofs.Earlier.{meaning-same}
-use Rattle.sift_program.proofs.Frames.{first_word-more, words_made-more}
+use Rattle.sift_lang.proofs.lemmas.States.{length-meaning}
+use Rattle.sift_program.proofs.lemmas.Earlier.{meaning-same}
+use Rattle.sift_program.proofs.lemmas.Frames.{first_word-more, words_made-more}
 use Rattle.sift_program.specs.Ideal.{ideal_frame, words_made}
 use Rattle.sift_program.specs.Needs.{task_at}
 use Rattle.sift_program.specs.Program.{ProgramTree}

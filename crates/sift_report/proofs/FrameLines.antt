@@ -12,8 +12,8 @@ use Rattle.sift_flight.specs.Configuration.{HasMarginAt, Works, config_at, lead_
 use Rattle.sift_flight.specs.Figures.{skew_of, slack_of}
 use Rattle.sift_flight.specs.Flight.{Flight}
 use Rattle.sift_flight.specs.Headline.{Headline, agreed_at, two_caught}
-use Rattle.sift_flight.proofs.Configs.{filter_has, has_filter}
-use Rattle.sift_flight.proofs.Leading.{config_within, lead_works}
+use Rattle.sift_flight.proofs.lemmas.Configs.{filter_has, has_filter}
+use Rattle.sift_flight.proofs.lemmas.Leading.{config_within, lead_works}
 use Rattle.sift_report.specs.Headline.{IsTrueSkew, TellsClockSkew, TellsExactRemoval, TellsNoFalseAccusation, TellsSameInputs, two_tell, working_clocks}
 use Rattle.sift_report.specs.Sheet.{account_line, sheet_of}
 use Rattle.sift_report.specs.Told.{agreed_told, caught_told, clock_told, config_told, skew_told, slack_told, told_at, told_by, told_in}

@@ -5,7 +5,7 @@ use Rattle.std.proofs.lemmas.Int.{ints}
 use Rattle.std.proofs.lemmas.Option.{none-some, same_Some}
 use Rattle.sift_base.specs.Margin.{HasMargin}
 use Rattle.sift_base.specs.Units.{has}
-use Rattle.sift_skew.proofs.Leads.{skew_is_unique}
+use Rattle.sift_skew.proofs.lemmas.Leads.{skew_is_unique}
 use Rattle.sift_table.specs.Laws.{PlainTablesAreGood}
 use Rattle.sift_flight.specs.Calms.{CalmMissionsFly}
 use Rattle.sift_report.specs.Headline.{two_tell}

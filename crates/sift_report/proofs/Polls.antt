@@ -21,7 +21,7 @@ use Rattle.sift_mission.specs.PartsFit.{PartsFit}
 use Rattle.sift_mission.specs.declared.parts.MissionParts.{MissionParts}
 use Rattle.sift_vote.specs.Agreed.{majority_of}
 use Rattle.sift_vote.specs.Majority.{HasNoMajority, IsMajority}
-use Rattle.sift_vote.proofs.Found.{majority_is_found}
+use Rattle.sift_vote.proofs.lemmas.Found.{majority_is_found}
 use Rattle.sift_flight.specs.Flight.{Flight}
 use Rattle.sift_report.specs.Part.{blank, list_text, unit_digit}
 use Rattle.sift_report.specs.Poll.{poll_of, polled_text, polls_of}

@@ -8,11 +8,11 @@ use Rattle.std.proofs.lemmas.Bool.{cases_Bool, cases_eq, eqb-true}
 use Rattle.std.proofs.lemmas.List.{take_more}
 use Rattle.sift_base.specs.Units.{Units, AreUnits, IsAscending, has, holds, members, unit_limit, unit_numbers}
 use Rattle.sift_base.specs.ReadBack.{set-members}
-use Rattle.sift_base.proofs.Counts.{has-head, has-tail}
-use Rattle.sift_base.proofs.Others.{not_same}
-use Rattle.sift_base.proofs.Sets.{filter_same, below_has, holds-insert}
+use Rattle.sift_base.proofs.lemmas.Counts.{has-head, has-tail}
+use Rattle.sift_base.proofs.lemmas.Others.{not_same}
+use Rattle.sift_base.proofs.lemmas.Sets.{filter_same, below_has, holds-insert}
 use Rattle.sift_config.specs.Config.{IsConfig}
-use Rattle.sift_mission.proofs.Numbers.{range-has}
+use Rattle.sift_mission.proofs.lemmas.Numbers.{range-has}
 use Rattle.sift_report.specs.Part.{AscendFrom}
 
 -- ---- ascending lists

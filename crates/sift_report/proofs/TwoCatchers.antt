@@ -7,13 +7,13 @@ use Rattle.std.specs.Ordering.{nat_cmp}
 use Rattle.std.proofs.lemmas.Bool.{le-leb}
 use Rattle.std.proofs.lemmas.Int.{ints}
 use Rattle.sift_base.specs.Units.{has, holds}
-use Rattle.sift_base.proofs.Sets.{holds-insert}
+use Rattle.sift_base.proofs.lemmas.Sets.{holds-insert}
 use Rattle.sift_exec.specs.Record.{nobody, noted}
 use Rattle.sift_exec.specs.declared.catches.Kind.TheVariants.{Poll}
-use Rattle.sift_flight.proofs.Naming.{holds-everyone}
+use Rattle.sift_flight.proofs.lemmas.Naming.{holds-everyone}
 use Rattle.sift_report.specs.Bad.{units_in}
 use Rattle.sift_skew.specs.Figures.{IsSkew}
-use Rattle.sift_skew.proofs.Leads.{Contains-map}
+use Rattle.sift_skew.proofs.lemmas.Leads.{Contains-map}
 use Rattle.sift_mission.specs.PartsFit.{PartsFit}
 use Rattle.sift_report.specs.Form.{HasForm, IsUnitsLine}
 use Rattle.sift_report.specs.Headline.{TellsClockSkew, TellsExactRemoval, TellsIdealOutputs, TellsNoFalseAccusation, TellsSameConfiguration, TellsSameInputs, TellsTrueMargin, two_tell, working_clocks}

@@ -2,7 +2,7 @@
 use Rattle.std.proofs.Common.{◌≡◌, ℕ, Some, sym, ap, subst}
 use Rattle.sift_base.specs.declared.stop.Stop.{Stop}
 use Rattle.toml.specs.Data.{Data, Members}
-use Rattle.sift_document.proofs.Order.{kept_joined, stopped, stopped_in}
+use Rattle.sift_document.proofs.lemmas.Order.{kept_joined, stopped, stopped_in}
 use Rattle.sift_document.specs.Document.{members_of}
 use Rattle.sift_document.specs.Rules.{AreKept, IsKept, rule}
 use Rattle.sift_document.specs.Testing.{RefusesBy, RefusesFirst}

@@ -7,11 +7,11 @@ use Rattle.std.specs.Prelude.{codes, ℤ, pos, option_and_then, unwrap_or, ◌�
 use Rattle.sift_skew.specs.Limits.{AreNumbers, IsAdmitted}
 use Rattle.toml.specs.Data.{Data, Members, get_member}
 use Rattle.sift_mission.specs.PartsFit.{AreClocks}
-use Rattle.sift_document.proofs.Order.{kept_each}
+use Rattle.sift_document.proofs.lemmas.Order.{kept_each}
 use Rattle.sift_document.specs.Document.{integer_between, members_of, read_by}
 use Rattle.sift_document.specs.Rules.{AreKept}
 use Rattle.sift_scenario.proofs.KnownStarts.{together_in}
-use Rattle.sift_document.proofs.Numbers.{between, between_at}
+use Rattle.sift_document.proofs.lemmas.Numbers.{between, between_at}
 use Rattle.sift_scenario.proofs.Themes.{kept_themes}
 use Rattle.sift_scenario.proofs.Ticks.{All-replicate, AreRows, AreTicks, right_in, right_or, rows_near, rows_or, ticks_or, zeros_near}
 use Rattle.sift_scenario.specs.Clock.{StartTogether, clock_rules, clock_themes, clock_value, clocks_in, clocks_of, drifts_of, error_of, errors_of, figure_rules, length_limit, length_of, number_in, plain_clocks, rate_of, skew_of, starts_of, stated_clocks, tick_limit, unit_rules, zeros}

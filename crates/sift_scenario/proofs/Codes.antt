@@ -11,10 +11,10 @@ use Rattle.sift_compile.specs.Length.{task_steps}
 use Rattle.sift_compile.specs.Tasks.{AreCodesOf, IsCodeOf}
 use Rattle.sift_lang.specs.Sound.{IsSound}
 use Rattle.sift_lang.specs.Tree.{TaskTree}
-use Rattle.sift_parse.proofs.Sound.Task.{has_size, task_is_sound}
+use Rattle.sift_parse.proofs.lemmas.Sound.Task.{has_size, task_is_sound}
 use Rattle.sift_parse.specs.Outcome.{AreNames}
 use Rattle.sift_parse.specs.Roll.{first_word, Roll}
-use Rattle.sift_document.proofs.Places.{pushed}
+use Rattle.sift_document.proofs.lemmas.Places.{pushed}
 use Rattle.sift_scenario.proofs.Programs.{sound_tree}
 use Rattle.sift_scenario.specs.Program.{AreAllowed, IsTreeOf, IsWithin, steps_left}
 use Rattle.sift_scenario.specs.Task.{Form, linear, text}

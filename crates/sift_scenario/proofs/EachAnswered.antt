@@ -9,11 +9,11 @@ use Rattle.sift_compile.specs.Length.{code_limit, task_length, task_steps}
 use Rattle.sift_lang.specs.Tree.{TaskTree}
 use Rattle.sift_parse.specs.declared.stop.ParseStop.{ParseStop}
 use Rattle.sift_parse.specs.declared.stop.ParseStop.TheVariants as parse
-use Rattle.sift_parse.proofs.Refusals.Answered.{no_text_is_unanswered}
+use Rattle.sift_parse.proofs.lemmas.Refusals.Answered.{no_text_is_unanswered}
 use Rattle.sift_parse.specs.Answer as texts
 use Rattle.sift_parse.specs.Roll.{Roll, first_word}
 use Rattle.sift_parse.specs.Linear.{linear_tree}
-use Rattle.sift_document.proofs.Places.{matches_more}
+use Rattle.sift_document.proofs.lemmas.Places.{matches_more}
 use Rattle.sift_document.specs.Entries.{EachMatches}
 use Rattle.sift_document.specs.Rules.{AreKept}
 use Rattle.sift_scenario.proofs.Codes.{allowed_more}
@@ -35,8 +35,8 @@ use Rattle.sift_scenario.specs.Task.{AreForms, Form, HasForm, linear, tasks_of, 
 use Rattle.sift_scenario.specs.TaskRules.{BreaksForms, task_rules}
 use Rattle.sift_base.specs.Shapes.{AllShapes}
 use Rattle.sift_program.specs.Program.{ProgramTree}
-use Rattle.sift_script.proofs.Answered.{scripts_are_answered}
-use Rattle.sift_table.proofs.Answered.{tables_are_answered}
+use Rattle.sift_script.proofs.lemmas.Answered.{scripts_are_answered}
+use Rattle.sift_table.proofs.lemmas.Answered.{tables_are_answered}
 use Rattle.sift_table.specs.Rules as tables
 use Rattle.sift_table.specs.Schedule.{Schedule}
 use Rattle.sift_mission.specs.Data.{MissionData, shapes_in}

@@ -7,8 +7,8 @@ use Rattle.std.proofs.lemmas.Option.{slice_get-get_or, slice_get-map}
 use Rattle.std.specs.List.{slice_get}
 use Rattle.std.specs.Prelude.{option_map, unwrap_or}
 use Rattle.sift_script.specs.Script.{Change, Failing, Fault}
-use Rattle.sift_document.proofs.Places.{map_map, taken}
-use Rattle.sift_document.proofs.Testing.{tests_same}
+use Rattle.sift_document.proofs.lemmas.Places.{map_map, taken}
+use Rattle.sift_document.proofs.lemmas.Testing.{tests_same}
 use Rattle.sift_document.specs.Document.{each_read}
 use Rattle.sift_document.specs.Entries.{HoldsOf}
 use Rattle.sift_document.specs.Testing.{Tests}

@@ -5,7 +5,7 @@ use Rattle.toml.specs.Data.{Data, Items, Members, string, integer, float, boolea
 use Rattle.sift_base.specs.Name.{HasNameForm, IsName, IsNameByte, keywords}
 use Rattle.std.specs.List.{All}
 use Rattle.std.specs.Str.{byte}
-use Rattle.sift_document.proofs.ReadEntries.{array_between-long}
+use Rattle.sift_document.proofs.lemmas.ReadEntries.{array_between-long}
 use Rattle.sift_document.specs.Document.{HasOnlyKeys, IsArrayOf, IsTableOf, entries_of, keys_of, list_of, members_of, read_at, word_array, word_value}
 use Rattle.sift_scenario.proofs.Decided.{Decided, among, at_most, both, each, either, negated, nothing, same_number, same_option, same_text, same_value}
 use Rattle.sift_base.specs.Layout.{least_units}

@@ -7,7 +7,7 @@ use Rattle.sift_mission.specs.PartsFit.{longest_period}
 use Rattle.sift_document.specs.Document.{integer_between, read_by}
 use Rattle.sift_document.specs.Rules.{AreKept}
 use Rattle.sift_scenario.proofs.Decided.{at_most, both, stable}
-use Rattle.sift_document.proofs.Numbers.{between}
+use Rattle.sift_document.proofs.lemmas.Numbers.{between}
 use Rattle.sift_scenario.specs.Root.{period_of, plain_period}
 use Rattle.sift_scenario.specs.Task.{task_entries}
 use Rattle.sift_scenario.specs.TaskRules.{IsTaskNumber, task_rules}

@@ -9,7 +9,7 @@ use Rattle.toml.specs.Data.{Data, Members, get_member, no_members}
 use Rattle.sift_base.specs.Name.{IsName}
 use Rattle.sift_parse.specs.Answer.{HasSize}
 use Rattle.sift_parse.specs.Outcome.{AreDistinct, AreNames}
-use Rattle.sift_document.proofs.ReadEntries.{array_between-long}
+use Rattle.sift_document.proofs.lemmas.ReadEntries.{array_between-long}
 use Rattle.sift_document.specs.Document.{word_array, word_value}
 use Rattle.sift_scenario.specs.Program.{roll_for, turn_of}
 use Rattle.sift_scenario.specs.Task.{counts_of, name_of, names_of, start_words, task_outputs}

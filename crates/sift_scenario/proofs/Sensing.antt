@@ -8,8 +8,8 @@ use Rattle.toml.specs.Data.{Data, Members, get_member, no_members}
 use Rattle.sift_parse.specs.Outcome.{AreDistinct}
 use Rattle.sift_mission.specs.PartsFit.{HasWords, sensed_limit}
 use Rattle.sift_base.specs.Layout.{sensor_limit}
-use Rattle.sift_document.proofs.DocumentLemmas.{array_entries}
-use Rattle.sift_document.proofs.ReadEntries.{array_between-long}
+use Rattle.sift_document.proofs.lemmas.DocumentLemmas.{array_entries}
+use Rattle.sift_document.proofs.lemmas.ReadEntries.{array_between-long}
 use Rattle.sift_document.specs.Document.{IsArrayOf, entries_of, members_of, word_array, word_value}
 use Rattle.sift_document.specs.Rules.{AreKept, IsKept, rule}
 use Rattle.sift_scenario.proofs.Decided.{stable}

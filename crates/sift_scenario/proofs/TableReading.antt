@@ -2,7 +2,7 @@
 use Rattle.std.proofs.Common.{◌≡◌, ◌≢◌, ◌<◌, inl, inr, ℕ, List, length, get_or, map, None, sym, ap, ◌∙◌}
 use Rattle.std.specs.List.{All}
 use Rattle.toml.specs.Data.{Members}
-use Rattle.sift_document.proofs.Places.{holds_here}
+use Rattle.sift_document.proofs.lemmas.Places.{holds_here}
 use Rattle.sift_document.specs.Rules.{IsKept, rule}
 use Rattle.sift_scenario.specs.Reading.{IsPartial}
 use Rattle.sift_scenario.specs.Table.{BreaksTimes, IsTimeless, positions_of, size_of}

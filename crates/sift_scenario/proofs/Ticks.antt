@@ -6,7 +6,7 @@ use Rattle.std.specs.List.{All}
 use Rattle.std.specs.Prelude.{ℤ, pos, option_and_then, unwrap_or}
 use Rattle.toml.specs.Data.{Data, string, integer, float, boolean, datetime, array, table}
 use Rattle.sift_clock.specs.Distance.{IsWithin}
-use Rattle.sift_document.proofs.ReadEntries.{array_between-long, with_front-parts}
+use Rattle.sift_document.proofs.lemmas.ReadEntries.{array_between-long, with_front-parts}
 use Rattle.sift_document.specs.Document.{array_between, array_of, each_read, list_of, of_length, read_by}
 use Rattle.sift_scenario.proofs.Decided.{all_more}
 use Rattle.sift_scenario.specs.Clock.{ticks_within, unit_ticks, zeros}

@@ -10,18 +10,18 @@ use Rattle.std.specs.List.{All, slice_get}
 use Rattle.toml.specs.Data.{Members}
 use Rattle.sift_base.specs.Shapes.{AllShapes}
 use Rattle.sift_lang.specs.Tree.{TaskTree}
-use Rattle.sift_parse.proofs.Refusals.OneAnswer.{one_answer}
+use Rattle.sift_parse.proofs.lemmas.Refusals.OneAnswer.{one_answer}
 use Rattle.sift_parse.specs.Outcome.{Tells}
 use Rattle.sift_parse.specs.Roll.{Roll}
-use Rattle.sift_script.proofs.Refusals as script_laws
+use Rattle.sift_script.proofs.lemmas.Refusals as script_laws
 use Rattle.sift_script.specs.Rules as scripts
-use Rattle.sift_table.proofs.Refusals as table_laws
+use Rattle.sift_table.proofs.lemmas.Refusals as table_laws
 use Rattle.sift_table.specs.Rules as tables
 use Rattle.sift_table.specs.Schedule.{Schedule}
 use Rattle.sift_mission.specs.Data.{MissionData, shapes_in}
 use Rattle.sift_mission.specs.Parts.{data_of}
 use Rattle.sift_mission.specs.declared.parts.MissionParts.{MissionParts}
-use Rattle.sift_document.proofs.OneBroken.{kept_unbroken, one_broken}
+use Rattle.sift_document.proofs.lemmas.OneBroken.{kept_unbroken, one_broken}
 use Rattle.sift_document.specs.Testing.{OnlyRefuses}
 use Rattle.sift_scenario.proofs.OneMission.{one_stated}
 use Rattle.sift_scenario.proofs.UniqueForms.{one_forms, one_tree}

@@ -5,7 +5,7 @@ use Rattle.std.proofs.lemmas.Int.{ints}
 use Rattle.std.proofs.lemmas.Bool.{cases_Bool}
 use Rattle.sift_base.specs.Units.{has, others}
 use Rattle.sift_base.specs.Margin.{faulty_count}
-use Rattle.sift_base.proofs.Counts.{count-yes, count-no, has-head, has-tail}
+use Rattle.sift_base.proofs.lemmas.Counts.{count-yes, count-no, has-head, has-tail}
 use Rattle.sift_clock.specs.Reading.{counted}
 use Rattle.sift_clock.specs.Correction.{int_sum, counted_sum}
 

@@ -12,7 +12,7 @@ use Rattle.sift_rogue.specs.Calls.{Call}
 use Rattle.sift_rogue.specs.Storms.{Bounds, Storms}
 use Rattle.sift_unit.specs.Boards.{desk_of}
 use Rattle.sift_unit.specs.Down.{DownLaw, HasFlownAll}
-use Rattle.sift_core.proofs.Stages.{end_low}
+use Rattle.sift_core.proofs.lemmas.Stages.{end_low}
 use Rattle.sift_threads.specs.Flown.{HasLanded, HasStrayed, HasFlown}
 use Rattle.sift_threads.specs.Seats.{data_at, mission_at, end_at, storm_of, bounds_at, IsStraying, IsManned, IsDone, Came}
 use Rattle.sift_threads.specs.declared.seat.Seat.{Seat}

@@ -13,7 +13,7 @@ use Rattle.sift_unit.specs.declared.board.Board.{Board}
 use Rattle.sift_unit.specs.declared.stepped.Stepped.{Stepped}
 use Rattle.sift_unit.specs.declared.stepped.Stepped.TheVariants.{Moved, NotYet, Turned, Landed}
 use Rattle.sift_core.specs.Courses.{storm_at}
-use Rattle.sift_core.proofs.Stages.{end_low}
+use Rattle.sift_core.proofs.lemmas.Stages.{end_low}
 use Rattle.sift_threads.specs.SeatSteps.{BeginsStorm, StoresNext}
 use Rattle.sift_threads.specs.Seats.{mission_at, end_at, storm_of, bounds_at, IsAloft, IsStraying, IsManned, IsDone, Came, Comes}
 use Rattle.sift_threads.specs.declared.seat.Seat.{Seat}

@@ -29,7 +29,7 @@ use Rattle.sift_table.specs.Rules as tables
 use Rattle.sift_table.specs.Schedule.{plain_of}
 use Rattle.sift_mission.specs.Data.{MissionData, shapes_in}
 use Rattle.sift_program.specs.Needs.{program_shapes}
-use Rattle.sift_document.proofs.Order.{kept_joined}
+use Rattle.sift_document.proofs.lemmas.Order.{kept_joined}
 use Rattle.sift_document.specs.Rules.{AreKept}
 use Rattle.sift_trial.proofs.Faults.{fault_stated, faults_kept}
 use Rattle.sift_trial.proofs.Program.{drawn_trees, trees_allowed, trees_are, trees_long, trees_of_one_word}

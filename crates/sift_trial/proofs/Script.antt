@@ -2,7 +2,7 @@
 use Rattle.std.proofs.Common.{◌≡◌, ◌<◌, ◌≤◌, ℕ, zero, suc, List, [], ◌∷◌, length, false, nat_eq, refl, arith}
 use Rattle.std.proofs.lemmas.List.Elements.{All-cons, All-nil}
 use Rattle.std.specs.Prelude.{slice_index}
-use Rattle.sift_base.proofs.Others.{not_same}
+use Rattle.sift_base.proofs.lemmas.Others.{not_same}
 use Rattle.sift_base.specs.declared.layout.Layout.{Layout}
 use Rattle.sift_script.specs.Rules.{AreReceivers, IsGood, IsThere}
 use Rattle.sift_script.specs.Script.{FaultScript}

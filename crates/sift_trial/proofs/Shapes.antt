@@ -11,7 +11,7 @@ use Rattle.sift_program.specs.Program.{ProgramTree}
 use Rattle.sift_program.specs.Sound.{output_count}
 use Rattle.sift_script.specs.Script.{outputs_of}
 use Rattle.sift_trial.proofs.Digits.{all_below}
-use Rattle.sift_program.proofs.ShapeLists.{length-shapes, shape-there, words-shapes}
+use Rattle.sift_program.proofs.lemmas.ShapeLists.{length-shapes, shape-there, words-shapes}
 use Rattle.sift_program.specs.Needs.{program_shapes, reads_task, shape_in, task_at}
 
 -- each tree has one output

@@ -8,7 +8,7 @@ use Rattle.sift_base.specs.Units.{has}
 use Rattle.sift_skew.specs.Leading.{OffsetsChangeLittle}
 use Rattle.sift_buffer.specs.Conduct.{with_entered}
 use Rattle.sift_buffer.specs.Conduct.{Conduct as Acts}
-use Rattle.sift_mission.proofs.Silent.{speaks}
+use Rattle.sift_mission.proofs.lemmas.Silent.{speaks}
 use Rattle.sift_mission.specs.Mission.{FlownMission, IsConfigOf}
 use Rattle.sift_conduct.specs.Account.{Account}
 use Rattle.sift_conduct.specs.Frames.{last_of, BusyConduct}

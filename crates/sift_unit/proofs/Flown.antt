@@ -13,7 +13,7 @@ use Rattle.sift_unit.specs.Memory.{Memory}
 use Rattle.sift_unit.specs.Reach.{IsNearIn}
 use Rattle.sift_unit.specs.Boards.{desk_of, account_at, memory_of, NewBoardLaw, DriveLaw, AccountLaw}
 use Rattle.sift_conduct.specs.declared.account.Account.{Account as TheAccount}
-use Rattle.sift_mission.proofs.ByWords.{get_or-map}
+use Rattle.sift_mission.proofs.lemmas.ByWords.{get_or-map}
 use Rattle.sift_unit.proofs.Nearness.{near_enough}
 use Rattle.sift_unit.proofs.Standing.{stands}
 use Rattle.sift_unit.proofs.Marks.{kept_as, range_as, flying_as, not_never, at_end, end_not_never}

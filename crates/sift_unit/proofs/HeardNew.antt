@@ -7,8 +7,8 @@ use Rattle.std.proofs.lemmas.Bool.{cases_Bool}
 use Rattle.sift_base.specs.Units.{has, holds, others}
 use Rattle.sift_base.specs.declared.slot.Slot.{Slot}
 use Rattle.sift_base.specs.declared.slot.Slot.TheVariants.{Clock, Sense, RelaySense, Out, Report, RelayReport}
-use Rattle.sift_base.proofs.Counts.{nat_eq-same}
-use Rattle.sift_base.proofs.Others.{has-others}
+use Rattle.sift_base.proofs.lemmas.Counts.{nat_eq-same}
+use Rattle.sift_base.proofs.lemmas.Others.{has-others}
 use Rattle.sift_vote.specs.Agreed.{majority_of, agreed_of}
 use Rattle.sift_vote.specs.Differing.{differs}
 use Rattle.sift_agree.specs.Agreement.{taken}
@@ -25,8 +25,8 @@ use Rattle.sift_unit.specs.Remembered.{Heard, Ran, IsShaped, polled_words}
 use Rattle.sift_unit.proofs.Tests.{apart, and_in, both, not_true}
 use Rattle.sift_unit.proofs.Sets.{holds-gathered, filter_has, map-same}
 use Rattle.sift_unit.proofs.Calls.{call_is}
-use Rattle.sift_mission.proofs.Configs.{has-reader}
-use Rattle.sift_mission.proofs.Silent.{not_held}
+use Rattle.sift_mission.proofs.lemmas.Configs.{has-reader}
+use Rattle.sift_mission.proofs.lemmas.Silent.{not_held}
 
 module _ (m : FlownMission) (us : List ℕ) (u f : ℕ) (clk : ℤ) (a : Account) (h : Places) (last : List ℕ) (fit : Fits m) (config : IsConfigOf m us) (member : has us u ≡ true) where
   -- what was heard of a slot stands in the places

@@ -19,7 +19,7 @@ use Rattle.sift_unit.proofs.Tests.{apart, not_true}
 use Rattle.sift_unit.proofs.Sets.{renewed-here}
 use Rattle.sift_unit.proofs.Calls.{call_of}
 use Rattle.sift_unit.proofs.Kept.{made_long}
-use Rattle.sift_mission.proofs.Silent.{not_held}
+use Rattle.sift_mission.proofs.lemmas.Silent.{not_held}
 
 module _ (m : FlownMission) (us : List ℕ) (u f : ℕ) (clk : ℤ) (a : Account) (h : Places) (last : List ℕ) (fit : Fits m) (config : IsConfigOf m us) where
   -- a task's words, once it was run with all that it reads

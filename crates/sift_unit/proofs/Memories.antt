@@ -4,12 +4,12 @@ use Rattle.std.proofs.Common.{false, nat_cmp}
 use Rattle.sift_base.specs.ReadBack.{false_last}
 use Rattle.sift_vote.specs.Majority.{IsMajority, HasNoMajority}
 use Rattle.sift_vote.specs.Agreed.{majority_of}
-use Rattle.sift_vote.proofs.Found.{majority_is_found}
+use Rattle.sift_vote.proofs.lemmas.Found.{majority_is_found}
 use Rattle.std.proofs.Common.{Option, Some, None, refl}
 use Rattle.std.specs.Prelude.{IfSome, IfNone, slice_index_or, nat_le, if◌then◌else◌}
 use Rattle.std.proofs.lemmas.Bool.{cases_Bool}
 use Rattle.std.proofs.lemmas.List.{get_or_default}
-use Rattle.sift_base.proofs.Sets.{filter_same}
+use Rattle.sift_base.proofs.lemmas.Sets.{filter_same}
 use Rattle.sift_config.specs.Config.{remaining}
 use Rattle.sift_exec.specs.Conviction.{report_by, is_convicted, kept_by, next_by, next_units}
 use Rattle.std.specs.FinSet as set

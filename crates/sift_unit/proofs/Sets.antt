@@ -6,9 +6,9 @@ use Rattle.std.specs.FinSet as set
 use Rattle.std.proofs.lemmas.Bool.{and_parts}
 use Rattle.sift_base.specs.Units.{has, others, holds}
 use Rattle.sift_base.specs.ReadBack.{has-filter}
-use Rattle.sift_base.proofs.Counts.{has-head, has-tail, count-cons}
-use Rattle.sift_base.proofs.Others.{has-others}
-use Rattle.sift_base.proofs.Sets.{filter_same}
+use Rattle.sift_base.proofs.lemmas.Counts.{has-head, has-tail, count-cons}
+use Rattle.sift_base.proofs.lemmas.Others.{has-others}
+use Rattle.sift_base.proofs.lemmas.Sets.{filter_same}
 use Rattle.sift_exec.specs.Conviction.{is_convicted, kept_by, next_by}
 use Rattle.sift_unit.specs.Memory.{gathered, renewed}
 

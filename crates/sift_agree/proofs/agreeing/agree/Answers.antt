@@ -1,5 +1,5 @@
 use Rattle.std.proofs.Common.{◌∷◌, take_all, arith}
-use Rattle.sift_agree.proofs.Winners.{agreed-found, won-agreed, lost-agreed}
+use Rattle.sift_agree.proofs.lemmas.Winners.{agreed-found, won-agreed, lost-agreed}
 use Rattle.sift_agree.proofs.agreeing.agree.Goals as goal
 
 -- the direct word is the majority

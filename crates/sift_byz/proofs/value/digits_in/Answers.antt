@@ -1,5 +1,5 @@
 use Rattle.std.proofs.Common.{◌≡◌, ◌∙◌, None, Some, List, ℕ, arith, sym}
-use Rattle.sift_document.proofs.ReadEntries.{each_read-none, length-each_read, read-step}
+use Rattle.sift_document.proofs.lemmas.ReadEntries.{each_read-none, length-each_read, read-step}
 use Rattle.sift_document.specs.Document.{digit_to, each_read}
 use Rattle.sift_byz.proofs.value.digits_in.Goals as goal
 

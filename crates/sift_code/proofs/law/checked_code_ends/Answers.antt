@@ -1,4 +1,4 @@
-use Rattle.sift_code.proofs.Ending.{sound_ends}
+use Rattle.sift_code.proofs.lemmas.Ending.{sound_ends}
 use Rattle.sift_code.proofs.law.checked_code_ends.Goals as goal
 
 -- sound code comes to its end

@@ -1,4 +1,4 @@
-use Rattle.sift_exec.proofs.Justice.{conviction_holds}
+use Rattle.sift_exec.proofs.lemmas.Justice.{conviction_holds}
 use Rattle.sift_exec.proofs.conviction.conviction_is_just.Goals as goal
 
 pub returns : goal.returns

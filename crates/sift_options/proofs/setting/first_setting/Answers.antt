@@ -1,5 +1,5 @@
 use Rattle.std.proofs.Common.{string_bytes, Global, arith}
-use Rattle.sift_options.proofs.Words.{map-first}
+use Rattle.sift_options.proofs.lemmas.Words.{map-first}
 use Rattle.sift_options.proofs.setting.first_setting.Goals as goal
 
 -- the words are the first one and the rest

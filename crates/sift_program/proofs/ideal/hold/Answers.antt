@@ -1,5 +1,5 @@
 use Rattle.std.proofs.Common.{rules}
-use Rattle.sift_program.proofs.Frames.{words_held-range}
+use Rattle.sift_program.proofs.lemmas.Frames.{words_held-range}
 use Rattle.sift_program.proofs.ideal.hold.Goals as goal
 
 pub returns : goal.returns

@@ -1,5 +1,5 @@
 use Rattle.std.proofs.Common.{◌≡◌, ◌∷◌, rules}
-use Rattle.sift_report.proofs.Printed.{parts_all}
+use Rattle.sift_report.proofs.lemmas.Printed.{parts_all}
 use Rattle.sift_report.proofs.list.push_list.Goals as goal
 
 pub returns : goal.returns

@@ -2,7 +2,7 @@ use Rattle.std.proofs.Common.{◌≡◌, ◌∙◌, get_or, sym, ap}
 use Rattle.std.proofs.lemmas.Bool.{eqb-true}
 use Rattle.sift_base.specs.Layout.{slot_number}
 use Rattle.sift_base.specs.declared.slot.Slot.TheVariants.{Out}
-use Rattle.sift_base.proofs.Counts.{apart}
+use Rattle.sift_base.proofs.lemmas.Counts.{apart}
 use Rattle.sift_buffer.specs.Journals.{heard_in, said_in}
 use Rattle.sift_mission.specs.Parts.{flown_of}
 use Rattle.sift_flight.specs.Told.{told}

@@ -1,7 +1,7 @@
 use Rattle.sift_mission.specs.Parts.{data_of, flown_of}
 use Rattle.sift_flight.specs.Told.{told}
 use Rattle.sift_report.specs.Votes.{frame_votes}
-use Rattle.sift_report.proofs.Printed.{first_text_more}
+use Rattle.sift_report.proofs.lemmas.Printed.{first_text_more}
 use Rattle.sift_report.proofs.votes.votes_text.Goals as goal
 
 pub loop-f-preserved : goal.loop-f-preserved

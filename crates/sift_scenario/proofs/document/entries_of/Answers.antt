@@ -7,11 +7,11 @@ use Rattle.sift_base.specs.Layout.{least_units}
 use Rattle.sift_base.specs.Units.{unit_limit}
 use Rattle.sift_table.specs.Laws.{shortest_period}
 use Rattle.sift_mission.specs.PartsFit.{longest_period}
-use Rattle.sift_document.proofs.Order.{stopped}
+use Rattle.sift_document.proofs.lemmas.Order.{stopped}
 use Rattle.sift_document.specs.Document.{members_of}
 use Rattle.sift_document.specs.Rules.{AreKept}
 use Rattle.sift_document.specs.Testing.{RefusesFirst}
-use Rattle.sift_document.proofs.Numbers.{between_at, between_or}
+use Rattle.sift_document.proofs.lemmas.Numbers.{between_at, between_or}
 use Rattle.sift_scenario.proofs.Read.{count_is}
 use Rattle.sift_scenario.proofs.Themes.{for_version, root_refused, theme_refused, themes_kept}
 use Rattle.sift_scenario.specs.Root.{plain_period}

@@ -5,8 +5,8 @@ use Rattle.std.proofs.lemmas.List.{length-append, length-map, take_all}
 use Rattle.std.specs.Prelude.{option_map}
 use Rattle.toml.specs.View.{table_view}
 use Rattle.sift_script.specs.Script.{change_of, failing_of, fault_of}
-use Rattle.sift_document.proofs.Places.{fails_here, holds_here, nowhere, read_more}
-use Rattle.sift_document.proofs.Testing.{first_broken}
+use Rattle.sift_document.proofs.lemmas.Places.{fails_here, holds_here, nowhere, read_more}
+use Rattle.sift_document.proofs.lemmas.Testing.{first_broken}
 use Rattle.sift_scenario.proofs.Faulting.{fault_taken, faults_long, planned_storm, table_low, unplanned_storm}
 use Rattle.sift_scenario.specs.Fault.{failing_from, fault_in, stated_storm}
 use Rattle.sift_scenario.proofs.fault.fault_entries.Goals as goal

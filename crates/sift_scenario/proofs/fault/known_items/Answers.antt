@@ -3,7 +3,7 @@ use Rattle.std.proofs.lemmas.List.{get_or-map, length-map, take_all}
 use Rattle.std.proofs.lemmas.List.Elements.{All-push}
 use Rattle.toml.specs.Data.{Data}
 use Rattle.toml.specs.View.{table_view, view}
-use Rattle.sift_document.proofs.Places.{read_more, so_far}
+use Rattle.sift_document.proofs.lemmas.Places.{read_more, so_far}
 use Rattle.sift_document.specs.Document.{IsTableOf, members_of}
 use Rattle.sift_scenario.specs.Item.{item_keys}
 use Rattle.sift_scenario.proofs.fault.known_items.Goals as goal

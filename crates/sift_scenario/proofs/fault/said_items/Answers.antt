@@ -2,8 +2,8 @@ use Rattle.std.proofs.Common.{◌∙◌, List, map, sym, ap, subst}
 use Rattle.std.specs.List.{All}
 use Rattle.toml.specs.Data.{Data}
 use Rattle.toml.specs.View.{view}
-use Rattle.sift_document.proofs.Order.{ok_from}
-use Rattle.sift_document.proofs.Places.{map_map}
+use Rattle.sift_document.proofs.lemmas.Order.{ok_from}
+use Rattle.sift_document.proofs.lemmas.Places.{map_map}
 use Rattle.sift_document.specs.Document.{IsTableOf, members_of}
 use Rattle.sift_scenario.proofs.Faulting.{none_from, some_from}
 use Rattle.sift_scenario.specs.Item.{item_keys}

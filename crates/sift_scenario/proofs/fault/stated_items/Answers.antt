@@ -2,8 +2,8 @@ use Rattle.std.proofs.Common.{◌≡◌, ◌∙◌, None, Some, below_more, map,
 use Rattle.std.proofs.lemmas.List.{length-map, take_all}
 use Rattle.toml.specs.View.{table_view}
 use Rattle.sift_script.specs.Script.{change_of}
-use Rattle.sift_document.proofs.Places.{fails_here, holds_here, nowhere, read_more}
-use Rattle.sift_document.proofs.Testing.{first_broken}
+use Rattle.sift_document.proofs.lemmas.Places.{fails_here, holds_here, nowhere, read_more}
+use Rattle.sift_document.proofs.lemmas.Testing.{first_broken}
 use Rattle.sift_document.specs.Document.{each_read}
 use Rattle.sift_scenario.specs.Item.{change_in}
 use Rattle.sift_scenario.proofs.fault.stated_items.Goals as goal

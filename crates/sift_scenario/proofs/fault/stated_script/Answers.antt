@@ -2,7 +2,7 @@ use Rattle.std.proofs.Common.{◌≡◌, ◌∙◌, Some, Ok, Err, List, map, ru
 use Rattle.sift_script.specs.declared.script.Item.{Item}
 use Rattle.toml.specs.View.{table_view, view}
 use Rattle.sift_script.specs.Script.{change_of}
-use Rattle.sift_document.proofs.Order.{stopped}
+use Rattle.sift_document.proofs.lemmas.Order.{stopped}
 use Rattle.sift_scenario.proofs.Faulting.{faults_read, items_tested}
 use Rattle.sift_scenario.proofs.Starts.{read_values}
 use Rattle.sift_scenario.specs.Fault.{fault_in, fault_rules, faults_in, items_of}

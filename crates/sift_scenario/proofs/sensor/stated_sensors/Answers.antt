@@ -1,6 +1,6 @@
 use Rattle.std.proofs.Common.{◌≡◌, [], Some, Err, rules, map, ap, ◌∙◌}
 use Rattle.toml.specs.View.{table_view, view}
-use Rattle.sift_document.proofs.Order.{stopped}
+use Rattle.sift_document.proofs.lemmas.Order.{stopped}
 use Rattle.sift_scenario.proofs.Starts.{names_from, read_values, unwrapped}
 use Rattle.sift_scenario.specs.Sensor.{sensor_rules, sensors_in, words_of}
 use Rattle.sift_scenario.specs.Task.{name_of}

@@ -1,7 +1,7 @@
 use Rattle.std.proofs.Common.{◌≡◌, true, false, below_more, arith}
 use Rattle.toml.specs.View.{table_view}
-use Rattle.sift_document.proofs.Places.{fails_here, holds_here, nowhere}
-use Rattle.sift_document.proofs.Testing.{first_broken}
+use Rattle.sift_document.proofs.lemmas.Places.{fails_here, holds_here, nowhere}
+use Rattle.sift_document.proofs.lemmas.Testing.{first_broken}
 use Rattle.sift_scenario.specs.Table.{IsTimeless}
 use Rattle.sift_scenario.proofs.table.check_times.Goals as goal
 

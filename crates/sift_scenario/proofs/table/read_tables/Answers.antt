@@ -2,8 +2,8 @@ use Rattle.std.proofs.Common.{◌≡◌, None, below_more, map, ◌∙◌, arith
 use Rattle.std.proofs.lemmas.List.{length-map, take_all}
 use Rattle.toml.specs.View.{table_view}
 use Rattle.sift_table.specs.Schedule.{schedule_of}
-use Rattle.sift_document.proofs.Places.{fails_here, holds_here, nowhere, read_more}
-use Rattle.sift_document.proofs.Testing.{first_broken}
+use Rattle.sift_document.proofs.lemmas.Places.{fails_here, holds_here, nowhere, read_more}
+use Rattle.sift_document.proofs.lemmas.Testing.{first_broken}
 use Rattle.sift_scenario.proofs.TableReading.{positionless}
 use Rattle.sift_scenario.specs.Reading.{IsPartial}
 use Rattle.sift_scenario.specs.Table.{positions_of, schedule_in}

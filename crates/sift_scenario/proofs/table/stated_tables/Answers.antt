@@ -1,8 +1,8 @@
 use Rattle.std.proofs.Common.{◌≡◌, ℕ, Some, Err, rules, map, ap, subst, ◌∙◌, List}
 use Rattle.toml.specs.Data.{Members}
 use Rattle.toml.specs.View.{table_view, view}
-use Rattle.sift_document.proofs.Order.{ended, ok_from, stopped}
-use Rattle.sift_document.proofs.Places.{map_map}
+use Rattle.sift_document.proofs.lemmas.Order.{ended, ok_from, stopped}
+use Rattle.sift_document.proofs.lemmas.Places.{map_map}
 use Rattle.sift_document.specs.Testing.{RefusesBy, Tests}
 use Rattle.sift_scenario.specs.Table.{BreaksPositions, BreaksTimes, schedule_in, table_rules, tables_in}
 use Rattle.sift_scenario.proofs.table.stated_tables.Goals as goal

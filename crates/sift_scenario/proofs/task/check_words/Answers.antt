@@ -1,6 +1,6 @@
 use Rattle.std.proofs.Common.{length, below_more, arith}
 use Rattle.std.proofs.lemmas.List.{length-map}
-use Rattle.sift_document.proofs.Testing.{first_broken}
+use Rattle.sift_document.proofs.lemmas.Testing.{first_broken}
 use Rattle.sift_scenario.proofs.WordCounts.{sum_take-more}
 use Rattle.sift_scenario.proofs.task.check_words.Goals as goal
 

@@ -1,7 +1,7 @@
 use Rattle.std.proofs.Common.{◌≡◌, ℕ, Err, rules, map, ◌∙◌}
 use Rattle.std.proofs.lemmas.List.{length-map}
 use Rattle.toml.specs.View.{table_view}
-use Rattle.sift_document.proofs.Order.{stopped}
+use Rattle.sift_document.proofs.lemmas.Order.{stopped}
 use Rattle.sift_document.specs.Testing.{RefusesBy}
 use Rattle.sift_scenario.proofs.Starts.{counts_from, read_values}
 use Rattle.sift_scenario.specs.Task.{counts_of, name_of, start_words}

@@ -1,7 +1,7 @@
 use Rattle.std.proofs.Common.{◌≡◌, List, Err, rules, map, subst}
 use Rattle.toml.specs.Data.{Members}
 use Rattle.toml.specs.View.{table_view}
-use Rattle.sift_document.proofs.Order.{ended, later, ok_from, stopped}
+use Rattle.sift_document.proofs.lemmas.Order.{ended, later, ok_from, stopped}
 use Rattle.sift_document.specs.Rules.{rule}
 use Rattle.sift_document.specs.Testing.{TestsEach}
 use Rattle.sift_scenario.specs.Reading.{AreTasksRead}

@@ -1,4 +1,4 @@
-use Rattle.sift_script.proofs.Refusals as laws
+use Rattle.sift_script.proofs.lemmas.Refusals as laws
 use Rattle.sift_script.proofs.laws.one_broken_rule.Goals as goal
 
 pub returns : goal.returns

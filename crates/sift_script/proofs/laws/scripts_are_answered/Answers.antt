@@ -1,4 +1,4 @@
-use Rattle.sift_script.proofs.Answered as laws
+use Rattle.sift_script.proofs.lemmas.Answered as laws
 use Rattle.sift_script.proofs.laws.scripts_are_answered.Goals as goal
 
 pub returns : goal.returns

@@ -1,7 +1,7 @@
 use Rattle.std.proofs.Common.{◌≡◌, arith, ◌∙◌, w64, to_z, of_z}
 use Rattle.std.specs.Int.{int_max}
 use Rattle.std.proofs.lemmas.Int.{ints}
-use Rattle.sift_skew.proofs.Extremes.{highest-append}
+use Rattle.sift_skew.proofs.lemmas.Extremes.{highest-append}
 use Rattle.sift_skew.proofs.figures.highest_of_both.Goals as goal
 
 -- the higher of two highest offsets

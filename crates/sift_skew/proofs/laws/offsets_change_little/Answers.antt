@@ -1,4 +1,4 @@
-use Rattle.sift_skew.proofs.Changes.{offsets_change_little}
+use Rattle.sift_skew.proofs.lemmas.Changes.{offsets_change_little}
 use Rattle.sift_skew.proofs.laws.offsets_change_little.Goals as goal
 
 pub returns : goal.returns

@@ -1,4 +1,4 @@
-use Rattle.sift_skew.proofs.Keeps.{skew_is_kept_with_margin}
+use Rattle.sift_skew.proofs.lemmas.Keeps.{skew_is_kept_with_margin}
 use Rattle.sift_skew.proofs.laws.skew_is_kept_with_margin.Goals as goal
 
 pub returns : goal.returns

@@ -1,4 +1,4 @@
-use Rattle.sift_table.proofs.Refusals as laws
+use Rattle.sift_table.proofs.lemmas.Refusals as laws
 use Rattle.sift_table.proofs.laws.one_broken_rule.Goals as goal
 
 pub returns : goal.returns

@@ -1,4 +1,4 @@
-use Rattle.sift_table.proofs.Answered as laws
+use Rattle.sift_table.proofs.lemmas.Answered as laws
 use Rattle.sift_table.proofs.laws.tables_are_answered.Goals as goal
 
 pub returns : goal.returns

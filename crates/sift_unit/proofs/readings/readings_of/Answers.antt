@@ -1,6 +1,6 @@
 use Rattle.std.specs.Prelude.{Option, Bool, ℕ, ℤ}
 use Rattle.std.proofs.Common.{◌++◌, ◌∷◌, [], ◌<◌, not, nat_eq, ◌∙◌, sym, arith, length}
-use Rattle.sift_config.proofs.Joining.{has_at}
+use Rattle.sift_config.proofs.lemmas.Joining.{has_at}
 use Rattle.sift_unit.specs.Memory.{reading_at}
 use Rattle.sift_unit.proofs.InTurn.{passing_yes, passing_no, room_in_turn}
 use Rattle.sift_unit.proofs.readings.readings_of.Goals as goal

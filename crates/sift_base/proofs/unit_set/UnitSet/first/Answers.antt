@@ -1,6 +1,6 @@
 use Rattle.std.proofs.Common.{slice_get, ◌∙◌, ap, sym, Some}
 use Rattle.sift_base.specs.Units.{members}
-use Rattle.sift_base.proofs.Sets.{lowest_is_first}
+use Rattle.sift_base.proofs.lemmas.Sets.{lowest_is_first}
 use Rattle.sift_base.proofs.unit_set.UnitSet.first.Goals as goal
 
 pub low-requires : goal.low-requires

@@ -1,5 +1,5 @@
 use Rattle.sift_buffer.specs.Tables.{ranges_of}
-use Rattle.sift_buffer.proofs.Tables.{entry_low}
+use Rattle.sift_buffer.proofs.lemmas.Tables.{entry_low}
 use Rattle.sift_buffer.proofs.grid.Grid.index.Goals as goal
 
 pub returns-clause-below : goal.returns-clause-below

@@ -5,7 +5,7 @@ use Rattle.std.proofs.lemmas.Option.{IfSome_then}
 use Rattle.sift_options.specs.Options.{Adds, more, none}
 use Rattle.std.proofs.lemmas.Option.{none-some, same_Some}
 use Rattle.sift_options.proofs.Settings.{begins, fewer_behind, adds_nothing}
-use Rattle.sift_options.proofs.Words.{map-nothing, map-something}
+use Rattle.sift_options.proofs.lemmas.Words.{map-nothing, map-something}
 use Rattle.sift_options.proofs.setting.Options.+and.Goals as goal
 
 -- fewer words are left

@@ -2,7 +2,7 @@ use Rattle.std.proofs.Common.{◌≡◌, length, sym, ap, ◌∙◌, arith}
 use Rattle.std.proofs.lemmas.List.{length-map}
 use Rattle.sift_lang.specs.Tree.{tree_of}
 use Rattle.sift_program.specs.Program.{program_of}
-use Rattle.sift_program.proofs.Frames.{tree_at, words_made-next, CanRun-at, length-ideal_frame}
+use Rattle.sift_program.proofs.lemmas.Frames.{tree_at, words_made-next, CanRun-at, length-ideal_frame}
 use Rattle.sift_program.proofs.ideal.Ideal.frame.Goals.{then-contains, else-contains}
 use Rattle.sift_program.proofs.ideal.Ideal.frame.Goals as goal
 

@@ -1,0 +1,175 @@
+-- What is read of the entries of an array, one after another.
+use Rattle.std.proofs.Common.{◌≡◌, ◌≢◌, ◌<◌, ◌≤◌, ◌+◌, ◌⊎◌, inl, inr, ℕ, zero, suc, List, [], ◌∷◌, ◌++◌, length, get_or, map, take, Option, Some, None, refl, sym, ap, ◌∙◌, arith}
+use Rattle.std.proofs.lemmas.Bool.{cases_order}
+use Rattle.std.proofs.lemmas.List.{get_or-map, length-map, take_all, take_more}
+use Rattle.std.specs.Option.{option_and_then}
+use Rattle.toml.specs.Data.{Data, string, integer, float, boolean, datetime, array, table, as_array, as_str}
+use Rattle.toml.specs.View.{items_view, view}
+use Rattle.toml.specs.declared.value.Value.{Value}
+use Rattle.sift_document.proofs.lemmas.DocumentLemmas.{array_from, list_of-view}
+use Rattle.sift_document.proofs.lemmas.Places.{so_far}
+use Rattle.sift_document.specs.Document.{array_between, array_of, digit_to, digits_to, each_read, of_length, with_front}
+
+-- what is read of a value and of those after it, where the whole is read
+pub with_front-parts :
+    {A : Type 0} (first : Option A) (rest : Option (List A)) (xs : List A)
+    → with_front first rest ≡ Some xs → (y : A) × (ys : List A) × (first ≡ Some y) × (rest ≡ Some ys) × (y ∷ ys ≡ xs)
+with_front-parts (Some y) (Some ys) xs is = (y, ys, refl, refl, cc)
+with_front-parts (Some y) None xs is = cc
+with_front-parts None rest xs is = cc
+
+-- without what is read of the rest there is nothing
+with_front-none : {A : Type 0} (first : Option A) → with_front first None ≡ None
+with_front-none None = refl
+with_front-none (Some x) = refl
+
+module _ {A B : Type 0} (read : A → Option B) where
+  -- one value more at the end
+  pub each_read-push : (ins : List A) (a : A) (xs : List B) (x : B) → each_read read ins ≡ Some xs → read a ≡ Some x → each_read read (ins ++ a ∷ []) ≡ Some (xs ++ x ∷ [])
+  each_read-push [] a xs x before is =
+      let none : [] ≡ xs = cc in
+      rw (is, ← none) refl
+  each_read-push (b ∷ bs) a xs x before is =
+      let parts = with_front-parts (read b) (each_read read bs) xs before in
+      let more = each_read-push bs a parts.1 x parts.3 is in
+      ap (λ (w : Option B). with_front w (each_read read (bs ++ a ∷ []))) parts.2
+      ∙ ap (λ (rest : Option (List B)). with_front (Some parts.0) rest) more
+      ∙ ap (λ (ws : List B). Some (ws ++ x ∷ [])) parts.4
+
+  -- there is ins much ins there are values
+  pub length-each_read : (ins : List A) (xs : List B) → each_read read ins ≡ Some xs → length xs ≡ length ins
+  length-each_read [] xs is = let none : [] ≡ xs = cc in rw (← none) refl
+  length-each_read (a ∷ ins) xs is =
+      let parts = with_front-parts (read a) (each_read read ins) xs is in
+      rw (← parts.4) (ap suc (length-each_read ins parts.1 parts.3))
+
+  -- a value of which nothing is read spoils the whole
+  pub each_read-none : (ins : List A) (i : ℕ) (d : A) → i < length ins → read (get_or ins i d) ≡ None → each_read read ins ≡ None
+  each_read-none [] i d low is = absurd (omega (arith, low))
+  each_read-none (a ∷ ins) zero d low is = rw is refl
+  each_read-none (a ∷ ins) (suc i) d low is =
+      let rest = each_read-none ins i d (omega (arith, low)) is in
+      rw rest (with_front-none (read a))
+
+-- ---- lengths
+
+-- a list of a length between the two, and one of another
+of_length-within : {A : Type 0} (low high : ℕ) (xs : List A) → low ≤ length xs → length xs ≤ high → of_length low high xs ≡ Some xs
+of_length-within low high xs from to = grind arith
+
+of_length-outside : {A : Type 0} (low high : ℕ) (xs : List A) → (length xs < low) ⊎ (high < length xs) → of_length low high xs ≡ None
+of_length-outside low high xs (inl short) = grind arith
+of_length-outside low high xs (inr long) = grind arith
+
+-- a list that is kept for its length has it
+of_length-long : {A : Type 0} (low high : ℕ) (xs ys : List A) → of_length low high xs ≡ Some ys → (low ≤ length ys) × (length ys ≤ high)
+of_length-long low high xs ys is = grind arith
+
+-- what has another length isn't kept
+lengthless : {A : Type 0} (low high n : ℕ) (xs : Option (List A)) → (n < low) ⊎ (high < n)
+    → ((ys : List A) → xs ≡ Some ys → length ys ≡ n) → option_and_then (of_length low high) xs ≡ None
+lengthless low high n None outside long = refl
+lengthless low high n (Some ys) outside long = of_length-outside low high ys (rw (long ys refl) outside)
+
+-- what is kept has a length between the two
+kept-long : {A : Type 0} (low high : ℕ) (xs : Option (List A)) (ys : List A) → option_and_then (of_length low high) xs ≡ Some ys → (low ≤ length ys) × (length ys ≤ high)
+kept-long low high None ys is = cc
+kept-long low high (Some xs) ys is = of_length-long low high xs ys is
+
+-- another length than the one that is asked for is below or above it
+pub differing : (m n : ℕ) → m ≢ n → (m < n) ⊎ (n < m)
+differing m n other = elim (cases_order m n) [
+  | inl same ↦ absurd (other same)
+  | inr (inl less) ↦ inl less
+  | inr (inr more) ↦ inr more
+]
+
+-- what is read of an array of so many entries is ins much
+pub array_between-long : {A : Type 0} (low high : ℕ) (read : Data → Option A) (d : Data) (xs : List A) → array_between low high read d ≡ Some xs → (low ≤ length xs) × (length xs ≤ high)
+array_between-long low high read d xs is = kept-long low high (array_of read d) xs is
+
+-- ---- arrays
+
+module _ {A : Type 0} (read : Data → Option A) where
+  -- nothing is read of an array of another length
+  pub array_between-other : (low high : ℕ) (vs : List Value) → (length vs < low) ⊎ (high < length vs) → array_between low high read (array (items_view vs)) ≡ None
+  array_between-other low high vs outside = rw (list_of-view vs) (lengthless low high (length vs) (each_read read (map view vs)) outside
+      (λ xs is. length-each_read read (map view vs) xs is ∙ length-map vs view))
+
+  -- of an array of the right length what is read of its values
+  pub array_between-whole :
+      (low high : ℕ) (vs : List Value) (xs : List A) → low ≤ length vs → length vs ≤ high
+      → each_read read (map view vs) ≡ Some xs → array_between low high read (array (items_view vs)) ≡ Some xs
+  array_between-whole low high vs xs from to is =
+      let same : length xs ≡ length vs = length-each_read read (map view vs) xs is ∙ length-map vs view in
+      rw (list_of-view vs, is) (of_length-within low high xs (omega (arith, same, from)) (omega (arith, same, to)))
+
+  -- nothing where nothing is read of one of its values
+  pub array_between-none :
+      (low high : ℕ) (vs : List Value) (i : ℕ) (d : Data) → i < length (map view vs)
+      → read (get_or (map view vs) i d) ≡ None → array_between low high read (array (items_view vs)) ≡ None
+  array_between-none low high vs i d low_i is = rw (list_of-view vs, each_read-none read (map view vs) i d low_i is) refl
+
+-- ---- values, one after another
+
+module _ {A B : Type 0} (read : A → Option B) (ins : List A) where
+  -- one entry more
+  pub read-step :
+      (i : ℕ) (d : A) (xs : List B) (x : B) → i < length ins → each_read read (take i ins) ≡ Some xs
+      → read (get_or ins i d) ≡ Some x → each_read read (take (i + 1) ins) ≡ Some (xs ++ x ∷ [])
+  read-step i d xs x low before is = rw (take_more ins i d low) (each_read-push read (take i ins) (get_or ins i d) xs x before is)
+
+  -- all entries
+  pub read-all : (i : ℕ) (xs : List B) → length ins ≤ i → each_read read (take i ins) ≡ Some xs → each_read read ins ≡ Some xs
+  read-all i xs high is = rw (take_all i ins high) at is
+
+module _ {B : Type 0} (read : Data → Option B) (vs : List Value) where
+  -- one value more
+  pub value-step :
+      (i : ℕ) (v : Value) (xs : List B) (x : B) → i < length vs → v ≡ get_or vs i v
+      → each_read read (take i (map view vs)) ≡ Some xs → read (view v) ≡ Some x → each_read read (take (i + 1) (map view vs)) ≡ Some (xs ++ x ∷ [])
+  value-step i v xs x low is before found = rw (so_far view vs i v low is) (each_read-push read (take i (map view vs)) (view v) xs x before found)
+
+  -- a value of which nothing is read
+  pub value-none : (i : ℕ) (v : Value) → i < length vs → v ≡ get_or vs i v → read (view v) ≡ None → each_read read (map view vs) ≡ None
+  value-none i v low is none =
+      let here : get_or (map view vs) i (view v) ≡ view v = get_or-map view vs i v (view v) low ∙ ap view (sym is) in
+      each_read-none read (map view vs) i (view v) (rw length-map low) (ap read here ∙ none)
+
+  -- all values
+  pub value-all : (i : ℕ) (xs : List B) → length vs ≤ i → each_read read (take i (map view vs)) ≡ Some xs → each_read read (map view vs) ≡ Some xs
+  value-all i xs high is = read-all read (map view vs) i xs (rw length-map high) is
+
+  -- what is read of the array that holds them
+  pub array_of-values : (d : Data) → Some (items_view vs) ≡ as_array d → array_of read d ≡ each_read read (map view vs)
+  array_of-values d is = rw (array_from d _ is, list_of-view vs) refl
+
+-- nothing is read of what is no array
+pub array_of-other : {B : Type 0} (read : Data → Option B) (d : Data) → None ≡ as_array d → array_of read d ≡ None
+array_of-other read (array xs) is = cc
+array_of-other read (string s) is = refl
+array_of-other read (integer z) is = refl
+array_of-other read (float x) is = refl
+array_of-other read (boolean b) is = refl
+array_of-other read (datetime t) is = refl
+array_of-other read (table ms) is = refl
+
+-- nothing is read of what is no string
+pub digits_to-other : (last : ℕ) (d : Data) → None ≡ as_str d → digits_to last d ≡ None
+digits_to-other last (string s) is = cc
+digits_to-other last (array xs) is = refl
+digits_to-other last (integer z) is = refl
+digits_to-other last (float x) is = refl
+digits_to-other last (boolean b) is = refl
+digits_to-other last (datetime t) is = refl
+digits_to-other last (table ms) is = refl
+
+-- of a string what is read of its bytes
+pub digits_to-string : (last : ℕ) (d : Data) (bytes : List ℕ) → Some bytes ≡ as_str d → digits_to last d ≡ each_read (digit_to last) bytes
+digits_to-string last (string s) bytes is = let same : s ≡ bytes = cc is in rw same refl
+digits_to-string last (array xs) bytes is = cc
+digits_to-string last (integer z) bytes is = cc
+digits_to-string last (float x) bytes is = cc
+digits_to-string last (boolean b) bytes is = cc
+digits_to-string last (datetime t) bytes is = cc
+digits_to-string last (table ms) bytes is = cc
