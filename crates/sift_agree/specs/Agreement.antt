@@ -1,9 +1,7 @@
 -- Agreement on the word of one unit, with one fault and two rounds of telling, after Pease, Shostak and Lamport.
 use Rattle.std.specs.Prelude.{◌≡◌, ◌≢◌, ℕ, List, ◌∷◌, map, Bool, true, false, Option, Some}
-use Rattle.sift_base.specs.Units.{has, others, IsAscending}
-use Rattle.sift_base.specs.Margin.{HasMargin}
-use Rattle.sift_vote.specs.Majority.{IsMajority}
-use Rattle.sift_vote.specs.Agreed.{agreed_of}
+use Rattle.sift_base.specs.Units.{has, others, IsAscending, HasMargin}
+use Rattle.sift_vote.specs.Majority.{IsMajority, agreed_of}
 
 -- the word of this place, if it has one, isn't the majority of all places
 abbrev pub HoldsNoMajority : List (Option ℕ) → Option ℕ → Type 0

@@ -1,8 +1,7 @@
 //! The word that a unit takes for another's.
 
 ghost use Rattle.std.specs.Prelude.{◌≡◌, ◌↔◌, ℕ, ◌∷◌, IsTrue, IfSome, IfNone};
-ghost use Rattle.sift_vote.specs.Majority.{IsMajority, IsAgreed};
-ghost use Rattle.sift_vote.specs.Agreed.{agreed_of};
+ghost use Rattle.sift_vote.specs.Majority.{IsMajority, IsAgreed, agreed_of};
 ghost use Rattle.sift_agree.specs.Agreement.{HoldsNoMajority};
 
 use sift_base::Word;

@@ -2,7 +2,7 @@
 
 ghost use Rattle.std.specs.Prelude.{◌≡◌, ℕ, Some, length};
 ghost use Rattle.sift_base.specs.Units.{holds};
-ghost use Rattle.sift_vote.specs.Differing.{has_differing};
+ghost use Rattle.sift_vote.specs.Majority.{has_differing};
 
 use sift_base::{UnitId, UnitSet, Word};
 use sift_vote::differing;

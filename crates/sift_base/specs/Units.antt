@@ -1,9 +1,11 @@
--- Units and sets of units. A unit is one processor of the computer, and has a number below 8.
-use Rattle.std.specs.Prelude.{◌≡◌, ℕ, ◌<◌, ◌^◌, ◌==◌, List, [], ◌∷◌, Bool, true, not, nat_eq, if◌then◌else◌, length, ⊤}
+-- Units, sets of units, and the margin of a configuration. A unit is one processor of the computer, and has a number below 8.
+use Rattle.std.specs.Prelude.{◌≡◌, ℕ, ◌<◌, ◌^◌, ◌==◌, List, [], ◌∷◌, Bool, true, not, nat_eq, if◌then◌else◌, length, ⊤, ◌≤◌, count_by}
 use Rattle.std.specs.List.{filter, list_any, sum_by}
 use Rattle.std.specs.Int.{bit_at}
 use Rattle.std.specs.Ordering.{nat_cmp}
 use Rattle.std.specs.FinSet as set
+
+-- ---- units and their sets
 
 -- the most units that a computer has
 abbrev pub unit_limit : ℕ
@@ -70,3 +72,18 @@ abbrev pub MembersAreTheSet : Type 0
 MembersAreTheSet = (units : Units) →
     IsAscending (members units) × ((u : ℕ) → u < unit_limit → has (members units) u ≡ holds units u)
     × (AreUnits units → length (members units) ≡ set.len units)
+
+-- ---- working and faulty units of a configuration, and the margin within which it stands a fault
+
+-- how many units of the list work
+abbrev pub working_count : (ℕ → Bool) → List ℕ → ℕ
+working_count works us = count_by works us
+
+-- how many units of the list don't work
+abbrev pub faulty_count : (ℕ → Bool) → List ℕ → ℕ
+faulty_count works us = count_by (λ u. not (works u)) us
+
+-- the configuration has margin: at most one of its units is faulty, and at least four work
+pub record HasMargin (works : ℕ → Bool) (us : List ℕ) : Type 0 where
+  pub few : faulty_count works us ≤ 1
+  pub enough : 4 ≤ working_count works us

@@ -11,13 +11,12 @@ use Rattle.sift_buffer.specs.Conduct.{Conduct, Hearing, fresh}
 use Rattle.sift_buffer.specs.Journals.{Pages, HasWordsOf}
 use Rattle.sift_buffer.specs.Tables.{ranges_of}
 use Rattle.sift_buffer.specs.Views.{View}
-use Rattle.sift_mission.specs.Data.{MissionData}
+use Rattle.sift_mission.specs.Data.{MissionData, FlownMission}
 use Rattle.sift_mission.specs.Fits.{Fits}
 use Rattle.sift_mission.specs.Flown.{flown}
 use Rattle.sift_mission.specs.PartsFit.{PartsFit}
-use Rattle.sift_mission.specs.Mission.{FlownMission}
 use Rattle.sift_mission.specs.Slots.{calls, heard_at, stamp_of, turned_by}
-use Rattle.sift_conduct.specs.Account.{Account, account_of}
+use Rattle.sift_conduct.specs.Conduct.{Account, account_of}
 use Rattle.sift_conduct.specs.declared.account.Account.{Account as TheAccount}
 use Rattle.sift_conduct.specs.Acts.{BoardKeeps, stamp_and_moment}
 use Rattle.sift_conduct.specs.Frames.{frames_before}
@@ -29,11 +28,9 @@ use Rattle.sift_ether.specs.Seats.{view_of, Follows}
 use Rattle.sift_ether.specs.Tokens.{AreTokensOf, IsMade, IsTokenOf, conduct_at, conduct_of}
 use Rattle.sift_ether.specs.declared.ether.Ether.{Ether}
 use Rattle.sift_ether.specs.declared.token.Token.{Token}
-use Rattle.sift_flight.specs.Flight.{config_of}
-use Rattle.sift_flight.specs.Hearing.{Strays}
+use Rattle.sift_flight.specs.Flight.{config_of, Strays, HasNoStorms, IsRound}
 use Rattle.sift_flight.specs.Homing.{HasComeHome, FlightsThatComeHomeAreRound}
 use Rattle.sift_flight.specs.Landing.{HasPlacesFor, strays_in}
-use Rattle.sift_flight.specs.Round.{HasNoStorms, IsRound}
 use Rattle.sift_flight.specs.Told.{told, journal_of, accounts_of, no_pages, no_account, IsLogged}
 use Rattle.sift_flight.specs.declared.flight.Flight.{Flight as TheFlight}
 use Rattle.sift_bus.specs.Boarding.{AreBoarded, Boarded, IsBoarded, seat_view}

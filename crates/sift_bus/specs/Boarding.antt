@@ -3,7 +3,7 @@ use Rattle.std.specs.Prelude.{◌≡◌, ℕ, List, [], ◌∷◌, ⊤}
 use Rattle.sift_base.specs.declared.layout.Layout.{Layout}
 use Rattle.sift_buffer.specs.Tables.{ranges_of}
 use Rattle.sift_buffer.specs.Views.{View, fresh_view}
-use Rattle.sift_mission.specs.Mission.{FlownMission}
+use Rattle.sift_mission.specs.Data.{FlownMission}
 use Rattle.sift_unit.specs.Boards.{Drives}
 use Rattle.sift_ether.specs.Seating.{IsSeatOf}
 use Rattle.sift_ether.specs.Seats.{view_of}

@@ -1,7 +1,7 @@
 -- Buses: what one carries, what three of them make of a word, and which steps a bus allows. A word on its way may be absence.
 use Rattle.std.specs.Prelude.{◌≡◌, ℕ, ◌<◌, Bool, nat_eq, nat_lt, if◌then◌else◌, List, [], ◌∷◌, slice_set, Option}
 use Rattle.std.specs.Option.{option_eq}
-use Rattle.sift_vote.specs.Agreed.{majority_of}
+use Rattle.sift_vote.specs.Majority.{majority_of}
 use Rattle.sift_bus.specs.declared.constant.Constant.{Constant}
 
 -- what was carried: in which frame, from which unit, to which, in which slot; the word that the bus was given, and the one that it gave

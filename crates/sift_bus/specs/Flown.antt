@@ -4,7 +4,7 @@ use Rattle.sift_base.specs.declared.layout.Layout.{Layout}
 use Rattle.sift_base.specs.declared.slot.Slot.{Slot}
 use Rattle.sift_buffer.specs.Conduct.{Hearing}
 use Rattle.sift_buffer.specs.Tables.{ranges_of}
-use Rattle.sift_mission.specs.Mission.{FlownMission}
+use Rattle.sift_mission.specs.Data.{FlownMission}
 use Rattle.sift_mission.specs.Slots.{calls, is_slot}
 use Rattle.sift_flight.specs.Flight.{Flight, config_of}
 use Rattle.sift_bus.specs.Buses.{Carriage}

@@ -1,8 +1,7 @@
 //! A mission flown over three buses, on one thread.
 ghost use Rattle.std.specs.Prelude.{◌≡◌, ◌<◌, IfOk, length, map};
 ghost use Rattle.sift_mission.specs.Parts.{flown_of};
-ghost use Rattle.sift_flight.specs.Hearing.{Strays};
-ghost use Rattle.sift_flight.specs.Round.{HasNoStorms, IsRound};
+ghost use Rattle.sift_flight.specs.Flight.{Strays, HasNoStorms, IsRound};
 ghost use Rattle.sift_flight.specs.Told.{IsLogged, told};
 ghost use Rattle.sift_bus.specs.Buses.{bus_count};
 ghost use Rattle.sift_bus.specs.Flown.{AreLogsOf};

@@ -11,7 +11,7 @@ use Rattle.sift_buffer.specs.Ranges.{Ranges}
 use Rattle.sift_buffer.specs.Tables.{ranges_of}
 use Rattle.sift_flight.specs.Flight.{Flight, config_of}
 use Rattle.sift_mission.specs.Fits.{IsNumbered}
-use Rattle.sift_mission.specs.Mission.{FlownMission}
+use Rattle.sift_mission.specs.Data.{FlownMission}
 use Rattle.sift_mission.specs.Slots.{calls}
 use Rattle.sift_bus.specs.Buses.{AllowsConstant, Carriage, is_same}
 use Rattle.sift_bus.specs.Flown.{AreLogsOf, IsLogOf}

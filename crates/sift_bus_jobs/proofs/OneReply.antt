@@ -6,10 +6,9 @@ use Rattle.sift_base.specs.Units.{has}
 use Rattle.sift_bus.specs.Logs.{count_places}
 use Rattle.sift_flight.specs.Alike.{AreAlike, RoundFlightsAreAlike}
 use Rattle.sift_flight.specs.Flight.{Flight}
-use Rattle.sift_load.specs.Mission.{States}
-use Rattle.sift_mission.specs.Data.{MissionData}
+use Rattle.sift_load.specs.Loads.{States}
+use Rattle.sift_mission.specs.Data.{MissionData, FlownMission}
 use Rattle.sift_mission.specs.Flown.{flown}
-use Rattle.sift_mission.specs.Mission.{FlownMission}
 use Rattle.sift_mission.specs.PartsFit.{PartsFit}
 use Rattle.sift_mission.specs.Premises.{PartsMakeItFlyable}
 use Rattle.sift_mission.specs.Slots.{calls}

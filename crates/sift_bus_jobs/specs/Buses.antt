@@ -1,14 +1,10 @@
 -- The command `buses`: the report of a flight over three buses, and how many words the faulty one got wrong.
 use Rattle.std.specs.Prelude.{codes, ℕ, ◌≡◌, ◌⊎◌, List, ◌∷◌, ◌++◌, true, Some}
 use Rattle.sift_base.specs.Units.{has}
-use Rattle.sift_flight.specs.Flight.{Flight}
-use Rattle.sift_flight.specs.Hearing.{Strays}
-use Rattle.sift_flight.specs.Round.{HasNoStorms, IsRound}
-use Rattle.sift_load.specs.Loads.{mission_duty}
-use Rattle.sift_load.specs.NoMission.{no_mission_statuses}
-use Rattle.sift_mission.specs.Data.{MissionData}
+use Rattle.sift_flight.specs.Flight.{Flight, Strays, HasNoStorms, IsRound}
+use Rattle.sift_load.specs.Loads.{mission_duty, no_mission_statuses}
+use Rattle.sift_mission.specs.Data.{MissionData, FlownMission}
 use Rattle.sift_mission.specs.Flown.{flown}
-use Rattle.sift_mission.specs.Mission.{FlownMission}
 use Rattle.sift_reply.specs.Duty.{Duty}
 use Rattle.sift_reply.specs.Reply.{Reply, done, done_status, reply}
 use Rattle.sift_report.specs.Sheet.{report_of}

@@ -4,7 +4,7 @@ use Rattle.std.specs.List.{sum_by}
 use Rattle.sift_bus.specs.Buses.{is_same}
 use Rattle.sift_bus.specs.Logs.{count_places}
 use Rattle.sift_flight.specs.Flight.{Flight, config_of}
-use Rattle.sift_mission.specs.Mission.{FlownMission}
+use Rattle.sift_mission.specs.Data.{FlownMission}
 use Rattle.sift_mission.specs.Slots.{calls}
 use Rattle.sift_bus_jobs.specs.Numbers.{BusNumbers}
 

@@ -3,8 +3,7 @@
 ghost use Rattle.std.specs.Prelude.{◌≡◌, IfOk, string_bytes};
 ghost use Rattle.sift_bus_jobs.specs.Buses.{BusesGives, FliesCalm, told};
 ghost use Rattle.sift_bus_jobs.specs.Numbers.{buses_job_of, word_given};
-ghost use Rattle.sift_flight.specs.Flight.{Flight as Flown};
-ghost use Rattle.sift_flight.specs.Round.{HasNoStorms};
+ghost use Rattle.sift_flight.specs.Flight.{Flight as Flown, HasNoStorms};
 ghost use Rattle.sift_mission.specs.Parts.{data_of, flown_of};
 
 use crate::counts::push_words;

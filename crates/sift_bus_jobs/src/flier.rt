@@ -3,8 +3,7 @@
 ghost use Rattle.std.specs.Prelude.{◌≡◌, ◌<◌, IfOk, replicate};
 ghost use Rattle.sift_bus.specs.Buses.{AllowsConstant, bus_count};
 ghost use Rattle.sift_bus.specs.Flown.{AreLogsOf};
-ghost use Rattle.sift_flight.specs.Hearing.{Strays};
-ghost use Rattle.sift_flight.specs.Round.{HasNoStorms, IsRound};
+ghost use Rattle.sift_flight.specs.Flight.{Strays, HasNoStorms, IsRound};
 ghost use Rattle.sift_flight.specs.Told.{IsLogged, told};
 ghost use Rattle.sift_mission.specs.Parts.{flown_of};
 

@@ -2,7 +2,7 @@
 
 ghost use Rattle.std.specs.Prelude.{◌≡◌, false, true};
 ghost use Rattle.sift_bus_jobs.specs.Buses.{HasStorm};
-ghost use Rattle.sift_flight.specs.Round.{HasNoStorms};
+ghost use Rattle.sift_flight.specs.Flight.{HasNoStorms};
 ghost use Rattle.sift_mission.specs.Parts.{flown_of};
 
 use sift_base::UnitId;

@@ -5,7 +5,7 @@ use Rattle.std.specs.List.{range_with_len}
 use Rattle.std.proofs.lemmas.Nat.{div-mul-add, mod-mul-add, mod_below}
 use Rattle.std.proofs.lemmas.List.FromFn.{get_or-map-range_with_len, length-map-range_with_len}
 use Rattle.std.proofs.Math.Nat.{pow-suc}
-use Rattle.sift_vote.specs.Agreed.{agreed_of}
+use Rattle.sift_vote.specs.Majority.{agreed_of}
 use Rattle.sift_byz.specs.Charts.{Shows, ShowsHeard, ShowsResults, heard_at, path_in, places_at, relay_at}
 use Rattle.sift_byz.specs.Plan.{PlanData, all_units, first_lie, heard, value_of}
 use Rattle.sift_byz.specs.Relaying.{outside, result_of}

@@ -5,10 +5,9 @@ use Rattle.std.proofs.lemmas.Bool.{and_parts, cases_Bool, eqb-true}
 use Rattle.std.proofs.lemmas.List.{reverse-append}
 use Rattle.std.proofs.lemmas.List.FromFn.{get_or-map-range_with_len, length-map-range_with_len, length-range_with_len}
 use Rattle.std.proofs.lemmas.Slice.Eq.{bytes_eq-Decides}
-use Rattle.sift_base.specs.Margin.{faulty_count}
-use Rattle.sift_base.specs.Units.{has, others}
+use Rattle.sift_base.specs.Units.{faulty_count, has, others}
 use Rattle.sift_base.proofs.lemmas.Counts.{apart, count-no, count-yes, nat_eq-same}
-use Rattle.sift_vote.specs.Agreed.{agreed_of}
+use Rattle.sift_vote.specs.Majority.{agreed_of}
 use Rattle.sift_byz.specs.Laws.{LoyalValuesAreKept, OneTraitorIsAsInFlights, VectorsAreEqual, VectorsHoldTheEntries}
 use Rattle.sift_byz.specs.Plan.{IsSquare, LieData, PlanData, TraitorsAreFew, all_units, entry, first_lie, heard, is_loyal, stands_last, tells_some, traitor_count, value_of, vector, vectors_of}
 use Rattle.sift_byz.specs.Relaying.{LoyalUnitsRelay, outside, result_of}

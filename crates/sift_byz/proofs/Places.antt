@@ -5,12 +5,10 @@ use Rattle.std.proofs.lemmas.Bool.{cases_Bool, cases_eq, eqb-true, ne_eqb}
 use Rattle.std.proofs.lemmas.List.{length-map}
 use Rattle.sift_agree.proofs.lemmas.Taking.{votes-working}
 use Rattle.sift_agree.proofs.lemmas.Winners.{won-agreed}
-use Rattle.sift_base.specs.Margin.{faulty_count}
-use Rattle.sift_base.specs.Units.{has, others}
+use Rattle.sift_base.specs.Units.{faulty_count, has, others}
 use Rattle.sift_base.proofs.lemmas.Counts.{count-cons, count-no, count-yes, has-head, has-tail, nat_eq-same}
 use Rattle.sift_base.proofs.lemmas.Others.{count-others-<, has-others, length-others, times_in}
-use Rattle.sift_vote.specs.Agreed.{agreed_of}
-use Rattle.sift_vote.specs.Majority.{IsAgreed, IsMajority, decided, is_vote_for, undecided, votes_for}
+use Rattle.sift_vote.specs.Majority.{agreed_of, IsAgreed, IsMajority, decided, is_vote_for, undecided, votes_for}
 use Rattle.sift_vote.proofs.lemmas.Found.{agreed_word_is_found}
 
 -- ---- absence is read as 0

@@ -2,11 +2,10 @@
 use Rattle.std.proofs.Common.{◌≡◌, ◌≢◌, ℕ, zero, suc, ◌*◌, ◌≤◌, inl, inr, List, ◌∷◌, length, map, Bool, true, false, not, nat_eq, Option, Some, refl, sym, ap, ◌∙◌, arith}
 use Rattle.std.specs.Prelude.{unwrap_or, if◌then◌else◌}
 use Rattle.std.proofs.lemmas.Bool.{cases_Bool}
-use Rattle.sift_base.specs.Margin.{faulty_count}
-use Rattle.sift_base.specs.Units.{has, IsAscending}
+use Rattle.sift_base.specs.Units.{faulty_count, has, IsAscending}
 use Rattle.sift_base.proofs.lemmas.Counts.{apart, count-no, count-yes, nat_eq-same}
 use Rattle.sift_base.proofs.lemmas.Others.{not_same}
-use Rattle.sift_vote.specs.Agreed.{agreed_of}
+use Rattle.sift_vote.specs.Majority.{agreed_of}
 use Rattle.sift_byz.specs.Laws.{AnyUnitIsAgreedOn, LoyalUnitIsBelieved}
 use Rattle.sift_byz.specs.Relaying.{Hearing, LoyalUnitsRelay, outside, result_of}
 use Rattle.sift_byz.proofs.Outside.{no_more, one_fewer, outside-cons, outside_once, still_outside, traitor_gone}

@@ -2,8 +2,7 @@
 use Rattle.std.specs.Prelude.{ℕ, ◌≡◌, ◌+◌, ◌<◌, List, [], ◌∷◌, length, map, take, Option, None, Some, unwrap_or}
 use Rattle.toml.specs.Data.{Data, Members}
 use Rattle.sift_document.specs.Document.{HasOnlyKeys, IsTableOf}
-use Rattle.sift_document.specs.Entries.{HoldsOf}
-use Rattle.sift_document.specs.Rules.{AreKept, BreaksEntries, BreaksFirst, OfNoEntry, Rule, rule}
+use Rattle.sift_document.specs.Rules.{HoldsOf, AreKept, BreaksEntries, BreaksFirst, OfNoEntry, Rule, rule}
 use Rattle.sift_document.specs.declared.rule.BrokenRule.{BrokenRule}
 use Rattle.sift_byz.specs.Plan.{IsInRange, LieData, PlanData, TraitorsAreFew, teller_count}
 use Rattle.sift_byz.specs.Stated.{HasPath, HasReceivers, HasWord, lie_in, lie_keys, lie_limit, lie_value, lies_of, m_of, root_keys, units_of, values_of}

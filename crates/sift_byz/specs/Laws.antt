@@ -1,9 +1,8 @@
 -- The laws of oral messages, and what follows for the vectors of a plan.
 use Rattle.std.specs.Prelude.{◌≡◌, ℕ, ◌+◌, ◌*◌, ◌<◌, ◌≤◌, List, [], ◌∷◌, length, Bool, true, false, nat_eq, unwrap_or}
 use Rattle.sift_agree.specs.Agreement.{taken}
-use Rattle.sift_base.specs.Margin.{faulty_count}
-use Rattle.sift_base.specs.Units.{has, IsAscending}
-use Rattle.sift_vote.specs.Agreed.{agreed_of}
+use Rattle.sift_base.specs.Units.{faulty_count, has, IsAscending}
+use Rattle.sift_vote.specs.Majority.{agreed_of}
 use Rattle.sift_byz.specs.Plan.{PlanData, TraitorsAreFew, all_units, entry, entry_in, heard, is_loyal, value_of, vector, vectors_of}
 use Rattle.sift_byz.specs.Relaying.{Hearing, LoyalUnitsRelay, outside, result_of}
 

@@ -4,7 +4,7 @@ use Rattle.std.specs.List.{All, find, list_any, range_with_len}
 use Rattle.std.specs.Option.{option_map}
 use Rattle.std.specs.Str.{bytes_eq}
 use Rattle.sift_base.specs.Units.{has}
-use Rattle.sift_vote.specs.Agreed.{agreed_of}
+use Rattle.sift_vote.specs.Majority.{agreed_of}
 use Rattle.sift_byz.specs.declared.plan.ByzPlan.{ByzPlan}
 use Rattle.sift_byz.specs.declared.plan.Lie.{Lie}
 use Rattle.sift_byz.specs.Relaying.{Hearing, result_of}

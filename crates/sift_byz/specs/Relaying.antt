@@ -3,7 +3,7 @@
 -- a word or absence; on the empty path it is what the unit holds itself.
 use Rattle.std.specs.Prelude.{◌≡◌, ℕ, zero, suc, List, ◌∷◌, map, filter, Bool, true, not, Option, Some}
 use Rattle.sift_base.specs.Units.{has}
-use Rattle.sift_vote.specs.Agreed.{agreed_of}
+use Rattle.sift_vote.specs.Majority.{agreed_of}
 
 -- what each unit heard by each path
 abbrev pub Hearing : Type 0

@@ -2,7 +2,7 @@
 use Rattle.std.specs.Prelude.{◌≤◌, ℕ, List, ⊤}
 use Rattle.toml.specs.Data.{Data}
 use Rattle.sift_document.specs.Document.{IsTableOf}
-use Rattle.sift_document.specs.Entries.{HoldsOf}
+use Rattle.sift_document.specs.Rules.{HoldsOf}
 use Rattle.sift_byz.specs.declared.lies.EntryRule.{EntryRule}
 use Rattle.sift_byz.specs.declared.lies.EntryRule.TheVariants.{Keys, Path, Receivers}
 use Rattle.sift_byz.specs.Plan.{most_traitors, most_units}

@@ -2,7 +2,7 @@
 
 ghost use Rattle.std.specs.Prelude.{◌≡◌, ℕ, suc, ◌+◌, ◌*◌, ◌^◌, ◌<◌, ◌≤◌, length, map, IfOk, not, ◌∷◌};
 ghost use Rattle.sift_base.specs.Units.{has};
-ghost use Rattle.sift_vote.specs.Agreed.{agreed_of};
+ghost use Rattle.sift_vote.specs.Majority.{agreed_of};
 ghost use Rattle.sift_byz.specs.Charts.{AreRelayed, HasRelays, HasResults, ShowsHeard, ShowsResults, heard_at, path_in, places_at, relay_at};
 ghost use Rattle.sift_byz.specs.Plan.{IsInRange, all_units, entry, first_lie, lie_of, plan_of, vector, vectors_of};
 ghost use Rattle.sift_byz.specs.Relaying.{outside};

@@ -6,7 +6,7 @@ ghost use Rattle.toml.specs.Data.{get};
 ghost use Rattle.toml.specs.View.{table_view, view};
 ghost use Rattle.sift_base.specs.Units.{has};
 ghost use Rattle.sift_document.specs.Document.{entries_of, word_value};
-ghost use Rattle.sift_document.specs.Entries.{HoldsOf};
+ghost use Rattle.sift_document.specs.Rules.{HoldsOf};
 ghost use Rattle.sift_document.specs.Testing.{Tests};
 ghost use Rattle.sift_byz.specs.Lawful.{BreaksLies};
 ghost use Rattle.sift_byz.specs.Plan.{lie_of, most_traitors, most_units};

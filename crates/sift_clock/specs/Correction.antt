@@ -1,8 +1,28 @@
--- How a unit corrects its clock: by the mean of its readings of all clocks, its own clock read as 0.
-use Rattle.std.specs.Prelude.{ℕ, ◌<◌, ℤ, pos, ◌+ℤ◌, ◌*ℤ◌, ◌≤ℤ◌, ◌<ℤ◌, List, [], ◌∷◌, length, map, Option}
+-- How a unit reads the clocks of others, and corrects its own by the mean of its readings, its own clock read as 0.
+use Rattle.std.specs.Prelude.{ℕ, ℤ, pos, ◌+ℤ◌, int_lt, unsigned_abs, Bool, true, if◌then◌else◌, Option, None, Some, ◌<◌, ◌*ℤ◌, ◌≤ℤ◌, ◌<ℤ◌, List, [], ◌∷◌, length, map}
 use Rattle.std.specs.Int.{int_div_euclid}
+use Rattle.sift_base.specs.Word.{signed_of, word_of, sub}
 use Rattle.sift_base.specs.Units.{others}
-use Rattle.sift_clock.specs.Reading.{counted}
+
+-- ---- what a unit reads: an offset is a whole number of ticks, and a clock word is its lowest 16 bits
+
+-- the reading of a clock: how far the heard word is ahead of the word of the own offset, in two's complement, and the
+-- reading error; none where nothing was heard
+abbrev pub reading_of : Option ℕ → ℤ → ℤ → Option ℤ
+reading_of None own error = None
+reading_of (Some heard) own error = Some (signed_of (sub heard (word_of own)) +ℤ error)
+
+-- whether the reading is absent, or farther than the limit from 0
+abbrev pub is_too_far : ℤ → Option ℤ → Bool
+is_too_far limit None = true
+is_too_far limit (Some ticks) = int_lt limit (pos (unsigned_abs ticks))
+
+-- what a reading counts for: 0 where it is absent or too far, else what it is
+abbrev pub counted : ℤ → Option ℤ → ℤ
+counted limit None = pos 0
+counted limit (Some ticks) = if is_too_far limit (Some ticks) then pos 0 else ticks
+
+-- ---- how it corrects its clock
 
 -- the sum of the numbers
 abbrev pub int_sum : List ℤ → ℤ

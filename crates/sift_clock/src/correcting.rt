@@ -2,8 +2,7 @@
 
 ghost use Rattle.std.specs.Prelude.{◌≡◌, ℕ, ◌+◌, ◌≤◌, pos, ◌+ℤ◌, length, FitsSigned};
 ghost use Rattle.std.specs.Int.{w64};
-ghost use Rattle.sift_clock.specs.Reading.{counted};
-ghost use Rattle.sift_clock.specs.Correction.{correction_of};
+ghost use Rattle.sift_clock.specs.Correction.{counted, correction_of};
 
 use crate::hearing::too_far;
 

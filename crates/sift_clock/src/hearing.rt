@@ -3,7 +3,7 @@
 ghost use Rattle.std.specs.Prelude.{◌≡◌, pos};
 ghost use Rattle.sift_base.specs.Word.{word_of};
 ghost use Rattle.sift_clock.specs.Distance.{IsWithin, error_limit};
-ghost use Rattle.sift_clock.specs.Reading.{reading_of, is_too_far};
+ghost use Rattle.sift_clock.specs.Correction.{reading_of, is_too_far};
 
 use sift_base::Word;
 

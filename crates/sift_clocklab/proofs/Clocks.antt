@@ -3,8 +3,7 @@ use Rattle.std.proofs.Common.{◌≡◌, ℕ, zero, suc, ◌+◌, ◌<◌, ◌�
 use Rattle.std.specs.List.{range_with_len}
 use Rattle.std.proofs.lemmas.Bool.{cases_Bool, ltb-false}
 use Rattle.std.proofs.lemmas.List.FromFn.{length-range_with_len}
-use Rattle.sift_base.specs.Units.{has}
-use Rattle.sift_base.specs.Margin.{faulty_count}
+use Rattle.sift_base.specs.Units.{has, faulty_count}
 use Rattle.sift_base.proofs.lemmas.Counts.{apart, both_counts, count-no}
 use Rattle.sift_clocklab.specs.Laboratory.{Laboratory, clocks_of, working_of, works}
 use Rattle.sift_clocklab.specs.Conditions.{IsAdmitted}

@@ -3,7 +3,7 @@ use Rattle.std.proofs.Common.{◌≡◌, ◌⊎◌, ℕ, zero, suc, ◌+◌, ◌
 use Rattle.std.specs.Prelude.{◌≤ℤ◌}
 use Rattle.std.proofs.lemmas.Int.{ints}
 use Rattle.std.proofs.Math.Nat.{mul-le-mul_left}
-use Rattle.sift_base.specs.Margin.{faulty_count, working_count}
+use Rattle.sift_base.specs.Units.{faulty_count, working_count}
 use Rattle.sift_base.proofs.lemmas.Counts.{both_counts}
 use Rattle.sift_clocklab.specs.Margin.{MarginLeavesRoom, NoFaultLeavesRoom}
 

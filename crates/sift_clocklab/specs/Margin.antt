@@ -2,7 +2,7 @@
 -- fact. (With one clock counted as faulty where none is they aren't: among four clocks that all work five times the errors
 -- and drifts are room enough, and the law for one faulty clock among four asks for eight times as much.)
 use Rattle.std.specs.Prelude.{◌≡◌, ℕ, ◌*◌, List, length, Bool, ℤ, pos, ◌+ℤ◌, ◌-ℤ◌, ◌*ℤ◌, ◌≤ℤ◌}
-use Rattle.sift_base.specs.Margin.{faulty_count, HasMargin}
+use Rattle.sift_base.specs.Units.{faulty_count, HasMargin}
 
 -- the skew has room for the errors and drifts of n clocks, m of them faulty
 abbrev pub HasRoom : (n m : ℕ) (skew error rate : ℤ) → Type 0

@@ -1,8 +1,7 @@
 //! The correction of a clock among up to 32.
 
 ghost use Rattle.std.specs.Prelude.{◌≡◌, ◌+◌, ◌≤◌, length};
-ghost use Rattle.sift_clock.specs.Reading.{counted};
-ghost use Rattle.sift_clock.specs.Correction.{correction_of};
+ghost use Rattle.sift_clock.specs.Correction.{counted, correction_of};
 ghost use Rattle.sift_clocklab.specs.Conditions.{AreFarthest};
 
 use sift_clock::too_far;

@@ -3,9 +3,9 @@ use Rattle.std.specs.Prelude.{◌≡◌, ◌⊎◌, ℕ, ◌+◌, ◌*◌, ◌-�
 use Rattle.sift_base.specs.declared.slot.Slot.{Slot}
 use Rattle.sift_buffer.specs.Conduct.{Saying, Hearing, saying, never}
 use Rattle.sift_buffer.specs.Conduct.{Conduct as Acts}
-use Rattle.sift_mission.specs.Mission.{FlownMission, IsConfigOf}
+use Rattle.sift_mission.specs.Data.{FlownMission, IsConfigOf}
 use Rattle.sift_mission.specs.Slots.{is_slot, calls, stamp_of, heard_at}
-use Rattle.sift_conduct.specs.Account.{Account, Places}
+use Rattle.sift_conduct.specs.Conduct.{Account, Places}
 use Rattle.sift_conduct.specs.Frames.{FrameConduct, Flies}
 
 -- the words of acts, and absence where there is none

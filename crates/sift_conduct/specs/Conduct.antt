@@ -1,21 +1,56 @@
 -- What a unit does in a frame in which it is in its configuration: equations between what it heard, h, its account a, and the words voted
 -- in the frame before, last.
-use Rattle.std.specs.Prelude.{◌≡◌, ℕ, zero, suc, ◌<◌, List, length, map, slice_index, Bool, false, not, ◌&&◌, ◌||◌, nat_eq, if◌then◌else◌, Option, None, Some, unwrap_or, ℤ, ◌+ℤ◌}
-use Rattle.sift_base.specs.Word.{word_of}
-use Rattle.sift_base.specs.Units.{has, holds, has_bit, bits_of}
+use Rattle.std.specs.Prelude.{ℕ, List, Bool, Option, ℤ, ◌≡◌, zero, suc, ◌<◌, length, map, slice_index, false, not, ◌&&◌, ◌||◌, nat_eq, if◌then◌else◌, None, Some, unwrap_or, ◌+ℤ◌}
 use Rattle.sift_base.specs.declared.slot.Slot.{Slot}
+use Rattle.sift_base.specs.Units.{holds, has, has_bit, bits_of}
+use Rattle.sift_exec.specs.Conviction.{everyone_in, next_by}
+use Rattle.sift_exec.specs.declared.catches.Catches.{Catches}
+use Rattle.sift_base.specs.Word.{word_of}
 use Rattle.sift_base.specs.declared.slot.Slot.TheVariants.{Clock, Sense, RelaySense, Out, Report, RelayReport}
-use Rattle.sift_vote.specs.Agreed.{majority_of, agreed_of}
-use Rattle.sift_vote.specs.Differing.{differs}
+use Rattle.sift_vote.specs.Majority.{majority_of, agreed_of, differs}
 use Rattle.sift_agree.specs.Agreement.{taken}
-use Rattle.sift_exec.specs.Record.{everyone_in}
-use Rattle.sift_exec.specs.Conviction.{next_by}
 use Rattle.sift_config.specs.Config.{reader_of}
-use Rattle.sift_clock.specs.Reading.{reading_of, is_too_far}
-use Rattle.sift_clock.specs.Correction.{next_offset}
-use Rattle.sift_mission.specs.Mission.{FlownMission}
+use Rattle.sift_clock.specs.Correction.{reading_of, is_too_far, next_offset}
+use Rattle.sift_mission.specs.Data.{FlownMission}
 use Rattle.sift_mission.specs.Slots.{executors, is_held, calls}
-use Rattle.sift_conduct.specs.Account.{Account, Places}
+use Rattle.sift_conduct.specs.declared.account.Account.{Account as TheAccount}
+
+-- ---- a unit's account of a frame, and the words in its places
+
+-- one unit's account of one frame: its configuration, whether it is idle, its clock's offset, the agreed word of each sensor, the voted
+-- word of each number, whom it caught, and the configuration and the offset that it found for the next frame
+pub record Account : Type 0 where
+  pub cfg : List ℕ
+  pub idle : Bool
+  pub clk : ℤ
+  pub ins : List ℕ
+  pub outs : List ℕ
+  pub bad : Catches
+  pub next_cfg : List ℕ
+  pub next_clk : ℤ
+
+-- the account that one of the code is
+abbrev pub account_of : TheAccount → Account
+account_of a = record {
+  cfg = a.cfg;
+  idle = a.idle;
+  clk = a.clk;
+  ins = a.ins.items;
+  outs = a.outs.items;
+  bad = a.bad;
+  next_cfg = a.next_cfg;
+  next_clk = a.next_clk;
+}
+
+-- the unit was caught in some way
+abbrev pub caught : Account → ℕ → Bool
+caught a v = holds (everyone_in a.bad) v
+
+-- the words in a unit's places of one frame, by slot and other unit: what it said to it, or what it heard from it
+abbrev pub Places : Type 0
+Places = Slot → ℕ → Option ℕ
+
+-- ---- what it does
 
 -- ---- sensors
 

@@ -2,11 +2,10 @@
 use Rattle.std.specs.Prelude.{◌≡◌, ℕ, zero, suc, List, [], true, false, Option, None, Some, min}
 use Rattle.sift_base.specs.Units.{has}
 use Rattle.sift_base.specs.declared.slot.Slot.{Slot}
-use Rattle.sift_exec.specs.Record.{nobody}
-use Rattle.sift_mission.specs.Mission.{FlownMission}
+use Rattle.sift_exec.specs.Conviction.{nobody}
+use Rattle.sift_mission.specs.Data.{FlownMission}
 use Rattle.sift_mission.specs.Slots.{has_turned}
-use Rattle.sift_conduct.specs.Account.{Account, Places}
-use Rattle.sift_conduct.specs.Conduct.{Conduct, said_of}
+use Rattle.sift_conduct.specs.Conduct.{Account, Places, Conduct, said_of}
 
 -- the words voted in the frame before, where a gives the accounts by frame
 abbrev pub last_of : FlownMission → (ℕ → Account) → ℕ → List ℕ

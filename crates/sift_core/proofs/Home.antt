@@ -5,16 +5,15 @@ use Rattle.std.proofs.lemmas.List.{get_or-map, length-map}
 use Rattle.sift_base.specs.Units.{has}
 use Rattle.sift_buffer.specs.Journals.{Pages, HasWordsOf, IsJournalOf}
 use Rattle.sift_buffer.specs.Ledgers.{Ledger, HasItsWords}
-use Rattle.sift_mission.specs.Mission.{FlownMission}
-use Rattle.sift_conduct.specs.Account.{Account, account_of}
+use Rattle.sift_mission.specs.Data.{FlownMission}
+use Rattle.sift_conduct.specs.Conduct.{Account, account_of}
 use Rattle.sift_conduct.specs.Acts.{BoardKeeps}
 use Rattle.sift_conduct.specs.Frames.{frames_before}
 use Rattle.sift_unit.specs.Boards.{desk_of}
 use Rattle.sift_unit.specs.Down.{DownLaw, StrayLaw, HasFlownAll}
 use Rattle.sift_unit.specs.declared.board.Board.{Board}
-use Rattle.sift_flight.specs.Hearing.{Strays}
+use Rattle.sift_flight.specs.Flight.{Strays, IsRound}
 use Rattle.sift_flight.specs.Homing.{HasComeHome, FlightsThatComeHomeAreRound}
-use Rattle.sift_flight.specs.Round.{IsRound}
 use Rattle.sift_flight.specs.Told.{told, no_pages, no_account, journal_of, accounts_of, IsLogged}
 use Rattle.sift_flight.specs.declared.flight.Flight.{Flight as TheFlight}
 use Rattle.sift_core.specs.Crews.{ledger_at, no_ledger}

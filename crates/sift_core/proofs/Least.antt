@@ -3,7 +3,7 @@ use Rattle.std.proofs.Common.{◌≡◌, ℕ, ◌+◌, ◌*◌, ◌<◌, ◌≤�
 use mathlib.Core.Logic.{dite}
 use native.Mathlib.Decide.{ℕ_discrete}
 use Rattle.sift_base.specs.Units.{has}
-use Rattle.sift_mission.specs.Mission.{FlownMission}
+use Rattle.sift_mission.specs.Data.{FlownMission}
 use Rattle.sift_core.specs.Machines.{IsFlying, layout_of, progress_at}
 use Rattle.sift_core.specs.Turns.{IsLeast, AreAllDown}
 use Rattle.sift_core.specs.declared.machine.Machine.{Machine}

@@ -16,13 +16,13 @@ use Rattle.sift_buffer.specs.Laws.{EventsKeepLawful}
 use Rattle.sift_buffer.specs.Ledgers.{conduct_in}
 use Rattle.sift_buffer.specs.Reaches.{Reaches}
 use Rattle.sift_buffer.specs.Views.{View}
-use Rattle.sift_mission.specs.Mission.{FlownMission}
+use Rattle.sift_mission.specs.Data.{FlownMission}
 use Rattle.sift_unit.specs.Boards.{desk_of, Drives, IsPortOf}
 use Rattle.sift_unit.specs.Keeping.{KeepsAs}
 use Rattle.sift_unit.specs.Stepping.{Steps}
 use Rattle.sift_unit.specs.declared.board.Board.{Board}
 use Rattle.sift_unit.specs.declared.stepped.Stepped.{Stepped}
-use Rattle.sift_flight.specs.Hearing.{Strays, no_strays}
+use Rattle.sift_flight.specs.Flight.{Strays, no_strays}
 use Rattle.sift_core.specs.Crews.{core_by, ledger_at, with_strays}
 use Rattle.sift_core.specs.Following.{none_more}
 use Rattle.sift_core.specs.Racks.{Follows, IsChosen, Stands, ranges_for, core_of, view_of, view_at}

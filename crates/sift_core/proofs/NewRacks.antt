@@ -12,7 +12,7 @@ use Rattle.sift_buffer.specs.Core.{fresh_core}
 use Rattle.sift_buffer.specs.Tables.{ranges_of, entry_at, entry_number}
 use Rattle.sift_buffer.specs.Journals.{ranges_in, said_in, heard_in}
 use Rattle.sift_buffer.specs.Ledgers.{Ledger, Tells, conduct_in, saying_of, hearing_of}
-use Rattle.sift_flight.specs.Hearing.{no_strays}
+use Rattle.sift_flight.specs.Flight.{no_strays}
 use Rattle.sift_core.specs.Crews.{no_ledger, ledger_at, core_by, IsCrew}
 
 -- two numbers, by their order

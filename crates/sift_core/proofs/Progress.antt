@@ -6,7 +6,7 @@ use Rattle.sift_base.specs.Units.{has}
 use Rattle.sift_base.specs.declared.layout.Layout.{Layout}
 use Rattle.sift_buffer.specs.Conduct.{Conduct, never}
 use Rattle.sift_buffer.specs.Lawful.{HasStage}
-use Rattle.sift_mission.specs.Mission.{FlownMission}
+use Rattle.sift_mission.specs.Data.{FlownMission}
 use Rattle.sift_unit.specs.Desk.{Desk}
 use Rattle.sift_unit.specs.Passing.{distance}
 use Rattle.sift_unit.specs.Boards.{desk_of, Drives}
@@ -15,7 +15,7 @@ use Rattle.sift_unit.specs.Stepping.{Steps}
 use Rattle.sift_unit.specs.declared.board.Board.{Board}
 use Rattle.sift_unit.specs.declared.stepped.Stepped.{Stepped}
 use Rattle.sift_unit.specs.declared.stepped.Stepped.TheVariants.{Moved, NotYet, Turned, Landed}
-use Rattle.sift_flight.specs.Hearing.{no_strays}
+use Rattle.sift_flight.specs.Flight.{no_strays}
 use Rattle.sift_core.specs.Racks.{ranges_for, core_of, conduct_at, view_at, Stands}
 use Rattle.sift_core.specs.Machines.{IsFlying, HasTurnedIn, board_at, layout_of, progress_at, distances}
 use Rattle.sift_core.specs.Steps.{StepsUnit, IsWaiting}

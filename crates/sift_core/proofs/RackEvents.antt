@@ -7,7 +7,7 @@ use Rattle.sift_buffer.specs.Conduct.{Conduct, Stray, put}
 use Rattle.sift_buffer.specs.Core.{Event, doer, after, Allowed}
 use Rattle.sift_buffer.specs.Ledgers.{Ledger, conduct_in, conduct_with}
 use Rattle.sift_buffer.specs.Following.{reaches_one}
-use Rattle.sift_flight.specs.Hearing.{Strays}
+use Rattle.sift_flight.specs.Flight.{Strays}
 use Rattle.sift_core.specs.Crews.{no_ledger, ledger_at, with_strays}
 use Rattle.sift_core.specs.Racks.{Follows, ranges_for, core_of, conduct_at}
 use Rattle.sift_core.specs.declared.rack.Rack.{Rack}

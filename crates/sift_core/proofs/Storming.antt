@@ -10,14 +10,11 @@ use Rattle.sift_base.specs.declared.layout.Layout.{Layout}
 use Rattle.sift_buffer.specs.Conduct.{Stray, never}
 use Rattle.sift_buffer.specs.Ranges.{IsCell}
 use Rattle.sift_buffer.specs.Tables.{ranges_of}
-use Rattle.sift_mission.specs.Data.{MissionData}
+use Rattle.sift_mission.specs.Data.{MissionData, FlownMission}
 use Rattle.sift_mission.specs.Flown.{flown}
-use Rattle.sift_mission.specs.Mission.{FlownMission}
-use Rattle.sift_rogue.specs.Calls.{Call, Started}
+use Rattle.sift_rogue.specs.Storms.{Call, Started, Bounds, Answers, Shoots, Storms, bounds_of, sifted, stray_of}
 use Rattle.sift_rogue.specs.declared.act.Shot.{Shot}
-use Rattle.sift_rogue.specs.Storms.{Bounds, Answers, Shoots, Storms, bounds_of, sifted, stray_of}
-use Rattle.sift_flight.specs.Hearing.{Strays, no_strays}
-use Rattle.sift_flight.specs.Round.{IsRound}
+use Rattle.sift_flight.specs.Flight.{Strays, no_strays, IsRound}
 use Rattle.sift_flight.specs.Told.{told}
 use Rattle.sift_flight.specs.declared.flight.Flight.{Flight}
 use Rattle.sift_unit.specs.declared.stepped.Stepped.{Stepped}

@@ -13,10 +13,10 @@ use Rattle.sift_buffer.specs.Following.{reaches_one}
 use Rattle.sift_buffer.specs.Reaches.{Reaches}
 use Rattle.sift_buffer.specs.Tables.{ranges_of}
 use Rattle.sift_buffer.specs.Views.{View}
-use Rattle.sift_mission.specs.Mission.{FlownMission}
+use Rattle.sift_mission.specs.Data.{FlownMission}
 use Rattle.sift_unit.specs.Boards.{Drives}
 use Rattle.sift_unit.specs.declared.board.Board.{Board}
-use Rattle.sift_flight.specs.Hearing.{Strays}
+use Rattle.sift_flight.specs.Flight.{Strays}
 use Rattle.sift_core.specs.Crews.{ledger_at, with_strays}
 use Rattle.sift_core.specs.Racks.{IsStored, ranges_for, core_of, conduct_at, view_at}
 use Rattle.sift_core.specs.Machines.{Flies, HasTurnedIn, StoresStray, board_at, layout_of}

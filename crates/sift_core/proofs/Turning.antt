@@ -8,11 +8,9 @@ use Rattle.std.specs.List.{sum_by}
 use Rattle.sift_base.specs.Draw.{drawn}
 use Rattle.sift_base.specs.Units.{has}
 use Rattle.sift_buffer.specs.Conduct.{Stray}
-use Rattle.sift_mission.specs.Data.{MissionData}
+use Rattle.sift_mission.specs.Data.{MissionData, FlownMission}
 use Rattle.sift_mission.specs.Flown.{flown}
-use Rattle.sift_mission.specs.Mission.{FlownMission}
-use Rattle.sift_rogue.specs.Calls.{Call, Started}
-use Rattle.sift_rogue.specs.Storms.{Shoots, bounds_of, stray_of}
+use Rattle.sift_rogue.specs.Storms.{Call, Started, Shoots, bounds_of, stray_of}
 use Rattle.sift_unit.specs.Boards.{desk_of}
 use Rattle.sift_unit.specs.Passing.{distance}
 use Rattle.sift_unit.specs.declared.stepped.Stepped.{Stepped}

@@ -6,7 +6,7 @@ use Rattle.sift_buffer.specs.Core.{Core}
 use Rattle.sift_buffer.specs.Journals.{IsJournalOf}
 use Rattle.sift_buffer.specs.Conduct.{Stray, fresh, never, put}
 use Rattle.sift_buffer.specs.Ledgers.{Ledger, Tells, conduct_with}
-use Rattle.sift_flight.specs.Hearing.{Strays}
+use Rattle.sift_flight.specs.Flight.{Strays}
 use Rattle.sift_flight.specs.Told.{no_pages}
 
 -- an empty ledger, which stands for that of a unit that isn't there

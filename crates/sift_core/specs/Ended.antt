@@ -1,11 +1,9 @@
 -- What holds of the frames that all units have ended, but for those that have turned.
 use Rattle.std.specs.Prelude.{◌≡◌, ◌⊎◌, ℕ, ◌<◌, true}
 use Rattle.sift_base.specs.Units.{has}
-use Rattle.sift_mission.specs.Mission.{FlownMission}
+use Rattle.sift_mission.specs.Data.{FlownMission}
 use Rattle.sift_unit.specs.declared.board.Board.{Board}
-use Rattle.sift_flight.specs.Flight.{flight_of}
-use Rattle.sift_flight.specs.Hearing.{Strays}
-use Rattle.sift_flight.specs.Round.{RoundAt}
+use Rattle.sift_flight.specs.Flight.{flight_of, Strays, RoundAt}
 use Rattle.sift_core.specs.Racks.{core_of}
 use Rattle.sift_core.specs.Machines.{Flies, HasTurnedIn, board_at, accounts_at}
 use Rattle.sift_core.specs.declared.machine.Machine.{Machine}

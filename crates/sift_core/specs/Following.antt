@@ -8,7 +8,7 @@ use Rattle.sift_buffer.specs.Ranges.{Ranges}
 use Rattle.sift_buffer.specs.Tables.{ranges_of}
 use Rattle.sift_buffer.specs.Reaches.{Reaches}
 use Rattle.sift_buffer.specs.Following.{reaches_itself, reaches_on}
-use Rattle.sift_flight.specs.Hearing.{Strays}
+use Rattle.sift_flight.specs.Flight.{Strays}
 use Rattle.sift_core.specs.Crews.{with_strays}
 use Rattle.sift_core.specs.Racks.{Follows, ranges_for, core_of}
 use Rattle.sift_core.specs.declared.rack.Rack.{Rack}

@@ -1,9 +1,9 @@
 -- The flight that an order number draws: turn by turn from a new machine, and what its units then have.
 use Rattle.std.specs.Prelude.{◌≡◌, ℕ, List, map}
-use Rattle.sift_conduct.specs.Account.{account_of}
+use Rattle.sift_conduct.specs.Conduct.{account_of}
 use Rattle.sift_mission.specs.Data.{MissionData}
 use Rattle.sift_mission.specs.Flown.{flown}
-use Rattle.sift_rogue.specs.Calls.{Call}
+use Rattle.sift_rogue.specs.Storms.{Call}
 use Rattle.sift_unit.specs.Boards.{desk_of}
 use Rattle.sift_flight.specs.declared.flight.Flight.{Flight}
 use Rattle.sift_core.specs.Courses.{AreAllLeft, course}

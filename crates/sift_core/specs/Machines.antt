@@ -5,13 +5,13 @@ use Rattle.sift_base.specs.declared.layout.Layout.{Layout}
 use Rattle.sift_config.specs.Config.{first_units}
 use Rattle.sift_buffer.specs.Conduct.{Stray, never}
 use Rattle.sift_buffer.specs.Lawful.{Lawful}
-use Rattle.sift_mission.specs.Mission.{FlownMission}
-use Rattle.sift_conduct.specs.Account.{Account}
+use Rattle.sift_mission.specs.Data.{FlownMission}
+use Rattle.sift_conduct.specs.Conduct.{Account}
 use Rattle.sift_unit.specs.Desk.{accounts_of}
 use Rattle.sift_unit.specs.Passing.{distance}
 use Rattle.sift_unit.specs.Boards.{desk_of, Drives, IsNewBoard}
 use Rattle.sift_unit.specs.declared.board.Board.{Board}
-use Rattle.sift_flight.specs.Hearing.{Strays}
+use Rattle.sift_flight.specs.Flight.{Strays}
 use Rattle.sift_core.specs.Racks.{IsNewRack, IsStored, ranges_for, core_of, conduct_at, view_at}
 use Rattle.sift_core.specs.declared.machine.Machine.{Machine}
 

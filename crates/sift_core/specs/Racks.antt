@@ -8,7 +8,7 @@ use Rattle.sift_buffer.specs.Ledgers.{conduct_in}
 use Rattle.sift_buffer.specs.Tables.{ranges_of}
 use Rattle.sift_buffer.specs.Views.{View}
 use Rattle.sift_buffer.specs.Reaches.{Reaches}
-use Rattle.sift_flight.specs.Hearing.{Strays, no_strays}
+use Rattle.sift_flight.specs.Flight.{Strays, no_strays}
 use Rattle.sift_core.specs.Crews.{core_by, ledger_at, with_strays}
 use Rattle.sift_core.specs.declared.rack.Rack.{Rack}
 

@@ -4,10 +4,8 @@ use Rattle.sift_base.specs.Units.{unit_limit}
 use Rattle.sift_buffer.specs.Conduct.{Stray}
 use Rattle.sift_mission.specs.Data.{MissionData}
 use Rattle.sift_mission.specs.Flown.{flown}
-use Rattle.sift_rogue.specs.Calls.{Call}
-use Rattle.sift_rogue.specs.Storms.{Storms, bounds_of}
-use Rattle.sift_flight.specs.Hearing.{Strays}
-use Rattle.sift_flight.specs.Round.{IsRound}
+use Rattle.sift_rogue.specs.Storms.{Call, Storms, bounds_of}
+use Rattle.sift_flight.specs.Flight.{Strays, IsRound}
 use Rattle.sift_flight.specs.Told.{told}
 use Rattle.sift_flight.specs.declared.flight.Flight.{Flight}
 use Rattle.sift_core.specs.Machines.{Flies, IsFlying, HasTurnedIn, layout_of}

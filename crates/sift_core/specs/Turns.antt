@@ -2,10 +2,9 @@
 use Rattle.std.specs.Prelude.{◌≡◌, ◌⊎◌, ℕ, zero, suc, ◌*◌, ◌<◌, ◌≤◌, List, length, slice_index, Bool, true, false, Option, Some, None}
 use Rattle.sift_base.specs.Draw.{next_number, drawn}
 use Rattle.sift_base.specs.Units.{has}
-use Rattle.sift_mission.specs.Data.{MissionData}
+use Rattle.sift_mission.specs.Data.{MissionData, FlownMission}
 use Rattle.sift_mission.specs.Flown.{flown}
-use Rattle.sift_mission.specs.Mission.{FlownMission}
-use Rattle.sift_rogue.specs.Calls.{Call}
+use Rattle.sift_rogue.specs.Storms.{Call}
 use Rattle.sift_unit.specs.declared.stepped.Stepped.{Stepped}
 use Rattle.sift_core.specs.Machines.{progress_at}
 use Rattle.sift_core.specs.Steps.{IsWaiting}

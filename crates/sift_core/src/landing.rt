@@ -3,12 +3,11 @@ ghost use Rattle.std.specs.Prelude.{◌≡◌, ◌≤◌, [], map, length, IfOk,
 ghost use Rattle.std.specs.List.{All};
 ghost use Rattle.sift_base.specs.Units.{unit_limit};
 ghost use Rattle.sift_buffer.specs.Ledgers.{HasItsWords};
-ghost use Rattle.sift_conduct.specs.Account.{account_of};
+ghost use Rattle.sift_conduct.specs.Conduct.{account_of};
 ghost use Rattle.sift_unit.specs.Boards.{desk_of};
 ghost use Rattle.sift_mission.specs.Parts.{data_of, flown_of};
 ghost use Rattle.sift_flight.specs.Told.{told, IsLogged};
-ghost use Rattle.sift_flight.specs.Round.{IsRound};
-ghost use Rattle.sift_flight.specs.Hearing.{Strays};
+ghost use Rattle.sift_flight.specs.Flight.{IsRound, Strays};
 ghost use Rattle.sift_core.specs.Machines.{Flies, IsFlying, layout_of};
 ghost use Rattle.sift_core.specs.Landing.{IsFlownInOrder, IsLandedFrom};
 ghost use Rattle.sift_core.specs.Storms.{IsRoundByRogues};

@@ -3,9 +3,9 @@ ghost use Rattle.std.specs.Prelude.{◌≡◌, ◌<◌, ◌≤◌, ℕ, List, []
 ghost use Rattle.sift_base.specs.Units.{has};
 ghost use Rattle.sift_buffer.specs.Conduct.{stray_to};
 ghost use Rattle.sift_buffer.specs.Ranges.{IsCell};
-ghost use Rattle.sift_mission.specs.Mission.{FlownMission};
+ghost use Rattle.sift_mission.specs.Data.{FlownMission};
 ghost use Rattle.sift_mission.specs.Parts.{data_of, flown_of};
-ghost use Rattle.sift_flight.specs.Hearing.{Strays, no_strays};
+ghost use Rattle.sift_flight.specs.Flight.{Strays, no_strays};
 ghost use Rattle.sift_core.specs.Crews.{with_strays};
 ghost use Rattle.sift_core.specs.Racks.{ranges_for};
 ghost use Rattle.sift_core.specs.Machines.{Flies, IsFlying, AreNewBoards, HasTurnedIn, IsNewMachine, StoresStray, layout_of, progress_at};

@@ -6,7 +6,7 @@ ghost use Rattle.sift_buffer.specs.Conditions.{MayEnter, MayTurn, PassesGate};
 ghost use Rattle.sift_buffer.specs.Lawful.{Lawful};
 ghost use Rattle.sift_buffer.specs.Ranges.{IsCell};
 ghost use Rattle.sift_buffer.specs.Views.{view_with_entered, view_with_turned};
-ghost use Rattle.sift_flight.specs.Hearing.{Strays};
+ghost use Rattle.sift_flight.specs.Flight.{Strays};
 ghost use Rattle.sift_core.specs.Racks.{IsNewRack, IsChosen, IsStored, Follows, Stands, view_of, ranges_for, core_of, conduct_at};
 ghost use Rattle.sift_core.specs.Crews.{IsCrew};
 ghost use Rattle.sift_core.specs.Following.{itself, further};

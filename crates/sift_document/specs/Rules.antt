@@ -1,8 +1,27 @@
--- Rules of a document, each with its number and the places at which it is broken, and the first of them that is broken.
-use Rattle.std.specs.Prelude.{ℕ, ◌≡◌, ◌<◌, ◌⊎◌, List, [], ◌∷◌, Option, Some, None, ⊤}
+-- Entries of a document at their places, its rules with their numbers and places, and the first of them that is broken.
+use Rattle.std.specs.Prelude.{ℕ, ◌≡◌, List, length, Some, slice_get, ◌<◌, ◌⊎◌, [], ◌∷◌, Option, None, ⊤}
 use Rattle.toml.specs.Data.{Data}
 use Rattle.sift_document.specs.Document.{IsArrayOf, entries_of}
-use Rattle.sift_document.specs.Entries.{HoldsOf}
+
+-- ---- facts of the entries of lists at their places
+
+-- the fact holds of the entry at a place
+pub record HoldsOf {A : Type 0} (entries : List A) (place : ℕ) (P : A → Type 0) : Type 0 where
+  pub entry : A
+  pub there : slice_get entries place ≡ Some entry
+  pub holds : P entry
+
+-- each entry has the one at its place in another list to which it stands as R says
+abbrev pub EachMatches : {A B : Type 0} → (ℕ → A → B → Type 0) → List A → List B → Type 0
+EachMatches {A} {B} R others entries =
+    (place : ℕ) (entry : B) → slice_get entries place ≡ Some entry → HoldsOf others place (λ other. R place other entry)
+
+-- the same, and there are as many
+pub record AreMatched {A B : Type 0} (R : ℕ → A → B → Type 0) (others : List A) (entries : List B) : Type 0 where
+  pub as_many : length entries ≡ length others
+  pub each : EachMatches R others entries
+
+-- ---- rules
 
 -- a rule: its number, and at which places it is broken. A place is the number of an entry, or 0 where the rule speaks of none
 pub record Rule : Type 1 where

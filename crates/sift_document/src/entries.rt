@@ -3,7 +3,7 @@
 ghost use Rattle.std.specs.Prelude.{◌≡◌, ◌<◌, ◌≤◌, ◌^◌, IfErr, IfOk, length, map};
 ghost use Rattle.toml.specs.View.{table_view, view};
 ghost use Rattle.sift_document.specs.Document.{IsArrayOf, IsNoTableOf, entries_of, members_of};
-ghost use Rattle.sift_document.specs.Entries.{HoldsOf};
+ghost use Rattle.sift_document.specs.Rules.{HoldsOf};
 ghost use Rattle.sift_document.specs.Testing.{Tests};
 
 use crate::rule::{BrokenRule, broken};

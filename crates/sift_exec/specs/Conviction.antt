@@ -1,10 +1,42 @@
--- Conviction: a unit is configured out where at least two other units name it in their reports.
-use Rattle.std.specs.Prelude.{◌≡◌, ℕ, ◌≤◌, List, [], ◌∷◌, length, Bool, true, false, not, ◌&&◌, nat_eq, nat_lt, nat_le, if◌then◌else◌, count_by}
+-- Whom a unit caught, and conviction: a unit is configured out where at least two other units name it in their reports.
+use Rattle.std.specs.Prelude.{ℕ, Bool, ◌≡◌, ◌≤◌, List, [], ◌∷◌, length, true, false, not, ◌&&◌, nat_eq, nat_lt, nat_le, if◌then◌else◌, count_by}
+use Rattle.std.specs.FinSet as set
 use Rattle.std.specs.List.{filter}
-use Rattle.sift_base.specs.Units.{Units, has, others, has_bit}
+use Rattle.sift_base.specs.Units.{Units, holds, has, others, has_bit, HasMargin}
 use Rattle.sift_base.specs.Layout.{least_units}
-use Rattle.sift_base.specs.Margin.{HasMargin}
 use Rattle.sift_config.specs.Config.{remaining}
+use Rattle.sift_exec.specs.declared.catches.Catches.{Catches}
+use Rattle.sift_exec.specs.declared.catches.Kind.{Kind}
+use Rattle.sift_exec.specs.declared.catches.Kinds.{Kinds}
+use Rattle.sift_exec.specs.declared.catches.Kind.TheVariants.{Poll, Relay, Clock}
+
+-- ---- whom a unit caught in a frame: a set of units for each way of being caught
+
+-- no unit was caught
+abbrev pub nobody : Catches
+nobody = record { poll = set.empty; relay = set.empty; clock = set.empty }
+
+-- one unit more was caught in this way
+abbrev pub noted : Catches → ℕ → Kind → Catches
+noted caught u Poll = record caught { poll = set.insert caught.poll u }
+noted caught u Relay = record caught { relay = set.insert caught.relay u }
+noted caught u Clock = record caught { clock = set.insert caught.clock u }
+
+-- the units that were caught in some way
+abbrev pub everyone_in : Catches → Units
+everyone_in caught = set.union (set.union caught.poll caught.relay) caught.clock
+
+-- the ways in which a unit was caught
+abbrev pub kinds_of : Catches → ℕ → Kinds
+kinds_of caught u = record { poll = holds caught.poll u; relay = holds caught.relay u; clock = holds caught.clock u }
+
+-- the way is among these
+abbrev pub has_kind : Kinds → Kind → Bool
+has_kind kinds Poll = kinds.poll
+has_kind kinds Relay = kinds.relay
+has_kind kinds Clock = kinds.clock
+
+-- ---- who is convicted
 
 -- how many units other than u name u in their reports
 abbrev pub accusers : (ℕ → ℕ → Bool) → List ℕ → ℕ → ℕ

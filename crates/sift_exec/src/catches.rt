@@ -1,7 +1,7 @@
 //! What a unit catches others at in a frame.
 
 ghost use Rattle.std.specs.Prelude.{◌≡◌};
-ghost use Rattle.sift_exec.specs.Record.{everyone_in, has_kind, kinds_of, nobody};
+ghost use Rattle.sift_exec.specs.Conviction.{everyone_in, has_kind, kinds_of, nobody};
 
 use sift_base::{UnitId, UnitSet};
 

@@ -1,7 +1,7 @@
 //! The record that a unit keeps of whom it caught in the frame.
 
 ghost use Rattle.std.specs.Prelude.{◌≡◌};
-ghost use Rattle.sift_exec.specs.Record.{nobody, noted, everyone_in};
+ghost use Rattle.sift_exec.specs.Conviction.{nobody, noted, everyone_in};
 ghost use Rattle.sift_exec.specs.declared.catches.Catches.{Catches};
 ghost use Rattle.sift_exec.specs.contracts.catches.Catches as catches;
 ghost use Rattle.std.specs.Coded.{codes};

@@ -6,7 +6,7 @@ use Rattle.sift_flight.specs.declared.flight.Flight.{Flight}
 use Rattle.sift_jobs.specs.Flights.{IsFlightOf}
 use Rattle.sift_mission.specs.Data.{MissionData}
 use Rattle.sift_mission.specs.Flown.{flown}
-use Rattle.sift_rogue.specs.Calls.{Call}
+use Rattle.sift_rogue.specs.Storms.{Call}
 use Rattle.sift_fleet.specs.Given.{AreGiven}
 
 -- one that is round over strays that rogues gave is a flight of the mission over them

@@ -1,11 +1,10 @@
 -- The strays that rogues give.
 use Rattle.std.specs.Prelude.{◌≡◌, ℕ, ◌<◌, List, Some, slice_index_or}
-use Rattle.sift_flight.specs.Hearing.{Strays}
+use Rattle.sift_flight.specs.Flight.{Strays}
 use Rattle.sift_mission.specs.Data.{MissionData}
-use Rattle.sift_rogue.specs.Calls.{Call}
+use Rattle.sift_rogue.specs.Storms.{Call, Storms, all_sifted, bounds_of}
 use Rattle.sift_rogue.specs.DrawnStorms.{drawn_acts}
 use Rattle.sift_rogue.specs.Rogues.{AllowsDrawn}
-use Rattle.sift_rogue.specs.Storms.{Storms, all_sifted, bounds_of}
 use Rattle.sift_rogue.specs.declared.storm.Storm.{Storm}
 use Rattle.sift_script.specs.Faults.{storm_of}
 

@@ -4,8 +4,7 @@ ghost use Rattle.std.specs.Prelude.{◌≡◌, ◌≤◌, IfOk, length, string_b
 ghost use Rattle.sift_base.specs.Units.{unit_limit};
 ghost use Rattle.sift_fleet.specs.Given.{AreGiven};
 ghost use Rattle.sift_flight.specs.Told.{IsWhole, told};
-ghost use Rattle.sift_jobs.specs.Flights.{IsFlightOf};
-ghost use Rattle.sift_jobs.specs.Telling.{TellsFlight};
+ghost use Rattle.sift_jobs.specs.Flights.{IsFlightOf, TellsFlight};
 ghost use Rattle.sift_mission.specs.Parts.{data_of, flown_of};
 
 use crate::fleet::Fleet;

@@ -8,10 +8,9 @@ use Rattle.sift_base.proofs.lemmas.Others.{not_same}
 use Rattle.sift_agree.specs.Agreement.{RelaysWell}
 use Rattle.sift_agree.proofs.lemmas.Taking.{faulty_unit_is_agreed_on, working_unit_is_agreed_on}
 use Rattle.sift_config.specs.Config.{reader_of}
-use Rattle.sift_mission.specs.Mission.{FlownMission}
+use Rattle.sift_mission.specs.Data.{FlownMission}
 use Rattle.sift_conduct.specs.Conduct.{report_in, report_of}
-use Rattle.sift_flight.specs.Flight.{Flight}
-use Rattle.sift_flight.specs.Hearing.{Strays}
+use Rattle.sift_flight.specs.Flight.{Flight, Strays}
 use Rattle.sift_flight.proofs.Working.{InFrame, Member, conduct_here, hears, sense_call, relay_call, report_call, relayed_call}
 
 -- a unit that works isn't one that doesn't

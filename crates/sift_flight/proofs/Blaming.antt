@@ -3,11 +3,10 @@ use Rattle.std.proofs.Common.{◌≡◌, ℕ, List, Bool, true, false, ◌||◌,
 use Rattle.std.specs.FinSet as set
 use Rattle.std.specs.Ordering.{nat_cmp}
 use Rattle.sift_base.specs.Units.{has, holds}
-use Rattle.sift_exec.specs.Record.{everyone_in, nobody}
+use Rattle.sift_exec.specs.Conviction.{everyone_in, nobody}
 use Rattle.sift_exec.specs.declared.catches.Catches.{Catches}
-use Rattle.sift_conduct.specs.Account.{Account, Places, caught}
-use Rattle.sift_conduct.specs.Conduct.{CatchConduct}
-use Rattle.sift_mission.specs.Mission.{FlownMission}
+use Rattle.sift_conduct.specs.Conduct.{Account, Places, caught, CatchConduct}
+use Rattle.sift_mission.specs.Data.{FlownMission}
 use Rattle.sift_flight.proofs.Calls.{and_both}
 use Rattle.sift_flight.proofs.lemmas.Naming.{holds-everyone}
 

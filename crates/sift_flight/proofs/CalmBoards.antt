@@ -5,8 +5,7 @@ use Rattle.sift_base.specs.Units.{has}
 use Rattle.sift_base.specs.declared.slot.Slot.{Slot}
 use Rattle.sift_buffer.specs.Conduct.{hearing}
 use Rattle.sift_mission.specs.Slots.{is_slot, calls, stamp_of, heard_at}
-use Rattle.sift_conduct.specs.Account.{Places}
-use Rattle.sift_conduct.specs.Conduct.{own_word, said_of, Conduct}
+use Rattle.sift_conduct.specs.Conduct.{Places, own_word, said_of, Conduct}
 use Rattle.sift_conduct.specs.Frames.{FrameConduct}
 use Rattle.sift_conduct.specs.Acts.{Turns, ActsAre, BoardKeeps, said_places, heard_places, stamp_and_moment}
 use Rattle.sift_mission.specs.Fits.{Fits}

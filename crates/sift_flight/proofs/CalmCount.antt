@@ -5,7 +5,7 @@ use Rattle.sift_base.specs.Units.{has}
 use Rattle.sift_base.specs.Word.{word_count}
 use Rattle.sift_base.specs.declared.slot.Slot.{Slot}
 use Rattle.sift_base.specs.declared.slot.Slot.TheVariants.{Clock, Sense, RelaySense, Out, Report, RelayReport}
-use Rattle.sift_vote.specs.Agreed.{agreed_of}
+use Rattle.sift_vote.specs.Majority.{agreed_of}
 use Rattle.sift_mission.specs.Slots.{is_slot, executors}
 use Rattle.sift_conduct.specs.Conduct.{made}
 use Rattle.sift_mission.specs.Fits.{Fits, IsNumbered}

@@ -5,7 +5,7 @@ use Rattle.std.proofs.lemmas.Option.{same_Some}
 use Rattle.sift_lang.specs.Tree.{TaskTree}
 use Rattle.sift_lang.specs.Sound.{IsSound, AllNowsBelow}
 use Rattle.sift_lang.specs.Meaning.{meaning}
-use Rattle.sift_program.specs.Sound.{first_word}
+use Rattle.sift_program.specs.Program.{first_word}
 use Rattle.sift_mission.specs.Premises.{IsAmong, RunsProgram}
 use Rattle.sift_flight.specs.Calm.{mission_of, program_of}
 use Rattle.sift_flight.specs.Calms.{count_task, count}

@@ -8,14 +8,14 @@ use Rattle.sift_buffer.specs.Ranges.{Ranges}
 use Rattle.sift_buffer.specs.Conduct.{Saying, saying, hearing}
 use Rattle.sift_buffer.specs.Core.{Core}
 use Rattle.sift_buffer.specs.Lawful.{IsFromSayings, IsFromStrays, nothing, said, strayed}
-use Rattle.sift_mission.specs.Mission.{FlownMission, IsConfigOf}
+use Rattle.sift_mission.specs.Data.{FlownMission, IsConfigOf}
 use Rattle.sift_mission.specs.Slots.{is_slot, calls, stamp_of, heard_at, has_turned}
-use Rattle.sift_conduct.specs.Account.{Account}
+use Rattle.sift_conduct.specs.Conduct.{Account}
 use Rattle.sift_conduct.specs.Frames.{Flies}
 use Rattle.sift_conduct.specs.Acts.{ActsAre, BoardKeeps, word_in_saying, word_in_hearing}
 use Rattle.sift_mission.specs.Fits.{Fits}
 use Rattle.sift_mission.proofs.lemmas.Silent.{speaks}
-use Rattle.sift_flight.specs.Hearing.{IsOfStray, absent, stray}
+use Rattle.sift_flight.specs.Flight.{IsOfStray, absent, stray}
 use Rattle.sift_flight.specs.Landing.{HaveLanded, UnitsHearByTheEquations}
 use Rattle.sift_flight.proofs.Calls.{call_of}
 use Rattle.sift_flight.proofs.FrameActs.{frame_low, same_frame, never_reached, heard_is, heard_none, left_above, hushed}

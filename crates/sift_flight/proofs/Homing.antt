@@ -5,15 +5,13 @@ use Rattle.sift_base.specs.declared.slot.Slot.{Slot}
 use Rattle.sift_buffer.specs.Core.{Core}
 use Rattle.sift_buffer.specs.Ranges.{Ranges}
 use Rattle.sift_mission.specs.Fits.{Fits}
-use Rattle.sift_mission.specs.Mission.{FlownMission}
+use Rattle.sift_mission.specs.Data.{FlownMission}
 use Rattle.sift_mission.specs.Slots.{is_slot, calls, stamp_of}
-use Rattle.sift_conduct.specs.Account.{Places}
+use Rattle.sift_conduct.specs.Conduct.{Places}
 use Rattle.sift_conduct.specs.Frames.{Flies, FrameConduct}
-use Rattle.sift_flight.specs.Flight.{Flight, flight_of, config_of}
-use Rattle.sift_flight.specs.Hearing.{Hears, IsOfStray}
+use Rattle.sift_flight.specs.Flight.{Flight, flight_of, config_of, Hears, IsOfStray, RoundAt}
 use Rattle.sift_flight.specs.Homing.{HasComeHome, FlightsThatComeHomeAreRound}
 use Rattle.sift_flight.specs.Landing.{strays_in}
-use Rattle.sift_flight.specs.Round.{RoundAt}
 use Rattle.sift_flight.specs.Told.{told}
 use Rattle.sift_flight.specs.declared.flight.Flight.{Flight as TheFlight}
 use Rattle.sift_flight.proofs.Calls.{call_of}

@@ -7,11 +7,10 @@ use Rattle.std.proofs.lemmas.List.FromFn.{get_or-map-range_with_len}
 use Rattle.std.proofs.lemmas.List.Sums.{sum_by-cons}
 use Rattle.sift_base.specs.Units.{has}
 use Rattle.sift_lang.specs.Tree.{TaskTree}
-use Rattle.sift_program.specs.Program.{ProgramTree}
-use Rattle.sift_program.specs.Sound.{output_count, first_word}
+use Rattle.sift_program.specs.Program.{ProgramTree, output_count, first_word}
 use Rattle.sift_program.specs.Ideal.{ideal_frame, MeetsEachTask}
 use Rattle.sift_program.proofs.lemmas.Unique.{ideal_frame-unique}
-use Rattle.sift_mission.specs.Mission.{FlownMission}
+use Rattle.sift_mission.specs.Data.{FlownMission}
 use Rattle.sift_mission.specs.Slots.{is_held}
 use Rattle.sift_mission.specs.Premises.{RunsProgram}
 

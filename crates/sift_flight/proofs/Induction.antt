@@ -4,12 +4,10 @@ use Rattle.std.proofs.lemmas.Bool.{cases_lt, le-ltb}
 use Rattle.sift_base.specs.Units.{has}
 use Rattle.sift_program.specs.Program.{ProgramTree}
 use Rattle.sift_program.specs.Ideal.{words_before}
-use Rattle.sift_mission.specs.Mission.{FlownMission, IsConfigOf}
+use Rattle.sift_mission.specs.Data.{FlownMission, IsConfigOf}
 use Rattle.sift_conduct.specs.Frames.{last_of, FrameConduct}
-use Rattle.sift_flight.specs.Flight.{Flight, config_of}
-use Rattle.sift_flight.specs.Hearing.{Strays}
-use Rattle.sift_flight.specs.Round.{IsRound}
-use Rattle.sift_flight.specs.Configuration.{Works, lead_of, config_at, HasMarginAt}
+use Rattle.sift_flight.specs.Flight.{Flight, config_of, Strays, IsRound}
+use Rattle.sift_flight.specs.Figures.{Works, lead_of, config_at, HasMarginAt}
 use Rattle.sift_mission.specs.Premises.{IsFlyable, RunsProgram}
 use Rattle.sift_flight.specs.Headline.{agreed_at, shed_at, HeadlineHolds}
 use Rattle.sift_flight.proofs.Working.{InFrame, Member, member_of}

@@ -2,15 +2,13 @@
 use Rattle.std.proofs.Common.{◌≡◌, inl, inr, ℕ, zero, suc, true, false, unwrap_or, refl, ap, ◌∙◌, subst, eq-eqb, ne_eqb}
 use Rattle.std.proofs.lemmas.Bool.{cases_Bool}
 use Rattle.sift_base.specs.declared.slot.Slot.{Slot}
-use Rattle.sift_mission.specs.Mission.{FlownMission}
+use Rattle.sift_mission.specs.Data.{FlownMission}
 use Rattle.sift_mission.specs.Slots.{calls, stamp_of, has_turned}
 use Rattle.sift_mission.specs.Fits.{Fits}
 use Rattle.sift_conduct.specs.Conduct.{said_of}
 use Rattle.sift_conduct.specs.Frames.{BeginConduct, BusyConduct, FrameConduct, Flies, last_of}
-use Rattle.sift_flight.specs.Flight.{Flight, config_of}
-use Rattle.sift_flight.specs.Hearing.{Strays, Hears}
-use Rattle.sift_flight.specs.Hearing.IsOfStray.{absent}
-use Rattle.sift_flight.specs.Round.{IsSilent, IsRound}
+use Rattle.sift_flight.specs.Flight.{Flight, config_of, Strays, Hears, IsSilent, IsRound}
+use Rattle.sift_flight.specs.Flight.IsOfStray.{absent}
 use Rattle.sift_flight.specs.Existence.{StrayHearing, IsOfStrays, HearsStrays, EachMissionHasARoundFlight, EachStrayHearingHasARoundFlight}
 use Rattle.sift_flight.proofs.Making.{Start, own_by, out_word, report_word, said_by, start_of, made_flight}
 use Rattle.sift_flight.proofs.Unique.{nothing}

@@ -9,8 +9,8 @@ use Rattle.sift_base.specs.Units.{has, holds}
 use Rattle.sift_base.specs.ReadBack.{has-filter}
 use Rattle.sift_base.specs.declared.slot.Slot.{Slot}
 use Rattle.sift_base.specs.declared.slot.Slot.TheVariants.{Clock, Sense, RelaySense, Out, Report, RelayReport}
-use Rattle.sift_vote.specs.Agreed.{agreed_of}
-use Rattle.sift_mission.specs.Mission.{FlownMission}
+use Rattle.sift_vote.specs.Majority.{agreed_of}
+use Rattle.sift_mission.specs.Data.{FlownMission}
 use Rattle.sift_mission.specs.Slots.{executors, is_held, calls}
 use Rattle.sift_mission.specs.Fits.{Fits}
 use Rattle.sift_conduct.specs.Conduct.{own_word, Conduct}

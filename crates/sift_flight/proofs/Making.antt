@@ -7,15 +7,13 @@ use Rattle.sift_base.specs.Word.{word_of}
 use Rattle.sift_base.specs.Units.{Units, has, has_bit, bits_of}
 use Rattle.sift_base.specs.declared.slot.Slot.{Slot}
 use Rattle.sift_base.specs.declared.slot.Slot.TheVariants.{Clock, Sense, RelaySense, Out, Report, RelayReport}
-use Rattle.sift_exec.specs.Record.{nobody, everyone_in}
+use Rattle.sift_exec.specs.Conviction.{nobody, everyone_in, next_by}
 use Rattle.sift_exec.specs.declared.catches.Catches.{Catches}
-use Rattle.sift_exec.specs.Conviction.{next_by}
 use Rattle.sift_config.specs.Config.{reader_of}
 use Rattle.sift_clock.specs.Correction.{next_offset}
-use Rattle.sift_mission.specs.Mission.{FlownMission}
+use Rattle.sift_mission.specs.Data.{FlownMission}
 use Rattle.sift_mission.specs.Slots.{calls, stamp_of, has_turned}
-use Rattle.sift_conduct.specs.Account.{Account, Places}
-use Rattle.sift_conduct.specs.Conduct.{input_of, polled, voted, poll_catches, relay_catches, clock_catches, reading_by, report_of, said_of}
+use Rattle.sift_conduct.specs.Conduct.{Account, Places, input_of, polled, voted, poll_catches, relay_catches, clock_catches, reading_by, report_of, said_of}
 use Rattle.sift_flight.specs.Flight.{Flight}
 use Rattle.sift_flight.specs.Existence.{StrayHearing}
 

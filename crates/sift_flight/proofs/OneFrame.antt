@@ -5,12 +5,11 @@ use Rattle.sift_base.specs.Units.{has}
 use Rattle.sift_exec.specs.Conviction.{next_by}
 use Rattle.sift_program.specs.Program.{ProgramTree}
 use Rattle.sift_program.specs.Ideal.{ideal_words, words_before}
-use Rattle.sift_mission.specs.Mission.{FlownMission, IsConfigOf}
-use Rattle.sift_conduct.specs.Account.{caught}
+use Rattle.sift_mission.specs.Data.{FlownMission, IsConfigOf}
+use Rattle.sift_conduct.specs.Conduct.{caught}
 use Rattle.sift_conduct.specs.Frames.{last_of}
-use Rattle.sift_flight.specs.Flight.{Flight}
-use Rattle.sift_flight.specs.Hearing.{Strays}
-use Rattle.sift_flight.specs.Configuration.{Works, lead_of, config_at}
+use Rattle.sift_flight.specs.Flight.{Flight, Strays}
+use Rattle.sift_flight.specs.Figures.{Works, lead_of, config_at}
 use Rattle.sift_mission.specs.Premises.{RunsProgram}
 use Rattle.sift_flight.specs.Headline.{agreed_at, shed_at, Headline}
 use Rattle.sift_flight.proofs.lemmas.Configs.{reader_in}

@@ -10,15 +10,13 @@ use Rattle.sift_base.proofs.lemmas.Sets.{passing_ascend}
 use Rattle.sift_clock.specs.Distance.{IsWithin}
 use Rattle.sift_exec.specs.Conviction.{is_convicted, kept_by, next_by}
 use Rattle.sift_skew.proofs.lemmas.Changes.{offsets_change_little}
-use Rattle.sift_mission.specs.Mission.{IsConfigOf, FlownMission}
+use Rattle.sift_mission.specs.Data.{IsConfigOf, FlownMission}
 use Rattle.sift_conduct.specs.Conduct.{reading_by}
 use Rattle.sift_mission.specs.Flown.{flown}
 use Rattle.sift_conduct.specs.Frames.{FrameConduct}
 use Rattle.sift_mission.specs.Premises.{IsFlyable, PartsMakeItFlyable}
 use Rattle.sift_mission.specs.Slots.{has_turned, turned_by}
-use Rattle.sift_flight.specs.Flight.{Flight}
-use Rattle.sift_flight.specs.Hearing.{Strays}
-use Rattle.sift_flight.specs.Round.{IsRound}
+use Rattle.sift_flight.specs.Flight.{Flight, Strays, IsRound}
 use Rattle.sift_flight.specs.Told.{AreAccountsOf, IsAccountOf, told}
 use Rattle.sift_flight.specs.Whole.{RoundFlightsAreWhole, RoundFlightsHaveAccounts}
 use Rattle.sift_flight.proofs.Blaming.{caught_inside, nobody_caught}

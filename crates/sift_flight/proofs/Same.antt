@@ -5,15 +5,13 @@ use mathlib.Core.Logic.{dite}
 use native.Mathlib.Decide.{ℕ_discrete}
 use Rattle.sift_base.specs.Units.{has}
 use Rattle.sift_base.specs.declared.slot.Slot.{Slot}
-use Rattle.sift_mission.specs.Mission.{FlownMission}
+use Rattle.sift_mission.specs.Data.{FlownMission}
 use Rattle.sift_mission.specs.Slots.{calls, stamp_of, has_turned}
 use Rattle.sift_conduct.specs.Conduct.{own_word, said_of}
 use Rattle.sift_conduct.specs.Frames.{last_of, FrameConduct, IdleConduct, BusyConduct, Flies}
 use Rattle.sift_mission.specs.Fits.{Fits}
-use Rattle.sift_flight.specs.Flight.{Flight, config_of}
-use Rattle.sift_flight.specs.Hearing.{Strays}
+use Rattle.sift_flight.specs.Flight.{Flight, config_of, Strays, RoundAt}
 use Rattle.sift_flight.specs.Existence.{StrayHearing, HearsStraysAt}
-use Rattle.sift_flight.specs.Round.{RoundAt}
 use Rattle.sift_flight.proofs.Calls.{call_of}
 
 -- a frame of two round flights that both begin alike, and in which the same is heard of strays

@@ -6,23 +6,18 @@ use Rattle.std.proofs.lemmas.Cmp.{nat_cmp_total}
 use Rattle.sift_base.specs.Units.{Units, has, holds, has_bit, bits_of}
 use Rattle.sift_base.specs.declared.slot.Slot.{Slot}
 use Rattle.sift_base.specs.declared.slot.Slot.TheVariants.{Clock, Sense, RelaySense, Out, Report, RelayReport}
-use Rattle.sift_vote.specs.Agreed.{agreed_of, majority_of}
-use Rattle.sift_vote.specs.Differing.{differs}
+use Rattle.sift_vote.specs.Majority.{agreed_of, majority_of, differs}
 use Rattle.sift_agree.specs.Agreement.{taken}
-use Rattle.sift_exec.specs.Record.{everyone_in}
+use Rattle.sift_exec.specs.Conviction.{everyone_in, next_by}
 use Rattle.sift_exec.specs.declared.catches.Catches.{Catches}
-use Rattle.sift_exec.specs.Conviction.{next_by}
 use Rattle.sift_config.specs.Config.{reader_of}
-use Rattle.sift_clock.specs.Correction.{next_offset}
-use Rattle.sift_clock.specs.Reading.{reading_of, is_too_far}
-use Rattle.sift_mission.specs.Mission.{FlownMission}
+use Rattle.sift_clock.specs.Correction.{next_offset, reading_of, is_too_far}
+use Rattle.sift_mission.specs.Data.{FlownMission}
 use Rattle.sift_mission.specs.Slots.{executors}
 use Rattle.sift_conduct.specs.Conduct.{polled, any_below, poll_catches, relay_catches, clock_catches, report_of, said_of}
 use Rattle.sift_conduct.specs.Frames.{last_of, BusyConduct, Flies, IdleConduct}
-use Rattle.sift_flight.specs.Flight.{Flight, config_of}
-use Rattle.sift_flight.specs.Hearing.{Strays}
+use Rattle.sift_flight.specs.Flight.{Flight, config_of, Strays, AreSameAt}
 use Rattle.sift_flight.specs.Existence.{StrayHearing}
-use Rattle.sift_flight.specs.Round.{AreSameAt}
 use Rattle.sift_flight.proofs.Same.{AreBothRound, HearAlike, conduct_one, conduct_other, busy_one, idle_one, by_place, say, hear}
 use Rattle.sift_flight.proofs.SameWords.{heard_clock, heard_sense, heard_relay, heard_out, ins_same, polled_same, outs_same, all_outs}
 

@@ -6,15 +6,14 @@ use Rattle.std.proofs.lemmas.Grind.{same_number_lists}
 use Rattle.sift_base.specs.Word.{word_of}
 use Rattle.sift_base.specs.Units.{has}
 use Rattle.sift_base.specs.declared.slot.Slot.TheVariants.{Clock, Sense, RelaySense, Out}
-use Rattle.sift_vote.specs.Agreed.{agreed_of}
+use Rattle.sift_vote.specs.Majority.{agreed_of}
 use Rattle.sift_agree.specs.Agreement.{taken}
 use Rattle.sift_config.specs.Config.{reader_of}
-use Rattle.sift_mission.specs.Mission.{FlownMission}
+use Rattle.sift_mission.specs.Data.{FlownMission}
 use Rattle.sift_mission.specs.Slots.{executors, is_held}
 use Rattle.sift_conduct.specs.Conduct.{input_of, made, polled, voted}
 use Rattle.sift_conduct.specs.Frames.{last_of, BusyConduct, Flies, IdleConduct}
-use Rattle.sift_flight.specs.Flight.{Flight, config_of}
-use Rattle.sift_flight.specs.Hearing.{Strays}
+use Rattle.sift_flight.specs.Flight.{Flight, config_of, Strays}
 use Rattle.sift_flight.specs.Existence.{StrayHearing}
 use Rattle.sift_flight.proofs.Calls.{call_of}
 use Rattle.sift_flight.proofs.Same.{AreBothRound, HearAlike, conduct_other, busy_one, idle_one, by_place, say, hear}

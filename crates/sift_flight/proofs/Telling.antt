@@ -7,16 +7,15 @@ use Rattle.std.specs.List.{Contains}
 use Rattle.std.proofs.lemmas.Bool.{cases_eq, le-leb, leb-true}
 use Rattle.std.proofs.lemmas.Int.{ints, fold-int_max_bounds, fold-int_max_reached, fold-int_min_bounds, fold-int_min_reached}
 use Rattle.std.proofs.lemmas.List.Elements.{All-cons, All-push, Contains-from_at, at_from_Contains}
-use Rattle.sift_base.specs.Margin.{HasMargin, faulty_count, working_count}
+use Rattle.sift_base.specs.Units.{HasMargin, faulty_count, working_count}
 use Rattle.std.proofs.lemmas.List.{map_more}
 use Rattle.sift_clock.specs.Distance.{IsWithin}
 use Rattle.sift_skew.specs.Limits.{offset_limit}
 use Rattle.sift_skew.specs.Figures.{AreInRange, IsHighest, IsLowest, IsSkew, IsSlack}
 use Rattle.sift_skew.proofs.lemmas.Extremes.{skew_from, slack_from}
-use Rattle.sift_mission.specs.Mission.{FlownMission}
+use Rattle.sift_mission.specs.Data.{FlownMission}
 use Rattle.sift_flight.specs.Flight.{Flight}
-use Rattle.sift_flight.specs.Configuration.{config_at}
-use Rattle.sift_flight.specs.Figures.{MarginIsTold, SkewIsTold, SlackIsTold, is_sound_at, margin_before, skew_of, slack_of}
+use Rattle.sift_flight.specs.Figures.{config_at, MarginIsTold, SkewIsTold, SlackIsTold, is_sound_at, margin_before, skew_of, slack_of}
 use Rattle.sift_flight.proofs.Calls.{and_both, both}
 
 -- ---- margin

@@ -6,18 +6,17 @@ use Rattle.std.proofs.lemmas.Int.{ints}
 use Rattle.sift_base.specs.Units.{has}
 use Rattle.sift_base.specs.declared.slot.Slot.TheVariants.{Clock}
 use Rattle.sift_clock.specs.Distance.{IsWithin}
-use Rattle.sift_clock.specs.Reading.{is_too_far}
+use Rattle.sift_clock.specs.Correction.{is_too_far}
 use Rattle.sift_skew.specs.Keeping.{AreTogether, ReadsWell, AreWithin, next_offsets}
 use Rattle.sift_skew.specs.Figures.{IsSkew, IsSlack}
 use Rattle.sift_skew.proofs.lemmas.Readings.{heard_clocks_are_read_well}
 use Rattle.sift_skew.proofs.lemmas.Keeps.{skew_is_kept_with_margin}
 use Rattle.sift_skew.proofs.lemmas.Changes.{offsets_change_little}
 use Rattle.sift_skew.proofs.lemmas.Leads.{Contains-map, slack_is_positive}
-use Rattle.sift_mission.specs.Mission.{FlownMission}
+use Rattle.sift_mission.specs.Data.{FlownMission}
 use Rattle.sift_conduct.specs.Conduct.{reading_by}
-use Rattle.sift_flight.specs.Flight.{Flight}
+use Rattle.sift_flight.specs.Flight.{Flight, Strays}
 use Rattle.sift_flight.specs.Headline.{HasLead}
-use Rattle.sift_flight.specs.Hearing.{Strays}
 use Rattle.sift_flight.proofs.lemmas.Configs.{filter_has}
 use Rattle.sift_flight.proofs.Working.{InFrame, Member, conduct_here, hears, clock_call}
 

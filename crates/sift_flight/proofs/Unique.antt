@@ -2,14 +2,12 @@
 use Rattle.std.proofs.Common.{◌≡◌, ⊎_elim, ℕ, zero, suc, ◌<◌, None, true, false, refl, sym, ◌∙◌, subst, arith}
 use Rattle.std.proofs.lemmas.Bool.{cases_Bool}
 use Rattle.sift_base.specs.Units.{has}
-use Rattle.sift_mission.specs.Mission.{FlownMission}
+use Rattle.sift_mission.specs.Data.{FlownMission}
 use Rattle.sift_mission.specs.Slots.{has_turned}
 use Rattle.sift_conduct.specs.Frames.{FrameConduct, Flies}
 use Rattle.sift_mission.specs.Fits.{Fits}
-use Rattle.sift_flight.specs.Flight.{Flight, config_of}
-use Rattle.sift_flight.specs.Hearing.{Strays}
+use Rattle.sift_flight.specs.Flight.{Flight, config_of, Strays, IsRound, HasNoStorms, AtMostOneIsRound}
 use Rattle.sift_flight.specs.Existence.{StrayHearing, HearsStrays, AtMostOneHearsThem}
-use Rattle.sift_flight.specs.Round.{IsRound, HasNoStorms, AtMostOneIsRound}
 use Rattle.sift_flight.proofs.Calls.{call_of}
 use Rattle.sift_flight.proofs.lemmas.Configs.{next_inside}
 use Rattle.sift_flight.proofs.Reaching.{still_before}

@@ -9,17 +9,15 @@ use Rattle.std.proofs.lemmas.Grind.{same_number_lists}
 use Rattle.sift_base.specs.Units.{has}
 use Rattle.sift_base.specs.declared.slot.Slot.TheVariants.{Out}
 use Rattle.sift_base.proofs.lemmas.Counts.{count-cons, nat_eq-same}
-use Rattle.sift_vote.specs.Majority.{IsMajority}
-use Rattle.sift_vote.specs.Differing.{differs}
+use Rattle.sift_vote.specs.Majority.{IsMajority, differs}
 use Rattle.sift_vote.proofs.lemmas.Found.{majority_is_found}
 use Rattle.sift_agree.proofs.lemmas.Taking.{votes-working}
 use Rattle.sift_agree.proofs.lemmas.Winners.{won-agreed}
-use Rattle.sift_mission.specs.Mission.{FlownMission}
+use Rattle.sift_mission.specs.Data.{FlownMission}
 use Rattle.sift_mission.specs.Slots.{executors, is_held}
 use Rattle.sift_conduct.specs.Conduct.{made, polled, any_below, poll_catches}
 use Rattle.sift_conduct.specs.Frames.{last_of}
-use Rattle.sift_flight.specs.Flight.{Flight}
-use Rattle.sift_flight.specs.Hearing.{Strays}
+use Rattle.sift_flight.specs.Flight.{Flight, Strays}
 use Rattle.sift_flight.proofs.Calls.{and_both}
 use Rattle.sift_flight.proofs.lemmas.Configs.{filter_has, has_filter}
 use Rattle.sift_flight.proofs.Ideal.{IsStep}

@@ -1,19 +1,16 @@
 -- One frame of a round flight whose working units share a configuration with margin: what they say to each other they hear.
 use Rattle.std.proofs.Common.{false, ◌≡◌, ◌≢◌, ℕ, ◌<◌, List, true, not, ◌&&◌, nat_eq, Option, refl, sym, ap, ◌∙◌, subst, lt-ltb, eq-eqb, ne_eqb}
-use Rattle.sift_base.specs.Units.{has}
-use Rattle.sift_base.specs.Margin.{HasMargin}
+use Rattle.sift_base.specs.Units.{has, HasMargin}
 use Rattle.sift_base.specs.declared.slot.Slot.{Slot}
 use Rattle.sift_base.specs.declared.slot.Slot.TheVariants.{Clock, Sense, RelaySense, Out, Report, RelayReport}
 use Rattle.sift_config.specs.Config.{reader_of}
 use Rattle.sift_skew.specs.Keeping.{AreTogether}
-use Rattle.sift_mission.specs.Mission.{FlownMission, IsConfigOf}
+use Rattle.sift_mission.specs.Data.{FlownMission, IsConfigOf}
 use Rattle.sift_mission.specs.Slots.{calls}
 use Rattle.sift_conduct.specs.Conduct.{own_word, said_of, Conduct}
 use Rattle.sift_conduct.specs.Frames.{last_of, BusyConduct, Flies}
-use Rattle.sift_flight.specs.Flight.{Flight, config_of}
-use Rattle.sift_flight.specs.Hearing.{Strays}
-use Rattle.sift_flight.specs.Round.{RoundAt}
-use Rattle.sift_flight.specs.Configuration.{Works}
+use Rattle.sift_flight.specs.Flight.{Flight, config_of, Strays, RoundAt}
+use Rattle.sift_flight.specs.Figures.{Works}
 use Rattle.sift_mission.specs.Premises.{IsFlyable}
 use Rattle.sift_flight.proofs.Calls.{Call, call_is, both}
 

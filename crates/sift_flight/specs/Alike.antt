@@ -1,13 +1,10 @@
 -- Two flights that tell the same.
 use Rattle.std.specs.Prelude.{◌≡◌, ℕ, ◌<◌, ◌≤◌, true}
 use Rattle.sift_base.specs.Units.{has}
-use Rattle.sift_mission.specs.Mission.{FlownMission}
+use Rattle.sift_mission.specs.Data.{FlownMission}
 use Rattle.sift_mission.specs.Premises.{IsFlyable}
-use Rattle.sift_flight.specs.Flight.{Flight}
-use Rattle.sift_flight.specs.Hearing.{Strays}
-use Rattle.sift_flight.specs.Round.{AreSameAt, HasNoStorms, IsRound}
-use Rattle.sift_flight.specs.Configuration.{config_at}
-use Rattle.sift_flight.specs.Figures.{margin_at, skew_at, slack_at}
+use Rattle.sift_flight.specs.Flight.{Flight, Strays, AreSameAt, HasNoStorms, IsRound}
+use Rattle.sift_flight.specs.Figures.{config_at, margin_at, skew_at, slack_at}
 
 -- what two flights tell of a whole frame is the same
 pub record AreSameFrame (m : FlownMission) (fl gl : Flight) (f : ℕ) : Type 0 where

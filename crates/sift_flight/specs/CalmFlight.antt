@@ -9,9 +9,9 @@ use Rattle.sift_buffer.specs.Ranges.{Ranges, shared_words}
 use Rattle.sift_buffer.specs.Conduct.{saying, hearing, never}
 use Rattle.sift_buffer.specs.Conduct.{Conduct as Acts}
 use Rattle.sift_buffer.specs.Core.{Core}
-use Rattle.sift_exec.specs.Record.{nobody}
+use Rattle.sift_exec.specs.Conviction.{nobody}
 use Rattle.sift_mission.specs.Slots.{calls, stamp_of, heard_at}
-use Rattle.sift_conduct.specs.Account.{Account}
+use Rattle.sift_conduct.specs.Conduct.{Account}
 use Rattle.sift_flight.specs.Calm.{Calm, four_units, layout_of, mission_of}
 
 -- the word that each unit says in a slot

@@ -5,7 +5,7 @@ use Rattle.sift_base.specs.declared.slot.Slot.TheVariants.{Clock, Sense, RelaySe
 use Rattle.sift_lang.specs.declared.tree.Op.TheVariants.{Add, Mul}
 use Rattle.sift_lang.specs.Tree.{number, sense, this_frame, last_frame, binary, output, end, step, TaskTree}
 use Rattle.sift_buffer.specs.Lawful.{Lawful}
-use Rattle.sift_flight.specs.Configuration.{HasMarginAt}
+use Rattle.sift_flight.specs.Figures.{HasMarginAt}
 use Rattle.sift_flight.specs.Flight.{flight_of}
 use Rattle.sift_flight.specs.Landing.{HaveLanded}
 use Rattle.sift_mission.specs.Premises.{IsFlyable, RunsProgram}

@@ -1,13 +1,11 @@
 -- That there are round flights: each mission that fits has one.
 use Rattle.std.specs.Prelude.{◌≡◌, ℕ, ◌<◌, true, Option}
 use Rattle.sift_base.specs.declared.slot.Slot.{Slot}
-use Rattle.sift_mission.specs.Mission.{FlownMission}
+use Rattle.sift_mission.specs.Data.{FlownMission}
 use Rattle.sift_mission.specs.Slots.{calls, stamp_of, has_turned}
 use Rattle.sift_mission.specs.Fits.{Fits}
 use Rattle.sift_conduct.specs.Frames.{Flies}
-use Rattle.sift_flight.specs.Flight.{Flight, config_of}
-use Rattle.sift_flight.specs.Hearing.{Strays, IsOfStray}
-use Rattle.sift_flight.specs.Round.{IsRound, AreSameAt}
+use Rattle.sift_flight.specs.Flight.{Flight, config_of, Strays, IsOfStray, IsRound, AreSameAt}
 
 -- what is heard of units that have turned: by the hearer, the frame, the slot, the unit that has turned, and the stamp that is waited for
 abbrev pub StrayHearing : Type 0

@@ -8,13 +8,10 @@ use Rattle.sift_skew.specs.Figures.{lead_left}
 use Rattle.sift_skew.specs.Keeping.{AreTogether}
 use Rattle.sift_program.specs.Program.{ProgramTree}
 use Rattle.sift_program.specs.Ideal.{ideal_words}
-use Rattle.sift_mission.specs.Mission.{FlownMission, IsConfigOf}
-use Rattle.sift_conduct.specs.Account.{caught}
-use Rattle.sift_conduct.specs.Conduct.{report_in, report_of}
-use Rattle.sift_flight.specs.Flight.{Flight, config_of}
-use Rattle.sift_flight.specs.Hearing.{Strays}
-use Rattle.sift_flight.specs.Round.{IsRound}
-use Rattle.sift_flight.specs.Configuration.{Works, lead_of, config_at, HasMarginAt, IsSkewAt, IsSlackAt}
+use Rattle.sift_mission.specs.Data.{FlownMission, IsConfigOf}
+use Rattle.sift_conduct.specs.Conduct.{caught, report_in, report_of}
+use Rattle.sift_flight.specs.Flight.{Flight, config_of, Strays, IsRound}
+use Rattle.sift_flight.specs.Figures.{Works, lead_of, config_at, HasMarginAt, IsSkewAt, IsSlackAt}
 use Rattle.sift_mission.specs.Premises.{IsFlyable, RunsProgram}
 
 -- ---- words

@@ -6,10 +6,10 @@ use Rattle.sift_buffer.specs.Journals.{HasWordsOf}
 use Rattle.sift_buffer.specs.Lawful.{Lawful}
 use Rattle.sift_buffer.specs.Ranges.{Ranges}
 use Rattle.sift_mission.specs.Fits.{Fits}
-use Rattle.sift_mission.specs.Mission.{FlownMission}
+use Rattle.sift_mission.specs.Data.{FlownMission}
 use Rattle.sift_conduct.specs.Acts.{BoardKeeps}
 use Rattle.sift_flight.specs.Landing.{HasPlacesFor, strays_in}
-use Rattle.sift_flight.specs.Round.{IsRound}
+use Rattle.sift_flight.specs.Flight.{IsRound}
 use Rattle.sift_flight.specs.Told.{told, journal_of}
 use Rattle.sift_flight.specs.declared.flight.Flight.{Flight as TheFlight}
 

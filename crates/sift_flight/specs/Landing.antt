@@ -6,14 +6,12 @@ use Rattle.sift_buffer.specs.Ranges.{Ranges}
 use Rattle.sift_buffer.specs.Core.{Core}
 use Rattle.sift_buffer.specs.Conduct.{hearing}
 use Rattle.sift_buffer.specs.Lawful.{Lawful, HearsSayings, IsFromStrays}
-use Rattle.sift_mission.specs.Mission.{FlownMission}
-use Rattle.sift_conduct.specs.Account.{Account}
+use Rattle.sift_mission.specs.Data.{FlownMission}
+use Rattle.sift_conduct.specs.Conduct.{Account}
 use Rattle.sift_conduct.specs.Frames.{Flies}
 use Rattle.sift_conduct.specs.Acts.{BoardKeeps}
 use Rattle.sift_mission.specs.Fits.{Fits}
-use Rattle.sift_flight.specs.Flight.{flight_of}
-use Rattle.sift_flight.specs.Hearing.{Strays, Hears}
-use Rattle.sift_flight.specs.Round.{RoundAt}
+use Rattle.sift_flight.specs.Flight.{flight_of, Strays, Hears, RoundAt}
 
 -- the core has a place for each unit and slot of the mission
 pub record HasPlacesFor (m : FlownMission) (r : Ranges) : Type 0 where

@@ -1,26 +1,21 @@
 -- Rows of the definitions of flights: for each of them, one that it accepts and one that it refuses.
 use Rattle.std.specs.Prelude.{None, ◌≡◌, ℕ, List, [], ◌∷◌, Bool, true, not, ◌&&◌, nat_eq, nat_lt, if◌then◌else◌, Some, pos}
 use Rattle.std.specs.FinSet as set
-use Rattle.sift_base.specs.Units.{has}
-use Rattle.sift_base.specs.Margin.{HasMargin}
+use Rattle.sift_base.specs.Units.{has, HasMargin}
 use Rattle.sift_base.specs.declared.slot.Slot.{Slot}
 use Rattle.sift_base.specs.declared.slot.Slot.TheVariants.{Out, Report, RelayReport}
 use Rattle.sift_buffer.specs.Cell.{packed}
 use Rattle.sift_buffer.specs.Conduct.{stray_to}
-use Rattle.sift_exec.specs.Record.{nobody}
-use Rattle.sift_exec.specs.Conviction.{next_by}
+use Rattle.sift_exec.specs.Conviction.{nobody, next_by}
 use Rattle.sift_clock.specs.Correction.{next_offset}
-use Rattle.sift_mission.specs.Mission.{FlownMission}
-use Rattle.sift_conduct.specs.Account.{Account}
-use Rattle.sift_conduct.specs.Conduct.{voted}
+use Rattle.sift_mission.specs.Data.{FlownMission}
+use Rattle.sift_conduct.specs.Conduct.{Account, voted}
 use Rattle.sift_flight.specs.Calm.{Calm, four_units, mission_of, program_of}
 use Rattle.sift_flight.specs.CalmFlight.{account_of, core_of}
 use Rattle.sift_flight.specs.Calms.{count, gauge}
-use Rattle.sift_flight.specs.Configuration.{lead_of, config_at, HasMarginAt, IsSkewAt, IsSlackAt}
-use Rattle.sift_flight.specs.Flight.{Flight, flight_of}
+use Rattle.sift_flight.specs.Figures.{lead_of, config_at, HasMarginAt, IsSkewAt, IsSlackAt}
+use Rattle.sift_flight.specs.Flight.{Flight, flight_of, Strays, IsOfStray, Hears, RoundAt}
 use Rattle.sift_flight.specs.Headline.{SameConfiguration, SameInputs, SameReports, IdealOutputs, NoFalseAccusation, ExactRemoval, ClockSkew, Headline}
-use Rattle.sift_flight.specs.Hearing.{Strays, IsOfStray, Hears}
-use Rattle.sift_flight.specs.Round.{RoundAt}
 
 -- no unit strays
 abbrev pub no_strays : Strays

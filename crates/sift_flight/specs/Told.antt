@@ -4,10 +4,10 @@ use Rattle.sift_base.specs.Units.{has}
 use Rattle.sift_base.specs.declared.layout.Layout.{Layout}
 use Rattle.sift_buffer.specs.Journals.{Pages, said_in, heard_in, IsJournalOf}
 use Rattle.sift_clock.specs.Distance.{IsWithin}
-use Rattle.sift_exec.specs.Record.{nobody}
-use Rattle.sift_mission.specs.Mission.{FlownMission, IsConfigOf}
+use Rattle.sift_exec.specs.Conviction.{nobody}
+use Rattle.sift_mission.specs.Data.{FlownMission, IsConfigOf}
 use Rattle.sift_mission.specs.Slots.{is_slot, has_turned}
-use Rattle.sift_conduct.specs.Account.{Account, caught, account_of}
+use Rattle.sift_conduct.specs.Conduct.{Account, caught, account_of}
 use Rattle.sift_conduct.specs.Frames.{frames_before}
 use Rattle.sift_flight.specs.Flight.{Flight}
 use Rattle.sift_flight.specs.declared.flight.Flight.{Flight as TheFlight}

@@ -1,12 +1,9 @@
 -- Round flights are whole: what a report wants of a flight holds of each that is flown as it ought to be.
-use Rattle.sift_mission.specs.Data.{MissionData}
+use Rattle.sift_mission.specs.Data.{MissionData, FlownMission}
 use Rattle.sift_mission.specs.Flown.{flown}
-use Rattle.sift_mission.specs.Mission.{FlownMission}
 use Rattle.sift_mission.specs.PartsFit.{PartsFit}
 use Rattle.sift_mission.specs.Premises.{IsFlyable}
-use Rattle.sift_flight.specs.Flight.{Flight}
-use Rattle.sift_flight.specs.Hearing.{Strays}
-use Rattle.sift_flight.specs.Round.{IsRound}
+use Rattle.sift_flight.specs.Flight.{Flight, Strays, IsRound}
 use Rattle.sift_flight.specs.Told.{AreAccountsOf, IsLogged, IsWhole, told}
 use Rattle.sift_flight.specs.declared.flight.Flight.{Flight as TheFlight}
 

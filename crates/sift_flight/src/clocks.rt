@@ -3,8 +3,7 @@
 ghost use Rattle.std.specs.Prelude.{◌≡◌, ◌<◌, ◌≤◌, [], All, MatchOption, length, map};
 ghost use Rattle.sift_skew.specs.Figures.{AreInRange};
 ghost use Rattle.sift_mission.specs.Parts.{flown_of};
-ghost use Rattle.sift_flight.specs.Configuration.{IsSkewAt, IsSlackAt, Works, working_at};
-ghost use Rattle.sift_flight.specs.Figures.{skew_at, slack_at};
+ghost use Rattle.sift_flight.specs.Figures.{IsSkewAt, IsSlackAt, Works, working_at, skew_at, slack_at};
 ghost use Rattle.sift_flight.specs.Told.{IsWhole, told};
 
 use crate::figures::working_at;

@@ -1,10 +1,9 @@
 //! The configuration at a frame, and its margin.
 
 ghost use Rattle.std.specs.Prelude.{◌≡◌, ◌<◌, ◌≤◌, ◌↔◌, All, IsTrue};
-ghost use Rattle.sift_mission.specs.Mission.{IsConfigOf};
+ghost use Rattle.sift_mission.specs.Data.{IsConfigOf};
 ghost use Rattle.sift_mission.specs.Parts.{flown_of};
-ghost use Rattle.sift_flight.specs.Configuration.{HasMarginAt, Works, config_at, working_at};
-ghost use Rattle.sift_flight.specs.Figures.{is_sound_at, margin_at};
+ghost use Rattle.sift_flight.specs.Figures.{HasMarginAt, Works, config_at, working_at, is_sound_at, margin_at};
 ghost use Rattle.sift_flight.specs.Told.{IsWhole, told};
 
 use crate::flight::Flight;

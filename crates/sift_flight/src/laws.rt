@@ -5,7 +5,7 @@ ghost use Rattle.sift_flight.specs.Existence.{AtMostOneHearsThem, EachMissionHas
 ghost use Rattle.sift_flight.specs.Headline.{HeadlineHolds};
 ghost use Rattle.sift_flight.specs.Homing.{FlightsThatComeHomeAreRound};
 ghost use Rattle.sift_flight.specs.Landing.{LawfulCoresHearLawfully, UnitsHearByTheEquations, LandedFramesAreRound};
-ghost use Rattle.sift_flight.specs.Round.{AtMostOneIsRound};
+ghost use Rattle.sift_flight.specs.Flight.{AtMostOneIsRound};
 ghost use Rattle.sift_flight.specs.Rows.{RowsHold};
 
 /// What is heard in a lawful core is heard lawfully.

@@ -1,10 +1,10 @@
 //! What a whole flight tells of one unit in one frame.
 
 ghost use Rattle.std.specs.Prelude.{◌≡◌, ◌<◌};
-ghost use Rattle.sift_conduct.specs.Account.{account_of};
+ghost use Rattle.sift_conduct.specs.Conduct.{account_of};
 ghost use Rattle.sift_mission.specs.Parts.{flown_of};
 ghost use Rattle.sift_mission.specs.Premises.{IsFlyable};
-ghost use Rattle.sift_flight.specs.Configuration.{Works, lead_of};
+ghost use Rattle.sift_flight.specs.Figures.{Works, lead_of};
 ghost use Rattle.sift_flight.specs.Told.{IsAccountOf, IsWhole, told};
 
 use crate::flight::Flight;

@@ -1,7 +1,7 @@
 //! What a board asks of a mission.
 
 ghost use Rattle.std.specs.Prelude.{◌≡◌};
-ghost use Rattle.sift_mission.specs.Mission.{IsConfigOf};
+ghost use Rattle.sift_mission.specs.Data.{IsConfigOf};
 ghost use Rattle.sift_mission.specs.Parts.{flown_of};
 
 use crate::stated::eight_units;

@@ -1,7 +1,7 @@
 -- Draws after draws.
 use Rattle.std.proofs.Common.{◌≡◌, ℕ, zero, suc, ◌+◌, refl, ap, sym, ◌∙◌, arith, add-one}
 use Rattle.sift_base.specs.Draw.{next_number, drawn}
-use Rattle.sift_gen.specs.Draws.{after, draw_at}
+use Rattle.sift_gen.specs.Tasks.{after, draw_at}
 
 -- no draw
 pub after-none : (x : ℕ) → after x 0 ≡ x

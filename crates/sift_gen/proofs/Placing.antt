@@ -6,7 +6,7 @@ use Rattle.std.specs.String.{string_cmp}
 use Rattle.toml.specs.Data.{member}
 use Rattle.toml.specs.View.{members_view, view}
 use Rattle.toml.specs.declared.value.Value.{Value}
-use Rattle.sift_gen.specs.Entries.{placed}
+use Rattle.sift_gen.specs.Scenario.{placed}
 
 -- by the order of the new key and the first one
 placed-first : (o : Ordering) (k : String Global) (v : Value) (e : String Global × Value) (es : List (String Global × Value)) →

@@ -2,10 +2,9 @@
 use Rattle.std.proofs.Common.{ℕ, zero, suc, ◌+◌, ◌*◌, ◌≤◌, List, map, arith}
 use Rattle.std.specs.List.{range_with_len}
 use Rattle.toml.specs.Data.{Data, depth, items_depth, members_depth}
-use Rattle.sift_gen.specs.Draws.{after, draw_at}
-use Rattle.sift_gen.specs.Entries.{items_in, number}
+use Rattle.sift_gen.specs.Tasks.{after, draw_at, word_values}
+use Rattle.sift_gen.specs.Scenario.{items_in, number}
 use Rattle.sift_gen.specs.Scenario.{document_of, fault_place, fault_table, first_task_place, frame_count, sensor_count, sensor_place, sensor_table, sensor_tables, sensor_words, task_count, task_place, task_table, task_tables, tree_of, unit_count, words_each}
-use Rattle.sift_gen.specs.Tasks.{word_values}
 
 -- a list of shallow values
 shallow_list : (k : ℕ) (g : ℕ → Data) (a n : ℕ) → ((i : ℕ) → depth (g i) ≤ k) → items_depth (items_in (map g (range_with_len a n))) ≤ k

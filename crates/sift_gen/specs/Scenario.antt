@@ -1,12 +1,37 @@
--- The scenario that is drawn from a number, as the tree of a document.
-use Rattle.std.specs.Prelude.{codes, ℕ, zero, suc, ◌+◌, ◌*◌, List, [], ◌∷◌, map, nat_eq, not}
+-- The scenario that is drawn from a number, as the tree of a document, and its text.
+use Rattle.std.specs.Prelude.{ℕ, List, [], ◌∷◌, pos, codes, zero, suc, ◌+◌, ◌*◌, map, nat_eq, not, ◌≡◌, false, Some}
+use Rattle.std.specs.Cmp.Lexicographic.{slice_cmp}
+use Rattle.std.specs.Ordering.{match_ordering, nat_cmp}
 use Rattle.std.specs.Fmt.{decimal}
 use Rattle.std.specs.List.{filter, flat_map, range_with_len}
-use Rattle.toml.specs.Data.{Data, Members, no_members, string, table}
-use Rattle.sift_gen.specs.Draws.{after, draw_at}
-use Rattle.sift_gen.specs.Entries.{array_of, number, placed}
-use Rattle.sift_gen.specs.Tasks.{draws_by, pattern_count, pattern_of, sensor_name, task_name, text_by, word_values}
+use Rattle.toml.specs.Data.{Data, Items, Members, array, integer, item, member, no_items, no_members, string, table}
+use Rattle.toml.specs.Parse.{parse_document}
+use Rattle.toml.specs.Text.{IsDocumentText}
+use Rattle.sift_gen.specs.Tasks.{after, draw_at, draws_by, pattern_count, pattern_of, sensor_name, task_name, text_by, word_values}
 use Rattle.sift_gen.specs.declared.task.Pattern.{Pattern}
+
+-- ---- tables and arrays, by their entries
+
+-- the members and one more entry, in the order of the keys; an equal key takes the value
+abbrev pub placed : List ℕ → Data → Members → Members
+placed key value no_members = member key value no_members
+placed key value (member other old rest) = match_ordering (slice_cmp nat_cmp key other)
+    (member key value (member other old rest)) (member other value rest) (member other old (placed key value rest))
+
+-- the items of a list
+abbrev pub items_in : List Data → Items
+items_in [] = no_items
+items_in (value ∷ values) = item value (items_in values)
+
+-- an array of these values
+abbrev pub array_of : List Data → Data
+array_of values = array (items_in values)
+
+-- an unsigned number
+abbrev pub number : ℕ → Data
+number n = integer (pos n)
+
+-- ---- the scenario
 
 -- ---- counts
 
@@ -112,3 +137,14 @@ abbrev pub tree_of : ℕ → Members
 tree_of n = document_of (unit_count n) (frame_count n)
     (sensor_tables (sensor_count n) (sensor_place n)) (task_tables (task_count n) (sensor_count n) (first_task_place n))
     (fault_table (unit_count n) (frame_count n) (task_count n) (fault_place n))
+
+-- ---- its text
+
+-- the text is the tree of number n as `toml` prints it, not in its form with a line for each element, and it reads back as that tree
+pub record IsTextOf (n : ℕ) (text : List ℕ) : Type 0 where
+  pub printed : IsDocumentText false (tree_of n) text
+  pub reads_back : parse_document text ≡ Some (tree_of n)
+
+-- a number has one text at most
+abbrev pub OneTextOfANumber : Type 0
+OneTextOfANumber = (n : ℕ) (one other : List ℕ) → IsTextOf n one → IsTextOf n other → one ≡ other

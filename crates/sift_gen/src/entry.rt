@@ -3,7 +3,7 @@
 ghost use Rattle.std.specs.Prelude.{◌≡◌, IfOk, [], ◌∷◌, map, pos};
 ghost use Rattle.toml.specs.Data.{integer};
 ghost use Rattle.toml.specs.View.{table_view, view};
-ghost use Rattle.sift_gen.specs.Entries.{array_of, number, placed};
+ghost use Rattle.sift_gen.specs.Scenario.{array_of, number, placed};
 
 use sift_base::NoMemory;
 use std::alloc::Global;

@@ -3,8 +3,7 @@
 ghost use Rattle.std.specs.Prelude.{◌≡◌, IfOk, map, string_bytes};
 ghost use Rattle.toml.specs.Data.{table};
 ghost use Rattle.toml.specs.View.{table_view, view};
-ghost use Rattle.sift_gen.specs.Scenario.{document_of, tree_of};
-ghost use Rattle.sift_gen.specs.Text.{IsTextOf};
+ghost use Rattle.sift_gen.specs.Scenario.{document_of, tree_of, IsTextOf};
 
 use crate::entry::{array, array_of_one, with, with_number};
 use crate::fault::fault_table;

@@ -3,9 +3,8 @@
 ghost use Rattle.std.specs.Prelude.{◌≡◌, ◌<◌, ◌≤◌, IfOk, map, string_bytes};
 ghost use Rattle.toml.specs.View.{table_view, view};
 ghost use Rattle.toml.specs.Data.{table};
-ghost use Rattle.sift_gen.specs.Draws.{after, draw_at};
+ghost use Rattle.sift_gen.specs.Tasks.{after, draw_at, chase_text, draws_by, middle_text, pattern_of, sum_text, task_name, text_by, triple_text};
 ghost use Rattle.sift_gen.specs.Scenario.{pattern_from, task_entries, task_place, task_table, task_tables};
-ghost use Rattle.sift_gen.specs.Tasks.{chase_text, draws_by, middle_text, pattern_of, sum_text, task_name, text_by, triple_text};
 
 use crate::entry::{array_of_one, with};
 use sift_base::{Draw, NoMemory};

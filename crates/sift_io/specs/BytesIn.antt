@@ -1,7 +1,6 @@
 -- A source in memory that fails at listed calls.
 use Rattle.std.specs.Prelude.{◌≡◌, ◌+◌, ℕ, List, Some, drop, Contains}
-use Rattle.sift_io.specs.Fault.{next_count}
-use Rattle.sift_io.specs.Flow.{Inflow}
+use Rattle.sift_io.specs.Flow.{next_count, Inflow}
 use Rattle.sift_io.specs.Reading.{GivesMost, given_count, faults_after_read, ends_after_read}
 use Rattle.sift_io.specs.declared.bytes_in.BytesIn.{BytesIn}
 use Rattle.sift_io.specs.declared.reading.Got.{Got}

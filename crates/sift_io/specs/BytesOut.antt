@@ -1,7 +1,6 @@
 -- A sink in memory that fails at listed calls.
 use Rattle.std.specs.Prelude.{◌≡◌, ℕ, Some, Contains}
-use Rattle.sift_io.specs.Fault.{next_count}
-use Rattle.sift_io.specs.Flow.{Outflow}
+use Rattle.sift_io.specs.Flow.{next_count, Outflow}
 use Rattle.sift_io.specs.Writing.{TakesMost, faults_after_write}
 use Rattle.sift_io.specs.declared.bytes_out.BytesOut.{BytesOut}
 use Rattle.sift_io.specs.declared.writing.Put.{Put}

@@ -1,8 +1,7 @@
 -- What one read, or a whole one, does to a source. Bytes are named where the source tells them.
 use Rattle.std.specs.Prelude.{◌≡◌, ◌≤◌, ◌+◌, ℕ, min, List, [], length, take, Option, ⊤}
 use Rattle.std.specs.Io.KnownBytes.{Consumes, Keeps, IsAtEnd}
-use Rattle.sift_io.specs.Fault.{Rose, next_count}
-use Rattle.sift_io.specs.Flow.{Inflow}
+use Rattle.sift_io.specs.Flow.{Rose, next_count, Inflow}
 use Rattle.sift_io.specs.declared.reading.Got.{Got}
 use Rattle.sift_io.specs.declared.reading.Got.TheVariants.{Taken, End, Failed}
 use Rattle.sift_io.specs.declared.whole.ReadStop.{ReadStop}

@@ -1,8 +1,7 @@
 -- What one write, or a whole one, does to a sink. Bytes are named where the sink tells them.
 use Rattle.std.specs.Prelude.{◌≡◌, ◌<◌, ◌≤◌, ℕ, min, List, length, take, Option, Result, Ok, Err, ⊤}
 use Rattle.std.specs.Io.KnownBytes.{Appends, Keeps}
-use Rattle.sift_io.specs.Fault.{next_count}
-use Rattle.sift_io.specs.Flow.{Outflow}
+use Rattle.sift_io.specs.Flow.{next_count, Outflow}
 use Rattle.sift_io.specs.declared.writing.Put.{Put}
 use Rattle.sift_io.specs.declared.writing.Put.TheVariants.{Took, Failed}
 use Rattle.sift_io.specs.declared.whole.WriteStop.{WriteStop}

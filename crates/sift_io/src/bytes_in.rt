@@ -50,7 +50,7 @@ impl BytesIn {
 impl Source for BytesIn {
     ghost use Rattle.std.specs.Prelude.{◌≢◌, ◌<◌, ◌↔◌};
     ghost use Rattle.sift_io.specs.BytesIn.{IsRead, ReadFailsNow, inflow_of};
-    ghost use Rattle.sift_io.specs.Fault.{Rose};
+    ghost use Rattle.sift_io.specs.Flow.{Rose};
     ghost use Rattle.sift_io.specs.Reading.{FitsRoom, GivesNext, ends_after_read};
 
     ghost inflow = { inflow_of };

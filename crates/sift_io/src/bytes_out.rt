@@ -43,7 +43,7 @@ impl BytesOut {
 impl Sink for BytesOut {
     ghost use Rattle.std.specs.Prelude.{◌⊎◌, ◌<◌, length, min};
     ghost use Rattle.sift_io.specs.BytesOut.{IsWrite, WriteFailsNow, outflow_of};
-    ghost use Rattle.sift_io.specs.Fault.{Rose};
+    ghost use Rattle.sift_io.specs.Flow.{Rose};
     ghost use Rattle.sift_io.specs.Writing.{AddsFront, FitsPiece, TakesNothing};
 
     ghost outflow = { outflow_of };

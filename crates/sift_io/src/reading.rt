@@ -1,8 +1,7 @@
 //! Sources: what a read gives, and the trait of what bytes come from.
 
 ghost use Rattle.std.specs.Prelude.{◌≡◌, ◌≢◌, ◌<◌, ◌≤◌, length};
-ghost use Rattle.sift_io.specs.Fault.{Rose};
-ghost use Rattle.sift_io.specs.Flow.{Inflow};
+ghost use Rattle.sift_io.specs.Flow.{Rose, Inflow};
 ghost use Rattle.sift_io.specs.Reading.{FitsRoom, GivesNext, ends_after_read, given_count};
 
 /// What one read gave.

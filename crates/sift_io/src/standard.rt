@@ -4,7 +4,7 @@
 //! std tells no bytes, so that they hand on those of the system is trusted.
 
 ghost use Rattle.std.specs.Prelude.{◌≡◌, ◌≢◌, ◌<◌, ◌≤◌, length};
-ghost use Rattle.sift_io.specs.Fault.{Rose};
+ghost use Rattle.sift_io.specs.Flow.{Rose};
 ghost use Rattle.sift_io.specs.Reading.{FitsRoom, GivesNext, ends_after_read, faults_after_read};
 ghost use Rattle.sift_io.specs.Writing.{AddsFront, FitsPiece, TakesNothing, faults_after_write};
 

@@ -1,7 +1,7 @@
 //! Whole reads and whole writes.
 
 ghost use Rattle.std.specs.Prelude.{◌≡◌, ◌+◌, ◌-◌, ◌^◌, ◌<◌, ◌≤◌, IfErr, IfOk, IsErrOf};
-ghost use Rattle.sift_io.specs.Fault.{Rose};
+ghost use Rattle.sift_io.specs.Flow.{Rose};
 ghost use Rattle.sift_io.specs.Reading.{StopsReading, TakesAll};
 ghost use Rattle.sift_io.specs.Writing.{WritesAll};
 ghost use Rattle.sift_io.specs.declared.whole.ReadStop.TheVariants.{NoMemory};

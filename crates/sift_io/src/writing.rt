@@ -1,8 +1,7 @@
 //! Sinks: what a write does, and the trait of what bytes go to.
 
 ghost use Rattle.std.specs.Prelude.{◌≡◌, ◌≤◌, length};
-ghost use Rattle.sift_io.specs.Fault.{Rose};
-ghost use Rattle.sift_io.specs.Flow.{Outflow};
+ghost use Rattle.sift_io.specs.Flow.{Rose, Outflow};
 ghost use Rattle.sift_io.specs.Writing.{AddsFront, FitsPiece, TakesNothing};
 
 /// What one write did.

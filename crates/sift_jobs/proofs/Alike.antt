@@ -1,11 +1,8 @@
 -- All flights of a mission without storms have one text of each kind.
 use Rattle.std.proofs.Common.{◌≡◌, ◌<◌, ℕ, List, refl, sym, ◌∙◌, ap, subst, arith}
 use Rattle.sift_flight.specs.Alike.{RoundFlightsAreAlike}
-use Rattle.sift_flight.specs.Flight.{Flight}
-use Rattle.sift_flight.specs.Hearing.{Strays}
-use Rattle.sift_flight.specs.Round.{HasNoStorms}
-use Rattle.sift_gen.specs.Scenario.{tree_of}
-use Rattle.sift_gen.specs.Text.{OneTextOfANumber}
+use Rattle.sift_flight.specs.Flight.{Flight, Strays, HasNoStorms}
+use Rattle.sift_gen.specs.Scenario.{tree_of, OneTextOfANumber}
 use Rattle.sift_mission.specs.Data.{MissionData}
 use Rattle.sift_mission.specs.Flown.{flown}
 use Rattle.sift_mission.specs.PartsFit.{PartsFit}
@@ -14,7 +11,7 @@ use Rattle.sift_reply.specs.Duty.{GivesOne}
 use Rattle.sift_reply.specs.Reply.{Reply, done}
 use Rattle.sift_report.specs.OneText.{AlikeFlightsHaveOneText, HaveOneText}
 use Rattle.sift_report.specs.Sheet.{end_of}
-use Rattle.sift_load.specs.Mission.{States}
+use Rattle.sift_load.specs.Loads.{States}
 use Rattle.sift_scenario.specs.Laws.{OneMission, StatedMissionsFit}
 use Rattle.sift_trial.specs.Laws.{DrawnMissionsHaveNoStorms}
 use Rattle.sift_jobs.specs.Flights.{AreCalm, IsFlightOf}

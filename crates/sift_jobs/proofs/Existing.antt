@@ -1,7 +1,7 @@
 -- Each mission has a flight, and so a reply of `votes` and of `trial`.
 use Rattle.std.proofs.Common.{inl, refl}
 use Rattle.sift_flight.specs.Existence.{EachMissionHasARoundFlight}
-use Rattle.sift_flight.specs.Hearing.{Strays}
+use Rattle.sift_flight.specs.Flight.{Strays}
 use Rattle.sift_gen.specs.Scenario.{tree_of}
 use Rattle.sift_mission.specs.Data.{MissionData}
 use Rattle.sift_mission.specs.Flown.{flown}

@@ -1,13 +1,13 @@
 -- `plan` gives one reply, whose status is its own.
 use Rattle.std.proofs.Common.{◌≡◌, ◌≤◌, inl, inr, ℕ, List, [], ◌∷◌, Contains, lit<, refl, sym, ap, ◌∙◌, subst, arith}
 use Rattle.sift_base.specs.Shapes.{AreShapes}
-use Rattle.sift_load.specs.Mission.{States}
+use Rattle.sift_load.specs.Loads.{States}
 use Rattle.sift_mission.specs.Data.{MissionData, shapes_in}
 use Rattle.sift_mission.specs.PartsFit.{PartsFit}
 use Rattle.sift_planner.specs.Plans.{ArePlannable}
 use Rattle.sift_planner.specs.Sizes.{OnePlanEach, OneSizeWithoutRoom}
 use Rattle.sift_planner.specs.Text.{tables_text}
-use Rattle.sift_program.specs.Needs.{SoundProgramsHaveShapes}
+use Rattle.sift_program.specs.Program.{SoundProgramsHaveShapes}
 use Rattle.sift_reply.specs.Reply.{Reply, done, done_status, shared_statuses}
 use Rattle.sift_scenario.specs.Laws.{StatedMissionsFit}
 use Rattle.sift_jobs.specs.Plan.{PlanGives, PlanNumbers}

@@ -1,9 +1,8 @@
 -- That there is what commands tell of: each mission has a flight over any strays that rogues may give.
 use Rattle.std.specs.Prelude.{ℕ, List, []}
-use Rattle.sift_flight.specs.Flight.{Flight}
-use Rattle.sift_flight.specs.Hearing.{Strays}
+use Rattle.sift_flight.specs.Flight.{Flight, Strays}
 use Rattle.sift_gen.specs.Scenario.{tree_of}
-use Rattle.sift_load.specs.Mission.{States}
+use Rattle.sift_load.specs.Loads.{States}
 use Rattle.sift_mission.specs.Data.{MissionData}
 use Rattle.sift_mission.specs.PartsFit.{PartsFit}
 use Rattle.sift_reply.specs.Reply.{Reply}

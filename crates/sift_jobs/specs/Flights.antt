@@ -1,11 +1,51 @@
--- Flights of missions.
-use Rattle.std.specs.Prelude.{◌≡◌, ℕ, ◌<◌, List, Some}
-use Rattle.sift_flight.specs.Flight.{Flight}
-use Rattle.sift_flight.specs.Hearing.{Strays}
-use Rattle.sift_flight.specs.Round.{HasNoStorms, IsRound}
-use Rattle.sift_load.specs.Mission.{States}
+-- The flights that commands speak of: by which workers, over which strays, and what is told of one.
+use Rattle.std.specs.Prelude.{ℕ, Option, Some, None, nat_eq, option_map, unwrap_or, if◌then◌else◌, ◌≤◌, ◌≡◌, ◌<◌, List}
+use Rattle.std.specs.List.{All}
+use Rattle.sift_base.specs.Units.{unit_limit}
+use Rattle.sift_options.specs.Options.{within}
+use Rattle.sift_options.specs.declared.setting.Options.{Options}
+use Rattle.sift_flight.specs.Flight.{Flight, Strays, HasNoStorms, IsRound}
+use Rattle.sift_load.specs.Loads.{States}
 use Rattle.sift_mission.specs.Data.{MissionData}
 use Rattle.sift_mission.specs.Flown.{flown}
+use Rattle.sift_reply.specs.Reply.{Reply, done}
+use Rattle.sift_report.specs.Line.{IsLine}
+use Rattle.sift_report.specs.Sheet.{end_of, report_of, sheet_of}
+use Rattle.sift_report.specs.Votes.{votes_of}
+use Rattle.sift_jobs.specs.declared.workers.Workers.{Workers}
+use Rattle.sift_jobs.specs.declared.workers.Workers.TheVariants.{One, Several, OneEach}
+use Rattle.sift_jobs.specs.declared.telling.Telling.{Telling}
+use Rattle.sift_jobs.specs.declared.telling.Telling.TheVariants.{Report, Votes, LastLine}
+
+-- ---- the workers that fly a mission, and how options ask for them
+
+-- so many workers, which have no order
+abbrev pub several : (count : ℕ) → (order : Option ℕ) → Option Workers
+several count None = option_map Several (within fewest_workers unit_limit (Some count))
+several count (Some order) = None
+
+-- the workers for these numbers: one for each unit where there is neither, and one alone where there is an order or 1
+abbrev pub workers_by : (workers order : Option ℕ) → Option Workers
+workers_by None None = Some OneEach
+workers_by None (Some order) = Some (One order)
+workers_by (Some count) order = if nat_eq count 1 then Some (One (unwrap_or order 0)) else several count order
+
+-- the workers that options ask for
+abbrev pub workers_of : Options → Option Workers
+workers_of options = workers_by options.workers options.order
+
+-- ---- how many workers fly together
+
+-- the fewest that fly together
+abbrev pub fewest_workers : ℕ
+fewest_workers = 2
+
+-- so many may fly together
+pub record AreSeveral (count : ℕ) : Type 0 where
+  pub enough : fewest_workers ≤ count
+  pub few : count ≤ unit_limit
+
+-- ---- flights of missions
 
 -- a flight of the mission over strays that rogues may give: in each frame each unit hears by the hearing equations and does what the
 -- conduct equations say, till it turns stray; and then it stores the strays that its rogue gives. What a unit hears of these is left open
@@ -17,3 +57,20 @@ pub record IsFlightOf (given : MissionData → Strays → Type 0) (mission : Mis
 -- no mission that the bytes state has a storm
 abbrev pub AreCalm : List ℕ → Type 0
 AreCalm bytes = (mission : MissionData) → States bytes mission → HasNoStorms (flown mission)
+
+-- ---- what is told of a flight
+
+-- the text tells it of a flight of a mission: its report in a version, of which what it prints are lines; its votes; or the report's last line
+abbrev pub IsTelling : MissionData → Flight → Telling → (text : List ℕ) → Type 0
+IsTelling mission flight (Report version) text =
+    All IsLine (sheet_of (flown mission) flight version) × (text ≡ report_of (flown mission) flight version)
+IsTelling mission flight Votes text = text ≡ votes_of mission flight
+IsTelling mission flight LastLine text = text ≡ end_of (flown mission) flight
+
+-- it tells it of some flight of the mission, over strays that rogues may give
+abbrev pub TellsFlight : (given : MissionData → Strays → Type 0) → MissionData → Telling → (text : List ℕ) → Type 0
+TellsFlight given mission telling text = (flight : Flight) × IsFlightOf given mission flight × IsTelling mission flight telling text
+
+-- the reply has the status 0, and its text does
+abbrev pub RepliesWith : (given : MissionData → Strays → Type 0) → MissionData → Telling → Reply → Type 0
+RepliesWith given mission telling came = (text : List ℕ) × TellsFlight given mission telling text × (came ≡ done text)

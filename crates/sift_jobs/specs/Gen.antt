@@ -1,6 +1,6 @@
 -- The command `gen`: the scenario of a number. It reads nothing.
 use Rattle.std.specs.Prelude.{ℕ, ◌≡◌, List, Option, None, option_map}
-use Rattle.sift_gen.specs.Text.{IsTextOf}
+use Rattle.sift_gen.specs.Scenario.{IsTextOf}
 use Rattle.sift_options.specs.declared.setting.Options.{Options}
 use Rattle.sift_reply.specs.Duty.{Duty}
 use Rattle.sift_reply.specs.Reply.{Reply, done}

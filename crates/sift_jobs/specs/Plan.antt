@@ -3,8 +3,7 @@ use Rattle.std.specs.Prelude.{codes, ℕ, ◌≡◌, ◌≤◌, ◌⊎◌, List,
 use Rattle.std.specs.Fmt.{decimal}
 use Rattle.std.specs.List.{concat}
 use Rattle.sift_base.specs.Units.{unit_limit}
-use Rattle.sift_load.specs.Loads.{mission_duty}
-use Rattle.sift_load.specs.NoMission.{no_mission_statuses}
+use Rattle.sift_load.specs.Loads.{mission_duty, no_mission_statuses}
 use Rattle.sift_mission.specs.Data.{MissionData, shapes_in}
 use Rattle.sift_options.specs.Options.{within}
 use Rattle.sift_options.specs.declared.setting.Options.{Options}

@@ -1,14 +1,13 @@
 -- The command `trial`: the end of the report of a flight of the scenario with a number. It reads nothing.
 use Rattle.std.specs.Prelude.{ℕ, List, Option, Some, None}
-use Rattle.sift_flight.specs.Hearing.{Strays}
+use Rattle.sift_flight.specs.Flight.{Strays}
 use Rattle.sift_gen.specs.Scenario.{tree_of}
 use Rattle.sift_mission.specs.Data.{MissionData}
 use Rattle.sift_options.specs.declared.setting.Options.{Options}
 use Rattle.sift_reply.specs.Duty.{Duty}
 use Rattle.sift_reply.specs.Reply.{Reply}
 use Rattle.sift_scenario.specs.Mission.{IsMission}
-use Rattle.sift_jobs.specs.Telling.{RepliesWith}
-use Rattle.sift_jobs.specs.Workers.{workers_of}
+use Rattle.sift_jobs.specs.Flights.{RepliesWith, workers_of}
 use Rattle.sift_jobs.specs.declared.telling.Telling.TheVariants.{LastLine}
 use Rattle.sift_jobs.specs.declared.trial.TrialJob.{TrialJob}
 use Rattle.sift_jobs.specs.declared.workers.Workers.{Workers}

@@ -1,13 +1,12 @@
 -- The command `votes`: the votes of a flight.
 use Rattle.std.specs.Prelude.{Option, option_map}
-use Rattle.sift_flight.specs.Hearing.{Strays}
+use Rattle.sift_flight.specs.Flight.{Strays}
 use Rattle.sift_load.specs.Loads.{mission_duty}
 use Rattle.sift_mission.specs.Data.{MissionData}
 use Rattle.sift_options.specs.declared.setting.Options.{Options}
 use Rattle.sift_reply.specs.Duty.{Duty}
 use Rattle.sift_reply.specs.Reply.{Reply}
-use Rattle.sift_jobs.specs.Telling.{RepliesWith}
-use Rattle.sift_jobs.specs.Workers.{workers_of}
+use Rattle.sift_jobs.specs.Flights.{RepliesWith, workers_of}
 use Rattle.sift_jobs.specs.declared.telling.Telling.TheVariants.{Votes}
 use Rattle.sift_jobs.specs.declared.votes.VotesJob.{VotesJob}
 use Rattle.sift_jobs.specs.declared.workers.Workers.{Workers}

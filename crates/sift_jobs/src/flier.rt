@@ -4,7 +4,7 @@
 ///
 /// Contracts see of it which strays these rogues may give in a flight of a mission, and nothing else.
 pub trait Flier: Drop {
-    ghost use Rattle.sift_flight.specs.Hearing.{Strays};
+    ghost use Rattle.sift_flight.specs.Flight.{Strays};
     ghost use Rattle.sift_mission.specs.Data.{MissionData};
 
     /// The rogues may give these strays of each unit of a mission.

@@ -16,7 +16,7 @@ pub struct FlightOrder<F> {
 }
 
 impl<F: Flier> Work for FlightOrder<F> {
-    ghost use Rattle.sift_jobs.specs.Telling.{TellsFlight};
+    ghost use Rattle.sift_jobs.specs.Flights.{TellsFlight};
     ghost use Rattle.sift_mission.specs.Parts.{data_of};
 
     ghost gives = { λ order. TellsFlight (F.gives order.flier) (data_of order.mission) order.telling };

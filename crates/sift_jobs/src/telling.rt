@@ -2,7 +2,7 @@
 
 ghost use Rattle.std.specs.Prelude.{IfOk, string_bytes};
 ghost use Rattle.sift_flight.specs.Told.{IsWhole, told};
-ghost use Rattle.sift_jobs.specs.Telling.{IsTelling};
+ghost use Rattle.sift_jobs.specs.Flights.{IsTelling};
 ghost use Rattle.sift_mission.specs.Parts.{data_of, flown_of};
 
 use sift_base::NoMemory;

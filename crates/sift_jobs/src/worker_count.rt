@@ -2,7 +2,7 @@
 
 ghost use Rattle.std.specs.Prelude.{◌≡◌};
 ghost use Rattle.sift_base.specs.Units.{unit_limit};
-ghost use Rattle.sift_jobs.specs.Several.{AreSeveral, fewest_workers};
+ghost use Rattle.sift_jobs.specs.Flights.{AreSeveral, fewest_workers};
 ghost use Rattle.sift_options.specs.Options.{within};
 
 use sift_options::within;
@@ -16,7 +16,7 @@ pub struct WorkerCount {
 
 impl Model for WorkerCount {
     ghost use Rattle.std.specs.Prelude.{ℕ};
-    ghost use Rattle.sift_jobs.specs.Several.{AreSeveral};
+    ghost use Rattle.sift_jobs.specs.Flights.{AreSeveral};
 
     ghost Value = { ℕ };
 

@@ -4,7 +4,7 @@ use Rattle.std.specs.Prelude.{◌↔◌}
 use Rattle.std.specs.List.{All, filter}
 use Rattle.sift_config.specs.Config.{first_units}
 use Rattle.sift_mission.specs.Data.{MissionData}
-use Rattle.sift_report.specs.Working.{IsWorking, works_in}
+use Rattle.sift_report.specs.Told.{IsWorking, works_in}
 use Rattle.sift_judge.proofs.Lists.{all_passing, of_passing}
 
 module _ (d : MissionData) (f : ℕ) (P : ℕ → Type 0) (units : List ℕ) (are : units ≡ filter (λ u. works_in d u f) (first_units d.units)) where

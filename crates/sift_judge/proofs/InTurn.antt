@@ -3,8 +3,7 @@ use Rattle.std.proofs.Common.{◌≡◌, ℕ, Bool, true, false, suc, ◌<◌, �
 use Rattle.std.specs.Prelude.{◌↔◌}
 use Rattle.std.proofs.lemmas.Bool.{cases_lt}
 use Rattle.sift_mission.specs.Data.{MissionData}
-use Rattle.sift_report.specs.Form.{HasForm}
-use Rattle.sift_report.specs.Headline.{FrameHeadline, ReportHeadline}
+use Rattle.sift_report.specs.Headline.{HasForm, FrameHeadline, ReportHeadline}
 use Rattle.sift_report.specs.Told.{HasMarginTold}
 use Rattle.sift_report.specs.declared.line.ReportLine.{ReportLine}
 use Rattle.sift_judge.specs.Turns.{HasForms, IsFirstInFrame, IsFirstWithoutForm, KeepsBefore, KeepsBelow, KeepsFrame, KeepsIfAsked}

@@ -2,8 +2,7 @@
 use Rattle.std.specs.Prelude.{◌≡◌, ◌↔◌, ℕ, ◌<◌, ◌≤◌, List, length, Bool, true}
 use Rattle.sift_mission.specs.Data.{MissionData}
 use Rattle.sift_program.specs.Ideal.{words_before}
-use Rattle.sift_report.specs.Form.{HasForm}
-use Rattle.sift_report.specs.Headline.{FrameHeadline, TellsSameConfiguration, TellsTrueMargin}
+use Rattle.sift_report.specs.Headline.{HasForm, FrameHeadline, TellsSameConfiguration, TellsTrueMargin}
 use Rattle.sift_report.specs.Told.{HadMarginTold, HasMarginTold, agreed_told, shed_told}
 use Rattle.sift_report.specs.declared.line.ReportLine.{ReportLine}
 use Rattle.sift_judge.specs.Verdict.{Breaks, IsAsked, Keeps, Rule, number_of}

@@ -1,7 +1,7 @@
 -- The rules that the lines of a report are judged by, which are the items of the headline of reports; and the verdict.
 use Rattle.std.specs.Prelude.{◌≡◌, ℕ, ◌+◌, ◌*◌, ◌<◌, ◌≤◌, List, ⊤}
 use Rattle.sift_mission.specs.Data.{MissionData}
-use Rattle.sift_report.specs.Form.{HasForm}
+use Rattle.sift_report.specs.Headline.{HasForm}
 use Rattle.sift_report.specs.Headline.{ReportHeadline, TellsClockSkew, TellsExactRemoval, TellsIdealOutputs, TellsNoFalseAccusation, TellsSameConfiguration, TellsSameInputs, TellsTrueMargin}
 use Rattle.sift_report.specs.Told.{HadMarginTold, HasMarginTold}
 use Rattle.sift_report.specs.declared.line.ReportLine.{ReportLine}

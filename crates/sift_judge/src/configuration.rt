@@ -1,13 +1,11 @@
 //! The configuration of a frame: whether all working units tell the same.
 
 ghost use Rattle.std.specs.Prelude.{◌≡◌, ◌<◌, ◌≤◌, ◌↔◌, ℕ, All, IsTrue, Some};
-ghost use Rattle.sift_base.specs.Margin.{HasMargin};
-ghost use Rattle.sift_base.specs.Units.{members};
+ghost use Rattle.sift_base.specs.Units.{HasMargin, members};
 ghost use Rattle.sift_config.specs.Config.{first_units};
 ghost use Rattle.sift_mission.specs.Parts.{data_of};
 ghost use Rattle.sift_report.specs.Headline.{TellsSameConfiguration};
-ghost use Rattle.sift_report.specs.Told.{told_at};
-ghost use Rattle.sift_report.specs.Working.{IsWorking, works_in};
+ghost use Rattle.sift_report.specs.Told.{told_at, IsWorking, works_in};
 
 use crate::told::config_at;
 use crate::working::{config_told, has_margin, working_at};

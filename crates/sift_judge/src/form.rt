@@ -3,7 +3,7 @@
 ghost use Rattle.std.specs.Prelude.{◌≡◌, ◌<◌, ◌↔◌, ℕ, true, IfNone, IfSome, IsSomeAnd, IsTrue};
 ghost use Rattle.sift_base.specs.Units.{holds};
 ghost use Rattle.sift_mission.specs.Parts.{data_of};
-ghost use Rattle.sift_report.specs.Form.{HasEnd, HasForm, IsFramesLine, IsLastLine, IsUnitsLine, line_count};
+ghost use Rattle.sift_report.specs.Headline.{HasEnd, HasForm, IsFramesLine, IsLastLine, IsUnitsLine, line_count};
 ghost use Rattle.sift_report.specs.Told.{line_at};
 ghost use Rattle.sift_judge.specs.Turns.{HasForms, IsFirstWithoutForm};
 

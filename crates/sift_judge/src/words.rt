@@ -6,8 +6,7 @@ ghost use Rattle.sift_mission.specs.Flown.{word_sensed};
 ghost use Rattle.sift_mission.specs.Parts.{data_of};
 ghost use Rattle.sift_program.specs.Ideal.{ideal_words};
 ghost use Rattle.sift_report.specs.Headline.{TellsIdealOutputs, TellsSameInputs};
-ghost use Rattle.sift_report.specs.Told.{agreed_told, config_told, inputs_told, outputs_told, shed_told};
-ghost use Rattle.sift_report.specs.Working.{works_in};
+ghost use Rattle.sift_report.specs.Told.{agreed_told, config_told, inputs_told, outputs_told, shed_told, works_in};
 
 use crate::told::{inputs_told, outputs_told};
 use crate::working::{agreed_told, config_told, working_at};

@@ -2,12 +2,11 @@
 
 ghost use Rattle.std.specs.Prelude.{◌≡◌, ◌<◌, ◌≤◌, ◌↔◌, IsTrue};
 ghost use Rattle.std.specs.List.{filter};
-ghost use Rattle.sift_base.specs.Margin.{HasMargin};
+ghost use Rattle.sift_base.specs.Units.{HasMargin};
 ghost use Rattle.sift_config.specs.Config.{first_units};
 ghost use Rattle.sift_mission.specs.Flown.{table_for};
 ghost use Rattle.sift_mission.specs.Parts.{data_of};
-ghost use Rattle.sift_report.specs.Told.{IsSoundTold, agreed_told, config_told, shed_told};
-ghost use Rattle.sift_report.specs.Working.{lead_in, works_in};
+ghost use Rattle.sift_report.specs.Told.{IsSoundTold, agreed_told, config_told, shed_told, lead_in, works_in};
 
 use crate::told::{config_at, inputs_told};
 use arrayvec::ArrayVec;

@@ -1,13 +1,12 @@
 -- The report that `run` gives is judged yes.
 use Rattle.std.proofs.Common.{◌≡◌, ◌∙◌, inl, inr, ℕ, List, ap, refl, subst, sym}
-use Rattle.sift_flight.specs.Hearing.{Strays}
-use Rattle.sift_jobs.specs.Headline.{IsHeadlined, RunIsHeadlined}
+use Rattle.sift_flight.specs.Flight.{Strays}
+use Rattle.sift_jobs.specs.Run.{IsHeadlined, RunIsHeadlined}
 use Rattle.sift_judge.specs.Laws.{OneVerdict}
 use Rattle.sift_judge.specs.Verdict.{IsVerdict}
 use Rattle.sift_judge.specs.declared.verdict.Verdict.TheVariants.{Yes}
 use Rattle.sift_load.specs.Laws.{OneMissionIsStated, StatedMissionsAreUnrefused}
-use Rattle.sift_load.specs.Loads.{LoadsThen}
-use Rattle.sift_load.specs.Mission.{States}
+use Rattle.sift_load.specs.Loads.{LoadsThen, States}
 use Rattle.sift_mission.specs.Data.{MissionData}
 use Rattle.sift_mission.specs.Flown.{flown}
 use Rattle.sift_reply.specs.Reply.{Reply, done}

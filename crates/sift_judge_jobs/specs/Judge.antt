@@ -6,8 +6,7 @@ use Rattle.sift_jobs.specs.Run.{version_of}
 use Rattle.sift_judge.specs.Verdict.{IsVerdict}
 use Rattle.sift_judge.specs.declared.verdict.Verdict.{Verdict}
 use Rattle.sift_judge.specs.declared.verdict.Verdict.TheVariants.{Yes, No}
-use Rattle.sift_load.specs.Loads.{LoadsThen}
-use Rattle.sift_load.specs.NoMission.{no_mission_statuses}
+use Rattle.sift_load.specs.Loads.{LoadsThen, no_mission_statuses}
 use Rattle.sift_mission.specs.Data.{MissionData}
 use Rattle.sift_options.specs.declared.setting.Options.{Options}
 use Rattle.sift_reply.specs.Duty.{Duty}

@@ -1,6 +1,6 @@
 -- The report that `run` gives is judged yes.
 use Rattle.std.specs.Prelude.{codes, ℕ, ◌≡◌, List, ◌++◌}
-use Rattle.sift_flight.specs.Hearing.{Strays}
+use Rattle.sift_flight.specs.Flight.{Strays}
 use Rattle.sift_jobs.specs.Run.{run_duty}
 use Rattle.sift_jobs.specs.declared.run.RunJob.{RunJob}
 use Rattle.sift_mission.specs.Data.{MissionData}

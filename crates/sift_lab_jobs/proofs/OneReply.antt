@@ -7,7 +7,7 @@ use Rattle.sift_byz.specs.Plan.{PlanData}
 use Rattle.sift_byz.specs.Text.{text_of}
 use Rattle.sift_clocklab.specs.Conditions.{IsAdmitted, IsRefused}
 use Rattle.sift_clocklab.specs.Text.{OneTextOfARun}
-use Rattle.sift_load.specs.Mission.{IsDocument}
+use Rattle.sift_load.specs.Loads.{IsDocument}
 use Rattle.sift_reply.specs.Duty.{GivesOne}
 use Rattle.sift_reply.specs.Reply.{Reply, done}
 use Rattle.sift_lab_jobs.specs.Byz.{ByzGivesFor, broken_rule, byz_duty}

@@ -7,9 +7,7 @@ use Rattle.sift_document.specs.declared.rule.BrokenRule.{BrokenRule}
 use Rattle.sift_byz.specs.Lawful.{IsPlanOf, IsRefusedWith}
 use Rattle.sift_byz.specs.Plan.{PlanData}
 use Rattle.sift_byz.specs.Text.{text_of}
-use Rattle.sift_load.specs.Loads.{document_limit}
-use Rattle.sift_load.specs.Mission.{IsDocument, IsNoDocument}
-use Rattle.sift_load.specs.NoMission.{reply_to}
+use Rattle.sift_load.specs.Loads.{document_limit, IsDocument, IsNoDocument, reply_to}
 use Rattle.sift_load.specs.declared.no_mission.NoMission.TheVariants.{NotADocument}
 use Rattle.sift_reply.specs.Duty.{Duty}
 use Rattle.sift_reply.specs.Reply.{Reply, done, done_status, reply}

@@ -1,7 +1,7 @@
 -- Which tasks are sound: what they name is there, and what they need stays within the limits.
 use Rattle.std.specs.Prelude.{ℕ, ◌+◌, ◌<◌, ◌≤◌, max}
 use Rattle.sift_base.specs.Shapes.{output_limit}
-use Rattle.sift_lang.specs.Limits.{local_limit, repeat_limit, round_limit, need_limit}
+use Rattle.sift_lang.specs.Tree.{local_limit, repeat_limit, round_limit, need_limit}
 use Rattle.sift_lang.specs.Tree.{Term, number, local, sense, this_frame, last_frame, minus, binary, middle, Statement, bind, assign, output, choose, choose_else, repeat, Block, end, step, TaskTree}
 
 -- how many words a term needs at once, where its parts are computed from the left

@@ -1,4 +1,4 @@
--- The tree of a task as contracts see it: terms, statements and blocks, without where they lie in memory.
+-- The tree of a task as contracts see it, without where it lies in memory, and the limits of the language.
 use Rattle.std.specs.Prelude.{ℕ, List, [], ◌∷◌, map, Option, Some, None}
 use Rattle.std.specs.declared.vec.Vec.{Vec}
 use Rattle.std.specs.declared.alloc.Global.{Global}
@@ -8,6 +8,26 @@ use Rattle.sift_lang.specs.declared.tree.Expr.TheVariants as code
 use Rattle.sift_lang.specs.declared.tree.Stmt.{Stmt, fold-Stmt}
 use Rattle.sift_lang.specs.declared.tree.Stmt.TheOpen.{Stmt-F}
 use Rattle.sift_lang.specs.declared.tree.Task.{Task}
+
+-- ---- the limits of the language. That of output words is the mission's
+
+-- the most locals that may live at once, hidden ones counted
+abbrev pub local_limit : ℕ
+local_limit = 32
+
+-- the most `repeat`s that may be open at once
+abbrev pub repeat_limit : ℕ
+repeat_limit = 32
+
+-- the most rounds of a `repeat`
+abbrev pub round_limit : ℕ
+round_limit = 1024
+
+-- the most words that an expression may need at once
+abbrev pub need_limit : ℕ
+need_limit = 256
+
+-- ---- terms, statements and blocks
 
 -- a term: a word, a local, an agreed word of a sensor, a word voted in this frame or in the last one, or an operator at its parts
 pub data Term : Type 0 where

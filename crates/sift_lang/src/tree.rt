@@ -1,7 +1,7 @@
 //! The trees of tasks, and the limits of the language.
 ghost use Rattle.std.specs.Prelude.{◌≡◌};
 ghost use Rattle.sift_base.specs.Shapes.{output_limit};
-ghost use Rattle.sift_lang.specs.Limits.{local_limit, repeat_limit, round_limit, need_limit};
+ghost use Rattle.sift_lang.specs.Tree.{local_limit, repeat_limit, round_limit, need_limit};
 
 use sift_base::Word;
 

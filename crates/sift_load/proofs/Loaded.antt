@@ -9,9 +9,7 @@ use Rattle.sift_scenario.specs.Mission.{IsMission}
 use Rattle.sift_scenario.specs.Refusal.{IsRefusedWith}
 use Rattle.sift_scenario.specs.declared.refused.Refused.TheVariants.{Scenario, Task, Table, Script}
 use Rattle.sift_load.specs.Laws.{OneMissionIsStated, OneReplyIsGiven, StatedMissionsAreUnrefused, StatusesAreOwn}
-use Rattle.sift_load.specs.Loads.{LoadsThen}
-use Rattle.sift_load.specs.Mission.{IsDocument, StatesNone}
-use Rattle.sift_load.specs.NoMission.{no_mission_statuses, reply_to}
+use Rattle.sift_load.specs.Loads.{LoadsThen, IsDocument, StatesNone, no_mission_statuses, reply_to}
 use Rattle.sift_load.specs.declared.no_mission.NoMission.{NoMission}
 use Rattle.sift_load.specs.declared.no_mission.NoMission.TheVariants.{NotADocument, Refused}
 

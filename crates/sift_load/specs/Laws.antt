@@ -3,9 +3,7 @@ use Rattle.std.specs.Prelude.{ℕ, ◌≡◌, List, ◌++◌, Contains}
 use Rattle.sift_mission.specs.Data.{MissionData}
 use Rattle.sift_reply.specs.Duty.{GivesOneTo, HasOwnStatuses}
 use Rattle.sift_reply.specs.Reply.{Reply, shared_statuses}
-use Rattle.sift_load.specs.Loads.{mission_duty}
-use Rattle.sift_load.specs.Mission.{States, StatesNone}
-use Rattle.sift_load.specs.NoMission.{no_mission_statuses}
+use Rattle.sift_load.specs.Loads.{mission_duty, States, StatesNone, no_mission_statuses}
 use Rattle.sift_load.specs.declared.no_mission.NoMission.{NoMission}
 
 -- bytes state at most one mission

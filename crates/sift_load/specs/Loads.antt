@@ -1,11 +1,56 @@
--- What a command about a mission does: it loads the mission, and gives a reply for it.
-use Rattle.std.specs.Prelude.{ℕ, ◌≡◌, ◌⊎◌, List, Some}
+-- What a command about a mission does: it loads the mission, and gives a reply for it, or tells why bytes state none.
+use Rattle.std.specs.Prelude.{ℕ, ◌≡◌, List, Some, IsUtf8, codes, [], ◌∷◌, ◌⊎◌}
+use Rattle.std.specs.Fmt.{decimal}
+use Rattle.std.specs.List.{concat}
+use Rattle.toml.specs.Data.{Members}
+use Rattle.toml.specs.Parse.{parse_document}
 use Rattle.sift_mission.specs.Data.{MissionData}
+use Rattle.sift_scenario.specs.Mission.{IsMission}
+use Rattle.sift_scenario.specs.Refusal.{IsRefusedWith}
+use Rattle.sift_reply.specs.Reply.{Reply, reply}
+use Rattle.sift_scenario.specs.declared.refused.Refused.TheVariants.{Scenario, Task, Table, Script}
 use Rattle.sift_reply.specs.Duty.{Duty}
-use Rattle.sift_reply.specs.Reply.{Reply}
-use Rattle.sift_load.specs.Mission.{States, StatesNone}
-use Rattle.sift_load.specs.NoMission.{reply_to}
 use Rattle.sift_load.specs.declared.no_mission.NoMission.{NoMission}
+use Rattle.sift_load.specs.declared.no_mission.NoMission.TheVariants.{NotADocument, Refused}
+
+-- ---- the mission that the bytes of an input state, or why they state none
+
+-- the bytes are a document, and this is its tree
+abbrev pub IsDocument : List ℕ → Members → Type 0
+IsDocument bytes document = IsUtf8 bytes × (parse_document bytes ≡ Some document)
+
+-- they are none
+abbrev pub IsNoDocument : List ℕ → Type 0
+IsNoDocument bytes = (document : Members) → ¬ IsDocument bytes document
+
+-- the bytes are a document that states the mission
+abbrev pub States : List ℕ → MissionData → Type 0
+States bytes mission = (document : Members) × IsDocument bytes document × IsMission document mission
+
+-- the bytes state no mission, for this reason: they are no document, or one that is refused so
+abbrev pub StatesNone : List ℕ → NoMission → Type 0
+StatesNone bytes NotADocument = IsNoDocument bytes
+StatesNone bytes (Refused reason) = (document : Members) × IsDocument bytes document × IsRefusedWith document reason
+
+-- ---- the replies to bytes that state no mission
+
+-- the status and the line of each
+abbrev pub reply_to : NoMission → Reply
+reply_to NotADocument = reply 3 (codes "not a document\n")
+reply_to (Refused (Scenario rule place)) =
+    reply 4 (concat (codes "scenario rule " ∷ decimal rule ∷ codes " at " ∷ decimal place ∷ codes "\n" ∷ []))
+reply_to (Refused (Task task kind at)) =
+    reply 5 (concat (codes "task " ∷ decimal task ∷ codes " kind " ∷ decimal kind ∷ codes " at " ∷ decimal at ∷ codes "\n" ∷ []))
+reply_to (Refused (Table size row rule)) =
+    reply 6 (concat (codes "table " ∷ decimal size ∷ codes " row " ∷ decimal row ∷ codes " rule " ∷ decimal rule ∷ codes "\n" ∷ []))
+reply_to (Refused (Script entry rule)) =
+    reply 7 (concat (codes "script entry " ∷ decimal entry ∷ codes " rule " ∷ decimal rule ∷ codes "\n" ∷ []))
+
+-- their statuses
+abbrev pub no_mission_statuses : List ℕ
+no_mission_statuses = 3 ∷ 4 ∷ 5 ∷ 6 ∷ 7 ∷ []
+
+-- ---- what a command about a mission does
 
 -- the most bytes of a document
 abbrev pub document_limit : ℕ

@@ -2,7 +2,7 @@
 
 ghost use Rattle.std.specs.Prelude.{◌≡◌, IfErr, IfOk};
 ghost use Rattle.sift_base.specs.Stop.{IfRefused};
-ghost use Rattle.sift_load.specs.Mission.{IsDocument, IsNoDocument, States, StatesNone};
+ghost use Rattle.sift_load.specs.Loads.{IsDocument, IsNoDocument, States, StatesNone};
 ghost use Rattle.sift_mission.specs.Parts.{data_of};
 ghost use Rattle.toml.specs.View.{table_view};
 

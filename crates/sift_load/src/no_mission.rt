@@ -1,7 +1,7 @@
 //! Why bytes state no mission.
 
 ghost use Rattle.std.specs.Prelude.{◌≡◌, IfOk};
-ghost use Rattle.sift_load.specs.NoMission.{reply_to};
+ghost use Rattle.sift_load.specs.Loads.{reply_to};
 
 use sift_base::NoMemory;
 use sift_reply::Reply;

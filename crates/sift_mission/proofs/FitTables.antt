@@ -11,8 +11,7 @@ use Rattle.sift_table.specs.Laws.{SlotsAreHeardInTime, TasksHaveThreeExecutors}
 use Rattle.sift_table.specs.Rules.{MeetsEach, row_rules, run_rules}
 use Rattle.sift_table.specs.Schedule.{Schedule, runs_at}
 use Rattle.sift_table.specs.Timing.{due_in, heard_in, is_shed, task_of}
-use Rattle.sift_mission.specs.Mission.{IsConfigOf}
-use Rattle.sift_mission.specs.Data.{MissionData, shapes_in}
+use Rattle.sift_mission.specs.Data.{IsConfigOf, MissionData, shapes_in}
 use Rattle.sift_mission.specs.Fits.{IsTimed, HasExecutors, is_caught_in}
 use Rattle.sift_mission.specs.Flown.{executes_in, flown, position_in, table_for}
 use Rattle.sift_mission.specs.PartsFit.{IsTableFor, PartsFit, table_at}

@@ -8,14 +8,13 @@ use Rattle.sift_base.specs.Units.{has}
 use Rattle.sift_base.specs.Shapes.{Shape, first_word, shape_at, words_in}
 use Rattle.sift_lang.specs.Sound.{AllNowsBelow, IsSound}
 use Rattle.sift_lang.specs.Tree.{TaskTree, end}
-use Rattle.sift_program.specs.Sound as program
-use Rattle.sift_program.specs.Sound.{output_count}
+use Rattle.sift_program.specs.Program as program
+use Rattle.sift_program.specs.Program.{output_count, reads_task, reads_word, shape_in, task_at}
 use Rattle.sift_table.specs.Laws.{TasksRunAfterTheirNeeds, WordsHaveTheirTask}
 use Rattle.sift_table.specs.Timing.{task_of}
 use Rattle.sift_mission.specs.Data.{MissionData, shapes_in}
 use Rattle.sift_mission.specs.Fits.{IsRead, IsCounted, SameAt}
 use Rattle.sift_mission.specs.Flown.{flown, needs_word, table_for, word_made}
-use Rattle.sift_program.specs.Needs.{reads_task, reads_word, shape_in, task_at}
 use Rattle.sift_mission.specs.PartsFit.{PartsFit}
 use Rattle.sift_mission.specs.Premises.{IsAmong, RunsProgram}
 use Rattle.sift_mission.proofs.FitSlots.{few-words}

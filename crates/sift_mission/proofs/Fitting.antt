@@ -3,8 +3,7 @@ use Rattle.std.proofs.Common.{arith, pos}
 use Rattle.std.proofs.lemmas.Int.{ints}
 use Rattle.std.proofs.lemmas.List.FromFn.{length-range_with_len}
 use Rattle.sift_table.specs.Laws.{SlotsAreHeardInTime, TasksRunAfterTheirNeeds, TasksHaveThreeExecutors}
-use Rattle.sift_mission.specs.Mission.{IsConfigOf}
-use Rattle.sift_mission.specs.Data.{MissionData}
+use Rattle.sift_mission.specs.Data.{IsConfigOf, MissionData}
 use Rattle.sift_mission.specs.Fits.{AreClocksNear}
 use Rattle.sift_mission.specs.Flown.{flown}
 use Rattle.sift_mission.specs.PartsFit.{PartsFit}

@@ -11,7 +11,7 @@ use Rattle.sift_base.specs.Units.{Units, has, holds, units_of}
 use Rattle.sift_base.proofs.lemmas.Counts.{apart}
 use Rattle.sift_base.proofs.lemmas.Sets.{holds_low, holds-insert}
 use Rattle.sift_base.specs.declared.slot.Slot.{Slot}
-use Rattle.sift_mission.specs.Mission.{FlownMission}
+use Rattle.sift_mission.specs.Data.{FlownMission}
 use Rattle.sift_base.specs.declared.slot.Slot.TheVariants.{Clock, Sense, RelaySense, Out, Report, RelayReport}
 use Rattle.sift_config.specs.Config.{reader_of}
 use Rattle.sift_mission.specs.Slots.{is_slot, calls, is_senders, IsFirstFrom}

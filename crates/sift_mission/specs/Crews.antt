@@ -6,8 +6,7 @@ use Rattle.sift_base.specs.declared.layout.Layout.{Layout}
 use Rattle.sift_base.specs.declared.slot.Slot.{Slot}
 use Rattle.sift_base.specs.declared.slot.Slot.TheVariants.{RelayReport}
 use Rattle.sift_table.specs.Schedule.{Schedule, runs_at}
-use Rattle.sift_mission.specs.Mission.{IsConfigOf, FlownMission}
-use Rattle.sift_mission.specs.Data.{MissionData}
+use Rattle.sift_mission.specs.Data.{IsConfigOf, FlownMission, MissionData}
 use Rattle.sift_mission.specs.Flown.{flown, position_in, table_for}
 use Rattle.sift_mission.specs.Slots.{is_senders}
 use Rattle.sift_mission.specs.declared.crews.Crews.{Crews}

@@ -5,7 +5,7 @@ use Rattle.sift_base.specs.Layout.{sensor_limit, word_limit}
 use Rattle.sift_base.specs.declared.slot.Slot.{Slot}
 use Rattle.sift_base.specs.declared.slot.Slot.TheVariants.{Clock, Sense, RelaySense, Out, Report, RelayReport}
 use Rattle.sift_clock.specs.Distance.{IsWithin}
-use Rattle.sift_mission.specs.Mission.{FlownMission, IsConfigOf}
+use Rattle.sift_mission.specs.Data.{FlownMission, IsConfigOf}
 use Rattle.sift_mission.specs.Slots.{is_slot, is_held, is_silent, executors}
 use Rattle.sift_mission.specs.PartsFit.{frame_limit, longest_period, start_limit}
 use Rattle.sift_table.specs.Laws.{shortest_period}

@@ -5,15 +5,14 @@ use Rattle.sift_base.specs.Shapes.{first_word, shape_at}
 use Rattle.sift_base.specs.Units.{has}
 use Rattle.sift_config.specs.Config.{first_units}
 use Rattle.sift_lang.specs.Meaning.{meaning}
-use Rattle.sift_script.specs.Changes as changes
+use Rattle.sift_script.specs.Faults as changes
 use Rattle.sift_script.specs.Faults as faults
 use Rattle.sift_table.specs.Schedule as schedule
 use Rattle.sift_table.specs.Schedule.{Schedule}
 use Rattle.sift_table.specs.Timing as timing
 use Rattle.sift_table.specs.Timing.{task_of}
-use Rattle.sift_mission.specs.Data.{MissionData, shapes_in}
-use Rattle.sift_mission.specs.Mission.{FlownMission}
-use Rattle.sift_program.specs.Needs.{task_at}
+use Rattle.sift_mission.specs.Data.{MissionData, shapes_in, FlownMission}
+use Rattle.sift_program.specs.Program.{task_at}
 use Rattle.sift_mission.specs.PartsFit.{table_at}
 
 -- ---- tables

@@ -3,9 +3,8 @@ use Rattle.std.specs.Prelude.{map}
 use Rattle.sift_compile.specs.Tasks.{AreCodesOf}
 use Rattle.sift_program.specs.Program.{program_of}
 use Rattle.sift_skew.specs.declared.plan.ClockPlan.{ClockPlan}
-use Rattle.sift_mission.specs.Data.{Clocks, MissionData}
+use Rattle.sift_mission.specs.Data.{Clocks, MissionData, FlownMission}
 use Rattle.sift_mission.specs.Flown.{flown}
-use Rattle.sift_mission.specs.Mission.{FlownMission}
 use Rattle.sift_mission.specs.declared.parts.MissionParts.{MissionParts}
 
 -- the clocks that a plan stands for

@@ -4,7 +4,7 @@ use Rattle.std.specs.List.{All}
 use Rattle.sift_base.specs.Layout.{least_units, sensor_limit}
 use Rattle.sift_base.specs.Units.{unit_limit}
 use Rattle.sift_clock.specs.Distance.{IsWithin}
-use Rattle.sift_program.specs.Sound.{IsSoundProgram, output_count}
+use Rattle.sift_program.specs.Program.{IsSoundProgram, output_count}
 use Rattle.sift_script.specs.Rules as scripts
 use Rattle.sift_script.specs.Script.{outputs_of}
 use Rattle.sift_skew.specs.Limits.{AreNumbers, IsAdmitted}

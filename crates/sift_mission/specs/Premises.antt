@@ -5,13 +5,11 @@ use Rattle.sift_base.specs.declared.slot.Slot.{Slot}
 use Rattle.sift_clock.specs.Distance.{IsWithin}
 use Rattle.sift_lang.specs.Meaning.{meaning}
 use Rattle.sift_lang.specs.Tree.{TaskTree}
-use Rattle.sift_program.specs.Program.{ProgramTree}
-use Rattle.sift_program.specs.Sound.{IsSoundProgram, first_word, output_count}
+use Rattle.sift_program.specs.Program.{ProgramTree, IsSoundProgram, first_word, output_count}
 use Rattle.sift_skew.specs.Limits.{IsAdmitted}
-use Rattle.sift_mission.specs.Data.{MissionData}
+use Rattle.sift_mission.specs.Data.{MissionData, FlownMission}
 use Rattle.sift_mission.specs.Fits.{Fits}
 use Rattle.sift_mission.specs.Flown.{flown}
-use Rattle.sift_mission.specs.Mission.{FlownMission}
 use Rattle.sift_mission.specs.PartsFit.{PartsFit}
 use Rattle.sift_mission.specs.Slots.{has_turned}
 

@@ -5,7 +5,7 @@ use Rattle.sift_base.specs.Units.{has, unit_limit}
 use Rattle.sift_base.specs.declared.slot.Slot.{Slot}
 use Rattle.sift_base.specs.declared.slot.Slot.TheVariants.{Clock, Sense, RelaySense, Out, Report, RelayReport}
 use Rattle.sift_config.specs.Config.{reader_of}
-use Rattle.sift_mission.specs.Mission.{FlownMission}
+use Rattle.sift_mission.specs.Data.{FlownMission}
 
 -- the mission has the slot; slots that it hasn't may share a number with one that it has
 abbrev pub is_slot : FlownMission → Slot → Bool

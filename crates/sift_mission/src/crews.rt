@@ -3,7 +3,7 @@
 ghost use Rattle.std.specs.Prelude.{◌≡◌, ◌<◌, ◌≤◌, length, slice_index_or};
 ghost use Rattle.sift_base.specs.Shapes.{task_limit};
 ghost use Rattle.sift_base.specs.Units.{members, units_of};
-ghost use Rattle.sift_mission.specs.Mission.{IsConfigOf};
+ghost use Rattle.sift_mission.specs.Data.{IsConfigOf};
 ghost use Rattle.sift_mission.specs.ByWord.{KnowsTasks};
 ghost use Rattle.sift_mission.specs.Crews.{AreAllCrews, AreCrewsBy, AreCrewsOf, IsCrewBy};
 ghost use Rattle.sift_mission.specs.Parts.{data_of, flown_of};

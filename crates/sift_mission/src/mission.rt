@@ -3,11 +3,11 @@
 ghost use Rattle.std.specs.Prelude.{◌≡◌, ℕ, ◌+◌, ◌-◌, ◌<◌, ◌≤◌, ◌++◌, length, map, replicate};
 ghost use Rattle.sift_base.specs.Shapes.{task_limit};
 ghost use Rattle.sift_lang.specs.Tree.{tree_of};
-ghost use Rattle.sift_program.specs.Sound.{output_count};
+ghost use Rattle.sift_program.specs.Program.{output_count};
 ghost use Rattle.sift_mission.specs.ByWord.{by_word};
 ghost use Rattle.sift_mission.specs.Crews.{AreCrewsOf};
 ghost use Rattle.sift_mission.specs.Parts.{AreCompiled, data_of, flown_of};
-ghost use Rattle.sift_mission.specs.Mission.{IsConfigOf};
+ghost use Rattle.sift_mission.specs.Data.{IsConfigOf};
 ghost use Rattle.sift_mission.specs.Flown.{table_for, runs_in};
 ghost use Rattle.sift_base.specs.Units.{holds};
 ghost use Rattle.sift_mission.specs.Timetable.{IsTimetableOf};

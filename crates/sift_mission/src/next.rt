@@ -1,7 +1,7 @@
 //! What comes next in a subframe under a configuration. What isn't due is passed over.
 
 ghost use Rattle.std.specs.Prelude.{◌≡◌, ◌≢◌, ℕ, ◌<◌, ◌≤◌};
-ghost use Rattle.sift_mission.specs.Mission.{IsConfigOf};
+ghost use Rattle.sift_mission.specs.Data.{IsConfigOf};
 ghost use Rattle.sift_mission.specs.Parts.{flown_of};
 
 use crate::mission::Mission;

@@ -3,7 +3,7 @@
 ghost use Rattle.std.specs.Prelude.{◌≡◌, ◌<◌, ◌&&◌, ℕ, length, true};
 ghost use Rattle.sift_base.specs.Layout.{IsLayout, slot_count};
 ghost use Rattle.sift_base.specs.Units.{has, holds};
-ghost use Rattle.sift_mission.specs.Mission.{IsConfigOf};
+ghost use Rattle.sift_mission.specs.Data.{IsConfigOf};
 ghost use Rattle.sift_mission.specs.ByWord.{KnowsTasks};
 ghost use Rattle.sift_mission.specs.Crews.{AreAllRoles, AreCrewsBy, AreReceiversOf, AreRolesOf, AreSendersOf};
 ghost use Rattle.sift_mission.specs.Parts.{data_of, flown_of};

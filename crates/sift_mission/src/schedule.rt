@@ -2,7 +2,7 @@
 
 ghost use Rattle.std.specs.Prelude.{◌≡◌, ◌-◌, ◌<◌, ◌≤◌, length};
 ghost use Rattle.sift_base.specs.Layout.{IsLayout, slot_count};
-ghost use Rattle.sift_mission.specs.Mission.{IsConfigOf};
+ghost use Rattle.sift_mission.specs.Data.{IsConfigOf};
 ghost use Rattle.sift_mission.specs.Parts.{data_of, flown_of};
 ghost use Rattle.sift_base.specs.Layout.{slot_kind};
 ghost use Rattle.sift_mission.specs.Flown.{runs_in};

@@ -3,9 +3,8 @@
 ghost use Rattle.std.specs.Prelude.{◌≡◌, ◌<◌, ◌≤◌, length};
 ghost use Rattle.sift_base.specs.Layout.{word_limit};
 ghost use Rattle.sift_compile.specs.Tasks.{IsCodeOf};
-ghost use Rattle.sift_program.specs.Sound.{first_word};
+ghost use Rattle.sift_program.specs.Program.{first_word, task_at};
 ghost use Rattle.sift_mission.specs.Parts.{data_of, flown_of};
-ghost use Rattle.sift_program.specs.Needs.{task_at};
 
 use crate::mission::Mission;
 use sift_base::Word;

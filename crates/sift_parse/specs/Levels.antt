@@ -1,12 +1,47 @@
--- The levels that are open after lexemes: a block to its `}`, a parenthesis to its `)`, and a minus to the end of its prim.
-use Rattle.std.specs.Prelude.{ℕ, zero, suc, ◌+◌, Bool, true, false, not, ◌&&◌, ◌||◌, if◌then◌else◌, List, [], ◌∷◌, Option, Some, None, is_none}
+-- What is open after lexemes: the locals that live, and the levels of blocks, parentheses and minuses.
+use Rattle.std.specs.Prelude.{ℕ, zero, suc, Bool, true, false, not, ◌&&◌, if◌then◌else◌, List, [], ◌∷◌, ◌++◌, Option, Some, ◌+◌, ◌||◌, None, is_none}
 use Rattle.sift_lang.specs.declared.tree.Op.TheVariants.{Sub}
 use Rattle.sift_parse.specs.declared.token.Keyword.{Keyword}
-use Rattle.sift_parse.specs.declared.token.Keyword.TheVariants.{Now, Last}
-use Rattle.sift_parse.specs.declared.token.Sign.TheVariants.{OpenParen, CloseParen, OpenBrace}
-use Rattle.sift_parse.specs.Keywords.{keyword_of, keyword_in}
-use Rattle.sift_parse.specs.Lexeme.{Lexeme, word, numeral, operator, mark}
-use Rattle.sift_parse.specs.Locals.{leaves}
+use Rattle.sift_parse.specs.declared.token.Keyword.TheVariants.{Let, Now, Last}
+use Rattle.sift_parse.specs.declared.token.Sign.TheVariants.{OpenBrace, CloseBrace, Semicolon, OpenParen, CloseParen}
+use Rattle.sift_parse.specs.Lexeme.{keyword_of, keyword_in, Lexeme, word, mark, numeral, operator}
+
+-- ---- the locals that live: those whose statement is over, and whose block isn't
+
+-- the keyword `let`
+abbrev pub is_let_keyword : Option Keyword → Bool
+is_let_keyword (Some Let) = true
+is_let_keyword _ = false
+
+abbrev pub is_let : Lexeme → Bool
+is_let (word w) = is_let_keyword (keyword_of w)
+is_let _ = false
+
+-- a `;` is among the lexemes: the statement in which they begin is over
+abbrev pub ends : List Lexeme → Bool
+ends [] = false
+ends (mark Semicolon ∷ ls) = true
+ends (l ∷ ls) = ends ls
+
+-- a `}` among the lexemes closes none of the blocks that they open, nor of n others that are open before them: the block in which those n stand is over
+abbrev pub leaves : ℕ → List Lexeme → Bool
+leaves n [] = false
+leaves n (mark OpenBrace ∷ ls) = leaves (suc n) ls
+leaves zero (mark CloseBrace ∷ ls) = true
+leaves (suc n) (mark CloseBrace ∷ ls) = leaves n ls
+leaves n (l ∷ ls) = leaves n ls
+
+-- the local of a `let` before these lexemes, where it lives after them: its statement is over, and its block isn't
+abbrev pub local_by : List Lexeme → List (List ℕ)
+local_by (word w ∷ ls) = if ends ls && not (leaves 0 ls) then w ∷ [] else []
+local_by _ = []
+
+-- the names of the locals that live after the lexemes, the newest first
+abbrev pub living : List Lexeme → List (List ℕ)
+living [] = []
+living (l ∷ ls) = living ls ++ (if is_let l then local_by ls else [])
+
+-- ---- the levels: a block to its `}`, a parenthesis to its `)`, and a minus to the end of its prim
 
 -- a `)` among the lexemes closes none of the parentheses that they open, nor of n others that are open before them
 abbrev pub leaves_paren : ℕ → List Lexeme → Bool

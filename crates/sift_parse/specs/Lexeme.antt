@@ -1,14 +1,31 @@
--- The bytes of a text: which of them are a lexeme, and which stand between lexemes and mean nothing.
-use Rattle.std.specs.Prelude.{◌≡◌, ℕ, ◌+◌, ◌-◌, ◌<◌, ◌≤◌, ◌⊎◌, min, ◌==◌, ◌||◌, if◌then◌else◌, Bool, List, [], ◌∷◌, ◌++◌, length, codes}
+-- The bytes of a text: its limits, which of them are a lexeme, which stand between lexemes and mean nothing, and the words that the language keeps.
+use Rattle.std.specs.Prelude.{ℕ, ◌≡◌, ◌+◌, ◌-◌, ◌<◌, ◌≤◌, ◌⊎◌, min, ◌==◌, ◌||◌, if◌then◌else◌, Bool, List, [], ◌∷◌, ◌++◌, length, codes, Option, Some, None}
 use Rattle.std.specs.Char.{IsAsciiAlphabetic}
-use Rattle.std.specs.Str.{byte}
+use Rattle.std.specs.Str.{byte, bytes_eq}
 use Rattle.std.specs.Str.Parse.{digits_value, AllDigits}
 use Rattle.sift_base.specs.Name.{HasNameForm}
 use Rattle.sift_lang.specs.declared.tree.Op.{Op}
 use Rattle.sift_lang.specs.declared.tree.Op.TheVariants.{Add, Sub, Mul, Div, Rem, And, Or, Xor, Shl, Shr, Lt, Eq}
 use Rattle.sift_parse.specs.declared.token.Sign.{Sign}
 use Rattle.sift_parse.specs.declared.token.Sign.TheVariants.{Assign, OpenParen, CloseParen, OpenBrace, CloseBrace, Comma, Dot, Semicolon}
-use Rattle.sift_parse.specs.Limits.{number_limit}
+use Rattle.sift_parse.specs.declared.token.Keyword.{Keyword}
+use Rattle.sift_parse.specs.declared.token.Keyword.TheVariants.{Let, Out, If, Else, Repeat, Mid, Sense, Now, Last}
+
+-- ---- the limits of texts. Those of locals and rounds are the language's, and that of names is theirs
+
+-- the most bytes of a text
+abbrev pub text_limit : ℕ
+text_limit = 4096
+
+-- the most blocks, parentheses and minuses that may be open at once
+abbrev pub level_limit : ℕ
+level_limit = 32
+
+-- the greatest number that a text may hold
+abbrev pub number_limit : ℕ
+number_limit = 65535
+
+-- ---- lexemes
 
 -- a lexeme: a word of the form of a name, keywords among them, a number, an operator, or another sign
 pub data Lexeme : Type 0 where
@@ -109,3 +126,23 @@ pub record Placed : Type 0 where
 pub data Lexes (total : ℕ) : List ℕ → List Placed → List ℕ → Type 0 where
   no_lexeme : (text : List ℕ) → Lexes total text [] (after_gap text)
   a_lexeme : (text mid rest : List ℕ) (l : Lexeme) (ls : List Placed) → IsLexeme (after_gap text) l mid → Lexes total mid ls rest → Lexes total text (record { lexeme = l; at = total - length (after_gap text) } ∷ ls) rest
+
+-- ---- the words that the language keeps for itself
+
+-- the keyword that a word is
+abbrev pub keyword_of : List ℕ → Option Keyword
+keyword_of w =
+    if bytes_eq w (codes "let") then Some Let else
+    (if bytes_eq w (codes "out") then Some Out else
+    (if bytes_eq w (codes "if") then Some If else
+    (if bytes_eq w (codes "else") then Some Else else
+    (if bytes_eq w (codes "repeat") then Some Repeat else
+    (if bytes_eq w (codes "mid") then Some Mid else
+    (if bytes_eq w (codes "sense") then Some Sense else
+    (if bytes_eq w (codes "now") then Some Now else
+    (if bytes_eq w (codes "last") then Some Last else None))))))))
+
+-- the keyword that a lexeme is
+abbrev pub keyword_in : Option Lexeme → Option Keyword
+keyword_in (Some (word w)) = keyword_of w
+keyword_in _ = None

@@ -4,7 +4,7 @@ use Rattle.sift_base.specs.Name.{IsName}
 use Rattle.sift_lang.specs.Sound.{EachTerm, locals_after}
 use Rattle.sift_lang.specs.Tree.{Term, number, local, sense, this_frame, last_frame, minus, binary, middle, Statement, bind, assign, output, choose, choose_else, repeat, Block, end, step, TaskTree}
 use Rattle.sift_parse.specs.Grammar.{level_of, prim_level}
-use Rattle.sift_parse.specs.Limits.{text_limit, level_limit, number_limit}
+use Rattle.sift_parse.specs.Lexeme.{text_limit, level_limit, number_limit}
 use Rattle.sift_parse.specs.Outcome.{AreNames, IsSoundAmong, IsTaskOf}
 use Rattle.sift_parse.specs.Printing.{Naming, left_level, printed_text}
 use Rattle.sift_parse.specs.Roll.{Roll, first_word}

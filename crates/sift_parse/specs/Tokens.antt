@@ -1,16 +1,52 @@
--- Which tokens lexemes stand for, at their places.
-use Rattle.std.specs.Prelude.{ℕ, ◌+◌, if◌then◌else◌, List, [], ◌∷◌, ◌++◌, length, slice_index, nat_lt, nat_le, Option, Some, None, unwrap_or}
+-- What the lexemes before a place of a text tell there, and which tokens lexemes stand for at their places.
+use Rattle.std.specs.Prelude.{ℕ, Bool, List, [], ◌∷◌, Option, Some, None, ◌+◌, if◌then◌else◌, ◌++◌, length, slice_index, nat_lt, nat_le, unwrap_or}
 use Rattle.std.specs.Str.{bytes_eq}
 use Rattle.sift_parse.specs.declared.token.Keyword.{Keyword}
+use Rattle.sift_parse.specs.Lexeme.{keyword_in, keyword_of, Lexeme, word, numeral, operator, mark, number_limit}
+use Rattle.sift_parse.specs.Levels.{opens_after, levels_open, living}
 use Rattle.sift_parse.specs.declared.token.Keyword.TheVariants.{Let, Out, Sense, Now, Last}
 use Rattle.sift_parse.specs.declared.token.Sign.TheVariants.{Dot}
 use Rattle.sift_parse.specs.declared.token.Token.{Token}
 use Rattle.sift_parse.specs.declared.token.Token.TheVariants as token
-use Rattle.sift_parse.specs.Keywords.{keyword_of}
-use Rattle.sift_parse.specs.Lexeme.{Lexeme, word, numeral, operator, mark}
-use Rattle.sift_parse.specs.Place.{Place, place_after, keyword_before}
 use Rattle.sift_parse.specs.Roll.{Roll, number_in, first_word}
-use Rattle.sift_parse.specs.Limits.{number_limit}
+
+-- ---- what is told at a place
+
+-- what is told at a place
+pub record Place : Type 0 where
+  -- the lexeme before the place
+  pub before : Option Lexeme
+  -- the names of the locals that live, the newest first
+  pub locals : List (List ℕ)
+  -- how many levels are open
+  pub levels : ℕ
+  -- the last word before the place
+  pub named : List ℕ
+
+-- the last of the lexemes, or this one where there are none
+abbrev pub last_of : Option Lexeme → List Lexeme → Option Lexeme
+last_of before [] = before
+last_of before (l ∷ ls) = last_of (Some l) ls
+
+-- the last word of the lexemes, or this one where there is none
+abbrev pub last_word : List ℕ → List Lexeme → List ℕ
+last_word named [] = named
+last_word named (word w ∷ ls) = last_word w ls
+last_word named (l ∷ ls) = last_word named ls
+
+-- what is told after these lexemes
+abbrev pub place_after : List Lexeme → Place
+place_after ls = record { before = last_of None ls; locals = living ls; levels = levels_open ls; named = last_word [] ls }
+
+-- the keyword before the place
+abbrev pub keyword_before : Place → Option Keyword
+keyword_before p = keyword_in p.before
+
+-- the lexeme opens a level here
+abbrev pub opens : Place → Lexeme → Bool
+opens p l = opens_after p.before l
+
+-- ---- tokens
 
 -- ---- names
 

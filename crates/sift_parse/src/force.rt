@@ -3,7 +3,7 @@ ghost use Rattle.std.specs.Prelude.{◌≡◌, ◌<◌, ◌^◌, IfOk, sum, slic
 ghost use Rattle.std.specs.Option.{ForSome};
 ghost use Rattle.sift_parse.specs.declared.token.Sign.TheVariants.{CloseParen};
 ghost use Rattle.sift_parse.specs.Force as spec;
-ghost use Rattle.sift_parse.specs.Keywords as keywords;
+ghost use Rattle.sift_parse.specs.Lexeme as keywords;
 ghost use Rattle.sift_parse.specs.Levels as levels;
 ghost use Rattle.sift_parse.specs.Tokens as told;
 ghost use Rattle.sift_parse.specs.Force.{at_start, is_minus, without_minuses, end_let, leave_block, moved};

@@ -1,7 +1,6 @@
 //! The lexemes of a text, with their places.
 ghost use Rattle.std.specs.Prelude.{◌≡◌, ◌↔◌, ◌≤◌, IsTrue, IfOk, length, drop};
-ghost use Rattle.sift_parse.specs.Lexeme.{is_blank, after_gap};
-ghost use Rattle.sift_parse.specs.Limits.{text_limit};
+ghost use Rattle.sift_parse.specs.Lexeme.{is_blank, after_gap, text_limit};
 ghost use Rattle.sift_parse.specs.Scanned.{end_stop};
 ghost use Rattle.sift_parse.specs.Written.{IsGap, IsLexed, placed_of};
 

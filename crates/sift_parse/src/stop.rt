@@ -1,6 +1,6 @@
 //! Why a text is no task.
 ghost use Rattle.std.specs.Prelude.{◌≡◌, ◌≤◌};
-ghost use Rattle.sift_parse.specs.Limits.{text_limit};
+ghost use Rattle.sift_parse.specs.Lexeme.{text_limit};
 
 use sift_base::NoMemory;
 

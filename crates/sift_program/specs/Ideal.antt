@@ -4,9 +4,7 @@ use Rattle.std.specs.List.{range_with_len}
 use Rattle.sift_base.specs.Units.{has}
 use Rattle.sift_lang.specs.Tree.{TaskTree}
 use Rattle.sift_lang.specs.Meaning.{meaning}
-use Rattle.sift_program.specs.Needs.{task_at}
-use Rattle.sift_program.specs.Program.{ProgramTree}
-use Rattle.sift_program.specs.Sound.{output_count, first_word, IsSoundProgram}
+use Rattle.sift_program.specs.Program.{task_at, ProgramTree, output_count, first_word, IsSoundProgram}
 
 -- the words of so many numbers from the first on, in the frame before
 abbrev pub words_held : List ℕ → ℕ → ℕ → List ℕ

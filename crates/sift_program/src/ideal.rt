@@ -4,8 +4,7 @@ ghost use Rattle.arrayvec.specs.ArrayVec.{array_vec_len};
 ghost use Rattle.sift_lang.specs.Tree.{tree_of};
 ghost use Rattle.sift_lang.specs.Meaning.{meaning};
 ghost use Rattle.sift_lang.specs.Sound.{IsSound, AllNowsBelow};
-ghost use Rattle.sift_program.specs.Program.{program_of};
-ghost use Rattle.sift_program.specs.Sound.{IsSoundProgram};
+ghost use Rattle.sift_program.specs.Program.{program_of, IsSoundProgram};
 ghost use Rattle.sift_program.specs.Ideal.{words_held, ideal_frame, words_before, ideal_words, IdealFrameIsUnique};
 
 use crate::program::{Program, WORD_LIMIT};

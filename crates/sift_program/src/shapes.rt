@@ -5,9 +5,8 @@ ghost use Rattle.std.specs.List.{filter, list_any, range_with_len};
 ghost use Rattle.sift_base.specs.Layout.{sensor_limit};
 ghost use Rattle.sift_base.specs.Shapes.{AreShapes, shapes_of};
 ghost use Rattle.sift_lang.specs.Tree.{block_of, statement_of, term_of, tree_of};
-ghost use Rattle.sift_program.specs.Program.{program_of};
-ghost use Rattle.sift_program.specs.Sound.{IsSoundProgram, output_count};
-ghost use Rattle.sift_program.specs.Needs.{SoundProgramsHaveShapes, block_reads, program_shapes, reads_task, reads_word, statement_reads, task_at, term_reads};
+ghost use Rattle.sift_program.specs.Program.{program_of, IsSoundProgram, output_count};
+ghost use Rattle.sift_program.specs.Program.{SoundProgramsHaveShapes, block_reads, program_shapes, reads_task, reads_word, statement_reads, task_at, term_reads};
 
 use crate::program::Program;
 use sift_base::{NoMemory, Shapes, TaskShape};

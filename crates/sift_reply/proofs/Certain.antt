@@ -1,10 +1,8 @@
 -- What comes where an input tells its bytes.
 use Rattle.std.proofs.Common.{◌≡◌, ◌⊎◌, inl, inr, ℕ, List, subst}
-use Rattle.sift_io.specs.Fault.{Rose}
-use Rattle.sift_reply.specs.Input.{Input, IsTold}
-use Rattle.sift_reply.specs.Output.{IsGiven, Output}
+use Rattle.sift_io.specs.Flow.{Rose}
+use Rattle.sift_reply.specs.Reply.{Input, IsTold, IsGiven, Output, Reply, read_fault}
 use Rattle.sift_reply.specs.Promise.{Commands, IsAnswered, IsCertain, IsDue, IsOwed}
-use Rattle.sift_reply.specs.Reply.{Reply, read_fault}
 use Rattle.sift_reply.proofs.Inputs.{owed_to_bytes}
 
 module _ {Command : Type 0} (commands : Commands Command) (words : List (List ℕ)) (input : Input) (output : Output) (status : ℕ) where

@@ -1,11 +1,9 @@
 -- What each status says.
 use Rattle.std.proofs.Common.{◌≡◌, ◌≢◌, ◌⊎◌, inl, inr, ℕ, List, [], Option, None, Some, Contains, lit<, refl, sym, ap, ◌∙◌, subst, arith}
 use Rattle.sift_reply.specs.Duty.{GivesOne, GivesOneTo, IsOwedWithin, IsWhole, MayEndWith, Owes, OwesOneTo, OwesWithin, input_within, shared_endings}
-use Rattle.sift_reply.specs.Input.{Input}
+use Rattle.sift_reply.specs.Reply.{Input, IsCut, IsGiven, IsWritten, Output, Reply, no_memory_status, read_fault, shared_statuses, sink_fault_status, too_long, usage}
 use Rattle.sift_reply.specs.Laws.{AsksOne, ShareNoStatus, IsExplained, StatusesAreExplained}
-use Rattle.sift_reply.specs.Output.{IsCut, IsGiven, IsWritten, Output}
 use Rattle.sift_reply.specs.Promise.{Commands, IsAnswered, IsCommandLine, IsDue, IsOwed, MayWant}
-use Rattle.sift_reply.specs.Reply.{Reply, no_memory_status, read_fault, shared_statuses, sink_fault_status, too_long, usage}
 use Rattle.sift_reply.proofs.Certain.{certain}
 
 -- ---- one command

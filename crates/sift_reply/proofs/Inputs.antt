@@ -2,10 +2,9 @@
 use Rattle.std.proofs.Common.{◌≡◌, ◌≤◌, ◌+◌, ◌⊎◌, inl, inr, ℕ, List, length, Option, Some, None, sym, ◌∙◌, ap, subst, arith}
 use Rattle.std.proofs.lemmas.List.{append-nil, length-append}
 use Rattle.std.specs.Io.KnownBytes.{Consumes, IsAtEnd}
-use Rattle.sift_io.specs.Fault.{Rose}
+use Rattle.sift_io.specs.Flow.{Rose}
 use Rattle.sift_reply.specs.Duty.{IsOwedWithin, OwesWithin}
-use Rattle.sift_reply.specs.Input.{Input, IsTold}
-use Rattle.sift_reply.specs.Reply.{Reply, read_fault}
+use Rattle.sift_reply.specs.Reply.{Input, IsTold, Reply, read_fault}
 
 -- what was taken of known bytes, to their end, is these bytes
 all_taken :

@@ -1,9 +1,8 @@
 -- What a command has to do, and what it owes then.
 use Rattle.std.specs.Prelude.{ℕ, ◌≡◌, ◌≤◌, ◌<◌, ◌+◌, ◌⊎◌, List, [], ◌∷◌, length, Option, Some, None, Contains}
-use Rattle.sift_io.specs.Fault.{Rose}
+use Rattle.sift_io.specs.Flow.{Rose}
 use Rattle.sift_io.specs.Reading.{TakesAll, TakesAtMost, TakesExactly}
-use Rattle.sift_reply.specs.Input.{Input}
-use Rattle.sift_reply.specs.Reply.{Reply, no_memory_status, read_fault, shared_statuses, sink_fault_status, too_long}
+use Rattle.sift_reply.specs.Reply.{Input, Reply, no_memory_status, read_fault, shared_statuses, sink_fault_status, too_long}
 
 -- the most bytes that a command reads, where it reads at all, and the replies that it may give to the whole input
 pub record Duty : Type 1 where

@@ -1,11 +1,9 @@
 -- What each status says: laws of the promise, whatever the commands are.
 use Rattle.std.specs.Prelude.{ℕ, ◌≡◌, ◌≢◌, ◌⊎◌, List, [], ◌∷◌, Contains, None}
-use Rattle.sift_io.specs.Fault.{Rose}
+use Rattle.sift_io.specs.Flow.{Rose}
 use Rattle.sift_reply.specs.Duty.{Duty, GivesOne, GivesOneTo, SharesNoStatus, IsWhole, MayEndWith, OwesOneTo, input_within}
-use Rattle.sift_reply.specs.Input.{Input, IsTold}
-use Rattle.sift_reply.specs.Output.{IsCut, IsGiven, IsWritten, Output}
+use Rattle.sift_reply.specs.Reply.{Input, IsTold, IsCut, IsGiven, IsWritten, Output, Reply, no_memory_status, read_fault, shared_statuses, sink_fault_status, usage}
 use Rattle.sift_reply.specs.Promise.{Commands, IsAnswered, IsCommandLine, IsDue, IsOwed, MayWant}
-use Rattle.sift_reply.specs.Reply.{Reply, no_memory_status, read_fault, shared_statuses, sink_fault_status, usage}
 
 module _ {Command : Type 0} (commands : Commands Command) where
   -- words ask for one command at most

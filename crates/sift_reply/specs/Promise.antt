@@ -1,10 +1,8 @@
 -- The promise of the whole call.
 use Rattle.std.specs.Prelude.{ℕ, ◌≡◌, ◌⊎◌, List, [], None}
-use Rattle.sift_io.specs.Fault.{Rose}
+use Rattle.sift_io.specs.Flow.{Rose}
 use Rattle.sift_reply.specs.Duty.{Duty, IsOwedTo, Owes, ReadsWithin}
-use Rattle.sift_reply.specs.Input.{Input, IsTold}
-use Rattle.sift_reply.specs.Output.{IsBroken, IsGiven, IsWritten, Output}
-use Rattle.sift_reply.specs.Reply.{Reply, no_memory_status, read_fault, sink_fault_status, usage}
+use Rattle.sift_reply.specs.Reply.{Input, IsTold, IsBroken, IsGiven, IsWritten, Output, Reply, no_memory_status, read_fault, sink_fault_status, usage}
 
 -- the commands that there are: which one words ask for, and what each has to do
 pub record Commands (Command : Type 0) : Type 1 where

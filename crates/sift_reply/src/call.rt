@@ -3,11 +3,9 @@
 ghost use Rattle.std.specs.Prelude.{◌≡◌, ◌≢◌, ◌⊎◌, IfErr, IfOk, None, map, string_bytes};
 ghost use Rattle.sift_reply.specs.Begun.{MayCome};
 ghost use Rattle.sift_reply.specs.Duty.{SharesNoStatus, Owes, ReadsWithin};
-ghost use Rattle.sift_reply.specs.Input.{input};
+ghost use Rattle.sift_reply.specs.Reply.{input, IsBroken, IsGiven, output, no_memory_status};
 ghost use Rattle.sift_reply.specs.Laws.{ShareNoStatus};
-ghost use Rattle.sift_reply.specs.Output.{IsBroken, IsGiven, output};
 ghost use Rattle.sift_reply.specs.Promise.{AskForNoInput, IsAnswered, IsCertain, IsOwed, MayWant, commands_of};
-ghost use Rattle.sift_reply.specs.Reply.{no_memory_status};
 
 use crate::begun::{Begun, Work};
 use crate::job::{Asked, Job};

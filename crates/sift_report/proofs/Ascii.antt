@@ -16,7 +16,7 @@ use Rattle.sift_report.specs.Bad.{catch_of, catch_text, caught_text, kinds_text}
 use Rattle.sift_report.specs.declared.bad.Bad.{Bad}
 use Rattle.sift_report.specs.declared.bad.Bad.TheVariants.{Plain, ByKind}
 use Rattle.sift_exec.specs.declared.catches.Catches.{Catches}
-use Rattle.sift_exec.specs.Record.{everyone_in}
+use Rattle.sift_exec.specs.Conviction.{everyone_in}
 use Rattle.sift_report.specs.Line.{IsLine, fields_of, line_text}
 use Rattle.sift_report.specs.Part.{AreTicks, IsWord, list_text, margin_text, ticks_text, unit_digit, units_text, word_text, words_text}
 use Rattle.sift_report.specs.declared.line.ReportLine.{ReportLine}

@@ -15,7 +15,7 @@ use Rattle.sift_base.specs.Units.{Units, AreUnits, has, holds, members, unit_num
 use Rattle.sift_base.specs.ReadBack.{has-filter, has_low}
 use Rattle.sift_base.proofs.lemmas.Counts.{has-head, has-tail}
 use Rattle.sift_base.proofs.lemmas.Sets.{holds-insert}
-use Rattle.sift_exec.specs.Record.{everyone_in, has_kind, kinds_of}
+use Rattle.sift_exec.specs.Conviction.{everyone_in, has_kind, kinds_of}
 use Rattle.sift_exec.specs.declared.catches.Catches.{Catches}
 use Rattle.sift_exec.specs.declared.catches.Kind.{Kind}
 use Rattle.sift_exec.specs.declared.catches.Kind.TheVariants.{Poll, Relay, Clock}

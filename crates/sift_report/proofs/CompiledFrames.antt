@@ -9,9 +9,7 @@ use Rattle.sift_lang.proofs.lemmas.States.{length-meaning}
 use Rattle.sift_program.proofs.lemmas.Earlier.{meaning-same}
 use Rattle.sift_program.proofs.lemmas.Frames.{first_word-more, words_made-more}
 use Rattle.sift_program.specs.Ideal.{ideal_frame, words_made}
-use Rattle.sift_program.specs.Needs.{task_at}
-use Rattle.sift_program.specs.Program.{ProgramTree}
-use Rattle.sift_program.specs.Sound.{IsSoundProgram, first_word, output_count}
+use Rattle.sift_program.specs.Program.{task_at, ProgramTree, IsSoundProgram, first_word, output_count}
 
 -- words in the place of others leave the list as long as it was
 pub put-long : (list words : List ℕ) (at : ℕ) → at + length words ≤ length list → length (take at list ++ (words ++ drop (at + length words) list)) ≡ length list

@@ -3,12 +3,10 @@ use Rattle.std.proofs.Common.{◌≡◌, ◌↔◌, ℕ, ◌-◌, ◌<◌, List,
 use Rattle.sift_program.specs.Ideal.{ideal_words}
 use Rattle.sift_mission.specs.Data.{MissionData}
 use Rattle.sift_mission.specs.Flown.{flown}
-use Rattle.sift_flight.specs.Configuration.{HasMarginAt}
-use Rattle.sift_flight.specs.Figures.{margin_at}
+use Rattle.sift_flight.specs.Figures.{HasMarginAt, margin_at}
 use Rattle.sift_flight.specs.Flight.{Flight}
 use Rattle.sift_flight.specs.Headline.{agreed_at, shed_at}
-use Rattle.sift_report.specs.Headline.{FrameHeadline, TellsIdealOutputs, TellsTrueMargin}
-use Rattle.sift_report.specs.Headline.{ReportHeadline}
+use Rattle.sift_report.specs.Headline.{FrameHeadline, TellsIdealOutputs, TellsTrueMargin, ReportHeadline}
 use Rattle.sift_report.specs.Sheet.{sheet_of}
 use Rattle.sift_report.specs.Told.{HasMarginTold, agreed_told, shed_by, shed_told, told_in}
 use Rattle.sift_report.specs.declared.version.Version.{Version}

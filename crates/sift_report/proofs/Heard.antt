@@ -12,7 +12,7 @@ use Rattle.sift_base.proofs.lemmas.Others.{not_same}
 use Rattle.sift_buffer.specs.Journals.{IsJournalOf, Pages, heard_in, ranges_in, said_in}
 use Rattle.sift_buffer.specs.Ranges.{IsPlace}
 use Rattle.sift_mission.specs.Parts.{data_of, flown_of}
-use Rattle.sift_mission.specs.Mission.{FlownMission}
+use Rattle.sift_mission.specs.Data.{FlownMission}
 use Rattle.sift_mission.specs.PartsFit.{PartsFit}
 use Rattle.sift_mission.specs.declared.parts.MissionParts.{MissionParts}
 use Rattle.sift_mission.proofs.lemmas.Numbers.{range-has}

@@ -11,16 +11,13 @@ use Rattle.std.proofs.lemmas.List.Sums.{sum_by_more, sum_by_more_le}
 use Rattle.std.proofs.lemmas.Simd.{map-map}
 use Rattle.sift_base.specs.Layout.{word_limit}
 use Rattle.sift_lang.specs.Tree.{TaskTree, tree_of}
-use Rattle.sift_program.specs.Sound.{first_word, output_count}
-use Rattle.sift_mission.specs.Data.{MissionData}
+use Rattle.sift_program.specs.Program.{first_word, output_count, task_at}
+use Rattle.sift_mission.specs.Data.{MissionData, FlownMission}
 use Rattle.sift_mission.specs.Parts.{data_of}
 use Rattle.sift_mission.specs.Flown.{flown}
-use Rattle.sift_mission.specs.Mission.{FlownMission}
-use Rattle.sift_program.specs.Needs.{task_at}
 use Rattle.sift_mission.specs.PartsFit.{PartsFit}
 use Rattle.sift_mission.specs.declared.parts.MissionParts.{MissionParts}
-use Rattle.sift_vote.specs.Agreed.{majority_of}
-use Rattle.sift_vote.specs.Majority.{HasNoMajority, IsMajority}
+use Rattle.sift_vote.specs.Majority.{majority_of, HasNoMajority, IsMajority}
 use Rattle.sift_vote.proofs.lemmas.Found.{majority_is_found}
 use Rattle.sift_flight.specs.Flight.{Flight}
 use Rattle.sift_report.specs.Part.{blank, list_text, unit_digit}

@@ -4,12 +4,9 @@ use Rattle.sift_mission.specs.Data.{MissionData}
 use Rattle.sift_mission.specs.Flown.{flown}
 use Rattle.sift_mission.specs.PartsFit.{PartsFit}
 use Rattle.sift_mission.specs.Premises.{IsFlyable, PartsMakeItFlyable}
-use Rattle.sift_flight.specs.Configuration.{HasMarginAt, Works}
-use Rattle.sift_flight.specs.Figures.{MarginIsTold, SkewIsTold, SlackIsTold}
-use Rattle.sift_flight.specs.Flight.{Flight, config_of}
+use Rattle.sift_flight.specs.Figures.{HasMarginAt, Works, MarginIsTold, SkewIsTold, SlackIsTold}
+use Rattle.sift_flight.specs.Flight.{Flight, config_of, Strays, IsRound}
 use Rattle.sift_flight.specs.Headline.{Headline, HeadlineHolds}
-use Rattle.sift_flight.specs.Hearing.{Strays}
-use Rattle.sift_flight.specs.Round.{IsRound}
 use Rattle.sift_flight.specs.Told.{AreAccountsOf}
 use Rattle.sift_flight.specs.Whole.{RoundFlightsHaveAccounts}
 

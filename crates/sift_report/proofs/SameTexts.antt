@@ -3,12 +3,11 @@ use Rattle.std.proofs.Common.{◌≡◌, ℕ, zero, suc, ◌+◌, ◌-◌, ◌<�
 use Rattle.std.specs.List.{flat_map, range_with_len}
 use Rattle.sift_base.specs.Units.{has}
 use Rattle.sift_base.proofs.lemmas.Counts.{has-head, has-tail}
-use Rattle.sift_conduct.specs.Account.{Account, Places}
+use Rattle.sift_conduct.specs.Conduct.{Account, Places}
 use Rattle.sift_mission.specs.Data.{MissionData}
 use Rattle.sift_mission.specs.Flown.{flown}
 use Rattle.sift_flight.specs.Alike.{AreAlike}
-use Rattle.sift_flight.specs.Configuration.{config_at}
-use Rattle.sift_flight.specs.Figures.{margin_at}
+use Rattle.sift_flight.specs.Figures.{config_at, margin_at}
 use Rattle.sift_flight.specs.Flight.{Flight}
 use Rattle.sift_flight.proofs.lemmas.TellingAlike.{map-same}
 use Rattle.sift_report.specs.Line.{printed, text_of_lines}

@@ -1,11 +1,10 @@
 -- The sheet of a round flight tells the flight's configurations and margins.
 use Rattle.std.proofs.Common.{◌≡◌, ℕ, zero, suc, ◌<◌, ◌≤◌, List, true, Some, if◌then◌else◌, inl, inr, sym, ap, ◌∙◌, subst, arith, lt-ltb}
 use Rattle.std.proofs.lemmas.Bool.{cases_lt, le-ltb}
-use Rattle.sift_base.specs.Margin.{HasMargin}
-use Rattle.sift_base.specs.Units.{has}
+use Rattle.sift_base.specs.Units.{HasMargin, has}
 use Rattle.sift_mission.specs.Data.{MissionData}
 use Rattle.sift_mission.specs.Flown.{flown}
-use Rattle.sift_flight.specs.Configuration.{HasMarginAt, Works, config_at, lead_of}
+use Rattle.sift_flight.specs.Figures.{HasMarginAt, Works, config_at, lead_of}
 use Rattle.sift_flight.specs.Flight.{Flight, config_of}
 use Rattle.sift_flight.specs.Headline.{agreed_at}
 use Rattle.sift_flight.proofs.lemmas.Leading.{config_within, lead_works}

@@ -5,12 +5,12 @@ use Rattle.std.proofs.lemmas.Bool.{cases_Bool}
 use Rattle.sift_base.specs.Units.{has, holds}
 use Rattle.sift_mission.specs.Data.{MissionData}
 use Rattle.sift_mission.specs.Flown.{flown}
-use Rattle.sift_flight.specs.Configuration.{Works}
+use Rattle.sift_flight.specs.Figures.{Works}
 use Rattle.sift_flight.specs.Flight.{Flight}
 use Rattle.sift_flight.specs.Told.{IsAccountOf}
-use Rattle.sift_report.specs.Form.{HasForm, IsFramesLine, IsLastLine, IsUnitsLine}
+use Rattle.sift_report.specs.Headline.{HasForm, IsFramesLine, IsLastLine, IsUnitsLine}
 use Rattle.sift_report.specs.Sheet.{account_line, sheet_of, unit_line, working_line}
-use Rattle.sift_report.specs.Working.{IsWorking}
+use Rattle.sift_report.specs.Told.{IsWorking}
 use Rattle.sift_report.specs.declared.version.Version.{Version}
 use Rattle.sift_report.specs.declared.line.ReportLine.TheVariants.{Faulty, Idle}
 use Rattle.sift_report.proofs.Catches.{units_told}

@@ -5,7 +5,7 @@ use Rattle.std.proofs.lemmas.List.Elements.{All-append, All-cons, All-map, All-n
 use Rattle.sift_base.specs.Units.{has}
 use Rattle.sift_exec.specs.declared.catches.Catches.{Catches}
 use Rattle.sift_flight.specs.Flight.{Flight}
-use Rattle.sift_mission.specs.Mission.{FlownMission}
+use Rattle.sift_mission.specs.Data.{FlownMission}
 use Rattle.sift_report.specs.Bad.{bad_in, version_of}
 use Rattle.sift_report.specs.Line.{HasVersion}
 use Rattle.sift_report.specs.Sheet.{account_line, frame_line, frame_lines, last_line, unit_line, working_line}

@@ -8,18 +8,17 @@ use Rattle.std.proofs.lemmas.Bool.{le-leb}
 use Rattle.std.proofs.lemmas.Int.{ints}
 use Rattle.sift_base.specs.Units.{has, holds}
 use Rattle.sift_base.proofs.lemmas.Sets.{holds-insert}
-use Rattle.sift_exec.specs.Record.{nobody, noted}
+use Rattle.sift_exec.specs.Conviction.{nobody, noted}
 use Rattle.sift_exec.specs.declared.catches.Kind.TheVariants.{Poll}
 use Rattle.sift_flight.proofs.lemmas.Naming.{holds-everyone}
 use Rattle.sift_report.specs.Bad.{units_in}
 use Rattle.sift_skew.specs.Figures.{IsSkew}
 use Rattle.sift_skew.proofs.lemmas.Leads.{Contains-map}
 use Rattle.sift_mission.specs.PartsFit.{PartsFit}
-use Rattle.sift_report.specs.Form.{HasForm, IsUnitsLine}
+use Rattle.sift_report.specs.Headline.{HasForm, IsUnitsLine}
 use Rattle.sift_report.specs.Headline.{TellsClockSkew, TellsExactRemoval, TellsIdealOutputs, TellsNoFalseAccusation, TellsSameConfiguration, TellsSameInputs, TellsTrueMargin, two_tell, working_clocks}
-use Rattle.sift_report.specs.Told.{HasMarginTold, IsSoundTold, agreed_told, caught_told, inputs_told, line_at, outputs_told, told_at}
+use Rattle.sift_report.specs.Told.{HasMarginTold, IsSoundTold, agreed_told, caught_told, inputs_told, line_at, outputs_told, told_at, IsWorking, works_in}
 use Rattle.sift_report.specs.TwoCatchers.{HeadlineOfAFault, all_five, four_left, lines, mission, no_unit, only}
-use Rattle.sift_report.specs.Working.{IsWorking, works_in}
 use Rattle.sift_report.proofs.Alike.{one_told}
 use Rattle.sift_report.proofs.SheetPlaces.{first_low}
 

@@ -4,7 +4,7 @@ use Rattle.std.specs.List.{join_with_byte}
 use Rattle.std.proofs.lemmas.Bool.{cases_Bool}
 use Rattle.sift_base.specs.Units.{Units, AreUnits, has, holds, members}
 use Rattle.sift_base.proofs.lemmas.Counts.{has-head}
-use Rattle.sift_exec.specs.Record.{everyone_in, kinds_of}
+use Rattle.sift_exec.specs.Conviction.{everyone_in, kinds_of}
 use Rattle.sift_exec.specs.declared.catches.Catches.{Catches}
 use Rattle.sift_exec.specs.declared.catches.Kinds.{Kinds}
 use Rattle.sift_report.specs.Bad.{AreCatches, IsBad, IsSomeKind, catch_of, catch_text, caught_text, kinds_text, units_in, version_of}

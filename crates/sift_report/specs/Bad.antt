@@ -2,7 +2,7 @@
 use Rattle.std.specs.Prelude.{codes, ◌≡◌, ℕ, ◌<◌, List, [], ◌∷◌, ◌++◌, map, true, ◌&&◌, ◌||◌, nat_eq, if◌then◌else◌}
 use Rattle.std.specs.List.{list_any}
 use Rattle.sift_base.specs.Units.{Units, AreUnits, holds, members, unit_limit}
-use Rattle.sift_exec.specs.Record.{everyone_in, has_kind, kinds_of}
+use Rattle.sift_exec.specs.Conviction.{everyone_in, has_kind, kinds_of}
 use Rattle.sift_exec.specs.declared.catches.Catches.{Catches}
 use Rattle.sift_exec.specs.declared.catches.Kind.{Kind}
 use Rattle.sift_exec.specs.declared.catches.Kind.TheVariants.{Poll, Relay, Clock}

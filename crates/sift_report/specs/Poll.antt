@@ -2,12 +2,10 @@
 use Rattle.std.specs.Prelude.{◌≡◌, ℕ, ◌+◌, ◌<◌, ◌≤◌, List, map, length, true}
 use Rattle.sift_base.specs.Layout.{word_limit}
 use Rattle.sift_base.specs.Units.{has}
-use Rattle.sift_mission.specs.Data.{MissionData}
-use Rattle.sift_mission.specs.Mission.{FlownMission}
+use Rattle.sift_mission.specs.Data.{MissionData, FlownMission}
 use Rattle.sift_mission.specs.Parts.{flown_of}
 use Rattle.sift_mission.specs.declared.parts.MissionParts.{MissionParts}
-use Rattle.sift_program.specs.Needs.{task_at}
-use Rattle.sift_program.specs.Sound.{first_word}
+use Rattle.sift_program.specs.Program.{task_at, first_word}
 use Rattle.sift_flight.specs.Flight.{Flight}
 use Rattle.sift_flight.specs.Told.{IsWhole, told}
 use Rattle.sift_flight.specs.declared.flight.Flight.{Flight as TheFlight}

@@ -3,11 +3,9 @@ use Rattle.std.specs.Prelude.{◌≡◌, ◌↔◌, ℕ, ◌<◌, ◌≤◌, Som
 use Rattle.sift_mission.specs.Data.{MissionData}
 use Rattle.sift_mission.specs.Flown.{flown}
 use Rattle.sift_mission.specs.PartsFit.{PartsFit}
-use Rattle.sift_flight.specs.Configuration.{HasMarginAt, config_at}
-use Rattle.sift_flight.specs.Flight.{Flight}
+use Rattle.sift_flight.specs.Figures.{HasMarginAt, config_at}
+use Rattle.sift_flight.specs.Flight.{Flight, Strays, IsRound}
 use Rattle.sift_flight.specs.Headline.{agreed_at}
-use Rattle.sift_flight.specs.Hearing.{Strays}
-use Rattle.sift_flight.specs.Round.{IsRound}
 use Rattle.sift_report.specs.Headline.{ReportHeadline}
 use Rattle.sift_report.specs.Sheet.{sheet_of}
 use Rattle.sift_report.specs.declared.version.Version.{Version}

@@ -2,11 +2,10 @@
 use Rattle.std.specs.Prelude.{ℕ, ◌-◌, List, [], ◌∷◌, ◌++◌, map, if◌then◌else◌}
 use Rattle.std.specs.List.{flat_map, range_with_len}
 use Rattle.sift_base.specs.Units.{has}
-use Rattle.sift_conduct.specs.Account.{Account}
-use Rattle.sift_mission.specs.Mission.{FlownMission}
+use Rattle.sift_conduct.specs.Conduct.{Account}
+use Rattle.sift_mission.specs.Data.{FlownMission}
 use Rattle.sift_flight.specs.Flight.{Flight}
-use Rattle.sift_flight.specs.Configuration.{config_at}
-use Rattle.sift_flight.specs.Figures.{margin_at, skew_at, slack_at}
+use Rattle.sift_flight.specs.Figures.{config_at, margin_at, skew_at, slack_at}
 use Rattle.sift_report.specs.Bad.{bad_in}
 use Rattle.sift_report.specs.Line.{printed, text_of_lines}
 use Rattle.sift_report.specs.declared.version.Version.{Version}

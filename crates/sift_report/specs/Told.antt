@@ -1,15 +1,32 @@
--- What the lines of a report tell of a mission, read off the lines and the mission alone.
-use Rattle.std.specs.Prelude.{◌≡◌, ℕ, ◌+◌, ◌*◌, ◌<◌, ◌≤◌, List, [], Bool, false, Option, None, Some, nat_lt, if◌then◌else◌, ℤ, pos}
+-- Who works in a frame of a mission, and what the lines of a report tell of it, read off the lines and the mission alone.
+use Rattle.std.specs.Prelude.{◌≡◌, ℕ, Bool, true, unwrap_or, ◌+◌, ◌*◌, ◌<◌, ◌≤◌, List, [], false, Option, None, Some, nat_lt, if◌then◌else◌, ℤ, pos}
+use Rattle.std.specs.List.{find, slice_get}
 use Rattle.std.specs.FinSet as set
-use Rattle.std.specs.List.{slice_get}
-use Rattle.sift_base.specs.Margin.{HasMargin}
-use Rattle.sift_base.specs.Units.{Units}
+use Rattle.sift_base.specs.Units.{has, Units, HasMargin}
+use Rattle.sift_config.specs.Config.{first_units}
+use Rattle.sift_script.specs.Faults as faults
 use Rattle.sift_mission.specs.Data.{MissionData}
 use Rattle.sift_mission.specs.Flown.{table_for}
 use Rattle.sift_report.specs.Bad.{units_in}
-use Rattle.sift_report.specs.Working.{lead_in, works_in}
 use Rattle.sift_report.specs.declared.line.ReportLine.{ReportLine}
 use Rattle.sift_report.specs.declared.line.ReportLine.TheVariants.{Unit as unit, Faulty, Idle, Frame, Last}
+
+-- ---- who works, and who leads, by the script of faults
+
+-- no fault of the unit has come by the frame
+abbrev pub works_in : MissionData → (u f : ℕ) → Bool
+works_in d u f = faults.works d.script.faults u f
+
+-- a unit of the mission that works in the frame
+pub record IsWorking (d : MissionData) (u f : ℕ) : Type 0 where
+  pub unit : has (first_units d.units) u ≡ true
+  pub works : works_in d u f ≡ true
+
+-- the lead unit of the frame: the lowest-numbered one that works in it
+abbrev pub lead_in : MissionData → ℕ → ℕ
+lead_in d f = unwrap_or (find (λ u. works_in d u f) (first_units d.units)) 0
+
+-- ---- what the lines tell
 
 -- ---- one line
 

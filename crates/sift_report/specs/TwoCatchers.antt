@@ -3,7 +3,7 @@
 -- refuses other lines.
 use Rattle.std.specs.Prelude.{codes, ◌≡◌, ℕ, List, [], ◌∷◌, ◌++◌, slice_set, true, false, None, Some, ℤ, pos}
 use Rattle.sift_base.specs.declared.layout.Layout.{Layout}
-use Rattle.sift_exec.specs.Record.{nobody, noted}
+use Rattle.sift_exec.specs.Conviction.{nobody, noted}
 use Rattle.sift_exec.specs.declared.catches.Kind.TheVariants.{Poll}
 use Rattle.sift_script.specs.Script.{changing}
 use Rattle.sift_script.specs.declared.script.SlotKind.TheVariants.{Out}
@@ -11,10 +11,9 @@ use Rattle.sift_table.specs.Schedule.{plain_of}
 use Rattle.sift_mission.specs.Data.{MissionData}
 use Rattle.sift_mission.specs.PartsFit.{PartsFit}
 use Rattle.sift_flight.specs.Calms.{count_task}
-use Rattle.sift_report.specs.Form.{HasForm}
+use Rattle.sift_report.specs.Headline.{HasForm}
 use Rattle.sift_report.specs.Headline.{ReportHeadline, TellsClockSkew, TellsExactRemoval, TellsIdealOutputs, TellsNoFalseAccusation, TellsSameConfiguration, TellsSameInputs, TellsTrueMargin}
-use Rattle.sift_report.specs.Told.{HasMarginTold, config_told}
-use Rattle.sift_report.specs.Working.{works_in}
+use Rattle.sift_report.specs.Told.{HasMarginTold, config_told, works_in}
 use Rattle.sift_report.specs.declared.bad.Bad.{Bad}
 use Rattle.sift_report.specs.declared.bad.Bad.TheVariants.{ByKind}
 use Rattle.sift_report.specs.declared.line.ReportLine.{ReportLine}

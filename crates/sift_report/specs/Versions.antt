@@ -3,7 +3,7 @@ use Rattle.std.specs.Prelude.{◌≡◌, ℕ, false, ⊤}
 use Rattle.std.specs.List.{All}
 use Rattle.sift_base.specs.Units.{holds}
 use Rattle.sift_flight.specs.Flight.{Flight}
-use Rattle.sift_mission.specs.Mission.{FlownMission}
+use Rattle.sift_mission.specs.Data.{FlownMission}
 use Rattle.sift_report.specs.Bad.{units_in}
 use Rattle.sift_report.specs.Line.{HasVersion, IsLine, line_text}
 use Rattle.sift_report.specs.Sheet.{sheet_of}

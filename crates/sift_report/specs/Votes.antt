@@ -4,12 +4,10 @@ use Rattle.std.specs.Fmt.{decimal}
 use Rattle.std.specs.List.{flat_map, join_with_byte, range_with_len}
 use Rattle.sift_base.specs.Units.{has, others}
 use Rattle.sift_base.specs.declared.slot.Slot.TheVariants.{Out}
-use Rattle.sift_program.specs.Sound.{first_word}
-use Rattle.sift_vote.specs.Agreed.{majority_of}
-use Rattle.sift_mission.specs.Data.{MissionData}
+use Rattle.sift_program.specs.Program.{first_word, task_at}
+use Rattle.sift_vote.specs.Majority.{majority_of}
+use Rattle.sift_mission.specs.Data.{MissionData, FlownMission}
 use Rattle.sift_mission.specs.Flown.{flown}
-use Rattle.sift_mission.specs.Mission.{FlownMission}
-use Rattle.sift_program.specs.Needs.{task_at}
 use Rattle.sift_mission.specs.Slots.{executors}
 use Rattle.sift_flight.specs.Flight.{Flight, config_of}
 use Rattle.sift_report.specs.Part.{blank, unit_digit, list_text, word_text}

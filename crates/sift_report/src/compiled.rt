@@ -6,7 +6,7 @@ ghost use Rattle.sift_lang.specs.Meaning.{meaning};
 ghost use Rattle.sift_mission.specs.Parts.{data_of, flown_of};
 ghost use Rattle.sift_pool.specs.Region.{IsLive};
 ghost use Rattle.sift_program.specs.Ideal.{ideal_frame, ideal_words, words_before};
-ghost use Rattle.sift_program.specs.Needs.{task_at};
+ghost use Rattle.sift_program.specs.Program.{task_at};
 
 use arrayvec::ArrayVec;
 use sift_base::{NoMemory, Word};

@@ -3,11 +3,10 @@
 ghost use Rattle.std.specs.Prelude.{◌≡◌, ◌≢◌, ◌+◌, ◌<◌, ◌≤◌, ◌++◌, ◌∷◌, All, OnOk, codes, length, map, slice_get, Some, true, string_bytes};
 ghost use Rattle.std.specs.Fmt.{decimal};
 ghost use Rattle.sift_base.specs.Units.{has, IsAscending};
-ghost use Rattle.sift_vote.specs.Agreed.{majority_of};
-ghost use Rattle.sift_program.specs.Sound.{first_word};
-ghost use Rattle.sift_mission.specs.Mission.{IsConfigOf};
+ghost use Rattle.sift_vote.specs.Majority.{majority_of};
+ghost use Rattle.sift_program.specs.Program.{first_word, task_at};
+ghost use Rattle.sift_mission.specs.Data.{IsConfigOf};
 ghost use Rattle.sift_mission.specs.Parts.{data_of, flown_of};
-ghost use Rattle.sift_program.specs.Needs.{task_at};
 ghost use Rattle.sift_mission.specs.Slots.{executors};
 ghost use Rattle.sift_flight.specs.Flight.{config_of};
 ghost use Rattle.sift_flight.specs.Told.{told};

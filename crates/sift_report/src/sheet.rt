@@ -2,7 +2,7 @@
 
 ghost use Rattle.std.specs.Prelude.{◌≡◌, ◌-◌, ◌<◌, true};
 ghost use Rattle.sift_base.specs.Units.{has};
-ghost use Rattle.sift_conduct.specs.Account.{account_of};
+ghost use Rattle.sift_conduct.specs.Conduct.{account_of};
 ghost use Rattle.sift_mission.specs.Parts.{flown_of};
 ghost use Rattle.sift_flight.specs.Figures.{margin_at};
 ghost use Rattle.sift_flight.specs.Told.{IsWhole, told};

@@ -2,8 +2,7 @@
 use Rattle.std.specs.Prelude.{codes, ◌≡◌, ◌+◌, ◌<◌, ◌≤◌, ◌++◌, ◌⊎◌, ⊤, ℕ, List, length, Some, IsUtf8}
 use Rattle.std.specs.Fmt.{decimal}
 use Rattle.std.specs.Io.KnownBytes.{Appends}
-use Rattle.sift_io.specs.Fault.{Rose}
-use Rattle.sift_io.specs.Flow.{Inflow, Outflow}
+use Rattle.sift_io.specs.Flow.{Rose, Inflow, Outflow}
 use Rattle.sift_io.specs.Reading.{TakesAll, TakesAtMost, TakesExactly}
 use Rattle.sift_io.specs.Writing.{AddsPrefix}
 use Rattle.sift_reread.specs.Report.{IsReport, StopsAt}

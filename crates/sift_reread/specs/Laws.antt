@@ -1,7 +1,6 @@
 -- Laws of reports, and of what the program answers.
 use Rattle.std.specs.Prelude.{◌≡◌, ◌<◌, ◌≤◌, ◌⊎◌, ℕ, List, length, Some, IsUtf8}
-use Rattle.sift_io.specs.Fault.{Rose}
-use Rattle.sift_io.specs.Flow.{Inflow, Outflow}
+use Rattle.sift_io.specs.Flow.{Rose, Inflow, Outflow}
 use Rattle.sift_reread.specs.Answer.{IsCertain, IsTextTo, IsUnwritten, IsWritten, no_line_text, report_limit}
 use Rattle.sift_reread.specs.Report.{IsReport, StopsAt}
 use Rattle.sift_reread.specs.declared.ending.Ending.{Ending}

@@ -1,7 +1,6 @@
 -- A storm, call by call.
 use Rattle.std.proofs.Common.{◌+◌, [], ◌∷◌, ◌++◌, option_to_list, refl, arith}
-use Rattle.sift_rogue.specs.Calls.{Call}
-use Rattle.sift_rogue.specs.Storms.{StormsAddUp}
+use Rattle.sift_rogue.specs.Storms.{Call, StormsAddUp}
 
 -- with one call more there is one act more, and its stray before the others
 pub add_up : {R : Type 0} (allows : R → Call → R → Type 0) → StormsAddUp allows

@@ -7,7 +7,7 @@ use Rattle.sift_rogue.specs.declared.act.Act.{Act}
 use Rattle.sift_rogue.specs.declared.act.Act.TheVariants.{Stray, Rest}
 use Rattle.sift_rogue.specs.declared.fixed.Fixed.{Fixed}
 use Rattle.sift_rogue.specs.declared.storm.Storm.{Storm}
-use Rattle.sift_rogue.specs.Calls.{Call, Started, Answered}
+use Rattle.sift_rogue.specs.Storms.{Call, Started, Answered}
 
 -- ---- draws
 

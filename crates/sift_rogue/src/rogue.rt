@@ -1,5 +1,5 @@
 //! Rogues.
-ghost use Rattle.sift_rogue.specs.Calls.{Call, Started, Answered};
+ghost use Rattle.sift_rogue.specs.Storms.{Call, Started, Answered};
 
 use crate::act::Act;
 

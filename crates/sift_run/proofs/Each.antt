@@ -2,7 +2,7 @@
 use Rattle.std.proofs.Common.{ℕ, List, [], ◌∷◌}
 use Rattle.sift_bus_jobs.specs.Buses.{buses_duty, buses_statuses}
 use Rattle.sift_bus_jobs.specs.declared.buses.BusesJob.{BusesJob}
-use Rattle.sift_flight.specs.Hearing.{Strays}
+use Rattle.sift_flight.specs.Flight.{Strays}
 use Rattle.sift_jobs.specs.Check.{check_duty}
 use Rattle.sift_jobs.specs.Flights.{AreCalm}
 use Rattle.sift_jobs.specs.Gen.{gen_duty}
@@ -24,7 +24,7 @@ use Rattle.sift_lab_jobs.specs.Byz.{byz_duty, byz_statuses}
 use Rattle.sift_lab_jobs.specs.Clocks.{clocks_duty, clocks_statuses}
 use Rattle.sift_lab_jobs.specs.declared.byz.ByzJob.{ByzJob}
 use Rattle.sift_lab_jobs.specs.declared.clocks.ClocksJob.{ClocksJob}
-use Rattle.sift_load.specs.NoMission.{no_mission_statuses}
+use Rattle.sift_load.specs.Loads.{no_mission_statuses}
 use Rattle.sift_mission.specs.Data.{MissionData}
 use Rattle.sift_reply.specs.Duty.{GivesOne, GivesOneTo, HasOwnStatuses}
 use Rattle.sift_reply.specs.Reply.{done_status}

@@ -1,7 +1,7 @@
 -- The headline follows from the promise.
 use Rattle.std.proofs.Common.{ℕ, Contains, sym, subst, ◌∙◌, arith}
-use Rattle.sift_flight.specs.Hearing.{Strays}
-use Rattle.sift_jobs.specs.Headline.{RunIsHeadlined}
+use Rattle.sift_flight.specs.Flight.{Strays}
+use Rattle.sift_jobs.specs.Run.{RunIsHeadlined}
 use Rattle.sift_mission.specs.Data.{MissionData}
 use Rattle.sift_reply.specs.Laws.{ShareNoStatus, StatusesAreExplained}
 use Rattle.sift_reply.specs.Reply.{done_status, shared_statuses}

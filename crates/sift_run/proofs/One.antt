@@ -4,8 +4,7 @@ use Rattle.std.proofs.lemmas.Option.{same_Some}
 use Rattle.sift_options.specs.Laws.{OneListOfOptions}
 use Rattle.sift_options.specs.Options.{Adds, no_options}
 use Rattle.sift_options.specs.declared.setting.Options.{Options}
-use Rattle.sift_run.specs.Command.{Asks, OneCommand, asked}
-use Rattle.sift_run.specs.Verb.{flags_of, name_of}
+use Rattle.sift_run.specs.Command.{Asks, OneCommand, asked, flags_of, name_of}
 use Rattle.sift_run.specs.declared.command.Command.{Command}
 use Rattle.sift_run.specs.declared.verb.Verb.{Verb}
 use Rattle.sift_run.specs.declared.verb.Verb.TheVariants.{Run, Votes, Ideal, Check, Gen, Trial, Plan, Judge, Buses, Byz, Clocks}

@@ -1,21 +1,19 @@
 -- What an input is answered that states a mission.
 use Rattle.std.proofs.Common.{◌≡◌, ◌≤◌, ◌⊎◌, ⊎_elim, inl, inr, ℕ, List, length, ap, ◌∙◌, subst, arith}
 use Rattle.sift_bus_jobs.specs.Buses.{BusesGives}
-use Rattle.sift_flight.specs.Hearing.{Strays}
-use Rattle.sift_io.specs.Fault.{Rose}
+use Rattle.sift_flight.specs.Flight.{Strays}
+use Rattle.sift_io.specs.Flow.{Rose}
 use Rattle.sift_jobs.specs.Check.{CheckGives}
 use Rattle.sift_jobs.specs.Ideal.{IdealGives}
 use Rattle.sift_jobs.specs.Plan.{PlanGives}
 use Rattle.sift_jobs.specs.Run.{RunGives}
 use Rattle.sift_jobs.specs.Votes.{VotesGives}
 use Rattle.sift_load.specs.Laws.{OneMissionIsStated, StatedMissionsAreUnrefused}
-use Rattle.sift_load.specs.Loads.{LoadsThen, document_limit}
-use Rattle.sift_load.specs.Mission.{States}
+use Rattle.sift_load.specs.Loads.{LoadsThen, document_limit, States}
 use Rattle.sift_mission.specs.Data.{MissionData}
 use Rattle.sift_reply.specs.Duty.{IsOwedTo}
-use Rattle.sift_reply.specs.Output.{IsGiven}
+use Rattle.sift_reply.specs.Reply.{IsGiven, Reply, done_status, no_memory_status, read_fault, sink_fault_status}
 use Rattle.sift_reply.specs.Promise.{IsDue}
-use Rattle.sift_reply.specs.Reply.{Reply, done_status, no_memory_status, read_fault, sink_fault_status}
 use Rattle.sift_run.specs.Command.{Asks, OneCommand, commands, duty_of}
 use Rattle.sift_run.specs.Stated.{DoesEachMission, GivesFor, MissionsAreAnswered, MissionsEndWell, ReadsMission}
 use Rattle.sift_run.specs.declared.command.Command.{Command}

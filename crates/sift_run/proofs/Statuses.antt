@@ -1,7 +1,7 @@
 -- Which command may end with which status.
 use Rattle.std.proofs.Common.{inl, inr, ℕ, ◌++◌, Contains, sym, subst}
 use Rattle.std.proofs.lemmas.List.Elements.{Contains-append_left, Contains-append_right}
-use Rattle.sift_flight.specs.Hearing.{Strays}
+use Rattle.sift_flight.specs.Flight.{Strays}
 use Rattle.sift_mission.specs.Data.{MissionData}
 use Rattle.sift_reply.specs.Duty.{MayEndWith, shared_endings}
 use Rattle.sift_reply.specs.Laws.{ShareNoStatus, StatusesAreExplained}

@@ -1,8 +1,10 @@
--- The commands: which one words ask for, and what each has to do.
-use Rattle.std.specs.Prelude.{ℕ, ◌≡◌, List, ◌∷◌, Option, Some, option_map}
+-- The commands: their words and options, which one words ask for, and what each has to do.
+use Rattle.std.specs.Prelude.{codes, ℕ, List, [], ◌∷◌, ◌≡◌, Option, Some, option_map}
+use Rattle.sift_options.specs.declared.setting.Flag.{Flag}
+use Rattle.sift_options.specs.declared.setting.Flag.TheVariants.{Workers, Order, Report, Number, N, M, Skew, Error, Rate, Rounds, Copies, Subframes, Bus, From, Value}
 use Rattle.sift_bus_jobs.specs.Buses.{buses_duty}
 use Rattle.sift_bus_jobs.specs.Numbers.{buses_job_of}
-use Rattle.sift_flight.specs.Hearing.{Strays}
+use Rattle.sift_flight.specs.Flight.{Strays}
 use Rattle.sift_jobs.specs.Check.{check_duty}
 use Rattle.sift_jobs.specs.Gen.{gen_duty, gen_job_of}
 use Rattle.sift_jobs.specs.Ideal.{ideal_duty}
@@ -18,11 +20,43 @@ use Rattle.sift_options.specs.Options.{Adds, no_options}
 use Rattle.sift_options.specs.declared.setting.Options.{Options}
 use Rattle.sift_reply.specs.Duty.{Duty}
 use Rattle.sift_reply.specs.Promise.{Commands, commands_of}
-use Rattle.sift_run.specs.Verb.{flags_of, name_of}
+use Rattle.sift_run.specs.declared.verb.Verb.{Verb}
+use Rattle.sift_run.specs.declared.verb.Verb.TheVariants.{Run, Votes, Ideal, Check, Gen, Trial, Plan, Judge, Buses, Byz, Clocks}
 use Rattle.sift_run.specs.declared.command.Command.{Command}
 use Rattle.sift_run.specs.declared.command.Command.TheVariants as command
-use Rattle.sift_run.specs.declared.verb.Verb.{Verb}
 use Rattle.sift_run.specs.declared.verb.Verb.TheVariants as verb
+
+-- ---- the word of each command, and the options that it may have
+
+-- the name that it has on a command line
+abbrev pub name_of : Verb → List ℕ
+name_of Run = codes "run"
+name_of Votes = codes "votes"
+name_of Ideal = codes "ideal"
+name_of Check = codes "check"
+name_of Gen = codes "gen"
+name_of Trial = codes "trial"
+name_of Plan = codes "plan"
+name_of Judge = codes "judge"
+name_of Buses = codes "buses"
+name_of Byz = codes "byz"
+name_of Clocks = codes "clocks"
+
+-- the options that it may have
+abbrev pub flags_of : Verb → List Flag
+flags_of Run = Workers ∷ Order ∷ Report ∷ []
+flags_of Votes = Workers ∷ Order ∷ []
+flags_of Ideal = []
+flags_of Check = []
+flags_of Gen = Number ∷ []
+flags_of Trial = Workers ∷ Order ∷ Number ∷ []
+flags_of Plan = Copies ∷ Subframes ∷ []
+flags_of Judge = Report ∷ []
+flags_of Buses = Bus ∷ From ∷ Value ∷ []
+flags_of Byz = []
+flags_of Clocks = N ∷ M ∷ Skew ∷ Error ∷ Rate ∷ Rounds ∷ Number ∷ []
+
+-- ---- the commands
 
 -- what a verb and options ask for
 abbrev pub asked : Verb → Options → Option Command

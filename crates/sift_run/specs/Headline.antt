@@ -1,15 +1,13 @@
 -- The headline of a run, as a clause of the whole call.
 use Rattle.std.specs.Prelude.{ℕ, ◌≡◌, List}
-use Rattle.sift_flight.specs.Hearing.{Strays}
+use Rattle.sift_flight.specs.Flight.{Strays}
 use Rattle.sift_io.specs.Reading.{TakesAll}
-use Rattle.sift_jobs.specs.Headline.{IsHeadlined}
+use Rattle.sift_jobs.specs.Run.{IsHeadlined}
 use Rattle.sift_jobs.specs.declared.run.RunJob.{RunJob}
 use Rattle.sift_load.specs.Loads.{document_limit}
 use Rattle.sift_mission.specs.Data.{MissionData}
-use Rattle.sift_reply.specs.Input.{Input}
-use Rattle.sift_reply.specs.Output.{IsWritten, Output}
+use Rattle.sift_reply.specs.Reply.{Input, IsWritten, Output, done_status}
 use Rattle.sift_reply.specs.Promise.{IsAnswered}
-use Rattle.sift_reply.specs.Reply.{done_status}
 use Rattle.sift_run.specs.Command.{Asks, commands}
 use Rattle.sift_run.specs.declared.command.Command.TheVariants.{Run}
 

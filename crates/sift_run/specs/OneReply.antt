@@ -1,6 +1,6 @@
 -- That each command gives one reply to an input, but for flights with storms.
 use Rattle.std.specs.Prelude.{◌≡◌, ℕ, List, ⊤}
-use Rattle.sift_flight.specs.Hearing.{Strays}
+use Rattle.sift_flight.specs.Flight.{Strays}
 use Rattle.sift_jobs.specs.Flights.{AreCalm}
 use Rattle.sift_jobs.specs.Run.{run_by}
 use Rattle.sift_jobs.specs.Votes.{votes_by}

@@ -1,20 +1,17 @@
 -- What an input is answered that states a mission.
 use Rattle.std.specs.Prelude.{ℕ, ◌≡◌, ◌≤◌, ◌⊎◌, List, length, ⊤}
 use Rattle.sift_bus_jobs.specs.Buses.{BusesGives}
-use Rattle.sift_flight.specs.Hearing.{Strays}
-use Rattle.sift_io.specs.Fault.{Rose}
+use Rattle.sift_flight.specs.Flight.{Strays}
+use Rattle.sift_io.specs.Flow.{Rose}
 use Rattle.sift_jobs.specs.Check.{CheckGives}
 use Rattle.sift_jobs.specs.Ideal.{IdealGives}
 use Rattle.sift_jobs.specs.Plan.{PlanGives}
 use Rattle.sift_jobs.specs.Run.{RunGives}
 use Rattle.sift_jobs.specs.Votes.{VotesGives}
-use Rattle.sift_load.specs.Loads.{document_limit}
-use Rattle.sift_load.specs.Mission.{States}
+use Rattle.sift_load.specs.Loads.{document_limit, States}
 use Rattle.sift_mission.specs.Data.{MissionData}
-use Rattle.sift_reply.specs.Input.{Input, IsTold}
-use Rattle.sift_reply.specs.Output.{IsGiven, Output}
+use Rattle.sift_reply.specs.Reply.{Input, IsTold, IsGiven, Output, Reply, done_status, no_memory_status}
 use Rattle.sift_reply.specs.Promise.{IsCertain}
-use Rattle.sift_reply.specs.Reply.{Reply, done_status, no_memory_status}
 use Rattle.sift_run.specs.Command.{Asks, commands}
 use Rattle.sift_run.specs.declared.command.Command.{Command}
 use Rattle.sift_run.specs.declared.command.Command.TheVariants.{Run, Votes, Ideal, Check, Gen, Trial, Plan, Judge, Buses, Byz, Clocks}

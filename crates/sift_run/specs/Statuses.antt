@@ -1,18 +1,16 @@
 -- Which command may end with which status.
 use Rattle.std.specs.Prelude.{ℕ, List, [], ◌∷◌, ◌++◌, Contains}
 use Rattle.sift_bus_jobs.specs.Buses.{buses_statuses}
-use Rattle.sift_flight.specs.Hearing.{Strays}
+use Rattle.sift_flight.specs.Flight.{Strays}
 use Rattle.sift_jobs.specs.Plan.{plan_statuses}
 use Rattle.sift_judge_jobs.specs.Judge.{judge_statuses}
 use Rattle.sift_lab_jobs.specs.Byz.{byz_statuses}
 use Rattle.sift_lab_jobs.specs.Clocks.{clocks_statuses}
-use Rattle.sift_load.specs.NoMission.{no_mission_statuses}
+use Rattle.sift_load.specs.Loads.{no_mission_statuses}
 use Rattle.sift_mission.specs.Data.{MissionData}
 use Rattle.sift_reply.specs.Duty.{HasOwnStatuses, shared_endings}
-use Rattle.sift_reply.specs.Input.{Input}
-use Rattle.sift_reply.specs.Output.{Output}
+use Rattle.sift_reply.specs.Reply.{Input, Output, done_status, sink_fault_status, usage}
 use Rattle.sift_reply.specs.Promise.{IsAnswered, IsCommandLine}
-use Rattle.sift_reply.specs.Reply.{done_status, sink_fault_status, usage}
 use Rattle.sift_run.specs.Command.{Asks, commands, duty_of}
 use Rattle.sift_run.specs.declared.command.Command.{Command}
 use Rattle.sift_run.specs.declared.command.Command.TheVariants.{Run, Votes, Ideal, Check, Gen, Trial, Plan, Judge, Buses, Byz, Clocks}

@@ -4,10 +4,8 @@ ghost use Rattle.std.specs.Prelude.{◌≡◌, ◌⊎◌, IfOk, IsErr, length, m
 ghost use Rattle.std.specs.Process.{exit_status};
 ghost use Rattle.sift_base.specs.Units.{unit_limit};
 ghost use Rattle.sift_fleet.specs.Given.{AreGiven};
-ghost use Rattle.sift_reply.specs.Input.{input};
-ghost use Rattle.sift_reply.specs.Output.{output};
+ghost use Rattle.sift_reply.specs.Reply.{input, output, no_memory_status};
 ghost use Rattle.sift_reply.specs.Promise.{IsAnswered};
-ghost use Rattle.sift_reply.specs.Reply.{no_memory_status};
 ghost use Rattle.sift_run.specs.Command.{commands};
 
 use crate::top::sift;

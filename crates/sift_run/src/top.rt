@@ -3,12 +3,10 @@
 ghost use Rattle.std.specs.Prelude.{◌≡◌, IfOk, length, map, string_bytes};
 ghost use Rattle.sift_base.specs.Units.{unit_limit};
 ghost use Rattle.sift_fleet.specs.Given.{AreGiven};
-ghost use Rattle.sift_jobs.specs.Telling.{TellsFlight};
+ghost use Rattle.sift_jobs.specs.Flights.{TellsFlight};
 ghost use Rattle.sift_mission.specs.Parts.{data_of};
-ghost use Rattle.sift_reply.specs.Input.{input};
-ghost use Rattle.sift_reply.specs.Output.{output};
+ghost use Rattle.sift_reply.specs.Reply.{input, output, no_memory_status};
 ghost use Rattle.sift_reply.specs.Promise.{AskForNoInput, IsAnswered, IsCertain};
-ghost use Rattle.sift_reply.specs.Reply.{no_memory_status};
 ghost use Rattle.sift_run.specs.Command.{commands};
 ghost use Rattle.sift_run.specs.Headline.{IsHeadlineWritten};
 

@@ -1,7 +1,7 @@
 //! The word of each command, and its options.
 
 ghost use Rattle.std.specs.Prelude.{◌≡◌, ◌≢◌, IfNone, IfSome};
-ghost use Rattle.sift_run.specs.Verb.{flags_of, name_of};
+ghost use Rattle.sift_run.specs.Command.{flags_of, name_of};
 ghost use Rattle.sift_run.specs.declared.verb.Verb.{Verb as Named};
 
 use sift_options::Flag;

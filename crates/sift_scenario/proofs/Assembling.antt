@@ -7,12 +7,11 @@ use Rattle.std.proofs.lemmas.List.{length-map}
 use Rattle.toml.specs.Data.{Members}
 use Rattle.sift_base.specs.Shapes.{AllShapes}
 use Rattle.sift_base.specs.declared.layout.Layout.{Layout}
-use Rattle.sift_program.specs.Program.{program_of}
+use Rattle.sift_program.specs.Program.{program_of, program_shapes}
 use Rattle.sift_script.specs.Script.{FaultScript, outputs_of, script_for}
 use Rattle.sift_table.specs.Schedule.{Schedule, schedule_of}
 use Rattle.sift_mission.specs.Parts as unit
 use Rattle.sift_mission.specs.Data.{MissionData, shapes_in}
-use Rattle.sift_program.specs.Needs.{program_shapes}
 use Rattle.sift_scenario.proofs.Starts.{names_from, starts_long}
 use Rattle.sift_scenario.specs.Mission.{HasGoodTables, IsStated}
 use Rattle.sift_scenario.specs.Reading.{IsReadOf, IsRunningOf}

@@ -15,7 +15,7 @@ use Rattle.sift_document.proofs.lemmas.Numbers.{between, between_at}
 use Rattle.sift_scenario.proofs.Themes.{kept_themes}
 use Rattle.sift_scenario.proofs.Ticks.{All-replicate, AreRows, AreTicks, right_in, right_or, rows_near, rows_or, ticks_or, zeros_near}
 use Rattle.sift_scenario.specs.Clock.{StartTogether, clock_rules, clock_themes, clock_value, clocks_in, clocks_of, drifts_of, error_of, errors_of, figure_rules, length_limit, length_of, number_in, plain_clocks, rate_of, skew_of, starts_of, stated_clocks, tick_limit, unit_rules, zeros}
-use Rattle.sift_scenario.specs.Lawful.{IsLawful}
+use Rattle.sift_scenario.specs.Mission.{IsLawful}
 use Rattle.sift_scenario.specs.Root.{units_of}
 
 -- what isn't less is at least as much

@@ -2,8 +2,7 @@
 use Rattle.std.proofs.Common.{◌≡◌, ◌<◌, ◌≤◌, ◌⊎◌, inl, inr, ℕ, zero, suc, List, [], ◌∷◌, Option, Some, None, refl, ap, sym, subst, ◌∙◌, arith}
 use Rattle.std.proofs.lemmas.Bool.{cases_lt, cases_order}
 use Rattle.std.specs.List.{All, Contains, slice_get}
-use Rattle.sift_document.specs.Entries.{HoldsOf}
-use Rattle.sift_document.specs.Rules.{IsFirstPlace}
+use Rattle.sift_document.specs.Rules.{HoldsOf, IsFirstPlace}
 
 -- it holds, or it doesn't
 abbrev pub Decided : Type 0 → Type 0

@@ -12,10 +12,9 @@ use Rattle.sift_parse.specs.declared.stop.ParseStop.TheVariants as parse
 use Rattle.sift_parse.proofs.lemmas.Refusals.Answered.{no_text_is_unanswered}
 use Rattle.sift_parse.specs.Answer as texts
 use Rattle.sift_parse.specs.Roll.{Roll, first_word}
-use Rattle.sift_parse.specs.Linear.{linear_tree}
+use Rattle.sift_parse.specs.Outcome.{linear_tree}
 use Rattle.sift_document.proofs.lemmas.Places.{matches_more}
-use Rattle.sift_document.specs.Entries.{EachMatches}
-use Rattle.sift_document.specs.Rules.{AreKept}
+use Rattle.sift_document.specs.Rules.{EachMatches, AreKept}
 use Rattle.sift_scenario.proofs.Codes.{allowed_more}
 use Rattle.sift_scenario.proofs.FirstBroken.{kept_or_broken}
 use Rattle.sift_scenario.proofs.Known.{form_known}
@@ -23,16 +22,14 @@ use Rattle.sift_scenario.proofs.OneMission.{data_from}
 use Rattle.sift_scenario.proofs.TaskRefusals.{text_refused_by}
 use Rattle.sift_scenario.proofs.Turns.{code_first, text_first}
 use Rattle.sift_scenario.specs.Laws.{HasAnswer, a_mission, a_refusal, NoDocumentIsUnanswered}
-use Rattle.sift_scenario.specs.Mission.{IsStated}
+use Rattle.sift_scenario.specs.Mission.{IsStated, IsLawful}
 use Rattle.sift_scenario.specs.Program.{AreAllowed, IsProgramOf, IsTreeOf, IsWithin, all_starts, roll_for, steps_left, turn_of}
 use Rattle.sift_scenario.specs.Refusal.{IsFirstRefused, IsNoTask, IsOver, refusal_of, told_number}
 use Rattle.sift_scenario.proofs.Decided.{all_more, at_most}
 use Rattle.sift_scenario.proofs.Themes.{kept_themes}
-use Rattle.sift_scenario.specs.Lawful.{IsLawful}
 use Rattle.sift_scenario.specs.Root.{frames_of, period_of, units_of}
 use Rattle.sift_scenario.specs.Sensor.{sensor_names}
-use Rattle.sift_scenario.specs.Task.{AreForms, Form, HasForm, linear, tasks_of, text}
-use Rattle.sift_scenario.specs.TaskRules.{BreaksForms, task_rules}
+use Rattle.sift_scenario.specs.Task.{AreForms, Form, HasForm, linear, tasks_of, text, BreaksForms, task_rules}
 use Rattle.sift_base.specs.Shapes.{AllShapes}
 use Rattle.sift_program.specs.Program.{ProgramTree}
 use Rattle.sift_script.proofs.lemmas.Answered.{scripts_are_answered}

@@ -10,7 +10,7 @@ use Rattle.sift_script.specs.Script.{Change, Failing, Fault}
 use Rattle.sift_document.proofs.lemmas.Places.{map_map, taken}
 use Rattle.sift_document.proofs.lemmas.Testing.{tests_same}
 use Rattle.sift_document.specs.Document.{each_read}
-use Rattle.sift_document.specs.Entries.{HoldsOf}
+use Rattle.sift_document.specs.Rules.{HoldsOf}
 use Rattle.sift_document.specs.Testing.{Tests}
 use Rattle.sift_document.specs.declared.rule.BrokenRule.{BrokenRule}
 use Rattle.sift_scenario.specs.Fault.{BreaksItems, changes_of, failing_from, fault_in, from_of, items_of, stated_storm, unit_of}

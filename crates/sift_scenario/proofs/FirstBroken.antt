@@ -6,20 +6,18 @@ use Rattle.toml.specs.Data.{Data, Members}
 use Rattle.sift_base.specs.Layout.{sensor_limit, word_limit}
 use Rattle.sift_base.specs.Shapes.{task_limit}
 use Rattle.sift_document.specs.Document.{entries_of, members_of}
-use Rattle.sift_document.specs.Entries.{HoldsOf}
-use Rattle.sift_document.specs.Rules.{AreKept, BreaksEntries, BreaksFirst, IsFirstPlace, OfNoEntry, Rule, followed_by, joined, rule}
+use Rattle.sift_document.specs.Rules.{HoldsOf, AreKept, BreaksEntries, BreaksFirst, IsFirstPlace, OfNoEntry, Rule, followed_by, joined, rule}
 use Rattle.sift_scenario.proofs.Decided.{Decided, at_most, both, either, first_place, holds, negated, nothing, same_number}
 use Rattle.sift_scenario.proofs.Known.{form_known, known_array, known_entry, known_keys, known_way, known_table, new_name_of}
 use Rattle.sift_scenario.proofs.KnownStarts.{apart_known}
 use Rattle.sift_scenario.specs.Clock.{clock_keys, clock_rules, clock_themes, clock_value, drifts_of, error_of, errors_of, length_of, number_in, rate_of, skew_of, starts_of}
 use Rattle.sift_scenario.specs.Fault.{HasOneWay, IsFaultEntry, IsHeadless, changes_of, fault_keys, fault_limit, fault_rules, fault_value, faults_in, from_of, stated_storm, unit_of}
-use Rattle.sift_scenario.specs.Lawful.{rules_of, themes_for}
+use Rattle.sift_scenario.specs.Mission.{rules_of, themes_for}
 use Rattle.sift_scenario.specs.Laws.{RulesAreKeptOrBroken}
 use Rattle.sift_scenario.specs.Root.{frames_of, period_of, root_keys, root_rules, units_of, version_of}
 use Rattle.sift_scenario.specs.Sensor.{IsSensorEntry, sensor_keys, sensor_rules, sensor_value, sensors_in, words_of}
 use Rattle.sift_scenario.specs.Table.{IsTableEntry, IsTimeless, later_table_rules, positions_of, polls_of, runs_of, shed_of, size_count, table_rules, table_value, tables_in}
-use Rattle.sift_scenario.specs.Task.{HasForm, IsNewName, counts_of, name_of, start_words, task_entries, task_keys, tasks_of}
-use Rattle.sift_scenario.specs.TaskRules.{BreaksNames, BreaksTasks, BreaksWords, task_rules}
+use Rattle.sift_scenario.specs.Task.{HasForm, IsNewName, counts_of, name_of, start_words, task_entries, task_keys, tasks_of, BreaksNames, BreaksTasks, BreaksWords, task_rules}
 
 -- a rule is broken at a first place, or at none
 abbrev IsDecided : Rule → Type 0

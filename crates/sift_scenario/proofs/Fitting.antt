@@ -7,7 +7,7 @@ use Rattle.toml.specs.Data.{Members, get_member}
 use Rattle.sift_base.specs.Layout.{least_units}
 use Rattle.sift_base.specs.Units.{unit_limit}
 use Rattle.sift_base.specs.declared.layout.Layout.{Layout}
-use Rattle.sift_program.specs.Sound.{IsSoundProgram}
+use Rattle.sift_program.specs.Program.{IsSoundProgram}
 use Rattle.sift_script.specs.Rules as scripts
 use Rattle.sift_script.specs.Script.{FaultScript}
 use Rattle.sift_table.specs.Schedule.{Schedule}
@@ -22,9 +22,8 @@ use Rattle.sift_scenario.proofs.Sizes.{IsSized, schedule_at, schedules_long, sch
 use Rattle.sift_scenario.proofs.SoundPrograms.{stated_is_sound}
 use Rattle.sift_scenario.proofs.Starts.{starts_long}
 use Rattle.sift_scenario.proofs.Themes.{kept_themes}
-use Rattle.sift_scenario.specs.Lawful.{themes_for}
+use Rattle.sift_scenario.specs.Mission.{themes_for, HasGoodTables, IsStated}
 use Rattle.sift_scenario.specs.Laws.{StatedMissionsFit}
-use Rattle.sift_scenario.specs.Mission.{HasGoodTables, IsStated}
 use Rattle.sift_scenario.specs.Root.{version_of}
 use Rattle.sift_scenario.specs.Sensor.{sensor_names}
 use Rattle.sift_scenario.specs.Table.{table_value}

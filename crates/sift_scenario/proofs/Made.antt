@@ -11,13 +11,11 @@ use Rattle.sift_base.specs.Shapes.{AllShapes}
 use Rattle.sift_base.specs.Units.{unit_limit}
 use Rattle.sift_base.specs.declared.layout.Layout.{Layout}
 use Rattle.sift_compile.specs.Tasks.{AreCodesOf}
-use Rattle.sift_program.specs.Program.{program_of}
-use Rattle.sift_program.specs.Sound.{IsSoundProgram}
+use Rattle.sift_program.specs.Program.{program_of, IsSoundProgram, program_shapes}
 use Rattle.sift_script.specs.Rules as scripts
 use Rattle.sift_script.specs.Script.{FaultScript}
 use Rattle.sift_table.specs.Rules.{IsGood}
 use Rattle.sift_table.specs.Schedule.{Schedule, schedule_of}
-use Rattle.sift_program.specs.Needs.{program_shapes}
 use Rattle.sift_mission.specs.PartsFit.{PartsFit}
 use Rattle.sift_scenario.proofs.Assembling.{is_stated, layout_read, made, script_read, script_refused, table_refused}
 use Rattle.sift_scenario.proofs.Fitting.{fit}

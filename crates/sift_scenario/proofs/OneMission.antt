@@ -3,10 +3,9 @@ use Rattle.std.proofs.Common.{◌≡◌, ℕ, List, length, Some, refl, sym, ap,
 use Rattle.std.specs.List.{sum}
 use Rattle.toml.specs.Data.{Members}
 use Rattle.sift_lang.specs.Tree.{TaskTree}
-use Rattle.sift_program.specs.Program.{ProgramTree}
+use Rattle.sift_program.specs.Program.{ProgramTree, program_shapes}
 use Rattle.sift_script.specs.Script.{outputs_of}
 use Rattle.sift_mission.specs.Data.{MissionData}
-use Rattle.sift_program.specs.Needs.{program_shapes}
 use Rattle.sift_scenario.proofs.UniqueForms.{one_forms, one_trees}
 use Rattle.sift_scenario.specs.Clock.{clocks_of}
 use Rattle.sift_scenario.specs.Fault.{faults_of}

@@ -9,8 +9,7 @@ use Rattle.sift_document.specs.Rules.{AreKept}
 use Rattle.sift_scenario.proofs.Decided.{at_most, both, stable}
 use Rattle.sift_document.proofs.lemmas.Numbers.{between}
 use Rattle.sift_scenario.specs.Root.{period_of, plain_period}
-use Rattle.sift_scenario.specs.Task.{task_entries}
-use Rattle.sift_scenario.specs.TaskRules.{IsTaskNumber, task_rules}
+use Rattle.sift_scenario.specs.Task.{task_entries, IsTaskNumber, task_rules}
 
 -- there are 1 to 24 tasks where the rules of the tasks are kept
 pub task_number : (d : Members) → AreKept (task_rules d) → IsTaskNumber (length (task_entries d))

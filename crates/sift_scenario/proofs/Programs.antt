@@ -9,9 +9,8 @@ use Rattle.sift_lang.specs.Tree.{TaskTree, end}
 use Rattle.sift_lang.specs.Sound.{AllNowsBelow, IsSound}
 use Rattle.sift_parse.proofs.lemmas.Sound.Task.{task_is_sound}
 use Rattle.sift_parse.specs.Answer.{HasSize}
-use Rattle.sift_parse.specs.Linear.{linear_tree}
-use Rattle.sift_program.specs.Program.{ProgramTree}
-use Rattle.sift_program.specs.Sound.{IsSoundProgram, first_word}
+use Rattle.sift_parse.specs.Outcome.{linear_tree}
+use Rattle.sift_program.specs.Program.{ProgramTree, IsSoundProgram, first_word}
 use Rattle.sift_scenario.specs.Program.{AreTreesOf, IsTreeOf, roll_for, turn_of}
 use Rattle.sift_scenario.specs.Task.{AreForms, Form, linear, text, HasForm, counts_of, task_outputs}
 

@@ -17,8 +17,7 @@ use Rattle.sift_scenario.specs.Program.{AreAllowed, AreTreesOf, all_starts, roll
 use Rattle.sift_scenario.specs.Reading.{AreTasksOf, IsReadOf, IsRunningOf}
 use Rattle.sift_scenario.specs.Refusal.{IsFirstRefused, IsRefusedWith}
 use Rattle.sift_scenario.specs.Sensor.{sensor_names}
-use Rattle.sift_scenario.specs.Task.{counts_of, task_entries, tasks_of}
-use Rattle.sift_scenario.specs.TaskRules.{each_task_rules}
+use Rattle.sift_scenario.specs.Task.{counts_of, task_entries, tasks_of, each_task_rules}
 use Rattle.sift_scenario.specs.Testing.{AreTurns, form_of}
 use Rattle.sift_scenario.specs.declared.document.Entries.{Entries}
 use Rattle.sift_scenario.specs.declared.program.Running.{Running}

@@ -16,7 +16,7 @@ use Rattle.sift_scenario.proofs.Decided.{stable}
 use Rattle.sift_scenario.proofs.Known.{known_array}
 use Rattle.sift_scenario.proofs.Rolls.{distinct}
 use Rattle.sift_scenario.proofs.Themes.{kept_themes}
-use Rattle.sift_scenario.specs.Lawful.{IsLawful}
+use Rattle.sift_scenario.specs.Mission.{IsLawful}
 use Rattle.sift_scenario.specs.Root.{units_of}
 use Rattle.sift_scenario.specs.Sensor.{BreaksSensors, sensor_names, sensor_rules, sensor_value, sensor_words, sensors_in, words_of}
 use Rattle.sift_scenario.specs.Task.{name_of}

@@ -2,8 +2,7 @@
 use Rattle.std.proofs.Common.{◌≡◌, ◌<◌, ◌≤◌, ℕ, length, Some, ap, ◌∙◌, arith}
 use Rattle.std.proofs.lemmas.List.{length-map}
 use Rattle.toml.specs.Data.{Members}
-use Rattle.sift_program.specs.Program.{ProgramTree}
-use Rattle.sift_program.specs.Sound.{IsSoundProgram}
+use Rattle.sift_program.specs.Program.{ProgramTree, IsSoundProgram}
 use Rattle.sift_document.specs.Document.{members_of}
 use Rattle.sift_document.specs.Rules.{AreKept}
 use Rattle.sift_scenario.proofs.Periods.{task_number}
@@ -11,12 +10,11 @@ use Rattle.sift_scenario.proofs.Programs.{sound_program}
 use Rattle.sift_scenario.proofs.Rolls.{few_words, sized}
 use Rattle.sift_scenario.proofs.Starts.{starts_long}
 use Rattle.sift_scenario.proofs.Themes.{kept_themes}
-use Rattle.sift_scenario.specs.Lawful.{IsLawful}
+use Rattle.sift_scenario.specs.Mission.{IsLawful}
 use Rattle.sift_scenario.specs.Program.{IsProgramOf}
 use Rattle.sift_scenario.specs.Root.{units_of}
 use Rattle.sift_scenario.specs.Sensor.{sensor_names}
-use Rattle.sift_scenario.specs.Task.{task_entries, tasks_of}
-use Rattle.sift_scenario.specs.TaskRules.{task_rules}
+use Rattle.sift_scenario.specs.Task.{task_entries, tasks_of, task_rules}
 
 -- where the rules are kept, the program of a document's tasks is sound for its sensors
 pub stated_is_sound : (document : Members) (units : ℕ) (program : ProgramTree) → units_of document ≡ Some units → IsLawful document

@@ -11,7 +11,7 @@ use Rattle.sift_script.specs.Faults.{storm_from, storm_of}
 use Rattle.sift_script.specs.Rules.{fault_at, no_fault}
 use Rattle.sift_script.specs.Script.{Change, Failing, Fault, FaultScript, changing, turning}
 use Rattle.toml.specs.Data.{Members}
-use Rattle.sift_document.specs.Entries.{HoldsOf}
+use Rattle.sift_document.specs.Rules.{HoldsOf}
 use Rattle.sift_scenario.proofs.Themes.{kept_themes}
 use Rattle.sift_scenario.specs.Fault.{BreaksHeads, IsHeadless, failing_from, fault_in, fault_value, faults_in, from_of, stated_storm, unit_of}
 use Rattle.sift_scenario.specs.Laws.{IsStormOf, StormsAreStated}

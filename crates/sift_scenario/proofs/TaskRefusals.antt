@@ -10,7 +10,7 @@ use Rattle.sift_parse.specs.declared.stop.ParseStop.{ParseStop}
 use Rattle.sift_parse.specs.declared.stop.ParseStop.TheVariants as parse
 use Rattle.sift_document.specs.Testing.{RefusesFirst}
 use Rattle.sift_document.specs.declared.rule.BrokenRule.{BrokenRule}
-use Rattle.sift_scenario.specs.Lawful.{IsLawful, rules_of}
+use Rattle.sift_scenario.specs.Mission.{IsLawful, rules_of}
 use Rattle.sift_scenario.specs.Refusal.{IsFormRefused, IsOver, IsRefusedWith, TasksAreRefused, refusal_of}
 use Rattle.sift_scenario.specs.Sensor.{sensor_names}
 use Rattle.sift_scenario.specs.Task.{Form, tasks_of}

@@ -4,12 +4,11 @@ use Rattle.sift_base.specs.declared.stop.Stop.{Stop}
 use Rattle.sift_base.specs.declared.stop.Stop.TheVariants as stop
 use Rattle.toml.specs.Data.{Data, Members}
 use Rattle.sift_document.specs.Document.{IsNoTableOf}
-use Rattle.sift_document.specs.Entries.{HoldsOf}
+use Rattle.sift_document.specs.Rules.{HoldsOf}
 use Rattle.sift_document.specs.Testing.{RefusesBy, Tests}
 use Rattle.sift_document.specs.declared.rule.BrokenRule.{BrokenRule}
 use Rattle.sift_scenario.proofs.Testing.{keeps_tasks}
-use Rattle.sift_scenario.specs.Task.{task_entries, task_keys}
-use Rattle.sift_scenario.specs.TaskRules.{BreaksTasks, IsTaskNumber}
+use Rattle.sift_scenario.specs.Task.{task_entries, task_keys, BreaksTasks, IsTaskNumber}
 
 module _ (document : Members) (entries : List Data) (same : entries ≡ task_entries document) (number : IsTaskNumber (length entries)) where
   refused_task : (e : Stop BrokenRule) → RefusesBy 18 (λ place. HoldsOf entries place (IsNoTableOf task_keys)) e → RefusesBy 18 (BreaksTasks document) e

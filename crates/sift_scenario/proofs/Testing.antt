@@ -4,9 +4,8 @@ use Rattle.toml.specs.Data.{Data, Members}
 use Rattle.toml.specs.View.{view}
 use Rattle.toml.specs.declared.value.Value.{Value}
 use Rattle.sift_document.specs.Document.{IsNoTableOf}
-use Rattle.sift_document.specs.Entries.{HoldsOf}
-use Rattle.sift_scenario.specs.Task.{task_entries, task_keys}
-use Rattle.sift_scenario.specs.TaskRules.{BreaksTasks, IsTaskNumber}
+use Rattle.sift_document.specs.Rules.{HoldsOf}
+use Rattle.sift_scenario.specs.Task.{task_entries, task_keys, BreaksTasks, IsTaskNumber}
 
 -- as many entries as may be, of which the one at a place is a table with known keys
 pub keeps_tasks :

@@ -4,7 +4,7 @@ use Rattle.std.specs.List.{slice_get}
 use Rattle.sift_lang.specs.Tree.{TaskTree}
 use Rattle.sift_parse.specs.Roll.{Roll, roll_of}
 use Rattle.sift_parse.specs.declared.names.Names.{Names}
-use Rattle.sift_document.specs.Entries.{EachMatches}
+use Rattle.sift_document.specs.Rules.{EachMatches}
 use Rattle.sift_scenario.specs.Program.{AreAllowed, IsTreeOf, steps_left, turn_of}
 use Rattle.sift_scenario.specs.Refusal.{IsFirstRefused, IsNoTask, IsOver}
 use Rattle.sift_scenario.specs.Task.{Form}

@@ -26,9 +26,8 @@ use Rattle.sift_document.specs.Testing.{OnlyRefuses}
 use Rattle.sift_scenario.proofs.OneMission.{one_stated}
 use Rattle.sift_scenario.proofs.UniqueForms.{one_forms, one_tree}
 use Rattle.sift_scenario.proofs.Unrefused.{first_trees, no_want, one_entry, tree_unrefused, unrefused_among}
-use Rattle.sift_scenario.specs.Lawful.{rules_of}
+use Rattle.sift_scenario.specs.Mission.{rules_of, HasGoodTables, IsMission, IsStated}
 use Rattle.sift_scenario.specs.Laws.{MissionsAreAccepted, OneRefusal}
-use Rattle.sift_scenario.specs.Mission.{HasGoodTables, IsMission, IsStated}
 use Rattle.sift_scenario.specs.Program.{roll_for, steps_left, turn_of}
 use Rattle.sift_scenario.specs.Refusal.{IsFirstBadTable, IsFirstRefused, IsFormRefused, IsNoTask, IsOver, IsRefusedWith, TablesAreRefused, TasksAreRefused, ScriptIsRefused, refusal_of}
 use Rattle.sift_scenario.specs.Sensor.{sensor_names}

@@ -2,11 +2,10 @@
 use Rattle.std.specs.Prelude.{◌≡◌, ◌⊎◌, ◌↔◌, ℕ, [], Some}
 use Rattle.std.specs.List.{All}
 use Rattle.toml.specs.Data.{Members}
-use Rattle.sift_document.specs.Entries.{HoldsOf}
+use Rattle.sift_document.specs.Rules.{HoldsOf}
 use Rattle.sift_scenario.specs.declared.refused.Refused.{Refused}
 use Rattle.sift_scenario.specs.Fault.{fault_value, faults_in, from_of, stated_storm, unit_of}
-use Rattle.sift_scenario.specs.Lawful.{IsFirstBroken, IsLawful}
-use Rattle.sift_scenario.specs.Mission.{IsMission}
+use Rattle.sift_scenario.specs.Mission.{IsFirstBroken, IsLawful, IsMission}
 use Rattle.sift_scenario.specs.Refusal.{IsRefusedWith}
 use Rattle.sift_scenario.specs.Root.{version_of}
 use Rattle.sift_mission.specs.Data.{MissionData}

@@ -4,11 +4,10 @@ use Rattle.std.specs.List.{flat_map}
 use Rattle.toml.specs.Data.{Members}
 use Rattle.sift_compile.specs.Length.{code_limit, task_length, task_steps}
 use Rattle.sift_lang.specs.Tree.{TaskTree}
-use Rattle.sift_parse.specs.Outcome.{IsTaskOf}
+use Rattle.sift_parse.specs.Outcome.{IsTaskOf, linear_tree}
 use Rattle.sift_parse.specs.Roll.{first_word, Roll}
-use Rattle.sift_parse.specs.Linear.{linear_tree}
 use Rattle.sift_program.specs.Program.{ProgramTree}
-use Rattle.sift_document.specs.Entries.{AreMatched}
+use Rattle.sift_document.specs.Rules.{AreMatched}
 use Rattle.sift_scenario.specs.Task.{AreForms, Form, linear, text, counts_of, names_of, start_words}
 
 -- ---- trees

@@ -14,13 +14,12 @@ use Rattle.sift_scenario.specs.Clock.{clocks_of}
 use Rattle.sift_scenario.specs.Fault as fault
 use Rattle.sift_scenario.specs.Fault.{changes_of, from_of, unit_of}
 use Rattle.sift_scenario.specs.declared.fault.Head.{Head}
-use Rattle.sift_scenario.specs.Lawful.{IsLawful}
+use Rattle.sift_scenario.specs.Mission.{IsLawful}
 use Rattle.sift_scenario.specs.Program.{IsProgramOf}
 use Rattle.sift_scenario.specs.Root.{frames_of, period_of, units_of}
 use Rattle.sift_scenario.specs.Sensor.{sensor_names, sensor_value, sensors_in, words_of}
 use Rattle.sift_scenario.specs.Table.{IsTimeless, positions_of, schedules_of, size_of}
-use Rattle.sift_scenario.specs.Task.{AreForms, name_of, names_of, start_words, tasks_of}
-use Rattle.sift_scenario.specs.TaskRules.{IsTaskNumber}
+use Rattle.sift_scenario.specs.Task.{AreForms, name_of, names_of, start_words, tasks_of, IsTaskNumber}
 use Rattle.sift_scenario.specs.Testing.{form_of}
 
 -- these are the names, the start words and the forms of the tasks in these tables, which are as many as may be

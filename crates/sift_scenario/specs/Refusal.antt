@@ -15,11 +15,10 @@ use Rattle.sift_script.specs.Rules as scripts
 use Rattle.sift_table.specs.Rules as tables
 use Rattle.sift_table.specs.Schedule.{Schedule}
 use Rattle.sift_mission.specs.Data.{MissionData, shapes_in}
-use Rattle.sift_document.specs.Entries.{EachMatches, HoldsOf}
+use Rattle.sift_document.specs.Rules.{EachMatches, HoldsOf}
 use Rattle.sift_scenario.specs.declared.refused.Refused.{Refused}
 use Rattle.sift_scenario.specs.declared.refused.Refused.TheVariants.{Scenario, Task, Table, Script}
-use Rattle.sift_scenario.specs.Lawful.{IsFirstBroken, IsLawful}
-use Rattle.sift_scenario.specs.Mission.{HasGoodTables, IsStated}
+use Rattle.sift_scenario.specs.Mission.{IsFirstBroken, IsLawful, HasGoodTables, IsStated}
 use Rattle.sift_scenario.specs.Program.{AreAllowed, IsTreeOf, roll_for, steps_left, turn_of}
 use Rattle.sift_scenario.specs.Sensor.{sensor_names}
 use Rattle.sift_scenario.specs.Task.{AreForms, Form, text, tasks_of}

@@ -4,10 +4,8 @@ use Rattle.toml.specs.Data.{Data, Members, get_member}
 use Rattle.sift_base.specs.Layout.{sensor_limit}
 use Rattle.sift_mission.specs.PartsFit.{sensed_limit}
 use Rattle.sift_document.specs.Document.{IsTableOf, entries_of, members_of, read_at, word_array}
-use Rattle.sift_document.specs.Entries.{HoldsOf}
-use Rattle.sift_document.specs.Rules.{BreaksEntries, Rule, rule}
-use Rattle.sift_scenario.specs.Task.{names_of}
-use Rattle.sift_scenario.specs.TaskRules.{BreaksNames}
+use Rattle.sift_document.specs.Rules.{HoldsOf, BreaksEntries, Rule, rule}
+use Rattle.sift_scenario.specs.Task.{names_of, BreaksNames}
 
 -- ---- what they say
 

@@ -8,8 +8,7 @@ use Rattle.sift_base.specs.Units.{unit_limit}
 use Rattle.sift_table.specs.Schedule.{Schedule, plain_of}
 use Rattle.sift_mission.specs.PartsFit.{longest_period}
 use Rattle.sift_document.specs.Document.{IsTableOf, array_of, digits_to, entries_of, integer_between, members_of, read_at, read_or}
-use Rattle.sift_document.specs.Entries.{HoldsOf}
-use Rattle.sift_document.specs.Rules.{BreaksEntries, Rule, rule}
+use Rattle.sift_document.specs.Rules.{HoldsOf, BreaksEntries, Rule, rule}
 use Rattle.sift_scenario.specs.Task.{task_entries}
 
 -- ---- what they say

@@ -5,7 +5,7 @@ ghost use Rattle.toml.specs.View.{table_view};
 ghost use Rattle.sift_base.specs.Shapes.{task_limit};
 ghost use Rattle.sift_mission.specs.PartsFit.{longest_period};
 ghost use Rattle.sift_document.specs.Testing.{RefusesFirst};
-ghost use Rattle.sift_scenario.specs.Lawful.{rules_of};
+ghost use Rattle.sift_scenario.specs.Mission.{rules_of};
 ghost use Rattle.sift_scenario.specs.Reading.{IsReadOf};
 ghost use Rattle.sift_scenario.specs.Root.{plain_period};
 

@@ -3,10 +3,9 @@
 ghost use Rattle.std.specs.Prelude.{◌≡◌, ◌<◌, ◌≤◌, ◌↔◌, ◌^◌, ℕ, List, Contains, IfErr, IfOk, IfSome, IfNone, IsTrue, Some, length, map};
 ghost use Rattle.toml.specs.View.{table_view, view};
 ghost use Rattle.sift_document.specs.Document.{IsArrayOf, IsNoTableOf, entries_of, members_of};
-ghost use Rattle.sift_document.specs.Entries.{HoldsOf};
+ghost use Rattle.sift_document.specs.Rules.{HoldsOf};
 ghost use Rattle.sift_document.specs.Testing.{Tests};
-ghost use Rattle.sift_scenario.specs.Task.{IsNewName, name_of};
-ghost use Rattle.sift_scenario.specs.TaskRules.{BreaksNames};
+ghost use Rattle.sift_scenario.specs.Task.{IsNewName, name_of, BreaksNames};
 
 use sift_base::{Name, Stop, is_name};
 use sift_document::{BrokenRule, broken, member_of, table_of};

@@ -5,7 +5,7 @@ ghost use Rattle.std.specs.List.{All};
 ghost use Rattle.toml.specs.View.{table_view, view};
 ghost use Rattle.sift_script.specs.Script.{change_of, failing_of, fault_of, faults_of};
 ghost use Rattle.sift_document.specs.Document.{IsTableOf, each_read, entries_of, members_of};
-ghost use Rattle.sift_document.specs.Entries.{HoldsOf};
+ghost use Rattle.sift_document.specs.Rules.{HoldsOf};
 ghost use Rattle.sift_document.specs.Testing.{Tests, TestsEach};
 ghost use Rattle.sift_scenario.specs.Fault.{AreItems, BreaksFaults, BreaksHeads, BreaksStorms, BreaksWays, HasOneWay, IsHeadless, failing_from, fault_in, fault_limit, fault_rules, fault_value, faults_in, from_of, items_of, stated_storm, unit_of};
 ghost use Rattle.sift_scenario.specs.Item.{change_in, item_keys};

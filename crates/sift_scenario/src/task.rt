@@ -6,7 +6,7 @@ ghost use Rattle.sift_base.specs.Shapes.{task_limit};
 ghost use Rattle.sift_document.specs.Document.{word_array};
 ghost use Rattle.sift_document.specs.Testing.{Tests, TestsEach};
 ghost use Rattle.sift_scenario.specs.Reading.{AreTasksOf, AreTasksRead};
-ghost use Rattle.sift_scenario.specs.TaskRules.{BreaksForms, BreaksStarts, BreaksTasks, BreaksWords, IsTaskNumber, each_task_rules, task_rules};
+ghost use Rattle.sift_scenario.specs.Task.{BreaksForms, BreaksStarts, BreaksTasks, BreaksWords, IsTaskNumber, each_task_rules, task_rules};
 ghost use Rattle.sift_scenario.specs.Testing.{IsLinearForm, form_of};
 ghost use Rattle.sift_scenario.specs.Task.{AreForms, Form as Stated, HasForm, counts_of, start_words, tasks_of, task_outputs};
 

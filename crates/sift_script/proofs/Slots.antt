@@ -5,7 +5,7 @@ use Rattle.std.proofs.lemmas.List.Sums.{sum_by-cons}
 use Rattle.sift_base.specs.Shapes.{Shape, words_in}
 use Rattle.sift_base.specs.declared.slot.Slot.{Slot}
 use Rattle.sift_base.specs.declared.slot.Slot.TheVariants.{Clock, Sense, RelaySense, Out, Report, RelayReport}
-use Rattle.sift_script.specs.Changes.{first_word_of, is_same_slot}
+use Rattle.sift_script.specs.Faults.{first_word_of, is_same_slot}
 use Rattle.sift_script.specs.Laws.{SlotsAreComparedWhole, WordsAreNumberedAlike}
 
 -- slots that are the same are one

@@ -6,8 +6,7 @@ use Rattle.std.proofs.lemmas.List.{take_all}
 use Rattle.std.proofs.lemmas.Option.{none-some, same_Some}
 use Rattle.std.specs.Bool.{⊤}
 use Rattle.sift_base.specs.Units.{has}
-use Rattle.sift_script.specs.Changes.{changes_by}
-use Rattle.sift_script.specs.Faults.{fault_of_unit, has_come, is_faulted_by, is_faulty, storm_from, storm_in, works}
+use Rattle.sift_script.specs.Faults.{changes_by, fault_of_unit, has_come, is_faulted_by, is_faulty, storm_from, storm_in, works}
 use Rattle.sift_script.specs.Laws.{FaultsAreForGood, OneUnitIsSteady, StormsComeInTheMission, WorkingUnitsHaveNotTurned, WorkingUnitsSayTheirWords}
 use Rattle.sift_script.specs.Rules.{IsGood, no_fault}
 use Rattle.sift_script.specs.Script.{Failing, Fault, FaultScript, changing, turning}

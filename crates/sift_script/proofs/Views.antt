@@ -5,7 +5,7 @@ use Rattle.std.proofs.lemmas.Bool.{false≢true}
 use Rattle.sift_base.specs.Shapes.{Shape, shape_of}
 use Rattle.sift_base.specs.declared.shapes.TaskShape.{TaskShape}
 use Rattle.std.specs.List.{All}
-use Rattle.sift_script.specs.Changes.{changes_in}
+use Rattle.sift_script.specs.Faults.{changes_in}
 use Rattle.sift_script.specs.Rules.{fault_at, units_named}
 use Rattle.sift_script.specs.Script.{Change, Fault, FaultScript, change_of, fault_of}
 use Rattle.sift_script.specs.declared.script.Entry.{Entry}

@@ -2,8 +2,7 @@
 use Rattle.std.specs.Prelude.{◌≡◌, ℕ, ◌<◌, ◌≤◌, ◌↔◌, ◌⊎◌, List, Some, None, true, false}
 use Rattle.sift_base.specs.Shapes.{AllShapes, first_word}
 use Rattle.sift_base.specs.declared.slot.Slot.{Slot}
-use Rattle.sift_script.specs.Changes.{first_word_of, is_same_slot, override_of}
-use Rattle.sift_script.specs.Faults.{has_turned, storm_of, works}
+use Rattle.sift_script.specs.Faults.{first_word_of, is_same_slot, override_of, has_turned, storm_of, works}
 use Rattle.sift_script.specs.Rules.{IsFirstBroken, IsGood}
 use Rattle.sift_script.specs.Script.{Fault, FaultScript, outputs_of}
 

@@ -1,7 +1,7 @@
 -- The script that the parts of a checked script stand for, and the numbers of its tasks' words.
 use Rattle.std.specs.Prelude.{ℕ, ◌≡◌, ◌+◌, ◌≤◌, List, length, map}
 use Rattle.std.specs.List.{range_with_len}
-use Rattle.sift_script.specs.Changes.{first_word_of}
+use Rattle.sift_script.specs.Faults.{first_word_of}
 use Rattle.sift_script.specs.Script.{FaultScript, faults_of}
 use Rattle.sift_script.specs.declared.parts.Parts.{Parts}
 

@@ -2,7 +2,7 @@
 use Rattle.std.specs.Prelude.{◌≡◌, ℕ, ◌+◌, ◌<◌, ◌≤◌, ◌⊎◌, List, [], ◌∷◌, Option, Some, None, false, length, map, take, slice_index, slice_index_or, ⊤}
 use Rattle.std.specs.List.{All}
 use Rattle.sift_base.specs.Units.{has, IsAscending}
-use Rattle.sift_script.specs.Changes.{changes_in}
+use Rattle.sift_script.specs.Faults.{changes_in}
 use Rattle.sift_script.specs.Script.{Change, Fault, FaultScript, changing}
 use Rattle.sift_script.specs.declared.script.SlotKind.{SlotKind}
 use Rattle.sift_script.specs.declared.script.SlotKind.TheVariants.{Clock, Sense, Relay, Out, Report, RelayReport}

@@ -4,8 +4,7 @@ ghost use Rattle.std.specs.Prelude.{◌≡◌, ◌<◌, length, IfOk, IfErr, IfS
 ghost use Rattle.sift_base.specs.Layout.{IsLayout};
 ghost use Rattle.sift_base.specs.Shapes.{shapes_of, AreShapes};
 ghost use Rattle.sift_script.specs.Script.{script_for};
-ghost use Rattle.sift_script.specs.Changes.{override_of};
-ghost use Rattle.sift_script.specs.Faults.{works, storm_of};
+ghost use Rattle.sift_script.specs.Faults.{override_of, works, storm_of};
 ghost use Rattle.sift_script.specs.Rules.{IsGood, IsFirstBroken, MeetsEach, BreaksFirst, entry_rules};
 ghost use Rattle.sift_script.specs.Parts.{script_of};
 

@@ -4,8 +4,7 @@ ghost use Rattle.std.specs.Prelude.{◌≡◌, ℕ, List, ◌≤◌, length, map
 ghost use Rattle.std.specs.Option.{option_map};
 ghost use Rattle.sift_base.specs.Shapes.{shapes_of, AreShapes};
 ghost use Rattle.sift_script.specs.Script.{script_for, change_of, fault_of};
-ghost use Rattle.sift_script.specs.Changes.{slot_of, is_same_slot, fits, first_word_of, replacement_by};
-ghost use Rattle.sift_script.specs.Faults.{fault_of_unit, is_faulty};
+ghost use Rattle.sift_script.specs.Faults.{slot_of, is_same_slot, fits, first_word_of, replacement_by, fault_of_unit, is_faulty};
 ghost use Rattle.sift_script.specs.Parts.{script_of, AreFirstWords};
 
 use crate::script::{Entry, Item, Script, SlotKind};

@@ -2,7 +2,7 @@
 
 ghost use Rattle.std.specs.Prelude.{◌≡◌, map};
 ghost use Rattle.sift_script.specs.Script.{change_of, failing_of};
-ghost use Rattle.sift_script.specs.Changes.{changes_in};
+ghost use Rattle.sift_script.specs.Faults.{changes_in};
 
 use sift_base::Word;
 

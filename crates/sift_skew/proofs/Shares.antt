@@ -3,11 +3,9 @@ use Rattle.std.proofs.Common.{◌≡◌, ℕ, ◌+◌, ◌*◌, List, [], ◌∷
 use Rattle.std.specs.Prelude.{◌≤ℤ◌, if◌then◌else◌}
 use Rattle.std.proofs.lemmas.Int.{ints}
 use Rattle.std.proofs.lemmas.Bool.{cases_Bool}
-use Rattle.sift_base.specs.Units.{has, others}
-use Rattle.sift_base.specs.Margin.{faulty_count}
+use Rattle.sift_base.specs.Units.{has, others, faulty_count}
 use Rattle.sift_base.proofs.lemmas.Counts.{count-yes, count-no, has-head, has-tail}
-use Rattle.sift_clock.specs.Reading.{counted}
-use Rattle.sift_clock.specs.Correction.{int_sum, counted_sum}
+use Rattle.sift_clock.specs.Correction.{counted, int_sum, counted_sum}
 
 -- the sum of a number for each unit
 abbrev pub total : (ℕ → ℤ) → List ℕ → ℤ

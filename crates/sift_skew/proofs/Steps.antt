@@ -3,12 +3,10 @@ use Rattle.std.proofs.Common.{◌≡◌, ℕ, ◌+◌, ◌*◌, ◌<◌, ◌≤�
 use Rattle.std.specs.Prelude.{◌≤ℤ◌}
 use Rattle.std.proofs.lemmas.Int.{ints}
 use Rattle.std.proofs.lemmas.Bool.{cases_Bool, eqb-true}
-use Rattle.sift_base.specs.Units.{has, others}
-use Rattle.sift_base.specs.Margin.{faulty_count}
+use Rattle.sift_base.specs.Units.{has, others, faulty_count}
 use Rattle.sift_base.proofs.lemmas.Counts.{apart, length-has}
 use Rattle.sift_clock.specs.Distance.{IsWithin}
-use Rattle.sift_clock.specs.Reading.{counted}
-use Rattle.sift_clock.specs.Correction.{counted_sum, correction_of}
+use Rattle.sift_clock.specs.Correction.{counted, counted_sum, correction_of}
 use Rattle.sift_clock.proofs.lemmas.Floors.{floor_is}
 use Rattle.sift_skew.specs.Keeping.{AreTogether, AreWithin, DriftsAddTwice, corrected_offsets, next_offsets}
 use Rattle.sift_skew.proofs.lemmas.Changes.{counted_within, counted_is}

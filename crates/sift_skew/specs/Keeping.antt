@@ -1,11 +1,9 @@
 -- The correction of clocks keeps their skew, whatever is read of the faulty ones.
 use Rattle.std.specs.Prelude.{◌≡◌, ◌≢◌, ◌↔◌, ℕ, ◌*◌, ◌≤◌, List, length, Bool, true, Option, Some, ℤ, pos, ◌+ℤ◌, ◌-ℤ◌, ◌*ℤ◌, ◌≤ℤ◌}
 use Rattle.sift_base.specs.Word.{word_of}
-use Rattle.sift_base.specs.Units.{has}
-use Rattle.sift_base.specs.Margin.{faulty_count, HasMargin}
+use Rattle.sift_base.specs.Units.{has, faulty_count, HasMargin}
 use Rattle.sift_clock.specs.Distance.{IsWithin}
-use Rattle.sift_clock.specs.Reading.{reading_of}
-use Rattle.sift_clock.specs.Correction.{next_offset}
+use Rattle.sift_clock.specs.Correction.{reading_of, next_offset}
 use Rattle.sift_skew.specs.Limits.{skew_limit}
 
 -- the working clocks of a configuration differ by at most the skew

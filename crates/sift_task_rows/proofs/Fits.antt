@@ -1,8 +1,7 @@
 -- What the tests decide of a block: that it is sound, and which words it reads by `now`.
 use Rattle.std.proofs.Common.{◌≡◌, ℕ, ◌-◌, ◌≤◌, ◌↔◌, Bool, false, IsTrue, arith, sym, ◌∙◌}
 use Rattle.std.proofs.lemmas.Bool.{false≢true}
-use Rattle.sift_lang.specs.Limits.{round_limit}
-use Rattle.sift_lang.specs.Tree.{Term, Statement, choose, choose_else, repeat, Block}
+use Rattle.sift_lang.specs.Tree.{round_limit, Term, Statement, choose, choose_else, repeat, Block}
 use Rattle.sift_lang.specs.Sound.{Bounds, open_repeats, open_repeats_in, IsSoundTerm, IsSoundStatement, IsSoundBlock, NowsBelow, EachTerm, EachTermOf}
 
 -- the term is sound, and reads only the words made

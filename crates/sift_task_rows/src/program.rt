@@ -1,8 +1,7 @@
 //! The ideal machine over programs made by hand, and which programs are sound.
 ghost use Rattle.std.specs.Prelude.{◌≡◌, ℕ, List, [], ◌∷◌, replicate, IfOk};
 ghost use Rattle.sift_lang.specs.Tree.{Block, TaskTree, term_of, tree_of, sense, this_frame, binary, output, step, end};
-ghost use Rattle.sift_program.specs.Program.{program_of};
-ghost use Rattle.sift_program.specs.Sound.{IsSoundProgram};
+ghost use Rattle.sift_program.specs.Program.{program_of, IsSoundProgram};
 
 use sift_base::{NoMemory, Word};
 use sift_lang::{Expr, Op, Stmt, Task};

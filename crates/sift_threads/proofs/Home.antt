@@ -11,7 +11,7 @@ use Rattle.sift_mission.specs.Parts.{data_of}
 use Rattle.sift_mission.specs.PartsFit.{PartsFit}
 use Rattle.sift_mission.specs.declared.parts.MissionParts.{MissionParts}
 use Rattle.sift_conduct.specs.declared.account.Account.{Account as TheAccount}
-use Rattle.sift_rogue.specs.Calls.{Call}
+use Rattle.sift_rogue.specs.Storms.{Call}
 use Rattle.sift_unit.specs.Down.{DownLaw}
 use Rattle.sift_unit.specs.declared.board.Board.{Board}
 use Rattle.sift_ether.specs.Following.{itself}

@@ -5,11 +5,10 @@ use Rattle.sift_buffer.specs.Conduct.{Conduct, Stray}
 use Rattle.sift_buffer.specs.Views.{View}
 use Rattle.sift_mission.specs.Parts.{data_of}
 use Rattle.sift_mission.specs.declared.parts.MissionParts.{MissionParts}
-use Rattle.sift_conduct.specs.Account.{account_of}
+use Rattle.sift_conduct.specs.Conduct.{account_of}
 use Rattle.sift_conduct.specs.Acts.{BoardKeeps}
 use Rattle.sift_conduct.specs.Frames.{frames_before}
-use Rattle.sift_rogue.specs.Calls.{Call}
-use Rattle.sift_rogue.specs.Storms.{Bounds, Storms}
+use Rattle.sift_rogue.specs.Storms.{Call, Bounds, Storms}
 use Rattle.sift_unit.specs.Boards.{desk_of}
 use Rattle.sift_unit.specs.Down.{DownLaw, HasFlownAll}
 use Rattle.sift_core.proofs.lemmas.Stages.{end_low}

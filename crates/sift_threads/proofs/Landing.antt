@@ -8,16 +8,15 @@ use Rattle.sift_base.specs.declared.layout.Layout.{Layout}
 use Rattle.sift_buffer.specs.Core.{Core}
 use Rattle.sift_buffer.specs.Journals.{Pages}
 use Rattle.sift_buffer.specs.Tables.{ranges_of}
-use Rattle.sift_mission.specs.Data.{MissionData}
+use Rattle.sift_mission.specs.Data.{MissionData, FlownMission}
 use Rattle.sift_mission.specs.Fits.{Fits}
 use Rattle.sift_mission.specs.Flown.{flown}
-use Rattle.sift_mission.specs.Mission.{FlownMission}
 use Rattle.sift_mission.specs.PartsFit.{PartsFit}
-use Rattle.sift_conduct.specs.Account.{Account, account_of}
+use Rattle.sift_conduct.specs.Conduct.{Account, account_of}
 use Rattle.sift_conduct.specs.Acts.{BoardKeeps}
 use Rattle.sift_conduct.specs.Frames.{frames_before}
 use Rattle.sift_conduct.specs.declared.account.Account.{Account as TheAccount}
-use Rattle.sift_rogue.specs.Calls.{Call}
+use Rattle.sift_rogue.specs.Storms.{Call}
 use Rattle.sift_flight.specs.Homing.{HasComeHome, FlightsThatComeHomeAreRound}
 use Rattle.sift_flight.specs.Told.{told, no_pages, no_account, accounts_of, IsLogged}
 use Rattle.sift_flight.specs.declared.flight.Flight.{Flight as TheFlight}

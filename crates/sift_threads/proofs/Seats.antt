@@ -2,10 +2,9 @@
 use Rattle.std.proofs.Common.{◌≡◌, ⊎_elim, ℕ, ◌+◌, ◌-◌, ◌<◌, ◌≤◌, List, [], ◌++◌, Option, Some, None, option_map, option_to_list, refl, sym, ap, ◌∙◌, subst, arith}
 use Rattle.sift_buffer.specs.Conduct.{Stray, never}
 use Rattle.sift_buffer.specs.Views.{View}
-use Rattle.sift_mission.specs.Mission.{FlownMission}
+use Rattle.sift_mission.specs.Data.{FlownMission}
 use Rattle.sift_mission.specs.Parts.{data_of}
-use Rattle.sift_rogue.specs.Calls.{Call, Started}
-use Rattle.sift_rogue.specs.Storms.{Bounds, Storms, StormsAddUp, Shoots, bounds_of, stray_of}
+use Rattle.sift_rogue.specs.Storms.{Call, Started, Bounds, Storms, StormsAddUp, Shoots, bounds_of, stray_of}
 use Rattle.sift_unit.specs.Boards.{desk_of, Drives}
 use Rattle.sift_unit.specs.Down.{StrayLaw}
 use Rattle.sift_unit.specs.Stepping.{Steps}

@@ -1,7 +1,7 @@
 -- Each seat comes of itself, and what comes of what came of a seat comes of it.
 use Rattle.std.specs.Prelude.{List}
 use Rattle.sift_buffer.specs.Conduct.{Stray}
-use Rattle.sift_rogue.specs.Calls.{Call}
+use Rattle.sift_rogue.specs.Storms.{Call}
 use Rattle.sift_threads.specs.Seats.{Comes}
 use Rattle.sift_threads.specs.declared.seat.Seat.{Seat}
 

@@ -5,7 +5,7 @@ use Rattle.std.specs.declared.alloc.Global.{Global}
 use Rattle.sift_mission.specs.Parts.{data_of}
 use Rattle.sift_mission.specs.declared.parts.MissionParts.{MissionParts}
 use Rattle.sift_conduct.specs.declared.account.Account.{Account}
-use Rattle.sift_rogue.specs.Calls.{Call}
+use Rattle.sift_rogue.specs.Storms.{Call}
 use Rattle.sift_ether.specs.Seating.{IsSeatOf, IsTokenBack}
 use Rattle.sift_ether.specs.Seats.{Follows, view_of}
 use Rattle.sift_ether.specs.Tokens.{IsMade}

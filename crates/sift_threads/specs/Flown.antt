@@ -4,12 +4,11 @@ use Rattle.std.specs.declared.alloc.Global.{Global}
 use Rattle.sift_buffer.specs.Conduct.{Conduct, never}
 use Rattle.sift_mission.specs.Data.{MissionData}
 use Rattle.sift_mission.specs.Flown.{flown}
-use Rattle.sift_conduct.specs.Account.{Account, account_of}
+use Rattle.sift_conduct.specs.Conduct.{Account, account_of}
 use Rattle.sift_conduct.specs.Acts.{BoardKeeps}
 use Rattle.sift_conduct.specs.Frames.{frames_before}
 use Rattle.sift_conduct.specs.declared.account.Account.{Account as TheAccount}
-use Rattle.sift_rogue.specs.Calls.{Call}
-use Rattle.sift_rogue.specs.Storms.{Storms, bounds_of}
+use Rattle.sift_rogue.specs.Storms.{Call, Storms, bounds_of}
 use Rattle.sift_ether.specs.Tokens.{AreTokensOf, conduct_at}
 use Rattle.sift_ether.specs.declared.ether.Ether.{Ether}
 use Rattle.sift_core.specs.Courses.{storm_at}

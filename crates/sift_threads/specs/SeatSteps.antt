@@ -2,8 +2,7 @@
 use Rattle.std.specs.Prelude.{◌≡◌, ℕ, List, Option, Some, option_map, option_to_list}
 use Rattle.sift_buffer.specs.Conduct.{Stray}
 use Rattle.sift_buffer.specs.Views.{View, IsButForStrays}
-use Rattle.sift_rogue.specs.Calls.{Call, Started}
-use Rattle.sift_rogue.specs.Storms.{Shoots, stray_of}
+use Rattle.sift_rogue.specs.Storms.{Call, Started, Shoots, stray_of}
 use Rattle.sift_rogue.specs.declared.act.Shot.{Shot}
 use Rattle.sift_threads.specs.Seats.{bounds_at, storm_of}
 use Rattle.sift_threads.specs.declared.seat.Seat.{Seat}

@@ -3,11 +3,9 @@ use Rattle.std.specs.Prelude.{◌≡◌, ℕ, ◌*◌, ◌-◌, ◌<◌, ◌≤�
 use Rattle.sift_buffer.specs.Conduct.{Stray, never}
 use Rattle.sift_buffer.specs.Tables.{ranges_of}
 use Rattle.sift_buffer.specs.Views.{View}
-use Rattle.sift_mission.specs.Data.{MissionData}
-use Rattle.sift_mission.specs.Mission.{FlownMission}
+use Rattle.sift_mission.specs.Data.{MissionData, FlownMission}
 use Rattle.sift_mission.specs.Parts.{data_of, flown_of}
-use Rattle.sift_rogue.specs.Calls.{Call}
-use Rattle.sift_rogue.specs.Storms.{Bounds, Storms, bounds_of}
+use Rattle.sift_rogue.specs.Storms.{Call, Bounds, Storms, bounds_of}
 use Rattle.sift_unit.specs.Boards.{Drives}
 use Rattle.sift_core.specs.Courses.{storm_at}
 use Rattle.sift_threads.specs.declared.seat.Seat.{Seat}

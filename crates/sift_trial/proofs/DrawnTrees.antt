@@ -7,7 +7,7 @@ use Rattle.sift_gen.specs.Tasks.{chase_text, middle_text, sensor_name, sum_text,
 use Rattle.sift_lang.specs.declared.tree.Op.TheVariants.{Add, Sub}
 use Rattle.sift_lang.specs.Sound.{AllNowsBelow, EachTerm, IsSound, IsSoundTerm}
 use Rattle.sift_lang.specs.Tree.{binary, last_frame, number, TaskTree}
-use Rattle.sift_parse.specs.Limits.{level_limit, text_limit}
+use Rattle.sift_parse.specs.Lexeme.{level_limit, text_limit}
 use Rattle.sift_parse.specs.Printable.{depth_in, HasSmallNumbers, most_locals_in}
 use Rattle.sift_parse.specs.Printing.{printed_text}
 use Rattle.sift_trial.specs.Texts.{chase_tree, middle_tree, sum_tree, triple_tree}

@@ -3,8 +3,7 @@ use Rattle.std.proofs.Common.{◌≡◌, ◌<◌, ◌≤◌, ℕ, [], ◌∷◌,
 use Rattle.std.proofs.lemmas.List.Elements.{All-cons, All-from_recursion, All-nil}
 use Rattle.std.specs.List.{Contains}
 use Rattle.toml.specs.Data.{Data, Members, table}
-use Rattle.sift_gen.specs.Entries.{array_of}
-use Rattle.sift_gen.specs.Scenario.{fault_entries, fault_item}
+use Rattle.sift_gen.specs.Scenario.{array_of, fault_entries, fault_item}
 use Rattle.sift_scenario.specs.Fault.{HasOneWay, IsFaultEntry, IsHeadless, IsSaying, changes_of, fault_in, fault_keys, fault_rules, from_of, stated_storm, unit_of}
 use Rattle.sift_scenario.specs.Item.{change_in, item_keys}
 use Rattle.sift_script.specs.Script.{Change, Fault, changing}

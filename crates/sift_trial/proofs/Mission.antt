@@ -11,24 +11,21 @@ use Rattle.sift_base.specs.declared.layout.Layout.{Layout}
 use Rattle.sift_gen.specs.Scenario.{document_of, fault_entries, sensor_tables, task_tables}
 use Rattle.sift_gen.specs.Tasks.{sensor_name, task_name}
 use Rattle.sift_parse.specs.Roll.{Roll}
-use Rattle.sift_program.specs.Program.{ProgramTree}
+use Rattle.sift_program.specs.Program.{ProgramTree, program_shapes}
 use Rattle.sift_scenario.specs.Clock.{clocks_of}
 use Rattle.sift_scenario.specs.Fault.{faults_of}
-use Rattle.sift_scenario.specs.Lawful.{IsLawful, themes_for}
-use Rattle.sift_scenario.specs.Mission.{HasGoodTables, IsMission, IsStated}
+use Rattle.sift_scenario.specs.Mission.{IsLawful, themes_for, HasGoodTables, IsMission, IsStated}
 use Rattle.sift_scenario.specs.Program.{AreTreesOf, IsProgramOf, all_starts, roll_for}
 use Rattle.sift_scenario.specs.Root.{plain_period, units_of, version_of}
 use Rattle.sift_scenario.specs.Sensor.{sensor_names, sensor_value, sensor_words, sensors_in, words_of}
 use Rattle.sift_scenario.specs.Table.{schedules_of, table_rules}
-use Rattle.sift_scenario.specs.Task.{Form, counts_of, names_of, task_entries, tasks_of, text}
-use Rattle.sift_scenario.specs.TaskRules.{task_rules}
+use Rattle.sift_scenario.specs.Task.{Form, counts_of, names_of, task_entries, tasks_of, text, task_rules}
 use Rattle.sift_script.specs.Rules as scripts
 use Rattle.sift_script.specs.Script.{Fault, outputs_of}
 use Rattle.sift_table.specs.Laws.{PlainTablesAreGood}
 use Rattle.sift_table.specs.Rules as tables
 use Rattle.sift_table.specs.Schedule.{plain_of}
 use Rattle.sift_mission.specs.Data.{MissionData, shapes_in}
-use Rattle.sift_program.specs.Needs.{program_shapes}
 use Rattle.sift_document.proofs.lemmas.Order.{kept_joined}
 use Rattle.sift_document.specs.Rules.{AreKept}
 use Rattle.sift_trial.proofs.Faults.{fault_stated, faults_kept}

@@ -3,7 +3,7 @@ use Rattle.std.proofs.Common.{◌≡◌, ◌<◌, ◌≤◌, ◌+◌, ℕ, zero,
 use Rattle.std.proofs.lemmas.List.FromFn.{get_or-map-range_with_len, length-map-range_with_len}
 use Rattle.std.proofs.lemmas.Option.{get_or_from_slice_get, slice_get-get_or, slice_get_within}
 use Rattle.std.specs.List.{All, range_with_len, slice_get}
-use Rattle.sift_document.specs.Entries.{AreMatched, HoldsOf}
+use Rattle.sift_document.specs.Rules.{AreMatched, HoldsOf}
 
 module _ {A : Type 0} (f : ℕ → A) (n : ℕ) where
   -- what stands at a place is made of the place's number

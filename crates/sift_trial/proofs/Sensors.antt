@@ -5,10 +5,8 @@ use Rattle.std.specs.List.{Contains, range_with_len}
 use Rattle.std.specs.Prelude.{codes}
 use Rattle.toml.specs.Data.{Data, Members, no_members, string}
 use Rattle.sift_base.specs.Name.{IsName}
-use Rattle.sift_gen.specs.Draws.{after, draw_at}
-use Rattle.sift_gen.specs.Entries.{array_of, items_in, number, placed}
-use Rattle.sift_gen.specs.Scenario.{sensor_tables, sensor_words, words_each}
-use Rattle.sift_gen.specs.Tasks.{sensor_name, word_values}
+use Rattle.sift_gen.specs.Tasks.{after, draw_at, sensor_name, word_values}
+use Rattle.sift_gen.specs.Scenario.{array_of, items_in, number, placed, sensor_tables, sensor_words, words_each}
 use Rattle.sift_scenario.specs.Sensor.{IsSensorEntry, sensor_keys, sensor_rules, sensors_in, words_of}
 use Rattle.sift_document.specs.Document.{HasOnlyKeys, each_read, keys_of, list_of, word_value}
 use Rattle.sift_document.specs.Rules.{AreKept}

@@ -5,11 +5,10 @@ use Rattle.std.specs.List.{range_with_len}
 use Rattle.std.specs.Prelude.{unwrap_or}
 use Rattle.toml.specs.Data.{Data, Members, table}
 use Rattle.sift_base.specs.Name.{IsName}
-use Rattle.sift_gen.specs.Entries.{array_of, items_in}
-use Rattle.sift_scenario.specs.Task.{IsNewName, name_of, names_of}
-use Rattle.sift_scenario.specs.TaskRules.{BreaksNames}
+use Rattle.sift_gen.specs.Scenario.{array_of, items_in}
+use Rattle.sift_scenario.specs.Task.{IsNewName, name_of, names_of, BreaksNames}
 use Rattle.sift_document.specs.Document.{IsArrayOf, list_of, members_of}
-use Rattle.sift_document.specs.Entries.{HoldsOf}
+use Rattle.sift_document.specs.Rules.{HoldsOf}
 use Rattle.sift_trial.proofs.Ranges.{made_alike, made_of, nowhere}
 
 -- the entries of an array of a list are the list's

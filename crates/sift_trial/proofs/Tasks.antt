@@ -6,15 +6,11 @@ use Rattle.std.specs.List.{Contains, range_with_len, sum}
 use Rattle.std.specs.Prelude.{codes}
 use Rattle.toml.specs.Data.{Data, Members, no_members, string}
 use Rattle.sift_base.specs.Name.{IsName}
-use Rattle.sift_gen.specs.Draws.{after, draw_at}
-use Rattle.sift_gen.specs.Entries.{array_of, number, placed}
-use Rattle.sift_gen.specs.Scenario.{pattern_from, task_place, task_tables}
-use Rattle.sift_gen.specs.Tasks.{task_name, text_by, word_values}
-use Rattle.sift_scenario.specs.Task.{AreForms, Form, HasForm, counts_of, start_words, task_keys, task_outputs, text}
-use Rattle.sift_scenario.specs.TaskRules.{BreaksWords, each_task_rules}
+use Rattle.sift_gen.specs.Tasks.{after, draw_at, task_name, text_by, word_values}
+use Rattle.sift_gen.specs.Scenario.{array_of, number, placed, pattern_from, task_place, task_tables}
+use Rattle.sift_scenario.specs.Task.{AreForms, Form, HasForm, counts_of, start_words, task_keys, task_outputs, text, BreaksWords, each_task_rules}
 use Rattle.sift_document.specs.Document.{HasOnlyKeys, IsNoTableOf, IsTableOf, entries_of, keys_of, members_of}
-use Rattle.sift_document.specs.Entries.{HoldsOf}
-use Rattle.sift_document.specs.Rules.{AreKept}
+use Rattle.sift_document.specs.Rules.{HoldsOf, AreKept}
 use Rattle.sift_trial.proofs.DrawnRoll.{words_sum}
 use Rattle.sift_trial.proofs.Ranges.{made_alike, made_of, matched, nowhere}
 use Rattle.sift_trial.proofs.Tables.{entries_kept, members_are, names_kept, tables_long}

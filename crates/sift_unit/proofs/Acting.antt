@@ -4,7 +4,7 @@ use Rattle.sift_base.specs.Units.{unit_limit}
 use Rattle.sift_base.specs.declared.slot.Slot.{Slot}
 use Rattle.sift_buffer.specs.Conduct.{Saying, Hearing, saying, hearing, with_said, with_heard}
 use Rattle.sift_buffer.specs.Conduct.{Conduct as Acts}
-use Rattle.sift_mission.specs.Mission.{FlownMission, IsConfigOf}
+use Rattle.sift_mission.specs.Data.{FlownMission, IsConfigOf}
 use Rattle.sift_mission.specs.Slots.{is_slot, calls, stamp_of, heard_at}
 use Rattle.sift_conduct.specs.Acts.{stamp_and_moment}
 use Rattle.sift_mission.specs.Fits.{Fits}

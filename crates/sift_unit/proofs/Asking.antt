@@ -7,7 +7,7 @@ use Rattle.sift_buffer.specs.Conduct.{saying}
 use Rattle.sift_buffer.specs.Conduct.{Conduct as Acts}
 use Rattle.sift_buffer.specs.Ranges.{Ranges}
 use Rattle.sift_buffer.specs.Conditions.{MaySay, MayHear}
-use Rattle.sift_mission.specs.Mission.{FlownMission}
+use Rattle.sift_mission.specs.Data.{FlownMission}
 use Rattle.sift_mission.specs.Slots.{stamp_of}
 use Rattle.sift_mission.specs.Fits.{Fits}
 use Rattle.sift_mission.proofs.lemmas.Silent.{speaks}

@@ -6,7 +6,7 @@ use Rattle.sift_base.specs.Units.{has}
 use Rattle.sift_base.specs.declared.slot.Slot.{Slot}
 use Rattle.sift_base.proofs.lemmas.Sets.{passing_ascend}
 use Rattle.sift_exec.specs.Conviction.{is_convicted, kept_by, next_by}
-use Rattle.sift_mission.specs.Mission.{FlownMission, IsConfigOf}
+use Rattle.sift_mission.specs.Data.{FlownMission, IsConfigOf}
 use Rattle.sift_mission.specs.Slots.{is_slot, calls, is_senders}
 use Rattle.sift_unit.proofs.Tests.{both}
 use Rattle.sift_unit.proofs.Sets.{filter_has}

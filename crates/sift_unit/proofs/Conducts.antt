@@ -6,10 +6,9 @@ use Rattle.sift_base.specs.Units.{has, has_bit, holds}
 use Rattle.sift_base.specs.declared.slot.Slot.{Slot}
 use Rattle.sift_base.specs.declared.slot.Slot.TheVariants.{Clock, RelaySense, Out, RelayReport}
 use Rattle.sift_clock.specs.Correction.{next_offset}
-use Rattle.sift_mission.specs.Mission.{FlownMission, IsConfigOf}
+use Rattle.sift_mission.specs.Data.{FlownMission, IsConfigOf}
 use Rattle.sift_mission.specs.Slots.{is_slot}
-use Rattle.sift_conduct.specs.Account.{Account, Places}
-use Rattle.sift_conduct.specs.Conduct.{Conduct, report_in, report_of, reading_by}
+use Rattle.sift_conduct.specs.Conduct.{Account, Places, Conduct, report_in, report_of, reading_by}
 use Rattle.sift_conduct.specs.Frames.{BusyConduct, IdleConduct}
 use Rattle.sift_unit.specs.Memory.{Memory}
 use Rattle.sift_unit.specs.Tidings.{busy_account, idle_account, names_now}

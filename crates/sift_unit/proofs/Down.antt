@@ -6,9 +6,9 @@ use mathlib.Core.Logic.{dite}
 use native.Mathlib.Decide.{ℕ_discrete}
 use Rattle.sift_buffer.specs.Conduct.{Conduct as Acts}
 use Rattle.sift_buffer.specs.Views.{View}
-use Rattle.sift_mission.specs.Mission.{FlownMission}
+use Rattle.sift_mission.specs.Data.{FlownMission}
 use Rattle.sift_mission.specs.Slots.{StormsCome, turned_by}
-use Rattle.sift_conduct.specs.Account.{Account}
+use Rattle.sift_conduct.specs.Conduct.{Account}
 use Rattle.sift_conduct.specs.Acts.{BoardKeeps}
 use Rattle.sift_conduct.specs.Frames.{Flies, frames_before}
 use Rattle.sift_unit.specs.Boards.{desk_of, Drives}

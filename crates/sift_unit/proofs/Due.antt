@@ -1,6 +1,6 @@
 -- Between two slots of which nothing is due in a subframe there is no stop.
 use Rattle.std.proofs.Common.{◌≡◌, ◌≢◌, ℕ, ◌<◌, ◌≤◌, List, ap, ◌∙◌, arith}
-use Rattle.sift_mission.specs.Mission.{FlownMission}
+use Rattle.sift_mission.specs.Data.{FlownMission}
 use Rattle.sift_mission.specs.Fits.{Fits}
 use Rattle.sift_unit.specs.Desk.{spot}
 use Rattle.sift_unit.specs.Stops.{IsNothingBetween, hearing, running, saying}

@@ -9,8 +9,8 @@ use Rattle.sift_skew.specs.Leading.{OffsetsChangeLittle}
 use Rattle.sift_buffer.specs.Conduct.{with_entered}
 use Rattle.sift_buffer.specs.Conduct.{Conduct as Acts}
 use Rattle.sift_mission.proofs.lemmas.Silent.{speaks}
-use Rattle.sift_mission.specs.Mission.{FlownMission, IsConfigOf}
-use Rattle.sift_conduct.specs.Account.{Account}
+use Rattle.sift_mission.specs.Data.{FlownMission, IsConfigOf}
+use Rattle.sift_conduct.specs.Conduct.{Account}
 use Rattle.sift_conduct.specs.Frames.{last_of, BusyConduct}
 use Rattle.sift_unit.specs.Reach.{IsNearIn}
 use Rattle.sift_mission.specs.Fits.{Fits}

@@ -6,10 +6,10 @@ use Rattle.sift_base.specs.declared.slot.Slot.{Slot}
 use Rattle.sift_buffer.specs.Conduct.{Saying, Hearing, saying}
 use Rattle.sift_buffer.specs.Conduct.{Conduct as Acts}
 use Rattle.sift_mission.proofs.lemmas.Silent.{speaks}
-use Rattle.sift_mission.specs.Mission.{FlownMission}
+use Rattle.sift_mission.specs.Data.{FlownMission}
 use Rattle.sift_mission.specs.Slots.{is_slot, calls, stamp_of, heard_at}
 use Rattle.sift_conduct.specs.Frames.{FrameConduct, Flies}
-use Rattle.sift_conduct.specs.Account.{Account}
+use Rattle.sift_conduct.specs.Conduct.{Account}
 use Rattle.sift_conduct.specs.Acts.{word_in_saying, word_in_hearing, said_places, heard_places, StampsAreOfTheirFrames, Turns, stamp_and_moment, ActsAre, IsUnderway, BoardKeeps}
 use Rattle.sift_mission.specs.Fits.{Fits}
 use Rattle.sift_unit.specs.Desk.{Desk, cursor, hear_spot, say_spot, is_past, accounts_of}

@@ -4,11 +4,11 @@ use Rattle.std.specs.Prelude.{slice_index_or, ℤ, Option}
 use Rattle.sift_buffer.specs.Conduct.{never}
 use Rattle.sift_buffer.specs.Conduct.{Conduct as Acts}
 use Rattle.sift_mission.specs.Fits.{Fits}
-use Rattle.sift_mission.specs.Mission.{FlownMission}
+use Rattle.sift_mission.specs.Data.{FlownMission}
 use Rattle.std.proofs.lemmas.List.{length-map}
 use Rattle.sift_unit.specs.Desk.{Desk, first_desk}
 use Rattle.sift_unit.specs.Keeping.{Flying, KeepsAs}
-use Rattle.sift_conduct.specs.Account.{Account, account_of}
+use Rattle.sift_conduct.specs.Conduct.{Account, account_of}
 use Rattle.sift_unit.specs.Memory.{Memory}
 use Rattle.sift_unit.specs.Reach.{IsNearIn}
 use Rattle.sift_unit.specs.Boards.{desk_of, account_at, memory_of, NewBoardLaw, DriveLaw, AccountLaw}

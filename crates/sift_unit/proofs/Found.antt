@@ -6,11 +6,10 @@ use Rattle.sift_base.specs.declared.slot.Slot.{Slot}
 use Rattle.sift_base.specs.declared.slot.Slot.TheVariants.{Clock}
 use Rattle.sift_skew.specs.Leading.{OffsetsChangeLittle}
 use Rattle.sift_buffer.specs.Conduct.{Conduct as Acts}
-use Rattle.sift_mission.specs.Mission.{FlownMission, IsConfigOf}
+use Rattle.sift_mission.specs.Data.{FlownMission, IsConfigOf}
 use Rattle.sift_mission.specs.Slots.{is_slot}
-use Rattle.sift_conduct.specs.Account.{Account}
+use Rattle.sift_conduct.specs.Conduct.{Account, reading_by}
 use Rattle.sift_conduct.specs.Acts.{heard_places}
-use Rattle.sift_conduct.specs.Conduct.{reading_by}
 use Rattle.sift_unit.specs.Reach.{IsNearIn}
 use Rattle.sift_mission.specs.Fits.{Fits}
 use Rattle.sift_unit.specs.Tidings.{names_now}

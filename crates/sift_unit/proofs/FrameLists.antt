@@ -3,10 +3,9 @@ use Rattle.std.proofs.Common.{◌≡◌, ℕ, zero, suc, ◌<◌, ◌≤◌, Boo
 use Rattle.std.proofs.lemmas.Bool.{cases_lt, le-ltb, lt-ltb}
 use Rattle.sift_base.specs.Units.{has}
 use Rattle.sift_buffer.specs.Conduct.{Conduct as Acts}
-use Rattle.sift_mission.specs.Mission.{FlownMission, IsConfigOf}
-use Rattle.sift_conduct.specs.Account.{Account, Places}
+use Rattle.sift_mission.specs.Data.{FlownMission, IsConfigOf}
+use Rattle.sift_conduct.specs.Conduct.{Account, Places, said_of}
 use Rattle.sift_conduct.specs.Acts.{BoardKeeps, ActsAre}
-use Rattle.sift_conduct.specs.Conduct.{said_of}
 use Rattle.sift_mission.specs.Slots.{turned_by}
 use Rattle.sift_conduct.specs.Frames.{Flies, FrameConduct, FirstConduct, LaterConduct, BusyConduct, IdleConduct}
 

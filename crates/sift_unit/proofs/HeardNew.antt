@@ -9,16 +9,13 @@ use Rattle.sift_base.specs.declared.slot.Slot.{Slot}
 use Rattle.sift_base.specs.declared.slot.Slot.TheVariants.{Clock, Sense, RelaySense, Out, Report, RelayReport}
 use Rattle.sift_base.proofs.lemmas.Counts.{nat_eq-same}
 use Rattle.sift_base.proofs.lemmas.Others.{has-others}
-use Rattle.sift_vote.specs.Agreed.{majority_of, agreed_of}
-use Rattle.sift_vote.specs.Differing.{differs}
+use Rattle.sift_vote.specs.Majority.{majority_of, agreed_of, differs}
 use Rattle.sift_agree.specs.Agreement.{taken}
 use Rattle.sift_config.specs.Config.{reader_of}
-use Rattle.sift_clock.specs.Reading.{reading_of, is_too_far}
-use Rattle.sift_clock.specs.Correction.{correction_of}
-use Rattle.sift_mission.specs.Mission.{FlownMission, IsConfigOf}
+use Rattle.sift_clock.specs.Correction.{reading_of, is_too_far, correction_of}
+use Rattle.sift_mission.specs.Data.{FlownMission, IsConfigOf}
 use Rattle.sift_mission.specs.Slots.{executors, is_held, is_slot, is_senders, calls}
-use Rattle.sift_conduct.specs.Account.{Account, Places}
-use Rattle.sift_conduct.specs.Conduct.{polled, reading_by}
+use Rattle.sift_conduct.specs.Conduct.{Account, Places, polled, reading_by}
 use Rattle.sift_mission.specs.Fits.{Fits}
 use Rattle.sift_unit.specs.Memory.{Memory, place_at, reading_at, polled_at, poll_of, note}
 use Rattle.sift_unit.specs.Remembered.{Heard, Ran, IsShaped, polled_words}

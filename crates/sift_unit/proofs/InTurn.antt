@@ -7,7 +7,7 @@ use Rattle.std.proofs.lemmas.Bool.{cases_Bool}
 use Rattle.sift_base.specs.Units.{has, others, IsAscending, IsBelowAll}
 use Rattle.sift_base.proofs.lemmas.Counts.{has-head, has-tail}
 use Rattle.sift_config.specs.Config.{IsConfig}
-use Rattle.sift_mission.specs.Mission.{FlownMission}
+use Rattle.sift_mission.specs.Data.{FlownMission}
 use Rattle.sift_unit.specs.Memory.{renewed, is_made_by}
 use Rattle.sift_unit.proofs.Tests.{and_in}
 

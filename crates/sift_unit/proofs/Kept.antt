@@ -6,8 +6,8 @@ use Rattle.sift_base.specs.Units.{has, holds}
 use Rattle.sift_base.specs.ReadBack.{false_last}
 use Rattle.sift_base.specs.declared.slot.Slot.{Slot}
 use Rattle.sift_base.specs.declared.slot.Slot.TheVariants.{Clock, Sense, RelaySense, Out, Report, RelayReport}
-use Rattle.sift_mission.specs.Mission.{FlownMission}
-use Rattle.sift_conduct.specs.Account.{Account, Places}
+use Rattle.sift_mission.specs.Data.{FlownMission}
+use Rattle.sift_conduct.specs.Conduct.{Account, Places}
 use Rattle.sift_mission.specs.Fits.{is_caught_in}
 use Rattle.sift_unit.specs.Memory.{Memory, note, run, is_made_by}
 use Rattle.sift_unit.specs.Tidings.{busy_account}

@@ -5,12 +5,11 @@ use Rattle.std.proofs.lemmas.Bool.{and_parts}
 use Rattle.sift_base.specs.Units.{has, bits_of}
 use Rattle.sift_base.specs.declared.slot.Slot.{Slot}
 use Rattle.sift_base.specs.declared.slot.Slot.TheVariants.{Clock, Sense, RelaySense, Out, Report, RelayReport}
-use Rattle.sift_exec.specs.Record.{everyone_in}
+use Rattle.sift_exec.specs.Conviction.{everyone_in}
 use Rattle.sift_config.specs.Config.{reader_of}
-use Rattle.sift_mission.specs.Mission.{FlownMission, IsConfigOf}
+use Rattle.sift_mission.specs.Data.{FlownMission, IsConfigOf}
 use Rattle.sift_mission.specs.Slots.{is_slot, calls}
-use Rattle.sift_conduct.specs.Account.{Account, Places}
-use Rattle.sift_conduct.specs.Conduct.{own_word}
+use Rattle.sift_conduct.specs.Conduct.{Account, Places, own_word}
 use Rattle.sift_mission.specs.Fits.{Fits}
 use Rattle.sift_unit.specs.Memory.{Memory, run, is_made_by}
 use Rattle.sift_unit.specs.Tidings.{word_now}

@@ -10,9 +10,8 @@ use Rattle.sift_code.specs.Refusal.{Program}
 use Rattle.sift_compile.specs.Tasks.{IsCodeOf}
 use Rattle.sift_lang.specs.Meaning.{meaning}
 use Rattle.sift_lang.specs.Tree.{TaskTree}
-use Rattle.sift_program.specs.Program.{ProgramTree}
-use Rattle.sift_program.specs.Sound.{first_word}
-use Rattle.sift_mission.specs.Mission.{FlownMission}
+use Rattle.sift_program.specs.Program.{ProgramTree, first_word}
+use Rattle.sift_mission.specs.Data.{FlownMission}
 use Rattle.sift_mission.specs.Premises.{IsAmong, RunsProgram}
 use Rattle.sift_unit.specs.Memory.{renewed, is_word_of}
 use Rattle.sift_unit.proofs.Splices.{splice_is}

@@ -2,8 +2,7 @@
 use Rattle.std.proofs.Common.{◌≡◌, ℕ, ◌<◌, ◌&&◌, Bool, true, not, nat_eq, List, [], ◌∷◌, length, map, inl, inr, ap, ◌∙◌, sym, eqb-true}
 use Rattle.std.proofs.Common.{false, nat_cmp}
 use Rattle.sift_base.specs.ReadBack.{false_last}
-use Rattle.sift_vote.specs.Majority.{IsMajority, HasNoMajority}
-use Rattle.sift_vote.specs.Agreed.{majority_of}
+use Rattle.sift_vote.specs.Majority.{IsMajority, HasNoMajority, majority_of}
 use Rattle.sift_vote.proofs.lemmas.Found.{majority_is_found}
 use Rattle.std.proofs.Common.{Option, Some, None, refl}
 use Rattle.std.specs.Prelude.{IfSome, IfNone, slice_index_or, nat_le, if◌then◌else◌}

@@ -6,7 +6,7 @@ use Rattle.sift_base.specs.Units.{has, unit_limit}
 use Rattle.sift_base.specs.declared.slot.Slot.{Slot}
 use Rattle.sift_buffer.specs.Conduct.{Hearing}
 use Rattle.sift_buffer.specs.Conduct.{Conduct as Acts}
-use Rattle.sift_mission.specs.Mission.{FlownMission}
+use Rattle.sift_mission.specs.Data.{FlownMission}
 use Rattle.sift_mission.specs.Slots.{is_slot, calls}
 use Rattle.sift_mission.specs.Fits.{Fits}
 use Rattle.sift_unit.specs.Desk.{Desk, spot, cursor, hear_spot, say_spot, heard_mark, run_mark, moved}

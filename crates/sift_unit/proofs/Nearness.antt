@@ -6,7 +6,7 @@ use Rattle.sift_clock.specs.Distance.{IsWithin}
 use Rattle.sift_clock.specs.Correction.{correction_of, next_offset}
 use Rattle.sift_skew.specs.Limits.{offset_limit}
 use Rattle.sift_skew.specs.Leading.{OffsetsChangeLittle}
-use Rattle.sift_mission.specs.Mission.{FlownMission}
+use Rattle.sift_mission.specs.Data.{FlownMission}
 use Rattle.sift_mission.specs.Fits.{Fits, change_limit}
 use Rattle.sift_mission.specs.PartsFit.{start_limit}
 use Rattle.sift_unit.specs.Reach.{IsNearIn}

@@ -8,8 +8,8 @@ use mathlib.Core.Logic.{dite}
 use native.Mathlib.Decide.{ℕ_discrete}
 use Rattle.sift_base.specs.Units.{has}
 use Rattle.sift_buffer.specs.Conduct.{Conduct as Acts}
-use Rattle.sift_mission.specs.Mission.{FlownMission, IsConfigOf}
-use Rattle.sift_conduct.specs.Account.{Account}
+use Rattle.sift_mission.specs.Data.{FlownMission, IsConfigOf}
+use Rattle.sift_conduct.specs.Conduct.{Account}
 use Rattle.sift_conduct.specs.Frames.{last_of, BeginConduct}
 use Rattle.sift_conduct.specs.Acts.{heard_places}
 use Rattle.sift_unit.specs.Memory.{Memory}

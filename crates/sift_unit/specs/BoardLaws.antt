@@ -3,9 +3,9 @@ use Rattle.std.specs.Prelude.{◌≡◌, ℕ, ◌+◌, ◌<◌, ◌≤◌, ◌++
 use Rattle.sift_base.specs.Units.{has, unit_limit}
 use Rattle.sift_buffer.specs.Conduct.{with_turned}
 use Rattle.sift_buffer.specs.Conduct.{Conduct as Acts}
-use Rattle.sift_mission.specs.Mission.{FlownMission}
+use Rattle.sift_mission.specs.Data.{FlownMission}
 use Rattle.sift_mission.specs.Fits.{Fits}
-use Rattle.sift_conduct.specs.Account.{Account}
+use Rattle.sift_conduct.specs.Conduct.{Account}
 use Rattle.sift_conduct.specs.Acts.{BoardKeeps}
 use Rattle.sift_unit.specs.Memory.{Memory}
 use Rattle.sift_unit.specs.Remembered.{IsShaped}

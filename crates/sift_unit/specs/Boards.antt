@@ -7,9 +7,9 @@ use Rattle.sift_buffer.specs.Ranges.{Ranges}
 use Rattle.sift_buffer.specs.Views.{View}
 use Rattle.sift_clock.specs.Distance.{IsWithin}
 use Rattle.sift_skew.specs.Limits.{offset_limit}
-use Rattle.sift_mission.specs.Mission.{FlownMission}
+use Rattle.sift_mission.specs.Data.{FlownMission}
 use Rattle.sift_mission.specs.Slots.{StormsCome}
-use Rattle.sift_conduct.specs.Account.{account_of}
+use Rattle.sift_conduct.specs.Conduct.{account_of}
 use Rattle.sift_unit.specs.Memory.{Memory}
 use Rattle.sift_conduct.specs.Acts.{BoardKeeps, IsUnderway}
 use Rattle.sift_mission.specs.Fits.{Fits}

@@ -1,8 +1,8 @@
 -- What a board has whose unit is down: it has landed, or turned. And boards drive on whatever their units have strayed.
 use Rattle.std.specs.Prelude.{◌≡◌, ◌*◌, ◌≤◌, length, slice_index_or}
 use Rattle.sift_buffer.specs.Views.{View, IsButForStrays}
-use Rattle.sift_mission.specs.Mission.{FlownMission}
-use Rattle.sift_conduct.specs.Account.{Account}
+use Rattle.sift_mission.specs.Data.{FlownMission}
+use Rattle.sift_conduct.specs.Conduct.{Account}
 use Rattle.sift_conduct.specs.Acts.{BoardKeeps}
 use Rattle.sift_conduct.specs.Frames.{frames_before}
 use Rattle.sift_unit.specs.Boards.{desk_of, Drives}

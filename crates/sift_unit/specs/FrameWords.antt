@@ -1,6 +1,6 @@
 -- The words that a board has in a frame.
 use Rattle.std.specs.Prelude.{◌≡◌, ℕ, ◌+◌, ◌++◌, List, [], Bool, length, take, drop, replicate, slice_set, if◌then◌else◌}
-use Rattle.sift_mission.specs.Mission.{FlownMission}
+use Rattle.sift_mission.specs.Data.{FlownMission}
 
 -- the agreed words, by sensor; and by output word those that were voted in the frame before, those that are voted in this one, and those that
 -- the unit makes itself, of which there are none while it is outside its configuration

@@ -4,10 +4,9 @@ use Rattle.sift_base.specs.Units.{has, unit_limit}
 use Rattle.sift_base.specs.declared.slot.Slot.{Slot}
 use Rattle.sift_buffer.specs.Conduct.{Saying, Hearing, saying, never}
 use Rattle.sift_buffer.specs.Conduct.{Conduct as Acts}
-use Rattle.sift_mission.specs.Mission.{FlownMission, IsConfigOf}
+use Rattle.sift_mission.specs.Data.{FlownMission, IsConfigOf}
 use Rattle.sift_mission.specs.Slots.{is_slot, calls, stamp_of, heard_at}
-use Rattle.sift_conduct.specs.Account.{Account, Places}
-use Rattle.sift_conduct.specs.Conduct.{word_said}
+use Rattle.sift_conduct.specs.Conduct.{Account, Places, word_said}
 use Rattle.sift_conduct.specs.Frames.{last_of, BeginConduct, BusyConduct, IdleConduct}
 use Rattle.sift_conduct.specs.Acts.{stamp_and_moment}
 use Rattle.sift_unit.specs.Memory.{Memory, place_at}

@@ -2,7 +2,7 @@
 use Rattle.std.specs.Prelude.{◌≡◌, ℕ, ◌+◌, ◌-◌, ◌*◌, ◌<◌, ◌≤◌, List, Bool, true, false}
 use Rattle.sift_base.specs.Units.{has, unit_limit}
 use Rattle.sift_buffer.specs.Conduct.{Conduct as Acts}
-use Rattle.sift_mission.specs.Mission.{FlownMission, IsConfigOf}
+use Rattle.sift_mission.specs.Data.{FlownMission, IsConfigOf}
 use Rattle.sift_mission.specs.Fits.{Fits}
 use Rattle.sift_unit.specs.Desk.{Desk, is_call}
 use Rattle.sift_unit.specs.Going.{InRange, Going}

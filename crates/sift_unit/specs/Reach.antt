@@ -1,7 +1,7 @@
 -- How far from 0 the clock of a unit may be.
 use Rattle.std.specs.Prelude.{ℕ, ◌+◌, ◌*◌, ℤ, pos, ◌+ℤ◌}
 use Rattle.sift_clock.specs.Distance.{IsWithin}
-use Rattle.sift_conduct.specs.Account.{Account}
+use Rattle.sift_conduct.specs.Conduct.{Account}
 use Rattle.sift_mission.specs.Fits.{change_limit}
 use Rattle.sift_mission.specs.PartsFit.{start_limit}
 

@@ -3,15 +3,13 @@ use Rattle.std.specs.Prelude.{◌≡◌, ◌≢◌, ℕ, ◌≤◌, List, length
 use Rattle.sift_base.specs.Units.{has, holds, unit_limit}
 use Rattle.sift_base.specs.declared.slot.Slot.{Slot}
 use Rattle.sift_base.specs.declared.slot.Slot.TheVariants.{Clock, Sense, RelaySense, Out, Report, RelayReport}
-use Rattle.sift_vote.specs.Agreed.{majority_of, agreed_of}
-use Rattle.sift_vote.specs.Differing.{differs}
+use Rattle.sift_vote.specs.Majority.{majority_of, agreed_of, differs}
 use Rattle.sift_agree.specs.Agreement.{taken}
 use Rattle.sift_config.specs.Config.{reader_of}
 use Rattle.sift_clock.specs.Correction.{next_offset}
-use Rattle.sift_mission.specs.Mission.{FlownMission}
+use Rattle.sift_mission.specs.Data.{FlownMission}
 use Rattle.sift_mission.specs.Slots.{executors}
-use Rattle.sift_conduct.specs.Account.{Account, Places}
-use Rattle.sift_conduct.specs.Conduct.{input_of, made, polled, voted, reading_by, clock_catches}
+use Rattle.sift_conduct.specs.Conduct.{Account, Places, input_of, made, polled, voted, reading_by, clock_catches}
 use Rattle.sift_unit.specs.Memory.{Memory, place_at, units_at}
 use Rattle.sift_unit.specs.Tidings.{bad_now}
 

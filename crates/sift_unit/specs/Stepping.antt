@@ -3,7 +3,7 @@ use Rattle.std.specs.Prelude.{◌≡◌, ◌⊎◌, ℕ, ◌<◌, ◌≤◌, Opt
 use Rattle.sift_buffer.specs.Conditions.{MayTurn}
 use Rattle.sift_buffer.specs.Conduct.{never}
 use Rattle.sift_buffer.specs.Views.{View, PortMaySay, PortMayHear, view_with_said, view_with_heard, EntersAfterRound, FindsBehind, Turns}
-use Rattle.sift_mission.specs.Mission.{FlownMission}
+use Rattle.sift_mission.specs.Data.{FlownMission}
 use Rattle.sift_unit.specs.Desk.{Desk}
 use Rattle.sift_unit.specs.Passing.{distance}
 use Rattle.sift_unit.specs.declared.stepped.Stepped.{Stepped}

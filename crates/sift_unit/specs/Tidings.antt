@@ -4,12 +4,10 @@ use Rattle.sift_base.specs.Word.{word_of}
 use Rattle.sift_base.specs.Units.{Units, has, holds, has_bit, bits_of}
 use Rattle.sift_base.specs.declared.slot.Slot.{Slot}
 use Rattle.sift_base.specs.declared.slot.Slot.TheVariants.{Clock, Sense, RelaySense, Out, Report, RelayReport}
-use Rattle.sift_exec.specs.Record.{everyone_in, nobody}
-use Rattle.sift_exec.specs.Conviction.{next_by}
+use Rattle.sift_exec.specs.Conviction.{everyone_in, nobody, next_by}
 use Rattle.sift_exec.specs.declared.catches.Catches.{Catches}
-use Rattle.sift_mission.specs.Mission.{FlownMission}
-use Rattle.sift_conduct.specs.Account.{Account}
-use Rattle.sift_conduct.specs.Conduct.{any_below}
+use Rattle.sift_mission.specs.Data.{FlownMission}
+use Rattle.sift_conduct.specs.Conduct.{Account, any_below}
 use Rattle.sift_unit.specs.Memory.{Memory, place_at, units_at, gathered}
 
 -- ---- catches

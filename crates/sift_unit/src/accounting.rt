@@ -2,11 +2,11 @@
 
 ghost use Rattle.std.specs.Prelude.{◌≡◌, map, nat_eq, slice_index, if◌then◌else◌};
 ghost use Rattle.sift_mission.specs.Fits.{Fits};
-ghost use Rattle.sift_mission.specs.Mission.{IsConfigOf};
+ghost use Rattle.sift_mission.specs.Data.{IsConfigOf};
 ghost use Rattle.sift_unit.specs.Tidings.{report_taken, busy_account, idle_account, frame_account, names_now};
 ghost use Rattle.sift_unit.specs.Remembered.{IsShaped};
 ghost use Rattle.sift_unit.specs.Boards.{memory_of};
-ghost use Rattle.sift_conduct.specs.Account.{account_of};
+ghost use Rattle.sift_conduct.specs.Conduct.{account_of};
 ghost use Rattle.sift_exec.specs.Conviction.{next_by};
 
 use crate::duty::Duty;

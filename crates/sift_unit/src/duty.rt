@@ -4,7 +4,7 @@ ghost use Rattle.std.specs.Prelude.{◌≡◌, ◌<◌, ◌≤◌, ℕ, true, le
 ghost use Rattle.sift_clock.specs.Distance.{IsWithin, error_limit};
 ghost use Rattle.sift_base.specs.Units.{has, holds, unit_limit};
 ghost use Rattle.sift_base.specs.Layout.{word_limit};
-ghost use Rattle.sift_mission.specs.Mission.{FlownMission, IsConfigOf};
+ghost use Rattle.sift_mission.specs.Data.{FlownMission, IsConfigOf};
 ghost use Rattle.sift_mission.specs.Slots.{calls, IsFirstFrom};
 ghost use Rattle.sift_mission.specs.Fits.{Fits};
 ghost use Rattle.sift_unit.specs.Memory.{with_task_made};

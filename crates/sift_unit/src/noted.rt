@@ -3,10 +3,10 @@
 ghost use Rattle.std.specs.Prelude.{◌≡◌, ◌<◌, length, ◌&&◌, ℕ, ℤ, List, pos, Some, if◌then◌else◌, map, not, nat_eq, slice_index, true, unwrap_or};
 ghost use Rattle.std.specs.List.{filter};
 ghost use Rattle.sift_base.specs.Units.{has, holds};
-ghost use Rattle.sift_vote.specs.Differing.{differs as is_other};
+ghost use Rattle.sift_vote.specs.Majority.{differs as is_other};
 ghost use Rattle.sift_clock.specs.Distance.{IsWithin};
 ghost use Rattle.sift_skew.specs.Limits.{offset_limit};
-ghost use Rattle.sift_mission.specs.Mission.{FlownMission};
+ghost use Rattle.sift_mission.specs.Data.{FlownMission};
 ghost use Rattle.sift_mission.specs.Fits.{Fits};
 ghost use Rattle.sift_unit.specs.Memory.{place_at, polled_at, note as note_of};
 ghost use Rattle.sift_unit.specs.Remembered.{IsShaped};

@@ -3,7 +3,7 @@
 ghost use Rattle.std.specs.Prelude.{◌≡◌, ◌&&◌, ℕ, pos, ◌+ℤ◌, map, not, nat_eq, true};
 ghost use Rattle.sift_base.specs.Units.{has, holds, others};
 ghost use Rattle.sift_clock.specs.Distance.{IsWithin};
-ghost use Rattle.sift_clock.specs.Reading.{is_too_far};
+ghost use Rattle.sift_clock.specs.Correction.{is_too_far};
 ghost use Rattle.sift_skew.specs.Limits.{offset_limit};
 ghost use Rattle.sift_mission.specs.Fits.{Fits};
 ghost use Rattle.sift_unit.specs.Memory.{reading_at, offset_after};

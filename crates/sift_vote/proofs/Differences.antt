@@ -5,7 +5,7 @@ use Rattle.std.proofs.lemmas.Bool.{cases_eq, eq-eqb, ne_eqb}
 use Rattle.sift_base.specs.Units.{Units, holds}
 use Rattle.sift_base.specs.ReadBack.{true_last, false_last}
 use Rattle.sift_base.proofs.lemmas.Sets.{holds-insert}
-use Rattle.sift_vote.specs.Differing.{differs, has_differing}
+use Rattle.sift_vote.specs.Majority.{differs, has_differing}
 
 -- the first units with one more have what they had, and that one's place
 pub differing_front : (us : List ℕ) (places : List (Option ℕ)) (vote : Option ℕ) (u i d : ℕ) (absent : Option ℕ) → i < length us → length places ≡ length us →

@@ -1,5 +1,8 @@
--- Majority and agreement, by counting. A place holds a word or is absent.
-use Rattle.std.specs.Prelude.{◌≡◌, ℕ, ◌*◌, ◌<◌, ◌==◌, Bool, false, Option, None, Some, List, All, length, count_by}
+-- Majority and agreement. A place holds a word or is absent.
+use Rattle.std.specs.Prelude.{◌≡◌, ℕ, ◌*◌, ◌<◌, ◌==◌, Bool, false, Option, None, Some, List, All, length, count_by, ◌↔◌, unwrap_or, [], ◌∷◌, nat_lt, if◌then◌else◌, true, not, ◌&&◌, nat_eq}
+use Rattle.std.specs.List.{list_any, zip}
+
+-- ---- by counting
 
 -- whether this place is a vote for this word
 abbrev pub is_vote_for : ℕ → Option ℕ → Bool
@@ -39,3 +42,39 @@ abbrev pub UnanimityIsAgreed : Type 0
 UnanimityIsAgreed =
     (places : List (Option ℕ)) (w : ℕ) →
     0 < length places → All (λ place. place ≡ Some w) places → (v : ℕ) → IsAgreed places v → v ≡ w
+
+-- ---- as functions, found by a search
+
+-- the first word of the second places that is the majority of the first
+abbrev pub majority_among : List (Option ℕ) → List (Option ℕ) → Option ℕ
+majority_among all [] = None
+majority_among all (None ∷ places) = majority_among all places
+majority_among all (Some w ∷ places) = if nat_lt (length all) (2 * votes_for all w) then Some w else majority_among all places
+
+-- the majority of the places, where they have one
+abbrev pub majority_of : List (Option ℕ) → Option ℕ
+majority_of places = majority_among places places
+
+-- the agreed word of the places: their majority, or 0 where they have none
+abbrev pub agreed_of : List (Option ℕ) → ℕ
+agreed_of places = unwrap_or (majority_of places) 0
+
+-- the search finds just the majority
+abbrev pub MajorityIsFound : Type 0
+MajorityIsFound = (places : List (Option ℕ)) (w : ℕ) → (majority_of places ≡ Some w) ↔ IsMajority places w
+
+-- the agreed word that is found is the agreed word, and no other is
+abbrev pub AgreedWordIsFound : Type 0
+AgreedWordIsFound = (places : List (Option ℕ)) (w : ℕ) → (agreed_of places ≡ w) ↔ IsAgreed places w
+
+-- ---- which units' places differ from a vote
+
+-- a place differs from a vote: it is absent, or the vote is there and is another word
+abbrev pub differs : Option ℕ → Option ℕ → Bool
+differs None vote = true
+differs (Some w) None = false
+differs (Some w) (Some v) = not (nat_eq w v)
+
+-- some place of the unit differs from the vote, where each unit of the list has the place beside it
+abbrev pub has_differing : List ℕ → List (Option ℕ) → Option ℕ → ℕ → Bool
+has_differing us places vote u = list_any (λ pair. nat_eq pair.0 u && differs pair.1 vote) (zip us places)

@@ -2,7 +2,7 @@
 
 ghost use Rattle.std.specs.Prelude.{◌≡◌, ℕ, length};
 ghost use Rattle.sift_base.specs.Units.{holds};
-ghost use Rattle.sift_vote.specs.Differing.{differs, has_differing};
+ghost use Rattle.sift_vote.specs.Majority.{differs, has_differing};
 
 use sift_base::{UnitId, UnitSet, Word};
 

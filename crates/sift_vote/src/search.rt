@@ -1,6 +1,6 @@
 //! The laws that the majority and the agreed word are found by a search.
 
-ghost use Rattle.sift_vote.specs.Agreed.{MajorityIsFound, AgreedWordIsFound};
+ghost use Rattle.sift_vote.specs.Majority.{MajorityIsFound, AgreedWordIsFound};
 
 /// The search finds just the majority.
 pub fn majority_is_found()

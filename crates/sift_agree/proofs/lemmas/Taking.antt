@@ -2,12 +2,10 @@
 use Rattle.std.proofs.Common.{◌≡◌, ◌≢◌, ℕ, ◌+◌, ◌≤◌, inl, inr, List, [], ◌∷◌, length, map, Bool, true, false, not, nat_eq, Option, Some, refl, sym, ap, ◌∙◌, arith}
 use Rattle.std.proofs.lemmas.Bool.{cases_Bool, eqb-true}
 use Rattle.std.proofs.lemmas.List.{length-map}
-use Rattle.sift_base.specs.Units.{has, others, IsAscending}
-use Rattle.sift_base.specs.Margin.{faulty_count, HasMargin}
+use Rattle.sift_base.specs.Units.{has, others, IsAscending, faulty_count, HasMargin}
 use Rattle.sift_base.proofs.lemmas.Counts.{count-cons, count-yes, count-no, both_counts, nat_eq-same, apart, has-head, has-tail}
 use Rattle.sift_base.proofs.lemmas.Others.{times_in, times_in-ascending, times_in-none, not_same, length-others, count-others-≤, count-others-<, has-others, others-has, others_work}
-use Rattle.sift_vote.specs.Majority.{is_vote_for, votes_for, IsAgreed, decided, undecided}
-use Rattle.sift_vote.specs.Agreed.{agreed_of}
+use Rattle.sift_vote.specs.Majority.{is_vote_for, votes_for, IsAgreed, decided, undecided, agreed_of}
 use Rattle.sift_vote.proofs.lemmas.Found.{agreed_word_is_found}
 use Rattle.sift_agree.specs.Agreement.{taken, RelaysWell, FaultyUnitIsAgreedOn, WorkingUnitIsAgreedOn}
 use Rattle.sift_agree.proofs.lemmas.Winners.{agreed-found, won-agreed}

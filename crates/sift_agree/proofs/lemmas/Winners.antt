@@ -1,8 +1,7 @@
 -- The agreed word, as it is looked for place by place.
 use Rattle.std.proofs.Common.{◌≡◌, ℕ, List, ◌∷◌, Option, All, refl, sym}
 use Rattle.std.proofs.lemmas.List.Elements.{All-cons}
-use Rattle.sift_vote.specs.Majority.{IsMajority, IsAgreed, decided, undecided}
-use Rattle.sift_vote.specs.Agreed.{agreed_of}
+use Rattle.sift_vote.specs.Majority.{IsMajority, IsAgreed, decided, undecided, agreed_of}
 use Rattle.sift_vote.proofs.lemmas.Votes.{no_majority}
 use Rattle.sift_vote.proofs.lemmas.Found.{agreed_word_is_found}
 use Rattle.sift_agree.specs.Agreement.{HoldsNoMajority}

@@ -4,8 +4,7 @@ use Rattle.std.specs.Prelude.{count_by}
 use Rattle.std.proofs.lemmas.Bool.{cases_Bool}
 use Rattle.std.proofs.lemmas.Bool.Decides.{nat_tests}
 use Rattle.std.proofs.lemmas.List.Sums.{sum_by-cons}
-use Rattle.sift_base.specs.Units.{has, others}
-use Rattle.sift_base.specs.Margin.{working_count, faulty_count}
+use Rattle.sift_base.specs.Units.{has, others, working_count, faulty_count}
 
 -- ---- counts
 

@@ -3,7 +3,7 @@ use Rattle.std.proofs.Common.{◌≡◌, ◌≢◌, ℕ, ◌*◌, ◌+◌, ◌<�
 use Rattle.std.proofs.lemmas.Nat.{mul-le, mul-add-lt}
 use Rattle.sift_buffer.specs.Conduct.{Conduct, never, last_progress}
 use Rattle.sift_buffer.specs.Lawful.{HasStage}
-use Rattle.sift_mission.specs.Mission.{FlownMission}
+use Rattle.sift_mission.specs.Data.{FlownMission}
 use Rattle.sift_mission.specs.Fits.{Fits}
 use Rattle.sift_mission.specs.PartsFit.{frame_limit, longest_period}
 use Rattle.sift_unit.specs.Desk.{Desk}

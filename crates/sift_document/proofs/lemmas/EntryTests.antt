@@ -8,8 +8,7 @@ use Rattle.toml.specs.View.{view}
 use Rattle.toml.specs.declared.value.Value.{Value}
 use Rattle.sift_document.proofs.lemmas.Places.{map_map}
 use Rattle.sift_document.specs.Document.{IsArrayOf, entries_of, members_of}
-use Rattle.sift_document.specs.Entries.{HoldsOf}
-use Rattle.sift_document.specs.Rules.{BreaksEntries}
+use Rattle.sift_document.specs.Rules.{HoldsOf, BreaksEntries}
 use Rattle.sift_document.specs.Testing.{RefusesBy, Tests}
 use Rattle.sift_document.specs.declared.rule.BrokenRule.{BrokenRule}
 

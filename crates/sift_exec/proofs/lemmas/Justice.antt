@@ -2,8 +2,7 @@
 use Rattle.std.proofs.Common.{◌≡◌, ℕ, ◌≤◌, Bool, true, false, not, ◌&&◌, cond, nat_eq, nat_lt, List, [], ◌∷◌, length, filter, count_by, arith, ap, ◌∙◌, sym, refl, inl, inr}
 use Rattle.std.proofs.lemmas.Bool.{cases_Bool, eqb-true, le-ltb}
 use Rattle.std.proofs.lemmas.List.Sums.{length-filter}
-use Rattle.sift_base.specs.Units.{has, others}
-use Rattle.sift_base.specs.Margin.{faulty_count, HasMargin}
+use Rattle.sift_base.specs.Units.{has, others, faulty_count, HasMargin}
 use Rattle.sift_base.proofs.lemmas.Counts.{count-cons, count-yes, count-no, has-head, has-tail}
 use Rattle.sift_base.proofs.lemmas.Others.{has-others, count-others-≤, others_work}
 use Rattle.sift_base.specs.ReadBack.{false_last}

@@ -6,8 +6,7 @@ use Rattle.std.specs.List.{filter}
 use Rattle.std.proofs.lemmas.Bool.{cases_Bool, le-leb, lt-leb}
 use Rattle.std.proofs.lemmas.List.{append-nil, length-take-le}
 use Rattle.std.proofs.lemmas.List.Elements.{filter_more}
-use Rattle.sift_base.specs.Margin.{faulty_count, working_count}
-use Rattle.sift_base.specs.Units.{has, IsAscending, unit_limit}
+use Rattle.sift_base.specs.Units.{faulty_count, working_count, has, IsAscending, unit_limit}
 use Rattle.sift_base.proofs.lemmas.Counts.{both_counts, count-yes, count-no, has-head, has-tail}
 use Rattle.sift_base.proofs.lemmas.Sets.{below_has}
 use Rattle.sift_config.specs.Config.{IsConfig}

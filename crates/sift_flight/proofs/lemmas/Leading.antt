@@ -5,9 +5,9 @@ use Rattle.std.proofs.lemmas.Bool.{cases_Bool}
 use Rattle.sift_base.specs.Units.{has}
 use Rattle.sift_base.proofs.lemmas.Counts.{has-head, has-tail}
 use Rattle.sift_base.proofs.lemmas.Others.{not_same}
-use Rattle.sift_mission.specs.Mission.{FlownMission}
+use Rattle.sift_mission.specs.Data.{FlownMission}
 use Rattle.sift_flight.specs.Flight.{Flight, config_of}
-use Rattle.sift_flight.specs.Configuration.{Works, lead_of, config_at}
+use Rattle.sift_flight.specs.Figures.{Works, lead_of, config_at}
 use Rattle.sift_mission.specs.Premises.{IsFlyable}
 
 -- where some unit of a list passes a test, the first that does is in the list, and passes

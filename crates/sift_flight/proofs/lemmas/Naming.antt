@@ -5,15 +5,13 @@ use Rattle.std.proofs.lemmas.Cmp.{nat_cmp_total}
 use Rattle.std.specs.FinSet as set
 use Rattle.sift_base.specs.Units.{has, holds}
 use Rattle.sift_base.specs.declared.slot.Slot.TheVariants.{Sense, RelaySense}
-use Rattle.sift_exec.specs.Record.{everyone_in}
+use Rattle.sift_exec.specs.Conviction.{everyone_in}
 use Rattle.sift_exec.specs.declared.catches.Catches.{Catches}
 use Rattle.sift_config.specs.Config.{reader_of}
-use Rattle.sift_mission.specs.Mission.{FlownMission}
-use Rattle.sift_conduct.specs.Account.{caught}
-use Rattle.sift_conduct.specs.Conduct.{relay_catches, clock_catches}
+use Rattle.sift_mission.specs.Data.{FlownMission}
+use Rattle.sift_conduct.specs.Conduct.{caught, relay_catches, clock_catches}
 use Rattle.sift_conduct.specs.Frames.{last_of}
-use Rattle.sift_flight.specs.Flight.{Flight}
-use Rattle.sift_flight.specs.Hearing.{Strays}
+use Rattle.sift_flight.specs.Flight.{Flight, Strays}
 use Rattle.sift_flight.proofs.Calls.{and_both, told_apart}
 use Rattle.sift_flight.proofs.Ideal.{IsStep}
 use Rattle.sift_flight.proofs.Working.{InFrame, Member, conduct_here, hears, relay_call, sense_call}

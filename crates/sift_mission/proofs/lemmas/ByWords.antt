@@ -5,10 +5,9 @@ use Rattle.std.proofs.lemmas.List.{append-nil, append_assoc, length-map, length-
 use Rattle.std.proofs.lemmas.List.Sums.{sum_by_more_le}
 use Rattle.sift_lang.specs.Tree.{TaskTree, tree_of}
 use Rattle.sift_lang.specs.declared.tree.Task.{Task}
-use Rattle.sift_program.specs.Sound.{output_count}
+use Rattle.sift_program.specs.Program.{output_count, shapes_from}
 use Rattle.sift_table.specs.Timing.{task_among}
 use Rattle.sift_mission.specs.ByWord.{by_word}
-use Rattle.sift_program.specs.Needs.{shapes_from}
 use Rattle.sift_program.proofs.lemmas.ShapeLists.{output_count-cons}
 
 -- each word has a task

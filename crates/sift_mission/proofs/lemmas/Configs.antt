@@ -4,7 +4,7 @@ use Rattle.std.specs.Prelude.{slice_index}
 use Rattle.sift_base.specs.Units.{has}
 use Rattle.sift_base.proofs.lemmas.Counts.{has-head, has-tail}
 use Rattle.sift_config.specs.Config.{reader_of}
-use Rattle.sift_mission.specs.Mission.{FlownMission, IsConfigOf}
+use Rattle.sift_mission.specs.Data.{FlownMission, IsConfigOf}
 
 -- a list has what stands at its places
 has-at : (us : List ℕ) (i : ℕ) → i < length us → has us (slice_index us i) ≡ true

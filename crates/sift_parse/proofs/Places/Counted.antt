@@ -3,8 +3,7 @@ use Rattle.std.proofs.Common.{◌≡◌, ℕ, zero, suc, ◌+◌, Bool, true, fa
 use Rattle.sift_lang.specs.declared.tree.Op.TheVariants.{Sub}
 use Rattle.sift_parse.specs.declared.token.Sign.TheVariants.{OpenParen, CloseParen, OpenBrace, CloseBrace}
 use Rattle.sift_parse.specs.Lexeme.{Lexeme, operator, mark}
-use Rattle.sift_parse.specs.Levels.{ends_operand, leaves_paren, ends_prim, passes_prim, opens_after, stays_open, opened}
-use Rattle.sift_parse.specs.Locals.{leaves}
+use Rattle.sift_parse.specs.Levels.{ends_operand, leaves_paren, ends_prim, passes_prim, opens_after, stays_open, opened, leaves}
 use Rattle.sift_parse.proofs.Places.Tidy.{Open, brace, paren, minus}
 use Rattle.sift_parse.proofs.Places.Depths.{Entry, run, listed, kind_of, entries}
 

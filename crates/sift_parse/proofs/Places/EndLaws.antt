@@ -4,13 +4,10 @@ use Rattle.sift_parse.specs.declared.token.Keyword as keywords
 use Rattle.sift_parse.specs.declared.token.Sign.TheVariants.{OpenParen, CloseParen, OpenBrace, CloseBrace, Semicolon}
 use Rattle.sift_parse.specs.declared.token.Token.{Token}
 use Rattle.sift_parse.specs.EndLaws.{ExpressionsEndNothing, BlocksEndNoBlock}
-use Rattle.sift_parse.specs.Keywords.{keyword_of}
-use Rattle.sift_parse.specs.Lexeme.{Lexeme, word, numeral, mark}
-use Rattle.sift_parse.specs.Place.{Place, place_after}
+use Rattle.sift_parse.specs.Lexeme.{keyword_of, Lexeme, word, numeral, mark}
+use Rattle.sift_parse.specs.Tokens.{Place, place_after, number_token, task_asked, word_token, tokens_after}
 use Rattle.sift_parse.specs.Roll.{Roll}
-use Rattle.sift_parse.specs.Tokens.{number_token, task_asked, word_token, tokens_after}
-use Rattle.sift_parse.specs.Levels.{leaves_paren}
-use Rattle.sift_parse.specs.Locals.{ends, leaves}
+use Rattle.sift_parse.specs.Levels.{leaves_paren, ends, leaves}
 use Rattle.sift_parse.proofs.Places.Placing.{tokens_after-append}
 use Rattle.sift_parse.proofs.Places.EndTokens.{level-same, block-same, over, out, paren_out}
 

@@ -4,9 +4,8 @@ use Rattle.std.specs.Prelude.{fold, map}
 use Rattle.std.proofs.lemmas.List.{append-nil, length-map}
 use Rattle.sift_parse.specs.Force.{Force, keyword_before, advance, at_start, force_after, token_of, tokens_from, tokens_of}
 use Rattle.sift_parse.specs.Lexeme.{Lexeme}
-use Rattle.sift_parse.specs.Place.{last_of}
+use Rattle.sift_parse.specs.Tokens.{last_of, role_after}
 use Rattle.sift_parse.specs.Roll.{Roll}
-use Rattle.sift_parse.specs.Tokens.{role_after}
 use Rattle.sift_parse.specs.Levels.{levels_open as spec_levels_open}
 use Rattle.sift_parse.specs.Grammar.{Begins}
 use Rattle.sift_parse.proofs.Places.States.{shape, state_of, state-next}

@@ -8,11 +8,10 @@ use Rattle.sift_parse.specs.declared.token.Sign.TheVariants.{OpenParen, ClosePar
 use Rattle.sift_parse.specs.declared.token.Token.{Token}
 use Rattle.sift_parse.specs.declared.token.Token.TheVariants.{Name, Operator, Sign}
 use Rattle.sift_parse.specs.Force.{Force, Level, block, parenthesis, negation, keyword_before, opens, without_minuses, oldest, leave_block, end_let, advance, at_start, force_after, task_asked, token_of, tokens_from, tokens_of}
-use Rattle.sift_parse.specs.Keywords.{keyword_of}
-use Rattle.sift_parse.specs.Lexeme.{Lexeme, word, numeral, operator, mark}
+use Rattle.sift_parse.specs.Lexeme.{keyword_of, Lexeme, word, numeral, operator, mark}
 use Rattle.sift_parse.specs.Roll.{Roll}
 use Rattle.sift_parse.specs.Tokens.{Role, new_local, a_sensor, a_task, old_local, role_after, number_token}
-use Rattle.sift_parse.specs.Locals.{living}
+use Rattle.sift_parse.specs.Levels.{living}
 use Rattle.sift_parse.specs.Grammar.{Begins}
 use Rattle.sift_parse.proofs.Places.States.{shape, is_open, state_of, state-next}
 use Rattle.sift_parse.proofs.Places.Tidy.{State, InBlock, InParen, OkHere, OkLet, Ok, Tidy}

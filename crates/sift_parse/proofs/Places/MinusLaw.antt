@@ -5,11 +5,9 @@ use Rattle.sift_parse.specs.declared.token.Keyword as keywords
 use Rattle.sift_parse.specs.declared.token.Keyword.TheVariants.{Now, Last}
 use Rattle.sift_parse.specs.declared.token.Sign.TheVariants.{OpenParen, CloseParen}
 use Rattle.sift_parse.specs.declared.token.Token.{Token}
-use Rattle.sift_parse.specs.Keywords.{keyword_in, keyword_of}
-use Rattle.sift_parse.specs.Lexeme.{Lexeme, word, numeral, operator, mark}
-use Rattle.sift_parse.specs.Place.{Place, place_after}
+use Rattle.sift_parse.specs.Lexeme.{keyword_in, keyword_of, Lexeme, word, numeral, operator, mark}
+use Rattle.sift_parse.specs.Tokens.{Place, place_after, number_token, task_asked, word_token, tokens_after}
 use Rattle.sift_parse.specs.Roll.{Roll}
-use Rattle.sift_parse.specs.Tokens.{number_token, task_asked, word_token, tokens_after}
 use Rattle.sift_parse.specs.Levels.{reads_task, passes_prim}
 use Rattle.sift_parse.specs.MinusLaw.{MinusEndsWithPrim}
 use Rattle.sift_parse.proofs.Places.Placing.{tokens_after-append}

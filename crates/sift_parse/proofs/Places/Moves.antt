@@ -9,8 +9,7 @@ use Rattle.sift_parse.specs.declared.token.Sign.TheVariants.{OpenParen, ClosePar
 use Rattle.sift_parse.specs.declared.token.Token.{Token}
 use Rattle.sift_parse.specs.declared.token.Token.TheVariants.{Name, Operator, Sign}
 use Rattle.sift_parse.specs.Force.{Force, keyword_before, word_token, task_asked, token_of}
-use Rattle.sift_parse.specs.Keywords.{keyword_of}
-use Rattle.sift_parse.specs.Lexeme.{Lexeme, word, numeral, operator, mark}
+use Rattle.sift_parse.specs.Lexeme.{keyword_of, Lexeme, word, numeral, operator, mark}
 use Rattle.sift_parse.specs.Roll.{Roll}
 use Rattle.sift_parse.specs.Tokens.{Role, new_local, a_sensor, a_task, old_local, role_after}
 use Rattle.sift_parse.specs.Levels.{ends_operand, reads_task, ends_prim, opens_after}

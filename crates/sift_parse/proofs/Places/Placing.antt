@@ -7,9 +7,8 @@ use Rattle.sift_parse.specs.declared.token.Sign.TheVariants.{CloseBrace, Semicol
 use Rattle.sift_parse.specs.declared.token.Token.{Token}
 use Rattle.sift_parse.specs.Force.{Force, Level, block, parenthesis, negation, keyword_before, opens, leave_block, end_let, after_name, after_word, moved, advance, at_start, force_after, place_of, tokens_from}
 use Rattle.sift_parse.specs.Lexeme.{Lexeme, word, numeral, operator, mark}
-use Rattle.sift_parse.specs.Place.{Place, last_of, last_word, place_after}
+use Rattle.sift_parse.specs.Tokens.{Place, last_of, last_word, place_after, token_of, tokens_after, tokens_of}
 use Rattle.sift_parse.specs.Roll.{Roll}
-use Rattle.sift_parse.specs.Tokens.{token_of, tokens_after, tokens_of}
 use Rattle.sift_parse.specs.Grammar.{IsTask, Begins}
 use Rattle.sift_parse.specs.Force as force
 use Rattle.sift_parse.specs.Seen.{PlacesAreForce}

@@ -2,7 +2,7 @@
 use Rattle.std.proofs.Common.{◌≡◌, ℕ, Bool, true, false, if◌then◌else◌, List, [], ◌∷◌, ◌++◌, length, refl, sym, ap, ◌∙◌, subst, append_assoc}
 use Rattle.sift_parse.specs.declared.token.Sign.TheVariants.{OpenBrace, CloseBrace, Semicolon}
 use Rattle.sift_parse.specs.Lexeme.{Lexeme, word, mark}
-use Rattle.sift_parse.specs.Locals.{is_let, ends, local_by, living}
+use Rattle.sift_parse.specs.Levels.{is_let, ends, local_by, living}
 use Rattle.sift_parse.proofs.Places.Seen.{Balanced, Stays, balanced-stays, balanced-append, balanced-block, opened-stays, Settled, settled-append, living-append, none-after, oldest-append}
 
 -- ---- lexemes inside a `let`

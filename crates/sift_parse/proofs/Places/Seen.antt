@@ -4,7 +4,7 @@ use Rattle.std.proofs.lemmas.List.{append-nil}
 use Rattle.sift_parse.specs.declared.token.Sign.TheVariants.{OpenBrace, CloseBrace, Semicolon}
 use Rattle.sift_parse.specs.Force.{oldest}
 use Rattle.sift_parse.specs.Lexeme.{Lexeme, word, mark}
-use Rattle.sift_parse.specs.Locals.{is_let, ends, leaves, local_by, living}
+use Rattle.sift_parse.specs.Levels.{is_let, ends, leaves, local_by, living}
 
 -- ---- what leaves a block
 

@@ -6,8 +6,7 @@ use Rattle.sift_lang.specs.declared.tree.Op.{Op}
 use Rattle.sift_lang.specs.declared.tree.Op.TheVariants.{Add, Sub, Mul, Div, Rem, And, Or, Xor, Shl, Shr, Lt, Eq}
 use Rattle.sift_parse.specs.Force.{Force, negation, opens, without_minuses}
 use Rattle.sift_parse.specs.Levels.{ends_operand}
-use Rattle.sift_parse.specs.Lexeme.{Lexeme, operator}
-use Rattle.sift_parse.specs.Limits.{number_limit}
+use Rattle.sift_parse.specs.Lexeme.{Lexeme, operator, number_limit}
 use Rattle.sift_parse.specs.Pieces.{figure, joined}
 use Rattle.sift_parse.specs.Refusal.{LacksWord}
 use Rattle.sift_parse.specs.Roll.{Roll}

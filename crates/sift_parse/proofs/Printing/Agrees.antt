@@ -3,7 +3,7 @@ use Rattle.std.proofs.Common.{◌≡◌, ℕ, ◌<◌, List, length, Some, is_no
 use Rattle.sift_parse.specs.declared.token.Keyword.{Keyword}
 use Rattle.sift_parse.specs.declared.token.Keyword.TheVariants.{Let, Out, If, Else, Repeat, Mid, Sense, Now, Last}
 use Rattle.sift_parse.specs.Force.{Force, at_start, advance, keyword_before, task_asked, word_token, token_of}
-use Rattle.sift_parse.specs.Keywords.{keyword_of}
+use Rattle.sift_parse.specs.Lexeme.{keyword_of}
 use Rattle.sift_parse.specs.Levels.{ends_operand}
 use Rattle.sift_parse.specs.Pieces.{Item, key, keyword_bytes, lexeme_for}
 use Rattle.sift_parse.specs.Roll.{Roll, number_in}

@@ -5,7 +5,7 @@ use Rattle.sift_lang.specs.Sound.{locals_after}
 use Rattle.sift_lang.specs.Tree.{Term, Statement, bind, assign, output, choose, choose_else, repeat, Block, end, step}
 use Rattle.sift_parse.specs.declared.token.Sign.TheVariants.{CloseBrace}
 use Rattle.sift_parse.specs.Grammar.{no_statement, a_statement}
-use Rattle.sift_parse.specs.Limits.{level_limit}
+use Rattle.sift_parse.specs.Lexeme.{level_limit}
 use Rattle.sift_parse.specs.Pieces.{sign, Piece}
 use Rattle.sift_parse.specs.Printable.{depth, depth_of, depth_in}
 use Rattle.sift_parse.specs.Printing.{Naming, print_term, print_statement, print_block}

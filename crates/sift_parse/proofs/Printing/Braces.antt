@@ -1,12 +1,11 @@
 -- How statements with blocks in braces are printed.
 use Rattle.std.proofs.Common.{◌≡◌, ℕ, ◌<◌, ◌≤◌, Bool, List, ◌∷◌, length, None, refl, sym, ap, ◌∙◌, arith}
-use Rattle.sift_lang.specs.Limits.{round_limit}
-use Rattle.sift_lang.specs.Tree.{Term, choose, choose_else, repeat, Block}
+use Rattle.sift_lang.specs.Tree.{round_limit, Term, choose, choose_else, repeat, Block}
 use Rattle.sift_parse.specs.declared.token.Keyword.TheVariants.{If, Else, Repeat}
 use Rattle.sift_parse.specs.declared.token.Sign.TheVariants.{OpenBrace, CloseBrace}
 use Rattle.sift_parse.specs.Force.{without_minuses, oldest}
 use Rattle.sift_parse.specs.Grammar.{an_if, an_if_else, a_repeat}
-use Rattle.sift_parse.specs.Limits.{level_limit}
+use Rattle.sift_parse.specs.Lexeme.{level_limit}
 use Rattle.sift_parse.specs.Pieces.{key, figure, sign, Piece, piece, far}
 use Rattle.sift_parse.specs.Printing.{Naming, in_braces}
 use Rattle.sift_parse.specs.Roll.{Roll}

@@ -4,13 +4,12 @@ use Rattle.std.specs.Fmt.{decimal}
 use Rattle.std.proofs.lemmas.Fmt.{decimal_is_IsNumeral}
 use Rattle.sift_parse.specs.declared.token.Sign.{Sign}
 use Rattle.sift_parse.specs.declared.token.Sign.TheVariants.{Assign, OpenParen, CloseParen, OpenBrace, CloseBrace, Comma, Dot, Semicolon}
-use Rattle.sift_parse.specs.Lexeme.{Lexeme, word, numeral, operator, mark, sign_bytes, kept, IsLexeme}
+use Rattle.sift_parse.specs.Lexeme.{Lexeme, word, numeral, operator, mark, sign_bytes, kept, IsLexeme, number_limit}
 use Rattle.sift_parse.specs.Pieces.{lexeme_for, printed, Piece, blank_if, text_of}
 use Rattle.sift_parse.proofs.Lexing.Ends.{Ends, word-front}
 use Rattle.sift_parse.proofs.Lexing.Front.{number-front}
 use Rattle.sift_parse.proofs.Printing.Spacing.{Parts, IsParting, EndsOperand, MayFollow, IsFormed}
 use Rattle.std.proofs.lemmas.Bool.Decides.{nat_tests}
-use Rattle.sift_parse.specs.Limits.{number_limit}
 use Rattle.sift_parse.proofs.Printing.SignFronts.{blank-ends, operator-printed, sign-printed}
 
 -- ---- words and numbers

@@ -7,7 +7,7 @@ use Rattle.std.proofs.lemmas.Slice.Eq.{bytes_eq-Decides}
 use Rattle.sift_base.specs.Name.{name_limit, keywords, HasNameForm, IsNameByte}
 use Rattle.sift_parse.specs.declared.token.Keyword.{Keyword}
 use Rattle.sift_parse.specs.declared.token.Keyword.TheVariants.{Let, Out, If, Else, Repeat, Mid, Sense, Now, Last}
-use Rattle.sift_parse.specs.Keywords.{keyword_of}
+use Rattle.sift_parse.specs.Lexeme.{keyword_of}
 use Rattle.sift_parse.specs.Pieces.{keyword_bytes}
 
 -- ---- the form of keywords

@@ -4,7 +4,7 @@ use Rattle.sift_lang.specs.Sound.{Bounds, IsSoundBlock, locals_after}
 use Rattle.sift_lang.specs.Tree.{Statement, Block, end, step}
 use Rattle.sift_parse.specs.Answer.{HasSize}
 use Rattle.sift_parse.specs.Grammar.{IsTask, no_statement, a_statement}
-use Rattle.sift_parse.specs.Limits.{level_limit}
+use Rattle.sift_parse.specs.Lexeme.{level_limit}
 use Rattle.sift_parse.specs.Printable.{most_locals_in, depth_in, PrintedTreeIsTask}
 use Rattle.sift_parse.specs.Printing.{Naming, print_statement, print_block, print_body, printed_text}
 use Rattle.sift_parse.specs.Refusal.{IsParsed}

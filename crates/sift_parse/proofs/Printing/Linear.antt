@@ -3,9 +3,8 @@ use Rattle.std.proofs.Common.{◌≡◌, ℕ, ◌<◌, ◌≤◌, ◌^◌, List,
 use Rattle.std.specs.Fmt.{decimal}
 use Rattle.std.proofs.lemmas.Fmt.{decimal_digit, length-decimal-le}
 use Rattle.sift_lang.specs.Tree.{Block}
-use Rattle.sift_parse.specs.Limits.{text_limit}
-use Rattle.sift_parse.specs.Linear.{linear_text, linear_tree, HasOneWord, LinearTextIsParsed}
-use Rattle.sift_parse.specs.Outcome.{AreNames}
+use Rattle.sift_parse.specs.Lexeme.{text_limit}
+use Rattle.sift_parse.specs.Outcome.{linear_text, linear_tree, HasOneWord, LinearTextIsParsed, AreNames}
 use Rattle.sift_parse.specs.Printing.{Naming, printed_text}
 use Rattle.sift_parse.specs.Refusal.{IsParsed}
 use Rattle.sift_parse.specs.Roll.{Roll, first_word}

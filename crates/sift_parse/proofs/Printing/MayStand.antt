@@ -1,12 +1,12 @@
 -- Where an item may stand, so that no refusal stands at it.
 use Rattle.std.proofs.Common.{◌≡◌, ℕ, ◌<◌, ◌≤◌, Bool, true, false, List, [], ◌∷◌, length, slice_index, Option, Some, None}
 use Rattle.sift_base.specs.Name.{IsName}
-use Rattle.sift_lang.specs.Limits.{local_limit, round_limit}
+use Rattle.sift_lang.specs.Tree.{local_limit, round_limit}
 use Rattle.sift_parse.specs.declared.token.Keyword.{Keyword}
 use Rattle.sift_parse.specs.declared.token.Keyword.TheVariants.{Let, Repeat, Now}
 use Rattle.sift_parse.specs.declared.token.Sign.{Sign}
 use Rattle.sift_parse.specs.declared.token.Sign.TheVariants.{OpenParen, OpenBrace, Dot}
-use Rattle.sift_parse.specs.Limits.{level_limit, number_limit}
+use Rattle.sift_parse.specs.Lexeme.{level_limit, number_limit}
 use Rattle.sift_parse.specs.Pieces.{Item, key, called, figure, joined, sign}
 use Rattle.sift_parse.specs.Roll.{Roll, number_in}
 use Rattle.sift_parse.specs.Tokens.{Role, new_local, a_sensor, a_task, old_local, role_after, local_of}

@@ -1,9 +1,9 @@
 -- What a tree names has its name, and its numbers are those that a text may hold.
 use Rattle.std.proofs.Common.{◌≡◌, ℕ, ◌+◌, ◌<◌, ◌≤◌, List, ◌∷◌, length, slice_index, Some}
 use Rattle.sift_base.specs.Name.{IsName}
-use Rattle.sift_lang.specs.Limits.{local_limit, round_limit}
+use Rattle.sift_lang.specs.Tree.{local_limit, round_limit}
 use Rattle.sift_lang.specs.Tree.{Term, number, local, sense, this_frame, last_frame, minus, binary, middle, Statement, bind, assign, output, choose, choose_else, repeat, Block, end, step}
-use Rattle.sift_parse.specs.Limits.{number_limit}
+use Rattle.sift_parse.specs.Lexeme.{number_limit}
 use Rattle.sift_parse.specs.Printing.{Naming}
 use Rattle.sift_parse.specs.Roll.{Roll, number_in, first_word}
 use Rattle.sift_parse.specs.Tokens.{local_of}

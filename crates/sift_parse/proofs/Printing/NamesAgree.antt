@@ -5,8 +5,7 @@ use Rattle.sift_parse.specs.declared.token.Keyword.TheVariants.{Now}
 use Rattle.sift_parse.specs.declared.token.Token.{Token}
 use Rattle.sift_parse.specs.declared.token.Token.TheVariants as token
 use Rattle.sift_parse.specs.Force.{Force, advance, keyword_before, without_minuses, named_by, number_named, word_token}
-use Rattle.sift_parse.specs.Keywords.{keyword_of}
-use Rattle.sift_parse.specs.Lexeme.{word}
+use Rattle.sift_parse.specs.Lexeme.{keyword_of, word}
 use Rattle.sift_parse.specs.Pieces.{called}
 use Rattle.sift_parse.specs.Refusal.{IsNotBefore}
 use Rattle.sift_parse.specs.Roll.{Roll, number_in}

@@ -8,7 +8,7 @@ use Rattle.sift_parse.specs.declared.token.Sign.TheVariants.{OpenParen, ClosePar
 use Rattle.sift_parse.specs.declared.token.Token.TheVariants as token
 use Rattle.sift_parse.specs.Force.{without_minuses}
 use Rattle.sift_parse.specs.Grammar.{level_of, a_minus, in_parens, a_middle, IsLevel, a_prim}
-use Rattle.sift_parse.specs.Limits.{level_limit}
+use Rattle.sift_parse.specs.Lexeme.{level_limit}
 use Rattle.sift_parse.specs.Pieces.{key, joined, sign, Piece, piece, far, near}
 use Rattle.sift_parse.specs.Printing.{left_level}
 use Rattle.sift_parse.specs.Roll.{Roll}

@@ -7,7 +7,7 @@ use Rattle.sift_parse.specs.declared.token.Keyword.TheVariants.{Sense, Now, Last
 use Rattle.sift_parse.specs.declared.token.Sign.TheVariants.{Dot}
 use Rattle.sift_parse.specs.declared.token.Token.TheVariants as token
 use Rattle.sift_parse.specs.Grammar.{IsPrim, a_number, a_local, a_sensor, of_this_frame, of_last_frame, IsLevel, a_prim}
-use Rattle.sift_parse.specs.Limits.{number_limit}
+use Rattle.sift_parse.specs.Lexeme.{number_limit}
 use Rattle.sift_parse.specs.Pieces.{key, called, figure, sign, Piece, piece, far, near}
 use Rattle.sift_parse.specs.Roll.{Roll, number_in}
 use Rattle.sift_parse.specs.Tokens.{old_local, local_of}

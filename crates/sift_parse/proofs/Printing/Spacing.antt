@@ -4,8 +4,7 @@ use Rattle.sift_base.specs.Name.{HasNameForm}
 use Rattle.sift_lang.specs.declared.tree.Op.TheVariants.{Sub}
 use Rattle.sift_parse.specs.declared.token.Sign.{Sign}
 use Rattle.sift_parse.specs.declared.token.Sign.TheVariants.{Assign, OpenBrace, CloseBrace}
-use Rattle.sift_parse.specs.Lexeme.{Lexeme, word, numeral, operator, mark}
-use Rattle.sift_parse.specs.Limits.{number_limit}
+use Rattle.sift_parse.specs.Lexeme.{Lexeme, word, numeral, operator, mark, number_limit}
 use Rattle.sift_parse.specs.Pieces.{lexeme_for, Piece}
 
 -- the sign goes on with nothing: a word or a number may stand directly before it, and anything directly after it

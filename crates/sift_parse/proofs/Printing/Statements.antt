@@ -1,14 +1,13 @@
 -- How statements with an expression are printed, and what is printed of statements and blocks.
 use Rattle.std.proofs.Common.{◌≡◌, ◌≢◌, ℕ, ◌<◌, ◌≤◌, Bool, List, ◌∷◌, ◌++◌, length, Some, None, slice_index, refl, sym, ap, ◌∙◌, subst}
 use Rattle.sift_base.specs.Name.{IsName}
-use Rattle.sift_lang.specs.Limits.{local_limit}
-use Rattle.sift_lang.specs.Tree.{Term, Statement, bind, assign, output, Block}
+use Rattle.sift_lang.specs.Tree.{local_limit, Term, Statement, bind, assign, output, Block}
 use Rattle.sift_parse.specs.declared.token.Keyword.TheVariants.{Let, Out, Now}
 use Rattle.sift_parse.specs.declared.token.Sign.TheVariants.{Assign, Semicolon}
 use Rattle.sift_parse.specs.declared.token.Token.TheVariants as token
 use Rattle.sift_parse.specs.Force.{Level, without_minuses}
 use Rattle.sift_parse.specs.Grammar.{IsStatement, a_let, an_assignment, an_output, IsBlock}
-use Rattle.sift_parse.specs.Limits.{number_limit}
+use Rattle.sift_parse.specs.Lexeme.{number_limit}
 use Rattle.sift_parse.specs.Pieces.{key, called, figure, sign, Piece, piece, far, near}
 use Rattle.sift_parse.specs.Printing.{Naming}
 use Rattle.sift_parse.specs.Roll.{Roll}

@@ -7,7 +7,7 @@ use Rattle.sift_lang.specs.Tree.{Term, number, local, sense, this_frame, last_fr
 use Rattle.sift_parse.specs.declared.token.Keyword.TheVariants.{Mid}
 use Rattle.sift_parse.specs.Force.{without_minuses}
 use Rattle.sift_parse.specs.Grammar.{level_of}
-use Rattle.sift_parse.specs.Limits.{level_limit}
+use Rattle.sift_parse.specs.Lexeme.{level_limit}
 use Rattle.sift_parse.specs.Pieces.{key, joined, Piece, far}
 use Rattle.sift_parse.specs.Printable.{one_more_if, depth}
 use Rattle.sift_parse.specs.Printing.{Naming, in_parens_if, left_level, print_term}

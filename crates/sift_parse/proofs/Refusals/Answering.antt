@@ -9,10 +9,9 @@ use Rattle.sift_parse.specs.declared.stop.ParseStop.{ParseStop}
 use Rattle.sift_parse.specs.declared.stop.ParseStop.TheVariants as stop
 use Rattle.sift_parse.specs.declared.token.Token.{Token}
 use Rattle.sift_parse.specs.Grammar.{IsTask, Begins}
-use Rattle.sift_parse.specs.Lexeme.{Lexeme, Lexes}
+use Rattle.sift_parse.specs.Lexeme.{Lexeme, Lexes, text_limit}
 use Rattle.sift_parse.specs.Outcome.{Tells}
 use Rattle.sift_parse.specs.Roll.{Roll}
-use Rattle.sift_parse.specs.Limits.{text_limit}
 use Rattle.sift_parse.specs.Parsed.{OffendsAt}
 use Rattle.sift_parse.specs.Refusal.{Kind, no_lexeme_here, no_syntax, long_name, large_number, many_rounds, many_locals, deep_level, unknown_name, later_task, lexemes_of, order_of, Stands, IsRefused, IsParsed}
 use Rattle.sift_parse.specs.Written.{placed_of}

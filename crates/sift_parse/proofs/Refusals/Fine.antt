@@ -3,14 +3,12 @@ use Rattle.std.proofs.Common.{◌≡◌, ℕ, ◌<◌, ◌≤◌, IsTrue, true, 
 use Rattle.std.specs.Prelude.{fold}
 use Rattle.sift_base.specs.Name.{name_limit}
 use Rattle.sift_lang.specs.declared.tree.Op.{Op}
-use Rattle.sift_lang.specs.Limits.{local_limit, round_limit}
+use Rattle.sift_lang.specs.Tree.{local_limit, round_limit}
 use Rattle.sift_parse.specs.declared.token.Keyword.{Keyword}
 use Rattle.sift_parse.specs.declared.token.Keyword.TheVariants.{Let, Repeat, Now}
 use Rattle.sift_parse.specs.declared.token.Sign.{Sign}
 use Rattle.sift_parse.specs.Force.{Force, advance, opens, keyword_before, number_named, task_asked}
-use Rattle.sift_parse.specs.Keywords.{keyword_of}
-use Rattle.sift_parse.specs.Lexeme.{Lexeme, word, numeral, operator, mark, Placed}
-use Rattle.sift_parse.specs.Limits.{level_limit, number_limit}
+use Rattle.sift_parse.specs.Lexeme.{keyword_of, Lexeme, word, numeral, operator, mark, Placed, level_limit, number_limit}
 use Rattle.sift_parse.specs.Refusal.{long_name, large_number, many_rounds, many_locals, deep_level, unknown_name, later_task, LacksWord, IsNotBefore, lexemes_of}
 use Rattle.sift_parse.specs.Roll.{Roll, number_in}
 use Rattle.sift_parse.specs.Scanned.{NoneAt}

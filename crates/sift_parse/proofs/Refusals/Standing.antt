@@ -10,9 +10,8 @@ use Rattle.sift_parse.specs.declared.token.Sign.TheVariants.{Assign, OpenParen, 
 use Rattle.sift_parse.specs.Grammar.{Begins}
 use Rattle.sift_parse.specs.Force.{force_after}
 use Rattle.sift_parse.specs.Lexeme.{Lexeme, word, numeral, operator, mark, operator_bytes, sign_bytes, Spells, IsLexeme, Placed, Lexes}
-use Rattle.sift_parse.specs.Place.{place_after}
+use Rattle.sift_parse.specs.Tokens.{place_after, tokens_of, tokens_after}
 use Rattle.sift_parse.specs.Roll.{Roll}
-use Rattle.sift_parse.specs.Tokens.{tokens_of, tokens_after}
 use Rattle.sift_parse.specs.Refusal.{Kind, no_lexeme_here, no_syntax, long_name, large_number, many_rounds, many_locals, deep_level, unknown_name, later_task, BeginsWith, IsNoSyntax, Stands, lexemes_of, NoneBefore}
 use Rattle.sift_parse.specs.Scanned.{StandsIn, StandsAt, IsFine, kind_of}
 use Rattle.sift_parse.proofs.Lexing.OneLexing.{one_lexeme, next_lexeme}

@@ -11,10 +11,9 @@ use Rattle.sift_parse.specs.declared.stop.ParseStop.TheVariants as stop
 use Rattle.sift_parse.specs.declared.token.Token.{Token}
 use Rattle.sift_parse.specs.Grammar.{Begins}
 use Rattle.sift_parse.specs.Force.{tokens_of}
-use Rattle.sift_parse.specs.Lexeme.{Placed, Lexes}
+use Rattle.sift_parse.specs.Lexeme.{Placed, Lexes, text_limit}
 use Rattle.sift_parse.specs.Outcome.{IsStopped, Tells}
 use Rattle.sift_parse.specs.Roll.{Roll}
-use Rattle.sift_parse.specs.Limits.{text_limit}
 use Rattle.sift_parse.specs.Refusal.{no_lexeme_here, lexemes_of, IsRefused}
 use Rattle.sift_parse.specs.Scanned.{IsFine, IsRefusedIn, Scans, end_stop, kind_of, stop_of}
 use Rattle.sift_parse.specs.Written.{IsLexed}

@@ -5,11 +5,9 @@ use Rattle.sift_parse.specs.declared.token.Keyword as keywords
 use Rattle.sift_parse.specs.declared.token.Token.{Token}
 use Rattle.sift_parse.specs.declared.token.Token.TheVariants.{Number, Index}
 use Rattle.sift_parse.specs.Force.{Force, advance, task_asked, word_token, token_of}
-use Rattle.sift_parse.specs.Keywords.{keyword_of}
-use Rattle.sift_parse.specs.Lexeme.{Lexeme, word, numeral, operator, mark}
+use Rattle.sift_parse.specs.Lexeme.{keyword_of, Lexeme, word, numeral, operator, mark, number_limit}
 use Rattle.sift_parse.specs.Roll.{Roll}
 use Rattle.sift_parse.specs.Tokens.{index_meant, number_token}
-use Rattle.sift_parse.specs.Limits.{number_limit}
 use Rattle.sift_parse.specs.Refusal.{LacksWord}
 use Rattle.sift_parse.proofs.Sound.Place.{Fits, Place, Goes, head}
 

@@ -6,8 +6,7 @@ use Rattle.sift_parse.specs.declared.token.Sign as signs
 use Rattle.sift_parse.specs.declared.token.Token.{Token}
 use Rattle.sift_parse.specs.declared.token.Token.TheVariants.{Keyword, Name, Operator, Sign}
 use Rattle.sift_parse.specs.Force.{Force, place_of, advance, number_named, task_asked, word_token, token_of, tokens_from}
-use Rattle.sift_parse.specs.Keywords.{keyword_of}
-use Rattle.sift_parse.specs.Lexeme.{Lexeme, word, numeral, operator, mark}
+use Rattle.sift_parse.specs.Lexeme.{keyword_of, Lexeme, word, numeral, operator, mark}
 use Rattle.sift_parse.specs.Roll.{Roll}
 use Rattle.sift_parse.specs.Tokens.{number_token}
 use Rattle.sift_parse.specs.Refusal.{IsManyRounds, IsManyLocals, IsDeepLevel, IsUnknownName, IsLaterTask}

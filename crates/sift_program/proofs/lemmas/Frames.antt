@@ -15,9 +15,7 @@ use Rattle.sift_lang.proofs.lemmas.States.{length-meaning}
 use Rattle.sift_lang.specs.Meaning.{meaning}
 use Rattle.sift_program.specs.declared.program.TheConstants.{WORD_LIMIT}
 use Rattle.sift_program.specs.declared.program.Program.{Program}
-use Rattle.sift_program.specs.Needs.{task_at}
-use Rattle.sift_program.specs.Program.{ProgramTree, program_of}
-use Rattle.sift_program.specs.Sound.{output_count, first_word, IsSoundProgram}
+use Rattle.sift_program.specs.Program.{task_at, ProgramTree, program_of, output_count, first_word, IsSoundProgram}
 use Rattle.sift_program.specs.Ideal.{words_held, task_words, words_made, ideal_frame}
 
 -- the tree of the task that a loop over the program's tasks has come to

@@ -3,8 +3,7 @@ use Rattle.std.proofs.Common.{◌≡◌, ℕ, zero, suc, ◌+◌, ◌<◌, List,
 use Rattle.std.proofs.lemmas.List.Sums.{sum_by-cons}
 use Rattle.sift_base.specs.Shapes.{Shape, words_in}
 use Rattle.sift_lang.specs.Tree.{TaskTree}
-use Rattle.sift_program.specs.Needs.{shape_in, shapes_from, task_at}
-use Rattle.sift_program.specs.Sound.{output_count}
+use Rattle.sift_program.specs.Program.{shape_in, shapes_from, task_at, output_count}
 
 -- the words of one task more
 pub words_in-cons : (task : Shape) (tasks : List Shape) → words_in (task ∷ tasks) ≡ task.outputs + words_in tasks

@@ -6,7 +6,7 @@ use Rattle.std.proofs.lemmas.Option.{slice_get-get_or, slice_get_within}
 use Rattle.sift_base.specs.Units.{has}
 use Rattle.sift_lang.specs.Tree.{TaskTree, end}
 use Rattle.sift_lang.specs.Meaning.{meaning}
-use Rattle.sift_program.specs.Sound.{output_count, first_word, ReadsEarlierWords}
+use Rattle.sift_program.specs.Program.{output_count, first_word, ReadsEarlierWords}
 use Rattle.sift_program.specs.Ideal.{words_held, task_words, words_made, words_of, MeetsEachTask, IdealFrameIsUnique}
 use Rattle.sift_program.proofs.lemmas.Frames.{task_at-there, first_word-more, length-task_words, length-words_made, words_made-more}
 use Rattle.sift_program.proofs.lemmas.Earlier.{meaning-same}

@@ -5,7 +5,7 @@ use Rattle.std.proofs.lemmas.Bool.Decides.{Decides-like}
 use Rattle.std.specs.Prelude.{slice_index}
 use Rattle.sift_base.specs.Units.{has}
 use Rattle.sift_script.proofs.Tests.{Test, absent, always, ascends, at_most, both, decided, each, less, some_below}
-use Rattle.sift_script.specs.Changes.{changes_in}
+use Rattle.sift_script.specs.Faults.{changes_in}
 use Rattle.sift_script.specs.Laws.{ScriptsAreAnswered}
 use Rattle.sift_script.specs.Rules.{AreReceivers, BreaksFirst, HasFrameBy, HasPlaceBy, IsFirstBroken, IsThere, Meets, MeetsEach, Rule, entry_rules, fails_in_mission, fault_at, leaves_a_unit, number_of, places_there, receivers_there, unit_new, unit_there, units_named}
 use Rattle.sift_script.specs.Script.{Change, FaultScript}

@@ -4,7 +4,7 @@ use Rattle.std.specs.Prelude.{◌≤ℤ◌}
 use Rattle.std.proofs.lemmas.Int.{ints}
 use Rattle.std.proofs.lemmas.Bool.{cases_Bool, eqb-true}
 use Rattle.std.proofs.Math.Nat.{le_of_mul-le-mul_left, mul-le-mul_left, mul-le-mul_right}
-use Rattle.sift_base.specs.Margin.{faulty_count, HasMargin}
+use Rattle.sift_base.specs.Units.{faulty_count, HasMargin}
 use Rattle.sift_base.proofs.lemmas.Counts.{apart, both_counts, length-has}
 use Rattle.sift_skew.specs.Keeping.{AreTogether, AreWithin, next_offsets, SkewIsKept, SkewIsKeptWithoutFaults, SkewIsKeptWithMargin}
 use Rattle.sift_skew.proofs.Products.{room}

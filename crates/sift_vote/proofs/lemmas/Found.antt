@@ -5,8 +5,7 @@ use Rattle.std.proofs.lemmas.Bool.{cases_Bool, ltb-true, lt-ltb}
 use Rattle.std.proofs.lemmas.Bool.Decides.{eqb_tells}
 use Rattle.std.proofs.lemmas.Option.{none-some, same_Some}
 use Rattle.sift_base.proofs.lemmas.Counts.{count-no, count-cons}
-use Rattle.sift_vote.specs.Majority.{is_vote_for, votes_for, IsMajority, IsAgreed, decided, undecided}
-use Rattle.sift_vote.specs.Agreed.{majority_among, majority_of, agreed_of, MajorityIsFound, AgreedWordIsFound}
+use Rattle.sift_vote.specs.Majority.{is_vote_for, votes_for, IsMajority, IsAgreed, decided, undecided, majority_among, majority_of, agreed_of, MajorityIsFound, AgreedWordIsFound}
 use Rattle.sift_vote.proofs.lemmas.Votes.{majority_is_unique, agreement_is_unique}
 
 -- what the search finds is a majority

@@ -1,6 +1,6 @@
 use Rattle.std.proofs.Common.{◌≡◌, ℕ, length, map, Option, Some, arith, ap, ◌∙◌}
 use Rattle.std.specs.List.{range_with_len}
-use Rattle.sift_vote.specs.Agreed.{agreed_of}
+use Rattle.sift_vote.specs.Majority.{agreed_of}
 use Rattle.sift_byz.specs.Charts.{places_at}
 use Rattle.sift_byz.specs.Plan.{plan_of}
 use Rattle.sift_byz.proofs.Charts.{folded_shown}

@@ -1,6 +1,6 @@
 use Rattle.std.proofs.Common.{◌≡◌, Some, map}
 use Rattle.std.specs.List.{range_with_len}
-use Rattle.sift_vote.specs.Agreed.{agreed_of}
+use Rattle.sift_vote.specs.Majority.{agreed_of}
 use Rattle.sift_byz.specs.Charts.{places_at}
 use Rattle.sift_byz.specs.Plan.{plan_of}
 use Rattle.sift_byz.proofs.exchanging.fold.Given as goal

@@ -1,7 +1,7 @@
 use Rattle.std.proofs.Common.{◌≡◌, ◌<◌, ℕ, map, take}
 use Rattle.std.specs.List.{All}
 use Rattle.toml.specs.View.{view}
-use Rattle.sift_document.specs.Entries.{HoldsOf}
+use Rattle.sift_document.specs.Rules.{HoldsOf}
 use Rattle.sift_byz.specs.Plan.{lie_of}
 use Rattle.sift_byz.specs.Stated.{HasWord, IsPath, lie_in}
 use Rattle.sift_byz.proofs.lies.lies_in.Given as goal

@@ -1,5 +1,5 @@
 use Rattle.std.proofs.Common.{◌≡◌, ◌≤◌, ◌++◌, map, length, vec_len, vec_capacity}
-use Rattle.sift_conduct.specs.Account.{account_of}
+use Rattle.sift_conduct.specs.Conduct.{account_of}
 use Rattle.sift_unit.specs.Boards.{desk_of}
 use Rattle.sift_core.proofs.landing.accounts_of.Given as goal
 

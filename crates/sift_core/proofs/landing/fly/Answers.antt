@@ -2,7 +2,7 @@ use Rattle.std.proofs.Common.{◌∙◌, ap, subst}
 use Rattle.sift_base.specs.declared.layout.Layout.{Layout}
 use Rattle.sift_buffer.specs.Core.{Core}
 use Rattle.sift_mission.specs.Parts.{data_of, flown_of}
-use Rattle.sift_flight.specs.Hearing.{no_strays}
+use Rattle.sift_flight.specs.Flight.{no_strays}
 use Rattle.sift_flight.specs.Told.{IsLogged}
 use Rattle.sift_core.specs.Courses.{course}
 use Rattle.sift_core.proofs.Storming.{first_storms, round_by_rogues}

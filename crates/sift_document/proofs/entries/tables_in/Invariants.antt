@@ -1,7 +1,7 @@
 use Rattle.std.proofs.Common.{◌≡◌, ◌<◌, ℕ, map, take}
 use Rattle.toml.specs.View.{table_view, view}
 use Rattle.sift_document.specs.Document.{IsNoTableOf, members_of}
-use Rattle.sift_document.specs.Entries.{HoldsOf}
+use Rattle.sift_document.specs.Rules.{HoldsOf}
 use Rattle.sift_document.proofs.entries.tables_in.Given as goal
 
 -- the tables so far, and no entry so far is another value or has another key

@@ -2,7 +2,7 @@ use Rattle.std.proofs.Common.{◌≡◌, [], map, ◌∙◌, subst, ap, ℕ, ℤ
 use Rattle.std.specs.Prelude.{MatchOption}
 use Rattle.sift_skew.specs.Figures.{IsSkew}
 use Rattle.sift_mission.specs.Parts.{flown_of}
-use Rattle.sift_flight.specs.Configuration.{offsets_at, working_at}
+use Rattle.sift_flight.specs.Figures.{offsets_at, working_at}
 use Rattle.sift_flight.specs.Told.{told}
 use Rattle.sift_flight.proofs.Telling.{skew_found, skew_of_units}
 use Rattle.sift_flight.proofs.clocks.skew_at.Goals as goal

@@ -3,7 +3,7 @@ use Rattle.std.proofs.lemmas.Int.{ints}
 use Rattle.std.specs.Prelude.{MatchOption}
 use Rattle.sift_skew.specs.Figures.{IsSlack}
 use Rattle.sift_mission.specs.Parts.{flown_of}
-use Rattle.sift_flight.specs.Configuration.{next_offsets_at, offsets_at, working_at}
+use Rattle.sift_flight.specs.Figures.{next_offsets_at, offsets_at, working_at}
 use Rattle.sift_flight.specs.Told.{told}
 use Rattle.sift_flight.proofs.Telling.{slack_found, slack_of_units}
 use Rattle.sift_flight.proofs.clocks.slack_at.Goals as goal

@@ -1,7 +1,7 @@
 use Rattle.std.proofs.Common.{◌≡◌, All, take}
 use Rattle.std.specs.List.{filter}
 use Rattle.sift_mission.specs.Parts.{flown_of}
-use Rattle.sift_flight.specs.Configuration.{Works}
+use Rattle.sift_flight.specs.Figures.{Works}
 use Rattle.sift_flight.proofs.figures.working_at.Given as goal
 
 -- the working units among the first ones

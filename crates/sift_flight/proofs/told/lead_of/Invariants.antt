@@ -1,6 +1,6 @@
 use Rattle.std.proofs.Common.{◌≡◌, drop, unwrap_or}
 use Rattle.std.specs.List.{find}
-use Rattle.sift_flight.specs.Configuration.{lead_of}
+use Rattle.sift_flight.specs.Figures.{lead_of}
 use Rattle.sift_mission.specs.Parts.{flown_of}
 use Rattle.sift_flight.proofs.told.lead_of.Given as goal
 

@@ -4,10 +4,8 @@ use Rattle.std.specs.List.{range_with_len}
 use Rattle.sift_base.specs.Draw.{drawn, next_number}
 use Rattle.toml.specs.Data.{Data}
 use Rattle.toml.specs.View.{view}
-use Rattle.sift_gen.specs.Draws.{after, draw_at}
-use Rattle.sift_gen.specs.Entries.{number}
-use Rattle.sift_gen.specs.Scenario.{sensor_words}
-use Rattle.sift_gen.specs.Tasks.{word_values}
+use Rattle.sift_gen.specs.Tasks.{after, draw_at, word_values}
+use Rattle.sift_gen.specs.Scenario.{number, sensor_words}
 use Rattle.sift_gen.proofs.Drawing.{after-none, after-more}
 use Rattle.sift_gen.proofs.Listing.{map-more}
 use Rattle.sift_gen.proofs.sensor.drawn_words.Goals as goal

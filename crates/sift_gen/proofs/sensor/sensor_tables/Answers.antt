@@ -5,7 +5,7 @@ use Rattle.toml.specs.Data.{Data}
 use Rattle.toml.specs.View.{view}
 use Rattle.toml.specs.declared.value.Value.{Table}
 use Rattle.toml.proofs.Views.{view-Table}
-use Rattle.sift_gen.specs.Draws.{after}
+use Rattle.sift_gen.specs.Tasks.{after}
 use Rattle.sift_gen.specs.Scenario.{sensor_table, words_each}
 use Rattle.sift_gen.proofs.Drawing.{after-none, after-after}
 use Rattle.sift_gen.proofs.Listing.{map-more}

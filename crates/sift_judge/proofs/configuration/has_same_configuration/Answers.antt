@@ -1,8 +1,7 @@
 use Rattle.std.proofs.Common.{◌≡◌, ℕ, List, Some, ◌∙◌, sym, subst}
-use Rattle.sift_base.specs.Margin.{HasMargin}
+use Rattle.sift_base.specs.Units.{HasMargin}
 use Rattle.sift_mission.specs.Parts.{data_of}
-use Rattle.sift_report.specs.Told.{config_told, told_at}
-use Rattle.sift_report.specs.Working.{IsWorking, works_in}
+use Rattle.sift_report.specs.Told.{config_told, told_at, IsWorking, works_in}
 use Rattle.sift_judge.proofs.Lists.{one_told}
 use Rattle.sift_judge.proofs.configuration.has_same_configuration.Goals as goal
 

@@ -7,8 +7,7 @@ use Rattle.std.proofs.lemmas.Bool.Decides.{nat_tests}
 use Rattle.sift_base.specs.Units.{holds}
 use Rattle.sift_mission.specs.Parts.{data_of}
 use Rattle.sift_report.specs.Headline.{two_tell}
-use Rattle.sift_report.specs.Told.{caught_told}
-use Rattle.sift_report.specs.Working.{works_in}
+use Rattle.sift_report.specs.Told.{caught_told, works_in}
 use Rattle.sift_judge.proofs.Caught.{count_both, with_one, without_one}
 use Rattle.sift_judge.proofs.faults.caught_by_two.Goals.{then-count_accusers-gt1, else-count_accusers-gt1}
 use Rattle.sift_judge.proofs.faults.caught_by_two.Goals as goal

@@ -2,7 +2,7 @@ use Rattle.std.proofs.Common.{ℕ, ◌<◌}
 use Rattle.std.specs.Prelude.{IsSomeAnd}
 use Rattle.sift_mission.specs.Parts.{data_of}
 use Rattle.sift_report.specs.Told.{line_at}
-use Rattle.sift_report.specs.Form.{IsUnitsLine}
+use Rattle.sift_report.specs.Headline.{IsUnitsLine}
 use Rattle.sift_judge.proofs.form.has_units_lines.Given as goal
 
 -- the units so far have their lines

@@ -1,8 +1,7 @@
 use Rattle.std.proofs.Common.{◌≡◌, ◌∙◌, length, ap, refl, subst, sym}
 use Rattle.sift_mission.specs.Parts.{data_of}
 use Rattle.sift_mission.specs.declared.parts.MissionParts.{MissionParts}
-use Rattle.sift_program.specs.Program.{program_of}
-use Rattle.sift_program.specs.Sound.{IsSoundProgram}
+use Rattle.sift_program.specs.Program.{program_of, IsSoundProgram}
 use Rattle.sift_judge.proofs.Margins.{agreed_length}
 use Rattle.sift_judge.proofs.judging.run_ideal.Goals as goal
 

@@ -2,7 +2,7 @@ use Rattle.std.proofs.Common.{◌≡◌, ℕ, ◌<◌, slice_index, true}
 use Rattle.sift_config.specs.Config.{reader_of}
 use Rattle.sift_mission.specs.Flown.{word_sensed}
 use Rattle.sift_mission.specs.Parts.{data_of}
-use Rattle.sift_report.specs.Working.{works_in}
+use Rattle.sift_report.specs.Told.{works_in}
 use Rattle.sift_judge.proofs.words.are_sensed.Given as goal
 
 -- the words of the sensors so far are the mission's, where a working unit reads them

@@ -3,8 +3,7 @@ use Rattle.std.specs.Prelude.{◌↔◌}
 use Rattle.sift_config.specs.Config.{reader_of}
 use Rattle.sift_mission.specs.Flown.{word_sensed}
 use Rattle.sift_mission.specs.Parts.{data_of}
-use Rattle.sift_report.specs.Told.{config_told, inputs_told}
-use Rattle.sift_report.specs.Working.{works_in}
+use Rattle.sift_report.specs.Told.{config_told, inputs_told, works_in}
 use Rattle.sift_judge.proofs.EachWorking.{decides_each}
 use Rattle.sift_judge.proofs.words.has_same_inputs.Goals as goal
 

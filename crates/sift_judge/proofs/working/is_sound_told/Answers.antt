@@ -1,8 +1,7 @@
 use Rattle.std.proofs.Common.{◌≡◌, Some, ◌∙◌, sym, subst}
-use Rattle.sift_base.specs.Margin.{HasMargin}
+use Rattle.sift_base.specs.Units.{HasMargin}
 use Rattle.sift_mission.specs.Parts.{data_of}
-use Rattle.sift_report.specs.Told.{config_told}
-use Rattle.sift_report.specs.Working.{works_in}
+use Rattle.sift_report.specs.Told.{config_told, works_in}
 use Rattle.sift_judge.proofs.Lists.{one_told}
 use Rattle.sift_judge.proofs.working.is_sound_told.Goals as goal
 

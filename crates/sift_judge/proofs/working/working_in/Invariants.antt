@@ -1,7 +1,7 @@
 use Rattle.std.proofs.Common.{◌≡◌, take}
 use Rattle.std.specs.List.{filter}
 use Rattle.sift_mission.specs.Parts.{data_of}
-use Rattle.sift_report.specs.Working.{works_in}
+use Rattle.sift_report.specs.Told.{works_in}
 use Rattle.sift_judge.proofs.working.working_in.Given as goal
 
 -- the working units among the first ones

@@ -1,7 +1,7 @@
 use Rattle.std.proofs.Common.{◌≡◌, ◌<◌, ℕ, length}
 use Rattle.std.specs.Prelude.{slice_index_or}
 use Rattle.sift_base.specs.Units.{members, units_of}
-use Rattle.sift_mission.specs.Mission.{IsConfigOf}
+use Rattle.sift_mission.specs.Data.{IsConfigOf}
 use Rattle.sift_mission.specs.Crews.{AreCrewsOf}
 use Rattle.sift_mission.specs.Parts.{data_of, flown_of}
 use Rattle.sift_mission.specs.declared.crews.Crews.{Crews}

@@ -1,5 +1,5 @@
 use Rattle.std.proofs.Common.{ℕ, List, subst, arith}
-use Rattle.sift_mission.specs.Mission.{IsConfigOf}
+use Rattle.sift_mission.specs.Data.{IsConfigOf}
 use Rattle.sift_mission.specs.Crews.{AreCrewsOf}
 use Rattle.sift_mission.specs.Parts.{data_of, flown_of}
 use Rattle.sift_mission.proofs.crews.crews_of.Goals as goal

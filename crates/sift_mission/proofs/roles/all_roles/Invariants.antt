@@ -1,5 +1,5 @@
 use Rattle.std.proofs.Common.{◌≡◌, length}
-use Rattle.sift_mission.specs.Mission.{IsConfigOf}
+use Rattle.sift_mission.specs.Data.{IsConfigOf}
 use Rattle.sift_mission.specs.Crews.{AreAllRoles}
 use Rattle.sift_mission.specs.Parts.{data_of, flown_of}
 use Rattle.sift_mission.proofs.roles.all_roles.Given as goal

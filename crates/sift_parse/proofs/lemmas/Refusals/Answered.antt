@@ -6,8 +6,7 @@ use Rattle.sift_lang.specs.Tree.{TaskTree}
 use Rattle.sift_parse.specs.declared.stop.ParseStop.TheVariants as stop
 use Rattle.sift_parse.specs.declared.stop.Which.TheVariants as which
 use Rattle.sift_parse.specs.Answer.{HasAnswer, a_task, a_refusal, NoTextIsUnanswered}
-use Rattle.sift_parse.specs.Lexeme.{Lexeme, Spells, IsLexeme, Placed, Lexes, no_lexeme, is_blank, after_gap, after_comment}
-use Rattle.sift_parse.specs.Limits.{text_limit}
+use Rattle.sift_parse.specs.Lexeme.{Lexeme, Spells, IsLexeme, Placed, Lexes, no_lexeme, is_blank, after_gap, after_comment, text_limit}
 use Rattle.sift_parse.specs.Outcome.{IsStopped, Tells}
 use Rattle.sift_parse.specs.Refusal.{Kind, no_lexeme_here, no_syntax, long_name, large_number, many_rounds, many_locals, deep_level, unknown_name, later_task, order_of, Stands, lexemes_of, NoneBefore}
 use Rattle.sift_parse.specs.Roll.{Roll}

@@ -6,11 +6,10 @@ use Rattle.sift_parse.specs.declared.stop.ParseStop.{ParseStop}
 use Rattle.sift_parse.specs.declared.stop.ParseStop.TheVariants as stop
 use Rattle.sift_parse.specs.declared.stop.Which.TheVariants as which
 use Rattle.sift_parse.specs.Grammar.{IsTask}
-use Rattle.sift_parse.specs.Lexeme.{Lexeme, Lexes}
+use Rattle.sift_parse.specs.Lexeme.{Lexeme, Lexes, text_limit}
 use Rattle.sift_parse.specs.Outcome.{IsTaskOf, IsStopped, Tells}
 use Rattle.sift_parse.specs.Roll.{Roll}
 use Rattle.sift_parse.specs.Tokens.{tokens_of}
-use Rattle.sift_parse.specs.Limits.{text_limit}
 use Rattle.sift_parse.specs.Refusal.{Kind, no_lexeme_here, no_syntax, long_name, large_number, many_rounds, many_locals, deep_level, unknown_name, later_task, BeginsWith, Stands, lexemes_of, IsRefused, IsParsed}
 use Rattle.sift_parse.specs.Answer.{IsSameAnswer, OneAnswer, IsAnswerOf, TaskIsAnswered}
 use Rattle.sift_parse.proofs.Lexing.OneLexing.{one_rest}

@@ -1,7 +1,7 @@
 use Rattle.std.proofs.Common.{◌≡◌, ◌≤◌, Some, None, Err, length, drop, get_or, sym, ap, subst, ◌∙◌, arith}
 use Rattle.std.specs.Option.{option_or}
 use Rattle.sift_lang.specs.Tree.{block_of}
-use Rattle.sift_parse.specs.Limits.{text_limit}
+use Rattle.sift_parse.specs.Lexeme.{text_limit}
 use Rattle.sift_parse.specs.Roll.{roll_of}
 use Rattle.sift_parse.specs.declared.parser.Offence.TheVariants.{Syntax}
 use Rattle.sift_parse.specs.Parsed.{Parses}

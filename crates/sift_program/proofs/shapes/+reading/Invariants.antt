@@ -1,6 +1,6 @@
 use Rattle.std.proofs.Common.{◌≡◌, drop}
 use Rattle.sift_lang.specs.Tree.{block_of}
-use Rattle.sift_program.specs.Needs.{block_reads}
+use Rattle.sift_program.specs.Program.{block_reads}
 use Rattle.sift_program.proofs.shapes.+reading.Given as goal
 
 -- the block reads the word where the statements that are left do

@@ -1,7 +1,7 @@
 use Rattle.std.proofs.Common.{◌≡◌, ◌<◌, ◌+◌, ◌∙◌, map, length, sym, ap, append-nil, arith}
 use Rattle.std.specs.List.{filter, range_with_len}
 use Rattle.sift_lang.specs.Tree.{tree_of}
-use Rattle.sift_program.specs.Needs.{reads_task, task_at}
+use Rattle.sift_program.specs.Program.{reads_task, task_at}
 use Rattle.sift_program.proofs.ShapeLemmas.{filter_next, first_next, first_within, read_is}
 use Rattle.sift_program.proofs.shapes.needs_of.Goals as goal
 use Rattle.sift_program.proofs.shapes.needs_of.Goals.{then-reads_some+in_ok-push, else-reads_some}

@@ -1,8 +1,7 @@
 use Rattle.std.proofs.Common.{◌≡◌, map}
 use Rattle.std.specs.List.{filter, range_with_len}
 use Rattle.sift_lang.specs.Tree.{tree_of}
-use Rattle.sift_program.specs.Sound.{first_word}
-use Rattle.sift_program.specs.Needs.{reads_task, task_at}
+use Rattle.sift_program.specs.Program.{first_word, reads_task, task_at}
 use Rattle.sift_program.proofs.shapes.needs_of.Given as goal
 
 -- those of the tasks so far, and the number of the next one's first word

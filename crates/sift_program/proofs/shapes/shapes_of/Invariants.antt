@@ -1,7 +1,7 @@
 use Rattle.std.proofs.Common.{◌≡◌, map, take}
 use Rattle.sift_base.specs.Shapes.{shape_of}
 use Rattle.sift_lang.specs.Tree.{tree_of}
-use Rattle.sift_program.specs.Needs.{shapes_from}
+use Rattle.sift_program.specs.Program.{shapes_from}
 use Rattle.sift_program.proofs.shapes.shapes_of.Given as goal
 
 -- the shapes of the tasks so far

@@ -1,6 +1,5 @@
 use Rattle.std.proofs.Common.{inl, map, string_bytes}
-use Rattle.sift_reply.specs.Input.{input}
-use Rattle.sift_reply.specs.Output.{output}
+use Rattle.sift_reply.specs.Reply.{input, output}
 use Rattle.sift_reply.specs.Promise.{commands_of}
 use Rattle.sift_reply.proofs.Certain.{certain}
 use Rattle.sift_reply.proofs.call.answer.Goals as goal

@@ -1,7 +1,7 @@
 use Rattle.std.proofs.Common.{◌≤◌, ◌∙◌, ◌++◌, ◌∷◌, [], length, map, take, sym, ap, arith}
 use Rattle.std.proofs.lemmas.List.{length-map, length-take-le, map_more, take_all}
 use Rattle.sift_base.specs.Units.{members}
-use Rattle.sift_exec.specs.Record.{everyone_in}
+use Rattle.sift_exec.specs.Conviction.{everyone_in}
 use Rattle.sift_report.specs.Bad.{catch_of}
 use Rattle.sift_report.specs.declared.catch.Catch.{Catch}
 use Rattle.sift_report.proofs.Catches.{catch_with, few_members}

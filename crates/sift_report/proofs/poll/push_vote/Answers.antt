@@ -1,7 +1,7 @@
 use Rattle.std.proofs.Common.{◌++◌, ◌∙◌, ap, arith, map, get_or, string_bytes}
 use Rattle.sift_mission.specs.Parts.{data_of, flown_of}
 use Rattle.sift_flight.specs.Told.{told}
-use Rattle.sift_vote.specs.Agreed.{majority_of}
+use Rattle.sift_vote.specs.Majority.{majority_of}
 use Rattle.sift_report.specs.Poll.{polled_text}
 use Rattle.sift_report.specs.declared.poll.Poll.{Poll}
 use Rattle.sift_report.proofs.Polls.{name_is, vote_ends, word_low}

@@ -1,5 +1,5 @@
 use Rattle.std.proofs.Common.{ap, ◌∙◌}
-use Rattle.sift_vote.specs.Agreed.{majority_of}
+use Rattle.sift_vote.specs.Majority.{majority_of}
 use Rattle.sift_report.proofs.Polls.{majority_told}
 use Rattle.sift_report.proofs.poll.vote_of.Goals as goal
 

@@ -1,7 +1,6 @@
 use Rattle.std.proofs.Common.{ℕ, List, String, Global, map, string_bytes, sym, subst}
 use Rattle.sift_fleet.specs.Given.{AreGiven}
-use Rattle.sift_reply.specs.Input.{input}
-use Rattle.sift_reply.specs.Output.{output}
+use Rattle.sift_reply.specs.Reply.{input, output}
 use Rattle.sift_reply.specs.Promise.{IsAnswered}
 use Rattle.sift_run.specs.Command.{commands}
 use Rattle.sift_run.proofs.exit.exit_code.Goals as goal

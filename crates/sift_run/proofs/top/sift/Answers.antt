@@ -1,6 +1,5 @@
 use Rattle.std.proofs.Common.{map, string_bytes}
-use Rattle.sift_reply.specs.Input.{input}
-use Rattle.sift_reply.specs.Output.{output}
+use Rattle.sift_reply.specs.Reply.{input, output}
 use Rattle.sift_run.proofs.top.sift.Goals as goal
 
 -- the fleet has the rogues that were handed in

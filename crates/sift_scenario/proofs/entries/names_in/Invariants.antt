@@ -1,7 +1,6 @@
 use Rattle.std.proofs.Common.{◌≡◌, ◌<◌, ℕ, Some, map, take}
 use Rattle.toml.specs.View.{table_view}
-use Rattle.sift_scenario.specs.TaskRules.{BreaksNames}
-use Rattle.sift_scenario.specs.Task.{name_of}
+use Rattle.sift_scenario.specs.Task.{BreaksNames, name_of}
 use Rattle.sift_scenario.proofs.entries.names_in.Given as goal
 
 -- the names of the entries so far, none of which breaks the rule

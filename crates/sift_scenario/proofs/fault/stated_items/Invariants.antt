@@ -2,7 +2,7 @@ use Rattle.std.proofs.Common.{◌≡◌, ◌<◌, ℕ, None, Some, map, take}
 use Rattle.toml.specs.View.{table_view}
 use Rattle.sift_script.specs.Script.{change_of}
 use Rattle.sift_document.specs.Document.{each_read}
-use Rattle.sift_document.specs.Entries.{HoldsOf}
+use Rattle.sift_document.specs.Rules.{HoldsOf}
 use Rattle.sift_scenario.specs.Item.{change_in}
 use Rattle.sift_scenario.proofs.fault.stated_items.Given as goal
 

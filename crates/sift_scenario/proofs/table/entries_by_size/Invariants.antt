@@ -2,7 +2,7 @@ use Rattle.std.proofs.Common.{◌≡◌, ◌≢◌, ◌<◌, ℕ, None, map, tak
 use Rattle.std.specs.List.{All}
 use Rattle.toml.specs.View.{table_view, view}
 use Rattle.sift_document.specs.Document.{members_of}
-use Rattle.sift_document.specs.Entries.{HoldsOf}
+use Rattle.sift_document.specs.Rules.{HoldsOf}
 use Rattle.sift_scenario.specs.Table.{IsNoTableEntry, size_of}
 use Rattle.sift_scenario.proofs.table.entries_by_size.Given as goal
 

@@ -1,7 +1,7 @@
 use Rattle.std.proofs.Common.{◌≡◌, ◌<◌, ◌≤◌, ℕ, length, map, take}
 use Rattle.std.specs.List.{sum}
 use Rattle.sift_base.specs.Layout.{word_limit}
-use Rattle.sift_scenario.specs.TaskRules.{BreaksWords}
+use Rattle.sift_scenario.specs.Task.{BreaksWords}
 use Rattle.sift_scenario.proofs.task.check_words.Given as goal
 
 -- so many words have the tasks so far, and with none of them there are too many

@@ -4,8 +4,7 @@ use Rattle.toml.specs.View.{table_view}
 use Rattle.sift_document.proofs.lemmas.Order.{stopped}
 use Rattle.sift_document.specs.Testing.{RefusesBy}
 use Rattle.sift_scenario.proofs.Starts.{counts_from, read_values}
-use Rattle.sift_scenario.specs.Task.{counts_of, name_of, start_words}
-use Rattle.sift_scenario.specs.TaskRules.{BreaksWords, each_task_rules}
+use Rattle.sift_scenario.specs.Task.{counts_of, name_of, start_words, BreaksWords, each_task_rules}
 use Rattle.sift_scenario.proofs.task.read_tasks.Goals as goal
 
 -- the first rule that is broken is that of the test that stopped

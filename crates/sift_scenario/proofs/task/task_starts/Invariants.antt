@@ -1,7 +1,6 @@
 use Rattle.std.proofs.Common.{◌≡◌, ◌<◌, ℕ, Some, map, take}
 use Rattle.toml.specs.View.{table_view}
-use Rattle.sift_scenario.specs.TaskRules.{BreaksStarts}
-use Rattle.sift_scenario.specs.Task.{start_words}
+use Rattle.sift_scenario.specs.Task.{BreaksStarts, start_words}
 use Rattle.sift_scenario.proofs.task.task_starts.Given as goal
 
 -- the start words of the tasks so far, none of which breaks the rule

@@ -6,7 +6,7 @@ use Rattle.sift_document.proofs.lemmas.Places.{map_map}
 use Rattle.sift_document.specs.Document.{members_of}
 use Rattle.sift_scenario.proofs.TaskTests.{tested_tasks}
 use Rattle.sift_scenario.proofs.Testing.{some_entry}
-use Rattle.sift_scenario.specs.TaskRules.{IsTaskNumber}
+use Rattle.sift_scenario.specs.Task.{IsTaskNumber}
 use Rattle.sift_scenario.proofs.task.task_tables.Goals as goal
 
 pub returns-clause-tables : goal.returns-clause-tables

@@ -5,8 +5,7 @@ use Rattle.sift_document.proofs.lemmas.Order.{ended, later, ok_from, stopped}
 use Rattle.sift_document.specs.Rules.{rule}
 use Rattle.sift_document.specs.Testing.{TestsEach}
 use Rattle.sift_scenario.specs.Reading.{AreTasksRead}
-use Rattle.sift_scenario.specs.Task.{tasks_of}
-use Rattle.sift_scenario.specs.TaskRules.{BreaksTasks, each_task_rules, task_rules}
+use Rattle.sift_scenario.specs.Task.{tasks_of, BreaksTasks, each_task_rules, task_rules}
 use Rattle.sift_scenario.proofs.task.tasks_of.Goals as goal
 
 -- `task` is no array of tables

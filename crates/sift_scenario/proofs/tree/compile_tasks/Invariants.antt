@@ -2,7 +2,7 @@ use Rattle.std.proofs.Common.{◌≡◌, length, map}
 use Rattle.sift_lang.specs.Tree.{tree_of}
 use Rattle.sift_parse.specs.Roll.{roll_of}
 use Rattle.sift_compile.specs.Tasks.{AreCodesOf}
-use Rattle.sift_document.specs.Entries.{EachMatches}
+use Rattle.sift_document.specs.Rules.{EachMatches}
 use Rattle.sift_scenario.specs.Program.{AreAllowed, IsTreeOf, steps_left, turn_of}
 use Rattle.sift_scenario.specs.Testing.{form_of}
 use Rattle.sift_scenario.proofs.tree.compile_tasks.Given as goal

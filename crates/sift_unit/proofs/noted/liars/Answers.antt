@@ -2,7 +2,7 @@ use Rattle.std.proofs.Common.{ℕ, ◌&&◌, not, nat_eq, take, nat_cmp, ap, ◌
 use Rattle.std.specs.Prelude.{Some}
 use Rattle.std.specs.FinSet as set
 use Rattle.sift_base.specs.Units.{holds, has}
-use Rattle.sift_vote.specs.Differing.{differs}
+use Rattle.sift_vote.specs.Majority.{differs}
 use Rattle.sift_config.proofs.lemmas.Lists.{has_front, get-drop}
 use Rattle.sift_config.proofs.lemmas.Joining.{passing_joins, failing_stays}
 use Rattle.sift_unit.specs.Memory.{place_at}

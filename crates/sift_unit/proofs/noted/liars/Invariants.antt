@@ -1,7 +1,7 @@
 use Rattle.std.proofs.Common.{◌≡◌, ℕ, ◌&&◌, not, nat_eq, take}
 use Rattle.std.specs.Prelude.{Some}
 use Rattle.sift_base.specs.Units.{holds, has}
-use Rattle.sift_vote.specs.Differing.{differs}
+use Rattle.sift_vote.specs.Majority.{differs}
 use Rattle.sift_unit.specs.Memory.{place_at}
 use Rattle.sift_unit.proofs.noted.liars.Given as goal
 

@@ -2,7 +2,7 @@ use Rattle.std.proofs.Common.{ℕ, ◌&&◌, not, nat_eq, take, nat_cmp, ap, ◌
 use Rattle.std.specs.Prelude.{◌+ℤ◌}
 use Rattle.std.specs.FinSet as set
 use Rattle.sift_base.specs.Units.{holds, has}
-use Rattle.sift_clock.specs.Reading.{is_too_far}
+use Rattle.sift_clock.specs.Correction.{is_too_far}
 use Rattle.sift_config.proofs.lemmas.Lists.{has_front, get-drop}
 use Rattle.sift_config.proofs.lemmas.Joining.{failing_stays, has_at, passing_joins}
 use Rattle.sift_unit.specs.Memory.{reading_at}

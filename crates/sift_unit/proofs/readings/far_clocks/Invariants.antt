@@ -1,7 +1,7 @@
 use Rattle.std.proofs.Common.{◌≡◌, ℕ, ◌&&◌, not, nat_eq, take}
 use Rattle.std.specs.Prelude.{◌+ℤ◌}
 use Rattle.sift_base.specs.Units.{holds, has}
-use Rattle.sift_clock.specs.Reading.{is_too_far}
+use Rattle.sift_clock.specs.Correction.{is_too_far}
 use Rattle.sift_unit.specs.Memory.{reading_at}
 use Rattle.sift_unit.proofs.readings.far_clocks.Given as goal
 

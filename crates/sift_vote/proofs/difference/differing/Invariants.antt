@@ -1,6 +1,6 @@
 use Rattle.std.proofs.Common.{◌≡◌, ℕ, take}
 use Rattle.sift_base.specs.Units.{holds}
-use Rattle.sift_vote.specs.Differing.{has_differing}
+use Rattle.sift_vote.specs.Majority.{has_differing}
 use Rattle.sift_vote.proofs.difference.differing.Given as goal
 
 -- the units so far are those of the first units that have a place that differs

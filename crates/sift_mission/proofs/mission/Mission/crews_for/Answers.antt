@@ -1,6 +1,6 @@
 use Rattle.std.proofs.Common.{◌≡◌, List, ℕ, ap, ◌∙◌, sym, subst, length, arith}
 use Rattle.sift_base.specs.Units.{members, units_of}
-use Rattle.sift_mission.specs.Mission.{IsConfigOf}
+use Rattle.sift_mission.specs.Data.{IsConfigOf}
 use Rattle.sift_mission.specs.Parts.{data_of, flown_of}
 use Rattle.sift_mission.proofs.FitTables.{table-low}
 use Rattle.sift_mission.proofs.Held.{held-as}

@@ -1,7 +1,7 @@
 use Rattle.std.proofs.Common.{◌≡◌, ◌∙◌, ap, sym, take, take_all, map}
 use Rattle.std.proofs.lemmas.List.{take-map}
 use Rattle.sift_lang.specs.Tree.{tree_of}
-use Rattle.sift_program.specs.Sound.{output_count}
+use Rattle.sift_program.specs.Program.{output_count}
 use Rattle.sift_mission.proofs.mission.Mission.first_word.Goals as goal
 
 pub returns : goal.returns

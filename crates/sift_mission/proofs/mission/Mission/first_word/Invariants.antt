@@ -1,6 +1,6 @@
 use Rattle.std.proofs.Common.{◌≡◌, ◌*◌, ◌≤◌, take, map}
 use Rattle.sift_lang.specs.Tree.{tree_of}
-use Rattle.sift_program.specs.Sound.{output_count}
+use Rattle.sift_program.specs.Program.{output_count}
 use Rattle.sift_mission.proofs.mission.Mission.first_word.Given as goal
 
 -- the words of the tasks so far

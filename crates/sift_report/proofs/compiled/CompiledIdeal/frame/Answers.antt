@@ -1,7 +1,7 @@
 use Rattle.std.proofs.Common.{◌≡◌, ◌<◌, length, ap, ◌∙◌, arith}
 use Rattle.sift_lang.specs.Meaning.{meaning}
 use Rattle.sift_mission.specs.Parts.{data_of}
-use Rattle.sift_program.specs.Needs.{task_at}
+use Rattle.sift_program.specs.Program.{task_at}
 use Rattle.sift_report.proofs.CompiledFrames.{put-long, put-room, put-begins}
 use Rattle.sift_report.proofs.compiled.CompiledIdeal.frame.Goals as goal
 

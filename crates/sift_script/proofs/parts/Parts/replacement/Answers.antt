@@ -4,7 +4,7 @@ use Rattle.std.proofs.lemmas.Iterator.Search.{find_from_yields_List}
 use Rattle.std.specs.List.{find}
 use Rattle.std.specs.Option.{option_map}
 use Rattle.sift_script.proofs.Lists.{find-map, option_map-twice}
-use Rattle.sift_script.specs.Changes.{fits}
+use Rattle.sift_script.specs.Faults.{fits}
 use Rattle.sift_script.specs.Script.{Change, change_of}
 use Rattle.sift_script.specs.declared.script.Item.{Item}
 use Rattle.sift_script.proofs.parts.Parts.replacement.Goals as goal

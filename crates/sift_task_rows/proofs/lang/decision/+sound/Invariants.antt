@@ -1,6 +1,5 @@
 use Rattle.std.proofs.Common.{◌≤◌, ◌↔◌, drop}
-use Rattle.sift_lang.specs.Limits.{local_limit}
-use Rattle.sift_lang.specs.Tree.{block_of}
+use Rattle.sift_lang.specs.Tree.{local_limit, block_of}
 use Rattle.sift_lang.specs.Sound.{Bounds}
 use Rattle.sift_task_rows.proofs.Fits.{Fits}
 use Rattle.sift_task_rows.proofs.lang.decision.+sound.Given as goal

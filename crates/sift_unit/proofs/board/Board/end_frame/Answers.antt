@@ -1,7 +1,7 @@
 use Rattle.std.proofs.Common.{rules, inr, refl, ◌∙◌, ap, map, ◌∷◌, []}
 use Rattle.std.proofs.lemmas.List.{map-append}
 use Rattle.sift_unit.specs.Boards.{desk_of}
-use Rattle.sift_conduct.specs.Account.{account_of}
+use Rattle.sift_conduct.specs.Conduct.{account_of}
 use Rattle.sift_unit.proofs.Continuing.{frame_on, next_place}
 use Rattle.sift_unit.proofs.board.Board.end_frame.Goals as goal
 

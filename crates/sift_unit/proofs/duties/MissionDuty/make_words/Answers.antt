@@ -2,8 +2,7 @@ use Rattle.std.proofs.Common.{◌≡◌, ◌+◌, ◌++◌, ◌∙◌, length, t
 use Rattle.std.specs.Prelude.{slice_get}
 use Rattle.std.proofs.lemmas.Option.{slice_get-get_or}
 use Rattle.sift_lang.specs.Tree.{end}
-use Rattle.sift_program.specs.Program.{ProgramTree}
-use Rattle.sift_program.specs.Needs.{task_at}
+use Rattle.sift_program.specs.Program.{ProgramTree, task_at}
 use Rattle.sift_mission.specs.Parts.{data_of, flown_of}
 use Rattle.sift_unit.specs.FrameWords.{FrameWords}
 use Rattle.sift_unit.proofs.Making.{run_makes, task_room}

@@ -1,6 +1,6 @@
 use Rattle.std.proofs.Common.{rules, ◌&&◌, not, nat_eq}
 use Rattle.std.specs.Prelude.{◌+ℤ◌}
-use Rattle.sift_clock.specs.Reading.{is_too_far}
+use Rattle.sift_clock.specs.Correction.{is_too_far}
 use Rattle.sift_unit.specs.Memory.{reading_at}
 use Rattle.sift_unit.specs.Boards.{memory_of}
 use Rattle.sift_unit.proofs.Memories.{is_gathered, clocks_same}

@@ -2,8 +2,7 @@ use Rattle.std.proofs.Common.{◌≡◌, ◌∙◌, ◌&&◌, ap, map, nat_eq, l
 use Rattle.std.specs.List.{filter}
 use Rattle.std.specs.Prelude.{ℕ, Option, if◌then◌else◌, slice_index, slice_set, unwrap_or}
 use Rattle.sift_base.specs.Units.{has}
-use Rattle.sift_vote.specs.Agreed.{majority_of}
-use Rattle.sift_vote.specs.Differing.{differs}
+use Rattle.sift_vote.specs.Majority.{majority_of, differs}
 use Rattle.sift_unit.specs.FrameWords.{FrameWords, with_voted}
 use Rattle.sift_mission.specs.Slots.{is_held}
 use Rattle.sift_unit.specs.Memory.{polled_at, poll_of, voted_at}

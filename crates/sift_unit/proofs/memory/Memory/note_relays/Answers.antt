@@ -1,8 +1,7 @@
 use Rattle.std.proofs.Common.{◌≡◌, ◌∷◌, ◌∙◌, ◌&&◌, ap, map, not, nat_eq, true, false, sym, refl}
 use Rattle.std.specs.Prelude.{slice_set, Some}
 use Rattle.sift_base.specs.Units.{others}
-use Rattle.sift_vote.specs.Agreed.{agreed_of}
-use Rattle.sift_vote.specs.Differing.{differs}
+use Rattle.sift_vote.specs.Majority.{agreed_of, differs}
 use Rattle.sift_config.specs.Config.{reader_of}
 use Rattle.sift_unit.specs.FrameWords.{FrameWords, with_agreed}
 use Rattle.sift_unit.specs.Memory.{place_at, input_at}

@@ -1,7 +1,7 @@
 use Rattle.std.proofs.Common.{◌≡◌, ◌∷◌, ◌∙◌, ap, map}
 use Rattle.std.specs.Prelude.{slice_set}
 use Rattle.sift_base.specs.Units.{others}
-use Rattle.sift_vote.specs.Agreed.{agreed_of}
+use Rattle.sift_vote.specs.Majority.{agreed_of}
 use Rattle.sift_unit.specs.Memory.{place_at}
 use Rattle.sift_unit.specs.Boards.{memory_of}
 use Rattle.sift_unit.proofs.InTurn.{others_both}

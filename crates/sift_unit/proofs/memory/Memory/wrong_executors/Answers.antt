@@ -1,7 +1,7 @@
 use Rattle.std.proofs.Common.{◌≡◌, ℕ, ◌&&◌, take, nat_cmp, ap, ◌∙◌, sym}
 use Rattle.std.specs.FinSet as set
 use Rattle.sift_base.specs.Units.{holds, has}
-use Rattle.sift_vote.specs.Differing.{differs}
+use Rattle.sift_vote.specs.Majority.{differs}
 use Rattle.sift_config.proofs.lemmas.Lists.{has_front, get-drop}
 use Rattle.sift_config.proofs.lemmas.Joining.{passing_joins, failing_stays}
 use Rattle.sift_unit.specs.Memory.{polled_at}

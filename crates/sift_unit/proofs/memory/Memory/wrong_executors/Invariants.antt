@@ -1,6 +1,6 @@
 use Rattle.std.proofs.Common.{◌≡◌, ℕ, ◌&&◌, take}
 use Rattle.sift_base.specs.Units.{holds, has}
-use Rattle.sift_vote.specs.Differing.{differs}
+use Rattle.sift_vote.specs.Majority.{differs}
 use Rattle.sift_unit.specs.Memory.{polled_at}
 use Rattle.sift_unit.specs.Boards.{memory_of}
 use Rattle.sift_unit.proofs.memory.Memory.wrong_executors.Given as goal
