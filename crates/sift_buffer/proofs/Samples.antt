@@ -1,7 +1,7 @@
 -- Why the samples are lawful, and not.
 use Rattle.std.proofs.Common.{◌≡◌, ◌≢◌, ⊎_elim, ℕ, ◌<◌, ◌≤◌, Some, None, refl, sym, ◌∙◌, arith}
 use Rattle.sift_buffer.specs.Ranges.{IsPlace}
-use Rattle.sift_buffer.specs.Conduct.{put, saying}
+use Rattle.sift_buffer.specs.Conduct.{put}
 use Rattle.sift_buffer.specs.Core.{AllAllowed}
 use Rattle.sift_buffer.specs.Lawful.{IsLastSaid, silent, last}
 use Rattle.sift_buffer.specs.Samples.{pair, idle, story, ConditionsTellApart}

@@ -1,8 +1,7 @@
 -- The next of several units, found place by place.
-use Rattle.std.proofs.Common.{◌≡◌, ℕ, ◌+◌, ◌<◌, ◌≤◌, List, length, slice_index_or, All, Option, Some, None, IfSome, IfNone, arith}
+use Rattle.std.proofs.Common.{◌≡◌, ℕ, ◌+◌, ◌<◌, ◌≤◌, List, slice_index_or, Option, Some, None, arith}
 use mathlib.Core.Logic.{dite}
 use native.Mathlib.Decide.{ℕ_discrete}
-use Rattle.sift_bus.specs.Turns.{IsNext}
 
 module _ {X : Type 0} (progress : X → ℕ) (end : ℕ) (xs : List X) where
   -- none was found yet, and the bound is the end; or this one, and the bound is its progress
@@ -32,25 +31,3 @@ module _ {X : Type 0} (progress : X → ℕ) (end : ℕ) (xs : List X) where
   bound_low : (n below : ℕ) (next : Option ℕ) → IsFound n below next → below ≤ end
   bound_low n below None f = omega arith
   bound_low n below (Some u) f = let a = f.1 in omega arith
-
-  -- one more, that has less
-  pub next_less : (n below now : ℕ) (next : Option ℕ) → IsNextBelow n below next → ((d : X) → now ≡ progress (slice_index_or xs n d)) → now < below →
-      IsNextBelow (n + 1) now (Some n)
-  next_less n below now next l is less = record {
-    found = (omega arith, (let b = bound_low n below next l.found in omega arith), is, λ v d low. let a = l.none_less v d low in omega arith);
-    none_less = λ v d low. dite (ℕ_discrete v n) (λ e. rw e (let a = is d in omega arith)) (λ ne. let a = l.none_less v d (omega arith) in omega arith);
-  }
-
-  -- what was found in the end
-  pub next_ends : (n below : ℕ) (next : Option ℕ) → n ≡ length xs → IsNextBelow n below next →
-      IfSome next (IsNext progress end xs) × IfNone next (All (λ x. end ≤ progress x) xs)
-  next_ends n below None all l = (tt, λ v d low. let a = l.found in let b = l.none_less v d (omega arith) in omega arith)
-  next_ends n below (Some u) all l = (
-    record {
-      there = (let a = l.found.0 in omega arith);
-      below = λ d. let a = l.found.1 in let b = l.found.2 d in omega arith;
-      least = λ v d low. let a = l.found.2 d in let b = l.none_less v d (omega arith) in omega arith;
-      lowest = λ v d low. let a = l.found.2 d in let b = l.found.3 v d low in omega arith;
-    },
-    tt,
-  )

@@ -4,7 +4,7 @@ use Rattle.std.specs.Prelude.{slice_set, nat_lt, if◌then◌else◌, ◌==◌}
 use Rattle.std.proofs.lemmas.Bool.Decides.{nat_tests}
 use Rattle.sift_code.specs.declared.instr.Instr.{Instr}
 use Rattle.sift_code.specs.Machine as Machine
-use Rattle.sift_code.specs.Machine.{Loop, Inputs, local_count, effect, stored, put_out, tested, skipped, through_end}
+use Rattle.sift_code.specs.Machine.{Loop, Inputs, local_count, effect, stored, put_out, tested}
 use Rattle.sift_code.specs.Refusal.{Limits}
 use Rattle.sift_lang.specs.Tree.{Statement}
 use Rattle.sift_lang.specs.Meaning.{Readings, State, scoped, after}

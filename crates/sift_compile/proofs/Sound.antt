@@ -9,7 +9,7 @@ use Rattle.sift_code.specs.declared.instr.Instr.TheVariants.{Store, Out, JumpZ, 
 use Rattle.sift_code.specs.Machine.{local_count}
 use Rattle.sift_code.specs.Enclosing.{enclosing}
 use Rattle.sift_code.specs.Heights.{Arrival, Trail, trail_at, brought_to, height_at}
-use Rattle.sift_code.specs.Refusal.{Program, IsBadJumpAt, IsUnequal, IsUnequalEnd, IsUnderflowAt, IsTooDeep, IsTallAt, IsCrowdedAt, IsBadOperandAt, IsFree, stack_limit, loop_limit}
+use Rattle.sift_code.specs.Refusal.{Program, IsBadJumpAt, IsUnequal, IsUnequalEnd, IsUnderflowAt, IsTooDeep, IsTallAt, IsCrowdedAt, IsBadOperandAt, IsFree, loop_limit}
 use Rattle.sift_code.specs.Refusal as Code
 use Rattle.sift_code.proofs.lemmas.Enclosing.{enclosing_here}
 use Rattle.sift_lang.specs.Tree.{Term, number, local, sense, this_frame, last_frame, minus, binary, middle, Statement, bind, assign, output, choose, choose_else, repeat, Block, end, step, TaskTree}

@@ -1,5 +1,5 @@
 -- Code that stands in other code.
-use Rattle.std.proofs.Common.{◌≡◌, ℕ, zero, suc, ◌+◌, ◌≤◌, List, [], ◌∷◌, ◌++◌, length, drop, Some, refl, sym, ap, ◌∙◌, arith, append_assoc, append-nil, drop-drop, length-append, length-drop, drop_at}
+use Rattle.std.proofs.Common.{◌≡◌, ℕ, zero, suc, ◌+◌, List, [], ◌∷◌, ◌++◌, length, drop, Some, refl, sym, ap, ◌∙◌, append_assoc, append-nil, drop-drop, drop_at}
 use Rattle.std.specs.Prelude.{slice_get}
 use Rattle.sift_code.specs.declared.instr.Instr.{Instr}
 
@@ -41,7 +41,3 @@ stands_here code p i b s = get_first code p ∙ ap (λ l. slice_get l 0) s.is
 -- the instruction behind some code
 pub stands_next : (code : List Instr) (p : ℕ) (a b : List Instr) (i : Instr) → Stands code p (a ++ i ∷ b) → slice_get code (p + length a) ≡ Some i
 stands_next code p a b i s = stands_here code (p + length a) i b (stands_back code p a (i ∷ b) s)
-
--- it stands inside
-pub stands_within : (code : List Instr) (p : ℕ) (a : List Instr) → p ≤ length code → Stands code p a → p + length a ≤ length code
-stands_within code p a within s = omega (arith, within, length-drop p code, ap (length {A = Instr}) s.is, length-append a s.back)

@@ -4,7 +4,7 @@ use Rattle.std.specs.Prelude.{slice_set}
 use Rattle.sift_code.specs.declared.instr.Instr.{Instr}
 use Rattle.sift_code.specs.declared.instr.Instr.TheVariants.{Store, Out, Begin, End}
 use Rattle.sift_code.specs.Machine as Machine
-use Rattle.sift_code.specs.Machine.{Loop, Inputs, local_count, effect, stored, put_out, tested, skipped, through_end}
+use Rattle.sift_code.specs.Machine.{Loop, Inputs}
 use Rattle.sift_code.specs.Ends.{Fits}
 use Rattle.sift_lang.specs.Tree.{Term, Statement, bind, assign, output, choose, choose_else, repeat, Block, end, step}
 use Rattle.sift_lang.specs.Meaning.{State, value_of, scoped, after, after_all}

@@ -1,5 +1,5 @@
 -- The frames that all units have ended, but for those that have turned, are those of a round flight.
-use Rattle.std.proofs.Common.{◌≡◌, ◌⊎◌, ℕ, ◌+◌, ◌<◌, ◌≤◌, inl, inr, ⊎_elim, true, refl, sym, subst, arith}
+use Rattle.std.proofs.Common.{◌≡◌, ◌⊎◌, ℕ, ◌+◌, ◌≤◌, inl, inr, ⊎_elim, true, refl, sym, subst, arith}
 use Rattle.sift_base.specs.Units.{has}
 use Rattle.sift_buffer.specs.Views.{View}
 use Rattle.sift_mission.specs.Data.{FlownMission}
@@ -16,7 +16,7 @@ use Rattle.sift_core.specs.Ended.{EndedFramesAreRound}
 use Rattle.sift_core.specs.declared.machine.Machine.{Machine}
 use Rattle.sift_core.specs.declared.rack.Rack.{Rack}
 use Rattle.sift_core.proofs.MachineSteps.{unit_below}
-use Rattle.sift_core.proofs.Progress.{first_low, flyable}
+use Rattle.sift_core.proofs.Progress.{flyable}
 use Rattle.sift_core.proofs.lemmas.Stages.{keeps_turned}
 
 -- the rack as the port of a unit that has stored these strays

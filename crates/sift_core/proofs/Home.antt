@@ -13,7 +13,7 @@ use Rattle.sift_unit.specs.Boards.{desk_of}
 use Rattle.sift_unit.specs.Down.{DownLaw, StrayLaw, HasFlownAll}
 use Rattle.sift_unit.specs.declared.board.Board.{Board}
 use Rattle.sift_flight.specs.Flight.{Strays, IsRound}
-use Rattle.sift_flight.specs.Homing.{HasComeHome, FlightsThatComeHomeAreRound}
+use Rattle.sift_flight.specs.Homing.{FlightsThatComeHomeAreRound}
 use Rattle.sift_flight.specs.Told.{told, no_pages, no_account, journal_of, accounts_of, IsLogged}
 use Rattle.sift_flight.specs.declared.flight.Flight.{Flight as TheFlight}
 use Rattle.sift_core.specs.Crews.{ledger_at, no_ledger}

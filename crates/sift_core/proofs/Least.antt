@@ -1,5 +1,5 @@
 -- The least unit among those below a number.
-use Rattle.std.proofs.Common.{◌≡◌, ℕ, ◌+◌, ◌*◌, ◌<◌, ◌≤◌, List, true, Option, Some, None, IfSome, IfNone, sym, refl, subst, arith}
+use Rattle.std.proofs.Common.{◌≡◌, ℕ, ◌+◌, ◌*◌, ◌<◌, ◌≤◌, List, true, Option, Some, None, IfSome, IfNone, sym, subst, arith}
 use mathlib.Core.Logic.{dite}
 use native.Mathlib.Decide.{ℕ_discrete}
 use Rattle.sift_base.specs.Units.{has}
@@ -36,14 +36,6 @@ least_same m x n below found l high = record {
 bound_low : (m : FlownMission) (x : Machine) (n below : ℕ) (found : Option ℕ) → IsFound m x n below found → below ≤ m.frames * m.period
 bound_low m x n below None f = omega arith
 bound_low m x n below (Some v) f = let a = f.2 in omega arith
-
--- a unit more, that has less
-pub least_less : (m : FlownMission) (x : Machine) (n below : ℕ) (found : Option ℕ) → IsLeastBelow m x n below found → progress_at x n < below →
-    IsLeastBelow m x (n + 1) (progress_at x n) (Some n)
-least_less m x n below found l less = record {
-  found_is = (omega arith, refl, (let b = bound_low m x n below found l.found_is in omega arith), λ p low. let a = l.none_less p low in omega arith);
-  none_less = λ p low. dite (ℕ_discrete p n) (λ e. rw e (omega arith)) (λ ne. let a = l.none_less p (omega arith) in omega arith);
-}
 
 -- the least of all
 pub least_found : (m : FlownMission) (x : Machine) (n below v : ℕ) → IsFlying m x → n ≡ (layout_of x).units → IsLeastBelow m x n below (Some v) →

@@ -1,5 +1,5 @@
 -- A rack on which no unit has done anything.
-use Rattle.std.proofs.Common.{◌≡◌, ℕ, ◌+◌, ◌<◌, ◌≤◌, ◌&&◌, nat_lt, Bool, true, false, List, [], ◌∷◌, ◌++◌, length-append, replicate, slice_index_or, Option, None, option_and_then, if◌then◌else◌, refl, sym, ap, ◌∙◌, subst, arith}
+use Rattle.std.proofs.Common.{◌≡◌, ℕ, ◌+◌, ◌<◌, ◌≤◌, ◌&&◌, nat_lt, Bool, true, false, List, [], ◌∷◌, ◌++◌, length-append, replicate, slice_index_or, if◌then◌else◌, refl, sym, ap, ◌∙◌, subst, arith}
 use Rattle.std.proofs.lemmas.List.{get_or_past, get_or_append_left}
 use Rattle.std.proofs.Math.Seq.{get_or-append_seam}
 use Rattle.std.proofs.lemmas.Bool.{ltb-true, ltb-false}
@@ -7,7 +7,7 @@ use mathlib.Core.Logic.{dite}
 use native.Mathlib.Decide.{ℕ_discrete}
 use Rattle.sift_base.specs.declared.layout.Layout.{Layout}
 use Rattle.sift_buffer.specs.Ranges.{shared_words}
-use Rattle.sift_buffer.specs.Conduct.{Conduct, Saying, Hearing, fresh, never}
+use Rattle.sift_buffer.specs.Conduct.{fresh, never}
 use Rattle.sift_buffer.specs.Core.{fresh_core}
 use Rattle.sift_buffer.specs.Tables.{ranges_of, entry_at, entry_number}
 use Rattle.sift_buffer.specs.Journals.{ranges_in, said_in, heard_in}

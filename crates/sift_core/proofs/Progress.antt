@@ -4,7 +4,7 @@ use mathlib.Core.Logic.{dite}
 use native.Mathlib.Decide.{ℕ_discrete}
 use Rattle.sift_base.specs.Units.{has}
 use Rattle.sift_base.specs.declared.layout.Layout.{Layout}
-use Rattle.sift_buffer.specs.Conduct.{Conduct, never}
+use Rattle.sift_buffer.specs.Conduct.{Conduct}
 use Rattle.sift_buffer.specs.Lawful.{HasStage}
 use Rattle.sift_mission.specs.Data.{FlownMission}
 use Rattle.sift_unit.specs.Desk.{Desk}
@@ -19,7 +19,7 @@ use Rattle.sift_flight.specs.Flight.{no_strays}
 use Rattle.sift_core.specs.Racks.{ranges_for, core_of, conduct_at, view_at, Stands}
 use Rattle.sift_core.specs.Machines.{IsFlying, HasTurnedIn, board_at, layout_of, progress_at, distances}
 use Rattle.sift_core.specs.Steps.{StepsUnit, IsWaiting}
-use Rattle.sift_core.specs.Turns.{IsAloft, IsLeast, end_in}
+use Rattle.sift_core.specs.Turns.{IsAloft, IsLeast}
 use Rattle.sift_core.specs.declared.machine.Machine.{Machine}
 use Rattle.sift_core.proofs.lemmas.FirstUnits.{low_unit}
 use Rattle.sift_core.proofs.MachineSteps.{unit_below}

@@ -1,5 +1,5 @@
 -- What one unit's turn does to the calls that are left, and to the strays over which the machine flies.
-use Rattle.std.proofs.Common.{◌≡◌, ◌≢◌, ℕ, ◌+◌, ◌-◌, ◌*◌, ◌<◌, ◌≤◌, List, [], ◌∷◌, ◌++◌, length, slice_index, slice_index_or, slice_set, length-set, true, Option, Some, None, IfSome, option_map, option_to_list, refl, sym, ap, ◌∙◌, subst, arith, eq-eqb, ne_eqb}
+use Rattle.std.proofs.Common.{◌≡◌, ◌≢◌, ℕ, ◌+◌, ◌-◌, ◌*◌, ◌<◌, ◌≤◌, List, [], ◌∷◌, ◌++◌, length, slice_index, slice_index_or, length-set, true, Option, Some, None, IfSome, option_map, option_to_list, refl, sym, ap, ◌∙◌, subst, arith, eq-eqb, ne_eqb}
 use Rattle.std.proofs.lemmas.List.{get_or-set_same, get_or-set_other}
 use Rattle.std.proofs.lemmas.Nat.{mul-le}
 use Rattle.std.proofs.lemmas.Option.{same_Some}
@@ -7,12 +7,12 @@ use mathlib.Core.Logic.{dite}
 use native.Mathlib.Decide.{ℕ_discrete}
 use Rattle.sift_base.specs.Units.{has, unit_limit}
 use Rattle.sift_base.specs.declared.layout.Layout.{Layout}
-use Rattle.sift_buffer.specs.Conduct.{Stray, never}
+use Rattle.sift_buffer.specs.Conduct.{Stray}
 use Rattle.sift_buffer.specs.Ranges.{IsCell}
 use Rattle.sift_buffer.specs.Tables.{ranges_of}
-use Rattle.sift_mission.specs.Data.{MissionData, FlownMission}
+use Rattle.sift_mission.specs.Data.{MissionData}
 use Rattle.sift_mission.specs.Flown.{flown}
-use Rattle.sift_rogue.specs.Storms.{Call, Started, Bounds, Answers, Shoots, Storms, bounds_of, sifted, stray_of}
+use Rattle.sift_rogue.specs.Storms.{Call, Started, Shoots, Storms, bounds_of, stray_of}
 use Rattle.sift_rogue.specs.declared.act.Shot.{Shot}
 use Rattle.sift_flight.specs.Flight.{Strays, no_strays, IsRound}
 use Rattle.sift_flight.specs.Told.{told}
@@ -23,9 +23,9 @@ use Rattle.sift_buffer.specs.Ledgers.{conduct_in}
 use Rattle.sift_core.specs.Crews.{ledger_at, with_strays}
 use Rattle.sift_core.specs.Racks.{ranges_for}
 use Rattle.sift_core.specs.declared.rack.Rack.{Rack}
-use Rattle.sift_core.specs.Machines.{Flies, IsFlying, HasTurnedIn, StoresStray, layout_of, progress_at}
+use Rattle.sift_core.specs.Machines.{Flies, IsFlying, HasTurnedIn, layout_of, progress_at}
 use Rattle.sift_core.specs.Steps.{StepsUnit, Stores}
-use Rattle.sift_core.specs.Courses.{AreAllLeft, Course, IsCalled, IsUncalled, Begins, BeginsStorm, StepsOn, Spends, calls_of, course, storm_at}
+use Rattle.sift_core.specs.Courses.{AreAllLeft, Course, IsCalled, BeginsStorm, Spends, calls_of, course, storm_at}
 use Rattle.sift_core.specs.Storms.{CarriesOn, FliesByRogues, HasMadeCalls, HaveMadeCalls, AreLeft, IsLeft, IsRoundByRogues, IsUnderWay}
 use Rattle.sift_core.specs.Turns.{AreAllDone, IsAloft, IsDown, end_in}
 use Rattle.sift_core.specs.declared.machine.Machine.{Machine}

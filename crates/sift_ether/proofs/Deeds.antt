@@ -1,14 +1,14 @@
 -- Each deed of a seat that stands for one unit is an event of the core.
-use Rattle.std.proofs.Common.{◌≡◌, ◌≢◌, ⊎_elim, inl, ℕ, ◌+◌, ◌<◌, List, [], ◌∷◌, Option, slice_index, slice_set, sym, refl, ap, ◌∙◌, subst, arith}
+use Rattle.std.proofs.Common.{◌≡◌, ◌≢◌, ⊎_elim, inl, ℕ, ◌+◌, ◌<◌, List, [], ◌∷◌, Option, slice_index, slice_set, sym, refl, ap, ◌∙◌, subst}
 use Rattle.std.proofs.lemmas.List.{set-get_or}
 use mathlib.Core.Option.{some}
 use mathlib.Core.Option as maybe
 use lib.ListN.{get_elem?}
 use Rattle.atomic_table.specs.Table.{State, Me, keeps, Allows}
 use Rattle.atomic_table.proofs.Lists.{at_set}
-use Rattle.sift_buffer.specs.Cell.{taken, packed, IsWord}
-use Rattle.sift_buffer.specs.Ranges.{Ranges, shared_words, place}
-use Rattle.sift_buffer.specs.Conduct.{Conduct, never, put, with_seen, with_heard, with_said, with_entered, with_turned, with_stray}
+use Rattle.sift_buffer.specs.Cell.{taken, IsWord}
+use Rattle.sift_buffer.specs.Ranges.{Ranges}
+use Rattle.sift_buffer.specs.Conduct.{Conduct, put, with_seen, with_heard, with_said, with_entered, with_turned, with_stray}
 use Rattle.sift_buffer.specs.Conditions.{MayHear, MaySay, MayEnter, MayTurn, MayStray, PassesGate}
 use Rattle.sift_buffer.specs.Core.{Event, look, hear, say, enter, turn, stray, doer, after, MayDo}
 use Rattle.sift_buffer.specs.Lawful.{Lawful}
@@ -23,10 +23,6 @@ use Rattle.sift_ether.specs.Rule.{StandsFor, IsLawfulTable}
 use Rattle.sift_ether.specs.TableSeats.{AddsDeed}
 use Rattle.sift_ether.proofs.Puts.{put_here}
 use Rattle.sift_ether.proofs.Seated.{reseated, stands_beside}
-
--- a progress number is one of the shared words
-pub number_low : (r : Ranges) (n u : ℕ) → n ≡ shared_words r → u < r.units → u < n
-number_low r n u e low = omega arith
 
 -- the words become others by a deed of the unit with this chronicle, which its words tell: the core is lawful still
 abbrev KeepsLawful : Ranges → Chronicle → (List ℕ → Deed) → (List ℕ → List ℕ) → Type 0

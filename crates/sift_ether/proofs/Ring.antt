@@ -1,17 +1,12 @@
 -- For the test: what a unit in a ring may do, and where it stands then.
-use Rattle.std.proofs.Common.{◌≡◌, ℕ, ◌+◌, ◌<◌, ◌≤◌, Option, Some, None, refl, sym, ap, ◌∙◌, subst, arith, eq-eqb, ne_eqb}
-use mathlib.Core.Logic.{dite}
-use native.Mathlib.Decide.{ℕ_discrete}
+use Rattle.std.proofs.Common.{◌≡◌, ℕ, ◌+◌, ◌<◌, ◌≤◌, Option, Some, None, refl, sym, ap, ◌∙◌, subst, arith}
 use Rattle.sift_buffer.specs.Ranges.{Ranges, IsCell}
 use Rattle.sift_buffer.specs.Conduct.{Conduct, Saying}
 use Rattle.sift_buffer.specs.Conditions.{MayEnter}
-use Rattle.sift_buffer.specs.Views.{View, fresh_view, view_with_said, view_with_heard, FindsBehind, EntersAfterRound, PortMaySay, PortMayHear}
+use Rattle.sift_buffer.specs.Views.{View, fresh_view, FindsBehind, PortMaySay, PortMayHear}
 use Rattle.sift_ether.specs.Ring.{IsUnderWay, HasLookedRound, HasEntered, ring_frames}
 
 -- ---- rounds of looks
-
-pub looked_itself : (v : View) → HasLookedRound v v
-looked_itself v = record { ranges = refl; unit = refl; conduct = refl }
 
 -- after an earlier round, a round that found a unit behind
 pub looked_on : (v w w' : View) (p n : ℕ) → HasLookedRound v w → FindsBehind w p n w' → HasLookedRound v w'
@@ -19,16 +14,6 @@ looked_on v w w' p n a b = record {
   ranges = b.own.ranges ∙ a.ranges;
   unit = b.own.unit ∙ a.unit;
   conduct = b.own.conduct ∙ ap (λ (d : Conduct). record d { seen = w'.conduct.seen }) a.conduct;
-}
-
--- and one that found none, and so the unit entered
-pub entered_after : (v w w' : View) → HasLookedRound v w → EntersAfterRound w w' → HasEntered v w'
-entered_after v w w' a e = record {
-  ranges = ap (λ (x : View). x.ranges) e.after ∙ (e.round.own.ranges ∙ a.ranges);
-  unit = ap (λ (x : View). x.unit) e.after ∙ (e.round.own.unit ∙ a.unit);
-  conduct = ap (λ (x : View). x.conduct) e.after ∙ ((λ i. record ((e.round.own.conduct ∙ ap (λ (d : Conduct). record d { seen = e.before.conduct.seen }) a.conduct) i)
-      { progress = (ap (λ (d : Conduct). d.progress + 1) e.round.own.conduct ∙ ap (λ (d : Conduct). d.progress + 1) a.conduct) i })
-      ∙ (λ i. record v.conduct { progress = v.conduct.progress + 1; seen = (ap (λ (x : View). x.conduct.seen) (sym e.after)) i }));
 }
 
 -- who might enter before a round may after it
@@ -86,21 +71,6 @@ module _ (v : View) (next before n m b a : ℕ) (way : IsUnderWay v next before 
     fresh = λ f' s' w said same. let top = way.stamps f' s' w said in omega arith;
   }
 
-  -- having said
-  pub has_said : (v' : View) (s : ℕ) (w : Option ℕ) → b ≤ s → v' ≡ view_with_said v n 0 next s w → IsUnderWay v' next before (n + 1) m s a
-  has_said v' s w few is = subst (λ (x : View). IsUnderWay x next before (n + 1) m s a) (sym is) (record {
-    flies = way.flies;
-    progress = way.progress;
-    frames = way.frames;
-    next_is = way.next_is;
-    before_is = way.before_is;
-    unsaid = λ f late. rw (ne_eqb f n (omega arith)) (way.unsaid f (omega arith));
-    unheard = way.unheard;
-    stamps = λ f s' w' said. dite (ℕ_discrete f n)
-        (λ e. let said' = rw (eq-eqb f n e, eq-eqb next next refl) at said in let same = ap stamp_in said' in omega arith)
-        (λ ne. let said' = rw (ne_eqb f n ne) at said in let top = way.stamps f s' w' said' in omega arith);
-  })
-
   -- it may hear in frame m
   pub may_hear : (s : ℕ) → m < ring_frames → 1 ≤ s → s + 1 ≤ a → PortMayHear v before 0 m s
   may_hear s low some few = record {
@@ -109,19 +79,6 @@ module _ (v : View) (next before n m b a : ℕ) (way : IsUnderWay v next before 
     stamp = (some, (let at = way.progress in omega arith));
     frame = way.unheard m (omega arith);
   }
-
-  -- having heard
-  pub has_heard : (v' : View) (s : ℕ) (w : Option ℕ) → v' ≡ view_with_heard v m 0 before s w → IsUnderWay v' next before n (m + 1) b a
-  has_heard v' s w is = subst (λ (x : View). IsUnderWay x next before n (m + 1) b a) (sym is) (record {
-    flies = way.flies;
-    progress = way.progress;
-    frames = way.frames;
-    next_is = way.next_is;
-    before_is = way.before_is;
-    unsaid = way.unsaid;
-    unheard = λ f late. rw (ne_eqb f m (omega arith)) (way.unheard f (omega arith));
-    stamps = way.stamps;
-  })
 
   -- the stamps are below a greater bound too
   pub weaker : (b' : ℕ) → b ≤ b' → IsUnderWay v next before n m b' a

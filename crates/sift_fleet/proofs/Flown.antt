@@ -1,5 +1,5 @@
 -- What the flights of both kinds of workers come to.
-use Rattle.std.proofs.Common.{◌≡◌, ℕ, List, slice_index_or, refl}
+use Rattle.std.proofs.Common.{List, slice_index_or}
 use Rattle.sift_core.specs.Storms.{IsRoundByRogues}
 use Rattle.sift_flight.specs.Told.{told}
 use Rattle.sift_flight.specs.declared.flight.Flight.{Flight}

@@ -1,5 +1,5 @@
 -- What a flight that has come home tells is a round flight: it tells of each unit of the mission what the flight of its core does.
-use Rattle.std.proofs.Common.{◌≡◌, ℕ, ◌<◌, ◌≤◌, Bool, true, Option, None, if◌then◌else◌, sym, ap, ◌∙◌, subst, arith}
+use Rattle.std.proofs.Common.{◌≡◌, ℕ, ◌<◌, Bool, true, Option, None, if◌then◌else◌, sym, ◌∙◌, subst, arith}
 use Rattle.sift_base.specs.Units.{has}
 use Rattle.sift_base.specs.declared.slot.Slot.{Slot}
 use Rattle.sift_buffer.specs.Core.{Core}

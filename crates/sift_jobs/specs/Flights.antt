@@ -1,5 +1,5 @@
 -- The flights that commands speak of: by which workers, over which strays, and what is told of one.
-use Rattle.std.specs.Prelude.{ℕ, Option, Some, None, nat_eq, option_map, unwrap_or, if◌then◌else◌, ◌≤◌, ◌≡◌, ◌<◌, List}
+use Rattle.std.specs.Prelude.{ℕ, Option, Some, None, nat_eq, option_map, unwrap_or, if◌then◌else◌, ◌≤◌, ◌≡◌, List}
 use Rattle.std.specs.List.{All}
 use Rattle.sift_base.specs.Units.{unit_limit}
 use Rattle.sift_options.specs.Options.{within}

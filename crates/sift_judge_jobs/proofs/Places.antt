@@ -1,5 +1,5 @@
 -- The divider is looked for place by place.
-use Rattle.std.proofs.Common.{◌≡◌, ◌≢◌, ◌≤◌, ◌<◌, ◌+◌, ◌++◌, ⊎_elim, ℕ, List, Option, Some, None, length, take, drop, sym, ap, ◌∙◌, subst, arith}
+use Rattle.std.proofs.Common.{◌≡◌, ◌≢◌, ◌≤◌, ◌<◌, ◌+◌, ◌++◌, ⊎_elim, ℕ, List, Option, Some, None, length, take, drop, sym, ap, ◌∙◌, arith}
 use Rattle.std.proofs.Math.Seq.{take-append_seam, drop-append_seam}
 use Rattle.std.proofs.lemmas.Bool.{cases_lt}
 use Rattle.std.proofs.lemmas.List.{length-append, length-take-le, take-append-drop}
@@ -34,12 +34,6 @@ module _ (bytes : List ℕ) where
     parts = ap (λ (rest : List ℕ). take place bytes ++ rest) (sym follows) ∙ take-append-drop place bytes;
     begins = begins;
   }
-
-  -- it doesn't where no whole lines are before it
-  pub no_line_begins : (place : ℕ) → ¬ AreWholeLines (take place bytes) → (document report : List ℕ) → length document ≡ place
-      → ¬ StandsBetween bytes document report
-  no_line_begins place none document report long stands =
-      none (subst AreWholeLines (sym (front_is document report stands) ∙ ap (λ n. take n bytes) long) stands.begins)
 
   -- or another text follows
   pub other_follows : (place : ℕ) → ((report : List ℕ) → drop place bytes ≢ divider ++ report) → (document report : List ℕ) → length document ≡ place

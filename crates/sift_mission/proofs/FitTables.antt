@@ -41,10 +41,6 @@ module _ (d : MissionData) (fit : PartsFit d) where
       let size : least_units + (length us - least_units) ≡ length us = omega arith in
       subst (λ n. IsTableFor d n (table_for d us)) size (fit.tables.each (length us - least_units) (table-low us config))
 
-  -- it has a row for each task
-  pub table-rows : (us : List ℕ) → IsConfigOf (flown d) us → length (table_for d us).run ≡ length d.program.tasks
-  table-rows us config = (table-is us config).good.whole.0.0 ∙ length-shapes d.program.tasks 0 d.program.tasks
-
   -- a table that stands at a place is the one there; it has a row for each task, and the subframes of the mission
   pub table-placed : (i : ℕ) (table : Schedule) → i < length d.tables → table ≡ get_or d.tables i table → table_at d i ≡ table
   table-placed i table low is = get_or_default d.tables i _ table low ∙ sym is

@@ -1,5 +1,5 @@
 -- Options in words: words begin with one option and one value at most.
-use Rattle.std.proofs.Common.{◌≡◌, ℕ, ◌<◌, List, [], ◌∷◌, length, get_or, drop, Bool, true, false, cond, nat_eq, bytes_eq, Some, None, refl, ap, sym, ◌∙◌, subst, arith, inl, inr}
+use Rattle.std.proofs.Common.{◌≡◌, ℕ, ◌<◌, List, [], ◌∷◌, length, get_or, drop, Bool, true, false, cond, nat_eq, bytes_eq, refl, ap, sym, ◌∙◌, subst, arith, inl, inr}
 use Rattle.std.specs.List.{after_first, before_first, list_any}
 use Rattle.sift_options.specs.Options.{Adds, more, none, BeginWith, Sets, joined, name_of}
 use Rattle.sift_options.specs.declared.setting.Flag.{Flag}

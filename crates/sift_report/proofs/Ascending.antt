@@ -84,8 +84,3 @@ whole_exact digits k least units so_far seen vs h e = so_far.exact vs h e ∙ ta
 pub no_units : (vs bs : List ℕ) → units_text vs ≡ bs → bs ≡ codes "-" → vs ≡ []
 no_units [] bs e none = refl
 no_units (u ∷ us) bs e none = let whole : map unit_digit (u ∷ us) ≡ codes "-" = e ∙ none in absurd (omega (arith, ap (λ xs. get_or xs 0 0) whole))
-
--- and no units are printed as no byte
-pub some_text : (vs bs : List ℕ) → units_text vs ≡ bs → bs ≡ [] → ⊥
-some_text [] bs e none = let no : codes "-" ≡ [] = e ∙ none in (cc)
-some_text (u ∷ us) bs e none = let no : map unit_digit (u ∷ us) ≡ [] = e ∙ none in (cc)

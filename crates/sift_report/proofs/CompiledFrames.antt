@@ -1,6 +1,6 @@
 -- The words that stand first in a frame are those that its tasks have made.
 use Rattle.std.proofs.Common.{◌≡◌, ℕ, ◌+◌, ◌<◌, ◌≤◌, List, [], ◌++◌, length, take, drop, slice_index, sym, ap, ◌∙◌, arith}
-use Rattle.std.proofs.lemmas.List.{append_assoc, take_at, take_all, get_or-take, length-take-le, length-append, length-drop}
+use Rattle.std.proofs.lemmas.List.{append_assoc, take_at, get_or-take, length-take-le, length-append, length-drop}
 use Rattle.std.proofs.lemmas.List.Sums.{sum_by_more_le}
 use Rattle.std.proofs.lemmas.Option.{slice_get-get_or}
 use Rattle.sift_lang.specs.Tree.{TaskTree, end}
@@ -8,7 +8,7 @@ use Rattle.sift_lang.specs.Meaning.{meaning}
 use Rattle.sift_lang.proofs.lemmas.States.{length-meaning}
 use Rattle.sift_program.proofs.lemmas.Earlier.{meaning-same}
 use Rattle.sift_program.proofs.lemmas.Frames.{first_word-more, words_made-more}
-use Rattle.sift_program.specs.Ideal.{ideal_frame, words_made}
+use Rattle.sift_program.specs.Ideal.{words_made}
 use Rattle.sift_program.specs.Program.{task_at, ProgramTree, IsSoundProgram, first_word, output_count}
 
 -- words in the place of others leave the list as long as it was
@@ -21,12 +21,6 @@ module _ (program : ProgramTree) (prev agreed : List ℕ) where
   -- the words of the first tasks stand first
   abbrev pub BeginsWith : ℕ → List ℕ → Type 0
   BeginsWith t frame = take (first_word program.tasks t) frame ≡ words_made program.tasks prev agreed [] t
-
-  -- where those of all tasks do, it is the whole frame
-  pub begins-all : (frame : List ℕ) → length frame ≡ output_count program.tasks → BeginsWith (length program.tasks) frame → frame ≡ ideal_frame program prev agreed []
-  begins-all frame long begins =
-      let all = take_all (length program.tasks) program.tasks (omega arith) in
-      sym (take_all (first_word program.tasks (length program.tasks)) frame (omega (arith, long, ap output_count all))) ∙ begins
 
   module _ (sensors : ℕ) (sound : IsSoundProgram sensors program) (t : ℕ) (frame outs : List ℕ) (there : t < length program.tasks) (long : length frame ≡ output_count program.tasks)
       (are : outs ≡ meaning (task_at program.tasks t) agreed frame prev) where

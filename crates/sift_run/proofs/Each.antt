@@ -30,7 +30,6 @@ use Rattle.sift_reply.specs.Duty.{GivesOne, GivesOneTo, HasOwnStatuses}
 use Rattle.sift_reply.specs.Reply.{done_status}
 use Rattle.sift_run.specs.OneReply.{CommandsGiveOne}
 use Rattle.sift_run.specs.Statuses.{CommandsHaveOwnStatuses}
-use Rattle.sift_run.specs.declared.command.Command.{Command}
 use Rattle.sift_run.specs.declared.command.Command.TheVariants as command
 
 module _ (given : MissionData → Strays → Type 0)

@@ -4,7 +4,7 @@ use Rattle.std.specs.Prelude.{codes}
 use Rattle.toml.specs.Data.{Data, Members, get_member}
 use Rattle.sift_document.specs.Document.{integer_between, read_by}
 use Rattle.sift_document.proofs.lemmas.Numbers.{between, between_at}
-use Rattle.sift_scenario.specs.Clock.{error_of, length_limit, length_of, rate_of, skew_of, tick_limit}
+use Rattle.sift_scenario.specs.Clock.{error_of, rate_of, skew_of, tick_limit}
 
 -- a number that is read, or 0 where none is there, is at most the limit
 few_or : (high : ℕ) (d : Option Data) (n : ℕ) → read_by 0 (integer_between 0 high) d ≡ Some n → n ≤ high
@@ -22,6 +22,3 @@ few_error clock n is = few_or tick_limit (get_member (codes "error") clock) n is
 -- a rate that is read, or is 0 where none is stated, is at most 8,000 ticks
 pub few_rate : (clock : Members) (n : ℕ) → rate_of clock ≡ Some n → n ≤ tick_limit
 few_rate clock n is = few_or tick_limit (get_member (codes "rate") clock) n is
-
-pub few_length : (clock : Members) (n : ℕ) → length_of clock ≡ Some n → n ≤ length_limit
-few_length clock n is = (between_at 1 length_limit (get_member (codes "length") clock) n is).1

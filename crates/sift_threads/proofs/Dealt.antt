@@ -29,10 +29,6 @@ module _ {X : Type 0} where
   hand_else : (m n w u : ℕ) (x : X) (xs : List X) → w ≢ thread_for m n u → hand m n w u (x ∷ xs) ≡ hand m n w (u + 1) xs
   hand_else m n w u x xs other = rw (ne_eqb w (thread_for m n u) other) refl
 
-  -- no item is dealt to empty hands
-  pub dealt_none : (m n u : ℕ) (hs : List (Vec X Global)) → length hs ≡ n → All (λ h. h.items ≡ []) hs → IsDealt m n u [] hs
-  dealt_none m n u hs count none = record { count = count; each = λ w d low. none w d (omega arith) }
-
   module _ (m n u : ℕ) (some : 0 < n) (hs : List (Vec X Global)) (o v : Vec X Global) (at : ℕ) (here : at ≡ thread_for m n u) (was : o ≡ slice_index_or hs at o) where
     low : at < n
     low = let small = mod_below (u % m) n some in omega arith

@@ -1,9 +1,9 @@
 -- What a step on a pool makes of its spans.
 use Rattle.std.proofs.Common.{◌≡◌, ℕ, ◌+◌, ◌<◌, ◌≤◌, List, [], ◌∷◌, ◌++◌, length, take, replicate, sum_by, Option, Some, None, refl, sym, ap, ◌∙◌, arith}
 use Rattle.std.specs.Prelude.{slice_index_or}
-use Rattle.std.proofs.lemmas.List.{get_or-set_same, get_or-set_other, get_or_append_left, get_or_push, get_or-take, length-set, length_push, length-replicate, length-take-le, take_all}
+use Rattle.std.proofs.lemmas.List.{get_or_append_left, get_or_push, get_or-take, length_push, length-replicate, length-take-le, take_all}
 use Rattle.std.proofs.lemmas.List.Sums.{sum_by_push, sum_by_more}
-use Rattle.sift_pool.specs.Region.{Region, Extent, KeepsLive, KeepsLiveBelow, Carves, words_at, with_words, first_spans, left_in}
+use Rattle.sift_pool.specs.Region.{Region, Extent, KeepsLive, KeepsLiveBelow, Carves, words_at, first_spans, left_in}
 use Rattle.sift_unit.specs.Carving.{Adds, Rewords, IsSpan, HasScratch, IsCarved}
 
 -- a span that was carved is one more, and all else stays
@@ -26,18 +26,6 @@ adds old new len span c kept fits =
       kept = kept;
       others = λ n low. ap (λ xs. slice_index_or xs n []) spans ∙ get_or_append_left old.spans (zeros ∷ []) [] n low;
     }
-
--- a span that was written to has other words, and all else stays
-pub rewords : (old new : Region) (number : ℕ) (words : List ℕ) → new ≡ with_words old number words → number < length old.spans → KeepsLive old new →
-    Rewords old new number words
-rewords old new number words is low kept = record {
-  written = ap (λ (r : Region). words_at r number) is ∙ get_or-set_same old.spans number words [] low;
-  count = ap (λ (r : Region). length r.spans) is ∙ length-set old.spans number words;
-  room = ap (λ (r : Region). r.room) is;
-  capacity = ap (λ (r : Region). r.capacity) is;
-  kept = kept;
-  others = λ n ne. ap (λ (r : Region). words_at r n) is ∙ get_or-set_other old.spans number n words [] ne;
-}
 
 -- ---- the spans of a frame
 

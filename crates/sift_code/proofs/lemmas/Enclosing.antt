@@ -7,10 +7,6 @@ use Rattle.sift_code.specs.declared.instr.Instr.TheVariants.{Begin, End}
 use Rattle.sift_code.specs.Machine.{through_end}
 use Rattle.sift_code.specs.Enclosing.{opened, opened_by, enclosing, innermost}
 
--- one place on
-pub enclosing_next : (code : List Instr) (p : ℕ) → enclosing code (p + 1) ≡ opened (slice_get code p) (p + 1) code (enclosing code p)
-enclosing_next code p = rw add-one refl
-
 -- the loops that enclose the next place are those that are open behind the instruction at this one
 pub enclosing_here : (code : List Instr) (p : ℕ) (i : Instr) → slice_get code p ≡ Some i → enclosing code (p + 1) ≡ opened (Some i) (p + 1) code (enclosing code p)
 enclosing_here code p i at = rw add-one (ap (λ o. opened o (suc p) code (enclosing code p)) at)

@@ -1,5 +1,5 @@
 -- Whether a unit flies, has landed or has turned, as its progress number tells.
-use Rattle.std.proofs.Common.{◌≡◌, ◌≢◌, ℕ, ◌*◌, ◌+◌, ◌<◌, ◌≤◌, Bool, true, false, ⊎_elim, arith, mul_comm}
+use Rattle.std.proofs.Common.{◌≡◌, ◌≢◌, ◌*◌, ◌<◌, ◌≤◌, Bool, true, false, ⊎_elim, arith, mul_comm}
 use Rattle.std.proofs.lemmas.Nat.{mul-le, mul-add-lt}
 use Rattle.sift_buffer.specs.Conduct.{Conduct, never, last_progress}
 use Rattle.sift_buffer.specs.Lawful.{HasStage}

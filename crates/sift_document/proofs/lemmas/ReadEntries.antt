@@ -3,12 +3,12 @@ use Rattle.std.proofs.Common.{◌≡◌, ◌≢◌, ◌<◌, ◌≤◌, ◌+◌,
 use Rattle.std.proofs.lemmas.Bool.{cases_order}
 use Rattle.std.proofs.lemmas.List.{get_or-map, length-map, take_all, take_more}
 use Rattle.std.specs.Option.{option_and_then}
-use Rattle.toml.specs.Data.{Data, string, integer, float, boolean, datetime, array, table, as_array, as_str}
+use Rattle.toml.specs.Data.{Data, array, as_array}
 use Rattle.toml.specs.View.{items_view, view}
 use Rattle.toml.specs.declared.value.Value.{Value}
 use Rattle.sift_document.proofs.lemmas.DocumentLemmas.{array_from, list_of-view}
 use Rattle.sift_document.proofs.lemmas.Places.{so_far}
-use Rattle.sift_document.specs.Document.{array_between, array_of, digit_to, digits_to, each_read, of_length, with_front}
+use Rattle.sift_document.specs.Document.{array_between, array_of, each_read, of_length, with_front}
 
 -- what is read of a value and of those after it, where the whole is read
 pub with_front-parts :
@@ -143,33 +143,3 @@ module _ {B : Type 0} (read : Data → Option B) (vs : List Value) where
   -- what is read of the array that holds them
   pub array_of-values : (d : Data) → Some (items_view vs) ≡ as_array d → array_of read d ≡ each_read read (map view vs)
   array_of-values d is = rw (array_from d _ is, list_of-view vs) refl
-
--- nothing is read of what is no array
-pub array_of-other : {B : Type 0} (read : Data → Option B) (d : Data) → None ≡ as_array d → array_of read d ≡ None
-array_of-other read (array xs) is = cc
-array_of-other read (string s) is = refl
-array_of-other read (integer z) is = refl
-array_of-other read (float x) is = refl
-array_of-other read (boolean b) is = refl
-array_of-other read (datetime t) is = refl
-array_of-other read (table ms) is = refl
-
--- nothing is read of what is no string
-pub digits_to-other : (last : ℕ) (d : Data) → None ≡ as_str d → digits_to last d ≡ None
-digits_to-other last (string s) is = cc
-digits_to-other last (array xs) is = refl
-digits_to-other last (integer z) is = refl
-digits_to-other last (float x) is = refl
-digits_to-other last (boolean b) is = refl
-digits_to-other last (datetime t) is = refl
-digits_to-other last (table ms) is = refl
-
--- of a string what is read of its bytes
-pub digits_to-string : (last : ℕ) (d : Data) (bytes : List ℕ) → Some bytes ≡ as_str d → digits_to last d ≡ each_read (digit_to last) bytes
-digits_to-string last (string s) bytes is = let same : s ≡ bytes = cc is in rw same refl
-digits_to-string last (array xs) bytes is = cc
-digits_to-string last (integer z) bytes is = cc
-digits_to-string last (float x) bytes is = cc
-digits_to-string last (boolean b) bytes is = cc
-digits_to-string last (datetime t) bytes is = cc
-digits_to-string last (table ms) bytes is = cc

@@ -7,7 +7,7 @@ use Rattle.std.proofs.lemmas.List.{append_cancel_right, append-nil}
 use Rattle.sift_lang.specs.Tree.{Block}
 use Rattle.sift_parse.specs.declared.token.Token.{Token}
 use Rattle.sift_parse.specs.Grammar.{IsTask, Begins, Offends}
-use Rattle.sift_parse.specs.Reading.{Outcome, found, fault, and_then}
+use Rattle.sift_parse.specs.Reading.{Outcome, found, fault}
 use Rattle.sift_parse.specs.ReadingBlocks.{read_block, whole, read_task}
 use Rattle.sift_parse.proofs.Parsing.Laws.{left_of, with_left, LocalAt, looks, ends}
 use Rattle.sift_parse.proofs.Parsing.Steps.{Stepped, both, stepped, Failed, first_fails, second_fails, failed, then-local}
@@ -115,17 +115,3 @@ offends-at ts bad r =
 -- what is read whole is a task
 pub task-read : (ts rest : List Token) (b : Block) → Settles Block read_task ts (found b rest) → IsTask ts b
 task-read ts rest b r = task-sound r.least ts rest b (r.from r.least (omega arith))
-
--- a block is the whole, or what is left after it offends
-pub whole-found-reads : (ts left : List Token) (b : Block) → left ≡ [] → Settles Block read_block ts (found b left)
-    → Settles Block read_task ts (found b left)
-whole-found-reads ts [] b e r = record { least = r.least; from = λ fuel le. ap (λ o. and_then o whole) (r.from fuel le) }
-whole-found-reads ts (t ∷ left) b e r = cc
-
-pub whole-fault-reads : (ts left : List Token) (b : Block) → (left ≡ [] → ⊥) → Settles Block read_block ts (found b left)
-    → Settles Block read_task ts (fault left)
-whole-fault-reads ts [] b e r = absurd (e refl)
-whole-fault-reads ts (t ∷ left) b e r = record { least = r.least; from = λ fuel le. ap (λ o. and_then o whole) (r.from fuel le) }
-
-pub block-fault-reads : (ts bad : List Token) → Settles Block read_block ts (fault bad) → Settles Block read_task ts (fault bad)
-block-fault-reads ts bad r = record { least = r.least; from = λ fuel le. ap (λ o. and_then o whole) (r.from fuel le) }

@@ -26,10 +26,6 @@ pub reads-then_fault : (A B : Type 0) (R : ℕ → List Token → Outcome A) (S 
     → Settles A R ts (fault bad) → Settles B (λ fuel ts. and_then (R fuel ts) (S fuel)) ts (fault bad)
 reads-then_fault A B R S ts bad r = record { least = r.least; from = λ fuel le. ap (λ o. and_then o (S fuel)) (r.from fuel le) }
 
--- a reader that makes no calls
-pub reads-now : (A : Type 0) (R : List Token → Outcome A) (ts : List Token) (o : Outcome A) → R ts ≡ o → Settles A (λ fuel. R) ts o
-reads-now A R ts o e = record { least = 0; from = λ fuel le. e }
-
 -- the next level, as the code counts it
 pub reads-suc : (n : ℕ) (ts : List Token) (o : Outcome Term) → Settles Term (λ fuel. read fuel (n + 1)) ts o
     → Settles Term (λ fuel. read fuel (suc n)) ts o

@@ -1,6 +1,6 @@
 -- How the reader of a block goes, statement by statement, from some number of calls on.
 use Rattle.std.proofs.Common.{◌≡◌, ℕ, suc, ◌+◌, ◌-◌, ◌≤◌, List, [], ◌∷◌, ◌++◌, Option, Some, None, refl, sym, ap, ◌∙◌, arith, Result, Ok, Err}
-use Rattle.sift_lang.specs.Tree.{Term, Statement, Block, choose, choose_else, end, step}
+use Rattle.sift_lang.specs.Tree.{Term, Statement, Block, choose_else, end, step}
 use Rattle.sift_lang.specs.Tree as tree
 use Rattle.sift_parse.specs.declared.token.Keyword.TheVariants.{Else}
 use Rattle.sift_parse.specs.declared.token.Token.{Token}
@@ -9,8 +9,7 @@ use Rattle.sift_parse.specs.declared.tokens.ReadStop.{ReadStop}
 use Rattle.sift_parse.specs.declared.tokens.ReadStop.TheVariants.{Syntax, NoMemory}
 use Rattle.sift_parse.specs.Reading.{Outcome, found, fault, and_then, read}
 use Rattle.sift_parse.specs.ReadingBlocks.{braced_by, else_by, if_by, statement_by, block_from, read_block}
-use Rattle.sift_parse.specs.Parsing.{Settles, Reading, NoElse}
-use Rattle.sift_parse.proofs.Parsing.Whole.{else_by-none}
+use Rattle.sift_parse.specs.Parsing.{Settles, Reading}
 use Rattle.sift_parse.proofs.Parsing.Sequences.{reads-then, reads-then_fault}
 
 -- a block's outcome, with these statements before it
@@ -36,9 +35,6 @@ pub record Turns (ts : List Token) (ss : List Statement) (us : List Token) : Typ
   pub more : ℕ
   pub least : ℕ
   pub from : (fuel : ℕ) → least ≤ fuel → read_block (more + fuel) ts ≡ following ss (read_block fuel us)
-
-pub turns-start : (ts : List Token) → Turns ts [] ts
-turns-start ts = record { more = 0; least = 0; from = λ fuel le. (let e : 0 + fuel ≡ fuel = omega arith in ap (λ f. read_block f ts) e) }
 
 once : (us : List Token) (fuel : ℕ) (o : Outcome (Option Statement)) → statement_by (read fuel 0) (read_block fuel) us ≡ o
     → read_block (suc fuel) us ≡ and_then o (block_from (read_block fuel))
@@ -97,16 +93,6 @@ pub else-found : (t : Term) (first second : Block) (ts us left : List Token) →
     → Settles Block (λ fuel. braced_by (read_block fuel)) us (found second left)
     → Settles Statement (λ fuel. else_by (read_block fuel) t first) ts (found (choose_else t first second) left)
 else-found t first second ts us left e r = else-to t first ts us (found second left) e r
-
-pub else-fault : (t : Term) (first : Block) (ts us bad : List Token) → ts ≡ Keyword Else ∷ us
-    → Settles Block (λ fuel. braced_by (read_block fuel)) us (fault bad)
-    → Settles Statement (λ fuel. else_by (read_block fuel) t first) ts (fault bad)
-else-fault t first ts us bad e r = else-to t first ts us (fault bad) e r
-
--- there is no second block
-pub else-none : (t : Term) (first : Block) (ts left : List Token) → (ts ≡ left) × NoElse ts
-    → Settles Statement (λ fuel. else_by (read_block fuel) t first) ts (found (choose t first) left)
-else-none t first ts left h = record { least = 0; from = λ fuel le. else_by-none (read_block fuel) t first ts h.1 ∙ ap (λ l. found (choose t first) l) h.0 }
 
 -- the first block offends
 pub if-fault : (t : Term) (ts us bad : List Token) → Settles Term (λ fuel. read fuel 0) ts (found t us)

@@ -1,12 +1,11 @@
 -- One more lexeme moves the levels as its token says.
-use Rattle.std.proofs.Common.{◌≡◌, ℕ, suc, Bool, true, false, not, ◌&&◌, if◌then◌else◌, Option, Some, None, List, [], ◌∷◌, ◌++◌, refl, sym, ap, ◌∙◌, subst, is_none, ◌⊎◌, inl, inr}
+use Rattle.std.proofs.Common.{◌≡◌, ℕ, suc, Bool, true, false, not, ◌&&◌, if◌then◌else◌, Option, Some, None, List, [], ◌∷◌, ◌++◌, refl, sym, ap, ◌∙◌, subst, is_none}
 use Rattle.sift_lang.specs.declared.tree.Op.{Op}
 use Rattle.sift_lang.specs.declared.tree.Op.TheVariants.{Sub}
 use Rattle.sift_parse.specs.declared.token.Keyword as keywords
 use Rattle.sift_parse.specs.declared.token.Keyword.TheVariants.{Let, Sense, Now, Last}
 use Rattle.sift_parse.specs.declared.token.Sign as signs
 use Rattle.sift_parse.specs.declared.token.Sign.TheVariants.{OpenParen, CloseParen, OpenBrace, CloseBrace}
-use Rattle.sift_parse.specs.declared.token.Token.{Token}
 use Rattle.sift_parse.specs.declared.token.Token.TheVariants.{Name, Operator, Sign}
 use Rattle.sift_parse.specs.Force.{Force, keyword_before, word_token, task_asked, token_of}
 use Rattle.sift_parse.specs.Lexeme.{keyword_of, Lexeme, word, numeral, operator, mark}
@@ -14,7 +13,7 @@ use Rattle.sift_parse.specs.Roll.{Roll}
 use Rattle.sift_parse.specs.Tokens.{Role, new_local, a_sensor, a_task, old_local, role_after}
 use Rattle.sift_parse.specs.Levels.{ends_operand, reads_task, ends_prim, opens_after}
 use Rattle.sift_parse.proofs.Places.States.{state_of, number-next, opens_by}
-use Rattle.sift_parse.proofs.Places.Tidy.{Open, brace, paren, minus, State, bare, tail_of, next_name, next_operator, next, OnlyBraces, InBlock, InParen, OkHere, OkLet, Ok}
+use Rattle.sift_parse.proofs.Places.Tidy.{Open, brace, paren, minus, State, bare, tail_of, next_name, next_operator, next, OnlyBraces, InBlock, InParen, OkHere, Ok}
 use Rattle.sift_parse.proofs.Places.Depths.{listed, moved, fresh}
 use Rattle.sift_parse.proofs.Places.Layers.{ann, Layered, layered-bare, layered-braces, NoBracket, moved-braces, moved-quiet, moved-end}
 
@@ -62,12 +61,6 @@ close-paren b q (minus ∷ ls) h = close-paren b q ls h
 pub record Moves (b : Option Lexeme) (x : Lexeme) (ls new : List Open) : Type 0 where
   pub open_are : fresh b x ++ moved b x (ann 0 0 ls) ≡ ann 0 0 new
   pub layered : Layered new
-
-role-ok : (role : Role) (s : State) (t : Token) → Ok role s t → OkHere s t ⊎ OkLet s t
-role-ok new_local s t h = inr h
-role-ok a_sensor s t h = inl h
-role-ok a_task s t h = inl h
-role-ok old_local s t h = inl h
 
 ends-name : (b : Bool) (o : Option keywords.Keyword) (w : List ℕ) → keyword_of w ≡ o → (is_none (keyword_of w) && b) ≡ (is_none o && b)
 ends-name b o w e = ap (λ o. is_none o && b) e

@@ -1,14 +1,13 @@
 -- Lists whose newest element is last, seen from the newest on.
-use Rattle.std.proofs.Common.{◌≡◌, ℕ, ◌+◌, ◌-◌, ◌<◌, List, [], ◌∷◌, ◌++◌, length, take, drop, map, get_or, sym, ap, ◌∙◌, subst, refl, arith, length-drop}
+use Rattle.std.proofs.Common.{◌≡◌, ℕ, ◌+◌, ◌-◌, ◌<◌, List, [], ◌∷◌, ◌++◌, length, take, drop, map, get_or, sym, ap, ◌∙◌, refl, length-drop}
 use Rattle.std.specs.Prelude.{reverse, sum, if◌then◌else◌, Some}
 use Rattle.std.specs.List.{position_from}
 use Rattle.std.specs.Str.{bytes_eq}
 use Rattle.std.proofs.Math.Numerals.{add-one}
-use Rattle.std.proofs.lemmas.List.{reverse-append, reverse-reverse, length-reverse, length-map, length-take-le, get_or-map, map-append, take-append-drop, take-map}
+use Rattle.std.proofs.lemmas.List.{reverse-append, length-reverse, length-map, get_or-map, map-append, take-append-drop, take-map}
 use Rattle.std.proofs.lemmas.List.Sums.{sum_by_more}
-use Rattle.std.proofs.Math.Seq.{drop-append_seam, drop-cons, take-suc}
+use Rattle.std.proofs.Math.Seq.{drop-append_seam, drop-cons}
 use Rattle.sift_parse.specs.Force.{oldest}
-use Rattle.sift_parse.specs.Tokens.{local_of}
 
 -- the last comes first
 pub reverse-map-pushed : {A B : Type 0} (f : A → B) (xs : List A) (y : A) → reverse (map f (xs ++ y ∷ [])) ≡ f y ∷ reverse (map f xs)
@@ -33,31 +32,7 @@ pub data Ending {A : Type 0} : List A → Type 0 where
   nothing : Ending []
   ending : (xs : List A) (y : A) → Ending (xs ++ y ∷ [])
 
-ending-reverse : {A : Type 0} (ys : List A) → Ending (reverse ys)
-ending-reverse [] = nothing
-ending-reverse (y ∷ ys) = subst Ending (sym (reverse-append (y ∷ []) ys)) (ending (reverse ys) y)
-
--- a list is empty, or some elements and a last one
-pub ending-of : {A : Type 0} (xs : List A) → Ending xs
-ending-of xs = subst Ending (reverse-reverse xs) (ending-reverse (reverse xs))
-
 -- ---- locals
-
--- one more local
-local_of-pushed : {A : Type 0} (f : A → List ℕ) (xs : List A) (y : A) (w : List ℕ)
-    → local_of (reverse (map f (xs ++ y ∷ []))) w ≡ (if bytes_eq (f y) w then Some (length xs) else local_of (reverse (map f xs)) w)
-local_of-pushed f xs y w =
-    ap (λ zs. local_of zs w) (reverse-map-pushed f xs y)
-    ∙ ap (λ n. if bytes_eq (f y) w then Some n else local_of (reverse (map f xs)) w) (length-reverse (map f xs) ∙ length-map xs f)
-
-pub local_of-taken : {A : Type 0} (f : A → List ℕ) (xs : List A) (i : ℕ) (d : A) (w : List ℕ) → i < length xs
-    → local_of (reverse (map f (take (i + 1) xs))) w ≡ (if bytes_eq (f (get_or xs i d)) w then Some i else local_of (reverse (map f (take i xs))) w)
-local_of-taken f xs i d w lt =
-    let len : length (take i xs) ≡ i = length-take-le i xs (omega arith) in
-    ap (λ n. local_of (reverse (map f (take n xs))) w) (add-one i)
-    ∙ (ap (λ ys. local_of (reverse (map f ys)) w) (take-suc xs i d lt)
-    ∙ (local_of-pushed f (take i xs) (get_or xs i d) w
-    ∙ ap (λ n. if bytes_eq (f (get_or xs i d)) w then Some n else local_of (reverse (map f (take i xs))) w) len))
 
 -- ---- names
 

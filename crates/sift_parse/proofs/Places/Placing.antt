@@ -1,11 +1,11 @@
 -- What is in force after lexemes that begin a task is what is told there.
-use Rattle.std.proofs.Common.{◌≡◌, ℕ, Option, Some, None, List, [], ◌∷◌, ◌++◌, length, refl, sym, ap, ◌∙◌, subst, append_assoc}
+use Rattle.std.proofs.Common.{◌≡◌, ℕ, Option, Some, None, List, [], ◌∷◌, ◌++◌, refl, sym, ap, ◌∙◌, subst, append_assoc}
 use Rattle.std.specs.Prelude.{fold}
 use Rattle.std.proofs.lemmas.List.{append-nil}
 use Rattle.std.proofs.lemmas.List.Sums.{fold-append}
 use Rattle.sift_parse.specs.declared.token.Sign.TheVariants.{CloseBrace, Semicolon}
 use Rattle.sift_parse.specs.declared.token.Token.{Token}
-use Rattle.sift_parse.specs.Force.{Force, Level, block, parenthesis, negation, keyword_before, opens, leave_block, end_let, after_name, after_word, moved, advance, at_start, force_after, place_of, tokens_from}
+use Rattle.sift_parse.specs.Force.{Force, Level, block, parenthesis, negation, opens, leave_block, end_let, advance, at_start, force_after, place_of, tokens_from}
 use Rattle.sift_parse.specs.Lexeme.{Lexeme, word, numeral, operator, mark}
 use Rattle.sift_parse.specs.Tokens.{Place, last_of, last_word, place_after, token_of, tokens_after, tokens_of}
 use Rattle.sift_parse.specs.Roll.{Roll}

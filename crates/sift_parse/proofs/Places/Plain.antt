@@ -3,7 +3,7 @@ use Rattle.std.proofs.Common.{◌≡◌, ℕ, Bool, true, false, if◌then◌els
 use Rattle.sift_parse.specs.declared.token.Sign.TheVariants.{OpenBrace, CloseBrace, Semicolon}
 use Rattle.sift_parse.specs.Lexeme.{Lexeme, word, mark}
 use Rattle.sift_parse.specs.Levels.{is_let, ends, local_by, living}
-use Rattle.sift_parse.proofs.Places.Seen.{Balanced, Stays, balanced-stays, balanced-append, balanced-block, opened-stays, Settled, settled-append, living-append, none-after, oldest-append}
+use Rattle.sift_parse.proofs.Places.Seen.{Balanced, balanced-append, Settled}
 
 -- ---- lexemes inside a `let`
 

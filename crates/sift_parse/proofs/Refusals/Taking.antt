@@ -71,13 +71,6 @@ pub record Scanning (r : Roll) (ps : List Placed) (f : Force) (ts : List Token) 
   pub fine : IsFine r ps
   pub few : FewLive f
 
-pub scanning-start : (r : Roll) → Scanning r [] at_start []
-scanning-start r = record { force = refl; tokens = refl; fine = λ front more p e. nothing front more p e; few = omega arith }
-  where
-    nothing : (front more : List Placed) (p : Placed) → [] ≡ front ++ p ∷ more → NoneAt r (force_after (lexemes_of front)) p.lexeme
-    nothing [] more p e = cc
-    nothing (q ∷ front) more p e = cc
-
 tokens-one : (r : Roll) (ps : List Placed) (p : Placed) (f : Force) (ts : List Token) → Scanning r ps f ts
     → ts ++ token_of r f p.lexeme ∷ [] ≡ tokens_of r (lexemes_of (ps ++ p ∷ []))
 tokens-one r ps p f ts s =

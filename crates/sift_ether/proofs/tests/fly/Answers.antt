@@ -1,4 +1,4 @@
-use Rattle.std.proofs.Common.{◌≡◌, ◌≤◌, ℕ, ◌+◌, ◌*◌, [], subst, arith}
+use Rattle.std.proofs.Common.{◌≡◌, ℕ, ◌+◌, ◌*◌, [], subst, arith}
 use Rattle.sift_ether.specs.Ring.{IsUnderWay}
 use Rattle.sift_ether.proofs.Ring.{weaker}
 use Rattle.sift_ether.proofs.tests.fly.Goals as goal

@@ -1,4 +1,3 @@
-use Rattle.std.proofs.Common.{refl}
 use Rattle.sift_mission.specs.Parts.{data_of}
 use Rattle.sift_core.proofs.Storming.{moved, waited, landed, turned, has_storm, some_left}
 use Rattle.sift_core.proofs.machine.Machine.step_on.Goals as goal

@@ -1,5 +1,5 @@
 use Rattle.std.proofs.Common.{◌∙◌}
-use Rattle.sift_mission.specs.Parts.{data_of, flown_of}
+use Rattle.sift_mission.specs.Parts.{data_of}
 use Rattle.sift_core.specs.Courses.{course}
 use Rattle.sift_core.proofs.Turning.{drawn_there, own_turn, own_nearer, given_done, least_goes_on, least_turn, least_nearer, first_turn, first_nearer}
 use Rattle.sift_core.proofs.machine.Machine.turn_before.Goals as goal

@@ -1,8 +1,8 @@
-use Rattle.std.proofs.Common.{◌≡◌, ◌<◌, ℕ, length, slice_set, sym, refl, ap, ◌∙◌}
+use Rattle.std.proofs.Common.{◌≡◌, ◌<◌, length, slice_set, sym, refl, ap, ◌∙◌}
 use Rattle.sift_buffer.specs.Conduct.{Conduct, never, with_turned}
 use Rattle.sift_buffer.specs.Core.{turn}
 use Rattle.sift_buffer.specs.Ledgers.{Ledger}
-use Rattle.sift_core.specs.Crews.{no_ledger, ledger_at}
+use Rattle.sift_core.specs.Crews.{no_ledger}
 use Rattle.sift_core.specs.declared.rack.Rack.{Rack}
 use Rattle.sift_core.proofs.RackEvents.{lent, follows_by}
 use Rattle.sift_core.proofs.rack.Rack.leave.Goals as goal

@@ -1,4 +1,4 @@
-use Rattle.std.proofs.Common.{◌≡◌, ◌<◌, ℕ, [], length, ap, ◌∙◌, arith}
+use Rattle.std.proofs.Common.{◌≡◌, ◌<◌, [], length, ap, ◌∙◌, arith}
 use Rattle.sift_buffer.specs.Ledgers.{Ledger}
 use Rattle.sift_buffer.specs.Views.{after_round}
 use Rattle.sift_core.specs.Crews.{no_ledger, ledger_at}
