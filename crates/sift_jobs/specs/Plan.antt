@@ -12,9 +12,8 @@ use Rattle.sift_planner.specs.Sizes.{ArePlans, IsFirstWithoutRoom}
 use Rattle.sift_planner.specs.Text.{tables_text}
 use Rattle.sift_reply.specs.Duty.{Duty}
 use Rattle.sift_reply.specs.Reply.{Reply, done, done_status, reply}
-use Rattle.sift_table.specs.Laws.{shortest_period}
 use Rattle.sift_table.specs.Rules.{least_executors}
-use Rattle.sift_table.specs.Schedule.{Schedule}
+use Rattle.sift_table.specs.Schedule.{Schedule, shortest_period}
 
 -- ---- what options ask for
 

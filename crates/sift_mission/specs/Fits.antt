@@ -8,7 +8,7 @@ use Rattle.sift_clock.specs.Distance.{IsWithin}
 use Rattle.sift_mission.specs.Data.{FlownMission, IsConfigOf}
 use Rattle.sift_mission.specs.Slots.{is_slot, is_held, is_silent, executors}
 use Rattle.sift_mission.specs.PartsFit.{frame_limit, longest_period, start_limit}
-use Rattle.sift_table.specs.Laws.{shortest_period}
+use Rattle.sift_table.specs.Schedule.{shortest_period}
 
 -- by how many ticks an offset changes in a frame at most
 abbrev pub change_limit : ℕ

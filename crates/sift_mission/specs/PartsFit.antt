@@ -8,9 +8,8 @@ use Rattle.sift_program.specs.Program.{IsSoundProgram, output_count}
 use Rattle.sift_script.specs.Rules as scripts
 use Rattle.sift_script.specs.Script.{outputs_of}
 use Rattle.sift_skew.specs.Limits.{AreNumbers, IsAdmitted}
-use Rattle.sift_table.specs.Laws.{shortest_period}
 use Rattle.sift_table.specs.Rules as tables
-use Rattle.sift_table.specs.Schedule.{Schedule}
+use Rattle.sift_table.specs.Schedule.{Schedule, shortest_period}
 use Rattle.sift_mission.specs.Data.{Clocks, MissionData, shapes_in}
 
 -- ---- limits

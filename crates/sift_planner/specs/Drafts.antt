@@ -2,8 +2,7 @@
 use Rattle.std.specs.Prelude.{◌≡◌, ℕ, ◌<◌, ◌≤◌, List, [], ◌∷◌, ◌++◌, length, nat_lt, slice_index}
 use Rattle.sift_base.specs.Layout.{least_units}
 use Rattle.sift_base.specs.Units.{unit_limit}
-use Rattle.sift_table.specs.Laws.{shortest_period}
-use Rattle.sift_table.specs.Schedule.{Schedule, schedule_of}
+use Rattle.sift_table.specs.Schedule.{Schedule, schedule_of, shortest_period}
 use Rattle.sift_planner.specs.Plans.{longest_period}
 use Rattle.sift_planner.specs.Earliest.{is_used}
 use Rattle.sift_planner.specs.declared.draft.Draft.{Draft}

@@ -4,9 +4,8 @@ use Rattle.std.specs.List.{All}
 use Rattle.sift_base.specs.Layout.{least_units}
 use Rattle.sift_base.specs.Shapes.{AllShapes, shape_at, task_limit}
 use Rattle.sift_base.specs.Units.{unit_limit}
-use Rattle.sift_table.specs.Laws.{shortest_period}
 use Rattle.sift_table.specs.Rules.{least_executors}
-use Rattle.sift_table.specs.Schedule.{Schedule}
+use Rattle.sift_table.specs.Schedule.{Schedule, shortest_period}
 use Rattle.sift_planner.specs.Earliest.{IsEarliestRow, IsOpen}
 
 -- ---- what is asked for

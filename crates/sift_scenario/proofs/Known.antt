@@ -10,7 +10,8 @@ use Rattle.sift_document.specs.Document.{HasOnlyKeys, IsArrayOf, IsTableOf, entr
 use Rattle.sift_scenario.proofs.Decided.{Decided, among, at_most, both, each, either, negated, nothing, same_number, same_option, same_text, same_value}
 use Rattle.sift_base.specs.Layout.{least_units}
 use Rattle.sift_scenario.specs.Fault.{HasOneWay, IsSaying, IsStorming, item_limit, say_value, storm_value}
-use Rattle.sift_scenario.specs.Item.{item_keys, storm_keys}
+use Rattle.sift_scenario.specs.Item.{item_keys}
+use Rattle.sift_scenario.specs.Storm.{storm_keys}
 use Rattle.sift_scenario.specs.Table.{IsTableEntry, size_of, table_keys}
 use Rattle.sift_scenario.specs.Task.{Form, HasForm, IsLinear, IsNewName, IsText, linear, name_of, task_outputs, text}
 

@@ -2,7 +2,7 @@
 use Rattle.std.proofs.Common.{◌≡◌, ◌≤◌, ℕ, length, Option, Some, None, inl, refl, arith}
 use Rattle.std.specs.Prelude.{codes}
 use Rattle.toml.specs.Data.{Data, Members, get_member}
-use Rattle.sift_table.specs.Laws.{shortest_period}
+use Rattle.sift_table.specs.Schedule.{shortest_period}
 use Rattle.sift_mission.specs.PartsFit.{longest_period}
 use Rattle.sift_document.specs.Document.{integer_between, read_by}
 use Rattle.sift_document.specs.Rules.{AreKept}

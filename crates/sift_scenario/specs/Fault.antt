@@ -7,7 +7,8 @@ use Rattle.sift_script.specs.Script.{Change, Failing, Fault, changing}
 use Rattle.sift_mission.specs.PartsFit.{frame_limit}
 use Rattle.sift_document.specs.Document.{IsArrayOf, IsTableOf, each_read, entries_of, integer_between, members_of, read_at, read_or}
 use Rattle.sift_document.specs.Rules.{HoldsOf, BreaksEntries, Rule, rule}
-use Rattle.sift_scenario.specs.Item.{change_in, item_keys, storm_in, storm_keys}
+use Rattle.sift_scenario.specs.Item.{change_in, item_keys}
+use Rattle.sift_scenario.specs.Storm.{storm_in, storm_keys}
 
 -- ---- what they say
 

@@ -1,14 +1,12 @@
--- What an item of `say` states, and the `storm` of a fault: how a faulty unit's words are changed, and how its unit turns stray.
+-- What an item of `say` states: how a faulty unit's words in a slot are changed.
 use Rattle.std.specs.Prelude.{codes, ℕ, ◌-◌, List, [], ◌∷◌, Bool, true, false, Option, Some, None, option_and_then, option_map, if◌then◌else◌}
 use Rattle.std.specs.Str.{bytes_eq}
 use Rattle.toml.specs.Data.{Data, Members, as_str, get_member}
 use Rattle.sift_base.specs.Units.{unit_limit}
-use Rattle.sift_script.specs.Script.{Change, Failing, turning}
+use Rattle.sift_script.specs.Script.{Change}
 use Rattle.sift_script.specs.declared.script.SlotKind.{SlotKind}
 use Rattle.sift_script.specs.declared.script.SlotKind.TheVariants.{Clock, Sense, Relay, Out, Report, RelayReport}
-use Rattle.sift_document.specs.Document.{digits_to, integer_between, read_at, read_or, word_value, members_of, natural}
-
--- ---- an item of `say`: how a faulty unit's words in a slot are changed
+use Rattle.sift_document.specs.Document.{digits_to, integer_between, read_at, read_or, word_value}
 
 -- the keys that an item may have
 abbrev pub item_keys : List (List ℕ)
@@ -92,29 +90,3 @@ change_by item kind =
 -- the change that an item states
 abbrev pub change_in : Members → Option Change
 change_in item = option_and_then (change_by item) (kind_of item)
-
--- ---- the `storm` of a fault
-
--- the keys that a storm may have
-abbrev pub storm_keys : List (List ℕ)
-storm_keys = codes "number" ∷ codes "strays" ∷ []
-
--- the most strays of a storm
-abbrev pub stray_limit : ℕ
-stray_limit = 1000000
-
--- the number by which the storm begins, and how many strays it has
-abbrev pub number_of : Members → Option ℕ
-number_of storm = read_at natural (codes "number") storm
-
-abbrev pub strays_of : Members → Option ℕ
-strays_of storm = read_at (integer_between 0 stray_limit) (codes "strays") storm
-
--- the storm of such numbers, where both are stated
-abbrev pub storm_from : (number strays : Option ℕ) → Option Failing
-storm_from (Some number) (Some strays) = Some (turning number strays)
-storm_from _ _ = None
-
--- the storm that a value states
-abbrev pub storm_in : Data → Option Failing
-storm_in value = storm_from (number_of (members_of value)) (strays_of (members_of value))

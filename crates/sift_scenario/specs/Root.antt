@@ -3,9 +3,8 @@ use Rattle.std.specs.Prelude.{codes, ℕ, ◌≡◌, ◌+◌, ◌*◌, List, [],
 use Rattle.toml.specs.Data.{Members}
 use Rattle.sift_base.specs.Layout.{least_units}
 use Rattle.sift_base.specs.Units.{unit_limit}
-use Rattle.sift_table.specs.Laws.{shortest_period}
 use Rattle.sift_table.specs.Rules.{report_lead}
-use Rattle.sift_table.specs.Schedule.{agreed_in, hearing_delay}
+use Rattle.sift_table.specs.Schedule.{agreed_in, hearing_delay, shortest_period}
 use Rattle.sift_mission.specs.PartsFit.{frame_limit, longest_period}
 use Rattle.sift_document.specs.Document.{HasOnlyKeys, integer_between, read_at, read_or}
 use Rattle.sift_document.specs.Rules.{OfNoEntry, Rule, rule}

@@ -3,7 +3,7 @@
 ghost use Rattle.std.specs.Prelude.{◌≡◌, option_map};
 ghost use Rattle.toml.specs.View.{view};
 ghost use Rattle.sift_script.specs.Script.{failing_of};
-ghost use Rattle.sift_scenario.specs.Item.{storm_in};
+ghost use Rattle.sift_scenario.specs.Storm.{storm_in};
 
 use sift_document::{natural_at, number_at};
 use sift_script::Plan;

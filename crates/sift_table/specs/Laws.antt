@@ -6,12 +6,8 @@ use Rattle.sift_base.specs.Shapes.{AllShapes, AreShapes, first_word, shape_at, w
 use Rattle.sift_base.specs.declared.layout.Layout.{Layout}
 use Rattle.sift_base.specs.declared.slot.Slot.{Slot}
 use Rattle.sift_table.specs.Rules.{IsFirstBroken, IsGood, least_executors, report_lead}
-use Rattle.sift_table.specs.Schedule.{Schedule, agreed_in, hearing_delay, plain_of, polled_in, run_in, runs_at, sheds}
+use Rattle.sift_table.specs.Schedule.{Schedule, agreed_in, hearing_delay, plain_of, polled_in, run_in, runs_at, sheds, shortest_period}
 use Rattle.sift_table.specs.Timing.{due_in, end_lead, heard_in, is_shed, task_of}
-
--- the fewest subframes that a frame may have
-abbrev pub shortest_period : ℕ
-shortest_period = 12
 
 -- the word of each slot is heard two subframes before the frame's end, or earlier, and two after it is said, or later, where no task is shed
 abbrev pub SlotsAreHeardInTime : Type 0

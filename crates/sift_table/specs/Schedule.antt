@@ -45,6 +45,10 @@ runs_at table t position = has (positions_of table t) position
 abbrev pub sheds : Schedule → ℕ → Bool
 sheds table t = has table.shed t
 
+-- the fewest subframes that a frame may have
+abbrev pub shortest_period : ℕ
+shortest_period = 12
+
 -- the subframe in which the sensor words of a frame are agreed
 abbrev pub agreed_in : ℕ
 agreed_in = 4

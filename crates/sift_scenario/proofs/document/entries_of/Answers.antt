@@ -5,7 +5,7 @@ use Rattle.toml.specs.Data.{get_member}
 use Rattle.toml.specs.View.{table_view}
 use Rattle.sift_base.specs.Layout.{least_units}
 use Rattle.sift_base.specs.Units.{unit_limit}
-use Rattle.sift_table.specs.Laws.{shortest_period}
+use Rattle.sift_table.specs.Schedule.{shortest_period}
 use Rattle.sift_mission.specs.PartsFit.{longest_period}
 use Rattle.sift_document.proofs.lemmas.Order.{stopped}
 use Rattle.sift_document.specs.Document.{members_of}
