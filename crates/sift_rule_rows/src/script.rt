@@ -3,13 +3,17 @@
 ghost use Rattle.sift_base.specs.Layout.{IsLayout};
 ghost use Rattle.sift_base.specs.Shapes.{shapes_of, AreShapes};
 
-use crate::fixture::unit_of;
 use crate::shapes::{digits, one_task, two_tasks};
-use sift_base::{Layout, NoMemory, Shapes, Slot, Word};
+use sift_base::{Layout, NoMemory, Shapes, Slot, UnitId, Word};
 use sift_script::{Broken, Entry, Item, Plan, Script, SlotKind, check};
 use std::alloc::Global;
 use std::process::Abort;
 use std::test::Fail;
+
+/// The unit of a number.
+fn unit_of(n: u8) -> UnitId {
+    UnitId::of(n).unwrap_or_default()
+}
 
 /// What a script is refused for: the rule and the entry.
 type Refusal = Option<(u8, u16)>;
