@@ -1,6 +1,5 @@
 pub mod Draw
 pub mod Layout
-pub mod Margin
 pub mod Name
 pub mod ReadBack
 pub mod Shapes

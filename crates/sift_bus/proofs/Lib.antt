@@ -1,4 +1,3 @@
-pub mod FirstUnits
 pub mod Logs
 pub mod Outvoting
 pub mod Returning
@@ -7,3 +6,4 @@ pub mod SeatsTaken
 pub mod Sides
 pub mod Telling
 pub mod Turning
+pub mod lemmas

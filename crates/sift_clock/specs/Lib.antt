@@ -1,3 +1,2 @@
 pub mod Distance
-pub mod Reading
 pub mod Correction

@@ -1,4 +1,3 @@
-pub mod Account
 pub mod Acts
 pub mod Conduct
 pub mod Frames

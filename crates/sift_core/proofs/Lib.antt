@@ -1,6 +1,5 @@
 pub mod Beside
 pub mod EndedFrames
-pub mod FirstUnits
 pub mod Home
 pub mod Least
 pub mod Lists
@@ -10,7 +9,7 @@ pub mod NewRacks
 pub mod Others
 pub mod Progress
 pub mod RackEvents
-pub mod Stages
 pub mod Storming
 pub mod StrayEvents
 pub mod Turning
+pub mod lemmas

@@ -1,2 +1,2 @@
 pub mod Accusing
-pub mod Justice
+pub mod lemmas

@@ -1,2 +1,1 @@
 pub mod Conviction
-pub mod Record

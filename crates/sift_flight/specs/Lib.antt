@@ -1,11 +1,8 @@
 pub mod Flight
 pub mod Told
-pub mod Hearing
-pub mod Round
 pub mod Existence
 pub mod Landing
 pub mod Homing
-pub mod Configuration
 pub mod Figures
 pub mod Whole
 pub mod Alike

@@ -1,5 +1,2 @@
-pub mod Draws
-pub mod Entries
 pub mod Tasks
 pub mod Scenario
-pub mod Text

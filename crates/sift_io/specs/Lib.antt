@@ -1,6 +1,5 @@
 pub mod BytesIn
 pub mod BytesOut
-pub mod Fault
 pub mod Flow
 pub mod Reading
 pub mod Sure

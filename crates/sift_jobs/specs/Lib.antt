@@ -1,7 +1,4 @@
-pub mod Several
-pub mod Workers
 pub mod Flights
-pub mod Telling
 pub mod Plan
 pub mod Run
 pub mod Votes
@@ -9,5 +6,4 @@ pub mod Ideal
 pub mod Check
 pub mod Gen
 pub mod Trial
-pub mod Headline
 pub mod Existence

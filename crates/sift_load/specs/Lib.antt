@@ -1,4 +1,2 @@
-pub mod Mission
-pub mod NoMission
 pub mod Loads
 pub mod Laws

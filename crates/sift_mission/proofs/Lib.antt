@@ -1,5 +1,3 @@
-pub mod ByWords
-pub mod Configs
 pub mod FitSlots
 pub mod FitTables
 pub mod FitTasks
@@ -8,9 +6,8 @@ pub mod Flying
 pub mod Held
 pub mod Links
 pub mod Meanings
-pub mod Numbers
 pub mod Positions
 pub mod Rows
 pub mod Sayers
-pub mod Silent
 pub mod Tasks
+pub mod lemmas

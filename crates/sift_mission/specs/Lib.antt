@@ -3,7 +3,6 @@ pub mod Crews
 pub mod Data
 pub mod Fits
 pub mod Flown
-pub mod Mission
 pub mod Parts
 pub mod PartsFit
 pub mod Premises

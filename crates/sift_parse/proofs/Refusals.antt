@@ -1,9 +1,7 @@
 -- What stands at a place, the first of it, and the answer to a text.
-pub mod Answered
 pub mod Answering
 pub mod Fine
 pub mod Offences
-pub mod OneAnswer
 pub mod OneRefusal
 pub mod Refusing
 pub mod Standing

@@ -6,7 +6,6 @@ pub mod Number
 pub mod Place
 pub mod Prim
 pub mod Statement
-pub mod Task
 pub mod Term
 pub mod TermRules
 pub mod Values

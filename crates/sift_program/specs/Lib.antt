@@ -1,4 +1,2 @@
 pub mod Ideal
-pub mod Needs
 pub mod Program
-pub mod Sound

@@ -1,7 +1,5 @@
 pub mod Reply
 pub mod Begun
 pub mod Duty
-pub mod Input
-pub mod Output
 pub mod Promise
 pub mod Laws

@@ -1,33 +1,33 @@
-pub mod Above
-pub mod Joined
-pub mod Reading
-pub mod Results
-pub mod Numerals
-pub mod Ascending
-pub mod Sets
-pub mod LineForms
+mod Alike
+mod Ascii
 mod Catches
 mod CompiledFrames
-pub mod Fields
-pub mod Printed
-mod Held
-mod SameTexts
-mod Places
-mod Versions
-mod Ascii
-mod LineFeeds
-mod OneSheet
-mod SheetVersions
-mod SheetPlaces
-mod RoundFlights
-mod Alike
-mod SheetForm
-mod SheetConfigs
 mod FrameLines
 mod HeadlineLines
-mod TwoCatchersFit
-mod TwoCatchers
+mod Held
+mod LineFeeds
+mod OneSheet
 mod OtherLines
-pub mod Polls
+mod Places
+mod RoundFlights
+mod SameTexts
+mod SheetConfigs
+mod SheetForm
+mod SheetPlaces
+mod SheetVersions
+mod TwoCatchers
+mod TwoCatchersFit
+mod Versions
+pub mod Above
+pub mod Ascending
+pub mod Fields
 pub mod Heard
+pub mod Joined
+pub mod LineForms
+pub mod Numerals
+pub mod Polls
+pub mod Reading
 pub mod Remaining
+pub mod Results
+pub mod Sets
+pub mod lemmas

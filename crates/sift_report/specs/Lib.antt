@@ -11,9 +11,7 @@ pub mod OneText
 pub mod OneSheet
 pub mod Versions
 pub mod Texts
-pub mod Working
 pub mod Told
-pub mod Form
 pub mod Headline
 pub mod Printed
 pub mod TwoCatchers

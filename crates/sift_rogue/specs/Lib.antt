@@ -1,4 +1,3 @@
-pub mod Calls
 pub mod Rogues
 pub mod Storms
 pub mod DrawnStorms

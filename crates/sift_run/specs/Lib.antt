@@ -1,4 +1,3 @@
-pub mod Verb
 pub mod Command
 pub mod Headline
 pub mod Statuses

@@ -11,7 +11,7 @@ use Rattle.sift_compile.specs.Length.{task_steps}
 use Rattle.sift_compile.specs.Tasks.{AreCodesOf, IsCodeOf}
 use Rattle.sift_lang.specs.Sound.{IsSound}
 use Rattle.sift_lang.specs.Tree.{TaskTree}
-use Rattle.sift_parse.proofs.lemmas.Sound.Task.{has_size, task_is_sound}
+use Rattle.sift_parse.proofs.lemmas.Sound.{has_size, task_is_sound}
 use Rattle.sift_parse.specs.Outcome.{AreNames}
 use Rattle.sift_parse.specs.Roll.{first_word, Roll}
 use Rattle.sift_document.proofs.lemmas.Places.{pushed}

@@ -9,7 +9,7 @@ use Rattle.sift_compile.specs.Length.{code_limit, task_length, task_steps}
 use Rattle.sift_lang.specs.Tree.{TaskTree}
 use Rattle.sift_parse.specs.declared.stop.ParseStop.{ParseStop}
 use Rattle.sift_parse.specs.declared.stop.ParseStop.TheVariants as parse
-use Rattle.sift_parse.proofs.lemmas.Refusals.Answered.{no_text_is_unanswered}
+use Rattle.sift_parse.proofs.lemmas.Answered.{no_text_is_unanswered}
 use Rattle.sift_parse.specs.Answer as texts
 use Rattle.sift_parse.specs.Roll.{Roll, first_word}
 use Rattle.sift_parse.specs.Outcome.{linear_tree}

@@ -7,7 +7,7 @@ use Rattle.std.specs.List.{slice_get, sum}
 use Rattle.toml.specs.Data.{Members}
 use Rattle.sift_lang.specs.Tree.{TaskTree, end}
 use Rattle.sift_lang.specs.Sound.{AllNowsBelow, IsSound}
-use Rattle.sift_parse.proofs.lemmas.Sound.Task.{task_is_sound}
+use Rattle.sift_parse.proofs.lemmas.Sound.{task_is_sound}
 use Rattle.sift_parse.specs.Answer.{HasSize}
 use Rattle.sift_parse.specs.Outcome.{linear_tree}
 use Rattle.sift_program.specs.Program.{ProgramTree, IsSoundProgram, first_word}

@@ -4,7 +4,7 @@ use Rattle.std.specs.List.{slice_get}
 use Rattle.std.specs.Prelude.{codes, option_and_then}
 use Rattle.toml.specs.Data.{Data, Members, as_str, get_member}
 use Rattle.sift_lang.specs.Tree.{TaskTree}
-use Rattle.sift_parse.proofs.lemmas.Refusals.OneAnswer.{one_task}
+use Rattle.sift_parse.proofs.lemmas.OneAnswer.{one_task}
 use Rattle.sift_parse.specs.Roll.{Roll}
 use Rattle.sift_document.specs.Document.{read_at}
 use Rattle.sift_scenario.specs.Program.{AreTreesOf, IsTreeOf, turn_of}

@@ -10,7 +10,7 @@ use Rattle.std.specs.List.{All, slice_get}
 use Rattle.toml.specs.Data.{Members}
 use Rattle.sift_base.specs.Shapes.{AllShapes}
 use Rattle.sift_lang.specs.Tree.{TaskTree}
-use Rattle.sift_parse.proofs.lemmas.Refusals.OneAnswer.{one_answer}
+use Rattle.sift_parse.proofs.lemmas.OneAnswer.{one_answer}
 use Rattle.sift_parse.specs.Outcome.{Tells}
 use Rattle.sift_parse.specs.Roll.{Roll}
 use Rattle.sift_script.proofs.lemmas.Refusals as script_laws

@@ -5,7 +5,7 @@ use Rattle.std.proofs.lemmas.List.{get_or-take, length-take-le}
 use Rattle.std.proofs.lemmas.Option.{get_or_from_slice_get, slice_get-get_or, slice_get_read, slice_get_within}
 use Rattle.std.specs.List.{slice_get}
 use Rattle.sift_lang.specs.Tree.{TaskTree, end}
-use Rattle.sift_parse.proofs.lemmas.Refusals.OneAnswer.{task_is_answered}
+use Rattle.sift_parse.proofs.lemmas.OneAnswer.{task_is_answered}
 use Rattle.sift_parse.specs.Outcome.{IsTaskOf, Tells}
 use Rattle.sift_parse.specs.Roll.{Roll}
 use Rattle.sift_parse.specs.declared.stop.ParseStop.{ParseStop}

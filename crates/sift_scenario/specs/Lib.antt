@@ -2,7 +2,6 @@ pub mod Clock
 pub mod Storm
 pub mod Fault
 pub mod Item
-pub mod Lawful
 pub mod Laws
 pub mod Mission
 pub mod Program
@@ -12,5 +11,4 @@ pub mod Root
 pub mod Sensor
 pub mod Table
 pub mod Task
-pub mod TaskRules
 pub mod Testing

@@ -1,4 +1,3 @@
-pub mod Changes
 pub mod Faults
 pub mod Laws
 pub mod Parts

@@ -1,10 +1,6 @@
-pub mod Changes
-pub mod Extremes
-pub mod Keeps
 pub mod Ceilings
-pub mod Leads
 pub mod Limits
 pub mod Products
-pub mod Readings
 pub mod Shares
 pub mod Steps
+pub mod lemmas

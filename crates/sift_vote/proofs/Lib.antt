@@ -1,3 +1,2 @@
 pub mod Differences
-pub mod Found
-pub mod Votes
+pub mod lemmas

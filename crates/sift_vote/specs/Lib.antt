@@ -1,3 +1,1 @@
-pub mod Agreed
-pub mod Differing
 pub mod Majority

@@ -3,7 +3,7 @@ use Rattle.std.proofs.lemmas.List.{get_or-map, length-map}
 use Rattle.sift_lang.specs.Tree.{block_of}
 use Rattle.sift_parse.specs.Refusal.{IsParsed}
 use Rattle.sift_parse.specs.Roll.{roll_of}
-use Rattle.sift_parse.proofs.lemmas.Sound.Task.{has_size, has_words, task_is_sound}
+use Rattle.sift_parse.proofs.lemmas.Sound.{has_size, has_words, task_is_sound}
 use Rattle.sift_parse.proofs.task.parse_task.Goals as goal
 
 -- the body is that of the text, with as many output words as the task has

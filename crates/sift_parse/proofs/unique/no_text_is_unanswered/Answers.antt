@@ -1,4 +1,4 @@
-use Rattle.sift_parse.proofs.lemmas.Refusals.Answered.{no_text_is_unanswered}
+use Rattle.sift_parse.proofs.lemmas.Answered.{no_text_is_unanswered}
 use Rattle.sift_parse.proofs.unique.no_text_is_unanswered.Goals as goal
 
 pub returns : goal.returns

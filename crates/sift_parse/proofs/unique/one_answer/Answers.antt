@@ -1,4 +1,4 @@
-use Rattle.sift_parse.proofs.lemmas.Refusals.OneAnswer.{one_answer}
+use Rattle.sift_parse.proofs.lemmas.OneAnswer.{one_answer}
 use Rattle.sift_parse.proofs.unique.one_answer.Goals as goal
 
 pub returns : goal.returns

@@ -1,4 +1,4 @@
-use Rattle.sift_parse.proofs.lemmas.Refusals.OneAnswer.{task_is_answered}
+use Rattle.sift_parse.proofs.lemmas.OneAnswer.{task_is_answered}
 use Rattle.sift_parse.proofs.unique.task_is_answered.Goals as goal
 
 pub returns : goal.returns

@@ -1,7 +1,7 @@
 use Rattle.std.proofs.Common.{◌≡◌, ◌<◌, [], ◌∷◌, ◌++◌, length, map, Err, rules, refl, sym, subst, ◌∙◌, arith}
 use Rattle.std.proofs.lemmas.List.{length-map, map-append}
 use Rattle.sift_lang.specs.Tree.{tree_of}
-use Rattle.sift_parse.proofs.lemmas.Sound.Task.{has_words}
+use Rattle.sift_parse.proofs.lemmas.Sound.{has_words}
 use Rattle.sift_parse.specs.Outcome.{AreNames}
 use Rattle.sift_parse.specs.Roll.{Roll, roll_of}
 use Rattle.sift_parse.specs.declared.names.Names.{Names}

@@ -11,7 +11,7 @@ use Rattle.sift_parse.specs.Outcome.{IsStopped, Tells}
 use Rattle.sift_parse.specs.Refusal.{Kind, no_lexeme_here, no_syntax, long_name, large_number, many_rounds, many_locals, deep_level, unknown_name, later_task, order_of, Stands, lexemes_of, NoneBefore}
 use Rattle.sift_parse.specs.Roll.{Roll}
 use Rattle.sift_parse.proofs.Lexing.Gaps.{Lexes-more}
-use Rattle.sift_parse.proofs.lemmas.Refusals.OneAnswer.{stop_for}
+use Rattle.sift_parse.proofs.lemmas.OneAnswer.{stop_for}
 use Rattle.sift_parse.proofs.Lexing.OneLexing.{one_rest}
 use Rattle.sift_parse.proofs.Refusals.OneRefusal.{sided, Sided, at_one, earlier, later}
 use Rattle.sift_parse.proofs.Refusals.Standing.{spells-some}

@@ -1,0 +1,5 @@
+-- What the proofs of crates above may cite.
+pub mod Counts
+pub mod Numbers
+pub mod Others
+pub mod Sets

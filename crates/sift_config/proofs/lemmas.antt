@@ -1,0 +1,3 @@
+-- What the proofs of crates above may cite.
+pub mod Joining
+pub mod Lists

@@ -1,0 +1,3 @@
+-- What the proofs of crates above may cite.
+pub mod Rounds
+pub mod States

@@ -1,0 +1,5 @@
+-- What the proofs of crates above may cite.
+pub mod Earlier
+pub mod Frames
+pub mod ShapeLists
+pub mod Unique
