@@ -17,6 +17,17 @@ use Rattle.sift_jobs.specs.declared.workers.Workers.TheVariants.{One, Several, O
 use Rattle.sift_jobs.specs.declared.telling.Telling.{Telling}
 use Rattle.sift_jobs.specs.declared.telling.Telling.TheVariants.{Report, Votes, LastLine}
 
+-- ---- how many workers fly together
+
+-- the fewest that fly together
+abbrev pub fewest_workers : ℕ
+fewest_workers = 2
+
+-- so many may fly together
+pub record AreSeveral (count : ℕ) : Type 0 where
+  pub enough : fewest_workers ≤ count
+  pub few : count ≤ unit_limit
+
 -- ---- the workers that fly a mission, and how options ask for them
 
 -- so many workers, which have no order
@@ -33,17 +44,6 @@ workers_by (Some count) order = if nat_eq count 1 then Some (One (unwrap_or orde
 -- the workers that options ask for
 abbrev pub workers_of : Options → Option Workers
 workers_of options = workers_by options.workers options.order
-
--- ---- how many workers fly together
-
--- the fewest that fly together
-abbrev pub fewest_workers : ℕ
-fewest_workers = 2
-
--- so many may fly together
-pub record AreSeveral (count : ℕ) : Type 0 where
-  pub enough : fewest_workers ≤ count
-  pub few : count ≤ unit_limit
 
 -- ---- flights of missions
 

@@ -18,6 +18,29 @@ pub record ProgramTree : Type 0 where
 abbrev pub program_of : Program → ProgramTree
 program_of program = record { tasks = map tree_of program.tasks.items; starts = program.starts.items }
 
+-- ---- which programs are sound: each task is, and reads of this frame's words only those of earlier tasks
+
+-- how many output words the tasks have
+abbrev pub output_count : List TaskTree → ℕ
+output_count tasks = sum_by (λ task. task.outputs) tasks
+
+-- the number of the first output word of task t: so many words have the tasks before it
+abbrev pub first_word : List TaskTree → ℕ → ℕ
+first_word tasks t = output_count (take t tasks)
+
+-- each word that a task reads by `now` is a word of an earlier task
+abbrev pub ReadsEarlierWords : List TaskTree → Type 0
+ReadsEarlierWords tasks = (t : ℕ) (task : TaskTree) → slice_get tasks t ≡ Some task → AllNowsBelow (first_word tasks t) task
+
+-- the program is sound for so many sensors
+pub record IsSoundProgram (sensors : ℕ) (program : ProgramTree) : Type 0 where
+  pub some_task : 0 < length program.tasks
+  pub few_tasks : length program.tasks ≤ task_limit
+  pub a_start_each : length program.starts ≡ output_count program.tasks
+  pub few_words : length program.starts ≤ word_limit
+  pub tasks_sound : All (IsSound sensors (length program.starts)) program.tasks
+  pub reads_earlier_words : ReadsEarlierWords program.tasks
+
 -- ---- what a task reads of the frame in which it runs, and the shapes of a program's tasks
 
 -- ---- words
@@ -79,26 +102,3 @@ program_shapes sensors program = record { sensors = sensors; tasks = shapes_from
 abbrev pub SoundProgramsHaveShapes : Type 0
 SoundProgramsHaveShapes = (sensors : ℕ) (program : ProgramTree) → sensors ≤ sensor_limit → IsSoundProgram sensors program
     → AreShapes (program_shapes sensors program)
-
--- ---- which programs are sound: each task is, and reads of this frame's words only those of earlier tasks
-
--- how many output words the tasks have
-abbrev pub output_count : List TaskTree → ℕ
-output_count tasks = sum_by (λ task. task.outputs) tasks
-
--- the number of the first output word of task t: so many words have the tasks before it
-abbrev pub first_word : List TaskTree → ℕ → ℕ
-first_word tasks t = output_count (take t tasks)
-
--- each word that a task reads by `now` is a word of an earlier task
-abbrev pub ReadsEarlierWords : List TaskTree → Type 0
-ReadsEarlierWords tasks = (t : ℕ) (task : TaskTree) → slice_get tasks t ≡ Some task → AllNowsBelow (first_word tasks t) task
-
--- the program is sound for so many sensors
-pub record IsSoundProgram (sensors : ℕ) (program : ProgramTree) : Type 0 where
-  pub some_task : 0 < length program.tasks
-  pub few_tasks : length program.tasks ≤ task_limit
-  pub a_start_each : length program.starts ≡ output_count program.tasks
-  pub few_words : length program.starts ≤ word_limit
-  pub tasks_sound : All (IsSound sensors (length program.starts)) program.tasks
-  pub reads_earlier_words : ReadsEarlierWords program.tasks

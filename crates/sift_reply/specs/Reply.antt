@@ -1,50 +1,8 @@
--- The input that is read, what is written, and replies.
+-- Replies, the input that is read, and what is written.
 use Rattle.std.specs.Prelude.{ℕ, ◌≡◌, List, Some, codes, [], ◌∷◌}
 use Rattle.std.specs.Io.KnownBytes.{Appends}
 use Rattle.sift_io.specs.Flow.{Inflow, Outflow, Rose}
 use Rattle.sift_io.specs.Writing.{AddsPrefix}
-
--- ---- the input
-
--- what became of a source in a call
-pub record Input : Type 0 where
-  pub before : Inflow
-  pub after : Inflow
-
--- the same, from its parts
-abbrev pub input : Inflow → Inflow → Input
-input before after = record { before = before; after = after }
-
--- the input tells its bytes, and they are these
-abbrev pub IsTold : Input → List ℕ → Type 0
-IsTold input bytes = input.before.left ≡ Some bytes
-
--- ---- what is written
-
--- what became of a sink in a call
-pub record Output : Type 0 where
-  pub before : Outflow
-  pub after : Outflow
-
--- the same, from its parts
-abbrev pub output : Outflow → Outflow → Output
-output before after = record { before = before; after = after }
-
--- the text was written
-abbrev pub IsWritten : Output → (text : List ℕ) → Type 0
-IsWritten output text = Appends output.before.written output.after.written text
-
--- the sink failed, after a prefix of the text
-abbrev pub IsCut : Output → (text : List ℕ) → Type 0
-IsCut output text = Rose output.before.faults output.after.faults × AddsPrefix output.before output.after text
-
--- the reply was given: its status, with its whole text written
-abbrev pub IsGiven : Output → Reply → (status : ℕ) → Type 0
-IsGiven output reply status = (status ≡ reply.status) × IsWritten output reply.text
-
--- the sink failed within the reply's text, and the status says so
-abbrev pub IsBroken : Output → Reply → (status : ℕ) → Type 0
-IsBroken output reply status = (status ≡ sink_fault_status) × IsCut output reply.text
 
 -- ---- replies
 
@@ -90,3 +48,45 @@ no_memory_status = 10
 -- the statuses that mean the same whatever the command is: those of three replies, and two that come in place of a reply
 abbrev pub shared_statuses : List ℕ
 shared_statuses = usage.status ∷ read_fault.status ∷ sink_fault_status ∷ no_memory_status ∷ too_long.status ∷ []
+
+-- ---- the input
+
+-- what became of a source in a call
+pub record Input : Type 0 where
+  pub before : Inflow
+  pub after : Inflow
+
+-- the same, from its parts
+abbrev pub input : Inflow → Inflow → Input
+input before after = record { before = before; after = after }
+
+-- the input tells its bytes, and they are these
+abbrev pub IsTold : Input → List ℕ → Type 0
+IsTold input bytes = input.before.left ≡ Some bytes
+
+-- ---- what is written
+
+-- what became of a sink in a call
+pub record Output : Type 0 where
+  pub before : Outflow
+  pub after : Outflow
+
+-- the same, from its parts
+abbrev pub output : Outflow → Outflow → Output
+output before after = record { before = before; after = after }
+
+-- the text was written
+abbrev pub IsWritten : Output → (text : List ℕ) → Type 0
+IsWritten output text = Appends output.before.written output.after.written text
+
+-- the sink failed, after a prefix of the text
+abbrev pub IsCut : Output → (text : List ℕ) → Type 0
+IsCut output text = Rose output.before.faults output.after.faults × AddsPrefix output.before output.after text
+
+-- the reply was given: its status, with its whole text written
+abbrev pub IsGiven : Output → Reply → (status : ℕ) → Type 0
+IsGiven output reply status = (status ≡ reply.status) × IsWritten output reply.text
+
+-- the sink failed within the reply's text, and the status says so
+abbrev pub IsBroken : Output → Reply → (status : ℕ) → Type 0
+IsBroken output reply status = (status ≡ sink_fault_status) × IsCut output reply.text
