@@ -50,8 +50,6 @@ caught a v = holds (everyone_in a.bad) v
 abbrev pub Places : Type 0
 Places = Slot → ℕ → Option ℕ
 
--- ---- what it does
-
 -- ---- sensors
 
 -- the word that u has for sensor x: the mission's where u reads it, else the agreed word of what the reader said and the others relayed

@@ -48,9 +48,7 @@ IsSkewAt m fl f skew = IsSkew (offsets_at m fl f) skew
 abbrev pub IsSlackAt : FlownMission → Flight → ℕ → ℤ → Type 0
 IsSlackAt m fl f slack = IsSlack m.length (offsets_at m fl f) (next_offsets_at m fl f) slack
 
--- ---- the same as values, and the laws that they are those of its configuration and clocks
-
--- ---- margin
+-- ---- the margin as a value
 
 -- at most one unit of the configuration at a frame is faulty, and at least four work
 abbrev pub is_sound_at : FlownMission → Flight → ℕ → Bool

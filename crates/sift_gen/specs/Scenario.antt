@@ -31,8 +31,6 @@ array_of values = array (items_in values)
 abbrev pub number : ℕ → Data
 number n = integer (pos n)
 
--- ---- the scenario
-
 -- ---- counts
 
 -- how many units there are: 5 to 8

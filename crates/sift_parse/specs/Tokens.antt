@@ -46,8 +46,6 @@ keyword_before p = keyword_in p.before
 abbrev pub opens : Place → Lexeme → Bool
 opens p l = opens_after p.before l
 
--- ---- tokens
-
 -- ---- names
 
 -- what a name names, by the keyword before it

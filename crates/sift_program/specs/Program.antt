@@ -41,9 +41,7 @@ pub record IsSoundProgram (sensors : ℕ) (program : ProgramTree) : Type 0 where
   pub tasks_sound : All (IsSound sensors (length program.starts)) program.tasks
   pub reads_earlier_words : ReadsEarlierWords program.tasks
 
--- ---- what a task reads of the frame in which it runs, and the shapes of a program's tasks
-
--- ---- words
+-- ---- which words a task reads of the frame in which it runs
 
 -- the term reads word w of this frame
 abbrev pub term_reads : ℕ → Term → Bool
@@ -75,7 +73,7 @@ abbrev mutual
 abbrev pub reads_word : TaskTree → ℕ → Bool
 reads_word task w = block_reads w task.body
 
--- ---- tasks
+-- ---- the shapes of a program's tasks
 
 -- the task at a place, and one of no words past the list's end
 abbrev pub task_at : List TaskTree → ℕ → TaskTree

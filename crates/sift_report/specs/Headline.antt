@@ -60,8 +60,6 @@ pub record HasForm (d : MissionData) (lines : List ReportLine) (f : ℕ) : Type 
   pub whole : IsSomeAnd (line_at d lines f d.units) (IsFramesLine f)
   pub end : suc f ≡ d.frames → HasEnd d lines
 
--- ---- the headline
-
 -- ---- configurations
 
 -- the lead unit tells a configuration, in frame 0 that of all units; where it gives margin, each working unit tells the same

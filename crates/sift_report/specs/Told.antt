@@ -26,9 +26,7 @@ pub record IsWorking (d : MissionData) (u f : ℕ) : Type 0 where
 abbrev pub lead_in : MissionData → ℕ → ℕ
 lead_in d f = unwrap_or (find (λ u. works_in d u f) (first_units d.units)) 0
 
--- ---- what the lines tell
-
--- ---- one line
+-- ---- what one line tells
 
 -- what a line tells: a configuration, a clock's offset, the agreed words, the voted words and whom its unit caught; a skew, a slack and a
 -- margin

@@ -16,8 +16,6 @@ pub data Call : Type 0 where
   -- `next`, which answered this act
   Answered : Act → Call
 
--- ---- what is stored of its acts
-
 -- ---- acts, and what is stored of them
 
 -- whose acts they are, and how many units and slots there are

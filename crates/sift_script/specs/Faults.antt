@@ -9,8 +9,6 @@ use Rattle.sift_script.specs.Script.{Failing, Fault, changing, turning, Change, 
 use Rattle.sift_script.specs.declared.script.SlotKind.{SlotKind}
 use Rattle.sift_script.specs.declared.script.SlotKind.TheVariants.{Clock, Sense, Relay, Out, Report, RelayReport}
 
--- ---- who works in a frame
-
 -- ---- faulty and working
 
 -- the fault is unit u's, and has come by frame f
