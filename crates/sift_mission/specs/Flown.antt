@@ -5,7 +5,6 @@ use Rattle.sift_base.specs.Shapes.{first_word, shape_at}
 use Rattle.sift_base.specs.Units.{has}
 use Rattle.sift_config.specs.Config.{first_units}
 use Rattle.sift_lang.specs.Meaning.{meaning}
-use Rattle.sift_script.specs.Faults as changes
 use Rattle.sift_script.specs.Faults as faults
 use Rattle.sift_table.specs.Schedule as schedule
 use Rattle.sift_table.specs.Schedule.{Schedule}
@@ -89,7 +88,7 @@ flown d = record {
   starts = d.program.starts;
   sensed = word_sensed d;
   works = faults.works d.script.faults;
-  override = changes.override_of d.script;
+  override = faults.override_of d.script;
   storm = λ u. option_map (λ storm. storm.0) (faults.storm_of d.script.faults u);
   skew = d.clock.skew;
   error = d.clock.error;

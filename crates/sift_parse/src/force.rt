@@ -3,7 +3,6 @@ ghost use Rattle.std.specs.Prelude.{◌≡◌, ◌<◌, ◌^◌, IfOk, sum, slic
 ghost use Rattle.std.specs.Option.{ForSome};
 ghost use Rattle.sift_parse.specs.declared.token.Sign.TheVariants.{CloseParen};
 ghost use Rattle.sift_parse.specs.Force as spec;
-ghost use Rattle.sift_parse.specs.Lexeme as keywords;
 ghost use Rattle.sift_parse.specs.Levels as levels;
 ghost use Rattle.sift_parse.specs.Tokens as told;
 ghost use Rattle.sift_parse.specs.Force.{at_start, is_minus, without_minuses, end_let, leave_block, moved};
@@ -221,7 +220,7 @@ impl<'a> Force<'a> {
     /// The token that a word is here; a name that isn't there counts as 0.
     fn word_token(&self, names: &Names, word: &[u8]) -> Token
         requires few { ForSome (spec.number_named (roll_of names.now) (force_of self.now) word.now) (λ n. n < 2 ^ 8) }
-        ensures { result ≡ spec.word_token (roll_of names.now) (force_of self.now) word.now (keywords.keyword_of word.now) }
+        ensures { result ≡ spec.word_token (roll_of names.now) (force_of self.now) word.now (spec_lexeme.keyword_of word.now) }
     {
         match keyword_of(word) {
             Some(keyword) => Token::Keyword(keyword),
