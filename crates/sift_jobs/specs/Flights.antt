@@ -1,9 +1,7 @@
--- The flights that commands speak of: by which workers, over which strays, and what is told of one.
-use Rattle.std.specs.Prelude.{ℕ, Option, Some, None, nat_eq, option_map, unwrap_or, if◌then◌else◌, ◌≤◌, ◌≡◌, List}
+-- The flights that commands speak of: by how many workers, over which strays, and what is told of one.
+use Rattle.std.specs.Prelude.{ℕ, ◌≤◌, ◌≡◌, List}
 use Rattle.std.specs.List.{All}
 use Rattle.sift_base.specs.Units.{unit_limit}
-use Rattle.sift_options.specs.Options.{within}
-use Rattle.sift_options.specs.declared.setting.Options.{Options}
 use Rattle.sift_flight.specs.Flight.{Flight, Strays, HasNoStorms, IsRound}
 use Rattle.sift_load.specs.Loads.{States}
 use Rattle.sift_mission.specs.Data.{MissionData}
@@ -12,8 +10,6 @@ use Rattle.sift_reply.specs.Reply.{Reply, done}
 use Rattle.sift_report.specs.Line.{IsLine}
 use Rattle.sift_report.specs.Sheet.{end_of, report_of, sheet_of}
 use Rattle.sift_report.specs.Votes.{votes_of}
-use Rattle.sift_jobs.specs.declared.workers.Workers.{Workers}
-use Rattle.sift_jobs.specs.declared.workers.Workers.TheVariants.{One, Several, OneEach}
 use Rattle.sift_jobs.specs.declared.telling.Telling.{Telling}
 use Rattle.sift_jobs.specs.declared.telling.Telling.TheVariants.{Report, Votes, LastLine}
 
@@ -27,23 +23,6 @@ fewest_workers = 2
 pub record AreSeveral (count : ℕ) : Type 0 where
   pub enough : fewest_workers ≤ count
   pub few : count ≤ unit_limit
-
--- ---- the workers that fly a mission, and how options ask for them
-
--- so many workers, which have no order
-abbrev pub several : (count : ℕ) → (order : Option ℕ) → Option Workers
-several count None = option_map Several (within fewest_workers unit_limit (Some count))
-several count (Some order) = None
-
--- the workers for these numbers: one for each unit where there is neither, and one alone where there is an order or 1
-abbrev pub workers_by : (workers order : Option ℕ) → Option Workers
-workers_by None None = Some OneEach
-workers_by None (Some order) = Some (One order)
-workers_by (Some count) order = if nat_eq count 1 then Some (One (unwrap_or order 0)) else several count order
-
--- the workers that options ask for
-abbrev pub workers_of : Options → Option Workers
-workers_of options = workers_by options.workers options.order
 
 -- ---- flights of missions
 

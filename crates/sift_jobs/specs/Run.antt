@@ -1,9 +1,11 @@
--- The command `run`: the report of a flight, in the version asked for, and its headline.
-use Rattle.std.specs.Prelude.{ℕ, Option, option_map, unwrap_or, nat_eq, if◌then◌else◌, ◌≡◌, List}
+-- The command `run`: by which workers it flies, as for every command that flies, the report of a flight in the version asked for, and its headline.
+use Rattle.std.specs.Prelude.{ℕ, Option, Some, None, option_map, unwrap_or, nat_eq, if◌then◌else◌, ◌≡◌, List}
 use Rattle.std.specs.List.{All}
+use Rattle.sift_base.specs.Units.{unit_limit}
 use Rattle.sift_flight.specs.Flight.{Strays, Flight}
 use Rattle.sift_load.specs.Loads.{mission_duty, States}
 use Rattle.sift_mission.specs.Data.{MissionData}
+use Rattle.sift_options.specs.Options.{within}
 use Rattle.sift_options.specs.declared.setting.Options.{Options}
 use Rattle.sift_reply.specs.Duty.{Duty}
 use Rattle.sift_reply.specs.Reply.{Reply, done_status}
@@ -13,10 +15,28 @@ use Rattle.sift_mission.specs.Flown.{flown}
 use Rattle.sift_report.specs.Headline.{ReportHeadline}
 use Rattle.sift_report.specs.Line.{IsLine, text_of_lines}
 use Rattle.sift_report.specs.Sheet.{sheet_of}
-use Rattle.sift_jobs.specs.Flights.{RepliesWith, workers_of, IsFlightOf}
+use Rattle.sift_jobs.specs.Flights.{RepliesWith, IsFlightOf, fewest_workers}
 use Rattle.sift_jobs.specs.declared.run.RunJob.{RunJob}
 use Rattle.sift_jobs.specs.declared.telling.Telling.TheVariants.{Report}
 use Rattle.sift_jobs.specs.declared.workers.Workers.{Workers}
+use Rattle.sift_jobs.specs.declared.workers.Workers.TheVariants as worker
+
+-- ---- the workers that fly a mission, and how options ask for them
+
+-- so many workers, which have no order
+abbrev pub several : (count : ℕ) → (order : Option ℕ) → Option Workers
+several count None = option_map worker.Several (within fewest_workers unit_limit (Some count))
+several count (Some order) = None
+
+-- the workers for these numbers: one for each unit where there is neither, and one alone where there is an order or 1
+abbrev pub workers_by : (workers order : Option ℕ) → Option Workers
+workers_by None None = Some worker.OneEach
+workers_by None (Some order) = Some (worker.One order)
+workers_by (Some count) order = if nat_eq count 1 then Some (worker.One (unwrap_or order 0)) else several count order
+
+-- the workers that options ask for
+abbrev pub workers_of : Options → Option Workers
+workers_of options = workers_by options.workers options.order
 
 -- ---- the command
 

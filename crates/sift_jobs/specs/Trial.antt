@@ -7,7 +7,8 @@ use Rattle.sift_options.specs.declared.setting.Options.{Options}
 use Rattle.sift_reply.specs.Duty.{Duty}
 use Rattle.sift_reply.specs.Reply.{Reply}
 use Rattle.sift_scenario.specs.Mission.{IsMission}
-use Rattle.sift_jobs.specs.Flights.{RepliesWith, workers_of}
+use Rattle.sift_jobs.specs.Flights.{RepliesWith}
+use Rattle.sift_jobs.specs.Run.{workers_of}
 use Rattle.sift_jobs.specs.declared.telling.Telling.TheVariants.{LastLine}
 use Rattle.sift_jobs.specs.declared.trial.TrialJob.{TrialJob}
 use Rattle.sift_jobs.specs.declared.workers.Workers.{Workers}

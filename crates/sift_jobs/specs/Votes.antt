@@ -6,7 +6,8 @@ use Rattle.sift_mission.specs.Data.{MissionData}
 use Rattle.sift_options.specs.declared.setting.Options.{Options}
 use Rattle.sift_reply.specs.Duty.{Duty}
 use Rattle.sift_reply.specs.Reply.{Reply}
-use Rattle.sift_jobs.specs.Flights.{RepliesWith, workers_of}
+use Rattle.sift_jobs.specs.Flights.{RepliesWith}
+use Rattle.sift_jobs.specs.Run.{workers_of}
 use Rattle.sift_jobs.specs.declared.telling.Telling.TheVariants.{Votes}
 use Rattle.sift_jobs.specs.declared.votes.VotesJob.{VotesJob}
 use Rattle.sift_jobs.specs.declared.workers.Workers.{Workers}

@@ -1,7 +1,7 @@
 //! The workers that fly a mission, and how options ask for them.
 
 ghost use Rattle.std.specs.Prelude.{◌≡◌};
-ghost use Rattle.sift_jobs.specs.Flights.{workers_of};
+ghost use Rattle.sift_jobs.specs.Run.{workers_of};
 
 use crate::worker_count::WorkerCount;
 use sift_options::Options;
