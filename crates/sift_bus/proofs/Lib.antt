@@ -6,4 +6,3 @@ pub mod SeatsTaken
 pub mod Sides
 pub mod Telling
 pub mod Turning
-pub mod lemmas

@@ -40,7 +40,7 @@ use Rattle.sift_bus.specs.Links.{GoesOn, Link, first_link, link_of}
 use Rattle.sift_bus.specs.Logs.{blank_log, log_of}
 use Rattle.sift_bus.specs.Telling.{LogsTellWhatWasHeard}
 use Rattle.sift_bus.specs.declared.log.BusLog.{BusLog}
-use Rattle.sift_bus.proofs.lemmas.FirstUnits.{low_unit, unit_low}
+use Rattle.sift_config.proofs.lemmas.FirstUnits.{low_unit, unit_low}
 use Rattle.sift_bus.proofs.Seating.{places_for, units_of}
 use Rattle.sift_bus.proofs.SeatsTaken.{boarded_long, boarded_at}
 use Rattle.sift_bus.proofs.Telling.{same_ranges}

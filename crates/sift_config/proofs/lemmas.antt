@@ -1,3 +1,4 @@
 -- What the proofs of crates above may cite.
+pub mod FirstUnits
 pub mod Joining
 pub mod Lists

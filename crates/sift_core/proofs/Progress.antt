@@ -21,7 +21,7 @@ use Rattle.sift_core.specs.Machines.{IsFlying, HasTurnedIn, board_at, layout_of,
 use Rattle.sift_core.specs.Steps.{StepsUnit, IsWaiting}
 use Rattle.sift_core.specs.Turns.{IsAloft, IsLeast}
 use Rattle.sift_core.specs.declared.machine.Machine.{Machine}
-use Rattle.sift_core.proofs.lemmas.FirstUnits.{low_unit}
+use Rattle.sift_config.proofs.lemmas.FirstUnits.{low_unit}
 use Rattle.sift_core.proofs.MachineSteps.{unit_below}
 use Rattle.sift_core.proofs.Others.{others_stay}
 use Rattle.sift_core.proofs.Lists.{sums}

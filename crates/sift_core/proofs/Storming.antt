@@ -29,7 +29,7 @@ use Rattle.sift_core.specs.Courses.{AreAllLeft, Course, IsCalled, BeginsStorm, S
 use Rattle.sift_core.specs.Storms.{CarriesOn, FliesByRogues, HasMadeCalls, HaveMadeCalls, AreLeft, IsLeft, IsRoundByRogues, IsUnderWay}
 use Rattle.sift_core.specs.Turns.{AreAllDone, IsAloft, IsDown, end_in}
 use Rattle.sift_core.specs.declared.machine.Machine.{Machine}
-use Rattle.sift_core.proofs.lemmas.FirstUnits.{low_unit, unit_low}
+use Rattle.sift_config.proofs.lemmas.FirstUnits.{low_unit, unit_low}
 use Rattle.sift_core.proofs.Progress.{flyable, others_progress, step_comes}
 use Rattle.sift_core.proofs.lemmas.Stages.{end_low}
 

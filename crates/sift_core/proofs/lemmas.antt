@@ -1,3 +1,2 @@
 -- What the proofs of crates above may cite.
-pub mod FirstUnits
 pub mod Stages

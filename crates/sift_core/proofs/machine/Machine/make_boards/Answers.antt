@@ -1,7 +1,7 @@
 use Rattle.std.proofs.Common.{◌≡◌, ℕ, ap, subst, arith}
 use Rattle.sift_mission.specs.Parts.{flown_of}
 use Rattle.sift_core.specs.Machines.{AreNewBoards}
-use Rattle.sift_core.proofs.lemmas.FirstUnits.{low_unit}
+use Rattle.sift_config.proofs.lemmas.FirstUnits.{low_unit}
 use Rattle.sift_core.proofs.NewMachines.{boards_push}
 use Rattle.sift_core.proofs.machine.Machine.make_boards.Goals.{in-Some+in_ok-make, in_default}
 use Rattle.sift_core.proofs.machine.Machine.make_boards.Goals as goal
