@@ -4,18 +4,19 @@ use Rattle.std.proofs.lemmas.Bool.{cases_eq, cases_Bool, cases_order, true≢fal
 use Rattle.std.proofs.lemmas.List.Elements.{All-contains, recursion_from_All}
 use Rattle.std.proofs.lemmas.List.Sums.{sum_by-cons}
 use Rattle.std.specs.List.{AllByRecursion, range_with_len}
+use Rattle.sift_base.specs.Requirement.{AreMet}
 use Rattle.sift_base.specs.Shapes.{AllShapes, shape_at}
 use Rattle.sift_base.specs.Units.{has, IsAscending, IsBelowAll}
 use Rattle.sift_base.specs.declared.slot.Slot.TheVariants.{Clock, Sense, RelaySense, Out, Report, RelayReport}
 use Rattle.sift_table.proofs.Words.{words_have_their_task}
 use Rattle.sift_table.specs.Laws.{PositionsRunOneTaskAtATime, ShedTasksAreLeftOut, SlotsAreHeardInTime, TasksHaveThreeExecutors, TasksRunAfterTheirNeeds}
-use Rattle.sift_table.specs.Rules.{IsGood, IsLeftOut, MeetsEach, run_rules}
+use Rattle.sift_table.specs.Rules.{IsGood, IsLeftOut, rules_where}
 use Rattle.sift_table.specs.Schedule.{Schedule, polled_in, positions_of, run_in, runs_at, sheds}
 use Rattle.sift_table.specs.Timing.{task_of}
 
 -- a task that isn't shed meets the rules of its row
 run_row : (table : Schedule) (shapes : AllShapes) (t : ℕ) → IsGood table shapes → t < length shapes.tasks → sheds table t ≡ false
-    → MeetsEach run_rules table shapes t
+    → AreMet (rules_where false table shapes t)
 run_row table shapes t good low kept = rw kept at (good.rows t low)
 
 -- and one that is shed is left out
