@@ -63,17 +63,17 @@ module _ (d : MissionData) (fit : PartsFit d) where
   words-are = fit.layout.words ∙ sym (words-shapes d.program.tasks 0 d.program.tasks)
 
   -- each word's task has a shape
-  pub task-below : (w : ℕ) → w < d.layout.words → task_of (shapes_in d) w < length (shapes_in d).tasks
+  pub task-below : (w : ℕ) → w < d.layout.words → task_of (shapes_in d).tasks w < length (shapes_in d).tasks
   task-below w low = let words = words-are in among-below (shapes_in d).tasks w (omega arith)
 
   -- a word's task meets the rules of the table's rows
   row-of : (us : List ℕ) (w : ℕ) → IsConfigOf (flown d) us → w < d.layout.words
-      → MeetsEach (row_rules (table_for d us) (task_of (shapes_in d) w)) (table_for d us) (shapes_in d) (task_of (shapes_in d) w)
-  row-of us w config low = (table-is us config).good.rows (task_of (shapes_in d) w) (task-below w low)
+      → MeetsEach (row_rules (table_for d us) (task_of (shapes_in d).tasks w)) (table_for d us) (shapes_in d) (task_of (shapes_in d).tasks w)
+  row-of us w config low = (table-is us config).good.rows (task_of (shapes_in d).tasks w) (task-below w low)
 
   -- the task of a word that isn't held meets the rules of tasks that run
   pub run-row : (us : List ℕ) (w : ℕ) → IsConfigOf (flown d) us → w < d.layout.words → is_held (flown d) us w ≡ false
-      → MeetsEach run_rules (table_for d us) (shapes_in d) (task_of (shapes_in d) w)
+      → MeetsEach run_rules (table_for d us) (shapes_in d) (task_of (shapes_in d).tasks w)
   run-row us w config low kept = rw kept at (row-of us w config low)
 
   module _ (in_time : SlotsAreHeardInTime) where
@@ -126,13 +126,13 @@ module _ (d : MissionData) (fit : PartsFit d) where
   pub executors : TasksHaveThreeExecutors → HasExecutors (flown d)
   executors laws = record {
     three = λ us w config low kept.
-        let t = task_of (shapes_in d) w in
+        let t = task_of (shapes_in d).tasks w in
         let table = table-is us config in
         let enough = (laws (table_for d us) (shapes_in d) t table.good (task-below w low)).0 kept in
         let sized : 3 ≤ count_by (runs_at (table_for d us) t) (range_with_len 0 (length us)) = subst (λ n. 3 ≤ count_by (runs_at (table_for d us) t) (range_with_len 0 n)) table.sized enough in
         omega (arith, positions-filtered (runs_at (table_for d us) t) us config.ascending, sized);
     none = λ us w u config low held.
-        let t = task_of (shapes_in d) w in elim (cases_Bool (executes_in d us w u)) [
+        let t = task_of (shapes_in d).tasks w in elim (cases_Bool (executes_in d us w u)) [
           | inr idle ↦ idle
           | inl runs ↦
               let kept = ((laws (table_for d us) (shapes_in d) t (table-is us config).good (task-below w low)).1 (position_in us u) (and_parts _ _ runs).1).0 in

@@ -31,19 +31,19 @@ runs_in d us t u = has us u && schedule.runs_at (table_for d us) t (position_in 
 
 -- it executes the words of the tasks that it runs
 abbrev pub executes_in : MissionData → List ℕ → ℕ → ℕ → Bool
-executes_in d us w u = runs_in d us (task_of (shapes_in d) w) u
+executes_in d us w u = runs_in d us (task_of (shapes_in d).tasks w) u
 
 -- ---- words
 
 -- the word that its task makes: the meaning of the task, at the word's place among those of the task
 abbrev pub word_made : MissionData → ℕ → List ℕ → List ℕ → List ℕ → ℕ
 word_made d w ins now last =
-    let t = task_of (shapes_in d) w in
+    let t = task_of (shapes_in d).tasks w in
     slice_index (meaning (task_at d.program.tasks t) ins now last) (w - first_word (shapes_in d) t)
 
 -- a task reads all words of each task that it reads a word of
 abbrev pub needs_word : MissionData → ℕ → ℕ → Bool
-needs_word d w v = has (shape_at (shapes_in d) (task_of (shapes_in d) w)).needs (task_of (shapes_in d) v)
+needs_word d w v = has (shape_at (shapes_in d) (task_of (shapes_in d).tasks w)).needs (task_of (shapes_in d).tasks v)
 
 -- the words of a sensor
 abbrev pub words_sensed : MissionData → ℕ → List ℕ
@@ -79,7 +79,7 @@ flown d = record {
   kind = slot_kind d.layout;
   due = λ us k. timing.due_in (table_for d us) (shapes_in d) k;
   heard_in = λ us k. timing.heard_in (table_for d us) (shapes_in d) k;
-  task = task_of (shapes_in d);
+  task = task_of (shapes_in d).tasks;
   run_in = λ us t. schedule.run_in (table_for d us) t;
   executes = executes_in d;
   shed = λ us. (table_for d us).shed;

@@ -5,7 +5,8 @@ use Rattle.std.proofs.lemmas.List.{length-take-le}
 use Rattle.std.proofs.lemmas.List.Elements.{All-filter, All-take}
 use Rattle.std.specs.List.{All, filter, range_with_len}
 use Rattle.sift_base.specs.Shapes.{AllShapes}
-use Rattle.sift_base.specs.Units.{has, IsAscending, IsBelowAll}
+use Rattle.sift_base.proofs.lemmas.Counts.{IsBelowAll}
+use Rattle.sift_base.specs.Units.{has, IsAscending}
 use Rattle.sift_table.specs.Rules.{AreApart, MeetsEach, row_rules, run_rules, shed_rules}
 use Rattle.sift_table.specs.Schedule.{Schedule, positions_of, run_in, runs_at}
 use Rattle.sift_planner.specs.Earliest.{free_positions, is_used}

@@ -41,16 +41,12 @@ has_turned faults u f = has_come (storm_of faults u) f
 
 -- ---- what a faulty unit says in place of its own words
 
--- the number of a task's first output word, where the tasks have so many: the words are numbered in the order of the tasks
-abbrev pub first_word_of : List ℕ → ℕ → ℕ
-first_word_of outputs task = sum (take task outputs)
-
--- the slot of a kind: an index is a sensor, a task or a unit, and a word is one of that task
+-- the slot of a kind: an index is a sensor, a task or a unit, and a word is one of that task, as the words are numbered in the order of the tasks
 abbrev pub slot_by : List ℕ → SlotKind → ℕ → ℕ → Slot
 slot_by outputs Clock index word = slot.Clock
 slot_by outputs Sense index word = slot.Sense index
 slot_by outputs Relay index word = slot.RelaySense index
-slot_by outputs Out index word = slot.Out (first_word_of outputs index + word)
+slot_by outputs Out index word = slot.Out (sum (take index outputs) + word)
 slot_by outputs Report index word = slot.Report
 slot_by outputs RelayReport index word = slot.RelayReport index
 

@@ -1,10 +1,10 @@
 //! A script with what it is for: the mission's layout, its tasks' output words and its frames.
 
-ghost use Rattle.std.specs.Prelude.{◌≡◌, ℕ, List, ◌≤◌, length, map, not};
+ghost use Rattle.std.specs.Prelude.{◌≡◌, ℕ, List, ◌≤◌, length, map, not, sum, take};
 ghost use Rattle.std.specs.Option.{option_map};
 ghost use Rattle.sift_base.specs.Shapes.{shapes_of, AreShapes};
 ghost use Rattle.sift_script.specs.Script.{script_for, change_of, fault_of};
-ghost use Rattle.sift_script.specs.Faults.{slot_by, is_same_slot, fits, first_word_of, replacement_by, fault_of_unit, works};
+ghost use Rattle.sift_script.specs.Faults.{slot_by, is_same_slot, fits, replacement_by, fault_of_unit, works};
 ghost use Rattle.sift_script.specs.Parts.{script_of, AreFirstWords};
 
 use crate::script::{Entry, Item, Script, SlotKind};
@@ -130,7 +130,7 @@ pub(crate) fn first_words(counts: &[u8]) -> ArrayVec<u16, 25>
 /// The number of a task's first output word, and of one behind all where there is no such task.
 fn first_word(firsts: &[u16], task: u8) -> u16
     requires { (counts : List ℕ) × AreFirstWords counts firsts.now }
-    ensures { (counts : List ℕ) → AreFirstWords counts firsts.now → result ≡ first_word_of counts task }
+    ensures { (counts : List ℕ) → AreFirstWords counts firsts.now → result ≡ sum (take task counts) }
 {
     firsts[usize::from(task).min(firsts.len() - 1)]
 }

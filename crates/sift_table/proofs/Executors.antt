@@ -6,7 +6,8 @@ use Rattle.std.proofs.lemmas.List.Sums.{sum_by-cons}
 use Rattle.std.specs.List.{AllByRecursion, range_with_len}
 use Rattle.sift_base.specs.Requirement.{AreMet}
 use Rattle.sift_base.specs.Shapes.{AllShapes, shape_at}
-use Rattle.sift_base.specs.Units.{has, IsAscending, IsBelowAll}
+use Rattle.sift_base.proofs.lemmas.Counts.{IsBelowAll}
+use Rattle.sift_base.specs.Units.{has, IsAscending}
 use Rattle.sift_base.specs.declared.slot.Slot.TheVariants.{Clock, Sense, RelaySense, Out, Report, RelayReport}
 use Rattle.sift_table.proofs.Words.{words_have_their_task}
 use Rattle.sift_table.specs.Laws.{PositionsRunOneTaskAtATime, ShedTasksAreLeftOut, SlotsAreHeardInTime, TasksHaveThreeExecutors, TasksRunAfterTheirNeeds}
@@ -45,7 +46,7 @@ slots_are_heard_in_time table shapes layout Clock good long words there = (λ ke
 slots_are_heard_in_time table shapes layout (Sense x) good long words there = (λ kept. omega arith, omega arith)
 slots_are_heard_in_time table shapes layout (RelaySense x) good long words there = (λ kept. omega arith, omega arith)
 slots_are_heard_in_time table shapes layout (Out w) good long words there =
-    let t = task_of shapes w in
+    let t = task_of shapes.tasks w in
     let low = (words_have_their_task shapes).1 w (omega (arith, there, words)) in elim (cases_Bool (sheds table t)) [
       | inl shed ↦ let left = shed_row table shapes t good low shed in (λ kept. absurd (true≢false (sym shed ∙ kept)), omega (arith, left.1))
       | inr kept ↦ let row = run_row table shapes t good low kept in (λ kept. row.1.1.0, omega (arith, row.1.0))

@@ -38,8 +38,8 @@ PositionsRunOneTaskAtATime =
 -- word j of task t is put out by task t, and each word is put out by a task
 abbrev pub WordsHaveTheirTask : Type 0
 WordsHaveTheirTask =
-    (shapes : AllShapes) → ((t j : ℕ) → t < length shapes.tasks → j < (shape_at shapes t).outputs → task_of shapes (first_word shapes t + j) ≡ t)
-    × ((w : ℕ) → w < words_in shapes.tasks → task_of shapes w < length shapes.tasks)
+    (shapes : AllShapes) → ((t j : ℕ) → t < length shapes.tasks → j < (shape_at shapes t).outputs → task_of shapes.tasks (first_word shapes t + j) ≡ t)
+    × ((w : ℕ) → w < words_in shapes.tasks → task_of shapes.tasks w < length shapes.tasks)
 
 -- the plain table is good where the last task is polled by the reports
 abbrev pub PlainTablesAreGood : Type 0
