@@ -1,5 +1,5 @@
 -- The tasks of a mission whose parts fit: what they read, and how many there are.
-use Rattle.std.proofs.Common.{◌≡◌, ℕ, ◌-◌, ◌<◌, ◌≤◌, List, [], ◌∷◌, length, take, true, slice_index, refl, sym, ap, ◌∙◌, arith, zero-add, ◌+◌}
+use Rattle.std.proofs.Common.{◌≡◌, ℕ, Bool, ◌-◌, ◌<◌, ◌≤◌, List, [], ◌∷◌, length, take, true, slice_index, refl, sym, ap, ◌∙◌, arith, zero-add, ◌+◌}
 use Rattle.std.proofs.lemmas.List.Elements.{All-tail}
 use Rattle.std.proofs.lemmas.List.Sums.{sum_by-cons, sum_by-take-le}
 use Rattle.std.proofs.lemmas.Option.{get_or_from_slice_get, slice_get-get_or, slice_get_within}
@@ -14,7 +14,7 @@ use Rattle.sift_table.specs.Laws.{TasksRunAfterTheirNeeds, WordsHaveTheirTask}
 use Rattle.sift_table.specs.Timing.{task_of}
 use Rattle.sift_mission.specs.Data.{MissionData, shapes_in}
 use Rattle.sift_mission.specs.Fits.{IsRead, IsCounted, SameAt}
-use Rattle.sift_mission.specs.Flown.{flown, needs_word, table_for, word_made}
+use Rattle.sift_mission.specs.Flown.{flown, table_for, word_made}
 use Rattle.sift_mission.specs.PartsFit.{PartsFit}
 use Rattle.sift_mission.specs.Premises.{IsAmong, RunsProgram}
 use Rattle.sift_mission.proofs.FitSlots.{few-words}
@@ -33,6 +33,10 @@ tasks-words sensors words (task ∷ tasks) sound =
     omega (arith, sum_by-cons (λ (t : TaskTree). t.outputs) task tasks)
 
 module _ (d : MissionData) (fit : PartsFit d) where
+  -- the task of one word reads the words of the task of the other
+  abbrev needs_word : ℕ → ℕ → Bool
+  needs_word w v = (flown d).needs w v
+
   -- the task that puts out a word
   abbrev task_for : ℕ → TaskTree
   task_for w = task_at d.program.tasks (task_of (shapes_in d).tasks w)
@@ -51,7 +55,7 @@ module _ (d : MissionData) (fit : PartsFit d) where
 
   -- the tasks that a word's task needs are the earlier ones that it reads
   needs-are : (w v : ℕ) → w < d.layout.words
-      → needs_word d w v ≡ has (filter (reads_task d.program.tasks (task_for w)) (range_with_len 0 (task_of (shapes_in d).tasks w))) (task_of (shapes_in d).tasks v)
+      → needs_word w v ≡ has (filter (reads_task d.program.tasks (task_for w)) (range_with_len 0 (task_of (shapes_in d).tasks w))) (task_of (shapes_in d).tasks v)
   needs-are w v low = ap (λ (shape : Shape). has shape.needs (task_of (shapes_in d).tasks v)) (shape-is (task_of (shapes_in d).tasks w) (task-there w low))
 
   -- a word is one of those of its task
@@ -67,7 +71,7 @@ module _ (d : MissionData) (fit : PartsFit d) where
 
   -- a task needs the task of each earlier word of this frame that it reads
   reads-needs : (w v : ℕ) → w < d.layout.words → v < program.first_word d.program.tasks (task_of (shapes_in d).tasks w) → reads_word (task_for w) v ≡ true
-      → (v < d.layout.words) × (needs_word d w v ≡ true)
+      → (v < d.layout.words) × (needs_word w v ≡ true)
   reads-needs w v low before reads =
       let t = task_of (shapes_in d).tasks w in
       let e = task_of (shapes_in d).tasks v in
@@ -80,7 +84,7 @@ module _ (d : MissionData) (fit : PartsFit d) where
       (within, needs-are w v low ∙ kept)
 
   -- a word that a task needs is one of an earlier task
-  needs-earlier : (w v : ℕ) → w < d.layout.words → needs_word d w v ≡ true → task_of (shapes_in d).tasks v < task_of (shapes_in d).tasks w
+  needs-earlier : (w v : ℕ) → w < d.layout.words → needs_word w v ≡ true → task_of (shapes_in d).tasks v < task_of (shapes_in d).tasks w
   needs-earlier w v low needs =
       let t = task_of (shapes_in d).tasks w in
       let kept = has-filter (reads_task d.program.tasks (task_for w)) (range_with_len 0 t) (task_of (shapes_in d).tasks v) (sym (needs-are w v low) ∙ needs) in
@@ -88,7 +92,7 @@ module _ (d : MissionData) (fit : PartsFit d) where
       omega (arith, range.1)
 
   -- what a word's task makes of lists that are the same where it reads is one word
-  reads-same : (w : ℕ) (ins ins' now now' last : List ℕ) → w < d.layout.words → SameAt (λ x. true) d.layout.sensors ins ins' → SameAt (needs_word d w) d.layout.words now now'
+  reads-same : (w : ℕ) (ins ins' now now' last : List ℕ) → w < d.layout.words → SameAt (λ x. true) d.layout.sensors ins ins' → SameAt (needs_word w) d.layout.words now now'
       → word_made d w ins now last ≡ word_made d w ins' now' last
   reads-same w ins ins' now now' last low sensed same =
       let t = task_of (shapes_in d).tasks w in

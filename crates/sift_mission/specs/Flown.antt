@@ -29,10 +29,6 @@ position_in (v ∷ us) u = if nat_eq v u then 0 else suc (position_in us u)
 abbrev pub runs_in : MissionData → List ℕ → ℕ → ℕ → Bool
 runs_in d us t u = has us u && schedule.runs_at (table_for d us) t (position_in us u)
 
--- it executes the words of the tasks that it runs
-abbrev pub executes_in : MissionData → List ℕ → ℕ → ℕ → Bool
-executes_in d us w u = runs_in d us (task_of (shapes_in d).tasks w) u
-
 -- ---- words
 
 -- the word that its task makes: the meaning of the task, at the word's place among those of the task
@@ -41,27 +37,17 @@ word_made d w ins now last =
     let t = task_of (shapes_in d).tasks w in
     slice_index (meaning (task_at d.program.tasks t) ins now last) (w - first_word (shapes_in d) t)
 
--- a task reads all words of each task that it reads a word of
-abbrev pub needs_word : MissionData → ℕ → ℕ → Bool
-needs_word d w v = has (shape_at (shapes_in d) (task_of (shapes_in d).tasks w)).needs (task_of (shapes_in d).tasks v)
-
--- the words of a sensor
-abbrev pub words_sensed : MissionData → ℕ → List ℕ
-words_sensed d x = slice_index_or d.sensors x []
-
 -- the word of a sensor in a frame: its words come round and round
 abbrev pub word_sensed : MissionData → ℕ → ℕ → ℕ
-word_sensed d x f = slice_index (words_sensed d x) (f % length (words_sensed d x))
+word_sensed d x f =
+    let words = slice_index_or d.sensors x [] in
+    slice_index words (f % length words)
 
 -- ---- clocks
 
 -- the ticks of a unit, and 0 past the list's end
 abbrev pub ticks_of : List ℤ → ℕ → ℤ
 ticks_of ticks u = slice_index_or ticks u (pos 0)
-
--- the error of the first unit's reading of the second
-abbrev pub error_of : MissionData → ℕ → ℕ → ℤ
-error_of d u p = ticks_of (slice_index_or d.clock.errors u []) p
 
 -- ---- the mission
 
@@ -81,9 +67,10 @@ flown d = record {
   heard_in = λ us k. timing.heard_in (table_for d us) (shapes_in d) k;
   task = task_of (shapes_in d).tasks;
   run_in = λ us t. schedule.run_in (table_for d us) t;
-  executes = executes_in d;
+  executes = λ us w. runs_in d us (task_of (shapes_in d).tasks w);
   shed = λ us. (table_for d us).shed;
-  needs = needs_word d;
+  -- a task reads all words of each task that it reads a word of
+  needs = λ w v. has (shape_at (shapes_in d) (task_of (shapes_in d).tasks w)).needs (task_of (shapes_in d).tasks v);
   word = word_made d;
   starts = d.program.starts;
   sensed = word_sensed d;
@@ -96,5 +83,5 @@ flown d = record {
   length = d.clock.length;
   offset = ticks_of d.clock.start;
   drift = ticks_of d.clock.drift;
-  errors = error_of d;
+  errors = λ u. ticks_of (slice_index_or d.clock.errors u []);
 }
