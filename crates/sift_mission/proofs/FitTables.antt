@@ -8,9 +8,10 @@ use Rattle.sift_base.specs.Requirement.{AreMet}
 use Rattle.sift_base.specs.Shapes.{words_in}
 use Rattle.sift_base.specs.declared.slot.Slot.{Slot}
 use Rattle.sift_base.specs.declared.slot.Slot.TheVariants.{Clock, Sense, RelaySense, Out, Report, RelayReport}
+use Rattle.sift_base.specs.Units.{has}
 use Rattle.sift_table.specs.Laws.{SlotsAreHeardInTime, TasksHaveThreeExecutors}
 use Rattle.sift_table.specs.Rules.{row_rules, rules_where}
-use Rattle.sift_table.specs.Schedule.{Schedule, runs_at}
+use Rattle.sift_table.specs.Schedule.{Schedule, positions_of}
 use Rattle.sift_table.specs.Timing.{due_in, heard_in, is_shed, task_of}
 use Rattle.sift_mission.specs.Data.{IsConfigOf, MissionData, shapes_in}
 use Rattle.sift_mission.specs.Fits.{IsTimed, HasExecutors, is_caught_in}
@@ -130,8 +131,9 @@ module _ (d : MissionData) (fit : PartsFit d) where
         let t = task_of (shapes_in d).tasks w in
         let table = table-is us config in
         let enough = (laws (table_for d us) (shapes_in d) t table.good (task-below w low)).0 kept in
-        let sized : 3 ≤ count_by (runs_at (table_for d us) t) (range_with_len 0 (length us)) = subst (λ n. 3 ≤ count_by (runs_at (table_for d us) t) (range_with_len 0 n)) table.sized enough in
-        omega (arith, positions-filtered (runs_at (table_for d us) t) us config.ascending, sized);
+        let runs = has (positions_of (table_for d us) t) in
+        let sized : 3 ≤ count_by runs (range_with_len 0 (length us)) = subst (λ n. 3 ≤ count_by runs (range_with_len 0 n)) table.sized enough in
+        omega (arith, positions-filtered runs us config.ascending, sized);
     none = λ us w u config low held.
         let t = task_of (shapes_in d).tasks w in elim (cases_Bool (runs_in d us t u)) [
           | inr idle ↦ idle

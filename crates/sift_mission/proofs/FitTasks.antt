@@ -102,7 +102,7 @@ module _ (d : MissionData) (fit : PartsFit d) where
       let nows : AllNowsBelow (program.first_word d.program.tasks t) (task_for w) = fit.program.reads_earlier_words t (task_for w) (slice_get-get_or d.program.tasks t none there) in
       let read : SameRead (reads_word (task_for w)) (program.first_word d.program.tasks t) now now' =
       λ v before reads. (let needed = reads-needs w v low before reads in same v needed.0 needed.1) in
-      ap (λ outs. slice_index outs (w - first_word (shapes_in d) t))
+      ap (λ outs. slice_index outs (w - program.first_word d.program.tasks t))
       (meaning-same d.layout.sensors (length d.program.starts) (program.first_word d.program.tasks t) (task_for w) ins ins' now now' last sound nows (λ x x_low. sensed x x_low refl) read)
 
   -- a task reads the agreed words, this frame's words that it needs, heard by then, and those of the frame before
@@ -171,6 +171,6 @@ module _ (d : MissionData) (fit : PartsFit d) where
         let low = slice_get_within d.program.tasks t task there in
         let same : task_at d.program.tasks t ≡ task = get_or_from_slice_get d.program.tasks t task (record { outputs = 0; body = end }) there in
         let place = task-of-word theirs t i low (rw same own) in
-        let first : program.first_word d.program.tasks t + i - first_word (shapes_in d) t ≡ i = let e = first-word-is t in omega arith in
+        let first : program.first_word d.program.tasks t + i - program.first_word d.program.tasks t ≡ i = omega arith in
         rw (place, same, first) refl);
   }

@@ -1,17 +1,17 @@
 -- The mission as flights see it, from its data.
 use Rattle.std.specs.Prelude.{ℕ, suc, ◌-◌, ◌%◌, List, [], ◌∷◌, length, slice_index, slice_index_or, Bool, ◌&&◌, nat_eq, if◌then◌else◌, option_map, ℤ, pos}
 use Rattle.sift_base.specs.Layout.{least_units, slot_count, slot_kind, slot_number}
-use Rattle.sift_base.specs.Shapes.{first_word, shape_at}
+use Rattle.sift_base.specs.Shapes.{shape_at}
 use Rattle.sift_base.specs.Units.{has}
 use Rattle.sift_config.specs.Config.{first_units}
 use Rattle.sift_lang.specs.Meaning.{meaning}
 use Rattle.sift_script.specs.Faults as faults
 use Rattle.sift_table.specs.Schedule as schedule
-use Rattle.sift_table.specs.Schedule.{Schedule}
+use Rattle.sift_table.specs.Schedule.{Schedule, positions_of}
 use Rattle.sift_table.specs.Timing as timing
 use Rattle.sift_table.specs.Timing.{task_of}
 use Rattle.sift_mission.specs.Data.{MissionData, shapes_in, FlownMission}
-use Rattle.sift_program.specs.Program.{task_at}
+use Rattle.sift_program.specs.Program.{first_word, task_at}
 use Rattle.sift_mission.specs.PartsFit.{table_at}
 
 -- ---- tables
@@ -27,7 +27,7 @@ position_in (v ∷ us) u = if nat_eq v u then 0 else suc (position_in us u)
 
 -- a unit of the configuration runs a task: the table has the task at its position
 abbrev pub runs_in : MissionData → List ℕ → ℕ → ℕ → Bool
-runs_in d us t u = has us u && schedule.runs_at (table_for d us) t (position_in us u)
+runs_in d us t u = has us u && has (positions_of (table_for d us) t) (position_in us u)
 
 -- ---- words
 
@@ -35,7 +35,7 @@ runs_in d us t u = has us u && schedule.runs_at (table_for d us) t (position_in 
 abbrev pub word_made : MissionData → ℕ → List ℕ → List ℕ → List ℕ → ℕ
 word_made d w ins now last =
     let t = task_of (shapes_in d).tasks w in
-    slice_index (meaning (task_at d.program.tasks t) ins now last) (w - first_word (shapes_in d) t)
+    slice_index (meaning (task_at d.program.tasks t) ins now last) (w - first_word d.program.tasks t)
 
 -- the word of a sensor in a frame: its words come round and round
 abbrev pub word_sensed : MissionData → ℕ → ℕ → ℕ

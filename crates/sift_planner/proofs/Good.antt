@@ -8,7 +8,7 @@ use Rattle.sift_base.specs.Shapes.{AllShapes}
 use Rattle.sift_base.proofs.lemmas.Counts.{IsBelowAll}
 use Rattle.sift_base.specs.Units.{has, IsAscending}
 use Rattle.sift_table.specs.Rules.{AreApart, MeetsEach, row_rules, run_rules, shed_rules}
-use Rattle.sift_table.specs.Schedule.{Schedule, positions_of, run_in, runs_at}
+use Rattle.sift_table.specs.Schedule.{Schedule, positions_of, run_in}
 use Rattle.sift_planner.specs.Earliest.{free_positions, is_used}
 use Rattle.sift_planner.specs.Laws.{PlansAreGood}
 use Rattle.sift_planner.specs.Plans.{IsPlan, IsWithinLimits, Wanted, executors_of}
@@ -77,8 +77,8 @@ module _ (shapes : AllShapes) (w : Wanted) (table : Schedule) (limits : IsWithin
   apart t earlier low before same p there =
       let e = run_in table t in
       let used : is_used table t e p ≡ true =
-      any_one (λ d. nat_eq (run_in table d) e && runs_at table d p) t earlier before
-      (and_from (nat_eq (run_in table earlier) e) (runs_at table earlier p) (eq-eqb (run_in table earlier) e same) there) in
+      any_one (λ d. nat_eq (run_in table d) e && has (positions_of table d) p) t earlier before
+      (and_from (nat_eq (run_in table earlier) e) (has (positions_of table earlier) p) (eq-eqb (run_in table earlier) e same) there) in
       let lacks = filter_lacks (λ q. not (is_used table t e q)) (range_with_len 0 table.size) p (ap not used) in
       ap (λ ps. has ps p) (plan.rows t low).at ∙ take_lacks (executors_of w) (free_positions table t e) p lacks
 

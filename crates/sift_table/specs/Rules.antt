@@ -4,7 +4,7 @@ use Rattle.std.specs.List.{All}
 use Rattle.sift_base.specs.Requirement.{Requirement, AreMet, IsFirstRefused, IsFirstUnmet}
 use Rattle.sift_base.specs.Shapes.{AllShapes, shape_at}
 use Rattle.sift_base.specs.Units.{has, IsAscending}
-use Rattle.sift_table.specs.Schedule.{Schedule, agreed_in, hearing_delay, polled_in, positions_of, run_in, sheds}
+use Rattle.sift_table.specs.Schedule.{Schedule, agreed_in, hearing_delay, polled_in, positions_of, run_in}
 
 -- so many subframes before the frame's end the reports are said
 abbrev pub report_lead : ℕ
@@ -50,7 +50,7 @@ HasAscendingPositions table t = IsAscending (positions_of table t)
 
 -- each task that isn't shed and whose words of this frame the task reads is polled when the task runs, or earlier
 abbrev pub ReadsPolledWords : Schedule → AllShapes → ℕ → Type 0
-ReadsPolledWords table shapes t = All (λ needed. sheds table needed ≡ false → polled_in table needed ≤ run_in table t) (shape_at shapes t).needs
+ReadsPolledWords table shapes t = All (λ needed. has table.shed needed ≡ false → polled_in table needed ≤ run_in table t) (shape_at shapes t).needs
 
 -- no position is in both lists
 abbrev pub AreApart : List ℕ → List ℕ → Type 0
@@ -59,7 +59,8 @@ AreApart some others = (position : ℕ) → has some position ≡ true → has o
 -- no earlier task that isn't shed runs in the same subframe at a position of the task
 abbrev pub SharesNoPosition : Schedule → ℕ → Type 0
 SharesNoPosition table t =
-    (earlier : ℕ) → earlier < t → sheds table earlier ≡ false → run_in table earlier ≡ run_in table t → AreApart (positions_of table earlier) (positions_of table t)
+    (earlier : ℕ) → earlier < t → has table.shed earlier ≡ false → run_in table earlier ≡ run_in table t
+    → AreApart (positions_of table earlier) (positions_of table t)
 
 -- a task that is shed has no run, no poll and no position: 0 stands for no subframe
 abbrev pub IsLeftOut : Schedule → ℕ → Type 0
@@ -80,7 +81,7 @@ rules_where false table shapes t =
 
 -- the rules that are then tested row by row
 abbrev pub row_rules : Schedule → AllShapes → (t : ℕ) → List Requirement
-row_rules table shapes t = rules_where (sheds table t) table shapes t
+row_rules table shapes t = rules_where (has table.shed t) table shapes t
 
 -- the table meets all rules, in each row
 pub record IsGood (table : Schedule) (shapes : AllShapes) : Type 0 where

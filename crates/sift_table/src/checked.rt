@@ -3,7 +3,8 @@
 ghost use Rattle.std.specs.Prelude.{◌≡◌, ◌<◌, false, length, IfOk, IfErr, IfSome, IfNone};
 ghost use Rattle.sift_base.specs.Requirement.{AreMet, IsFirstUnmet};
 ghost use Rattle.sift_base.specs.Shapes.{shapes_of, AreShapes};
-ghost use Rattle.sift_table.specs.Schedule.{schedule_of, run_in, polled_in, runs_at, sheds};
+ghost use Rattle.sift_base.specs.Units.{has};
+ghost use Rattle.sift_table.specs.Schedule.{schedule_of, run_in, polled_in, positions_of};
 ghost use Rattle.sift_table.specs.Rules.{HasAnEntryEach, IsGood, IsFirstBroken, row_rules, rules_where};
 
 use crate::rules;
@@ -57,7 +58,7 @@ impl GoodTable {
     /// Whether the unit at a position of the configuration runs task t.
     pub fn runs(&self, t: usize, position: usize) -> bool
         requires { t < length self.now.run }
-        ensures { result ≡ runs_at self.now t position }
+        ensures { result ≡ has (positions_of self.now t) position }
     {
         self.table
             .positions(t)

@@ -9,7 +9,7 @@ use Rattle.sift_table.proofs.Apart.{all_from_apart, apart_from_all}
 use Rattle.sift_table.proofs.Tests.{Test, ascends, at_most, both, decided, each, each_below, is_empty, is_false, less, same, where_so}
 use Rattle.sift_table.specs.Laws.{TablesAreAnswered}
 use Rattle.sift_table.specs.Rules.{AreApart, ReadsPolledWords, SharesNoPosition, least_executors, report_lead, row_rules, rules_where, table_rules}
-use Rattle.sift_table.specs.Schedule.{Schedule, agreed_in, hearing_delay, polled_in, positions_of, run_in, sheds}
+use Rattle.sift_table.specs.Schedule.{Schedule, agreed_in, hearing_delay, polled_in, positions_of, run_in}
 
 -- whether lists are apart
 apart : (some others : List ℕ) → Test (AreApart some others)
@@ -28,14 +28,14 @@ module _ (table : Schedule) (shapes : AllShapes) (row : ℕ) where
   -- whether what the task reads is polled
   reads : Test (ReadsPolledWords table shapes row)
   reads =
-      each (λ needed. sheds table needed ≡ false → polled_in table needed ≤ run_in table row)
-      (λ needed. where_so (is_false (sheds table needed)) (at_most (polled_in table needed) (run_in table row))) (shape_at shapes row).needs
+      each (λ needed. has table.shed needed ≡ false → polled_in table needed ≤ run_in table row)
+      (λ needed. where_so (is_false (has table.shed needed)) (at_most (polled_in table needed) (run_in table row))) (shape_at shapes row).needs
 
   -- whether an earlier task shares a position
   shares : Test (SharesNoPosition table row)
   shares =
-      each_below (λ earlier. sheds table earlier ≡ false → run_in table earlier ≡ run_in table row → AreApart (positions_of table earlier) (positions_of table row))
-      (λ earlier. where_so (is_false (sheds table earlier))
+      each_below (λ earlier. has table.shed earlier ≡ false → run_in table earlier ≡ run_in table row → AreApart (positions_of table earlier) (positions_of table row))
+      (λ earlier. where_so (is_false (has table.shed earlier))
       (where_so (same (run_in table earlier) (run_in table row)) (apart (positions_of table earlier) (positions_of table row)))) row
 
   -- whether it meets each rule of a row, of a task that is shed or runs
@@ -56,7 +56,7 @@ module _ (table : Schedule) (shapes : AllShapes) (row : ℕ) where
 pub tables_are_answered : TablesAreAnswered
 tables_are_answered table shapes = elim (met_or_broken (table_rules table shapes) (whole_tested table shapes)) [
   | inr broken ↦ inr (broken.0, 0, inl (broken.1, refl))
-  | inl whole ↦ elim (entries_met (row_rules table shapes) (length shapes.tasks) (λ row. row_tested table shapes row (sheds table row))) [
+  | inl whole ↦ elim (entries_met (row_rules table shapes) (length shapes.tasks) (λ row. row_tested table shapes row (has table.shed row))) [
     | inl rows ↦ inl (record { whole = whole; rows = rows })
     | inr bad ↦ inr (bad.0, bad.1, inr (whole, bad.2))
   ]
