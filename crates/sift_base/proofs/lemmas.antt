@@ -2,4 +2,5 @@
 pub mod Counts
 pub mod Numbers
 pub mod Others
+pub mod Requirements
 pub mod Sets

@@ -46,21 +46,16 @@ slot_number layout (Out w) = 1 + 2 * layout.sensors + w
 slot_number layout Report = 1 + 2 * layout.sensors + layout.words
 slot_number layout (RelayReport u) = 2 + 2 * layout.sensors + layout.words + u
 
--- the slot of a number behind those of the clock, the sensors and their relays: a word, the report, or a unit's report
-abbrev pub kind_behind_sensors : Layout → ℕ → Slot
-kind_behind_sensors layout i =
-    let first = 1 + 2 * layout.sensors in
-    if nat_lt i (first + layout.words) then Out (i - first)
-    else if nat_eq i (first + layout.words) then Report
-    else RelayReport (i - (first + layout.words + 1))
-
--- the slot of a number
+-- the slot of a number, where `first` is that of the first word
 abbrev pub slot_kind : Layout → ℕ → Slot
 slot_kind layout i =
+    let first = 1 + 2 * layout.sensors in
     if nat_eq i 0 then Clock
     else if nat_lt i (1 + layout.sensors) then Sense (i - 1)
-    else if nat_lt i (1 + 2 * layout.sensors) then RelaySense (i - (1 + layout.sensors))
-    else kind_behind_sensors layout i
+    else if nat_lt i first then RelaySense (i - (1 + layout.sensors))
+    else if nat_lt i (first + layout.words) then Out (i - first)
+    else if nat_eq i (first + layout.words) then Report
+    else RelayReport (i - (first + layout.words + 1))
 
 -- ---- laws
 

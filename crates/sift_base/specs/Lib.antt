@@ -2,6 +2,7 @@ pub mod Draw
 pub mod Layout
 pub mod Name
 pub mod ReadBack
+pub mod Requirement
 pub mod Shapes
 pub mod Stop
 pub mod Units

@@ -1,6 +1,6 @@
 -- Units, sets of units, and the margin of a configuration. A unit is one processor of the computer, and has a number below 8.
 use Rattle.std.specs.Prelude.{◌≡◌, ℕ, ◌<◌, ◌^◌, ◌==◌, List, [], ◌∷◌, Bool, true, not, nat_eq, if◌then◌else◌, length, ⊤, ◌≤◌, count_by}
-use Rattle.std.specs.List.{filter, list_any, sum_by}
+use Rattle.std.specs.List.{AllByRecursion, filter, list_any, sum_by}
 use Rattle.std.specs.Int.{bit_at}
 use Rattle.std.specs.Ordering.{nat_cmp}
 use Rattle.std.specs.FinSet as set
@@ -55,15 +55,10 @@ has us u = list_any (λ v. nat_eq v u) us
 abbrev pub others : ℕ → List ℕ → List ℕ
 others u us = filter (λ v. not (nat_eq v u)) us
 
--- u is below each unit of the list
-abbrev pub IsBelowAll : ℕ → List ℕ → Type 0
-IsBelowAll u [] = ⊤
-IsBelowAll u (v ∷ vs) = (u < v) × IsBelowAll u vs
-
 -- each unit of the list is below all that follow it
 abbrev pub IsAscending : List ℕ → Type 0
 IsAscending [] = ⊤
-IsAscending (u ∷ us) = IsBelowAll u us × IsAscending us
+IsAscending (u ∷ us) = AllByRecursion (λ v. u < v) us × IsAscending us
 
 -- ---- laws
 
@@ -75,10 +70,6 @@ MembersAreTheSet = (units : Units) →
 
 -- ---- working and faulty units of a configuration, and the margin within which it stands a fault
 
--- how many units of the list work
-abbrev pub working_count : (ℕ → Bool) → List ℕ → ℕ
-working_count works us = count_by works us
-
 -- how many units of the list don't work
 abbrev pub faulty_count : (ℕ → Bool) → List ℕ → ℕ
 faulty_count works us = count_by (λ u. not (works u)) us
@@ -86,4 +77,4 @@ faulty_count works us = count_by (λ u. not (works u)) us
 -- the configuration has margin: at most one of its units is faulty, and at least four work
 pub record HasMargin (works : ℕ → Bool) (us : List ℕ) : Type 0 where
   pub few : faulty_count works us ≤ 1
-  pub enough : 4 ≤ working_count works us
+  pub enough : 4 ≤ count_by works us

@@ -15,7 +15,8 @@ use Rattle.sift_mission.specs.Data.{MissionData, FlownMission}
 use Rattle.sift_mission.specs.Fits.{Fits}
 use Rattle.sift_mission.specs.Flown.{flown}
 use Rattle.sift_mission.specs.PartsFit.{PartsFit}
-use Rattle.sift_mission.specs.Slots.{calls, heard_at, stamp_of, turned_by}
+use Rattle.sift_mission.specs.Slots.{calls, heard_at, stamp_of}
+use Rattle.sift_mission.proofs.lemmas.Storms.{turned_by}
 use Rattle.sift_conduct.specs.Conduct.{Account, account_of}
 use Rattle.sift_conduct.specs.declared.account.Account.{Account as TheAccount}
 use Rattle.sift_conduct.specs.Acts.{BoardKeeps, stamp_and_moment}

@@ -3,8 +3,8 @@ use Rattle.std.proofs.Common.{◌≡◌, ◌≢◌, ℕ, zero, suc, ◌+◌, ◌
 use Rattle.std.specs.List.{range_with_len}
 use Rattle.std.proofs.lemmas.Bool.{cases_Bool, eq-eqb, eqb-true, or_cases}
 use Rattle.std.proofs.lemmas.List.Elements.{filter-append}
-use Rattle.sift_base.specs.Units.{faulty_count, has, others, IsAscending, IsBelowAll}
-use Rattle.sift_base.proofs.lemmas.Counts.{apart, has-head, has-tail, nat_eq-same}
+use Rattle.sift_base.specs.Units.{faulty_count, has, others, IsAscending}
+use Rattle.sift_base.proofs.lemmas.Counts.{apart, has-head, has-tail, nat_eq-same, IsBelowAll}
 use Rattle.sift_base.proofs.lemmas.Others.{count-others-<, count-others-≤, has-others, length-others, not_same, others-has, times_in, times_in-ascending}
 use Rattle.sift_byz.specs.Relaying.{outside}
 

@@ -3,7 +3,8 @@ use Rattle.std.proofs.Common.{◌≡◌, ◌<◌, ◌≤◌, ◌+◌, ℕ, suc, 
 use Rattle.std.specs.List.{All}
 use Rattle.std.proofs.lemmas.List.{get_or-map, length-map, map-append, take_more}
 use Rattle.std.proofs.lemmas.List.Elements.{All-head, All-tail}
-use Rattle.sift_base.specs.Units.{IsAscending, IsBelowAll}
+use Rattle.sift_base.proofs.lemmas.Counts.{IsBelowAll}
+use Rattle.sift_base.specs.Units.{IsAscending}
 
 -- ---- entries
 

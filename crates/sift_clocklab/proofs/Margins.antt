@@ -1,9 +1,9 @@
 -- How much room a skew leaves that is so many times the errors and drifts.
 use Rattle.std.proofs.Common.{◌≡◌, ◌⊎◌, ℕ, zero, suc, ◌+◌, ◌-◌, ◌*◌, ◌≤◌, inl, inr, length, ℤ, pos, negsuc, ◌+ℤ◌, ◌-ℤ◌, ◌*ℤ◌, refl, arith}
-use Rattle.std.specs.Prelude.{◌≤ℤ◌}
+use Rattle.std.specs.Prelude.{◌≤ℤ◌, count_by}
 use Rattle.std.proofs.lemmas.Int.{ints}
 use Rattle.std.proofs.Math.Nat.{mul-le-mul_left}
-use Rattle.sift_base.specs.Units.{faulty_count, working_count}
+use Rattle.sift_base.specs.Units.{faulty_count}
 use Rattle.sift_base.proofs.lemmas.Counts.{both_counts}
 use Rattle.sift_clocklab.specs.Margin.{MarginLeavesRoom, NoFaultLeavesRoom}
 
@@ -62,7 +62,7 @@ pub margin_leaves_room : MarginLeavesRoom
 margin_leaves_room skew error rate us works some margin wide =
     by_size (HasRoomFor (length us) (faulty_count works us)) 5 skew (error +ℤ rate) some wide
     (λ s t five. room_from (length us) (faulty_count works us) s t
-    (with_margin (length us) (faulty_count works us) (working_count works us) s t (both_counts works us)
+    (with_margin (length us) (faulty_count works us) (count_by works us) s t (both_counts works us)
     margin.few margin.enough five))
 
 -- a skew of twice the errors and drifts, or more, has room for those of a configuration without faulty clocks

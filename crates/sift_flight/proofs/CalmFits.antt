@@ -8,7 +8,8 @@ use Rattle.sift_base.specs.declared.slot.Slot.TheVariants.{Clock, Sense, RelaySe
 use Rattle.sift_base.specs.ReadBack.{false_last}
 use Rattle.std.specs.Prelude.{not, nat_lt, ◌&&◌, Some, None, if◌then◌else◌}
 use Rattle.std.proofs.lemmas.Bool.{cases_Bool, lt-ltb}
-use Rattle.sift_mission.specs.Slots.{turned_by, is_slot}
+use Rattle.sift_mission.specs.Slots.{is_slot}
+use Rattle.sift_mission.proofs.lemmas.Storms.{turned_by}
 use Rattle.sift_mission.specs.Data.{IsConfigOf}
 use Rattle.sift_mission.specs.Fits.{Fits, IsNumbered, IsRead, is_caught_in, HasExecutors}
 use Rattle.sift_flight.specs.Figures.{config_at, HasMarginAt}

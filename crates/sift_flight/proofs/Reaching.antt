@@ -15,7 +15,8 @@ use Rattle.sift_conduct.specs.Conduct.{reading_by}
 use Rattle.sift_mission.specs.Flown.{flown}
 use Rattle.sift_conduct.specs.Frames.{FrameConduct}
 use Rattle.sift_mission.specs.Premises.{IsFlyable, PartsMakeItFlyable}
-use Rattle.sift_mission.specs.Slots.{has_turned, turned_by}
+use Rattle.sift_mission.specs.Slots.{has_turned}
+use Rattle.sift_mission.proofs.lemmas.Storms.{turned_by}
 use Rattle.sift_flight.specs.Flight.{Flight, Strays, IsRound}
 use Rattle.sift_flight.specs.Told.{AreAccountsOf, IsAccountOf, told}
 use Rattle.sift_flight.specs.Whole.{RoundFlightsAreWhole, RoundFlightsHaveAccounts}

@@ -1,13 +1,13 @@
 -- The margin, the skew and the slack of a frame are told as they are.
 use Rattle.std.proofs.Common.{◌≡◌, ℕ, zero, suc, ◌+◌, ◌<◌, ◌≤◌, List, [], ◌∷◌, ◌++◌, fold, true, false, Option, None, Some, length, take}
 use Rattle.std.proofs.Common.{get_or, ℤ, pos, to_z, of_z, w64, ◌-ℤ◌, inl, inr, refl, sym, ap, subst, ◌∙◌, arith}
-use Rattle.std.specs.Prelude.{◌≤ℤ◌, nat_le, map, MatchOption}
+use Rattle.std.specs.Prelude.{◌≤ℤ◌, count_by, nat_le, map, MatchOption}
 use Rattle.std.specs.Int.{int_max, int_min}
 use Rattle.std.specs.List.{Contains}
 use Rattle.std.proofs.lemmas.Bool.{cases_eq, le-leb, leb-true}
 use Rattle.std.proofs.lemmas.Int.{ints, fold-int_max_bounds, fold-int_max_reached, fold-int_min_bounds, fold-int_min_reached}
 use Rattle.std.proofs.lemmas.List.Elements.{All-cons, All-push, Contains-from_at, at_from_Contains}
-use Rattle.sift_base.specs.Units.{HasMargin, faulty_count, working_count}
+use Rattle.sift_base.specs.Units.{HasMargin, faulty_count}
 use Rattle.std.proofs.lemmas.List.{map_more}
 use Rattle.sift_clock.specs.Distance.{IsWithin}
 use Rattle.sift_skew.specs.Limits.{offset_limit}
@@ -24,7 +24,7 @@ module _ (m : FlownMission) (fl : Flight) where
   -- a sound configuration has margin, and one with margin is sound
   sound_has : (f : ℕ) → is_sound_at m fl f ≡ true → HasMargin (λ u. m.works u f) (config_at m fl f)
   sound_has f sound =
-      let two = and_both (nat_le (faulty_count (λ u. m.works u f) (config_at m fl f)) 1) (nat_le 4 (working_count (λ u. m.works u f) (config_at m fl f))) sound in
+      let two = and_both (nat_le (faulty_count (λ u. m.works u f) (config_at m fl f)) 1) (nat_le 4 (count_by (λ u. m.works u f) (config_at m fl f))) sound in
       record { few = leb-true _ _ two.0; enough = leb-true _ _ two.1 }
 
   has_sound : (f : ℕ) → HasMargin (λ u. m.works u f) (config_at m fl f) → is_sound_at m fl f ≡ true

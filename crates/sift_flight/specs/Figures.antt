@@ -1,8 +1,8 @@
 -- The configuration at a frame, its margin, and the skew and the slack of its clocks.
-use Rattle.std.specs.Prelude.{◌≡◌, ℕ, ◌-◌, ◌≤◌, List, map, true, nat_lt, unwrap_or, if◌then◌else◌, ℤ, ◌↔◌, zero, suc, [], ◌∷◌, ◌++◌, fold, Bool, ◌&&◌, nat_le, Option, None, Some, ◌-ℤ◌}
+use Rattle.std.specs.Prelude.{◌≡◌, ℕ, ◌-◌, ◌≤◌, List, count_by, map, true, nat_lt, unwrap_or, if◌then◌else◌, ℤ, ◌↔◌, zero, suc, [], ◌∷◌, ◌++◌, fold, Bool, ◌&&◌, nat_le, Option, None, Some, ◌-ℤ◌}
 use Rattle.std.specs.List.{filter, find}
 use Rattle.std.specs.Int.{int_max, int_min}
-use Rattle.sift_base.specs.Units.{has, HasMargin, faulty_count, working_count}
+use Rattle.sift_base.specs.Units.{has, HasMargin, faulty_count}
 use Rattle.sift_skew.specs.Figures.{IsSkew, IsSlack}
 use Rattle.sift_mission.specs.Data.{FlownMission}
 use Rattle.sift_flight.specs.Flight.{Flight, config_of}
@@ -53,7 +53,7 @@ IsSlackAt m fl f slack = IsSlack m.length (offsets_at m fl f) (next_offsets_at m
 -- at most one unit of the configuration at a frame is faulty, and at least four work
 abbrev pub is_sound_at : FlownMission → Flight → ℕ → Bool
 is_sound_at m fl f =
-    nat_le (faulty_count (λ u. m.works u f) (config_at m fl f)) 1 && nat_le 4 (working_count (λ u. m.works u f) (config_at m fl f))
+    nat_le (faulty_count (λ u. m.works u f) (config_at m fl f)) 1 && nat_le 4 (count_by (λ u. m.works u f) (config_at m fl f))
 
 -- the configuration of each frame before this one is sound
 abbrev pub margin_before : FlownMission → Flight → ℕ → Bool

@@ -4,16 +4,18 @@ use Rattle.std.specs.List.{range_with_len}
 use Rattle.std.proofs.lemmas.Bool.{and_parts, cases_Bool, true≢false}
 use Rattle.std.proofs.lemmas.List.{get_or_default}
 use Rattle.sift_base.specs.Layout.{least_units}
+use Rattle.sift_base.specs.Requirement.{AreMet}
 use Rattle.sift_base.specs.Shapes.{words_in}
 use Rattle.sift_base.specs.declared.slot.Slot.{Slot}
 use Rattle.sift_base.specs.declared.slot.Slot.TheVariants.{Clock, Sense, RelaySense, Out, Report, RelayReport}
+use Rattle.sift_base.specs.Units.{has}
 use Rattle.sift_table.specs.Laws.{SlotsAreHeardInTime, TasksHaveThreeExecutors}
-use Rattle.sift_table.specs.Rules.{MeetsEach, row_rules, run_rules}
-use Rattle.sift_table.specs.Schedule.{Schedule, runs_at}
+use Rattle.sift_table.specs.Rules.{row_rules, rules_where}
+use Rattle.sift_table.specs.Schedule.{Schedule, positions_of}
 use Rattle.sift_table.specs.Timing.{due_in, heard_in, is_shed, task_of}
 use Rattle.sift_mission.specs.Data.{IsConfigOf, MissionData, shapes_in}
 use Rattle.sift_mission.specs.Fits.{IsTimed, HasExecutors, is_caught_in}
-use Rattle.sift_mission.specs.Flown.{executes_in, flown, position_in, table_for}
+use Rattle.sift_mission.specs.Flown.{flown, position_in, runs_in, table_for}
 use Rattle.sift_mission.specs.PartsFit.{IsTableFor, PartsFit, table_at}
 use Rattle.sift_mission.specs.Timetable.{HasRowsFor}
 use Rattle.sift_mission.specs.Slots.{is_held, is_silent, is_slot}
@@ -63,17 +65,17 @@ module _ (d : MissionData) (fit : PartsFit d) where
   words-are = fit.layout.words ∙ sym (words-shapes d.program.tasks 0 d.program.tasks)
 
   -- each word's task has a shape
-  pub task-below : (w : ℕ) → w < d.layout.words → task_of (shapes_in d) w < length (shapes_in d).tasks
+  pub task-below : (w : ℕ) → w < d.layout.words → task_of (shapes_in d).tasks w < length (shapes_in d).tasks
   task-below w low = let words = words-are in among-below (shapes_in d).tasks w (omega arith)
 
   -- a word's task meets the rules of the table's rows
   row-of : (us : List ℕ) (w : ℕ) → IsConfigOf (flown d) us → w < d.layout.words
-      → MeetsEach (row_rules (table_for d us) (task_of (shapes_in d) w)) (table_for d us) (shapes_in d) (task_of (shapes_in d) w)
-  row-of us w config low = (table-is us config).good.rows (task_of (shapes_in d) w) (task-below w low)
+      → AreMet (row_rules (table_for d us) (shapes_in d) (task_of (shapes_in d).tasks w))
+  row-of us w config low = (table-is us config).good.rows (task_of (shapes_in d).tasks w) (task-below w low)
 
   -- the task of a word that isn't held meets the rules of tasks that run
   pub run-row : (us : List ℕ) (w : ℕ) → IsConfigOf (flown d) us → w < d.layout.words → is_held (flown d) us w ≡ false
-      → MeetsEach run_rules (table_for d us) (shapes_in d) (task_of (shapes_in d) w)
+      → AreMet (rules_where false (table_for d us) (shapes_in d) (task_of (shapes_in d).tasks w))
   run-row us w config low kept = rw kept at (row-of us w config low)
 
   module _ (in_time : SlotsAreHeardInTime) where
@@ -126,13 +128,14 @@ module _ (d : MissionData) (fit : PartsFit d) where
   pub executors : TasksHaveThreeExecutors → HasExecutors (flown d)
   executors laws = record {
     three = λ us w config low kept.
-        let t = task_of (shapes_in d) w in
+        let t = task_of (shapes_in d).tasks w in
         let table = table-is us config in
         let enough = (laws (table_for d us) (shapes_in d) t table.good (task-below w low)).0 kept in
-        let sized : 3 ≤ count_by (runs_at (table_for d us) t) (range_with_len 0 (length us)) = subst (λ n. 3 ≤ count_by (runs_at (table_for d us) t) (range_with_len 0 n)) table.sized enough in
-        omega (arith, positions-filtered (runs_at (table_for d us) t) us config.ascending, sized);
+        let runs = has (positions_of (table_for d us) t) in
+        let sized : 3 ≤ count_by runs (range_with_len 0 (length us)) = subst (λ n. 3 ≤ count_by runs (range_with_len 0 n)) table.sized enough in
+        omega (arith, positions-filtered runs us config.ascending, sized);
     none = λ us w u config low held.
-        let t = task_of (shapes_in d) w in elim (cases_Bool (executes_in d us w u)) [
+        let t = task_of (shapes_in d).tasks w in elim (cases_Bool (runs_in d us t u)) [
           | inr idle ↦ idle
           | inl runs ↦
               let kept = ((laws (table_for d us) (shapes_in d) t (table-is us config).good (task-below w low)).1 (position_in us u) (and_parts _ _ runs).1).0 in

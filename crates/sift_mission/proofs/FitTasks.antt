@@ -1,5 +1,5 @@
 -- The tasks of a mission whose parts fit: what they read, and how many there are.
-use Rattle.std.proofs.Common.{◌≡◌, ℕ, ◌-◌, ◌<◌, ◌≤◌, List, [], ◌∷◌, length, take, true, slice_index, refl, sym, ap, ◌∙◌, arith, zero-add, ◌+◌}
+use Rattle.std.proofs.Common.{◌≡◌, ℕ, Bool, ◌-◌, ◌<◌, ◌≤◌, List, [], ◌∷◌, length, take, true, slice_index, refl, sym, ap, ◌∙◌, arith, zero-add, ◌+◌}
 use Rattle.std.proofs.lemmas.List.Elements.{All-tail}
 use Rattle.std.proofs.lemmas.List.Sums.{sum_by-cons, sum_by-take-le}
 use Rattle.std.proofs.lemmas.Option.{get_or_from_slice_get, slice_get-get_or, slice_get_within}
@@ -14,7 +14,7 @@ use Rattle.sift_table.specs.Laws.{TasksRunAfterTheirNeeds, WordsHaveTheirTask}
 use Rattle.sift_table.specs.Timing.{task_of}
 use Rattle.sift_mission.specs.Data.{MissionData, shapes_in}
 use Rattle.sift_mission.specs.Fits.{IsRead, IsCounted, SameAt}
-use Rattle.sift_mission.specs.Flown.{flown, needs_word, table_for, word_made}
+use Rattle.sift_mission.specs.Flown.{flown, table_for, word_made}
 use Rattle.sift_mission.specs.PartsFit.{PartsFit}
 use Rattle.sift_mission.specs.Premises.{IsAmong, RunsProgram}
 use Rattle.sift_mission.proofs.FitSlots.{few-words}
@@ -33,12 +33,16 @@ tasks-words sensors words (task ∷ tasks) sound =
     omega (arith, sum_by-cons (λ (t : TaskTree). t.outputs) task tasks)
 
 module _ (d : MissionData) (fit : PartsFit d) where
+  -- the task of one word reads the words of the task of the other
+  abbrev needs_word : ℕ → ℕ → Bool
+  needs_word w v = (flown d).needs w v
+
   -- the task that puts out a word
   abbrev task_for : ℕ → TaskTree
-  task_for w = task_at d.program.tasks (task_of (shapes_in d) w)
+  task_for w = task_at d.program.tasks (task_of (shapes_in d).tasks w)
 
   -- a word's task is there
-  pub task-there : (w : ℕ) → w < d.layout.words → task_of (shapes_in d) w < length d.program.tasks
+  pub task-there : (w : ℕ) → w < d.layout.words → task_of (shapes_in d).tasks w < length d.program.tasks
   task-there w low = let many = length-shapes d.program.tasks 0 d.program.tasks in let below = task-below d fit w low in omega arith
 
   -- the shape of a task that is there
@@ -51,14 +55,14 @@ module _ (d : MissionData) (fit : PartsFit d) where
 
   -- the tasks that a word's task needs are the earlier ones that it reads
   needs-are : (w v : ℕ) → w < d.layout.words
-      → needs_word d w v ≡ has (filter (reads_task d.program.tasks (task_for w)) (range_with_len 0 (task_of (shapes_in d) w))) (task_of (shapes_in d) v)
-  needs-are w v low = ap (λ (shape : Shape). has shape.needs (task_of (shapes_in d) v)) (shape-is (task_of (shapes_in d) w) (task-there w low))
+      → needs_word w v ≡ has (filter (reads_task d.program.tasks (task_for w)) (range_with_len 0 (task_of (shapes_in d).tasks w))) (task_of (shapes_in d).tasks v)
+  needs-are w v low = ap (λ (shape : Shape). has shape.needs (task_of (shapes_in d).tasks v)) (shape-is (task_of (shapes_in d).tasks w) (task-there w low))
 
   -- a word is one of those of its task
   word-own : (v : ℕ) → v < d.layout.words
-      → has (range_with_len (program.first_word d.program.tasks (task_of (shapes_in d) v)) (task_for v).outputs) v ≡ true
+      → has (range_with_len (program.first_word d.program.tasks (task_of (shapes_in d).tasks v)) (task_for v).outputs) v ≡ true
   word-own v low =
-      let e = task_of (shapes_in d) v in
+      let e = task_of (shapes_in d).tasks v in
       let words = words-are d fit in
       let own = among-own (record { outputs = 0; needs = [] }) (shapes_in d).tasks v (omega arith) in
       let first = first-word-is e in
@@ -66,11 +70,11 @@ module _ (d : MissionData) (fit : PartsFit d) where
       has-range (program.first_word d.program.tasks e) (task_for v).outputs v (omega (arith, own.0)) (omega (arith, own.1))
 
   -- a task needs the task of each earlier word of this frame that it reads
-  reads-needs : (w v : ℕ) → w < d.layout.words → v < program.first_word d.program.tasks (task_of (shapes_in d) w) → reads_word (task_for w) v ≡ true
-      → (v < d.layout.words) × (needs_word d w v ≡ true)
+  reads-needs : (w v : ℕ) → w < d.layout.words → v < program.first_word d.program.tasks (task_of (shapes_in d).tasks w) → reads_word (task_for w) v ≡ true
+      → (v < d.layout.words) × (needs_word w v ≡ true)
   reads-needs w v low before reads =
-      let t = task_of (shapes_in d) w in
-      let e = task_of (shapes_in d) v in
+      let t = task_of (shapes_in d).tasks w in
+      let e = task_of (shapes_in d).tasks v in
       let first = first-word-is t in
       let words = words-are d fit in
       let within : v < d.layout.words = omega (arith, sum_by-take-le (λ (shape : Shape). shape.outputs) (shapes_in d).tasks t) in
@@ -80,25 +84,25 @@ module _ (d : MissionData) (fit : PartsFit d) where
       (within, needs-are w v low ∙ kept)
 
   -- a word that a task needs is one of an earlier task
-  needs-earlier : (w v : ℕ) → w < d.layout.words → needs_word d w v ≡ true → task_of (shapes_in d) v < task_of (shapes_in d) w
+  needs-earlier : (w v : ℕ) → w < d.layout.words → needs_word w v ≡ true → task_of (shapes_in d).tasks v < task_of (shapes_in d).tasks w
   needs-earlier w v low needs =
-      let t = task_of (shapes_in d) w in
-      let kept = has-filter (reads_task d.program.tasks (task_for w)) (range_with_len 0 t) (task_of (shapes_in d) v) (sym (needs-are w v low) ∙ needs) in
-      let range = range-has 0 t (task_of (shapes_in d) v) kept.0 in
+      let t = task_of (shapes_in d).tasks w in
+      let kept = has-filter (reads_task d.program.tasks (task_for w)) (range_with_len 0 t) (task_of (shapes_in d).tasks v) (sym (needs-are w v low) ∙ needs) in
+      let range = range-has 0 t (task_of (shapes_in d).tasks v) kept.0 in
       omega (arith, range.1)
 
   -- what a word's task makes of lists that are the same where it reads is one word
-  reads-same : (w : ℕ) (ins ins' now now' last : List ℕ) → w < d.layout.words → SameAt (λ x. true) d.layout.sensors ins ins' → SameAt (needs_word d w) d.layout.words now now'
+  reads-same : (w : ℕ) (ins ins' now now' last : List ℕ) → w < d.layout.words → SameAt (λ x. true) d.layout.sensors ins ins' → SameAt (needs_word w) d.layout.words now now'
       → word_made d w ins now last ≡ word_made d w ins' now' last
   reads-same w ins ins' now now' last low sensed same =
-      let t = task_of (shapes_in d) w in
+      let t = task_of (shapes_in d).tasks w in
       let there = task-there w low in
       let none : TaskTree = record { outputs = 0; body = end } in
       let sound = fit.program.tasks_sound t none there in
       let nows : AllNowsBelow (program.first_word d.program.tasks t) (task_for w) = fit.program.reads_earlier_words t (task_for w) (slice_get-get_or d.program.tasks t none there) in
       let read : SameRead (reads_word (task_for w)) (program.first_word d.program.tasks t) now now' =
       λ v before reads. (let needed = reads-needs w v low before reads in same v needed.0 needed.1) in
-      ap (λ outs. slice_index outs (w - first_word (shapes_in d) t))
+      ap (λ outs. slice_index outs (w - program.first_word d.program.tasks t))
       (meaning-same d.layout.sensors (length d.program.starts) (program.first_word d.program.tasks t) (task_for w) ins ins' now now' last sound nows (λ x x_low. sensed x x_low refl) read)
 
   -- a task reads the agreed words, this frame's words that it needs, heard by then, and those of the frame before
@@ -107,9 +111,9 @@ module _ (d : MissionData) (fit : PartsFit d) where
     reads = reads-same;
     earlier = λ w v low v_low needs. among-earlier (shapes_in d).tasks v w (needs-earlier w v low needs);
     polled = λ us w v config low v_low kept needs. (
-        let t = task_of (shapes_in d) w in
-        (after (table_for d us) (shapes_in d) t (table-is d fit us config).good (task-below d fit w low) kept).1 (task_of (shapes_in d) v)
-        (contains-has (shape_at (shapes_in d) t).needs (task_of (shapes_in d) v) needs));
+        let t = task_of (shapes_in d).tasks w in
+        (after (table_for d us) (shapes_in d) t (table-is d fit us config).good (task-below d fit w low) kept).1 (task_of (shapes_in d).tasks v)
+        (contains-has (shape_at (shapes_in d) t).needs (task_of (shapes_in d).tasks v) needs));
   }
 
   -- in a mission whose parts fit units, tasks, words, sensors and frames are counted within the limits
@@ -129,16 +133,16 @@ module _ (d : MissionData) (fit : PartsFit d) where
 
   -- word i of task t is one of task t
   pub task-of-word : WordsHaveTheirTask → (t i : ℕ) → t < length d.program.tasks → i < (task_at d.program.tasks t).outputs
-      → task_of (shapes_in d) (program.first_word d.program.tasks t + i) ≡ t
+      → task_of (shapes_in d).tasks (program.first_word d.program.tasks t + i) ≡ t
   task-of-word theirs t i low own =
       let many = length-shapes d.program.tasks 0 d.program.tasks in
       let size : (shape_at (shapes_in d) t).outputs ≡ (task_at d.program.tasks t).outputs = ap (λ (shape : Shape). shape.outputs) (shape-is t low) in
       rw (← first-word-is t) ((theirs (shapes_in d)).0 t i (omega arith) (omega arith))
 
   -- a word is one of those of its task
-  among : (w : ℕ) → w < d.layout.words → IsAmong d.program (task_of (shapes_in d) w) w
+  among : (w : ℕ) → w < d.layout.words → IsAmong d.program (task_of (shapes_in d).tasks w) w
   among w low =
-      let t = task_of (shapes_in d) w in
+      let t = task_of (shapes_in d).tasks w in
       let there = task-there w low in
       let words = words-are d fit in
       let own = among-own (record { outputs = 0; needs = [] }) (shapes_in d).tasks w (omega arith) in
@@ -167,6 +171,6 @@ module _ (d : MissionData) (fit : PartsFit d) where
         let low = slice_get_within d.program.tasks t task there in
         let same : task_at d.program.tasks t ≡ task = get_or_from_slice_get d.program.tasks t task (record { outputs = 0; body = end }) there in
         let place = task-of-word theirs t i low (rw same own) in
-        let first : program.first_word d.program.tasks t + i - first_word (shapes_in d) t ≡ i = let e = first-word-is t in omega arith in
+        let first : program.first_word d.program.tasks t + i - program.first_word d.program.tasks t ≡ i = omega arith in
         rw (place, same, first) refl);
   }

@@ -8,7 +8,8 @@ use Rattle.sift_mission.specs.Data.{MissionData}
 use Rattle.sift_mission.specs.Flown.{flown}
 use Rattle.sift_mission.specs.PartsFit.{PartsFit}
 use Rattle.sift_mission.specs.Premises.{AreClocksSound, IsScriptSound, PartsMakeItFit, PartsMakeItFlyable}
-use Rattle.sift_mission.specs.Slots.{turned_by, StormsCome}
+use Rattle.sift_mission.specs.Slots.{StormsCome}
+use Rattle.sift_mission.proofs.lemmas.Storms.{turned_by}
 use Rattle.sift_mission.proofs.FitTasks.{program-is}
 use Rattle.sift_mission.proofs.Rows.{drift-low, error-low, errors-low, start-low}
 use Rattle.sift_mission.proofs.lemmas.Numbers.{has-range}

@@ -5,12 +5,12 @@ use Rattle.std.proofs.lemmas.Bool.{cases_Bool, cases_lt, eqb-true, lt-ltb, le-lt
 use Rattle.sift_base.specs.Shapes.{Shape, words_in}
 use Rattle.sift_base.specs.Units.{has}
 use Rattle.sift_program.proofs.lemmas.ShapeLists.{words_in-cons}
-use Rattle.sift_table.specs.Timing.{task_among}
+use Rattle.sift_table.specs.Timing.{task_of}
 
 -- ---- words of tasks
 
 -- a word below those of a task is one of an earlier task
-pub among-before : (tasks : List Shape) (t w : ℕ) → w < words_in (take t tasks) → task_among tasks w < t
+pub among-before : (tasks : List Shape) (t w : ℕ) → w < words_in (take t tasks) → task_of tasks w < t
 among-before tasks zero w low = absurd (omega arith)
 among-before [] (suc t) w low = absurd (omega arith)
 among-before (task ∷ tasks) (suc t) w low = elim (cases_lt w task.outputs) [
@@ -20,7 +20,7 @@ among-before (task ∷ tasks) (suc t) w low = elim (cases_lt w task.outputs) [
 ]
 
 -- each word is one of a task that is there
-pub among-below : (tasks : List Shape) (w : ℕ) → w < words_in tasks → task_among tasks w < length tasks
+pub among-below : (tasks : List Shape) (w : ℕ) → w < words_in tasks → task_of tasks w < length tasks
 among-below [] w low = absurd (omega arith)
 among-below (task ∷ tasks) w low = elim (cases_lt w task.outputs) [
   | inl own ↦ rw (lt-ltb w task.outputs own) (omega arith)
@@ -29,21 +29,21 @@ among-below (task ∷ tasks) w low = elim (cases_lt w task.outputs) [
 
 -- a word is one of its task's
 pub among-own : (d : Shape) (tasks : List Shape) (w : ℕ) → w < words_in tasks
-    → (words_in (take (task_among tasks w) tasks) ≤ w) × (w < words_in (take (task_among tasks w) tasks) + (get_or tasks (task_among tasks w) d).outputs)
+    → (words_in (take (task_of tasks w) tasks) ≤ w) × (w < words_in (take (task_of tasks w) tasks) + (get_or tasks (task_of tasks w) d).outputs)
 among-own d [] w low = absurd (omega arith)
 among-own d (task ∷ tasks) w low = elim (cases_lt w task.outputs) [
   | inl own ↦ rw (lt-ltb w task.outputs own) (omega arith, omega arith)
   | inr past ↦
       let rest = among-own d tasks (w - task.outputs) (omega (arith, words_in-cons task tasks)) in
-      let more = words_in-cons task (take (task_among tasks (w - task.outputs)) tasks) in
+      let more = words_in-cons task (take (task_of tasks (w - task.outputs)) tasks) in
       rw (le-ltb w task.outputs past) (omega (arith, rest.0, more), omega (arith, rest.1, more))
 ]
 
 -- a word of an earlier task is an earlier word
-pub among-earlier : (tasks : List Shape) (v w : ℕ) → task_among tasks v < task_among tasks w → v < w
+pub among-earlier : (tasks : List Shape) (v w : ℕ) → task_of tasks v < task_of tasks w → v < w
 among-earlier tasks v w less = elim (cases_lt v w) [ inl low ↦ low | inr high ↦ absurd (omega (arith, in_order tasks w v high)) ]
   where
-    in_order : (shapes : List Shape) (x y : ℕ) → x ≤ y → task_among shapes x ≤ task_among shapes y
+    in_order : (shapes : List Shape) (x y : ℕ) → x ≤ y → task_of shapes x ≤ task_of shapes y
     in_order [] x y low = omega arith
     in_order (task ∷ rest) x y low = elim (cases_lt x task.outputs) [
       | inl own ↦ rw (lt-ltb x task.outputs own) (omega arith)

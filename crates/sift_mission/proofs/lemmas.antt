@@ -3,3 +3,4 @@ pub mod ByWords
 pub mod Configs
 pub mod Numbers
 pub mod Silent
+pub mod Storms

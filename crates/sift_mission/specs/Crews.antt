@@ -5,7 +5,7 @@ use Rattle.sift_base.specs.Layout.{least_units, slot_count, slot_kind}
 use Rattle.sift_base.specs.declared.layout.Layout.{Layout}
 use Rattle.sift_base.specs.declared.slot.Slot.{Slot}
 use Rattle.sift_base.specs.declared.slot.Slot.TheVariants.{RelayReport}
-use Rattle.sift_table.specs.Schedule.{Schedule, runs_at}
+use Rattle.sift_table.specs.Schedule.{Schedule, positions_of}
 use Rattle.sift_mission.specs.Data.{IsConfigOf, FlownMission, MissionData}
 use Rattle.sift_mission.specs.Flown.{flown, position_in, table_for}
 use Rattle.sift_mission.specs.Slots.{is_senders}
@@ -14,7 +14,7 @@ use Rattle.sift_mission.specs.declared.roles.Roles.{Roles}
 
 -- the units of a configuration that run a task by a table: those at the task's positions
 abbrev pub IsCrewBy : Schedule → List ℕ → ℕ → Units → Type 0
-IsCrewBy table us t crew = (u : ℕ) → holds crew u ≡ (has us u && runs_at table t (position_in us u))
+IsCrewBy table us t crew = (u : ℕ) → holds crew u ≡ (has us u && has (positions_of table t) (position_in us u))
 
 -- such units for each of so many tasks
 abbrev pub AreCrewsBy : Schedule → List ℕ → ℕ → List Units → Type 0

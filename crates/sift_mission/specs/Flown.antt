@@ -1,17 +1,17 @@
 -- The mission as flights see it, from its data.
 use Rattle.std.specs.Prelude.{ℕ, suc, ◌-◌, ◌%◌, List, [], ◌∷◌, length, slice_index, slice_index_or, Bool, ◌&&◌, nat_eq, if◌then◌else◌, option_map, ℤ, pos}
 use Rattle.sift_base.specs.Layout.{least_units, slot_count, slot_kind, slot_number}
-use Rattle.sift_base.specs.Shapes.{first_word, shape_at}
+use Rattle.sift_base.specs.Shapes.{shape_at}
 use Rattle.sift_base.specs.Units.{has}
 use Rattle.sift_config.specs.Config.{first_units}
 use Rattle.sift_lang.specs.Meaning.{meaning}
 use Rattle.sift_script.specs.Faults as faults
 use Rattle.sift_table.specs.Schedule as schedule
-use Rattle.sift_table.specs.Schedule.{Schedule}
+use Rattle.sift_table.specs.Schedule.{Schedule, positions_of}
 use Rattle.sift_table.specs.Timing as timing
 use Rattle.sift_table.specs.Timing.{task_of}
 use Rattle.sift_mission.specs.Data.{MissionData, shapes_in, FlownMission}
-use Rattle.sift_program.specs.Program.{task_at}
+use Rattle.sift_program.specs.Program.{first_word, task_at}
 use Rattle.sift_mission.specs.PartsFit.{table_at}
 
 -- ---- tables
@@ -27,41 +27,27 @@ position_in (v ∷ us) u = if nat_eq v u then 0 else suc (position_in us u)
 
 -- a unit of the configuration runs a task: the table has the task at its position
 abbrev pub runs_in : MissionData → List ℕ → ℕ → ℕ → Bool
-runs_in d us t u = has us u && schedule.runs_at (table_for d us) t (position_in us u)
-
--- it executes the words of the tasks that it runs
-abbrev pub executes_in : MissionData → List ℕ → ℕ → ℕ → Bool
-executes_in d us w u = runs_in d us (task_of (shapes_in d) w) u
+runs_in d us t u = has us u && has (positions_of (table_for d us) t) (position_in us u)
 
 -- ---- words
 
 -- the word that its task makes: the meaning of the task, at the word's place among those of the task
 abbrev pub word_made : MissionData → ℕ → List ℕ → List ℕ → List ℕ → ℕ
 word_made d w ins now last =
-    let t = task_of (shapes_in d) w in
-    slice_index (meaning (task_at d.program.tasks t) ins now last) (w - first_word (shapes_in d) t)
-
--- a task reads all words of each task that it reads a word of
-abbrev pub needs_word : MissionData → ℕ → ℕ → Bool
-needs_word d w v = has (shape_at (shapes_in d) (task_of (shapes_in d) w)).needs (task_of (shapes_in d) v)
-
--- the words of a sensor
-abbrev pub words_sensed : MissionData → ℕ → List ℕ
-words_sensed d x = slice_index_or d.sensors x []
+    let t = task_of (shapes_in d).tasks w in
+    slice_index (meaning (task_at d.program.tasks t) ins now last) (w - first_word d.program.tasks t)
 
 -- the word of a sensor in a frame: its words come round and round
 abbrev pub word_sensed : MissionData → ℕ → ℕ → ℕ
-word_sensed d x f = slice_index (words_sensed d x) (f % length (words_sensed d x))
+word_sensed d x f =
+    let words = slice_index_or d.sensors x [] in
+    slice_index words (f % length words)
 
 -- ---- clocks
 
 -- the ticks of a unit, and 0 past the list's end
 abbrev pub ticks_of : List ℤ → ℕ → ℤ
 ticks_of ticks u = slice_index_or ticks u (pos 0)
-
--- the error of the first unit's reading of the second
-abbrev pub error_of : MissionData → ℕ → ℕ → ℤ
-error_of d u p = ticks_of (slice_index_or d.clock.errors u []) p
 
 -- ---- the mission
 
@@ -79,11 +65,12 @@ flown d = record {
   kind = slot_kind d.layout;
   due = λ us k. timing.due_in (table_for d us) (shapes_in d) k;
   heard_in = λ us k. timing.heard_in (table_for d us) (shapes_in d) k;
-  task = task_of (shapes_in d);
+  task = task_of (shapes_in d).tasks;
   run_in = λ us t. schedule.run_in (table_for d us) t;
-  executes = executes_in d;
+  executes = λ us w. runs_in d us (task_of (shapes_in d).tasks w);
   shed = λ us. (table_for d us).shed;
-  needs = needs_word d;
+  -- a task reads all words of each task that it reads a word of
+  needs = λ w v. has (shape_at (shapes_in d) (task_of (shapes_in d).tasks w)).needs (task_of (shapes_in d).tasks v);
   word = word_made d;
   starts = d.program.starts;
   sensed = word_sensed d;
@@ -96,5 +83,5 @@ flown d = record {
   length = d.clock.length;
   offset = ticks_of d.clock.start;
   drift = ticks_of d.clock.drift;
-  errors = error_of d;
+  errors = λ u. ticks_of (slice_index_or d.clock.errors u []);
 }

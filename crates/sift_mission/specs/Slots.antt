@@ -1,20 +1,20 @@
 -- Who says which slot to whom under a configuration, and when.
-use Rattle.std.specs.Prelude.{◌≡◌, ℕ, ◌+◌, ◌*◌, ◌<◌, ◌≤◌, List, Bool, true, false, not, ◌&&◌, nat_eq, nat_lt, Option, None, Some}
+use Rattle.std.specs.Prelude.{◌≡◌, ℕ, ◌+◌, ◌*◌, ◌<◌, ◌≤◌, List, Bool, true, false, not, ◌&&◌, nat_eq, nat_lt, Some}
 use Rattle.std.specs.List.{filter}
+use Rattle.std.specs.Option.{option_map_or}
 use Rattle.sift_base.specs.Units.{has, unit_limit}
 use Rattle.sift_base.specs.declared.slot.Slot.{Slot}
 use Rattle.sift_base.specs.declared.slot.Slot.TheVariants.{Clock, Sense, RelaySense, Out, Report, RelayReport}
 use Rattle.sift_config.specs.Config.{reader_of}
 use Rattle.sift_mission.specs.Data.{FlownMission}
 
--- the mission has the slot; slots that it hasn't may share a number with one that it has
+-- the mission has the slot, as it has the clock and the report; slots that it hasn't may share a number with one that it has
 abbrev pub is_slot : FlownMission → Slot → Bool
-is_slot m Clock = true
 is_slot m (Sense x) = nat_lt x m.sensors
 is_slot m (RelaySense x) = nat_lt x m.sensors
 is_slot m (Out w) = nat_lt w m.words
-is_slot m Report = true
 is_slot m (RelayReport s) = has m.units s
+is_slot m _ = true
 
 -- the executors of a word: the units of the configuration that run its task, in ascending order
 abbrev pub executors : FlownMission → List ℕ → ℕ → List ℕ
@@ -34,14 +34,13 @@ is_silent m us Report = false
 is_silent m us (RelayReport s) = false
 
 -- what sets the sender p and the receiver q of a slot apart from other units: the reader says a sensor's word and the others relay it;
--- executors say a task's words; a report is relayed by and to units other than the one that it is of
+-- executors say a task's words; a report is relayed by and to units other than the one that it is of; the clock and the report are all units'
 abbrev pub is_senders : FlownMission → List ℕ → Slot → ℕ → ℕ → Bool
-is_senders m us Clock p q = true
 is_senders m us (Sense x) p q = nat_eq p (reader_of us x)
 is_senders m us (RelaySense x) p q = not (nat_eq p (reader_of us x))
 is_senders m us (Out w) p q = m.executes us w p
-is_senders m us Report p q = true
 is_senders m us (RelayReport s) p q = has us s && (not (nat_eq p s) && not (nat_eq q s))
+is_senders m us _ p q = true
 
 -- under a configuration unit p says the slot to unit q, and q hears it from p: both are in it, and they are different units
 abbrev pub calls : FlownMission → List ℕ → Slot → ℕ → ℕ → Bool
@@ -55,14 +54,9 @@ stamp_of m us f k = f * m.period + m.due us k + 1
 abbrev pub heard_at : FlownMission → List ℕ → ℕ → Slot → ℕ
 heard_at m us f k = f * m.period + m.heard_in us k
 
--- the frame from which on a unit is stray, if there is one, has come by frame f
-abbrev pub turned_by : Option ℕ → ℕ → Bool
-turned_by None f = false
-turned_by (Some from) f = not (nat_lt f from)
-
--- unit u has turned stray by frame f
+-- unit u has turned stray by frame f: there is a frame from which on it is stray, and that has come
 abbrev pub has_turned : FlownMission → ℕ → ℕ → Bool
-has_turned m u f = turned_by (m.storm u) f
+has_turned m u f = option_map_or (λ from. not (nat_lt f from)) (m.storm u) false
 
 -- each storm comes in a frame of the mission
 abbrev pub StormsCome : FlownMission → Type 0

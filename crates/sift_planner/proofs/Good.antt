@@ -1,13 +1,15 @@
 -- A plan meets all rules of schedule tables.
-use Rattle.std.proofs.Common.{◌≡◌, ℕ, zero, suc, ◌+◌, ◌<◌, List, [], ◌∷◌, length, take, Bool, true, false, if◌then◌else◌, not, nat_eq, ◌&&◌, inl, inr, ap, sym, subst, ◌∙◌, refl, eqb, eq-eqb, arith}
+use Rattle.std.proofs.Common.{◌≡◌, ℕ, zero, suc, ◌+◌, ◌<◌, List, [], ◌∷◌, length, take, Bool, true, false, not, nat_eq, ◌&&◌, inl, inr, ap, sym, subst, ◌∙◌, refl, eqb, eq-eqb, arith}
 use Rattle.std.proofs.lemmas.Bool.{and_from, cases_Bool, false≢true, ne_eqb, or_parts}
 use Rattle.std.proofs.lemmas.List.{length-take-le}
 use Rattle.std.proofs.lemmas.List.Elements.{All-filter, All-take}
 use Rattle.std.specs.List.{All, filter, range_with_len}
+use Rattle.sift_base.specs.Requirement.{AreMet}
 use Rattle.sift_base.specs.Shapes.{AllShapes}
-use Rattle.sift_base.specs.Units.{has, IsAscending, IsBelowAll}
-use Rattle.sift_table.specs.Rules.{AreApart, MeetsEach, row_rules, run_rules, shed_rules}
-use Rattle.sift_table.specs.Schedule.{Schedule, positions_of, run_in, runs_at}
+use Rattle.sift_base.proofs.lemmas.Counts.{IsBelowAll}
+use Rattle.sift_base.specs.Units.{has, IsAscending}
+use Rattle.sift_table.specs.Rules.{AreApart, row_rules, rules_where}
+use Rattle.sift_table.specs.Schedule.{Schedule, positions_of, run_in}
 use Rattle.sift_planner.specs.Earliest.{free_positions, is_used}
 use Rattle.sift_planner.specs.Laws.{PlansAreGood}
 use Rattle.sift_planner.specs.Plans.{IsPlan, IsWithinLimits, Wanted, executors_of}
@@ -76,13 +78,13 @@ module _ (shapes : AllShapes) (w : Wanted) (table : Schedule) (limits : IsWithin
   apart t earlier low before same p there =
       let e = run_in table t in
       let used : is_used table t e p ≡ true =
-      any_one (λ d. nat_eq (run_in table d) e && runs_at table d p) t earlier before
-      (and_from (nat_eq (run_in table earlier) e) (runs_at table earlier p) (eq-eqb (run_in table earlier) e same) there) in
+      any_one (λ d. nat_eq (run_in table d) e && has (positions_of table d) p) t earlier before
+      (and_from (nat_eq (run_in table earlier) e) (has (positions_of table earlier) p) (eq-eqb (run_in table earlier) e same) there) in
       let lacks = filter_lacks (λ q. not (is_used table t e q)) (range_with_len 0 table.size) p (ap not used) in
       ap (λ ps. has ps p) (plan.rows t low).at ∙ take_lacks (executors_of w) (free_positions table t e) p lacks
 
   -- each row meets the rules of a task that isn't shed
-  run_good : (t : ℕ) → t < length shapes.tasks → MeetsEach run_rules table shapes t
+  run_good : (t : ℕ) → t < length shapes.tasks → AreMet (rules_where false table shapes t)
   run_good t low =
       let row = plan.rows t low in
       let opened = row.run.open_here in
@@ -117,9 +119,9 @@ module _ (shapes : AllShapes) (w : Wanted) (table : Schedule) (limits : IsWithin
       )
 
   -- and no task is shed
-  row_good : (t : ℕ) → t < length shapes.tasks → MeetsEach (row_rules table t) table shapes t
+  row_good : (t : ℕ) → t < length shapes.tasks → AreMet (row_rules table shapes t)
   row_good t low =
-      subst (λ (shed : List ℕ). MeetsEach (if has shed t then shed_rules else run_rules) table shapes t) (sym plan.none_shed) (run_good t low)
+      subst (λ (shed : List ℕ). AreMet (rules_where (has shed t) table shapes t)) (sym plan.none_shed) (run_good t low)
 
 -- a plan within the limits meets all rules of schedule tables
 pub plans_are_good : PlansAreGood

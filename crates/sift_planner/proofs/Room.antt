@@ -5,8 +5,9 @@ use Rattle.std.proofs.lemmas.List.Elements.{filter_agree}
 use Rattle.std.proofs.lemmas.List.FromFn.{length-range_with_len}
 use Rattle.std.specs.List.{filter, range_with_len}
 use Rattle.sift_base.specs.Shapes.{AllShapes, shape_at}
+use Rattle.sift_base.specs.Units.{has}
 use Rattle.sift_table.specs.Rules.{report_lead}
-use Rattle.sift_table.specs.Schedule.{Schedule, agreed_in, hearing_delay, run_in, runs_at}
+use Rattle.sift_table.specs.Schedule.{Schedule, agreed_in, hearing_delay, run_in, positions_of}
 use Rattle.sift_planner.specs.Earliest.{IsOpen, free_positions, is_used}
 use Rattle.sift_planner.specs.Laws.{LongFramesHaveRoom, PlansRunEarly}
 use Rattle.sift_planner.specs.Plans.{ArePlannable, IsPlanned, Wanted, executors_of}
@@ -21,8 +22,8 @@ filter_all (v ∷ vs) = ap (λ rest. v ∷ rest) (filter_all vs)
 all_free : (table : Schedule) (t e : ℕ) → ((d : ℕ) → d < t → run_in table d < e) → length (free_positions table t e) ≡ table.size
 all_free table t e before =
     let unused = λ (p : ℕ).
-    any_none (λ d. nat_eq (run_in table d) e && runs_at table d p) t
-    (λ d low. and_left (nat_eq (run_in table d) e) (runs_at table d p) (ne_eqb (run_in table d) e (λ same. omega (arith, before d low, same)))) in
+    any_none (λ d. nat_eq (run_in table d) e && has (positions_of table d) p) t
+    (λ d low. and_left (nat_eq (run_in table d) e) (has (positions_of table d) p) (ne_eqb (run_in table d) e (λ same. omega (arith, before d low, same)))) in
     ap length (filter_agree (λ p. not (is_used table t e p)) (λ p. true) (λ p. ap not (unused p)) (range_with_len 0 table.size) ∙ filter_all (range_with_len 0 table.size))
     ∙ length-range_with_len 0 table.size
 

@@ -4,7 +4,7 @@ use Rattle.std.proofs.lemmas.Bool.{cases_order}
 use Rattle.std.proofs.lemmas.List.Elements.{filter_agree}
 use Rattle.std.specs.List.{All, filter, range_with_len}
 use Rattle.sift_base.specs.Units.{has}
-use Rattle.sift_table.specs.Schedule.{Schedule, hearing_delay, polled_in, positions_of, run_in, runs_at}
+use Rattle.sift_table.specs.Schedule.{Schedule, hearing_delay, polled_in, positions_of, run_in}
 use Rattle.sift_planner.specs.Earliest.{IsEarliestRow, IsLeastOpen, IsOpen, free_positions, is_used}
 use Rattle.sift_planner.proofs.Ranges.{any_same}
 
@@ -40,8 +40,8 @@ module _ (a b : Schedule) (t : ℕ) (same : SameBefore a b t) where
   -- the same positions are used
   pub used_same : (e p : ℕ) → is_used a t e p ≡ is_used b t e p
   used_same e p =
-      any_same (λ d. nat_eq (run_in a d) e && runs_at a d p) (λ d. nat_eq (run_in b d) e && runs_at b d p) t
-      (λ d low. ap (λ r. nat_eq r e && runs_at a d p) (same.run d low) ∙ ap (λ ps. nat_eq (run_in b d) e && has ps p) (same.at d low))
+      any_same (λ d. nat_eq (run_in a d) e && has (positions_of a d) p) (λ d. nat_eq (run_in b d) e && has (positions_of b d) p) t
+      (λ d low. ap (λ r. nat_eq r e && has (positions_of a d) p) (same.run d low) ∙ ap (λ ps. nat_eq (run_in b d) e && has ps p) (same.at d low))
 
   -- and the same are free
   pub free_same : (e : ℕ) → free_positions a t e ≡ free_positions b t e

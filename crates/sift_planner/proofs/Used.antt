@@ -9,7 +9,7 @@ use Rattle.std.specs.List.{filter, range_with_len}
 use Rattle.sift_base.specs.Shapes.{AllShapes, shape_at}
 use Rattle.sift_base.specs.Units.{has}
 use Rattle.sift_table.specs.Rules.{report_lead}
-use Rattle.sift_table.specs.Schedule.{Schedule, hearing_delay, polled_in, positions_of, run_in, runs_at}
+use Rattle.sift_table.specs.Schedule.{Schedule, hearing_delay, polled_in, positions_of, run_in}
 use Rattle.sift_planner.specs.Drafts.{IsKept, TellsUsed, drafted, rows_in, with_row}
 use Rattle.sift_planner.specs.declared.draft.Draft.{Draft}
 use Rattle.sift_planner.specs.Earliest.{IsEarliestRow, IsLeastOpen, free_positions, is_used}
@@ -54,7 +54,7 @@ free_from table t e m within are =
 -- where there is no row no position is used
 pub none_used : (table : Schedule) (count e p : ℕ) → count ≡ 0 → is_used table count e p ≡ nat_lt p 0
 none_used table count e p none =
-    any_none (λ d. nat_eq (run_in table d) e && runs_at table d p) count (λ d below. absurd (omega (arith, below, none))) ∙ sym (le-ltb p 0 (omega arith))
+    any_none (λ d. nat_eq (run_in table d) e && has (positions_of table d) p) count (λ d below. absurd (omega (arith, below, none))) ∙ sym (le-ltb p 0 (omega arith))
 
 module _ (table : Schedule) (count : ℕ) (used : List ℕ) (tells : TellsUsed table count used) (e : ℕ) (low : e < longest_period) where
   -- by the count of a subframe: which positions are free in it
@@ -114,9 +114,9 @@ module _ (table : Schedule) (n run poll : ℕ) (at : List ℕ) (runs : length ta
   pub used_more : (e p : ℕ) → is_used (with_row table run poll at) (suc n) e p ≡ (is_used table n e p || (nat_eq run e && has at p))
   used_more e p =
       let new = with_row table run poll at in
-      any_more (λ d. nat_eq (run_in new d) e && runs_at new d p) n
-      ∙ ap (λ b. b || (nat_eq (run_in new n) e && runs_at new n p)) (sym (used_same table new n row_before e p))
-      ∙ ap (λ r. is_used table n e p || (nat_eq r e && runs_at new n p)) row_run
+      any_more (λ d. nat_eq (run_in new d) e && has (positions_of new d) p) n
+      ∙ ap (λ b. b || (nat_eq (run_in new n) e && has (positions_of new n) p)) (sym (used_same table new n row_before e p))
+      ∙ ap (λ r. is_used table n e p || (nat_eq r e && has (positions_of new n) p)) row_run
       ∙ ap (λ ps. is_used table n e p || (nat_eq run e && has ps p)) row_at
 
 -- the counts of used positions with one row more, at the first free positions of its subframe

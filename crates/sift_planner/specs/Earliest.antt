@@ -1,12 +1,13 @@
 -- The earliest place of a task in a table, by the rows before it alone.
 use Rattle.std.specs.Prelude.{◌≡◌, ℕ, ◌+◌, ◌<◌, ◌≤◌, List, length, take, Bool, not, ◌&&◌, nat_eq}
 use Rattle.std.specs.List.{All, filter, list_any, range_with_len}
+use Rattle.sift_base.specs.Units.{has}
 use Rattle.sift_table.specs.Rules.{report_lead}
-use Rattle.sift_table.specs.Schedule.{Schedule, agreed_in, hearing_delay, polled_in, positions_of, run_in, runs_at}
+use Rattle.sift_table.specs.Schedule.{Schedule, agreed_in, hearing_delay, polled_in, positions_of, run_in}
 
 -- some row before row t runs in the subframe at the position
 abbrev pub is_used : Schedule → (t subframe position : ℕ) → Bool
-is_used table t subframe position = list_any (λ d. nat_eq (run_in table d) subframe && runs_at table d position) (range_with_len 0 t)
+is_used table t subframe position = list_any (λ d. nat_eq (run_in table d) subframe && has (positions_of table d) position) (range_with_len 0 t)
 
 -- the positions at which no row before row t runs in the subframe, in ascending order
 abbrev pub free_positions : Schedule → (t subframe : ℕ) → List ℕ

@@ -6,6 +6,7 @@ use Rattle.std.proofs.lemmas.Bool.{cases_Bool}
 use Rattle.std.proofs.lemmas.Int.{ints}
 use Rattle.std.proofs.lemmas.List.Elements.{All-cons, All-nil}
 use Rattle.sift_base.specs.Layout.{least_units}
+use Rattle.sift_base.specs.Requirement.{AreMet}
 use Rattle.sift_base.specs.Shapes.{AreShapes, output_limit, shape_at}
 use Rattle.sift_clock.specs.Distance.{IsWithin}
 use Rattle.sift_script.specs.Faults.{storm_of}
@@ -104,7 +105,7 @@ receivers = record {
   others = refl;
 }
 
-rules : (at : ℕ) → at < 1 → scripts.MeetsEach scripts.entry_rules mission.script at
+rules : (at : ℕ) → at < 1 → AreMet (scripts.entry_rules mission.script at)
 rules zero low = (
   omega arith,
   (

@@ -8,7 +8,7 @@ use Rattle.std.specs.List.{slice_get}
 use Rattle.std.specs.Prelude.{option_map, unwrap_or}
 use Rattle.sift_base.specs.Units.{has}
 use Rattle.sift_script.specs.Faults.{storm_from, storm_of}
-use Rattle.sift_script.specs.Rules.{fault_at, no_fault}
+use Rattle.sift_script.specs.Rules.{fault_at}
 use Rattle.sift_script.specs.Script.{Change, Failing, Fault, FaultScript, changing, turning}
 use Rattle.toml.specs.Data.{Members}
 use Rattle.sift_document.specs.Rules.{HoldsOf}
@@ -118,7 +118,7 @@ stated_storms document d u from number strays is =
           slice_get-map fault_in tables states.0 ∙ ap (option_map fault_in) states.1.there in
           let unit : (fault_at d.script states.0).unit ≡ u =
           ap (λ (fs : List Fault). (fault_at (record d.script { faults = fs }) states.0).unit) faults
-          ∙ ap (λ (f : Fault). f.unit) (get_or_from_slice_get (map fault_in tables) states.0 (fault_in states.1.entry) no_fault at)
+          ∙ ap (λ (f : Fault). f.unit) (get_or_from_slice_get (map fault_in tables) states.0 (fault_in states.1.entry) (record { unit = 0; from = 0; plan = changing [] }) at)
           ∙ unit_is states.1.entry u from number strays states.1.holds in
           let new = (is.good_script states.0 (rw (faults, length-map) low)).1.0 in
           ap (λ (fs : List Fault). storm_of fs u) faults

@@ -5,7 +5,9 @@ use Rattle.std.proofs.lemmas.Map.Keys.{IsDistinct-from_apart}
 use Rattle.std.proofs.lemmas.Map.Steps.{length-le_from_distinct_below}
 use Rattle.std.specs.List.{list_any}
 use Rattle.sift_base.specs.Units.{has}
-use Rattle.sift_script.specs.Rules.{MeetsEach, entry_rules, fault_at, no_fault, units_named}
+use Rattle.sift_base.specs.Requirement.{AreMet}
+use Rattle.sift_script.proofs.Views.{no_fault}
+use Rattle.sift_script.specs.Rules.{entry_rules, fault_at, units_named}
 use Rattle.sift_script.specs.Script.{Fault, FaultScript}
 
 -- the unit that an entry names is among those named, at its place
@@ -36,7 +38,7 @@ has-at (v ∷ us) u there = elim (cases_Bool (eqb v u)) [
   | inr other ↦ let later = has-at us u (rw other at there) in (suc later.0, omega (arith, later.1), later.2)
 ]
 
-module _ (script : FaultScript) (count : ℕ) (inside : count ≤ length script.faults) (met : (at : ℕ) → at < count → MeetsEach entry_rules script at) where
+module _ (script : FaultScript) (count : ℕ) (inside : count ≤ length script.faults) (met : (at : ℕ) → at < count → AreMet (entry_rules script at)) where
   -- the units that are named
   abbrev named : List ℕ
   named = units_named script.faults count
@@ -69,7 +71,7 @@ has-flip (v ∷ us) u there = elim (or_cases (eqb u v) (list_any (eqb u) us) the
 ]
 
 -- so many entries that meet all rules name as many units
-pub entries_are_few : (script : FaultScript) (count : ℕ) → count ≤ length script.faults → ((at : ℕ) → at < count → MeetsEach entry_rules script at) → count ≤ script.layout.units
+pub entries_are_few : (script : FaultScript) (count : ℕ) → count ≤ length script.faults → ((at : ℕ) → at < count → AreMet (entry_rules script at)) → count ≤ script.layout.units
 entries_are_few script count inside met =
     let us = units_named script.faults count in
     let distinct = IsDistinct-from_apart eqb us (named_apart script count inside met) in

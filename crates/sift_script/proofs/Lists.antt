@@ -1,8 +1,12 @@
 -- Lists that are made of other lists.
-use Rattle.std.proofs.Common.{◌≡◌, List, [], ◌∷◌, map, Bool, ◌||◌, ap, refl, inl, inr, Option, Some, None}
+use Rattle.std.proofs.Common.{ℕ, sum, take, ◌≡◌, List, [], ◌∷◌, map, Bool, ◌||◌, ap, refl, inl, inr, Option, Some, None}
 use Rattle.std.proofs.lemmas.Bool.{cases_Bool}
 use Rattle.std.specs.List.{find, list_any}
 use Rattle.std.specs.Option.{option_map}
+
+-- the number of a task's first output word, where the tasks have so many
+abbrev pub first_word_of : List ℕ → ℕ → ℕ
+first_word_of outputs task = sum (take task outputs)
 
 -- a test of what is made of each element
 pub list_any-map : {X Y : Type 0} (f : X → Y) (p : Y → Bool) (xs : List X) → list_any p (map f xs) ≡ list_any (λ x. p (f x)) xs

@@ -1,11 +1,11 @@
 -- Which slots and words an item speaks of.
-use Rattle.std.proofs.Common.{◌≡◌, ℕ, zero, suc, ◌+◌, List, [], ◌∷◌, map, take, true, eqb-true, eq-eqb, ap, sym, ◌∙◌, refl, subst}
+use Rattle.std.proofs.Common.{◌≡◌, ℕ, zero, suc, ◌+◌, sum, List, [], ◌∷◌, map, take, true, eqb-true, eq-eqb, ap, sym, ◌∙◌, refl, subst}
 use Rattle.std.proofs.lemmas.Bool.{false≢true}
 use Rattle.std.proofs.lemmas.List.Sums.{sum_by-cons}
 use Rattle.sift_base.specs.Shapes.{Shape, words_in}
 use Rattle.sift_base.specs.declared.slot.Slot.{Slot}
 use Rattle.sift_base.specs.declared.slot.Slot.TheVariants.{Clock, Sense, RelaySense, Out, Report, RelayReport}
-use Rattle.sift_script.specs.Faults.{first_word_of, is_same_slot}
+use Rattle.sift_script.specs.Faults.{is_same_slot}
 use Rattle.sift_script.specs.Laws.{SlotsAreComparedWhole, WordsAreNumberedAlike}
 
 -- slots that are the same are one
@@ -32,7 +32,7 @@ pub slots_are_compared_whole : SlotsAreComparedWhole
 slots_are_compared_whole one other = (one_slot one other, λ is. subst (λ (slot : Slot). is_same_slot one slot ≡ true) is (itself one))
 
 -- the words of the first tasks, so many, counted from their numbers
-words_counted : (tasks : List Shape) (t : ℕ) → first_word_of (map (λ task. task.outputs) tasks) t ≡ words_in (take t tasks)
+words_counted : (tasks : List Shape) (t : ℕ) → sum (take t (map (λ task. task.outputs) tasks)) ≡ words_in (take t tasks)
 words_counted [] zero = refl
 words_counted [] (suc t) = refl
 words_counted (task ∷ tasks) zero = refl

@@ -5,11 +5,22 @@ use Rattle.std.proofs.lemmas.Bool.Decides.{nat_tests}
 use Rattle.std.proofs.lemmas.List.{take_all}
 use Rattle.std.proofs.lemmas.Option.{none-some, same_Some}
 use Rattle.std.specs.Bool.{⊤}
+use Rattle.std.specs.List.{list_any}
+use Rattle.std.specs.Prelude.{◌==◌, ◌&&◌, nat_le, if◌then◌else◌, option_and_then}
 use Rattle.sift_base.specs.Units.{has}
-use Rattle.sift_script.specs.Faults.{changes_by, fault_of_unit, has_come, is_faulted_by, is_faulty, storm_from, storm_in, works}
+use Rattle.sift_script.specs.Faults.{changes_in, fault_of_unit, has_come, replacement_by, storm_from, works}
 use Rattle.sift_script.specs.Laws.{FaultsAreForGood, OneUnitIsSteady, StormsComeInTheMission, WorkingUnitsHaveNotTurned, WorkingUnitsSayTheirWords}
-use Rattle.sift_script.specs.Rules.{IsGood, no_fault}
+use Rattle.sift_script.proofs.Views.{no_fault}
+use Rattle.sift_script.specs.Rules.{IsGood}
 use Rattle.sift_script.specs.Script.{Failing, Fault, FaultScript, changing, turning}
+
+-- the fault is unit u's, and has come by frame f
+abbrev is_faulted_by : ℕ → ℕ → Fault → Bool
+is_faulted_by u f fault = (fault.unit == u) && nat_le fault.from f
+
+-- unit u has a fault that has come by frame f
+abbrev is_faulty : List Fault → ℕ → ℕ → Bool
+is_faulty faults u f = list_any (is_faulted_by u f) faults
 
 -- a test whose converse is met fails
 not_true : (b : Bool) → not b ≡ true → b ≡ false
@@ -74,13 +85,14 @@ not_come (fault ∷ faults) u f none =
       | inr other ↦ rw other (not_come faults u f parts.1)
     ]
 
--- a fault that hasn't come changes nothing
-no_changes : (fault : Option Fault) (f : ℕ) → HasNotCome fault f → changes_by fault f ≡ []
-no_changes None f none = refl
-no_changes (Some fault) f none = rw none refl
+-- nothing comes of a fault that hasn't come
+nothing_yet : {A : Type 0} (fault : Option Fault) (f : ℕ) (of : Fault → Option A) → HasNotCome fault f
+    → option_and_then (λ fault'. if nat_le fault'.from f then of fault' else None) fault ≡ None
+nothing_yet None f of none = refl
+nothing_yet (Some fault) f of none = rw none refl
 
 -- a storm that hasn't come turns no unit
-no_storm : (fault : Option Fault) (f : ℕ) → HasNotCome fault f → has_come (storm_in fault) f ≡ false
+no_storm : (fault : Option Fault) (f : ℕ) → HasNotCome fault f → has_come (option_and_then (λ fault'. storm_from fault'.from fault'.plan) fault) f ≡ false
 no_storm None f none = refl
 no_storm (Some fault) f none = storm_later fault.from fault.plan none
   where
@@ -91,7 +103,8 @@ no_storm (Some fault) f none = storm_later fault.from fault.plan none
 -- what a unit says in a frame in which it works isn't changed
 pub working_units_say_their_words : WorkingUnitsSayTheirWords
 working_units_say_their_words script u f slot receiver working =
-    rw (no_changes (fault_of_unit script.faults u) f (not_come script.faults u f (not_true (is_faulty script.faults u f) working))) refl
+    nothing_yet (fault_of_unit script.faults u) f (λ fault. replacement_by script.outputs f slot receiver (changes_in fault.plan))
+    (not_come script.faults u f (not_true (is_faulty script.faults u f) working))
 
 -- a unit that works in a frame hasn't turned by then
 pub working_units_have_not_turned : WorkingUnitsHaveNotTurned
@@ -107,7 +120,7 @@ comes_below (fault ∷ faults) u frames d each = elim (cases_Bool (eqb fault.uni
 ]
 
 -- the storm of a fault comes when the fault does
-storm_comes : (fault : Option Fault) (frames from number strays : ℕ) → IfSome fault (λ f. f.from < frames) → storm_in fault ≡ Some (from, number, strays) → from < frames
+storm_comes : (fault : Option Fault) (frames from number strays : ℕ) → IfSome fault (λ f. f.from < frames) → option_and_then (λ f. storm_from f.from f.plan) fault ≡ Some (from, number, strays) → from < frames
 storm_comes None frames from number strays below is = absurd (none-some _ is)
 storm_comes (Some fault) frames from number strays below is = of_plan fault.plan below is
   where

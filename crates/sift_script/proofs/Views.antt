@@ -7,9 +7,13 @@ use Rattle.sift_base.specs.declared.shapes.TaskShape.{TaskShape}
 use Rattle.std.specs.List.{All}
 use Rattle.sift_script.specs.Faults.{changes_in}
 use Rattle.sift_script.specs.Rules.{fault_at, units_named}
-use Rattle.sift_script.specs.Script.{Change, Fault, FaultScript, change_of, fault_of}
+use Rattle.sift_script.specs.Script.{Change, Fault, FaultScript, changing, change_of, fault_of}
 use Rattle.sift_script.specs.declared.script.Entry.{Entry}
 use Rattle.sift_script.specs.declared.script.Item.{Item}
+
+-- the fault that stands past the end of a list
+abbrev pub no_fault : Fault
+no_fault = record { unit = 0; from = 0; plan = changing [] }
 
 -- the units that entries name
 pub units_named-entries : (entries : List Entry) (count : ℕ) → units_named (map fault_of entries) count ≡ map (λ entry. entry.unit) (take count entries)

@@ -1,7 +1,7 @@
 -- Which units work, are faulty and have turned in a frame, and what a faulty unit says in place of its own words.
 use Rattle.std.specs.Prelude.{ℕ, List, Option, Some, None, Bool, false, ◌&&◌, ◌==◌, nat_le, not, ◌+◌, [], true, if◌then◌else◌, sum, take}
 use Rattle.std.specs.List.{find, list_any}
-use Rattle.std.specs.Option.{option_map}
+use Rattle.std.specs.Option.{option_and_then, option_map, option_map_or}
 use Rattle.sift_base.specs.Units.{has}
 use Rattle.sift_base.specs.declared.slot.Slot.{Slot}
 use Rattle.sift_base.specs.declared.slot.Slot.TheVariants as slot
@@ -11,17 +11,9 @@ use Rattle.sift_script.specs.declared.script.SlotKind.TheVariants.{Clock, Sense,
 
 -- ---- faulty and working
 
--- the fault is unit u's, and has come by frame f
-abbrev pub is_faulted_by : ℕ → ℕ → Fault → Bool
-is_faulted_by u f fault = (fault.unit == u) && nat_le fault.from f
-
--- unit u is faulty in frame f: it has a fault that has come
-abbrev pub is_faulty : List Fault → ℕ → ℕ → Bool
-is_faulty faults u f = list_any (is_faulted_by u f) faults
-
--- unit u works in frame f: it isn't faulty
+-- unit u works in frame f: it has no fault that has come
 abbrev pub works : List Fault → ℕ → ℕ → Bool
-works faults u f = not (is_faulty faults u f)
+works faults u f = not (list_any (λ fault. (fault.unit == u) && nat_le fault.from f) faults)
 
 -- ---- turned
 
@@ -34,14 +26,9 @@ abbrev pub storm_from : ℕ → Failing → Option (ℕ × ℕ × ℕ)
 storm_from from (changing changes) = None
 storm_from from (turning number strays) = Some (from, number, strays)
 
--- the storm of a fault, if there is a fault and it is a storm
-abbrev pub storm_in : Option Fault → Option (ℕ × ℕ × ℕ)
-storm_in None = None
-storm_in (Some fault) = storm_from fault.from fault.plan
-
 -- the storm of unit u, if it has one
 abbrev pub storm_of : List Fault → ℕ → Option (ℕ × ℕ × ℕ)
-storm_of faults u = storm_in (fault_of_unit faults u)
+storm_of faults u = option_and_then (λ fault. storm_from fault.from fault.plan) (fault_of_unit faults u)
 
 -- the storm, if there is one, has come by frame f
 abbrev pub has_come : Option (ℕ × ℕ × ℕ) → ℕ → Bool
@@ -54,22 +41,14 @@ has_turned faults u f = has_come (storm_of faults u) f
 
 -- ---- what a faulty unit says in place of its own words
 
--- the number of a task's first output word, where the tasks have so many: the words are numbered in the order of the tasks
-abbrev pub first_word_of : List ℕ → ℕ → ℕ
-first_word_of outputs task = sum (take task outputs)
-
--- the slot of a kind: an index is a sensor, a task or a unit, and a word is one of that task
+-- the slot of a kind: an index is a sensor, a task or a unit, and a word is one of that task, as the words are numbered in the order of the tasks
 abbrev pub slot_by : List ℕ → SlotKind → ℕ → ℕ → Slot
 slot_by outputs Clock index word = slot.Clock
 slot_by outputs Sense index word = slot.Sense index
 slot_by outputs Relay index word = slot.RelaySense index
-slot_by outputs Out index word = slot.Out (first_word_of outputs index + word)
+slot_by outputs Out index word = slot.Out (sum (take index outputs) + word)
 slot_by outputs Report index word = slot.Report
 slot_by outputs RelayReport index word = slot.RelayReport index
-
--- the slot that a change is about
-abbrev pub slot_of : List ℕ → Change → Slot
-slot_of outputs change = slot_by outputs change.kind change.index change.word
 
 -- two slots are one
 abbrev pub is_same_slot : Slot → Slot → Bool
@@ -81,29 +60,23 @@ is_same_slot slot.Report slot.Report = true
 is_same_slot (slot.RelayReport u) (slot.RelayReport v) = u == v
 is_same_slot _ _ = false
 
--- a change that names a frame is for that frame, and one that names none for each
-abbrev pub is_for_frame : Option ℕ → ℕ → Bool
-is_for_frame None f = true
-is_for_frame (Some g) f = g == f
-
--- the change is about what is said to a receiver in a slot of frame f
+-- the change is about what is said to a receiver in a slot of frame f: in its own frame, or in each where it names none
 abbrev pub fits : List ℕ → ℕ → Slot → ℕ → Change → Bool
-fits outputs f place receiver change = is_same_slot (slot_of outputs change) place && (has change.to receiver && is_for_frame change.frame f)
+fits outputs f place receiver change =
+    is_same_slot (slot_by outputs change.kind change.index change.word) place
+    && (has change.to receiver && option_map_or (λ g. g == f) change.frame true)
 
 -- the changes of a way of failing
 abbrev pub changes_in : Failing → List Change
 changes_in (changing changes) = changes
 changes_in (turning number strays) = []
 
--- the changes that a fault makes in frame f: all from its first frame on
-abbrev pub changes_by : Option Fault → ℕ → List Change
-changes_by None f = []
-changes_by (Some fault) f = if nat_le fault.from f then changes_in fault.plan else []
-
 -- what is said to a receiver in a slot of frame f by the first of these changes that fits, and None where none fits
 abbrev pub replacement_by : List ℕ → ℕ → Slot → ℕ → List Change → Option (Option ℕ)
 replacement_by outputs f place receiver changes = option_map (λ change. change.value) (find (fits outputs f place receiver) changes)
 
--- what unit u says to a receiver in a slot of frame f in place of its own word, where it says something else
+-- what unit u says to a receiver in a slot of frame f in place of its own word, where it says something else: once its fault has come
 abbrev pub override_of : FaultScript → ℕ → ℕ → Slot → ℕ → Option (Option ℕ)
-override_of script u f place receiver = replacement_by script.outputs f place receiver (changes_by (fault_of_unit script.faults u) f)
+override_of script u f place receiver =
+    option_and_then (λ fault. if nat_le fault.from f then replacement_by script.outputs f place receiver (changes_in fault.plan) else None)
+    (fault_of_unit script.faults u)

@@ -1,8 +1,8 @@
 -- What holds of fault scripts.
-use Rattle.std.specs.Prelude.{◌≡◌, ℕ, ◌<◌, ◌≤◌, ◌↔◌, ◌⊎◌, List, Some, None, true, false}
+use Rattle.std.specs.Prelude.{◌≡◌, ℕ, ◌<◌, ◌≤◌, ◌↔◌, ◌⊎◌, List, Some, None, true, false, sum, take}
 use Rattle.sift_base.specs.Shapes.{AllShapes, first_word}
 use Rattle.sift_base.specs.declared.slot.Slot.{Slot}
-use Rattle.sift_script.specs.Faults.{first_word_of, is_same_slot, override_of, has_turned, storm_of, works}
+use Rattle.sift_script.specs.Faults.{is_same_slot, override_of, has_turned, storm_of, works}
 use Rattle.sift_script.specs.Rules.{IsFirstBroken, IsGood}
 use Rattle.sift_script.specs.Script.{Fault, FaultScript, outputs_of}
 
@@ -35,7 +35,7 @@ SlotsAreComparedWhole = (one other : Slot) → (is_same_slot one other ≡ true)
 
 -- an item counts the words of the tasks before its own as a mission does
 abbrev pub WordsAreNumberedAlike : Type 0
-WordsAreNumberedAlike = (shapes : AllShapes) (t : ℕ) → first_word_of (outputs_of shapes) t ≡ first_word shapes t
+WordsAreNumberedAlike = (shapes : AllShapes) (t : ℕ) → sum (take t (outputs_of shapes)) ≡ first_word shapes t
 
 -- a script that breaks a rule has one first broken rule, at one entry, and one that meets all rules has none
 abbrev pub OneBrokenRule : Type 0

@@ -1,7 +1,6 @@
 -- The script that the parts of a checked script stand for, and the numbers of its tasks' words.
-use Rattle.std.specs.Prelude.{ℕ, ◌≡◌, ◌+◌, ◌≤◌, List, length, map}
+use Rattle.std.specs.Prelude.{ℕ, ◌≡◌, ◌+◌, ◌≤◌, List, length, map, sum, take}
 use Rattle.std.specs.List.{range_with_len}
-use Rattle.sift_script.specs.Faults.{first_word_of}
 use Rattle.sift_script.specs.Script.{FaultScript, faults_of}
 use Rattle.sift_script.specs.declared.parts.Parts.{Parts}
 
@@ -12,4 +11,4 @@ script_of parts = record { faults = faults_of parts.script; layout = parts.layou
 -- these are the numbers of the first words of tasks that have so many output words, and the number behind all of their words;
 -- there are at most 24 tasks, as in a mission
 abbrev pub AreFirstWords : List ℕ → List ℕ → Type 0
-AreFirstWords outputs firsts = (firsts ≡ map (first_word_of outputs) (range_with_len 0 (length outputs + 1))) × (length outputs ≤ 24)
+AreFirstWords outputs firsts = (firsts ≡ map (λ t. sum (take t outputs)) (range_with_len 0 (length outputs + 1))) × (length outputs ≤ 24)

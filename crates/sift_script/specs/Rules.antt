@@ -1,19 +1,16 @@
 -- The rules of a fault script, one predicate a rule, and the first rule that a script breaks.
-use Rattle.std.specs.Prelude.{◌≡◌, ℕ, ◌+◌, ◌<◌, ◌≤◌, ◌⊎◌, List, [], ◌∷◌, Option, Some, None, false, length, map, take, slice_index, slice_index_or, ⊤}
+use Rattle.std.specs.Prelude.{◌≡◌, ℕ, ◌+◌, ◌<◌, ◌≤◌, List, [], ◌∷◌, false, length, map, take, slice_index, slice_index_or, IfSome, ⊤}
 use Rattle.std.specs.List.{All}
+use Rattle.sift_base.specs.Requirement.{Requirement, AreMet, IsFirstRefused}
 use Rattle.sift_base.specs.Units.{has, IsAscending}
 use Rattle.sift_script.specs.Faults.{changes_in}
 use Rattle.sift_script.specs.Script.{Change, Fault, FaultScript, changing}
 use Rattle.sift_script.specs.declared.script.SlotKind.{SlotKind}
-use Rattle.sift_script.specs.declared.script.SlotKind.TheVariants.{Clock, Sense, Relay, Out, Report, RelayReport}
+use Rattle.sift_script.specs.declared.script.SlotKind.TheVariants.{Sense, Relay, Out, RelayReport}
 
--- what stands for the fault of an entry that isn't there
-abbrev pub no_fault : Fault
-no_fault = record { unit = 0; from = 0; plan = changing [] }
-
--- the fault of an entry
+-- the fault of an entry, and past the list's end one that changes nothing
 abbrev pub fault_at : FaultScript → ℕ → Fault
-fault_at script at = slice_index_or script.faults at no_fault
+fault_at script at = slice_index_or script.faults at (record { unit = 0; from = 0; plan = changing [] })
 
 -- the units that the first entries name, so many
 abbrev pub units_named : List Fault → ℕ → List ℕ
@@ -37,23 +34,17 @@ FailsInMission script at = (fault_at script at).from < script.frames
 abbrev pub LeavesAUnit : FaultScript → ℕ → Type 0
 LeavesAUnit script at = (u : ℕ) × (u < script.layout.units) × (has (units_named script.faults (at + 1)) u ≡ false)
 
--- the sensor, the task and its word, or the unit that a kind of slot speaks of is one of the mission's
+-- the sensor, the task and its word, or the unit that a kind of slot speaks of is one of the mission's; the clock and the report speak of none
 abbrev pub HasPlaceBy : FaultScript → SlotKind → ℕ → ℕ → Type 0
-HasPlaceBy script Clock index word = ⊤
 HasPlaceBy script Sense index word = index < script.layout.sensors
 HasPlaceBy script Relay index word = index < script.layout.sensors
 HasPlaceBy script Out index word = (index < length script.outputs) × (word < slice_index script.outputs index)
-HasPlaceBy script Report index word = ⊤
 HasPlaceBy script RelayReport index word = index < script.layout.units
+HasPlaceBy script _ index word = ⊤
 
--- the frame that a change names, if it does, is one of the mission's in which the unit is faulty
-abbrev pub HasFrameBy : ℕ → ℕ → Option ℕ → Type 0
-HasFrameBy frames from None = ⊤
-HasFrameBy frames from (Some g) = (from ≤ g) × (g < frames)
-
--- what a change is about is there: its slot, and its frame
+-- what a change is about is there: its slot, and the frame that it names, if it does, which is one of the mission's in which the unit is faulty
 abbrev pub IsThere : FaultScript → ℕ → Change → Type 0
-IsThere script from change = HasPlaceBy script change.kind change.index change.word × HasFrameBy script.frames from change.frame
+IsThere script from change = HasPlaceBy script change.kind change.index change.word × IfSome change.frame (λ f. (from ≤ f) × (f < script.frames))
 
 -- what each change of the entry is about is there
 abbrev pub HasPlaces : FaultScript → ℕ → Type 0
@@ -73,54 +64,16 @@ HasReceivers script at =
 
 -- ---- all of them
 
--- a rule of fault scripts
-pub data Rule : Type 0 where
-  unit_there : Rule
-  unit_new : Rule
-  fails_in_mission : Rule
-  leaves_a_unit : Rule
-  places_there : Rule
-  receivers_there : Rule
-
--- the number of a rule, by which it is named
-abbrev pub number_of : Rule → ℕ
-number_of unit_there = 1
-number_of unit_new = 2
-number_of fails_in_mission = 3
-number_of leaves_a_unit = 4
-number_of places_there = 5
-number_of receivers_there = 6
-
--- the script meets the rule at an entry
-abbrev pub Meets : Rule → FaultScript → ℕ → Type 0
-Meets unit_there script at = HasUnit script at
-Meets unit_new script at = HasNewUnit script at
-Meets fails_in_mission script at = FailsInMission script at
-Meets leaves_a_unit script at = LeavesAUnit script at
-Meets places_there script at = HasPlaces script at
-Meets receivers_there script at = HasReceivers script at
-
--- the rules in the order in which each entry is tested: each is tested for all changes of an entry before the next
-abbrev pub entry_rules : List Rule
-entry_rules = unit_there ∷ unit_new ∷ fails_in_mission ∷ leaves_a_unit ∷ places_there ∷ receivers_there ∷ []
-
--- the script meets each of these rules at an entry
-abbrev pub MeetsEach : List Rule → FaultScript → ℕ → Type 0
-MeetsEach [] script at = ⊤
-MeetsEach (rule ∷ rules) script at = Meets rule script at × MeetsEach rules script at
-
--- this is the number of the first of these rules that the script breaks at an entry
-abbrev pub BreaksFirst : List Rule → FaultScript → ℕ → ℕ → Type 0
-BreaksFirst [] script at number = ⊥
-BreaksFirst (rule ∷ rules) script at number =
-    ((¬ Meets rule script at) × (number ≡ number_of rule)) ⊎ (Meets rule script at × BreaksFirst rules script at number)
+-- the rules of an entry, with their numbers, in the order in which it is tested: each for all changes of the entry before the next
+abbrev pub entry_rules : FaultScript → ℕ → List Requirement
+entry_rules script at =
+    (1, HasUnit script at) ∷ (2, HasNewUnit script at) ∷ (3, FailsInMission script at) ∷ (4, LeavesAUnit script at) ∷ (5, HasPlaces script at)
+    ∷ (6, HasReceivers script at) ∷ []
 
 -- the script meets all rules, at each entry
 abbrev pub IsGood : FaultScript → Type 0
-IsGood script = (at : ℕ) → at < length script.faults → MeetsEach entry_rules script at
+IsGood script = (at : ℕ) → at < length script.faults → AreMet (entry_rules script at)
 
 -- this is the first entry at which the script breaks a rule, and the number of the first one there
-pub record IsFirstBroken (script : FaultScript) (number at : ℕ) : Type 0 where
-  pub inside : at < length script.faults
-  pub entries_before : (earlier : ℕ) → earlier < at → MeetsEach entry_rules script earlier
-  pub broken : BreaksFirst entry_rules script at number
+abbrev pub IsFirstBroken : FaultScript → (number at : ℕ) → Type 0
+IsFirstBroken script number at = IsFirstRefused (length script.faults) (entry_rules script) number at

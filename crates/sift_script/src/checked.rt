@@ -2,10 +2,11 @@
 
 ghost use Rattle.std.specs.Prelude.{◌≡◌, ◌<◌, length, IfOk, IfErr, IfSome, IfNone};
 ghost use Rattle.sift_base.specs.Layout.{IsLayout};
+ghost use Rattle.sift_base.specs.Requirement.{AreMet, IsFirstUnmet};
 ghost use Rattle.sift_base.specs.Shapes.{shapes_of, AreShapes};
 ghost use Rattle.sift_script.specs.Script.{script_for};
 ghost use Rattle.sift_script.specs.Faults.{override_of, works, storm_of};
-ghost use Rattle.sift_script.specs.Rules.{IsGood, IsFirstBroken, MeetsEach, BreaksFirst, entry_rules};
+ghost use Rattle.sift_script.specs.Rules.{IsGood, IsFirstBroken, entry_rules};
 ghost use Rattle.sift_script.specs.Parts.{script_of};
 
 use crate::parts::{Parts, first_words};
@@ -115,8 +116,8 @@ pub fn check(
 /// The first rule that an entry breaks.
 fn broken_rule(parts: &Parts, at: usize) -> Option<u8>
     requires { at < length (script_of parts.now).faults }
-    ensures broken { IfSome result (BreaksFirst entry_rules (script_of parts.now) at) }
-    ensures met { IfNone result (MeetsEach entry_rules (script_of parts.now) at) }
+    ensures broken { IfSome result (IsFirstUnmet (entry_rules (script_of parts.now) at)) }
+    ensures met { IfNone result (AreMet (entry_rules (script_of parts.now) at)) }
 {
     if !rules::has_unit(parts, at) {
         return Some(1);

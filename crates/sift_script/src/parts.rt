@@ -1,10 +1,10 @@
 //! A script with what it is for: the mission's layout, its tasks' output words and its frames.
 
-ghost use Rattle.std.specs.Prelude.{◌≡◌, ℕ, List, ◌≤◌, length, map};
+ghost use Rattle.std.specs.Prelude.{◌≡◌, ℕ, List, ◌≤◌, length, map, not, sum, take};
 ghost use Rattle.std.specs.Option.{option_map};
 ghost use Rattle.sift_base.specs.Shapes.{shapes_of, AreShapes};
 ghost use Rattle.sift_script.specs.Script.{script_for, change_of, fault_of};
-ghost use Rattle.sift_script.specs.Faults.{slot_of, is_same_slot, fits, first_word_of, replacement_by, fault_of_unit, is_faulty};
+ghost use Rattle.sift_script.specs.Faults.{slot_by, is_same_slot, fits, replacement_by, fault_of_unit, works};
 ghost use Rattle.sift_script.specs.Parts.{script_of, AreFirstWords};
 
 use crate::script::{Entry, Item, Script, SlotKind};
@@ -44,7 +44,7 @@ impl Parts {
 
     /// Whether a unit is faulty in frame f.
     pub fn is_faulty(&self, u: UnitId, f: u32) -> bool
-        ensures { result ≡ is_faulty (script_of self.now).faults u f }
+        ensures { not result ≡ works (script_of self.now).faults u f }
     {
         let unit = u.get();
         self.script
@@ -65,7 +65,7 @@ impl Parts {
     /// Whether an item is about a slot, where the tasks' words begin at these numbers.
     fn is_about(&self, firsts: &[u16], item: &Item, slot: Slot) -> bool
         requires { AreFirstWords (script_of self.now).outputs firsts.now }
-        ensures { let about = slot_of (script_of self.now).outputs (change_of item.now) in
+        ensures { let about = slot_by (script_of self.now).outputs item.now.kind item.now.index item.now.word in
             result ≡ is_same_slot about slot }
     {
         match slot {
@@ -130,7 +130,7 @@ pub(crate) fn first_words(counts: &[u8]) -> ArrayVec<u16, 25>
 /// The number of a task's first output word, and of one behind all where there is no such task.
 fn first_word(firsts: &[u16], task: u8) -> u16
     requires { (counts : List ℕ) × AreFirstWords counts firsts.now }
-    ensures { (counts : List ℕ) → AreFirstWords counts firsts.now → result ≡ first_word_of counts task }
+    ensures { (counts : List ℕ) → AreFirstWords counts firsts.now → result ≡ sum (take task counts) }
 {
     firsts[usize::from(task).min(firsts.len() - 1)]
 }

@@ -1,10 +1,10 @@
 //! The rules of an entry, one test a rule.
 
-ghost use Rattle.std.specs.Prelude.{◌≡◌, ◌<◌, ◌↔◌, length, map, IsTrue};
+ghost use Rattle.std.specs.Prelude.{◌≡◌, ◌<◌, ◌≤◌, ◌↔◌, length, map, IfSome, IsTrue};
 ghost use Rattle.std.specs.List.{All};
 ghost use Rattle.sift_base.specs.Units.{has};
 ghost use Rattle.sift_script.specs.Script.{change_of};
-ghost use Rattle.sift_script.specs.Rules.{HasUnit, HasNewUnit, FailsInMission, LeavesAUnit, HasPlaceBy, HasFrameBy};
+ghost use Rattle.sift_script.specs.Rules.{HasUnit, HasNewUnit, FailsInMission, LeavesAUnit, HasPlaceBy};
 ghost use Rattle.sift_script.specs.Rules.{IsThere, HasPlaces, AreReceivers, HasReceivers};
 ghost use Rattle.sift_script.specs.Parts.{script_of};
 
@@ -76,7 +76,7 @@ fn has_place(parts: &Parts, item: &Item) -> bool
 
 /// Whether the frame of an item, if it names one, is one of the mission's in which the unit is faulty.
 fn has_frame(frames: u32, from: u32, item: &Item) -> bool
-    ensures { IsTrue result ↔ HasFrameBy frames from item.now.frame }
+    ensures { IsTrue result ↔ IfSome item.now.frame (λ f. (from ≤ f) × (f < frames)) }
 {
     match item.frame {
         Some(frame) => from <= frame && frame < frames,

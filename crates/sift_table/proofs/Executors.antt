@@ -4,22 +4,24 @@ use Rattle.std.proofs.lemmas.Bool.{cases_eq, cases_Bool, cases_order, true≢fal
 use Rattle.std.proofs.lemmas.List.Elements.{All-contains, recursion_from_All}
 use Rattle.std.proofs.lemmas.List.Sums.{sum_by-cons}
 use Rattle.std.specs.List.{AllByRecursion, range_with_len}
+use Rattle.sift_base.specs.Requirement.{AreMet}
 use Rattle.sift_base.specs.Shapes.{AllShapes, shape_at}
-use Rattle.sift_base.specs.Units.{has, IsAscending, IsBelowAll}
+use Rattle.sift_base.proofs.lemmas.Counts.{IsBelowAll}
+use Rattle.sift_base.specs.Units.{has, IsAscending}
 use Rattle.sift_base.specs.declared.slot.Slot.TheVariants.{Clock, Sense, RelaySense, Out, Report, RelayReport}
 use Rattle.sift_table.proofs.Words.{words_have_their_task}
 use Rattle.sift_table.specs.Laws.{PositionsRunOneTaskAtATime, ShedTasksAreLeftOut, SlotsAreHeardInTime, TasksHaveThreeExecutors, TasksRunAfterTheirNeeds}
-use Rattle.sift_table.specs.Rules.{IsGood, IsLeftOut, MeetsEach, run_rules}
-use Rattle.sift_table.specs.Schedule.{Schedule, polled_in, positions_of, run_in, runs_at, sheds}
+use Rattle.sift_table.specs.Rules.{IsGood, IsLeftOut, rules_where}
+use Rattle.sift_table.specs.Schedule.{Schedule, polled_in, positions_of, run_in}
 use Rattle.sift_table.specs.Timing.{task_of}
 
 -- a task that isn't shed meets the rules of its row
-run_row : (table : Schedule) (shapes : AllShapes) (t : ℕ) → IsGood table shapes → t < length shapes.tasks → sheds table t ≡ false
-    → MeetsEach run_rules table shapes t
+run_row : (table : Schedule) (shapes : AllShapes) (t : ℕ) → IsGood table shapes → t < length shapes.tasks → has table.shed t ≡ false
+    → AreMet (rules_where false table shapes t)
 run_row table shapes t good low kept = rw kept at (good.rows t low)
 
 -- and one that is shed is left out
-shed_row : (table : Schedule) (shapes : AllShapes) (t : ℕ) → IsGood table shapes → t < length shapes.tasks → sheds table t ≡ true → IsLeftOut table t
+shed_row : (table : Schedule) (shapes : AllShapes) (t : ℕ) → IsGood table shapes → t < length shapes.tasks → has table.shed t ≡ true → IsLeftOut table t
 shed_row table shapes t good low shed = (rw shed at (good.rows t low)).0
 
 -- what holds of each number of a list holds of one that the list has
@@ -44,8 +46,8 @@ slots_are_heard_in_time table shapes layout Clock good long words there = (λ ke
 slots_are_heard_in_time table shapes layout (Sense x) good long words there = (λ kept. omega arith, omega arith)
 slots_are_heard_in_time table shapes layout (RelaySense x) good long words there = (λ kept. omega arith, omega arith)
 slots_are_heard_in_time table shapes layout (Out w) good long words there =
-    let t = task_of shapes w in
-    let low = (words_have_their_task shapes).1 w (omega (arith, there, words)) in elim (cases_Bool (sheds table t)) [
+    let t = task_of shapes.tasks w in
+    let low = (words_have_their_task shapes).1 w (omega (arith, there, words)) in elim (cases_Bool (has table.shed t)) [
       | inl shed ↦ let left = shed_row table shapes t good low shed in (λ kept. absurd (true≢false (sym shed ∙ kept)), omega (arith, left.1))
       | inr kept ↦ let row = run_row table shapes t good low kept in (λ kept. row.1.1.0, omega (arith, row.1.0))
     ]
@@ -57,9 +59,9 @@ pub tasks_run_after_their_needs : TasksRunAfterTheirNeeds
 tasks_run_after_their_needs table shapes t good low kept =
     let row = run_row table shapes t good low kept in (
       row.0,
-      λ needed there. elim (cases_Bool (sheds table needed)) [
+      λ needed there. elim (cases_Bool (has table.shed needed)) [
         | inl shed ↦ let left = (shed_tasks_are_left_out table shapes needed good shed).2 in omega (arith, left)
-        | inr polled ↦ All-contains (λ d. sheds table d ≡ false → polled_in table d ≤ run_in table t) (shape_at shapes t).needs needed row.1.1.1.1.1.1.0 there polled
+        | inr polled ↦ All-contains (λ d. has table.shed d ≡ false → polled_in table d ≤ run_in table t) (shape_at shapes t).needs needed row.1.1.1.1.1.1.0 there polled
       ],
     )
 
@@ -111,7 +113,7 @@ none_below (p ∷ ps) = (omega arith, none_below ps)
 -- under a good table a task runs at three or more of a configuration's positions, and one that is shed at none
 pub tasks_have_three_executors : TasksHaveThreeExecutors
 tasks_have_three_executors table shapes t good there =
-    let ps = positions_of table t in elim (cases_Bool (sheds table t)) [
+    let ps = positions_of table t in elim (cases_Bool (has table.shed t)) [
       | inl shed ↦
           let nowhere : ps ≡ [] = (shed_row table shapes t good there shed).2 in
           (λ kept. absurd (true≢false (sym shed ∙ kept)), λ position here. absurd (true≢false (sym here ∙ ap (λ qs. has qs position) nowhere)))
@@ -124,7 +126,7 @@ tasks_have_three_executors table shapes t good there =
 
 -- two tasks of one subframe share no position: each is tested against those before it
 pub positions_run_one_task_at_a_time : PositionsRunOneTaskAtATime
-positions_run_one_task_at_a_time table shapes t other position good low other_low different same here = elim (cases_Bool (runs_at table other position)) [
+positions_run_one_task_at_a_time table shapes t other position good low other_low different same here = elim (cases_Bool (has (positions_of table other) position)) [
   | inr apart ↦ apart
   | inl there ↦
       let kept = ((tasks_have_three_executors table shapes t good low).1 position here).0 in

@@ -1,12 +1,14 @@
 -- The plain table meets the rules.
-use Rattle.std.proofs.Common.{◌≡◌, ℕ, zero, suc, ◌+◌, ◌*◌, ◌<◌, ◌≤◌, [], length, get_or, arith}
+use Rattle.std.proofs.Common.{◌≡◌, ℕ, zero, suc, ◌+◌, ◌*◌, ◌<◌, ◌≤◌, [], length, get_or, false, arith}
 use Rattle.std.proofs.lemmas.List.Elements.{All-from_get_or}
 use Rattle.std.proofs.lemmas.List.FromFn.{get_or-map-range_with_len, get_or-range_with_len, length-map-range_with_len, length-range_with_len}
 use Rattle.std.specs.List.{All, range_with_len}
+use Rattle.sift_base.specs.Requirement.{AreMet}
 use Rattle.sift_base.specs.Shapes.{AllShapes, AreShapes, shape_at}
-use Rattle.sift_base.specs.Units.{IsAscending, IsBelowAll}
+use Rattle.sift_base.proofs.lemmas.Counts.{IsBelowAll}
+use Rattle.sift_base.specs.Units.{IsAscending}
 use Rattle.sift_table.specs.Laws.{PlainTablesAreGood}
-use Rattle.sift_table.specs.Rules.{MeetsEach, ReadsPolledWords, SharesNoPosition, run_rules}
+use Rattle.sift_table.specs.Rules.{ReadsPolledWords, SharesNoPosition, rules_where}
 use Rattle.sift_table.specs.Schedule.{plain_of, polled_in, positions_of, run_in}
 
 -- consecutive numbers are above what comes before them
@@ -41,7 +43,7 @@ module _ (size period tasks t : ℕ) (there : t < tasks) where
 
 -- each row of the plain table meets the rules of a row
 plain_row : (size period : ℕ) (shapes : AllShapes) (t : ℕ) → 3 ≤ size → AreShapes shapes → 4 + 2 * length shapes.tasks + 6 ≤ period
-    → t < length shapes.tasks → MeetsEach run_rules (plain_of size period (length shapes.tasks)) shapes t
+    → t < length shapes.tasks → AreMet (rules_where false (plain_of size period (length shapes.tasks)) shapes t)
 plain_row size period shapes t enough sound long there =
     let tasks = length shapes.tasks in
     let table = plain_of size period tasks in

@@ -4,33 +4,33 @@ use Rattle.std.proofs.lemmas.Bool.{cases_lt, lt-ltb, le-ltb}
 use Rattle.std.proofs.lemmas.List.Sums.{sum_by-cons}
 use Rattle.sift_base.specs.Shapes.{Shape, words_in}
 use Rattle.sift_table.specs.Laws.{WordsHaveTheirTask}
-use Rattle.sift_table.specs.Timing.{task_among}
+use Rattle.sift_table.specs.Timing.{task_of}
 
 -- the words of one task more
 words_in-cons : (task : Shape) (tasks : List Shape) → words_in (task ∷ tasks) ≡ task.outputs + words_in tasks
 words_in-cons task tasks = sum_by-cons (λ t. t.outputs) task tasks
 
 -- each word is a word of a task that is there
-task_among-below : (tasks : List Shape) (w : ℕ) → w < words_in tasks → task_among tasks w < length tasks
-task_among-below [] w low = absurd (omega arith)
-task_among-below (task ∷ tasks) w low = elim (cases_lt w task.outputs) [
+task_of-below : (tasks : List Shape) (w : ℕ) → w < words_in tasks → task_of tasks w < length tasks
+task_of-below [] w low = absurd (omega arith)
+task_of-below (task ∷ tasks) w low = elim (cases_lt w task.outputs) [
   | inl own ↦ rw (lt-ltb w task.outputs own) (omega arith)
-  | inr past ↦ rw (le-ltb w task.outputs past) (omega (arith, task_among-below tasks (w - task.outputs) (omega (arith, words_in-cons task tasks))))
+  | inr past ↦ rw (le-ltb w task.outputs past) (omega (arith, task_of-below tasks (w - task.outputs) (omega (arith, words_in-cons task tasks))))
 ]
 
 -- word j of task t is put out by task t
-task_among-first : (d : Shape) (tasks : List Shape) (t j : ℕ) → t < length tasks → j < (get_or tasks t d).outputs → task_among tasks (words_in (take t tasks) + j) ≡ t
-task_among-first d [] t j there own = absurd (omega arith)
-task_among-first d (task ∷ tasks) zero j there own = rw (zero-add j, lt-ltb j task.outputs own) refl
-task_among-first d (task ∷ tasks) (suc t) j there own =
+task_of-first : (d : Shape) (tasks : List Shape) (t j : ℕ) → t < length tasks → j < (get_or tasks t d).outputs → task_of tasks (words_in (take t tasks) + j) ≡ t
+task_of-first d [] t j there own = absurd (omega arith)
+task_of-first d (task ∷ tasks) zero j there own = rw (zero-add j, lt-ltb j task.outputs own) refl
+task_of-first d (task ∷ tasks) (suc t) j there own =
     let more = words_in-cons task (take t tasks) in
     let past : task.outputs ≤ words_in (take (suc t) (task ∷ tasks)) + j = omega (arith, more) in
     let left : words_in (take (suc t) (task ∷ tasks)) + j - task.outputs ≡ words_in (take t tasks) + j = omega (arith, more) in
-    rw (le-ltb (words_in (take (suc t) (task ∷ tasks)) + j) task.outputs past, left) (ap suc (task_among-first d tasks t j (omega arith) own))
+    rw (le-ltb (words_in (take (suc t) (task ∷ tasks)) + j) task.outputs past, left) (ap suc (task_of-first d tasks t j (omega arith) own))
 
 -- the words of a task are put out by that task, and each word is put out by a task that is there
 pub words_have_their_task : WordsHaveTheirTask
 words_have_their_task shapes = (
-  λ t j there own. task_among-first (record { outputs = 0; needs = [] }) shapes.tasks t j there own,
-  λ w low. task_among-below shapes.tasks w low,
+  λ t j there own. task_of-first (record { outputs = 0; needs = [] }) shapes.tasks t j there own,
+  λ w low. task_of-below shapes.tasks w low,
 )

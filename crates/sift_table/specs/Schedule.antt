@@ -1,11 +1,10 @@
 -- A schedule table as contracts see it: when each task is run and polled in a frame, at which positions of a configuration, and which tasks it sheds.
-use Rattle.std.specs.Prelude.{ℕ, ◌+◌, ◌*◌, Bool, List, [], map, slice_index, slice_index_or}
+use Rattle.std.specs.Prelude.{ℕ, ◌+◌, ◌*◌, List, [], map, slice_index, slice_index_or}
 use Rattle.std.specs.List.{range_with_len}
-use Rattle.sift_base.specs.Units.{has}
 use Rattle.sift_table.specs.declared.table.Table.{Table}
 
 -- a table for the configurations of one size. Entry t of run, poll and at belongs to task t, and position i stands for a configuration's
--- i-th unit; shed has the numbers of the tasks that the configurations leave out
+-- i-th unit; shed has the numbers of the tasks that the configurations leave out: no unit runs them, and their words stay what they were
 pub record Schedule : Type 0 where
   pub size : ℕ
   pub period : ℕ
@@ -36,14 +35,6 @@ polled_in table t = slice_index table.poll t
 -- the positions at which task t runs
 abbrev pub positions_of : Schedule → ℕ → List ℕ
 positions_of table t = slice_index_or table.at t []
-
--- task t runs at the position
-abbrev pub runs_at : Schedule → ℕ → ℕ → Bool
-runs_at table t position = has (positions_of table t) position
-
--- the table sheds task t: no unit runs it, and its words stay what they were
-abbrev pub sheds : Schedule → ℕ → Bool
-sheds table t = has table.shed t
 
 -- the fewest subframes that a frame may have
 abbrev pub shortest_period : ℕ

@@ -1,9 +1,11 @@
 //! Tables that were checked.
 
-ghost use Rattle.std.specs.Prelude.{◌≡◌, ◌<◌, length, IfOk, IfErr, IfSome, IfNone};
+ghost use Rattle.std.specs.Prelude.{◌≡◌, ◌<◌, false, length, IfOk, IfErr, IfSome, IfNone};
+ghost use Rattle.sift_base.specs.Requirement.{AreMet, IsFirstUnmet};
 ghost use Rattle.sift_base.specs.Shapes.{shapes_of, AreShapes};
-ghost use Rattle.sift_table.specs.Schedule.{schedule_of, run_in, polled_in, runs_at, sheds};
-ghost use Rattle.sift_table.specs.Rules.{HasAnEntryEach, IsGood, IsFirstBroken, MeetsEach, BreaksFirst, row_rules, run_rules};
+ghost use Rattle.sift_base.specs.Units.{has};
+ghost use Rattle.sift_table.specs.Schedule.{schedule_of, run_in, polled_in, positions_of};
+ghost use Rattle.sift_table.specs.Rules.{HasAnEntryEach, IsGood, IsFirstBroken, row_rules, rules_where};
 
 use crate::rules;
 use crate::table::Table;
@@ -56,7 +58,7 @@ impl GoodTable {
     /// Whether the unit at a position of the configuration runs task t.
     pub fn runs(&self, t: usize, position: usize) -> bool
         requires { t < length self.now.run }
-        ensures { result ≡ runs_at self.now t position }
+        ensures { result ≡ has (positions_of self.now t) position }
     {
         self.table
             .positions(t)
@@ -106,9 +108,9 @@ fn broken_rule(table: &Table, shapes: &Shapes, row: usize) -> Option<u8>
     requires entries { HasAnEntryEach (schedule_of table.now) (shapes_of shapes.now) }
     requires row { row < length (shapes_of shapes.now).tasks }
     ensures broken { IfSome result
-        (BreaksFirst (row_rules (schedule_of table.now) row) (schedule_of table.now) (shapes_of shapes.now) row) }
+        (IsFirstUnmet (row_rules (schedule_of table.now) (shapes_of shapes.now) row)) }
     ensures met { IfNone result
-        (MeetsEach (row_rules (schedule_of table.now) row) (schedule_of table.now) (shapes_of shapes.now) row) }
+        (AreMet (row_rules (schedule_of table.now) (shapes_of shapes.now) row)) }
 {
     if !table.sheds(row) {
         return broken_run_rule(table, shapes, row);
@@ -125,9 +127,9 @@ fn broken_run_rule(table: &Table, shapes: &Shapes, row: usize) -> Option<u8>
     requires entries { HasAnEntryEach (schedule_of table.now) (shapes_of shapes.now) }
     requires row { row < length (shapes_of shapes.now).tasks }
     ensures broken { IfSome result
-        (BreaksFirst run_rules (schedule_of table.now) (shapes_of shapes.now) row) }
+        (IsFirstUnmet (rules_where false (schedule_of table.now) (shapes_of shapes.now) row)) }
     ensures met { IfNone result
-        (MeetsEach run_rules (schedule_of table.now) (shapes_of shapes.now) row) }
+        (AreMet (rules_where false (schedule_of table.now) (shapes_of shapes.now) row)) }
 {
     if !rules::runs_after_agreement(table, row) {
         return Some(2);

@@ -3,9 +3,9 @@
 ghost use Rattle.std.specs.Prelude.{◌≡◌, ◌+◌, ◌*◌, ◌^◌, ◌≤◌, ◌<◌, length, map, IfOk};
 ghost use Rattle.std.specs.List.{range_with_len};
 ghost use Rattle.sift_base.specs.Shapes.{task_limit};
-ghost use Rattle.sift_base.specs.Units.{unit_limit};
+ghost use Rattle.sift_base.specs.Units.{has, unit_limit};
 ghost use Rattle.sift_base.specs.Layout.{least_units};
-ghost use Rattle.sift_table.specs.Schedule.{schedule_of, plain_of, positions_of, sheds};
+ghost use Rattle.sift_table.specs.Schedule.{schedule_of, plain_of, positions_of};
 
 use sift_base::NoMemory;
 use std::alloc::{AllocError, Global};
@@ -38,7 +38,7 @@ impl Table {
 
     /// Whether the table leaves a task out.
     pub(crate) fn sheds(&self, task: usize) -> bool
-        ensures { result ≡ sheds (schedule_of self.now) task }
+        ensures { result ≡ has (schedule_of self.now).shed task }
     {
         self.shed.iter().any(|shed| usize::from(*shed) == task)
     }

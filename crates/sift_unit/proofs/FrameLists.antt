@@ -6,7 +6,7 @@ use Rattle.sift_buffer.specs.Conduct.{Conduct as Acts}
 use Rattle.sift_mission.specs.Data.{FlownMission, IsConfigOf}
 use Rattle.sift_conduct.specs.Conduct.{Account, Places, said_of}
 use Rattle.sift_conduct.specs.Acts.{BoardKeeps, ActsAre}
-use Rattle.sift_mission.specs.Slots.{turned_by}
+use Rattle.sift_mission.proofs.lemmas.Storms.{turned_by}
 use Rattle.sift_conduct.specs.Frames.{Flies, FrameConduct, FirstConduct, LaterConduct, BusyConduct, IdleConduct}
 
 -- the conduct of a frame reads the accounts of this frame and the one before

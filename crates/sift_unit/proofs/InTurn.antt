@@ -4,8 +4,8 @@ use Rattle.std.proofs.Common.{map, take, slice_get, Some, unwrap_or, inl, inr, r
 use Rattle.std.specs.List.{filter}
 use Rattle.std.specs.Prelude.{nat_lt, if◌then◌else◌}
 use Rattle.std.proofs.lemmas.Bool.{cases_Bool}
-use Rattle.sift_base.specs.Units.{has, others, IsAscending, IsBelowAll}
-use Rattle.sift_base.proofs.lemmas.Counts.{has-head, has-tail}
+use Rattle.sift_base.specs.Units.{has, others, IsAscending}
+use Rattle.sift_base.proofs.lemmas.Counts.{has-head, has-tail, IsBelowAll}
 use Rattle.sift_config.specs.Config.{IsConfig}
 use Rattle.sift_mission.specs.Data.{FlownMission}
 use Rattle.sift_unit.specs.Memory.{renewed, is_made_by}

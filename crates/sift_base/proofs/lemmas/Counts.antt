@@ -1,10 +1,15 @@
 -- Lists of units: who is in them, and how many of them pass a test.
 use Rattle.std.proofs.Common.{◌≡◌, ◌≢◌, ℕ, suc, ◌+◌, ◌<◌, ◌≤◌, inl, inr, List, [], ◌∷◌, length, Bool, true, false, not, cond, nat_eq, ap, ◌∙◌, arith}
 use Rattle.std.specs.Prelude.{count_by}
+use Rattle.std.specs.List.{AllByRecursion}
 use Rattle.std.proofs.lemmas.Bool.{cases_Bool}
 use Rattle.std.proofs.lemmas.Bool.Decides.{nat_tests}
 use Rattle.std.proofs.lemmas.List.Sums.{sum_by-cons}
-use Rattle.sift_base.specs.Units.{has, others, working_count, faulty_count}
+use Rattle.sift_base.specs.Units.{has, others, faulty_count}
+
+-- u is below each unit of the list
+abbrev pub IsBelowAll : ℕ → List ℕ → Type 0
+IsBelowAll u us = AllByRecursion (λ v. u < v) us
 
 -- ---- counts
 
@@ -21,7 +26,7 @@ pub count-no : {X : Type 0} (p : X → Bool) (x : X) (xs : List X) → p x ≡ f
 count-no p x xs fails = count-cons p x xs ∙ rw fails (omega arith)
 
 -- each unit works or is faulty
-pub both_counts : (works : ℕ → Bool) (us : List ℕ) → faulty_count works us + working_count works us ≡ length us
+pub both_counts : (works : ℕ → Bool) (us : List ℕ) → faulty_count works us + count_by works us ≡ length us
 both_counts works [] = omega arith
 both_counts works (u ∷ us) =
     let rest = both_counts works us in

@@ -1,12 +1,21 @@
 -- Each slot of a layout has a number, and each number its slot.
 use Rattle.std.proofs.Common.{◌≡◌, ℕ, ◌+◌, ◌-◌, ◌*◌, ◌<◌, ◌≤◌, inl, inr, refl, sym, arith}
+use Rattle.std.specs.Prelude.{nat_eq, nat_lt, if◌then◌else◌}
 use Rattle.std.proofs.lemmas.Bool.{cases_eq, cases_lt, eq-eqb, ne_eqb, lt-ltb, le-ltb}
-use Rattle.sift_base.specs.Layout.{IsSlot, slot_count, slot_number, slot_kind, kind_behind_sensors}
+use Rattle.sift_base.specs.Layout.{IsSlot, slot_count, slot_number, slot_kind}
 use Rattle.sift_base.specs.declared.layout.Layout.{Layout}
 use Rattle.sift_base.specs.declared.slot.Slot.{Slot}
 use Rattle.sift_base.specs.declared.slot.Slot.TheVariants.{Clock, Sense, RelaySense, Out, Report, RelayReport}
 
 module _ (layout : Layout) where
+  -- the slot of a number behind those of the clock, the sensors and their relays
+  abbrev kind_behind_sensors : ℕ → Slot
+  kind_behind_sensors n =
+      let first = 1 + 2 * layout.sensors in
+      if nat_lt n (first + layout.words) then Out (n - first)
+      else if nat_eq n (first + layout.words) then Report
+      else RelayReport (n - (first + layout.words + 1))
+
   -- the slot of a slot's number is the slot
   pub kind-of-number : (k : Slot) → IsSlot layout k → slot_kind layout (slot_number layout k) ≡ k
   kind-of-number Clock there = refl
@@ -62,7 +71,7 @@ module _ (layout : Layout) where
       ]
     where
       number-behind : (n : ℕ) → n < slot_count layout → 1 + 2 * layout.sensors ≤ n
-          → IsSlot layout (kind_behind_sensors layout n) × (slot_number layout (kind_behind_sensors layout n) ≡ n)
+          → IsSlot layout (kind_behind_sensors n) × (slot_number layout (kind_behind_sensors n) ≡ n)
       number-behind n low' behind =
           let first = 1 + 2 * layout.sensors in
           elim (cases_lt n (first + layout.words)) [

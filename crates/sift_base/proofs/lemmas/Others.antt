@@ -2,8 +2,8 @@
 use Rattle.std.proofs.Common.{◌≡◌, ◌≢◌, ℕ, ◌+◌, ◌<◌, ◌≤◌, inl, inr, List, [], ◌∷◌, length, Bool, true, false, not, nat_eq, refl, sym, ap, ◌∙◌, subst, arith}
 use Rattle.std.specs.Prelude.{count_by}
 use Rattle.std.proofs.lemmas.Bool.{cases_Bool, eqb-true}
-use Rattle.sift_base.specs.Units.{has, others, IsBelowAll, IsAscending, faulty_count, HasMargin}
-use Rattle.sift_base.proofs.lemmas.Counts.{count-cons, count-yes, count-no, apart, has-tail}
+use Rattle.sift_base.specs.Units.{has, others, IsAscending, faulty_count, HasMargin}
+use Rattle.sift_base.proofs.lemmas.Counts.{count-cons, count-yes, count-no, apart, has-tail, IsBelowAll}
 
 -- how often a unit stands in a list
 abbrev pub times_in : ℕ → List ℕ → ℕ

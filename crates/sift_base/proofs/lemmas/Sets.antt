@@ -8,8 +8,8 @@ use Rattle.std.specs.FinSet as set
 use Rattle.std.proofs.lemmas.Bool.{cases_lt, cases_eq, cases_Bool, eqb-true, eq-eqb, ne_eqb, agree_below_at, and_parts, ltb-true, or_cases}
 use Rattle.std.proofs.lemmas.Nat.Bits.{bit_at-zero, bit_at-trailing_zeros, bit_at_and, bit_at_not, bit_at_or, bit_at_set_same, bit_at_set_other, bit_at_clear_same, bit_at_clear_other}
 use lib.Count.{ones}
-use Rattle.sift_base.specs.Units.{members, Units, unit_numbers, holds, has_bit, units_of, AreUnits, has, IsAscending, IsBelowAll, MembersAreTheSet}
-use Rattle.sift_base.proofs.lemmas.Counts.{has-head, has-tail}
+use Rattle.sift_base.specs.Units.{members, Units, unit_numbers, holds, has_bit, units_of, AreUnits, has, IsAscending, MembersAreTheSet}
+use Rattle.sift_base.proofs.lemmas.Counts.{has-head, has-tail, IsBelowAll}
 use Rattle.sift_base.specs.ReadBack as back
 use Rattle.sift_base.specs.ReadBack.{has-filter, has_low, set-members}
 

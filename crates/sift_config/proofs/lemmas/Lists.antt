@@ -5,7 +5,8 @@ use Rattle.std.specs.Cmp.{nat_cmp_total}
 use Rattle.std.specs.FinSet as set
 use Rattle.std.proofs.lemmas.Bool.{cases_Bool, cases_eq, eqb-true, or_cases, and_parts}
 use Rattle.std.proofs.lemmas.List.FromFn.{length-range_with_len}
-use Rattle.sift_base.specs.Units.{Units, AreUnits, unit_numbers, holds, has, has_bit, members, units_of, IsBelowAll, IsAscending}
+use Rattle.sift_base.proofs.lemmas.Counts.{IsBelowAll}
+use Rattle.sift_base.specs.Units.{Units, AreUnits, unit_numbers, holds, has, has_bit, members, units_of, IsAscending}
 use Rattle.sift_base.specs.ReadBack.{has-filter, has_low, both, holds-units_of}
 use Rattle.sift_base.proofs.lemmas.Sets.{filter_same, members_without, members_are, passing_ascend}
 use Rattle.std.proofs.lemmas.List.Filters.{length-filter_both}

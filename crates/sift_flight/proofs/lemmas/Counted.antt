@@ -6,7 +6,7 @@ use Rattle.std.specs.List.{filter}
 use Rattle.std.proofs.lemmas.Bool.{cases_Bool, le-leb, lt-leb}
 use Rattle.std.proofs.lemmas.List.{append-nil, length-take-le}
 use Rattle.std.proofs.lemmas.List.Elements.{filter_more}
-use Rattle.sift_base.specs.Units.{faulty_count, working_count, has, IsAscending, unit_limit}
+use Rattle.sift_base.specs.Units.{faulty_count, has, IsAscending, unit_limit}
 use Rattle.sift_base.proofs.lemmas.Counts.{both_counts, count-yes, count-no, has-head, has-tail}
 use Rattle.sift_base.proofs.lemmas.Sets.{below_has}
 use Rattle.sift_config.specs.Config.{IsConfig}
@@ -91,20 +91,20 @@ module _ (passes : ℕ → Bool) (us : List ℕ) (i u : ℕ) (there : slice_get 
 -- ---- the tests of a sound configuration
 
 module _ (works : ℕ → Bool) (us : List ℕ) (all working : ℕ) (all_are : all ≡ length us) (working_are : working ≡ length (filter works us)) where
-  pub working-are : working ≡ working_count works us
+  pub working-are : working ≡ count_by works us
   working-are = working_are ∙ filter-count works us
 
   pub faulty-are : all - working ≡ faulty_count works us
   faulty-are = omega (arith, faulty-rest works us)
 
   -- where at most one unit is faulty, a configuration is sound just where four of its units work
-  pub enough_decides : all - working ≤ 1 → nat_le 4 working ≡ (nat_le (faulty_count works us) 1 && nat_le 4 (working_count works us))
+  pub enough_decides : all - working ≤ 1 → nat_le 4 working ≡ (nat_le (faulty_count works us) 1 && nat_le 4 (count_by works us))
   enough_decides few =
       let test : nat_le (faulty_count works us) 1 ≡ true = le-leb (faulty_count works us) 1 (omega (arith, faulty-are)) in
       rw (test, working-are) refl
 
   -- where more than one unit is faulty, the test of the faulty ones fails, as that of a sound configuration does
-  pub few_decides : 1 < all - working → nat_le (all - working) 1 ≡ (nat_le (faulty_count works us) 1 && nat_le 4 (working_count works us))
+  pub few_decides : 1 < all - working → nat_le (all - working) 1 ≡ (nat_le (faulty_count works us) 1 && nat_le 4 (count_by works us))
   few_decides many =
       let test : nat_le (faulty_count works us) 1 ≡ false = lt-leb (faulty_count works us) 1 (omega (arith, faulty-are)) in
       rw (test, lt-leb (all - working) 1 many) refl

@@ -6,7 +6,7 @@ use Rattle.std.proofs.lemmas.List.Sums.{sum_by_more_le}
 use Rattle.sift_lang.specs.Tree.{TaskTree, tree_of}
 use Rattle.sift_lang.specs.declared.tree.Task.{Task}
 use Rattle.sift_program.specs.Program.{output_count, shapes_from}
-use Rattle.sift_table.specs.Timing.{task_among}
+use Rattle.sift_table.specs.Timing.{task_of}
 use Rattle.sift_mission.specs.ByWord.{by_word}
 use Rattle.sift_program.proofs.lemmas.ShapeLists.{output_count-cons}
 
@@ -18,7 +18,7 @@ length-by_word t (task ∷ tasks) =
 
 -- it is the one whose word it is
 pub at-by_word : (all : List TaskTree) (t : ℕ) (tasks : List TaskTree) (w : ℕ) → w < output_count tasks
-    → slice_index (by_word t tasks) w ≡ t + task_among (shapes_from all t tasks) w
+    → slice_index (by_word t tasks) w ≡ t + task_of (shapes_from all t tasks) w
 at-by_word all t [] w low = absurd (omega arith)
 at-by_word all t (task ∷ tasks) w low =
     let own = replicate task.outputs t in

@@ -1,7 +1,7 @@
 use Rattle.std.proofs.Common.{◌≡◌, ℕ, ◌&&◌, take, nat_cmp, ap, ◌∙◌, sym}
 use Rattle.std.specs.FinSet as set
 use Rattle.sift_base.specs.Units.{holds, has}
-use Rattle.sift_table.specs.Schedule.{runs_at}
+use Rattle.sift_table.specs.Schedule.{positions_of}
 use Rattle.sift_config.proofs.lemmas.Lists.{has_front, get-drop}
 use Rattle.sift_config.proofs.lemmas.Joining.{passing_joins, failing_stays}
 use Rattle.sift_mission.specs.Flown.{position_in}
@@ -19,9 +19,9 @@ loop-position-preserved c = λ v.
     let i = c.loop-position.position in
     let t = c.unit_at-unit.result in
     let seen = λ (u : ℕ). has (take i us) u in
-    let runs = λ (u : ℕ). runs_at c.args.table.now c.args.t (position_in us u) in
+    let runs = λ (u : ℕ). has (positions_of c.args.table.now c.args.t) (position_in us u) in
     let place : position_in us t ≡ i = (position-found us i t c.len-position-end.ensures.config.ascending c.unit_at-unit.ensures).1 in
-    let here : runs t ≡ c.runs.result = ap (λ p. runs_at c.args.table.now c.args.t p) place ∙ sym c.runs.ensures in
+    let here : runs t ≡ c.runs.result = ap (λ p. has (positions_of c.args.table.now c.args.t) p) place ∙ sym c.runs.ensures in
     let front = ap (λ b. b && runs v) (has_front us v i t (get-drop us i ∙ c.unit_at-unit.ensures)) in
     elim c.if-runs.branch [
       | then-runs w ↦ ap (λ units. holds units v) (w.crew-is ∙ w.with-crew.ensures)

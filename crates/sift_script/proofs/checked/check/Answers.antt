@@ -1,9 +1,10 @@
-use Rattle.std.proofs.Common.{◌≡◌, ap, arith, below_more}
+use Rattle.std.proofs.Common.{◌≡◌, ap, arith, below_more, length}
 use Rattle.std.proofs.lemmas.List.{length-map}
 use Rattle.sift_script.proofs.Bounds.{entries_are_few}
 use Rattle.sift_script.specs.Parts.{script_of}
-use Rattle.sift_script.specs.Rules.{MeetsEach, entry_rules}
-use Rattle.sift_script.specs.Script.{fault_of}
+use Rattle.sift_base.specs.Requirement.{AreMet}
+use Rattle.sift_script.specs.Rules.{entry_rules}
+use Rattle.sift_script.specs.Script.{FaultScript, fault_of}
 use Rattle.sift_script.proofs.checked.check.Goals as goal
 
 pub overflow_cast-result : goal.overflow_cast-result
@@ -15,13 +16,13 @@ overflow_cast-result c =
 
 pub returns-in-Some-clause-broken : goal.returns-in-Some-clause-broken
 returns-in-Some-clause-broken c = rw (← c.of-parts.ensures) (record {
-  inside = omega (arith, length-map c.of-parts.result.script.entries.items fault_of);
-  entries_before = c.loop-at.invariant;
+  inside = omega (arith, length-map c.of-parts.result.script.entries.items fault_of, ap (λ (script : FaultScript). length script.faults) c.of-parts.ensures);
+  before = c.loop-at.invariant;
   broken = c.in-Some.ensures.broken;
 })
 
 pub loop-at-preserved : goal.loop-at-preserved
-loop-at-preserved c = below_more (MeetsEach entry_rules (script_of c.of-parts.result)) c.loop-at.at c.loop-at.invariant c.in_default.ensures.met
+loop-at-preserved c = below_more (λ at. AreMet (entry_rules (script_of c.of-parts.result) at)) c.loop-at.at c.loop-at.invariant c.in_default.ensures.met
 
 pub invariant_of-result : goal.invariant_of-result
 invariant_of-result c = (λ at low. c.loop-at.invariant at (omega (arith, length-map c.of-parts.result.script.entries.items fault_of)), rw (← c.deref.ensures.0) c.first_words-first_words.ensures)

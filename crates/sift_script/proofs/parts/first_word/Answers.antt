@@ -1,7 +1,7 @@
 use Rattle.std.proofs.Common.{◌+◌, ◌≡◌, ◌<◌, ap, arith, get_or, length, min, rules, subst, sum, sym, take, ◌∙◌}
 use Rattle.std.proofs.lemmas.List.{take_min}
 use Rattle.std.proofs.lemmas.List.FromFn.{get_or-map-range_with_len, length-map-range_with_len}
-use Rattle.sift_script.specs.Faults.{first_word_of}
+use Rattle.sift_script.proofs.Lists.{first_word_of}
 use Rattle.sift_script.proofs.parts.first_word.Goals as goal
 
 pub returns : goal.returns

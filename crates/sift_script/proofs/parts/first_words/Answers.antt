@@ -2,7 +2,7 @@ use Rattle.std.proofs.Common.{ℕ, List, [], ◌∷◌, ◌+◌, ◌++◌, ◌�
 use Rattle.std.proofs.lemmas.List.Sums.{sum_by_more}
 use Rattle.std.proofs.lemmas.List.FromFn.{length-map-range_with_len, map-range_with_len_more}
 use Rattle.std.specs.List.{range_with_len}
-use Rattle.sift_script.specs.Faults.{first_word_of}
+use Rattle.sift_script.proofs.Lists.{first_word_of}
 use Rattle.sift_script.proofs.parts.first_words.Goals as goal
 
 pub push-requires-in-loop-count : goal.push-requires-in-loop-count

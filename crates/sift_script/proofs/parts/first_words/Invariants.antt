@@ -1,6 +1,6 @@
 use Rattle.std.proofs.Common.{◌≡◌, ◌*◌, ◌+◌, ◌≤◌, map, sum, take}
 use Rattle.std.specs.List.{range_with_len}
-use Rattle.sift_script.specs.Faults.{first_word_of}
+use Rattle.sift_script.proofs.Lists.{first_word_of}
 use Rattle.sift_script.proofs.parts.first_words.Given as goal
 
 -- the numbers of the tasks so far, and the number behind their words

@@ -1,9 +1,9 @@
 use Rattle.std.proofs.Common.{◌≡◌, ◌<◌, arith, length, sym}
 use Rattle.std.proofs.lemmas.List.{length-map}
 use Rattle.sift_base.specs.Units.{has}
-use Rattle.sift_script.proofs.Views.{fault_of-at, not_iff, units_named-entries}
+use Rattle.sift_script.proofs.Views.{fault_of-at, not_iff, units_named-entries, no_fault}
 use Rattle.sift_script.specs.Parts.{script_of}
-use Rattle.sift_script.specs.Rules.{fault_at, no_fault, units_named}
+use Rattle.sift_script.specs.Rules.{fault_at, units_named}
 use Rattle.sift_script.specs.Script.{fault_of, faults_of}
 use Rattle.sift_script.proofs.rules.has_new_unit.Goals as goal
 

@@ -1,8 +1,8 @@
 use Rattle.std.proofs.Common.{◌<◌, arith, length}
 use Rattle.std.proofs.lemmas.List.{length-map}
-use Rattle.sift_script.proofs.Views.{each_change, fault_of-at}
+use Rattle.sift_script.proofs.Views.{each_change, fault_of-at, no_fault}
 use Rattle.sift_script.specs.Parts.{script_of}
-use Rattle.sift_script.specs.Rules.{IsThere, no_fault}
+use Rattle.sift_script.specs.Rules.{IsThere}
 use Rattle.sift_script.specs.Script.{Change, Fault, change_of, fault_of}
 use Rattle.std.proofs.Common.{map}
 use Rattle.sift_script.proofs.rules.has_places.Goals as goal

@@ -4,12 +4,14 @@ use Rattle.sift_base.specs.Shapes.{shape_of, shapes_of}
 use Rattle.sift_table.proofs.checked.check.Goals as goal
 
 pub returns-in-Some-clause-broken : goal.returns-in-Some-clause-broken
-returns-in-Some-clause-broken c = inr (record {
-  whole = (c.has_an_entry_each.ensures.0 c.if-not-has_an_entry_each.false, (c.sheds_tasks.ensures.0 c.if-not-sheds_tasks.false, tt));
-  inside = omega (arith, length-map c.args.shapes.now.tasks.items shape_of);
-  rows_before = c.loop-row.invariant;
-  broken = c.in-Some.ensures.broken;
-})
+returns-in-Some-clause-broken c = inr (
+  (c.has_an_entry_each.ensures.0 c.if-not-has_an_entry_each.false, (c.sheds_tasks.ensures.0 c.if-not-sheds_tasks.false, tt)),
+  record {
+    inside = omega (arith, length-map c.args.shapes.now.tasks.items shape_of);
+    before = c.loop-row.invariant;
+    broken = c.in-Some.ensures.broken;
+  },
+)
 
 pub invariant_of-result : goal.invariant_of-result
 invariant_of-result c = record {
