@@ -16,7 +16,7 @@ use Rattle.sift_judge_jobs.specs.Judge.{judge_duty, judge_job_of}
 use Rattle.sift_lab_jobs.specs.Byz.{byz_duty}
 use Rattle.sift_lab_jobs.specs.Clocks.{clocks_duty, clocks_job_of}
 use Rattle.sift_mission.specs.Data.{MissionData}
-use Rattle.sift_options.specs.Options.{Adds, no_options}
+use Rattle.sift_options.specs.Options.{Give}
 use Rattle.sift_options.specs.declared.setting.Options.{Options}
 use Rattle.sift_reply.specs.Duty.{Duty}
 use Rattle.sift_reply.specs.Promise.{Commands, commands_of}
@@ -92,7 +92,7 @@ pub record Asks (words : List (List ℕ)) (command : Command) : Type 0 where
   pub rest : List (List ℕ)
   pub options : Options
   pub words_are : words ≡ name_of verb ∷ rest
-  pub gives : Adds (flags_of verb) no_options rest options
+  pub gives : Give (flags_of verb) rest options
   pub asked_is : asked verb options ≡ Some command
 
 -- the commands of the program
