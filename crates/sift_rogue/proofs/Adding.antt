@@ -1,5 +1,5 @@
 -- A storm, call by call.
-use Rattle.std.proofs.Common.{◌+◌, [], ◌∷◌, ◌++◌, option_to_list, refl, arith}
+use Rattle.std.proofs.Common.{[], ◌∷◌, ◌++◌, option_to_list, refl, arith}
 use Rattle.sift_rogue.specs.Storms.{Call, StormsAddUp}
 
 -- with one call more there is one act more, and its stray before the others

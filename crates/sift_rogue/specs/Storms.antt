@@ -1,5 +1,5 @@
 -- What a storm comes to: the calls of a rogue, and the strays that are stored of its acts.
-use Rattle.std.specs.Prelude.{ℕ, ◌≡◌, ◌+◌, ◌&&◌, Bool, not, nat_eq, nat_lt, if◌then◌else◌, List, [], ◌∷◌, ◌++◌, length, Option, Some, None, option_to_list, option_map}
+use Rattle.std.specs.Prelude.{ℕ, ◌≡◌, ◌+◌, ◌&&◌, not, nat_eq, nat_lt, if◌then◌else◌, List, [], ◌∷◌, ◌++◌, length, Option, Some, None, option_to_list, option_map}
 use Rattle.sift_base.specs.declared.layout.Layout.{Layout}
 use Rattle.sift_base.specs.Layout.{slot_count}
 use Rattle.sift_buffer.specs.Conduct.{Stray, stray_to}
@@ -28,13 +28,9 @@ pub record Bounds : Type 0 where
 abbrev pub bounds_of : Layout → ℕ → Bounds
 bounds_of layout u = record { own = u; units = layout.units; slots = slot_count layout }
 
--- the receiver is another unit, and the slot is there
-abbrev pub is_cell : Bounds → ℕ → ℕ → Bool
-is_cell b q k = nat_lt q b.units && not (nat_eq q b.own) && nat_lt k b.slots
-
--- the stray that an act comes to: none where the unit rests, or where there is no such cell
+-- the stray that an act comes to: none where the unit rests, or where the receiver is no other unit or the slot isn't there
 abbrev pub sifted : Bounds → Act → Option Stray
-sifted b (Strays q k x) = if is_cell b q k then Some (stray_to q k x) else None
+sifted b (Strays q k x) = if nat_lt q b.units && not (nat_eq q b.own) && nat_lt k b.slots then Some (stray_to q k x) else None
 sifted b Rest = None
 
 -- and those of many acts
