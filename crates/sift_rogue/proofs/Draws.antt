@@ -1,11 +1,11 @@
 -- Storms that are drawn are the draws.
-use Rattle.std.proofs.Common.{◌≡◌, ℕ, zero, suc, ◌+◌, ◌*◌, List, [], ◌∷◌, length, refl, sym, ap, ◌∙◌, arith}
+use Rattle.std.proofs.Common.{◌≡◌, ℕ, zero, suc, ◌+◌, ◌*◌, List, [], ◌∷◌, length, refl, sym, ap, ◌∙◌, arith, Option}
 use Rattle.sift_base.specs.Draw.{next_number}
 use Rattle.sift_buffer.specs.Conduct.{Stray}
 use Rattle.sift_rogue.specs.declared.act.Act.{Act}
 use Rattle.sift_rogue.specs.declared.storm.Storm.{Storm}
 use Rattle.sift_rogue.specs.Rogues.{AllowsDrawn, after, drawn_act}
-use Rattle.sift_rogue.specs.Storms.{Bounds, Storms, Answers, all_sifted}
+use Rattle.sift_rogue.specs.Storms.{Storms, Answers, all_sifted}
 use Rattle.sift_rogue.specs.DrawnStorms.{DrawnStormsAreTheDraws, drawn_acts}
 
 zero_more : (b : ℕ) → b ≡ 0 + b
@@ -34,11 +34,11 @@ answers_drawn x (a ∷ acts) z w =
     ((λ i. (w.2.0 ∙ ap drawn_act rest.1) i ∷ rest.0 i), w.2.1 ∙ (ap (λ (n : ℕ). after n 5) rest.1 ∙ five_more x.drawer (length acts)))
 
 -- so is a storm that is drawn
-storm_drawn : (b : Bounds) (number : ℕ) (x : Storm) (count : ℕ) (strays : List Stray) (y : Storm) → Storms AllowsDrawn b number x count strays y →
-    (strays ≡ all_sifted b (drawn_acts number count)) × (y.drawer ≡ after number (5 * count))
-storm_drawn b number x count strays y storm =
+storm_drawn : (sift : Act → Option Stray) (number : ℕ) (x : Storm) (count : ℕ) (strays : List Stray) (y : Storm) → Storms AllowsDrawn sift number x count strays y →
+    (strays ≡ all_sifted sift (drawn_acts number count)) × (y.drawer ≡ after number (5 * count))
+storm_drawn sift number x count strays y storm =
     let drawn = answers_drawn storm.begun storm.acts y storm.answers in (
-      storm.strays_are ∙ ap (all_sifted b) (drawn.0 ∙ (λ i. drawn_acts (storm.start i) (storm.count_is i))),
+      storm.strays_are ∙ ap (all_sifted sift) (drawn.0 ∙ (λ i. drawn_acts (storm.start i) (storm.count_is i))),
       drawn.1 ∙ (λ i. after (storm.start i) (5 * storm.count_is i)),
     )
 
@@ -56,7 +56,7 @@ drawn_count number (suc count) = ap suc (drawn_count number count)
 pub are_the_draws : DrawnStormsAreTheDraws
 are_the_draws = record {
   strays = storm_drawn;
-  some = λ b number x count. record {
+  some = λ sift number x count. record {
     begun = record { drawer = number };
     start = refl;
     acts = drawn_acts number count;
