@@ -2,11 +2,10 @@
 use Rattle.std.specs.Prelude.{codes, ℕ, ◌≡◌, ◌⊎◌, List, ◌∷◌, ◌++◌, true, Some}
 use Rattle.sift_base.specs.Units.{has}
 use Rattle.sift_flight.specs.Flight.{Flight, Strays, HasNoStorms, IsRound}
-use Rattle.sift_load.specs.Loads.{mission_duty, no_mission_statuses}
+use Rattle.sift_load.specs.Loads.{no_mission_statuses}
 use Rattle.sift_mission.specs.Data.{MissionData, FlownMission}
 use Rattle.sift_mission.specs.Flown.{flown}
-use Rattle.sift_reply.specs.Duty.{Duty}
-use Rattle.sift_reply.specs.Reply.{Reply, done, done_status, reply}
+use Rattle.sift_reply.specs.Reply.{Reply, done, done_status}
 use Rattle.sift_report.specs.Sheet.{report_of}
 use Rattle.sift_report.specs.declared.version.Version.TheVariants.{Two}
 use Rattle.sift_bus_jobs.specs.Numbers.{BusNumbers}
@@ -25,7 +24,7 @@ storm_status = 15
 
 -- the reply to it: it isn't flown
 abbrev pub storm : Reply
-storm = reply storm_status (codes "storm\n")
+storm = record { status = storm_status; text = codes "storm\n" }
 
 -- ---- flights
 
@@ -47,10 +46,6 @@ abbrev pub BusesGives : BusNumbers → MissionData → Reply → Type 0
 BusesGives job mission came =
     ((flight : Flight) × FliesCalm mission flight × (came ≡ done (told job mission flight)))
     ⊎ (HasStorm (flown mission) × (came ≡ storm))
-
--- what it has to do
-abbrev pub buses_duty : BusNumbers → Duty
-buses_duty job = mission_duty (BusesGives job)
 
 -- the statuses of its replies
 abbrev pub buses_statuses : List ℕ

@@ -119,9 +119,10 @@ impl<F: BusFlier, W: Work> MissionJob<F, W> for BusesJob {
 }
 
 impl<F: BusFlier, W: Work> Job<F, W> for BusesJob {
-    ghost use Rattle.sift_bus_jobs.specs.Buses.{buses_duty};
+    ghost use Rattle.sift_bus_jobs.specs.Buses.{BusesGives};
+    ghost use Rattle.sift_load.specs.Loads.{mission_duty};
 
-    ghost duty = { λ flier. buses_duty };
+    ghost duty = { λ flier job. mission_duty (BusesGives job) };
 
     fn limit(self) -> Option<u32> {
         Some(DOCUMENT_LIMIT)

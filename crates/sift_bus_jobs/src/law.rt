@@ -1,7 +1,8 @@
 //! The laws of the command `buses`: it gives one reply, whose status is its own.
 
-ghost use Rattle.sift_bus_jobs.specs.Buses.{buses_duty, buses_statuses};
+ghost use Rattle.sift_bus_jobs.specs.Buses.{BusesGives, buses_statuses};
 ghost use Rattle.sift_bus_jobs.specs.Numbers.{BusNumbers};
+ghost use Rattle.sift_load.specs.Loads.{mission_duty};
 ghost use Rattle.sift_reply.specs.Duty.{GivesOne, HasOwnStatuses};
 
 use crate::buses::BusesJob;
@@ -16,7 +17,7 @@ use sift_scenario::stated_missions_fit;
 /// `buses` ends with 0, with 15 where the mission has a storm, or with the status of bytes that
 /// state no mission.
 pub fn buses_has_own_statuses<F: BusFlier>()
-    ensures { (flier : F) (job : BusNumbers) → HasOwnStatuses (buses_duty job) buses_statuses }
+    ensures { (flier : F) (job : BusNumbers) → HasOwnStatuses (mission_duty (BusesGives job)) buses_statuses }
 {
     loading_has_own_statuses::<F, NoWork, BusesJob>();
 }
@@ -24,7 +25,7 @@ pub fn buses_has_own_statuses<F: BusFlier>()
 /// `buses` gives one reply to each input: all flights of a mission without storms tell the same, and
 /// one with a storm isn't flown.
 pub fn buses_gives_one<F: BusFlier>()
-    ensures { (flier : F) (job : BusNumbers) → GivesOne (buses_duty job) }
+    ensures { (flier : F) (job : BusNumbers) → GivesOne (mission_duty (BusesGives job)) }
 {
     loading_gives_one::<F, NoWork, BusesJob>();
     fitting_parts_make_a_flight();

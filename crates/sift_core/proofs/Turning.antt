@@ -10,7 +10,7 @@ use Rattle.sift_base.specs.Units.{has}
 use Rattle.sift_buffer.specs.Conduct.{Stray}
 use Rattle.sift_mission.specs.Data.{MissionData, FlownMission}
 use Rattle.sift_mission.specs.Flown.{flown}
-use Rattle.sift_rogue.specs.Storms.{Call, Started, Shoots, bounds_of, stray_of}
+use Rattle.sift_rogue.specs.Storms.{Call, Started, Shoots, sifted, stray_of}
 use Rattle.sift_unit.specs.Boards.{desk_of}
 use Rattle.sift_unit.specs.Passing.{distance}
 use Rattle.sift_unit.specs.declared.stepped.Stepped.{Stepped}
@@ -78,7 +78,7 @@ module _ {R : Type 0} (allows : R → Call → R → Type 0) (d : MissionData) w
     pub spend_nearer : 0 < slice_index s.left u → Spends allows u s s' → rest d s' < rest d s
     spend_nearer some t =
         let same = stored_distances (option_map stray_of t.shot) t.stored in
-        let less = one_less (λ x y. Shoots allows (bounds_of (layout_of s.machine) u) x t.shot y) u s s' way there some t.called in omega arith
+        let less = one_less (λ x y. Shoots allows (sifted (layout_of s.machine) u) x t.shot y) u s s' way there some t.called in omega arith
 
     -- a unit that goes itself, by a step or a call, brings the flight nearer to its end
     pub own_nearer : Tries allows d u s true s' → rest d s' < rest d s

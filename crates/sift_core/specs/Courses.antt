@@ -6,7 +6,7 @@ use Rattle.sift_mission.specs.Data.{MissionData}
 use Rattle.sift_mission.specs.Flown.{flown}
 use Rattle.sift_script.specs.Faults.{storm_of}
 use Rattle.sift_rogue.specs.declared.act.Shot.{Shot}
-use Rattle.sift_rogue.specs.Storms.{Call, Started, Shoots, bounds_of, stray_of}
+use Rattle.sift_rogue.specs.Storms.{Call, Started, Shoots, sifted, stray_of}
 use Rattle.sift_unit.specs.declared.stepped.Stepped.{Stepped}
 use Rattle.sift_unit.specs.declared.stepped.Stepped.TheVariants.{Moved, NotYet, Turned, Landed}
 use Rattle.sift_core.specs.Machines.{distances, layout_of}
@@ -74,5 +74,5 @@ module _ {R : Type 0} (allows : R → Call → R → Type 0) where
   -- unit u's rogue was asked for its next act, and the stray to which it comes was stored, if it comes to one
   pub record Spends (u : ℕ) (s s' : Course R) : Type 0 where
     pub shot : Option Shot
-    pub called : IsCalled (λ x y. Shoots allows (bounds_of (layout_of s.machine) u) x shot y) u s.rogues s.left s'.rogues s'.left
+    pub called : IsCalled (λ x y. Shoots allows (sifted (layout_of s.machine) u) x shot y) u s.rogues s.left s'.rogues s'.left
     pub stored : Stores u (option_map stray_of shot) s.machine s'.machine

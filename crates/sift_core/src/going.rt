@@ -6,7 +6,7 @@ ghost use Rattle.sift_buffer.specs.Ranges.{IsCell};
 ghost use Rattle.sift_buffer.specs.Tables.{ranges_of};
 ghost use Rattle.sift_mission.specs.Data.{FlownMission};
 ghost use Rattle.sift_mission.specs.Parts.{data_of, flown_of};
-ghost use Rattle.sift_rogue.specs.Storms.{Shoots, bounds_of, stray_of};
+ghost use Rattle.sift_rogue.specs.Storms.{Shoots, sifted, stray_of};
 ghost use Rattle.sift_flight.specs.Flight.{Strays};
 ghost use Rattle.sift_core.specs.Crews.{with_strays};
 ghost use Rattle.sift_core.specs.Racks.{ranges_for};
@@ -113,7 +113,7 @@ fn call_next<R: Rogue>(
     requires layout { IsLayout layout }
     requires rogues { length rogues.old ≡ unit_limit }
     requires some { 0 < slice_index left.old u }
-    ensures called { IsCalled (λ x y. Shoots R.allows (bounds_of layout u) x result y) u rogues.old left.old rogues.new left.new }
+    ensures called { IsCalled (λ x y. Shoots R.allows (sifted layout u) x result y) u rogues.old left.old rogues.new left.new }
     ensures there { IfSome result (λ shot. (frames : ℕ) → IsCell (ranges_of layout frames) u shot.to shot.slot) }
 {
     left.take_one(u);

@@ -2,7 +2,7 @@
 use Rattle.std.specs.Prelude.{◌≡◌, ℕ, ◌<◌, List, Some, slice_index_or}
 use Rattle.sift_flight.specs.Flight.{Strays}
 use Rattle.sift_mission.specs.Data.{MissionData}
-use Rattle.sift_rogue.specs.Storms.{Call, Storms, all_sifted, bounds_of}
+use Rattle.sift_rogue.specs.Storms.{Call, Storms, all_sifted, sifted}
 use Rattle.sift_rogue.specs.DrawnStorms.{drawn_acts}
 use Rattle.sift_rogue.specs.Rogues.{AllowsDrawn}
 use Rattle.sift_rogue.specs.declared.storm.Storm.{Storm}
@@ -14,12 +14,12 @@ module _ {R : Type 0} (allows : R → Call → R → Type 0) (rogues : List R) w
   abbrev pub AreGiven : MissionData → Strays → Type 0
   AreGiven mission strays = (u from number count : ℕ) (rogue : R) → u < mission.units
       → storm_of mission.script.faults u ≡ Some (from, number, count)
-      → (after : R) × Storms allows (bounds_of mission.layout u) number (slice_index_or rogues u rogue) count (strays u) after
+      → (after : R) × Storms allows (sifted mission.layout u) number (slice_index_or rogues u rogue) count (strays u) after
 
 -- the strays of each unit with a storm are what is stored of the acts that are drawn from the storm's number, as many as it has
 abbrev pub AreDrawn : MissionData → Strays → Type 0
 AreDrawn mission strays = (u from number count : ℕ) → u < mission.units → storm_of mission.script.faults u ≡ Some (from, number, count)
-    → strays u ≡ all_sifted (bounds_of mission.layout u) (drawn_acts number count)
+    → strays u ≡ all_sifted (sifted mission.layout u) (drawn_acts number count)
 
 -- storms give the strays that they draw
 abbrev pub StormsGiveWhatTheyDraw : Type 0

@@ -4,15 +4,17 @@ use Rattle.std.specs.List.{range_with_len}
 use Rattle.toml.specs.Data.{Data}
 use Rattle.sift_gen.proofs.OneText.{HasNoFloat, NoItemHasFloat, NoMemberHasFloat}
 use Rattle.sift_gen.specs.Tasks.{after, draw_at, word_values}
-use Rattle.sift_gen.specs.Scenario.{items_in, number}
-use Rattle.sift_gen.specs.Scenario.{document_of, fault_place, fault_table, first_task_place, frame_count, sensor_count, sensor_place, sensor_table, sensor_tables, sensor_words, task_count, task_place, task_table, task_tables, tree_of, unit_count, words_each}
+use Rattle.sift_gen.specs.Scenario.{number}
+use Rattle.toml.specs.View.{items_of}
+use Rattle.sift_gen.proofs.Trees.{document_of, fault_place, sensor_place}
+use Rattle.sift_gen.specs.Scenario.{fault_table, first_task_place, frame_count, sensor_count, sensor_table, sensor_tables, sensor_words, task_count, task_place, task_table, task_tables, tree_of, unit_count, words_each}
 
 -- a list of values without floats
-floatless_list : (g : ℕ → Data) (a n : ℕ) → ((i : ℕ) → HasNoFloat (g i)) → NoItemHasFloat (items_in (map g (range_with_len a n)))
+floatless_list : (g : ℕ → Data) (a n : ℕ) → ((i : ℕ) → HasNoFloat (g i)) → NoItemHasFloat (items_of (map g (range_with_len a n)))
 floatless_list g a zero each = tt
 floatless_list g a (suc n) each = (each a, floatless_list g (a + 1) n each)
 
-floatless_words : (x : ℕ) → NoItemHasFloat (items_in (sensor_words x))
+floatless_words : (x : ℕ) → NoItemHasFloat (items_of (sensor_words x))
 unfolding sensor_words
 floatless_words x = floatless_list (λ i. number (draw_at x i word_values)) 0 words_each (λ i. tt)
 
@@ -26,16 +28,16 @@ floatless_fault : (units frames tasks x : ℕ) → HasNoFloat (fault_table units
 floatless_fault units frames tasks x = (tt, (((tt, (tt, (tt, (tt, (tt, tt))))), tt), (tt, tt)))
 
 -- a document of tables without floats
-floatless_document : (units frames : ℕ) (sensors tasks : List Data) (fault : Data) → NoItemHasFloat (items_in sensors) →
-    NoItemHasFloat (items_in tasks) → HasNoFloat fault → NoMemberHasFloat (document_of units frames sensors tasks fault)
+floatless_document : (units frames : ℕ) (sensors tasks : List Data) (fault : Data) → NoItemHasFloat (items_of sensors) →
+    NoItemHasFloat (items_of tasks) → HasNoFloat fault → NoMemberHasFloat (document_of units frames sensors tasks fault)
 floatless_document units frames sensors tasks fault s t f = ((f, tt), (tt, (s, (t, (tt, tt)))))
 
 -- the lists of a scenario's tables
-floatless_sensors : (sensors x : ℕ) → NoItemHasFloat (items_in (sensor_tables sensors x))
+floatless_sensors : (sensors x : ℕ) → NoItemHasFloat (items_of (sensor_tables sensors x))
 floatless_sensors sensors x =
     floatless_list (λ k. sensor_table k (after x (words_each * k))) 0 sensors (λ k. floatless_sensor k (after x (words_each * k)))
 
-floatless_tasks : (tasks sensors x : ℕ) → NoItemHasFloat (items_in (task_tables tasks sensors x))
+floatless_tasks : (tasks sensors x : ℕ) → NoItemHasFloat (items_of (task_tables tasks sensors x))
 floatless_tasks tasks sensors x =
     floatless_list (λ t. task_table t sensors (task_place t x)) 0 tasks (λ t. floatless_task t sensors (task_place t x))
 

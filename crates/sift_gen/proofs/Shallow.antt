@@ -3,18 +3,20 @@ use Rattle.std.proofs.Common.{ℕ, zero, suc, ◌+◌, ◌*◌, ◌≤◌, List,
 use Rattle.std.specs.List.{range_with_len}
 use Rattle.toml.specs.Data.{Data, depth, items_depth, members_depth}
 use Rattle.sift_gen.specs.Tasks.{after, draw_at, word_values}
-use Rattle.sift_gen.specs.Scenario.{items_in, number}
-use Rattle.sift_gen.specs.Scenario.{document_of, fault_place, fault_table, first_task_place, frame_count, sensor_count, sensor_place, sensor_table, sensor_tables, sensor_words, task_count, task_place, task_table, task_tables, tree_of, unit_count, words_each}
+use Rattle.sift_gen.specs.Scenario.{number}
+use Rattle.toml.specs.View.{items_of}
+use Rattle.sift_gen.proofs.Trees.{document_of, fault_place, sensor_place}
+use Rattle.sift_gen.specs.Scenario.{fault_table, first_task_place, frame_count, sensor_count, sensor_table, sensor_tables, sensor_words, task_count, task_place, task_table, task_tables, tree_of, unit_count, words_each}
 
 -- a list of shallow values
-shallow_list : (k : ℕ) (g : ℕ → Data) (a n : ℕ) → ((i : ℕ) → depth (g i) ≤ k) → items_depth (items_in (map g (range_with_len a n))) ≤ k
+shallow_list : (k : ℕ) (g : ℕ → Data) (a n : ℕ) → ((i : ℕ) → depth (g i) ≤ k) → items_depth (items_of (map g (range_with_len a n))) ≤ k
 shallow_list k g a zero each = omega arith
 shallow_list k g a (suc n) each =
     let here = each a in
     let rest = shallow_list k g (a + 1) n each in
     omega arith
 
-shallow_words : (x : ℕ) → items_depth (items_in (sensor_words x)) ≤ 0
+shallow_words : (x : ℕ) → items_depth (items_of (sensor_words x)) ≤ 0
 unfolding sensor_words
 shallow_words x = shallow_list 0 (λ i. number (draw_at x i word_values)) 0 16 (λ i. omega arith)
 
@@ -28,16 +30,16 @@ shallow_fault : (units frames tasks x : ℕ) → depth (fault_table units frames
 shallow_fault units frames tasks x = omega arith
 
 -- a document of shallow tables
-shallow_document : (units frames : ℕ) (sensors tasks : List Data) (fault : Data) → items_depth (items_in sensors) ≤ 2 →
-    items_depth (items_in tasks) ≤ 2 → depth fault ≤ 3 → members_depth (document_of units frames sensors tasks fault) ≤ 80
+shallow_document : (units frames : ℕ) (sensors tasks : List Data) (fault : Data) → items_depth (items_of sensors) ≤ 2 →
+    items_depth (items_of tasks) ≤ 2 → depth fault ≤ 3 → members_depth (document_of units frames sensors tasks fault) ≤ 80
 shallow_document units frames sensors tasks fault s t f = omega arith
 
 -- the lists of a scenario's tables
-shallow_sensors : (sensors x : ℕ) → items_depth (items_in (sensor_tables sensors x)) ≤ 2
+shallow_sensors : (sensors x : ℕ) → items_depth (items_of (sensor_tables sensors x)) ≤ 2
 shallow_sensors sensors x =
     shallow_list 2 (λ k. sensor_table k (after x (words_each * k))) 0 sensors (λ k. shallow_sensor k (after x (words_each * k)))
 
-shallow_tasks : (tasks sensors x : ℕ) → items_depth (items_in (task_tables tasks sensors x)) ≤ 2
+shallow_tasks : (tasks sensors x : ℕ) → items_depth (items_of (task_tables tasks sensors x)) ≤ 2
 shallow_tasks tasks sensors x =
     shallow_list 2 (λ t. task_table t sensors (task_place t x)) 0 tasks (λ t. shallow_task t sensors (task_place t x))
 

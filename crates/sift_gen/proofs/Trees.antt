@@ -1,7 +1,21 @@
 -- The tree of a scenario, from its parts.
-use Rattle.std.proofs.Common.{◌≡◌, ℕ, List, refl, ap, ◌∙◌}
-use Rattle.toml.specs.Data.{Data}
-use Rattle.sift_gen.specs.Scenario.{document_of, fault_place, fault_table, first_task_place, frame_count, sensor_count, sensor_place, sensor_tables, task_count, task_tables, tree_of, unit_count}
+use Rattle.std.proofs.Common.{codes, ◌≡◌, ℕ, List, [], ◌∷◌, refl, ap, ◌∙◌}
+use Rattle.sift_gen.specs.Tasks.{after}
+use Rattle.toml.specs.Data.{Data, Members, member, no_members}
+use Rattle.sift_gen.specs.Scenario.{array_of, number, task_place, fault_table, first_task_place, frame_count, sensor_count, sensor_tables, task_count, task_tables, tree_of, unit_count}
+
+-- the tree of a document with these units, frames, sensors, tasks and one fault
+abbrev pub document_of : (units frames : ℕ) → (sensors tasks : List Data) → (fault : Data) → Members
+document_of units frames sensors tasks fault =
+    member (codes "fault") (array_of (fault ∷ [])) (member (codes "frames") (number frames) (member (codes "sensor") (array_of sensors)
+    (member (codes "task") (array_of tasks) (member (codes "units") (number units) no_members))))
+
+-- the generator's number where the sensors begin, and where the fault does
+abbrev pub sensor_place : ℕ → ℕ
+sensor_place n = after n 4
+
+abbrev pub fault_place : ℕ → ℕ
+fault_place n = task_place (task_count n) (first_task_place n)
 
 -- what is made of the same two, three and four numbers is the same
 pub same-two : {C : Type 0} (f : ℕ → ℕ → C) (a a' b b' : ℕ) → a ≡ a' → b ≡ b' → f a b ≡ f a' b'

@@ -4,8 +4,9 @@ use Rattle.std.specs.Cmp.Lexicographic.{slice_cmp}
 use Rattle.std.specs.Ordering.{match_ordering, nat_cmp}
 use Rattle.std.specs.Fmt.{decimal}
 use Rattle.std.specs.List.{filter, flat_map, range_with_len}
-use Rattle.toml.specs.Data.{Data, Items, Members, array, integer, item, member, no_items, no_members, string, table}
+use Rattle.toml.specs.Data.{Data, Members, array, integer, member, no_members, string, table}
 use Rattle.toml.specs.Parse.{parse_document}
+use Rattle.toml.specs.View.{items_of}
 use Rattle.toml.specs.Text.{IsDocumentText}
 use Rattle.sift_gen.specs.Tasks.{after, draw_at, draws_by, pattern_count, pattern_of, sensor_name, task_name, text_by, word_values}
 use Rattle.sift_gen.specs.declared.task.Pattern.{Pattern}
@@ -18,14 +19,9 @@ placed key value no_members = member key value no_members
 placed key value (member other old rest) = match_ordering (slice_cmp nat_cmp key other)
     (member key value (member other old rest)) (member other value rest) (member other old (placed key value rest))
 
--- the items of a list
-abbrev pub items_in : List Data → Items
-items_in [] = no_items
-items_in (value ∷ values) = item value (items_in values)
-
 -- an array of these values
 abbrev pub array_of : List Data → Data
-array_of values = array (items_in values)
+array_of values = array (items_of values)
 
 -- an unsigned number
 abbrev pub number : ℕ → Data
@@ -61,7 +57,7 @@ sensor_words x = map (λ i. number (draw_at x i word_values)) (range_with_len 0 
 
 -- the table of sensor k, whose words are the draws from x
 abbrev pub sensor_table : (k x : ℕ) → Data
-sensor_table k x = table (placed (codes "words") (array_of (sensor_words x)) (placed (codes "name") (string (sensor_name k)) no_members))
+sensor_table k x = table (member (codes "name") (string (sensor_name k)) (member (codes "words") (array_of (sensor_words x)) no_members))
 
 -- the tables of the first sensors, of which the words are the draws from x
 abbrev pub sensor_tables : (sensors x : ℕ) → List Data
@@ -73,14 +69,10 @@ sensor_tables sensors x = map (λ k. sensor_table k (after x (words_each * k))) 
 abbrev pub pattern_from : (t x : ℕ) → Pattern
 pattern_from t x = pattern_of (draw_at x 1 pattern_count) t
 
--- the table of a task: its name, its start word and its text
-abbrev pub task_entries : (t start : ℕ) → (text : List ℕ) → Data
-task_entries t start text = table (placed (codes "text") (string text) (placed (codes "start") (array_of (number start ∷ []))
-    (placed (codes "name") (string (task_name t)) no_members)))
-
 -- the table of task t, whose draws are those from x: its start word, its pattern, and those of the pattern
 abbrev pub task_table : (t sensors x : ℕ) → Data
-task_table t sensors x = task_entries t (draw_at x 0 word_values) (text_by (pattern_from t x) t sensors (after x 2))
+task_table t sensors x = table (member (codes "name") (string (task_name t)) (member (codes "start") (array_of (number (draw_at x 0 word_values) ∷ []))
+    (member (codes "text") (string (text_by (pattern_from t x) t sensors (after x 2))) no_members)))
 
 -- the generator's number where task t begins, where the first task begins at x
 abbrev pub task_place : (t x : ℕ) → ℕ
@@ -99,13 +91,13 @@ other_digits units unit = flat_map decimal (filter (λ u. not (nat_eq u unit)) (
 
 -- the item of a wrong word of a task, said to all other units
 abbrev pub fault_item : (units unit task value : ℕ) → Data
-fault_item units unit task value = table (placed (codes "value") (number value) (placed (codes "to") (string (other_digits units unit))
-    (placed (codes "word") (number 0) (placed (codes "index") (number task) (placed (codes "slot") (string (codes "out")) no_members)))))
+fault_item units unit task value = table (member (codes "index") (number task) (member (codes "slot") (string (codes "out"))
+    (member (codes "to") (string (other_digits units unit)) (member (codes "value") (number value) (member (codes "word") (number 0) no_members)))))
 
 -- the table of a fault: the unit, its first frame, and the wrong value that it says for a task's word
 abbrev pub fault_entries : (units unit from task value : ℕ) → Data
-fault_entries units unit from task value = table (placed (codes "say") (array_of (fault_item units unit task value ∷ []))
-    (placed (codes "from") (number from) (placed (codes "unit") (number unit) no_members)))
+fault_entries units unit from task value = table (member (codes "from") (number from)
+    (member (codes "say") (array_of (fault_item units unit task value ∷ [])) (member (codes "unit") (number unit) no_members)))
 
 -- the table of the fault, whose draws are those from x: the unit, its first frame, the task and the wrong value
 abbrev pub fault_table : (units frames tasks x : ℕ) → Data
@@ -114,27 +106,18 @@ fault_table units frames tasks x =
 
 -- ---- the tree
 
--- the generator's number where the sensors begin, where the tasks do, and where the fault does
-abbrev pub sensor_place : ℕ → ℕ
-sensor_place n = after n 4
-
+-- the generator's number where the tasks begin: behind the draws of the counts and of the sensors' words
 abbrev pub first_task_place : ℕ → ℕ
-first_task_place n = after (sensor_place n) (words_each * sensor_count n)
+first_task_place n = after (after n 4) (words_each * sensor_count n)
 
-abbrev pub fault_place : ℕ → ℕ
-fault_place n = task_place (task_count n) (first_task_place n)
-
--- the tree of a document with these units, frames, sensors, tasks and one fault
-abbrev pub document_of : (units frames : ℕ) → (sensors tasks : List Data) → (fault : Data) → Members
-document_of units frames sensors tasks fault =
-    placed (codes "fault") (array_of (fault ∷ [])) (placed (codes "task") (array_of tasks) (placed (codes "sensor") (array_of sensors)
-    (placed (codes "frames") (number frames) (placed (codes "units") (number units) no_members))))
-
--- the tree of the scenario with number n
+-- the tree of the scenario with number n: the draws of the counts, of the sensors, of the tasks and of one fault follow one another
 abbrev pub tree_of : ℕ → Members
-tree_of n = document_of (unit_count n) (frame_count n)
-    (sensor_tables (sensor_count n) (sensor_place n)) (task_tables (task_count n) (sensor_count n) (first_task_place n))
-    (fault_table (unit_count n) (frame_count n) (task_count n) (fault_place n))
+tree_of n =
+    member (codes "fault") (array_of (fault_table (unit_count n) (frame_count n) (task_count n) (task_place (task_count n) (first_task_place n)) ∷ []))
+    (member (codes "frames") (number (frame_count n))
+    (member (codes "sensor") (array_of (sensor_tables (sensor_count n) (after n 4)))
+    (member (codes "task") (array_of (task_tables (task_count n) (sensor_count n) (first_task_place n)))
+    (member (codes "units") (number (unit_count n)) no_members))))
 
 -- ---- its text
 

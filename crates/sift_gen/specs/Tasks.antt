@@ -35,24 +35,6 @@ sensor_name x = codes "s" ++ decimal x
 abbrev pub task_name : ℕ → List ℕ
 task_name t = codes "t" ++ decimal t
 
--- a sensor's words are summed up
-abbrev pub sum_text : (t a : ℕ) → List ℕ
-sum_text t a = concat (codes "out 0 = sense " ∷ sensor_name a ∷ codes " + last " ∷ task_name t ∷ codes ".0;" ∷ [])
-
--- the middle one of two sensors and the word before
-abbrev pub middle_text : (t a b : ℕ) → List ℕ
-middle_text t a b = concat (codes "out 0 = mid(sense " ∷ sensor_name a ∷ codes ", sense " ∷ sensor_name b
-    ∷ codes ", last " ∷ task_name t ∷ codes ".0);" ∷ [])
-
--- one step a frame after a sensor
-abbrev pub chase_text : (t a : ℕ) → List ℕ
-chase_text t a = concat (codes "let d = sense " ∷ sensor_name a ∷ codes " - last " ∷ task_name t
-    ∷ codes ".0; if d < 0 { out 0 = last " ∷ task_name t ∷ codes ".0 - 1; } else { out 0 = last " ∷ task_name t ∷ codes ".0 + 1; }" ∷ [])
-
--- three times an earlier task's word, and a sensor
-abbrev pub triple_text : (d a : ℕ) → List ℕ
-triple_text d a = concat (codes "out 0 = now " ∷ task_name d ∷ codes ".0 * 3 + sense " ∷ sensor_name a ∷ codes ";" ∷ [])
-
 -- ---- patterns
 
 -- the pattern of task t, by the number drawn for it; the first task has no earlier one
@@ -61,10 +43,18 @@ pattern_of n t = if n == 1 then Middle else if n == 2 then Chase else if n == 3 
 
 -- the text of task t by its pattern, where the draws of the pattern are those from x, among so many sensors
 abbrev pub text_by : Pattern → (t sensors x : ℕ) → List ℕ
-text_by Sum t sensors x = sum_text t (draw_at x 0 sensors)
-text_by Middle t sensors x = middle_text t (draw_at x 0 sensors) (draw_at x 1 sensors)
-text_by Chase t sensors x = chase_text t (draw_at x 0 sensors)
-text_by Triple t sensors x = triple_text (draw_at x 0 t) (draw_at x 1 sensors)
+-- a sensor's words are summed up
+text_by Sum t sensors x =
+    concat (codes "out 0 = sense " ∷ sensor_name (draw_at x 0 sensors) ∷ codes " + last " ∷ task_name t ∷ codes ".0;" ∷ [])
+-- the middle one of two sensors and the word before
+text_by Middle t sensors x = concat (codes "out 0 = mid(sense " ∷ sensor_name (draw_at x 0 sensors) ∷ codes ", sense "
+    ∷ sensor_name (draw_at x 1 sensors) ∷ codes ", last " ∷ task_name t ∷ codes ".0);" ∷ [])
+-- one step a frame after a sensor
+text_by Chase t sensors x = concat (codes "let d = sense " ∷ sensor_name (draw_at x 0 sensors) ∷ codes " - last " ∷ task_name t
+    ∷ codes ".0; if d < 0 { out 0 = last " ∷ task_name t ∷ codes ".0 - 1; } else { out 0 = last " ∷ task_name t ∷ codes ".0 + 1; }" ∷ [])
+-- three times an earlier task's word, and a sensor
+text_by Triple t sensors x =
+    concat (codes "out 0 = now " ∷ task_name (draw_at x 0 t) ∷ codes ".0 * 3 + sense " ∷ sensor_name (draw_at x 1 sensors) ∷ codes ";" ∷ [])
 
 -- how many draws a pattern takes
 abbrev pub draws_by : Pattern → ℕ

@@ -1,9 +1,9 @@
 //! The scenario of a number.
 
-ghost use Rattle.std.specs.Prelude.{◌≡◌, IfOk, map, string_bytes};
-ghost use Rattle.toml.specs.Data.{table};
+ghost use Rattle.std.specs.Prelude.{codes, ◌≡◌, IfOk, [], ◌∷◌, map, string_bytes};
+ghost use Rattle.toml.specs.Data.{member, no_members, table};
 ghost use Rattle.toml.specs.View.{table_view, view};
-ghost use Rattle.sift_gen.specs.Scenario.{document_of, tree_of, IsTextOf};
+ghost use Rattle.sift_gen.specs.Scenario.{array_of, number, tree_of, IsTextOf};
 
 use crate::entry::{array, array_of_one, with, with_number};
 use crate::fault::fault_table;
@@ -39,7 +39,9 @@ fn document_of(
     fault: Table,
 ) -> Result<Table, NoMemory>
     ensures { IfOk result (λ tree. table_view tree
-        ≡ document_of units frames (map view sensors.items) (map view tasks.items) (table (table_view fault))) }
+        ≡ member (codes "fault") (array_of (table (table_view fault) ∷ [])) (member (codes "frames") (number frames)
+        (member (codes "sensor") (array_of (map view sensors.items)) (member (codes "task") (array_of (map view tasks.items))
+        (member (codes "units") (number units) no_members))))) }
 {
     let entries = with_number(alloc, Table::new(alloc), "units", units)?;
     let entries = with_number(alloc, entries, "frames", frames)?;

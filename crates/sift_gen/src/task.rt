@@ -1,10 +1,11 @@
 //! The tasks of a scenario.
 
-ghost use Rattle.std.specs.Prelude.{◌≡◌, ◌<◌, ◌≤◌, IfOk, map, string_bytes};
+ghost use Rattle.std.specs.Prelude.{codes, ◌≡◌, ◌<◌, ◌≤◌, IfOk, [], ◌∷◌, map, string_bytes};
+ghost use Rattle.std.specs.List.{concat};
 ghost use Rattle.toml.specs.View.{table_view, view};
-ghost use Rattle.toml.specs.Data.{table};
-ghost use Rattle.sift_gen.specs.Tasks.{after, draw_at, chase_text, draws_by, middle_text, pattern_of, sum_text, task_name, text_by, triple_text};
-ghost use Rattle.sift_gen.specs.Scenario.{pattern_from, task_entries, task_place, task_table, task_tables};
+ghost use Rattle.toml.specs.Data.{member, no_members, string, table};
+ghost use Rattle.sift_gen.specs.Tasks.{after, draw_at, draws_by, pattern_of, sensor_name, task_name, text_by};
+ghost use Rattle.sift_gen.specs.Scenario.{array_of, number, pattern_from, task_place, task_table, task_tables};
 
 use crate::entry::{array_of_one, with};
 use sift_base::{Draw, NoMemory};
@@ -97,7 +98,9 @@ fn task_table(alloc: Global, draw: &mut Draw, task: u32, sensors: u32) -> Result
 
 /// The entries of a task: its name, its start word and its text.
 fn task_entries(alloc: Global, task: u32, start: u32, text: String) -> Result<Table, NoMemory>
-    ensures { IfOk result (λ entries. table (table_view entries) ≡ task_entries task start (string_bytes text)) }
+    ensures { IfOk result (λ entries. table (table_view entries)
+        ≡ table (member (codes "name") (string (task_name task)) (member (codes "start") (array_of (number start ∷ []))
+        (member (codes "text") (string (string_bytes text)) no_members)))) }
 {
     let entries = with(
         alloc,
@@ -133,21 +136,25 @@ fn task_name(alloc: Global, task: u32) -> Result<String, NoMemory>
 
 /// A sensor's words are summed up.
 fn sum_text(alloc: Global, task: u32, sensor: u32) -> Result<String, NoMemory>
-    ensures { IfOk result (λ text. string_bytes text ≡ sum_text task sensor) }
+    ensures { IfOk result (λ text. string_bytes text
+        ≡ concat (codes "out 0 = sense " ∷ sensor_name sensor ∷ codes " + last " ∷ task_name task ∷ codes ".0;" ∷ [])) }
 {
     Ok(format!(in alloc; "out 0 = sense s{sensor} + last t{task}.0;")?)
 }
 
 /// The middle one of two sensors and the word before.
 fn middle_text(alloc: Global, task: u32, first: u32, second: u32) -> Result<String, NoMemory>
-    ensures { IfOk result (λ text. string_bytes text ≡ middle_text task first second) }
+    ensures { IfOk result (λ text. string_bytes text
+        ≡ concat (codes "out 0 = mid(sense " ∷ sensor_name first ∷ codes ", sense " ∷ sensor_name second ∷ codes ", last " ∷ task_name task ∷ codes ".0);" ∷ [])) }
 {
     Ok(format!(in alloc; "out 0 = mid(sense s{first}, sense s{second}, last t{task}.0);")?)
 }
 
 /// One step a frame after a sensor.
 fn chase_text(alloc: Global, task: u32, sensor: u32) -> Result<String, NoMemory>
-    ensures { IfOk result (λ text. string_bytes text ≡ chase_text task sensor) }
+    ensures { IfOk result (λ text. string_bytes text
+        ≡ concat (codes "let d = sense " ∷ sensor_name sensor ∷ codes " - last " ∷ task_name task
+        ∷ codes ".0; if d < 0 { out 0 = last " ∷ task_name task ∷ codes ".0 - 1; } else { out 0 = last " ∷ task_name task ∷ codes ".0 + 1; }" ∷ [])) }
 {
     Ok(format!(in alloc;
         "let d = sense s{sensor} - last t{task}.0; if d < 0 {{ out 0 = last t{task}.0 - 1; }} else {{ out 0 = last t{task}.0 + 1; }}"
@@ -156,7 +163,8 @@ fn chase_text(alloc: Global, task: u32, sensor: u32) -> Result<String, NoMemory>
 
 /// Three times an earlier task's word, and a sensor.
 fn triple_text(alloc: Global, earlier: u32, sensor: u32) -> Result<String, NoMemory>
-    ensures { IfOk result (λ text. string_bytes text ≡ triple_text earlier sensor) }
+    ensures { IfOk result (λ text. string_bytes text
+        ≡ concat (codes "out 0 = now " ∷ task_name earlier ∷ codes ".0 * 3 + sense " ∷ sensor_name sensor ∷ codes ";" ∷ [])) }
 {
     Ok(format!(in alloc; "out 0 = now t{earlier}.0 * 3 + sense s{sensor};")?)
 }

@@ -6,18 +6,10 @@ use Rattle.sift_reply.specs.Duty.{Duty}
 use Rattle.sift_reply.specs.Reply.{Reply, done}
 use Rattle.sift_jobs.specs.declared.scenario.GenJob.{GenJob}
 
--- the scenario of a number
-abbrev pub gen_of : (number : ℕ) → GenJob
-gen_of number = record { number = number }
-
 -- what options ask for: the number has to be given
 abbrev pub gen_job_of : Options → Option GenJob
-gen_job_of options = option_map gen_of options.number
+gen_job_of options = option_map (λ number. record { number = number }) options.number
 
--- the text of the scenario with the number
-abbrev pub GenGives : GenJob → List ℕ → Reply → Type 0
-GenGives job bytes came = (text : List ℕ) × IsTextOf job.number text × (came ≡ done text)
-
--- what it has to do
+-- what it has to do: it gives the text of the scenario with the number
 abbrev pub gen_duty : GenJob → Duty
-gen_duty job = record { limit = None; gives = GenGives job }
+gen_duty job = record { limit = None; gives = λ bytes came. (text : List ℕ) × IsTextOf job.number text × (came ≡ done text) }

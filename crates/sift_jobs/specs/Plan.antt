@@ -3,15 +3,14 @@ use Rattle.std.specs.Prelude.{codes, ℕ, ◌≡◌, ◌≤◌, ◌⊎◌, List,
 use Rattle.std.specs.Fmt.{decimal}
 use Rattle.std.specs.List.{concat}
 use Rattle.sift_base.specs.Units.{unit_limit}
-use Rattle.sift_load.specs.Loads.{mission_duty, no_mission_statuses}
+use Rattle.sift_load.specs.Loads.{no_mission_statuses}
 use Rattle.sift_mission.specs.Data.{MissionData, shapes_in}
 use Rattle.sift_options.specs.Options.{within}
 use Rattle.sift_options.specs.declared.setting.Options.{Options}
 use Rattle.sift_planner.specs.Plans.{longest_period}
 use Rattle.sift_planner.specs.Sizes.{ArePlans, IsFirstWithoutRoom}
 use Rattle.sift_planner.specs.Text.{tables_text}
-use Rattle.sift_reply.specs.Duty.{Duty}
-use Rattle.sift_reply.specs.Reply.{Reply, done, done_status, reply}
+use Rattle.sift_reply.specs.Reply.{Reply, done, done_status}
 use Rattle.sift_table.specs.Rules.{least_executors}
 use Rattle.sift_table.specs.Schedule.{Schedule, shortest_period}
 
@@ -42,17 +41,13 @@ plan_job_of options = plan_with (within least_executors unit_limit options.copie
 
 -- the reply where this is the least size for which there is no plan, and this the first task without room there
 abbrev pub no_room : (size task : ℕ) → Reply
-no_room size task = reply 14 (concat (codes "no room " ∷ decimal size ∷ codes " task " ∷ decimal task ∷ codes "\n" ∷ []))
+no_room size task = record { status = 14; text = concat (codes "no room " ∷ decimal size ∷ codes " task " ∷ decimal task ∷ codes "\n" ∷ []) }
 
 -- the text of the plans of all sizes for the mission's tasks, whatever its own tables are, or that a task has no room
 abbrev pub PlanGives : PlanNumbers → MissionData → Reply → Type 0
 PlanGives numbers mission came =
     ((tables : List Schedule) × ArePlans (shapes_in mission) mission.units numbers.period numbers.copies tables × (came ≡ done (tables_text tables)))
     ⊎ ((size : ℕ) × (task : ℕ) × IsFirstWithoutRoom (shapes_in mission) mission.units numbers.period numbers.copies size task × (came ≡ no_room size task))
-
--- what it has to do
-abbrev pub plan_duty : PlanNumbers → Duty
-plan_duty numbers = mission_duty (PlanGives numbers)
 
 -- the statuses of its replies
 abbrev pub plan_statuses : List ℕ

@@ -3,11 +3,10 @@ use Rattle.std.specs.Prelude.{ℕ, Option, Some, None, option_map, unwrap_or, na
 use Rattle.std.specs.List.{All}
 use Rattle.sift_base.specs.Units.{unit_limit}
 use Rattle.sift_flight.specs.Flight.{Strays, Flight}
-use Rattle.sift_load.specs.Loads.{mission_duty, States}
+use Rattle.sift_load.specs.Loads.{LoadsThen, States}
 use Rattle.sift_mission.specs.Data.{MissionData}
 use Rattle.sift_options.specs.Options.{within}
 use Rattle.sift_options.specs.declared.setting.Options.{Options}
-use Rattle.sift_reply.specs.Duty.{Duty}
 use Rattle.sift_reply.specs.Reply.{Reply, done_status}
 use Rattle.sift_report.specs.declared.version.Version.{Version}
 use Rattle.sift_report.specs.declared.version.Version.TheVariants.{One, Two}
@@ -23,20 +22,13 @@ use Rattle.sift_jobs.specs.declared.workers.Workers.TheVariants as worker
 
 -- ---- the workers that fly a mission, and how options ask for them
 
--- so many workers, which have no order
-abbrev pub several : (count : ℕ) → (order : Option ℕ) → Option Workers
-several count None = option_map worker.Several (within fewest_workers unit_limit (Some count))
-several count (Some order) = None
-
--- the workers for these numbers: one for each unit where there is neither, and one alone where there is an order or 1
-abbrev pub workers_by : (workers order : Option ℕ) → Option Workers
-workers_by None None = Some worker.OneEach
-workers_by None (Some order) = Some (worker.One order)
-workers_by (Some count) order = if nat_eq count 1 then Some (worker.One (unwrap_or order 0)) else several count order
-
--- the workers that options ask for
-abbrev pub workers_of : Options → Option Workers
-workers_of options = workers_by options.workers options.order
+-- the workers that these options ask for: one for each unit where there is neither, one alone where there is an order or 1, and else so many,
+-- which have no order
+abbrev pub workers_of : (workers order : Option ℕ) → Option Workers
+workers_of None None = Some worker.OneEach
+workers_of None (Some order) = Some (worker.One order)
+workers_of (Some count) None = if nat_eq count 1 then Some (worker.One 0) else option_map worker.Several (within fewest_workers unit_limit (Some count))
+workers_of (Some count) (Some order) = if nat_eq count 1 then Some (worker.One order) else None
 
 -- ---- the command
 
@@ -48,22 +40,14 @@ usual_version = 2
 abbrev pub version_of : Options → Version
 version_of options = if nat_eq (unwrap_or options.report usual_version) 1 then One else Two
 
--- a run in this version by these workers
-abbrev pub run_by : Version → Workers → RunJob
-run_by version workers = record { workers = workers; version = version }
-
 -- what options ask for: the workers, and the version
 abbrev pub run_job_of : Options → Option RunJob
-run_job_of options = option_map (run_by (version_of options)) (workers_of options)
+run_job_of options =
+    option_map (λ workers. record { workers = workers; version = version_of options }) (workers_of options.workers options.order)
 
-module _ (given : MissionData → Strays → Type 0) where
-  -- the report of a flight of the mission in that version, whatever the workers; what it prints are lines
-  abbrev pub RunGives : RunJob → MissionData → Reply → Type 0
-  RunGives job mission = RepliesWith given mission (Report job.version)
-
-  -- what it has to do
-  abbrev pub run_duty : RunJob → Duty
-  run_duty job = mission_duty (RunGives job)
+-- the report of a flight of the mission in that version, whatever the workers; what it prints are lines
+abbrev pub RunGives : (given : MissionData → Strays → Type 0) → RunJob → MissionData → Reply → Type 0
+RunGives given job mission = RepliesWith given mission (Report job.version)
 
 -- ---- its headline: what the lines of its report tell
 
@@ -81,5 +65,5 @@ module _ (given : MissionData → Strays → Type 0) where
 
   -- so it is, in the version asked for, with each reply of `run` that has the status 0
   abbrev pub RunIsHeadlined : Type 0
-  RunIsHeadlined = (job : RunJob) (bytes : List ℕ) (reply : Reply) → (run_duty given job).gives bytes reply → reply.status ≡ done_status
+  RunIsHeadlined = (job : RunJob) (bytes : List ℕ) (reply : Reply) → LoadsThen (RunGives given job) bytes reply → reply.status ≡ done_status
       → IsHeadlined job.version bytes reply.text

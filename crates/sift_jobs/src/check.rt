@@ -21,9 +21,10 @@ impl<M: Drop, W: Work> MissionJob<M, W> for CheckJob {
 }
 
 impl<M: Drop, W: Work> Job<M, W> for CheckJob {
-    ghost use Rattle.sift_jobs.specs.Check.{check_duty};
+    ghost use Rattle.sift_jobs.specs.Check.{CheckGives};
+    ghost use Rattle.sift_load.specs.Loads.{mission_duty};
 
-    ghost duty = { λ means. check_duty };
+    ghost duty = { λ means job. mission_duty (CheckGives job) };
 
     fn limit(self) -> Option<u32> {
         Some(DOCUMENT_LIMIT)

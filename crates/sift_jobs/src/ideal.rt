@@ -23,9 +23,10 @@ impl<M: Drop, W: Work> MissionJob<M, W> for IdealJob {
 }
 
 impl<M: Drop, W: Work> Job<M, W> for IdealJob {
-    ghost use Rattle.sift_jobs.specs.Ideal.{ideal_duty};
+    ghost use Rattle.sift_jobs.specs.Ideal.{IdealGives};
+    ghost use Rattle.sift_load.specs.Loads.{mission_duty};
 
-    ghost duty = { λ means. ideal_duty };
+    ghost duty = { λ means job. mission_duty (IdealGives job) };
 
     fn limit(self) -> Option<u32> {
         Some(DOCUMENT_LIMIT)

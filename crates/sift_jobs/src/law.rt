@@ -1,22 +1,22 @@
 //! The laws of the commands: each gives one reply, whose status is its own.
 
 ghost use Rattle.std.specs.Prelude.{ℕ, List, [], ◌∷◌, ◌++◌};
-ghost use Rattle.sift_jobs.specs.Check.{check_duty};
+ghost use Rattle.sift_jobs.specs.Check.{CheckGives};
 ghost use Rattle.sift_jobs.specs.Existence.{MissionsHaveFlights, TrialsAreThere, VotesAreThere};
 ghost use Rattle.sift_jobs.specs.Flights.{AreCalm};
 ghost use Rattle.sift_jobs.specs.Gen.{gen_duty};
-ghost use Rattle.sift_jobs.specs.Run.{RunIsHeadlined, run_duty};
-ghost use Rattle.sift_jobs.specs.Ideal.{ideal_duty};
-ghost use Rattle.sift_jobs.specs.Plan.{PlanNumbers, plan_duty, plan_statuses};
+ghost use Rattle.sift_jobs.specs.Run.{RunIsHeadlined, RunGives};
+ghost use Rattle.sift_jobs.specs.Ideal.{IdealGives};
+ghost use Rattle.sift_jobs.specs.Plan.{PlanNumbers, PlanGives, plan_statuses};
 ghost use Rattle.sift_jobs.specs.Trial.{trial_duty};
-ghost use Rattle.sift_jobs.specs.Votes.{votes_duty};
+ghost use Rattle.sift_jobs.specs.Votes.{VotesGives};
 ghost use Rattle.sift_jobs.specs.declared.check.CheckJob.{CheckJob as Check};
 ghost use Rattle.sift_jobs.specs.declared.ideal.IdealJob.{IdealJob as Ideal};
 ghost use Rattle.sift_jobs.specs.declared.run.RunJob.{RunJob as Run};
 ghost use Rattle.sift_jobs.specs.declared.scenario.GenJob.{GenJob as Gen};
 ghost use Rattle.sift_jobs.specs.declared.trial.TrialJob.{TrialJob as Trial};
 ghost use Rattle.sift_jobs.specs.declared.votes.VotesJob.{VotesJob as Votes};
-ghost use Rattle.sift_load.specs.Loads.{no_mission_statuses};
+ghost use Rattle.sift_load.specs.Loads.{mission_duty, no_mission_statuses};
 ghost use Rattle.sift_reply.specs.Duty.{GivesOne, GivesOneTo, HasOwnStatuses};
 ghost use Rattle.sift_reply.specs.Reply.{done_status};
 
@@ -40,35 +40,35 @@ use sift_trial::{drawn_missions_have_no_storms, drawn_trees_are_missions};
 
 /// `run` ends with 0, or with the status of bytes that state no mission.
 pub fn run_has_own_statuses<F: Flier>()
-    ensures { (flier : F) (job : Run) → HasOwnStatuses (run_duty (F.gives flier) job) (done_status ∷ no_mission_statuses) }
+    ensures { (flier : F) (job : Run) → HasOwnStatuses (mission_duty (RunGives (F.gives flier) job)) (done_status ∷ no_mission_statuses) }
 {
     loading_has_own_statuses::<F, FlightOrder<F>, RunJob>();
 }
 
 /// So does `votes`.
 pub fn votes_has_own_statuses<F: Flier>()
-    ensures { (flier : F) (job : Votes) → HasOwnStatuses (votes_duty (F.gives flier) job) (done_status ∷ no_mission_statuses) }
+    ensures { (flier : F) (job : Votes) → HasOwnStatuses (mission_duty (VotesGives (F.gives flier) job)) (done_status ∷ no_mission_statuses) }
 {
     loading_has_own_statuses::<F, FlightOrder<F>, VotesJob>();
 }
 
 /// So does `ideal`.
 pub fn ideal_has_own_statuses()
-    ensures { (job : Ideal) → HasOwnStatuses (ideal_duty job) (done_status ∷ no_mission_statuses) }
+    ensures { (job : Ideal) → HasOwnStatuses (mission_duty (IdealGives job)) (done_status ∷ no_mission_statuses) }
 {
     loading_has_own_statuses::<(), NoWork, IdealJob>();
 }
 
 /// So does `check`.
 pub fn check_has_own_statuses()
-    ensures { (job : Check) → HasOwnStatuses (check_duty job) (done_status ∷ no_mission_statuses) }
+    ensures { (job : Check) → HasOwnStatuses (mission_duty (CheckGives job)) (done_status ∷ no_mission_statuses) }
 {
     loading_has_own_statuses::<(), NoWork, CheckJob>();
 }
 
 /// `plan` ends with 0, with 14 where a task has no room, or with the status of bytes that state no mission.
 pub fn plan_has_own_statuses()
-    ensures { (job : PlanNumbers) → HasOwnStatuses (plan_duty job) plan_statuses }
+    ensures { (job : PlanNumbers) → HasOwnStatuses (mission_duty (PlanGives job)) plan_statuses }
 {
     loading_has_own_statuses::<(), NoWork, PlanJob>();
 }
@@ -86,7 +86,7 @@ pub fn trial_has_own_statuses<F: Flier>()
 /// `run` gives one reply to an input that states no storm: the workers, the order of their steps, and all else that a flight
 /// leaves open, show in no report.
 pub fn run_gives_one<F: Flier>()
-    ensures { (flier : F) (job : Run) (bytes : List ℕ) → AreCalm bytes → GivesOneTo (run_duty (F.gives flier) job) bytes }
+    ensures { (flier : F) (job : Run) (bytes : List ℕ) → AreCalm bytes → GivesOneTo (mission_duty (RunGives (F.gives flier) job)) bytes }
 {
     loading_gives_one::<F, FlightOrder<F>, RunJob>();
     fitting_parts_make_a_flight();
@@ -97,7 +97,7 @@ pub fn run_gives_one<F: Flier>()
 
 /// So does `votes`.
 pub fn votes_gives_one<F: Flier>()
-    ensures { (flier : F) (job : Votes) (bytes : List ℕ) → AreCalm bytes → GivesOneTo (votes_duty (F.gives flier) job) bytes }
+    ensures { (flier : F) (job : Votes) (bytes : List ℕ) → AreCalm bytes → GivesOneTo (mission_duty (VotesGives (F.gives flier) job)) bytes }
 {
     loading_gives_one::<F, FlightOrder<F>, VotesJob>();
     fitting_parts_make_a_flight();
@@ -108,21 +108,21 @@ pub fn votes_gives_one<F: Flier>()
 
 /// `ideal` gives one reply to each input.
 pub fn ideal_gives_one()
-    ensures { (job : Ideal) → GivesOne (ideal_duty job) }
+    ensures { (job : Ideal) → GivesOne (mission_duty (IdealGives job)) }
 {
     loading_gives_one::<(), NoWork, IdealJob>();
 }
 
 /// So does `check`.
 pub fn check_gives_one()
-    ensures { (job : Check) → GivesOne (check_duty job) }
+    ensures { (job : Check) → GivesOne (mission_duty (CheckGives job)) }
 {
     loading_gives_one::<(), NoWork, CheckJob>();
 }
 
 /// `plan` gives one reply: a mission's tasks have one plan for each size, or one first task without room.
 pub fn plan_gives_one()
-    ensures { (job : PlanNumbers) → GivesOne (plan_duty job) }
+    ensures { (job : PlanNumbers) → GivesOne (mission_duty (PlanGives job)) }
 {
     loading_gives_one::<(), NoWork, PlanJob>();
     stated_missions_fit();

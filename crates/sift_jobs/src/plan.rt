@@ -81,9 +81,10 @@ fn no_room(alloc: Global, none: NoRoomAt) -> Result<Reply, NoMemory>
 }
 
 impl<M: Drop, W: Work> Job<M, W> for PlanJob {
-    ghost use Rattle.sift_jobs.specs.Plan.{plan_duty};
+    ghost use Rattle.sift_jobs.specs.Plan.{PlanGives};
+    ghost use Rattle.sift_load.specs.Loads.{mission_duty};
 
-    ghost duty = { λ means. plan_duty };
+    ghost duty = { λ means job. mission_duty (PlanGives job) };
 
     fn limit(self) -> Option<u32> {
         Some(DOCUMENT_LIMIT)

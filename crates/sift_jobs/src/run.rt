@@ -65,9 +65,10 @@ impl<F: Flier> MissionJob<F, FlightOrder<F>> for RunJob {
 }
 
 impl<F: Flier> Job<F, FlightOrder<F>> for RunJob {
-    ghost use Rattle.sift_jobs.specs.Run.{run_duty};
+    ghost use Rattle.sift_jobs.specs.Run.{RunGives};
+    ghost use Rattle.sift_load.specs.Loads.{mission_duty};
 
-    ghost duty = { λ flier. run_duty (F.gives flier) };
+    ghost duty = { λ flier job. mission_duty (RunGives (F.gives flier) job) };
 
     fn limit(self) -> Option<u32> {
         Some(DOCUMENT_LIMIT)

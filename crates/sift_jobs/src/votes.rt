@@ -52,9 +52,10 @@ impl<F: Flier> MissionJob<F, FlightOrder<F>> for VotesJob {
 }
 
 impl<F: Flier> Job<F, FlightOrder<F>> for VotesJob {
-    ghost use Rattle.sift_jobs.specs.Votes.{votes_duty};
+    ghost use Rattle.sift_jobs.specs.Votes.{VotesGives};
+    ghost use Rattle.sift_load.specs.Loads.{mission_duty};
 
-    ghost duty = { λ flier. votes_duty (F.gives flier) };
+    ghost duty = { λ flier job. mission_duty (VotesGives (F.gives flier) job) };
 
     fn limit(self) -> Option<u32> {
         Some(DOCUMENT_LIMIT)

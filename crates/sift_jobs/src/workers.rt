@@ -21,7 +21,7 @@ impl Workers {
     /// What the options ask for: one for each unit where they name neither workers nor an order. An order is for one
     /// worker alone, whose order is 0 where none is given.
     pub fn of(options: Options) -> Option<Workers>
-        ensures { result ≡ workers_of options }
+        ensures { result ≡ workers_of options.workers options.order }
     {
         match (options.workers, options.order) {
             (None, None) => Some(Workers::OneEach),

@@ -10,7 +10,7 @@ use Rattle.sift_load.specs.Loads.{LoadsThen, no_mission_statuses}
 use Rattle.sift_mission.specs.Data.{MissionData}
 use Rattle.sift_options.specs.declared.setting.Options.{Options}
 use Rattle.sift_reply.specs.Duty.{Duty}
-use Rattle.sift_reply.specs.Reply.{Reply, done, done_status, reply}
+use Rattle.sift_reply.specs.Reply.{Reply, done, done_status}
 use Rattle.sift_report.specs.declared.line.ReportLine.{ReportLine}
 use Rattle.sift_report.specs.declared.version.Version.{Version}
 use Rattle.sift_judge_jobs.specs.Divided.{AreDivided, AreUndivided}
@@ -35,12 +35,12 @@ judged_no_status = 13
 
 -- the reply where this line of the report, from 1 on, is the first that is none; where it is 0, no line divides the input
 abbrev pub no_line : ℕ → Reply
-no_line number = reply no_line_status (concat (codes "report line " ∷ decimal number ∷ codes "\n" ∷ []))
+no_line number = record { status = no_line_status; text = concat (codes "report line " ∷ decimal number ∷ codes "\n" ∷ []) }
 
 -- the reply that tells a verdict
 abbrev pub told : Verdict → Reply
 told Yes = done (codes "yes\n")
-told (No frame rule) = reply judged_no_status (concat (codes "no frame " ∷ decimal frame ∷ codes " rule " ∷ decimal rule ∷ codes "\n" ∷ []))
+told (No frame rule) = record { status = judged_no_status; text = concat (codes "no frame " ∷ decimal frame ∷ codes " rule " ∷ decimal rule ∷ codes "\n" ∷ []) }
 
 -- ---- what it gives
 

@@ -7,15 +7,15 @@ use Rattle.sift_document.specs.declared.rule.BrokenRule.{BrokenRule}
 use Rattle.sift_byz.specs.Lawful.{IsPlanOf, IsRefusedWith}
 use Rattle.sift_byz.specs.Plan.{PlanData}
 use Rattle.sift_byz.specs.Text.{text_of}
-use Rattle.sift_load.specs.Loads.{document_limit, IsDocument, IsNoDocument, reply_to}
+use Rattle.sift_load.specs.Loads.{document_limit, IsDocument, StatesNone, reply_to}
 use Rattle.sift_load.specs.declared.no_mission.NoMission.TheVariants.{NotADocument}
 use Rattle.sift_reply.specs.Duty.{Duty}
-use Rattle.sift_reply.specs.Reply.{Reply, done, done_status, reply}
+use Rattle.sift_reply.specs.Reply.{Reply, done, done_status}
 use Rattle.sift_lab_jobs.specs.declared.byz.ByzJob.{ByzJob}
 
 -- the reply to a document that breaks this rule first
 abbrev pub broken_rule : BrokenRule → Reply
-broken_rule broken = reply 16 (concat (codes "byz rule " ∷ decimal broken.number ∷ codes " at " ∷ decimal broken.place ∷ codes "\n" ∷ []))
+broken_rule broken = record { status = 16; text = concat (codes "byz rule " ∷ decimal broken.number ∷ codes " at " ∷ decimal broken.place ∷ codes "\n" ∷ []) }
 
 -- the text of the vectors of the plan that a document states, or which rule it breaks
 abbrev pub ByzGivesFor : Members → Reply → Type 0
@@ -27,7 +27,7 @@ ByzGivesFor document came =
 abbrev pub ByzGives : List ℕ → Reply → Type 0
 ByzGives bytes came =
     ((document : Members) × IsDocument bytes document × ByzGivesFor document came)
-    ⊎ (IsNoDocument bytes × (came ≡ reply_to NotADocument))
+    ⊎ (StatesNone bytes NotADocument × (came ≡ reply_to NotADocument))
 
 -- what it has to do
 abbrev pub byz_duty : ByzJob → Duty

@@ -7,7 +7,7 @@ use Rattle.sift_clocklab.specs.Text.{IsTextOf}
 use Rattle.sift_options.specs.Options.{within}
 use Rattle.sift_options.specs.declared.setting.Options.{Options}
 use Rattle.sift_reply.specs.Duty.{Duty}
-use Rattle.sift_reply.specs.Reply.{Reply, done, done_status, reply}
+use Rattle.sift_reply.specs.Reply.{Reply, done, done_status}
 
 -- n clocks, m of them faulty; the skew that they are to keep, the most that they are misread by and drift by in a round;
 -- how many rounds they run; and the number that all else is drawn from
@@ -54,7 +54,7 @@ run_of lab = drawn_run lab.n lab.m (pos lab.skew) (pos lab.error) (pos lab.rate)
 
 -- the reply where the laboratory isn't admitted
 abbrev pub not_admitted : Reply
-not_admitted = reply 17 (codes "not admitted\n")
+not_admitted = record { status = 17; text = codes "not admitted\n" }
 
 -- the text of the run, where the laboratory is admitted, or that it isn't
 abbrev pub ClocksGives : LabNumbers → List ℕ → Reply → Type 0

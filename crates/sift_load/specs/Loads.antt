@@ -7,7 +7,7 @@ use Rattle.toml.specs.Parse.{parse_document}
 use Rattle.sift_mission.specs.Data.{MissionData}
 use Rattle.sift_scenario.specs.Mission.{IsMission}
 use Rattle.sift_scenario.specs.Refusal.{IsRefusedWith}
-use Rattle.sift_reply.specs.Reply.{Reply, reply}
+use Rattle.sift_reply.specs.Reply.{Reply}
 use Rattle.sift_scenario.specs.declared.refused.Refused.TheVariants.{Scenario, Task, Table, Script}
 use Rattle.sift_reply.specs.Duty.{Duty}
 use Rattle.sift_load.specs.declared.no_mission.NoMission.{NoMission}
@@ -19,32 +19,28 @@ use Rattle.sift_load.specs.declared.no_mission.NoMission.TheVariants.{NotADocume
 abbrev pub IsDocument : List ℕ → Members → Type 0
 IsDocument bytes document = IsUtf8 bytes × (parse_document bytes ≡ Some document)
 
--- they are none
-abbrev pub IsNoDocument : List ℕ → Type 0
-IsNoDocument bytes = (document : Members) → ¬ IsDocument bytes document
-
 -- the bytes are a document that states the mission
 abbrev pub States : List ℕ → MissionData → Type 0
 States bytes mission = (document : Members) × IsDocument bytes document × IsMission document mission
 
 -- the bytes state no mission, for this reason: they are no document, or one that is refused so
 abbrev pub StatesNone : List ℕ → NoMission → Type 0
-StatesNone bytes NotADocument = IsNoDocument bytes
+StatesNone bytes NotADocument = (document : Members) → ¬ IsDocument bytes document
 StatesNone bytes (Refused reason) = (document : Members) × IsDocument bytes document × IsRefusedWith document reason
 
 -- ---- the replies to bytes that state no mission
 
 -- the status and the line of each
 abbrev pub reply_to : NoMission → Reply
-reply_to NotADocument = reply 3 (codes "not a document\n")
+reply_to NotADocument = record { status = 3; text = codes "not a document\n" }
 reply_to (Refused (Scenario rule place)) =
-    reply 4 (concat (codes "scenario rule " ∷ decimal rule ∷ codes " at " ∷ decimal place ∷ codes "\n" ∷ []))
+    record { status = 4; text = concat (codes "scenario rule " ∷ decimal rule ∷ codes " at " ∷ decimal place ∷ codes "\n" ∷ []) }
 reply_to (Refused (Task task kind at)) =
-    reply 5 (concat (codes "task " ∷ decimal task ∷ codes " kind " ∷ decimal kind ∷ codes " at " ∷ decimal at ∷ codes "\n" ∷ []))
+    record { status = 5; text = concat (codes "task " ∷ decimal task ∷ codes " kind " ∷ decimal kind ∷ codes " at " ∷ decimal at ∷ codes "\n" ∷ []) }
 reply_to (Refused (Table size row rule)) =
-    reply 6 (concat (codes "table " ∷ decimal size ∷ codes " row " ∷ decimal row ∷ codes " rule " ∷ decimal rule ∷ codes "\n" ∷ []))
+    record { status = 6; text = concat (codes "table " ∷ decimal size ∷ codes " row " ∷ decimal row ∷ codes " rule " ∷ decimal rule ∷ codes "\n" ∷ []) }
 reply_to (Refused (Script entry rule)) =
-    reply 7 (concat (codes "script entry " ∷ decimal entry ∷ codes " rule " ∷ decimal rule ∷ codes "\n" ∷ []))
+    record { status = 7; text = concat (codes "script entry " ∷ decimal entry ∷ codes " rule " ∷ decimal rule ∷ codes "\n" ∷ []) }
 
 -- their statuses
 abbrev pub no_mission_statuses : List ℕ

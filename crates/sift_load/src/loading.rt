@@ -2,8 +2,9 @@
 
 ghost use Rattle.std.specs.Prelude.{◌≡◌, IfErr, IfOk};
 ghost use Rattle.sift_base.specs.Stop.{IfRefused};
-ghost use Rattle.sift_load.specs.Loads.{IsDocument, IsNoDocument, States, StatesNone};
+ghost use Rattle.sift_load.specs.Loads.{IsDocument, States, StatesNone};
 ghost use Rattle.sift_mission.specs.Parts.{data_of};
+ghost use Rattle.toml.specs.Data.{Members};
 ghost use Rattle.toml.specs.View.{table_view};
 
 use crate::no_mission::NoMission;
@@ -16,7 +17,7 @@ use toml::Table;
 /// The document that the bytes are.
 pub fn read_document(alloc: Global, bytes: &[u8]) -> Result<Table, Stop<NoMission>>
     ensures document { IfOk result (λ document. IsDocument bytes.now (table_view document)) }
-    ensures refused { IfErr result (IfRefused (λ why. (why ≡ NoMission.NotADocument) × IsNoDocument bytes.now)) }
+    ensures refused { IfErr result (IfRefused (λ why. (why ≡ NoMission.NotADocument) × ((document : Members) → ¬ IsDocument bytes.now document))) }
 {
     match toml::table_from_slice(alloc, bytes) {
         Ok(document) => Ok(document),

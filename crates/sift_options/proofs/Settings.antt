@@ -1,7 +1,9 @@
 -- Options in words: words begin with one option and one value at most.
-use Rattle.std.proofs.Common.{◌≡◌, ℕ, ◌<◌, List, [], ◌∷◌, length, get_or, drop, Bool, true, false, cond, nat_eq, bytes_eq, refl, ap, sym, ◌∙◌, subst, arith, inl, inr}
+use Rattle.std.proofs.Common.{codes, ◌++◌, ◌≡◌, ℕ, ◌<◌, List, [], ◌∷◌, length, get_or, drop, Bool, true, false, cond, nat_eq, bytes_eq, refl, ap, sym, ◌∙◌, subst, arith, inl, inr, ◌≢◌, ◌⊎◌, Option, Some, None}
+use Rattle.std.proofs.lemmas.Bool.{cases_Bool}
+use Rattle.std.proofs.lemmas.Slice.Eq.{bytes_eq-Decides}
 use Rattle.std.specs.List.{after_first, before_first, list_any}
-use Rattle.sift_options.specs.Options.{Adds, more, none, BeginWith, Sets, joined, name_of}
+use Rattle.sift_options.specs.Options.{Adds, more, none, BeginWith, IsValue, Sets, given, name_of}
 use Rattle.sift_options.specs.declared.setting.Flag.{Flag}
 use Rattle.sift_options.specs.declared.setting.Flag.TheVariants.{Workers, Order, Report, Number, N, M, Skew, Error, Rate, Rounds, Copies, Subframes, Bus, From, Value}
 use Rattle.sift_options.specs.declared.setting.Options.{Options}
@@ -71,6 +73,10 @@ signless Subframes = refl
 signless Bus = refl
 signless From = refl
 signless Value = refl
+
+-- an option in one word, with its value behind the sign
+abbrev pub joined : Flag → (value : List ℕ) → List ℕ
+joined flag value = name_of flag ++ codes "=" ++ value
 
 -- a name with its value has it
 pub signed : (flag : Flag) (v : List ℕ) → list_any is_sign (joined flag v) ≡ true
@@ -199,3 +205,89 @@ pub adds_nothing : (flags : List Flag) (options all : Options) (words : List (Li
     (words ≡ []) × (all ≡ options)
 adds_nothing flags options all words begin (none o) = (refl, refl)
 adds_nothing flags options all words begin (more o after a g w ws s begin' sets adds) = absurd (begin g w s begin')
+
+-- ---- options that are set
+
+-- two options are the same, or differ
+pub same_or_other : (f g : Flag) → (f ≡ g) ⊎ (f ≢ g)
+same_or_other f g =
+    elim (cases_Bool (bytes_eq (name_of f) (name_of g))) [
+      | inl same ↦ inl (names_differ f g ((bytes_eq-Decides (name_of f) (name_of g)).0 same))
+      | inr apart ↦ inr (λ e. cc (apart, (bytes_eq-Decides (name_of f) (name_of g)).1 (ap name_of e)))
+    ]
+
+-- the numbers of all options
+abbrev numbers : Options → List (Option ℕ)
+numbers options =
+    given options Workers ∷ given options Order ∷ given options Report ∷ given options Number ∷ given options N ∷ given options M ∷ given options Skew ∷ given options Error
+    ∷ given options Rate ∷ given options Rounds ∷ given options Copies ∷ given options Subframes ∷ given options Bus ∷ given options From ∷ given options Value ∷ []
+
+-- the options with these numbers
+abbrev with_numbers : List (Option ℕ) → Options
+with_numbers ns = record {
+  workers = get_or ns 0 None;
+  order = get_or ns 1 None;
+  report = get_or ns 2 None;
+  number = get_or ns 3 None;
+  n = get_or ns 4 None;
+  m = get_or ns 5 None;
+  skew = get_or ns 6 None;
+  error = get_or ns 7 None;
+  rate = get_or ns 8 None;
+  rounds = get_or ns 9 None;
+  copies = get_or ns 10 None;
+  subframes = get_or ns 11 None;
+  bus = get_or ns 12 None;
+  from = get_or ns 13 None;
+  value = get_or ns 14 None;
+}
+
+-- options that give the same numbers are the same
+pub same_options : (one other : Options) → ((flag : Flag) → given one flag ≡ given other flag) → one ≡ other
+same_options one other same =
+    let all : numbers one ≡ numbers other =
+    rw (same Workers, same Order, same Report, same Number, same N, same M, same Skew, same Error, same Rate, same Rounds, same Copies, same Subframes, same Bus, same From, same Value) refl in
+    ap with_numbers all
+
+-- no options
+abbrev pub no_options : Options
+no_options = with_numbers []
+
+-- they give none
+none_given : (flag : Flag) → given no_options flag ≡ None
+none_given Workers = refl
+none_given Order = refl
+none_given Report = refl
+none_given Number = refl
+none_given N = refl
+none_given M = refl
+none_given Skew = refl
+none_given Error = refl
+none_given Rate = refl
+none_given Rounds = refl
+none_given Copies = refl
+none_given Subframes = refl
+none_given Bus = refl
+none_given From = refl
+none_given Value = refl
+
+-- options that give none are those
+pub not_given : (options : Options) → ((flag : Flag) → given options flag ≡ None) → options ≡ no_options
+not_given options unset = same_options options no_options (λ flag. unset flag ∙ sym (none_given flag))
+
+-- a text is one value of an option at most
+one_value : (flag : Flag) (text : List ℕ) (n k : ℕ) → IsValue flag text n → IsValue flag text k → n ≡ k
+one_value Workers text n k a b = omega (arith, ap (λ xs. get_or xs 0 0) (sym a.0 ∙ b.0))
+one_value Report text n k a b = omega (arith, ap (λ xs. get_or xs 0 0) (sym a.0 ∙ b.0))
+one_value flag text n k a b = sym a.value ∙ b.value
+
+-- it sets an option in one way
+pub one_setting : (options : Options) (flag : Flag) (text : List ℕ) (one other : Options) → Sets options flag text one →
+    Sets options flag text other → one ≡ other
+one_setting options flag text one other a b =
+    same_options one other (λ f.
+    elim (same_or_other f flag) [
+      | inl same ↦
+          ap (given one) same ∙ (a.3 ∙ (ap Some (one_value flag text a.0 b.0 a.1 b.1) ∙ (sym b.3 ∙ sym (ap (given other) same))))
+      | inr apart ↦ a.4 f apart ∙ sym (b.4 f apart)
+    ])

@@ -1,5 +1,5 @@
 -- The options of a command: how words give them.
-use Rattle.std.specs.Prelude.{codes, ℕ, ◌≡◌, ◌≤◌, ◌<◌, ◌+◌, ◌^◌, List, [], ◌∷◌, ◌++◌, ◌⊎◌, ◌&&◌, nat_le, if◌then◌else◌, length, Contains, Option, Some, None}
+use Rattle.std.specs.Prelude.{codes, ℕ, ◌≡◌, ◌≢◌, ◌≤◌, ◌<◌, ◌+◌, ◌^◌, List, [], ◌∷◌, ◌++◌, ◌⊎◌, ◌&&◌, nat_le, if◌then◌else◌, length, Contains, Option, Some, None}
 use Rattle.std.specs.Str.Parse.{AllDigits, digits_value}
 use Rattle.sift_options.specs.declared.setting.Flag.{Flag}
 use Rattle.sift_options.specs.declared.setting.Flag.TheVariants.{Workers, Order, Report, Number, N, M, Skew, Error, Rate, Rounds, Copies, Subframes, Bus, From, Value}
@@ -37,13 +37,9 @@ version_limit = 2
 abbrev pub digit_limit : ℕ
 digit_limit = 20
 
--- the text is one digit that counts workers
-abbrev pub IsWorkerCount : List ℕ → ℕ → Type 0
-IsWorkerCount text n = (text ≡ (48 + n) ∷ []) × (1 ≤ n) × (n ≤ worker_limit)
-
--- the text is one digit that counts versions of reports
-abbrev pub IsReportVersion : List ℕ → ℕ → Type 0
-IsReportVersion text n = (text ≡ (48 + n) ∷ []) × (1 ≤ n) × (n ≤ version_limit)
+-- the text is one digit, from 1 to this limit
+abbrev pub IsDigitTo : (limit : ℕ) → List ℕ → ℕ → Type 0
+IsDigitTo limit text n = (text ≡ (48 + n) ∷ []) × (1 ≤ n) × (n ≤ limit)
 
 -- the text is the number in decimal digits, of which the first ones may be 0
 pub record IsNumber (text : List ℕ) (n : ℕ) : Type 0 where
@@ -58,23 +54,11 @@ abbrev pub BeginsWithDigit : List ℕ → Type 0
 BeginsWithDigit [] = ⊥
 BeginsWithDigit (c ∷ cs) = (48 ≤ c) × (c ≤ 57)
 
--- the text is a value of an option
+-- the text is a value of an option: a count of workers, a version of reports, or a number, which each other option has
 abbrev pub IsValue : Flag → List ℕ → ℕ → Type 0
-IsValue Workers text n = IsWorkerCount text n
-IsValue Order text n = IsNumber text n
-IsValue Report text n = IsReportVersion text n
-IsValue Number text n = IsNumber text n
-IsValue N text n = IsNumber text n
-IsValue M text n = IsNumber text n
-IsValue Skew text n = IsNumber text n
-IsValue Error text n = IsNumber text n
-IsValue Rate text n = IsNumber text n
-IsValue Rounds text n = IsNumber text n
-IsValue Copies text n = IsNumber text n
-IsValue Subframes text n = IsNumber text n
-IsValue Bus text n = IsNumber text n
-IsValue From text n = IsNumber text n
-IsValue Value text n = IsNumber text n
+IsValue Workers text n = IsDigitTo worker_limit text n
+IsValue Report text n = IsDigitTo version_limit text n
+IsValue other text n = IsNumber text n
 
 -- ---- options
 
@@ -96,62 +80,25 @@ given options Bus = options.bus
 given options From = options.from
 given options Value = options.value
 
--- no option is given
-abbrev pub no_options : Options
-no_options = record {
-  workers = None;
-  order = None;
-  report = None;
-  number = None;
-  n = None;
-  m = None;
-  skew = None;
-  error = None;
-  rate = None;
-  rounds = None;
-  copies = None;
-  subframes = None;
-  bus = None;
-  from = None;
-  value = None;
-}
+-- an option that wasn't given has the number that the text says, and each other option stays as it was
+abbrev pub Sets : Options → Flag → (value : List ℕ) → (after : Options) → Type 0
+Sets options flag value after = (n : ℕ) × IsValue flag value n × (given options flag ≡ None) × (given after flag ≡ Some n)
+    × ((other : Flag) → other ≢ flag → given after other ≡ given options other)
 
--- these options with the number of one
-abbrev pub with_given : Options → Flag → ℕ → Options
-with_given options Workers n = record options { workers = Some n }
-with_given options Order n = record options { order = Some n }
-with_given options Report n = record options { report = Some n }
-with_given options Number n = record options { number = Some n }
-with_given options N n = record options { n = Some n }
-with_given options M n = record options { m = Some n }
-with_given options Skew n = record options { skew = Some n }
-with_given options Error n = record options { error = Some n }
-with_given options Rate n = record options { rate = Some n }
-with_given options Rounds n = record options { rounds = Some n }
-with_given options Copies n = record options { copies = Some n }
-with_given options Subframes n = record options { subframes = Some n }
-with_given options Bus n = record options { bus = Some n }
-with_given options From n = record options { from = Some n }
-with_given options Value n = record options { value = Some n }
-
--- an option that wasn't given is set to what the text says, and the others stay
-abbrev pub Sets : Options → Flag → (value : List ℕ) → Options → Type 0
-Sets options flag value after = (n : ℕ) × IsValue flag value n × (given options flag ≡ None) × (after ≡ with_given options flag n)
-
--- an option in one word, with its value behind an equality sign
-abbrev pub joined : Flag → (value : List ℕ) → List ℕ
-joined flag value = name_of flag ++ codes "=" ++ value
-
--- the words begin with one of these options and its value, in two words or in one, and these are the words behind it
+-- the words begin with one of these options and its value, in two words or in one with an equality sign, and these are the words behind it
 abbrev pub BeginWith : List Flag → (words : List (List ℕ)) → Flag → (value : List ℕ) → (rest : List (List ℕ)) → Type 0
 BeginWith flags words flag value rest =
-    Contains flags flag × ((words ≡ name_of flag ∷ value ∷ rest) ⊎ (words ≡ joined flag value ∷ rest))
+    Contains flags flag × ((words ≡ name_of flag ∷ value ∷ rest) ⊎ (words ≡ (name_of flag ++ codes "=" ++ value) ∷ rest))
 
 -- the words give options beside those that stand already, each one of these flags, and none of them a second time
 pub data Adds (flags : List Flag) : Options → List (List ℕ) → Options → Type 0 where
   none : (options : Options) → Adds flags options [] options
   more : (options after all : Options) (flag : Flag) (value : List ℕ) (words rest : List (List ℕ)) →
       BeginWith flags words flag value rest → Sets options flag value after → Adds flags after rest all → Adds flags options words all
+
+-- the words give these options: they add them where none was given
+abbrev pub Give : List Flag → (words : List (List ℕ)) → Options → Type 0
+Give flags words options = (none : Options) × ((flag : Flag) → given none flag ≡ None) × Adds flags none words options
 
 -- ---- ranges
 

@@ -1,7 +1,7 @@
 //! The options of a command, as the words after the command give them.
 
-ghost use Rattle.std.specs.Prelude.{◌≡◌, ◌≢◌, ◌↔◌, ℕ, List, ◌∷◌, Contains, IfNone, IfSome, IsTrue, Some, map, string_bytes};
-ghost use Rattle.sift_options.specs.Options.{Adds, BeginWith, BeginsWithDigit, IsNumber, IsReportVersion, IsValue, IsWorkerCount, Sets, given, joined, name_of, with_given};
+ghost use Rattle.std.specs.Prelude.{◌≡◌, ◌≢◌, ◌↔◌, ℕ, List, ◌∷◌, ◌++◌, codes, Contains, IfNone, IfSome, IsTrue, Some, map, string_bytes};
+ghost use Rattle.sift_options.specs.Options.{Adds, BeginWith, BeginsWithDigit, Give, IsDigitTo, IsNumber, IsValue, Sets, given, name_of, version_limit, worker_limit};
 
 /// The name of an option.
 #[derive(Clone, Copy)]
@@ -103,6 +103,15 @@ impl Options {
         value: None,
     };
 
+    /// The options that the words give, each one of these flags and at most once, or none where the words are
+    /// something else.
+    pub fn of(flags: &[Flag], words: &[String]) -> Option<Options>
+        ensures found { IfSome result (Give flags.now (map string_bytes words.now)) }
+        ensures exact { (options : Options) → Give flags.now (map string_bytes words.now) options → result ≡ Some options }
+    {
+        Options::NONE.and(flags, words)
+    }
+
     /// The number of an option, where it is given.
     fn given(self, flag: Flag) -> Option<u64>
         ensures { result ≡ given self flag }
@@ -128,7 +137,8 @@ impl Options {
 
     /// These options with this number of one.
     fn with_given(self, flag: Flag, number: u64) -> Options
-        ensures { result ≡ with_given self flag number }
+        ensures set { given result flag ≡ Some number }
+        ensures others { (other : Flag) → other ≢ flag → given result other ≡ given self other }
     {
         let mut options = self;
         let number = Some(number);
@@ -234,8 +244,8 @@ fn flag_named(flags: &[Flag], word: &str) -> Option<Flag>
 
 /// The one of these options that stands in a word with its value, and the text of that.
 fn one_word<'a>(flags: &[Flag], word: &'a str) -> Option<(Flag, &'a str)>
-    ensures found { IfSome result (λ setting. Contains flags.now setting.0 × (joined setting.0 setting.1.now ≡ word.now)) }
-    ensures none { IfNone result ((flag : Flag) (value : List ℕ) → Contains flags.now flag → joined flag value ≢ word.now) }
+    ensures found { IfSome result (λ setting. Contains flags.now setting.0 × (name_of setting.0 ++ codes "=" ++ setting.1.now ≡ word.now)) }
+    ensures none { IfNone result ((flag : Flag) (value : List ℕ) → Contains flags.now flag → name_of flag ++ codes "=" ++ value ≢ word.now) }
 {
     let (name, value) = word.split_once('=')?;
     let flag = flag_named(flags, name)?;
@@ -268,8 +278,8 @@ fn value_of(flag: Flag, text: &str) -> Option<u64>
 
 /// A count of workers.
 fn worker_count(text: &str) -> Option<u64>
-    ensures found { IfSome result (IsWorkerCount text.now) }
-    ensures exact { (n : ℕ) → IsWorkerCount text.now n → result ≡ Some n }
+    ensures found { IfSome result (IsDigitTo worker_limit text.now) }
+    ensures exact { (n : ℕ) → IsDigitTo worker_limit text.now n → result ≡ Some n }
 {
     match text.as_bytes() {
         [digit @ b'1'..=b'8'] => Some(u64::from(*digit - b'0')),
@@ -279,8 +289,8 @@ fn worker_count(text: &str) -> Option<u64>
 
 /// A version of reports.
 fn report_version(text: &str) -> Option<u64>
-    ensures found { IfSome result (IsReportVersion text.now) }
-    ensures exact { (n : ℕ) → IsReportVersion text.now n → result ≡ Some n }
+    ensures found { IfSome result (IsDigitTo version_limit text.now) }
+    ensures exact { (n : ℕ) → IsDigitTo version_limit text.now n → result ≡ Some n }
 {
     match text {
         "1" => Some(1),

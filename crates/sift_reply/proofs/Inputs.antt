@@ -3,8 +3,8 @@ use Rattle.std.proofs.Common.{◌≡◌, ◌≤◌, ◌+◌, ◌⊎◌, inl, inr
 use Rattle.std.proofs.lemmas.List.{append-nil, length-append}
 use Rattle.std.specs.Io.KnownBytes.{Consumes, IsAtEnd}
 use Rattle.sift_io.specs.Flow.{Rose}
-use Rattle.sift_reply.specs.Duty.{IsOwedWithin, OwesWithin}
-use Rattle.sift_reply.specs.Reply.{Input, IsTold, Reply, read_fault}
+use Rattle.sift_reply.specs.Duty.{IsOwedTo, Owes}
+use Rattle.sift_reply.specs.Reply.{Input, Reply, read_fault}
 
 -- what was taken of known bytes, to their end, is these bytes
 all_taken :
@@ -30,8 +30,8 @@ taken_within (Some xs) (Some ys) bytes some told taken =
 -- a reply that is owed to what was read is owed to the bytes that were told, or the source failed
 pub owed_to_bytes :
     (limit : Option ℕ) (gives : List ℕ → Reply → Type 0) (input : Input) (bytes : List ℕ) (reply : Reply)
-    → IsTold input bytes → OwesWithin limit gives input reply
-    → IsOwedWithin limit gives bytes reply ⊎ ((reply ≡ read_fault) × Rose input.before.faults input.after.faults)
+    → input.before.left ≡ Some bytes → Owes (record { limit = limit; gives = gives }) input reply
+    → IsOwedTo (record { limit = limit; gives = gives }) bytes reply ⊎ ((reply ≡ read_fault) × Rose input.before.faults input.after.faults)
 owed_to_bytes None gives input bytes reply told owes = inl owes
 owed_to_bytes (Some limit) gives input bytes reply told (inl given) =
     let same = all_taken input.before.left input.after.left bytes given.0 told given.1.0 given.1.1 in

@@ -11,17 +11,16 @@ pub record Duty : Type 1 where
 
 -- ---- what is owed for what was read
 
--- by a command with this limit that gives these replies; without a limit nothing is read, and the input counts as empty
-abbrev pub OwesWithin : (limit : Option ℕ) → (gives : List ℕ → Reply → Type 0) → Input → Reply → Type 0
-OwesWithin None gives input reply = gives [] reply
-OwesWithin (Some limit) gives input reply =
-    ((bytes : List ℕ) × TakesAll input.before input.after bytes limit × gives bytes reply)
-    ⊎ ((reply ≡ too_long) × TakesExactly input.before input.after (limit + 1))
-    ⊎ ((reply ≡ read_fault) × Rose input.before.faults input.after.faults × TakesAtMost input.before input.after limit)
-
--- a reply that it gives to the input, which was read to its end; or one byte past its limit was read; or the source failed before
+-- a reply that it gives to the input, which was read to its end; or one byte past its limit was read; or the source failed before. Without
+-- a limit nothing is read, and the input counts as empty
 abbrev pub Owes : Duty → Input → Reply → Type 0
-Owes duty input reply = OwesWithin duty.limit duty.gives input reply
+Owes duty input reply = elim duty.limit [
+  | None ↦ duty.gives [] reply
+  | Some limit ↦
+      ((bytes : List ℕ) × TakesAll input.before input.after bytes limit × duty.gives bytes reply)
+      ⊎ ((reply ≡ too_long) × TakesExactly input.before input.after (limit + 1))
+      ⊎ ((reply ≡ read_fault) × Rose input.before.faults input.after.faults × TakesAtMost input.before input.after limit)
+]
 
 -- no more was read than the limit; without one, nothing
 abbrev pub ReadsWithin : (limit : Option ℕ) → Input → Type 0
@@ -40,15 +39,12 @@ input_within (Some limit) bytes = bytes
 
 -- ---- what is owed to the bytes of an input that tells them
 
--- by a command with this limit that gives these replies
-abbrev pub IsOwedWithin : (limit : Option ℕ) → (gives : List ℕ → Reply → Type 0) → List ℕ → Reply → Type 0
-IsOwedWithin None gives bytes reply = gives [] reply
-IsOwedWithin (Some limit) gives bytes reply =
-    ((length bytes ≤ limit) × gives bytes reply) ⊎ ((limit < length bytes) × (reply ≡ too_long))
-
 -- a reply that it gives to them, or they are too many
 abbrev pub IsOwedTo : Duty → List ℕ → Reply → Type 0
-IsOwedTo duty bytes reply = IsOwedWithin duty.limit duty.gives bytes reply
+IsOwedTo duty bytes reply = elim duty.limit [
+  | None ↦ duty.gives [] reply
+  | Some limit ↦ ((length bytes ≤ limit) × duty.gives bytes reply) ⊎ ((limit < length bytes) × (reply ≡ too_long))
+]
 
 -- they are owed one reply at most
 abbrev pub OwesOneTo : Duty → List ℕ → Type 0

@@ -1,9 +1,9 @@
 -- What each status says: laws of the promise, whatever the commands are.
-use Rattle.std.specs.Prelude.{ℕ, ◌≡◌, ◌≢◌, ◌⊎◌, List, [], ◌∷◌, Contains, None}
+use Rattle.std.specs.Prelude.{ℕ, ◌≡◌, ◌≢◌, ◌⊎◌, List, [], ◌∷◌, Contains, None, Some}
 use Rattle.sift_io.specs.Flow.{Rose}
-use Rattle.sift_reply.specs.Duty.{Duty, GivesOne, GivesOneTo, SharesNoStatus, IsWhole, MayEndWith, OwesOneTo, input_within}
-use Rattle.sift_reply.specs.Reply.{Input, IsTold, IsCut, IsGiven, IsWritten, Output, Reply, no_memory_status, read_fault, shared_statuses, sink_fault_status, usage}
-use Rattle.sift_reply.specs.Promise.{Commands, IsAnswered, IsCommandLine, IsDue, IsOwed, MayWant}
+use Rattle.sift_reply.specs.Duty.{Duty, GivesOne, GivesOneTo, IsOwedTo, IsWhole, MayEndWith, Owes, OwesOneTo, SharesNoStatus, input_within}
+use Rattle.sift_reply.specs.Reply.{Input, IsBroken, IsGiven, IsWritten, Output, Reply, no_memory_status, read_fault, shared_statuses, sink_fault_status, usage}
+use Rattle.sift_reply.specs.Promise.{Commands, IsAnswered, IsCommandLine, IsOwed, MayWant}
 
 module _ {Command : Type 0} (commands : Commands Command) where
   -- words ask for one command at most
@@ -23,20 +23,20 @@ module _ {Command : Type 0} (commands : Commands Command) where
         → (bytes : List ℕ) × (reply : Reply) × IsWhole (commands.duty command).limit input bytes × (commands.duty command).gives bytes reply
         × IsGiven output reply status
     -- but for a fault of the sink and want of memory, it is that of a reply that is owed, which was given
-    pub owed : status ≢ sink_fault_status → status ≢ no_memory_status → (reply : Reply) × IsOwed commands words input reply × IsGiven output reply status
+    pub owed : status ≢ sink_fault_status → status ≢ no_memory_status → (reply : Reply) × IsOwed commands words (λ duty. Owes duty input) reply × IsGiven output reply status
     -- the sink failed within a reply that is owed
-    pub cut : status ≡ sink_fault_status → (reply : Reply) × IsOwed commands words input reply × IsCut output reply.text
+    pub cut : status ≡ sink_fault_status → (reply : Reply) × IsOwed commands words (λ duty. Owes duty input) reply × IsBroken output reply status
     -- memory was wanting for a command, and nothing was written
     pub no_memory : status ≡ no_memory_status → MayWant commands words input × IsWritten output []
     -- words that are no command line get `usage`, or a fault of the sink
     pub usage : ¬ IsCommandLine commands words → Contains (usage.status ∷ sink_fault_status ∷ []) status
     -- bytes that are told and are owed one reply get it, or there is a fault or want of memory
-    pub due : (bytes : List ℕ) (command : Command) (reply : Reply) → IsTold input bytes → commands.asks words command
-        → OwesOneTo (commands.duty command) bytes → IsDue commands words bytes reply
+    pub due : (bytes : List ℕ) (command : Command) (reply : Reply) → input.before.left ≡ Some bytes → commands.asks words command
+        → OwesOneTo (commands.duty command) bytes → IsOwed commands words (λ duty. IsOwedTo duty bytes) reply
         → IsGiven output reply status ⊎ Contains (read_fault.status ∷ sink_fault_status ∷ no_memory_status ∷ []) status
     -- where neither side fails they get it, or memory is wanting
-    pub sure : (bytes : List ℕ) (command : Command) (reply : Reply) → IsTold input bytes → commands.asks words command
-        → OwesOneTo (commands.duty command) bytes → IsDue commands words bytes reply
+    pub sure : (bytes : List ℕ) (command : Command) (reply : Reply) → input.before.left ≡ Some bytes → commands.asks words command
+        → OwesOneTo (commands.duty command) bytes → IsOwed commands words (λ duty. IsOwedTo duty bytes) reply
         → ¬ Rose input.before.faults input.after.faults → ¬ Rose output.before.faults output.after.faults
         → IsGiven output reply status ⊎ (status ≡ no_memory_status)
     -- a command that reads nothing gets its one reply, whatever the source is, or the sink fails, or memory is wanting

@@ -1,5 +1,5 @@
 -- Replies, the input that is read, and what is written.
-use Rattle.std.specs.Prelude.{ℕ, ◌≡◌, List, Some, codes, [], ◌∷◌}
+use Rattle.std.specs.Prelude.{ℕ, ◌≡◌, List, codes, [], ◌∷◌}
 use Rattle.std.specs.Io.KnownBytes.{Appends}
 use Rattle.sift_io.specs.Flow.{Inflow, Outflow, Rose}
 use Rattle.sift_io.specs.Writing.{AddsPrefix}
@@ -11,31 +11,27 @@ pub record Reply : Type 0 where
   pub status : ℕ
   pub text : List ℕ
 
--- the same, from its parts
-abbrev pub reply : (status : ℕ) → (text : List ℕ) → Reply
-reply status text = record { status = status; text = text }
-
 -- the status of a command that has done what was asked
 abbrev pub done_status : ℕ
 done_status = 0
 
 -- the reply of such a command: the text that was asked for
 abbrev pub done : (text : List ℕ) → Reply
-done text = reply done_status text
+done text = record { status = done_status; text = text }
 
 -- ---- what every command shares
 
 -- the reply to words that are no command line
 abbrev pub usage : Reply
-usage = reply 2 (codes "usage\n")
+usage = record { status = 2; text = codes "usage\n" }
 
 -- the reply to an input that can't be read to its end
 abbrev pub read_fault : Reply
-read_fault = reply 8 (codes "read fault\n")
+read_fault = record { status = 8; text = codes "read fault\n" }
 
 -- the reply to an input with more bytes than the command reads
 abbrev pub too_long : Reply
-too_long = reply 11 (codes "too long\n")
+too_long = record { status = 11; text = codes "too long\n" }
 
 -- the status where the sink failed within the text of a reply
 abbrev pub sink_fault_status : ℕ
@@ -56,14 +52,6 @@ pub record Input : Type 0 where
   pub before : Inflow
   pub after : Inflow
 
--- the same, from its parts
-abbrev pub input : Inflow → Inflow → Input
-input before after = record { before = before; after = after }
-
--- the input tells its bytes, and they are these
-abbrev pub IsTold : Input → List ℕ → Type 0
-IsTold input bytes = input.before.left ≡ Some bytes
-
 -- ---- what is written
 
 -- what became of a sink in a call
@@ -71,22 +59,15 @@ pub record Output : Type 0 where
   pub before : Outflow
   pub after : Outflow
 
--- the same, from its parts
-abbrev pub output : Outflow → Outflow → Output
-output before after = record { before = before; after = after }
-
 -- the text was written
 abbrev pub IsWritten : Output → (text : List ℕ) → Type 0
 IsWritten output text = Appends output.before.written output.after.written text
-
--- the sink failed, after a prefix of the text
-abbrev pub IsCut : Output → (text : List ℕ) → Type 0
-IsCut output text = Rose output.before.faults output.after.faults × AddsPrefix output.before output.after text
 
 -- the reply was given: its status, with its whole text written
 abbrev pub IsGiven : Output → Reply → (status : ℕ) → Type 0
 IsGiven output reply status = (status ≡ reply.status) × IsWritten output reply.text
 
--- the sink failed within the reply's text, and the status says so
+-- the sink failed after a prefix of the reply's text, and the status says so
 abbrev pub IsBroken : Output → Reply → (status : ℕ) → Type 0
-IsBroken output reply status = (status ≡ sink_fault_status) × IsCut output reply.text
+IsBroken output reply status =
+    (status ≡ sink_fault_status) × Rose output.before.faults output.after.faults × AddsPrefix output.before output.after reply.text

@@ -3,9 +3,9 @@
 ghost use Rattle.std.specs.Prelude.{◌≡◌, ◌≢◌, ◌⊎◌, IfErr, IfOk, None, map, string_bytes};
 ghost use Rattle.sift_reply.specs.Begun.{MayCome};
 ghost use Rattle.sift_reply.specs.Duty.{SharesNoStatus, Owes, ReadsWithin};
-ghost use Rattle.sift_reply.specs.Reply.{input, IsBroken, IsGiven, output, no_memory_status};
+ghost use Rattle.sift_reply.specs.Reply.{IsBroken, IsGiven, no_memory_status};
 ghost use Rattle.sift_reply.specs.Laws.{ShareNoStatus};
-ghost use Rattle.sift_reply.specs.Promise.{AskForNoInput, IsAnswered, IsCertain, IsOwed, MayWant, commands_of};
+ghost use Rattle.sift_reply.specs.Promise.{AskForNoInput, IsAnswered, IsCertain, IsOwed, MayWant};
 
 use crate::begun::{Begun, Work};
 use crate::job::{Asked, Job};
@@ -27,18 +27,18 @@ pub fn answer<
     K: Sink,
     D: Fn(W) -> Result<String, NoMemory>,
 >(alloc: Global, means: M, words: &[String], source: &mut S, sink: &mut K, do_work: &D) -> u8
-    requires own { ShareNoStatus (commands_of C.asks (C.duty means)) }
+    requires own { ShareNoStatus (record { asks = C.asks; duty = C.duty means }) }
     requires callable { (work : W) → D.pre do_work.now work }
     requires done { (work : W) (came : _) → D.post do_work.now work came → IfOk came (λ text. W.gives work (string_bytes text)) }
-    ensures answered { IsAnswered (commands_of C.asks (C.duty means)) (map string_bytes words.now)
-        (input (S.inflow source.old) (S.inflow source.new))
-        (output (K.outflow sink.old) (K.outflow sink.new)) result }
-    ensures certain { IsCertain (commands_of C.asks (C.duty means)) (map string_bytes words.now)
-        (input (S.inflow source.old) (S.inflow source.new))
-        (output (K.outflow sink.old) (K.outflow sink.new)) result }
+    ensures answered { IsAnswered (record { asks = C.asks; duty = C.duty means }) (map string_bytes words.now)
+        (record { before = S.inflow source.old; after = S.inflow source.new })
+        (record { before = K.outflow sink.old; after = K.outflow sink.new }) result }
+    ensures certain { IsCertain (record { asks = C.asks; duty = C.duty means }) (map string_bytes words.now)
+        (record { before = S.inflow source.old; after = S.inflow source.new })
+        (record { before = K.outflow sink.old; after = K.outflow sink.new }) result }
 
     // Only a job that reads it reads the source, and want of memory writes nothing.
-    ensures unread { AskForNoInput (commands_of C.asks (C.duty means)) (map string_bytes words.now) → source.new ≡ source.old }
+    ensures unread { AskForNoInput (record { asks = C.asks; duty = C.duty means }) (map string_bytes words.now) → source.new ≡ source.old }
     ensures unwritten { result ≡ no_memory_status → sink.new ≡ sink.old }
 {
     match owed::<M, W, C, S, D>(alloc, means, words, source, do_work) {
@@ -55,15 +55,15 @@ fn owed<M: Drop, W: Work, C: Asked<M, W>, S: Source, D: Fn(W) -> Result<String, 
     source: &mut S,
     do_work: &D,
 ) -> Result<Reply, NoMemory>
-    requires own { ShareNoStatus (commands_of C.asks (C.duty means)) }
+    requires own { ShareNoStatus (record { asks = C.asks; duty = C.duty means }) }
     requires callable { (work : W) → D.pre do_work.now work }
     requires done { (work : W) (came : _) → D.post do_work.now work came → IfOk came (λ text. W.gives work (string_bytes text)) }
-    ensures owed { IfOk result (IsOwed (commands_of C.asks (C.duty means)) (map string_bytes words.now)
-        (input (S.inflow source.old) (S.inflow source.new))) }
-    ensures wanting { IfErr result (λ _. MayWant (commands_of C.asks (C.duty means)) (map string_bytes words.now)
-        (input (S.inflow source.old) (S.inflow source.new))) }
+    ensures owed { IfOk result (IsOwed (record { asks = C.asks; duty = C.duty means }) (map string_bytes words.now)
+        (λ duty. Owes duty (record { before = S.inflow source.old; after = S.inflow source.new }))) }
+    ensures wanting { IfErr result (λ _. MayWant (record { asks = C.asks; duty = C.duty means }) (map string_bytes words.now)
+        (record { before = S.inflow source.old; after = S.inflow source.new })) }
     ensures other { IfOk result (λ reply. reply.status ≢ no_memory_status) }
-    ensures unread { AskForNoInput (commands_of C.asks (C.duty means)) (map string_bytes words.now) → source.new ≡ source.old }
+    ensures unread { AskForNoInput (record { asks = C.asks; duty = C.duty means }) (map string_bytes words.now) → source.new ≡ source.old }
 {
     match C::from_words(words) {
         Some(job) => owed_by(alloc, means, job, source, do_work),
@@ -82,8 +82,8 @@ fn owed_by<M: Drop, W: Work, J: Job<M, W>, S: Source, D: Fn(W) -> Result<String,
     requires own { SharesNoStatus (J.duty means job) }
     requires callable { (work : W) → D.pre do_work.now work }
     requires done { (work : W) (came : _) → D.post do_work.now work came → IfOk came (λ text. W.gives work (string_bytes text)) }
-    ensures owed { IfOk result (Owes (J.duty means job) (input (S.inflow source.old) (S.inflow source.new))) }
-    ensures wanting { IfErr result (λ _. ReadsWithin (J.duty means job).limit (input (S.inflow source.old) (S.inflow source.new))) }
+    ensures owed { IfOk result (Owes (J.duty means job) (record { before = S.inflow source.old; after = S.inflow source.new })) }
+    ensures wanting { IfErr result (λ _. ReadsWithin (J.duty means job).limit (record { before = S.inflow source.old; after = S.inflow source.new })) }
     ensures other { IfOk result (λ reply. reply.status ≢ no_memory_status) }
     ensures unread { (J.duty means job).limit ≡ None → source.new ≡ source.old }
 {
@@ -143,8 +143,8 @@ fn text_of<W: Work, D: Fn(W) -> Result<String, NoMemory>>(
 
 /// Writes a reply, and answers its status, or that of a sink that failed.
 fn give<K: Sink>(sink: &mut K, reply: &Reply) -> u8
-    ensures { IsGiven (output (K.outflow sink.old) (K.outflow sink.new)) reply.now result
-        ⊎ IsBroken (output (K.outflow sink.old) (K.outflow sink.new)) reply.now result }
+    ensures { IsGiven (record { before = K.outflow sink.old; after = K.outflow sink.new }) reply.now result
+        ⊎ IsBroken (record { before = K.outflow sink.old; after = K.outflow sink.new }) reply.now result }
 {
     match write_all(sink, reply.text.as_bytes()) {
         Ok(()) => reply.status,

@@ -1,14 +1,13 @@
 //! The laws of the promise.
 
 ghost use Rattle.sift_reply.specs.Laws.{GivesOneOwesOne, StatusesAreExplained};
-ghost use Rattle.sift_reply.specs.Promise.{commands_of};
 
 use crate::begun::Work;
 use crate::job::{Asked, Job};
 
 /// What each status says, whatever the commands and their means are.
 pub fn statuses_are_explained<M, W: Work, C: Asked<M, W>>()
-    ensures { (means : M) → StatusesAreExplained (commands_of C.asks (C.duty means)) }
+    ensures { (means : M) → StatusesAreExplained (record { asks = C.asks; duty = C.duty means }) }
 {}
 
 /// A job that gives one reply to an input owes one to its bytes. The input of a job that reads nothing is empty.

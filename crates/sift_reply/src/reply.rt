@@ -26,13 +26,13 @@ impl Model for Reply {
 
     ghost Value = { spec.Reply };
 
-    ghost view = { λ r. spec.reply r.status (cow_str_bytes r.text) };
+    ghost view = { λ r. record { status = r.status; text = cow_str_bytes r.text } };
 }
 
 impl Reply {
     /// A reply with a text that takes no memory.
     pub fn fixed(status: u8, text: &'static str) -> Reply
-        ensures { result ≡ spec.reply status text.now }
+        ensures { result ≡ record { status = status; text = text.now } }
     {
         Reply {
             status,
@@ -42,7 +42,7 @@ impl Reply {
 
     /// A reply with a text that was made.
     pub fn made(status: u8, text: String) -> Reply
-        ensures { result ≡ spec.reply status (string_bytes text) }
+        ensures { result ≡ record { status = status; text = string_bytes text } }
     {
         Reply {
             status,

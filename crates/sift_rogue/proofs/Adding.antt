@@ -1,12 +1,12 @@
 -- A storm, call by call.
-use Rattle.std.proofs.Common.{◌+◌, [], ◌∷◌, ◌++◌, option_to_list, refl, arith}
+use Rattle.std.proofs.Common.{[], ◌∷◌, ◌++◌, option_to_list, refl, arith}
 use Rattle.sift_rogue.specs.Storms.{Call, StormsAddUp}
 
 -- with one call more there is one act more, and its stray before the others
 pub add_up : {R : Type 0} (allows : R → Call → R → Type 0) → StormsAddUp allows
 add_up allows = record {
-  begins = λ b number x y start. record { begun = y; start = start; acts = []; count_is = refl; answers = refl; strays_are = refl };
-  goes_on = λ b number x count strays y shot z storm shoots. record {
+  begins = λ sift number x y start. record { begun = y; start = start; acts = []; count_is = refl; answers = refl; strays_are = refl };
+  goes_on = λ sift number x count strays y shot z storm shoots. record {
     begun = storm.begun;
     start = storm.start;
     acts = shoots.act ∷ storm.acts;

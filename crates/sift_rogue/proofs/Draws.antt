@@ -1,33 +1,51 @@
 -- Storms that are drawn are the draws.
-use Rattle.std.proofs.Common.{◌≡◌, ℕ, zero, suc, List, [], ◌∷◌, length, refl, ap, ◌∙◌}
+use Rattle.std.proofs.Common.{◌≡◌, ℕ, zero, suc, ◌+◌, ◌*◌, List, [], ◌∷◌, length, refl, sym, ap, ◌∙◌, arith, Option}
+use Rattle.sift_base.specs.Draw.{next_number}
 use Rattle.sift_buffer.specs.Conduct.{Stray}
 use Rattle.sift_rogue.specs.declared.act.Act.{Act}
 use Rattle.sift_rogue.specs.declared.storm.Storm.{Storm}
 use Rattle.sift_rogue.specs.Rogues.{AllowsDrawn, after, drawn_act}
-use Rattle.sift_rogue.specs.Storms.{Bounds, Storms, Answers, all_sifted}
-use Rattle.sift_rogue.specs.DrawnStorms.{DrawnStormsAreTheDraws, behind, drawn_acts}
+use Rattle.sift_rogue.specs.Storms.{Storms, Answers, all_sifted}
+use Rattle.sift_rogue.specs.DrawnStorms.{DrawnStormsAreTheDraws, drawn_acts}
+
+zero_more : (b : ℕ) → b ≡ 0 + b
+zero_more b = omega arith
+
+suc_more : (a b : ℕ) → suc (a + b) ≡ suc a + b
+suc_more a b = omega arith
+
+-- draws after draws are draws
+draws_add : (x a b : ℕ) → after (after x a) b ≡ after x (a + b)
+draws_add x zero b = ap (after x) (zero_more b)
+draws_add x (suc a) b = draws_add (next_number x) a b ∙ ap (after x) (suc_more a b)
+
+-- so are five after those of some acts
+five_more : (x count : ℕ) → after (after x (5 * count)) 5 ≡ after x (5 * suc count)
+five_more x count =
+    let more : 5 * count + 5 ≡ 5 * suc count = omega arith in
+    draws_add x (5 * count) 5 ∙ ap (after x) more
 
 -- what was answered is what is drawn, and the drawer stands behind it
 answers_drawn : (x : Storm) (acts : List Act) (y : Storm) → Answers AllowsDrawn x acts y →
-    (acts ≡ drawn_acts x.drawer (length acts)) × (y.drawer ≡ behind x.drawer (length acts))
+    (acts ≡ drawn_acts x.drawer (length acts)) × (y.drawer ≡ after x.drawer (5 * length acts))
 answers_drawn x [] y is = (refl, ap (λ (s : Storm). s.drawer) is)
 answers_drawn x (a ∷ acts) z w =
     let rest = answers_drawn x acts w.0 w.1 in
-    ((λ i. (w.2.0 ∙ ap drawn_act rest.1) i ∷ rest.0 i), w.2.1 ∙ ap (λ (n : ℕ). after n 5) rest.1)
+    ((λ i. (w.2.0 ∙ ap drawn_act rest.1) i ∷ rest.0 i), w.2.1 ∙ (ap (λ (n : ℕ). after n 5) rest.1 ∙ five_more x.drawer (length acts)))
 
 -- so is a storm that is drawn
-storm_drawn : (b : Bounds) (number : ℕ) (x : Storm) (count : ℕ) (strays : List Stray) (y : Storm) → Storms AllowsDrawn b number x count strays y →
-    (strays ≡ all_sifted b (drawn_acts number count)) × (y.drawer ≡ behind number count)
-storm_drawn b number x count strays y storm =
+storm_drawn : (sift : Act → Option Stray) (number : ℕ) (x : Storm) (count : ℕ) (strays : List Stray) (y : Storm) → Storms AllowsDrawn sift number x count strays y →
+    (strays ≡ all_sifted sift (drawn_acts number count)) × (y.drawer ≡ after number (5 * count))
+storm_drawn sift number x count strays y storm =
     let drawn = answers_drawn storm.begun storm.acts y storm.answers in (
-      storm.strays_are ∙ ap (all_sifted b) (drawn.0 ∙ (λ i. drawn_acts (storm.start i) (storm.count_is i))),
-      drawn.1 ∙ (λ i. behind (storm.start i) (storm.count_is i)),
+      storm.strays_are ∙ ap (all_sifted sift) (drawn.0 ∙ (λ i. drawn_acts (storm.start i) (storm.count_is i))),
+      drawn.1 ∙ (λ i. after (storm.start i) (5 * storm.count_is i)),
     )
 
 -- what is drawn is answered
-drawn_answers : (number count : ℕ) → Answers AllowsDrawn (record { drawer = number }) (drawn_acts number count) (record { drawer = behind number count })
+drawn_answers : (number count : ℕ) → Answers AllowsDrawn (record { drawer = number }) (drawn_acts number count) (record { drawer = after number (5 * count) })
 drawn_answers number zero = refl
-drawn_answers number (suc count) = (record { drawer = behind number count }, drawn_answers number count, (refl, refl))
+drawn_answers number (suc count) = (record { drawer = after number (5 * count) }, drawn_answers number count, (refl, sym (five_more number count)))
 
 -- as many acts as were asked for
 drawn_count : (number count : ℕ) → length (drawn_acts number count) ≡ count
@@ -38,7 +56,7 @@ drawn_count number (suc count) = ap suc (drawn_count number count)
 pub are_the_draws : DrawnStormsAreTheDraws
 are_the_draws = record {
   strays = storm_drawn;
-  some = λ b number x count. record {
+  some = λ sift number x count. record {
     begun = record { drawer = number };
     start = refl;
     acts = drawn_acts number count;

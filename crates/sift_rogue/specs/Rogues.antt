@@ -15,14 +15,10 @@ use Rattle.sift_rogue.specs.Storms.{Call, Started, Answered}
 abbrev pub after : ℕ → ℕ → ℕ
 after x n = iterate next_number n x
 
--- a cell of any bits: stamp, presence and word
-abbrev pub cell_of : ℕ → ℕ → ℕ → ℕ
-cell_of stamp presence word = stamp * stamp_weight + presence * presence_weight + word
-
--- the act that is drawn from x: receiver, slot, stamp, presence and word, in this order
+-- the act that is drawn from x: receiver, slot, and a cell of any stamp, presence and word, in this order
 abbrev pub drawn_act : ℕ → Act
-drawn_act x =
-    Stray (drawn (after x 1) 8) (drawn (after x 2) 90) (cell_of (drawn (after x 3) 65536) (drawn (after x 4) 2) (drawn (after x 5) 65536))
+drawn_act x = Stray (drawn (after x 1) 8) (drawn (after x 2) 90)
+    (drawn (after x 3) 65536 * stamp_weight + drawn (after x 4) 2 * presence_weight + drawn (after x 5) 65536)
 
 -- `start` gives the drawer its number, and `next` answers what is drawn
 abbrev pub AllowsDrawn : Storm → Call → Storm → Type 0

@@ -1,5 +1,5 @@
 -- What a storm comes to: the calls of a rogue, and the strays that are stored of its acts.
-use Rattle.std.specs.Prelude.{ℕ, ◌≡◌, ◌+◌, ◌&&◌, Bool, not, nat_eq, nat_lt, if◌then◌else◌, List, [], ◌∷◌, ◌++◌, length, Option, Some, None, option_to_list, option_map}
+use Rattle.std.specs.Prelude.{ℕ, ◌≡◌, ◌+◌, ◌&&◌, not, nat_eq, nat_lt, if◌then◌else◌, List, [], ◌∷◌, ◌++◌, length, Option, Some, None, option_to_list, option_map}
 use Rattle.sift_base.specs.declared.layout.Layout.{Layout}
 use Rattle.sift_base.specs.Layout.{slot_count}
 use Rattle.sift_buffer.specs.Conduct.{Stray, stray_to}
@@ -18,29 +18,15 @@ pub data Call : Type 0 where
 
 -- ---- acts, and what is stored of them
 
--- whose acts they are, and how many units and slots there are
-pub record Bounds : Type 0 where
-  pub own : ℕ
-  pub units : ℕ
-  pub slots : ℕ
+-- the stray that a unit's act comes to under a layout: none where it rests, or where the receiver is no other unit or the slot isn't there
+abbrev pub sifted : Layout → (own : ℕ) → Act → Option Stray
+sifted layout own (Strays q k x) = if nat_lt q layout.units && not (nat_eq q own) && nat_lt k (slot_count layout) then Some (stray_to q k x) else None
+sifted layout own Rest = None
 
--- the bounds of a unit's acts under a layout
-abbrev pub bounds_of : Layout → ℕ → Bounds
-bounds_of layout u = record { own = u; units = layout.units; slots = slot_count layout }
-
--- the receiver is another unit, and the slot is there
-abbrev pub is_cell : Bounds → ℕ → ℕ → Bool
-is_cell b q k = nat_lt q b.units && not (nat_eq q b.own) && nat_lt k b.slots
-
--- the stray that an act comes to: none where the unit rests, or where there is no such cell
-abbrev pub sifted : Bounds → Act → Option Stray
-sifted b (Strays q k x) = if is_cell b q k then Some (stray_to q k x) else None
-sifted b Rest = None
-
--- and those of many acts
-abbrev pub all_sifted : Bounds → List Act → List Stray
-all_sifted b [] = []
-all_sifted b (a ∷ acts) = option_to_list (sifted b a) ++ all_sifted b acts
+-- the strays of many acts, each of which comes to this one, or to none
+abbrev pub all_sifted : (sift : Act → Option Stray) → List Act → List Stray
+all_sifted sift [] = []
+all_sifted sift (a ∷ acts) = option_to_list (sift a) ++ all_sifted sift acts
 
 -- the stray of a shot
 abbrev pub stray_of : Shot → Stray
@@ -54,23 +40,23 @@ module _ {R : Type 0} (allows : R → Call → R → Type 0) where
   Answers x [] y = y ≡ x
   Answers x (a ∷ acts) z = (y : R) × Answers x acts y × allows y (Answered a) z
 
-  -- x was started with this number and then called so many times, and became y; these are the strays of its acts, the newest first
-  pub record Storms (b : Bounds) (number : ℕ) (x : R) (count : ℕ) (strays : List Stray) (y : R) : Type 0 where
+  -- x was started with this number and then called so many times, and became y; these are the strays that its acts come to, the newest first
+  pub record Storms (sift : Act → Option Stray) (number : ℕ) (x : R) (count : ℕ) (strays : List Stray) (y : R) : Type 0 where
     pub begun : R
     pub start : allows x (Started number) begun
     pub acts : List Act
     pub count_is : length acts ≡ count
     pub answers : Answers begun acts y
-    pub strays_are : strays ≡ all_sifted b acts
+    pub strays_are : strays ≡ all_sifted sift acts
 
   -- x was called once and became y; its act comes to this shot, or to none
-  pub record Shoots (b : Bounds) (x : R) (shot : Option Shot) (y : R) : Type 0 where
+  pub record Shoots (sift : Act → Option Stray) (x : R) (shot : Option Shot) (y : R) : Type 0 where
     pub act : Act
     pub allowed : allows x (Answered act) y
-    pub is : option_map stray_of shot ≡ sifted b act
+    pub is : option_map stray_of shot ≡ sift act
 
   -- a storm begins with `start`, and with one call more it is a storm still
   pub record StormsAddUp : Type 0 where
-    pub begins : (b : Bounds) (number : ℕ) (x y : R) → allows x (Started number) y → Storms b number x 0 [] y
-    pub goes_on : (b : Bounds) (number : ℕ) (x : R) (count : ℕ) (strays : List Stray) (y : R) (shot : Option Shot) (z : R) →
-        Storms b number x count strays y → Shoots b y shot z → Storms b number x (count + 1) (option_to_list (option_map stray_of shot) ++ strays) z
+    pub begins : (sift : Act → Option Stray) (number : ℕ) (x y : R) → allows x (Started number) y → Storms sift number x 0 [] y
+    pub goes_on : (sift : Act → Option Stray) (number : ℕ) (x : R) (count : ℕ) (strays : List Stray) (y : R) (shot : Option Shot) (z : R) →
+        Storms sift number x count strays y → Shoots sift y shot z → Storms sift number x (count + 1) (option_to_list (option_map stray_of shot) ++ strays) z

@@ -3,7 +3,7 @@ ghost use Rattle.std.specs.Prelude.{◌≡◌, ℕ, option_map, IfSome};
 ghost use Rattle.sift_base.specs.Layout.{IsLayout};
 ghost use Rattle.sift_buffer.specs.Ranges.{IsCell};
 ghost use Rattle.sift_buffer.specs.Tables.{ranges_of};
-ghost use Rattle.sift_rogue.specs.Storms.{Shoots, bounds_of, sifted, stray_of};
+ghost use Rattle.sift_rogue.specs.Storms.{Shoots, sifted, stray_of};
 
 use crate::act::{Act, Shot};
 use crate::rogue::Rogue;
@@ -13,7 +13,7 @@ use sift_base::{Layout, UnitId};
 /// unit or whose slot is not in the layout.
 fn sift(act: Act, own: UnitId, layout: Layout) -> Option<Shot>
     requires { IsLayout layout }
-    ensures sifted { option_map stray_of result ≡ sifted (bounds_of layout own) act }
+    ensures sifted { option_map stray_of result ≡ sifted layout own act }
     ensures there { IfSome result (λ shot. (frames : ℕ) → IsCell (ranges_of layout frames) own shot.to shot.slot) }
 {
     if let Act::Stray { to, slot, cell } = act {
@@ -34,7 +34,7 @@ fn sift(act: Act, own: UnitId, layout: Layout) -> Option<Shot>
 /// `stray` takes it, for any number of frames.
 pub fn next_shot<R: Rogue>(rogue: &mut R, own: UnitId, layout: Layout) -> Option<Shot>
     requires { IsLayout layout }
-    ensures shot { Shoots R.allows (bounds_of layout own) rogue.old result rogue.new }
+    ensures shot { Shoots R.allows (sifted layout own) rogue.old result rogue.new }
     ensures there { IfSome result (λ shot. (frames : ℕ) → IsCell (ranges_of layout frames) own shot.to shot.slot) }
 {
     sift(rogue.next(), own, layout)

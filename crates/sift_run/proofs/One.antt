@@ -1,8 +1,8 @@
 -- Words ask for one command at most.
 use Rattle.std.proofs.Common.{◌≡◌, ℕ, List, [], ◌∷◌, get_or, drop, Option, Some, None, IfNone, cond, bytes_eq, refl, sym, ap, ◌∙◌, subst}
 use Rattle.std.proofs.lemmas.Option.{same_Some}
-use Rattle.sift_options.specs.Laws.{OneListOfOptions}
-use Rattle.sift_options.specs.Options.{Adds, no_options}
+use Rattle.sift_options.specs.Laws.{OneListGiven}
+use Rattle.sift_options.specs.Options.{Give}
 use Rattle.sift_options.specs.declared.setting.Options.{Options}
 use Rattle.sift_run.specs.Command.{Asks, OneCommand, asked, flags_of, name_of}
 use Rattle.sift_run.specs.declared.command.Command.{Command}
@@ -38,29 +38,29 @@ named Byz = refl
 named Clocks = refl
 
 -- words ask for at most one command
-pub one_command : OneListOfOptions → OneCommand
+pub one_command : OneListGiven → OneCommand
 one_command one_list words one other a b =
     let e = sym a.words_are ∙ b.words_are in
     let verb : a.verb ≡ b.verb = sym (named a.verb) ∙ (ap (λ (ws : List (List ℕ)). verb_with (get_or ws 0 [])) e ∙ named b.verb) in
     let rest : a.rest ≡ b.rest = ap (drop 1) e in
-    let adds = subst (λ ws. Adds (flags_of b.verb) no_options ws a.options) rest
-    (subst (λ v. Adds (flags_of v) no_options a.rest a.options) verb a.gives) in
-    let options = one_list (flags_of b.verb) no_options a.options b.options b.rest adds b.gives in
+    let gives = subst (λ ws. Give (flags_of b.verb) ws a.options) rest
+    (subst (λ v. Give (flags_of v) a.rest a.options) verb a.gives) in
+    let options = one_list (flags_of b.verb) b.rest a.options b.options gives b.gives in
     same_Some one other (sym a.asked_is ∙ (ap (λ (v : Verb). asked v a.options) verb ∙ (ap (asked b.verb) options ∙ b.asked_is)))
 
 -- words that begin with a verb's name and give no more options than these ask for no command, where these ask for none
 pub none_asked :
     (word : List ℕ) (rest : List (List ℕ)) (verb : Verb) (options : Options) → name_of verb ≡ word
-    → ((other : Options) → Adds (flags_of verb) no_options rest other → Some options ≡ Some other)
+    → ((other : Options) → Give (flags_of verb) rest other → Some options ≡ Some other)
     → asked verb options ≡ None → (command : Command) → ¬ Asks (word ∷ rest) command
 none_asked word rest verb options name alone none command asks =
     let is = sym name in
     let verbs : asks.verb ≡ verb =
     sym (named asks.verb) ∙ (ap (λ (ws : List (List ℕ)). verb_with (get_or ws 0 [])) (sym asks.words_are) ∙ (ap verb_with is ∙ named verb)) in
     let rests : asks.rest ≡ rest = sym (ap (drop 1) asks.words_are) in
-    let adds = subst (λ ws. Adds (flags_of verb) no_options ws asks.options) rests
-    (subst (λ v. Adds (flags_of v) no_options asks.rest asks.options) verbs asks.gives) in
-    let options_are : options ≡ asks.options = same_Some options asks.options (alone asks.options adds) in
+    let gives = subst (λ ws. Give (flags_of verb) ws asks.options) rests
+    (subst (λ v. Give (flags_of v) asks.rest asks.options) verbs asks.gives) in
+    let options_are : options ≡ asks.options = same_Some options asks.options (alone asks.options gives) in
     let came : Some command ≡ None =
     sym asks.asked_is ∙ (ap (λ (v : Verb). asked v asks.options) verbs ∙ (ap (asked verb) (sym options_are) ∙ none)) in
     cc

@@ -13,7 +13,7 @@ use Rattle.sift_load.specs.Loads.{LoadsThen, document_limit, States}
 use Rattle.sift_mission.specs.Data.{MissionData}
 use Rattle.sift_reply.specs.Duty.{IsOwedTo}
 use Rattle.sift_reply.specs.Reply.{IsGiven, Reply, done_status, no_memory_status, read_fault, sink_fault_status}
-use Rattle.sift_reply.specs.Promise.{IsDue}
+use Rattle.sift_reply.specs.Promise.{IsOwed}
 use Rattle.sift_run.specs.Command.{Asks, OneCommand, commands, duty_of}
 use Rattle.sift_run.specs.Stated.{DoesEachMission, GivesFor, MissionsAreAnswered, MissionsEndWell, ReadsMission}
 use Rattle.sift_run.specs.declared.command.Command.{Command}
@@ -50,7 +50,7 @@ module _ (given : MissionData → Strays → Type 0) (one : OneCommand) (one_sta
 
   -- so is one that is due to them
   due : (words : List (List ℕ)) (command : Command) (bytes : List ℕ) (mission : MissionData) (reply : Reply) → Asks words command → ReadsMission command
-      → length bytes ≤ document_limit → States bytes mission → IsDue (commands given) words bytes reply → GivesFor given command mission reply
+      → length bytes ≤ document_limit → States bytes mission → IsOwed (commands given) words (λ duty. IsOwedTo duty bytes) reply → GivesFor given command mission reply
   due words command bytes mission reply asked reads short stated (inl (none, is)) = absurd (none (command, asked))
   due words command bytes mission reply asked reads short stated (inr (other, asks, owes)) =
       owed command bytes mission reply reads short stated
@@ -60,7 +60,7 @@ module _ (given : MissionData → Strays → Type 0) (one : OneCommand) (one_sta
   pub answered : MissionsAreAnswered given
   answered words command input output mission status certain reads is = came (certain is.bytes is.told)
     where
-      came : ((reply : Reply) × IsDue (commands given) words is.bytes reply × IsGiven output reply status)
+      came : ((reply : Reply) × IsOwed (commands given) words (λ duty. IsOwedTo duty is.bytes) reply × IsGiven output reply status)
           ⊎ (IsGiven output read_fault status × Rose input.before.faults input.after.faults)
           ⊎ ((status ≡ sink_fault_status) × Rose output.before.faults output.after.faults)
           ⊎ (status ≡ no_memory_status)

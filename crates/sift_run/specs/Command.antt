@@ -2,24 +2,25 @@
 use Rattle.std.specs.Prelude.{codes, ℕ, List, [], ◌∷◌, ◌≡◌, Option, Some, option_map}
 use Rattle.sift_options.specs.declared.setting.Flag.{Flag}
 use Rattle.sift_options.specs.declared.setting.Flag.TheVariants.{Workers, Order, Report, Number, N, M, Skew, Error, Rate, Rounds, Copies, Subframes, Bus, From, Value}
-use Rattle.sift_bus_jobs.specs.Buses.{buses_duty}
+use Rattle.sift_bus_jobs.specs.Buses.{BusesGives}
 use Rattle.sift_bus_jobs.specs.Numbers.{buses_job_of}
 use Rattle.sift_flight.specs.Flight.{Strays}
-use Rattle.sift_jobs.specs.Check.{check_duty}
+use Rattle.sift_jobs.specs.Check.{CheckGives}
 use Rattle.sift_jobs.specs.Gen.{gen_duty, gen_job_of}
-use Rattle.sift_jobs.specs.Ideal.{ideal_duty}
-use Rattle.sift_jobs.specs.Plan.{plan_duty, plan_job_of}
-use Rattle.sift_jobs.specs.Run.{run_duty, run_job_of}
+use Rattle.sift_jobs.specs.Ideal.{IdealGives}
+use Rattle.sift_jobs.specs.Plan.{PlanGives, plan_job_of}
+use Rattle.sift_jobs.specs.Run.{RunGives, run_job_of}
 use Rattle.sift_jobs.specs.Trial.{trial_duty, trial_job_of}
-use Rattle.sift_jobs.specs.Votes.{votes_duty, votes_job_of}
+use Rattle.sift_jobs.specs.Votes.{VotesGives, votes_job_of}
 use Rattle.sift_judge_jobs.specs.Judge.{judge_duty, judge_job_of}
 use Rattle.sift_lab_jobs.specs.Byz.{byz_duty}
 use Rattle.sift_lab_jobs.specs.Clocks.{clocks_duty, clocks_job_of}
+use Rattle.sift_load.specs.Loads.{mission_duty}
 use Rattle.sift_mission.specs.Data.{MissionData}
-use Rattle.sift_options.specs.Options.{Adds, no_options}
+use Rattle.sift_options.specs.Options.{Give}
 use Rattle.sift_options.specs.declared.setting.Options.{Options}
 use Rattle.sift_reply.specs.Duty.{Duty}
-use Rattle.sift_reply.specs.Promise.{Commands, commands_of}
+use Rattle.sift_reply.specs.Promise.{Commands}
 use Rattle.sift_run.specs.declared.verb.Verb.{Verb}
 use Rattle.sift_run.specs.declared.verb.Verb.TheVariants.{Run, Votes, Ideal, Check, Gen, Trial, Plan, Judge, Buses, Byz, Clocks}
 use Rattle.sift_run.specs.declared.command.Command.{Command}
@@ -74,15 +75,15 @@ asked verb.Clocks options = option_map command.Clocks (clocks_job_of options)
 
 -- what each command has to do, where units that turn stray may be given these strays
 abbrev pub duty_of : (given : MissionData → Strays → Type 0) → Command → Duty
-duty_of given (command.Run job) = run_duty given job
-duty_of given (command.Votes job) = votes_duty given job
-duty_of given (command.Ideal job) = ideal_duty job
-duty_of given (command.Check job) = check_duty job
+duty_of given (command.Run job) = mission_duty (RunGives given job)
+duty_of given (command.Votes job) = mission_duty (VotesGives given job)
+duty_of given (command.Ideal job) = mission_duty (IdealGives job)
+duty_of given (command.Check job) = mission_duty (CheckGives job)
 duty_of given (command.Gen job) = gen_duty job
 duty_of given (command.Trial job) = trial_duty given job
-duty_of given (command.Plan job) = plan_duty job
+duty_of given (command.Plan job) = mission_duty (PlanGives job)
 duty_of given (command.Judge job) = judge_duty job
-duty_of given (command.Buses job) = buses_duty job
+duty_of given (command.Buses job) = mission_duty (BusesGives job)
 duty_of given (command.Byz job) = byz_duty job
 duty_of given (command.Clocks job) = clocks_duty job
 
@@ -92,12 +93,12 @@ pub record Asks (words : List (List ℕ)) (command : Command) : Type 0 where
   pub rest : List (List ℕ)
   pub options : Options
   pub words_are : words ≡ name_of verb ∷ rest
-  pub gives : Adds (flags_of verb) no_options rest options
+  pub gives : Give (flags_of verb) rest options
   pub asked_is : asked verb options ≡ Some command
 
 -- the commands of the program
 abbrev pub commands : (given : MissionData → Strays → Type 0) → Commands Command
-commands given = commands_of Asks (duty_of given)
+commands given = record { asks = Asks; duty = duty_of given }
 
 -- words ask for one command at most
 abbrev pub OneCommand : Type 0

@@ -2,8 +2,6 @@
 use Rattle.std.specs.Prelude.{◌≡◌, ℕ, List, ⊤}
 use Rattle.sift_flight.specs.Flight.{Strays}
 use Rattle.sift_jobs.specs.Flights.{AreCalm}
-use Rattle.sift_jobs.specs.Run.{run_by}
-use Rattle.sift_jobs.specs.Votes.{votes_by}
 use Rattle.sift_jobs.specs.declared.workers.Workers.TheVariants.{One}
 use Rattle.sift_mission.specs.Data.{MissionData}
 use Rattle.sift_reply.specs.Duty.{GivesOneTo}
@@ -32,8 +30,8 @@ CommandsGiveOne given = (command : Command) (bytes : List ℕ) → (FliesInput c
 
 -- the command with one worker in place of its own, whose units step in order 0
 abbrev pub by_one : Command → Command
-by_one (command.Run job) = command.Run (run_by job.version (One 0))
-by_one (command.Votes job) = command.Votes (votes_by (One 0))
+by_one (command.Run job) = command.Run (record { workers = One 0; version = job.version })
+by_one (command.Votes job) = command.Votes (record { workers = One 0 })
 by_one (command.Ideal job) = command.Ideal job
 by_one (command.Check job) = command.Check job
 by_one (command.Gen job) = command.Gen job

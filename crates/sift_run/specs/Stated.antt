@@ -1,5 +1,5 @@
 -- What an input is answered that states a mission.
-use Rattle.std.specs.Prelude.{ℕ, ◌≡◌, ◌≤◌, ◌⊎◌, List, length, ⊤}
+use Rattle.std.specs.Prelude.{ℕ, ◌≡◌, ◌≤◌, ◌⊎◌, List, Some, length, ⊤}
 use Rattle.sift_bus_jobs.specs.Buses.{BusesGives}
 use Rattle.sift_flight.specs.Flight.{Strays}
 use Rattle.sift_io.specs.Flow.{Rose}
@@ -10,7 +10,7 @@ use Rattle.sift_jobs.specs.Run.{RunGives}
 use Rattle.sift_jobs.specs.Votes.{VotesGives}
 use Rattle.sift_load.specs.Loads.{document_limit, States}
 use Rattle.sift_mission.specs.Data.{MissionData}
-use Rattle.sift_reply.specs.Reply.{Input, IsTold, IsGiven, Output, Reply, done_status, no_memory_status}
+use Rattle.sift_reply.specs.Reply.{Input, IsGiven, Output, Reply, done_status, no_memory_status}
 use Rattle.sift_reply.specs.Promise.{IsCertain}
 use Rattle.sift_run.specs.Command.{Asks, commands}
 use Rattle.sift_run.specs.declared.command.Command.{Command}
@@ -48,7 +48,7 @@ DoesEachMission (Clocks job) = ⊥
 pub record IsStated (words : List (List ℕ)) (command : Command) (input : Input) (output : Output) (mission : MissionData) : Type 0 where
   pub asked : Asks words command
   pub bytes : List ℕ
-  pub told : IsTold input bytes
+  pub told : input.before.left ≡ Some bytes
   pub short : length bytes ≤ document_limit
   pub stated : States bytes mission
   pub read : ¬ Rose input.before.faults input.after.faults

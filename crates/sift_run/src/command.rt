@@ -94,7 +94,7 @@ fn command_of(word: &str, rest: &[String]) -> Option<Command>
     ensures none { IfNone result ((command : TheCommand) → ¬ Asks (word.now ∷ map string_bytes rest.now) command) }
 {
     let verb = Verb::named(word)?;
-    asked(verb, Options::NONE.and(verb.flags(), rest)?)
+    asked(verb, Options::of(verb.flags(), rest)?)
 }
 
 /// What a verb and its options ask for.

@@ -4,7 +4,7 @@ ghost use Rattle.std.specs.Prelude.{◌≡◌, ◌⊎◌, IfOk, IsErr, length, m
 ghost use Rattle.std.specs.Process.{exit_status};
 ghost use Rattle.sift_base.specs.Units.{unit_limit};
 ghost use Rattle.sift_fleet.specs.Given.{AreGiven};
-ghost use Rattle.sift_reply.specs.Reply.{input, output, no_memory_status};
+ghost use Rattle.sift_reply.specs.Reply.{no_memory_status};
 ghost use Rattle.sift_reply.specs.Promise.{IsAnswered};
 ghost use Rattle.sift_run.specs.Command.{commands};
 
@@ -32,8 +32,8 @@ pub fn exit_code<S: Source, K: Sink, R: Rogue + Send, P: Probe + Sync, H: Thread
 ) -> ExitCode
     requires { IfOk rogues (λ rogues. length rogues.items ≡ unit_limit) }
     ensures answered { IfOk words (λ words. IfOk rogues (λ rogues. IsAnswered (commands (AreGiven R.allows rogues.items)) (map string_bytes words.items)
-        (input (S.inflow source.old) (S.inflow source.new))
-        (output (K.outflow sink.old) (K.outflow sink.new)) (exit_status result))) }
+        (record { before = S.inflow source.old; after = S.inflow source.new })
+        (record { before = K.outflow sink.old; after = K.outflow sink.new }) (exit_status result))) }
     ensures no_memory { IsErr words ⊎ IsErr rogues → exit_status result ≡ no_memory_status }
     ensures unread { IsErr words ⊎ IsErr rogues → source.new ≡ source.old }
     ensures unwritten { exit_status result ≡ no_memory_status → sink.new ≡ sink.old }

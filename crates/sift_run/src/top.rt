@@ -5,7 +5,7 @@ ghost use Rattle.sift_base.specs.Units.{unit_limit};
 ghost use Rattle.sift_fleet.specs.Given.{AreGiven};
 ghost use Rattle.sift_jobs.specs.Flights.{TellsFlight};
 ghost use Rattle.sift_mission.specs.Parts.{data_of};
-ghost use Rattle.sift_reply.specs.Reply.{input, output, no_memory_status};
+ghost use Rattle.sift_reply.specs.Reply.{no_memory_status};
 ghost use Rattle.sift_reply.specs.Promise.{AskForNoInput, IsAnswered, IsCertain};
 ghost use Rattle.sift_run.specs.Command.{commands};
 ghost use Rattle.sift_run.specs.Headline.{IsHeadlineWritten};
@@ -44,14 +44,14 @@ pub fn sift<S: Source, K: Sink, R: Rogue + Send, P: Probe + Sync, H: Threads + W
 ) -> u8
     requires { length rogues.items ≡ unit_limit }
     ensures answered { IsAnswered (commands (AreGiven R.allows rogues.items)) (map string_bytes words.now)
-        (input (S.inflow source.old) (S.inflow source.new))
-        (output (K.outflow sink.old) (K.outflow sink.new)) result }
+        (record { before = S.inflow source.old; after = S.inflow source.new })
+        (record { before = K.outflow sink.old; after = K.outflow sink.new }) result }
     ensures certain { IsCertain (commands (AreGiven R.allows rogues.items)) (map string_bytes words.now)
-        (input (S.inflow source.old) (S.inflow source.new))
-        (output (K.outflow sink.old) (K.outflow sink.new)) result }
+        (record { before = S.inflow source.old; after = S.inflow source.new })
+        (record { before = K.outflow sink.old; after = K.outflow sink.new }) result }
     ensures headline { IsHeadlineWritten (AreGiven R.allows rogues.items) (map string_bytes words.now)
-        (input (S.inflow source.old) (S.inflow source.new))
-        (output (K.outflow sink.old) (K.outflow sink.new)) result }
+        (record { before = S.inflow source.old; after = S.inflow source.new })
+        (record { before = K.outflow sink.old; after = K.outflow sink.new }) result }
 
     // Only a command that reads it reads the source, and want of memory writes nothing.
     ensures unread { AskForNoInput (commands (AreGiven R.allows rogues.items)) (map string_bytes words.now) → source.new ≡ source.old }

@@ -8,14 +8,15 @@ use Rattle.sift_mission.specs.declared.parts.MissionParts.{MissionParts}
 use Rattle.sift_conduct.specs.Conduct.{account_of}
 use Rattle.sift_conduct.specs.Acts.{BoardKeeps}
 use Rattle.sift_conduct.specs.Frames.{frames_before}
-use Rattle.sift_rogue.specs.Storms.{Call, Bounds, Storms}
+use Rattle.sift_rogue.specs.Storms.{Call, Storms}
+use Rattle.sift_rogue.specs.declared.act.Act.{Act}
 use Rattle.sift_unit.specs.Boards.{desk_of}
 use Rattle.sift_unit.specs.Down.{DownLaw, HasFlownAll}
 use Rattle.sift_core.proofs.lemmas.Stages.{end_low}
 use Rattle.sift_threads.specs.Flown.{HasLanded, HasStrayed, HasFlown}
-use Rattle.sift_threads.specs.Seats.{data_at, mission_at, end_at, storm_of, bounds_at, IsStraying, IsManned, IsDone, Came}
+use Rattle.sift_threads.specs.Seats.{data_at, mission_at, end_at, storm_of, sifted_at, IsStraying, IsManned, IsDone, Came}
 use Rattle.sift_threads.specs.declared.seat.Seat.{Seat}
-use Rattle.sift_threads.proofs.Seats.{none_some, storms_same, bounds_same}
+use Rattle.sift_threads.proofs.Seats.{none_some, storms_same, sifted_same}
 
 -- a seat whose unit flies came of itself
 pub came_first : {T R : Type 0} (follows : T → List Stray → T → Type 0) (allows : R → Call → R → Type 0) → ((a : T) → follows a [] a) →
@@ -56,9 +57,9 @@ module _ {T R : Type 0} (view : T → View) (follows : T → List Stray → T �
   stormed (Some left) some storm is = let zero = done.spent left some in let all : storm.2 - left ≡ storm.2 = omega arith in record {
     progress = (straying left some).number;
     rogue =
-        subst (λ (ss : List Stray). Storms allows (bounds_at y) storm.1 x.rogue storm.2 ss y.rogue) (sym strays_are)
-        (subst (λ (b : Bounds). Storms allows b storm.1 x.rogue storm.2 came.strays y.rogue) (sym (bounds_same x y came.mission came.unit))
-        (subst (λ (n : ℕ). Storms allows (bounds_at x) storm.1 x.rogue n came.strays y.rogue) all
+        subst (λ (ss : List Stray). Storms allows (sifted_at y) storm.1 x.rogue storm.2 ss y.rogue) (sym strays_are)
+        (subst (λ (sift : Act → Option Stray). Storms allows sift storm.1 x.rogue storm.2 came.strays y.rogue) (sym (sifted_same x y came.mission came.unit))
+        (subst (λ (n : ℕ). Storms allows (sifted_at x) storm.1 x.rogue n came.strays y.rogue) all
         (came.turned left storm some (sym same_storm ∙ is))));
   }
 

@@ -4,7 +4,8 @@ use Rattle.sift_buffer.specs.Conduct.{Stray, never}
 use Rattle.sift_buffer.specs.Views.{View}
 use Rattle.sift_mission.specs.Data.{FlownMission}
 use Rattle.sift_mission.specs.Parts.{data_of}
-use Rattle.sift_rogue.specs.Storms.{Call, Started, Bounds, Storms, StormsAddUp, Shoots, bounds_of, stray_of}
+use Rattle.sift_rogue.specs.Storms.{Call, Started, Storms, StormsAddUp, Shoots, sifted, stray_of}
+use Rattle.sift_rogue.specs.declared.act.Act.{Act}
 use Rattle.sift_unit.specs.Boards.{desk_of, Drives}
 use Rattle.sift_unit.specs.Down.{StrayLaw}
 use Rattle.sift_unit.specs.Stepping.{Steps}
@@ -14,7 +15,7 @@ use Rattle.sift_unit.specs.declared.stepped.Stepped.TheVariants.{Moved, NotYet, 
 use Rattle.sift_core.specs.Courses.{storm_at}
 use Rattle.sift_core.proofs.lemmas.Stages.{end_low}
 use Rattle.sift_threads.specs.SeatSteps.{BeginsStorm, StoresNext}
-use Rattle.sift_threads.specs.Seats.{mission_at, end_at, storm_of, bounds_at, IsAloft, IsStraying, IsManned, IsDone, Came, Comes}
+use Rattle.sift_threads.specs.Seats.{mission_at, end_at, storm_of, sifted_at, IsAloft, IsStraying, IsManned, IsDone, Came, Comes}
 use Rattle.sift_threads.specs.declared.seat.Seat.{Seat}
 use Rattle.sift_threads.proofs.Boards.{KeepsPlace, step_place, entered_progress, turned_left, below_end, above_end}
 
@@ -160,15 +161,15 @@ few_of view x left straying storm is =
 
 -- ---- what comes of them
 
--- two seats of one unit and mission have one storm, with the same bounds
+-- two seats of one unit and mission have one storm, and what acts come to is the same
 module _ {T R : Type 0} (w x : Seat T R) (mission : x.mission.now ≡ w.mission.now) (unit : x.unit ≡ w.unit) where
   -- two seats of one unit and mission have one storm
   pub storms_same : storm_of x ≡ storm_of w
   storms_same i = storm_at (data_of (mission i)) (unit i)
 
-  -- two seats of one unit and mission have the same bounds of their acts
-  pub bounds_same : bounds_at x ≡ bounds_at w
-  bounds_same i = bounds_of (mission i).layout (unit i)
+  -- and what acts come to is the same
+  pub sifted_same : sifted_at x ≡ sifted_at w
+  sifted_same i = sifted (mission i).layout (unit i)
 
 module _ {T R : Type 0} (follows : T → List Stray → T → Type 0) (allows : R → Call → R → Type 0)
     (on : (a b c : T) (earlier later : List Stray) → follows a earlier b → follows b later c → follows a (later ++ earlier) c) where
@@ -200,9 +201,9 @@ module _ {T R : Type 0} (follows : T → List Stray → T → Type 0) (allows : 
           let zero : 0 ≡ storm.2 - left = omega arith in
           let start : allows w.rogue (Started storm.1) z.rogue = subst (λ (s : ℕ × ℕ × ℕ). allows w.rogue (Started s.1) z.rogue) same
           (subst (λ (r : R). allows r (Started begins.storm.1) z.rogue) flew.0 begins.start) in
-          subst (λ (ss : List Stray). Storms allows (bounds_at w) storm.1 w.rogue (storm.2 - left) ss z.rogue) (sym flew.1)
-          (subst (λ (n : ℕ). Storms allows (bounds_at w) storm.1 w.rogue n [] z.rogue) zero
-          (laws.begins (bounds_at w) storm.1 w.rogue z.rogue start));
+          subst (λ (ss : List Stray). Storms allows (sifted_at w) storm.1 w.rogue (storm.2 - left) ss z.rogue) (sym flew.1)
+          (subst (λ (n : ℕ). Storms allows (sifted_at w) storm.1 w.rogue n [] z.rogue) zero
+          (laws.begins (sifted_at w) storm.1 w.rogue z.rogue start));
     })
 
     -- by a call of `next`
@@ -220,8 +221,8 @@ module _ {T R : Type 0} (follows : T → List Stray → T → Type 0) (allows : 
               let fewer : left ≤ storm.2 = few storm (storms_same w x came.mission came.unit ∙ storm_is) in
               let less : left - 1 ≡ n = cc in
               let one : storm.2 - left + 1 ≡ storm.2 - n = omega arith in
-              let shoots : Shoots allows (bounds_at w) x.rogue next.shot y.rogue = subst (λ (b : Bounds). Shoots allows b x.rogue next.shot y.rogue)
-              (bounds_same w x came.mission came.unit) next.shoots in
-              subst (λ (k : ℕ). Storms allows (bounds_at w) storm.1 w.rogue k (option_to_list (option_map stray_of next.shot) ++ came.strays) y.rogue) one
-              (laws.goes_on (bounds_at w) storm.1 w.rogue (storm.2 - left) came.strays x.rogue next.shot y.rogue (came.turned left storm is storm_is) shoots);
+              let shoots : Shoots allows (sifted_at w) x.rogue next.shot y.rogue = subst (λ (sift : Act → Option Stray). Shoots allows sift x.rogue next.shot y.rogue)
+              (sifted_same w x came.mission came.unit) next.shoots in
+              subst (λ (k : ℕ). Storms allows (sifted_at w) storm.1 w.rogue k (option_to_list (option_map stray_of next.shot) ++ came.strays) y.rogue) one
+              (laws.goes_on (sifted_at w) storm.1 w.rogue (storm.2 - left) came.strays x.rogue next.shot y.rogue (came.turned left storm is storm_is) shoots);
         })

@@ -8,7 +8,7 @@ use Rattle.sift_conduct.specs.Conduct.{Account, account_of}
 use Rattle.sift_conduct.specs.Acts.{BoardKeeps}
 use Rattle.sift_conduct.specs.Frames.{frames_before}
 use Rattle.sift_conduct.specs.declared.account.Account.{Account as TheAccount}
-use Rattle.sift_rogue.specs.Storms.{Call, Storms, bounds_of}
+use Rattle.sift_rogue.specs.Storms.{Call, Storms, sifted}
 use Rattle.sift_ether.specs.Tokens.{AreTokensOf, conduct_at}
 use Rattle.sift_ether.specs.declared.ether.Ether.{Ether}
 use Rattle.sift_core.specs.Courses.{storm_at}
@@ -24,7 +24,7 @@ pub record HasLanded {R : Type 0} (d : MissionData) (x : R) (c : Conduct) (y : R
 -- strays, and those to which its acts come are the strays that the unit has stored
 pub record HasStrayed {R : Type 0} (allows : R → Call → R → Type 0) (d : MissionData) (u : ℕ) (storm : ℕ × ℕ × ℕ) (x : R) (c : Conduct) (y : R) : Type 0 where
   pub progress : c.progress ≡ never
-  pub rogue : Storms allows (bounds_of d.layout u) storm.1 x storm.2 c.strays y
+  pub rogue : Storms allows (sifted d.layout u) storm.1 x storm.2 c.strays y
 
 module _ {R : Type 0} (allows : R → Call → R → Type 0) (d : MissionData) where
   -- a unit has flown, with its rogue, which was x before: by its accounts its acts are those of its board's conduct in all frames in which it

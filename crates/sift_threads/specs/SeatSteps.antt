@@ -4,7 +4,7 @@ use Rattle.sift_buffer.specs.Conduct.{Stray}
 use Rattle.sift_buffer.specs.Views.{View, IsButForStrays}
 use Rattle.sift_rogue.specs.Storms.{Call, Started, Shoots, stray_of}
 use Rattle.sift_rogue.specs.declared.act.Shot.{Shot}
-use Rattle.sift_threads.specs.Seats.{bounds_at, storm_of}
+use Rattle.sift_threads.specs.Seats.{sifted_at, storm_of}
 use Rattle.sift_threads.specs.declared.seat.Seat.{Seat}
 
 module _ {T R : Type 0} (allows : R → Call → R → Type 0) where
@@ -20,6 +20,6 @@ module _ {T R : Type 0} (allows : R → Call → R → Type 0) where
   pub record StoresNext (view : T → View) (follows : T → List Stray → T → Type 0) (x y : Seat T R) : Type 0 where
     pub rest : y ≡ record x { port = y.port; rogue = y.rogue }
     pub shot : Option Shot
-    pub shoots : Shoots allows (bounds_at x) x.rogue shot y.rogue
+    pub shoots : Shoots allows (sifted_at x) x.rogue shot y.rogue
     pub view_is : IsButForStrays (view x.port) (view y.port)
     pub port : follows x.port (option_to_list (option_map stray_of shot)) y.port

@@ -5,7 +5,8 @@ use Rattle.sift_buffer.specs.Tables.{ranges_of}
 use Rattle.sift_buffer.specs.Views.{View}
 use Rattle.sift_mission.specs.Data.{MissionData, FlownMission}
 use Rattle.sift_mission.specs.Parts.{data_of, flown_of}
-use Rattle.sift_rogue.specs.Storms.{Call, Bounds, Storms, bounds_of}
+use Rattle.sift_rogue.specs.Storms.{Call, Storms, sifted}
+use Rattle.sift_rogue.specs.declared.act.Act.{Act}
 use Rattle.sift_unit.specs.Boards.{Drives}
 use Rattle.sift_core.specs.Courses.{storm_at}
 use Rattle.sift_threads.specs.declared.seat.Seat.{Seat}
@@ -26,9 +27,9 @@ module _ {T R : Type 0} where
   abbrev pub storm_of : Seat T R → Option (ℕ × ℕ × ℕ)
   storm_of x = storm_at (data_at x) x.unit
 
-  -- the bounds of its unit's acts
-  abbrev pub bounds_at : Seat T R → Bounds
-  bounds_at x = bounds_of x.mission.now.layout x.unit
+  -- the stray that an act of its unit comes to, if it comes to one
+  abbrev pub sifted_at : Seat T R → Act → Option Stray
+  sifted_at x = sifted x.mission.now.layout x.unit
 
 module _ {T R : Type 0} (view : T → View) where
   -- its unit flies, and is at the end at most
@@ -69,7 +70,7 @@ module _ {T R : Type 0} (follows : T → List Stray → T → Type 0) (allows : 
     pub port : follows x.port strays y.port
     pub flies : y.left ≡ None → (y.rogue ≡ x.rogue) × (strays ≡ [])
     pub turned : (left : ℕ) (storm : ℕ × ℕ × ℕ) → y.left ≡ Some left → storm_of x ≡ Some storm →
-        Storms allows (bounds_at x) storm.1 x.rogue (storm.2 - left) strays y.rogue
+        Storms allows (sifted_at x) storm.1 x.rogue (storm.2 - left) strays y.rogue
 
   -- whatever a seat came of, the next came of it too
   abbrev pub Comes : Seat T R → Seat T R → Type 0

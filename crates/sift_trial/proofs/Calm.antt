@@ -2,7 +2,7 @@
 use Rattle.std.proofs.Common.{◌≡◌, ◌==◌, ℕ, [], ◌∷◌, Bool, true, false, None, refl, ap, ◌∙◌}
 use Rattle.toml.specs.Data.{Members}
 use Rattle.sift_gen.specs.Tasks.{draw_at}
-use Rattle.sift_gen.specs.Scenario.{fault_entries, fault_place, frame_count, task_count, unit_count}
+use Rattle.sift_gen.specs.Scenario.{fault_entries, first_task_place, frame_count, task_count, task_place, unit_count}
 use Rattle.sift_scenario.specs.Fault.{fault_in}
 use Rattle.sift_script.specs.Faults.{storm_of}
 use Rattle.sift_script.specs.Script.{FaultScript}
@@ -12,7 +12,7 @@ use Rattle.sift_trial.specs.Laws.{DrawnMissionsHaveNoStorms}
 -- what it states
 abbrev fault_of_number : ℕ → Members
 fault_of_number n =
-    let x = fault_place n in
+    let x = task_place (task_count n) (first_task_place n) in
     members_of (fault_entries (unit_count n) (draw_at x 0 (unit_count n)) (draw_at x 1 (frame_count n)) (draw_at x 2 (task_count n)) (draw_at x 3 65536))
 
 -- it is none, whether it is this unit's or another's

@@ -3,7 +3,7 @@ use Rattle.std.proofs.Common.{◌≡◌, ℕ, ◌*◌, ◌≤◌, ◌<◌, ◌^�
 use Rattle.std.specs.Fmt.{decimal}
 use Rattle.std.specs.List.{concat}
 use Rattle.std.proofs.lemmas.Fmt.{decimal_digit}
-use Rattle.sift_gen.specs.Tasks.{chase_text, middle_text, sensor_name, sum_text, task_name, triple_text}
+use Rattle.sift_gen.specs.Tasks.{sensor_name, task_name}
 use Rattle.sift_lang.specs.declared.tree.Op.TheVariants.{Add, Sub}
 use Rattle.sift_lang.specs.Sound.{AllNowsBelow, EachTerm, IsSound, IsSoundTerm}
 use Rattle.sift_lang.specs.Tree.{binary, last_frame, number, TaskTree}
@@ -25,6 +25,24 @@ one_printed = decimal_digit 1 (omega arith)
 
 three_printed : decimal 3 ≡ codes "3"
 three_printed = decimal_digit 3 (omega arith)
+
+-- a sensor's words are summed up
+abbrev pub sum_text : (t a : ℕ) → List ℕ
+sum_text t a = concat (codes "out 0 = sense " ∷ sensor_name a ∷ codes " + last " ∷ task_name t ∷ codes ".0;" ∷ [])
+
+-- the middle one of two sensors and the word before
+abbrev pub middle_text : (t a b : ℕ) → List ℕ
+middle_text t a b = concat (codes "out 0 = mid(sense " ∷ sensor_name a ∷ codes ", sense " ∷ sensor_name b
+    ∷ codes ", last " ∷ task_name t ∷ codes ".0);" ∷ [])
+
+-- one step a frame after a sensor
+abbrev pub chase_text : (t a : ℕ) → List ℕ
+chase_text t a = concat (codes "let d = sense " ∷ sensor_name a ∷ codes " - last " ∷ task_name t
+    ∷ codes ".0; if d < 0 { out 0 = last " ∷ task_name t ∷ codes ".0 - 1; } else { out 0 = last " ∷ task_name t ∷ codes ".0 + 1; }" ∷ [])
+
+-- three times an earlier task's word, and a sensor
+abbrev pub triple_text : (d a : ℕ) → List ℕ
+triple_text d a = concat (codes "out 0 = now " ∷ task_name d ∷ codes ".0 * 3 + sense " ∷ sensor_name a ∷ codes ";" ∷ [])
 
 -- each tree prints its text
 pub sum_printed : (t a : ℕ) → printed_text drawn_naming (sum_tree t a).body ≡ sum_text t a

@@ -1,7 +1,7 @@
 -- The tree of each number states a mission: what its draws give may be drawn.
 use Rattle.std.proofs.Common.{ℕ, arith}
-use Rattle.sift_gen.specs.Tasks.{draw_at}
-use Rattle.sift_gen.specs.Scenario.{fault_place, first_task_place, frame_count, sensor_count, sensor_place, task_count, unit_count}
+use Rattle.sift_gen.specs.Tasks.{after, draw_at}
+use Rattle.sift_gen.specs.Scenario.{first_task_place, frame_count, sensor_count, task_count, task_place, unit_count}
 use Rattle.sift_trial.proofs.Mission.{AreKnown, MayBeDrawn, is_mission, mission}
 use Rattle.sift_trial.proofs.Values.{draw_below}
 use Rattle.sift_trial.specs.Laws.{DrawnTreesAreMissions}
@@ -33,12 +33,12 @@ may_be_drawn n x =
 -- so each number has a mission
 pub each_number : AreKnown → DrawnTreesAreMissions
 each_number known n =
-    let x = fault_place n in
+    let x = task_place (task_count n) (first_task_place n) in
     let may = may_be_drawn n x in
     let unit = draw_at x 0 (unit_count n) in
     let from = draw_at x 1 (frame_count n) in
     let task = draw_at x 2 (task_count n) in
     let value = draw_at x 3 65536 in (
-      mission known (unit_count n) (frame_count n) (sensor_count n) (task_count n) unit from task value (sensor_place n) (first_task_place n) may,
-      is_mission known (unit_count n) (frame_count n) (sensor_count n) (task_count n) unit from task value (sensor_place n) (first_task_place n) may,
+      mission known (unit_count n) (frame_count n) (sensor_count n) (task_count n) unit from task value (after n 4) (first_task_place n) may,
+      is_mission known (unit_count n) (frame_count n) (sensor_count n) (task_count n) unit from task value (after n 4) (first_task_place n) may,
     )

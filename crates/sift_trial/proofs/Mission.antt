@@ -8,7 +8,7 @@ use Rattle.std.specs.Prelude.{unwrap_or}
 use Rattle.toml.specs.Data.{Members}
 use Rattle.sift_base.specs.Name.{IsName}
 use Rattle.sift_base.specs.declared.layout.Layout.{Layout}
-use Rattle.sift_gen.specs.Scenario.{document_of, fault_entries, sensor_tables, task_tables}
+use Rattle.sift_gen.specs.Scenario.{fault_entries, sensor_tables, task_tables}
 use Rattle.sift_gen.specs.Tasks.{sensor_name, task_name}
 use Rattle.sift_parse.specs.Roll.{Roll}
 use Rattle.sift_program.specs.Program.{ProgramTree, program_shapes}
@@ -30,7 +30,7 @@ use Rattle.sift_document.proofs.lemmas.Order.{kept_joined}
 use Rattle.sift_document.specs.Rules.{AreKept}
 use Rattle.sift_trial.proofs.Faults.{fault_stated, faults_kept}
 use Rattle.sift_trial.proofs.Program.{drawn_trees, trees_allowed, trees_are, trees_long, trees_of_one_word}
-use Rattle.sift_trial.proofs.Root.{frames_are, root_kept, units_are}
+use Rattle.sift_trial.proofs.Root.{document_of, frames_are, root_kept, units_are}
 use Rattle.sift_trial.proofs.Script.{script_good}
 use Rattle.sift_trial.proofs.Sensors.{sensors_are, sensors_kept}
 use Rattle.sift_trial.proofs.Shapes.{AreOfOneWord, are_shapes, output_is, outputs_long, shapes_long}

@@ -1,13 +1,19 @@
 -- The root of a drawn document: what it says beside its entries, and the rules that it keeps.
-use Rattle.std.proofs.Common.{◌≡◌, ◌≤◌, ℕ, List, Some, refl, arith}
+use Rattle.std.proofs.Common.{codes, ◌≡◌, ◌≤◌, ℕ, List, [], ◌∷◌, Some, refl, arith}
 use Rattle.std.proofs.lemmas.List.Elements.{All-from_recursion}
 use Rattle.std.specs.List.{Contains}
-use Rattle.toml.specs.Data.{Data, Members}
-use Rattle.sift_gen.specs.Scenario.{document_of}
+use Rattle.toml.specs.Data.{Data, Members, member, no_members}
+use Rattle.sift_gen.specs.Scenario.{array_of, number}
 use Rattle.sift_scenario.specs.Root.{frames_of, root_keys, root_rules, units_of}
 use Rattle.sift_document.specs.Document.{HasOnlyKeys, keys_of}
 use Rattle.sift_document.specs.Rules.{AreKept}
 use Rattle.sift_trial.proofs.Values.{number_read}
+
+-- the tree of a document with these units, frames, sensors, tasks and one fault
+abbrev pub document_of : (units frames : ℕ) → (sensors tasks : List Data) → (fault : Data) → Members
+document_of units frames sensors tasks fault =
+    member (codes "fault") (array_of (fault ∷ [])) (member (codes "frames") (number frames) (member (codes "sensor") (array_of sensors)
+    (member (codes "task") (array_of tasks) (member (codes "units") (number units) no_members))))
 
 module _ (units frames : ℕ) (sensors tasks : List Data) (fault : Data) where
   -- the document

@@ -3,10 +3,11 @@ use Rattle.std.proofs.Common.{◌≡◌, ◌≢◌, ◌<◌, ◌≤◌, ◌*◌,
 use Rattle.std.proofs.lemmas.List.Elements.{All-from_recursion}
 use Rattle.std.specs.List.{Contains, range_with_len}
 use Rattle.std.specs.Prelude.{codes}
-use Rattle.toml.specs.Data.{Data, Members, no_members, string}
+use Rattle.toml.specs.Data.{Data, Members, member, no_members, string}
+use Rattle.toml.specs.View.{items_of}
 use Rattle.sift_base.specs.Name.{IsName}
 use Rattle.sift_gen.specs.Tasks.{after, draw_at, sensor_name, word_values}
-use Rattle.sift_gen.specs.Scenario.{array_of, items_in, number, placed, sensor_tables, sensor_words, words_each}
+use Rattle.sift_gen.specs.Scenario.{array_of, number, sensor_tables, sensor_words, words_each}
 use Rattle.sift_scenario.specs.Sensor.{IsSensorEntry, sensor_keys, sensor_rules, sensors_in, words_of}
 use Rattle.sift_document.specs.Document.{HasOnlyKeys, each_read, keys_of, list_of, word_value}
 use Rattle.sift_document.specs.Rules.{AreKept}
@@ -18,10 +19,10 @@ use Rattle.sift_trial.proofs.Values.{draw_below, word_read}
 
 -- the entries of sensor k's table, whose words are the draws from x
 abbrev pub sensor_entries : (k x : ℕ) → Members
-sensor_entries k x = placed (codes "words") (array_of (sensor_words x)) (placed (codes "name") (string (sensor_name k)) no_members)
+sensor_entries k x = member (codes "name") (string (sensor_name k)) (member (codes "words") (array_of (sensor_words x)) no_members)
 
 -- numbers of 16 bits are read as words
-words_read : (f : ℕ → ℕ) → ((i : ℕ) → f i < 65536) → (ks : List ℕ) → each_read word_value (list_of (items_in (map (λ i. number (f i)) ks))) ≡ Some (map f ks)
+words_read : (f : ℕ → ℕ) → ((i : ℕ) → f i < 65536) → (ks : List ℕ) → each_read word_value (list_of (items_of (map (λ i. number (f i)) ks))) ≡ Some (map f ks)
 words_read f low [] = refl
 words_read f low (k ∷ ks) = rw (word_read (f k) (low k), words_read f low ks) refl
 

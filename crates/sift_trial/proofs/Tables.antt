@@ -4,15 +4,16 @@ use Rattle.std.proofs.lemmas.List.FromFn.{get_or-map-range_with_len, length-map-
 use Rattle.std.specs.List.{range_with_len}
 use Rattle.std.specs.Prelude.{unwrap_or}
 use Rattle.toml.specs.Data.{Data, Members, table}
+use Rattle.toml.specs.View.{items_of}
 use Rattle.sift_base.specs.Name.{IsName}
-use Rattle.sift_gen.specs.Scenario.{array_of, items_in}
+use Rattle.sift_gen.specs.Scenario.{array_of}
 use Rattle.sift_scenario.specs.Task.{IsNewName, name_of, names_of, BreaksNames}
 use Rattle.sift_document.specs.Document.{IsArrayOf, list_of, members_of}
 use Rattle.sift_document.specs.Rules.{HoldsOf}
 use Rattle.sift_trial.proofs.Ranges.{made_alike, made_of, nowhere}
 
 -- the entries of an array of a list are the list's
-pub listed : (values : List Data) → list_of (items_in values) ≡ values
+pub listed : (values : List Data) → list_of (items_of values) ≡ values
 listed [] = refl
 listed (value ∷ values) = ap (λ rest. value ∷ rest) (listed values)
 
@@ -27,13 +28,13 @@ module _ (f : ℕ → Members) (n : ℕ) where
   tables = map (λ k. table (f k)) (range_with_len 0 n)
 
   -- the array has so many tables
-  pub tables_long : length (list_of (items_in tables)) ≡ n
+  pub tables_long : length (list_of (items_of tables)) ≡ n
   tables_long = ap length (listed tables) ∙ length-map-range_with_len (λ k. table (f k)) 0 n
 
   -- it is an array of a length between two bounds, where so many tables lie between them
   pub is_array : (low high : ℕ) → low ≤ n → n ≤ high → IsArrayOf low high (array_of tables)
   is_array low high from to = record {
-    items = items_in tables;
+    items = items_of tables;
     there = refl;
     enough = omega (arith, tables_long, from);
     few = omega (arith, tables_long, to);
@@ -42,13 +43,13 @@ module _ (f : ℕ → Members) (n : ℕ) where
   -- each of which is as it should be
   pub entries_kept :
       (IsEntry : ℕ → Data → Type 0) → ((k : ℕ) → k < n → IsEntry k (table (f k)))
-      → (place : ℕ) → ¬ HoldsOf (list_of (items_in tables)) place (λ entry. ¬ IsEntry place entry)
+      → (place : ℕ) → ¬ HoldsOf (list_of (items_of tables)) place (λ entry. ¬ IsEntry place entry)
   entries_kept IsEntry each place found =
       nowhere (λ k. table (f k)) n (λ k entry. ¬ IsEntry k entry) (λ k low fails. fails (each k low)) place
       (subst (λ (ds : List Data). HoldsOf ds place (λ entry. ¬ IsEntry place entry)) (listed tables) found)
 
   -- the members of each
-  pub members_are : map members_of (list_of (items_in tables)) ≡ map f (range_with_len 0 n)
+  pub members_are : map members_of (list_of (items_of tables)) ≡ map f (range_with_len 0 n)
   members_are = ap (map members_of) (listed tables) ∙ made_of members_of (λ k. table (f k)) (range_with_len 0 n)
 
 module _ (f : ℕ → Members) (name : ℕ → List ℕ) (n : ℕ) (named : (k : ℕ) → name_of (f k) ≡ Some (name k)) where

@@ -4,10 +4,10 @@ use Rattle.std.proofs.lemmas.List.Elements.{All-from_recursion}
 use Rattle.std.proofs.lemmas.List.FromFn.{length-map-range_with_len, take-map-range_with_len}
 use Rattle.std.specs.List.{Contains, range_with_len, sum}
 use Rattle.std.specs.Prelude.{codes}
-use Rattle.toml.specs.Data.{Data, Members, no_members, string}
+use Rattle.toml.specs.Data.{Data, Members, member, no_members, string}
 use Rattle.sift_base.specs.Name.{IsName}
 use Rattle.sift_gen.specs.Tasks.{after, draw_at, task_name, text_by, word_values}
-use Rattle.sift_gen.specs.Scenario.{array_of, number, placed, pattern_from, task_place, task_tables}
+use Rattle.sift_gen.specs.Scenario.{array_of, number, pattern_from, task_place, task_tables}
 use Rattle.sift_scenario.specs.Task.{AreForms, Form, HasForm, counts_of, start_words, task_keys, task_outputs, text, BreaksWords, each_task_rules}
 use Rattle.sift_document.specs.Document.{HasOnlyKeys, IsNoTableOf, IsTableOf, entries_of, keys_of, members_of}
 use Rattle.sift_document.specs.Rules.{HoldsOf, AreKept}
@@ -25,8 +25,8 @@ drawn_text t sensors x = text_by (pattern_from t x) t sensors (after x 2)
 -- the entries of the table of task t, whose draws are those from x
 abbrev pub drawn_entries : (t sensors x : ℕ) → Members
 drawn_entries t sensors x =
-    placed (codes "text") (string (drawn_text t sensors x)) (placed (codes "start") (array_of (number (draw_at x 0 word_values) ∷ []))
-    (placed (codes "name") (string (task_name t)) no_members))
+    member (codes "name") (string (task_name t)) (member (codes "start") (array_of (number (draw_at x 0 word_values) ∷ []))
+    (member (codes "text") (string (drawn_text t sensors x)) no_members))
 
 -- its start word is the first draw
 pub started : (t sensors x : ℕ) → start_words (drawn_entries t sensors x) ≡ Some (draw_at x 0 word_values ∷ [])

@@ -1,5 +1,5 @@
 use Rattle.std.proofs.Common.{List, map, string_bytes, sym, subst}
-use Rattle.sift_options.specs.Options.{Adds, no_options}
+use Rattle.sift_options.specs.Options.{Give}
 use Rattle.sift_options.specs.declared.setting.Flag.{Flag}
 use Rattle.sift_run.proofs.One.{if_none, none_asked}
 use Rattle.sift_run.proofs.command.command_of.Goals as goal
@@ -8,6 +8,6 @@ use Rattle.sift_run.proofs.command.command_of.Goals as goal
 pub returns-clause-none : goal.returns-clause-none
 returns-clause-none c =
     if_none c.asked.result _ _ c.asked.ensures
-    (none_asked c.args.word.now (map string_bytes c.args.rest.now) c.in_ok-verb.verb c.in_ok-and.field-0 c.in_ok-verb.ensures.found
-    (λ other adds. c.in_ok-and.ensures.exact other
-    (subst (λ (flags : List Flag). Adds flags no_options (map string_bytes c.args.rest.now) other) (sym c.flags.ensures) adds)))
+    (none_asked c.args.word.now (map string_bytes c.args.rest.now) c.in_ok-verb.verb c.in_ok-of.field-0 c.in_ok-verb.ensures.found
+    (λ other gives. c.in_ok-of.ensures.exact other
+    (subst (λ (flags : List Flag). Give flags (map string_bytes c.args.rest.now) other) (sym c.flags.ensures) gives)))

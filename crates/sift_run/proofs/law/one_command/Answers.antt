@@ -2,4 +2,4 @@ use Rattle.sift_run.proofs.One.{one_command}
 use Rattle.sift_run.proofs.law.one_command.Goals as goal
 
 pub returns : goal.returns
-returns c = one_command c.one_list_of_options.ensures
+returns c = one_command c.one_list_of_options.ensures.alone

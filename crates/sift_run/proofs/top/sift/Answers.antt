@@ -1,5 +1,4 @@
 use Rattle.std.proofs.Common.{map, string_bytes}
-use Rattle.sift_reply.specs.Reply.{input, output}
 use Rattle.sift_run.proofs.top.sift.Goals as goal
 
 -- the fleet has the rogues that were handed in
@@ -13,6 +12,6 @@ returns-clause-certain g c = rw (← c.of-fleet.ensures) c.answer.ensures.certai
 pub returns-clause-headline : goal.returns-clause-headline
 returns-clause-headline g c = rw (← c.of-fleet.ensures)
     (c.the_headline_is_written.ensures c.of-fleet.result (map string_bytes c.args.words.now)
-    (input (g.S.Source.inflow c.args.source.now) (g.S.Source.inflow c.answer.new.source))
-    (output (g.K.Sink.outflow c.args.sink.now) (g.K.Sink.outflow c.answer.new.sink))
+    (record { before = g.S.Source.inflow c.args.source.now; after = g.S.Source.inflow c.answer.new.source })
+    (record { before = g.K.Sink.outflow c.args.sink.now; after = g.K.Sink.outflow c.answer.new.sink })
     c.answer.result c.answer.ensures.answered)
