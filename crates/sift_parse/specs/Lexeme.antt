@@ -64,24 +64,16 @@ sign_bytes Semicolon = codes ";"
 abbrev pub kept : ℕ → ℕ
 kept n = min n (number_limit + 1)
 
--- the bytes are decimal digits, and this is kept of the number that they write
-pub record IsDecimal (bytes : List ℕ) (n : ℕ) : Type 0 where
+-- the bytes are digits of this radix, and this is kept of the number that they write
+pub record IsNumeral (radix : ℕ) (bytes : List ℕ) (n : ℕ) : Type 0 where
   pub some : 0 < length bytes
-  pub digits : AllDigits 10 bytes
-  pub value : n ≡ kept (digits_value 10 bytes)
+  pub digits : AllDigits radix bytes
+  pub value : n ≡ kept (digits_value radix bytes)
 
--- the bytes are `0x` and hexadecimal digits of either case, and this is kept of the number that they write
-pub record IsHexadecimal (bytes : List ℕ) (n : ℕ) : Type 0 where
-  pub written : List ℕ
-  pub split : bytes ≡ codes "0x" ++ written
-  pub some : 0 < length written
-  pub digits : AllDigits 16 written
-  pub value : n ≡ kept (digits_value 16 written)
-
--- these bytes are this lexeme
+-- these bytes are this lexeme; a number is written in decimal digits, or in hexadecimal ones of either case after `0x`
 abbrev pub Spells : Lexeme → List ℕ → Type 0
 Spells (word w) bytes = HasNameForm bytes × (w ≡ bytes)
-Spells (numeral n) bytes = IsDecimal bytes n ⊎ IsHexadecimal bytes n
+Spells (numeral n) bytes = IsNumeral 10 bytes n ⊎ ((written : List ℕ) × (bytes ≡ codes "0x" ++ written) × IsNumeral 16 written n)
 Spells (operator op) bytes = bytes ≡ operator_bytes op
 Spells (mark s) bytes = bytes ≡ sign_bytes s
 
