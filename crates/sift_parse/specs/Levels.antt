@@ -8,14 +8,10 @@ use Rattle.sift_parse.specs.Lexeme.{keyword_of, keyword_in, Lexeme, word, mark, 
 
 -- ---- the locals that live: those whose statement is over, and whose block isn't
 
--- the keyword `let`
+-- it is the keyword `let`
 abbrev pub is_let_keyword : Option Keyword → Bool
 is_let_keyword (Some Let) = true
 is_let_keyword _ = false
-
-abbrev pub is_let : Lexeme → Bool
-is_let (word w) = is_let_keyword (keyword_of w)
-is_let _ = false
 
 -- a `;` is among the lexemes: the statement in which they begin is over
 abbrev pub ends : List Lexeme → Bool
@@ -39,7 +35,7 @@ local_by _ = []
 -- the names of the locals that live after the lexemes, the newest first
 abbrev pub living : List Lexeme → List (List ℕ)
 living [] = []
-living (l ∷ ls) = living ls ++ (if is_let l then local_by ls else [])
+living (l ∷ ls) = living ls ++ (if is_let_keyword (keyword_in (Some l)) then local_by ls else [])
 
 -- ---- the levels: a block to its `}`, a parenthesis to its `)`, and a minus to the end of its prim
 

@@ -60,15 +60,11 @@ sign_bytes Comma = codes ","
 sign_bytes Dot = codes "."
 sign_bytes Semicolon = codes ";"
 
--- what is kept of a number: itself, or one more than the greatest of each greater one, which no task may hold
-abbrev pub kept : ℕ → ℕ
-kept n = min n (number_limit + 1)
-
--- the bytes are digits of this radix, and this is kept of the number that they write
+-- the bytes are digits of this radix and write this number, or one more than the greatest for each greater one, which no task may hold
 pub record IsNumeral (radix : ℕ) (bytes : List ℕ) (n : ℕ) : Type 0 where
   pub some : 0 < length bytes
   pub digits : AllDigits radix bytes
-  pub value : n ≡ kept (digits_value radix bytes)
+  pub value : n ≡ min (digits_value radix bytes) (number_limit + 1)
 
 -- these bytes are this lexeme; a number is written in decimal digits, or in hexadecimal ones of either case after `0x`
 abbrev pub Spells : Lexeme → List ℕ → Type 0

@@ -12,15 +12,11 @@ use Rattle.sift_parse.specs.Roll.{Roll, number_in, first_word}
 
 -- ---- what is told at a place
 
--- what is told at a place
+-- what is told at a place: the lexeme before it, the names of the locals that live, newest first, how many levels are open, and the last word before
 pub record Place : Type 0 where
-  -- the lexeme before the place
   pub before : Option Lexeme
-  -- the names of the locals that live, the newest first
   pub locals : List (List ℕ)
-  -- how many levels are open
   pub levels : ℕ
-  -- the last word before the place
   pub named : List ℕ
 
 -- the last of the lexemes, or this one where there are none

@@ -74,14 +74,11 @@ task_at tasks t = slice_index_or tasks t (record { outputs = 0; body = end })
 abbrev pub reads_task : List TaskTree → TaskTree → ℕ → Bool
 reads_task tasks task e = list_any (λ w. block_reads w task.body) (range_with_len (first_word tasks e) (task_at tasks e).outputs)
 
--- the shape of task t: the number of its outputs, and the earlier tasks that it reads, in ascending order
-abbrev pub shape_in : List TaskTree → ℕ → TaskTree → Shape
-shape_in tasks t task = record { outputs = task.outputs; needs = filter (reads_task tasks task) (range_with_len 0 t) }
-
--- the shapes of those of the tasks that stand from place t on
+-- the shapes of those of the tasks that stand from place t on: the number of a task's outputs, and the earlier tasks that it reads, in ascending order
 abbrev pub shapes_from : List TaskTree → ℕ → List TaskTree → List Shape
 shapes_from tasks t [] = []
-shapes_from tasks t (task ∷ rest) = shape_in tasks t task ∷ shapes_from tasks (suc t) rest
+shapes_from tasks t (task ∷ rest) =
+    record { outputs = task.outputs; needs = filter (reads_task tasks task) (range_with_len 0 t) } ∷ shapes_from tasks (suc t) rest
 
 -- the shapes of a program's tasks, with so many sensors
 abbrev pub program_shapes : ℕ → ProgramTree → AllShapes

@@ -4,8 +4,8 @@ use Rattle.std.specs.Char.{IsAsciiDigit, digit_value}
 use Rattle.std.specs.Str.Parse.{digits_value, AllDigits}
 use Rattle.std.proofs.lemmas.List.{take-append-drop, length-take-le}
 use Rattle.std.proofs.lemmas.Str.{digit_value_digit}
-use Rattle.sift_parse.specs.Lexeme.{Lexeme, word, numeral, operator, mark, kept, IsNumeral, Spells}
-use Rattle.sift_parse.specs.Written.{IsRun, BeginsDigit, NoHex, IsNumberAt, ten, sixteen}
+use Rattle.sift_parse.specs.Lexeme.{Lexeme, word, numeral, operator, mark, IsNumeral, Spells}
+use Rattle.sift_parse.specs.Written.{kept, IsRun, BeginsDigit, NoHex, IsNumberAt, ten, sixteen}
 use Rattle.sift_parse.proofs.Lexing.Words.{Begun, begun, unless, front-byte, within-run, digit-bytes, all-digits, run-take}
 
 -- ---- numbers

@@ -8,7 +8,8 @@ use Rattle.sift_lang.specs.declared.tree.Op.{Op}
 use Rattle.sift_lang.specs.declared.tree.Op.TheVariants.{Add, Sub, Mul, Div, Rem, And, Or, Xor, Shl, Shr, Lt, Eq}
 use Rattle.sift_parse.specs.declared.token.Sign.{Sign}
 use Rattle.sift_parse.specs.declared.token.Sign.TheVariants.{Assign, OpenParen, CloseParen, OpenBrace, CloseBrace, Comma, Dot, Semicolon}
-use Rattle.sift_parse.specs.Lexeme.{Lexeme, word, numeral, operator, mark, operator_bytes, sign_bytes, kept, IsNumeral, Spells}
+use Rattle.sift_parse.specs.Lexeme.{Lexeme, word, numeral, operator, mark, operator_bytes, sign_bytes, IsNumeral, Spells}
+use Rattle.sift_parse.specs.Written.{kept}
 use Rattle.sift_parse.proofs.Lexing.Fronts.{NoWord}
 
 -- ---- bytes spell one lexeme

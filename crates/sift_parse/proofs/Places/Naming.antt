@@ -6,7 +6,8 @@ use Rattle.sift_parse.specs.declared.token.Token.TheVariants.{Keyword}
 use Rattle.sift_parse.specs.Force.{Force, Level, block, parenthesis, negation, keyword_before, without_minuses, after_name, after_word, word_token, Role, new_local, a_sensor, a_task, old_local, role_after}
 use Rattle.sift_parse.specs.Lexeme.{keyword_of, Lexeme, word}
 use Rattle.sift_parse.specs.Roll.{Roll}
-use Rattle.sift_parse.specs.Levels.{is_let_keyword, is_let}
+use Rattle.sift_parse.specs.Levels.{is_let_keyword}
+use Rattle.sift_parse.proofs.Places.Seen.{is_let}
 use Rattle.sift_parse.proofs.Places.States.{is_open, state_of}
 use Rattle.sift_parse.proofs.Places.Tidy.{State, OkHere, Ok}
 use Rattle.sift_parse.proofs.Places.Plain.{IsPlain, Phase, J, still, let_read, bound}
