@@ -10,7 +10,15 @@ use Rattle.sift_lang.specs.Sound.{locals_after}
 use Rattle.sift_compile.proofs.Lengths.{length-block_code}
 use Rattle.sift_compile.specs.Code.{operator_code, term_code, behind, statement_code, block_code}
 use Rattle.sift_compile.specs.Correct.{IsMeasured}
-use Rattle.sift_compile.specs.Length.{term_length, statement_steps, block_steps}
+use Rattle.sift_compile.specs.Length.{term_length, statement_takes, block_takes}
+
+-- how many steps a statement takes at most
+abbrev statement_steps : Statement → ℕ
+statement_steps = statement_takes (λ rounds body. rounds * (body + 1) + 1)
+
+-- how many a block takes at most
+abbrev block_steps : Block → ℕ
+block_steps = block_takes (λ rounds body. rounds * (body + 1) + 1)
 
 -- an operator is one step
 sum-operator : (rounds : List ℕ) (o : Op) (rest : List Instr)

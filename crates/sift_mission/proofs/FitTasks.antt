@@ -9,7 +9,7 @@ use Rattle.sift_base.specs.Shapes.{Shape, first_word, shape_at, words_in}
 use Rattle.sift_lang.specs.Sound.{AllNowsBelow, IsSound}
 use Rattle.sift_lang.specs.Tree.{TaskTree, end}
 use Rattle.sift_program.specs.Program as program
-use Rattle.sift_program.specs.Program.{output_count, reads_task, reads_word, shape_in, task_at}
+use Rattle.sift_program.specs.Program.{output_count, reads_task, task_at}
 use Rattle.sift_table.specs.Laws.{TasksRunAfterTheirNeeds, WordsHaveTheirTask}
 use Rattle.sift_table.specs.Timing.{task_of}
 use Rattle.sift_mission.specs.Data.{MissionData, shapes_in}
@@ -21,7 +21,7 @@ use Rattle.sift_mission.proofs.FitSlots.{few-words}
 use Rattle.sift_mission.proofs.FitTables.{table-is, task-below, words-are}
 use Rattle.sift_mission.proofs.Meanings.{SameRead, meaning-same}
 use Rattle.sift_mission.proofs.lemmas.Numbers.{has-range, range-has}
-use Rattle.sift_program.proofs.lemmas.ShapeLists.{length-shapes, shape-there, take-shapes, words-shapes}
+use Rattle.sift_program.proofs.lemmas.ShapeLists.{shape_in, length-shapes, shape-there, take-shapes, words-shapes, reads_word}
 use Rattle.sift_mission.proofs.Tasks.{among-before, among-earlier, among-own, any-has, contains-has, filter-has, has-filter}
 
 -- sound tasks have a word each, or more

@@ -1,5 +1,5 @@
 -- What is open after lexemes: the locals that live, and the levels of blocks, parentheses and minuses.
-use Rattle.std.specs.Prelude.{ℕ, zero, suc, Bool, true, false, not, ◌&&◌, if◌then◌else◌, List, [], ◌∷◌, ◌++◌, Option, Some, ◌+◌, ◌||◌, None, is_none}
+use Rattle.std.specs.Prelude.{ℕ, zero, suc, Bool, true, false, not, ◌&&◌, if◌then◌else◌, List, [], ◌∷◌, ◌++◌, Option, Some, ◌+◌, ◌||◌, is_none}
 use Rattle.sift_lang.specs.declared.tree.Op.TheVariants.{Sub}
 use Rattle.sift_parse.specs.declared.token.Keyword.{Keyword}
 use Rattle.sift_parse.specs.declared.token.Keyword.TheVariants.{Let, Now, Last}
@@ -8,14 +8,10 @@ use Rattle.sift_parse.specs.Lexeme.{keyword_of, keyword_in, Lexeme, word, mark, 
 
 -- ---- the locals that live: those whose statement is over, and whose block isn't
 
--- the keyword `let`
+-- it is the keyword `let`
 abbrev pub is_let_keyword : Option Keyword → Bool
 is_let_keyword (Some Let) = true
 is_let_keyword _ = false
-
-abbrev pub is_let : Lexeme → Bool
-is_let (word w) = is_let_keyword (keyword_of w)
-is_let _ = false
 
 -- a `;` is among the lexemes: the statement in which they begin is over
 abbrev pub ends : List Lexeme → Bool
@@ -39,7 +35,7 @@ local_by _ = []
 -- the names of the locals that live after the lexemes, the newest first
 abbrev pub living : List Lexeme → List (List ℕ)
 living [] = []
-living (l ∷ ls) = living ls ++ (if is_let l then local_by ls else [])
+living (l ∷ ls) = living ls ++ (if is_let_keyword (keyword_in (Some l)) then local_by ls else [])
 
 -- ---- the levels: a block to its `}`, a parenthesis to its `)`, and a minus to the end of its prim
 
@@ -80,25 +76,15 @@ ends_operand (Some (numeral n)) = true
 ends_operand (Some (mark CloseParen)) = true
 ends_operand _ = false
 
--- the lexeme opens a level after this one: a `{`, a `(`, or a `-` before a prim
-abbrev pub opens_after : Option Lexeme → Lexeme → Bool
-opens_after before (operator Sub) = not (ends_operand before)
-opens_after before (mark OpenParen) = true
-opens_after before (mark OpenBrace) = true
-opens_after before l = false
-
--- the level that the lexeme opens is still open after those that follow it: a block is open to its `}`, a parenthesis to its `)`, and a minus to the end of its prim
-abbrev pub stays_open : Lexeme → List Lexeme → Bool
-stays_open (mark OpenBrace) ls = not (leaves 0 ls)
-stays_open (mark OpenParen) ls = not (leaves_paren 0 ls)
-stays_open (operator Sub) ls = not (passes_prim 0 (Some (operator Sub)) ls)
-stays_open l ls = false
+-- The lexeme after this one opens a level, a `{`, a `(`, or a `-` before a prim, and it is still open after those that follow.
+-- A block is open to its `}`, a parenthesis to its `)`, and a minus to the end of its prim.
+abbrev pub is_open : Option Lexeme → Lexeme → List Lexeme → Bool
+is_open before (mark OpenBrace) ls = not (leaves 0 ls)
+is_open before (mark OpenParen) ls = not (leaves_paren 0 ls)
+is_open before (operator Sub) ls = not (passes_prim 0 (Some (operator Sub)) ls) && not (ends_operand before)
+is_open before l ls = false
 
 -- how many levels the lexemes after this one leave open
 abbrev pub opened : Option Lexeme → List Lexeme → ℕ
 opened before [] = 0
-opened before (l ∷ ls) = (if opens_after before l && stays_open l ls then 1 else 0) + opened (Some l) ls
-
--- how many levels are open after the lexemes
-abbrev pub levels_open : List Lexeme → ℕ
-levels_open ls = opened None ls
+opened before (l ∷ ls) = (if is_open before l ls then 1 else 0) + opened (Some l) ls

@@ -1,9 +1,11 @@
 -- The bytes of a text: its limits, which of them are a lexeme, which stand between lexemes and mean nothing, and the words that the language keeps.
-use Rattle.std.specs.Prelude.{ℕ, ◌≡◌, ◌+◌, ◌-◌, ◌<◌, ◌≤◌, ◌⊎◌, min, ◌==◌, ◌||◌, if◌then◌else◌, Bool, List, [], ◌∷◌, ◌++◌, length, codes, Option, Some, None}
+use Rattle.std.specs.Prelude.{ℕ, ◌≡◌, ◌+◌, ◌-◌, ◌<◌, ◌≤◌, ◌⊎◌, min, ◌==◌, ◌||◌, if◌then◌else◌, Bool, List, [], ◌∷◌, ◌++◌, length, codes, slice_get, Option, Some, None}
+use Rattle.std.specs.List.{position_from}
+use Rattle.std.specs.Option.{option_and_then}
 use Rattle.std.specs.Char.{IsAsciiAlphabetic}
 use Rattle.std.specs.Str.{byte, bytes_eq}
 use Rattle.std.specs.Str.Parse.{digits_value, AllDigits}
-use Rattle.sift_base.specs.Name.{HasNameForm}
+use Rattle.sift_base.specs.Name.{keywords, HasNameForm}
 use Rattle.sift_lang.specs.declared.tree.Op.{Op}
 use Rattle.sift_lang.specs.declared.tree.Op.TheVariants.{Add, Sub, Mul, Div, Rem, And, Or, Xor, Shl, Shr, Lt, Eq}
 use Rattle.sift_parse.specs.declared.token.Sign.{Sign}
@@ -60,28 +62,16 @@ sign_bytes Comma = codes ","
 sign_bytes Dot = codes "."
 sign_bytes Semicolon = codes ";"
 
--- what is kept of a number: itself, or one more than the greatest of each greater one, which no task may hold
-abbrev pub kept : ℕ → ℕ
-kept n = min n (number_limit + 1)
-
--- the bytes are decimal digits, and this is kept of the number that they write
-pub record IsDecimal (bytes : List ℕ) (n : ℕ) : Type 0 where
+-- the bytes are digits of this radix and write this number, or one more than the greatest for each greater one, which no task may hold
+pub record IsNumeral (radix : ℕ) (bytes : List ℕ) (n : ℕ) : Type 0 where
   pub some : 0 < length bytes
-  pub digits : AllDigits 10 bytes
-  pub value : n ≡ kept (digits_value 10 bytes)
+  pub digits : AllDigits radix bytes
+  pub value : n ≡ min (digits_value radix bytes) (number_limit + 1)
 
--- the bytes are `0x` and hexadecimal digits of either case, and this is kept of the number that they write
-pub record IsHexadecimal (bytes : List ℕ) (n : ℕ) : Type 0 where
-  pub written : List ℕ
-  pub split : bytes ≡ codes "0x" ++ written
-  pub some : 0 < length written
-  pub digits : AllDigits 16 written
-  pub value : n ≡ kept (digits_value 16 written)
-
--- these bytes are this lexeme
+-- these bytes are this lexeme; a number is written in decimal digits, or in hexadecimal ones of either case after `0x`
 abbrev pub Spells : Lexeme → List ℕ → Type 0
 Spells (word w) bytes = HasNameForm bytes × (w ≡ bytes)
-Spells (numeral n) bytes = IsDecimal bytes n ⊎ IsHexadecimal bytes n
+Spells (numeral n) bytes = IsNumeral 10 bytes n ⊎ ((written : List ℕ) × (bytes ≡ codes "0x" ++ written) × IsNumeral 16 written n)
 Spells (operator op) bytes = bytes ≡ operator_bytes op
 Spells (mark s) bytes = bytes ≡ sign_bytes s
 
@@ -129,18 +119,11 @@ pub data Lexes (total : ℕ) : List ℕ → List Placed → List ℕ → Type 0 
 
 -- ---- the words that the language keeps for itself
 
--- the keyword that a word is
+-- the keyword that a word is: the one at its place among the words that the language keeps
 abbrev pub keyword_of : List ℕ → Option Keyword
 keyword_of w =
-    if bytes_eq w (codes "let") then Some Let else
-    (if bytes_eq w (codes "out") then Some Out else
-    (if bytes_eq w (codes "if") then Some If else
-    (if bytes_eq w (codes "else") then Some Else else
-    (if bytes_eq w (codes "repeat") then Some Repeat else
-    (if bytes_eq w (codes "mid") then Some Mid else
-    (if bytes_eq w (codes "sense") then Some Sense else
-    (if bytes_eq w (codes "now") then Some Now else
-    (if bytes_eq w (codes "last") then Some Last else None))))))))
+    option_and_then (slice_get (Let ∷ Out ∷ If ∷ Else ∷ Repeat ∷ Mid ∷ Sense ∷ Now ∷ Last ∷ []))
+    (position_from (λ name. bytes_eq w name) 0 keywords)
 
 -- the keyword that a lexeme is
 abbrev pub keyword_in : Option Lexeme → Option Keyword

@@ -1,9 +1,9 @@
 -- What the lexemes before a place of a text tell there, and which tokens lexemes stand for at their places.
-use Rattle.std.specs.Prelude.{ℕ, Bool, List, [], ◌∷◌, Option, Some, None, ◌+◌, if◌then◌else◌, ◌++◌, length, slice_index, nat_lt, nat_le, unwrap_or}
+use Rattle.std.specs.Prelude.{ℕ, List, [], ◌∷◌, Option, Some, None, ◌+◌, if◌then◌else◌, ◌++◌, length, slice_index, nat_lt, nat_le, unwrap_or}
 use Rattle.std.specs.Str.{bytes_eq}
 use Rattle.sift_parse.specs.declared.token.Keyword.{Keyword}
 use Rattle.sift_parse.specs.Lexeme.{keyword_in, keyword_of, Lexeme, word, numeral, operator, mark, number_limit}
-use Rattle.sift_parse.specs.Levels.{opens_after, levels_open, living}
+use Rattle.sift_parse.specs.Levels.{opened, living}
 use Rattle.sift_parse.specs.declared.token.Keyword.TheVariants.{Let, Out, Sense, Now, Last}
 use Rattle.sift_parse.specs.declared.token.Sign.TheVariants.{Dot}
 use Rattle.sift_parse.specs.declared.token.Token.{Token}
@@ -12,15 +12,11 @@ use Rattle.sift_parse.specs.Roll.{Roll, number_in, first_word}
 
 -- ---- what is told at a place
 
--- what is told at a place
+-- what is told at a place: the lexeme before it, the names of the locals that live, newest first, how many levels are open, and the last word before
 pub record Place : Type 0 where
-  -- the lexeme before the place
   pub before : Option Lexeme
-  -- the names of the locals that live, the newest first
   pub locals : List (List ℕ)
-  -- how many levels are open
   pub levels : ℕ
-  -- the last word before the place
   pub named : List ℕ
 
 -- the last of the lexemes, or this one where there are none
@@ -36,49 +32,22 @@ last_word named (l ∷ ls) = last_word named ls
 
 -- what is told after these lexemes
 abbrev pub place_after : List Lexeme → Place
-place_after ls = record { before = last_of None ls; locals = living ls; levels = levels_open ls; named = last_word [] ls }
-
--- the keyword before the place
-abbrev pub keyword_before : Place → Option Keyword
-keyword_before p = keyword_in p.before
-
--- the lexeme opens a level here
-abbrev pub opens : Place → Lexeme → Bool
-opens p l = opens_after p.before l
+place_after ls = record { before = last_of None ls; locals = living ls; levels = opened None ls; named = last_word [] ls }
 
 -- ---- names
-
--- what a name names, by the keyword before it
-pub data Role : Type 0 where
-  -- the local of a `let`
-  new_local : Role
-  a_sensor : Role
-  -- a task, of which a word of this frame or of the last one is read
-  a_task : Role
-  -- a local that is seen
-  old_local : Role
-
-abbrev pub role_after : Option Keyword → Role
-role_after (Some Let) = new_local
-role_after (Some Sense) = a_sensor
-role_after (Some Now) = a_task
-role_after (Some Last) = a_task
-role_after _ = old_local
 
 -- the number of the local that is seen by this name: as many locals live at its `let`
 abbrev pub local_of : List (List ℕ) → List ℕ → Option ℕ
 local_of [] w = None
 local_of (name ∷ older) w = if bytes_eq name w then Some (length older) else local_of older w
 
--- the number of what a name names here, where it is there
-abbrev pub named_by : Roll → Place → Role → List ℕ → Option ℕ
-named_by r p new_local w = Some (length p.locals)
-named_by r p a_sensor w = number_in r.sensors w
-named_by r p a_task w = number_in r.tasks w
-named_by r p old_local w = local_of p.locals w
-
-abbrev pub number_named : Roll → Place → List ℕ → Option ℕ
-number_named r p w = named_by r p (role_after (keyword_before p)) w
+-- the number of what a name after a keyword names here, where it is there: a new local, a sensor, a task whose word is read, or a local that is seen
+abbrev pub named_after : Roll → Place → Option Keyword → List ℕ → Option ℕ
+named_after r p (Some Let) w = Some (length p.locals)
+named_after r p (Some Sense) w = number_in r.sensors w
+named_after r p (Some Now) w = number_in r.tasks w
+named_after r p (Some Last) w = number_in r.tasks w
+named_after r p _ w = local_of p.locals w
 
 -- ---- numbers of words
 
@@ -108,7 +77,7 @@ number_token r before None n = token.Number (if nat_le n number_limit then n els
 -- the token that a word is here; a name that isn't there is refused, and counts as 0
 abbrev pub word_token : Roll → Place → List ℕ → Option Keyword → Token
 word_token r p w (Some k) = token.Keyword k
-word_token r p w None = token.Name (unwrap_or (number_named r p w) 0)
+word_token r p w None = token.Name (unwrap_or (named_after r p (keyword_in p.before) w) 0)
 
 -- the token that a lexeme is here
 abbrev pub token_of : Roll → Place → Lexeme → Token

@@ -1,11 +1,15 @@
 -- What the lexer holds, in the words of lexemes. No public clause cites this module.
-use Rattle.std.specs.Prelude.{◌≡◌, ◌<◌, ◌≤◌, ◌⊎◌, ℕ, List, [], ◌∷◌, ◌++◌, length, take, drop, map, slice_index, codes}
+use Rattle.std.specs.Prelude.{◌≡◌, ◌<◌, ◌≤◌, ◌⊎◌, ◌+◌, ℕ, min, List, [], ◌∷◌, ◌++◌, length, take, drop, map, slice_index, codes}
 use Rattle.std.specs.Char.{IsAsciiAlphabetic, IsAsciiLowercase, IsAsciiDigit, digit_value}
 use Rattle.std.specs.Str.{byte}
 use Rattle.sift_parse.specs.declared.lexeme.Lexeme as held
 use Rattle.sift_parse.specs.declared.lexer.Placed as held_placed
 use Rattle.sift_parse.specs.declared.lexeme.Lexeme.TheVariants as variant
-use Rattle.sift_parse.specs.Lexeme.{Lexeme, word, numeral, operator, mark, operator_bytes, sign_bytes, IsLexeme, Placed, Lexes, after_gap}
+use Rattle.sift_parse.specs.Lexeme.{number_limit, Lexeme, word, numeral, operator, mark, operator_bytes, sign_bytes, IsLexeme, Placed, Lexes, after_gap}
+
+-- what is kept of a number: itself, or one more than the greatest of each greater one, which no task may hold
+abbrev pub kept : ℕ → ℕ
+kept n = min n (number_limit + 1)
 
 -- the lexeme that the code holds
 abbrev pub lexeme_of : held.Lexeme → Lexeme

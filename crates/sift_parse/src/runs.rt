@@ -4,8 +4,7 @@ ghost use Rattle.std.specs.Char.{digit_value, IsAsciiAlphabetic};
 ghost use Rattle.std.specs.Str.{byte};
 ghost use Rattle.std.specs.Str.Parse.{digits_value};
 ghost use Rattle.sift_base.specs.Name.{IsNameByte};
-ghost use Rattle.sift_parse.specs.Lexeme.{kept};
-ghost use Rattle.sift_parse.specs.Written.{IsRun, Continues, BeginsLetter, BeginsDigit};
+ghost use Rattle.sift_parse.specs.Written.{kept, IsRun, Continues, BeginsLetter, BeginsDigit};
 
 use sift_base::is_name_byte;
 

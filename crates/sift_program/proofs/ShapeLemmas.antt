@@ -9,8 +9,8 @@ use Rattle.sift_base.specs.Shapes.{Shape}
 use Rattle.sift_lang.specs.Tree.{TaskTree, block_of, end, statement_of, step, tree_of}
 use Rattle.sift_lang.specs.declared.tree.Stmt.{Stmt}
 use Rattle.sift_lang.specs.declared.tree.Task.{Task}
-use Rattle.sift_program.specs.Program.{first_word, output_count, reads_task, reads_word, shape_in, shapes_from, task_at}
-use Rattle.sift_program.proofs.lemmas.ShapeLists.{length-shapes, shape-there}
+use Rattle.sift_program.specs.Program.{first_word, output_count, reads_task, shapes_from, task_at}
+use Rattle.sift_program.proofs.lemmas.ShapeLists.{reads_word, shape_in, length-shapes, shape-there}
 
 -- ---- blocks
 

@@ -6,22 +6,14 @@ use Rattle.sift_lang.specs.Tree.{TaskTree}
 use Rattle.sift_lang.specs.Meaning.{meaning}
 use Rattle.sift_program.specs.Program.{task_at, ProgramTree, output_count, first_word, IsSoundProgram}
 
--- the words of so many numbers from the first on, in the frame before
-abbrev pub words_held : List ℕ → ℕ → ℕ → List ℕ
-words_held prev first count = map (slice_index prev) (range_with_len first count)
-
--- the words of task t in a frame, where the tasks before it have made these: those of the frame before where it is shed, and else its meaning
-abbrev pub task_words : List TaskTree → List ℕ → List ℕ → List ℕ → List ℕ → ℕ → List ℕ
-task_words tasks prev agreed shed made t =
-    let task = task_at tasks t in
-    if has shed t then words_held prev (first_word tasks t) task.outputs else meaning task agreed made prev
-
--- the words that the first so many tasks make in turn, over those of the frame before, the agreed words of the sensors, and the tasks that are shed
+-- The words that the first so many tasks make in turn, over those of the frame before, the agreed words of the sensors, and the tasks that are shed.
+-- A task that is shed holds its words of the frame before, and the words of another are its meaning.
 abbrev pub words_made : List TaskTree → List ℕ → List ℕ → List ℕ → ℕ → List ℕ
 words_made tasks prev agreed shed zero = []
 words_made tasks prev agreed shed (suc t) =
     let made = words_made tasks prev agreed shed t in
-    made ++ task_words tasks prev agreed shed made t
+    let task = task_at tasks t in
+    made ++ (if has shed t then map (slice_index prev) (range_with_len (first_word tasks t) task.outputs) else meaning task agreed made prev)
 
 -- the words of a frame: those that the program's tasks make in list order
 abbrev pub ideal_frame : ProgramTree → List ℕ → List ℕ → List ℕ → List ℕ
@@ -46,7 +38,7 @@ words_of tasks t task frame = slice_range frame (first_word tasks t) (first_word
 pub record MeetsEachTask (tasks : List TaskTree) (prev agreed shed frame : List ℕ) : Type 0 where
   pub whole : length frame ≡ output_count tasks
   pub each_task : (t : ℕ) (task : TaskTree) → slice_get tasks t ≡ Some task
-      → words_of tasks t task frame ≡ (if has shed t then words_held prev (first_word tasks t) task.outputs else meaning task agreed frame prev)
+      → words_of tasks t task frame ≡ (if has shed t then map (slice_index prev) (range_with_len (first_word tasks t) task.outputs) else meaning task agreed frame prev)
 
 -- the words of a frame are the one list that meets each task
 abbrev pub IdealFrameIsUnique : Type 0

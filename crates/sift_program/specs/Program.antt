@@ -43,16 +43,13 @@ pub record IsSoundProgram (sensors : ℕ) (program : ProgramTree) : Type 0 where
 
 -- ---- which words a task reads of the frame in which it runs
 
--- the term reads word w of this frame
+-- the term reads word w of this frame: it is that word, or one of its parts reads it
 abbrev pub term_reads : ℕ → Term → Bool
-term_reads w (number n) = false
-term_reads w (local l) = false
-term_reads w (sense x) = false
 term_reads w (this_frame v) = nat_eq v w
-term_reads w (last_frame v) = false
 term_reads w (minus t) = term_reads w t
 term_reads w (binary op t u) = term_reads w t || term_reads w u
 term_reads w (middle t u v) = term_reads w t || (term_reads w u || term_reads w v)
+term_reads w _ = false
 
 abbrev mutual
   -- some term of the statement reads it
@@ -69,28 +66,19 @@ abbrev mutual
   block_reads w end = false
   block_reads w (step statement rest) = statement_reads w statement || block_reads w rest
 
--- the task reads word w of this frame
-abbrev pub reads_word : TaskTree → ℕ → Bool
-reads_word task w = block_reads w task.body
-
--- ---- the shapes of a program's tasks
-
 -- the task at a place, and one of no words past the list's end
 abbrev pub task_at : List TaskTree → ℕ → TaskTree
 task_at tasks t = slice_index_or tasks t (record { outputs = 0; body = end })
 
 -- the task reads a word of task e of this frame
 abbrev pub reads_task : List TaskTree → TaskTree → ℕ → Bool
-reads_task tasks task e = list_any (reads_word task) (range_with_len (first_word tasks e) (task_at tasks e).outputs)
+reads_task tasks task e = list_any (λ w. block_reads w task.body) (range_with_len (first_word tasks e) (task_at tasks e).outputs)
 
--- the shape of task t: the number of its outputs, and the earlier tasks that it reads, in ascending order
-abbrev pub shape_in : List TaskTree → ℕ → TaskTree → Shape
-shape_in tasks t task = record { outputs = task.outputs; needs = filter (reads_task tasks task) (range_with_len 0 t) }
-
--- the shapes of those of the tasks that stand from place t on
+-- the shapes of those of the tasks that stand from place t on: the number of a task's outputs, and the earlier tasks that it reads, in ascending order
 abbrev pub shapes_from : List TaskTree → ℕ → List TaskTree → List Shape
 shapes_from tasks t [] = []
-shapes_from tasks t (task ∷ rest) = shape_in tasks t task ∷ shapes_from tasks (suc t) rest
+shapes_from tasks t (task ∷ rest) =
+    record { outputs = task.outputs; needs = filter (reads_task tasks task) (range_with_len 0 t) } ∷ shapes_from tasks (suc t) rest
 
 -- the shapes of a program's tasks, with so many sensors
 abbrev pub program_shapes : ℕ → ProgramTree → AllShapes

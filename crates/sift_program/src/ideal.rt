@@ -1,11 +1,12 @@
 //! The ideal machine: its words, frame by frame.
-ghost use Rattle.std.specs.Prelude.{◌≡◌, ℕ, ◌+◌, ◌≤◌, List, ◌++◌, length};
+ghost use Rattle.std.specs.Prelude.{◌≡◌, ℕ, ◌+◌, ◌≤◌, List, ◌++◌, length, map, slice_index};
+ghost use Rattle.std.specs.List.{range_with_len};
 ghost use Rattle.arrayvec.specs.ArrayVec.{array_vec_len};
 ghost use Rattle.sift_lang.specs.Tree.{tree_of};
 ghost use Rattle.sift_lang.specs.Meaning.{meaning};
 ghost use Rattle.sift_lang.specs.Sound.{IsSound, AllNowsBelow};
 ghost use Rattle.sift_program.specs.Program.{program_of, IsSoundProgram};
-ghost use Rattle.sift_program.specs.Ideal.{words_held, ideal_frame, words_before, ideal_words, IdealFrameIsUnique};
+ghost use Rattle.sift_program.specs.Ideal.{ideal_frame, words_before, ideal_words, IdealFrameIsUnique};
 
 use crate::program::{Program, WORD_LIMIT};
 use arrayvec::ArrayVec;
@@ -84,7 +85,7 @@ fn run(task: &Task, agreed: &[Word], made: &mut ArrayVec<Word, WORD_LIMIT>, last
 fn hold(task: &Task, made: &mut ArrayVec<Word, WORD_LIMIT>, last: &[Word])
     requires held { array_vec_len made.old + task.now.outputs ≤ length last.now }
     requires room { array_vec_len made.old + task.now.outputs ≤ WORD_LIMIT }
-    ensures { made.new.items ≡ made.old.items ++ words_held last.now (array_vec_len made.old) task.now.outputs }
+    ensures { made.new.items ≡ made.old.items ++ map (slice_index last.now) (range_with_len (array_vec_len made.old) task.now.outputs) }
 {
     let first = made.len();
     let held = &last[first..first + task.outputs as usize];

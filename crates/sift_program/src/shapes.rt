@@ -6,7 +6,7 @@ ghost use Rattle.sift_base.specs.Layout.{sensor_limit};
 ghost use Rattle.sift_base.specs.Shapes.{AreShapes, shapes_of};
 ghost use Rattle.sift_lang.specs.Tree.{block_of, statement_of, term_of, tree_of};
 ghost use Rattle.sift_program.specs.Program.{program_of, IsSoundProgram, output_count};
-ghost use Rattle.sift_program.specs.Program.{SoundProgramsHaveShapes, block_reads, program_shapes, reads_task, reads_word, statement_reads, task_at, term_reads};
+ghost use Rattle.sift_program.specs.Program.{SoundProgramsHaveShapes, block_reads, program_shapes, reads_task, statement_reads, task_at, term_reads};
 
 use crate::program::Program;
 use sift_base::{NoMemory, Shapes, TaskShape};
@@ -59,7 +59,7 @@ fn needs_of(alloc: Global, tasks: &[Task], place: usize) -> Result<Vec<u8>, NoMe
 /// Whether a task reads one of so many words of this frame, from the first on.
 fn reads_some(task: &Task, first: u8, count: u8) -> bool
     requires { first + count < 2 ^ 8 }
-    ensures { result ≡ list_any (reads_word (tree_of task.now)) (range_with_len first count) }
+    ensures { result ≡ list_any (λ w. block_reads w (tree_of task.now).body) (range_with_len first count) }
 {
     for word in first..first + count {
         if block_reads(&task.body, word) {

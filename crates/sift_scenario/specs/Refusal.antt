@@ -9,7 +9,7 @@ use Rattle.sift_compile.specs.Length.{code_limit, task_length, task_steps}
 use Rattle.sift_lang.specs.Tree.{TaskTree}
 use Rattle.sift_parse.specs.declared.stop.ParseStop.{ParseStop}
 use Rattle.sift_parse.specs.declared.stop.ParseStop.TheVariants as parse
-use Rattle.sift_parse.specs.Outcome.{Tells}
+use Rattle.sift_parse.specs.Outcome.{IsStopped}
 use Rattle.sift_parse.specs.Roll.{Roll}
 use Rattle.sift_script.specs.Rules as scripts
 use Rattle.sift_table.specs.Rules as tables
@@ -39,7 +39,7 @@ pub record IsNoTask (roll : Roll) (task : ℕ) (form : Form) (refused : Refused)
   pub bytes : List ℕ
   pub form_is : form ≡ text bytes
   pub parsed : ParseStop
-  pub told : Tells roll bytes (Err parsed)
+  pub told : IsStopped roll bytes parsed
   pub refused_is : refusal_of task parsed ≡ stop.Refused refused
 
 -- a number as it is told: one above the last of 32 bits is told as that

@@ -4,8 +4,8 @@ use Rattle.std.specs.Char.{IsAsciiDigit, digit_value}
 use Rattle.std.specs.Str.Parse.{digits_value, AllDigits}
 use Rattle.std.proofs.lemmas.List.{take-append-drop, length-take-le}
 use Rattle.std.proofs.lemmas.Str.{digit_value_digit}
-use Rattle.sift_parse.specs.Lexeme.{Lexeme, word, numeral, operator, mark, kept, IsHexadecimal, Spells}
-use Rattle.sift_parse.specs.Written.{IsRun, BeginsDigit, NoHex, IsNumberAt, ten, sixteen}
+use Rattle.sift_parse.specs.Lexeme.{Lexeme, word, numeral, operator, mark, IsNumeral, Spells}
+use Rattle.sift_parse.specs.Written.{kept, IsRun, BeginsDigit, NoHex, IsNumberAt, ten, sixteen}
 use Rattle.sift_parse.proofs.Lexing.Words.{Begun, begun, unless, front-byte, within-run, digit-bytes, all-digits, run-take}
 
 -- ---- numbers
@@ -28,15 +28,15 @@ digit-longest b ts n digit num (numeral m) front back e h k = num m front back e
 digit-longest b ts n digit num (operator op) front back e h k = absurd (k.1 digit)
 digit-longest b ts n digit num (mark s) front back e h k = absurd (k.1 digit)
 
-hex-parts : (text front back : List ℕ) (m : ℕ) → IsHexadecimal front m → text ≡ front ++ back
+hex-parts : (text front back : List ℕ) (m : ℕ) (h : (written : List ℕ) × (front ≡ codes "0x" ++ written) × IsNumeral 16 written m) → text ≡ front ++ back
     → (w : List ℕ) × (text ≡ codes "0x" ++ (w ++ back)) × (length front ≡ 2 + length w) × (0 < length w) × AllDigits 16 w
 hex-parts text front back m h e = (
-  h.written,
-  e ∙ (ap (λ l. l ++ back) h.split ∙ append_assoc (codes "0x") h.written back),
-  ap length h.split
-      ∙ length-append (codes "0x") h.written,
-  h.some,
-  h.digits,
+  h.0,
+  e ∙ (ap (λ l. l ++ back) h.1 ∙ append_assoc (codes "0x") h.0 back),
+  ap length h.1
+      ∙ length-append (codes "0x") h.0,
+  h.2.some,
+  h.2.digits,
 )
 
 ten-number : (b : ℕ) (ts : List ℕ) (n : ℕ) → NoHex (b ∷ ts) → IsRun (λ b. digit_value b < 10) (b ∷ ts) n → (m : ℕ) (front back : List ℕ)
@@ -96,13 +96,7 @@ sixteen-longest ts n some run =
       long = omega arith;
       split = ap (λ l. 48 ∷ 120 ∷ l) (sym (take-append-drop n ts));
       spells =
-          inr (record {
-            written = take n ts;
-            split = refl;
-            some = omega arith;
-            digits = all-digits 16 (take n ts) (run-take (λ b. digit_value b < 16) ts n run);
-            value = refl;
-          });
+          inr (take n ts, refl, record { some = omega arith; digits = all-digits 16 (take n ts) (run-take (λ b. digit_value b < 16) ts n run); value = refl });
       some = omega arith;
       longest =
           λ other front back e h. (let w = digit-longest 48 (120 ∷ ts) (2 + n) (omega arith, omega arith)

@@ -8,8 +8,8 @@ use Rattle.std.proofs.lemmas.Str.Parse.{digit_from_value}
 use Rattle.std.proofs.Math.Seq.{drop-append_seam, get_or-append_seam}
 use Rattle.sift_lang.specs.declared.tree.Op.TheVariants.{Shl, Shr, Eq}
 use Rattle.sift_parse.specs.declared.token.Sign.TheVariants.{Assign}
-use Rattle.sift_parse.specs.Lexeme.{Lexeme, word, numeral, operator, mark, kept, IsLexeme, is_blank, after_gap}
-use Rattle.sift_parse.specs.Written.{SpellsSign, IsLexemeAt, Continues, BeginsDigit, ten}
+use Rattle.sift_parse.specs.Lexeme.{Lexeme, word, numeral, operator, mark, IsLexeme, is_blank, after_gap}
+use Rattle.sift_parse.specs.Written.{kept, SpellsSign, IsLexemeAt, Continues, BeginsDigit, ten}
 use Rattle.sift_parse.proofs.Lexing.Fronts.{NoWord, sign-lexeme}
 use Rattle.sift_parse.proofs.Lexing.Longest.{number-at}
 use Rattle.sift_parse.proofs.Lexing.Words.{front-byte, digit-bytes}

@@ -21,8 +21,8 @@ only-signs [] w (numeral n) front back e (inl h) =
     (let s = h.some in let f : 0 ≡ length front + length back = ap length e ∙ length-append front back in omega arith)
 only-signs [] w (numeral n) front back e (inr h) =
     (let f : 0 ≡ length front + length back = ap length e
-    ∙ length-append front back in let g : length front ≡ 2 + length h.written = ap length h.split
-    ∙ length-append (codes "0x") h.written in omega arith)
+    ∙ length-append front back in let g : length front ≡ 2 + length h.0 = ap length h.1
+    ∙ length-append (codes "0x") h.0 in omega arith)
 only-signs [] w (operator op) front back e h = h
 only-signs [] w (mark s) front back e h = h
 only-signs (b ∷ ts) w (word u) front back e h = w.0 (begun (word u) b ts front back h e)

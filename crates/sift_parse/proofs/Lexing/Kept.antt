@@ -3,7 +3,7 @@ use Rattle.std.proofs.Common.{◌≡◌, ℕ, ◌+◌, ◌*◌, ◌≤◌, min, 
 use Rattle.std.specs.Prelude.{unwrap_or}
 use Rattle.std.proofs.Math.Nat.{mul-le-mul_left}
 use Rattle.std.proofs.lemmas.Bool.Decides.{nat_tests}
-use Rattle.sift_parse.specs.Lexeme.{kept}
+use Rattle.sift_parse.specs.Written.{kept}
 
 kept_by : (v a b d : ℕ) → (kept v ≡ v → a ≡ b) → v ≤ a → kept v ≤ b → min (b + d) 65536 ≡ kept (a + d)
 kept_by v a b d same grows rises = grind (arith, nat_tests)

@@ -3,8 +3,8 @@ use Rattle.std.proofs.Common.{◌≡◌, ℕ, ◌+◌, ◌<◌, List, [], ◌∷
 use Rattle.std.specs.Char.{IsAsciiDigit, digit_value}
 use Rattle.std.specs.Str.Parse.{digits_value}
 use Rattle.std.proofs.Math.Seq.{drop-append_seam}
-use Rattle.sift_parse.specs.Lexeme.{Lexeme, word, numeral, operator, mark, kept, MayStandBefore, IsLexeme}
-use Rattle.sift_parse.specs.Written.{IsLexemeAt, NoLexemeAt, Continues, BeginsDigit, IsNumberAt, ten, sixteen}
+use Rattle.sift_parse.specs.Lexeme.{Lexeme, word, numeral, operator, mark, MayStandBefore, IsLexeme}
+use Rattle.sift_parse.specs.Written.{kept, IsLexemeAt, NoLexemeAt, Continues, BeginsDigit, IsNumberAt, ten, sixteen}
 use Rattle.sift_parse.proofs.Lexing.Words.{Begun, begun, front-within, run-take}
 use Rattle.sift_parse.proofs.Lexing.Digits.{IsLongest, number-longest}
 

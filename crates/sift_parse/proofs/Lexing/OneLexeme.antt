@@ -1,5 +1,5 @@
 -- A text is lexed in one way only: each lexeme and each rest is determined.
-use Rattle.std.proofs.Common.{◌≡◌, ℕ, ◌+◌, ◌<◌, ◌⊎◌, inl, inr, ◌==◌, if◌then◌else◌, List, [], ◌∷◌, ◌++◌, length, codes, refl, sym, ap, ◌∙◌, subst, arith, length-append}
+use Rattle.std.proofs.Common.{◌≡◌, ℕ, ◌+◌, ◌<◌, inl, inr, ◌==◌, if◌then◌else◌, List, [], ◌∷◌, ◌++◌, length, codes, refl, sym, ap, ◌∙◌, subst, arith, length-append}
 use Rattle.std.specs.Char.{IsAsciiDigit, digit_value}
 use Rattle.std.specs.Str.Parse.{digits_value, AllDigits}
 use Rattle.std.proofs.lemmas.Str.Parse.{digit_from_value}
@@ -8,7 +8,8 @@ use Rattle.sift_lang.specs.declared.tree.Op.{Op}
 use Rattle.sift_lang.specs.declared.tree.Op.TheVariants.{Add, Sub, Mul, Div, Rem, And, Or, Xor, Shl, Shr, Lt, Eq}
 use Rattle.sift_parse.specs.declared.token.Sign.{Sign}
 use Rattle.sift_parse.specs.declared.token.Sign.TheVariants.{Assign, OpenParen, CloseParen, OpenBrace, CloseBrace, Comma, Dot, Semicolon}
-use Rattle.sift_parse.specs.Lexeme.{Lexeme, word, numeral, operator, mark, operator_bytes, sign_bytes, kept, IsDecimal, IsHexadecimal, Spells}
+use Rattle.sift_parse.specs.Lexeme.{Lexeme, word, numeral, operator, mark, operator_bytes, sign_bytes, IsNumeral, Spells}
+use Rattle.sift_parse.specs.Written.{kept}
 use Rattle.sift_parse.proofs.Lexing.Fronts.{NoWord}
 
 -- ---- bytes spell one lexeme
@@ -78,11 +79,11 @@ mark-no_word Dot = (λ x. omega arith, λ x. omega arith)
 mark-no_word Semicolon = (λ x. omega arith, λ x. omega arith)
 
 -- a number's first byte is a digit
-decimal-digit : (b : ℕ) (bs : List ℕ) (n : ℕ) → IsDecimal (b ∷ bs) n ⊎ IsHexadecimal (b ∷ bs) n → IsAsciiDigit b
+decimal-digit : (b : ℕ) (bs : List ℕ) (n : ℕ) → Spells (numeral n) (b ∷ bs) → IsAsciiDigit b
 decimal-digit b bs n (inl h) = digit_from_value b h.digits.0
-decimal-digit b bs n (inr h) = let e : b ≡ 48 = (let f = h.split in cc) in (omega arith, omega arith)
+decimal-digit b bs n (inr h) = let e : b ≡ 48 = (let f = h.1 in cc) in (omega arith, omega arith)
 
-word-number : (bytes : List ℕ) (n : ℕ) → HasNameForm bytes → IsDecimal bytes n ⊎ IsHexadecimal bytes n → ⊥
+word-number : (bytes : List ℕ) (n : ℕ) → HasNameForm bytes → Spells (numeral n) bytes → ⊥
 word-number [] n h x = h
 word-number (b ∷ bs) n h x = let d = decimal-digit b bs n x in omega (arith, h.0)
 
@@ -90,26 +91,26 @@ word-sign : (bytes : List ℕ) → HasNameForm bytes → NoWord bytes → ⊥
 word-sign [] h x = h
 word-sign (b ∷ bs) h x = x.0 h.0
 
-number-sign : (bytes : List ℕ) (n : ℕ) → IsDecimal bytes n ⊎ IsHexadecimal bytes n → NoWord bytes → ⊥
+number-sign : (bytes : List ℕ) (n : ℕ) → Spells (numeral n) bytes → NoWord bytes → ⊥
 number-sign [] n (inl h) x = absurd (let s = h.some in omega arith)
-number-sign [] n (inr h) x = let f : 0 ≡ 2 + length h.written = ap length h.split ∙ length-append (codes "0x") h.written in omega arith
+number-sign [] n (inr h) x = let f : 0 ≡ 2 + length h.0 = ap length h.1 ∙ length-append (codes "0x") h.0 in omega arith
 number-sign (b ∷ bs) n h x = x.1 (decimal-digit b bs n h)
 
 -- `x` is no decimal digit
-decimal-hexadecimal : (bytes : List ℕ) (m n : ℕ) → IsDecimal bytes m → IsHexadecimal bytes n → ⊥
-decimal-hexadecimal bytes m n d h =
-    let all : AllDigits 10 (codes "0x" ++ h.written) = subst (AllDigits 10) h.split d.digits in
+decimal-hexadecimal : (bytes : List ℕ) (m : ℕ) (written : List ℕ) → IsNumeral 10 bytes m → bytes ≡ codes "0x" ++ written → ⊥
+decimal-hexadecimal bytes m written d e =
+    let all : AllDigits 10 (codes "0x" ++ written) = subst (AllDigits 10) e d.digits in
     let second : digit_value 120 < 10 = all.1.0 in
     omega arith
 
-one_number : (bytes : List ℕ) (m n : ℕ) → IsDecimal bytes m ⊎ IsHexadecimal bytes m → IsDecimal bytes n ⊎ IsHexadecimal bytes n → m ≡ n
+one_number : (bytes : List ℕ) (m n : ℕ) → Spells (numeral m) bytes → Spells (numeral n) bytes → m ≡ n
 one_number bytes m n (inl x) (inl y) = x.value ∙ sym y.value
-one_number bytes m n (inl x) (inr y) = absurd (decimal-hexadecimal bytes m n x y)
-one_number bytes m n (inr x) (inl y) = absurd (decimal-hexadecimal bytes n m y x)
+one_number bytes m n (inl x) (inr y) = absurd (decimal-hexadecimal bytes m y.0 x y.1)
+one_number bytes m n (inr x) (inl y) = absurd (decimal-hexadecimal bytes n x.0 y x.1)
 one_number bytes m n (inr x) (inr y) =
-    let both : codes "0x" ++ x.written ≡ codes "0x" ++ y.written = sym x.split ∙ y.split in
-    let same : x.written ≡ y.written = cc in
-    x.value ∙ (ap (λ w. kept (digits_value 16 w)) same ∙ sym y.value)
+    let both : codes "0x" ++ x.0 ≡ codes "0x" ++ y.0 = sym x.1 ∙ y.1 in
+    let same : x.0 ≡ y.0 = cc in
+    x.2.value ∙ (ap (λ w. kept (digits_value 16 w)) same ∙ sym y.2.value)
 
 -- the same bytes spell one lexeme at most
 pub one_spelling : (l m : Lexeme) (bytes : List ℕ) → Spells l bytes → Spells m bytes → l ≡ m

@@ -10,7 +10,7 @@ use Rattle.sift_lang.specs.declared.tree.Op.{Op}
 use Rattle.sift_lang.specs.declared.tree.Op.TheVariants.{Add, Sub, Mul, Div, Rem, And, Or, Xor, Shl, Shr, Lt, Eq}
 use Rattle.sift_parse.specs.declared.token.Sign.{Sign}
 use Rattle.sift_parse.specs.declared.token.Sign.TheVariants.{Assign, OpenParen, CloseParen, OpenBrace, CloseBrace, Comma, Dot, Semicolon}
-use Rattle.sift_parse.specs.Lexeme.{Lexeme, word, numeral, operator, mark, operator_bytes, sign_bytes, IsDecimal, IsHexadecimal, Spells}
+use Rattle.sift_parse.specs.Lexeme.{Lexeme, word, numeral, operator, mark, operator_bytes, sign_bytes, IsNumeral, Spells}
 use Rattle.sift_parse.specs.Written.{IsLexemeAt, IsRun}
 
 -- ---- the first byte tells the kind
@@ -55,13 +55,13 @@ word-begun : (b : ℕ) (ts front back : List ℕ) → HasNameForm front → b �
 word-begun b ts [] back h e = absurd h
 word-begun b ts (x ∷ xs) back h e = let same : x ≡ b = cc in subst IsAsciiLowercase same h.0
 
-decimal-begun : (b : ℕ) (ts front back : List ℕ) (n : ℕ) → IsDecimal front n → b ∷ ts ≡ front ++ back → IsAsciiDigit b
+decimal-begun : (b : ℕ) (ts front back : List ℕ) (n : ℕ) → IsNumeral 10 front n → b ∷ ts ≡ front ++ back → IsAsciiDigit b
 decimal-begun b ts [] back n h e = absurd (let s = h.some in omega arith)
 decimal-begun b ts (x ∷ xs) back n h e = let same : x ≡ b = cc in subst IsAsciiDigit same (digit_from_value x h.digits.0)
 
-hex-begun : (b : ℕ) (ts front back : List ℕ) (n : ℕ) → IsHexadecimal front n → b ∷ ts ≡ front ++ back → IsAsciiDigit b
+hex-begun : (b : ℕ) (ts front back : List ℕ) (n : ℕ) (h : (written : List ℕ) × (front ≡ codes "0x" ++ written) × IsNumeral 16 written n) → b ∷ ts ≡ front ++ back → IsAsciiDigit b
 hex-begun b ts front back n h e =
-    let f : b ∷ ts ≡ codes "0x" ++ (h.written ++ back) = e ∙ (ap (λ l. l ++ back) h.split ∙ append_assoc (codes "0x") h.written back) in
+    let f : b ∷ ts ≡ codes "0x" ++ (h.0 ++ back) = e ∙ (ap (λ l. l ++ back) h.1 ∙ append_assoc (codes "0x") h.0 back) in
     let same : b ≡ 48 = cc in
     (omega arith, omega arith)
 

@@ -4,8 +4,8 @@ use Rattle.std.proofs.lemmas.List.{append-nil}
 use Rattle.sift_parse.specs.declared.token.Sign.TheVariants.{OpenBrace, CloseBrace, Semicolon}
 use Rattle.sift_parse.specs.Force.{oldest}
 use Rattle.sift_parse.specs.Lexeme.{Lexeme, word, mark}
-use Rattle.sift_parse.specs.Levels.{is_let, ends, leaves, local_by, living}
-use Rattle.sift_parse.proofs.Places.Seen.{Balanced, Stays, balanced-stays, balanced-append, balanced-block, opened-stays, Settled, settled-append, living-append, none-after, oldest-append}
+use Rattle.sift_parse.specs.Levels.{ends, leaves, local_by, living}
+use Rattle.sift_parse.proofs.Places.Seen.{is_let, Balanced, Stays, balanced-stays, balanced-append, balanced-block, opened-stays, Settled, settled-append, living-append, none-after, oldest-append}
 use Rattle.sift_parse.proofs.Places.Plain.{inside, Plain, plain-leaves, plain-goes-on, plain-ends, plain-living, LetOf, plain-settled, Phase, Hangs, Nest, nest-append, J, still, let_read, bound}
 use Rattle.sift_parse.proofs.Places.Lets.{grow}
 

@@ -1,9 +1,10 @@
 -- As many levels are open as have a depth.
-use Rattle.std.proofs.Common.{◌≡◌, ℕ, zero, suc, ◌+◌, Bool, true, false, not, ◌&&◌, ◌||◌, if◌then◌else◌, Option, Some, None, List, [], ◌∷◌, ◌++◌, length, refl, sym, ap, arith, length-append}
+use Rattle.std.proofs.Common.{◌≡◌, ℕ, zero, suc, ◌+◌, Bool, true, false, not, ◌&&◌, ◌||◌, if◌then◌else◌, Option, Some, None, List, [], ◌∷◌, ◌++◌, length, refl, sym, ap, ◌∙◌, arith, length-append}
 use Rattle.sift_lang.specs.declared.tree.Op.TheVariants.{Sub}
 use Rattle.sift_parse.specs.declared.token.Sign.TheVariants.{OpenParen, CloseParen, OpenBrace, CloseBrace}
+use Rattle.sift_parse.specs.Force.{opens_after}
 use Rattle.sift_parse.specs.Lexeme.{Lexeme, operator, mark}
-use Rattle.sift_parse.specs.Levels.{ends_operand, leaves_paren, ends_prim, passes_prim, opens_after, stays_open, opened, leaves}
+use Rattle.sift_parse.specs.Levels.{ends_operand, leaves_paren, ends_prim, passes_prim, is_open, opened, leaves}
 use Rattle.sift_parse.proofs.Places.Tidy.{Open, brace, paren, minus}
 use Rattle.sift_parse.proofs.Places.Depths.{Entry, run, listed, kind_of, entries}
 
@@ -54,14 +55,21 @@ counted k (Some n) c false e = absurd (let g : false ≡ true = e in cc)
 counted k None c true e = absurd (let g : true ≡ false = e in cc)
 counted k None c false e = elim c as (λ c. (if c && false then 1 else 0) ≡ length (if c then listed k None else [])) [ true ↦ refl | false ↦ refl ]
 
+both-ways : (c s : Bool) → (s && c) ≡ (c && s)
+both-ways true true = refl
+both-ways true false = refl
+both-ways false true = refl
+both-ways false false = refl
+
 one-counted : (b : Option Lexeme) (l : Lexeme) (ls : List Lexeme)
-    → (if opens_after b l && stays_open l ls then 1 else 0) ≡ length (if opens_after b l then listed (kind_of l) (run (kind_of l) (Some 0) (Some l) ls) else [])
+    → (if is_open b l ls then 1 else 0) ≡ length (if opens_after b l then listed (kind_of l) (run (kind_of l) (Some 0) (Some l) ls) else [])
 one-counted b (mark OpenBrace) ls =
     counted brace (run brace (Some 0) (Some (mark OpenBrace)) ls) true (not (leaves 0 ls)) (brace-there 0 (Some (mark OpenBrace)) ls)
 one-counted b (mark OpenParen) ls =
     counted paren (run paren (Some 0) (Some (mark OpenParen)) ls) true (not (leaves_paren 0 ls)) (paren-there 0 (Some (mark OpenParen)) ls)
 one-counted b (operator Sub) ls =
-    counted minus (run minus (Some 0) (Some (operator Sub)) ls) (not (ends_operand b)) (not (passes_prim 0 (Some (operator Sub)) ls))
+    ap (λ c. if c then 1 else 0) (both-ways (not (ends_operand b)) (not (passes_prim 0 (Some (operator Sub)) ls)))
+    ∙ counted minus (run minus (Some 0) (Some (operator Sub)) ls) (not (ends_operand b)) (not (passes_prim 0 (Some (operator Sub)) ls))
     (minus-there 0 (Some (operator Sub)) ls)
 one-counted b l ls = refl
 
@@ -70,7 +78,7 @@ pub opened-is : (b : Option Lexeme) (ls : List Lexeme) → opened b ls ≡ lengt
 opened-is b [] = refl
 opened-is b (l ∷ ls) =
     let late : List Entry = (if opens_after b l then listed (kind_of l) (run (kind_of l) (Some 0) (Some l) ls) else []) in
-    let e : (if opens_after b l && stays_open l ls then 1 else 0) ≡ length late = one-counted b l ls in
+    let e : (if is_open b l ls then 1 else 0) ≡ length late = one-counted b l ls in
     let h : opened (Some l) ls ≡ length (entries (Some l) ls) = opened-is (Some l) ls in
     let n : length (entries (Some l) ls ++ late) ≡ length (entries (Some l) ls) + length late = length-append (entries (Some l) ls) late in
     omega arith

@@ -4,7 +4,8 @@ use Rattle.std.proofs.lemmas.List.{append-nil}
 use Rattle.sift_parse.specs.declared.token.Sign.TheVariants.{OpenParen, CloseParen, OpenBrace, CloseBrace}
 use Rattle.sift_parse.specs.Lexeme.{Lexeme, mark}
 use Rattle.sift_parse.specs.Tokens.{last_of}
-use Rattle.sift_parse.specs.Levels.{ends_prim, opens_after}
+use Rattle.sift_parse.specs.Force.{opens_after}
+use Rattle.sift_parse.specs.Levels.{ends_prim}
 use Rattle.sift_parse.proofs.Places.Tidy.{Open, brace, paren, minus}
 
 -- ---- a level that is open, with how many of its kind are open inside it

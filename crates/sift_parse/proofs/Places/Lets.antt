@@ -3,8 +3,8 @@ use Rattle.std.proofs.Common.{◌≡◌, ℕ, true, false, List, [], ◌∷◌, 
 use Rattle.std.proofs.lemmas.List.{append-nil}
 use Rattle.sift_parse.specs.declared.token.Sign.TheVariants.{Semicolon}
 use Rattle.sift_parse.specs.Lexeme.{Lexeme, word, mark}
-use Rattle.sift_parse.specs.Levels.{is_let, living}
-use Rattle.sift_parse.proofs.Places.Seen.{Balanced, balanced-stays, Settled, settled-append, living-append}
+use Rattle.sift_parse.specs.Levels.{living}
+use Rattle.sift_parse.proofs.Places.Seen.{is_let, Balanced, balanced-stays, Settled, settled-append, living-append}
 use Rattle.sift_parse.proofs.Places.Plain.{IsPlain, plain-append, plain-leaves, plain-living, plain-settled, nest-append, J, still, let_read, bound}
 
 -- ---- one more lexeme

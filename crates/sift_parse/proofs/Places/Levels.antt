@@ -2,11 +2,11 @@
 use Rattle.std.proofs.Common.{◌≡◌, Option, Some, None, List, [], ◌∷◌, ◌++◌, length, refl, sym, ap, ◌∙◌, subst, append_assoc}
 use Rattle.std.specs.Prelude.{fold, map}
 use Rattle.std.proofs.lemmas.List.{append-nil, length-map}
-use Rattle.sift_parse.specs.Force.{Force, keyword_before, advance, at_start, force_after, token_of, tokens_from, tokens_of}
+use Rattle.sift_parse.specs.Force.{Force, keyword_before, advance, at_start, force_after, token_of, tokens_from, tokens_of, role_after}
 use Rattle.sift_parse.specs.Lexeme.{Lexeme}
-use Rattle.sift_parse.specs.Tokens.{last_of, role_after}
+use Rattle.sift_parse.specs.Tokens.{last_of}
 use Rattle.sift_parse.specs.Roll.{Roll}
-use Rattle.sift_parse.specs.Levels.{levels_open as spec_levels_open}
+use Rattle.sift_parse.specs.Levels.{opened}
 use Rattle.sift_parse.specs.Grammar.{Begins}
 use Rattle.sift_parse.proofs.Places.States.{shape, state_of, state-next}
 use Rattle.sift_parse.proofs.Places.Tidy.{next, Ok, Tidy}
@@ -50,7 +50,7 @@ walk r front f (l ∷ ls) c h =
     (walk r (front ++ l ∷ []) (advance f l) ls (counts-one r front f l c h.0) tidy)
 
 -- after lexemes that begin a task, as many levels are in force as are open
-pub levels_open : (r : Roll) (front : List Lexeme) → Begins (tokens_of r front) → length (force_after front).levels ≡ spec_levels_open front
+pub levels_open : (r : Roll) (front : List Lexeme) → Begins (tokens_of r front) → length (force_after front).levels ≡ opened None front
 levels_open r front b =
     let f : Force = force_after front in
     let c : Counts front f = walk r [] at_start front (record { before = refl; open_are = refl; layered = tt }) (begins-tidy (tokens_of r front) b) in

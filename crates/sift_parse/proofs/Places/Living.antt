@@ -7,13 +7,12 @@ use Rattle.std.specs.Str.{bytes_eq}
 use Rattle.sift_parse.specs.declared.token.Keyword.{Keyword}
 use Rattle.sift_parse.specs.declared.token.Keyword.TheVariants.{Let, Out, If, Else, Repeat, Mid, Sense, Now, Last}
 use Rattle.sift_parse.specs.declared.token.Sign.TheVariants.{Assign, OpenParen, CloseParen, OpenBrace, CloseBrace, Comma, Dot, Semicolon}
-use Rattle.sift_parse.specs.Force.{Level, block, parenthesis, negation, Force, keyword_before, opens, leave_block, oldest, end_let, after_name, after_word, moved, advance, named_by}
+use Rattle.sift_parse.specs.Force.{Level, block, parenthesis, negation, Force, keyword_before, opens, leave_block, oldest, end_let, after_name, after_word, moved, advance, place_of, role_after}
 use Rattle.sift_parse.specs.Lexeme.{keyword_of, Lexeme, word, numeral, operator, mark}
 use Rattle.sift_parse.specs.Outcome.{AreNames}
 use Rattle.sift_parse.specs.Roll.{Roll}
-use Rattle.sift_parse.specs.Tokens.{Role, new_local, a_sensor, a_task, old_local, role_after, local_of}
-use Rattle.sift_parse.specs.Refusal.{many_locals}
-use Rattle.sift_parse.specs.Scanned.{NoneAt}
+use Rattle.sift_parse.specs.Tokens.{local_of, named_after}
+use Rattle.sift_parse.specs.Scanned.{many_locals, NoneAt}
 use Rattle.sift_parse.specs.Held.{NamesFew}
 
 -- a `let` whose statement isn't over counts as a local
@@ -106,15 +105,16 @@ few-local : (w : List ℕ) (n : ℕ) (locals : List (List ℕ)) → length local
 few-local w n [] le = λ k e. cc
 few-local w n (name ∷ older) le = few-either (bytes_eq name w) (length older) n (local_of older w) (omega arith) (few-local w n older (omega arith))
 
-few-role : (r : Roll) (f : Force) (w : List ℕ) (role : Role) → AreNames r → FewLive f → ForSome (named_by r f role w) (λ n. n < 2 ^ 8)
-few-role r f w new_local a few = λ n e. let same : length f.locals ≡ n = cc in omega arith
-few-role r f w a_sensor a few = few-position w 0 (2 ^ 8) r.sensors (let le = a.few_sensors in omega arith)
-few-role r f w a_task a few = few-position w 0 (2 ^ 8) r.tasks (let le = a.few_tasks in omega arith)
-few-role r f w old_local a few = few-local w (2 ^ 8) f.locals (omega arith)
+few-named : (r : Roll) (f : Force) (w : List ℕ) (k : Option Keyword) → AreNames r → FewLive f → ForSome (named_after r (place_of f) k w) (λ n. n < 2 ^ 8)
+few-named r f w (Some Let) a few = λ n e. let same : length f.locals ≡ n = cc in omega arith
+few-named r f w (Some Sense) a few = few-position w 0 (2 ^ 8) r.sensors (let le = a.few_sensors in omega arith)
+few-named r f w (Some Now) a few = few-position w 0 (2 ^ 8) r.tasks (let le = a.few_tasks in omega arith)
+few-named r f w (Some Last) a few = few-position w 0 (2 ^ 8) r.tasks (let le = a.few_tasks in omega arith)
+few-named r f w k a few = few-local w (2 ^ 8) f.locals (omega arith)
 
 -- what a word names has a number of one byte
 pub names-few : (r : Roll) (f : Force) (l : Lexeme) → AreNames r → FewLive f → NamesFew r f l
-names-few r f (word w) a few = few-role r f w (role_after (keyword_before f)) a few
+names-few r f (word w) a few = few-named r f w (keyword_before f) a few
 names-few r f (numeral n) a few = tt
 names-few r f (operator op) a few = tt
 names-few r f (mark s) a few = tt

@@ -7,10 +7,10 @@ use Rattle.sift_parse.specs.declared.token.Sign as signs
 use Rattle.sift_parse.specs.declared.token.Sign.TheVariants.{OpenParen, CloseParen, OpenBrace, CloseBrace, Semicolon}
 use Rattle.sift_parse.specs.declared.token.Token.{Token}
 use Rattle.sift_parse.specs.declared.token.Token.TheVariants.{Name, Operator, Sign}
-use Rattle.sift_parse.specs.Force.{Force, Level, block, parenthesis, negation, keyword_before, opens, without_minuses, oldest, leave_block, end_let, advance, at_start, force_after, task_asked, token_of, tokens_from, tokens_of}
+use Rattle.sift_parse.specs.Force.{Force, Level, block, parenthesis, negation, keyword_before, opens, without_minuses, oldest, leave_block, end_let, advance, at_start, force_after, task_asked, token_of, tokens_from, tokens_of, Role, new_local, a_sensor, a_task, old_local, role_after}
 use Rattle.sift_parse.specs.Lexeme.{keyword_of, Lexeme, word, numeral, operator, mark}
 use Rattle.sift_parse.specs.Roll.{Roll}
-use Rattle.sift_parse.specs.Tokens.{Role, new_local, a_sensor, a_task, old_local, role_after, number_token}
+use Rattle.sift_parse.specs.Tokens.{number_token}
 use Rattle.sift_parse.specs.Levels.{living}
 use Rattle.sift_parse.specs.Grammar.{Begins}
 use Rattle.sift_parse.proofs.Places.States.{shape, is_open, state_of, state-next}

@@ -7,11 +7,10 @@ use Rattle.sift_parse.specs.declared.token.Keyword.TheVariants.{Let, Sense, Now,
 use Rattle.sift_parse.specs.declared.token.Sign as signs
 use Rattle.sift_parse.specs.declared.token.Sign.TheVariants.{OpenParen, CloseParen, OpenBrace, CloseBrace}
 use Rattle.sift_parse.specs.declared.token.Token.TheVariants.{Name, Operator, Sign}
-use Rattle.sift_parse.specs.Force.{Force, keyword_before, word_token, task_asked, token_of}
+use Rattle.sift_parse.specs.Force.{Force, keyword_before, opens_after, word_token, task_asked, token_of, Role, new_local, a_sensor, a_task, old_local, role_after}
 use Rattle.sift_parse.specs.Lexeme.{keyword_of, Lexeme, word, numeral, operator, mark}
 use Rattle.sift_parse.specs.Roll.{Roll}
-use Rattle.sift_parse.specs.Tokens.{Role, new_local, a_sensor, a_task, old_local, role_after}
-use Rattle.sift_parse.specs.Levels.{ends_operand, reads_task, ends_prim, opens_after}
+use Rattle.sift_parse.specs.Levels.{ends_operand, reads_task, ends_prim}
 use Rattle.sift_parse.proofs.Places.States.{state_of, number-next, opens_by}
 use Rattle.sift_parse.proofs.Places.Tidy.{Open, brace, paren, minus, State, bare, tail_of, next_name, next_operator, next, OnlyBraces, InBlock, InParen, OkHere, Ok}
 use Rattle.sift_parse.proofs.Places.Depths.{listed, moved, fresh}

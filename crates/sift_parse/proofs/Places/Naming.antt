@@ -3,11 +3,11 @@ use Rattle.std.proofs.Common.{◌≡◌, ℕ, Bool, true, false, Option, Some, N
 use Rattle.sift_parse.specs.declared.token.Keyword as keywords
 use Rattle.sift_parse.specs.declared.token.Keyword.TheVariants.{Let}
 use Rattle.sift_parse.specs.declared.token.Token.TheVariants.{Keyword}
-use Rattle.sift_parse.specs.Force.{Force, Level, block, parenthesis, negation, keyword_before, without_minuses, after_name, after_word, word_token}
+use Rattle.sift_parse.specs.Force.{Force, Level, block, parenthesis, negation, keyword_before, without_minuses, after_name, after_word, word_token, Role, new_local, a_sensor, a_task, old_local, role_after}
 use Rattle.sift_parse.specs.Lexeme.{keyword_of, Lexeme, word}
 use Rattle.sift_parse.specs.Roll.{Roll}
-use Rattle.sift_parse.specs.Tokens.{Role, new_local, a_sensor, a_task, old_local, role_after}
-use Rattle.sift_parse.specs.Levels.{is_let_keyword, is_let}
+use Rattle.sift_parse.specs.Levels.{is_let_keyword}
+use Rattle.sift_parse.proofs.Places.Seen.{is_let}
 use Rattle.sift_parse.proofs.Places.States.{is_open, state_of}
 use Rattle.sift_parse.proofs.Places.Tidy.{State, OkHere, Ok}
 use Rattle.sift_parse.proofs.Places.Plain.{IsPlain, Phase, J, still, let_read, bound}

@@ -2,8 +2,8 @@
 use Rattle.std.proofs.Common.{◌≡◌, ℕ, Bool, true, false, if◌then◌else◌, List, [], ◌∷◌, ◌++◌, length, refl, sym, ap, ◌∙◌, subst, append_assoc}
 use Rattle.sift_parse.specs.declared.token.Sign.TheVariants.{OpenBrace, CloseBrace, Semicolon}
 use Rattle.sift_parse.specs.Lexeme.{Lexeme, word, mark}
-use Rattle.sift_parse.specs.Levels.{is_let, ends, local_by, living}
-use Rattle.sift_parse.proofs.Places.Seen.{Balanced, balanced-append, Settled}
+use Rattle.sift_parse.specs.Levels.{ends, local_by, living}
+use Rattle.sift_parse.proofs.Places.Seen.{is_let, Balanced, balanced-append, Settled}
 
 -- ---- lexemes inside a `let`
 

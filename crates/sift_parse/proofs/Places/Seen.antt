@@ -1,10 +1,14 @@
 -- What lives after lexemes and others that follow.
-use Rattle.std.proofs.Common.{◌≡◌, ℕ, zero, suc, ◌-◌, Bool, true, false, not, ◌&&◌, if◌then◌else◌, List, [], ◌∷◌, ◌++◌, length, drop, refl, sym, ap, ◌∙◌, subst, arith, append_assoc, length-append}
+use Rattle.std.proofs.Common.{◌≡◌, ℕ, zero, suc, ◌-◌, Bool, true, false, not, ◌&&◌, if◌then◌else◌, List, [], ◌∷◌, ◌++◌, length, Some, drop, refl, sym, ap, ◌∙◌, subst, arith, append_assoc, length-append}
 use Rattle.std.proofs.lemmas.List.{append-nil}
 use Rattle.sift_parse.specs.declared.token.Sign.TheVariants.{OpenBrace, CloseBrace, Semicolon}
 use Rattle.sift_parse.specs.Force.{oldest}
-use Rattle.sift_parse.specs.Lexeme.{Lexeme, word, mark}
-use Rattle.sift_parse.specs.Levels.{is_let, ends, leaves, local_by, living}
+use Rattle.sift_parse.specs.Lexeme.{keyword_in, Lexeme, word, mark}
+use Rattle.sift_parse.specs.Levels.{is_let_keyword, ends, leaves, local_by, living}
+
+-- the lexeme is the keyword `let`
+abbrev pub is_let : Lexeme → Bool
+is_let l = is_let_keyword (keyword_in (Some l))
 
 -- ---- what leaves a block
 

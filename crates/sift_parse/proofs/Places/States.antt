@@ -5,10 +5,10 @@ use Rattle.sift_lang.specs.declared.tree.Op.{Op}
 use Rattle.sift_lang.specs.declared.tree.Op.TheVariants.{Sub}
 use Rattle.sift_parse.specs.declared.token.Keyword as keywords
 use Rattle.sift_parse.specs.declared.token.Sign.TheVariants.{CloseParen, CloseBrace, Semicolon}
-use Rattle.sift_parse.specs.Force.{Force, Level, block, parenthesis, negation, keyword_before, opens, without_minuses, leave_block, end_let, after_name, after_word, advance, word_token, task_asked, token_of}
+use Rattle.sift_parse.specs.Force.{Force, Level, block, parenthesis, negation, keyword_before, opens, without_minuses, leave_block, end_let, after_name, after_word, advance, word_token, task_asked, token_of, Role, new_local, a_sensor, a_task, old_local, role_after}
 use Rattle.sift_parse.specs.Lexeme.{keyword_of, Lexeme, word, numeral, operator, mark}
 use Rattle.sift_parse.specs.Roll.{Roll}
-use Rattle.sift_parse.specs.Tokens.{Role, new_local, a_sensor, a_task, old_local, role_after, number_token}
+use Rattle.sift_parse.specs.Tokens.{number_token}
 use Rattle.sift_parse.specs.Levels.{ends_operand}
 use Rattle.sift_parse.proofs.Places.Tidy.{Open, brace, paren, minus, State, bare, tail_of, start, done, next_name, next_operator, next}
 

@@ -7,7 +7,7 @@ use Rattle.sift_parse.specs.declared.token.Sign as signs
 use Rattle.sift_parse.specs.declared.token.Sign.TheVariants.{OpenParen, CloseParen, OpenBrace, CloseBrace, Semicolon}
 use Rattle.sift_parse.specs.declared.token.Token.{Token}
 use Rattle.sift_parse.specs.declared.token.Token.TheVariants.{Keyword, Name, Number, Index, Operator, Sign}
-use Rattle.sift_parse.specs.Tokens.{Role, new_local, a_sensor, a_task, old_local, role_after}
+use Rattle.sift_parse.specs.Force.{Role, new_local, a_sensor, a_task, old_local, role_after}
 
 -- a level that is open
 pub data Open : Type 0 where

@@ -8,7 +8,7 @@ use Rattle.sift_parse.specs.Force.{Force, negation, opens, without_minuses}
 use Rattle.sift_parse.specs.Levels.{ends_operand}
 use Rattle.sift_parse.specs.Lexeme.{Lexeme, operator, number_limit}
 use Rattle.sift_parse.specs.Pieces.{figure, joined}
-use Rattle.sift_parse.specs.Refusal.{LacksWord}
+use Rattle.sift_parse.specs.Refusal.{OfSome}
 use Rattle.sift_parse.specs.Roll.{Roll}
 use Rattle.sift_parse.specs.Tokens.{index_meant, number_token}
 use Rattle.sift_parse.proofs.Printing.Agrees.{Agrees, Agreed}
@@ -19,7 +19,7 @@ use Rattle.sift_parse.proofs.Refusals.Fine.{none_at_operator, none_at_number}
 -- ---- numbers
 
 -- a task that has the word doesn't lack it
-has-word : (r : Roll) (o : Option ℕ) (n : ℕ) → HasWord r o n → LacksWord r o n → ⊥
+has-word : (r : Roll) (o : Option ℕ) (n : ℕ) → HasWord r o n → OfSome (λ task. slice_index r.sizes task ≤ n) o → ⊥
 has-word r (Some task) n lt le = omega arith
 has-word r None n lt h = h
 
@@ -40,7 +40,7 @@ figure-agreed r f h n a may = record {
       ap (λ o. number_token r f.before o n) a.asked ∙ number-token r f.before h.before (asked_by r h.before) n a.meant may.0 may.2;
   none =
       none_at_number r f n may.0 (λ e. may.1 (sym a.key ∙ e))
-      (λ x. has-word r (asked_by r h.before) n may.2 (subst (λ o. LacksWord r o n) a.asked x));
+      (λ x. has-word r (asked_by r h.before) n may.2 (subst (λ o. OfSome (λ task. slice_index r.sizes task ≤ n) o) a.asked x));
   after = record {
     key = refl;
     ends = refl;

@@ -4,7 +4,8 @@ use Rattle.std.specs.Fmt.{decimal}
 use Rattle.std.proofs.lemmas.Fmt.{decimal_is_IsNumeral}
 use Rattle.sift_parse.specs.declared.token.Sign.{Sign}
 use Rattle.sift_parse.specs.declared.token.Sign.TheVariants.{Assign, OpenParen, CloseParen, OpenBrace, CloseBrace, Comma, Dot, Semicolon}
-use Rattle.sift_parse.specs.Lexeme.{Lexeme, word, numeral, operator, mark, sign_bytes, kept, IsLexeme, number_limit}
+use Rattle.sift_parse.specs.Lexeme.{Lexeme, word, numeral, operator, mark, sign_bytes, IsLexeme, number_limit}
+use Rattle.sift_parse.specs.Written.{kept}
 use Rattle.sift_parse.specs.Pieces.{lexeme_for, printed, Piece, blank_if, text_of}
 use Rattle.sift_parse.proofs.Lexing.Ends.{Ends, word-front}
 use Rattle.sift_parse.proofs.Lexing.Front.{number-front}

@@ -8,10 +8,9 @@ use Rattle.sift_parse.specs.declared.token.Sign.{Sign}
 use Rattle.sift_parse.specs.declared.token.Sign.TheVariants.{OpenParen, CloseParen, OpenBrace, CloseBrace, Dot, Semicolon}
 use Rattle.sift_parse.specs.declared.token.Token.{Token}
 use Rattle.sift_parse.specs.declared.token.Token.TheVariants as token
-use Rattle.sift_parse.specs.Force.{Level, block, parenthesis, negation, without_minuses, oldest}
+use Rattle.sift_parse.specs.Force.{Level, block, parenthesis, negation, without_minuses, oldest, Role, new_local, a_sensor, a_task, old_local, role_after}
 use Rattle.sift_parse.specs.Pieces.{Item, key, called, figure, joined, sign}
 use Rattle.sift_parse.specs.Roll.{Roll, first_word}
-use Rattle.sift_parse.specs.Tokens.{Role, new_local, a_sensor, a_task, old_local, role_after}
 
 -- what stands before a place
 pub data Before : Type 0 where

@@ -9,7 +9,8 @@ use Rattle.sift_parse.specs.declared.token.Sign.TheVariants.{OpenParen, OpenBrac
 use Rattle.sift_parse.specs.Lexeme.{level_limit, number_limit}
 use Rattle.sift_parse.specs.Pieces.{Item, key, called, figure, joined, sign}
 use Rattle.sift_parse.specs.Roll.{Roll, number_in}
-use Rattle.sift_parse.specs.Tokens.{Role, new_local, a_sensor, a_task, old_local, role_after, local_of}
+use Rattle.sift_parse.specs.Force.{Role, new_local, a_sensor, a_task, old_local, role_after}
+use Rattle.sift_parse.specs.Tokens.{local_of}
 use Rattle.sift_parse.proofs.Printing.Known.{Known, key_before, is_minus_after, known_after, asked_by}
 
 -- after `let` one more local may live

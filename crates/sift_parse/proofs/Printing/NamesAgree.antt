@@ -4,17 +4,17 @@ use Rattle.sift_parse.specs.declared.token.Keyword.{Keyword}
 use Rattle.sift_parse.specs.declared.token.Keyword.TheVariants.{Now}
 use Rattle.sift_parse.specs.declared.token.Token.{Token}
 use Rattle.sift_parse.specs.declared.token.Token.TheVariants as token
-use Rattle.sift_parse.specs.Force.{Force, advance, keyword_before, without_minuses, named_by, number_named, word_token}
+use Rattle.sift_parse.specs.Force.{Force, advance, keyword_before, without_minuses, named_by, number_named, word_token, Role, new_local, a_sensor, a_task, old_local, role_after}
 use Rattle.sift_parse.specs.Lexeme.{keyword_of, word}
 use Rattle.sift_parse.specs.Pieces.{called}
-use Rattle.sift_parse.specs.Refusal.{IsNotBefore}
+use Rattle.sift_parse.specs.Refusal.{OfSome}
 use Rattle.sift_parse.specs.Roll.{Roll, number_in}
-use Rattle.sift_parse.specs.Tokens.{Role, new_local, a_sensor, a_task, old_local, role_after, local_of, task_after}
+use Rattle.sift_parse.specs.Tokens.{local_of, task_after}
 use Rattle.sift_parse.proofs.Printing.Keywords.{no_keyword}
 use Rattle.sift_parse.proofs.Printing.Known.{Known, key_before, after_role, known_after}
 use Rattle.sift_parse.proofs.Printing.MayStand.{Means, IsEarlier, MayStand}
 use Rattle.sift_parse.proofs.Refusals.Fine.{none_at_word}
-use Rattle.sift_parse.proofs.Sound.Force.{word_force, name_force}
+use Rattle.sift_parse.proofs.Sound.Force.{word_force, name_force, named-role}
 use Rattle.sift_parse.proofs.Printing.Agrees.{Agrees, Agreed, lets-agree}
 
 -- what is known after a name is in force after it
@@ -71,10 +71,10 @@ means-named r f locals w n old_local e m = ap (λ l. local_of l w) e ∙ m
 
 -- after `now` the task is before this one
 not-later : (r : Roll) (locals : List (List ℕ)) (k : Option Keyword) (w : List ℕ) (n : ℕ) → Means r locals (role_after k) w n
-    → IsEarlier r k n → k ≡ Some Now → ¬ IsNotBefore r (number_in r.tasks w)
+    → IsEarlier r k n → k ≡ Some Now → ¬ OfSome (λ task. r.this ≤ task) (number_in r.tasks w)
 not-later r locals k w n m earlier e h =
     let found : number_in r.tasks w ≡ Some n = subst (λ k. Means r locals (role_after k) w n) e m in
-    let later : r.this ≤ n = subst (IsNotBefore r) found h in
+    let later : r.this ≤ n = subst (OfSome (λ task. r.this ≤ task)) found h in
     let lt = earlier e in omega arith
 
 -- what is in force after a name, by its role
@@ -89,7 +89,7 @@ name-agreed r f h w n a may =
     let e = no_keyword w may.0.free in
     let role = role_after (key_before h.before) in
     let same : role_after (keyword_before f) ≡ role = ap role_after a.key in
-    let named : number_named r f w ≡ Some n = ap (λ role. named_by r f role w) same ∙ means-named r f h.locals w n role a.locals may.1 in
+    let named : number_named r f w ≡ Some n = named-role r f (keyword_before f) w ∙ ap (λ role. named_by r f role w) same ∙ means-named r f h.locals w n role a.locals may.1 in
     record {
       token = ap (word_token r f w) e ∙ ap (λ o. (let t : Token = token.Name (unwrap_or o 0) in t)) named;
       none =

@@ -10,7 +10,8 @@ use Rattle.sift_parse.specs.Grammar.{IsPrim, a_number, a_local, a_sensor, of_thi
 use Rattle.sift_parse.specs.Lexeme.{number_limit}
 use Rattle.sift_parse.specs.Pieces.{key, called, figure, sign, Piece, piece, far, near}
 use Rattle.sift_parse.specs.Roll.{Roll, number_in}
-use Rattle.sift_parse.specs.Tokens.{old_local, local_of}
+use Rattle.sift_parse.specs.Force.{old_local}
+use Rattle.sift_parse.specs.Tokens.{local_of}
 use Rattle.sift_parse.proofs.Printing.Known.{Known, after_role, known_after, figure_token, tokens_by}
 use Rattle.sift_parse.proofs.Printing.MayStand.{Means, HasWord, AllMayStand}
 use Rattle.sift_parse.proofs.Printing.Named.{WritesWord}

@@ -3,11 +3,10 @@ use Rattle.std.proofs.Common.{◌≡◌, ◌≢◌, ℕ, ◌≤◌, true, false,
 use Rattle.sift_lang.specs.Tree.{Term}
 use Rattle.sift_parse.specs.declared.token.Keyword.TheVariants.{Let, If, Repeat, Now}
 use Rattle.sift_parse.specs.declared.token.Sign.TheVariants.{Assign, OpenParen, Comma}
-use Rattle.sift_parse.specs.Force.{without_minuses}
+use Rattle.sift_parse.specs.Force.{without_minuses, old_local, role_after}
 use Rattle.sift_parse.specs.Grammar.{IsLevel}
 use Rattle.sift_parse.specs.Pieces.{Piece}
 use Rattle.sift_parse.specs.Roll.{Roll}
-use Rattle.sift_parse.specs.Tokens.{old_local, role_after}
 use Rattle.sift_parse.proofs.Printing.Known.{Before, after_key, after_joined, after_sign, Known, key_before, ends_in, asked_by, tokens_by}
 use Rattle.sift_parse.proofs.Printing.Levels.{lower}
 use Rattle.sift_parse.proofs.Printing.MayStand.{AllMayStand}

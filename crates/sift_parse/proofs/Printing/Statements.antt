@@ -5,13 +5,13 @@ use Rattle.sift_lang.specs.Tree.{local_limit, Term, Statement, bind, assign, out
 use Rattle.sift_parse.specs.declared.token.Keyword.TheVariants.{Let, Out, Now}
 use Rattle.sift_parse.specs.declared.token.Sign.TheVariants.{Assign, Semicolon}
 use Rattle.sift_parse.specs.declared.token.Token.TheVariants as token
-use Rattle.sift_parse.specs.Force.{Level, without_minuses}
+use Rattle.sift_parse.specs.Force.{Level, without_minuses, old_local, role_after}
 use Rattle.sift_parse.specs.Grammar.{IsStatement, a_let, an_assignment, an_output, IsBlock}
 use Rattle.sift_parse.specs.Lexeme.{number_limit}
 use Rattle.sift_parse.specs.Pieces.{key, called, figure, sign, Piece, piece, far, near}
 use Rattle.sift_parse.specs.Printing.{Naming}
 use Rattle.sift_parse.specs.Roll.{Roll}
-use Rattle.sift_parse.specs.Tokens.{old_local, role_after, local_of}
+use Rattle.sift_parse.specs.Tokens.{local_of}
 use Rattle.sift_parse.proofs.Printing.Known.{Known, key_before, after_role, ended_let, known_after, tokens_by}
 use Rattle.sift_parse.proofs.Printing.MayStand.{Means, AllMayStand}
 use Rattle.sift_parse.proofs.Printing.Named.{names_after}

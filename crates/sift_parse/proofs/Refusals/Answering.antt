@@ -13,7 +13,9 @@ use Rattle.sift_parse.specs.Lexeme.{Lexeme, Lexes, text_limit}
 use Rattle.sift_parse.specs.Outcome.{Tells}
 use Rattle.sift_parse.specs.Roll.{Roll}
 use Rattle.sift_parse.specs.Parsed.{OffendsAt}
-use Rattle.sift_parse.specs.Refusal.{Kind, no_lexeme_here, no_syntax, long_name, large_number, many_rounds, many_locals, deep_level, unknown_name, later_task, lexemes_of, order_of, Stands, IsRefused, IsParsed}
+use Rattle.sift_parse.specs.Refusal.{lexemes_of, IsParsed}
+use Rattle.sift_parse.specs.Scanned.{Kind, no_lexeme_here, no_syntax, long_name, large_number, many_rounds, many_locals, deep_level, unknown_name, later_task, order_of}
+use Rattle.sift_parse.proofs.Refusals.Kinds.{Stands, IsRefusedFor, kind-stops}
 use Rattle.sift_parse.specs.Written.{placed_of}
 use Rattle.sift_parse.proofs.Places.Placing.{tokens-told, begins-told}
 use Rattle.sift_parse.proofs.Refusals.Refusing.{place-within}
@@ -61,7 +63,7 @@ nothing-before r front deep_level lt h = omega arith
 nothing-before r front unknown_name lt h = omega arith
 nothing-before r front later_task lt h = omega arith
 
-refused-end : (r : Roll) (text : List ℕ) (ts : List Token) → IsWhole r text ts → Unfinished ts → IsRefused r text no_syntax (length text)
+refused-end : (r : Roll) (text : List ℕ) (ts : List Token) → IsWhole r text ts → Unfinished ts → IsRefusedFor r text no_syntax (length text)
 refused-end r text ts w u = record {
   front = w.front;
   rest = [];
@@ -76,7 +78,7 @@ refused-end r text ts w u = record {
 pub offence-end : (r : Roll) (text : List ℕ) (ts : List Token) (at : ℕ) (after : Option ParseStop) → length text ≤ text_limit
     → StopsAfter r text ts after → OffendsAt ts at → length ts ≤ at → Tells r text (Err (unwrap_or after (stop.Syntax (length text))))
 offence-end r text ts at (Some s) le h o ge = h (unfinished ts at o ge).begins
-offence-end r text ts at None le h o ge = record { short = le; refused = refused-end r text ts h (unfinished ts at o ge) }
+offence-end r text ts at None le h o ge = kind-stops r text no_syntax (length text) le (refused-end r text ts h (unfinished ts at o ge))
 
 -- ---- places
 

@@ -1,5 +1,5 @@
 -- No refusal stands at a lexeme, where what may be refused isn't there.
-use Rattle.std.proofs.Common.{◌≡◌, ℕ, ◌<◌, ◌≤◌, IsTrue, true, false, List, [], ◌∷◌, ◌++◌, length, Some, None, sym, ◌∙◌, subst, arith}
+use Rattle.std.proofs.Common.{◌≡◌, ℕ, ◌<◌, ◌≤◌, IsTrue, true, false, List, [], ◌∷◌, ◌++◌, length, slice_index, Some, None, sym, ◌∙◌, subst, arith}
 use Rattle.std.specs.Prelude.{fold}
 use Rattle.sift_base.specs.Name.{name_limit}
 use Rattle.sift_lang.specs.declared.tree.Op.{Op}
@@ -9,9 +9,9 @@ use Rattle.sift_parse.specs.declared.token.Keyword.TheVariants.{Let, Repeat, Now
 use Rattle.sift_parse.specs.declared.token.Sign.{Sign}
 use Rattle.sift_parse.specs.Force.{Force, advance, opens, keyword_before, number_named, task_asked}
 use Rattle.sift_parse.specs.Lexeme.{keyword_of, Lexeme, word, numeral, operator, mark, Placed, level_limit, number_limit}
-use Rattle.sift_parse.specs.Refusal.{long_name, large_number, many_rounds, many_locals, deep_level, unknown_name, later_task, LacksWord, IsNotBefore, lexemes_of}
+use Rattle.sift_parse.specs.Refusal.{OfSome, lexemes_of}
 use Rattle.sift_parse.specs.Roll.{Roll, number_in}
-use Rattle.sift_parse.specs.Scanned.{NoneAt}
+use Rattle.sift_parse.specs.Scanned.{long_name, large_number, many_rounds, many_locals, deep_level, unknown_name, later_task, NoneAt}
 
 -- ---- at one lexeme
 
@@ -28,7 +28,7 @@ none_at_mark r f s fits kind h = h
 
 -- at a number
 pub none_at_number : (r : Roll) (f : Force) (n : ℕ) → n ≤ number_limit → (keyword_before f ≡ Some Repeat → n ≤ round_limit)
-    → ¬ LacksWord r (task_asked r f f.before) n → NoneAt r f (numeral n)
+    → ¬ OfSome (λ task. slice_index r.sizes task ≤ n) (task_asked r f f.before) → NoneAt r f (numeral n)
 none_at_number r f n small rounds lacks large_number h = omega arith
 none_at_number r f n small rounds lacks many_rounds h = let le = rounds h.0 in omega (arith, h.1)
 none_at_number r f n small rounds lacks deep_level h = let e : IsTrue false = h.0 in cc
@@ -38,7 +38,7 @@ none_at_number r f n small rounds lacks kind h = h
 -- at a word
 pub none_at_word : (r : Roll) (f : Force) (w : List ℕ) → length w ≤ name_limit
     → (keyword_before f ≡ Some Let → length f.locals < local_limit) → ((keyword_of w ≡ None) → ¬ (number_named r f w ≡ None))
-    → ((keyword_of w ≡ None) → keyword_before f ≡ Some Now → ¬ IsNotBefore r (number_in r.tasks w)) → NoneAt r f (word w)
+    → ((keyword_of w ≡ None) → keyword_before f ≡ Some Now → ¬ OfSome (λ task. r.this ≤ task) (number_in r.tasks w)) → NoneAt r f (word w)
 none_at_word r f w short locals named earlier long_name h = omega arith
 none_at_word r f w short locals named earlier many_locals h = let lt = locals h.0 in omega (arith, h.1)
 none_at_word r f w short locals named earlier deep_level h = let e : IsTrue false = h.0 in cc

@@ -10,8 +10,9 @@ use Rattle.sift_parse.specs.Force.{Force, at_start, advance, force_after, token_
 use Rattle.sift_parse.specs.Lexeme.{Lexeme, Placed, Lexes}
 use Rattle.sift_parse.specs.Roll.{Roll}
 use Rattle.sift_parse.specs.Parsed.{OffendsAt}
-use Rattle.sift_parse.specs.Refusal.{no_syntax, lexemes_of, IsRefused}
-use Rattle.sift_parse.specs.Scanned.{IsFine, Scans}
+use Rattle.sift_parse.specs.Refusal.{lexemes_of}
+use Rattle.sift_parse.proofs.Refusals.Kinds.{IsRefusedFor}
+use Rattle.sift_parse.specs.Scanned.{no_syntax, IsFine, Scans}
 use Rattle.sift_parse.specs.Written.{placed_of}
 use Rattle.sift_parse.proofs.Places.Placing.{begins-told, begins-found}
 use Rattle.sift_parse.proofs.Refusals.Refusing.{refused-token}
@@ -110,7 +111,7 @@ broken r ts front more p at e n h =
 -- an offence at one of the tokens is answered at its lexeme
 pub offence-inside : (r : Roll) (text end : List ℕ) (ps front more : List Placed) (p : Placed) (ts : List Token) (at : ℕ)
     → Lexes (length text) text ps end → Taken r ps ts → OffendsAt ts at → at < length ts → ps ≡ front ++ p ∷ more → length front ≡ at
-    → IsRefused r text no_syntax p.at
+    → IsRefusedFor r text no_syntax p.at
 offence-inside r text end ps front more p ts at x t h lt e n =
     let count : length ts ≡ length t.taken = ap length t.tokens ∙ length-tokens_of r t.taken in
     let i = onward t.taken t.left front more p (sym t.split ∙ e) (omega arith) in
@@ -124,7 +125,7 @@ offence-inside r text end ps front more p ts at x t h lt e n =
 pub offence-here : (r : Roll) (text end : List ℕ) (ps : List (held_placed.Placed)) (ts : List Token) (at : ℕ) (d : held_placed.Placed)
     (refused : Option ParseStop)
     → Lexes (length text) text (placed_of ps) end → Scans r (placed_of ps) ts refused → OffendsAt ts at → at < length ts
-    → IsRefused r text no_syntax ((get_or ps at d).at)
+    → IsRefusedFor r text no_syntax ((get_or ps at d).at)
 offence-here r text end ps ts at d refused x s h lt =
     let t = taken-of r (placed_of ps) ts refused s in
     let n : length ts ≤ length ps =

@@ -1,8 +1,10 @@
 -- A text is refused in one way: the first place at which a refusal stands is determined, and the first kind there is too.
-use Rattle.std.proofs.Common.{◌≡◌, ℕ, ◌-◌, ◌<◌, ◌==◌, if◌then◌else◌, List, [], ◌∷◌, ◌++◌, length, refl, sym, ap, ◌∙◌, subst, arith}
+use Rattle.std.proofs.Common.{◌≡◌, ℕ, ◌-◌, List, [], ◌∷◌, ◌++◌, length, refl, sym, ap, ◌∙◌, subst}
 use Rattle.sift_parse.specs.Lexeme.{IsLexeme, after_gap, Placed, Lexes, no_lexeme, a_lexeme}
 use Rattle.sift_parse.specs.Roll.{Roll}
-use Rattle.sift_parse.specs.Refusal.{Kind, no_lexeme_here, no_syntax, long_name, large_number, many_rounds, many_locals, deep_level, unknown_name, later_task, order_of, Stands, lexemes_of, IsRefused}
+use Rattle.sift_parse.specs.Refusal.{lexemes_of}
+use Rattle.sift_parse.specs.Scanned.{Kind}
+use Rattle.sift_parse.proofs.Refusals.Kinds.{Stands, one_kind, none_found, IsRefusedFor}
 use Rattle.sift_parse.proofs.Lexing.OneLexing.{one_lexeme, one_rest, next_lexeme}
 use Rattle.sift_parse.proofs.Refusals.Standing.{no_lexeme-of-nothing}
 
@@ -49,31 +51,8 @@ none_after total text ps qs p more back x y e =
 
 -- ---- one refusal
 
--- the kind with this number in their order
-abbrev kind_at : ℕ → Kind
-kind_at n =
-    if n == 0 then no_lexeme_here else
-    (if n == 1 then no_syntax else (if n == 2 then long_name else (if n == 3 then large_number else (if n == 4 then many_rounds else
-    (if n == 5 then many_locals else (if n == 6 then deep_level else (if n == 7 then unknown_name else later_task)))))))
-
-kind_at-order : (k : Kind) → kind_at (order_of k) ≡ k
-kind_at-order no_lexeme_here = refl
-kind_at-order no_syntax = refl
-kind_at-order long_name = refl
-kind_at-order large_number = refl
-kind_at-order many_rounds = refl
-kind_at-order many_locals = refl
-kind_at-order deep_level = refl
-kind_at-order unknown_name = refl
-kind_at-order later_task = refl
-
-one_kind : (k j : Kind) → ¬ (order_of k < order_of j) → ¬ (order_of j < order_of k) → k ≡ j
-one_kind k j x y =
-    let same : order_of k ≡ order_of j = omega arith in
-    sym (kind_at-order k) ∙ (ap kind_at same ∙ kind_at-order j)
-
 -- a refusal stands where no other refusal is earlier
-same_refusal-by : (r : Roll) (text : List ℕ) (k j : Kind) (x y : ℕ) (h : IsRefused r text k x) (g : IsRefused r text j y)
+same_refusal-by : (r : Roll) (text : List ℕ) (k j : Kind) (x y : ℕ) (h : IsRefusedFor r text k x) (g : IsRefusedFor r text j y)
     → Sided h.front g.front → (k ≡ j) × (x ≡ y)
 same_refusal-by r text k j x y h g (at_one e) =
     let ends : h.rest ≡ g.rest = one_rest (length text) text g.front h.rest g.rest (subst (λ ps. Lexes (length text) text ps h.rest) e h.lexes) g.lexes in
@@ -82,9 +61,9 @@ same_refusal-by r text k j x y h g (at_one e) =
     let back : Stands r (lexemes_of h.front) h.rest j =
     subst (λ t. Stands r (lexemes_of h.front) t j) (sym ends) (subst (λ ps. Stands r (lexemes_of ps) g.rest j) (sym e) g.stands) in
     (one_kind k j (λ lt. g.first_kind k lt stands) (λ lt. h.first_kind j lt back), h.place ∙ (ap (λ t. length text - length t) ends ∙ sym g.place))
-same_refusal-by r text k j x y h g (earlier p more e) = absurd (g.first_place h.front (p ∷ more) h.rest k e (λ z. cc) h.lexes h.stands)
-same_refusal-by r text k j x y h g (later p more e) = absurd (h.first_place g.front (p ∷ more) g.rest j e (λ z. cc) g.lexes g.stands)
+same_refusal-by r text k j x y h g (earlier p more e) = absurd (none_found r text g.front g.first_place h.front (p ∷ more) h.rest k e (λ z. cc) h.lexes h.stands)
+same_refusal-by r text k j x y h g (later p more e) = absurd (none_found r text h.front h.first_place g.front (p ∷ more) g.rest j e (λ z. cc) g.lexes g.stands)
 
 -- two refusals that one text is answered with are of one kind and at one place
-pub same_refusal : (r : Roll) (text : List ℕ) (k j : Kind) (x y : ℕ) → IsRefused r text k x → IsRefused r text j y → (k ≡ j) × (x ≡ y)
+pub same_refusal : (r : Roll) (text : List ℕ) (k j : Kind) (x y : ℕ) → IsRefusedFor r text k x → IsRefusedFor r text j y → (k ≡ j) × (x ≡ y)
 same_refusal r text k j x y h g = same_refusal-by r text k j x y h g (sided (length text) text h.front g.front h.rest g.rest h.lexes g.lexes)

@@ -6,8 +6,9 @@ use Rattle.sift_parse.specs.Force.{force_after}
 use Rattle.sift_parse.specs.Lexeme.{Lexeme, IsLexeme, Placed, Lexes}
 use Rattle.sift_parse.specs.Roll.{Roll}
 use Rattle.sift_parse.specs.Tokens.{tokens_of}
-use Rattle.sift_parse.specs.Refusal.{Kind, no_lexeme_here, no_syntax, long_name, large_number, many_rounds, many_locals, deep_level, unknown_name, later_task, order_of, Stands, lexemes_of, IsRefused}
-use Rattle.sift_parse.specs.Scanned.{IsFirst, IsFine, kind_of}
+use Rattle.sift_parse.specs.Refusal.{lexemes_of}
+use Rattle.sift_parse.proofs.Refusals.Kinds.{Stands, IsRefusedFor}
+use Rattle.sift_parse.specs.Scanned.{Kind, no_lexeme_here, no_syntax, long_name, large_number, many_rounds, many_locals, deep_level, unknown_name, later_task, order_of, IsFirst, IsFine, kind_of}
 use Rattle.sift_parse.proofs.Lexing.OneLexing.{lexes_split, next_lexeme}
 use Rattle.sift_parse.proofs.Refusals.Standing.{stands-at, stands-here, syntax-here, lexemes_of-one, begins-one, begins-before, none_before}
 
@@ -36,7 +37,7 @@ place-within text end ps front more p x e = let i = reached text end ps front mo
 pub refused-lexeme : (r : Roll) (text end : List ℕ) (ps front more : List Placed) (p : Placed) (k : held.Refusal)
     → Lexes (length text) text ps end → ps ≡ front ++ p ∷ more → IsFine r front
     → IsFirst r (force_after (lexemes_of front)) p.lexeme (kind_of k) → Begins (tokens_of r (lexemes_of (front ++ p ∷ [])))
-    → IsRefused r text (kind_of k) p.at
+    → IsRefusedFor r text (kind_of k) p.at
 refused-lexeme r text end ps front more p k x e fine first b =
     let i = reached text end ps front more p x e in
     let c = begins-one r front [] p b in
@@ -65,7 +66,7 @@ only_lexeme-before r front text mid l later_task x lt h = omega arith
 -- a lexeme with whose token the tokens begin no task is no syntax
 pub refused-token : (r : Roll) (text end : List ℕ) (ps front more : List Placed) (p : Placed) → Lexes (length text) text ps end
     → ps ≡ front ++ p ∷ more → IsFine r front → Begins (tokens_of r (lexemes_of front))
-    → ¬ Begins (tokens_of r (lexemes_of (front ++ p ∷ []))) → IsRefused r text no_syntax p.at
+    → ¬ Begins (tokens_of r (lexemes_of (front ++ p ∷ []))) → IsRefusedFor r text no_syntax p.at
 refused-token r text end ps front more p x e fine b never =
     let i = reached text end ps front more p x e in
     record {

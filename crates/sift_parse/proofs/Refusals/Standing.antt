@@ -12,8 +12,9 @@ use Rattle.sift_parse.specs.Force.{force_after}
 use Rattle.sift_parse.specs.Lexeme.{Lexeme, word, numeral, operator, mark, operator_bytes, sign_bytes, Spells, IsLexeme, Placed, Lexes}
 use Rattle.sift_parse.specs.Tokens.{place_after, tokens_of, tokens_after}
 use Rattle.sift_parse.specs.Roll.{Roll}
-use Rattle.sift_parse.specs.Refusal.{Kind, no_lexeme_here, no_syntax, long_name, large_number, many_rounds, many_locals, deep_level, unknown_name, later_task, BeginsWith, IsNoSyntax, Stands, lexemes_of, NoneBefore}
-use Rattle.sift_parse.specs.Scanned.{StandsIn, StandsAt, IsFine, kind_of}
+use Rattle.sift_parse.specs.Refusal.{BeginsWith, IsNoSyntax, lexemes_of, NoneBefore}
+use Rattle.sift_parse.proofs.Refusals.Kinds.{Stands, NoneEarlier, none_told}
+use Rattle.sift_parse.specs.Scanned.{Kind, no_lexeme_here, no_syntax, long_name, large_number, many_rounds, many_locals, deep_level, unknown_name, later_task, StandsIn, StandsAt, IsFine, kind_of}
 use Rattle.sift_parse.proofs.Lexing.OneLexing.{one_lexeme, next_lexeme}
 use Rattle.sift_parse.proofs.Places.Placing.{begins-front, tokens_of-append, places_are_force}
 
@@ -49,7 +50,7 @@ spells-some (word w) [] e h = h.0
 spells-some (word w) (b ∷ bytes) e h = cc
 spells-some (numeral n) bytes e (inl h) = let n : length bytes ≡ 0 = ap length e in let s = h.some in omega arith
 spells-some (numeral n) bytes e (inr h) =
-    let n : 0 ≡ length (codes "0x" ++ h.written) = ap length (sym e ∙ h.split) in let m = length-append (codes "0x") h.written in
+    let n : 0 ≡ length (codes "0x" ++ h.0) = ap length (sym e ∙ h.1) in let m = length-append (codes "0x") h.0 in
     omega arith
 spells-some (operator op) bytes e h = operator-some op (sym e ∙ h)
 spells-some (mark s) bytes e h = mark-some s (sym e ∙ h)
@@ -137,11 +138,15 @@ begins-one r ps qs p b =
     (begins-before r (ps ++ p ∷ []) qs (subst (λ l. Begins (tokens_of r (lexemes_of l))) (sym (append_assoc ps (p ∷ []) qs)) b))
 
 -- nothing stands before lexemes at none of which a refusal stands, and whose tokens begin a task
-pub none_before : (r : Roll) (text rest : List ℕ) (front : List Placed) → Lexes (length text) text front rest → IsFine r front
-    → Begins (tokens_of r (lexemes_of front)) → NoneBefore r text front
-none_before r text end front x fine b before [] rest kind e some y h = some refl
-none_before r text end front x fine b before (p ∷ more) rest kind e some y h =
+none-earlier : (r : Roll) (text rest : List ℕ) (front : List Placed) → Lexes (length text) text front rest → IsFine r front
+    → Begins (tokens_of r (lexemes_of front)) → NoneEarlier r text front
+none-earlier r text end front x fine b before [] rest kind e some y h = some refl
+none-earlier r text end front x fine b before (p ∷ more) rest kind e some y h =
     let n = next_lexeme (length text) text before p more rest end (subst (λ l. Lexes (length text) text l end) e x) y in
     fine before more p e kind
     (stands-at r (lexemes_of before) rest n.mid p.lexeme kind n.is_lexeme
     (begins-one r before more p (subst (λ l. Begins (tokens_of r (lexemes_of l))) e b)) h)
+
+pub none_before : (r : Roll) (text rest : List ℕ) (front : List Placed) → Lexes (length text) text front rest → IsFine r front
+    → Begins (tokens_of r (lexemes_of front)) → NoneBefore r text front
+none_before r text rest front x fine b = none_told r text front (none-earlier r text rest front x fine b)

@@ -12,10 +12,11 @@ use Rattle.sift_parse.specs.declared.token.Token.{Token}
 use Rattle.sift_parse.specs.Grammar.{Begins}
 use Rattle.sift_parse.specs.Force.{tokens_of}
 use Rattle.sift_parse.specs.Lexeme.{Placed, Lexes, text_limit}
-use Rattle.sift_parse.specs.Outcome.{IsStopped, Tells}
+use Rattle.sift_parse.specs.Outcome.{Tells}
 use Rattle.sift_parse.specs.Roll.{Roll}
-use Rattle.sift_parse.specs.Refusal.{no_lexeme_here, lexemes_of, IsRefused}
-use Rattle.sift_parse.specs.Scanned.{IsFine, IsRefusedIn, Scans, end_stop, kind_of, stop_of}
+use Rattle.sift_parse.specs.Refusal.{lexemes_of}
+use Rattle.sift_parse.proofs.Refusals.Kinds.{IsRefusedFor, kind-stops}
+use Rattle.sift_parse.specs.Scanned.{no_lexeme_here, long_name, large_number, many_rounds, many_locals, deep_level, unknown_name, later_task, IsFine, IsRefusedIn, Scans, end_stop, kind_of, stop_of}
 use Rattle.sift_parse.specs.Written.{IsLexed}
 use Rattle.sift_parse.proofs.Places.Placing.{begins-told}
 use Rattle.sift_parse.proofs.Refusals.Refusing.{refused-lexeme}
@@ -35,14 +36,14 @@ abbrev pub StopsAfter : Roll → List ℕ → List Token → Option ParseStop �
 StopsAfter r text ts (Some s) = Begins ts → Tells r text (Err s)
 StopsAfter r text ts None = IsWhole r text ts
 
-tells-refusal : (r : Roll) (text : List ℕ) (k : held.Refusal) (at : ℕ) → IsStopped r text (kind_of k) at → Tells r text (Err (stop_of k at))
-tells-refusal r text variant.LongName at h = h
-tells-refusal r text variant.LargeNumber at h = h
-tells-refusal r text variant.ManyRounds at h = h
-tells-refusal r text variant.ManyLocals at h = h
-tells-refusal r text variant.DeepLevel at h = h
-tells-refusal r text variant.UnknownName at h = h
-tells-refusal r text variant.LaterTask at h = h
+tells-refusal : (r : Roll) (text : List ℕ) (k : held.Refusal) (at : ℕ) → length text ≤ text_limit → IsRefusedFor r text (kind_of k) at → Tells r text (Err (stop_of k at))
+tells-refusal r text variant.LongName at le h = kind-stops r text long_name at le h
+tells-refusal r text variant.LargeNumber at le h = kind-stops r text large_number at le h
+tells-refusal r text variant.ManyRounds at le h = kind-stops r text many_rounds at le h
+tells-refusal r text variant.ManyLocals at le h = kind-stops r text many_locals at le h
+tells-refusal r text variant.DeepLevel at le h = kind-stops r text deep_level at le h
+tells-refusal r text variant.UnknownName at le h = kind-stops r text unknown_name at le h
+tells-refusal r text variant.LaterTask at le h = kind-stops r text later_task at le h
 
 after-refusal : (r : Roll) (text end : List ℕ) (ps : List Placed) (ts : List Token) (s : ParseStop) → length text ≤ text_limit
     → Lexes (length text) text ps end → IsRefusedIn r ps ts s → Begins ts → Tells r text (Err s)
@@ -50,11 +51,11 @@ after-refusal r text end ps ts s le x h b =
     let refused =
     refused-lexeme r text end ps h.front h.more h.here h.refusal x h.split h.fine h.first
     (begins-told r (lexemes_of (h.front ++ h.here ∷ [])) (subst Begins h.tokens b)) in
-    subst (λ s. Tells r text (Err s)) (sym h.answers) (tells-refusal r text h.refusal h.here.at (record { short = le; refused = refused }))
+    subst (λ s. Tells r text (Err s)) (sym h.answers) (tells-refusal r text h.refusal h.here.at le refused)
 
 -- the bytes at which the lexemes end
 after-lexemes : (r : Roll) (text : List ℕ) (ps : List Placed) (at : ℕ) → IsLexed text ps at → at < length text → IsFine r ps
-    → Begins (tokens_of r (lexemes_of ps)) → IsRefused r text no_lexeme_here at
+    → Begins (tokens_of r (lexemes_of ps)) → IsRefusedFor r text no_lexeme_here at
 after-lexemes r text ps at x lt fine b =
     let long : length (drop at text) ≡ length text - at = length-drop at text in
     record {
@@ -71,7 +72,7 @@ at-end : (r : Roll) (text : List ℕ) (ps : List Placed) (ts : List Token) (at :
     → ts ≡ tokens_of r (lexemes_of ps) → IsFine r ps → (b : Bool) → nat_lt at (length text) ≡ b
     → StopsAfter r text ts (cond b (Some (stop.Lex at)) None)
 at-end r text ps ts at le x e fine true lt =
-    λ b. record { short = le; refused = after-lexemes r text ps at x (ltb-true at (length text) lt) fine (subst Begins e b) }
+    λ b. kind-stops r text no_lexeme_here at le (after-lexemes r text ps at x (ltb-true at (length text) lt) fine (subst Begins e b))
 at-end r text ps ts at le x e fine false ge =
     let all : drop at text ≡ [] =
     ap (λ k. drop k text)

@@ -5,10 +5,9 @@ use Rattle.sift_lang.specs.Sound.{open_repeats, open_repeats_in, locals_after, B
 use Rattle.sift_parse.specs.declared.token.Sign.TheVariants.{Assign, OpenBrace, CloseBrace, Semicolon}
 use Rattle.sift_parse.specs.declared.token.Token.{Token}
 use Rattle.sift_parse.specs.declared.token.Token.TheVariants.{Sign}
-use Rattle.sift_parse.specs.Force.{Force, Level, block, advance, keyword_before, without_minuses, leave_block, end_let, oldest}
+use Rattle.sift_parse.specs.Force.{Force, Level, block, advance, keyword_before, without_minuses, leave_block, end_let, oldest, role_after, old_local}
 use Rattle.sift_parse.specs.Lexeme.{mark}
 use Rattle.sift_parse.specs.Roll.{first_word, Roll}
-use Rattle.sift_parse.specs.Tokens.{role_after, old_local}
 use Rattle.sift_parse.specs.Grammar.{IsExpr}
 use Rattle.sift_parse.proofs.Sound.Place.{Place, sign-at}
 use Rattle.sift_parse.proofs.Sound.Force.{deeper}

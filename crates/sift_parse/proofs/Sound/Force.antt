@@ -1,13 +1,14 @@
 -- What is in force after a lexeme, where the token that it is tells.
-use Rattle.std.proofs.Common.{◌≡◌, ℕ, ◌<◌, ◌≤◌, Bool, true, false, not, if◌then◌else◌, Option, Some, List, [], ◌∷◌, length, refl, ap, subst, arith}
+use Rattle.std.proofs.Common.{◌≡◌, ℕ, ◌<◌, ◌≤◌, Bool, true, false, not, if◌then◌else◌, Option, Some, List, [], ◌∷◌, length, refl, sym, ap, ◌∙◌, subst, arith}
 use Rattle.sift_lang.specs.declared.tree.Op.{Op}
 use Rattle.sift_lang.specs.declared.tree.Op.TheVariants.{Add, Sub, Mul, Div, Rem, And, Or, Xor, Shl, Shr, Lt, Eq}
 use Rattle.sift_parse.specs.declared.token.Keyword.{Keyword}
+use Rattle.sift_parse.specs.declared.token.Keyword.TheVariants.{Let, Sense, Now, Last}
 use Rattle.sift_parse.specs.declared.token.Token.{Token}
-use Rattle.sift_parse.specs.Force.{Force, Level, block, parenthesis, negation, keyword_before, opens, without_minuses, after_name, after_word, named_by}
+use Rattle.sift_parse.specs.Force.{Force, Level, block, parenthesis, negation, keyword_before, opens, without_minuses, after_name, after_word, named_by, place_of, Role, role_after, old_local}
 use Rattle.sift_parse.specs.Lexeme.{Lexeme, word, operator}
 use Rattle.sift_parse.specs.Roll.{Roll}
-use Rattle.sift_parse.specs.Tokens.{Role, role_after, old_local}
+use Rattle.sift_parse.specs.Tokens.{named_after}
 use Rattle.sift_parse.specs.Levels.{ends_operand}
 use Rattle.sift_parse.proofs.Sound.Place.{Fits, Place, Goes, IsKeyword, IsNamed}
 
@@ -38,10 +39,19 @@ name-place r f role n ts h e =
     let p : Place r (name_force (role_after (keyword_before f)) h.text f) ts = subst (λ o. Place r (word_force o h.text f) ts) h.is h.goes.place in
     subst (λ role. Place r (name_force role h.text f) ts) e p
 
+-- what a name after a keyword names is what one of its role does
+pub named-role : (r : Roll) (f : Force) (k : Option Keyword) (w : List ℕ) → named_after r (place_of f) k w ≡ named_by r f (role_after k) w
+named-role r f (Some Let) w = refl
+named-role r f (Some Sense) w = refl
+named-role r f (Some Now) w = refl
+named-role r f (Some Last) w = refl
+named-role r f k w = refl
+
 -- in the role that a name has here, it names what its token has the number of
 pub name-number : (r : Roll) (f : Force) (role : Role) (n : ℕ) (ts : List Token) (h : IsNamed r f n ts)
     → role_after (keyword_before f) ≡ role → named_by r f role h.text ≡ Some n
-name-number r f role n ts h e = subst (λ role. named_by r f role h.text ≡ Some n) e h.names
+name-number r f role n ts h e =
+    subst (λ role. named_by r f role h.text ≡ Some n) e (sym (named-role r f (keyword_before f) h.text) ∙ h.names)
 
 -- ---- operators
 

@@ -8,7 +8,7 @@ use Rattle.sift_parse.specs.Force.{Force, advance, task_asked, word_token, token
 use Rattle.sift_parse.specs.Lexeme.{keyword_of, Lexeme, word, numeral, operator, mark, number_limit}
 use Rattle.sift_parse.specs.Roll.{Roll}
 use Rattle.sift_parse.specs.Tokens.{index_meant, number_token}
-use Rattle.sift_parse.specs.Refusal.{LacksWord}
+use Rattle.sift_parse.specs.Refusal.{OfSome}
 use Rattle.sift_parse.proofs.Sound.Place.{Fits, Place, Goes, head}
 
 -- the numeral is this number, or a greater one
@@ -58,7 +58,7 @@ picked : (b : Bool) (x n : ℕ) → b ≡ true → (if b then x else 0) ≡ n �
 picked true x n e h = h
 picked false x n e h = cc
 
-index-token : (r : Roll) (b : Option Lexeme) (asked : Option ℕ) (m n : ℕ) → number_token r b asked m ≡ Index n → ¬ LacksWord r asked m
+index-token : (r : Roll) (b : Option Lexeme) (asked : Option ℕ) (m n : ℕ) → number_token r b asked m ≡ Index n → ¬ OfSome (λ task. slice_index r.sizes task ≤ m) asked
     → IsWordOf r b asked m n
 index-token r b (Some task) m n e h =
     let below : m < slice_index r.sizes task = omega arith in

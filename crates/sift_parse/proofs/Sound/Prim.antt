@@ -7,12 +7,11 @@ use Rattle.sift_parse.specs.declared.token.Keyword.TheVariants.{Sense, Now}
 use Rattle.sift_parse.specs.declared.token.Sign.TheVariants.{Dot}
 use Rattle.sift_parse.specs.declared.token.Token.{Token}
 use Rattle.sift_parse.specs.declared.token.Token.TheVariants.{Keyword, Name, Index, Sign}
-use Rattle.sift_parse.specs.Force.{Force, advance, keyword_before, without_minuses}
+use Rattle.sift_parse.specs.Force.{Force, advance, keyword_before, without_minuses, role_after, a_sensor, a_task, old_local}
 use Rattle.sift_parse.specs.Lexeme.{numeral, mark}
 use Rattle.sift_parse.specs.Roll.{first_word, Roll, number_in}
-use Rattle.sift_parse.specs.Tokens.{role_after, a_sensor, a_task, old_local}
 use Rattle.sift_parse.specs.Levels.{ends_operand}
-use Rattle.sift_parse.specs.Refusal.{IsNotBefore}
+use Rattle.sift_parse.specs.Refusal.{OfSome}
 use Rattle.sift_parse.proofs.Sound.Place.{Place, sign-at, keyword-at, name-at}
 use Rattle.sift_parse.proofs.Sound.Number.{index-at}
 use Rattle.sift_parse.proofs.Sound.Names.{number_in-below, local_of-below, word-before, word-below}
@@ -98,8 +97,8 @@ pub record IsPastWord (r : Roll) (f : Force) (k : keywords.Keyword) (w : ℕ) (r
   pub within : w < sum r.sizes
   pub earlier : k ≡ Now → w < first_word r r.this
 
-unless : (r : Roll) (o : Option ℕ) (task : ℕ) → o ≡ Some task → ¬ IsNotBefore r o → task < r.this
-unless r o task e h = below task r.this (λ le. h (subst (IsNotBefore r) (sym e) le))
+unless : (r : Roll) (o : Option ℕ) (task : ℕ) → o ≡ Some task → ¬ OfSome (λ task. r.this ≤ task) o → task < r.this
+unless r o task e h = below task r.this (λ le. h (subst (OfSome (λ task. r.this ≤ task)) (sym e) le))
   where
     below : (m n : ℕ) → (n ≤ m → ⊥) → m < n
     below m n h = omega arith

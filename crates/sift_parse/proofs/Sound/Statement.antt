@@ -6,10 +6,9 @@ use Rattle.sift_parse.specs.declared.token.Keyword.TheVariants.{If, Else, Repeat
 use Rattle.sift_parse.specs.declared.token.Sign.TheVariants.{OpenBrace, CloseBrace}
 use Rattle.sift_parse.specs.declared.token.Token.{Token}
 use Rattle.sift_parse.specs.declared.token.Token.TheVariants.{Keyword, Number, Sign}
-use Rattle.sift_parse.specs.Force.{Force, advance, without_minuses}
+use Rattle.sift_parse.specs.Force.{Force, advance, without_minuses, role_after}
 use Rattle.sift_parse.specs.Lexeme.{numeral}
 use Rattle.sift_parse.specs.Roll.{Roll}
-use Rattle.sift_parse.specs.Tokens.{role_after}
 use Rattle.sift_parse.specs.Grammar.{IsExpr, IsStatement, a_let, an_assignment, an_output, an_if, an_if_else, a_repeat, IsBlock, no_statement, a_statement}
 use Rattle.sift_parse.proofs.Sound.Place.{Place, keyword-at}
 use Rattle.sift_parse.proofs.Sound.Number.{number-at}

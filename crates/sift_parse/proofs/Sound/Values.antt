@@ -5,10 +5,10 @@ use Rattle.sift_parse.specs.declared.token.Keyword.TheVariants.{Let, Out}
 use Rattle.sift_parse.specs.declared.token.Sign.TheVariants.{Assign, Semicolon}
 use Rattle.sift_parse.specs.declared.token.Token.{Token}
 use Rattle.sift_parse.specs.declared.token.Token.TheVariants.{Keyword, Name, Index, Sign}
-use Rattle.sift_parse.specs.Force.{Force, advance, without_minuses}
+use Rattle.sift_parse.specs.Force.{Force, advance, without_minuses, role_after, new_local, old_local}
 use Rattle.sift_parse.specs.Lexeme.{numeral}
 use Rattle.sift_parse.specs.Roll.{Roll}
-use Rattle.sift_parse.specs.Tokens.{role_after, new_local, old_local, task_after}
+use Rattle.sift_parse.specs.Tokens.{task_after}
 use Rattle.sift_parse.specs.Grammar.{IsExpr}
 use Rattle.sift_parse.proofs.Sound.Place.{Place, keyword-at, name-at}
 use Rattle.sift_parse.proofs.Sound.Number.{index-at}

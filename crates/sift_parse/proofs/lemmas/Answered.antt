@@ -1,5 +1,5 @@
 -- No text is without an answer: where no refusal stands, its lexemes go on to its end, and are a task.
-use Rattle.std.proofs.Common.{◌≡◌, ◌≢◌, ℕ, suc, zero, ◌+◌, ◌-◌, ◌<◌, ◌≤◌, Bool, true, false, cond, inl, inr, ◌==◌, Err, List, [], ◌∷◌, ◌++◌, length, slice_index, refl, sym, ap, ◌∙◌, subst, arith, length-append}
+use Rattle.std.proofs.Common.{◌≡◌, ◌≢◌, ℕ, suc, zero, ◌+◌, ◌-◌, ◌<◌, ◌≤◌, Bool, true, false, cond, inl, inr, ◌==◌, List, [], ◌∷◌, ◌++◌, length, slice_index, refl, sym, ap, ◌∙◌, subst, arith, length-append}
 use Rattle.std.proofs.lemmas.Bool.{cases_lt}
 use Rattle.std.specs.Str.{byte}
 use Rattle.sift_lang.specs.Tree.{TaskTree}
@@ -7,11 +7,11 @@ use Rattle.sift_parse.specs.declared.stop.ParseStop.TheVariants as stop
 use Rattle.sift_parse.specs.declared.stop.Which.TheVariants as which
 use Rattle.sift_parse.specs.Answer.{HasAnswer, a_task, a_refusal, NoTextIsUnanswered}
 use Rattle.sift_parse.specs.Lexeme.{Lexeme, Spells, IsLexeme, Placed, Lexes, no_lexeme, is_blank, after_gap, after_comment, text_limit}
-use Rattle.sift_parse.specs.Outcome.{IsStopped, Tells}
-use Rattle.sift_parse.specs.Refusal.{Kind, no_lexeme_here, no_syntax, long_name, large_number, many_rounds, many_locals, deep_level, unknown_name, later_task, order_of, Stands, lexemes_of, NoneBefore}
+use Rattle.sift_parse.specs.Refusal.{lexemes_of}
+use Rattle.sift_parse.specs.Scanned.{Kind, no_lexeme_here, no_syntax, long_name, large_number, many_rounds, many_locals, deep_level, unknown_name, later_task, order_of}
+use Rattle.sift_parse.proofs.Refusals.Kinds.{Stands, stop_for, NoneEarlier, none_told, IsRefusedFor, kind-stops}
 use Rattle.sift_parse.specs.Roll.{Roll}
 use Rattle.sift_parse.proofs.Lexing.Gaps.{Lexes-more}
-use Rattle.sift_parse.proofs.lemmas.OneAnswer.{stop_for}
 use Rattle.sift_parse.proofs.Lexing.OneLexing.{one_rest}
 use Rattle.sift_parse.proofs.Refusals.OneRefusal.{sided, Sided, at_one, earlier, later}
 use Rattle.sift_parse.proofs.Refusals.Standing.{spells-some}
@@ -29,18 +29,6 @@ no-memory many_locals at e = cc
 no-memory deep_level at e = cc
 no-memory unknown_name at e = cc
 no-memory later_task at e = cc
-
--- a refusal is told by its answer
-tells-kind : (r : Roll) (text : List ℕ) (kind : Kind) (at : ℕ) → IsStopped r text kind at → Tells r text (Err (stop_for kind at))
-tells-kind r text no_lexeme_here at h = h
-tells-kind r text no_syntax at h = h
-tells-kind r text long_name at h = h
-tells-kind r text large_number at h = h
-tells-kind r text many_rounds at h = h
-tells-kind r text many_locals at h = h
-tells-kind r text deep_level at h = h
-tells-kind r text unknown_name at h = h
-tells-kind r text later_task at h = h
 
 -- ---- what is left of a text
 
@@ -79,27 +67,24 @@ lexeme-short text mid l x =
 
 module _ (r : Roll) (text : List ℕ) (short : length text ≤ text_limit) (none : ¬ HasAnswer r text) where
   -- no refusal stands at a place before which none does
-  module _ (front : List Placed) (rest : List ℕ) (lexes : Lexes (length text) text front rest) (fine : NoneBefore r text front) where
+  module _ (front : List Placed) (rest : List ℕ) (lexes : Lexes (length text) text front rest) (fine : NoneEarlier r text front) where
     none-below : (n : ℕ) (kind : Kind) → order_of kind < n → ¬ Stands r (lexemes_of front) rest kind
     none-below zero kind lt h = omega arith
     none-below (suc n) kind lt h =
         let at = length text - length rest in
         let first : (other : Kind) → order_of other < order_of kind → ¬ Stands r (lexemes_of front) rest other =
         (λ other lower. none-below n other (omega (arith, lower, lt))) in
-        let refused : IsStopped r text kind at =
+        let refused : IsRefusedFor r text kind at =
         record {
-          short = short;
-          refused = record {
-            front = front;
-            rest = rest;
-            lexes = lexes;
-            place = refl;
-            stands = h;
-            first_kind = first;
-            first_place = fine;
-          };
+          front = front;
+          rest = rest;
+          lexes = lexes;
+          place = refl;
+          stands = h;
+          first_kind = first;
+          first_place = none_told r text front fine;
         } in
-        none (a_refusal (stop_for kind at) (no-memory kind at) (tells-kind r text kind at refused))
+        none (a_refusal (stop_for kind at) (no-memory kind at) (kind-stops r text kind at short refused))
 
     none-here : (kind : Kind) → ¬ Stands r (lexemes_of front) rest kind
     none-here kind = none-below (suc (order_of kind)) kind (omega arith)
@@ -117,17 +102,17 @@ module _ (r : Roll) (text : List ℕ) (short : length text ≤ text_limit) (none
         let longer : length before ≡ length front + suc (length others) = ap length split ∙ length-append front (q ∷ others) in
         omega arith
 
-    none-more : (p : Placed) → NoneBefore r text (front ++ p ∷ [])
+    none-more : (p : Placed) → NoneEarlier r text (front ++ p ∷ [])
     none-more p before more back kind e some x h = before-more p before more back kind e some x h (sided (length text) text before front back rest x lexes)
 
   -- where the text ends, its tokens are no task; and that is a refusal
-  at-end : (front : List Placed) → Lexes (length text) text front [] → NoneBefore r text front → ⊥
+  at-end : (front : List Placed) → Lexes (length text) text front [] → NoneEarlier r text front → ⊥
   at-end front lexes fine = none-here front [] lexes fine no_syntax (λ body task. none (a_task
       (let tree : TaskTree = record { outputs = slice_index r.sizes r.this; body = body } in tree)
-      (record { short = short; parsed = record { front = front; lexes = lexes; task = task; fine = fine }; outputs = refl })))
+      (record { short = short; parsed = record { front = front; lexes = lexes; task = task; fine = none_told r text front fine }; outputs = refl })))
 
   -- lexeme by lexeme
-  climb : (n : ℕ) (front : List Placed) (rest : List ℕ) → length rest ≤ n → Lexes (length text) text front rest → NoneBefore r text front
+  climb : (n : ℕ) (front : List Placed) (rest : List ℕ) → length rest ≤ n → Lexes (length text) text front rest → NoneEarlier r text front
       → ⊥
   climb n front [] low lexes fine = at-end front lexes fine
   climb zero front (b ∷ bs) low lexes fine = omega arith
@@ -141,7 +126,7 @@ module _ (r : Roll) (text : List ℕ) (short : length text ≤ text_limit) (none
         (none-more front (b ∷ bs) lexes fine p),
   )
 
-  none-first : NoneBefore r text []
+  none-first : NoneEarlier r text []
   none-first [] [] rest kind e some x h = some refl
   none-first [] (m ∷ more) rest kind e some x h = cc
   none-first (p ∷ before) more rest kind e some x h = cc

@@ -1,5 +1,5 @@
 -- A text has one answer: a parsed text has one tree, and no refusal.
-use Rattle.std.proofs.Common.{◌≡◌, ◌≢◌, ℕ, ◌<◌, List, [], ◌∷◌, length, Result, Ok, Err, refl, sym, ap, ◌∙◌, subst, arith}
+use Rattle.std.proofs.Common.{◌≡◌, ◌≢◌, ℕ, ◌<◌, ◌≤◌, List, [], ◌∷◌, length, Result, Ok, Err, refl, sym, ap, ◌∙◌, subst, arith}
 use Rattle.sift_lang.specs.declared.tree.Task.{Task}
 use Rattle.sift_lang.specs.Tree.{TaskTree, Block, tree_of}
 use Rattle.sift_parse.specs.declared.stop.ParseStop.{ParseStop}
@@ -7,10 +7,12 @@ use Rattle.sift_parse.specs.declared.stop.ParseStop.TheVariants as stop
 use Rattle.sift_parse.specs.declared.stop.Which.TheVariants as which
 use Rattle.sift_parse.specs.Grammar.{IsTask}
 use Rattle.sift_parse.specs.Lexeme.{Lexeme, Lexes, text_limit}
-use Rattle.sift_parse.specs.Outcome.{IsTaskOf, IsStopped, Tells}
+use Rattle.sift_parse.specs.Outcome.{IsTaskOf, Tells}
 use Rattle.sift_parse.specs.Roll.{Roll}
 use Rattle.sift_parse.specs.Tokens.{tokens_of}
-use Rattle.sift_parse.specs.Refusal.{Kind, no_lexeme_here, no_syntax, long_name, large_number, many_rounds, many_locals, deep_level, unknown_name, later_task, BeginsWith, Stands, lexemes_of, IsRefused, IsParsed}
+use Rattle.sift_parse.specs.Refusal.{BeginsWith, lexemes_of, IsRefused, IsParsed}
+use Rattle.sift_parse.specs.Scanned.{Kind, no_lexeme_here, no_syntax, long_name, large_number, many_rounds, many_locals, deep_level, unknown_name, later_task}
+use Rattle.sift_parse.proofs.Refusals.Kinds.{Stands, stop_for, none_found, IsRefusedFor, refused_found}
 use Rattle.sift_parse.specs.Answer.{IsSameAnswer, OneAnswer, IsAnswerOf, TaskIsAnswered}
 use Rattle.sift_parse.proofs.Lexing.OneLexing.{one_rest}
 use Rattle.sift_parse.proofs.Refusals.OneRefusal.{Sided, at_one, earlier, later, sided, none_after, same_refusal}
@@ -34,17 +36,17 @@ none_at_end r front body deep_level t h = begins-nothing _ h
 none_at_end r front body unknown_name t h = begins-nothing _ h
 none_at_end r front body later_task t h = begins-nothing _ h
 
-not_both-by : (r : Roll) (text : List ℕ) (body : Block) (k : Kind) (x : ℕ) (p : IsParsed r text body) (h : IsRefused r text k x)
+not_both-by : (r : Roll) (text : List ℕ) (body : Block) (k : Kind) (x : ℕ) (p : IsParsed r text body) (h : IsRefusedFor r text k x)
     → Sided p.front h.front → ⊥
 not_both-by r text body k x p h (at_one e) =
     let ends : h.rest ≡ [] = one_rest (length text) text h.front h.rest [] h.lexes (subst (λ ps. Lexes (length text) text ps []) e p.lexes) in
     none_at_end r (lexemes_of h.front) body k (subst (λ ps. IsTask (tokens_of r (lexemes_of ps)) body) e p.task)
     (subst (λ t. Stands r (lexemes_of h.front) t k) ends h.stands)
 not_both-by r text body k x p h (earlier q more e) = none_after (length text) text p.front h.front q more h.rest p.lexes h.lexes e
-not_both-by r text body k x p h (later q more e) = p.fine h.front (q ∷ more) h.rest k e (λ z. cc) h.lexes h.stands
+not_both-by r text body k x p h (later q more e) = none_found r text p.front p.fine h.front (q ∷ more) h.rest k e (λ z. cc) h.lexes h.stands
 
 -- a text that is parsed is not refused
-pub not_both : (r : Roll) (text : List ℕ) (body : Block) (k : Kind) (x : ℕ) → IsParsed r text body → IsRefused r text k x → ⊥
+pub not_both : (r : Roll) (text : List ℕ) (body : Block) (k : Kind) (x : ℕ) → IsParsed r text body → IsRefusedFor r text k x → ⊥
 not_both r text body k x p h = not_both-by r text body k x p h (sided (length text) text p.front h.front [] h.rest p.lexes h.lexes)
 
 -- ---- one tree
@@ -66,41 +68,24 @@ one_task r text a b x y =
 
 -- ---- one answer
 
--- the answer to a kind at a place
-abbrev pub stop_for : Kind → ℕ → ParseStop
-stop_for no_lexeme_here at = stop.Lex at
-stop_for no_syntax at = stop.Syntax at
-stop_for long_name at = stop.Limit which.Name at
-stop_for large_number at = stop.Limit which.Number at
-stop_for many_rounds at = stop.Limit which.Repeat at
-stop_for many_locals at = stop.Limit which.Locals at
-stop_for deep_level at = stop.Limit which.Depth at
-stop_for unknown_name at = stop.UnknownName at
-stop_for later_task at = stop.Later at
-
 -- what an answer says: a task, a text that is too long, or a refusal
 data Told (r : Roll) (text : List ℕ) (a : Result Task ParseStop) : Type 0 where
   a_task : (task : Task) → a ≡ Ok task → IsTaskOf r text (tree_of task) → Told r text a
   too_long : a ≡ Err (stop.Limit which.Text text_limit) → text_limit < length text → Told r text a
-  refused : (kind : Kind) (at : ℕ) → a ≡ Err (stop_for kind at) → IsStopped r text kind at → Told r text a
+  refused : (kind : Kind) (at : ℕ) → a ≡ Err (stop_for kind at) → length text ≤ text_limit → IsRefusedFor r text kind at → Told r text a
 
 limit-told : (r : Roll) (text : List ℕ) (at : ℕ) → (at ≡ text_limit) × (text_limit < length text)
     → Told r text (Err (stop.Limit which.Text at))
 limit-told r text at h = too_long (ap (λ n. Err (stop.Limit which.Text n)) h.0) h.1
 
+told-refused : (r : Roll) (text : List ℕ) (s : ParseStop) → IsRefused r text s → Told r text (Err s)
+told-refused r text s h = let f = refused_found r text s h in refused f.kind f.at (ap (λ e. Err e) f.answers) f.short f.refused
+
 told : (r : Roll) (text : List ℕ) (a : Result Task ParseStop) → a ≢ Err stop.NoMemory → Tells r text a → Told r text a
 told r text (Ok task) n h = a_task task refl h
-told r text (Err (stop.Lex at)) n h = refused no_lexeme_here at refl h
-told r text (Err (stop.Syntax at)) n h = refused no_syntax at refl h
-told r text (Err (stop.UnknownName at)) n h = refused unknown_name at refl h
-told r text (Err (stop.Later at)) n h = refused later_task at refl h
 told r text (Err (stop.Limit which.Text at)) n h = limit-told r text at h
-told r text (Err (stop.Limit which.Name at)) n h = refused long_name at refl h
-told r text (Err (stop.Limit which.Number at)) n h = refused large_number at refl h
-told r text (Err (stop.Limit which.Repeat at)) n h = refused many_rounds at refl h
-told r text (Err (stop.Limit which.Locals at)) n h = refused many_locals at refl h
-told r text (Err (stop.Limit which.Depth at)) n h = refused deep_level at refl h
 told r text (Err stop.NoMemory) n h = absurd (n refl)
+told r text (Err s) n h = told-refused r text s h
 
 -- answers that are these ones are one, where these are
 as_said : (a b c d : Result Task ParseStop) → a ≡ c → b ≡ d → IsSameAnswer c d → IsSameAnswer a b
@@ -112,14 +97,14 @@ same-refused k j x y h = ap (λ n. stop_for n x) h.0 ∙ ap (λ n. stop_for j n)
 one_answer-by : (r : Roll) (text : List ℕ) (a b : Result Task ParseStop) → Told r text a → Told r text b → IsSameAnswer a b
 one_answer-by r text a b (a_task t e h) (a_task u f g) = as_said a b (Ok t) (Ok u) e f (one_task r text (tree_of t) (tree_of u) h g)
 one_answer-by r text a b (a_task t e h) (too_long f g) = absurd (let s = h.short in omega arith)
-one_answer-by r text a b (a_task t e h) (refused k x f g) = absurd (not_both r text (tree_of t).body k x h.parsed g.refused)
+one_answer-by r text a b (a_task t e h) (refused k x f le g) = absurd (not_both r text (tree_of t).body k x h.parsed g)
 one_answer-by r text a b (too_long e h) (a_task u f g) = absurd (let s = g.short in omega arith)
 one_answer-by r text a b (too_long e h) (too_long f g) = as_said a b (Err (stop.Limit which.Text text_limit)) (Err (stop.Limit which.Text text_limit)) e f refl
-one_answer-by r text a b (too_long e h) (refused k x f g) = absurd (let s = g.short in omega arith)
-one_answer-by r text a b (refused k x e h) (a_task u f g) = absurd (not_both r text (tree_of u).body k x g.parsed h.refused)
-one_answer-by r text a b (refused k x e h) (too_long f g) = absurd (let s = h.short in omega arith)
-one_answer-by r text a b (refused k x e h) (refused j y f g) =
-    as_said a b (Err (stop_for k x)) (Err (stop_for j y)) e f (same-refused k j x y (same_refusal r text k j x y h.refused g.refused))
+one_answer-by r text a b (too_long e h) (refused k x f le g) = absurd (omega arith)
+one_answer-by r text a b (refused k x e le h) (a_task u f g) = absurd (not_both r text (tree_of u).body k x g.parsed h)
+one_answer-by r text a b (refused k x e le h) (too_long f g) = absurd (omega arith)
+one_answer-by r text a b (refused k x e le h) (refused j y f low g) =
+    as_said a b (Err (stop_for k x)) (Err (stop_for j y)) e f (same-refused k j x y (same_refusal r text k j x y h g))
 
 -- two answers to a text, neither of them want of memory, are tasks with one tree or one refusal at one place
 pub one_answer : OneAnswer
@@ -129,7 +114,7 @@ task_is_answered-by : (r : Roll) (text : List ℕ) (tree : TaskTree) (a : Result
     → IsAnswerOf tree a
 task_is_answered-by r text tree a x (a_task t e h) = subst (IsAnswerOf tree) (sym e) (one_task r text (tree_of t) tree h x)
 task_is_answered-by r text tree a x (too_long e h) = absurd (let s = x.short in omega arith)
-task_is_answered-by r text tree a x (refused k at e h) = absurd (not_both r text tree.body k at x.parsed h.refused)
+task_is_answered-by r text tree a x (refused k at e le h) = absurd (not_both r text tree.body k at x.parsed h)
 
 -- the text of a task is answered with a task of the same tree, where memory is not wanting
 pub task_is_answered : TaskIsAnswered

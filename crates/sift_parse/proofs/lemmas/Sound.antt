@@ -13,7 +13,9 @@ use Rattle.sift_parse.specs.Roll.{Roll, roll_of}
 use Rattle.sift_parse.specs.Tokens.{tokens_of}
 use Rattle.sift_parse.specs.Force as force
 use Rattle.sift_parse.specs.Grammar.{IsTask, Begins}
-use Rattle.sift_parse.specs.Refusal.{Kind, IsManyRounds, IsManyLocals, IsDeepLevel, IsUnknownName, IsLaterTask, many_rounds, many_locals, deep_level, unknown_name, later_task, Stands, lexemes_of, NoneBefore, IsParsed}
+use Rattle.sift_parse.specs.Refusal.{IsManyRounds, IsManyLocals, IsDeepLevel, IsUnknownName, IsLaterTask, lexemes_of, IsParsed}
+use Rattle.sift_parse.specs.Scanned.{Kind, many_rounds, many_locals, deep_level, unknown_name, later_task}
+use Rattle.sift_parse.proofs.Refusals.Kinds.{Stands, NoneEarlier, none_found}
 use Rattle.sift_parse.proofs.Lexing.OneLexing.{lexes_split, next_lexeme}
 use Rattle.sift_parse.proofs.Refusals.Answering.{begins-task}
 use Rattle.sift_parse.proofs.Places.Placing.{places_are_force, tokens-found}
@@ -45,7 +47,7 @@ pub force_after-more : (before : List Placed) (p : Placed)
 force_after-more before p = ap force_after (lexemes_of-more before p) ∙ fold-append advance at_start (lexemes_of before) (p.lexeme ∷ [])
 
 all-fit : (r : Roll) (text : List ℕ) (front before more : List Placed) (end : List ℕ) → front ≡ before ++ more
-    → Lexes (length text) text front end → Begins (tokens_of r (lexemes_of front)) → NoneBefore r text front
+    → Lexes (length text) text front end → Begins (tokens_of r (lexemes_of front)) → NoneEarlier r text front
     → AllFit r (force_after (lexemes_of before)) (lexemes_of more)
 all-fit r text front before [] end e x b none = tt
 all-fit r text front before (p ∷ more) end e x b none =
@@ -68,7 +70,7 @@ whole r text body h =
     let b : Begins (tokens_of r ls) = begins-task (tokens_of r ls) body h.task in
     let task : IsTask (force.tokens_of r ls) body = subst (λ ts. IsTask ts body) (tokens-found r ls b) h.task in
     block-through r (force.tokens_of r ls) [] body task at_start (record { role = refl; pending = refl; bare = refl; few = omega arith })
-    (record { lexemes = ls; tokens = refl; fits = all-fit r text h.front [] h.front [] refl h.lexes b h.fine })
+    (record { lexemes = ls; tokens = refl; fits = all-fit r text h.front [] h.front [] refl h.lexes b (none_found r text h.front h.fine) })
 
 -- the task of a text is sound, and reads by `now` only words of earlier tasks
 pub task_is_sound : TaskIsSound

@@ -1,6 +1,7 @@
 -- What the tasks of a sound program need and make, one after the other.
 use Rattle.std.proofs.Common.{◌≡◌, ℕ, zero, suc, ◌+◌, ◌-◌, ◌<◌, ◌≤◌, List, ◌∷◌, ◌++◌, Bool, true, false, if◌then◌else◌}
-use Rattle.std.proofs.Common.{length, take, drop, get_or, Some, slice_get, slice_index, slice_range, inl, inr, add-one, refl, sym, ap, ◌∙◌, arith}
+use Rattle.std.proofs.Common.{length, map, take, drop, get_or, Some, slice_get, slice_index, slice_range, inl, inr, add-one, refl, sym, ap, ◌∙◌, arith}
+use Rattle.std.specs.List.{range_with_len}
 use Rattle.std.specs.Option.{option_map}
 use Rattle.std.proofs.lemmas.Bool.{cases_lt}
 use Rattle.std.proofs.lemmas.List.{drop_more, get_or_past, length-append, take_all}
@@ -16,7 +17,17 @@ use Rattle.sift_lang.specs.Meaning.{meaning}
 use Rattle.sift_program.specs.declared.program.TheConstants.{WORD_LIMIT}
 use Rattle.sift_program.specs.declared.program.Program.{Program}
 use Rattle.sift_program.specs.Program.{task_at, ProgramTree, program_of, output_count, first_word, IsSoundProgram}
-use Rattle.sift_program.specs.Ideal.{words_held, task_words, words_made, ideal_frame}
+use Rattle.sift_program.specs.Ideal.{words_made, ideal_frame}
+
+-- the words of so many numbers from the first on, in the frame before
+abbrev pub words_held : List ℕ → ℕ → ℕ → List ℕ
+words_held prev first count = map (slice_index prev) (range_with_len first count)
+
+-- the words of task t in a frame, where the tasks before it have made these
+abbrev pub task_words : List TaskTree → List ℕ → List ℕ → List ℕ → List ℕ → ℕ → List ℕ
+task_words tasks prev agreed shed made t =
+    let task = task_at tasks t in
+    if has shed t then words_held prev (first_word tasks t) task.outputs else meaning task agreed made prev
 
 -- the tree of the task that a loop over the program's tasks has come to
 pub tree_at : (program : Program) (tasks : List Task) (i : ℕ) (task : Task) → tasks ≡ program.tasks.items → i < length tasks

@@ -1,9 +1,18 @@
 -- The shapes of a program's tasks, one for each.
-use Rattle.std.proofs.Common.{◌≡◌, ℕ, zero, suc, ◌+◌, ◌<◌, List, [], ◌∷◌, length, take, get_or, refl, sym, ap, ◌∙◌, arith}
+use Rattle.std.proofs.Common.{◌≡◌, ℕ, zero, suc, ◌+◌, ◌<◌, Bool, List, [], ◌∷◌, length, take, get_or, refl, sym, ap, ◌∙◌, arith}
+use Rattle.std.specs.List.{filter, range_with_len}
 use Rattle.std.proofs.lemmas.List.Sums.{sum_by-cons}
 use Rattle.sift_base.specs.Shapes.{Shape, words_in}
 use Rattle.sift_lang.specs.Tree.{TaskTree}
-use Rattle.sift_program.specs.Program.{shape_in, shapes_from, task_at, output_count}
+use Rattle.sift_program.specs.Program.{block_reads, reads_task, shapes_from, task_at, output_count}
+
+-- the task reads word w of this frame
+abbrev pub reads_word : TaskTree → ℕ → Bool
+reads_word task w = block_reads w task.body
+
+-- the shape of task t
+abbrev pub shape_in : List TaskTree → ℕ → TaskTree → Shape
+shape_in tasks t task = record { outputs = task.outputs; needs = filter (reads_task tasks task) (range_with_len 0 t) }
 
 -- the words of one task more
 pub words_in-cons : (task : Shape) (tasks : List Shape) → words_in (task ∷ tasks) ≡ task.outputs + words_in tasks

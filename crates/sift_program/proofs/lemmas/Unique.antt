@@ -7,8 +7,8 @@ use Rattle.sift_base.specs.Units.{has}
 use Rattle.sift_lang.specs.Tree.{TaskTree, end}
 use Rattle.sift_lang.specs.Meaning.{meaning}
 use Rattle.sift_program.specs.Program.{output_count, first_word, ReadsEarlierWords}
-use Rattle.sift_program.specs.Ideal.{words_held, task_words, words_made, words_of, MeetsEachTask, IdealFrameIsUnique}
-use Rattle.sift_program.proofs.lemmas.Frames.{task_at-there, first_word-more, length-task_words, length-words_made, words_made-more}
+use Rattle.sift_program.specs.Ideal.{words_made, words_of, MeetsEachTask, IdealFrameIsUnique}
+use Rattle.sift_program.proofs.lemmas.Frames.{words_held, task_words, task_at-there, first_word-more, length-task_words, length-words_made, words_made-more}
 use Rattle.sift_program.proofs.lemmas.Earlier.{meaning-same}
 
 -- ---- lists

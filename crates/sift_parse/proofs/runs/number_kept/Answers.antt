@@ -2,7 +2,7 @@ use Rattle.std.proofs.Common.{◌≡◌, ◌+◌, ◌*◌, ◌<◌, get_or, take
 use Rattle.std.specs.Char.{digit_value}
 use Rattle.std.specs.Str.Parse.{digits_value}
 use Rattle.std.proofs.lemmas.Int.Digits.{digits_value_more}
-use Rattle.sift_parse.specs.Lexeme.{kept}
+use Rattle.sift_parse.specs.Written.{kept}
 use Rattle.sift_parse.proofs.Lexing.Kept.{kept-more, unwrap_or-some}
 use Rattle.sift_parse.proofs.runs.number_kept.Goals as goal
 

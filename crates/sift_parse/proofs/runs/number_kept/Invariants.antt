@@ -1,6 +1,6 @@
 use Rattle.std.proofs.Common.{◌≡◌, take}
 use Rattle.std.specs.Str.Parse.{digits_value}
-use Rattle.sift_parse.specs.Lexeme.{kept}
+use Rattle.sift_parse.specs.Written.{kept}
 use Rattle.sift_parse.proofs.runs.number_kept.Given as goal
 
 -- what is kept of the number that the digits so far write

@@ -5,8 +5,9 @@ use Rattle.sift_parse.specs.Lexeme.{text_limit}
 use Rattle.sift_parse.specs.Roll.{roll_of}
 use Rattle.sift_parse.specs.declared.parser.Offence.TheVariants.{Syntax}
 use Rattle.sift_parse.specs.Parsed.{Parses}
-use Rattle.sift_parse.specs.Scanned.{end_stop}
+use Rattle.sift_parse.specs.Scanned.{no_syntax, end_stop}
 use Rattle.sift_parse.specs.Written.{placed_of}
+use Rattle.sift_parse.proofs.Refusals.Kinds.{kind-stops}
 use Rattle.sift_parse.proofs.Refusals.Stops.{StopsAfter, after-tokens}
 use Rattle.sift_parse.proofs.Refusals.Answering.{begins-task, parsed-whole, offence-end, place-short}
 use Rattle.sift_parse.proofs.Refusals.Offences.{offence-here, tokens-within}
@@ -78,7 +79,7 @@ returns-in-Err-Syntax c =
     c.in_ok-lexed.ensures.lexes (rw c.deref.ensures.value at c.in_ok-scanned.ensures) (rw c.deref-2.ensures.value at fault)
     (omega (arith, c.if-at-len.true, c.len.ensures, scanned.tokens.ok.0)) in
     let place : c.place.result ≡ (get_or lexed.placed.items c.in-Err-Syntax.at c.index.result.now).at = c.place.ensures ∙ ap (λ p. p.at) c.index.ensures in
-    record { short = c.requires.short; refused = rw place here }
+    kind-stops (roll_of c.args.names.now) c.args.text.now no_syntax c.place.result c.requires.short (rw place here)
 
 -- the tokens offend at their end
 pub returns-in-Err-Syntax-2 : goal.returns-in-Err-Syntax-2
