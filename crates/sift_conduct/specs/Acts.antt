@@ -6,7 +6,7 @@ use Rattle.sift_buffer.specs.Conduct.{Conduct as Acts}
 use Rattle.sift_mission.specs.Data.{FlownMission, IsConfigOf}
 use Rattle.sift_mission.specs.Slots.{is_slot, calls, stamp_of, heard_at}
 use Rattle.sift_conduct.specs.Conduct.{Account, Places}
-use Rattle.sift_conduct.specs.Frames.{FrameConduct, Flies}
+use Rattle.sift_conduct.specs.Frames.{UnitFlight, FrameConduct, Flies}
 
 -- the words of acts, and absence where there is none
 abbrev pub word_in_saying : Option Saying → Option ℕ
@@ -22,6 +22,10 @@ said_places m d f k q = if is_slot m k then word_in_saying (d.said f (m.number k
 -- the words that a unit heard, by frame, slot and sender
 abbrev pub heard_places : FlownMission → Acts → ℕ → Places
 heard_places m d f k p = if is_slot m k then word_in_hearing (d.heard f (m.number k) p) else None
+
+-- what a unit does in its flight, by its acts and accounts
+abbrev pub unit_flight : FlownMission → Acts → (ℕ → Account) → UnitFlight
+unit_flight m d a = record { said = said_places m d; heard = heard_places m d; account = a }
 
 -- each word said in a frame has a stamp of that frame
 abbrev pub StampsAreOfTheirFrames : FlownMission → Acts → Type 0
@@ -67,4 +71,4 @@ pub record BoardKeeps (m : FlownMission) (u : ℕ) (d : Acts) (a : ℕ → Accou
   pub turns : Turns m (m.storm u) d
   pub config : (f : ℕ) → f < n → Flies m u f → IsConfigOf m (a f).cfg
   pub acts : (f : ℕ) → f < n → Flies m u f → ActsAre m d (a f).cfg u f
-  pub conduct : (f : ℕ) → f < n → Flies m u f → FrameConduct m u a (heard_places m d) (said_places m d) f
+  pub conduct : (f : ℕ) → f < n → Flies m u f → FrameConduct m u (unit_flight m d a) f

@@ -1,5 +1,5 @@
--- What a unit does in a frame in which it is in its configuration: equations between what it heard, h, its account a, and the words voted
--- in the frame before, last.
+-- What a unit does in a frame in which it is in its configuration: equations between its account, what it heard, and the words voted in the
+-- frame before.
 use Rattle.std.specs.Prelude.{ℕ, List, Bool, Option, ℤ, ◌≡◌, zero, suc, ◌<◌, length, map, slice_index, false, not, ◌&&◌, ◌||◌, nat_eq, if◌then◌else◌, None, Some, unwrap_or, ◌+ℤ◌}
 use Rattle.sift_base.specs.declared.slot.Slot.{Slot}
 use Rattle.sift_base.specs.Units.{holds, has, has_bit, bits_of}
@@ -50,70 +50,25 @@ caught a v = holds (everyone_in a.bad) v
 abbrev pub Places : Type 0
 Places = Slot → ℕ → Option ℕ
 
--- ---- sensors
+-- ---- a unit in one frame
 
--- the word that u has for sensor x: the mission's where u reads it, else the agreed word of what the reader said and the others relayed
-abbrev pub input_of : FlownMission → List ℕ → ℕ → ℕ → Places → ℕ → ℕ
-input_of m us u f h x =
-    if nat_eq (reader_of us x) u then m.sensed x f
-    else agreed_of (taken us (reader_of us x) u (λ q. h (Sense x) (reader_of us x)) (λ q p. h (RelaySense x) p))
+-- a unit in one frame: the mission, its number and the frame; its account, what it heard, and the words voted in the frame before
+pub record UnitFrame : Type 0 where
+  pub mission : FlownMission
+  pub unit : ℕ
+  pub frame : ℕ
+  pub account : Account
+  pub heard : Places
+  pub last : List ℕ
 
--- the account has a word for each sensor, by this rule
-pub record SensorConduct (m : FlownMission) (us : List ℕ) (u f : ℕ) (a : Account) (h : Places) : Type 0 where
-  pub count : length a.ins ≡ m.sensors
-  pub agrees : (x : ℕ) → x < m.sensors → slice_index a.ins x ≡ input_of m us u f h x
-
--- ---- tasks
-
--- the word as u makes it: of its agreed words, this frame's words as it voted them, and those of the frame before
-abbrev pub made : FlownMission → Account → List ℕ → ℕ → ℕ
-made m a last w = m.word w a.ins a.outs last
-
--- the word of executor v as u polls it: its own as it made it, each other as it was heard
-abbrev pub polled : FlownMission → ℕ → Account → Places → List ℕ → ℕ → ℕ → Option ℕ
-polled m u a h last w v = if nat_eq v u then Some (made m a last w) else h (Out w) v
-
--- the word of number w after the poll: the agreed word of the executors' words, and where it is held the word voted in the frame before
-abbrev pub voted : FlownMission → List ℕ → ℕ → Account → Places → List ℕ → ℕ → ℕ
-voted m us u a h last w = if is_held m us w then slice_index last w else agreed_of (map (polled m u a h last w) (executors m us w))
-
--- the account has a word for each output, by this rule
-pub record TaskConduct (m : FlownMission) (us : List ℕ) (u : ℕ) (a : Account) (h : Places) (last : List ℕ) : Type 0 where
-  pub count : length a.outs ≡ m.words
-  pub votes : (w : ℕ) → w < m.words → slice_index a.outs w ≡ voted m us u a h last w
-
--- ---- catches
+-- the same from its parts, with this configuration in its account
+abbrev pub unit_frame : FlownMission → (config : List ℕ) → (unit frame : ℕ) → Account → (heard : Places) → (last : List ℕ) → UnitFrame
+unit_frame m us u f a h last = record { mission = m; unit = u; frame = f; account = record a { cfg = us }; heard = h; last = last }
 
 -- some number below n passes
 abbrev pub any_below : ℕ → (ℕ → Bool) → Bool
 any_below zero test = false
 any_below (suc n) test = any_below n test || test n
-
--- v is an executor of a word that is absent, or differs from a majority that is there
-abbrev pub poll_catches : FlownMission → List ℕ → (ℕ → ℕ → Option ℕ) → ℕ → Bool
-poll_catches m us place v =
-    has us v && any_below m.words (λ w. m.executes us w v && differs (place w v) (majority_of (map (place w) (executors m us w))))
-
--- v relayed a sensor that u reads as absent, or as another word
-abbrev pub relay_catches : FlownMission → List ℕ → ℕ → ℕ → Places → ℕ → Bool
-relay_catches m us u f h v =
-    has us v && (not (nat_eq v u) && any_below m.sensors (λ x. nat_eq (reader_of us x) u && differs (h (RelaySense x) v) (Some (m.sensed x f))))
-
--- u's reading of p's clock
-abbrev pub reading_by : FlownMission → ℕ → ℤ → Places → ℕ → Option ℤ
-reading_by m u clk h p = reading_of (h Clock p) clk (m.errors u p)
-
--- v's clock is absent, or too far away
-abbrev pub clock_catches : FlownMission → List ℕ → ℕ → ℤ → Places → ℕ → Bool
-clock_catches m us u clk h v = has us v && (not (nat_eq v u) && is_too_far (m.skew +ℤ m.error) (reading_by m u clk h v))
-
--- the account has just the units that are caught, by kind
-pub record CatchConduct (m : FlownMission) (us : List ℕ) (u f : ℕ) (a : Account) (h : Places) (last : List ℕ) : Type 0 where
-  pub polls : (v : ℕ) → holds a.bad.poll v ≡ poll_catches m us (polled m u a h last) v
-  pub relays : (v : ℕ) → holds a.bad.relay v ≡ relay_catches m us u f h v
-  pub clocks : (v : ℕ) → holds a.bad.clock v ≡ clock_catches m us u a.clk h v
-
--- ---- reports and the next configuration
 
 -- the report of an account: the byte of the units that were caught
 abbrev pub report_in : Account → ℕ
@@ -124,41 +79,82 @@ abbrev pub report_of : List ℕ → ℕ → Account → Places → ℕ → ℕ
 report_of us u a h r =
     if nat_eq r u then report_in a else agreed_of (taken us r u (λ q. h Report r) (λ q p. h (RelayReport r) p))
 
--- the next configuration is the one without those whom two other units' reports name
-pub record ReportConduct (us : List ℕ) (u : ℕ) (a : Account) (h : Places) : Type 0 where
-  pub next : a.next_cfg ≡ next_by (λ r v. has_bit (report_of us u a h r) v) us
+module _ (x : UnitFrame) where
+  open x use {mission as m, unit as u, frame as f, account as a, account.{cfg as us}, heard as h, last}
 
--- ---- clocks
+  -- ---- sensors
 
--- the next offset is the corrected one, and the drift
-pub record ClockConduct (m : FlownMission) (us : List ℕ) (u : ℕ) (a : Account) (h : Places) : Type 0 where
-  pub next : a.next_clk ≡ next_offset (m.skew +ℤ m.error) us (reading_by m u a.clk h) a.clk u (m.drift u)
+  -- the word that u has for sensor s: the mission's where u reads it, else the agreed word of what the reader said and the others relayed
+  abbrev pub input_of : ℕ → ℕ
+  input_of s =
+      if nat_eq (reader_of us s) u then m.sensed s f
+      else agreed_of (taken us (reader_of us s) u (λ q. h (Sense s) (reader_of us s)) (λ q p. h (RelaySense s) p))
 
--- ---- what is said
+  -- ---- tasks
 
--- the own word of a slot: the clock's low bits, a sensor's word, what was heard and is relayed, a word made, the report
-abbrev pub own_word : FlownMission → List ℕ → ℕ → Account → Places → List ℕ → Slot → Option ℕ
-own_word m us f a h last Clock = Some (word_of a.clk)
-own_word m us f a h last (Sense x) = Some (m.sensed x f)
-own_word m us f a h last (RelaySense x) = h (Sense x) (reader_of us x)
-own_word m us f a h last (Out w) = Some (made m a last w)
-own_word m us f a h last Report = Some (report_in a)
-own_word m us f a h last (RelayReport s) = h Report s
+  -- the word as u makes it: of its agreed words, this frame's words as it voted them, and those of the frame before
+  abbrev pub made : ℕ → ℕ
+  made w = m.word w a.ins a.outs last
 
--- the word said to q: the own word, or what the script of faults puts in its place
-abbrev pub word_said : FlownMission → List ℕ → ℕ → ℕ → Account → Places → List ℕ → Slot → ℕ → Option ℕ
-word_said m us u f a h last k q = unwrap_or (m.override u f k q) (own_word m us f a h last k)
+  -- the word of executor v as u polls it: its own as it made it, each other as it was heard
+  abbrev pub polled : ℕ → ℕ → Option ℕ
+  polled w v = if nat_eq v u then Some (made w) else h (Out w) v
 
--- what u says to q in a slot: the word where u says the slot to q, else nothing
-abbrev pub said_of : FlownMission → List ℕ → ℕ → ℕ → Account → Places → List ℕ → Slot → ℕ → Option ℕ
-said_of m us u f a h last k q = if calls m us k u q then word_said m us u f a h last k q else None
+  -- the word of number w after the poll: the agreed word of the executors' words, and where it is held the word voted in the frame before
+  abbrev pub voted : ℕ → ℕ
+  voted w = if is_held m us w then slice_index last w else agreed_of (map (polled w) (executors m us w))
 
--- ---- all of it
+  -- ---- catches
 
--- the conduct of u in frame f, where it is in its configuration us
-pub record Conduct (m : FlownMission) (us : List ℕ) (u f : ℕ) (a : Account) (h : Places) (last : List ℕ) : Type 0 where
-  pub sensors : SensorConduct m us u f a h
-  pub tasks : TaskConduct m us u a h last
-  pub catches : CatchConduct m us u f a h last
-  pub reports : ReportConduct us u a h
-  pub clocks : ClockConduct m us u a h
+  -- v is an executor of a word that is absent, or differs from a majority that is there
+  abbrev pub poll_catches : ℕ → Bool
+  poll_catches v =
+      has us v && any_below m.words (λ w. m.executes us w v && differs (polled w v) (majority_of (map (polled w) (executors m us w))))
+
+  -- v relayed a sensor that u reads as absent, or as another word
+  abbrev pub relay_catches : ℕ → Bool
+  relay_catches v =
+      has us v && (not (nat_eq v u) && any_below m.sensors (λ s. nat_eq (reader_of us s) u && differs (h (RelaySense s) v) (Some (m.sensed s f))))
+
+  -- u's reading of p's clock
+  abbrev pub reading_by : ℕ → Option ℤ
+  reading_by p = reading_of (h Clock p) a.clk (m.errors u p)
+
+  -- v's clock is absent, or too far away
+  abbrev pub clock_catches : ℕ → Bool
+  clock_catches v = has us v && (not (nat_eq v u) && is_too_far (m.skew +ℤ m.error) (reading_by v))
+
+  -- ---- what is said
+
+  -- the own word of a slot: the clock's low bits, a sensor's word, what was heard and is relayed, a word made, the report
+  abbrev pub own_word : Slot → Option ℕ
+  own_word Clock = Some (word_of a.clk)
+  own_word (Sense s) = Some (m.sensed s f)
+  own_word (RelaySense s) = h (Sense s) (reader_of us s)
+  own_word (Out w) = Some (made w)
+  own_word Report = Some (report_in a)
+  own_word (RelayReport r) = h Report r
+
+  -- what u says to q in a slot that it says to q: the own word, or what the script of faults puts in its place; else nothing
+  abbrev pub said_of : Slot → ℕ → Option ℕ
+  said_of k q = if calls m us k u q then unwrap_or (m.override u f k q) (own_word k) else None
+
+  -- ---- all of it
+
+  -- the conduct of u in its configuration
+  pub record Conduct : Type 0 where
+    pub busy : a.idle ≡ false
+    -- the account has the agreed word of each sensor
+    pub inputs_count : length a.ins ≡ m.sensors
+    pub inputs : (s : ℕ) → s < m.sensors → slice_index a.ins s ≡ input_of s
+    -- and the voted word of each number
+    pub outputs_count : length a.outs ≡ m.words
+    pub outputs : (w : ℕ) → w < m.words → slice_index a.outs w ≡ voted w
+    -- it has just the units that are caught, by kind
+    pub polls : (v : ℕ) → holds a.bad.poll v ≡ poll_catches v
+    pub relays : (v : ℕ) → holds a.bad.relay v ≡ relay_catches v
+    pub clocks : (v : ℕ) → holds a.bad.clock v ≡ clock_catches v
+    -- the next configuration is the one without those whom two other units' reports name
+    pub next_cfg : a.next_cfg ≡ next_by (λ r v. has_bit (report_of us u a h r) v) us
+    -- the next offset is the corrected one, and the drift
+    pub next_clk : a.next_clk ≡ next_offset (m.skew +ℤ m.error) us reading_by a.clk u (m.drift u)

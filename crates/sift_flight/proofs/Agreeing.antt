@@ -31,7 +31,7 @@ module _ (m : FlownMission) (strays : Strays) (fl : Flight) (f : ℕ) (us : List
   pub sensor_own : (x : ℕ) → x < m.sensors → Member m f us (reader_of us x) → (q : ℕ) → Member m f us q → slice_index (fl.account q f).ins x ≡ m.sensed x f
   sensor_own x low ws q wq =
       let s : ℕ = reader_of us x in
-      (conduct_here m strays fl f us here q wq).sensors.agrees x low ∙ elim (eqb_tells (reader_of us x) q) [
+      (conduct_here m strays fl f us here q wq).inputs x low ∙ elim (eqb_tells (reader_of us x) q) [
         | inl e ↦ rw e.0 refl
         | inr e ↦ rw e.0 (working_unit_is_agreed_on (λ u. m.works u f) us s q (m.sensed x f) (λ p. fl.heard p f (Sense x) (reader_of us x)) (λ p r. fl.heard p f (RelaySense x) r)
             here.config.ascending here.margin (sensor_relays x low) ws.member ws.works
@@ -51,10 +51,10 @@ module _ (m : FlownMission) (strays : Strays) (fl : Flight) (f : ℕ) (us : List
         | inr fs ↦
             let not_p = differs_in_work (λ u. m.works u f) (reader_of us x) p fs wp.works in
             let not_q = differs_in_work (λ u. m.works u f) (reader_of us x) q fs wq.works in
-            (conduct_here m strays fl f us here p wp).sensors.agrees x low
+            (conduct_here m strays fl f us here p wp).inputs x low
             ∙ (rw (not_p, not_q) (faulty_unit_is_agreed_on (λ u. m.works u f) us (reader_of us x) p q (λ a. fl.heard a f (Sense x) (reader_of us x)) (λ a r. fl.heard a f (RelaySense x) r)
             here.config.ascending here.margin (sensor_relays x low) hs fs wp.member wp.works wq.member wq.works)
-            ∙ sym ((conduct_here m strays fl f us here q wq).sensors.agrees x low))
+            ∙ sym ((conduct_here m strays fl f us here q wq).inputs x low))
       ]
 
   -- ---- reports

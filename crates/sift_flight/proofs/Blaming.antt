@@ -1,12 +1,11 @@
 -- A unit catches units of its configuration alone.
-use Rattle.std.proofs.Common.{◌≡◌, ℕ, List, Bool, true, false, ◌||◌, refl, sym, ap, ◌∙◌}
+use Rattle.std.proofs.Common.{◌≡◌, ℕ, Bool, true, false, ◌||◌, refl, sym, ap, ◌∙◌}
 use Rattle.std.specs.FinSet as set
 use Rattle.std.specs.Ordering.{nat_cmp}
 use Rattle.sift_base.specs.Units.{has, holds}
 use Rattle.sift_exec.specs.Conviction.{everyone_in, nobody}
 use Rattle.sift_exec.specs.declared.catches.Catches.{Catches}
-use Rattle.sift_conduct.specs.Conduct.{Account, Places, caught, CatchConduct}
-use Rattle.sift_mission.specs.Data.{FlownMission}
+use Rattle.sift_conduct.specs.Conduct.{UnitFrame, caught, Conduct}
 use Rattle.sift_flight.proofs.Calls.{and_both}
 use Rattle.sift_flight.proofs.lemmas.Naming.{holds-everyone}
 
@@ -18,13 +17,13 @@ one_of false false true P t in_a in_b in_c = in_c refl
 one_of false false false P t in_a in_b in_c = absurd cc
 
 -- a unit of its configuration caught only units of it
-pub caught_inside : (m : FlownMission) (us : List ℕ) (u f : ℕ) (a : Account) (h : Places) (last : List ℕ) → CatchConduct m us u f a h last
-    → (v : ℕ) → caught a v ≡ true → has us v ≡ true
-caught_inside m us u f a h last c v t =
-    one_of (holds a.bad.poll v) (holds a.bad.relay v) (holds a.bad.clock v) (has us v ≡ true) (sym (holds-everyone a.bad v) ∙ t)
-    (λ polled. (and_both (has us v) _ (sym (c.polls v) ∙ polled)).0)
-    (λ relayed. (and_both (has us v) _ (sym (c.relays v) ∙ relayed)).0)
-    (λ timed. (and_both (has us v) _ (sym (c.clocks v) ∙ timed)).0)
+pub caught_inside : (x : UnitFrame) → Conduct x → (v : ℕ) → caught x.account v ≡ true → has x.account.cfg v ≡ true
+caught_inside x c v t =
+    let bad : Catches = x.account.bad in
+    one_of (holds bad.poll v) (holds bad.relay v) (holds bad.clock v) (has x.account.cfg v ≡ true) (sym (holds-everyone bad v) ∙ t)
+    (λ polled. (and_both (has x.account.cfg v) _ (sym (c.polls v) ∙ polled)).0)
+    (λ relayed. (and_both (has x.account.cfg v) _ (sym (c.relays v) ∙ relayed)).0)
+    (λ timed. (and_both (has x.account.cfg v) _ (sym (c.clocks v) ∙ timed)).0)
 
 -- who caught nobody caught no unit
 pub nobody_caught : (c : Catches) (v : ℕ) → c ≡ nobody → holds (everyone_in c) v ≡ false

@@ -5,9 +5,9 @@ use Rattle.sift_base.specs.Units.{has}
 use Rattle.sift_base.specs.declared.slot.Slot.{Slot}
 use Rattle.sift_buffer.specs.Conduct.{hearing}
 use Rattle.sift_mission.specs.Slots.{is_slot, calls, stamp_of, heard_at}
-use Rattle.sift_conduct.specs.Conduct.{Places, own_word, said_of, Conduct}
+use Rattle.sift_conduct.specs.Conduct.{Places, UnitFrame, unit_frame, own_word, said_of, Conduct}
 use Rattle.sift_conduct.specs.Frames.{FrameConduct}
-use Rattle.sift_conduct.specs.Acts.{Turns, ActsAre, BoardKeeps, said_places, heard_places, stamp_and_moment}
+use Rattle.sift_conduct.specs.Acts.{Turns, ActsAre, BoardKeeps, said_places, heard_places, unit_flight, stamp_and_moment}
 use Rattle.sift_mission.specs.Fits.{Fits}
 use Rattle.sift_flight.specs.Landing.{HaveLanded}
 use Rattle.sift_flight.specs.Calm.{Calm, four_units, mission_of}
@@ -22,13 +22,17 @@ use Rattle.sift_flight.proofs.CalmActs.{said_act, lawful}
 abbrev pub heard_by : Calm → ℕ → Places
 heard_by c u k p = if calls (mission_of c) four_units k p u then Some (word_in c k) else None
 
+-- a unit in the one frame, which hears these words
+abbrev pub frame_in : Calm → ℕ → Places → UnitFrame
+frame_in c u h = unit_frame (mission_of c) four_units u 0 (account_of c) h c.starts
+
 -- each unit does what it ought to on these words, and says the words of its slots
 pub record IsCalm (c : Calm) : Type 0 where
   pub plain : IsPlain c
   pub fits : Fits (mission_of c)
   pub below : (u : ℕ) → has four_units u ≡ true → u < 4
-  pub conduct : (u : ℕ) → has four_units u ≡ true → Conduct (mission_of c) four_units u 0 (account_of c) (heard_by c u) c.starts
-  pub own : (u : ℕ) (k : Slot) (q : ℕ) → calls (mission_of c) four_units k u q ≡ true → own_word (mission_of c) four_units 0 (account_of c) (heard_by c u) c.starts k ≡ Some (word_in c k)
+  pub conduct : (u : ℕ) → has four_units u ≡ true → Conduct (frame_in c u (heard_by c u))
+  pub own : (u : ℕ) (k : Slot) (q : ℕ) → calls (mission_of c) four_units k u q ≡ true → own_word (frame_in c u (heard_by c u)) k ≡ Some (word_in c k)
 
 module _ (c : Calm) (calm : IsCalm c) where
   back : (k : Slot) → is_slot (mission_of c) k ≡ true → c.kind ((mission_of c).number k) ≡ k
@@ -43,21 +47,17 @@ module _ (c : Calm) (calm : IsCalm c) where
         | inr t ↦ elim (cases_Bool (is_slot (mission_of c) k)) [ inl slot ↦ rw (back k slot, t, slot) refl | inr n ↦ rw (t, n) refl ]
       ]
 
-  said_is : (u : ℕ) (k : Slot) (q : ℕ) → said_places (mission_of c) (acts_of c u) 0 k q ≡ said_of (mission_of c) four_units u 0 (account_of c) (heard_by c u) c.starts k q
+  said_is : (u : ℕ) (k : Slot) (q : ℕ) → said_places (mission_of c) (acts_of c u) 0 k q ≡ said_of (frame_in c u (heard_by c u)) k q
   said_is u k q = elim (cases_Bool (calls (mission_of c) four_units k u q)) [
     | inl t ↦ let slot = (call_of (mission_of c) four_units k u q t).slot in rw (back k slot, t, slot) (sym (calm.own u k q t))
     | inr t ↦ elim (cases_Bool (is_slot (mission_of c) k)) [ inl slot ↦ rw (back k slot, t, slot) refl | inr n ↦ rw (t, n) refl ]
   ]
 
-  frame : (u : ℕ) → has four_units u ≡ true
-      → FrameConduct (mission_of c) u (λ f. account_of c) (heard_places (mission_of c) (acts_of c u)) (said_places (mission_of c) (acts_of c u)) 0
+  frame : (u : ℕ) → has four_units u ≡ true → FrameConduct (mission_of c) u (unit_flight (mission_of c) (acts_of c u) (λ f. account_of c)) 0
   frame u hu = record {
     begins = record { cfg = refl; clk = refl };
-    said = λ k q. said_is u k q ∙ ap (λ (h : Places). said_of (mission_of c) four_units u 0 (account_of c) h c.starts k q) (sym (heard_is u));
-    busy = λ t. record {
-      busy = refl;
-      conduct = subst (λ (h : Places). Conduct (mission_of c) four_units u 0 (account_of c) h c.starts) (sym (heard_is u)) (calm.conduct u hu);
-    };
+    said = λ k q. said_is u k q ∙ ap (λ (h : Places). said_of (frame_in c u h) k q) (sym (heard_is u));
+    busy = λ t. subst (λ (h : Places). Conduct (frame_in c u h)) (sym (heard_is u)) (calm.conduct u hu);
     idle = λ e. absurd (let t = hu in cc);
   }
 
@@ -96,7 +96,7 @@ module _ (c : Calm) (calm : IsCalm c) where
     config = λ f low flies. calm.fits.config;
     acts = λ f low flies. let z : 0 ≡ f = omega arith in subst (ActsAre (mission_of c) (acts_of c u) four_units u) z (acts u);
     conduct = λ f low flies. let z : 0 ≡ f = omega arith in
-        subst (FrameConduct (mission_of c) u (λ f. account_of c) (heard_places (mission_of c) (acts_of c u)) (said_places (mission_of c) (acts_of c u))) z (frame u hu);
+        subst (FrameConduct (mission_of c) u (unit_flight (mission_of c) (acts_of c u) (λ f. account_of c))) z (frame u hu);
   }
 
   -- the units have landed: they have heard lawfully, and each board has kept its conduct in the one frame

@@ -12,13 +12,13 @@ use Rattle.sift_exec.specs.Conviction.{nobody, everyone_in, next_by}
 use Rattle.sift_config.specs.Config.{reader_of}
 use Rattle.sift_clock.specs.Correction.{next_offset}
 use Rattle.sift_mission.specs.Slots.{executors, calls}
-use Rattle.sift_conduct.specs.Conduct.{input_of, made, polled, poll_catches, relay_catches, clock_catches, reading_by, own_word, Conduct}
+use Rattle.sift_conduct.specs.Conduct.{input_of, polled, poll_catches, relay_catches, clock_catches, reading_by, own_word, Conduct}
 use Rattle.sift_flight.specs.Calm.{Calm, four_units, mission_of}
-use Rattle.sift_flight.specs.CalmFlight.{word_in, account_of}
+use Rattle.sift_flight.specs.CalmFlight.{word_in}
 use Rattle.sift_flight.proofs.Calls.{Call, call_of, call_is, and_both, told_apart}
 use Rattle.sift_flight.proofs.lemmas.Configs.{reader_in}
 use Rattle.sift_flight.proofs.lemmas.Naming.{holds-everyone}
-use Rattle.sift_flight.proofs.CalmBoards.{heard_by}
+use Rattle.sift_flight.proofs.CalmBoards.{heard_by, frame_in}
 
 -- one more unit of a list
 has-cons : (v : ℕ) (us : List ℕ) (u : ℕ) → has (v ∷ us) u ≡ true → (v ≡ u) ⊎ (has us u ≡ true)
@@ -61,7 +61,7 @@ none_pass g outside none v = elim (cases_Bool (has four_units v)) [ inl t ↦ fo
 module _ (c : Calm) where
   -- the places that a unit polls of a word
   abbrev pub place : ℕ → ℕ → ℕ → Option ℕ
-  place u = polled (mission_of c) u (account_of c) (heard_by c u) c.starts
+  place u = polled (frame_in c u (heard_by c u))
 
   -- whom unit u takes each report to name, where its own is this one
   abbrev names_with : ℕ → ℕ → ℕ → ℕ → Bool
@@ -69,34 +69,35 @@ module _ (c : Calm) where
 
   -- the figures of a unit's conduct
   pub record HasFigures (u : ℕ) : Type 0 where
-    pub ins : (x : ℕ) → x < length c.sensed → slice_index c.sensed x ≡ input_of (mission_of c) four_units u 0 (heard_by c u) x
+    pub ins : (x : ℕ) → x < length c.sensed → slice_index c.sensed x ≡ input_of (frame_in c u (heard_by c u)) x
     pub votes : (w : ℕ) → w < length c.tasks → slice_index c.outs w ≡ agreed_of (map (place u w) (executors (mission_of c) four_units w))
-    pub polls : some_of_four (poll_catches (mission_of c) four_units (place u)) ≡ false
-    pub relays : some_of_four (relay_catches (mission_of c) four_units u 0 (heard_by c u)) ≡ false
-    pub clocks : some_of_four (clock_catches (mission_of c) four_units u (pos 0) (heard_by c u)) ≡ false
+    pub polls : some_of_four (poll_catches (frame_in c u (heard_by c u))) ≡ false
+    pub relays : some_of_four (relay_catches (frame_in c u (heard_by c u))) ≡ false
+    pub clocks : some_of_four (clock_catches (frame_in c u (heard_by c u))) ≡ false
     pub cfg : four_units ≡ next_by (names_with u 0) four_units
-    pub clk : pos 0 ≡ next_offset (pos 0) four_units (reading_by (mission_of c) u (pos 0) (heard_by c u)) (pos 0) u (pos 0)
+    pub clk : pos 0 ≡ next_offset (pos 0) four_units (reading_by (frame_in c u (heard_by c u))) (pos 0) u (pos 0)
 
   -- a unit with these figures does in the frame what it ought to, where each task has its output word
-  pub conduct_by : length c.outs ≡ length c.tasks → (u : ℕ) → HasFigures u → Conduct (mission_of c) four_units u 0 (account_of c) (heard_by c u) c.starts
+  pub conduct_by : length c.outs ≡ length c.tasks → (u : ℕ) → HasFigures u → Conduct (frame_in c u (heard_by c u))
   conduct_by count u g = record {
-    sensors = record { count = refl; agrees = g.ins };
-    tasks = record { count = count; votes = g.votes };
-    catches = record {
-      polls = λ v. set.contains-empty nat_cmp v ∙ sym (none_pass (poll_catches (mission_of c) four_units (place u)) (λ v e. rw e refl) g.polls v);
-      relays = λ v. set.contains-empty nat_cmp v ∙ sym (none_pass (relay_catches (mission_of c) four_units u 0 (heard_by c u)) (λ v e. rw e refl) g.relays v);
-      clocks = λ v. set.contains-empty nat_cmp v ∙ sym (none_pass (clock_catches (mission_of c) four_units u (pos 0) (heard_by c u)) (λ v e. rw e refl) g.clocks v);
-    };
-    reports = record { next = g.cfg ∙ ap (λ (own : ℕ). next_by (names_with u own) four_units) (sym no_report) };
-    clocks = record { next = g.clk };
+    busy = refl;
+    inputs_count = refl;
+    inputs = g.ins;
+    outputs_count = count;
+    outputs = g.votes;
+    polls = λ v. set.contains-empty nat_cmp v ∙ sym (none_pass (poll_catches (frame_in c u (heard_by c u))) (λ v e. rw e refl) g.polls v);
+    relays = λ v. set.contains-empty nat_cmp v ∙ sym (none_pass (relay_catches (frame_in c u (heard_by c u))) (λ v e. rw e refl) g.relays v);
+    clocks = λ v. set.contains-empty nat_cmp v ∙ sym (none_pass (clock_catches (frame_in c u (heard_by c u))) (λ v e. rw e refl) g.clocks v);
+    next_cfg = g.cfg ∙ ap (λ (own : ℕ). next_by (names_with u own) four_units) (sym no_report);
+    next_clk = g.clk;
   }
 
   heard_of : (u p : ℕ) (k : Slot) → Call (mission_of c) four_units k p u → heard_by c u k p ≡ Some (word_in c k)
   heard_of u p k call = rw (call_is (mission_of c) four_units k p u call) refl
 
   -- each unit's own words are those of the slots
-  pub own_words : ((w : ℕ) → w < length c.tasks → made (mission_of c) (account_of c) c.starts w ≡ slice_index c.outs w)
-      → (u : ℕ) (k : Slot) (q : ℕ) → calls (mission_of c) four_units k u q ≡ true → own_word (mission_of c) four_units 0 (account_of c) (heard_by c u) c.starts k ≡ Some (word_in c k)
+  pub own_words : ((w : ℕ) → w < length c.tasks → (mission_of c).word w c.sensed c.outs c.starts ≡ slice_index c.outs w)
+      → (u : ℕ) (k : Slot) (q : ℕ) → calls (mission_of c) four_units k u q ≡ true → own_word (frame_in c u (heard_by c u)) k ≡ Some (word_in c k)
   own_words makes u Clock q t = refl
   own_words makes u (Sense x) q t = refl
   own_words makes u (RelaySense x) q t =

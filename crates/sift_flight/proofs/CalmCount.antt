@@ -7,10 +7,9 @@ use Rattle.sift_base.specs.declared.slot.Slot.{Slot}
 use Rattle.sift_base.specs.declared.slot.Slot.TheVariants.{Clock, Sense, RelaySense, Out, Report, RelayReport}
 use Rattle.sift_vote.specs.Majority.{agreed_of}
 use Rattle.sift_mission.specs.Slots.{is_slot, executors}
-use Rattle.sift_conduct.specs.Conduct.{made}
 use Rattle.sift_mission.specs.Fits.{Fits, IsNumbered}
 use Rattle.sift_flight.specs.Calm.{four_units, due_in, heard_in, mission_of}
-use Rattle.sift_flight.specs.CalmFlight.{word_in, account_of}
+use Rattle.sift_flight.specs.CalmFlight.{word_in}
 use Rattle.sift_flight.proofs.CalmStages.{IsPlain}
 use Rattle.sift_flight.proofs.CalmBoards.{IsCalm, calm_lawful, calm_landed}
 use Rattle.sift_flight.proofs.CalmConduct.{four, place, HasFigures, conduct_by, own_words}
@@ -82,8 +81,8 @@ fits = fits_by count plain numbered
 -- ---- the frame
 
 -- each unit makes 16
-made_is : (w : ℕ) → w < 1 → made (mission_of count) (account_of count) (5 ∷ []) w ≡ slice_index (16 ∷ []) w
-made_is w low = one_word (λ w. made (mission_of count) (account_of count) (5 ∷ []) w ≡ slice_index (16 ∷ []) w) refl w low
+made_is : (w : ℕ) → w < 1 → (mission_of count).word w [] (16 ∷ []) (5 ∷ []) ≡ slice_index (16 ∷ []) w
+made_is w low = one_word (λ w. (mission_of count).word w [] (16 ∷ []) (5 ∷ []) ≡ slice_index (16 ∷ []) w) refl w low
 
 -- the word that a unit votes
 abbrev voted : ℕ → ℕ → ℕ

@@ -7,17 +7,17 @@ use Rattle.sift_base.specs.declared.slot.Slot.{Slot}
 use Rattle.sift_base.specs.declared.slot.Slot.TheVariants.{Clock, Sense, RelaySense, Out, Report, RelayReport}
 use Rattle.sift_vote.specs.Majority.{agreed_of}
 use Rattle.sift_mission.specs.Slots.{is_slot, executors}
-use Rattle.sift_conduct.specs.Conduct.{made, input_of}
+use Rattle.sift_conduct.specs.Conduct.{input_of}
 use Rattle.sift_mission.specs.Fits.{Fits, IsNumbered, SameAt}
 use Rattle.sift_flight.specs.Calm.{four_units, due_in, heard_in, mission_of}
-use Rattle.sift_flight.specs.CalmFlight.{word_in, account_of}
+use Rattle.sift_flight.specs.CalmFlight.{word_in}
 use Rattle.sift_flight.proofs.CalmStages.{IsPlain}
 use Rattle.sift_flight.proofs.CalmBoards.{IsCalm, calm_lawful, calm_landed}
 use Rattle.sift_flight.proofs.CalmConduct.{four, place, HasFigures, conduct_by, own_words}
 use Rattle.sift_flight.proofs.CalmFits.{four_are_below, fits_by, flyable_by, has_margin}
 use Rattle.sift_flight.specs.Calms.{FliesCalmly, gauge_kind, gauge}
 use Rattle.sift_flight.proofs.Calls.{and_both}
-use Rattle.sift_flight.proofs.CalmBoards.{heard_by}
+use Rattle.sift_flight.proofs.CalmBoards.{heard_by, frame_in}
 use Rattle.sift_flight.proofs.GaugeProgram.{one, two, runs}
 
 -- ---- the layout
@@ -102,15 +102,15 @@ abbrev outs : List ℕ
 outs = 8 ∷ 25 ∷ []
 
 -- each unit makes 8 and 25
-made_is : (w : ℕ) → w < 2 → made (mission_of gauge) (account_of gauge) (5 ∷ 9 ∷ []) w ≡ slice_index outs w
-made_is w low = two (λ w. made (mission_of gauge) (account_of gauge) (5 ∷ 9 ∷ []) w ≡ slice_index outs w) refl refl w low
+made_is : (w : ℕ) → w < 2 → (mission_of gauge).word w (7 ∷ []) outs (5 ∷ 9 ∷ []) ≡ slice_index outs w
+made_is w low = two (λ w. (mission_of gauge).word w (7 ∷ []) outs (5 ∷ 9 ∷ []) ≡ slice_index outs w) refl refl w low
 
 abbrev voted : ℕ → ℕ → ℕ
 voted u w = agreed_of (map (place gauge u w) (executors (mission_of gauge) four_units w))
 
 -- the word that a unit takes for the sensor's
 abbrev read : ℕ → ℕ → ℕ
-read u x = input_of (mission_of gauge) four_units u 0 (heard_by gauge u) x
+read u x = input_of (frame_in gauge u (heard_by gauge u)) x
 
 -- what a unit takes for the sensor, where it takes 7
 inputs : (u : ℕ) → 7 ≡ read u 0 → (x : ℕ) → x < 1 → slice_index (7 ∷ []) x ≡ read u x

@@ -139,11 +139,9 @@ module _ (m : FlownMission) (r : Ranges) (c : Core) (accounts : ℕ → ℕ → 
 -- both cases together
 pub units_hear_by_the_equations : UnitsHearByTheEquations
 units_hear_by_the_equations m r c accounts n f fits landed low q k p flies = record {
-  called = λ t. record {
-    as_said = λ there due. rw (there_is t) (as_said m r c accounts n f fits landed low q k p flies t there due);
-    apart = λ there differ. rw (there_is t) (apart m r c accounts n f fits landed low q k p flies t there differ);
-    strayed = λ gone. rw (there_is t) (of_stray m r c accounts n f fits landed low q k p flies t gone);
-  };
+  as_said = λ t there due. rw (there_is t) (as_said m r c accounts n f fits landed low q k p flies t there due);
+  apart = λ t there differ. rw (there_is t) (apart m r c accounts n f fits landed low q k p flies t there differ);
+  strayed = λ t gone. rw (there_is t) (of_stray m r c accounts n f fits landed low q k p flies t gone);
   silent = λ e. elim (cases_Bool (is_slot m k)) [ inl t ↦ rw t (silent m r c accounts n f fits landed low q k p flies t e) | inr t ↦ rw t refl ];
 }
   where

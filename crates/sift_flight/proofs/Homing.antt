@@ -9,7 +9,7 @@ use Rattle.sift_mission.specs.Data.{FlownMission}
 use Rattle.sift_mission.specs.Slots.{is_slot, calls, stamp_of}
 use Rattle.sift_conduct.specs.Conduct.{Places}
 use Rattle.sift_conduct.specs.Frames.{Flies, FrameConduct}
-use Rattle.sift_flight.specs.Flight.{Flight, flight_of, config_of, Hears, IsOfStray, RoundAt}
+use Rattle.sift_flight.specs.Flight.{Flight, unit_of, flight_of, config_of, Hears, IsOfStray, RoundAt}
 use Rattle.sift_flight.specs.Homing.{HasComeHome, FlightsThatComeHomeAreRound}
 use Rattle.sift_flight.specs.Landing.{strays_in}
 use Rattle.sift_flight.specs.Told.{told}
@@ -42,26 +42,23 @@ module _ (m : FlownMission) (r : Ranges) (c : Core) (fl : TheFlight) (fits : Fit
     heard_is : (f : ℕ) (k : Slot) (p : ℕ) → (told m fl).heard u f k p ≡ flown.heard u f k p
     heard_is f k p = chosen (is_slot m k) _ _ ((home.journals u there).heard f (m.number k) p)
 
-    conduct_is : (f : ℕ) → FrameConduct m u (flown.account u) (flown.heard u) (flown.said u) f →
-        FrameConduct m u (flown.account u) ((told m fl).heard u) ((told m fl).said u) f
+    conduct_is : (f : ℕ) → FrameConduct m u (unit_of flown u) f → FrameConduct m u (unit_of (told m fl) u) f
     conduct_is f conduct =
-        subst (λ (h : ℕ → Places). FrameConduct m u (flown.account u) h ((told m fl).said u) f) (sym (λ i g k p. heard_is g k p i))
-        (subst (λ (s : ℕ → Places). FrameConduct m u (flown.account u) (flown.heard u) s f) (sym (λ i g k q. said_is g k q i)) conduct)
+        subst (λ (h : ℕ → Places). FrameConduct m u (record (unit_of (told m fl) u) { heard = h }) f) (sym (λ i g k p. heard_is g k p i))
+        (subst (λ (s : ℕ → Places). FrameConduct m u (record (unit_of flown u) { said = s }) f) (sym (λ i g k q. said_is g k q i)) conduct)
 
   -- who is heard in a frame is a unit of the mission
   heard_unit : (q f : ℕ) (k : Slot) (p : ℕ) → f < m.frames → Flies m q f → calls m (config_of flown q f) k p q ≡ true → has m.units p ≡ true
   heard_unit q f k p low flies called =
       ((home.boards q flies.unit).config f low flies).inside p (call_of m (config_of flown q f) k p q called).from
 
-  hears : (q f : ℕ) (k : Slot) (p : ℕ) → f < m.frames → Flies m q f → Hears m (strays_in c) flown q f k p → Hears m (strays_in c) (told m fl) q f k p
+  hears : (q f : ℕ) (k : Slot) (p : ℕ) → f < m.frames → Flies m q f → Hears m (strays_in c) flown f q k p → Hears m (strays_in c) (told m fl) f q k p
   hears q f k p low flies h =
       let is = heard_is q flies.unit f k p in record {
-        called = λ t. let called = h.called t in record {
-          as_said = λ whole same. is ∙ (called.as_said whole same ∙ sym (said_is p (heard_unit q f k p low flies t) f k q));
-          apart = λ whole other. is ∙ called.apart whole other;
-          strayed = λ gone. subst (λ (w : Option ℕ). IsOfStray (strays_in c p) q (m.number k) (stamp_of m (config_of flown q f) f k) w)
-              (sym is) (called.strayed gone);
-        };
+        as_said = λ t whole same. is ∙ (h.as_said t whole same ∙ sym (said_is p (heard_unit q f k p low flies t) f k q));
+        apart = λ t whole other. is ∙ h.apart t whole other;
+        strayed = λ t gone. subst (λ (w : Option ℕ). IsOfStray (strays_in c p) q (m.number k) (stamp_of m (config_of flown q f) f k) w)
+            (sym is) (h.strayed t gone);
         silent = λ t. is ∙ h.silent t;
       }
 

@@ -6,7 +6,7 @@ use Rattle.sift_program.specs.Program.{ProgramTree}
 use Rattle.sift_program.specs.Ideal.{words_before}
 use Rattle.sift_mission.specs.Data.{FlownMission, IsConfigOf}
 use Rattle.sift_conduct.specs.Frames.{last_of, FrameConduct}
-use Rattle.sift_flight.specs.Flight.{Flight, config_of, Strays, IsRound}
+use Rattle.sift_flight.specs.Flight.{Flight, unit_of, config_of, Strays, IsRound}
 use Rattle.sift_flight.specs.Figures.{Works, lead_of, config_at, HasMarginAt}
 use Rattle.sift_mission.specs.Premises.{IsFlyable, RunsProgram}
 use Rattle.sift_flight.specs.Headline.{agreed_at, shed_at, HeadlineHolds}
@@ -22,7 +22,7 @@ record Stands (m : FlownMission) (program : ProgramTree) (strays : Strays) (fl :
 
 module _ (m : FlownMission) (program : ProgramTree) (strays : Strays) (fl : Flight) (flyable : IsFlyable m) (runs : RunsProgram m program) (round : IsRound m strays fl) where
   -- what a working unit does in a frame
-  conduct_of : (f : ℕ) → f < m.frames → (u : ℕ) → Works m u f → FrameConduct m u (fl.account u) (fl.heard u) (fl.said u) f
+  conduct_of : (f : ℕ) → f < m.frames → (u : ℕ) → Works m u f → FrameConduct m u (unit_of fl u) f
   conduct_of f low u w = (round f low).conduct u (record { unit = w.unit; whole = flyable.script.whole u f w.works })
 
   first_stands : 0 < m.frames → HasMarginAt m fl 0 → Stands m program strays fl 0

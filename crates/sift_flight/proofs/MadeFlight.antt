@@ -1,13 +1,13 @@
 -- The flight that is made is round.
-use Rattle.std.proofs.Common.{◌≡◌, inl, inr, ℕ, zero, suc, true, false, unwrap_or, refl, ap, ◌∙◌, subst, eq-eqb, ne_eqb}
+use Rattle.std.proofs.Common.{◌≡◌, inl, inr, ℕ, zero, suc, List, true, false, unwrap_or, refl, ap, ◌∙◌, subst, eq-eqb, ne_eqb}
 use Rattle.std.proofs.lemmas.Bool.{cases_Bool}
 use Rattle.sift_base.specs.declared.slot.Slot.{Slot}
 use Rattle.sift_mission.specs.Data.{FlownMission}
 use Rattle.sift_mission.specs.Slots.{calls, stamp_of, has_turned}
 use Rattle.sift_mission.specs.Fits.{Fits}
-use Rattle.sift_conduct.specs.Conduct.{said_of}
-use Rattle.sift_conduct.specs.Frames.{BeginConduct, BusyConduct, FrameConduct, Flies, last_of}
-use Rattle.sift_flight.specs.Flight.{Flight, config_of, Strays, Hears, IsSilent, IsRound}
+use Rattle.sift_conduct.specs.Conduct.{UnitFrame, unit_frame, said_of, Conduct}
+use Rattle.sift_conduct.specs.Frames.{BeginConduct, FrameConduct, Flies, last_of}
+use Rattle.sift_flight.specs.Flight.{Flight, unit_of, config_of, Strays, Hears, IsSilent, IsRound}
 use Rattle.sift_flight.specs.Flight.IsOfStray.{absent}
 use Rattle.sift_flight.specs.Existence.{StrayHearing, IsOfStrays, HearsStrays, EachMissionHasARoundFlight, EachStrayHearingHasARoundFlight}
 use Rattle.sift_flight.proofs.Making.{Start, own_by, out_word, report_word, said_by, start_of, made_flight}
@@ -45,21 +45,23 @@ module _ (m : FlownMission) (strays : Strays) (stray : StrayHearing) (fits : Fit
   ]
 
   -- so units hear by the hearing equations
-  hearing : (f q : ℕ) (k : Slot) (p : ℕ) → Flies m q f → Hears m strays fl q f k p
+  hearing : (f q : ℕ) (k : Slot) (p : ℕ) → Flies m q f → Hears m strays fl f q k p
   hearing f q k p w = record {
-    called = λ t. record {
-      as_said = λ whole due. heard_said f k p q w t whole due ∙ as_said f k p q whole;
-      apart = λ whole other. rw (w.whole, t, whole, ne_eqb _ _ other) refl;
-      strayed = λ turned. rw (w.whole, t, turned) (allowed q f k p (stamp_of m (config_of fl q f) f k));
-    };
+    as_said = λ t whole due. heard_said f k p q w t whole due ∙ as_said f k p q whole;
+    apart = λ t whole other. rw (w.whole, t, whole, ne_eqb _ _ other) refl;
+    strayed = λ t turned. rw (w.whole, t, turned) (allowed q f k p (stamp_of m (config_of fl q f) f k));
     silent = λ t. rw (w.whole, t) refl;
   }
 
-  conduct : (f u : ℕ) → Flies m u f → FrameConduct m u (fl.account u) (fl.heard u) (fl.said u) f
+  -- a unit in a frame, with these words voted in the frame before
+  abbrev frame_with : ℕ → ℕ → List ℕ → UnitFrame
+  frame_with f u last = unit_frame m (config_of fl u f) u f (fl.account u f) (fl.heard u f) last
+
+  conduct : (f u : ℕ) → Flies m u f → FrameConduct m u (unit_of fl u) f
   conduct f u w = record {
     begins = begins u f;
-    said = λ k q. rw w.whole (ap (λ last. said_of m (config_of fl u f) u f (fl.account u f) (fl.heard u f) last k q) (last_is u f));
-    busy = λ t. subst (λ last. BusyConduct m (config_of fl u f) u f (fl.account u f) (fl.heard u f) last) (last_is u f) (busy_here m stray f (start f) fits u t);
+    said = λ k q. rw w.whole (ap (λ last. said_of (frame_with f u last) k q) (last_is u f));
+    busy = λ t. subst (λ last. Conduct (frame_with f u last)) (last_is u f) (busy_here m stray f (start f) fits u t);
     idle = λ t. idle_here m stray f (start f) fits u t;
   }
 

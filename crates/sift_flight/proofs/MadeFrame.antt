@@ -14,10 +14,10 @@ use Rattle.sift_mission.specs.Data.{FlownMission}
 use Rattle.sift_mission.specs.Slots.{executors, is_held, calls}
 use Rattle.sift_mission.specs.Fits.{Fits}
 use Rattle.sift_conduct.specs.Conduct.{own_word, Conduct}
-use Rattle.sift_conduct.specs.Frames.{IdleConduct, BusyConduct}
+use Rattle.sift_conduct.specs.Frames.{IdleConduct}
 use Rattle.sift_flight.specs.Existence.{StrayHearing}
 use Rattle.sift_flight.proofs.Calls.{call_of}
-use Rattle.sift_flight.proofs.Making.{Start, row, set_by, own_by, inputs, vote_by, outs_to, outputs, out_word, report_word, heard_here, busy_account, account_here}
+use Rattle.sift_flight.proofs.Making.{Start, row, set_by, own_by, inputs, vote_by, outs_to, outputs, out_word, report_word, heard_here, busy_account, account_here, frame_here}
 
 -- ---- rows and sets
 
@@ -70,7 +70,7 @@ module _ (m : FlownMission) (stray : StrayHearing) (f : ℕ) (start : ℕ → St
   -- each unit's own word, as it is made, is that of its conduct, where it says the slot
   pub own_is : (k : Slot) (p q : ℕ) → calls m (start p).cfg k p q ≡ true →
       own_by m stray f start (out_word m stray f start) (report_word m stray f start) k p
-      ≡ own_word m (start p).cfg f (account_here m stray f start p) (heard_here m stray f start p) (start p).last k
+      ≡ own_word (frame_here m stray f start p (account_here m stray f start p)) k
   own_is Clock p q t = refl
   own_is (Sense x) p q t = refl
   own_is (RelaySense x) p q t = refl
@@ -81,22 +81,21 @@ module _ (m : FlownMission) (stray : StrayHearing) (f : ℕ) (start : ℕ → St
   own_is (RelayReport s) p q t = refl
 
   -- the conduct of a unit that is in its configuration
-  busy_is : (u : ℕ) → Conduct m (start u).cfg u f (busy_account m stray f start u) (heard_here m stray f start u) (start u).last
-  busy_is u = record {
-    sensors = record { count = row_count _ m.sensors; agrees = λ x low. row_at _ m.sensors x low };
-    tasks = record {
-      count = outs_count m.words u;
-      votes = λ w low. outs_at m.words w u low ∙ (λ i.
-          if is_held m (start u).cfg w then slice_index (start u).last w
-          else agreed_of (map (λ v. if nat_eq v u then Some (sym (made_early w u low) i) else heard_here m stray f start u (Out w) v) (executors m (start u).cfg w)));
-    };
-    catches = record {
-      polls = λ v. set_holds _ (start u).cfg v;
-      relays = λ v. set_holds _ (start u).cfg v;
-      clocks = λ v. set_holds _ (start u).cfg v;
-    };
-    reports = record { next = refl };
-    clocks = record { next = refl };
+  busy_is : (u : ℕ) → has (start u).cfg u ≡ true → Conduct (frame_here m stray f start u (busy_account m stray f start u))
+  busy_is u t = record {
+    busy = rw t refl;
+    inputs_count = row_count _ m.sensors;
+    inputs = λ s low. row_at _ m.sensors s low;
+    outputs_count = outs_count m.words u;
+    outputs = λ w low. outs_at m.words w u low ∙ (λ i.
+        if is_held m (start u).cfg w then slice_index (start u).last w
+        else agreed_of (map (λ v. if nat_eq v u then Some (sym (made_early w u low) i) else heard_here m stray f start u (Out w) v)
+        (executors m (start u).cfg w)));
+    polls = λ v. set_holds _ (start u).cfg v;
+    relays = λ v. set_holds _ (start u).cfg v;
+    clocks = λ v. set_holds _ (start u).cfg v;
+    next_cfg = refl;
+    next_clk = refl;
   }
 
   -- a unit in its configuration has that account
@@ -104,12 +103,8 @@ module _ (m : FlownMission) (stray : StrayHearing) (f : ℕ) (start : ℕ → St
   account_is u t = rw t refl
 
   -- a unit in its configuration is busy, and does in the frame that is made what it ought to
-  pub busy_here : (u : ℕ) → has (start u).cfg u ≡ true →
-      BusyConduct m (start u).cfg u f (account_here m stray f start u) (heard_here m stray f start u) (start u).last
-  busy_here u t = record {
-    busy = rw t refl;
-    conduct = subst (λ a. Conduct m (start u).cfg u f a (heard_here m stray f start u) (start u).last) (sym (account_is u t)) (busy_is u);
-  }
+  pub busy_here : (u : ℕ) → has (start u).cfg u ≡ true → Conduct (frame_here m stray f start u (account_here m stray f start u))
+  busy_here u t = subst (λ a. Conduct (frame_here m stray f start u a)) (sym (account_is u t)) (busy_is u t)
 
   -- and one outside it is idle
   pub idle_here : (u : ℕ) → has (start u).cfg u ≡ false → IdleConduct (account_here m stray f start u)

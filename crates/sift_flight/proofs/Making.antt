@@ -13,7 +13,7 @@ use Rattle.sift_config.specs.Config.{reader_of}
 use Rattle.sift_clock.specs.Correction.{next_offset}
 use Rattle.sift_mission.specs.Data.{FlownMission}
 use Rattle.sift_mission.specs.Slots.{calls, stamp_of, has_turned}
-use Rattle.sift_conduct.specs.Conduct.{Account, Places, input_of, polled, voted, poll_catches, relay_catches, clock_catches, reading_by, report_of, said_of}
+use Rattle.sift_conduct.specs.Conduct.{Account, Places, UnitFrame, unit_frame, input_of, voted, poll_catches, relay_catches, clock_catches, reading_by, report_of, said_of}
 use Rattle.sift_flight.specs.Flight.{Flight}
 use Rattle.sift_flight.specs.Existence.{StrayHearing}
 
@@ -65,25 +65,33 @@ module _ (m : FlownMission) (stray : StrayHearing) (f : ℕ) (start : ℕ → St
   abbrev pub unknown : ℕ → Option ℕ
   unknown p = None
 
+  -- a unit in the frame with an account and what it heard
+  abbrev pub frame_by : ℕ → Account → Places → UnitFrame
+  frame_by u a h = unit_frame m (start u).cfg u f a h (start u).last
+
   -- ---- sensors, of clocks and sensors alone
 
+  -- the account of a unit, where no word is agreed or voted yet
+  abbrev pub starting : ℕ → Account
+  starting u = record {
+    cfg = (start u).cfg;
+    idle = not (has (start u).cfg u);
+    clk = (start u).clk;
+    ins = [];
+    outs = [];
+    bad = nobody;
+    next_cfg = (start u).cfg;
+    next_clk = (start u).clk;
+  }
+
   abbrev pub inputs : ℕ → List ℕ
-  inputs u = row (input_of m (start u).cfg u f (places_by (λ w. unknown) unknown u)) m.sensors
+  inputs u = row (input_of (frame_by u (starting u) (places_by (λ w. unknown) unknown u))) m.sensors
 
   -- ---- tasks, one word after the other
 
   -- the account of a unit, as far as votes need it, with the words that it voted till now
   abbrev pub voting : ℕ → List ℕ → Account
-  voting u outs = record {
-    cfg = (start u).cfg;
-    idle = not (has (start u).cfg u);
-    clk = (start u).clk;
-    ins = inputs u;
-    outs = outs;
-    bad = nobody;
-    next_cfg = (start u).cfg;
-    next_clk = (start u).clk;
-  }
+  voting u outs = record (starting u) { ins = inputs u; outs = outs }
 
   -- a word as each unit makes it of the words that it voted till now
   abbrev pub word_by : (ℕ → List ℕ) → ℕ → ℕ → Option ℕ
@@ -91,7 +99,7 @@ module _ (m : FlownMission) (stray : StrayHearing) (f : ℕ) (start : ℕ → St
 
   -- and as a unit votes it
   abbrev pub vote_by : (ℕ → List ℕ) → ℕ → ℕ → ℕ
-  vote_by outs w u = voted m (start u).cfg u (voting u (outs u)) (places_by (word_by outs) unknown u) (start u).last w
+  vote_by outs w u = voted (frame_by u (voting u (outs u)) (places_by (word_by outs) unknown u)) w
 
   -- the first n words as a unit votes them
   abbrev pub outs_to : ℕ → ℕ → List ℕ
@@ -111,12 +119,8 @@ module _ (m : FlownMission) (stray : StrayHearing) (f : ℕ) (start : ℕ → St
   abbrev pub catches : ℕ → Catches
   catches u =
       let us = (start u).cfg in
-      let h = places_by out_word unknown u in
-      record {
-        poll = set_by (poll_catches m us (polled m u (voting u (outputs u)) h (start u).last)) us;
-        relay = set_by (relay_catches m us u f h) us;
-        clock = set_by (clock_catches m us u (start u).clk h) us;
-      }
+      let x : UnitFrame = frame_by u (voting u (outputs u)) (places_by out_word unknown u) in
+      record { poll = set_by (poll_catches x) us; relay = set_by (relay_catches x) us; clock = set_by (clock_catches x) us }
 
   abbrev pub catching : ℕ → Account
   catching u = record (voting u (outputs u)) { bad = catches u }
@@ -138,7 +142,7 @@ module _ (m : FlownMission) (stray : StrayHearing) (f : ℕ) (start : ℕ → St
       let h = heard_here u in
       record (catching u) {
         next_cfg = next_by (λ r v. has_bit (report_of us u (catching u) h r) v) us;
-        next_clk = next_offset (m.skew +ℤ m.error) us (reading_by m u (start u).clk h) (start u).clk u (m.drift u);
+        next_clk = next_offset (m.skew +ℤ m.error) us (reading_by (frame_by u (catching u) h)) (start u).clk u (m.drift u);
       }
 
   -- and of each unit
@@ -154,11 +158,15 @@ module _ (m : FlownMission) (stray : StrayHearing) (f : ℕ) (start : ℕ → St
     next_clk = if has (start u).cfg u then (busy_account u).next_clk else (start u).clk;
   }
 
+  -- the unit in the frame, with this account
+  abbrev pub frame_here : ℕ → Account → UnitFrame
+  frame_here u a = frame_by u a (heard_here u)
+
   -- what each unit says
   abbrev pub said_here : ℕ → Places
   said_here u k q =
       if has_turned m u f then None
-      else said_of m (start u).cfg u f (account_here u) (heard_here u) (start u).last k q
+      else said_of (frame_here u (account_here u)) k q
 
   -- how the next frame begins
   abbrev pub start_next : ℕ → Start

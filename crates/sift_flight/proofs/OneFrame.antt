@@ -36,8 +36,8 @@ module _ (m : FlownMission) (program : ProgramTree) (strays : Strays) (fl : Flig
   -- all members have the lead unit's inputs
   inputs : (u : ℕ) → Member m f us u → (fl.account u f).ins ≡ agreed_at m fl f
   inputs u w =
-      let c = (conduct_here m strays fl f us here u w).sensors.count in
-      let d = (conduct_here m strays fl f us here (lead_of m f) lead_here).sensors.count in
+      let c = (conduct_here m strays fl f us here u w).inputs_count in
+      let d = (conduct_here m strays fl f us here (lead_of m f) lead_here).inputs_count in
       same_number_lists (fl.account u f).ins (agreed_at m fl f) (c ∙ sym d) (λ x x_low.
       let within : x < m.sensors = omega (arith, c) in
       sensor_same m strays fl f us here x within (reader_in us x (omega (arith, here.config.enough))) u (lead_of m f) w lead_here)

@@ -13,11 +13,11 @@ use Rattle.sift_skew.proofs.lemmas.Changes.{offsets_change_little}
 use Rattle.sift_mission.specs.Data.{IsConfigOf, FlownMission}
 use Rattle.sift_conduct.specs.Conduct.{reading_by}
 use Rattle.sift_mission.specs.Flown.{flown}
-use Rattle.sift_conduct.specs.Frames.{FrameConduct}
+use Rattle.sift_conduct.specs.Frames.{frame_of, FrameConduct}
 use Rattle.sift_mission.specs.Premises.{IsFlyable, PartsMakeItFlyable}
 use Rattle.sift_mission.specs.Slots.{has_turned}
 use Rattle.sift_mission.proofs.lemmas.Storms.{turned_by}
-use Rattle.sift_flight.specs.Flight.{Flight, Strays, IsRound}
+use Rattle.sift_flight.specs.Flight.{Flight, unit_of, Strays, IsRound}
 use Rattle.sift_flight.specs.Told.{AreAccountsOf, IsAccountOf, told}
 use Rattle.sift_flight.specs.Whole.{RoundFlightsAreWhole, RoundFlightsHaveAccounts}
 use Rattle.sift_flight.proofs.Blaming.{caught_inside, nobody_caught}
@@ -67,7 +67,7 @@ record Reaches (m : FlownMission) (fl : Flight) (u f : ℕ) : Type 0 where
 
 module _ (m : FlownMission) (flyable : IsFlyable m) (near : (u : ℕ) → has m.units u ≡ true → IsWithin (pos change) (m.offset u) (pos 0))
     (strays : Strays) (fl : Flight) (round : IsRound m strays fl) where
-  conduct : (u f : ℕ) → has m.units u ≡ true → f < m.frames → has_turned m u f ≡ false → FrameConduct m u (fl.account u) (fl.heard u) (fl.said u) f
+  conduct : (u f : ℕ) → has m.units u ≡ true → f < m.frames → has_turned m u f ≡ false → FrameConduct m u (unit_of fl u) f
   conduct u f unit low still = (round f low).conduct u (record { unit = unit; whole = still })
 
   -- the offset of the next frame is near to that of this
@@ -80,9 +80,9 @@ module _ (m : FlownMission) (flyable : IsFlyable m) (near : (u : ℕ) → has m.
         let told_apart = flyable.clocks.admitted.told in
         let drift = flyable.clocks.drifts u unit in
         let error = flyable.clocks.errors u u unit unit in
-        let read = reading_by m u (fl.account u f).clk (fl.heard u f) in
+        let read = reading_by (frame_of m u (unit_of fl u) f) in
         let near_by = offsets_change_little (m.skew +ℤ m.error) m.rate (fl.account u f).cfg read (fl.account u f).clk (m.drift u) u there (omega (arith, ints)) drift in
-        let same = busy.conduct.clocks.next in
+        let same = busy.next_clk in
         rw same (omega (arith, ints, near_by.0), omega (arith, ints, near_by.1))
     | inr away ↦
         let idle = (conduct u f unit low still).idle away in
@@ -95,7 +95,7 @@ module _ (m : FlownMission) (flyable : IsFlyable m) (near : (u : ℕ) → has m.
   next_config_is u f unit low still config = elim (cases_Bool (has (fl.account u f).cfg u)) [
     | inl there ↦
         let busy = (conduct u f unit low still).busy there in
-        rw busy.conduct.reports.next (next_is_config m _ (fl.account u f).cfg config)
+        rw busy.next_cfg (next_is_config m _ (fl.account u f).cfg config)
     | inr away ↦
         let idle = (conduct u f unit low still).idle away in
         rw idle.next_cfg config
@@ -138,15 +138,15 @@ module _ (m : FlownMission) (flyable : IsFlyable m) (near : (u : ℕ) → has m.
           | inr away ↦ let idle = c.idle away in ((λ e. away), (λ e. idle.idle))
         ];
         inputs = λ busy. elim (cases_Bool (has (fl.account u f).cfg u)) [
-          | inl there ↦ (c.busy there).conduct.sensors.count
+          | inl there ↦ (c.busy there).inputs_count
           | inr away ↦ absurd (never_both _ (c.idle away).idle busy)
         ];
         outputs = λ busy. elim (cases_Bool (has (fl.account u f).cfg u)) [
-          | inl there ↦ (c.busy there).conduct.tasks.count
+          | inl there ↦ (c.busy there).outputs_count
           | inr away ↦ absurd (never_both _ (c.idle away).idle busy)
         ];
         caught_inside = elim (cases_Bool (has (fl.account u f).cfg u)) [
-          | inl there ↦ caught_inside m _ u f _ _ _ (c.busy there).conduct.catches
+          | inl there ↦ caught_inside (frame_of m u (unit_of fl u) f) (c.busy there)
           | inr away ↦ (λ v t. absurd (never_both _ t (nobody_caught _ v (c.idle away).bad)))
         ];
       }

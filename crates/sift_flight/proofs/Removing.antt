@@ -30,7 +30,7 @@ module _ (m : FlownMission) (strays : Strays) (fl : Flight) (f : ℕ) (us : List
 
   -- all members find the same next configuration
   pub next_one : (p q : ℕ) → Member m f us p → Member m f us q → (fl.account p f).next_cfg ≡ next_by (names q) us
-  next_one p q wp wq = (conduct_here m strays fl f us here p wp).reports.next
+  next_one p q wp wq = (conduct_here m strays fl f us here p wp).next_cfg
       ∙ next_same (names p) (names q) us (λ r v hr. ap (λ w. has_bit w v) (report_same m strays fl f us here p q r wp wq hr))
 
   -- a member's report names whom it caught

@@ -47,11 +47,11 @@ hearing_rows : HearingRows
 unfolding taken
 hearing_rows = record {
   hears = λ q k p hq. (calm_round count count_flies 0 (omega arith)).hearing q k p (fly q hq);
-  hears_other = λ h. let e : 17 ≡ 16 = same_Some 17 16 ((h.called refl).as_said refl refl) in omega (arith, e);
+  hears_other = λ h. let e : 17 ≡ 16 = same_Some 17 16 (h.as_said refl refl refl) in omega (arith, e);
   strayed = stray (packed 5 (Some 7)) (inl refl) taken_is;
   no_stray = none;
   round = calm_round count count_flies 0 (omega arith);
-  not_round = λ r. let e : 17 ≡ 16 = ((r.conduct 2 (fly 2 refl)).busy refl).conduct.tasks.votes 0 (omega arith) in omega (arith, e);
+  not_round = λ r. let e : 17 ≡ 16 = ((r.conduct 2 (fly 2 refl)).busy refl).outputs 0 (omega arith) in omega (arith, e);
   votes = refl;
   holds = refl;
   not_silent = λ r. none-some 0 (sym ((r.turned 3 refl refl).said Report 0));

@@ -7,10 +7,10 @@ use Rattle.sift_base.specs.Units.{has}
 use Rattle.sift_base.specs.declared.slot.Slot.{Slot}
 use Rattle.sift_mission.specs.Data.{FlownMission}
 use Rattle.sift_mission.specs.Slots.{calls, stamp_of, has_turned}
-use Rattle.sift_conduct.specs.Conduct.{own_word, said_of}
-use Rattle.sift_conduct.specs.Frames.{last_of, FrameConduct, IdleConduct, BusyConduct, Flies}
+use Rattle.sift_conduct.specs.Conduct.{UnitFrame, unit_frame, own_word, said_of, Conduct}
+use Rattle.sift_conduct.specs.Frames.{last_of, frame_of, FrameConduct, IdleConduct, Flies}
 use Rattle.sift_mission.specs.Fits.{Fits}
-use Rattle.sift_flight.specs.Flight.{Flight, config_of, Strays, RoundAt}
+use Rattle.sift_flight.specs.Flight.{Flight, unit_of, config_of, Strays, RoundAt}
 use Rattle.sift_flight.specs.Existence.{StrayHearing, HearsStraysAt}
 use Rattle.sift_flight.proofs.Calls.{call_of}
 
@@ -39,19 +39,25 @@ module _ (m : FlownMission) (strays strays' : Strays) (stray : StrayHearing) (fl
   us u = config_of gl u f
 
   -- the conduct of both
-  pub conduct_one : (u : ℕ) → Flies m u f → FrameConduct m u (fl.account u) (fl.heard u) (fl.said u) f
+  pub conduct_one : (u : ℕ) → Flies m u f → FrameConduct m u (unit_of fl u) f
   conduct_one u hu = b.one.conduct u hu
 
   -- in the second flight, too, a unit that flies does in the frame what it ought to
-  pub conduct_other : (u : ℕ) → Flies m u f → FrameConduct m u (gl.account u) (gl.heard u) (gl.said u) f
+  pub conduct_other : (u : ℕ) → Flies m u f → FrameConduct m u (unit_of gl u) f
   conduct_other u hu = b.other.conduct u hu
 
+  -- a unit in the frame of the first flight, by this configuration, and in that of the second
+  abbrev frame_one : List ℕ → ℕ → UnitFrame
+  frame_one c u = unit_frame m c u f (fl.account u f) (fl.heard u f) (last_of m (fl.account u) f)
+
+  abbrev frame_other : ℕ → UnitFrame
+  frame_other u = frame_of m u (unit_of gl u) f
+
   -- that of the first under the second's configuration, where the unit is in it and where it is not
-  pub busy_one : (u : ℕ) → Flies m u f → has (us u) u ≡ true → BusyConduct m (us u) u f (fl.account u f) (fl.heard u f) (last_of m (fl.account u) f)
+  pub busy_one : (u : ℕ) → Flies m u f → has (us u) u ≡ true → Conduct (frame_one (us u) u)
   busy_one u hu t =
       let e = b.cfg u hu in
-      subst (λ c. BusyConduct m c u f (fl.account u f) (fl.heard u f) (last_of m (fl.account u) f)) e
-      ((conduct_one u hu).busy (subst (λ c. has c u ≡ true) (sym e) t))
+      subst (λ c. Conduct (frame_one c u)) e ((conduct_one u hu).busy (subst (λ c. has c u ≡ true) (sym e) t))
 
   -- a unit outside its configuration in the second flight is idle in the first
   pub idle_one : (u : ℕ) → Flies m u f → has (us u) u ≡ false → IdleConduct (fl.account u f)
@@ -62,16 +68,16 @@ module _ (m : FlownMission) (strays strays' : Strays) (stray : StrayHearing) (fl
   by_place P u t e = ⊎_elim t e (cases_Bool (has (us u) u))
 
   abbrev word_one : ℕ → Slot → Option ℕ
-  word_one u k = own_word m (us u) f (fl.account u f) (fl.heard u f) (last_of m (fl.account u) f) k
+  word_one u k = own_word (frame_one (us u) u) k
 
   abbrev word_other : ℕ → Slot → Option ℕ
-  word_other u k = own_word m (us u) f (gl.account u f) (gl.heard u f) (last_of m (gl.account u) f) k
+  word_other u k = own_word (frame_other u) k
 
   abbrev said_one : ℕ → List ℕ → Slot → ℕ → Option ℕ
-  said_one u c k q = said_of m c u f (fl.account u f) (fl.heard u f) (last_of m (fl.account u) f) k q
+  said_one u c k q = said_of (frame_one c u) k q
 
   abbrev said_other : ℕ → Slot → ℕ → Option ℕ
-  said_other u k q = said_of m (us u) u f (gl.account u f) (gl.heard u f) (last_of m (gl.account u) f) k q
+  said_other u k q = said_of (frame_other u) k q
 
   -- where the own words are the same, the same is said
   pub say : (k : Slot) → ((u q : ℕ) → Flies m u f → calls m (us u) k u q ≡ true → word_one u k ≡ word_other u k) → SayAlike m fl gl f k
@@ -95,8 +101,6 @@ module _ (m : FlownMission) (strays strays' : Strays) (stray : StrayHearing) (fl
           elim (cases_Bool (calls m (us u) k p u)) [
             | inl t ↦
                 let t' = subst (λ c. calls m c k p u ≡ true) (sym e) t in
-                let cf = hf.called t' in
-                let cg = hg.called t in
                 ⊎_elim
                 (λ (turned : has_turned m p f ≡ true).
                 b.strays_one u k p hu turned t' ∙ (ap (λ c. stray u f k p (stamp_of m c f k)) e ∙ sym (b.strays_other u k p hu turned t)))
@@ -105,8 +109,8 @@ module _ (m : FlownMission) (strays strays' : Strays) (stray : StrayHearing) (fl
                 let due_p : m.due (config_of fl p f) k ≡ m.due (us p) k = ap (λ c. m.due c k) (b.cfg p hp) in
                 let due_u : m.due (config_of fl u f) k ≡ m.due (us u) k = ap (λ c. m.due c k) e in
                 dite (ℕ_discrete (m.due (us p) k) (m.due (us u) k))
-                (λ d. cf.as_said whole (due_p ∙ (d ∙ sym due_u)) ∙ (same p u hp ∙ sym (cg.as_said whole d)))
-                (λ n. cf.apart whole (λ d. n (sym due_p ∙ (d ∙ due_u))) ∙ sym (cg.apart whole n)))
+                (λ d. hf.as_said t' whole (due_p ∙ (d ∙ sym due_u)) ∙ (same p u hp ∙ sym (hg.as_said t whole d)))
+                (λ n. hf.apart t' whole (λ d. n (sym due_p ∙ (d ∙ due_u))) ∙ sym (hg.apart t whole n)))
                 (cases_Bool (has_turned m p f))
             | inr t ↦ hf.silent (subst (λ c. calls m c k p u ≡ false) (sym e) t) ∙ sym (hg.silent t)
           ]

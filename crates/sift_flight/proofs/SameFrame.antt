@@ -14,8 +14,8 @@ use Rattle.sift_config.specs.Config.{reader_of}
 use Rattle.sift_clock.specs.Correction.{next_offset, reading_of, is_too_far}
 use Rattle.sift_mission.specs.Data.{FlownMission}
 use Rattle.sift_mission.specs.Slots.{executors}
-use Rattle.sift_conduct.specs.Conduct.{polled, any_below, poll_catches, relay_catches, clock_catches, report_of, said_of}
-use Rattle.sift_conduct.specs.Frames.{last_of, BusyConduct, Flies, IdleConduct}
+use Rattle.sift_conduct.specs.Conduct.{UnitFrame, unit_frame, Conduct, any_below, poll_catches, relay_catches, clock_catches, report_of, said_of}
+use Rattle.sift_conduct.specs.Frames.{last_of, Flies, IdleConduct}
 use Rattle.sift_flight.specs.Flight.{Flight, config_of, Strays, AreSameAt}
 use Rattle.sift_flight.specs.Existence.{StrayHearing}
 use Rattle.sift_flight.proofs.Same.{AreBothRound, HearAlike, conduct_one, conduct_other, busy_one, idle_one, by_place, say, hear}
@@ -34,20 +34,21 @@ module _ (m : FlownMission) (strays strays' : Strays) (stray : StrayHearing) (fl
   abbrev us : ℕ → List ℕ
   us u = config_of gl u f
 
-  abbrev last_one : ℕ → List ℕ
-  last_one u = last_of m (fl.account u) f
+  -- a unit in the frame, by the second flight's configuration
+  abbrev frame_one : ℕ → UnitFrame
+  frame_one u = unit_frame m (us u) u f (fl.account u f) (fl.heard u f) (last_of m (fl.account u) f)
 
-  abbrev last_other : ℕ → List ℕ
-  last_other u = last_of m (gl.account u) f
+  abbrev frame_other : ℕ → UnitFrame
+  frame_other u = unit_frame m (us u) u f (gl.account u f) (gl.heard u f) (last_of m (gl.account u) f)
 
   -- the places of one slot
   alike : (k : Slot) → HearAlike m fl gl f k → (u : ℕ) → Flies m u f → fl.heard u f k ≡ gl.heard u f k
   alike k same u hu = same u hu
 
-  abbrev one : (u : ℕ) → Flies m u f → has (us u) u ≡ true → BusyConduct m (us u) u f (fl.account u f) (fl.heard u f) (last_one u)
+  abbrev one : (u : ℕ) → Flies m u f → has (us u) u ≡ true → Conduct (frame_one u)
   one u hu t = busy_one m strays strays' stray fl gl f b u hu t
 
-  abbrev other : (u : ℕ) → Flies m u f → has (us u) u ≡ true → BusyConduct m (us u) u f (gl.account u f) (gl.heard u f) (last_other u)
+  abbrev other : (u : ℕ) → Flies m u f → has (us u) u ≡ true → Conduct (frame_other u)
   other u hu t = (conduct_other m strays strays' stray fl gl f b u hu).busy t
 
   idle : (u : ℕ) → Flies m u f → has (us u) u ≡ false → IdleConduct (fl.account u f) × IdleConduct (gl.account u f)
@@ -55,25 +56,24 @@ module _ (m : FlownMission) (strays strays' : Strays) (stray : StrayHearing) (fl
 
   -- ---- catches
 
-  poll_same : (u : ℕ) → Flies m u f → (v : ℕ) →
-      poll_catches m (us u) (polled m u (fl.account u f) (fl.heard u f) (last_one u)) v ≡ poll_catches m (us u) (polled m u (gl.account u f) (gl.heard u f) (last_other u)) v
+  poll_same : (u : ℕ) → Flies m u f → (v : ℕ) → poll_catches (frame_one u) v ≡ poll_catches (frame_other u) v
   poll_same u hu v = ap (λ t. has (us u) v && t) (any_same m.words _ _ (λ w low.
       ap (λ (place : ℕ → Option ℕ). m.executes (us u) w v && differs (place v) (majority_of (map place (executors m (us u) w))))
       (polled_same m strays strays' stray fl gl f b w low (outs_same m strays strays' stray fl gl f b w (omega arith)) u hu)))
 
-  relay_same : (u : ℕ) → Flies m u f → (v : ℕ) → relay_catches m (us u) u f (fl.heard u f) v ≡ relay_catches m (us u) u f (gl.heard u f) v
+  relay_same : (u : ℕ) → Flies m u f → (v : ℕ) → relay_catches (frame_one u) v ≡ relay_catches (frame_other u) v
   relay_same u hu v = ap (λ t. has (us u) v && (not (nat_eq v u) && t)) (any_same m.sensors _ _ (λ x low.
       ap (λ (place : ℕ → Option ℕ). nat_eq (reader_of (us u) x) u && differs (place v) (Some (m.sensed x f))) (alike (RelaySense x) (heard_relay m strays strays' stray fl gl f b x) u hu)))
 
-  clock_same : (u : ℕ) → Flies m u f → (v : ℕ) → clock_catches m (us u) u (fl.account u f).clk (fl.heard u f) v ≡ clock_catches m (us u) u (gl.account u f).clk (gl.heard u f) v
+  clock_same : (u : ℕ) → Flies m u f → (v : ℕ) → clock_catches (frame_one u) v ≡ clock_catches (frame_other u) v
   clock_same u hu v = λ i. has (us u) v && (not (nat_eq v u) && is_too_far (m.skew +ℤ m.error)
       (reading_of (alike Clock (heard_clock m strays strays' stray fl gl f b) u hu i v) (b.clk u hu i) (m.errors u v)))
 
   bad_same : (u : ℕ) → Flies m u f → (fl.account u f).bad ≡ (gl.account u f).bad
   bad_same u hu = by_place m strays strays' stray fl gl f b (λ u. (fl.account u f).bad ≡ (gl.account u f).bad) u
       (λ t.
-      let cf = (one u hu t).conduct.catches in
-      let cg = (other u hu t).conduct.catches in
+      let cf = (one u hu t) in
+      let cg = (other u hu t) in
       λ i. record {
         poll = same_units (fl.account u f).bad.poll (gl.account u f).bad.poll (λ v. cf.polls v ∙ (poll_same u hu v ∙ sym (cg.polls v))) i;
         relay = same_units (fl.account u f).bad.relay (gl.account u f).bad.relay (λ v. cf.relays v ∙ (relay_same u hu v ∙ sym (cg.relays v))) i;
@@ -97,14 +97,15 @@ module _ (m : FlownMission) (strays strays' : Strays) (stray : StrayHearing) (fl
   -- a unit that flies finds the same next configuration in both flights
   pub next_cfg_same : (u : ℕ) → Flies m u f → (fl.account u f).next_cfg ≡ (gl.account u f).next_cfg
   next_cfg_same u hu = by_place m strays strays' stray fl gl f b (λ u. (fl.account u f).next_cfg ≡ (gl.account u f).next_cfg) u
-      (λ t. (one u hu t).conduct.reports.next ∙ ((λ i. next_by (λ r v. has_bit (report_same u hu r i) v) (us u)) ∙ sym (other u hu t).conduct.reports.next))
+      (λ t. (one u hu t).next_cfg ∙ ((λ i. next_by (λ r v. has_bit (report_same u hu r i) v) (us u)) ∙ sym (other u hu t).next_cfg))
       (λ t. let i = idle u hu t in i.0.next_cfg ∙ (b.cfg u hu ∙ sym i.1.next_cfg))
 
   -- a unit that flies has the same offset in force after the frame in both flights
   pub next_clk_same : (u : ℕ) → Flies m u f → (fl.account u f).next_clk ≡ (gl.account u f).next_clk
   next_clk_same u hu = by_place m strays strays' stray fl gl f b (λ u. (fl.account u f).next_clk ≡ (gl.account u f).next_clk) u
-      (λ t. (one u hu t).conduct.clocks.next ∙ ((λ i. next_offset (m.skew +ℤ m.error) (us u)
-      (λ p. reading_of (alike Clock (heard_clock m strays strays' stray fl gl f b) u hu i p) (b.clk u hu i) (m.errors u p)) (b.clk u hu i) u (m.drift u)) ∙ sym (other u hu t).conduct.clocks.next))
+      (λ t. (one u hu t).next_clk ∙ ((λ i. next_offset (m.skew +ℤ m.error) (us u)
+      (λ p. reading_of (alike Clock (heard_clock m strays strays' stray fl gl f b) u hu i p) (b.clk u hu i) (m.errors u p)) (b.clk u hu i) u (m.drift u))
+      ∙ sym (other u hu t).next_clk))
       (λ t. let i = idle u hu t in i.0.next_clk ∙ (b.clk u hu ∙ sym i.1.next_clk))
 
   idle_same : (u : ℕ) → Flies m u f → (fl.account u f).idle ≡ (gl.account u f).idle
@@ -141,7 +142,7 @@ module _ (m : FlownMission) (strays strays' : Strays) (stray : StrayHearing) (fl
   said_same : (u : ℕ) → Flies m u f → fl.said u f ≡ gl.said u f
   said_same u hu = λ i k q. (
       (conduct_one m strays strays' stray fl gl f b u hu).said k q
-      ∙ ((λ j. said_of m (b.cfg u hu j) u f (account_same u hu j) (heard_same u hu j) (b.last u hu j) k q)
+      ∙ ((λ j. said_of (unit_frame m (b.cfg u hu j) u f (account_same u hu j) (heard_same u hu j) (b.last u hu j)) k q)
       ∙ sym ((conduct_other m strays strays' stray fl gl f b u hu).said k q))) i
 
   -- a unit that flies has the same account in both flights, and says and hears the same

@@ -11,8 +11,8 @@ use Rattle.sift_agree.specs.Agreement.{taken}
 use Rattle.sift_config.specs.Config.{reader_of}
 use Rattle.sift_mission.specs.Data.{FlownMission}
 use Rattle.sift_mission.specs.Slots.{executors, is_held}
-use Rattle.sift_conduct.specs.Conduct.{input_of, made, polled, voted}
-use Rattle.sift_conduct.specs.Frames.{last_of, BusyConduct, Flies, IdleConduct}
+use Rattle.sift_conduct.specs.Conduct.{UnitFrame, unit_frame, input_of, made, polled, voted, Conduct}
+use Rattle.sift_conduct.specs.Frames.{last_of, Flies, IdleConduct}
 use Rattle.sift_flight.specs.Flight.{Flight, config_of, Strays}
 use Rattle.sift_flight.specs.Existence.{StrayHearing}
 use Rattle.sift_flight.proofs.Calls.{call_of}
@@ -22,11 +22,12 @@ module _ (m : FlownMission) (strays strays' : Strays) (stray : StrayHearing) (fl
   abbrev us : ℕ → List ℕ
   us u = config_of gl u f
 
-  abbrev last_one : ℕ → List ℕ
-  last_one u = last_of m (fl.account u) f
+  -- a unit in the frame, by the second flight's configuration
+  abbrev frame_one : ℕ → UnitFrame
+  frame_one u = unit_frame m (us u) u f (fl.account u f) (fl.heard u f) (last_of m (fl.account u) f)
 
-  abbrev last_other : ℕ → List ℕ
-  last_other u = last_of m (gl.account u) f
+  abbrev frame_other : ℕ → UnitFrame
+  frame_other u = unit_frame m (us u) u f (gl.account u f) (gl.heard u f) (last_of m (gl.account u) f)
 
   -- the clocks' words are heard alike in both flights
   pub heard_clock : HearAlike m fl gl f Clock
@@ -41,10 +42,10 @@ module _ (m : FlownMission) (strays strays' : Strays) (stray : StrayHearing) (fl
   heard_relay x = hear m strays strays' stray fl gl f b (RelaySense x) (say m strays strays' stray fl gl f b (RelaySense x) (λ u q hu t. ap (λ h. h (reader_of (us u) x)) (heard_sense x u hu)))
 
   -- the busy conduct of both
-  abbrev one : (u : ℕ) → Flies m u f → has (us u) u ≡ true → BusyConduct m (us u) u f (fl.account u f) (fl.heard u f) (last_one u)
+  abbrev one : (u : ℕ) → Flies m u f → has (us u) u ≡ true → Conduct (frame_one u)
   one u hu t = busy_one m strays strays' stray fl gl f b u hu t
 
-  abbrev other : (u : ℕ) → Flies m u f → has (us u) u ≡ true → BusyConduct m (us u) u f (gl.account u f) (gl.heard u f) (last_other u)
+  abbrev other : (u : ℕ) → Flies m u f → has (us u) u ≡ true → Conduct (frame_other u)
   other u hu t = (conduct_other m strays strays' stray fl gl f b u hu).busy t
 
   abbrev idle : (u : ℕ) → Flies m u f → has (us u) u ≡ false → IdleConduct (fl.account u f) × IdleConduct (gl.account u f)
@@ -54,13 +55,13 @@ module _ (m : FlownMission) (strays strays' : Strays) (stray : StrayHearing) (fl
   pub ins_same : (u : ℕ) → Flies m u f → (fl.account u f).ins ≡ (gl.account u f).ins
   ins_same u hu = by_place m strays strays' stray fl gl f b (λ u. (fl.account u f).ins ≡ (gl.account u f).ins) u
       (λ t.
-      let cf = (one u hu t).conduct.sensors in
-      let cg = (other u hu t).conduct.sensors in
-      same_number_lists (fl.account u f).ins (gl.account u f).ins (cf.count ∙ sym cg.count)
-      (λ x x_low. let within : x < m.sensors = omega (arith, cf.count) in cf.agrees x within ∙ (same x ∙ sym (cg.agrees x within))))
+      let cf = one u hu t in
+      let cg = other u hu t in
+      same_number_lists (fl.account u f).ins (gl.account u f).ins (cf.inputs_count ∙ sym cg.inputs_count)
+      (λ x x_low. let within : x < m.sensors = omega (arith, cf.inputs_count) in cf.inputs x within ∙ (same x ∙ sym (cg.inputs x within))))
       (λ t. let i = idle u hu t in i.0.ins ∙ sym i.1.ins)
     where
-      same : (x : ℕ) → input_of m (us u) u f (fl.heard u f) x ≡ input_of m (us u) u f (gl.heard u f) x
+      same : (x : ℕ) → input_of (frame_one u) x ≡ input_of (frame_other u) x
       same x = λ i. if nat_eq (reader_of (us u) x) u then m.sensed x f else agreed_of (taken (us u) (reader_of (us u) x) u
           (λ q. heard_sense x u hu i (reader_of (us u) x)) (λ q p. heard_relay x u hu i p))
 
@@ -68,10 +69,11 @@ module _ (m : FlownMission) (strays strays' : Strays) (stray : StrayHearing) (fl
   pub SameOuts : ℕ → Type 0
   SameOuts n = (w u : ℕ) → w < n → Flies m u f → slice_index (fl.account u f).outs w ≡ slice_index (gl.account u f).outs w
 
-  pub made_same : (w : ℕ) → w < m.words → SameOuts w → (u : ℕ) → Flies m u f → made m (fl.account u f) (last_one u) w ≡ made m (gl.account u f) (last_other u) w
+  pub made_same : (w : ℕ) → w < m.words → SameOuts w → (u : ℕ) → Flies m u f → made (frame_one u) w ≡ made (frame_other u) w
   unfolding SameOuts
   made_same w low outs u hu =
-      b.fits.read.reads w (fl.account u f).ins (fl.account u f).ins (fl.account u f).outs (gl.account u f).outs (last_one u) low (λ x x_low t. refl)
+      b.fits.read.reads w (fl.account u f).ins (fl.account u f).ins (fl.account u f).outs (gl.account u f).outs (last_of m (fl.account u) f) low
+      (λ x x_low t. refl)
       (λ v v_low t. outs v u (b.fits.read.earlier w v low v_low t) hu)
       ∙ (λ i. m.word w (ins_same u hu i) (gl.account u f).outs (b.last u hu i))
 
@@ -82,16 +84,16 @@ module _ (m : FlownMission) (strays strays' : Strays) (stray : StrayHearing) (fl
 
   -- a unit polls the same places of an output word in both flights, where the words below it are voted alike
   pub polled_same : (w : ℕ) → w < m.words → SameOuts w → (u : ℕ) → Flies m u f
-      → polled m u (fl.account u f) (fl.heard u f) (last_one u) w ≡ polled m u (gl.account u f) (gl.heard u f) (last_other u) w
+      → polled (frame_one u) w ≡ polled (frame_other u) w
   polled_same w low outs u hu = λ i v. if nat_eq v u then Some (made_same w low outs u hu i) else heard_out w (λ z. outs) u hu i v
 
   voted_same : (w : ℕ) → w < m.words → SameOuts w → (u : ℕ) → Flies m u f
-      → voted m (us u) u (fl.account u f) (fl.heard u f) (last_one u) w ≡ voted m (us u) u (gl.account u f) (gl.heard u f) (last_other u) w
+      → voted (frame_one u) w ≡ voted (frame_other u) w
   voted_same w low outs u hu = λ i. if is_held m (us u) w then slice_index (b.last u hu i) w else agreed_of (map (polled_same w low outs u hu i) (executors m (us u) w))
 
   vote_same : (w : ℕ) → w < m.words → SameOuts w → (u : ℕ) → Flies m u f → slice_index (fl.account u f).outs w ≡ slice_index (gl.account u f).outs w
   vote_same w low outs u hu = by_place m strays strays' stray fl gl f b (λ u. slice_index (fl.account u f).outs w ≡ slice_index (gl.account u f).outs w) u
-      (λ t. (one u hu t).conduct.tasks.votes w low ∙ (voted_same w low outs u hu ∙ sym ((other u hu t).conduct.tasks.votes w low)))
+      (λ t. (one u hu t).outputs w low ∙ (voted_same w low outs u hu ∙ sym ((other u hu t).outputs w low)))
       (λ t. let i = idle u hu t in ap (λ l. slice_index l w) (i.0.outs ∙ sym i.1.outs))
 
   -- all output words of the mission below a number are voted alike in both flights
@@ -107,8 +109,8 @@ module _ (m : FlownMission) (strays strays' : Strays) (stray : StrayHearing) (fl
   unfolding SameOuts
   all_outs u hu = by_place m strays strays' stray fl gl f b (λ u. (fl.account u f).outs ≡ (gl.account u f).outs) u
       (λ t.
-      let cf = (one u hu t).conduct.tasks in
-      let cg = (other u hu t).conduct.tasks in
-      same_number_lists (fl.account u f).outs (gl.account u f).outs (cf.count ∙ sym cg.count)
-      (λ w w_low. outs_same m.words (omega arith) w u (omega (arith, cf.count)) hu))
+      let cf = one u hu t in
+      let cg = other u hu t in
+      same_number_lists (fl.account u f).outs (gl.account u f).outs (cf.outputs_count ∙ sym cg.outputs_count)
+      (λ w w_low. outs_same m.words (omega arith) w u (omega (arith, cf.outputs_count)) hu))
       (λ t. let i = idle u hu t in i.0.outs ∙ sym i.1.outs)

@@ -18,7 +18,7 @@ use Rattle.sift_conduct.specs.Conduct.{reading_by}
 use Rattle.sift_flight.specs.Flight.{Flight, Strays}
 use Rattle.sift_flight.specs.Headline.{HasLead}
 use Rattle.sift_flight.proofs.lemmas.Configs.{filter_has}
-use Rattle.sift_flight.proofs.Working.{InFrame, Member, conduct_here, hears, clock_call}
+use Rattle.sift_flight.proofs.Working.{InFrame, Member, by_config, conduct_here, hears, clock_call}
 
 -- what is too far is not within the limit
 too_far_is : (limit z : ℤ) → IsWithin limit z (pos 0) → is_too_far limit (Some z) ≡ true → ⊥
@@ -32,7 +32,7 @@ module _ (m : FlownMission) (strays : Strays) (fl : Flight) (f : ℕ) (us : List
   clk u = (fl.account u f).clk
 
   abbrev reads : ℕ → ℕ → Option ℤ
-  reads u = reading_by m u (clk u) (fl.heard u f)
+  reads u = reading_by (by_config m strays fl f us here us u)
 
   -- each member reads the others well
   reads_well : (u : ℕ) → Member m f us u → ReadsWell m.error us (λ v. m.works v f) clk u (reads u)
@@ -51,7 +51,7 @@ module _ (m : FlownMission) (strays : Strays) (fl : Flight) (f : ℕ) (us : List
   }
 
   next_is : (u : ℕ) → Member m f us u → (fl.account u f).next_clk ≡ next_offsets (m.skew +ℤ m.error) us clk m.drift reads u
-  next_is u w = (conduct_here m strays fl f us here u w).clocks.next
+  next_is u w = (conduct_here m strays fl f us here u w).next_clk
 
   -- they are together in the next frame
   pub next_together : AreTogether m.skew us (λ u. m.works u f) (λ u. (fl.account u f).next_clk)

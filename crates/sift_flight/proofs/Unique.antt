@@ -6,7 +6,7 @@ use Rattle.sift_mission.specs.Data.{FlownMission}
 use Rattle.sift_mission.specs.Slots.{has_turned}
 use Rattle.sift_conduct.specs.Frames.{FrameConduct, Flies}
 use Rattle.sift_mission.specs.Fits.{Fits}
-use Rattle.sift_flight.specs.Flight.{Flight, config_of, Strays, IsRound, HasNoStorms, AtMostOneIsRound}
+use Rattle.sift_flight.specs.Flight.{Flight, unit_of, config_of, Strays, IsRound, HasNoStorms, AtMostOneIsRound}
 use Rattle.sift_flight.specs.Existence.{StrayHearing, HearsStrays, AtMostOneHearsThem}
 use Rattle.sift_flight.proofs.Calls.{call_of}
 use Rattle.sift_flight.proofs.lemmas.Configs.{next_inside}
@@ -28,7 +28,7 @@ pub flies_always : (m : FlownMission) → HasNoStorms m → (u f : ℕ) → has 
 flies_always m calm u f hu = record { unit = hu; whole = whole_unit m calm u f hu }
 
 module _ (m : FlownMission) (strays : Strays) (fl : Flight) (R : IsRound m strays fl) where
-  conduct_of : (f : ℕ) → f < m.frames → (u : ℕ) → Flies m u f → FrameConduct m u (fl.account u) (fl.heard u) (fl.said u) f
+  conduct_of : (f : ℕ) → f < m.frames → (u : ℕ) → Flies m u f → FrameConduct m u (unit_of fl u) f
   conduct_of f low u w = (R f low).conduct u w
 
   -- a unit's next configuration has units of this one alone
@@ -36,7 +36,7 @@ module _ (m : FlownMission) (strays : Strays) (fl : Flight) (R : IsRound m stray
   stays f low u p w hp =
       let c = conduct_of f low u w in
       ⊎_elim
-      (λ t. next_inside _ _ p (subst (λ us. has us p ≡ true) (c.busy t).conduct.reports.next hp))
+      (λ t. next_inside _ _ p (subst (λ us. has us p ≡ true) (c.busy t).next_cfg hp))
       (λ t. subst (λ us. has us p ≡ true) (c.idle t).next_cfg hp)
       (cases_Bool (has (config_of fl u f) u))
 

@@ -15,13 +15,13 @@ use Rattle.sift_agree.proofs.lemmas.Taking.{votes-working}
 use Rattle.sift_agree.proofs.lemmas.Winners.{won-agreed}
 use Rattle.sift_mission.specs.Data.{FlownMission}
 use Rattle.sift_mission.specs.Slots.{executors, is_held}
-use Rattle.sift_conduct.specs.Conduct.{made, polled, any_below, poll_catches}
+use Rattle.sift_conduct.specs.Conduct.{UnitFrame, made, polled, any_below, poll_catches}
 use Rattle.sift_conduct.specs.Frames.{last_of}
 use Rattle.sift_flight.specs.Flight.{Flight, Strays}
 use Rattle.sift_flight.proofs.Calls.{and_both}
 use Rattle.sift_flight.proofs.lemmas.Configs.{filter_has, has_filter}
 use Rattle.sift_flight.proofs.Ideal.{IsStep}
-use Rattle.sift_flight.proofs.Working.{InFrame, Member, conduct_here, hears, out_call}
+use Rattle.sift_flight.proofs.Working.{InFrame, Member, by_config, conduct_here, hears, out_call}
 
 -- no more of a filtered list pass a test
 count-filter-≤ : (p q : ℕ → Bool) (us : List ℕ) → count_by p (filter q us) ≤ count_by p us
@@ -49,8 +49,12 @@ module _ (m : FlownMission) (strays : Strays) (fl : Flight) (f : ℕ) (us : List
     (ins before outs : List ℕ) (step : IsStep m us ins before outs)
     (same_ins : (u : ℕ) → Member m f us u → (fl.account u f).ins ≡ ins)
     (same_last : (u : ℕ) → Member m f us u → last_of m (fl.account u) f ≡ before) where
+  -- a member in the frame
+  abbrev frame_here : ℕ → UnitFrame
+  frame_here u = by_config m strays fl f us here us u
+
   abbrev place : ℕ → ℕ → ℕ → Option ℕ
-  place u w = polled m u (fl.account u f) (fl.heard u f) (last_of m (fl.account u) f) w
+  place u w = polled (frame_here u) w
 
   -- the words below a number are the ideal ones
   Earlier : ℕ → Type 0
@@ -64,7 +68,7 @@ module _ (m : FlownMission) (strays : Strays) (fl : Flight) (f : ℕ) (us : List
   ]
 
   -- then so is the next word that isn't held, as each member makes it
-  makes : (w : ℕ) → w < m.words → is_held m us w ≡ false → Earlier w → (u : ℕ) → Member m f us u → made m (fl.account u f) (last_of m (fl.account u) f) w ≡ slice_index outs w
+  makes : (w : ℕ) → w < m.words → is_held m us w ≡ false → Earlier w → (u : ℕ) → Member m f us u → made (frame_here u) w ≡ slice_index outs w
   unfolding Earlier
   makes w low kept earlier u wu =
       here.flyable.fits.read.reads w (fl.account u f).ins (fl.account u f).ins (fl.account u f).outs outs (last_of m (fl.account u) f) low (λ x x_low t. refl)
@@ -99,7 +103,7 @@ module _ (m : FlownMission) (strays : Strays) (fl : Flight) (f : ℕ) (us : List
   -- each member has the ideal word: by vote, or where it is held as the one of the frame before
   word_is : (w : ℕ) → w < m.words → Earlier w → (u : ℕ) → Member m f us u → slice_index (fl.account u f).outs w ≡ slice_index outs w
   word_is w low earlier u wu =
-      let votes = (conduct_here m strays fl f us here u wu).tasks.votes w low in
+      let votes = (conduct_here m strays fl f us here u wu).outputs w low in
       elim (cases_Bool (is_held m us w)) [
         | inl held ↦ rw held at votes ∙ (ap (λ ws. slice_index ws w) (same_last u wu) ∙ sym (rw held at (step.makes w low)))
         | inr kept ↦ rw kept at votes ∙ sym (won-agreed _ (slice_index outs w) (vote_is w low kept earlier u wu))
@@ -118,12 +122,12 @@ module _ (m : FlownMission) (strays : Strays) (fl : Flight) (f : ℕ) (us : List
   pub output_is : (u : ℕ) → Member m f us u → (fl.account u f).outs ≡ outs
   unfolding Earlier
   output_is u wu =
-      let c = (conduct_here m strays fl f us here u wu).tasks.count in
+      let c = (conduct_here m strays fl f us here u wu).outputs_count in
       same_number_lists (fl.account u f).outs outs (c ∙ sym step.count) (λ w low. below m.words (omega arith) w u (omega (arith, c)) wu)
 
   -- no member catches a member for a word
-  pub none_polled : (u v : ℕ) → Member m f us u → Member m f us v → poll_catches m us (place u) v ≡ false
-  none_polled u v wu wv = elim (cases_Bool (poll_catches m us (place u) v)) [
+  pub none_polled : (u v : ℕ) → Member m f us u → Member m f us v → poll_catches (frame_here u) v ≡ false
+  none_polled u v wu wv = elim (cases_Bool (poll_catches (frame_here u) v)) [
     | inr e ↦ e
     | inl t ↦
         let found = any_found m.words _ (and_both (has us v) _ t).1 in

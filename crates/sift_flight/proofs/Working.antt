@@ -7,8 +7,8 @@ use Rattle.sift_config.specs.Config.{reader_of}
 use Rattle.sift_skew.specs.Keeping.{AreTogether}
 use Rattle.sift_mission.specs.Data.{FlownMission, IsConfigOf}
 use Rattle.sift_mission.specs.Slots.{calls}
-use Rattle.sift_conduct.specs.Conduct.{own_word, said_of, Conduct}
-use Rattle.sift_conduct.specs.Frames.{last_of, BusyConduct, Flies}
+use Rattle.sift_conduct.specs.Conduct.{UnitFrame, unit_frame, own_word, said_of, Conduct}
+use Rattle.sift_conduct.specs.Frames.{last_of, Flies}
 use Rattle.sift_flight.specs.Flight.{Flight, config_of, Strays, RoundAt}
 use Rattle.sift_flight.specs.Figures.{Works}
 use Rattle.sift_mission.specs.Premises.{IsFlyable}
@@ -43,37 +43,36 @@ module _ (m : FlownMission) (strays : Strays) (fl : Flight) (f : ℕ) (us : List
   config_here : (u : ℕ) → Member m f us u → config_of fl u f ≡ us
   config_here u w = (here.share u (works_in u w)).0
 
-  -- what it does, and that it isn't idle
-  busy_conduct : (u : ℕ) → Member m f us u → BusyConduct m us u f (fl.account u f) (fl.heard u f) (last_of m (fl.account u) f)
-  busy_conduct u w =
-      let e = config_here u w in
-      subst (λ c. BusyConduct m c u f (fl.account u f) (fl.heard u f) (last_of m (fl.account u) f)) e
-      ((here.round.conduct u (flies u w)).busy (subst (λ c. has c u ≡ true) (sym e) w.member))
+  -- a unit in the frame, by this configuration
+  abbrev pub by_config : List ℕ → ℕ → UnitFrame
+  by_config c u = unit_frame m c u f (fl.account u f) (fl.heard u f) (last_of m (fl.account u) f)
 
   -- a member does in the frame what a unit of this configuration ought to do
-  pub conduct_here : (u : ℕ) → Member m f us u → Conduct m us u f (fl.account u f) (fl.heard u f) (last_of m (fl.account u) f)
-  conduct_here u w = (busy_conduct u w).conduct
+  pub conduct_here : (u : ℕ) → Member m f us u → Conduct (by_config us u)
+  conduct_here u w =
+      let e = config_here u w in
+      subst (λ c. Conduct (by_config c u)) e ((here.round.conduct u (flies u w)).busy (subst (λ c. has c u ≡ true) (sym e) w.member))
 
   -- a member isn't idle
   pub busy_here : (u : ℕ) → Member m f us u → (fl.account u f).idle ≡ false
-  busy_here u w = (busy_conduct u w).busy
+  busy_here u w = (conduct_here u w).busy
 
   abbrev pub word : ℕ → Slot → Option ℕ
-  word u k = own_word m us f (fl.account u f) (fl.heard u f) (last_of m (fl.account u) f) k
+  word u k = own_word (by_config us u) k
 
   -- a member says its own words
   says : (p q : ℕ) (k : Slot) → Member m f us p → Call m us k p q → fl.said p f k q ≡ word p k
   says p q k w call =
       (here.round.conduct p (flies p w)).said k q
-      ∙ (ap (λ c. said_of m c p f (fl.account p f) (fl.heard p f) (last_of m (fl.account p) f) k q) (config_here p w)
+      ∙ (ap (λ c. said_of (by_config c p) k q) (config_here p w)
       ∙ rw (call_is m us k p q call, here.flyable.script.own_words p f k q w.works) refl)
 
   -- and members hear them
   pub hears : (q p : ℕ) (k : Slot) → Member m f us q → Member m f us p → Call m us k p q → fl.heard q f k p ≡ word p k
   hears q p k wq wp call =
       let cq = config_here q wq in
-      let heard = (here.round.hearing q k p (flies q wq)).called (subst (λ c. calls m c k p q ≡ true) (sym cq) (call_is m us k p q call)) in
-      heard.as_said (here.flyable.script.whole p f wp.works) (ap (λ c. m.due c k) (config_here p wp ∙ sym cq)) ∙ says p q k wp call
+      (here.round.hearing q k p (flies q wq)).as_said (subst (λ c. calls m c k p q ≡ true) (sym cq) (call_is m us k p q call))
+      (here.flyable.script.whole p f wp.works) (ap (λ c. m.due c k) (config_here p wp ∙ sym cq)) ∙ says p q k wp call
 
   -- ---- who says what to whom
 

@@ -10,7 +10,7 @@ use Rattle.sift_buffer.specs.Conduct.{Stray, stray_to}
 use Rattle.sift_buffer.specs.Lawful.{IsAmong}
 use Rattle.sift_mission.specs.Slots.{calls, stamp_of, has_turned}
 use Rattle.sift_base.specs.Units.{has}
-use Rattle.sift_conduct.specs.Frames.{FrameConduct, Flies}
+use Rattle.sift_conduct.specs.Frames.{UnitFlight, FrameConduct, Flies}
 use Rattle.sift_mission.specs.Fits.{Fits}
 
 -- ---- a flight
@@ -20,6 +20,10 @@ pub record Flight : Type 0 where
   pub said : ℕ → ℕ → Places
   pub heard : ℕ → ℕ → Places
   pub account : ℕ → ℕ → Account
+
+-- what one unit does in it
+abbrev pub unit_of : Flight → ℕ → UnitFlight
+unit_of fl u = record { said = fl.said u; heard = fl.heard u; account = fl.account u }
 
 -- the configuration of a unit in a frame
 abbrev pub config_of : Flight → ℕ → ℕ → List ℕ
@@ -44,17 +48,17 @@ pub data IsOfStray (strays : List Stray) (q k s : ℕ) (w : Option ℕ) : Type 0
   absent : w ≡ None → IsOfStray strays q k s w
   stray : (x : ℕ) → IsAmong (stray_to q k x) strays → w ≡ taken x s → IsOfStray strays q k s w
 
--- what q hears of p in a slot that p says to it under q's configuration: what p said, where both say the slot in one subframe;
--- nothing, where they say it in two; and nothing or one of p's strays, where p has turned
-pub record CalledHearing (m : FlownMission) (strays : Strays) (fl : Flight) (q f : ℕ) (k : Slot) (p : ℕ) : Type 0 where
-  pub as_said : has_turned m p f ≡ false → m.due (config_of fl p f) k ≡ m.due (config_of fl q f) k → fl.heard q f k p ≡ fl.said p f k q
-  pub apart : has_turned m p f ≡ false → m.due (config_of fl p f) k ≢ m.due (config_of fl q f) k → fl.heard q f k p ≡ None
-  pub strayed : has_turned m p f ≡ true → IsOfStray (strays p) q (m.number k) (stamp_of m (config_of fl q f) f k) (fl.heard q f k p)
-
--- the hearing equations of q for slot k and unit p in frame f: all that q need not hear is absent
-pub record Hears (m : FlownMission) (strays : Strays) (fl : Flight) (q f : ℕ) (k : Slot) (p : ℕ) : Type 0 where
-  pub called : calls m (config_of fl q f) k p q ≡ true → CalledHearing m strays fl q f k p
-  pub silent : calls m (config_of fl q f) k p q ≡ false → fl.heard q f k p ≡ None
+module _ (m : FlownMission) (strays : Strays) (fl : Flight) (f : ℕ) where
+  -- the hearing equations of q for slot k and unit p in frame f. Where p says the slot to q under q's configuration, q hears what p said, if
+  -- both say the slot in one subframe; nothing, if they say it in two; and nothing or one of p's strays, if p has turned. It hears no more
+  pub record Hears (q : ℕ) (k : Slot) (p : ℕ) : Type 0 where
+    pub as_said : calls m (config_of fl q f) k p q ≡ true → has_turned m p f ≡ false →
+        m.due (config_of fl p f) k ≡ m.due (config_of fl q f) k → fl.heard q f k p ≡ fl.said p f k q
+    pub apart : calls m (config_of fl q f) k p q ≡ true → has_turned m p f ≡ false →
+        m.due (config_of fl p f) k ≢ m.due (config_of fl q f) k → fl.heard q f k p ≡ None
+    pub strayed : calls m (config_of fl q f) k p q ≡ true → has_turned m p f ≡ true →
+        IsOfStray (strays p) q (m.number k) (stamp_of m (config_of fl q f) f k) (fl.heard q f k p)
+    pub silent : calls m (config_of fl q f) k p q ≡ false → fl.heard q f k p ≡ None
 
 -- ---- round flights
 
@@ -65,8 +69,8 @@ pub record IsSilent (fl : Flight) (u f : ℕ) : Type 0 where
 
 -- one frame of a round flight: each unit that has not turned hears and conducts itself as it ought to, and each other is silent
 pub record RoundAt (m : FlownMission) (strays : Strays) (fl : Flight) (f : ℕ) : Type 0 where
-  pub hearing : (q : ℕ) (k : Slot) (p : ℕ) → Flies m q f → Hears m strays fl q f k p
-  pub conduct : (u : ℕ) → Flies m u f → FrameConduct m u (fl.account u) (fl.heard u) (fl.said u) f
+  pub hearing : (q : ℕ) (k : Slot) (p : ℕ) → Flies m q f → Hears m strays fl f q k p
+  pub conduct : (u : ℕ) → Flies m u f → FrameConduct m u (unit_of fl u) f
   pub turned : (u : ℕ) → has m.units u ≡ true → has_turned m u f ≡ true → IsSilent fl u f
 
 -- a round flight: each frame of the mission is one of a round flight

@@ -43,7 +43,7 @@ strays_in c p = (c.of p).strays
 abbrev pub UnitsHearByTheEquations : Type 0
 UnitsHearByTheEquations = (m : FlownMission) (r : Ranges) (c : Core) (accounts : ℕ → ℕ → Account) (n f : ℕ) → Fits m →
     HaveLanded m r c accounts n → f < n → (q : ℕ) (k : Slot) (p : ℕ) → Flies m q f →
-    Hears m (strays_in c) (flight_of m c accounts) q f k p
+    Hears m (strays_in c) (flight_of m c accounts) f q k p
 
 -- these frames are those of a round flight
 abbrev pub LandedFramesAreRound : Type 0

@@ -10,11 +10,12 @@ use Rattle.sift_exec.specs.Conviction.{nobody, next_by}
 use Rattle.sift_clock.specs.Correction.{next_offset}
 use Rattle.sift_mission.specs.Data.{FlownMission}
 use Rattle.sift_conduct.specs.Conduct.{Account, voted}
+use Rattle.sift_conduct.specs.Frames.{frame_of}
 use Rattle.sift_flight.specs.Calm.{Calm, four_units, mission_of, program_of}
 use Rattle.sift_flight.specs.CalmFlight.{account_of, core_of}
 use Rattle.sift_flight.specs.Calms.{count, gauge}
 use Rattle.sift_flight.specs.Figures.{lead_of, config_at, HasMarginAt, IsSkewAt, IsSlackAt}
-use Rattle.sift_flight.specs.Flight.{Flight, flight_of, Strays, IsOfStray, Hears, RoundAt}
+use Rattle.sift_flight.specs.Flight.{Flight, unit_of, flight_of, Strays, IsOfStray, Hears, RoundAt}
 use Rattle.sift_flight.specs.Headline.{SameConfiguration, SameInputs, SameReports, IdealOutputs, NoFalseAccusation, ExactRemoval, ClockSkew, Headline}
 
 -- no unit strays
@@ -68,9 +69,9 @@ five_units = 0 ∷ 1 ∷ 2 ∷ 3 ∷ 4 ∷ []
 
 -- what is heard, and what is no round flight
 pub record HearingRows : Type 0 where
-  pub hears : (q : ℕ) (k : Slot) (p : ℕ) → has four_units q ≡ true → Hears (mission_of count) no_strays (calm_flight count) q 0 k p
+  pub hears : (q : ℕ) (k : Slot) (p : ℕ) → has four_units q ≡ true → Hears (mission_of count) no_strays (calm_flight count) 0 q k p
   -- unit 1 hears 17 where unit 0 said 16
-  pub hears_other : ¬ Hears (mission_of count) no_strays (with_heard (calm_flight count) 1 first_word 17) 1 0 (Out 0) 0
+  pub hears_other : ¬ Hears (mission_of count) no_strays (with_heard (calm_flight count) 1 first_word 17) 0 1 (Out 0) 0
   -- a stray of 7 with stamp 5 is heard by stamp 5, and no word without a stray
   pub strayed : IsOfStray (stray_to 1 3 (packed 5 (Some 7)) ∷ []) 1 3 5 (Some 7)
   pub no_stray : ¬ IsOfStray [] 1 3 5 (Some 7)
@@ -78,8 +79,8 @@ pub record HearingRows : Type 0 where
   -- unit 2 votes 17
   pub not_round : ¬ RoundAt (mission_of count) no_strays (with_account (calm_flight count) 2 (record (account_of count) { outs = 17 ∷ [] })) 0
   -- unit 2 votes 16, and where the task is shed it holds 5, the word of before the frame
-  pub votes : voted (mission_of count) four_units 2 (account_of count) ((calm_flight count).heard 2 0) (5 ∷ []) 0 ≡ 16
-  pub holds : voted shedding four_units 2 (account_of count) ((calm_flight count).heard 2 0) (5 ∷ []) 0 ≡ 5
+  pub votes : voted (frame_of (mission_of count) 2 (unit_of (calm_flight count) 2) 0) 0 ≡ 16
+  pub holds : voted (frame_of shedding 2 (unit_of (calm_flight count) 2) 0) 0 ≡ 5
   -- unit 3 has turned, and yet says its words
   pub not_silent : ¬ RoundAt (record (mission_of count) { storm = λ u. if nat_eq u 3 then Some 0 else None }) no_strays (calm_flight count) 0
 

@@ -8,37 +8,37 @@ use Rattle.sift_base.specs.declared.slot.Slot.TheVariants.{Clock, RelaySense, Ou
 use Rattle.sift_clock.specs.Correction.{next_offset}
 use Rattle.sift_mission.specs.Data.{FlownMission, IsConfigOf}
 use Rattle.sift_mission.specs.Slots.{is_slot}
-use Rattle.sift_conduct.specs.Conduct.{Account, Places, Conduct, report_in, report_of, reading_by}
-use Rattle.sift_conduct.specs.Frames.{BusyConduct, IdleConduct}
+use Rattle.sift_conduct.specs.Conduct.{Account, Places, UnitFrame, unit_frame, Conduct, report_in, report_of, reading_by}
+use Rattle.sift_conduct.specs.Frames.{IdleConduct}
 use Rattle.sift_unit.specs.Memory.{Memory}
 use Rattle.sift_unit.specs.Tidings.{busy_account, idle_account, names_now}
-use Rattle.sift_unit.specs.Remembered.{Heard, IsShaped}
+use Rattle.sift_unit.specs.Remembered.{Heard, IsShaped, with_clock}
 use Rattle.sift_unit.proofs.Tests.{apart, and_in, any-same, any-and}
 use Rattle.sift_unit.proofs.Sets.{holds-gathered, next-same}
 
 module _ (m : FlownMission) (us : List ℕ) (u f : ℕ) (clk : ℤ) (a : Account) (h : Places) (last : List ℕ) (config : IsConfigOf m us) where
-  -- the conduct of the frame
-  conducts : (b : Memory) → IsShaped m us u b → a ≡ busy_account m us u clk b →
-      ((k : Slot) → is_slot m k ≡ true → Heard m us u f clk a h last b k) → Conduct m us u f a h last
-  conducts b shape e heard = record {
-    sensors = record {
-      count = ap (λ (z : Account). length z.ins) e ∙ shape.ins;
-      agrees = λ x low. ap (λ (z : Account). slice_index z.ins x) e ∙ (heard (RelaySense x) (lt-ltb x m.sensors low)).0;
-    };
-    tasks = record {
-      count = ap (λ (z : Account). length z.outs) e ∙ shape.outs;
-      votes = λ w low. ap (λ (z : Account). slice_index z.outs w) e ∙ (heard (Out w) (lt-ltb w m.words low)).0;
-    };
-    catches = record {
-      polls = λ v. ap (λ (z : Account). holds z.bad.poll v) e ∙ holds-gathered _ us v
-          ∙ and_in (has us v) _ _ (λ t. any-same m.words _ _ (λ w low. (heard (Out w) (lt-ltb w m.words low)).1 v ∙ rw t refl));
-      relays = λ v. ap (λ (z : Account). holds z.bad.relay v) e ∙ holds-gathered _ us v
-          ∙ and_in (has us v) _ _ (λ t. any-same m.sensors _ _ (λ x low. (heard (RelaySense x) (lt-ltb x m.sensors low)).1 v ∙ rw t refl)
-          ∙ any-and m.sensors (not (nat_eq v u)) _);
-      clocks = λ v. ap (λ (z : Account). holds z.bad.clock v) e ∙ (heard Clock refl).0 v ∙ rw ck refl;
-    };
-    reports = record { next = ap (λ (z : Account). z.next_cfg) e ∙ next-same (names_now m us u b) (λ r v. has_bit (report_of us u a h r) v) us named };
-    clocks = record { next = ap (λ (z : Account). z.next_clk) e ∙ (heard Clock refl).1 ∙ (λ i. next_offset (m.skew +ℤ m.error) us (reading_by m u (back i) h) (back i) u (m.drift u)) };
+  -- the unit in the frame
+  abbrev here : UnitFrame
+  here = unit_frame m us u f a h last
+
+  -- the conduct of a unit that is in its configuration
+  pub busy_is : (b : Memory) → IsShaped m us u b → a ≡ busy_account m us u clk b →
+      ((k : Slot) → is_slot m k ≡ true → Heard here clk b k) → Conduct here
+  busy_is b shape e heard = record {
+    busy = ap (λ (z : Account). z.idle) e;
+    inputs_count = ap (λ (z : Account). length z.ins) e ∙ shape.ins;
+    inputs = λ x low. ap (λ (z : Account). slice_index z.ins x) e ∙ (heard (RelaySense x) (lt-ltb x m.sensors low)).0;
+    outputs_count = ap (λ (z : Account). length z.outs) e ∙ shape.outs;
+    outputs = λ w low. ap (λ (z : Account). slice_index z.outs w) e ∙ (heard (Out w) (lt-ltb w m.words low)).0;
+    polls = λ v. ap (λ (z : Account). holds z.bad.poll v) e ∙ holds-gathered _ us v
+        ∙ and_in (has us v) _ _ (λ t. any-same m.words _ _ (λ w low. (heard (Out w) (lt-ltb w m.words low)).1 v ∙ rw t refl));
+    relays = λ v. ap (λ (z : Account). holds z.bad.relay v) e ∙ holds-gathered _ us v
+        ∙ and_in (has us v) _ _ (λ t. any-same m.sensors _ _ (λ x low. (heard (RelaySense x) (lt-ltb x m.sensors low)).1 v ∙ rw t refl)
+        ∙ any-and m.sensors (not (nat_eq v u)) _);
+    clocks = λ v. ap (λ (z : Account). holds z.bad.clock v) e ∙ (heard Clock refl).0 v ∙ rw ck refl;
+    next_cfg = ap (λ (z : Account). z.next_cfg) e ∙ next-same (names_now m us u b) (λ r v. has_bit (report_of us u a h r) v) us named;
+    next_clk = ap (λ (z : Account). z.next_clk) e ∙ (heard Clock refl).1
+        ∙ (λ i. next_offset (m.skew +ℤ m.error) us (reading_by (with_clock here (back i))) (back i) u (m.drift u));
   }
     where
       ck : a.clk ≡ clk
@@ -55,11 +55,6 @@ module _ (m : FlownMission) (us : List ℕ) (u f : ℕ) (clk : ℤ) (a : Account
         | inl t ↦ rw t (λ i. report_in (mine i))
         | inr t ↦ rw t (heard (RelayReport r) (config.inside r from) from (apart r u t))
       ])
-
-  -- the conduct of a unit that is in its configuration
-  pub busy_is : (b : Memory) → IsShaped m us u b → a ≡ busy_account m us u clk b →
-      ((k : Slot) → is_slot m k ≡ true → Heard m us u f clk a h last b k) → BusyConduct m us u f a h last
-  busy_is b shape e heard = record { busy = ap (λ (z : Account). z.idle) e; conduct = conducts b shape e heard }
 
 -- the account of a unit that isn't
 pub idle_is : (us : List ℕ) (clk : ℤ) (a : Account) → a ≡ idle_account us clk → IdleConduct a

@@ -10,8 +10,8 @@ use Rattle.sift_buffer.specs.Conduct.{with_entered}
 use Rattle.sift_buffer.specs.Conduct.{Conduct as Acts}
 use Rattle.sift_mission.proofs.lemmas.Silent.{speaks}
 use Rattle.sift_mission.specs.Data.{FlownMission, IsConfigOf}
-use Rattle.sift_conduct.specs.Conduct.{Account}
-use Rattle.sift_conduct.specs.Frames.{last_of, BusyConduct}
+use Rattle.sift_conduct.specs.Conduct.{Account, unit_frame, Conduct}
+use Rattle.sift_conduct.specs.Frames.{last_of}
 use Rattle.sift_unit.specs.Reach.{IsNearIn}
 use Rattle.sift_mission.specs.Fits.{Fits}
 use Rattle.sift_unit.specs.Memory.{Memory}
@@ -79,8 +79,8 @@ module _ (m : FlownMission) (fit : Fits m) where
       busy = λ t.
           let t' : has b.cfg b.unit ≡ true = subst (λ z. has z b.unit ≡ true) fate.cfg t in
           let rm = mt.remembers t' in
-          subst (λ z. BusyConduct m z b.unit b.frame (a b.frame) (h b.frame) (last_of m a b.frame)) (sym fate.cfg)
-          (subst (λ z. BusyConduct m b.cfg b.unit b.frame (a b.frame) (h b.frame) z) mt.last
+          subst (λ z. Conduct (unit_frame m z b.unit b.frame (a b.frame) (h b.frame) (last_of m a b.frame))) (sym fate.cfg)
+          (subst (λ z. Conduct (unit_frame m b.cfg b.unit b.frame (a b.frame) (h b.frame) z)) mt.last
           (busy_is m b.cfg b.unit b.frame b.clk (a b.frame) (h b.frame) b.last r.config b.memory r.shape (is ∙ now_in m b t')
           (λ k slot. rm.heard k slot (all m fit b r at k slot))));
       idle = λ t. idle_is b.cfg b.clk (a b.frame) (is ∙ now_out m b (subst (λ z. has z b.unit ≡ false) fate.cfg t));

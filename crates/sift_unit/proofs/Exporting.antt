@@ -8,9 +8,9 @@ use Rattle.sift_buffer.specs.Conduct.{Conduct as Acts}
 use Rattle.sift_mission.proofs.lemmas.Silent.{speaks}
 use Rattle.sift_mission.specs.Data.{FlownMission}
 use Rattle.sift_mission.specs.Slots.{is_slot, calls, stamp_of, heard_at}
-use Rattle.sift_conduct.specs.Frames.{FrameConduct, Flies}
-use Rattle.sift_conduct.specs.Conduct.{Account}
-use Rattle.sift_conduct.specs.Acts.{word_in_saying, word_in_hearing, said_places, heard_places, StampsAreOfTheirFrames, Turns, stamp_and_moment, ActsAre, IsUnderway, BoardKeeps}
+use Rattle.sift_conduct.specs.Frames.{UnitFlight, FrameConduct, Flies}
+use Rattle.sift_conduct.specs.Conduct.{Account, Places}
+use Rattle.sift_conduct.specs.Acts.{word_in_saying, word_in_hearing, said_places, heard_places, unit_flight, StampsAreOfTheirFrames, Turns, stamp_and_moment, ActsAre, IsUnderway, BoardKeeps}
 use Rattle.sift_mission.specs.Fits.{Fits}
 use Rattle.sift_unit.specs.Desk.{Desk, cursor, hear_spot, say_spot, is_past, accounts_of}
 use Rattle.sift_unit.specs.Going.{word_in_frame, Meets, Going}
@@ -149,8 +149,12 @@ module _ (m : FlownMission) (fit : Fits m) (b : Desk) (c : Acts) (g : Going m b 
       }
 
   -- the conduct of a frame that has ended
-  conduct : (f : ℕ) → f < b.frame → FrameConduct m b.unit (accounts_of m b) (heard_places m c) (said_places m c) f
+  conduct : (f : ℕ) → f < b.frame → FrameConduct m b.unit (unit_flight m c (accounts_of m b)) f
   conduct f low = let en = meets.ended f low in record { begins = en.begins; said = λ k q. said f low k q; busy = en.busy; idle = en.idle }
+
+  -- what the unit does with these words said and heard
+  abbrev does : (ℕ → Places) → (ℕ → Places) → UnitFlight
+  does said heard = record { said = said; heard = heard; account = accounts_of m b }
 
   -- all of it, also where the unit's progress is another, for each number of frames up to those that it has ended
   pub kept : (d : Acts) (n : ℕ) → d.said ≡ c.said → d.heard ≡ c.heard → Turns m (m.storm b.unit) d → ((f : ℕ) → f < n → Flies m b.unit f → f < b.frame) →
@@ -164,7 +168,9 @@ module _ (m : FlownMission) (fit : Fits m) (b : Desk) (c : Acts) (g : Going m b 
       heard = λ k p slot. (λ i. option_map stamp_and_moment (eh i f (m.number k) p)) ∙ is.heard k p slot;
     };
     conduct = λ f low fly.
-        subst (λ z. FrameConduct m b.unit (accounts_of m b) (λ g k p. if is_slot m k then word_in_hearing (z g (m.number k) p) else None) (said_places m d) f) (sym eh)
-        (subst (λ z. FrameConduct m b.unit (accounts_of m b) (heard_places m c) (λ g k q. if is_slot m k then word_in_saying (z g (m.number k) q) else None) f) (sym es)
+        subst (λ z. FrameConduct m b.unit (does (said_places m d) (λ g k p. if is_slot m k then word_in_hearing (z g (m.number k) p) else None)) f)
+        (sym eh)
+        (subst (λ z. FrameConduct m b.unit (does (λ g k q. if is_slot m k then word_in_saying (z g (m.number k) q) else None) (heard_places m c)) f)
+        (sym es)
         (conduct f (far f low fly)));
   }

@@ -12,9 +12,10 @@ use Rattle.sift_conduct.specs.Conduct.{Account, reading_by}
 use Rattle.sift_conduct.specs.Acts.{heard_places}
 use Rattle.sift_unit.specs.Reach.{IsNearIn}
 use Rattle.sift_mission.specs.Fits.{Fits}
+use Rattle.sift_unit.specs.Remembered.{with_clock}
 use Rattle.sift_unit.specs.Tidings.{names_now}
 use Rattle.sift_unit.specs.Desk.{Desk, cursor, heard_mark, account_now, accounts_of}
-use Rattle.sift_unit.specs.Going.{InRange, Going}
+use Rattle.sift_unit.specs.Going.{InRange, Going, desk_frame}
 use Rattle.sift_unit.proofs.Calls.{next_is_config}
 use Rattle.sift_unit.proofs.Nearness.{near_still, next_near}
 use Rattle.sift_unit.proofs.Tests.{not_both}
@@ -48,7 +49,8 @@ module _ (m : FlownMission) (fit : Fits m) where
           let rm = (g.meets (accounts_of m b) (heard_places m c) (stands m b c g.range)).remembers t in
           subst (λ (z : Account). IsNearIn (b.frame + 1) z.next_clk) (sym (now_in m b t))
           (subst (λ z. IsNearIn (b.frame + 1) z) (sym (rm.heard Clock refl (all g.range at Clock refl)).1)
-          (next_near m fit little b.cfg (reading_by m b.unit b.clk (heard_places m c b.frame)) b.clk b.unit t g.range.unit b.frame g.range.clk))
+          (next_near m fit little b.cfg (reading_by (with_clock (desk_frame m b (accounts_of m b) (heard_places m c)) b.clk)) b.clk b.unit t
+          g.range.unit b.frame g.range.clk))
       | inr t ↦ subst (λ (z : Account). IsNearIn (b.frame + 1) z.next_clk) (sym (now_out m b t)) (near_still b.frame b.clk g.range.clk)
     ]
 

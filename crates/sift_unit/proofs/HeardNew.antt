@@ -15,10 +15,10 @@ use Rattle.sift_config.specs.Config.{reader_of}
 use Rattle.sift_clock.specs.Correction.{reading_of, is_too_far, correction_of}
 use Rattle.sift_mission.specs.Data.{FlownMission, IsConfigOf}
 use Rattle.sift_mission.specs.Slots.{executors, is_held, is_slot, is_senders, calls}
-use Rattle.sift_conduct.specs.Conduct.{Account, Places, polled, reading_by}
+use Rattle.sift_conduct.specs.Conduct.{Account, Places, UnitFrame, unit_frame, polled, reading_by}
 use Rattle.sift_mission.specs.Fits.{Fits}
 use Rattle.sift_unit.specs.Memory.{Memory, place_at, reading_at, polled_at, poll_of, note}
-use Rattle.sift_unit.specs.Remembered.{Heard, Ran, IsShaped, polled_words}
+use Rattle.sift_unit.specs.Remembered.{Heard, Ran, IsShaped, polled_words, with_clock}
 use Rattle.sift_unit.proofs.Tests.{apart, and_in, both, not_true}
 use Rattle.sift_unit.proofs.Sets.{holds-gathered, filter_has, map-same}
 use Rattle.sift_unit.proofs.Calls.{call_is}
@@ -26,6 +26,10 @@ use Rattle.sift_mission.proofs.lemmas.Configs.{has-reader}
 use Rattle.sift_mission.proofs.lemmas.Silent.{not_held}
 
 module _ (m : FlownMission) (us : List ℕ) (u f : ℕ) (clk : ℤ) (a : Account) (h : Places) (last : List ℕ) (fit : Fits m) (config : IsConfigOf m us) (member : has us u ≡ true) where
+  -- the unit in the frame
+  abbrev here : UnitFrame
+  here = unit_frame m us u f a h last
+
   -- what was heard of a slot stands in the places
   abbrev AreHeard : Slot → List (Option ℕ) → Type 0
   AreHeard k heard = (p : ℕ) → calls m us k p u ≡ true → place_at heard p ≡ h k p
@@ -42,30 +46,30 @@ module _ (m : FlownMission) (us : List ℕ) (u f : ℕ) (clk : ℤ) (a : Account
       λ i. agreed_of (e i ∷ relays i)
 
   -- u polls each executor's word as the equations say
-  polled-same : (w : ℕ) (heard : List (Option ℕ)) (b : Memory) → AreHeard (Out w) heard → w < m.words → Ran m us u a last b w →
-      (v : ℕ) → has us v ≡ true → m.executes us w v ≡ true → polled_at u b heard w v ≡ polled m u a h last w v
+  polled-same : (w : ℕ) (heard : List (Option ℕ)) (b : Memory) → AreHeard (Out w) heard → w < m.words → Ran here b w →
+      (v : ℕ) → has us v ≡ true → m.executes us w v ≡ true → polled_at u b heard w v ≡ polled here w v
   polled-same w heard b places low ran v from e = elim (cases_Bool (nat_eq v u)) [
     | inl t ↦ rw t (ap Some (ran (subst (λ z. m.executes us w z ≡ true) (eqb-true v u t) e)))
     | inr t ↦ rw t (places v (calling (Out w) v (lt-ltb w m.words low) from (apart v u t) e))
   ]
 
   -- and so all words of the poll
-  poll-same : (w : ℕ) (heard : List (Option ℕ)) (b : Memory) → AreHeard (Out w) heard → w < m.words → Ran m us u a last b w →
-      poll_of m us u b heard w ≡ polled_words m us u a h last w
-  poll-same w heard b places low ran = map-same (polled_at u b heard w) (polled m u a h last w) (executors m us w)
+  poll-same : (w : ℕ) (heard : List (Option ℕ)) (b : Memory) → AreHeard (Out w) heard → w < m.words → Ran here b w →
+      poll_of m us u b heard w ≡ polled_words here w
+  poll-same w heard b places low ran = map-same (polled_at u b heard w) (polled here w) (executors m us w)
       (λ v t. let x = filter_has (m.executes us w) us v t in polled-same w heard b places low ran v x.0 x.1)
 
   -- what the memory holds of a slot, by what was heard of it and of those before
   pub heard_new : (k : Slot) (heard : List (Option ℕ)) (b : Memory) → is_slot m k ≡ true → IsShaped m us u b
       → ((p : ℕ) → calls m us k p u ≡ true → place_at heard p ≡ h k p)
-      → ((k' : Slot) → is_slot m k' ≡ true → m.heard_in us k' < m.heard_in us k → Heard m us u f clk a h last b k')
-      → ((w : ℕ) → w < m.words → m.due us (Out w) < m.heard_in us k → Ran m us u a last b w)
-      → Heard m us u f clk a h last (note m us u f clk last k heard b) k
+      → ((k' : Slot) → is_slot m k' ≡ true → m.heard_in us k' < m.heard_in us k → Heard here clk b k')
+      → ((w : ℕ) → w < m.words → m.due us (Out w) < m.heard_in us k → Ran here b w)
+      → Heard here clk (note m us u f clk last k heard b) k
   heard_new Clock heard b slot shape places before ran = (
     λ v. holds-gathered _ us v ∙ and_in (has us v) _ _ (λ t. and_in (not (nat_eq v u)) _ _ (λ o.
         ap (λ w. is_too_far (m.skew +ℤ m.error) (reading_of w clk (m.errors u v))) (places v (calling Clock v slot t (apart v u (not_true _ o)) refl)))),
     ap (λ rs. clk +ℤ correction_of (m.skew +ℤ m.error) (length us) rs +ℤ m.drift u)
-        (map-same (reading_at m u clk heard) (reading_by m u clk h) (others u us)
+        (map-same (reading_at m u clk heard) (reading_by (with_clock here clk)) (others u us)
         (λ v t. let o = has-others u us v t in ap (λ w. reading_of w clk (m.errors u v)) (places v (calling Clock v slot o.0 o.1 refl)))),
   )
   heard_new (Sense x) heard b slot shape places before ran = λ other.
@@ -80,7 +84,7 @@ module _ (m : FlownMission) (us : List ℕ) (u f : ℕ) (clk : ℤ) (a : Account
       let early = fit.timed.relayed us x config few in
       let later = fit.timed.apart us (RelaySense x) config slot refl in
       let r = reader_of us x in
-      let sense : Heard m us u f clk a h last b (Sense x) = before (Sense x) slot (omega arith) in (
+      let sense : Heard here clk b (Sense x) = before (Sense x) slot (omega arith) in (
         get_or-set_same b.ins x _ 0 low ∙ elim (cases_Bool (nat_eq (reader_of us x) u)) [
           | inl t ↦ rw t refl
           | inr t ↦ rw t (taken-same r (place_at b.direct x) (h (Sense x) r) (place_at heard) (h (RelaySense x)) (sense t)
@@ -96,7 +100,7 @@ module _ (m : FlownMission) (us : List ℕ) (u f : ℕ) (clk : ℤ) (a : Account
       let few : w < m.words = ltb-true w m.words slot in
       let low : w < length b.outs = rw shape.outs few in
       let long = shape.poll in let low' : w < length b.poll = omega arith in
-      let made : Ran m us u a last b w = λ runs.
+      let made : Ran here b w = λ runs.
       let later = fit.timed.apart us (Out w) config slot (not_held m us w u fit.executors config few runs) in ran w few (omega arith) runs in
       let same = poll-same w heard b places few made in (
         get_or-set_same b.outs w _ 0 low ∙ ap (λ word. if is_held m us w then slice_index last w else agreed_of word) same,

@@ -7,7 +7,7 @@ use Rattle.sift_base.specs.ReadBack.{false_last}
 use Rattle.sift_base.specs.declared.slot.Slot.{Slot}
 use Rattle.sift_base.specs.declared.slot.Slot.TheVariants.{Clock, Sense, RelaySense, Out, Report, RelayReport}
 use Rattle.sift_mission.specs.Data.{FlownMission}
-use Rattle.sift_conduct.specs.Conduct.{Account, Places}
+use Rattle.sift_conduct.specs.Conduct.{Account, Places, UnitFrame, unit_frame}
 use Rattle.sift_mission.specs.Fits.{is_caught_in}
 use Rattle.sift_unit.specs.Memory.{Memory, note, run, is_made_by}
 use Rattle.sift_unit.specs.Tidings.{busy_account}
@@ -15,9 +15,13 @@ use Rattle.sift_unit.specs.Remembered.{Heard, Ran, Matches, Settled, IsShaped}
 use Rattle.sift_unit.proofs.Sets.{renewed-other, length-renewed}
 
 module _ (m : FlownMission) (us : List ℕ) (u f : ℕ) (clk : ℤ) (a : Account) (h : Places) (last : List ℕ) where
+  -- the unit in the frame
+  abbrev here : UnitFrame
+  here = unit_frame m us u f a h last
+
   -- what comes of another slot stays
-  pub heard_kept : (k k' : Slot) (heard : List (Option ℕ)) (b : Memory) → k' ≢ k → Heard m us u f clk a h last b k' →
-      Heard m us u f clk a h last (note m us u f clk last k heard b) k'
+  pub heard_kept : (k k' : Slot) (heard : List (Option ℕ)) (b : Memory) → k' ≢ k → Heard here clk b k' →
+      Heard here clk (note m us u f clk last k heard b) k'
   heard_kept Clock Clock heard b ne z = absurd (ne refl)
   heard_kept (Sense x) (Sense y) heard b ne z = λ other. get_or-set_other b.direct x y _ _ (λ e. ne (ap Sense e)) ∙ z other
   heard_kept (RelaySense x) (RelaySense y) heard b ne z = (
@@ -34,18 +38,18 @@ module _ (m : FlownMission) (us : List ℕ) (u f : ℕ) (clk : ℤ) (a : Account
   heard_kept k k' heard b ne z = z
 
   -- a slot that is heard changes no word that was made
-  pub ran_heard : (w : ℕ) (k : Slot) (heard : List (Option ℕ)) (b : Memory) → Ran m us u a last b w → Ran m us u a last (note m us u f clk last k heard b) w
+  pub ran_heard : (w : ℕ) (k : Slot) (heard : List (Option ℕ)) (b : Memory) → Ran here b w → Ran here (note m us u f clk last k heard b) w
   ran_heard w Clock heard b z = z
   ran_heard w (Sense x) heard b z = z
   ran_heard w k heard b z = z
 
   -- a task that is run changes nothing that was heard
-  pub heard_run : (t : ℕ) (k' : Slot) (b : Memory) → Heard m us u f clk a h last b k' → Heard m us u f clk a h last (run m us u last t b) k'
+  pub heard_run : (t : ℕ) (k' : Slot) (b : Memory) → Heard here clk b k' → Heard here clk (run m us u last t b) k'
   heard_run t Clock b z = z
   heard_run t k' b z = z
 
   -- the words of another task stay
-  pub ran_kept : (t w : ℕ) (b : Memory) → m.task w ≢ t → Ran m us u a last b w → Ran m us u a last (run m us u last t b) w
+  pub ran_kept : (t w : ℕ) (b : Memory) → m.task w ≢ t → Ran here b w → Ran here (run m us u last t b) w
   ran_kept t w b ne z = λ e.
       renewed-other (is_made_by m us u t) (λ v. m.word v b.ins b.outs last) b.made w 0 w (omega arith) (rw (ne_eqb (m.task w) t ne) (false_last (nat_lt w m.words))) ∙ z e
 

@@ -9,7 +9,7 @@ use Rattle.sift_exec.specs.Conviction.{everyone_in}
 use Rattle.sift_config.specs.Config.{reader_of}
 use Rattle.sift_mission.specs.Data.{FlownMission, IsConfigOf}
 use Rattle.sift_mission.specs.Slots.{is_slot, calls}
-use Rattle.sift_conduct.specs.Conduct.{Account, Places, own_word}
+use Rattle.sift_conduct.specs.Conduct.{Account, Places, UnitFrame, unit_frame, own_word}
 use Rattle.sift_mission.specs.Fits.{Fits}
 use Rattle.sift_unit.specs.Memory.{Memory, run, is_made_by}
 use Rattle.sift_unit.specs.Tidings.{word_now}
@@ -21,10 +21,14 @@ use Rattle.sift_unit.proofs.Kept.{made_long}
 use Rattle.sift_mission.proofs.lemmas.Silent.{not_held}
 
 module _ (m : FlownMission) (us : List ℕ) (u f : ℕ) (clk : ℤ) (a : Account) (h : Places) (last : List ℕ) (fit : Fits m) (config : IsConfigOf m us) where
+  -- the unit in the frame
+  abbrev here : UnitFrame
+  here = unit_frame m us u f a h last
+
   -- a task's words, once it was run with all that it reads
   pub ran_new : (t : ℕ) (b : Memory) → IsShaped m us u b → has us u ≡ true
       → ((k' : Slot) → is_slot m k' ≡ true → m.heard_in us k' ≤ m.run_in us t → Matches b a k')
-      → (w : ℕ) → w < m.words → m.task w ≡ t → Ran m us u a last (run m us u last t b) w
+      → (w : ℕ) → w < m.words → m.task w ≡ t → Ran here (run m us u last t b) w
   ran_new t b shape member matches w few is = λ e.
       let long = made_long m us u b shape member in let low : w < length b.made = omega arith in
       let kept = not_held m us w u fit.executors config few e in
@@ -36,10 +40,10 @@ module _ (m : FlownMission) (us : List ℕ) (u f : ℕ) (clk : ℤ) (a : Account
 
   -- the own word of a slot, where all was heard and made that goes into it
   pub word_is : (k : Slot) (q : ℕ) (b : Memory) → calls m us k u q ≡ true → a.clk ≡ clk
-      → ((k' : Slot) → is_slot m k' ≡ true → m.heard_in us k' ≤ m.due us k → Heard m us u f clk a h last b k')
-      → ((w : ℕ) → w < m.words → m.due us (Out w) ≤ m.due us k → Ran m us u a last b w)
+      → ((k' : Slot) → is_slot m k' ≡ true → m.heard_in us k' ≤ m.due us k → Heard here clk b k')
+      → ((w : ℕ) → w < m.words → m.due us (Out w) ≤ m.due us k → Ran here b w)
       → (m.due us Report ≤ m.due us k → Settled m us b a)
-      → word_now m us f clk b k ≡ own_word m us f a h last k
+      → word_now m us f clk b k ≡ own_word here k
   word_is Clock q b call ck before ran settled = rw ck refl
   word_is (Sense x) q b call ck before ran settled = refl
   word_is (RelaySense x) q b call ck before ran settled =

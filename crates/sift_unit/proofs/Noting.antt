@@ -12,7 +12,7 @@ use Rattle.sift_mission.specs.Fits.{Fits, is_caught_in}
 use Rattle.sift_unit.specs.Memory.{Memory, note}
 use Rattle.sift_unit.specs.Remembered.{Heard, IsShaped}
 use Rattle.sift_unit.specs.Desk.{Desk, spot, cursor, heard_mark, run_mark}
-use Rattle.sift_unit.specs.Going.{Accounts, Words, ActsTo, Fate, InRange, Going}
+use Rattle.sift_unit.specs.Going.{Accounts, Words, ActsTo, Fate, InRange, Going, desk_frame}
 use Rattle.sift_unit.proofs.Kept.{heard_kept, ran_heard, matches_back, settled_back, shape_noted}
 use Rattle.sift_unit.proofs.HeardNew.{heard_new}
 use Rattle.sift_unit.proofs.Acting.{small_of, acts_on}
@@ -136,7 +136,7 @@ module _ (m : FlownMission) (fit : Fits m) where
               places = λ zero few' sub' p below call. absurd (omega arith);
               remembers = λ member.
                   let rm = mt.remembers member in
-                  let new : Heard m b.cfg b.unit b.frame b.clk (a b.frame) (h b.frame) b.last (noted b) (m.kind b.slot)
+                  let new : Heard (desk_frame m b a h) b.clk (noted b) (m.kind b.slot)
                   = heard_new m b.cfg b.unit b.frame b.clk (a b.frame) (h b.frame) b.last fit r.config member k0 b.places b.memory
                   (fit.numbered.slot b.slot low) r.shape
                   (λ p call. mt.places part low sub p (let sm = small_of m b.cfg (m.kind b.slot) p b.unit fit r.config call in let s2 = sm.from in omega arith) call)
@@ -145,7 +145,7 @@ module _ (m : FlownMission) (fit : Fits m) where
                   (let nk' = fit.counted.task w few' in let nt = few_tasks m fit in let e = fit.timed.run b.cfg w r.config few' in omega arith)) in
                   record {
                     heard = λ k sk past. let nk = fit.numbered.low k sk in dite (ℕ_discrete (m.number k) b.slot)
-                        (λ e. subst (λ z. Heard m b.cfg b.unit b.frame b.clk (a b.frame) (h b.frame) b.last (noted b) z) (kind_is m fit b k sk e) new)
+                        (λ e. subst (λ z. Heard (desk_frame m b a h) b.clk (noted b) z) (kind_is m fit b k sk e) new)
                         (λ ne. heard_kept m b.cfg b.unit b.frame b.clk (a b.frame) (h b.frame) b.last k0 k b.places b.memory (not_kind b k low ne)
                         (rm.heard k sk (heard_below b k r low sk (λ z. ne) past)));
                     ran = λ w few' past. ran_heard m b.cfg b.unit b.frame b.clk (a b.frame) (h b.frame) b.last w k0 b.places b.memory

@@ -7,12 +7,12 @@ use Rattle.sift_buffer.specs.Conduct.{with_said}
 use Rattle.sift_buffer.specs.Conduct.{Conduct as Acts}
 use Rattle.sift_mission.specs.Data.{FlownMission}
 use Rattle.sift_mission.specs.Slots.{calls, stamp_of}
-use Rattle.sift_conduct.specs.Conduct.{own_word}
+use Rattle.sift_conduct.specs.Conduct.{own_word, unit_frame}
 use Rattle.sift_conduct.specs.Acts.{heard_places}
 use Rattle.sift_mission.specs.Fits.{Fits}
 use Rattle.sift_unit.specs.Tidings.{word_now, word_to}
 use Rattle.sift_unit.specs.Desk.{Desk, spot, cursor, say_spot, is_saying, accounts_of, moved}
-use Rattle.sift_unit.specs.Going.{Accounts, Words, word_in_frame, ActsTo, Fate, Meets, Going}
+use Rattle.sift_unit.specs.Going.{Accounts, Words, word_in_frame, ActsTo, Fate, Meets, Going, desk_frame}
 use Rattle.sift_unit.proofs.Tests.{both}
 use Rattle.sift_unit.proofs.Calls.{call_of}
 use Rattle.sift_unit.proofs.Made.{word_is}
@@ -71,14 +71,14 @@ module _ (m : FlownMission) (fit : Fits m) where
       let k = m.kind b.slot in
       let member : has b.cfg b.unit ≡ true = (call_of m b.cfg (m.kind b.slot) b.unit b.other at.call).from in
       let rm = mt.remembers member in
-      let word : word_now m b.cfg b.frame b.clk b.memory (m.kind b.slot) ≡ own_word m b.cfg b.frame (a b.frame) (h b.frame) b.last (m.kind b.slot)
+      let word : word_now m b.cfg b.frame b.clk b.memory (m.kind b.slot) ≡ own_word (desk_frame m b a h) (m.kind b.slot)
       = word_is m b.cfg b.unit b.frame b.clk (a b.frame) (h b.frame) b.last fit config k b.other b.memory at.call fate.clk
       (λ k' slot low. rm.heard k' slot (let nk = fit.numbered.low k' slot in omega arith))
       (λ w few' low. rm.ran w few' (let nk = fit.counted.task w few' in let nt = few_tasks m fit in let e = fit.timed.run b.cfg w config few' in omega arith))
       (λ low. (fate.agrees member).settled (omega arith)) in
       let back : b.cfg ≡ (a b.frame).cfg = sym fate.cfg in
       ap (λ z. unwrap_or (m.override b.unit b.frame (m.kind b.slot) b.other) z)
-      (word ∙ (λ i. own_word m (back i) b.frame (a b.frame) (h b.frame) (mt.last i) (m.kind b.slot)))
+      (word ∙ (λ i. own_word (unit_frame m (back i) b.unit b.frame (a b.frame) (h b.frame) (mt.last i)) (m.kind b.slot)))
 
   -- the board that has said a word
   abbrev pub said_on : Desk → Desk

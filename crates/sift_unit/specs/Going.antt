@@ -1,13 +1,13 @@
 -- What holds of a board that flies: of its desk b and of what its unit did, c.
-use Rattle.std.specs.Prelude.{◌≡◌, ℕ, ◌+◌, ◌*◌, ◌<◌, ◌≤◌, ◌&&◌, true, false, List, Option, Some, None, if◌then◌else◌, slice_index_or, length, option_map, ℤ}
+use Rattle.std.specs.Prelude.{◌≡◌, ℕ, ◌+◌, ◌*◌, ◌<◌, ◌≤◌, ◌&&◌, true, false, List, Option, Some, None, if◌then◌else◌, slice_index_or, length, option_map, unwrap_or, ℤ}
 use Rattle.sift_base.specs.Units.{has, unit_limit}
 use Rattle.sift_base.specs.declared.slot.Slot.{Slot}
 use Rattle.sift_buffer.specs.Conduct.{Saying, Hearing, saying, never}
 use Rattle.sift_buffer.specs.Conduct.{Conduct as Acts}
 use Rattle.sift_mission.specs.Data.{FlownMission, IsConfigOf}
 use Rattle.sift_mission.specs.Slots.{is_slot, calls, stamp_of, heard_at}
-use Rattle.sift_conduct.specs.Conduct.{Account, Places, word_said}
-use Rattle.sift_conduct.specs.Frames.{last_of, BeginConduct, BusyConduct, IdleConduct}
+use Rattle.sift_conduct.specs.Conduct.{Account, Places, UnitFrame, unit_frame, own_word, Conduct}
+use Rattle.sift_conduct.specs.Frames.{last_of, BeginConduct, IdleConduct}
 use Rattle.sift_conduct.specs.Acts.{stamp_and_moment}
 use Rattle.sift_unit.specs.Memory.{Memory, place_at}
 use Rattle.sift_unit.specs.Remembered.{Heard, Ran, Matches, Settled, IsShaped}
@@ -22,11 +22,15 @@ Accounts = ℕ → Account
 abbrev pub Words : Type 0
 Words = ℕ → Places
 
+-- the unit in a frame, by these accounts and these heard words
+abbrev pub frame_in : FlownMission → ℕ → Accounts → Words → ℕ → UnitFrame
+frame_in m u a h f = record { mission = m; unit = u; frame = f; account = a f; heard = h f; last = last_of m a f }
+
 -- ---- acts: one equation a place
 
 -- the word that u says to q in frame f, by these accounts and these heard words
 abbrev pub word_in_frame : FlownMission → ℕ → Accounts → Words → ℕ → Slot → ℕ → Option ℕ
-word_in_frame m u a h f k q = word_said m (a f).cfg u f (a f) (h f) (last_of m a f) k q
+word_in_frame m u a h f k q = unwrap_or (m.override u f k q) (own_word (frame_in m u a h f) k)
 
 -- what u has said to q, where it stands at a place of a frame
 abbrev pub said_by : FlownMission → ℕ → Accounts → Words → ℕ → ℕ → ℕ → Slot → ℕ → Option Saying
@@ -48,10 +52,10 @@ pub record ActsTo (m : FlownMission) (u : ℕ) (c : Acts) (a : Accounts) (h : Wo
 
 -- ---- memory
 
--- at a place of frame f the memory holds what was heard and made so far
-pub record Remembers (m : FlownMission) (us : List ℕ) (u f : ℕ) (clk : ℤ) (a : Account) (h : Places) (last : List ℕ) (b : Memory) (at : ℕ) : Type 0 where
-  pub heard : (k : Slot) → is_slot m k ≡ true → heard_mark m us k ≤ at → Heard m us u f clk a h last b k
-  pub ran : (w : ℕ) → w < m.words → run_mark m us (m.task w) ≤ at → Ran m us u a last b w
+-- at a place of the frame the memory holds what was heard and made so far
+pub record Remembers (x : UnitFrame) (clk : ℤ) (b : Memory) (at : ℕ) : Type 0 where
+  pub heard : (k : Slot) → is_slot x.mission k ≡ true → heard_mark x.mission x.account.cfg k ≤ at → Heard x clk b k
+  pub ran : (w : ℕ) → w < x.mission.words → run_mark x.mission x.account.cfg (x.mission.task w) ≤ at → Ran x b w
 
 -- the account has what the memory has settled so far
 pub record Agrees (m : FlownMission) (us : List ℕ) (a : Account) (b : Memory) (at : ℕ) : Type 0 where
@@ -71,8 +75,12 @@ pub record Fate (m : FlownMission) (b : Desk) (c : Acts) (a : Accounts) (h : Wor
 -- a frame that has ended began with what the frame before it found, and is as its unit was in its configuration or not
 pub record Ended (m : FlownMission) (u : ℕ) (a : Accounts) (h : Words) (f : ℕ) : Type 0 where
   pub begins : BeginConduct m u a f
-  pub busy : has (a f).cfg u ≡ true → BusyConduct m (a f).cfg u f (a f) (h f) (last_of m a f)
+  pub busy : has (a f).cfg u ≡ true → Conduct (frame_in m u a h f)
   pub idle : has (a f).cfg u ≡ false → IdleConduct (a f)
+
+-- the frame of the board's unit, by these accounts and these heard words
+abbrev pub desk_frame : FlownMission → Desk → Accounts → Words → UnitFrame
+desk_frame m b a h = unit_frame m b.cfg b.unit b.frame (a b.frame) (h b.frame) b.last
 
 -- the board has heard this of the slot at which it stands, from the units before the one at which it stands
 abbrev pub HasHeard : FlownMission → Desk → Words → Type 0
@@ -87,7 +95,7 @@ pub record Meets (m : FlownMission) (b : Desk) (c : Acts) (a : Accounts) (h : Wo
   pub last : b.last ≡ last_of m a b.frame
   pub places : HasHeard m b h
   pub remembers : has b.cfg b.unit ≡ true →
-      Remembers m b.cfg b.unit b.frame b.clk (a b.frame) (h b.frame) b.last b.memory (cursor b)
+      Remembers (desk_frame m b a h) b.clk b.memory (cursor b)
 
 -- the board's numbers are in range, and its lists have their lengths
 pub record InRange (m : FlownMission) (b : Desk) : Type 0 where

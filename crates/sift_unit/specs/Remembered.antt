@@ -1,4 +1,4 @@
--- What the memory of a board holds, over what it heard in the frame, h, the account of the frame, a, and the words voted before, last.
+-- What the memory of a board holds, over its unit's frame: what it heard, the account, and the words voted before.
 use Rattle.std.specs.Prelude.{◌≡◌, ◌≢◌, ℕ, ◌≤◌, List, length, map, slice_index, true, false, not, ◌&&◌, nat_eq, if◌then◌else◌, Option, Some, ℤ, ◌+ℤ◌}
 use Rattle.sift_base.specs.Units.{has, holds, unit_limit}
 use Rattle.sift_base.specs.declared.slot.Slot.{Slot}
@@ -9,36 +9,42 @@ use Rattle.sift_config.specs.Config.{reader_of}
 use Rattle.sift_clock.specs.Correction.{next_offset}
 use Rattle.sift_mission.specs.Data.{FlownMission}
 use Rattle.sift_mission.specs.Slots.{executors}
-use Rattle.sift_conduct.specs.Conduct.{Account, Places, input_of, made, polled, voted, reading_by, clock_catches}
+use Rattle.sift_conduct.specs.Conduct.{Account, UnitFrame, input_of, made, polled, voted, reading_by, clock_catches}
 use Rattle.sift_unit.specs.Memory.{Memory, place_at, units_at}
 use Rattle.sift_unit.specs.Tidings.{bad_now}
 
 -- the words of a poll, as the equations of conduct have them
-abbrev pub polled_words : FlownMission → List ℕ → ℕ → Account → Places → List ℕ → ℕ → List (Option ℕ)
-polled_words m us u a h last w = map (polled m u a h last w) (executors m us w)
+abbrev pub polled_words : UnitFrame → ℕ → List (Option ℕ)
+polled_words x w = map (polled x w) (executors x.mission x.account.cfg w)
 
--- the memory holds what comes of a slot, all of which was heard
-abbrev pub Heard : FlownMission → List ℕ → ℕ → ℕ → ℤ → Account → Places → List ℕ → Memory → Slot → Type 0
-Heard m us u f clk a h last b Clock =
-    ((v : ℕ) → holds b.clock v ≡ clock_catches m us u clk h v)
-    × (b.next_clk ≡ next_offset (m.skew +ℤ m.error) us (reading_by m u clk h) clk u (m.drift u))
-Heard m us u f clk a h last b (Sense x) =
-    nat_eq (reader_of us x) u ≡ false → place_at b.direct x ≡ h (Sense x) (reader_of us x)
-Heard m us u f clk a h last b (RelaySense x) =
-    (slice_index b.ins x ≡ input_of m us u f h x)
-    × ((v : ℕ) → holds (units_at b.relay x) v ≡
-    (has us v && (not (nat_eq v u) && (nat_eq (reader_of us x) u && differs (h (RelaySense x) v) (Some (m.sensed x f))))))
-Heard m us u f clk a h last b (Out w) =
-    (slice_index b.outs w ≡ voted m us u a h last w)
-    × ((v : ℕ) → holds (units_at b.poll w) v ≡
-    (has us v && (m.executes us w v && differs (polled m u a h last w v) (majority_of (polled_words m us u a h last w)))))
-Heard m us u f clk a h last b Report = (s : ℕ) → has us s ≡ true → s ≢ u → place_at b.reports s ≡ h Report s
-Heard m us u f clk a h last b (RelayReport s) =
-    has us s ≡ true → s ≢ u → slice_index b.agreed s ≡ agreed_of (taken us s u (λ q. h Report s) (λ q p. h (RelayReport s) p))
+-- the unit's frame, with a clock of this offset
+abbrev pub with_clock : UnitFrame → ℤ → UnitFrame
+with_clock x clk = record x { account = record x.account { clk = clk } }
 
--- the memory holds the word that u made, where its task was run
-abbrev pub Ran : FlownMission → List ℕ → ℕ → Account → List ℕ → Memory → ℕ → Type 0
-Ran m us u a last b w = m.executes us w u ≡ true → slice_index b.made w ≡ made m a last w
+module _ (x : UnitFrame) where
+  open x use {mission as m, unit as u, frame as f, account.{cfg as us}, heard as h}
+
+  -- the memory holds what comes of a slot, all of which was heard with a clock of this offset
+  abbrev pub Heard : ℤ → Memory → Slot → Type 0
+  Heard clk b Clock =
+      ((v : ℕ) → holds b.clock v ≡ clock_catches (with_clock x clk) v)
+      × (b.next_clk ≡ next_offset (m.skew +ℤ m.error) us (reading_by (with_clock x clk)) clk u (m.drift u))
+  Heard clk b (Sense s) =
+      nat_eq (reader_of us s) u ≡ false → place_at b.direct s ≡ h (Sense s) (reader_of us s)
+  Heard clk b (RelaySense s) =
+      (slice_index b.ins s ≡ input_of x s)
+      × ((v : ℕ) → holds (units_at b.relay s) v ≡
+      (has us v && (not (nat_eq v u) && (nat_eq (reader_of us s) u && differs (h (RelaySense s) v) (Some (m.sensed s f))))))
+  Heard clk b (Out w) =
+      (slice_index b.outs w ≡ voted x w)
+      × ((v : ℕ) → holds (units_at b.poll w) v ≡ (has us v && (m.executes us w v && differs (polled x w v) (majority_of (polled_words x w)))))
+  Heard clk b Report = (s : ℕ) → has us s ≡ true → s ≢ u → place_at b.reports s ≡ h Report s
+  Heard clk b (RelayReport s) =
+      has us s ≡ true → s ≢ u → slice_index b.agreed s ≡ agreed_of (taken us s u (λ q. h Report s) (λ q p. h (RelayReport s) p))
+
+  -- the memory holds the word that u made, where its task was run
+  abbrev pub Ran : Memory → ℕ → Type 0
+  Ran b w = m.executes us w u ≡ true → slice_index b.made w ≡ made x w
 
 -- the account has what the memory settled when the slot was heard
 abbrev pub Matches : Memory → Account → Slot → Type 0

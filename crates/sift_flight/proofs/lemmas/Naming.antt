@@ -14,7 +14,7 @@ use Rattle.sift_conduct.specs.Frames.{last_of}
 use Rattle.sift_flight.specs.Flight.{Flight, Strays}
 use Rattle.sift_flight.proofs.Calls.{and_both, told_apart}
 use Rattle.sift_flight.proofs.Ideal.{IsStep}
-use Rattle.sift_flight.proofs.Working.{InFrame, Member, conduct_here, hears, relay_call, sense_call}
+use Rattle.sift_flight.proofs.Working.{InFrame, Member, by_config, conduct_here, hears, relay_call, sense_call}
 use Rattle.sift_flight.proofs.Timing.{none_far}
 use Rattle.sift_flight.proofs.Voting.{any_found, same_not_differs, none_polled}
 
@@ -25,8 +25,8 @@ holds-everyone c v = set.contains-union nat_cmp_total (set.union c.poll c.relay)
 
 module _ (m : FlownMission) (strays : Strays) (fl : Flight) (f : ℕ) (us : List ℕ) (here : InFrame m strays fl f us) where
   -- no member catches a member for a relay: it hears the word that it said itself
-  none_relayed : (u v : ℕ) → Member m f us u → Member m f us v → relay_catches m us u f (fl.heard u f) v ≡ false
-  none_relayed u v wu wv = elim (cases_Bool (relay_catches m us u f (fl.heard u f) v)) [
+  none_relayed : (u v : ℕ) → Member m f us u → Member m f us v → relay_catches (by_config m strays fl f us here us u) v ≡ false
+  none_relayed u v wu wv = elim (cases_Bool (relay_catches (by_config m strays fl f us here us u) v)) [
     | inr e ↦ e
     | inl t ↦
         let apart = and_both (not (nat_eq v u)) _ (and_both (has us v) _ t).1 in
@@ -42,8 +42,8 @@ module _ (m : FlownMission) (strays : Strays) (fl : Flight) (f : ℕ) (us : List
   ]
 
   -- nor for its clock
-  none_timed : (u v : ℕ) → Member m f us u → Member m f us v → clock_catches m us u (fl.account u f).clk (fl.heard u f) v ≡ false
-  none_timed u v wu wv = elim (cases_Bool (clock_catches m us u (fl.account u f).clk (fl.heard u f) v)) [
+  none_timed : (u v : ℕ) → Member m f us u → Member m f us v → clock_catches (by_config m strays fl f us here us u) v ≡ false
+  none_timed u v wu wv = elim (cases_Bool (clock_catches (by_config m strays fl f us here us u) v)) [
     | inr e ↦ e
     | inl t ↦
         let apart = and_both (not (nat_eq v u)) _ (and_both (has us v) _ t).1 in
@@ -55,6 +55,6 @@ module _ (m : FlownMission) (strays : Strays) (fl : Flight) (f : ℕ) (us : List
       → ((u : ℕ) → Member m f us u → (fl.account u f).ins ≡ ins) → ((u : ℕ) → Member m f us u → last_of m (fl.account u) f ≡ before)
       → (u v : ℕ) → Member m f us u → Member m f us v → caught (fl.account u f) v ≡ false
   none_named ins before outs step same_ins same_last u v wu wv =
-      let c = (conduct_here m strays fl f us here u wu).catches in
+      let c = (conduct_here m strays fl f us here u wu) in
       holds-everyone (fl.account u f).bad v
       ∙ rw (c.polls v ∙ none_polled m strays fl f us here ins before outs step same_ins same_last u v wu wv, c.relays v ∙ none_relayed u v wu wv, c.clocks v ∙ none_timed u v wu wv) refl
