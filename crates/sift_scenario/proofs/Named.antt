@@ -1,5 +1,5 @@
 -- Names of proofs for what specs/ says in its place: keys, values, rules and lists of rules.
-use Rattle.std.specs.Prelude.{codes, ℕ, ◌≡◌, ◌⊎◌, ℤ, pos, List, [], ◌∷◌, Option, Some, None, map, replicate, unwrap_or}
+use Rattle.std.specs.Prelude.{codes, ℕ, ◌≡◌, ◌⊎◌, ℤ, pos, List, [], ◌∷◌, Option, Some, None, unwrap_or}
 use Rattle.std.specs.List.{flat_map}
 use Rattle.toml.specs.Data.{Data, Members, get_member}
 use Rattle.sift_mission.specs.Data.{Clocks}
