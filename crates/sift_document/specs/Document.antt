@@ -1,5 +1,5 @@
 -- What single values and tables of a document say, over the tree that `toml` reads.
-use Rattle.std.specs.Prelude.{ℕ, ◌≡◌, ◌≤◌, ◌+◌, ◌-◌, pos, negsuc, int_le, nat_le, ◌&&◌, List, [], ◌∷◌, length, if◌then◌else◌, Option, Some, None, option_and_then}
+use Rattle.std.specs.Prelude.{ℕ, ◌≡◌, ◌≤◌, ◌+◌, ◌-◌, pos, negsuc, int_le, nat_le, ◌&&◌, List, [], ◌∷◌, length, if◌then◌else◌, map, Option, Some, None, option_and_then, option_map, unwrap_or}
 use Rattle.std.specs.List.{All, Contains}
 use Rattle.std.specs.Str.{byte}
 use Rattle.toml.specs.Data.{Data, string, integer, array, Items, no_items, item, Members, no_members, member, get_member, as_array, as_table}
@@ -20,22 +20,13 @@ HasOnlyKeys known members = All (Contains known) (keys_of members)
 abbrev pub read_at : {A : Type 0} → (Data → Option A) → List ℕ → Members → Option A
 read_at read key members = option_and_then read (get_member key members)
 
--- what a reader makes of a value, and something else where there is none
-abbrev pub read_by : {A : Type 0} → A → (Data → Option A) → Option Data → Option A
-read_by missing read None = Some missing
-read_by missing read (Some value) = read value
-
 -- what a reader makes of the value at a key, and something else where the key is missing
 abbrev pub read_or : {A : Type 0} → A → (Data → Option A) → List ℕ → Members → Option A
-read_or missing read key members = read_by missing read (get_member key members)
+read_or missing read key members = unwrap_or (option_map read (get_member key members)) (Some missing)
 
 -- the value is a table, and each of its keys is one of these
 abbrev pub IsTableOf : List (List ℕ) → Data → Type 0
 IsTableOf known value = (members : Members) × (as_table value ≡ Some members) × HasOnlyKeys known members
-
--- the value is no table, or has another key
-abbrev pub IsNoTableOf : List (List ℕ) → Data → Type 0
-IsNoTableOf known value = ¬ IsTableOf known value
 
 -- the members of a table; another value has none
 abbrev pub members_of : Data → Members
@@ -53,6 +44,10 @@ list_of (item entry rest) = entry ∷ list_of rest
 abbrev pub entries_of : Option Data → List Data
 entries_of (Some (array items)) = list_of items
 entries_of _ = []
+
+-- the tables in the array at a key
+abbrev pub tables_in : Option Data → List Members
+tables_in value = map members_of (entries_of value)
 
 -- the value is an array of `low` to `high` entries
 pub record IsArrayOf (low high : ℕ) (value : Data) : Type 0 where
@@ -76,13 +71,10 @@ abbrev pub array_of : {A : Type 0} → (Data → Option A) → Data → Option (
 array_of read (array items) = each_read read (list_of items)
 array_of read _ = None
 
--- a list that has from `low` to `high` entries
-abbrev pub of_length : {A : Type 0} → (low high : ℕ) → List A → Option (List A)
-of_length low high list = if nat_le low (length list) && nat_le (length list) high then Some list else None
-
 -- what is read of each entry of an array of `low` to `high` entries
 abbrev pub array_between : {A : Type 0} → (low high : ℕ) → (Data → Option A) → Data → Option (List A)
-array_between low high read value = option_and_then (of_length low high) (array_of read value)
+array_between low high read value =
+    option_and_then (λ list. if nat_le low (length list) && nat_le (length list) high then Some list else None) (array_of read value)
 
 -- ---- values
 

@@ -32,16 +32,6 @@ pub record Rule : Type 1 where
 abbrev pub rule : ℕ → (ℕ → Type 0) → Rule
 rule number broken = record { number = number; BrokenAt = broken }
 
--- some rules, followed by others
-abbrev pub followed_by : List Rule → List Rule → List Rule
-followed_by [] others = others
-followed_by (first ∷ rest) others = first ∷ followed_by rest others
-
--- the rules of some lists, one list after the other
-abbrev pub joined : List (List Rule) → List Rule
-joined [] = []
-joined (rules ∷ rest) = followed_by rules (joined rest)
-
 -- what breaks a rule that speaks of no entry: its place is 0
 abbrev pub OfNoEntry : Type 0 → ℕ → Type 0
 OfNoEntry fault place = (place ≡ 0) × fault

@@ -2,7 +2,7 @@
 
 ghost use Rattle.std.specs.Prelude.{◌≡◌, ◌<◌, ◌≤◌, ◌^◌, IfErr, IfOk, length, map};
 ghost use Rattle.toml.specs.View.{table_view, view};
-ghost use Rattle.sift_document.specs.Document.{IsArrayOf, IsNoTableOf, entries_of, members_of};
+ghost use Rattle.sift_document.specs.Document.{IsArrayOf, IsTableOf, entries_of, members_of};
 ghost use Rattle.sift_document.specs.Rules.{HoldsOf};
 ghost use Rattle.sift_document.specs.Testing.{Tests};
 
@@ -46,7 +46,7 @@ pub fn tables_in<'a>(
     ensures tables { IfOk result (λ tables.
         map (λ table. table_view table.now) tables.items ≡ map (λ entry. members_of (view entry)) entries.now) }
     ensures tests { let keys = map (λ key. key.now) known.now in
-        Tests rule (λ place. HoldsOf (map (λ entry. view entry) entries.now) place (IsNoTableOf keys)) result }
+        Tests rule (λ place. HoldsOf (map (λ entry. view entry) entries.now) place (λ entry. ¬ IsTableOf keys entry)) result }
 {
     let mut tables = Vec::new(alloc);
     for (place, entry) in entries.iter().enumerate() {

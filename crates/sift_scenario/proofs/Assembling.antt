@@ -84,7 +84,7 @@ module _ (document : Members) (mission : MissionData) (stated : IsStated documen
   pub table_refused : (e : Stop Refused) → RefusesTable mission.tables (shapes_in mission) e → IfRefused (IsRefusedWith document) e
   table_refused (stop.Refused (Scenario n place)) bad = absurd bad
   table_refused (stop.Refused (Task t k at)) bad = absurd bad
-  table_refused (stop.Refused (Table size row rule)) bad = record { mission = mission; stated = stated; bad = bad }
+  table_refused (stop.Refused (Table size row rule)) bad = (mission, stated, bad)
   table_refused (stop.Refused (Script entry rule)) bad = absurd bad
   table_refused stop.NoMemory bad = tt
 
@@ -93,5 +93,5 @@ module _ (document : Members) (mission : MissionData) (stated : IsStated documen
   script_refused good (stop.Refused (Scenario n place)) bad = absurd bad
   script_refused good (stop.Refused (Task t k at)) bad = absurd bad
   script_refused good (stop.Refused (Table size row rule)) bad = absurd bad
-  script_refused good (stop.Refused (Script entry rule)) bad = record { mission = mission; stated = stated; good_tables = good; bad = bad }
+  script_refused good (stop.Refused (Script entry rule)) bad = (mission, stated, good, bad)
   script_refused good stop.NoMemory bad = absurd bad

@@ -3,14 +3,16 @@ use Rattle.std.proofs.Common.{◌≡◌, ℕ, Some, sym, ap, subst}
 use Rattle.sift_base.specs.declared.stop.Stop.{Stop}
 use Rattle.toml.specs.Data.{Data, Members}
 use Rattle.sift_document.proofs.lemmas.Order.{kept_joined, stopped, stopped_in}
-use Rattle.sift_document.specs.Document.{members_of}
-use Rattle.sift_document.specs.Rules.{AreKept, IsKept, rule}
+use Rattle.sift_document.specs.Document.{members_of, IsTableOf}
+use Rattle.sift_document.specs.Rules.{AreKept, IsKept, rule, OfNoEntry}
 use Rattle.sift_document.specs.Testing.{RefusesBy, RefusesFirst}
 use Rattle.sift_document.specs.declared.rule.BrokenRule.{BrokenRule}
-use Rattle.sift_scenario.specs.Clock.{BreaksClock, BreaksDrift, BreaksErrors, BreaksStart, clock_rules, clock_themes, error_of, figure_rules, number_in, rate_of, skew_of, unit_rules}
+use Rattle.std.specs.Prelude.{unwrap_or}
+use Rattle.sift_scenario.proofs.Named.{BreaksStart, BreaksDrift, BreaksErrors, clock_themes}
+use Rattle.sift_scenario.specs.Clock.{clock_rules, error_of, figure_rules, rate_of, skew_of, unit_rules, clock_keys}
 
 -- a value, and the table that it is
-module _ (units : ℕ) (value : Data) (clock : Members) (same : clock ≡ members_of value) (known : IsKept (rule 6 (BreaksClock value))) where
+module _ (units : ℕ) (value : Data) (clock : Members) (same : clock ≡ members_of value) (known : IsKept (rule 6 (OfNoEntry (¬ IsTableOf clock_keys value)))) where
   -- one of its figures is refused
   pub figure_refused : (e : Stop BrokenRule) → RefusesFirst (figure_rules clock) e → RefusesFirst (clock_rules units (Some value)) e
   figure_refused e refused =
@@ -38,25 +40,25 @@ module _
   -- the starts, the drifts or the errors are refused
   pub start_refused : (e : Stop BrokenRule) → RefusesBy 12 (BreaksStart units skew clock) e → RefusesFirst (unit_rules units clock) e
   start_refused e refused =
-      stopped 0 (unit_rules units clock) e (subst (λ (n : ℕ). RefusesBy 12 (BreaksStart units n clock) e) (sym (ap number_in skew_is)) refused)
+      stopped 0 (unit_rules units clock) e (subst (λ (n : ℕ). RefusesBy 12 (BreaksStart units n clock) e) (sym (ap (λ o. unwrap_or o 0) skew_is)) refused)
 
   -- the starts are as they should be, by the skew that was read
-  pub start_kept : IsKept (rule 12 (BreaksStart units skew clock)) → IsKept (rule 12 (BreaksStart units (number_in (skew_of clock)) clock))
-  start_kept kept = subst (λ (n : ℕ). IsKept (rule 12 (BreaksStart units n clock))) (sym (ap number_in skew_is)) kept
+  pub start_kept : IsKept (rule 12 (BreaksStart units skew clock)) → IsKept (rule 12 (BreaksStart units (unwrap_or (skew_of clock) 0) clock))
+  start_kept kept = subst (λ (n : ℕ). IsKept (rule 12 (BreaksStart units n clock))) (sym (ap (λ o. unwrap_or o 0) skew_is)) kept
 
   -- where the drifts are within the rate that is stated, their rule is kept
-  pub drift_kept : IsKept (rule 13 (BreaksDrift units rate clock)) → IsKept (rule 13 (BreaksDrift units (number_in (rate_of clock)) clock))
-  drift_kept kept = subst (λ (n : ℕ). IsKept (rule 13 (BreaksDrift units n clock))) (sym (ap number_in rate_is)) kept
+  pub drift_kept : IsKept (rule 13 (BreaksDrift units rate clock)) → IsKept (rule 13 (BreaksDrift units (unwrap_or (rate_of clock) 0) clock))
+  drift_kept kept = subst (λ (n : ℕ). IsKept (rule 13 (BreaksDrift units n clock))) (sym (ap (λ o. unwrap_or o 0) rate_is)) kept
 
   -- where the errors are within the error that is stated, their rule is kept
-  pub errors_kept : IsKept (rule 14 (BreaksErrors units error clock)) → IsKept (rule 14 (BreaksErrors units (number_in (error_of clock)) clock))
-  errors_kept kept = subst (λ (n : ℕ). IsKept (rule 14 (BreaksErrors units n clock))) (sym (ap number_in error_is)) kept
+  pub errors_kept : IsKept (rule 14 (BreaksErrors units error clock)) → IsKept (rule 14 (BreaksErrors units (unwrap_or (error_of clock) 0) clock))
+  errors_kept kept = subst (λ (n : ℕ). IsKept (rule 14 (BreaksErrors units n clock))) (sym (ap (λ o. unwrap_or o 0) error_is)) kept
 
   -- where the starts keep their rule, a drift beyond the stated rate breaks the first rule of the units' clocks
   pub drift_refused :
       (e : Stop BrokenRule) → IsKept (rule 12 (BreaksStart units skew clock)) → RefusesBy 13 (BreaksDrift units rate clock) e → RefusesFirst (unit_rules units clock) e
   drift_refused e starts refused =
-      stopped 1 (unit_rules units clock) e (start_kept starts, subst (λ (n : ℕ). RefusesBy 13 (BreaksDrift units n clock) e) (sym (ap number_in rate_is)) refused)
+      stopped 1 (unit_rules units clock) e (start_kept starts, subst (λ (n : ℕ). RefusesBy 13 (BreaksDrift units n clock) e) (sym (ap (λ o. unwrap_or o 0) rate_is)) refused)
 
   -- where starts and drifts keep their rules, so does an error beyond the stated one
   pub errors_refused :
@@ -64,4 +66,4 @@ module _
       → RefusesBy 14 (BreaksErrors units error clock) e → RefusesFirst (unit_rules units clock) e
   errors_refused e starts drifts refused =
       stopped 2 (unit_rules units clock) e
-      (start_kept starts, (drift_kept drifts, subst (λ (n : ℕ). RefusesBy 14 (BreaksErrors units n clock) e) (sym (ap number_in error_is)) refused))
+      (start_kept starts, (drift_kept drifts, subst (λ (n : ℕ). RefusesBy 14 (BreaksErrors units n clock) e) (sym (ap (λ o. unwrap_or o 0) error_is)) refused))

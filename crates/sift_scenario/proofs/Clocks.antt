@@ -8,14 +8,15 @@ use Rattle.sift_skew.specs.Limits.{AreNumbers, IsAdmitted}
 use Rattle.toml.specs.Data.{Data, Members, get_member}
 use Rattle.sift_mission.specs.PartsFit.{AreClocks}
 use Rattle.sift_document.proofs.lemmas.Order.{kept_each}
-use Rattle.sift_document.specs.Document.{integer_between, members_of, read_by}
+use Rattle.sift_document.specs.Document.{integer_between, members_of}
 use Rattle.sift_document.specs.Rules.{AreKept}
 use Rattle.sift_scenario.proofs.KnownStarts.{together_in}
-use Rattle.sift_document.proofs.lemmas.Numbers.{between, between_at}
+use Rattle.sift_document.proofs.lemmas.Numbers.{between, between_at, read_by}
 use Rattle.sift_scenario.proofs.Themes.{kept_themes}
 use Rattle.sift_scenario.proofs.Ticks.{All-replicate, AreRows, AreTicks, right_in, right_or, rows_near, rows_or, ticks_or, zeros_near}
-use Rattle.sift_scenario.specs.Clock.{StartTogether, clock_rules, clock_themes, clock_value, clocks_in, clocks_of, drifts_of, error_of, errors_of, figure_rules, length_limit, length_of, number_in, plain_clocks, rate_of, skew_of, starts_of, stated_clocks, tick_limit, unit_rules, zeros}
+use Rattle.sift_scenario.specs.Clock.{StartTogether, clock_rules, clocks_in, drifts_of, error_of, errors_of, figure_rules, length_limit, length_of, rate_of, skew_of, starts_of, tick_limit, unit_rules}
 use Rattle.sift_scenario.specs.Mission.{IsLawful}
+use Rattle.sift_scenario.proofs.Named.{clock_themes, stated_clocks}
 use Rattle.sift_scenario.specs.Root.{units_of}
 
 -- what isn't less is at least as much
@@ -46,13 +47,13 @@ are_admitted skew error rate long few kept enough = record {
 -- a figure that must be there
 figure_at :
     (low high : ℕ) (d : Option Data) → (option_and_then (integer_between low high) d ≡ None → ⊥)
-    → number_in (option_and_then (integer_between low high) d) ≤ high
+    → (unwrap_or (option_and_then (integer_between low high) d) 0) ≤ high
 figure_at low high d some = right_in (λ n. n ≤ high) 0 (option_and_then (integer_between low high) d) some (λ n is. (between_at low high d n is).1)
 
 -- a figure that may be missing, and is 0 then
 figure_or :
     (d : Option Data) → (read_by 0 (integer_between 0 tick_limit) d ≡ None → ⊥)
-    → number_in (read_by 0 (integer_between 0 tick_limit) d) ≤ tick_limit
+    → (unwrap_or (read_by 0 (integer_between 0 tick_limit) d) 0) ≤ tick_limit
 figure_or d some = right_in (λ n. n ≤ tick_limit) 0 (read_by 0 (integer_between 0 tick_limit) d) some
     (right_or (λ n. n ≤ tick_limit) (integer_between 0 tick_limit) (λ e n is. (between 0 tick_limit e n is).1) 0 (omega arith) d)
 
@@ -84,55 +85,55 @@ fitting units skew error rate long start drift errors numbers admitted starts to
 }
 
 -- zeros are together
-zeros_together : (units skew : ℕ) → StartTogether skew (zeros units)
-zeros_together units skew = All-replicate (λ offset. All (λ other. offset ≤ℤ (other +ℤ pos skew)) (zeros units)) units (pos 0)
+zeros_together : (units skew : ℕ) → StartTogether skew (replicate units (pos 0))
+zeros_together units skew = All-replicate (λ offset. All (λ other. offset ≤ℤ (other +ℤ pos skew)) (replicate units (pos 0))) units (pos 0)
     (All-replicate (λ other. pos 0 ≤ℤ (other +ℤ pos skew)) units (pos 0) (omega (arith, ints)))
 
 -- clocks that agree fit
-plain_fit : (units : ℕ) → AreClocks units (plain_clocks units)
-plain_fit units = fitting units 0 0 0 1 (zeros units) (zeros units) (replicate units (zeros units))
+plain_fit : (units : ℕ) → AreClocks units (clocks_in units None)
+plain_fit units = fitting units 0 0 0 1 (replicate units (pos 0)) (replicate units (pos 0)) (replicate units (replicate units (pos 0)))
     (are_numbers 0 0 0 1 (omega arith) (omega arith) (omega arith) (omega arith))
     (are_admitted 0 0 0 1 (omega arith) (omega arith) (omega arith))
     (zeros_near units tick_limit) (zeros_together units 0) (zeros_near units 0) (rows_near units 0)
 
 module _ (units : ℕ) (clock : Members) (figures : AreKept (figure_rules clock)) (rules : AreKept (unit_rules units clock)) where
   -- the figures are within their limits
-  skew_fits : number_in (skew_of clock) ≤ tick_limit
+  skew_fits : (unwrap_or (skew_of clock) 0) ≤ tick_limit
   skew_fits = figure_at 0 tick_limit (get_member (codes "skew") clock) (λ none. figures.0 0 (refl, none))
 
-  error_fits : number_in (error_of clock) ≤ tick_limit
+  error_fits : (unwrap_or (error_of clock) 0) ≤ tick_limit
   error_fits = figure_or (get_member (codes "error") clock) (λ none. figures.1.0 0 (refl, inl none))
 
-  rate_fits : number_in (rate_of clock) ≤ tick_limit
+  rate_fits : (unwrap_or (rate_of clock) 0) ≤ tick_limit
   rate_fits = figure_or (get_member (codes "rate") clock) (λ none. figures.1.0 0 (refl, inr none))
 
-  length_fits : number_in (length_of clock) ≤ length_limit
+  length_fits : (unwrap_or (length_of clock) 0) ≤ length_limit
   length_fits = figure_at 1 length_limit (get_member (codes "length") clock) (λ none. figures.1.1.0 0 (refl, none))
 
   -- the clocks start near to 0, and together
   start_fits :
       AreTicks units tick_limit (unwrap_or (starts_of units clock) [])
-      × StartTogether (number_in (skew_of clock)) (unwrap_or (starts_of units clock) [])
+      × StartTogether (unwrap_or (skew_of clock) 0) (unwrap_or (starts_of units clock) [])
   start_fits =
-      let there = together_in (number_in (skew_of clock)) (starts_of units clock) (λ apart. rules.0 0 (refl, apart)) in
+      let there = together_in (unwrap_or (skew_of clock) 0) (starts_of units clock) (λ apart. rules.0 0 (refl, apart)) in
       rw there.1 (ticks_or units tick_limit (get_member (codes "start") clock) there.0 there.1, there.2)
 
   -- the drifts and the errors are within the rate and the error
-  drift_fits : AreTicks units (number_in (rate_of clock)) (unwrap_or (drifts_of units (number_in (rate_of clock)) clock) [])
+  drift_fits : AreTicks units (unwrap_or (rate_of clock) 0) (unwrap_or (drifts_of units (unwrap_or (rate_of clock) 0) clock) [])
   drift_fits =
-      let rate = number_in (rate_of clock) in
+      let rate = unwrap_or (rate_of clock) 0 in
       right_in (AreTicks units rate) [] (drifts_of units rate clock) (λ none. rules.1.0 0 (refl, none))
       (ticks_or units rate (get_member (codes "drift") clock))
 
-  rows_fit : AreRows units (number_in (error_of clock)) (unwrap_or (errors_of units (number_in (error_of clock)) clock) [])
+  rows_fit : AreRows units (unwrap_or (error_of clock) 0) (unwrap_or (errors_of units (unwrap_or (error_of clock) 0) clock) [])
   rows_fit =
-      let error = number_in (error_of clock) in
+      let error = unwrap_or (error_of clock) 0 in
       right_in (AreRows units error) [] (errors_of units error clock) (λ none. rules.1.1.0 0 (refl, none))
       (rows_or units error (get_member (codes "errors") clock))
 
   -- clocks that keep the rules fit
   stated_fit : AreClocks units (stated_clocks units clock)
-  stated_fit = fitting units (number_in (skew_of clock)) (number_in (error_of clock)) (number_in (rate_of clock)) (number_in (length_of clock)) _ _ _
+  stated_fit = fitting units (unwrap_or (skew_of clock) 0) (unwrap_or (error_of clock) 0) (unwrap_or (rate_of clock) 0) (unwrap_or (length_of clock) 0) _ _ _
       (are_numbers _ _ _ _ skew_fits error_fits rate_fits length_fits)
       (are_admitted _ _ _ _ skew_fits (not_less _ _ (λ small. figures.1.1.1.0 0 (refl, small)))
       (not_less _ _ (λ short. figures.1.1.1.1.0 0 (refl, short))))
@@ -146,5 +147,5 @@ value_fits units (Some value) kept =
     stated_fit units (members_of value) themes.1.0 themes.1.1.0
 
 -- the clocks of a lawful document fit
-pub clocks_fit : (document : Members) (units : ℕ) → units_of document ≡ Some units → IsLawful document → AreClocks units (clocks_of units document)
-clocks_fit document units is lawful = value_fits units (clock_value document) (kept_themes document units is lawful).1.0
+pub clocks_fit : (document : Members) (units : ℕ) → units_of document ≡ Some units → IsLawful document → AreClocks units (clocks_in units (get_member (codes "clock") document))
+clocks_fit document units is lawful = value_fits units (get_member (codes "clock") document) (kept_themes document units is lawful).1.0

@@ -23,13 +23,13 @@ use Rattle.sift_scenario.proofs.TaskRefusals.{text_refused_by}
 use Rattle.sift_scenario.proofs.Turns.{code_first, text_first}
 use Rattle.sift_scenario.specs.Laws.{HasAnswer, a_mission, a_refusal, NoDocumentIsUnanswered}
 use Rattle.sift_scenario.specs.Mission.{IsStated, IsLawful}
-use Rattle.sift_scenario.specs.Program.{AreAllowed, IsProgramOf, IsTreeOf, IsWithin, all_starts, roll_for, steps_left, turn_of}
+use Rattle.sift_scenario.specs.Program.{AreAllowed, IsProgramOf, IsTreeOf, IsWithin, roll_for, steps_left, turn_of}
 use Rattle.sift_scenario.specs.Refusal.{IsFirstRefused, IsNoTask, IsOver, refusal_of, told_number}
 use Rattle.sift_scenario.proofs.Decided.{all_more, at_most}
 use Rattle.sift_scenario.proofs.Themes.{kept_themes}
 use Rattle.sift_scenario.specs.Root.{frames_of, period_of, units_of}
 use Rattle.sift_scenario.specs.Sensor.{sensor_names}
-use Rattle.sift_scenario.specs.Task.{AreForms, Form, HasForm, linear, tasks_of, text, BreaksForms, task_rules}
+use Rattle.sift_scenario.specs.Task.{AreForms, Form, HasForm, linear, tasks_of, text, task_rules}
 use Rattle.sift_base.specs.Shapes.{AllShapes}
 use Rattle.sift_program.specs.Program.{ProgramTree}
 use Rattle.sift_script.proofs.lemmas.Answered.{scripts_are_answered}
@@ -40,6 +40,7 @@ use Rattle.sift_mission.specs.Data.{MissionData, shapes_in}
 use Rattle.sift_scenario.specs.declared.refused.Refused.{Refused}
 use Rattle.sift_scenario.specs.declared.refused.Refused.TheVariants.{Scenario, Task, Table, Script}
 use Rattle.std.specs.List.{All}
+use Rattle.sift_scenario.proofs.Named.{BreaksForms, all_starts}
 use Rattle.sift_scenario.specs.Refusal.{IsFirstBadTable, IsRefusedWith}
 
 -- an option that isn't none has a value
@@ -98,12 +99,12 @@ within_or_over left task tree = elim (at_most (task_length tree) code_limit) [
     | inl quick ↦ inl (record { short = short; quick = quick })
     | inr slow ↦ inr (
       Task task 7 (told_number (task_steps tree)),
-      inr (record { short = short; slow = over_of (task_steps tree) left slow; refused_is = refl }),
+      inr (short, over_of (task_steps tree) left slow, refl),
     )
   ]
   | inr long ↦ inr (
     Task task 6 (told_number (task_length tree)),
-    inl (record { long = over_of (task_length tree) code_limit long; refused_is = refl }),
+    inl (over_of (task_length tree) code_limit long, refl),
   )
 ]
 
@@ -231,9 +232,9 @@ answer_of d units frames period lawful units_is frames_is period_is known = elim
         script = refl;
       } in
       elim (tables_known (shapes_in mission) mission.tables) [
-        | inr bad ↦ a_refusal (Table bad.0 bad.1 bad.2) (record { mission = mission; stated = stated; bad = bad.3 })
+        | inr bad ↦ a_refusal (Table bad.0 bad.1 bad.2) (mission, stated, bad.3)
         | inl good ↦ elim (scripts_are_answered mission.script) [
-          | inr bad ↦ a_refusal (Script bad.1 bad.0) (record { mission = mission; stated = stated; good_tables = good; bad = bad.2 })
+          | inr bad ↦ a_refusal (Script bad.1 bad.0) (mission, stated, good, bad.2)
           | inl fine ↦ a_mission mission (record { stated = stated; good_tables = good; good_script = fine })
         ]
       ]

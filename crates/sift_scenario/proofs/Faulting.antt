@@ -13,10 +13,11 @@ use Rattle.sift_document.specs.Document.{each_read}
 use Rattle.sift_document.specs.Rules.{HoldsOf}
 use Rattle.sift_document.specs.Testing.{Tests}
 use Rattle.sift_document.specs.declared.rule.BrokenRule.{BrokenRule}
-use Rattle.sift_scenario.specs.Fault.{BreaksItems, changes_of, failing_from, fault_in, from_of, items_of, stated_storm, unit_of}
+use Rattle.sift_scenario.specs.Fault.{changes_of, fault_in, from_of, stated_storm, unit_of}
 use Rattle.sift_scenario.proofs.Starts.{read_values}
 use Rattle.sift_scenario.specs.Item.{change_in}
 use Rattle.sift_scenario.specs.Reading.{AreFaultsRead}
+use Rattle.sift_scenario.proofs.Named.{items_of, failing_from, BreaksItems}
 use Rattle.sift_scenario.specs.declared.fault.Head.{Head}
 
 -- ---- faults, one after another

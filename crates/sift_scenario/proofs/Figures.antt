@@ -2,8 +2,8 @@
 use Rattle.std.proofs.Common.{◌≡◌, ◌≤◌, ℕ, Option, Some, None, arith}
 use Rattle.std.specs.Prelude.{codes}
 use Rattle.toml.specs.Data.{Data, Members, get_member}
-use Rattle.sift_document.specs.Document.{integer_between, read_by}
-use Rattle.sift_document.proofs.lemmas.Numbers.{between, between_at}
+use Rattle.sift_document.specs.Document.{integer_between}
+use Rattle.sift_document.proofs.lemmas.Numbers.{between, between_at, read_by}
 use Rattle.sift_scenario.specs.Clock.{error_of, rate_of, skew_of, tick_limit}
 
 -- a number that is read, or 0 where none is there, is at most the limit

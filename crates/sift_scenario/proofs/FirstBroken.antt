@@ -1,23 +1,25 @@
 -- Each rule of a document is kept, or broken at a first place; so all are kept, or one is the first that is broken.
-use Rattle.std.proofs.Common.{◌≡◌, ◌+◌, ◌⊎◌, inl, inr, ℕ, suc, List, [], ◌∷◌, length, map, take, sum, Option, Some, None, refl, arith}
+use Rattle.std.proofs.Common.{◌≡◌, ◌+◌, ◌⊎◌, inl, inr, ℕ, suc, List, [], ◌∷◌, ◌++◌, length, map, take, sum, Option, Some, None, refl, arith}
 use Rattle.std.proofs.lemmas.Option.{slice_get_within}
-use Rattle.std.specs.Prelude.{unwrap_or}
-use Rattle.toml.specs.Data.{Data, Members}
+use Rattle.std.specs.Prelude.{unwrap_or, codes}
+use Rattle.toml.specs.Data.{Data, Members, get_member}
 use Rattle.sift_base.specs.Layout.{sensor_limit, word_limit}
 use Rattle.sift_base.specs.Shapes.{task_limit}
-use Rattle.sift_document.specs.Document.{entries_of, members_of}
-use Rattle.sift_document.specs.Rules.{HoldsOf, AreKept, BreaksEntries, BreaksFirst, IsFirstPlace, OfNoEntry, Rule, followed_by, joined, rule}
+use Rattle.sift_document.specs.Document.{entries_of, members_of, tables_in, IsTableOf}
+use Rattle.sift_document.specs.Rules.{HoldsOf, AreKept, BreaksEntries, BreaksFirst, IsFirstPlace, OfNoEntry, Rule, rule}
 use Rattle.sift_scenario.proofs.Decided.{Decided, at_most, both, either, first_place, holds, negated, nothing, same_number}
 use Rattle.sift_scenario.proofs.Known.{form_known, known_array, known_entry, known_keys, known_way, known_table, new_name_of}
 use Rattle.sift_scenario.proofs.KnownStarts.{apart_known}
-use Rattle.sift_scenario.specs.Clock.{clock_keys, clock_rules, clock_themes, clock_value, drifts_of, error_of, errors_of, length_of, number_in, rate_of, skew_of, starts_of}
-use Rattle.sift_scenario.specs.Fault.{HasOneWay, IsFaultEntry, IsHeadless, changes_of, fault_keys, fault_limit, fault_rules, fault_value, faults_in, from_of, stated_storm, unit_of}
-use Rattle.sift_scenario.specs.Mission.{rules_of, themes_for}
+use Rattle.sift_scenario.specs.Clock.{clock_keys, clock_rules, drifts_of, error_of, errors_of, length_of, rate_of, skew_of, starts_of}
+use Rattle.sift_scenario.specs.Fault.{changes_of, fault_limit, fault_rules, from_of, stated_storm, unit_of}
+use Rattle.sift_scenario.specs.Mission.{rules_of}
 use Rattle.sift_scenario.specs.Laws.{RulesAreKeptOrBroken}
 use Rattle.sift_scenario.specs.Root.{frames_of, period_of, root_keys, root_rules, units_of, version_of}
-use Rattle.sift_scenario.specs.Sensor.{IsSensorEntry, sensor_keys, sensor_rules, sensor_value, sensors_in, words_of}
-use Rattle.sift_scenario.specs.Table.{IsTableEntry, IsTimeless, later_table_rules, positions_of, polls_of, runs_of, shed_of, size_count, table_rules, table_value, tables_in}
-use Rattle.sift_scenario.specs.Task.{HasForm, IsNewName, counts_of, name_of, start_words, task_entries, task_keys, tasks_of, BreaksNames, BreaksTasks, BreaksWords, task_rules}
+use Rattle.sift_scenario.specs.Sensor.{sensor_rules, words_of}
+use Rattle.sift_scenario.specs.Table.{IsTableEntry, IsTimeless, positions_of, shed_of, size_count, table_rules, subframes_at}
+use Rattle.sift_scenario.proofs.Named.{fault_keys, sensor_keys, IsHeadless, HasOneWay, task_keys, later_table_rules, clock_themes, themes_for}
+use Rattle.sift_document.proofs.lemmas.Order.{joined, joined_to}
+use Rattle.sift_scenario.specs.Task.{HasForm, IsNewName, counts_of, name_of, start_words, task_entries, tasks_of, BreaksNames, BreaksTasks, BreaksWords, task_rules}
 
 -- a rule is broken at a first place, or at none
 abbrev IsDecided : Rule → Type 0
@@ -37,7 +39,7 @@ kept_or_first (rule ∷ rest) (inr kept, known) = elim (kept_or_first rest known
   | inr broken ↦ inr (broken.0, broken.1, inr (kept, broken.2))
 ]
 
-decided_joined : (these those : List Rule) → AreDecided these → AreDecided those → AreDecided (followed_by these those)
+decided_joined : (these those : List Rule) → AreDecided these → AreDecided those → AreDecided (these ++ those)
 decided_joined [] those known others = others
 decided_joined (rule ∷ rest) those known others = (known.0, decided_joined rest those known.1 others)
 
@@ -46,9 +48,12 @@ abbrev AreAllDecided : List (List Rule) → Type 0
 AreAllDecided [] = Unit {0}
 AreAllDecided (rules ∷ rest) = AreDecided rules × AreAllDecided rest
 
+decided_to : (first : List Rule) (themes : List (List Rule)) → AreDecided first → AreAllDecided themes → AreDecided (joined_to first themes)
+decided_to first [] these known = these
+decided_to first (rules ∷ rest) these known = decided_to (first ++ rules) rest (decided_joined first rules these known.0) known.1
+
 decided_all : (themes : List (List Rule)) → AreAllDecided themes → AreDecided (joined themes)
-decided_all [] known = tt
-decided_all (rules ∷ rest) known = decided_joined rules (joined rest) known.0 (decided_all rest known.1)
+decided_all themes known = decided_to [] themes tt known
 
 -- ---- kinds of rules
 
@@ -111,10 +116,10 @@ clock_known units (Some value) =
         ),
         (
           (
-            of_none _ (apart_known (number_in (skew_of clock)) (starts_of units clock)),
+            of_none _ (apart_known (unwrap_or (skew_of clock) 0) (starts_of units clock)),
             (
-              of_none _ (nothing (drifts_of units (number_in (rate_of clock)) clock)),
-              (of_none _ (nothing (errors_of units (number_in (error_of clock)) clock)), tt),
+              of_none _ (nothing (drifts_of units (unwrap_or (rate_of clock) 0) clock)),
+              (of_none _ (nothing (errors_of units (unwrap_or (error_of clock) 0) clock)), tt),
             ),
           ),
           tt,
@@ -124,10 +129,10 @@ clock_known units (Some value) =
 
 sensor_known : (value : Option Data) → AreDecided (sensor_rules value)
 sensor_known value = (
-  of_array 0 sensor_limit IsSensorEntry value (λ place entry. known_table sensor_keys entry),
+  of_array 0 sensor_limit (λ place. IsTableOf sensor_keys) value (λ place entry. known_table sensor_keys entry),
   (
-    names_known 16 (sensors_in value),
-    (of_each (sensors_in value) (λ place sensor. words_of sensor ≡ None) (λ place sensor. nothing (words_of sensor)), tt),
+    names_known 16 (tables_in value),
+    (of_each (tables_in value) (λ place sensor. words_of sensor ≡ None) (λ place sensor. nothing (words_of sensor)), tt),
   ),
 )
 
@@ -164,7 +169,7 @@ table_known : (version units : ℕ) (value : Option Data) → AreDecided (table_
 table_known version units value = (
   of_array (size_count units) (size_count units) (IsTableEntry version) value (known_entry version),
   (
-    of_each (tables_in value) (λ place. IsTimeless) (λ place table. either (nothing (runs_of table)) (nothing (polls_of table))),
+    of_each (tables_in value) (λ place. IsTimeless) (λ place table. either (nothing (subframes_at (codes "run") table)) (nothing (subframes_at (codes "poll") table))),
     (of_each (tables_in value) (λ place table. positions_of table ≡ None) (λ place table. nothing (positions_of table)), tt),
   ),
 )
@@ -174,14 +179,14 @@ later_table_known value = (of_each (tables_in value) (λ place table. shed_of ta
 
 fault_known : (value : Option Data) → AreDecided (fault_rules value)
 fault_known value = (
-  of_array 0 fault_limit IsFaultEntry value (λ place entry. known_table fault_keys entry),
+  of_array 0 fault_limit (λ place. IsTableOf fault_keys) value (λ place entry. known_table fault_keys entry),
   (
-    of_each (faults_in value) (λ place. IsHeadless) (λ place fault. either (nothing (unit_of fault)) (nothing (from_of fault))),
+    of_each (tables_in value) (λ place. IsHeadless) (λ place fault. either (nothing (unit_of fault)) (nothing (from_of fault))),
     (
-      of_each (faults_in value) (λ place fault. HasOneWay fault → ⊥) (λ place fault. negated (known_way fault)),
+      of_each (tables_in value) (λ place fault. HasOneWay fault → ⊥) (λ place fault. negated (known_way fault)),
       (
-        of_each (faults_in value) (λ place fault. changes_of fault ≡ None) (λ place fault. nothing (changes_of fault)),
-        (of_each (faults_in value) (λ place fault. stated_storm fault ≡ None) (λ place fault. nothing (stated_storm fault)), tt),
+        of_each (tables_in value) (λ place fault. changes_of fault ≡ None) (λ place fault. nothing (changes_of fault)),
+        (of_each (tables_in value) (λ place fault. stated_storm fault ≡ None) (λ place fault. nothing (stated_storm fault)), tt),
       ),
     ),
   ),
@@ -193,14 +198,14 @@ kept_or_broken d = kept_or_first (rules_of d)
     (decided_all (themes_for (unwrap_or (units_of d) 0) d) (
       root_known d,
       (
-        clock_known (unwrap_or (units_of d) 0) (clock_value d),
+        clock_known (unwrap_or (units_of d) 0) (get_member (codes "clock") d),
         (
-          sensor_known (sensor_value d),
+          sensor_known (get_member (codes "sensor") d),
           (
             task_known d,
             (
-              table_known (unwrap_or (version_of d) 0) (unwrap_or (units_of d) 0) (table_value d),
-              (fault_known (fault_value d), (later_table_known (table_value d), tt)),
+              table_known (unwrap_or (version_of d) 0) (unwrap_or (units_of d) 0) (get_member (codes "table") d),
+              (fault_known (get_member (codes "fault") d), (later_table_known (get_member (codes "table") d), tt)),
             ),
           ),
         ),

@@ -22,11 +22,11 @@ use Rattle.sift_scenario.proofs.Sizes.{IsSized, schedule_at, schedules_long, sch
 use Rattle.sift_scenario.proofs.SoundPrograms.{stated_is_sound}
 use Rattle.sift_scenario.proofs.Starts.{starts_long}
 use Rattle.sift_scenario.proofs.Themes.{kept_themes}
-use Rattle.sift_scenario.specs.Mission.{themes_for, HasGoodTables, IsStated}
+use Rattle.sift_scenario.specs.Mission.{HasGoodTables, IsStated}
 use Rattle.sift_scenario.specs.Laws.{StatedMissionsFit}
 use Rattle.sift_scenario.specs.Root.{version_of}
 use Rattle.sift_scenario.specs.Sensor.{sensor_names}
-use Rattle.sift_scenario.specs.Table.{table_value}
+use Rattle.sift_scenario.proofs.Named.{themes_for}
 use Rattle.sift_scenario.specs.Task.{counts_of, name_of, task_entries, tasks_of}
 
 module _
@@ -52,11 +52,11 @@ module _
   sizes i low =
       let same = stated.tables in
       subst (λ (ts : List Schedule). IsSized d.period (least_units + i) (schedule_at ts i)) (sym same)
-      (schedules_sized d.units d.period (length (task_entries document)) (unwrap_or (version_of document) 0) (table_value document) themes.1.1.1.1.0.0 i (rw (← same) low))
+      (schedules_sized d.units d.period (length (task_entries document)) (unwrap_or (version_of document) 0) (get_member (codes "table") document) themes.1.1.1.1.0.0 i (rw (← same) low))
 
   tables_fit : AreTables d
   tables_fit =
-      let long = ap length stated.tables ∙ schedules_long d.units d.period (length (task_entries document)) (unwrap_or (version_of document) 0) (table_value document) themes.1.1.1.1.0.0 in record {
+      let long = ap length stated.tables ∙ schedules_long d.units d.period (length (task_entries document)) (unwrap_or (version_of document) 0) (get_member (codes "table") document) themes.1.1.1.1.0.0 in record {
         count = omega (arith, long, units_between.0);
         each = λ i low. record { sized = (sizes i low).sized; timed = (sizes i low).timed; good = good_tables i _ low };
       }

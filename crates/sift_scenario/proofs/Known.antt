@@ -9,11 +9,11 @@ use Rattle.sift_document.proofs.lemmas.ReadEntries.{array_between-long}
 use Rattle.sift_document.specs.Document.{HasOnlyKeys, IsArrayOf, IsTableOf, entries_of, keys_of, list_of, members_of, read_at, word_array, word_value}
 use Rattle.sift_scenario.proofs.Decided.{Decided, among, at_most, both, each, either, negated, nothing, same_number, same_option, same_text, same_value}
 use Rattle.sift_base.specs.Layout.{least_units}
-use Rattle.sift_scenario.specs.Fault.{HasOneWay, IsSaying, IsStorming, item_limit, say_value, storm_value}
+use Rattle.sift_scenario.specs.Fault.{IsSaying, IsStorming, item_limit}
 use Rattle.sift_scenario.specs.Item.{item_keys}
-use Rattle.sift_scenario.specs.Storm.{storm_keys}
 use Rattle.sift_scenario.specs.Table.{IsTableEntry, size_of, table_keys}
-use Rattle.sift_scenario.specs.Task.{Form, HasForm, IsLinear, IsNewName, IsText, linear, name_of, task_outputs, text}
+use Rattle.sift_scenario.proofs.Named.{HasOneWay, storm_keys}
+use Rattle.sift_scenario.specs.Task.{Form, HasForm, IsNewName, linear, name_of, task_outputs, text}
 
 -- ---- keys and entries
 
@@ -59,10 +59,10 @@ known_entry version place entry = elim (both (known_table (table_keys version) e
 ]
 
 -- a fault says items as it may, or not
-saying_by : (fault : Members) (o : Option Data) → say_value fault ≡ o → Decided (IsSaying fault)
+saying_by : (fault : Members) (o : Option Data) → (get_member (codes "say") fault) ≡ o → Decided (IsSaying fault)
 saying_by fault None is = inr (λ h. let there = sym is ∙ h.there in cc)
 saying_by fault (Some value) is =
-    elim (both (both (known_array 1 item_limit value) (each (IsTableOf item_keys) (known_table item_keys) (entries_of (Some value)))) (nothing (storm_value fault))) [
+    elim (both (both (known_array 1 item_limit value) (each (IsTableOf item_keys) (known_table item_keys) (entries_of (Some value)))) (nothing (get_member (codes "storm") fault))) [
       | inl h ↦ inl (record { value = value; there = is; items = record { few = h.0.0; known = h.0.1 }; alone = h.1 })
       | inr other ↦ inr (λ h. let there : Some value ≡ Some h.value = sym is ∙ h.there in
           let one : h.value ≡ value = cc there in
@@ -70,9 +70,9 @@ saying_by fault (Some value) is =
     ]
 
 -- it has a storm as it may, or not
-storming_by : (fault : Members) (o : Option Data) → storm_value fault ≡ o → Decided (IsStorming fault)
+storming_by : (fault : Members) (o : Option Data) → (get_member (codes "storm") fault) ≡ o → Decided (IsStorming fault)
 storming_by fault None is = inr (λ h. let there = sym is ∙ h.there in cc)
-storming_by fault (Some value) is = elim (both (known_table storm_keys value) (nothing (say_value fault))) [
+storming_by fault (Some value) is = elim (both (known_table storm_keys value) (nothing (get_member (codes "say") fault))) [
   | inl h ↦ inl (record { value = value; there = is; known = h.0; alone = h.1 })
   | inr other ↦ inr (λ h. let there : Some value ≡ Some h.value = sym is ∙ h.there in
       let one : h.value ≡ value = cc there in
@@ -81,7 +81,7 @@ storming_by fault (Some value) is = elim (both (known_table storm_keys value) (n
 
 -- it fails in one way, or not
 pub known_way : (fault : Members) → Decided (HasOneWay fault)
-known_way fault = either (saying_by fault (say_value fault) refl) (storming_by fault (storm_value fault) refl)
+known_way fault = either (saying_by fault (get_member (codes "say") fault) refl) (storming_by fault (get_member (codes "storm") fault) refl)
 
 -- ---- names
 
@@ -119,11 +119,11 @@ new_name_of earlier task (Some name) is =
 
 -- a task has a text alone, or not
 text_alone :
-    (task : Members) (o : Option (List ℕ)) → read_at as_str (codes "text") task ≡ o → Decided ((bytes : List ℕ) × IsText task bytes)
-text_alone task None is = inr (λ h. let there = sym is ∙ h.1.stated in cc)
+    (task : Members) (o : Option (List ℕ)) → read_at as_str (codes "text") task ≡ o → Decided ((bytes : List ℕ) × HasForm task (text bytes))
+text_alone task None is = inr (λ h. let there = sym is ∙ h.1.0 in cc)
 text_alone task (Some bytes) is = elim (nothing (get_member (codes "linear") task)) [
-  | inl alone ↦ inl (bytes, record { stated = is; alone = alone })
-  | inr other ↦ inr (λ h. other h.1.alone)
+  | inl alone ↦ inl (bytes, (is, alone))
+  | inr other ↦ inr (λ h. other h.1.1)
 ]
 
 -- an array of two words has two
@@ -134,8 +134,8 @@ two_words (Some d) ws is = let long = array_between-long 2 2 word_value d ws is 
 -- a task has a linear rule alone and one word, or not
 linear_alone :
     (task : Members) (o : Option (List ℕ)) → read_at (word_array 2 2) (codes "linear") task ≡ o
-    → Decided ((factor : ℕ) × (addend : ℕ) × IsLinear task factor addend)
-linear_alone task None is = inr (λ h. let there = sym is ∙ h.2.stated in cc)
+    → Decided ((factor : ℕ) × (addend : ℕ) × HasForm task (linear factor addend))
+linear_alone task None is = inr (λ h. let there = sym is ∙ h.2.0 in cc)
 linear_alone task (Some []) is = absurd (let long = two_words (get_member (codes "linear") task) [] is in omega (arith, long))
 linear_alone task (Some (f ∷ [])) is =
     absurd (let long = two_words (get_member (codes "linear") task) (f ∷ []) is in omega (arith, long))
@@ -143,14 +143,14 @@ linear_alone task (Some (f ∷ (a ∷ (x ∷ xs)))) is =
     absurd (let long = two_words (get_member (codes "linear") task) (f ∷ a ∷ x ∷ xs) is in omega (arith, long))
 linear_alone task (Some (f ∷ (a ∷ []))) is =
     elim (both (same_number (task_outputs task) 1) (nothing (get_member (codes "text") task))) [
-      | inl h ↦ inl (f, a, record { stated = is; one_word = h.0; alone = h.1 })
-      | inr other ↦ inr (λ h. other (h.2.one_word, h.2.alone))
+      | inl h ↦ inl (f, a, (is, h.0, h.1))
+      | inr other ↦ inr (λ h. other (h.2.1, h.2.2))
     ]
 
 -- a task without either has no form
 formless :
-    (task : Members) (form : Form) → (((bytes : List ℕ) × IsText task bytes) → ⊥)
-    → (((factor : ℕ) × (addend : ℕ) × IsLinear task factor addend) → ⊥) → HasForm task form → ⊥
+    (task : Members) (form : Form) → (((bytes : List ℕ) × HasForm task (text bytes)) → ⊥)
+    → (((factor : ℕ) × (addend : ℕ) × HasForm task (linear factor addend)) → ⊥) → HasForm task form → ⊥
 formless task (linear factor addend) no_text no_rule has = no_rule (factor, addend, has)
 formless task (text bytes) no_text no_rule has = no_text (bytes, has)
 

@@ -13,6 +13,7 @@ pub mod Known
 pub mod KnownStarts
 pub mod Limits
 pub mod Made
+pub mod Named
 pub mod NewNames
 pub mod OneMission
 pub mod Periods

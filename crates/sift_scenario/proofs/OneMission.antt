@@ -1,20 +1,23 @@
 -- A document states at most one mission.
 use Rattle.std.proofs.Common.{◌≡◌, ℕ, List, length, Some, refl, sym, ap, subst, ◌∙◌}
 use Rattle.std.specs.List.{sum}
-use Rattle.toml.specs.Data.{Members}
+use Rattle.toml.specs.Data.{Members, get_member}
 use Rattle.sift_lang.specs.Tree.{TaskTree}
 use Rattle.sift_program.specs.Program.{ProgramTree, program_shapes}
 use Rattle.sift_script.specs.Script.{outputs_of}
 use Rattle.sift_mission.specs.Data.{MissionData}
 use Rattle.sift_scenario.proofs.UniqueForms.{one_forms, one_trees}
-use Rattle.sift_scenario.specs.Clock.{clocks_of}
-use Rattle.sift_scenario.specs.Fault.{faults_of}
 use Rattle.sift_scenario.specs.Laws.{OneMission}
 use Rattle.sift_scenario.specs.Mission.{IsStated}
-use Rattle.sift_scenario.specs.Program.{AreTreesOf, IsProgramOf, roll_for}
+use Rattle.sift_scenario.specs.Program.{IsProgramOf, roll_for}
 use Rattle.sift_scenario.specs.Sensor.{sensor_words}
-use Rattle.sift_scenario.specs.Table.{schedules_of}
-use Rattle.sift_scenario.specs.Task.{Form, counts_of, names_of, tasks_of}
+use Rattle.std.specs.Prelude.{codes, map}
+use Rattle.sift_scenario.specs.Clock.{clocks_in}
+use Rattle.sift_document.specs.Document.{tables_in}
+use Rattle.sift_scenario.specs.Fault.{fault_in}
+use Rattle.sift_scenario.specs.Table.{schedules_by}
+use Rattle.sift_scenario.proofs.Named.{AreTreesOf}
+use Rattle.sift_scenario.specs.Task.{Form, counts_of, names_of, tasks_of, task_entries}
 
 -- tasks state one program
 one_program : (sensors : List (List ℕ)) (tasks : List Members) (one other : ProgramTree) → IsProgramOf sensors tasks one → IsProgramOf sensors tasks other → one ≡ other
@@ -36,11 +39,11 @@ data_from d units frames period program =
       layout = record { units = units; sensors = sensors; words = words };
       names = names_of (tasks_of d);
       program = program;
-      tables = schedules_of d units period;
+      tables = schedules_by (get_member (codes "table") d) units period (length (task_entries d));
       sensors = sensor_words d;
-      clock = clocks_of units d;
+      clock = clocks_in units (get_member (codes "clock") d);
       script = record {
-        faults = faults_of d;
+        faults = map fault_in (tables_in (get_member (codes "fault") d));
         layout = record { units = units; sensors = sensors; words = words };
         outputs = outputs_of (program_shapes sensors program);
         frames = frames;

@@ -4,10 +4,10 @@ use Rattle.std.specs.Prelude.{codes}
 use Rattle.toml.specs.Data.{Data, Members, get_member}
 use Rattle.sift_table.specs.Schedule.{shortest_period}
 use Rattle.sift_mission.specs.PartsFit.{longest_period}
-use Rattle.sift_document.specs.Document.{integer_between, read_by}
+use Rattle.sift_document.specs.Document.{integer_between}
 use Rattle.sift_document.specs.Rules.{AreKept}
 use Rattle.sift_scenario.proofs.Decided.{at_most, both, stable}
-use Rattle.sift_document.proofs.lemmas.Numbers.{between}
+use Rattle.sift_document.proofs.lemmas.Numbers.{between, read_by}
 use Rattle.sift_scenario.specs.Root.{period_of, plain_period}
 use Rattle.sift_scenario.specs.Task.{task_entries, IsTaskNumber, task_rules}
 

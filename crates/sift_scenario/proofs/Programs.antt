@@ -11,7 +11,8 @@ use Rattle.sift_parse.proofs.lemmas.Sound.{task_is_sound}
 use Rattle.sift_parse.specs.Answer.{HasSize}
 use Rattle.sift_parse.specs.Outcome.{linear_tree}
 use Rattle.sift_program.specs.Program.{ProgramTree, IsSoundProgram, first_word}
-use Rattle.sift_scenario.specs.Program.{AreTreesOf, IsTreeOf, roll_for, turn_of}
+use Rattle.sift_scenario.specs.Program.{IsTreeOf, roll_for, turn_of}
+use Rattle.sift_scenario.proofs.Named.{AreTreesOf}
 use Rattle.sift_scenario.specs.Task.{AreForms, Form, linear, text, HasForm, counts_of, task_outputs}
 
 -- lists of one length with the same entries are the same
@@ -54,14 +55,14 @@ module _ (sensors : List (List ℕ)) (tasks : List Members) (sizes : AreSized se
 
   -- its tree has as many outputs
   outputs_here : (form : Form) (tree : TaskTree) → HasForm task form → IsTreeOf (turn_of t (roll_for sensors tasks)) form tree → tree.outputs ≡ get_or (counts_of tasks) t 0
-  outputs_here (linear factor addend) tree form is = ap (λ (x : TaskTree). x.outputs) is ∙ sym (count_here ∙ form.one_word)
+  outputs_here (linear factor addend) tree form is = ap (λ (x : TaskTree). x.outputs) is ∙ sym (count_here ∙ form.1)
   outputs_here (text bytes) tree form is = is.outputs
 
   -- its tree is sound
   sound_here : (form : Form) (tree : TaskTree) → HasForm task form → IsTreeOf (turn_of t (roll_for sensors tasks)) form tree → IsSound (length sensors) (sum (counts_of tasks)) tree
   sound_here (linear factor addend) tree form is =
       let low = slice_get_within tasks t task there in
-      let one : get_or (counts_of tasks) t 0 ≡ 1 = count_here ∙ form.one_word in
+      let one : get_or (counts_of tasks) t 0 ≡ 1 = count_here ∙ form.1 in
       let room = sum_by_more_le (λ n. n) (counts_of tasks) t 0 (rw length-map low) in
       rw is (sound_tree _ _ _ factor addend (omega (arith, one, room)))
   sound_here (text bytes) tree form is = (task_is_sound _ bytes tree (sizes t (slice_get_within tasks t task there)) is).sound

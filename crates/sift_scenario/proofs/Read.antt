@@ -13,7 +13,7 @@ use Rattle.sift_scenario.proofs.Sensing.{few_sensors, sensors_differ}
 use Rattle.sift_scenario.proofs.Starts.{all_starts_from, counts_from, names_from, starts_long}
 use Rattle.sift_scenario.proofs.Themes.{kept_themes}
 use Rattle.sift_scenario.proofs.TaskRefusals.{text_refused_by}
-use Rattle.sift_scenario.specs.Program.{AreAllowed, AreTreesOf, all_starts, roll_for}
+use Rattle.sift_scenario.specs.Program.{AreAllowed, roll_for}
 use Rattle.sift_scenario.specs.Reading.{AreTasksOf, IsReadOf, IsRunningOf}
 use Rattle.sift_scenario.specs.Refusal.{IsFirstRefused, IsRefusedWith}
 use Rattle.sift_scenario.specs.Sensor.{sensor_names}
@@ -22,6 +22,7 @@ use Rattle.sift_scenario.specs.Testing.{AreTurns, form_of}
 use Rattle.sift_scenario.specs.declared.document.Entries.{Entries}
 use Rattle.sift_scenario.specs.declared.program.Running.{Running}
 use Rattle.sift_scenario.specs.declared.task.Tasks.{Tasks}
+use Rattle.sift_scenario.proofs.Named.{all_starts, AreTreesOf}
 use Rattle.sift_scenario.specs.declared.refused.Refused.{Refused}
 
 -- there are as many forms as entries of `task`

@@ -12,7 +12,8 @@ use Rattle.sift_parse.specs.Outcome.{AreDistinct, AreNames}
 use Rattle.sift_document.proofs.lemmas.ReadEntries.{array_between-long}
 use Rattle.sift_document.specs.Document.{word_array, word_value}
 use Rattle.sift_scenario.specs.Program.{roll_for, turn_of}
-use Rattle.sift_scenario.specs.Task.{counts_of, name_of, names_of, start_words, task_outputs, BreaksNames, BreaksStarts, BreaksWords}
+use Rattle.sift_scenario.proofs.Named.{BreaksStarts}
+use Rattle.sift_scenario.specs.Task.{counts_of, name_of, names_of, start_words, task_outputs, BreaksNames, BreaksWords}
 
 -- within a list the default doesn't matter
 any_default : (xs : List ℕ) (k d e : ℕ) → k < length xs → get_or xs k d ≡ get_or xs k e

@@ -10,7 +10,7 @@ use Rattle.sift_mission.specs.PartsFit.{HasWords, sensed_limit}
 use Rattle.sift_base.specs.Layout.{sensor_limit}
 use Rattle.sift_document.proofs.lemmas.DocumentLemmas.{array_entries}
 use Rattle.sift_document.proofs.lemmas.ReadEntries.{array_between-long}
-use Rattle.sift_document.specs.Document.{IsArrayOf, entries_of, members_of, word_array, word_value}
+use Rattle.sift_document.specs.Document.{IsArrayOf, entries_of, members_of, word_array, word_value, tables_in}
 use Rattle.sift_document.specs.Rules.{AreKept, IsKept, rule}
 use Rattle.sift_scenario.proofs.Decided.{stable}
 use Rattle.sift_scenario.proofs.Known.{known_array}
@@ -18,13 +18,14 @@ use Rattle.sift_scenario.proofs.Rolls.{distinct}
 use Rattle.sift_scenario.proofs.Themes.{kept_themes}
 use Rattle.sift_scenario.specs.Mission.{IsLawful}
 use Rattle.sift_scenario.specs.Root.{units_of}
-use Rattle.sift_scenario.specs.Sensor.{BreaksSensors, sensor_names, sensor_rules, sensor_value, sensor_words, sensors_in, words_of}
+use Rattle.sift_scenario.specs.Sensor.{sensor_names, sensor_rules, sensor_words, words_of}
+use Rattle.sift_scenario.proofs.Named.{BreaksSensors}
 use Rattle.sift_scenario.specs.Task.{name_of}
 
 -- there are as many words as names
 pub as_many_sensors : (document : Members) → length (sensor_words document) ≡ length (sensor_names document)
 as_many_sensors document =
-    let sensors = sensors_in (sensor_value document) in
+    let sensors = tables_in (get_member (codes "sensor") document) in
     length-map sensors (λ sensor. unwrap_or (words_of sensor) []) ∙ sym (length-map sensors (λ sensor. unwrap_or (name_of sensor) []))
 
 -- there are few sensors where the rule is kept
@@ -47,28 +48,28 @@ some_words (Some ws) some right = right ws refl
 
 module _ (document : Members) (units : ℕ) (is : units_of document ≡ Some units) (lawful : IsLawful document) where
   -- the rules of the sensors are kept
-  sensors_kept : AreKept (sensor_rules (sensor_value document))
+  sensors_kept : AreKept (sensor_rules (get_member (codes "sensor") document))
   sensors_kept = (kept_themes document units is lawful).1.1.0
 
   -- their names differ
   pub sensors_differ : AreDistinct (sensor_names document)
-  sensors_differ = distinct (sensors_in (sensor_value document)) sensors_kept.1.0
+  sensors_differ = distinct (tables_in (get_member (codes "sensor") document)) sensors_kept.1.0
 
   -- they are few
   pub few_sensors : length (sensor_names document) ≤ 8
   few_sensors =
-      let sensors = sensors_in (sensor_value document) in
+      let sensors = tables_in (get_member (codes "sensor") document) in
       omega (
         arith,
         length-map sensors (λ sensor. unwrap_or (name_of sensor) []),
-        length-map (entries_of (sensor_value document)) members_of,
-        few_entries (sensor_value document) sensors_kept.0,
+        length-map (entries_of (get_member (codes "sensor") document)) members_of,
+        few_entries (get_member (codes "sensor") document) sensors_kept.0,
       )
 
   -- each sensor has words, and no more than may be
   pub words_fit : All HasWords (sensor_words document)
   words_fit k d low =
-      let sensors = sensors_in (sensor_value document) in
+      let sensors = tables_in (get_member (codes "sensor") document) in
       let within : k < length sensors = omega (arith, low, length-map sensors (λ sensor. unwrap_or (words_of sensor) [])) in
       let sensor = get_or sensors k no_members in
       let there = slice_get-get_or sensors k no_members within in

@@ -9,11 +9,12 @@ use Rattle.toml.specs.Data.{Data, boolean, no_members}
 use Rattle.sift_base.specs.Layout.{least_units}
 use Rattle.sift_table.specs.Schedule.{Schedule, plain_of}
 use Rattle.sift_document.proofs.lemmas.DocumentLemmas.{array_entries}
-use Rattle.sift_document.specs.Document.{IsArrayOf, entries_of, members_of}
+use Rattle.sift_document.specs.Document.{IsArrayOf, entries_of, members_of, tables_in}
 use Rattle.sift_document.specs.Rules.{IsKept, rule}
 use Rattle.sift_scenario.proofs.Decided.{stable}
 use Rattle.sift_scenario.proofs.Known.{known_array, known_entry}
-use Rattle.sift_scenario.specs.Table.{BreaksTables, IsTableEntry, plain_tables, schedule_in, schedules_by, size_count, tables_in}
+use Rattle.sift_scenario.proofs.Named.{BreaksTables}
+use Rattle.sift_scenario.specs.Table.{IsTableEntry, schedule_in, schedules_by, size_count}
 
 -- the schedule of a place has a size and a period
 pub record IsSized (period size : ℕ) (table : Schedule) : Type 0 where
@@ -26,14 +27,14 @@ schedule_at tables i = get_or tables i (record { size = 0; period = 0; run = [];
 
 module _ (units period tasks : ℕ) where
   -- ---- plain ones
-  plain_long : length (plain_tables units period tasks) ≡ size_count units
+  plain_long : length (schedules_by None units period tasks) ≡ size_count units
   plain_long = length-map (range_with_len least_units (size_count units)) (λ size. plain_of size period tasks) ∙ length-range_with_len least_units (size_count units)
 
-  plain_sized : (i : ℕ) → i < length (plain_tables units period tasks) → IsSized period (least_units + i) (schedule_at (plain_tables units period tasks) i)
+  plain_sized : (i : ℕ) → i < length (schedules_by None units period tasks) → IsSized period (least_units + i) (schedule_at (schedules_by None units period tasks) i)
   plain_sized i low =
       let within : i < size_count units = omega (arith, low, plain_long) in
       let sizes = range_with_len least_units (size_count units) in
-      let here : schedule_at (plain_tables units period tasks) i ≡ plain_of (least_units + i) period tasks =
+      let here : schedule_at (schedules_by None units period tasks) i ≡ plain_of (least_units + i) period tasks =
       get_or-map (λ size. plain_of size period tasks) sizes i 0 _ (rw length-range_with_len within)
       ∙ ap (λ size. plain_of size period tasks) (get_or-range_with_len least_units (size_count units) i 0 within) in
       record { sized = ap (λ (t : Schedule). t.size) here; timed = ap (λ (t : Schedule). t.period) here }

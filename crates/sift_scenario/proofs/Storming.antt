@@ -5,15 +5,17 @@ use Rattle.std.proofs.lemmas.Bool.Decides.{nat_tests}
 use Rattle.std.proofs.lemmas.List.{length-map}
 use Rattle.std.proofs.lemmas.Option.{get_or_from_slice_get, slice_get-map, slice_get_within}
 use Rattle.std.specs.List.{slice_get}
-use Rattle.std.specs.Prelude.{option_map, unwrap_or}
+use Rattle.std.specs.Prelude.{option_map, unwrap_or, codes}
 use Rattle.sift_base.specs.Units.{has}
 use Rattle.sift_script.specs.Faults.{storm_from, storm_of}
 use Rattle.sift_script.specs.Rules.{fault_at}
 use Rattle.sift_script.specs.Script.{Change, Failing, Fault, FaultScript, changing, turning}
-use Rattle.toml.specs.Data.{Members}
+use Rattle.toml.specs.Data.{Members, get_member}
 use Rattle.sift_document.specs.Rules.{HoldsOf}
 use Rattle.sift_scenario.proofs.Themes.{kept_themes}
-use Rattle.sift_scenario.specs.Fault.{BreaksHeads, IsHeadless, failing_from, fault_in, fault_value, faults_in, from_of, stated_storm, unit_of}
+use Rattle.sift_scenario.specs.Fault.{fault_in, from_of, stated_storm, unit_of}
+use Rattle.sift_document.specs.Document.{tables_in}
+use Rattle.sift_scenario.proofs.Named.{failing_from, IsHeadless, BreaksHeads}
 use Rattle.sift_scenario.specs.Laws.{IsStormOf, StormsAreStated}
 
 -- ---- one fault
@@ -108,7 +110,7 @@ kept (table ∷ tables) u from number strays (suc place) fault there storm new =
 -- the mission that a document states has a storm of a unit exactly where a fault of the document states it
 pub stated_storms : StormsAreStated
 stated_storms document d u from number strays is =
-    let tables = faults_in (fault_value document) in
+    let tables = tables_in (get_member (codes "fault") document) in
     let themes = kept_themes document d.units is.stated.units is.stated.lawful in
     let faults : d.script.faults ≡ map fault_in tables = ap (λ (s : FaultScript). s.faults) is.stated.script in (
       λ storm. found tables u from number strays themes.1.1.1.1.1.0.1.0 (ap (λ (fs : List Fault). storm_of fs u) (sym faults) ∙ storm),

@@ -5,7 +5,8 @@ use Rattle.toml.specs.Data.{Members}
 use Rattle.sift_document.proofs.lemmas.Places.{holds_here}
 use Rattle.sift_document.specs.Rules.{IsKept, rule}
 use Rattle.sift_scenario.specs.Reading.{IsPartial}
-use Rattle.sift_scenario.specs.Table.{BreaksTimes, IsTimeless, positions_of, size_of}
+use Rattle.sift_scenario.proofs.Named.{BreaksTimes}
+use Rattle.sift_scenario.specs.Table.{IsTimeless, positions_of, size_of}
 
 -- where the sizes are there, and the times are, what isn't read is the positions
 pub positionless :

@@ -41,12 +41,12 @@ refusal_of-other : (task : ℕ) (parsed : ParseStop) (e : Refused) → refusal_o
 refusal_of-other task parsed e same other = no_other task parsed (subst IsOtherStop (sym same) (other, λ none. cc none))
 
 over-other : (left task : ℕ) (tree : TaskTree) (e : Refused) → IsOver left task tree e → IsOther e → ⊥
-over-other left task tree e (inl long) other = rw long.refused_is at other
-over-other left task tree e (inr slow) other = rw slow.refused_is at other
+over-other left task tree e (inl long) other = rw long.1 at other
+over-other left task tree e (inr slow) other = rw slow.2 at other
 
 form_refusal-other : (roll : Roll) (left task : ℕ) (form : Form) (e : Refused) → IsFormRefused roll left task form e → IsOther e → ⊥
 form_refusal-other roll left task form e (inl fault) other = refusal_of-other task fault.parsed e fault.refused_is other
-form_refusal-other roll left task form e (inr over) other = over-other left task over.tree e over.over other
+form_refusal-other roll left task form e (inr over) other = over-other left task over.0 e over.2 other
 
 -- a task of a lawful document is refused
 pub text_refused_by : (d : Members) (e : Refused) → IsLawful d → TasksAreRefused (sensor_names d) (tasks_of d) e → IsRefusedWith d e

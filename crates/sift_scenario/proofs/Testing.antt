@@ -3,14 +3,15 @@ use Rattle.std.proofs.Common.{◌≡◌, ◌<◌, ◌==◌, ℕ, List, [], ◌�
 use Rattle.toml.specs.Data.{Data, Members}
 use Rattle.toml.specs.View.{view}
 use Rattle.toml.specs.declared.value.Value.{Value}
-use Rattle.sift_document.specs.Document.{IsNoTableOf}
 use Rattle.sift_document.specs.Rules.{HoldsOf}
-use Rattle.sift_scenario.specs.Task.{task_entries, task_keys, BreaksTasks, IsTaskNumber}
+use Rattle.sift_document.specs.Document.{IsTableOf}
+use Rattle.sift_scenario.proofs.Named.{task_keys}
+use Rattle.sift_scenario.specs.Task.{task_entries, BreaksTasks, IsTaskNumber}
 
 -- as many entries as may be, of which the one at a place is a table with known keys
 pub keeps_tasks :
     (document : Members) (entries : List Data) (at : ℕ)
-    → entries ≡ task_entries document → IsTaskNumber (length entries) → ¬ HoldsOf entries at (IsNoTableOf task_keys)
+    → entries ≡ task_entries document → IsTaskNumber (length entries) → ¬ HoldsOf entries at (λ entry. ¬ IsTableOf task_keys entry)
     → ¬ BreaksTasks document at
 keeps_tasks document entries at same number known (inl other) = other.1 (rw (← same) number)
 keeps_tasks document entries at same number known (inr entry) = known (rw same entry)

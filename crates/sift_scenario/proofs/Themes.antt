@@ -6,7 +6,8 @@ use Rattle.toml.specs.Data.{Members}
 use Rattle.sift_document.proofs.lemmas.Order.{AreAllKept, StopsIn, kept_each, kept_joined, stopped_in}
 use Rattle.sift_document.specs.Testing.{RefusesFirst}
 use Rattle.sift_document.specs.declared.rule.BrokenRule.{BrokenRule}
-use Rattle.sift_scenario.specs.Mission.{IsLawful, rules_of, themes_for}
+use Rattle.sift_scenario.specs.Mission.{IsLawful, rules_of}
+use Rattle.sift_scenario.proofs.Named.{themes_for}
 use Rattle.sift_scenario.specs.Root.{root_rules, units_of, version_of}
 
 module _ (document : Members) (units : ℕ) (is : units_of document ≡ Some units) where

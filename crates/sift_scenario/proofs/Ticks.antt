@@ -6,10 +6,11 @@ use Rattle.std.specs.List.{All}
 use Rattle.std.specs.Prelude.{ℤ, pos, option_and_then, unwrap_or}
 use Rattle.toml.specs.Data.{Data, string, integer, float, boolean, datetime, array, table}
 use Rattle.sift_clock.specs.Distance.{IsWithin}
-use Rattle.sift_document.proofs.lemmas.ReadEntries.{array_between-long, with_front-parts}
-use Rattle.sift_document.specs.Document.{array_between, array_of, each_read, list_of, of_length, read_by}
+use Rattle.sift_document.proofs.lemmas.ReadEntries.{array_between-long, with_front-parts, of_length}
+use Rattle.sift_document.specs.Document.{array_between, array_of, each_read, list_of}
 use Rattle.sift_scenario.proofs.Decided.{all_more}
-use Rattle.sift_scenario.specs.Clock.{ticks_within, unit_ticks, zeros}
+use Rattle.sift_document.proofs.lemmas.Numbers.{read_by}
+use Rattle.sift_scenario.specs.Clock.{ticks_within, unit_ticks}
 
 -- ---- what is read
 
@@ -93,29 +94,29 @@ rows_read units far d rows is =
     (omega (arith, long.0, long.1), all_between (AreTicks units far) (unit_ticks units far) (ticks_read units far) units units d rows is)
 
 -- as many zeros are
-pub zeros_near : (units far : ℕ) → AreTicks units far (zeros units)
+pub zeros_near : (units far : ℕ) → AreTicks units far (replicate units (pos 0))
 zeros_near units far = (
   length-replicate units (pos 0),
   All-replicate (λ tick. IsWithin (pos far) tick (pos 0)) units (pos 0) (omega (arith, ints), omega (arith, ints)),
 )
 
 -- and as many rows of them
-pub rows_near : (units far : ℕ) → AreRows units far (replicate units (zeros units))
-rows_near units far = (length-replicate units (zeros units), All-replicate (AreTicks units far) units (zeros units) (zeros_near units far))
+pub rows_near : (units far : ℕ) → AreRows units far (replicate units (replicate units (pos 0)))
+rows_near units far = (length-replicate units (replicate units (pos 0)), All-replicate (AreTicks units far) units (replicate units (pos 0)) (zeros_near units far))
 
 -- ---- values that may be missing
 
 -- what is read of a value that may be missing, and is zeros then
 pub ticks_or :
     (units far : ℕ) (d : Option Data) (ticks : List ℤ)
-    → read_by (zeros units) (unit_ticks units far) d ≡ Some ticks → AreTicks units far ticks
+    → read_by (replicate units (pos 0)) (unit_ticks units far) d ≡ Some ticks → AreTicks units far ticks
 ticks_or units far d ticks is =
-    right_or (AreTicks units far) (unit_ticks units far) (ticks_read units far) (zeros units) (zeros_near units far) d ticks is
+    right_or (AreTicks units far) (unit_ticks units far) (ticks_read units far) (replicate units (pos 0)) (zeros_near units far) d ticks is
 
 -- the same of rows
 pub rows_or :
     (units far : ℕ) (d : Option Data) (rows : List (List ℤ))
-    → read_by (replicate units (zeros units)) (array_between units units (unit_ticks units far)) d ≡ Some rows → AreRows units far rows
+    → read_by (replicate units (replicate units (pos 0))) (array_between units units (unit_ticks units far)) d ≡ Some rows → AreRows units far rows
 rows_or units far d rows is =
     right_or (AreRows units far) (array_between units units (unit_ticks units far)) (rows_read units far)
-    (replicate units (zeros units)) (rows_near units far) d rows is
+    (replicate units (replicate units (pos 0))) (rows_near units far) d rows is

@@ -41,5 +41,5 @@ module _
     as_many = long;
     earlier = each;
     allowed = allowed;
-    here = record { entry = form; there = there; holds = inr (record { tree = tree; tree_is = is; over = over }) };
+    here = record { entry = form; there = there; holds = inr (tree, is, over) };
   }

@@ -7,7 +7,8 @@ use Rattle.sift_lang.specs.Tree.{TaskTree}
 use Rattle.sift_parse.proofs.lemmas.OneAnswer.{one_task}
 use Rattle.sift_parse.specs.Roll.{Roll}
 use Rattle.sift_document.specs.Document.{read_at}
-use Rattle.sift_scenario.specs.Program.{AreTreesOf, IsTreeOf, turn_of}
+use Rattle.sift_scenario.specs.Program.{IsTreeOf, turn_of}
+use Rattle.sift_scenario.proofs.Named.{AreTreesOf}
 use Rattle.sift_scenario.specs.Task.{AreForms, Form, linear, text, HasForm}
 
 -- where no value is, nothing is read
@@ -20,13 +21,13 @@ absent A read key task x none is =
 -- a task has one form
 pub one_form : (task : Members) (a b : Form) → HasForm task a → HasForm task b → a ≡ b
 one_form task (linear f a) (linear g b) one other =
-    let same : Some (f ∷ a ∷ []) ≡ Some (g ∷ b ∷ []) = sym one.stated ∙ other.stated in
+    let same : Some (f ∷ a ∷ []) ≡ Some (g ∷ b ∷ []) = sym one.0 ∙ other.0 in
     cc same
 one_form task (text s) (text t) one other =
-    let same : Some s ≡ Some t = sym one.stated ∙ other.stated in
+    let same : Some s ≡ Some t = sym one.0 ∙ other.0 in
     cc same
-one_form task (linear f a) (text t) one other = absurd (absent (List ℕ) as_str (codes "text") task t one.alone other.stated)
-one_form task (text s) (linear g b) one other = absurd (absent (List ℕ) as_str (codes "text") task s other.alone one.stated)
+one_form task (linear f a) (text t) one other = absurd (absent (List ℕ) as_str (codes "text") task t one.2 other.0)
+one_form task (text s) (linear g b) one other = absurd (absent (List ℕ) as_str (codes "text") task s other.2 one.0)
 
 -- lists of one length are the same where each entry of the one is that of the other
 pub same_entries : (A : Type 0) (xs ys : List A) → length xs ≡ length ys → ((k : ℕ) (x y : A) → slice_get xs k ≡ Some x → slice_get ys k ≡ Some y → x ≡ y) → xs ≡ ys

@@ -29,7 +29,7 @@ use Rattle.sift_scenario.proofs.Unrefused.{first_trees, no_want, one_entry, tree
 use Rattle.sift_scenario.specs.Mission.{rules_of, HasGoodTables, IsMission, IsStated}
 use Rattle.sift_scenario.specs.Laws.{MissionsAreAccepted, OneRefusal}
 use Rattle.sift_scenario.specs.Program.{roll_for, steps_left, turn_of}
-use Rattle.sift_scenario.specs.Refusal.{IsFirstBadTable, IsFirstRefused, IsFormRefused, IsNoTask, IsOver, IsRefusedWith, TablesAreRefused, TasksAreRefused, ScriptIsRefused, refusal_of}
+use Rattle.sift_scenario.specs.Refusal.{IsFirstBadTable, IsFirstRefused, IsFormRefused, IsNoTask, IsOver, IsRefusedWith, TasksAreRefused, refusal_of}
 use Rattle.sift_scenario.specs.Sensor.{sensor_names}
 use Rattle.sift_scenario.specs.Task.{Form, text, tasks_of}
 use Rattle.sift_scenario.specs.declared.refused.Refused.{Refused}
@@ -59,18 +59,18 @@ good_unrefused schedules shapes size row rule good bad =
     (table_laws.one_broken_rule bad.here.entry shapes rule row bad.here.holds.1).0 fine
 
 -- where data with good tables are stated no table is refused
-stated_tables : (d : Members) (m : MissionData) (size row rule : ℕ) → IsStated d m → HasGoodTables m → TablesAreRefused d size row rule → ⊥
+stated_tables : (d : Members) (m : MissionData) (size row rule : ℕ) → IsStated d m → HasGoodTables m → IsRefusedWith d (Table size row rule) → ⊥
 stated_tables d m size row rule states good refused =
-    let same = one_stated d refused.mission m refused.stated states in
+    let same = one_stated d refused.0 m refused.1 states in
     let bad : IsFirstBadTable m.tables (shapes_in m) size row rule =
-    subst (λ (x : MissionData). IsFirstBadTable x.tables (shapes_in x) size row rule) same refused.bad in
+    subst (λ (x : MissionData). IsFirstBadTable x.tables (shapes_in x) size row rule) same refused.2 in
     good_unrefused m.tables (shapes_in m) size row rule good bad
 
 -- where data with a good script are stated it isn't refused
-stated_script : (d : Members) (m : MissionData) (entry rule : ℕ) → IsStated d m → scripts.IsGood m.script → ScriptIsRefused d entry rule → ⊥
+stated_script : (d : Members) (m : MissionData) (entry rule : ℕ) → IsStated d m → scripts.IsGood m.script → IsRefusedWith d (Script entry rule) → ⊥
 stated_script d m entry rule states good refused =
-    let same = one_stated d refused.mission m refused.stated states in
-    let bad : scripts.IsFirstBroken m.script rule entry = subst (λ (x : MissionData). scripts.IsFirstBroken x.script rule entry) same refused.bad in
+    let same = one_stated d refused.0 m refused.1 states in
+    let bad : scripts.IsFirstBroken m.script rule entry = subst (λ (x : MissionData). scripts.IsFirstBroken x.script rule entry) same refused.3 in
     (script_laws.one_broken_rule m.script rule entry bad).0 good
 
 -- a document that states a mission isn't refused
@@ -98,19 +98,19 @@ one_stop roll task form a b one other =
 
 -- a task is over a limit in one way
 one_over : (left task : ℕ) (tree : TaskTree) (a b : Refused) → IsOver left task tree a → IsOver left task tree b → a ≡ b
-one_over left task tree a b (inl one) (inl other) = one.refused_is ∙ sym other.refused_is
-one_over left task tree a b (inl one) (inr other) = absurd (omega (arith, one.long, other.short))
-one_over left task tree a b (inr one) (inl other) = absurd (omega (arith, one.short, other.long))
-one_over left task tree a b (inr one) (inr other) = one.refused_is ∙ sym other.refused_is
+one_over left task tree a b (inl one) (inl other) = one.1 ∙ sym other.1
+one_over left task tree a b (inl one) (inr other) = absurd (omega (arith, one.0, other.0))
+one_over left task tree a b (inr one) (inl other) = absurd (omega (arith, one.0, other.0))
+one_over left task tree a b (inr one) (inr other) = one.2 ∙ sym other.2
 
 -- a task is refused in one way
 one_form_refusal : (roll : Roll) (left task : ℕ) (form : Form) (a b : Refused) → IsFormRefused roll left task form a → IsFormRefused roll left task form b → a ≡ b
 one_form_refusal roll left task form a b (inl one) (inl other) = one_stop roll task form a b one other
-one_form_refusal roll left task form a b (inl one) (inr other) = absurd (tree_unrefused roll task form other.tree a other.tree_is one)
-one_form_refusal roll left task form a b (inr one) (inl other) = absurd (tree_unrefused roll task form one.tree b one.tree_is other)
+one_form_refusal roll left task form a b (inl one) (inr other) = absurd (tree_unrefused roll task form other.0 a other.1 one)
+one_form_refusal roll left task form a b (inr one) (inl other) = absurd (tree_unrefused roll task form one.0 b one.1 other)
 one_form_refusal roll left task form a b (inr one) (inr other) =
-    let same = one_tree roll form one.tree other.tree one.tree_is other.tree_is in
-    one_over left task other.tree a b (subst (λ (t : TaskTree). IsOver left task t a) same one.over) other.over
+    let same = one_tree roll form one.0 other.0 one.1 other.1 in
+    one_over left task other.0 a b (subst (λ (t : TaskTree). IsOver left task t a) same one.2) other.2
 
 -- the first task that is refused is refused in one way
 same_task : (roll : Roll) (forms : List Form) (a b : Refused) (one : IsFirstRefused roll forms a) (other : IsFirstRefused roll forms b) → one.task ≡ other.task → a ≡ b
@@ -168,20 +168,20 @@ one_bad_table schedules shapes size row rule other_size other_row other one two 
 
 -- the data that two refusals speak of are the same
 one_table_refusal :
-    (d : Members) (size row rule other_size other_row other : ℕ) → TablesAreRefused d size row rule → TablesAreRefused d other_size other_row other
+    (d : Members) (size row rule other_size other_row other : ℕ) → IsRefusedWith d (Table size row rule) → IsRefusedWith d (Table other_size other_row other)
     → (size ≡ other_size) × ((row ≡ other_row) × (rule ≡ other))
 one_table_refusal d size row rule other_size other_row other one two =
-    let same = one_stated d one.mission two.mission one.stated two.stated in
-    let bad : IsFirstBadTable two.mission.tables (shapes_in two.mission) size row rule =
-    subst (λ (x : MissionData). IsFirstBadTable x.tables (shapes_in x) size row rule) same one.bad in
-    one_bad_table two.mission.tables (shapes_in two.mission) size row rule other_size other_row other bad two.bad
+    let same = one_stated d one.0 two.0 one.1 two.1 in
+    let bad : IsFirstBadTable two.0.tables (shapes_in two.0) size row rule =
+    subst (λ (x : MissionData). IsFirstBadTable x.tables (shapes_in x) size row rule) same one.2 in
+    one_bad_table two.0.tables (shapes_in two.0) size row rule other_size other_row other bad two.2
 
 one_script_refusal :
-    (d : Members) (entry rule other_entry other : ℕ) → ScriptIsRefused d entry rule → ScriptIsRefused d other_entry other → (entry ≡ other_entry) × (rule ≡ other)
+    (d : Members) (entry rule other_entry other : ℕ) → IsRefusedWith d (Script entry rule) → IsRefusedWith d (Script other_entry other) → (entry ≡ other_entry) × (rule ≡ other)
 one_script_refusal d entry rule other_entry other one two =
-    let same = one_stated d one.mission two.mission one.stated two.stated in
-    let bad : scripts.IsFirstBroken two.mission.script rule entry = subst (λ (x : MissionData). scripts.IsFirstBroken x.script rule entry) same one.bad in
-    let so = (script_laws.one_broken_rule two.mission.script other other_entry two.bad).1 rule entry bad in (so.1, so.0)
+    let same = one_stated d one.0 two.0 one.1 two.1 in
+    let bad : scripts.IsFirstBroken two.0.script rule entry = subst (λ (x : MissionData). scripts.IsFirstBroken x.script rule entry) same one.3 in
+    let so = (script_laws.one_broken_rule two.0.script other other_entry two.3).1 rule entry bad in (so.1, so.0)
 
 -- ---- all of them
 
@@ -190,24 +190,24 @@ pub one_refusal : OneRefusal
 one_refusal d (Scenario n at) (Scenario m other) one two =
     let same = one_broken (rules_of d) n at m other one two in rw (same.0, same.1) refl
 one_refusal d (Scenario n at) (Task t k x) one two = absurd (kept_unbroken (rules_of d) n at two.0 one)
-one_refusal d (Scenario n at) (Table size row rule) one two = absurd (kept_unbroken (rules_of d) n at two.stated.lawful one)
-one_refusal d (Scenario n at) (Script entry rule) one two = absurd (kept_unbroken (rules_of d) n at two.stated.lawful one)
+one_refusal d (Scenario n at) (Table size row rule) one two = absurd (kept_unbroken (rules_of d) n at two.1.lawful one)
+one_refusal d (Scenario n at) (Script entry rule) one two = absurd (kept_unbroken (rules_of d) n at two.1.lawful one)
 one_refusal d (Task t k x) (Scenario n at) one two = absurd (kept_unbroken (rules_of d) n at one.0 two)
 one_refusal d (Task t k x) (Task u l y) one two =
     let roll = roll_for (sensor_names d) (tasks_of d) in
     let same : one.1.0 ≡ two.1.0 = one_forms (tasks_of d) one.1.0 two.1.0 one.1.1 two.1.1 in
     one_task_refusal roll two.1.0 (Task t k x) (Task u l y)
     (subst (λ (fs : List Form). IsFirstRefused roll fs (Task t k x)) same one.1.2) two.1.2
-one_refusal d (Task t k x) (Table size row rule) one two = absurd (stated_tasks d two.mission (Task t k x) two.stated one.1)
-one_refusal d (Task t k x) (Script entry rule) one two = absurd (stated_tasks d two.mission (Task t k x) two.stated one.1)
-one_refusal d (Table size row rule) (Scenario n at) one two = absurd (kept_unbroken (rules_of d) n at one.stated.lawful two)
-one_refusal d (Table size row rule) (Task t k x) one two = absurd (stated_tasks d one.mission (Task t k x) one.stated two.1)
+one_refusal d (Task t k x) (Table size row rule) one two = absurd (stated_tasks d two.0 (Task t k x) two.1 one.1)
+one_refusal d (Task t k x) (Script entry rule) one two = absurd (stated_tasks d two.0 (Task t k x) two.1 one.1)
+one_refusal d (Table size row rule) (Scenario n at) one two = absurd (kept_unbroken (rules_of d) n at one.1.lawful two)
+one_refusal d (Table size row rule) (Task t k x) one two = absurd (stated_tasks d one.0 (Task t k x) one.1 two.1)
 one_refusal d (Table size row rule) (Table other_size other_row other) one two =
     let same = one_table_refusal d size row rule other_size other_row other one two in rw (same.0, same.1.0, same.1.1) refl
-one_refusal d (Table size row rule) (Script entry other) one two = absurd (stated_tables d two.mission size row rule two.stated two.good_tables one)
-one_refusal d (Script entry rule) (Scenario n at) one two = absurd (kept_unbroken (rules_of d) n at one.stated.lawful two)
-one_refusal d (Script entry rule) (Task t k x) one two = absurd (stated_tasks d one.mission (Task t k x) one.stated two.1)
-one_refusal d (Script entry rule) (Table size row other) one two = absurd (stated_tables d one.mission size row other one.stated one.good_tables two)
+one_refusal d (Table size row rule) (Script entry other) one two = absurd (stated_tables d two.0 size row rule two.1 two.2 one)
+one_refusal d (Script entry rule) (Scenario n at) one two = absurd (kept_unbroken (rules_of d) n at one.1.lawful two)
+one_refusal d (Script entry rule) (Task t k x) one two = absurd (stated_tasks d one.0 (Task t k x) one.1 two.1)
+one_refusal d (Script entry rule) (Table size row other) one two = absurd (stated_tables d one.0 size row other one.1 one.2 two)
 one_refusal d (Script entry rule) (Script other_entry other) one two =
     let same = one_script_refusal d entry rule other_entry other one two in rw (same.0, same.1) refl
 

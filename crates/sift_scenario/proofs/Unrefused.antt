@@ -36,8 +36,8 @@ tree_unrefused roll task form tree e is fault =
 
 -- what is within the limits isn't over one
 within_unrefused : (left task : ℕ) (tree : TaskTree) (e : Refused) → IsWithin left tree → IsOver left task tree e → ⊥
-within_unrefused left task tree e within (inl long) = omega (arith, long.long, within.short)
-within_unrefused left task tree e within (inr slow) = omega (arith, slow.slow, within.quick)
+within_unrefused left task tree e within (inl long) = omega (arith, long.0, within.short)
+within_unrefused left task tree e within (inr slow) = omega (arith, slow.1, within.quick)
 
 -- a task that has an allowed tree isn't refused
 form_unrefused :
@@ -45,8 +45,8 @@ form_unrefused :
     → IsTreeOf roll form tree → IsWithin left tree → IsFormRefused roll left task form e → ⊥
 form_unrefused roll left task form tree e is allowed (inl fault) = tree_unrefused roll task form tree e is fault
 form_unrefused roll left task form tree e is allowed (inr over) =
-    let same = one_tree roll form over.tree tree over.tree_is is in
-    within_unrefused left task tree e allowed (subst (λ (t : TaskTree). IsOver left task t e) same over.over)
+    let same = one_tree roll form over.0 tree over.1 is in
+    within_unrefused left task tree e allowed (subst (λ (t : TaskTree). IsOver left task t e) same over.2)
 
 -- trees of the first tasks are the first of the trees
 pub first_trees :

@@ -7,13 +7,15 @@ use Rattle.std.specs.Prelude.{codes, unwrap_or}
 use Rattle.toml.specs.Data.{Data, Members, string, integer, float, boolean, datetime, array, table, no_members, member, as_table, get_member}
 use Rattle.sift_base.specs.Layout.{least_units}
 use Rattle.sift_table.specs.Schedule.{Schedule, plain_of}
-use Rattle.sift_document.specs.Document.{HasOnlyKeys, entries_of, keys_of, members_of, read_by}
+use Rattle.sift_document.specs.Document.{HasOnlyKeys, entries_of, keys_of, members_of, tables_in}
 use Rattle.sift_document.specs.Rules.{IsKept, rule}
 use Rattle.sift_scenario.proofs.Sizes.{entry_fits}
 use Rattle.sift_scenario.proofs.Themes.{kept_themes}
 use Rattle.sift_scenario.specs.Laws.{VersionOneShedsNothing}
 use Rattle.sift_scenario.specs.Root.{version_of}
-use Rattle.sift_scenario.specs.Table.{BreaksTables, IsTableEntry, schedule_in, schedules_by, shed_of, size_count, table_keys, table_value, tables_in}
+use Rattle.sift_scenario.specs.Table.{IsTableEntry, schedule_in, schedules_by, shed_of, size_count, table_keys}
+use Rattle.sift_scenario.proofs.Named.{BreaksTables}
+use Rattle.sift_document.proofs.lemmas.Numbers.{read_by}
 use Rattle.sift_scenario.specs.Task.{task_entries}
 
 -- a key of version 1 isn't `shed`
@@ -65,7 +67,7 @@ module _ (units period tasks : ℕ) where
 -- no table of a mission sheds a task where a document of version 1 states the mission
 pub unshed : VersionOneShedsNothing
 unshed document mission first is =
-    let value = table_value document in
+    let value = get_member (codes "table") document in
     let kept : IsKept (rule 23 (BreaksTables (unwrap_or (version_of document) 0) mission.units value)) =
     (kept_themes document mission.units is.stated.units is.stated.lawful).1.1.1.1.0.0 in
     let one : IsKept (rule 23 (BreaksTables 1 mission.units value)) =

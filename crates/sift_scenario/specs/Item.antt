@@ -1,7 +1,7 @@
 -- What an item of `say` states: how a faulty unit's words in a slot are changed.
 use Rattle.std.specs.Prelude.{codes, ℕ, ◌-◌, List, [], ◌∷◌, Bool, true, false, Option, Some, None, option_and_then, option_map, if◌then◌else◌}
 use Rattle.std.specs.Str.{bytes_eq}
-use Rattle.toml.specs.Data.{Data, Members, as_str, get_member}
+use Rattle.toml.specs.Data.{Members, as_str}
 use Rattle.sift_base.specs.Units.{unit_limit}
 use Rattle.sift_script.specs.Script.{Change}
 use Rattle.sift_script.specs.declared.script.SlotKind.{SlotKind}
@@ -38,30 +38,18 @@ kind_of item = option_and_then kind_named (read_at as_str (codes "slot") item)
 -- whether slots of a kind have an index: the sensor, the task, or the unit whose report is relayed
 abbrev pub has_index : SlotKind → Bool
 has_index Clock = false
-has_index Sense = true
-has_index Relay = true
-has_index Out = true
 has_index Report = false
-has_index RelayReport = true
+has_index _ = true
 
--- whether slots of a kind have a word
+-- whether slots of a kind have a word: those of a task's output have one
 abbrev pub has_word : SlotKind → Bool
-has_word Clock = false
-has_word Sense = false
-has_word Relay = false
 has_word Out = true
-has_word Report = false
-has_word RelayReport = false
-
--- 0 where no value is
-abbrev pub zero_without : Option Data → Option ℕ
-zero_without None = Some 0
-zero_without (Some value) = None
+has_word _ = false
 
 -- the number at a key, which is there just where it is wanted; 0 where it isn't
 abbrev pub number_where : Bool → List ℕ → Members → Option ℕ
 number_where true key item = read_at (integer_between 0 highest_index) key item
-number_where false key item = zero_without (get_member key item)
+number_where false key item = read_or 0 (λ value. None) key item
 
 -- the receivers of an item
 abbrev pub receivers_of : Members → Option (List ℕ)
@@ -81,12 +69,8 @@ change_from kind (Some index) (Some word) (Some to) (Some frame) (Some value) =
     Some (record { kind = kind; index = index; word = word; to = to; frame = frame; value = value })
 change_from kind _ _ _ _ _ = None
 
--- the change that an item of a kind states
-abbrev pub change_by : Members → SlotKind → Option Change
-change_by item kind =
-    change_from kind (number_where (has_index kind) (codes "index") item) (number_where (has_word kind) (codes "word") item)
-    (receivers_of item) (frame_of item) (said_of item)
-
 -- the change that an item states
 abbrev pub change_in : Members → Option Change
-change_in item = option_and_then (change_by item) (kind_of item)
+change_in item = option_and_then (λ kind.
+    change_from kind (number_where (has_index kind) (codes "index") item) (number_where (has_word kind) (codes "word") item)
+    (receivers_of item) (frame_of item) (said_of item)) (kind_of item)

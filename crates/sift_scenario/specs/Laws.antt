@@ -1,11 +1,12 @@
 -- The laws of what a document is answered with.
-use Rattle.std.specs.Prelude.{◌≡◌, ◌⊎◌, ◌↔◌, ℕ, [], Some}
+use Rattle.std.specs.Prelude.{codes, ◌≡◌, ◌⊎◌, ◌↔◌, ℕ, [], Some}
 use Rattle.std.specs.List.{All}
-use Rattle.toml.specs.Data.{Members}
-use Rattle.sift_document.specs.Rules.{HoldsOf}
+use Rattle.toml.specs.Data.{Members, get_member}
+use Rattle.sift_document.specs.Document.{tables_in}
+use Rattle.sift_document.specs.Rules.{BreaksFirst, HoldsOf}
 use Rattle.sift_scenario.specs.declared.refused.Refused.{Refused}
-use Rattle.sift_scenario.specs.Fault.{fault_value, faults_in, from_of, stated_storm, unit_of}
-use Rattle.sift_scenario.specs.Mission.{IsFirstBroken, IsLawful, IsMission}
+use Rattle.sift_scenario.specs.Fault.{from_of, stated_storm, unit_of}
+use Rattle.sift_scenario.specs.Mission.{rules_of, IsLawful, IsMission}
 use Rattle.sift_scenario.specs.Refusal.{IsRefusedWith}
 use Rattle.sift_scenario.specs.Root.{version_of}
 use Rattle.sift_mission.specs.Data.{MissionData}
@@ -37,7 +38,7 @@ pub record IsStormOf (u from number strays : ℕ) (fault : Members) : Type 0 whe
 
 -- one of the faults of the document is such a storm
 abbrev pub StatesStorm : (document : Members) (u from number strays : ℕ) → Type 0
-StatesStorm document u from number strays = (place : ℕ) × HoldsOf (faults_in (fault_value document)) place (IsStormOf u from number strays)
+StatesStorm document u from number strays = (place : ℕ) × HoldsOf (tables_in (get_member (codes "fault") document)) place (IsStormOf u from number strays)
 
 -- the storms of the mission that a document states are those that the document states
 abbrev pub StormsAreStated : Type 0
@@ -51,7 +52,7 @@ VersionOneShedsNothing = (document : Members) (mission : MissionData) → versio
 
 -- a document keeps all rules, or one is the first that it breaks, at a first place
 abbrev pub RulesAreKeptOrBroken : Type 0
-RulesAreKeptOrBroken = (document : Members) → IsLawful document ⊎ ((number place : ℕ) × IsFirstBroken document number place)
+RulesAreKeptOrBroken = (document : Members) → IsLawful document ⊎ ((number place : ℕ) × BreaksFirst (rules_of document) number place)
 
 -- what a document is: it states a mission, or is refused
 pub data HasAnswer (document : Members) : Type 0 where

@@ -25,23 +25,15 @@ abbrev pub IsTreeOf : Roll → Form → TaskTree → Type 0
 IsTreeOf roll (linear factor addend) tree = tree ≡ linear_tree (first_word roll roll.this) factor addend
 IsTreeOf roll (text bytes) tree = IsTaskOf roll bytes tree
 
--- the trees of tasks of these forms, in their order
-abbrev pub AreTreesOf : Roll → List Form → List TaskTree → Type 0
-AreTreesOf roll forms trees = AreMatched (λ task form tree. IsTreeOf (turn_of task roll) form tree) forms trees
-
 -- ---- length and steps
 
 -- the most steps that the tasks of a mission may take in a frame, all together
 abbrev pub step_limit : ℕ
 step_limit = 16384
 
--- the most steps that these tasks take in a frame
-abbrev pub steps_of : List TaskTree → ℕ
-steps_of trees = sum_by task_steps trees
-
--- the steps that are left after these tasks
+-- the steps that are left after these tasks, where each takes the most that it may
 abbrev pub steps_left : List TaskTree → ℕ
-steps_left trees = step_limit - steps_of trees
+steps_left trees = step_limit - sum_by task_steps trees
 
 -- the code of a task is short enough, and takes no more steps than are left
 pub record IsWithin (left : ℕ) (tree : TaskTree) : Type 0 where
@@ -54,14 +46,10 @@ AreAllowed trees = (t : ℕ) (tree : TaskTree) → slice_get trees t ≡ Some tr
 
 -- ---- the program
 
--- the start words of the tasks, in their order
-abbrev pub all_starts : List Members → List ℕ
-all_starts tasks = flat_map (λ task. unwrap_or (start_words task) []) tasks
-
 -- the program of the tasks in these tables, beside sensors of these names
 pub record IsProgramOf (sensors : List (List ℕ)) (tasks : List Members) (program : ProgramTree) : Type 0 where
-  pub starts : program.starts ≡ all_starts tasks
+  pub starts : program.starts ≡ flat_map (λ task. unwrap_or (start_words task) []) tasks
   pub forms : List Form
   pub stated : AreForms tasks forms
-  pub trees : AreTreesOf (roll_for sensors tasks) forms program.tasks
+  pub trees : AreMatched (λ task form tree. IsTreeOf (turn_of task (roll_for sensors tasks)) form tree) forms program.tasks
   pub allowed : AreAllowed program.tasks

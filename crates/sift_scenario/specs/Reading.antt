@@ -1,6 +1,7 @@
 -- What is read of a document, and what is made of it. No public clause cites this module.
-use Rattle.std.specs.Prelude.{◌≡◌, ◌⊎◌, List, [], Some, None, length, map, unwrap_or}
-use Rattle.toml.specs.Data.{Members}
+use Rattle.std.specs.Prelude.{codes, ◌≡◌, ◌⊎◌, List, [], Some, None, length, map, unwrap_or}
+use Rattle.toml.specs.Data.{Members, get_member}
+use Rattle.sift_document.specs.Document.{tables_in}
 use Rattle.sift_compile.specs.Tasks.{AreCodesOf}
 use Rattle.sift_program.specs.Program.{program_of}
 use Rattle.sift_script.specs.Script.{Change, faults_of}
@@ -10,16 +11,15 @@ use Rattle.sift_scenario.specs.declared.document.Entries.{Entries}
 use Rattle.sift_scenario.specs.declared.program.Running.{Running}
 use Rattle.sift_scenario.specs.declared.sensor.Sensors.{Sensors}
 use Rattle.sift_scenario.specs.declared.task.Tasks.{Tasks}
-use Rattle.sift_scenario.specs.Clock.{clocks_of}
-use Rattle.sift_scenario.specs.Fault as fault
-use Rattle.sift_scenario.specs.Fault.{changes_of, from_of, unit_of}
+use Rattle.sift_scenario.specs.Clock.{clocks_in}
+use Rattle.sift_scenario.specs.Fault.{changes_of, fault_in, from_of, unit_of}
 use Rattle.sift_scenario.specs.declared.fault.Head.{Head}
 use Rattle.sift_scenario.specs.Mission.{IsLawful}
 use Rattle.sift_scenario.specs.Program.{IsProgramOf}
 use Rattle.sift_scenario.specs.Root.{frames_of, period_of, units_of}
-use Rattle.sift_scenario.specs.Sensor.{sensor_names, sensor_value, sensors_in, words_of}
-use Rattle.sift_scenario.specs.Table.{IsTimeless, positions_of, schedules_of, size_of}
-use Rattle.sift_scenario.specs.Task.{AreForms, name_of, names_of, start_words, tasks_of, IsTaskNumber}
+use Rattle.sift_scenario.specs.Sensor.{sensor_names, words_of}
+use Rattle.sift_scenario.specs.Table.{IsTimeless, positions_of, schedules_by, size_of}
+use Rattle.sift_scenario.specs.Task.{AreForms, name_of, names_of, start_words, task_entries, tasks_of, IsTaskNumber}
 use Rattle.sift_scenario.specs.Testing.{form_of}
 
 -- these are the names, the start words and the forms of the tasks in these tables, which are as many as may be
@@ -40,7 +40,7 @@ pub record AreSensorsIn (tables : List Members) (sensors : Sensors) : Type 0 whe
 
 -- these are the names and the words of a document's sensors
 abbrev pub AreSensorsOf : Members → Sensors → Type 0
-AreSensorsOf document sensors = AreSensorsIn (sensors_in (sensor_value document)) sensors
+AreSensorsOf document sensors = AreSensorsIn (tables_in (get_member (codes "sensor") document)) sensors
 
 -- these are the heads and the changes of the faults in these tables
 pub record AreFaultsRead (faults : List Members) (heads : List Head) (said : List (List Change)) : Type 0 where
@@ -58,11 +58,13 @@ pub record IsReadOf (document : Members) (entries : Entries) : Type 0 where
   pub units : units_of document ≡ Some entries.units
   pub frames : frames_of document ≡ Some entries.frames
   pub period : period_of document ≡ Some entries.period
-  pub clock : unit.clocks_of entries.clock ≡ clocks_of entries.units document
+  pub clock : unit.clocks_of entries.clock ≡ clocks_in entries.units (get_member (codes "clock") document)
   pub sensors : AreSensorsOf document entries.sensors
   pub tasks : AreTasksOf document entries.tasks
-  pub tables : map schedule_of entries.tables.items ≡ schedules_of document entries.units entries.period
-  pub faults : faults_of entries.script ≡ fault.faults_of document
+  pub tables :
+      map schedule_of entries.tables.items
+      ≡ schedules_by (get_member (codes "table") document) entries.units entries.period (length (task_entries document))
+  pub faults : faults_of entries.script ≡ map fault_in (tables_in (get_member (codes "fault") document))
 
 -- this is the program of the document's tasks, and this is its code
 pub record IsRunningOf (document : Members) (running : Running) : Type 0 where

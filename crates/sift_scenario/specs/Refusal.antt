@@ -15,10 +15,10 @@ use Rattle.sift_script.specs.Rules as scripts
 use Rattle.sift_table.specs.Rules as tables
 use Rattle.sift_table.specs.Schedule.{Schedule}
 use Rattle.sift_mission.specs.Data.{MissionData, shapes_in}
-use Rattle.sift_document.specs.Rules.{EachMatches, HoldsOf}
+use Rattle.sift_document.specs.Rules.{BreaksFirst, EachMatches, HoldsOf}
 use Rattle.sift_scenario.specs.declared.refused.Refused.{Refused}
 use Rattle.sift_scenario.specs.declared.refused.Refused.TheVariants.{Scenario, Task, Table, Script}
-use Rattle.sift_scenario.specs.Mission.{IsFirstBroken, IsLawful, HasGoodTables, IsStated}
+use Rattle.sift_scenario.specs.Mission.{rules_of, IsLawful, HasGoodTables, IsStated}
 use Rattle.sift_scenario.specs.Program.{AreAllowed, IsTreeOf, roll_for, steps_left, turn_of}
 use Rattle.sift_scenario.specs.Sensor.{sensor_names}
 use Rattle.sift_scenario.specs.Task.{AreForms, Form, text, tasks_of}
@@ -46,30 +46,16 @@ pub record IsNoTask (roll : Roll) (task : ℕ) (form : Form) (refused : Refused)
 abbrev pub told_number : ℕ → ℕ
 told_number n = min n 4294967295
 
--- a task whose code is too long: kind 6, with its length
-pub record IsTooLong (task : ℕ) (tree : TaskTree) (refused : Refused) : Type 0 where
-  pub long : code_limit < task_length tree
-  pub refused_is : refused ≡ Task task 6 (told_number (task_length tree))
-
--- a task whose code isn't, but takes more steps than are left: kind 7, with their number
-pub record IsTooSlow (left task : ℕ) (tree : TaskTree) (refused : Refused) : Type 0 where
-  pub short : task_length tree ≤ code_limit
-  pub slow : left < task_steps tree
-  pub refused_is : refused ≡ Task task 7 (told_number (task_steps tree))
-
--- a task that is over one of the two limits
+-- a task whose code is too long: kind 6, with its length; or isn't, but takes more steps than are left: kind 7, with their number
 abbrev pub IsOver : (left task : ℕ) → TaskTree → Refused → Type 0
-IsOver left task tree refused = IsTooLong task tree refused ⊎ IsTooSlow left task tree refused
+IsOver left task tree refused =
+    ((code_limit < task_length tree) × (refused ≡ Task task 6 (told_number (task_length tree))))
+    ⊎ ((task_length tree ≤ code_limit) × (left < task_steps tree) × (refused ≡ Task task 7 (told_number (task_steps tree))))
 
--- a task that has a tree, and is over a limit
-pub record IsNotAllowed (roll : Roll) (left task : ℕ) (form : Form) (refused : Refused) : Type 0 where
-  pub tree : TaskTree
-  pub tree_is : IsTreeOf roll form tree
-  pub over : IsOver left task tree refused
-
--- the task is refused for its text, or for its code
+-- the task is refused for its text, which is no task, or has a tree and is refused for its code
 abbrev pub IsFormRefused : Roll → (left task : ℕ) → Form → Refused → Type 0
-IsFormRefused roll left task form refused = IsNoTask roll task form refused ⊎ IsNotAllowed roll left task form refused
+IsFormRefused roll left task form refused =
+    IsNoTask roll task form refused ⊎ ((tree : TaskTree) × IsTreeOf roll form tree × IsOver left task tree refused)
 
 -- the first of the tasks of these forms that is refused is this one, after tasks with these trees
 pub record IsFirstRefused (roll : Roll) (forms : List Form) (refused : Refused) : Type 0 where
@@ -84,7 +70,7 @@ pub record IsFirstRefused (roll : Roll) (forms : List Form) (refused : Refused) 
 abbrev pub TasksAreRefused : (sensors : List (List ℕ)) → List Members → Refused → Type 0
 TasksAreRefused sensors tasks refused = (forms : List Form) × AreForms tasks forms × IsFirstRefused (roll_for sensors tasks) forms refused
 
--- ---- a table, or the script
+-- ---- a table
 
 -- the first of these tables that isn't good for tasks of these shapes has this size, and breaks this rule first, in this row
 pub record IsFirstBadTable (schedules : List Schedule) (shapes : AllShapes) (size row rule : ℕ) : Type 0 where
@@ -92,25 +78,15 @@ pub record IsFirstBadTable (schedules : List Schedule) (shapes : AllShapes) (siz
   pub earlier : All (λ table. tables.IsGood table shapes) (take place schedules)
   pub here : HoldsOf schedules place (λ table. (table.size ≡ size) × tables.IsFirstBroken table shapes rule row)
 
--- a table of what the document states is refused
-pub record TablesAreRefused (document : Members) (size row rule : ℕ) : Type 0 where
-  pub mission : MissionData
-  pub stated : IsStated document mission
-  pub bad : IsFirstBadTable mission.tables (shapes_in mission) size row rule
-
--- the tables of what the document states are good, and its script is refused
-pub record ScriptIsRefused (document : Members) (entry rule : ℕ) : Type 0 where
-  pub mission : MissionData
-  pub stated : IsStated document mission
-  pub good_tables : HasGoodTables mission
-  pub bad : scripts.IsFirstBroken mission.script rule entry
-
 -- ---- all of them
 
--- what stands where a document is refused
+-- what stands where a document is refused: a rule is broken, or a task of a document that keeps all rules is refused, or a table of what it
+-- states isn't good, or all tables are and its script isn't
 abbrev pub IsRefusedWith : Members → Refused → Type 0
-IsRefusedWith document (Scenario rule place) = IsFirstBroken document rule place
+IsRefusedWith document (Scenario rule place) = BreaksFirst (rules_of document) rule place
 IsRefusedWith document (Task task kind at) =
     IsLawful document × TasksAreRefused (sensor_names document) (tasks_of document) (Task task kind at)
-IsRefusedWith document (Table size row rule) = TablesAreRefused document size row rule
-IsRefusedWith document (Script entry rule) = ScriptIsRefused document entry rule
+IsRefusedWith document (Table size row rule) =
+    (mission : MissionData) × IsStated document mission × IsFirstBadTable mission.tables (shapes_in mission) size row rule
+IsRefusedWith document (Script entry rule) =
+    (mission : MissionData) × IsStated document mission × HasGoodTables mission × scripts.IsFirstBroken mission.script rule entry

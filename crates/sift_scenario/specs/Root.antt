@@ -1,4 +1,4 @@
--- What the root says beside its entries, and its rules, one predicate a rule.
+-- What the root says beside its entries, and its rules.
 use Rattle.std.specs.Prelude.{codes, ℕ, ◌≡◌, ◌+◌, ◌*◌, List, [], ◌∷◌, length, Option, None}
 use Rattle.toml.specs.Data.{Members}
 use Rattle.sift_base.specs.Layout.{least_units}
@@ -32,46 +32,28 @@ newest_version = 2
 abbrev pub version_of : Members → Option ℕ
 version_of document = read_or 1 (integer_between 1 newest_version) (codes "version") document
 
--- the number of subframes of a frame, and another where none is stated
-abbrev pub period_or : ℕ → Members → Option ℕ
-period_or unstated document = read_or unstated (integer_between shortest_period longest_period) (codes "subframes") document
-
 -- the number of subframes in which the plain table of so many tasks is run and reported
 abbrev pub plain_period : ℕ → ℕ
 plain_period tasks = agreed_in + hearing_delay * tasks + report_lead
 
 -- the number of subframes of a frame: that of the plain table where none is stated
 abbrev pub period_of : Members → Option ℕ
-period_of document = period_or (plain_period (length (task_entries document))) document
+period_of document =
+    read_or (plain_period (length (task_entries document))) (integer_between shortest_period longest_period) (codes "subframes") document
 
 -- ---- its rules
-
--- a key of the root is unknown
-abbrev pub BreaksRootKeys : Members → ℕ → Type 0
-BreaksRootKeys document place = OfNoEntry (¬ HasOnlyKeys root_keys document) place
-
--- `units` is missing, or is no integer from 4 to 8
-abbrev pub BreaksUnits : Members → ℕ → Type 0
-BreaksUnits document place = OfNoEntry (units_of document ≡ None) place
-
--- `frames` is missing, or is no integer from 1 to 1,000
-abbrev pub BreaksFrames : Members → ℕ → Type 0
-BreaksFrames document place = OfNoEntry (frames_of document ≡ None) place
-
--- `version` is there, and isn't the integer 1 or 2
-abbrev pub BreaksVersion : Members → ℕ → Type 0
-BreaksVersion document place = OfNoEntry (version_of document ≡ None) place
-
--- `subframes` is there, and is no integer from 12 to 64
-abbrev pub BreaksSubframes : Members → ℕ → Type 0
-BreaksSubframes document place = OfNoEntry (period_of document ≡ None) place
 
 -- the rules of the root
 abbrev pub root_rules : Members → List Rule
 root_rules document =
-    rule 1 (BreaksRootKeys document)
-    ∷ rule 2 (BreaksUnits document)
-    ∷ rule 3 (BreaksFrames document)
-    ∷ rule 4 (BreaksVersion document)
-    ∷ rule 5 (BreaksSubframes document)
+    -- a key of the root is unknown
+    rule 1 (OfNoEntry (¬ HasOnlyKeys root_keys document))
+    -- `units` is missing, or is no integer from 4 to 8
+    ∷ rule 2 (OfNoEntry (units_of document ≡ None))
+    -- `frames` is missing, or is no integer from 1 to 1,000
+    ∷ rule 3 (OfNoEntry (frames_of document ≡ None))
+    -- `version` is there, and isn't the integer 1 or 2
+    ∷ rule 4 (OfNoEntry (version_of document ≡ None))
+    -- `subframes` is there, and is no integer from 12 to 64
+    ∷ rule 5 (OfNoEntry (period_of document ≡ None))
     ∷ []

@@ -1,10 +1,10 @@
--- What the tables of `task` say, each by itself, and their rules, one predicate a rule.
+-- What the tables of `task` say, each by itself, and their rules.
 use Rattle.std.specs.Prelude.{codes, ℕ, ◌≡◌, List, [], ◌∷◌, length, map, Option, Some, None, unwrap_or, ◌+◌, ◌<◌, ◌≤◌, ◌⊎◌, take, sum}
 use Rattle.std.specs.List.{Contains}
 use Rattle.toml.specs.Data.{Data, Members, get_member, as_str}
 use Rattle.sift_base.specs.Name.{IsName}
 use Rattle.sift_base.specs.Shapes.{output_limit, task_limit}
-use Rattle.sift_document.specs.Document.{entries_of, members_of, read_at, word_array, IsNoTableOf}
+use Rattle.sift_document.specs.Document.{entries_of, members_of, read_at, word_array, IsTableOf}
 use Rattle.sift_document.specs.Rules.{AreMatched, HoldsOf, OfNoEntry, Rule, rule}
 use Rattle.sift_base.specs.Layout.{word_limit}
 
@@ -17,10 +17,6 @@ task_entries document = entries_of (get_member (codes "task") document)
 -- their tables
 abbrev pub tasks_of : Members → List Members
 tasks_of document = map members_of (task_entries document)
-
--- the keys that a task may have
-abbrev pub task_keys : List (List ℕ)
-task_keys = codes "name" ∷ codes "start" ∷ codes "text" ∷ codes "linear" ∷ []
 
 -- ---- names
 
@@ -59,21 +55,12 @@ pub data Form : Type 0 where
   linear : (factor addend : ℕ) → Form
   text : List ℕ → Form
 
--- the task has a linear rule and no text, and one output word
-pub record IsLinear (task : Members) (factor addend : ℕ) : Type 0 where
-  pub stated : read_at (word_array 2 2) (codes "linear") task ≡ Some (factor ∷ addend ∷ [])
-  pub one_word : task_outputs task ≡ 1
-  pub alone : get_member (codes "text") task ≡ None
-
--- the task has a text and no linear rule
-pub record IsText (task : Members) (bytes : List ℕ) : Type 0 where
-  pub stated : read_at as_str (codes "text") task ≡ Some bytes
-  pub alone : get_member (codes "linear") task ≡ None
-
--- the task has this form
+-- the task has this form: a linear rule and no text, and one output word; or a text and no linear rule
 abbrev pub HasForm : Members → Form → Type 0
-HasForm task (linear factor addend) = IsLinear task factor addend
-HasForm task (text bytes) = IsText task bytes
+HasForm task (linear factor addend) =
+    (read_at (word_array 2 2) (codes "linear") task ≡ Some (factor ∷ addend ∷ []))
+    × (task_outputs task ≡ 1) × (get_member (codes "text") task ≡ None)
+HasForm task (text bytes) = (read_at as_str (codes "text") task ≡ Some bytes) × (get_member (codes "linear") task ≡ None)
 
 -- these are the forms of the tasks
 abbrev pub AreForms : List Members → List Form → Type 0
@@ -88,32 +75,26 @@ IsTaskNumber number = (0 < number) × (number ≤ task_limit)
 -- `task` is missing, is no array of 1 to 24 entries, or has an entry that is no table or has an unknown key
 abbrev pub BreaksTasks : Members → ℕ → Type 0
 BreaksTasks document place = OfNoEntry (¬ IsTaskNumber (length (task_entries document))) place
-    ⊎ HoldsOf (task_entries document) place (IsNoTableOf task_keys)
+    ⊎ HoldsOf (task_entries document) place (λ entry. ¬ IsTableOf (codes "name" ∷ codes "start" ∷ codes "text" ∷ codes "linear" ∷ []) entry)
 
 -- a name is missing, is no name, or is an earlier entry's
 abbrev pub BreaksNames : List Members → ℕ → Type 0
 BreaksNames entries place =
     HoldsOf entries place (λ entry. (name : List ℕ) → ¬ IsNewName (map name_of (take place entries)) entry name)
 
--- a task's start words are missing, or are no array of 1 to 8 word values
-abbrev pub BreaksStarts : List Members → ℕ → Type 0
-BreaksStarts tasks place = HoldsOf tasks place (λ task. start_words task ≡ None)
-
 -- with this task there are more than 64 output words, where each task has so many
 abbrev pub BreaksWords : List ℕ → ℕ → Type 0
 BreaksWords counts place = (place < length counts) × (word_limit < sum (take (place + 1) counts))
-
--- a task has neither just a text, which is a string, nor just a linear rule, which is an array of two word values, and one output word
-abbrev pub BreaksForms : List Members → ℕ → Type 0
-BreaksForms tasks place = HoldsOf tasks place (λ task. (form : Form) → ¬ HasForm task form)
 
 -- the rules of each task, where these are the tables of all
 abbrev pub each_task_rules : List Members → List Rule
 each_task_rules tasks =
     rule 19 (BreaksNames tasks)
-    ∷ rule 20 (BreaksStarts tasks)
+    -- a task's start words are missing, or are no array of 1 to 8 word values
+    ∷ rule 20 (λ place. HoldsOf tasks place (λ task. start_words task ≡ None))
     ∷ rule 21 (BreaksWords (counts_of tasks))
-    ∷ rule 22 (BreaksForms tasks)
+    -- a task has neither just a text, which is a string, nor just a linear rule, which is an array of two word values, and one output word
+    ∷ rule 22 (λ place. HoldsOf tasks place (λ task. (form : Form) → ¬ HasForm task form))
     ∷ []
 
 -- the rules of the tasks

@@ -1,13 +1,15 @@
 //! The clocks of a document.
 
-ghost use Rattle.std.specs.Prelude.{◌≡◌, ◌≤◌, ◌↔◌, IfOk, IfSome, IsTrue, Some, map, option_map, pos, replicate, ◌+ℤ◌, ◌≤ℤ◌};
+ghost use Rattle.std.specs.Prelude.{codes, ◌≡◌, ◌<◌, ◌≤◌, ◌+◌, ◌*◌, ◌⊎◌, ◌↔◌, ℤ, List, IfOk, IfSome, IsTrue, None, Some, map, option_map, pos, replicate, ◌+ℤ◌, ◌≤ℤ◌};
 ghost use Rattle.std.specs.List.{All};
+ghost use Rattle.toml.specs.Data.{get_member};
 ghost use Rattle.toml.specs.View.{table_view, view};
 ghost use Rattle.sift_base.specs.Units.{unit_limit};
 ghost use Rattle.sift_mission.specs.Parts.{clocks_of};
-ghost use Rattle.sift_document.specs.Document.{array_between, integer_between, members_of, read_or};
+ghost use Rattle.sift_document.specs.Document.{IsTableOf, array_between, integer_between, members_of, read_or};
+ghost use Rattle.sift_document.specs.Rules.{OfNoEntry};
 ghost use Rattle.sift_document.specs.Testing.{Tests, TestsEach};
-ghost use Rattle.sift_scenario.specs.Clock.{BreaksClock, BreaksDrift, BreaksErrorOrRate, BreaksErrors, BreaksLength, BreaksSkew, BreaksStart, IsLengthSmall, IsSkewSmall, StartTogether, clock_rules, clock_value, clocks_in, drifts_of, error_of, errors_of, figure_rules, length_of, plain_clocks, rate_of, skew_of, starts_of, tick_limit, ticks_within, unit_ticks, zeros};
+ghost use Rattle.sift_scenario.specs.Clock.{StartTogether, clock_keys, clock_rules, clocks_in, drifts_of, error_of, errors_of, figure_rules, length_of, rate_of, skew_of, starts_of, tick_limit, ticks_within, unit_ticks};
 ghost use Rattle.sift_clock.specs.Distance.{IsWithin};
 
 use arrayvec::ArrayVec;
@@ -32,8 +34,8 @@ struct Figures {
 /// The clocks of a document, for so many units.
 pub(crate) fn plan_of(document: &Table, units: u8) -> Result<ClockPlan, Stop<BrokenRule>>
     requires { units ≤ unit_limit }
-    ensures read { IfOk result (λ plan. clocks_of plan ≡ clocks_in units (clock_value (table_view document.now))) }
-    ensures tests { TestsEach (clock_rules units (clock_value (table_view document.now))) result }
+    ensures read { IfOk result (λ plan. clocks_of plan ≡ clocks_in units (get_member (codes "clock") (table_view document.now))) }
+    ensures tests { TestsEach (clock_rules units (get_member (codes "clock") (table_view document.now))) result }
 {
     match member_of(document, "clock") {
         Some(value) => stated_plan(value, units),
@@ -66,7 +68,7 @@ fn stated_plan(value: &Value, units: u8) -> Result<ClockPlan, Stop<BrokenRule>>
 /// The table of a clock.
 fn clock_table(value: &Value) -> Result<&Table, Stop<BrokenRule>>
     ensures read { IfOk result (λ clock. table_view clock.now ≡ members_of (view value.now)) }
-    ensures tests { Tests 6 (BreaksClock (view value.now)) result }
+    ensures tests { Tests 6 (OfNoEntry (¬ IsTableOf clock_keys (view value.now))) result }
 {
     match table_of(
         value,
@@ -103,7 +105,7 @@ fn figures_of(clock: &Table) -> Result<Figures, Stop<BrokenRule>>
 /// The most that working clocks differ by.
 fn skew_of(clock: &Table) -> Result<u32, Stop<BrokenRule>>
     ensures read { IfOk result (λ skew. skew_of (table_view clock.now) ≡ Some skew) }
-    ensures tests { Tests 7 (BreaksSkew (table_view clock.now)) result }
+    ensures tests { Tests 7 (OfNoEntry (skew_of (table_view clock.now) ≡ None)) result }
 {
     number_at(clock, "skew", 0, TICK_LIMIT).ok_or(broken(7, 0))
 }
@@ -112,7 +114,7 @@ fn skew_of(clock: &Table) -> Result<u32, Stop<BrokenRule>>
 fn error_and_rate(clock: &Table) -> Result<(u32, u32), Stop<BrokenRule>>
     ensures error { IfOk result (λ both. error_of (table_view clock.now) ≡ Some both.0) }
     ensures rate { IfOk result (λ both. rate_of (table_view clock.now) ≡ Some both.1) }
-    ensures tests { Tests 8 (BreaksErrorOrRate (table_view clock.now)) result }
+    ensures tests { Tests 8 (OfNoEntry ((error_of (table_view clock.now) ≡ None) ⊎ (rate_of (table_view clock.now) ≡ None))) result }
 {
     match (
         number_or_zero(clock, "error"),
@@ -133,7 +135,7 @@ fn number_or_zero(clock: &Table, key: &str) -> Option<u32>
 /// The length of a subframe.
 fn length_of(clock: &Table) -> Result<u32, Stop<BrokenRule>>
     ensures read { IfOk result (λ length. length_of (table_view clock.now) ≡ Some length) }
-    ensures tests { Tests 9 (BreaksLength (table_view clock.now)) result }
+    ensures tests { Tests 9 (OfNoEntry (length_of (table_view clock.now) ≡ None)) result }
 {
     number_at(clock, "length", 1, 1_000_000).ok_or(broken(9, 0))
 }
@@ -142,7 +144,7 @@ fn length_of(clock: &Table) -> Result<u32, Stop<BrokenRule>>
 fn check_skew(skew: u32, error: u32, rate: u32) -> Result<(), Stop<BrokenRule>>
     requires error { error ≤ tick_limit }
     requires rate { rate ≤ tick_limit }
-    ensures { Tests 10 (IsSkewSmall skew error rate) result }
+    ensures { Tests 10 (OfNoEntry (skew < 5 * (error + rate))) result }
 {
     if 5 * (error + rate) <= skew {
         Ok(())
@@ -156,7 +158,7 @@ fn check_length(skew: u32, error: u32, rate: u32, length: u32) -> Result<(), Sto
     requires skew { skew ≤ tick_limit }
     requires error { error ≤ tick_limit }
     requires rate { rate ≤ tick_limit }
-    ensures { Tests 11 (IsLengthSmall skew error rate length) result }
+    ensures { Tests 11 (OfNoEntry (length < 2 * skew + error + rate + 1)) result }
 {
     if 2 * skew + error + rate < length {
         Ok(())
@@ -170,7 +172,8 @@ fn starts_of(clock: &Table, units: u8, skew: u32) -> Result<ArrayVec<i32, 8>, St
     requires units { units ≤ unit_limit }
     requires skew { skew ≤ tick_limit }
     ensures read { IfOk result (λ starts. starts_of units (table_view clock.now) ≡ Some starts.items) }
-    ensures tests { Tests 12 (BreaksStart units skew (table_view clock.now)) result }
+    ensures tests { Tests 12 (OfNoEntry ((starts : List ℤ) →
+        (starts_of units (table_view clock.now) ≡ Some starts) → ¬ StartTogether skew starts)) result }
 {
     match ticks_at(clock, "start", units, TICK_LIMIT) {
         Some(starts) if are_together(&starts, skew) => Ok(starts),
@@ -183,7 +186,7 @@ fn drifts_of(clock: &Table, units: u8, rate: u32) -> Result<ArrayVec<i32, 8>, St
     requires units { units ≤ unit_limit }
     requires rate { rate ≤ tick_limit }
     ensures read { IfOk result (λ drifts. drifts_of units rate (table_view clock.now) ≡ Some drifts.items) }
-    ensures tests { Tests 13 (BreaksDrift units rate (table_view clock.now)) result }
+    ensures tests { Tests 13 (OfNoEntry (drifts_of units rate (table_view clock.now) ≡ None)) result }
 {
     ticks_at(clock, "drift", units, rate).ok_or(broken(13, 0))
 }
@@ -197,7 +200,7 @@ fn errors_of(
     requires units { units ≤ unit_limit }
     requires error { error ≤ tick_limit }
     ensures read { IfOk result (λ rows. errors_of units error (table_view clock.now) ≡ Some (map (λ row. row.items) rows.items)) }
-    ensures tests { Tests 14 (BreaksErrors units error (table_view clock.now)) result }
+    ensures tests { Tests 14 (OfNoEntry (errors_of units error (table_view clock.now) ≡ None)) result }
 {
     rows_at(clock, units, error).ok_or(broken(14, 0))
 }
@@ -230,7 +233,7 @@ fn is_near(offset: &i32, others: &[i32], skew: u32) -> bool
 fn ticks_at(clock: &Table, key: &str, units: u8, far: u32) -> Option<ArrayVec<i32, 8>>
     requires units { units ≤ unit_limit }
     requires far { far ≤ tick_limit }
-    ensures { option_map (λ ticks. ticks.items) result ≡ read_or (zeros units) (unit_ticks units far) key.now (table_view clock.now) }
+    ensures { option_map (λ ticks. ticks.items) result ≡ read_or (replicate units (pos 0)) (unit_ticks units far) key.now (table_view clock.now) }
 {
     match member_of(clock, key) {
         Some(value) => unit_ticks(value, units, far),
@@ -301,7 +304,7 @@ fn unit_rows(value: &Value, units: u8, far: u32) -> Option<ArrayVec<ArrayVec<i32
 /// Clocks that agree, for so many units, with subframes of one tick.
 fn plain_plan(units: u8) -> ClockPlan
     requires { units ≤ unit_limit }
-    ensures { clocks_of result ≡ plain_clocks units }
+    ensures { clocks_of result ≡ clocks_in units None }
 {
     ClockPlan {
         skew: 0,

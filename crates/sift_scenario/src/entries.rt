@@ -2,7 +2,7 @@
 
 ghost use Rattle.std.specs.Prelude.{◌≡◌, ◌<◌, ◌≤◌, ◌↔◌, ◌^◌, ℕ, List, Contains, IfErr, IfOk, IfSome, IfNone, IsTrue, Some, length, map};
 ghost use Rattle.toml.specs.View.{table_view, view};
-ghost use Rattle.sift_document.specs.Document.{IsArrayOf, IsNoTableOf, entries_of, members_of};
+ghost use Rattle.sift_document.specs.Document.{IsArrayOf, entries_of, members_of};
 ghost use Rattle.sift_document.specs.Rules.{HoldsOf};
 ghost use Rattle.sift_document.specs.Testing.{Tests};
 ghost use Rattle.sift_scenario.specs.Task.{IsNewName, name_of, BreaksNames};

@@ -1,13 +1,14 @@
 //! The faults of a document.
 
-ghost use Rattle.std.specs.Prelude.{◌≡◌, ◌≤◌, IfOk, IfSome, IfNone, None, Some, length, map, option_map};
+ghost use Rattle.std.specs.Prelude.{codes, ◌≡◌, ◌≤◌, ◌⊎◌, ◌∷◌, [], IfOk, IfSome, IfNone, None, Some, length, map, option_map, unwrap_or};
 ghost use Rattle.std.specs.List.{All};
+ghost use Rattle.toml.specs.Data.{get_member};
 ghost use Rattle.toml.specs.View.{table_view, view};
-ghost use Rattle.sift_script.specs.Script.{change_of, failing_of, fault_of, faults_of};
-ghost use Rattle.sift_document.specs.Document.{IsTableOf, each_read, entries_of, members_of};
-ghost use Rattle.sift_document.specs.Rules.{HoldsOf};
+ghost use Rattle.sift_script.specs.Script.{change_of, changing, failing_of, fault_of, faults_of};
+ghost use Rattle.sift_document.specs.Document.{IsTableOf, each_read, entries_of, members_of, tables_in};
+ghost use Rattle.sift_document.specs.Rules.{BreaksEntries, HoldsOf};
 ghost use Rattle.sift_document.specs.Testing.{Tests, TestsEach};
-ghost use Rattle.sift_scenario.specs.Fault.{AreItems, BreaksFaults, BreaksHeads, BreaksStorms, BreaksWays, HasOneWay, IsHeadless, failing_from, fault_in, fault_limit, fault_rules, fault_value, faults_in, from_of, items_of, stated_storm, unit_of};
+ghost use Rattle.sift_scenario.specs.Fault.{AreItems, IsSaying, IsStorming, fault_in, fault_limit, fault_rules, from_of, stated_storm, unit_of};
 ghost use Rattle.sift_scenario.specs.Item.{change_in, item_keys};
 ghost use Rattle.sift_scenario.specs.Reading.{AreFaultsRead};
 
@@ -24,8 +25,8 @@ use toml::{Table, Value};
 /// The script of the faults of a document, which may have none.
 pub(crate) fn script_of(alloc: Global, document: &Table) -> Result<Script, Stop<BrokenRule>>
     ensures read { IfOk result (λ script.
-        faults_of script ≡ map fault_in (faults_in (fault_value (table_view document.now)))) }
-    ensures tests { TestsEach (fault_rules (fault_value (table_view document.now))) result }
+        faults_of script ≡ map fault_in (tables_in (get_member (codes "fault") (table_view document.now)))) }
+    ensures tests { TestsEach (fault_rules (get_member (codes "fault") (table_view document.now))) result }
 {
     match member_of(document, "fault") {
         Some(value) => stated_script(alloc, value),
@@ -38,7 +39,7 @@ pub(crate) fn script_of(alloc: Global, document: &Table) -> Result<Script, Stop<
 /// The script that the value of `fault` states.
 fn stated_script(alloc: Global, value: &Value) -> Result<Script, Stop<BrokenRule>>
     ensures read { IfOk result (λ script.
-        faults_of script ≡ map fault_in (faults_in (Some (view value.now)))) }
+        faults_of script ≡ map fault_in (tables_in (Some (view value.now)))) }
     ensures tests { TestsEach (fault_rules (Some (view value.now))) result }
 {
     let tables = fault_tables(alloc, value)?;
@@ -52,9 +53,10 @@ fn stated_script(alloc: Global, value: &Value) -> Result<Script, Stop<BrokenRule
 /// The tables of the faults.
 fn fault_tables(alloc: Global, value: &Value) -> Result<Vec<&Table>, Stop<BrokenRule>>
     ensures tables { IfOk result (λ tables.
-        map (λ fault. table_view fault.now) tables.items ≡ faults_in (Some (view value.now))) }
+        map (λ fault. table_view fault.now) tables.items ≡ tables_in (Some (view value.now))) }
     ensures few { IfOk result (λ tables. length tables.items ≤ fault_limit) }
-    ensures tests { Tests 26 (BreaksFaults (Some (view value.now))) result }
+    ensures tests { Tests 26 (BreaksEntries 0 fault_limit
+        (λ _. IsTableOf (codes "unit" ∷ codes "from" ∷ codes "say" ∷ codes "storm" ∷ [])) (Some (view value.now))) result }
 {
     let entries = entries_between(value, 0, 16, 26)?;
     tables_in(alloc, entries, &["unit", "from", "say", "storm"], 26)
@@ -74,7 +76,8 @@ fn fault_heads(alloc: Global, tables: &[&Table]) -> Result<Vec<Head>, Stop<Broke
         map (λ head. Some head.unit) heads.items ≡ map (λ fault. unit_of (table_view fault.now)) tables.now) }
     ensures from { IfOk result (λ heads.
         map (λ head. Some head.from) heads.items ≡ map (λ fault. from_of (table_view fault.now)) tables.now) }
-    ensures tests { Tests 27 (BreaksHeads (map (λ fault. table_view fault.now) tables.now)) result }
+    ensures tests { Tests 27 (λ place. HoldsOf (map (λ fault. table_view fault.now) tables.now) place
+        (λ fault. (unit_of fault ≡ None) ⊎ (from_of fault ≡ None))) result }
 {
     let mut heads = Vec::new(alloc);
     for (place, fault) in tables.iter().enumerate() {
@@ -90,7 +93,7 @@ fn fault_heads(alloc: Global, tables: &[&Table]) -> Result<Vec<Head>, Stop<Broke
 fn head_of(fault: &Table) -> Option<Head>
     ensures unit { IfSome result (λ head. unit_of (table_view fault.now) ≡ Some head.unit) }
     ensures from { IfSome result (λ head. from_of (table_view fault.now) ≡ Some head.from) }
-    ensures none { IfNone result (IsHeadless (table_view fault.now)) }
+    ensures none { IfNone result ((unit_of (table_view fault.now) ≡ None) ⊎ (from_of (table_view fault.now) ≡ None)) }
 {
     match (
         number_at(fault, "unit", 0, 7),
@@ -112,8 +115,9 @@ fn fault_items<'a>(
     requires { length tables.now ≤ fault_limit }
     ensures items { IfOk result (λ found.
         map (λ items. map (λ item. table_view item.now) items.items) found.items
-        ≡ map (λ fault. items_of (table_view fault.now)) tables.now) }
-    ensures tests { Tests 28 (BreaksWays (map (λ fault. table_view fault.now) tables.now)) result }
+        ≡ map (λ fault. tables_in (get_member (codes "say") (table_view fault.now))) tables.now) }
+    ensures tests { Tests 28 (λ place. HoldsOf (map (λ fault. table_view fault.now) tables.now) place
+        (λ fault. ¬ (IsSaying fault ⊎ IsStorming fault))) result }
 {
     let mut found = Vec::new(alloc);
     for (place, fault) in tables.iter().enumerate() {
@@ -128,9 +132,9 @@ fn fault_items<'a>(
 /// The items of a fault, where it fails in one way: by what it says, or by a storm, which has no items.
 fn items_of(alloc: Global, fault: &Table) -> Result<Option<Vec<&Table>>, NoMemory>
     ensures items { IfOk result (λ found. IfSome found (λ items.
-        map (λ item. table_view item.now) items.items ≡ items_of (table_view fault.now))) }
-    ensures one_way { IfOk result (λ found. IfSome found (λ _. HasOneWay (table_view fault.now))) }
-    ensures none { IfOk result (λ found. IfNone found (HasOneWay (table_view fault.now) → ⊥)) }
+        map (λ item. table_view item.now) items.items ≡ tables_in (get_member (codes "say") (table_view fault.now)))) }
+    ensures one_way { IfOk result (λ found. IfSome found (λ _. IsSaying (table_view fault.now) ⊎ IsStorming (table_view fault.now))) }
+    ensures none { IfOk result (λ found. IfNone found (IsSaying (table_view fault.now) ⊎ IsStorming (table_view fault.now) → ⊥)) }
 {
     match (member_of(fault, "say"), member_of(fault, "storm")) {
         (Some(said), None) => said_items(alloc, said),
@@ -220,7 +224,8 @@ fn fault_entries(
         (map (λ items. map change_of items.items) said.items) }
     ensures read { IfOk result (λ entries.
         map fault_of entries.items ≡ map (λ fault. fault_in (table_view fault.now)) tables.now) }
-    ensures tests { Tests 30 (BreaksStorms (map (λ fault. table_view fault.now) tables.now)) result }
+    ensures tests { Tests 30 (λ place. HoldsOf (map (λ fault. table_view fault.now) tables.now) place
+        (λ fault. stated_storm fault ≡ None)) result }
 {
     let mut entries = Vec::new(alloc);
     for items in said {
@@ -237,7 +242,7 @@ fn fault_entries(
 /// How a fault fails that says this: by its storm, where it has one. `None` where its `storm` states none.
 fn plan_of(fault: &Table, items: Vec<Item>) -> Option<Plan>
     ensures { option_map failing_of result
-        ≡ option_map (λ storm. failing_from storm (map change_of items.items)) (stated_storm (table_view fault.now)) }
+        ≡ option_map (λ storm. unwrap_or storm (changing (map change_of items.items))) (stated_storm (table_view fault.now)) }
 {
     match member_of(fault, "storm") {
         Some(value) => storm_in(value),

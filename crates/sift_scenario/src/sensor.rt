@@ -1,12 +1,14 @@
 //! The sensors of a document.
 
-ghost use Rattle.std.specs.Prelude.{◌≡◌, ◌≤◌, ◌<◌, ◌^◌, IfOk, Some, length, map, option_map};
+ghost use Rattle.std.specs.Prelude.{codes, ◌≡◌, ◌≤◌, ◌<◌, ◌^◌, ◌∷◌, [], IfOk, None, Some, length, map, option_map};
+ghost use Rattle.toml.specs.Data.{get_member};
 ghost use Rattle.toml.specs.View.{table_view, view};
 ghost use Rattle.sift_base.specs.Layout.{sensor_limit};
-ghost use Rattle.sift_document.specs.Document.{word_array};
+ghost use Rattle.sift_document.specs.Document.{IsTableOf, tables_in, word_array};
+ghost use Rattle.sift_document.specs.Rules.{BreaksEntries, HoldsOf};
 ghost use Rattle.sift_document.specs.Testing.{Tests, TestsEach};
 ghost use Rattle.sift_scenario.specs.Reading.{AreSensorsIn, AreSensorsOf};
-ghost use Rattle.sift_scenario.specs.Sensor.{BreaksSensed, BreaksSensors, sensor_rules, sensor_value, sensors_in, words_of};
+ghost use Rattle.sift_scenario.specs.Sensor.{sensor_rules, words_of};
 
 use crate::entries::names_in;
 use sift_base::{Name, NoMemory, Stop, Word};
@@ -24,7 +26,7 @@ pub(crate) struct Sensors {
 /// The sensors of a document, which may have none.
 pub(crate) fn sensors_of(alloc: Global, document: &Table) -> Result<Sensors, Stop<BrokenRule>>
     ensures read { IfOk result (AreSensorsOf (table_view document.now)) }
-    ensures tests { TestsEach (sensor_rules (sensor_value (table_view document.now))) result }
+    ensures tests { TestsEach (sensor_rules (get_member (codes "sensor") (table_view document.now))) result }
 {
     match member_of(document, "sensor") {
         Some(value) => stated_sensors(alloc, value),
@@ -37,7 +39,7 @@ pub(crate) fn sensors_of(alloc: Global, document: &Table) -> Result<Sensors, Sto
 
 /// The sensors that the value of `sensor` states.
 fn stated_sensors(alloc: Global, value: &Value) -> Result<Sensors, Stop<BrokenRule>>
-    ensures read { IfOk result (AreSensorsIn (sensors_in (Some (view value.now)))) }
+    ensures read { IfOk result (AreSensorsIn (tables_in (Some (view value.now)))) }
     ensures tests { TestsEach (sensor_rules (Some (view value.now))) result }
 {
     let tables = sensor_tables(alloc, value)?;
@@ -49,9 +51,10 @@ fn stated_sensors(alloc: Global, value: &Value) -> Result<Sensors, Stop<BrokenRu
 /// The tables of the sensors.
 fn sensor_tables(alloc: Global, value: &Value) -> Result<Vec<&Table>, Stop<BrokenRule>>
     ensures tables { IfOk result (λ tables.
-        map (λ sensor. table_view sensor.now) tables.items ≡ sensors_in (Some (view value.now))) }
+        map (λ sensor. table_view sensor.now) tables.items ≡ tables_in (Some (view value.now))) }
     ensures few { IfOk result (λ tables. length tables.items ≤ sensor_limit) }
-    ensures tests { Tests 15 (BreaksSensors (Some (view value.now))) result }
+    ensures tests { Tests 15 (BreaksEntries 0 sensor_limit
+        (λ _. IsTableOf (codes "name" ∷ codes "words" ∷ [])) (Some (view value.now))) result }
 {
     let entries = entries_between(value, 0, 8, 15)?;
     tables_in(alloc, entries, &["name", "words"], 15)
@@ -62,7 +65,8 @@ fn sensed_words(alloc: Global, tables: &[&Table]) -> Result<Vec<Vec<Word>>, Stop
     requires { length tables.now < 2 ^ 32 }
     ensures words { IfOk result (λ words.
         map (λ list. Some list.items) words.items ≡ map (λ sensor. words_of (table_view sensor.now)) tables.now) }
-    ensures tests { Tests 17 (BreaksSensed (map (λ sensor. table_view sensor.now) tables.now)) result }
+    ensures tests { Tests 17 (λ place. HoldsOf (map (λ sensor. table_view sensor.now) tables.now) place
+        (λ sensor. words_of sensor ≡ None)) result }
 {
     let mut words = Vec::new(alloc);
     for (place, sensor) in tables.iter().enumerate() {

@@ -1,17 +1,17 @@
 //! The tables of a document, one for the configurations of each size.
 
-ghost use Rattle.std.specs.Prelude.{◌≡◌, ◌≢◌, ◌≤◌, ◌<◌, ◌^◌, ◌⊎◌, ◌↔◌, IfOk, IfSome, IfNone, IsTrue, None, Some, length, map, option_map};
+ghost use Rattle.std.specs.Prelude.{codes, ◌≡◌, ◌≢◌, ◌≤◌, ◌<◌, ◌^◌, ◌⊎◌, ◌↔◌, IfOk, IfSome, IfNone, IsTrue, None, Some, length, map, option_map};
 ghost use Rattle.std.specs.List.{All};
+ghost use Rattle.toml.specs.Data.{get_member};
 ghost use Rattle.toml.specs.View.{table_view, view};
 ghost use Rattle.sift_base.specs.Layout.{least_units};
 ghost use Rattle.sift_base.specs.Shapes.{task_limit};
 ghost use Rattle.sift_base.specs.Units.{unit_limit};
 ghost use Rattle.sift_table.specs.Schedule.{schedule_of};
-ghost use Rattle.sift_document.specs.Document.{array_of, members_of, read_at};
-ghost use Rattle.sift_document.specs.Rules.{HoldsOf, IsKept, rule};
+ghost use Rattle.sift_document.specs.Document.{members_of, tables_in};
+ghost use Rattle.sift_document.specs.Rules.{BreaksEntries, HoldsOf, IsKept, rule};
 ghost use Rattle.sift_document.specs.Testing.{Tests, TestsEach};
-ghost use Rattle.sift_scenario.specs.Table.{BreaksPositions, BreaksTables, BreaksTimes, IsNoTableEntry, IsTableEntry, IsTimeless, plain_tables, positions_of};
-ghost use Rattle.sift_scenario.specs.Table.{BreaksShed, schedule_in, schedules_by, shed_of, size_of, subframe, table_keys, table_rules, table_value, tables_in};
+ghost use Rattle.sift_scenario.specs.Table.{IsTableEntry, IsTimeless, positions_of, schedule_in, schedules_by, shed_of, size_count, size_of, subframes_at, table_keys, table_rules};
 ghost use Rattle.sift_scenario.specs.Reading.{IsPartial};
 
 use sift_base::{NoMemory, Stop};
@@ -37,9 +37,9 @@ pub(crate) fn tables_of(
     requires few_units { units ≤ unit_limit }
     requires few_tasks { tasks ≤ task_limit }
     ensures read { IfOk result (λ tables.
-        map schedule_of tables.items ≡ schedules_by (table_value (table_view document.now)) units period tasks) }
-    ensures few { IfOk result (λ _. length (tables_in (table_value (table_view document.now))) ≤ unit_limit) }
-    ensures tests { TestsEach (table_rules version units (table_value (table_view document.now))) result }
+        map schedule_of tables.items ≡ schedules_by (get_member (codes "table") (table_view document.now)) units period tasks) }
+    ensures few { IfOk result (λ _. length (tables_in (get_member (codes "table") (table_view document.now))) ≤ unit_limit) }
+    ensures tests { TestsEach (table_rules version units (get_member (codes "table") (table_view document.now))) result }
 {
     match member_of(document, "table") {
         Some(value) => stated_tables(alloc, value, version, units, period),
@@ -52,7 +52,7 @@ fn all_plain(alloc: Global, units: u8, period: u8, tasks: u8) -> Result<Vec<Tabl
     requires enough_units { least_units ≤ units }
     requires few_units { units ≤ unit_limit }
     requires few_tasks { tasks ≤ task_limit }
-    ensures { IfOk result (λ tables. map schedule_of tables.items ≡ plain_tables units period tasks) }
+    ensures { IfOk result (λ tables. map schedule_of tables.items ≡ schedules_by None units period tasks) }
 {
     let mut tables = Vec::new(alloc);
     for size in 4..units + 1 {
@@ -94,7 +94,8 @@ fn sized_tables(
         map (λ table. table_view table.now) tables.items ≡ tables_in (Some (view value.now))) }
     ensures few { IfOk result (λ tables. length tables.items ≤ unit_limit) }
     ensures sized { IfOk result (λ tables. All (λ table. size_of (table_view table.now) ≢ None) tables.items) }
-    ensures tests { Tests 23 (BreaksTables version units (Some (view value.now))) result }
+    ensures tests { Tests 23 (BreaksEntries (size_count units) (size_count units) (IsTableEntry version)
+        (Some (view value.now))) result }
 {
     let sizes = usize::from(units) - 3;
     let entries = entries_between(value, sizes, sizes, 23)?;
@@ -111,7 +112,7 @@ fn entries_by_size<'a>(
     ensures tables { IfOk result (λ tables.
         map (λ table. table_view table.now) tables.items ≡ map (λ entry. members_of (view entry)) entries.now) }
     ensures sized { IfOk result (λ tables. All (λ table. size_of (table_view table.now) ≢ None) tables.items) }
-    ensures tests { Tests 23 (λ place. HoldsOf (map (λ entry. view entry) entries.now) place (IsNoTableEntry version place)) result }
+    ensures tests { Tests 23 (λ place. HoldsOf (map (λ entry. view entry) entries.now) place (λ entry. ¬ IsTableEntry version place entry)) result }
 {
     let mut tables = Vec::new(alloc);
     for (place, entry) in entries.iter().enumerate() {
@@ -152,7 +153,7 @@ fn table_keys(version: u32) -> &'static [&'static str]
 /// Tests that each table says when the tasks are run and polled.
 fn check_times(alloc: Global, tables: &[&toml::Table]) -> Result<(), Stop<BrokenRule>>
     requires { length tables.now ≤ unit_limit }
-    ensures { Tests 24 (BreaksTimes (map (λ table. table_view table.now) tables.now)) result }
+    ensures { Tests 24 (λ place. HoldsOf (map (λ table. table_view table.now) tables.now) place IsTimeless) result }
 {
     for (place, table) in tables.iter().enumerate() {
         let timeless = is_timeless(alloc, table)?;
@@ -180,10 +181,11 @@ fn read_tables(
 ) -> Result<Vec<Table>, Stop<BrokenRule>>
     requires few { length tables.now ≤ unit_limit }
     requires sized { All (λ table. size_of (table_view table.now) ≢ None) tables.now }
-    requires timed { IsKept (rule 24 (BreaksTimes (map (λ table. table_view table.now) tables.now))) }
+    requires timed { IsKept (rule 24 (λ place. HoldsOf (map (λ table. table_view table.now) tables.now) place IsTimeless)) }
     ensures read { IfOk result (λ schedules.
         map schedule_of schedules.items ≡ map (λ table. schedule_in period (table_view table.now)) tables.now) }
-    ensures tests { Tests 25 (BreaksPositions (map (λ table. table_view table.now) tables.now)) result }
+    ensures tests { Tests 25 (λ place. HoldsOf (map (λ table. table_view table.now) tables.now) place
+        (λ table. positions_of table ≡ None)) result }
 {
     let mut schedules = Vec::new(alloc);
     for (place, table) in tables.iter().enumerate() {
@@ -226,7 +228,7 @@ fn read_table(alloc: Global, table: &toml::Table, period: u8) -> Result<Option<T
 /// The subframes at a key of a table.
 fn subframes_at(alloc: Global, table: &toml::Table, key: &str) -> Result<Option<Vec<u8>>, NoMemory>
     ensures { IfOk result (λ found.
-        option_map (λ list. list.items) found ≡ read_at (array_of subframe) key.now (table_view table.now)) }
+        option_map (λ list. list.items) found ≡ subframes_at key.now (table_view table.now)) }
 {
     match member_of(table, key) {
         Some(value) => numbers_to(alloc, value, 63),
@@ -258,8 +260,9 @@ fn shed_at(alloc: Global, table: &toml::Table) -> Result<Option<Vec<u8>>, NoMemo
 
 /// Tests that each table of a document sheds numbers of tasks, where it says what it sheds.
 pub(crate) fn check_sheds(alloc: Global, document: &toml::Table) -> Result<(), Stop<BrokenRule>>
-    requires { length (tables_in (table_value (table_view document.now))) ≤ unit_limit }
-    ensures { Tests 31 (BreaksShed (tables_in (table_value (table_view document.now)))) result }
+    requires { length (tables_in (get_member (codes "table") (table_view document.now))) ≤ unit_limit }
+    ensures { Tests 31 (λ place. HoldsOf (tables_in (get_member (codes "table") (table_view document.now))) place
+        (λ table. shed_of table ≡ None)) result }
 {
     check_shed_entries(alloc, entries_at(document, "table"))
 }
@@ -267,7 +270,8 @@ pub(crate) fn check_sheds(alloc: Global, document: &toml::Table) -> Result<(), S
 /// Tests the same of these entries.
 fn check_shed_entries(alloc: Global, entries: &[Value]) -> Result<(), Stop<BrokenRule>>
     requires { length entries.now ≤ unit_limit }
-    ensures { Tests 31 (BreaksShed (map (λ entry. members_of (view entry)) entries.now)) result }
+    ensures { Tests 31 (λ place. HoldsOf (map (λ entry. members_of (view entry)) entries.now) place
+        (λ table. shed_of table ≡ None)) result }
 {
     for (place, entry) in entries.iter().enumerate() {
         let wrong = sheds_no_numbers(alloc, entry)?;

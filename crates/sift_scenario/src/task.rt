@@ -1,12 +1,13 @@
 //! The rules of the tasks, each over all of them, and what the tasks' tables say.
 
-ghost use Rattle.std.specs.Prelude.{◌≡◌, ◌≢◌, ◌≤◌, ◌∷◌, [], ℕ, IfOk, IfSome, IfNone, Some, length, map, option_map};
+ghost use Rattle.std.specs.Prelude.{◌≡◌, ◌≢◌, ◌≤◌, ◌∷◌, [], ℕ, IfOk, IfSome, IfNone, None, Some, length, map, option_map};
 ghost use Rattle.toml.specs.View.{table_view, view};
 ghost use Rattle.sift_base.specs.Shapes.{task_limit};
 ghost use Rattle.sift_document.specs.Document.{word_array};
+ghost use Rattle.sift_document.specs.Rules.{HoldsOf};
 ghost use Rattle.sift_document.specs.Testing.{Tests, TestsEach};
 ghost use Rattle.sift_scenario.specs.Reading.{AreTasksOf, AreTasksRead};
-ghost use Rattle.sift_scenario.specs.Task.{BreaksForms, BreaksStarts, BreaksTasks, BreaksWords, IsTaskNumber, each_task_rules, task_rules};
+ghost use Rattle.sift_scenario.specs.Task.{BreaksTasks, BreaksWords, IsTaskNumber, each_task_rules, task_rules};
 ghost use Rattle.sift_scenario.specs.Testing.{IsLinearForm, form_of};
 ghost use Rattle.sift_scenario.specs.Task.{AreForms, Form as Stated, HasForm, counts_of, start_words, tasks_of, task_outputs};
 
@@ -84,7 +85,8 @@ fn task_starts(alloc: Global, tasks: &[&Table]) -> Result<Vec<Starts>, Stop<Brok
     requires { length tasks.now ≤ task_limit }
     ensures starts { IfOk result (λ starts.
         map (λ words. Some words.items) starts.items ≡ map (λ task. start_words (table_view task.now)) tasks.now) }
-    ensures tests { Tests 20 (BreaksStarts (map (λ task. table_view task.now) tasks.now)) result }
+    ensures tests { Tests 20 (λ place. HoldsOf (map (λ task. table_view task.now) tasks.now) place
+        (λ task. start_words task ≡ None)) result }
 {
     let mut starts = Vec::new(alloc);
     for (place, task) in tasks.iter().enumerate() {
@@ -129,7 +131,8 @@ fn task_forms<'a>(
         ≡ counts_of (map (λ task. table_view task.now) tasks.now) }
     ensures forms { IfOk result (λ forms.
         AreForms (map (λ task. table_view task.now) tasks.now) (map form_of forms.items)) }
-    ensures tests { Tests 22 (BreaksForms (map (λ task. table_view task.now) tasks.now)) result }
+    ensures tests { Tests 22 (λ place. HoldsOf (map (λ task. table_view task.now) tasks.now) place
+        (λ task. (form : Stated) → ¬ HasForm task form)) result }
 {
     let mut forms = Vec::with_capacity(alloc, tasks.len())?;
     for (place, task) in tasks.iter().enumerate() {

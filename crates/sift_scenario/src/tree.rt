@@ -9,8 +9,9 @@ ghost use Rattle.sift_lang.specs.Sound.{IsSound};
 ghost use Rattle.sift_lang.specs.Tree.{tree_of};
 ghost use Rattle.sift_parse.specs.Outcome.{AreNames, linear_tree};
 ghost use Rattle.sift_parse.specs.Roll.{first_word, Roll, roll_of};
+ghost use Rattle.sift_document.specs.Rules.{AreMatched};
 ghost use Rattle.sift_compile.specs.Tasks.{AreCodesOf, IsCodeOf};
-ghost use Rattle.sift_scenario.specs.Program.{AreAllowed, AreTreesOf, IsTreeOf, IsWithin, step_limit, turn_of};
+ghost use Rattle.sift_scenario.specs.Program.{AreAllowed, IsTreeOf, IsWithin, step_limit, turn_of};
 ghost use Rattle.sift_scenario.specs.Refusal.{IsFirstRefused, IsNoTask};
 ghost use Rattle.sift_base.specs.Layout.{sensor_limit};
 ghost use Rattle.sift_base.specs.Shapes.{task_limit};
@@ -87,7 +88,8 @@ pub(crate) fn compile_tasks(
     requires words { words ≡ sum (roll_of names.old).sizes }
     requires sensors { sensors ≡ length (roll_of names.old).sensors }
     ensures trees { IfOk result (λ compiled.
-        AreTreesOf (roll_of names.old) (map form_of forms.now) (map tree_of compiled.trees.items)) }
+        AreMatched (λ task form tree. IsTreeOf (turn_of task (roll_of names.old)) form tree)
+        (map form_of forms.now) (map tree_of compiled.trees.items)) }
     ensures allowed { IfOk result (λ compiled. AreAllowed (map tree_of compiled.trees.items)) }
     ensures codes { IfOk result (λ compiled.
         AreCodesOf sensors words (map tree_of compiled.trees.items) compiled.codes.items) }

@@ -4,7 +4,7 @@ use Rattle.std.proofs.lemmas.List.Elements.{All-cons, All-from_recursion, All-ni
 use Rattle.std.specs.List.{Contains}
 use Rattle.toml.specs.Data.{Data, Members, table}
 use Rattle.sift_gen.specs.Scenario.{array_of, fault_entries, fault_item}
-use Rattle.sift_scenario.specs.Fault.{HasOneWay, IsFaultEntry, IsHeadless, IsSaying, changes_of, fault_in, fault_keys, fault_rules, from_of, stated_storm, unit_of}
+use Rattle.sift_scenario.specs.Fault.{IsSaying, changes_of, fault_in, fault_rules, from_of, stated_storm, unit_of}
 use Rattle.sift_scenario.specs.Item.{change_in, item_keys}
 use Rattle.sift_script.specs.Script.{Change, Fault, changing}
 use Rattle.sift_script.specs.declared.script.SlotKind.TheVariants.{Out}
@@ -12,6 +12,7 @@ use Rattle.sift_document.specs.Document.{HasOnlyKeys, IsTableOf, keys_of, member
 use Rattle.sift_document.specs.Rules.{AreKept}
 use Rattle.sift_trial.proofs.Digits.{other_units, others_read}
 use Rattle.sift_trial.proofs.Tables.{not_only}
+use Rattle.sift_scenario.proofs.Named.{fault_keys, IsHeadless, HasOneWay}
 use Rattle.sift_trial.proofs.Values.{number_read, word_read}
 
 -- what an item of a task's word states
@@ -79,7 +80,7 @@ module _
   faults_kept = (
     λ place broken. elim broken [
       | inl none ↦ none.1 (record { items = _; there = refl; enough = omega arith; few = omega arith })
-      | inr entry ↦ not_only (table entries) (λ k d. ¬ IsFaultEntry k d) (λ fails. fails (entries, refl, fault_known)) place entry
+      | inr entry ↦ not_only (table entries) (λ k d. ¬ IsTableOf fault_keys d) (λ fails. fails (entries, refl, fault_known)) place entry
     ],
     (
       not_only entries (λ k fault. IsHeadless fault) (λ headless. elim headless [

@@ -4,21 +4,19 @@ use Rattle.std.proofs.lemmas.List.FromFn.{get_or-range_with_len, length-map-rang
 use Rattle.std.proofs.lemmas.List.{length-map}
 use Rattle.std.proofs.lemmas.List.Elements.{All-map}
 use Rattle.std.specs.List.{range_with_len, sum}
-use Rattle.std.specs.Prelude.{unwrap_or}
-use Rattle.toml.specs.Data.{Members}
+use Rattle.std.specs.Prelude.{unwrap_or, codes}
+use Rattle.toml.specs.Data.{Members, get_member}
 use Rattle.sift_base.specs.Name.{IsName}
 use Rattle.sift_base.specs.declared.layout.Layout.{Layout}
 use Rattle.sift_gen.specs.Scenario.{fault_entries, sensor_tables, task_tables}
 use Rattle.sift_gen.specs.Tasks.{sensor_name, task_name}
 use Rattle.sift_parse.specs.Roll.{Roll}
 use Rattle.sift_program.specs.Program.{ProgramTree, program_shapes}
-use Rattle.sift_scenario.specs.Clock.{clocks_of}
-use Rattle.sift_scenario.specs.Fault.{faults_of}
-use Rattle.sift_scenario.specs.Mission.{IsLawful, themes_for, HasGoodTables, IsMission, IsStated}
-use Rattle.sift_scenario.specs.Program.{AreTreesOf, IsProgramOf, all_starts, roll_for}
+use Rattle.sift_scenario.specs.Mission.{IsLawful, HasGoodTables, IsMission, IsStated}
+use Rattle.sift_scenario.specs.Program.{IsProgramOf, roll_for}
 use Rattle.sift_scenario.specs.Root.{plain_period, units_of, version_of}
-use Rattle.sift_scenario.specs.Sensor.{sensor_names, sensor_value, sensor_words, sensors_in, words_of}
-use Rattle.sift_scenario.specs.Table.{schedules_of, table_rules}
+use Rattle.sift_scenario.specs.Sensor.{sensor_names, sensor_words, words_of}
+use Rattle.sift_scenario.specs.Table.{table_rules, schedules_by}
 use Rattle.sift_scenario.specs.Task.{Form, counts_of, names_of, task_entries, tasks_of, text, task_rules}
 use Rattle.sift_script.specs.Rules as scripts
 use Rattle.sift_script.specs.Script.{Fault, outputs_of}
@@ -38,6 +36,10 @@ use Rattle.sift_trial.proofs.Tables.{names_are}
 use Rattle.sift_trial.proofs.Tasks.{all_known, counts_are, each_kept, forms_are, tasks_are, tasks_long, text_at}
 use Rattle.sift_trial.proofs.Sensors as sensing
 use Rattle.sift_trial.proofs.Tasks as tasking
+use Rattle.sift_document.specs.Document.{tables_in}
+use Rattle.sift_scenario.specs.Clock.{clocks_in}
+use Rattle.sift_scenario.specs.Fault.{fault_in}
+use Rattle.sift_scenario.proofs.Named.{themes_for, all_starts, AreTreesOf}
 use Rattle.sift_trial.specs.Texts.{DrawnTasksAreBrief, DrawnTextsAreTasks, drawn_roll, drawn_sensors, drawn_tasks}
 
 -- counts, and a fault, that may be drawn
@@ -161,11 +163,11 @@ module _
         layout = layout;
         names = names_of (tasks_of d);
         program = program;
-        tables = schedules_of d units period;
+        tables = schedules_by (get_member (codes "table") d) units period (length (task_entries d));
         sensors = sensor_words d;
-        clock = clocks_of units d;
+        clock = clocks_in units (get_member (codes "clock") d);
         script = record {
-          faults = faults_of d;
+          faults = map fault_in (tables_in (get_member (codes "fault") d));
           layout = layout;
           outputs = outputs_of (program_shapes (length (sensor_words d)) program);
           frames = frames;
@@ -192,7 +194,7 @@ module _
   -- as many sensors have words
   sensors_long : length (sensor_words d) ≡ sensors
   sensors_long =
-      length-map (sensors_in (sensor_value d)) (λ sensor. unwrap_or (words_of sensor) [])
+      length-map (tables_in (get_member (codes "sensor") d)) (λ sensor. unwrap_or (words_of sensor) [])
       ∙ ap length (sensors_are sensors y) ∙ length-map-range_with_len (sensing.entries_at sensors y) 0 sensors
 
   -- there is a tree for each task

@@ -10,11 +10,12 @@ use Rattle.sift_gen.specs.Scenario.{pattern_from, task_place}
 use Rattle.sift_gen.specs.declared.task.Pattern.{Pattern}
 use Rattle.sift_gen.specs.declared.task.Pattern.TheVariants.{Sum, Middle, Chase, Triple}
 use Rattle.sift_lang.specs.Tree.{TaskTree}
-use Rattle.sift_scenario.specs.Program.{AreAllowed, AreTreesOf, IsTreeOf, turn_of}
+use Rattle.sift_scenario.specs.Program.{AreAllowed, IsTreeOf, turn_of}
 use Rattle.sift_scenario.specs.Task.{text}
 use Rattle.sift_trial.proofs.Ranges.{at_place, everywhere, matched}
 use Rattle.sift_trial.proofs.Shapes.{AreOfOneWord}
 use Rattle.sift_trial.proofs.Tasks.{text_at}
+use Rattle.sift_scenario.proofs.Named.{AreTreesOf}
 use Rattle.sift_trial.specs.Texts.{DrawnTasksAreBrief, DrawnTextsAreTasks, IsDrawable, drawn_roll, drawn_tree}
 
 -- a task that reads an earlier one isn't the first

@@ -8,11 +8,12 @@ use Rattle.toml.specs.View.{items_of}
 use Rattle.sift_base.specs.Name.{IsName}
 use Rattle.sift_gen.specs.Tasks.{after, draw_at, sensor_name, word_values}
 use Rattle.sift_gen.specs.Scenario.{array_of, number, sensor_tables, sensor_words, words_each}
-use Rattle.sift_scenario.specs.Sensor.{IsSensorEntry, sensor_keys, sensor_rules, sensors_in, words_of}
-use Rattle.sift_document.specs.Document.{HasOnlyKeys, each_read, keys_of, list_of, word_value}
+use Rattle.sift_scenario.specs.Sensor.{sensor_rules, words_of}
+use Rattle.sift_document.specs.Document.{HasOnlyKeys, each_read, keys_of, list_of, word_value, tables_in, IsTableOf}
 use Rattle.sift_document.specs.Rules.{AreKept}
 use Rattle.sift_trial.proofs.Ranges.{nowhere}
 use Rattle.sift_trial.proofs.Tables.{entries_kept, is_array, members_are, names_kept}
+use Rattle.sift_scenario.proofs.Named.{sensor_keys}
 use Rattle.sift_trial.proofs.Values.{draw_below, word_read}
 
 -- ---- one sensor
@@ -47,7 +48,7 @@ module _ (sensors x : ℕ) where
   sensors_value = array_of (sensor_tables sensors x)
 
   -- the document's sensors have these entries, one table after the other
-  pub sensors_are : sensors_in (Some sensors_value) ≡ map entries_at (range_with_len 0 sensors)
+  pub sensors_are : tables_in (Some sensors_value) ≡ map entries_at (range_with_len 0 sensors)
   sensors_are = members_are entries_at sensors
 
   -- they keep the rules of the sensors
@@ -57,7 +58,7 @@ module _ (sensors x : ℕ) where
   sensors_kept few formed differ = rw sensors_are (
     λ place broken. elim broken [
       | inl none ↦ none.1 (is_array entries_at sensors 0 8 (omega arith) few)
-      | inr entry ↦ entries_kept entries_at sensors IsSensorEntry
+      | inr entry ↦ entries_kept entries_at sensors (λ place. IsTableOf sensor_keys)
           (λ k low. let y = after x (words_each * k) in (sensor_entries k y, refl, keys_known k y)) place entry
     ],
     (

@@ -8,12 +8,13 @@ use Rattle.toml.specs.Data.{Data, Members, member, no_members, string}
 use Rattle.sift_base.specs.Name.{IsName}
 use Rattle.sift_gen.specs.Tasks.{after, draw_at, task_name, text_by, word_values}
 use Rattle.sift_gen.specs.Scenario.{array_of, number, pattern_from, task_place, task_tables}
-use Rattle.sift_scenario.specs.Task.{AreForms, Form, HasForm, counts_of, start_words, task_keys, task_outputs, text, BreaksWords, each_task_rules}
-use Rattle.sift_document.specs.Document.{HasOnlyKeys, IsNoTableOf, IsTableOf, entries_of, keys_of, members_of}
+use Rattle.sift_scenario.specs.Task.{AreForms, Form, HasForm, counts_of, start_words, task_outputs, text, BreaksWords, each_task_rules}
+use Rattle.sift_document.specs.Document.{HasOnlyKeys, IsTableOf, entries_of, keys_of, members_of}
 use Rattle.sift_document.specs.Rules.{HoldsOf, AreKept}
 use Rattle.sift_trial.proofs.DrawnRoll.{words_sum}
 use Rattle.sift_trial.proofs.Ranges.{made_alike, made_of, matched, nowhere}
 use Rattle.sift_trial.proofs.Tables.{entries_kept, members_are, names_kept, tables_long}
+use Rattle.sift_scenario.proofs.Named.{task_keys}
 use Rattle.sift_trial.proofs.Values.{draw_below, word_read}
 
 -- ---- one task
@@ -38,7 +39,7 @@ one_output t sensors x = rw (started t sensors x) refl
 
 -- its form is its text
 pub formed : (t sensors x : ℕ) → HasForm (drawn_entries t sensors x) (text (drawn_text t sensors x))
-formed t sensors x = record { stated = refl; alone = refl }
+formed t sensors x = (refl, refl)
 
 -- its keys are known
 keys_known : (t sensors x : ℕ) → HasOnlyKeys task_keys (drawn_entries t sensors x)
@@ -109,7 +110,7 @@ module _ (tasks sensors x : ℕ) where
   tasks_long = tables_long entries_at tasks
 
   -- each entry of `task` is a table whose keys are known
-  pub all_known : (place : ℕ) → ¬ HoldsOf (entries_of (Some tasks_value)) place (IsNoTableOf task_keys)
+  pub all_known : (place : ℕ) → ¬ HoldsOf (entries_of (Some tasks_value)) place (λ entry. ¬ IsTableOf task_keys entry)
   all_known =
       entries_kept entries_at tasks (λ t entry. IsTableOf task_keys entry)
       (λ t low. let y = task_place t x in (drawn_entries t sensors y, refl, keys_known t sensors y))

@@ -1,8 +1,8 @@
 -- Integers between two numbers.
 use Rattle.std.proofs.Common.{◌≡◌, ◌≤◌, ℕ, suc, Option, Some, None, IfSome, arith}
-use Rattle.std.specs.Prelude.{pos, negsuc, option_and_then, unwrap_or}
+use Rattle.std.specs.Prelude.{pos, negsuc, option_and_then, option_map, unwrap_or}
 use Rattle.toml.specs.Data.{Data, string, integer, float, boolean, datetime, array, table}
-use Rattle.sift_document.specs.Document.{integer_between, read_by}
+use Rattle.sift_document.specs.Document.{integer_between}
 
 -- a number that is read lies between the two
 pub between : (low high : ℕ) (d : Data) (n : ℕ) → integer_between low high d ≡ Some n → (low ≤ n) × (n ≤ high)
@@ -19,6 +19,10 @@ between low high (table ms) n is = cc
 pub between_at : (low high : ℕ) (d : Option Data) (n : ℕ) → option_and_then (integer_between low high) d ≡ Some n → (low ≤ n) × (n ≤ high)
 between_at low high None n is = cc
 between_at low high (Some d) n is = between low high d n is
+
+-- what a reader makes of a value, and something else where there is none
+abbrev pub read_by : {A : Type 0} → A → (Data → Option A) → Option Data → Option A
+read_by missing read value = unwrap_or (option_map read value) (Some missing)
 
 -- what is read of an optional number is as stated: a number between the two, or nothing where the key is missing
 pub between_or :

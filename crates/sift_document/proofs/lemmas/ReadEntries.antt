@@ -3,12 +3,13 @@ use Rattle.std.proofs.Common.{◌≡◌, ◌≢◌, ◌<◌, ◌≤◌, ◌+◌,
 use Rattle.std.proofs.lemmas.Bool.{cases_order}
 use Rattle.std.proofs.lemmas.List.{get_or-map, length-map, take_all, take_more}
 use Rattle.std.specs.Option.{option_and_then}
+use Rattle.std.specs.Prelude.{nat_le, ◌&&◌, if◌then◌else◌}
 use Rattle.toml.specs.Data.{Data, array, as_array}
 use Rattle.toml.specs.View.{items_view, view}
 use Rattle.toml.specs.declared.value.Value.{Value}
 use Rattle.sift_document.proofs.lemmas.DocumentLemmas.{array_from, list_of-view}
 use Rattle.sift_document.proofs.lemmas.Places.{so_far}
-use Rattle.sift_document.specs.Document.{array_between, array_of, each_read, of_length, with_front}
+use Rattle.sift_document.specs.Document.{array_between, array_of, each_read, with_front}
 
 -- what is read of a value and of those after it, where the whole is read
 pub with_front-parts :
@@ -52,6 +53,10 @@ module _ {A B : Type 0} (read : A → Option B) where
       rw rest (with_front-none (read a))
 
 -- ---- lengths
+
+-- a list that has from `low` to `high` entries
+abbrev pub of_length : {A : Type 0} → (low high : ℕ) → List A → Option (List A)
+of_length low high list = if nat_le low (length list) && nat_le (length list) high then Some list else None
 
 -- a list of a length between the two, and one of another
 of_length-within : {A : Type 0} (low high : ℕ) (xs : List A) → low ≤ length xs → length xs ≤ high → of_length low high xs ≡ Some xs

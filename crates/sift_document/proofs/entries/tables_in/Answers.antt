@@ -3,7 +3,7 @@ use Rattle.std.proofs.lemmas.List.{length-map, take_all}
 use Rattle.toml.specs.View.{table_view, view}
 use Rattle.sift_document.proofs.lemmas.Places.{fails_here, holds_here, nowhere, read_more}
 use Rattle.sift_document.proofs.lemmas.Testing.{first_broken}
-use Rattle.sift_document.specs.Document.{IsNoTableOf, members_of}
+use Rattle.sift_document.specs.Document.{IsTableOf, members_of}
 use Rattle.sift_document.proofs.entries.tables_in.Goals as goal
 
 -- an entry is no table, or has an unknown key
@@ -11,7 +11,7 @@ pub returns-in-None-clause-tests : goal.returns-in-None-clause-tests
 returns-in-None-clause-tests c =
     rw c.broken.ensures
     (first_broken c.args.rule _ _
-    (holds_here (λ entry. view entry) c.args.entries.now (λ at. IsNoTableOf (map (λ key. key.now) c.args.known.now)) _ _
+    (holds_here (λ entry. view entry) c.args.entries.now (λ at entry. ¬ IsTableOf (map (λ key. key.now) c.args.known.now) entry) _ _
     c.loop-place-test.true c.index-entries-place.is c.in-None.ensures.none)
     c.loop-place.invariant.1)
 
@@ -21,7 +21,7 @@ loop-place-preserved c = (
   read_more (λ table. table_view table.now) (λ entry. members_of (view entry)) c.args.entries.now _ _ _ _ _
       c.loop-place-test.true c.index-entries-place.is c.loop-place.invariant.0 c.in_ok-push-in-Some.ensures.items c.in-Some.ensures.found,
   below_more _ _ c.loop-place.invariant.1
-      (fails_here (λ entry. view entry) c.args.entries.now (λ at. IsNoTableOf (map (λ key. key.now) c.args.known.now)) _ _
+      (fails_here (λ entry. view entry) c.args.entries.now (λ at entry. ¬ IsTableOf (map (λ key. key.now) c.args.known.now) entry) _ _
       c.loop-place-test.true c.index-entries-place.is (λ other. other c.in-Some.ensures.known)),
 )
 
@@ -32,5 +32,5 @@ returns-clause-tables c =
 
 pub returns-clause-tests : goal.returns-clause-tests
 returns-clause-tests c =
-    nowhere (λ entry. view entry) c.args.entries.now (λ at. IsNoTableOf (map (λ key. key.now) c.args.known.now))
+    nowhere (λ entry. view entry) c.args.entries.now (λ at entry. ¬ IsTableOf (map (λ key. key.now) c.args.known.now) entry)
     (λ at low. c.loop-place.invariant.1 at (omega (arith, low, c.loop-place-test.false)))

@@ -15,8 +15,9 @@ use Rattle.sift_document.proofs.lemmas.Numbers.{between_at, between_or}
 use Rattle.sift_scenario.proofs.Read.{count_is}
 use Rattle.sift_scenario.proofs.Themes.{for_version, root_refused, theme_refused, themes_kept}
 use Rattle.sift_scenario.specs.Root.{plain_period}
-use Rattle.sift_scenario.specs.Table.{later_table_rules, schedules_by, table_rules, table_value}
+use Rattle.sift_scenario.specs.Table.{schedules_by, table_rules}
 use Rattle.sift_scenario.specs.Task.{task_entries}
+use Rattle.sift_scenario.proofs.Named.{later_table_rules}
 use Rattle.sift_scenario.proofs.document.entries_of.Goals as goal
 
 -- a rule of the root is broken
@@ -85,7 +86,7 @@ returns-in_err-tables-clause-refused c =
     let document = table_view c.args.document.now in
     let root = c.in_ok-root.root in
     let refused = for_version document root.version c.in_ok-root.ensures.version
-    (λ v. RefusesFirst (table_rules v root.units (table_value document)) c.in_err-tables.field-0.0) c.in_err-tables.ensures.tests in
+    (λ v. RefusesFirst (table_rules v root.units (get_member (codes "table") document)) c.in_err-tables.field-0.0) c.in_err-tables.ensures.tests in
     rw same (theme_refused document root.units c.in_ok-root.ensures.units 4 c.in_err-tables.field-0.0
     (c.in_ok-root.ensures.tests, (c.in_ok-clock.ensures.tests, (c.in_ok-sensors.ensures.tests, (c.in_ok-tasks.ensures.tests, refused)))))
 
@@ -96,7 +97,7 @@ returns-in_err-script-clause-refused c =
     let document = table_view c.args.document.now in
     let root = c.in_ok-root.root in
     let tables = for_version document root.version c.in_ok-root.ensures.version
-    (λ v. AreKept (table_rules v root.units (table_value document))) c.in_ok-tables.ensures.tests in
+    (λ v. AreKept (table_rules v root.units (get_member (codes "table") document))) c.in_ok-tables.ensures.tests in
     rw same (theme_refused document root.units c.in_ok-root.ensures.units 5 c.in_err-script.field-0.0
     (c.in_ok-root.ensures.tests, (c.in_ok-clock.ensures.tests, (c.in_ok-sensors.ensures.tests, (c.in_ok-tasks.ensures.tests, (tables, c.in_err-script.ensures.tests))))))
 
@@ -107,8 +108,8 @@ returns-in_err-check_sheds-clause-refused c =
     let document = table_view c.args.document.now in
     let root = c.in_ok-root.root in
     let tables = for_version document root.version c.in_ok-root.ensures.version
-    (λ v. AreKept (table_rules v root.units (table_value document))) c.in_ok-tables.ensures.tests in
-    let refused = stopped 0 (later_table_rules (table_value document)) c.in_err-check_sheds.field-0.0 c.in_err-check_sheds.ensures in
+    (λ v. AreKept (table_rules v root.units (get_member (codes "table") document))) c.in_ok-tables.ensures.tests in
+    let refused = stopped 0 (later_table_rules (get_member (codes "table") document)) c.in_err-check_sheds.field-0.0 c.in_err-check_sheds.ensures in
     rw same (theme_refused document root.units c.in_ok-root.ensures.units 6 c.in_err-check_sheds.field-0.0 (
       c.in_ok-root.ensures.tests,
       (c.in_ok-clock.ensures.tests, (c.in_ok-sensors.ensures.tests, (c.in_ok-tasks.ensures.tests, (tables, (c.in_ok-script.ensures.tests, refused))))),
@@ -122,7 +123,7 @@ returns-clause-read c =
     let count : c.len-count.result ≡ length (task_entries document) = c.len-count.ensures ∙ c.in_ok-tasks.tasks.forms.ok.0 ∙ count_is document c.in_ok-tasks.tasks c.in_ok-tasks.ensures.read in
     let plain : plain_period c.len-count.result ≡ plain_period (length (task_entries document)) = ap plain_period count in
     let tables = for_version document root.version c.in_ok-root.ensures.version
-    (λ v. AreKept (table_rules v root.units (table_value document))) c.in_ok-tables.ensures.tests in
+    (λ v. AreKept (table_rules v root.units (get_member (codes "table") document))) c.in_ok-tables.ensures.tests in
     record {
       lawful = themes_kept document root.units c.in_ok-root.ensures.units (
         c.in_ok-root.ensures.tests,
@@ -141,6 +142,6 @@ returns-clause-read c =
       clock = c.in_ok-clock.ensures.read;
       sensors = c.in_ok-sensors.ensures.read;
       tasks = c.in_ok-tasks.ensures.read;
-      tables = c.in_ok-tables.ensures.read ∙ ap (λ n. schedules_by (table_value document) root.units c.period_of-period.result n) count;
+      tables = c.in_ok-tables.ensures.read ∙ ap (λ n. schedules_by (get_member (codes "table") document) root.units c.period_of-period.result n) count;
       faults = c.in_ok-script.ensures.read;
     }

@@ -8,7 +8,8 @@ use Rattle.sift_script.specs.Script.{change_of, failing_of, fault_of}
 use Rattle.sift_document.proofs.lemmas.Places.{fails_here, holds_here, nowhere, read_more}
 use Rattle.sift_document.proofs.lemmas.Testing.{first_broken}
 use Rattle.sift_scenario.proofs.Faulting.{fault_taken, faults_long, planned_storm, table_low, unplanned_storm}
-use Rattle.sift_scenario.specs.Fault.{failing_from, fault_in, stated_storm}
+use Rattle.sift_scenario.specs.Fault.{fault_in, stated_storm}
+use Rattle.sift_scenario.proofs.Named.{failing_from}
 use Rattle.sift_scenario.proofs.fault.fault_entries.Goals as goal
 
 -- a `storm` states none

@@ -1,7 +1,8 @@
 use Rattle.std.proofs.Common.{◌≡◌, ◌<◌, ℕ, length, map, take}
 use Rattle.toml.specs.View.{table_view}
 use Rattle.sift_script.specs.Script.{fault_of}
-use Rattle.sift_scenario.specs.Fault.{BreaksStorms, fault_in}
+use Rattle.sift_scenario.specs.Fault.{fault_in}
+use Rattle.sift_scenario.proofs.Named.{BreaksStorms}
 use Rattle.sift_scenario.proofs.fault.fault_entries.Given as goal
 
 -- the faults so far, none of which breaks the rule

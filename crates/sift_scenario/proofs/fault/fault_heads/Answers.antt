@@ -3,7 +3,8 @@ use Rattle.std.proofs.lemmas.List.{length-map, take_all}
 use Rattle.toml.specs.View.{table_view}
 use Rattle.sift_document.proofs.lemmas.Places.{fails_here, holds_here, nowhere, read_more}
 use Rattle.sift_document.proofs.lemmas.Testing.{first_broken}
-use Rattle.sift_scenario.specs.Fault.{IsHeadless, from_of, unit_of}
+use Rattle.sift_scenario.specs.Fault.{from_of, unit_of}
+use Rattle.sift_scenario.proofs.Named.{IsHeadless}
 use Rattle.sift_scenario.proofs.fault.fault_heads.Goals as goal
 
 -- a fault has no unit, or no first frame

@@ -3,7 +3,7 @@ use Rattle.std.proofs.lemmas.List.{length-map, take_all}
 use Rattle.toml.specs.View.{table_view}
 use Rattle.sift_document.proofs.lemmas.Places.{fails_here, holds_here, nowhere, read_more}
 use Rattle.sift_document.proofs.lemmas.Testing.{first_broken}
-use Rattle.sift_scenario.specs.Fault.{HasOneWay, items_of}
+use Rattle.sift_scenario.proofs.Named.{items_of, HasOneWay}
 use Rattle.sift_scenario.proofs.fault.fault_items.Goals as goal
 
 -- a fault doesn't fail in one way

@@ -1,6 +1,6 @@
 use Rattle.std.proofs.Common.{◌≡◌, ◌<◌, ℕ, map, take}
 use Rattle.toml.specs.View.{table_view}
-use Rattle.sift_scenario.specs.Fault.{BreaksWays, items_of}
+use Rattle.sift_scenario.proofs.Named.{items_of, BreaksWays}
 use Rattle.sift_scenario.proofs.fault.fault_items.Given as goal
 
 -- the items of the faults so far, none of which breaks the rule

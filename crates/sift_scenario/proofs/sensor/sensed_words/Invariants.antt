@@ -1,6 +1,7 @@
 use Rattle.std.proofs.Common.{◌≡◌, ◌<◌, ℕ, Some, map, take}
 use Rattle.toml.specs.View.{table_view}
-use Rattle.sift_scenario.specs.Sensor.{BreaksSensed, words_of}
+use Rattle.sift_scenario.specs.Sensor.{words_of}
+use Rattle.sift_scenario.proofs.Named.{BreaksSensed}
 use Rattle.sift_scenario.proofs.sensor.sensed_words.Given as goal
 
 -- the words of the sensors so far, none of which breaks the rule

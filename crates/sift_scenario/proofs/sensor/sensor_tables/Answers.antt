@@ -3,14 +3,15 @@ use Rattle.toml.specs.View.{table_view, view}
 use Rattle.sift_base.specs.Layout.{sensor_limit}
 use Rattle.sift_document.proofs.lemmas.EntryTests.{as_many_entries, of_entries, refused_whole, tested}
 use Rattle.sift_document.proofs.lemmas.Order.{ok_from}
-use Rattle.sift_scenario.specs.Sensor.{IsSensorEntry}
+use Rattle.sift_document.specs.Document.{IsTableOf}
+use Rattle.sift_scenario.proofs.Named.{sensor_keys}
 use Rattle.sift_scenario.proofs.sensor.sensor_tables.Goals as goal
 
 -- `sensor` is no array of so few entries
 pub returns-in_err-entries-clause-tests : goal.returns-in_err-entries-clause-tests
 returns-in_err-entries-clause-tests c =
     let same : c.from_residual.result ≡ Err c.in_err-entries.field-0.0 = search rules in
-    rw same (refused_whole 15 0 sensor_limit IsSensorEntry (view c.args.value.now) _ c.in_err-entries.ensures.wrong)
+    rw same (refused_whole 15 0 sensor_limit (λ place. IsTableOf sensor_keys) (view c.args.value.now) _ c.in_err-entries.ensures.wrong)
 
 pub returns-clause-tables : goal.returns-clause-tables
 returns-clause-tables c =
@@ -24,5 +25,5 @@ returns-clause-few c =
 
 pub returns-clause-tests : goal.returns-clause-tests
 returns-clause-tests c =
-    tested 15 0 sensor_limit IsSensorEntry (view c.args.value.now) _ c.in_ok-entries.ensures.entries
+    tested 15 0 sensor_limit (λ place. IsTableOf sensor_keys) (view c.args.value.now) _ c.in_ok-entries.ensures.entries
     c.in_ok-entries.ensures.right c.tables_in.result c.tables_in.ensures.tests

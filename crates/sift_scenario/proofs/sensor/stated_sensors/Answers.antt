@@ -2,8 +2,9 @@ use Rattle.std.proofs.Common.{◌≡◌, [], Some, Err, rules, map, ap, ◌∙�
 use Rattle.toml.specs.View.{table_view, view}
 use Rattle.sift_document.proofs.lemmas.Order.{stopped}
 use Rattle.sift_scenario.proofs.Starts.{names_from, read_values, unwrapped}
-use Rattle.sift_scenario.specs.Sensor.{sensor_rules, sensors_in, words_of}
+use Rattle.sift_scenario.specs.Sensor.{sensor_rules, words_of}
 use Rattle.sift_scenario.specs.Task.{name_of}
+use Rattle.sift_document.specs.Document.{tables_in}
 use Rattle.sift_scenario.proofs.sensor.stated_sensors.Goals as goal
 
 -- `sensor` is no array of tables
@@ -30,7 +31,7 @@ returns-in_err-words-clause-tests c =
 -- the sensors are read
 pub returns-clause-read : goal.returns-clause-read
 returns-clause-read c =
-    let all = sensors_in (Some (view c.args.value.now)) in
+    let all = tables_in (Some (view c.args.value.now)) in
     let first : map (λ table. table_view table.now) c.deref.result.now ≡ all = rw c.deref.ensures.value c.in_ok-tables.ensures.tables in
     let tables : map (λ table. table_view table.now) c.deref-2.result.now ≡ all = rw c.deref-2.ensures.value c.in_ok-tables.ensures.tables in
     record {

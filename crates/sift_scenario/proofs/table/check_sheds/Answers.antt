@@ -2,7 +2,7 @@ use Rattle.std.proofs.Common.{List, refl, subst}
 use Rattle.toml.specs.Data.{Members}
 use Rattle.sift_document.proofs.lemmas.EntryTests.{of_entries}
 use Rattle.sift_document.specs.Testing.{Tests}
-use Rattle.sift_scenario.specs.Table.{BreaksShed}
+use Rattle.sift_scenario.proofs.Named.{BreaksShed}
 use Rattle.sift_scenario.proofs.table.check_sheds.Goals as goal
 
 -- the tables of the entries are those of the document

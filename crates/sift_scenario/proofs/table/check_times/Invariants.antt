@@ -1,6 +1,6 @@
 use Rattle.std.proofs.Common.{◌<◌, ℕ, map}
 use Rattle.toml.specs.View.{table_view}
-use Rattle.sift_scenario.specs.Table.{BreaksTimes}
+use Rattle.sift_scenario.proofs.Named.{BreaksTimes}
 use Rattle.sift_scenario.proofs.table.check_times.Given as goal
 
 -- no table so far breaks the rule

@@ -5,7 +5,7 @@ use Rattle.toml.specs.View.{table_view, view}
 use Rattle.sift_document.proofs.lemmas.Places.{fails_here, holds_here, nowhere, read_more}
 use Rattle.sift_document.proofs.lemmas.Testing.{first_broken}
 use Rattle.sift_document.specs.Document.{members_of}
-use Rattle.sift_scenario.specs.Table.{IsNoTableEntry, size_of}
+use Rattle.sift_scenario.specs.Table.{size_of, IsTableEntry}
 use Rattle.sift_scenario.proofs.table.entries_by_size.Goals as goal
 
 -- an entry isn't a table of its size
@@ -13,7 +13,7 @@ pub returns-in-None-clause-tests : goal.returns-in-None-clause-tests
 returns-in-None-clause-tests c =
     rw c.broken.ensures
     (first_broken 23 _ _
-    (holds_here (λ entry. view entry) c.args.entries.now (IsNoTableEntry c.args.version) _ _
+    (holds_here (λ entry. view entry) c.args.entries.now (λ at entry. ¬ IsTableEntry c.args.version at entry) _ _
     c.loop-place-test.true c.index-entries-place.is c.in-None.ensures.none)
     c.loop-place.invariant.2)
 
@@ -26,7 +26,7 @@ loop-place-preserved c = (
       (All-push (λ table. size_of (table_view table.now) ≡ None → ⊥) c.loop-place.tables.items c.in-Some.table c.loop-place.invariant.1
       (λ none. let wrong : Some _ ≡ None = sym c.in-Some.ensures.sized.sized ∙ ap size_of (sym c.in-Some.ensures.found) ∙ none in cc wrong)),
   below_more _ _ c.loop-place.invariant.2
-      (fails_here (λ entry. view entry) c.args.entries.now (IsNoTableEntry c.args.version) _ _
+      (fails_here (λ entry. view entry) c.args.entries.now (λ at entry. ¬ IsTableEntry c.args.version at entry) _ _
       c.loop-place-test.true c.index-entries-place.is (λ other. other c.in-Some.ensures.sized)),
 )
 
@@ -37,5 +37,5 @@ returns-clause-tables c =
 
 pub returns-clause-tests : goal.returns-clause-tests
 returns-clause-tests c =
-    nowhere (λ entry. view entry) c.args.entries.now (IsNoTableEntry c.args.version)
+    nowhere (λ entry. view entry) c.args.entries.now (λ at entry. ¬ IsTableEntry c.args.version at entry)
     (λ at low. c.loop-place.invariant.2 at (omega (arith, low, c.loop-place-test.false)))

@@ -1,7 +1,8 @@
 use Rattle.std.proofs.Common.{◌≡◌, ◌<◌, ℕ, map, take}
 use Rattle.toml.specs.View.{table_view}
 use Rattle.sift_table.specs.Schedule.{schedule_of}
-use Rattle.sift_scenario.specs.Table.{BreaksPositions, schedule_in}
+use Rattle.sift_scenario.specs.Table.{schedule_in}
+use Rattle.sift_scenario.proofs.Named.{BreaksPositions}
 use Rattle.sift_scenario.proofs.table.read_tables.Given as goal
 
 -- the schedules so far, and no table so far breaks the rule

@@ -4,7 +4,9 @@ use Rattle.toml.specs.View.{table_view, view}
 use Rattle.sift_document.proofs.lemmas.Order.{ended, ok_from, stopped}
 use Rattle.sift_document.proofs.lemmas.Places.{map_map}
 use Rattle.sift_document.specs.Testing.{RefusesBy, Tests}
-use Rattle.sift_scenario.specs.Table.{BreaksPositions, BreaksTimes, schedule_in, table_rules, tables_in}
+use Rattle.sift_scenario.specs.Table.{schedule_in, table_rules}
+use Rattle.sift_document.specs.Document.{tables_in}
+use Rattle.sift_scenario.proofs.Named.{BreaksTimes, BreaksPositions}
 use Rattle.sift_scenario.proofs.table.stated_tables.Goals as goal
 
 -- `table` is no array of a table for each size

@@ -1,8 +1,9 @@
 use Rattle.std.proofs.Common.{◌≡◌, ◌<◌, ◌≤◌, ℕ, map, length, vec_capacity}
 use Rattle.toml.specs.View.{table_view}
 use Rattle.sift_document.specs.Rules.{EachMatches}
-use Rattle.sift_scenario.specs.Task.{BreaksForms, HasForm}
+use Rattle.sift_scenario.specs.Task.{HasForm}
 use Rattle.sift_scenario.specs.Testing.{form_of}
+use Rattle.sift_scenario.proofs.Named.{BreaksForms}
 use Rattle.sift_scenario.proofs.task.task_forms.Given as goal
 
 -- the forms of the tasks so far, none of which breaks the rule

@@ -1,6 +1,7 @@
 use Rattle.std.proofs.Common.{◌≡◌, ◌<◌, ℕ, Some, map, take}
 use Rattle.toml.specs.View.{table_view}
-use Rattle.sift_scenario.specs.Task.{BreaksStarts, start_words}
+use Rattle.sift_scenario.specs.Task.{start_words}
+use Rattle.sift_scenario.proofs.Named.{BreaksStarts}
 use Rattle.sift_scenario.proofs.task.task_starts.Given as goal
 
 -- the start words of the tasks so far, none of which breaks the rule
