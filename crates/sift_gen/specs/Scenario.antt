@@ -71,7 +71,8 @@ pattern_from t x = pattern_of (draw_at x 1 pattern_count) t
 
 -- the table of task t, whose draws are those from x: its start word, its pattern, and those of the pattern
 abbrev pub task_table : (t sensors x : ℕ) → Data
-task_table t sensors x = table (member (codes "name") (string (task_name t)) (member (codes "start") (array_of (number (draw_at x 0 word_values) ∷ []))
+task_table t sensors x = table (member (codes "name") (string (task_name t))
+    (member (codes "start") (array_of (number (draw_at x 0 word_values) ∷ []))
     (member (codes "text") (string (text_by (pattern_from t x) t sensors (after x 2))) no_members)))
 
 -- the generator's number where task t begins, where the first task begins at x
@@ -112,8 +113,8 @@ first_task_place n = after (after n 4) (words_each * sensor_count n)
 
 -- the tree of the scenario with number n: the draws of the counts, of the sensors, of the tasks and of one fault follow one another
 abbrev pub tree_of : ℕ → Members
-tree_of n =
-    member (codes "fault") (array_of (fault_table (unit_count n) (frame_count n) (task_count n) (task_place (task_count n) (first_task_place n)) ∷ []))
+tree_of n = member (codes "fault")
+    (array_of (fault_table (unit_count n) (frame_count n) (task_count n) (task_place (task_count n) (first_task_place n)) ∷ []))
     (member (codes "frames") (number (frame_count n))
     (member (codes "sensor") (array_of (sensor_tables (sensor_count n) (after n 4)))
     (member (codes "task") (array_of (task_tables (task_count n) (sensor_count n) (first_task_place n)))

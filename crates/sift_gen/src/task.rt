@@ -145,7 +145,8 @@ fn sum_text(alloc: Global, task: u32, sensor: u32) -> Result<String, NoMemory>
 /// The middle one of two sensors and the word before.
 fn middle_text(alloc: Global, task: u32, first: u32, second: u32) -> Result<String, NoMemory>
     ensures { IfOk result (λ text. string_bytes text
-        ≡ concat (codes "out 0 = mid(sense " ∷ sensor_name first ∷ codes ", sense " ∷ sensor_name second ∷ codes ", last " ∷ task_name task ∷ codes ".0);" ∷ [])) }
+        ≡ concat (codes "out 0 = mid(sense " ∷ sensor_name first ∷ codes ", sense " ∷ sensor_name second
+        ∷ codes ", last " ∷ task_name task ∷ codes ".0);" ∷ [])) }
 {
     Ok(format!(in alloc; "out 0 = mid(sense s{first}, sense s{second}, last t{task}.0);")?)
 }

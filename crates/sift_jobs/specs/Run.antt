@@ -27,7 +27,8 @@ use Rattle.sift_jobs.specs.declared.workers.Workers.TheVariants as worker
 abbrev pub workers_of : (workers order : Option ℕ) → Option Workers
 workers_of None None = Some worker.OneEach
 workers_of None (Some order) = Some (worker.One order)
-workers_of (Some count) None = if nat_eq count 1 then Some (worker.One 0) else option_map worker.Several (within fewest_workers unit_limit (Some count))
+workers_of (Some count) None =
+    if nat_eq count 1 then Some (worker.One 0) else option_map worker.Several (within fewest_workers unit_limit (Some count))
 workers_of (Some count) (Some order) = if nat_eq count 1 then Some (worker.One order) else None
 
 -- ---- the command

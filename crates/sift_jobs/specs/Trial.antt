@@ -19,5 +19,7 @@ trial_job_of options = option_and_then
 
 -- what it has to do: it gives the last line of the report of a flight of the mission that the scenario with the number states, whatever the workers
 abbrev pub trial_duty : (given : MissionData → Strays → Type 0) → TrialJob → Duty
-trial_duty given job =
-    record { limit = None; gives = λ bytes came. (mission : MissionData) × IsMission (tree_of job.number) mission × RepliesWith given mission LastLine came }
+trial_duty given job = record {
+  limit = None;
+  gives = λ bytes came. (mission : MissionData) × IsMission (tree_of job.number) mission × RepliesWith given mission LastLine came;
+}

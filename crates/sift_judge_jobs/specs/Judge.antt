@@ -40,7 +40,8 @@ no_line number = record { status = no_line_status; text = concat (codes "report 
 -- the reply that tells a verdict
 abbrev pub told : Verdict → Reply
 told Yes = done (codes "yes\n")
-told (No frame rule) = record { status = judged_no_status; text = concat (codes "no frame " ∷ decimal frame ∷ codes " rule " ∷ decimal rule ∷ codes "\n" ∷ []) }
+told (No frame rule) =
+    record { status = judged_no_status; text = concat (codes "no frame " ∷ decimal frame ∷ codes " rule " ∷ decimal rule ∷ codes "\n" ∷ []) }
 
 -- ---- what it gives
 

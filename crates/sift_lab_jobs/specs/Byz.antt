@@ -15,7 +15,8 @@ use Rattle.sift_lab_jobs.specs.declared.byz.ByzJob.{ByzJob}
 
 -- the reply to a document that breaks this rule first
 abbrev pub broken_rule : BrokenRule → Reply
-broken_rule broken = record { status = 16; text = concat (codes "byz rule " ∷ decimal broken.number ∷ codes " at " ∷ decimal broken.place ∷ codes "\n" ∷ []) }
+broken_rule broken =
+    record { status = 16; text = concat (codes "byz rule " ∷ decimal broken.number ∷ codes " at " ∷ decimal broken.place ∷ codes "\n" ∷ []) }
 
 -- the text of the vectors of the plan that a document states, or which rule it breaks
 abbrev pub ByzGivesFor : Members → Reply → Type 0

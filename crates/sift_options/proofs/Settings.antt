@@ -219,8 +219,9 @@ same_or_other f g =
 -- the numbers of all options
 abbrev numbers : Options → List (Option ℕ)
 numbers options =
-    given options Workers ∷ given options Order ∷ given options Report ∷ given options Number ∷ given options N ∷ given options M ∷ given options Skew ∷ given options Error
-    ∷ given options Rate ∷ given options Rounds ∷ given options Copies ∷ given options Subframes ∷ given options Bus ∷ given options From ∷ given options Value ∷ []
+    given options Workers ∷ given options Order ∷ given options Report ∷ given options Number ∷ given options N
+    ∷ given options M ∷ given options Skew ∷ given options Error ∷ given options Rate ∷ given options Rounds
+    ∷ given options Copies ∷ given options Subframes ∷ given options Bus ∷ given options From ∷ given options Value ∷ []
 
 -- the options with these numbers
 abbrev with_numbers : List (Option ℕ) → Options
@@ -246,7 +247,23 @@ with_numbers ns = record {
 pub same_options : (one other : Options) → ((flag : Flag) → given one flag ≡ given other flag) → one ≡ other
 same_options one other same =
     let all : numbers one ≡ numbers other =
-    rw (same Workers, same Order, same Report, same Number, same N, same M, same Skew, same Error, same Rate, same Rounds, same Copies, same Subframes, same Bus, same From, same Value) refl in
+    rw (
+      same Workers,
+      same Order,
+      same Report,
+      same Number,
+      same N,
+      same M,
+      same Skew,
+      same Error,
+      same Rate,
+      same Rounds,
+      same Copies,
+      same Subframes,
+      same Bus,
+      same From,
+      same Value,
+    ) refl in
     ap with_numbers all
 
 -- no options

@@ -7,23 +7,27 @@ use Rattle.sift_options.specs.declared.setting.Options.{Options}
 
 -- ---- one option
 
+-- an option: its name, and where its number stands among the options of a command
+abbrev pub option_of : Flag → List ℕ × (Options → Option ℕ)
+option_of Workers = (codes "--workers", λ options. options.workers)
+option_of Order = (codes "--order", λ options. options.order)
+option_of Report = (codes "--report", λ options. options.report)
+option_of Number = (codes "--number", λ options. options.number)
+option_of N = (codes "--n", λ options. options.n)
+option_of M = (codes "--m", λ options. options.m)
+option_of Skew = (codes "--skew", λ options. options.skew)
+option_of Error = (codes "--error", λ options. options.error)
+option_of Rate = (codes "--rate", λ options. options.rate)
+option_of Rounds = (codes "--rounds", λ options. options.rounds)
+option_of Copies = (codes "--copies", λ options. options.copies)
+option_of Subframes = (codes "--subframes", λ options. options.subframes)
+option_of Bus = (codes "--bus", λ options. options.bus)
+option_of From = (codes "--from", λ options. options.from)
+option_of Value = (codes "--value", λ options. options.value)
+
 -- the name of an option
 abbrev pub name_of : Flag → List ℕ
-name_of Workers = codes "--workers"
-name_of Order = codes "--order"
-name_of Report = codes "--report"
-name_of Number = codes "--number"
-name_of N = codes "--n"
-name_of M = codes "--m"
-name_of Skew = codes "--skew"
-name_of Error = codes "--error"
-name_of Rate = codes "--rate"
-name_of Rounds = codes "--rounds"
-name_of Copies = codes "--copies"
-name_of Subframes = codes "--subframes"
-name_of Bus = codes "--bus"
-name_of From = codes "--from"
-name_of Value = codes "--value"
+name_of flag = (option_of flag).0
 
 -- the most workers
 abbrev pub worker_limit : ℕ
@@ -64,21 +68,7 @@ IsValue other text n = IsNumber text n
 
 -- the number of an option, where it is given
 abbrev pub given : Options → Flag → Option ℕ
-given options Workers = options.workers
-given options Order = options.order
-given options Report = options.report
-given options Number = options.number
-given options N = options.n
-given options M = options.m
-given options Skew = options.skew
-given options Error = options.error
-given options Rate = options.rate
-given options Rounds = options.rounds
-given options Copies = options.copies
-given options Subframes = options.subframes
-given options Bus = options.bus
-given options From = options.from
-given options Value = options.value
+given options flag = (option_of flag).1 options
 
 -- an option that wasn't given has the number that the text says, and each other option stays as it was
 abbrev pub Sets : Options → Flag → (value : List ℕ) → (after : Options) → Type 0

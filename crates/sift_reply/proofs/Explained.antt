@@ -13,7 +13,8 @@ status : (one other : Reply) → one ≡ other → one.status ≡ other.status
 status one other same = ap (λ (r : Reply). r.status) same
 
 -- a reply that is owed is one that is given, or the input was too long, or the source failed
-given_or_shared : (limit : Option ℕ) (gives : List ℕ → Reply → Type 0) (input : Input) (reply : Reply) → Owes (record { limit = limit; gives = gives }) input reply
+given_or_shared : (limit : Option ℕ) (gives : List ℕ → Reply → Type 0) (input : Input) (reply : Reply)
+    → Owes (record { limit = limit; gives = gives }) input reply
     → ((bytes : List ℕ) × gives bytes reply) ⊎ (reply ≡ too_long) ⊎ (reply ≡ read_fault)
 given_or_shared None gives input reply owes = inl ([], owes)
 given_or_shared (Some limit) gives input reply (inl owes) = inl (owes.0, owes.2)
@@ -21,7 +22,8 @@ given_or_shared (Some limit) gives input reply (inr (inl long)) = inr (inl long.
 given_or_shared (Some limit) gives input reply (inr (inr failed)) = inr (inr failed.0)
 
 -- one that has no shared status is given to the whole input
-given_whole : (limit : Option ℕ) (gives : List ℕ → Reply → Type 0) (input : Input) (reply : Reply) → Owes (record { limit = limit; gives = gives }) input reply
+given_whole : (limit : Option ℕ) (gives : List ℕ → Reply → Type 0) (input : Input) (reply : Reply)
+    → Owes (record { limit = limit; gives = gives }) input reply
     → ¬ Contains shared_statuses reply.status → (bytes : List ℕ) × IsWhole limit input bytes × gives bytes reply
 given_whole None gives input reply owes own = ([], refl, owes)
 given_whole (Some limit) gives input reply (inl owes) own = owes
@@ -29,7 +31,8 @@ given_whole (Some limit) gives input reply (inr (inl long)) own = absurd (own (4
 given_whole (Some limit) gives input reply (inr (inr failed)) own = absurd (own (1, lit< tt, sym (status _ _ failed.0)))
 
 -- its status is one with which the command may end
-ends : (limit : Option ℕ) (gives : List ℕ → Reply → Type 0) (input : Input) (reply : Reply) → Owes (record { limit = limit; gives = gives }) input reply
+ends : (limit : Option ℕ) (gives : List ℕ → Reply → Type 0) (input : Input) (reply : Reply)
+    → Owes (record { limit = limit; gives = gives }) input reply
     → MayEndWith (record { limit = limit; gives = gives }) reply.status
 ends None gives input reply owes = inl ([], reply, owes, refl)
 ends (Some limit) gives input reply (inl owes) = inl (owes.0, reply, owes.2, refl)
@@ -65,14 +68,21 @@ given_unread (Some limit) gives input reply none owes = absurd (cc)
 
 module _ {Command : Type 0} (commands : Commands Command) (one : AsksOne commands) (own : ShareNoStatus commands)
     (words : List (List ℕ)) (input : Input) (output : Output) (ended : ℕ) where
+  -- a reply that is owed for what was read, and one that is due to bytes
+  abbrev Owed : Reply → Type 0
+  Owed reply = IsOwed commands words (λ duty. Owes duty input) reply
+
+  abbrev Due : List ℕ → Reply → Type 0
+  Due bytes reply = IsOwed commands words (λ duty. IsOwedTo duty bytes) reply
+
   -- what is owed to words is owed by the command that they ask for
-  owed_by : (command : Command) (reply : Reply) → commands.asks words command → IsOwed commands words (λ duty. Owes duty input) reply → Owes (commands.duty command) input reply
+  owed_by : (command : Command) (reply : Reply) → commands.asks words command → Owed reply → Owes (commands.duty command) input reply
   owed_by command reply asks (inl other) = absurd (other.0 (command, asks))
   owed_by command reply asks (inr owed) =
       subst (λ (c : Command). Owes (commands.duty c) input reply) (one words owed.0 command owed.1 asks) owed.2
 
   -- a reply that is owed tells of no fault of the sink, and of no want of memory
-  apart : (reply : Reply) → IsOwed commands words (λ duty. Owes duty input) reply → (reply.status ≢ sink_fault_status) × (reply.status ≢ no_memory_status)
+  apart : (reply : Reply) → Owed reply → (reply.status ≢ sink_fault_status) × (reply.status ≢ no_memory_status)
   apart reply (inl other) = let e = status _ _ other.1 in (λ is. omega (arith, e, is), λ is. omega (arith, e, is))
   apart reply (inr owed) =
       elim (given_or_shared (commands.duty owed.0).limit (commands.duty owed.0).gives input reply owed.2) [
@@ -82,14 +92,14 @@ module _ {Command : Type 0} (commands : Commands Command) (one : AsksOne command
       ]
 
   -- it ends the command that the words ask for
-  owed_ends : (command : Command) (reply : Reply) → commands.asks words command → IsOwed commands words (λ duty. Owes duty input) reply → ended ≡ reply.status
+  owed_ends : (command : Command) (reply : Reply) → commands.asks words command → Owed reply → ended ≡ reply.status
       → MayEndWith (commands.duty command) ended
   owed_ends command reply asks owed is =
       subst (λ (n : ℕ). MayEndWith (commands.duty command) n) (sym is)
       (ends (commands.duty command).limit (commands.duty command).gives input reply (owed_by command reply asks owed))
 
   -- where its status isn't shared, the command gave it to the whole input
-  owed_gave : (command : Command) (reply : Reply) → commands.asks words command → IsOwed commands words (λ duty. Owes duty input) reply → IsGiven output reply ended
+  owed_gave : (command : Command) (reply : Reply) → commands.asks words command → Owed reply → IsGiven output reply ended
       → ¬ Contains shared_statuses ended
       → (bytes : List ℕ) × (came : Reply) × IsWhole (commands.duty command).limit input bytes × (commands.duty command).gives bytes came × IsGiven output came ended
   owed_gave command reply asks owed given apart =
@@ -98,22 +108,22 @@ module _ {Command : Type 0} (commands : Commands Command) (one : AsksOne command
       (whole.0, reply, whole.1, whole.2, given)
 
   -- words that are no command line are owed `usage` alone
-  owed_usage : (reply : Reply) → IsOwed commands words (λ duty. Owes duty input) reply → ¬ IsCommandLine commands words → reply ≡ usage
+  owed_usage : (reply : Reply) → Owed reply → ¬ IsCommandLine commands words → reply ≡ usage
   owed_usage reply (inl other) none = other.1
   owed_usage reply (inr owed) none = absurd (none (owed.0, owed.1))
 
   -- one reply is due to bytes that are owed one
   one_due : (bytes : List ℕ) (command : Command) (reply came : Reply) → commands.asks words command → OwesOneTo (commands.duty command) bytes
-      → IsOwed commands words (λ duty. IsOwedTo duty bytes) reply → IsOwed commands words (λ duty. IsOwedTo duty bytes) came → came ≡ reply
+      → Due bytes reply → Due bytes came → came ≡ reply
   one_due bytes command reply came asks alone (inl other) b = absurd (other.0 (command, asks))
   one_due bytes command reply came asks alone (inr a) (inl other) = absurd (other.0 (command, asks))
   one_due bytes command reply came asks alone (inr a) (inr b) =
-      let Due : Reply → Command → Type 0 = λ r c. IsOwedTo (commands.duty c) bytes r in
-      alone came reply (subst (Due came) (one words b.0 command b.1 asks) b.2) (subst (Due reply) (one words a.0 command a.1 asks) a.2)
+      let Has : Reply → Command → Type 0 = λ r c. IsOwedTo (commands.duty c) bytes r in
+      alone came reply (subst (Has came) (one words b.0 command b.1 asks) b.2) (subst (Has reply) (one words a.0 command a.1 asks) a.2)
 
   -- a command that reads nothing owes its one reply
   one_unread : (command : Command) (reply came : Reply) → commands.asks words command → GivesOne (commands.duty command)
-      → (commands.duty command).limit ≡ None → (commands.duty command).gives [] reply → IsOwed commands words (λ duty. Owes duty input) came → came ≡ reply
+      → (commands.duty command).limit ≡ None → (commands.duty command).gives [] reply → Owed came → came ≡ reply
   one_unread command reply came asks alone none gives owed =
       alone [] came reply
       (given_unread (commands.duty command).limit (commands.duty command).gives input came none (owed_by command came asks owed)) gives
@@ -125,7 +135,7 @@ module _ {Command : Type 0} (commands : Commands Command) (one : AsksOne command
   -- ---- the three answers
 
   -- a reply that is owed was given
-  explained_given : (reply : Reply) → IsOwed commands words (λ duty. Owes duty input) reply → IsGiven output reply ended → IsExplained commands words input output ended
+  explained_given : (reply : Reply) → Owed reply → IsGiven output reply ended → IsExplained commands words input output ended
   explained_given reply owed given = record {
     known = λ command asks. owed_ends command reply asks owed given.0;
     given = λ command asks apart. owed_gave command reply asks owed given apart;
@@ -150,7 +160,7 @@ module _ {Command : Type 0} (commands : Commands Command) (one : AsksOne command
   }
 
   -- the sink failed within a reply that is owed
-  explained_broken : (reply : Reply) → IsOwed commands words (λ duty. Owes duty input) reply → ended ≡ sink_fault_status → IsBroken output reply ended
+  explained_broken : (reply : Reply) → Owed reply → ended ≡ sink_fault_status → IsBroken output reply ended
       → IsExplained commands words input output ended
   explained_broken reply owed is cuts = record {
     known = λ command asks. inr (subst (λ (n : ℕ). Contains (shared_endings (commands.duty command).limit) n) (sym is) (ends_broken (commands.duty command).limit));

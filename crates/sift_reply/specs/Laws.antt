@@ -23,7 +23,8 @@ module _ {Command : Type 0} (commands : Commands Command) where
         → (bytes : List ℕ) × (reply : Reply) × IsWhole (commands.duty command).limit input bytes × (commands.duty command).gives bytes reply
         × IsGiven output reply status
     -- but for a fault of the sink and want of memory, it is that of a reply that is owed, which was given
-    pub owed : status ≢ sink_fault_status → status ≢ no_memory_status → (reply : Reply) × IsOwed commands words (λ duty. Owes duty input) reply × IsGiven output reply status
+    pub owed : status ≢ sink_fault_status → status ≢ no_memory_status
+        → (reply : Reply) × IsOwed commands words (λ duty. Owes duty input) reply × IsGiven output reply status
     -- the sink failed within a reply that is owed
     pub cut : status ≡ sink_fault_status → (reply : Reply) × IsOwed commands words (λ duty. Owes duty input) reply × IsBroken output reply status
     -- memory was wanting for a command, and nothing was written

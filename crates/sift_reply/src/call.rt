@@ -83,7 +83,8 @@ fn owed_by<M: Drop, W: Work, J: Job<M, W>, S: Source, D: Fn(W) -> Result<String,
     requires callable { (work : W) → D.pre do_work.now work }
     requires done { (work : W) (came : _) → D.post do_work.now work came → IfOk came (λ text. W.gives work (string_bytes text)) }
     ensures owed { IfOk result (Owes (J.duty means job) (record { before = S.inflow source.old; after = S.inflow source.new })) }
-    ensures wanting { IfErr result (λ _. ReadsWithin (J.duty means job).limit (record { before = S.inflow source.old; after = S.inflow source.new })) }
+    ensures wanting { IfErr result (λ _. ReadsWithin (J.duty means job).limit
+        (record { before = S.inflow source.old; after = S.inflow source.new })) }
     ensures other { IfOk result (λ reply. reply.status ≢ no_memory_status) }
     ensures unread { (J.duty means job).limit ≡ None → source.new ≡ source.old }
 {

@@ -1,11 +1,12 @@
 -- Storms that are drawn are the draws.
-use Rattle.std.proofs.Common.{◌≡◌, ℕ, zero, suc, ◌+◌, ◌*◌, List, [], ◌∷◌, length, refl, sym, ap, ◌∙◌, arith, Option}
+use Rattle.std.proofs.Common.{◌≡◌, ℕ, zero, suc, ◌+◌, ◌*◌, List, [], ◌∷◌, length, refl, sym, ap, ◌∙◌, arith, Option, option_to_list}
+use Rattle.std.specs.List.{flat_map}
 use Rattle.sift_base.specs.Draw.{next_number}
 use Rattle.sift_buffer.specs.Conduct.{Stray}
 use Rattle.sift_rogue.specs.declared.act.Act.{Act}
 use Rattle.sift_rogue.specs.declared.storm.Storm.{Storm}
 use Rattle.sift_rogue.specs.Rogues.{AllowsDrawn, after, drawn_act}
-use Rattle.sift_rogue.specs.Storms.{Storms, Answers, all_sifted}
+use Rattle.sift_rogue.specs.Storms.{Storms, Answers}
 use Rattle.sift_rogue.specs.DrawnStorms.{DrawnStormsAreTheDraws, drawn_acts}
 
 zero_more : (b : ℕ) → b ≡ 0 + b
@@ -34,16 +35,18 @@ answers_drawn x (a ∷ acts) z w =
     ((λ i. (w.2.0 ∙ ap drawn_act rest.1) i ∷ rest.0 i), w.2.1 ∙ (ap (λ (n : ℕ). after n 5) rest.1 ∙ five_more x.drawer (length acts)))
 
 -- so is a storm that is drawn
-storm_drawn : (sift : Act → Option Stray) (number : ℕ) (x : Storm) (count : ℕ) (strays : List Stray) (y : Storm) → Storms AllowsDrawn sift number x count strays y →
-    (strays ≡ all_sifted sift (drawn_acts number count)) × (y.drawer ≡ after number (5 * count))
+storm_drawn : (sift : Act → Option Stray) (number : ℕ) (x : Storm) (count : ℕ) (strays : List Stray) (y : Storm)
+    → Storms AllowsDrawn sift number x count strays y →
+    (strays ≡ flat_map (λ act. option_to_list (sift act)) (drawn_acts number count)) × (y.drawer ≡ after number (5 * count))
 storm_drawn sift number x count strays y storm =
     let drawn = answers_drawn storm.begun storm.acts y storm.answers in (
-      storm.strays_are ∙ ap (all_sifted sift) (drawn.0 ∙ (λ i. drawn_acts (storm.start i) (storm.count_is i))),
+      storm.strays_are ∙ ap (flat_map (λ act. option_to_list (sift act))) (drawn.0 ∙ (λ i. drawn_acts (storm.start i) (storm.count_is i))),
       drawn.1 ∙ (λ i. after (storm.start i) (5 * storm.count_is i)),
     )
 
 -- what is drawn is answered
-drawn_answers : (number count : ℕ) → Answers AllowsDrawn (record { drawer = number }) (drawn_acts number count) (record { drawer = after number (5 * count) })
+drawn_answers : (number count : ℕ)
+    → Answers AllowsDrawn (record { drawer = number }) (drawn_acts number count) (record { drawer = after number (5 * count) })
 drawn_answers number zero = refl
 drawn_answers number (suc count) = (record { drawer = after number (5 * count) }, drawn_answers number count, (refl, sym (five_more number count)))
 

@@ -1,5 +1,6 @@
 -- What a storm comes to: the calls of a rogue, and the strays that are stored of its acts.
 use Rattle.std.specs.Prelude.{ℕ, ◌≡◌, ◌+◌, ◌&&◌, not, nat_eq, nat_lt, if◌then◌else◌, List, [], ◌∷◌, ◌++◌, length, Option, Some, None, option_to_list, option_map}
+use Rattle.std.specs.List.{flat_map}
 use Rattle.sift_base.specs.declared.layout.Layout.{Layout}
 use Rattle.sift_base.specs.Layout.{slot_count}
 use Rattle.sift_buffer.specs.Conduct.{Stray, stray_to}
@@ -23,11 +24,6 @@ abbrev pub sifted : Layout → (own : ℕ) → Act → Option Stray
 sifted layout own (Strays q k x) = if nat_lt q layout.units && not (nat_eq q own) && nat_lt k (slot_count layout) then Some (stray_to q k x) else None
 sifted layout own Rest = None
 
--- the strays of many acts, each of which comes to this one, or to none
-abbrev pub all_sifted : (sift : Act → Option Stray) → List Act → List Stray
-all_sifted sift [] = []
-all_sifted sift (a ∷ acts) = option_to_list (sift a) ++ all_sifted sift acts
-
 -- the stray of a shot
 abbrev pub stray_of : Shot → Stray
 stray_of s = stray_to s.to s.slot s.cell
@@ -47,7 +43,7 @@ module _ {R : Type 0} (allows : R → Call → R → Type 0) where
     pub acts : List Act
     pub count_is : length acts ≡ count
     pub answers : Answers begun acts y
-    pub strays_are : strays ≡ all_sifted sift acts
+    pub strays_are : strays ≡ flat_map (λ act. option_to_list (sift act)) acts
 
   -- x was called once and became y; its act comes to this shot, or to none
   pub record Shoots (sift : Act → Option Stray) (x : R) (shot : Option Shot) (y : R) : Type 0 where
@@ -59,4 +55,5 @@ module _ {R : Type 0} (allows : R → Call → R → Type 0) where
   pub record StormsAddUp : Type 0 where
     pub begins : (sift : Act → Option Stray) (number : ℕ) (x y : R) → allows x (Started number) y → Storms sift number x 0 [] y
     pub goes_on : (sift : Act → Option Stray) (number : ℕ) (x : R) (count : ℕ) (strays : List Stray) (y : R) (shot : Option Shot) (z : R) →
-        Storms sift number x count strays y → Shoots sift y shot z → Storms sift number x (count + 1) (option_to_list (option_map stray_of shot) ++ strays) z
+        Storms sift number x count strays y → Shoots sift y shot z →
+        Storms sift number x (count + 1) (option_to_list (option_map stray_of shot) ++ strays) z

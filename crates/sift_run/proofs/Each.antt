@@ -64,7 +64,8 @@ module _ (given : MissionData → Strays → Type 0)
     (ideal : (job : IdealJob) → GivesOne (mission_duty (IdealGives job))) (check : (job : CheckJob) → GivesOne (mission_duty (CheckGives job)))
     (scenario : (job : GenJob) → GivesOne (gen_duty job)) (trial : (job : TrialJob) → GivesOne (trial_duty given job))
     (plan : (job : PlanJob) → GivesOne (mission_duty (PlanGives job))) (judge : (job : JudgeJob) → GivesOne (judge_duty job))
-    (buses : (job : BusesJob) → GivesOne (mission_duty (BusesGives job))) (byz : (job : ByzJob) → GivesOne (byz_duty job)) (clocks : (job : ClocksJob) → GivesOne (clocks_duty job)) where
+    (buses : (job : BusesJob) → GivesOne (mission_duty (BusesGives job))) (byz : (job : ByzJob) → GivesOne (byz_duty job))
+    (clocks : (job : ClocksJob) → GivesOne (clocks_duty job)) where
   -- each command gives one reply to calm bytes, and those that fly no input to all
   pub gives_one : CommandsGiveOne given
   gives_one (command.Run job) bytes calm = run job bytes (calm tt)

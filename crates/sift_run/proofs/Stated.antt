@@ -49,8 +49,10 @@ module _ (given : MissionData → Strays → Type 0) (one : OneCommand) (one_sta
   owed (Clocks job) bytes mission reply reads short stated came = absurd reads
 
   -- so is one that is due to them
-  due : (words : List (List ℕ)) (command : Command) (bytes : List ℕ) (mission : MissionData) (reply : Reply) → Asks words command → ReadsMission command
-      → length bytes ≤ document_limit → States bytes mission → IsOwed (commands given) words (λ duty. IsOwedTo duty bytes) reply → GivesFor given command mission reply
+  due : (words : List (List ℕ)) (command : Command) (bytes : List ℕ) (mission : MissionData) (reply : Reply) → Asks words command
+      → ReadsMission command
+      → length bytes ≤ document_limit → States bytes mission → IsOwed (commands given) words (λ duty. IsOwedTo duty bytes) reply
+      → GivesFor given command mission reply
   due words command bytes mission reply asked reads short stated (inl (none, is)) = absurd (none (command, asked))
   due words command bytes mission reply asked reads short stated (inr (other, asks, owes)) =
       owed command bytes mission reply reads short stated
@@ -85,7 +87,8 @@ module _ (given : MissionData → Strays → Type 0) (one : OneCommand) (one_sta
   reads_one (Clocks job) does = absurd does
 
   -- and its reply has the status 0
-  done : (command : Command) (mission : MissionData) (reply : Reply) → DoesEachMission command → GivesFor given command mission reply → reply.status ≡ done_status
+  done : (command : Command) (mission : MissionData) (reply : Reply) → DoesEachMission command → GivesFor given command mission reply
+      → reply.status ≡ done_status
   done (Run job) mission reply does gave = ap (λ (r : Reply). r.status) gave.2
   done (Votes job) mission reply does gave = ap (λ (r : Reply). r.status) gave.2
   done (Ideal job) mission reply does gave = ap (λ (r : Reply). r.status) gave

@@ -58,7 +58,7 @@ module _ {T R : Type 0} (view : T → View) (follows : T → List Stray → T �
     progress = (straying left some).number;
     rogue =
         subst (λ (ss : List Stray). Storms allows (sifted_at y) storm.1 x.rogue storm.2 ss y.rogue) (sym strays_are)
-        (subst (λ (sift : Act → Option Stray). Storms allows sift storm.1 x.rogue storm.2 came.strays y.rogue) (sym (sifted_same x y came.mission came.unit))
+        (subst (λ (s : Act → Option Stray). Storms allows s storm.1 x.rogue storm.2 came.strays y.rogue) (sym (sifted_same x y came.mission came.unit))
         (subst (λ (n : ℕ). Storms allows (sifted_at x) storm.1 x.rogue n came.strays y.rogue) all
         (came.turned left storm some (sym same_storm ∙ is))));
   }

@@ -221,7 +221,8 @@ module _ {T R : Type 0} (follows : T → List Stray → T → Type 0) (allows : 
               let fewer : left ≤ storm.2 = few storm (storms_same w x came.mission came.unit ∙ storm_is) in
               let less : left - 1 ≡ n = cc in
               let one : storm.2 - left + 1 ≡ storm.2 - n = omega arith in
-              let shoots : Shoots allows (sifted_at w) x.rogue next.shot y.rogue = subst (λ (sift : Act → Option Stray). Shoots allows sift x.rogue next.shot y.rogue)
+              let shoots : Shoots allows (sifted_at w) x.rogue next.shot y.rogue =
+              subst (λ (s : Act → Option Stray). Shoots allows s x.rogue next.shot y.rogue)
               (sifted_same w x came.mission came.unit) next.shoots in
               subst (λ (k : ℕ). Storms allows (sifted_at w) storm.1 w.rogue k (option_to_list (option_map stray_of next.shot) ++ came.strays) y.rogue) one
               (laws.goes_on (sifted_at w) storm.1 w.rogue (storm.2 - left) came.strays x.rogue next.shot y.rogue (came.turned left storm is storm_is) shoots);

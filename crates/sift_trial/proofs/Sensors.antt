@@ -23,7 +23,8 @@ abbrev pub sensor_entries : (k x : ℕ) → Members
 sensor_entries k x = member (codes "name") (string (sensor_name k)) (member (codes "words") (array_of (sensor_words x)) no_members)
 
 -- numbers of 16 bits are read as words
-words_read : (f : ℕ → ℕ) → ((i : ℕ) → f i < 65536) → (ks : List ℕ) → each_read word_value (list_of (items_of (map (λ i. number (f i)) ks))) ≡ Some (map f ks)
+words_read : (f : ℕ → ℕ) → ((i : ℕ) → f i < 65536) → (ks : List ℕ)
+    → each_read word_value (list_of (items_of (map (λ i. number (f i)) ks))) ≡ Some (map f ks)
 words_read f low [] = refl
 words_read f low (k ∷ ks) = rw (word_read (f k) (low k), words_read f low ks) refl
 
