@@ -12,7 +12,9 @@ use Rattle.sift_scenario.proofs.Named.{BreaksStart, BreaksDrift, BreaksErrors, c
 use Rattle.sift_scenario.specs.Clock.{clock_rules, error_of, figure_rules, rate_of, skew_of, unit_rules, clock_keys}
 
 -- a value, and the table that it is
-module _ (units : ℕ) (value : Data) (clock : Members) (same : clock ≡ members_of value) (known : IsKept (rule 6 (OfNoEntry (¬ IsTableOf clock_keys value)))) where
+module _
+    (units : ℕ) (value : Data) (clock : Members) (same : clock ≡ members_of value)
+    (known : IsKept (rule 6 (OfNoEntry (¬ IsTableOf clock_keys value)))) where
   -- one of its figures is refused
   pub figure_refused : (e : Stop BrokenRule) → RefusesFirst (figure_rules clock) e → RefusesFirst (clock_rules units (Some value)) e
   figure_refused e refused =
@@ -40,7 +42,8 @@ module _
   -- the starts, the drifts or the errors are refused
   pub start_refused : (e : Stop BrokenRule) → RefusesBy 12 (BreaksStart units skew clock) e → RefusesFirst (unit_rules units clock) e
   start_refused e refused =
-      stopped 0 (unit_rules units clock) e (subst (λ (n : ℕ). RefusesBy 12 (BreaksStart units n clock) e) (sym (ap (λ o. unwrap_or o 0) skew_is)) refused)
+      stopped 0 (unit_rules units clock) e (subst (λ (n : ℕ). RefusesBy 12 (BreaksStart units n clock) e)
+      (sym (ap (λ o. unwrap_or o 0) skew_is)) refused)
 
   -- the starts are as they should be, by the skew that was read
   pub start_kept : IsKept (rule 12 (BreaksStart units skew clock)) → IsKept (rule 12 (BreaksStart units (unwrap_or (skew_of clock) 0) clock))
@@ -58,12 +61,22 @@ module _
   pub drift_refused :
       (e : Stop BrokenRule) → IsKept (rule 12 (BreaksStart units skew clock)) → RefusesBy 13 (BreaksDrift units rate clock) e → RefusesFirst (unit_rules units clock) e
   drift_refused e starts refused =
-      stopped 1 (unit_rules units clock) e (start_kept starts, subst (λ (n : ℕ). RefusesBy 13 (BreaksDrift units n clock) e) (sym (ap (λ o. unwrap_or o 0) rate_is)) refused)
+      stopped 1 (unit_rules units clock) e (
+        start_kept starts,
+        subst (λ (n : ℕ). RefusesBy 13 (BreaksDrift units n clock) e)
+            (sym (ap (λ o. unwrap_or o 0) rate_is)) refused,
+      )
 
   -- where starts and drifts keep their rules, so does an error beyond the stated one
   pub errors_refused :
       (e : Stop BrokenRule) → IsKept (rule 12 (BreaksStart units skew clock)) → IsKept (rule 13 (BreaksDrift units rate clock))
       → RefusesBy 14 (BreaksErrors units error clock) e → RefusesFirst (unit_rules units clock) e
   errors_refused e starts drifts refused =
-      stopped 2 (unit_rules units clock) e
-      (start_kept starts, (drift_kept drifts, subst (λ (n : ℕ). RefusesBy 14 (BreaksErrors units n clock) e) (sym (ap (λ o. unwrap_or o 0) error_is)) refused))
+      stopped 2 (unit_rules units clock) e (
+        start_kept starts,
+        (
+          drift_kept drifts,
+          subst (λ (n : ℕ). RefusesBy 14 (BreaksErrors units n clock) e)
+              (sym (ap (λ o. unwrap_or o 0) error_is)) refused,
+        ),
+      )

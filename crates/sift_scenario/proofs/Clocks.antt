@@ -133,7 +133,8 @@ module _ (units : ℕ) (clock : Members) (figures : AreKept (figure_rules clock)
 
   -- clocks that keep the rules fit
   stated_fit : AreClocks units (stated_clocks units clock)
-  stated_fit = fitting units (unwrap_or (skew_of clock) 0) (unwrap_or (error_of clock) 0) (unwrap_or (rate_of clock) 0) (unwrap_or (length_of clock) 0) _ _ _
+  stated_fit =
+      fitting units (unwrap_or (skew_of clock) 0) (unwrap_or (error_of clock) 0) (unwrap_or (rate_of clock) 0) (unwrap_or (length_of clock) 0) _ _ _
       (are_numbers _ _ _ _ skew_fits error_fits rate_fits length_fits)
       (are_admitted _ _ _ _ skew_fits (not_less _ _ (λ small. figures.1.1.1.0 0 (refl, small)))
       (not_less _ _ (λ short. figures.1.1.1.1.0 0 (refl, short))))
@@ -147,5 +148,7 @@ value_fits units (Some value) kept =
     stated_fit units (members_of value) themes.1.0 themes.1.1.0
 
 -- the clocks of a lawful document fit
-pub clocks_fit : (document : Members) (units : ℕ) → units_of document ≡ Some units → IsLawful document → AreClocks units (clocks_in units (get_member (codes "clock") document))
+pub clocks_fit :
+    (document : Members) (units : ℕ) → units_of document ≡ Some units → IsLawful document
+    → AreClocks units (clocks_in units (get_member (codes "clock") document))
 clocks_fit document units is lawful = value_fits units (get_member (codes "clock") document) (kept_themes document units is lawful).1.0

@@ -169,7 +169,8 @@ table_known : (version units : ℕ) (value : Option Data) → AreDecided (table_
 table_known version units value = (
   of_array (size_count units) (size_count units) (IsTableEntry version) value (known_entry version),
   (
-    of_each (tables_in value) (λ place. IsTimeless) (λ place table. either (nothing (subframes_at (codes "run") table)) (nothing (subframes_at (codes "poll") table))),
+    of_each (tables_in value) (λ place. IsTimeless)
+        (λ place table. either (nothing (subframes_at (codes "run") table)) (nothing (subframes_at (codes "poll") table))),
     (of_each (tables_in value) (λ place table. positions_of table ≡ None) (λ place table. nothing (positions_of table)), tt),
   ),
 )

@@ -52,11 +52,15 @@ module _
   sizes i low =
       let same = stated.tables in
       subst (λ (ts : List Schedule). IsSized d.period (least_units + i) (schedule_at ts i)) (sym same)
-      (schedules_sized d.units d.period (length (task_entries document)) (unwrap_or (version_of document) 0) (get_member (codes "table") document) themes.1.1.1.1.0.0 i (rw (← same) low))
+      (schedules_sized d.units d.period (length (task_entries document)) (unwrap_or (version_of document) 0)
+      (get_member (codes "table") document) themes.1.1.1.1.0.0 i (rw (← same) low))
 
   tables_fit : AreTables d
   tables_fit =
-      let long = ap length stated.tables ∙ schedules_long d.units d.period (length (task_entries document)) (unwrap_or (version_of document) 0) (get_member (codes "table") document) themes.1.1.1.1.0.0 in record {
+      let long =
+      ap length stated.tables
+      ∙ schedules_long d.units d.period (length (task_entries document)) (unwrap_or (version_of document) 0)
+      (get_member (codes "table") document) themes.1.1.1.1.0.0 in record {
         count = omega (arith, long, units_between.0);
         each = λ i low. record { sized = (sizes i low).sized; timed = (sizes i low).timed; good = good_tables i _ low };
       }

@@ -62,7 +62,8 @@ known_entry version place entry = elim (both (known_table (table_keys version) e
 saying_by : (fault : Members) (o : Option Data) → (get_member (codes "say") fault) ≡ o → Decided (IsSaying fault)
 saying_by fault None is = inr (λ h. let there = sym is ∙ h.there in cc)
 saying_by fault (Some value) is =
-    elim (both (both (known_array 1 item_limit value) (each (IsTableOf item_keys) (known_table item_keys) (entries_of (Some value)))) (nothing (get_member (codes "storm") fault))) [
+    elim (both (both (known_array 1 item_limit value) (each (IsTableOf item_keys) (known_table item_keys) (entries_of (Some value))))
+    (nothing (get_member (codes "storm") fault))) [
       | inl h ↦ inl (record { value = value; there = is; items = record { few = h.0.0; known = h.0.1 }; alone = h.1 })
       | inr other ↦ inr (λ h. let there : Some value ≡ Some h.value = sym is ∙ h.there in
           let one : h.value ≡ value = cc there in

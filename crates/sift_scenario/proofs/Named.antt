@@ -11,11 +11,13 @@ use Rattle.sift_scenario.specs.Clock.{StartTogether, clock_keys, clock_rules, dr
 use Rattle.sift_scenario.specs.Fault.{IsSaying, IsStorming, changes_of, fault_rules, from_of, stated_storm, unit_of}
 use Rattle.sift_lang.specs.Tree.{TaskTree}
 use Rattle.sift_parse.specs.Roll.{Roll}
-use Rattle.sift_scenario.specs.Program.{IsTreeOf, turn_of}
+use Rattle.sift_scenario.specs.Program.{IsTreeOf, roll_for, turn_of}
+use Rattle.sift_scenario.specs.Refusal.{IsFirstRefused}
+use Rattle.sift_scenario.specs.declared.refused.Refused.{Refused}
 use Rattle.sift_scenario.specs.Root.{root_rules, version_of}
 use Rattle.sift_scenario.specs.Sensor.{sensor_rules, words_of}
 use Rattle.sift_scenario.specs.Table.{IsTableEntry, IsTimeless, positions_of, shed_of, size_count, table_rules}
-use Rattle.sift_scenario.specs.Task.{Form, HasForm, start_words, task_rules}
+use Rattle.sift_scenario.specs.Task.{AreForms, Form, HasForm, start_words, task_rules}
 
 -- ---- keys and values
 
@@ -59,6 +61,10 @@ stated_clocks units clock = record {
   drift = unwrap_or (drifts_of units (unwrap_or (rate_of clock) 0) clock) [];
   errors = unwrap_or (errors_of units (unwrap_or (error_of clock) 0) clock) [];
 }
+
+-- the tasks in these tables have forms, of which one is refused, beside sensors of these names
+abbrev pub TasksAreRefused : (sensors : List (List ℕ)) → List Members → Refused → Type 0
+TasksAreRefused sensors tasks refused = (forms : List Form) × AreForms tasks forms × IsFirstRefused (roll_for sensors tasks) forms refused
 
 -- ---- rules
 

@@ -30,7 +30,9 @@ module _ (units period tasks : ℕ) where
   plain_long : length (schedules_by None units period tasks) ≡ size_count units
   plain_long = length-map (range_with_len least_units (size_count units)) (λ size. plain_of size period tasks) ∙ length-range_with_len least_units (size_count units)
 
-  plain_sized : (i : ℕ) → i < length (schedules_by None units period tasks) → IsSized period (least_units + i) (schedule_at (schedules_by None units period tasks) i)
+  plain_sized :
+      (i : ℕ) → i < length (schedules_by None units period tasks)
+      → IsSized period (least_units + i) (schedule_at (schedules_by None units period tasks) i)
   plain_sized i low =
       let within : i < size_count units = omega (arith, low, plain_long) in
       let sizes = range_with_len least_units (size_count units) in

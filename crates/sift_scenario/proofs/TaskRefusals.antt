@@ -11,7 +11,8 @@ use Rattle.sift_parse.specs.declared.stop.ParseStop.TheVariants as parse
 use Rattle.sift_document.specs.Testing.{RefusesFirst}
 use Rattle.sift_document.specs.declared.rule.BrokenRule.{BrokenRule}
 use Rattle.sift_scenario.specs.Mission.{IsLawful, rules_of}
-use Rattle.sift_scenario.specs.Refusal.{IsFormRefused, IsOver, IsRefusedWith, TasksAreRefused, refusal_of}
+use Rattle.sift_scenario.specs.Refusal.{IsFormRefused, IsOver, IsRefusedWith, refusal_of}
+use Rattle.sift_scenario.proofs.Named.{TasksAreRefused}
 use Rattle.sift_scenario.specs.Sensor.{sensor_names}
 use Rattle.sift_scenario.specs.Task.{Form, tasks_of}
 use Rattle.sift_scenario.specs.Testing.{rule_refusal_of}
@@ -51,7 +52,7 @@ form_refusal-other roll left task form e (inr over) other = over-other left task
 -- a task of a lawful document is refused
 pub text_refused_by : (d : Members) (e : Refused) → IsLawful d → TasksAreRefused (sensor_names d) (tasks_of d) e → IsRefusedWith d e
 text_refused_by d (Scenario n at) lawful r = absurd (form_refusal-other _ _ _ _ (Scenario n at) r.2.here.holds tt)
-text_refused_by d (Task t k at) lawful r = (lawful, r)
+text_refused_by d (Task t k at) lawful r = (r.0, lawful, r.1, r.2)
 text_refused_by d (Table size row n) lawful r = absurd (form_refusal-other _ _ _ _ (Table size row n) r.2.here.holds tt)
 text_refused_by d (Script entry n) lawful r = absurd (form_refusal-other _ _ _ _ (Script entry n) r.2.here.holds tt)
 

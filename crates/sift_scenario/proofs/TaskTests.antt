@@ -12,7 +12,9 @@ use Rattle.sift_scenario.proofs.Named.{task_keys}
 use Rattle.sift_scenario.specs.Task.{task_entries, BreaksTasks, IsTaskNumber}
 
 module _ (document : Members) (entries : List Data) (same : entries ≡ task_entries document) (number : IsTaskNumber (length entries)) where
-  refused_task : (e : Stop BrokenRule) → RefusesBy 18 (λ place. HoldsOf entries place (λ entry. ¬ IsTableOf task_keys entry)) e → RefusesBy 18 (BreaksTasks document) e
+  refused_task :
+      (e : Stop BrokenRule) → RefusesBy 18 (λ place. HoldsOf entries place (λ entry. ¬ IsTableOf task_keys entry)) e
+      → RefusesBy 18 (BreaksTasks document) e
   refused_task (stop.Refused broken) refused = (
     refused.0,
     record {
@@ -23,6 +25,8 @@ module _ (document : Members) (entries : List Data) (same : entries ≡ task_ent
   refused_task stop.NoMemory refused = tt
 
   -- what tests the entries tests the rule
-  pub tested_tasks : {A : Type 0} (r : Result A (Stop BrokenRule)) → Tests 18 (λ place. HoldsOf entries place (λ entry. ¬ IsTableOf task_keys entry)) r → Tests 18 (BreaksTasks document) r
+  pub tested_tasks :
+      {A : Type 0} (r : Result A (Stop BrokenRule)) → Tests 18 (λ place. HoldsOf entries place (λ entry. ¬ IsTableOf task_keys entry)) r
+      → Tests 18 (BreaksTasks document) r
   tested_tasks (Ok x) tests = λ place. keeps_tasks document entries place same number (tests place)
   tested_tasks (Err e) tests = refused_task e tests

@@ -102,7 +102,10 @@ zeros_near units far = (
 
 -- and as many rows of them
 pub rows_near : (units far : ℕ) → AreRows units far (replicate units (replicate units (pos 0)))
-rows_near units far = (length-replicate units (replicate units (pos 0)), All-replicate (AreTicks units far) units (replicate units (pos 0)) (zeros_near units far))
+rows_near units far = (
+  length-replicate units (replicate units (pos 0)),
+  All-replicate (AreTicks units far) units (replicate units (pos 0)) (zeros_near units far),
+)
 
 -- ---- values that may be missing
 

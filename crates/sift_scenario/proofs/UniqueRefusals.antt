@@ -23,13 +23,14 @@ use Rattle.sift_mission.specs.Parts.{data_of}
 use Rattle.sift_mission.specs.declared.parts.MissionParts.{MissionParts}
 use Rattle.sift_document.proofs.lemmas.OneBroken.{kept_unbroken, one_broken}
 use Rattle.sift_document.specs.Testing.{OnlyRefuses}
+use Rattle.sift_scenario.proofs.Named.{TasksAreRefused}
 use Rattle.sift_scenario.proofs.OneMission.{one_stated}
 use Rattle.sift_scenario.proofs.UniqueForms.{one_forms, one_tree}
 use Rattle.sift_scenario.proofs.Unrefused.{first_trees, no_want, one_entry, tree_unrefused, unrefused_among}
 use Rattle.sift_scenario.specs.Mission.{rules_of, HasGoodTables, IsMission, IsStated}
 use Rattle.sift_scenario.specs.Laws.{MissionsAreAccepted, OneRefusal}
 use Rattle.sift_scenario.specs.Program.{roll_for, steps_left, turn_of}
-use Rattle.sift_scenario.specs.Refusal.{IsFirstBadTable, IsFirstRefused, IsFormRefused, IsNoTask, IsOver, IsRefusedWith, TasksAreRefused, refusal_of}
+use Rattle.sift_scenario.specs.Refusal.{IsFirstBadTable, IsFirstRefused, IsFormRefused, IsNoTask, IsOver, IsRefusedWith, refusal_of}
 use Rattle.sift_scenario.specs.Sensor.{sensor_names}
 use Rattle.sift_scenario.specs.Task.{Form, text, tasks_of}
 use Rattle.sift_scenario.specs.declared.refused.Refused.{Refused}
@@ -76,7 +77,7 @@ stated_script d m entry rule states good refused =
 -- a document that states a mission isn't refused
 pub missions_are_accepted : MissionsAreAccepted
 missions_are_accepted d mission (Scenario n at) states refused = kept_unbroken (rules_of d) n at states.stated.lawful refused
-missions_are_accepted d mission (Task t k at) states refused = stated_tasks d mission (Task t k at) states.stated refused.1
+missions_are_accepted d mission (Task t k at) states refused = stated_tasks d mission (Task t k at) states.stated (refused.0, refused.2, refused.3)
 missions_are_accepted d mission (Table size row rule) states refused = stated_tables d mission size row rule states.stated states.good_tables refused
 missions_are_accepted d mission (Script entry rule) states refused = stated_script d mission entry rule states.stated states.good_script refused
 
@@ -168,7 +169,8 @@ one_bad_table schedules shapes size row rule other_size other_row other one two 
 
 -- the data that two refusals speak of are the same
 one_table_refusal :
-    (d : Members) (size row rule other_size other_row other : ℕ) → IsRefusedWith d (Table size row rule) → IsRefusedWith d (Table other_size other_row other)
+    (d : Members) (size row rule other_size other_row other : ℕ)
+    → IsRefusedWith d (Table size row rule) → IsRefusedWith d (Table other_size other_row other)
     → (size ≡ other_size) × ((row ≡ other_row) × (rule ≡ other))
 one_table_refusal d size row rule other_size other_row other one two =
     let same = one_stated d one.0 two.0 one.1 two.1 in
@@ -177,7 +179,8 @@ one_table_refusal d size row rule other_size other_row other one two =
     one_bad_table two.0.tables (shapes_in two.0) size row rule other_size other_row other bad two.2
 
 one_script_refusal :
-    (d : Members) (entry rule other_entry other : ℕ) → IsRefusedWith d (Script entry rule) → IsRefusedWith d (Script other_entry other) → (entry ≡ other_entry) × (rule ≡ other)
+    (d : Members) (entry rule other_entry other : ℕ)
+    → IsRefusedWith d (Script entry rule) → IsRefusedWith d (Script other_entry other) → (entry ≡ other_entry) × (rule ≡ other)
 one_script_refusal d entry rule other_entry other one two =
     let same = one_stated d one.0 two.0 one.1 two.1 in
     let bad : scripts.IsFirstBroken two.0.script rule entry = subst (λ (x : MissionData). scripts.IsFirstBroken x.script rule entry) same one.3 in
@@ -189,24 +192,24 @@ one_script_refusal d entry rule other_entry other one two =
 pub one_refusal : OneRefusal
 one_refusal d (Scenario n at) (Scenario m other) one two =
     let same = one_broken (rules_of d) n at m other one two in rw (same.0, same.1) refl
-one_refusal d (Scenario n at) (Task t k x) one two = absurd (kept_unbroken (rules_of d) n at two.0 one)
+one_refusal d (Scenario n at) (Task t k x) one two = absurd (kept_unbroken (rules_of d) n at two.1 one)
 one_refusal d (Scenario n at) (Table size row rule) one two = absurd (kept_unbroken (rules_of d) n at two.1.lawful one)
 one_refusal d (Scenario n at) (Script entry rule) one two = absurd (kept_unbroken (rules_of d) n at two.1.lawful one)
-one_refusal d (Task t k x) (Scenario n at) one two = absurd (kept_unbroken (rules_of d) n at one.0 two)
+one_refusal d (Task t k x) (Scenario n at) one two = absurd (kept_unbroken (rules_of d) n at one.1 two)
 one_refusal d (Task t k x) (Task u l y) one two =
     let roll = roll_for (sensor_names d) (tasks_of d) in
-    let same : one.1.0 ≡ two.1.0 = one_forms (tasks_of d) one.1.0 two.1.0 one.1.1 two.1.1 in
-    one_task_refusal roll two.1.0 (Task t k x) (Task u l y)
-    (subst (λ (fs : List Form). IsFirstRefused roll fs (Task t k x)) same one.1.2) two.1.2
-one_refusal d (Task t k x) (Table size row rule) one two = absurd (stated_tasks d two.0 (Task t k x) two.1 one.1)
-one_refusal d (Task t k x) (Script entry rule) one two = absurd (stated_tasks d two.0 (Task t k x) two.1 one.1)
+    let same : one.0 ≡ two.0 = one_forms (tasks_of d) one.0 two.0 one.2 two.2 in
+    one_task_refusal roll two.0 (Task t k x) (Task u l y)
+    (subst (λ (fs : List Form). IsFirstRefused roll fs (Task t k x)) same one.3) two.3
+one_refusal d (Task t k x) (Table size row rule) one two = absurd (stated_tasks d two.0 (Task t k x) two.1 (one.0, one.2, one.3))
+one_refusal d (Task t k x) (Script entry rule) one two = absurd (stated_tasks d two.0 (Task t k x) two.1 (one.0, one.2, one.3))
 one_refusal d (Table size row rule) (Scenario n at) one two = absurd (kept_unbroken (rules_of d) n at one.1.lawful two)
-one_refusal d (Table size row rule) (Task t k x) one two = absurd (stated_tasks d one.0 (Task t k x) one.1 two.1)
+one_refusal d (Table size row rule) (Task t k x) one two = absurd (stated_tasks d one.0 (Task t k x) one.1 (two.0, two.2, two.3))
 one_refusal d (Table size row rule) (Table other_size other_row other) one two =
     let same = one_table_refusal d size row rule other_size other_row other one two in rw (same.0, same.1.0, same.1.1) refl
 one_refusal d (Table size row rule) (Script entry other) one two = absurd (stated_tables d two.0 size row rule two.1 two.2 one)
 one_refusal d (Script entry rule) (Scenario n at) one two = absurd (kept_unbroken (rules_of d) n at one.1.lawful two)
-one_refusal d (Script entry rule) (Task t k x) one two = absurd (stated_tasks d one.0 (Task t k x) one.1 two.1)
+one_refusal d (Script entry rule) (Task t k x) one two = absurd (stated_tasks d one.0 (Task t k x) one.1 (two.0, two.2, two.3))
 one_refusal d (Script entry rule) (Table size row other) one two = absurd (stated_tables d one.0 size row other one.1 one.2 two)
 one_refusal d (Script entry rule) (Script other_entry other) one two =
     let same = one_script_refusal d entry rule other_entry other one two in rw (same.0, same.1) refl

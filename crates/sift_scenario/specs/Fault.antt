@@ -74,7 +74,7 @@ fault_rules value =
 
 -- ---- the faults
 
--- the fault that a table states: it comes of a storm, where there is one, and else of changes
+-- the fault that a table states; its way of failing comes of the storm, where there is one, and else of the changes
 abbrev pub fault_in : Members → Fault
 fault_in fault = record {
   unit = unwrap_or (unit_of fault) 0;

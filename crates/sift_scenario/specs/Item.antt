@@ -31,10 +31,6 @@ kind_named name =
     else if bytes_eq name (codes "relay-report") then Some RelayReport
     else None
 
--- the kind of slot that an item is about
-abbrev pub kind_of : Members → Option SlotKind
-kind_of item = option_and_then kind_named (read_at as_str (codes "slot") item)
-
 -- whether slots of a kind have an index: the sensor, the task, or the unit whose report is relayed
 abbrev pub has_index : SlotKind → Bool
 has_index Clock = false
@@ -69,8 +65,8 @@ change_from kind (Some index) (Some word) (Some to) (Some frame) (Some value) =
     Some (record { kind = kind; index = index; word = word; to = to; frame = frame; value = value })
 change_from kind _ _ _ _ _ = None
 
--- the change that an item states
+-- the change that an item states: in slots of the kind that is named at `slot`
 abbrev pub change_in : Members → Option Change
 change_in item = option_and_then (λ kind.
     change_from kind (number_where (has_index kind) (codes "index") item) (number_where (has_word kind) (codes "word") item)
-    (receivers_of item) (frame_of item) (said_of item)) (kind_of item)
+    (receivers_of item) (frame_of item) (said_of item)) (option_and_then kind_named (read_at as_str (codes "slot") item))

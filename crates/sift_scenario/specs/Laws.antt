@@ -38,7 +38,8 @@ pub record IsStormOf (u from number strays : ℕ) (fault : Members) : Type 0 whe
 
 -- one of the faults of the document is such a storm
 abbrev pub StatesStorm : (document : Members) (u from number strays : ℕ) → Type 0
-StatesStorm document u from number strays = (place : ℕ) × HoldsOf (tables_in (get_member (codes "fault") document)) place (IsStormOf u from number strays)
+StatesStorm document u from number strays =
+    (place : ℕ) × HoldsOf (tables_in (get_member (codes "fault") document)) place (IsStormOf u from number strays)
 
 -- the storms of the mission that a document states are those that the document states
 abbrev pub StormsAreStated : Type 0

@@ -66,10 +66,6 @@ pub record IsFirstRefused (roll : Roll) (forms : List Form) (refused : Refused) 
   pub allowed : AreAllowed trees
   pub here : HoldsOf forms task (λ form. IsFormRefused (turn_of task roll) (steps_left trees) task form refused)
 
--- the tasks in these tables have forms, of which one is refused, beside sensors of these names
-abbrev pub TasksAreRefused : (sensors : List (List ℕ)) → List Members → Refused → Type 0
-TasksAreRefused sensors tasks refused = (forms : List Form) × AreForms tasks forms × IsFirstRefused (roll_for sensors tasks) forms refused
-
 -- ---- a table
 
 -- the first of these tables that isn't good for tasks of these shapes has this size, and breaks this rule first, in this row
@@ -85,7 +81,8 @@ pub record IsFirstBadTable (schedules : List Schedule) (shapes : AllShapes) (siz
 abbrev pub IsRefusedWith : Members → Refused → Type 0
 IsRefusedWith document (Scenario rule place) = BreaksFirst (rules_of document) rule place
 IsRefusedWith document (Task task kind at) =
-    IsLawful document × TasksAreRefused (sensor_names document) (tasks_of document) (Task task kind at)
+    (forms : List Form) × IsLawful document × AreForms (tasks_of document) forms
+    × IsFirstRefused (roll_for (sensor_names document) (tasks_of document)) forms (Task task kind at)
 IsRefusedWith document (Table size row rule) =
     (mission : MissionData) × IsStated document mission × IsFirstBadTable mission.tables (shapes_in mission) size row rule
 IsRefusedWith document (Script entry rule) =

@@ -1,9 +1,11 @@
 //! Items of faults: what a faulty unit says in place of its own words.
 
-ghost use Rattle.std.specs.Prelude.{◌≡◌, IfOk, option_map, true};
+ghost use Rattle.std.specs.Prelude.{codes, ◌≡◌, IfOk, option_and_then, option_map, true};
+ghost use Rattle.toml.specs.Data.{as_str};
 ghost use Rattle.toml.specs.View.{table_view};
 ghost use Rattle.sift_script.specs.Script.{change_of};
-ghost use Rattle.sift_scenario.specs.Item.{change_in, frame_of, has_index, has_word, kind_named, kind_of, number_where, receivers_of, said_of};
+ghost use Rattle.sift_document.specs.Document.{read_at};
+ghost use Rattle.sift_scenario.specs.Item.{change_in, frame_of, has_index, has_word, kind_named, number_where, receivers_of, said_of};
 
 use sift_base::{NoMemory, Word};
 use sift_document::{digits, integer_between, member_of, number_at, word_value};
@@ -36,7 +38,7 @@ pub(crate) fn item_of(alloc: Global, table: &Table) -> Result<Option<Item>, NoMe
 
 /// The kind of slot that a table is about.
 fn kind_of(table: &Table) -> Option<SlotKind>
-    ensures { result ≡ kind_of (table_view table.now) }
+    ensures { result ≡ option_and_then kind_named (read_at as_str (codes "slot") (table_view table.now)) }
 {
     kind_named(member_of(table, "slot")?.as_str()?)
 }

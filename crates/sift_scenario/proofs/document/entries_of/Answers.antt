@@ -142,6 +142,7 @@ returns-clause-read c =
       clock = c.in_ok-clock.ensures.read;
       sensors = c.in_ok-sensors.ensures.read;
       tasks = c.in_ok-tasks.ensures.read;
-      tables = c.in_ok-tables.ensures.read ∙ ap (λ n. schedules_by (get_member (codes "table") document) root.units c.period_of-period.result n) count;
+      tables = c.in_ok-tables.ensures.read
+          ∙ ap (λ n. schedules_by (get_member (codes "table") document) root.units c.period_of-period.result n) count;
       faults = c.in_ok-script.ensures.read;
     }

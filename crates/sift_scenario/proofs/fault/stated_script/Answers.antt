@@ -46,7 +46,8 @@ returns-in_err-said-clause-tests c =
         headed,
         (
           ways,
-          items_tested {A = List Item} (tables_in (Some (view c.args.value.now))) _ items (Err c.in_err-said.field-0.0) (rw c.deref-3.ensures.value at c.in_err-said.ensures.tests),
+          items_tested {A = List Item} (tables_in (Some (view c.args.value.now))) _ items
+              (Err c.in_err-said.field-0.0) (rw c.deref-3.ensures.value at c.in_err-said.ensures.tests),
         ),
       ),
     ))
@@ -76,7 +77,8 @@ returns-in_err-entries-clause-tests c =
         (
           ways,
           (
-            items_tested (tables_in (Some (view c.args.value.now))) _ items (Ok c.in_ok-said.said) (rw c.deref-3.ensures.value at c.in_ok-said.ensures.tests),
+            items_tested (tables_in (Some (view c.args.value.now))) _ items (Ok c.in_ok-said.said)
+                (rw c.deref-3.ensures.value at c.in_ok-said.ensures.tests),
             rw (c.deref-4.ensures.value, c.in_ok-tables.ensures.tables) at c.in_err-entries.ensures.tests,
           ),
         ),
@@ -97,6 +99,8 @@ returns-clause-tests c =
     let items =
     (rw (c.deref-2.ensures.value) at c.in_ok-items.ensures.items) ∙ read_values (λ table. table_view table.now) items_of c.in_ok-tables.tables.items
     ∙ ap (map items_of) c.in_ok-tables.ensures.tables in
-    let said = items_tested (tables_in (Some (view c.args.value.now))) _ items (Ok c.in_ok-said.said) (rw c.deref-3.ensures.value at c.in_ok-said.ensures.tests) in
+    let said =
+    items_tested (tables_in (Some (view c.args.value.now))) _ items (Ok c.in_ok-said.said)
+    (rw c.deref-3.ensures.value at c.in_ok-said.ensures.tests) in
     let storms = rw (c.deref-4.ensures.value, c.in_ok-tables.ensures.tables) at c.in_ok-entries.ensures.tests in
     (c.in_ok-tables.ensures.tests, (headed, (ways, (said, (storms, tt)))))
