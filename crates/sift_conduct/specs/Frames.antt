@@ -1,5 +1,5 @@
 -- A unit's conduct from frame to frame.
-use Rattle.std.specs.Prelude.{◌≡◌, ℕ, zero, suc, List, [], true, false, Option, None, Some, min, ℤ}
+use Rattle.std.specs.Prelude.{◌≡◌, ℕ, zero, suc, List, [], true, false, Option, None, Some, min}
 use Rattle.sift_base.specs.Units.{has}
 use Rattle.sift_base.specs.declared.slot.Slot.{Slot}
 use Rattle.sift_exec.specs.Conviction.{nobody}
@@ -23,15 +23,11 @@ abbrev pub frame_of : FlownMission → ℕ → UnitFlight → ℕ → UnitFrame
 frame_of m u d f =
     record { mission = m; unit = u; frame = f; account = d.account f; heard = d.heard f; last = last_of m d.account f }
 
--- an account begins with this configuration and this offset
-pub record BeginsWith (us : List ℕ) (offset : ℤ) (a : Account) : Type 0 where
-  pub cfg : a.cfg ≡ us
-  pub clk : a.clk ≡ offset
-
--- how a frame begins: the first with all units and the offset at the start, a later one with what was found in the frame before
+-- how a frame begins: the first with all units and the offset at the start, a later one with the configuration and the offset that were
+-- found in the frame before
 abbrev pub BeginConduct : FlownMission → ℕ → (ℕ → Account) → ℕ → Type 0
-BeginConduct m u a zero = BeginsWith m.units (m.offset u) (a 0)
-BeginConduct m u a (suc f) = BeginsWith (a f).next_cfg (a f).next_clk (a (suc f))
+BeginConduct m u a zero = ((a 0).cfg ≡ m.units) × ((a 0).clk ≡ m.offset u)
+BeginConduct m u a (suc f) = ((a (suc f)).cfg ≡ (a f).next_cfg) × ((a (suc f)).clk ≡ (a f).next_clk)
 
 -- the account of a unit that is idle, since it is outside its configuration: nothing changes
 pub record IdleConduct (a : Account) : Type 0 where

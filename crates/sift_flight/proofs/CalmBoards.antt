@@ -55,7 +55,7 @@ module _ (c : Calm) (calm : IsCalm c) where
 
   frame : (u : ℕ) → has four_units u ≡ true → FrameConduct (mission_of c) u (unit_flight (mission_of c) (acts_of c u) (λ f. account_of c)) 0
   frame u hu = record {
-    begins = record { cfg = refl; clk = refl };
+    begins = (refl, refl);
     said = λ k q. said_is u k q ∙ ap (λ (h : Places). said_of (frame_in c u h) k q) (sym (heard_is u));
     busy = λ t. subst (λ (h : Places). Conduct (frame_in c u h)) (sym (heard_is u)) (calm.conduct u hu);
     idle = λ e. absurd (let t = hu in cc);

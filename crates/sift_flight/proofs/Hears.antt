@@ -1,6 +1,7 @@
 -- From a lawful core and what its boards kept to the hearing equations, frame by frame.
 use Rattle.std.proofs.Common.{◌≡◌, ◌≢◌, ◌⊎◌, inl, inr, ⊎_elim, ℕ, ◌+◌, ◌<◌, ◌≤◌, List, true, false, Option, Some, None, sym, refl, ap, ◌∙◌, arith}
 use Rattle.std.proofs.lemmas.Bool.{cases_Bool, cases_lt}
+use Rattle.std.proofs.lemmas.Bool.Decides.{eqb_tells}
 use Rattle.std.proofs.lemmas.Option.{none-some}
 use Rattle.sift_base.specs.Units.{has}
 use Rattle.sift_base.specs.declared.slot.Slot.{Slot}
@@ -139,8 +140,10 @@ module _ (m : FlownMission) (r : Ranges) (c : Core) (accounts : ℕ → ℕ → 
 -- both cases together
 pub units_hear_by_the_equations : UnitsHearByTheEquations
 units_hear_by_the_equations m r c accounts n f fits landed low q k p flies = record {
-  as_said = λ t there due. rw (there_is t) (as_said m r c accounts n f fits landed low q k p flies t there due);
-  apart = λ t there differ. rw (there_is t) (apart m r c accounts n f fits landed low q k p flies t there differ);
+  heard = λ t there. elim (eqb_tells (m.due (accounts p f).cfg k) (m.due (accounts q f).cfg k)) [
+    | inl due ↦ rw (there_is t, due.0) (as_said m r c accounts n f fits landed low q k p flies t there due.1)
+    | inr due ↦ rw (there_is t, due.0) (apart m r c accounts n f fits landed low q k p flies t there due.1)
+  ];
   strayed = λ t gone. rw (there_is t) (of_stray m r c accounts n f fits landed low q k p flies t gone);
   silent = λ e. elim (cases_Bool (is_slot m k)) [ inl t ↦ rw t (silent m r c accounts n f fits landed low q k p flies t e) | inr t ↦ rw t refl ];
 }

@@ -1,5 +1,5 @@
 -- What a flight that has come home tells is a round flight: it tells of each unit of the mission what the flight of its core does.
-use Rattle.std.proofs.Common.{◌≡◌, ℕ, ◌<◌, Bool, true, Option, None, if◌then◌else◌, sym, ◌∙◌, subst, arith}
+use Rattle.std.proofs.Common.{◌≡◌, ℕ, ◌<◌, Bool, nat_eq, true, Option, None, if◌then◌else◌, sym, ◌∙◌, subst, arith}
 use Rattle.sift_base.specs.Units.{has}
 use Rattle.sift_base.specs.declared.slot.Slot.{Slot}
 use Rattle.sift_buffer.specs.Core.{Core}
@@ -55,8 +55,8 @@ module _ (m : FlownMission) (r : Ranges) (c : Core) (fl : TheFlight) (fits : Fit
   hears : (q f : ℕ) (k : Slot) (p : ℕ) → f < m.frames → Flies m q f → Hears m (strays_in c) flown f q k p → Hears m (strays_in c) (told m fl) f q k p
   hears q f k p low flies h =
       let is = heard_is q flies.unit f k p in record {
-        as_said = λ t whole same. is ∙ (h.as_said t whole same ∙ sym (said_is p (heard_unit q f k p low flies t) f k q));
-        apart = λ t whole other. is ∙ h.apart t whole other;
+        heard = λ t whole. is ∙ (h.heard t whole ∙ chosen (nat_eq (m.due (config_of flown p f) k) (m.due (config_of flown q f) k)) _ _
+            (sym (said_is p (heard_unit q f k p low flies t) f k q)));
         strayed = λ t gone. subst (λ (w : Option ℕ). IsOfStray (strays_in c p) q (m.number k) (stamp_of m (config_of flown q f) f k) w)
             (sym is) (h.strayed t gone);
         silent = λ t. is ∙ h.silent t;

@@ -27,19 +27,19 @@ module _ (m : FlownMission) (program : ProgramTree) (strays : Strays) (fl : Flig
 
   first_stands : 0 < m.frames → HasMarginAt m fl 0 → Stands m program strays fl 0
   first_stands low margin =
-      let at : config_at m fl 0 ≡ m.units = config_within m fl 0 low ∙ (conduct_of 0 low (lead_of m 0) (lead_works m flyable 0)).begins.cfg in
+      let at : config_at m fl 0 ≡ m.units = config_within m fl 0 low ∙ (conduct_of 0 low (lead_of m 0) (lead_works m flyable 0)).begins.0 in
       let works : (u : ℕ) → has (config_at m fl 0) u ≡ true → m.works u 0 ≡ true → Works m u 0 = λ u hu wu. record { unit = subst (λ c. has c u ≡ true) at hu; works = wu } in
       record {
         frame = record {
           flyable = flyable;
           round = round 0 low;
-          share = λ u w. ((conduct_of 0 low u w).begins.cfg ∙ sym at, subst (λ c. has c u ≡ true) (sym at) w.unit);
+          share = λ u w. ((conduct_of 0 low u w).begins.0 ∙ sym at, subst (λ c. has c u ≡ true) (sym at) w.unit);
           config = subst (IsConfigOf m) (sym at) flyable.fits.config;
           margin = margin 0 (omega arith);
           together = λ p q hp wp hq wq.
               let p' = works p hp wp in
               let q' = works q hq wq in
-              rw ((conduct_of 0 low p p').begins.clk, (conduct_of 0 low q q').begins.clk) (flyable.clocks.together p q p'.unit q'.unit);
+              rw ((conduct_of 0 low p p').begins.1, (conduct_of 0 low q q').begins.1) (flyable.clocks.together p q p'.unit q'.unit);
         };
         last = λ u w. runs.starts;
       }
@@ -59,7 +59,7 @@ module _ (m : FlownMission) (program : ProgramTree) (strays : Strays) (fl : Flig
     was_member u w = member_of m strays fl f us here u (record { unit = w.unit; works = flyable.script.for_good u f (suc f) (omega arith) w.works })
 
     config_next : suc f < m.frames → (u : ℕ) → Works m u (suc f) → config_of fl u (suc f) ≡ following
-    config_next low' u w = (conduct_of (suc f) low' u w).begins.cfg ∙ next_is m program strays fl f runs here stands.last u (was_member u w)
+    config_next low' u w = (conduct_of (suc f) low' u w).begins.0 ∙ next_is m program strays fl f runs here stands.last u (was_member u w)
 
     -- the configuration at the next frame, or after the last one
     at_next : config_at m fl (suc f) ≡ following
@@ -90,7 +90,7 @@ module _ (m : FlownMission) (program : ProgramTree) (strays : Strays) (fl : Flig
             let q' = works_next q hq wq in
             let p'' = was_member p p' in
             let q'' = was_member q q' in
-            rw ((conduct_of (suc f) low' p p').begins.clk, (conduct_of (suc f) low' q q').begins.clk)
+            rw ((conduct_of (suc f) low' p p').begins.1, (conduct_of (suc f) low' q q').begins.1)
             (next_together m strays fl f us here p q p''.member p''.works q''.member q''.works);
       };
       last = λ u w. outputs m program strays fl f runs here stands.last u (was_member u w);

@@ -1,5 +1,5 @@
 -- The flight that is made is round.
-use Rattle.std.proofs.Common.{◌≡◌, inl, inr, ℕ, zero, suc, List, true, false, unwrap_or, refl, ap, ◌∙◌, subst, eq-eqb, ne_eqb}
+use Rattle.std.proofs.Common.{◌≡◌, inl, inr, ℕ, zero, suc, List, true, false, unwrap_or, refl, ap, ◌∙◌, subst, nat_eq, if◌then◌else◌, None}
 use Rattle.std.proofs.lemmas.Bool.{cases_Bool}
 use Rattle.sift_base.specs.declared.slot.Slot.{Slot}
 use Rattle.sift_mission.specs.Data.{FlownMission}
@@ -23,18 +23,18 @@ module _ (m : FlownMission) (strays : Strays) (stray : StrayHearing) (fits : Fit
 
   -- each frame begins as it ought to
   begins : (u f : ℕ) → BeginConduct m u (fl.account u) f
-  begins u zero = record { cfg = refl; clk = refl }
-  begins u (suc f) = record { cfg = refl; clk = refl }
+  begins u zero = (refl, refl)
+  begins u (suc f) = (refl, refl)
 
   last_is : (u f : ℕ) → (start f u).last ≡ last_of m (fl.account u) f
   last_is u zero = refl
   last_is u (suc f) = refl
 
-  -- what a unit hears of one that has not turned is what that one says of its own word
+  -- what a unit hears of one that has not turned is what that one says of its own word, where both say the slot in one subframe
   heard_said : (f : ℕ) (k : Slot) (p q : ℕ) → Flies m q f → calls m (config_of fl q f) k p q ≡ true → has_turned m p f ≡ false →
-      m.due (config_of fl p f) k ≡ m.due (config_of fl q f) k →
-      fl.heard q f k p ≡ said_by m stray f (start f) (own_by m stray f (start f) (out_word m stray f (start f)) (report_word m stray f (start f)) k) k p q
-  heard_said f k p q w t whole due = rw (w.whole, t, whole, eq-eqb _ _ due) refl
+      fl.heard q f k p ≡ (if nat_eq (m.due (config_of fl p f) k) (m.due (config_of fl q f) k)
+      then said_by m stray f (start f) (own_by m stray f (start f) (out_word m stray f (start f)) (report_word m stray f (start f)) k) k p q else None)
+  heard_said f k p q w t whole = rw (w.whole, t, whole) refl
 
   -- and that is what was said
   as_said : (f : ℕ) (k : Slot) (p q : ℕ) → has_turned m p f ≡ false →
@@ -47,8 +47,8 @@ module _ (m : FlownMission) (strays : Strays) (stray : StrayHearing) (fits : Fit
   -- so units hear by the hearing equations
   hearing : (f q : ℕ) (k : Slot) (p : ℕ) → Flies m q f → Hears m strays fl f q k p
   hearing f q k p w = record {
-    as_said = λ t whole due. heard_said f k p q w t whole due ∙ as_said f k p q whole;
-    apart = λ t whole other. rw (w.whole, t, whole, ne_eqb _ _ other) refl;
+    heard = λ t whole. heard_said f k p q w t whole
+        ∙ (λ i. if nat_eq (m.due (config_of fl p f) k) (m.due (config_of fl q f) k) then as_said f k p q whole i else None);
     strayed = λ t turned. rw (w.whole, t, turned) (allowed q f k p (stamp_of m (config_of fl q f) f k));
     silent = λ t. rw (w.whole, t) refl;
   }

@@ -116,11 +116,11 @@ module _ (m : FlownMission) (flyable : IsFlyable m) (near : (u : ℕ) → has m.
   reaches : (u f : ℕ) → has m.units u ≡ true → f < m.frames → has_turned m u f ≡ false → Reaches m fl u f
   reaches u zero unit low still =
       let first = (conduct u zero unit low still).begins in
-      reaches_from u zero unit low still (rw first.cfg flyable.fits.config) (rw first.clk (near u unit))
+      reaches_from u zero unit low still (rw first.0 flyable.fits.config) (rw first.1 (near u unit))
   reaches u (suc f) unit low still =
       let before = reaches u f unit (omega arith) (still_before (m.storm u) f (suc f) (omega arith) still) in
       let begins = (conduct u (suc f) unit low still).begins in
-      reaches_from u (suc f) unit low still (rw begins.cfg before.next_config) (rw begins.clk before.next_clock)
+      reaches_from u (suc f) unit low still (rw begins.0 before.next_config) (rw begins.1 before.next_clock)
 
   -- so each account is one of its unit
   account_is : (u f : ℕ) → has m.units u ≡ true → f < m.frames → has_turned m u f ≡ false → IsAccountOf m u (fl.account u f)
@@ -159,7 +159,7 @@ module _ (m : FlownMission) (flyable : IsFlyable m) (near : (u : ℕ) → has m.
       let away = (account_is u f unit (omega arith) before).idle.0 idle in
       let stays = ((conduct u f unit (omega arith) before).idle away).next_cfg in
       let begins = (conduct u (suc f) unit low still).begins in
-      let out : has (fl.account u (suc f)).cfg u ≡ false = rw (begins.cfg, stays) away in
+      let out : has (fl.account u (suc f)).cfg u ≡ false = rw (begins.0, stays) away in
       ((conduct u (suc f) unit low still).idle out).idle
 
   idle_later : (u f later : ℕ) → has m.units u ≡ true → f ≤ later → later < m.frames → has_turned m u later ≡ false

@@ -47,7 +47,7 @@ hearing_rows : HearingRows
 unfolding taken
 hearing_rows = record {
   hears = λ q k p hq. (calm_round count count_flies 0 (omega arith)).hearing q k p (fly q hq);
-  hears_other = λ h. let e : 17 ≡ 16 = same_Some 17 16 (h.as_said refl refl refl) in omega (arith, e);
+  hears_other = λ h. let e : 17 ≡ 16 = same_Some 17 16 (h.heard refl refl) in omega (arith, e);
   strayed = stray (packed 5 (Some 7)) (inl refl) taken_is;
   no_stray = none;
   round = calm_round count count_flies 0 (omega arith);

@@ -1,8 +1,6 @@
 -- Two flights of which one frame is that of a round flight, and which begin it alike: what is said and heard alike in it.
-use Rattle.std.proofs.Common.{◌≡◌, ⊎_elim, inl, inr, ℕ, List, true, false, Option, unwrap_or, if◌then◌else◌, None, refl, sym, ap, ◌∙◌, subst}
+use Rattle.std.proofs.Common.{◌≡◌, ⊎_elim, inl, inr, ℕ, List, nat_eq, true, false, Option, unwrap_or, if◌then◌else◌, None, refl, sym, ap, ◌∙◌, subst}
 use Rattle.std.proofs.lemmas.Bool.{cases_Bool}
-use mathlib.Core.Logic.{dite}
-use native.Mathlib.Decide.{ℕ_discrete}
 use Rattle.sift_base.specs.Units.{has}
 use Rattle.sift_base.specs.declared.slot.Slot.{Slot}
 use Rattle.sift_mission.specs.Data.{FlownMission}
@@ -108,9 +106,8 @@ module _ (m : FlownMission) (strays strays' : Strays) (stray : StrayHearing) (fl
                 let hp : Flies m p f = record { unit = b.inside u p hu (call_of m (us u) k p u t).from; whole = whole } in
                 let due_p : m.due (config_of fl p f) k ≡ m.due (us p) k = ap (λ c. m.due c k) (b.cfg p hp) in
                 let due_u : m.due (config_of fl u f) k ≡ m.due (us u) k = ap (λ c. m.due c k) e in
-                dite (ℕ_discrete (m.due (us p) k) (m.due (us u) k))
-                (λ d. hf.as_said t' whole (due_p ∙ (d ∙ sym due_u)) ∙ (same p u hp ∙ sym (hg.as_said t whole d)))
-                (λ n. hf.apart t' whole (λ d. n (sym due_p ∙ (d ∙ due_u))) ∙ sym (hg.apart t whole n)))
+                hf.heard t' whole
+                ∙ ((λ i. if nat_eq (due_p i) (due_u i) then same p u hp i else None) ∙ sym (hg.heard t whole)))
                 (cases_Bool (has_turned m p f))
             | inr t ↦ hf.silent (subst (λ c. calls m c k p u ≡ false) (sym e) t) ∙ sym (hg.silent t)
           ]

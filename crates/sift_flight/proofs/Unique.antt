@@ -42,10 +42,10 @@ module _ (m : FlownMission) (strays : Strays) (fl : Flight) (R : IsRound m stray
 
   -- so each configuration has units of the mission alone
   pub inside : (f : ℕ) → f < m.frames → (u p : ℕ) → Flies m u f → has (config_of fl u f) p ≡ true → has m.units p ≡ true
-  inside zero low u p w hp = subst (λ us. has us p ≡ true) (conduct_of 0 low u w).begins.cfg hp
+  inside zero low u p w hp = subst (λ us. has us p ≡ true) (conduct_of 0 low u w).begins.0 hp
   inside (suc f) low u p w hp =
       let before : f < m.frames = omega arith in
-      inside f before u p (flew m u f w) (stays f before u p (flew m u f w) (subst (λ us. has us p ≡ true) (conduct_of (suc f) low u w).begins.cfg hp))
+      inside f before u p (flew m u f w) (stays f before u p (flew m u f w) (subst (λ us. has us p ≡ true) (conduct_of (suc f) low u w).begins.0 hp))
 
   -- in a mission without storms nothing is heard of strays
   pub hears_none : (stray : StrayHearing) → HasNoStorms m → HearsStrays m stray fl
@@ -62,8 +62,8 @@ module _ (m : FlownMission) (strays strays' : Strays) (stray : StrayHearing) (fl
     other = S 0 low;
     strays_one = H 0 low;
     strays_other = G 0 low;
-    cfg = λ u w. (conduct_of m strays fl R 0 low u w).begins.cfg ∙ sym (conduct_of m strays' gl S 0 low u w).begins.cfg;
-    clk = λ u w. (conduct_of m strays fl R 0 low u w).begins.clk ∙ sym (conduct_of m strays' gl S 0 low u w).begins.clk;
+    cfg = λ u w. (conduct_of m strays fl R 0 low u w).begins.0 ∙ sym (conduct_of m strays' gl S 0 low u w).begins.0;
+    clk = λ u w. (conduct_of m strays fl R 0 low u w).begins.1 ∙ sym (conduct_of m strays' gl S 0 low u w).begins.1;
     last = λ u w. refl;
     inside = inside m strays' gl S 0 low;
   }
@@ -76,11 +76,11 @@ module _ (m : FlownMission) (strays strays' : Strays) (stray : StrayHearing) (fl
         strays_one = H (suc f) low;
         strays_other = G (suc f) low;
         cfg = λ u w.
-            (conduct_of m strays fl R (suc f) low u w).begins.cfg
-            ∙ (next_cfg_same m strays strays' stray fl gl f b u (flew m u f w) ∙ sym (conduct_of m strays' gl S (suc f) low u w).begins.cfg);
+            (conduct_of m strays fl R (suc f) low u w).begins.0
+            ∙ (next_cfg_same m strays strays' stray fl gl f b u (flew m u f w) ∙ sym (conduct_of m strays' gl S (suc f) low u w).begins.0);
         clk = λ u w.
-            (conduct_of m strays fl R (suc f) low u w).begins.clk
-            ∙ (next_clk_same m strays strays' stray fl gl f b u (flew m u f w) ∙ sym (conduct_of m strays' gl S (suc f) low u w).begins.clk);
+            (conduct_of m strays fl R (suc f) low u w).begins.1
+            ∙ (next_clk_same m strays strays' stray fl gl f b u (flew m u f w) ∙ sym (conduct_of m strays' gl S (suc f) low u w).begins.1);
         last = λ u w. all_outs m strays strays' stray fl gl f b u (flew m u f w);
         inside = inside m strays' gl S (suc f) low;
       }

@@ -71,8 +71,9 @@ module _ (m : FlownMission) (strays : Strays) (fl : Flight) (f : ℕ) (us : List
   pub hears : (q p : ℕ) (k : Slot) → Member m f us q → Member m f us p → Call m us k p q → fl.heard q f k p ≡ word p k
   hears q p k wq wp call =
       let cq = config_here q wq in
-      (here.round.hearing q k p (flies q wq)).as_said (subst (λ c. calls m c k p q ≡ true) (sym cq) (call_is m us k p q call))
-      (here.flyable.script.whole p f wp.works) (ap (λ c. m.due c k) (config_here p wp ∙ sym cq)) ∙ says p q k wp call
+      let due = ap (λ c. m.due c k) (config_here p wp ∙ sym cq) in
+      (here.round.hearing q k p (flies q wq)).heard (subst (λ c. calls m c k p q ≡ true) (sym cq) (call_is m us k p q call))
+      (here.flyable.script.whole p f wp.works) ∙ (rw (eq-eqb _ _ due) refl ∙ says p q k wp call)
 
   -- ---- who says what to whom
 

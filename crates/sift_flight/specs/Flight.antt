@@ -1,5 +1,5 @@
 -- Flights: what units said, heard and accounted for, what each hears of another, and the flights in which each does what its conduct says.
-use Rattle.std.specs.Prelude.{ℕ, List, ◌≡◌, ◌≢◌, [], true, false, Option, None, ◌<◌}
+use Rattle.std.specs.Prelude.{ℕ, List, ◌≡◌, [], true, false, Option, None, ◌<◌, nat_eq, if◌then◌else◌}
 use Rattle.sift_buffer.specs.Core.{Core}
 use Rattle.sift_mission.specs.Data.{FlownMission}
 use Rattle.sift_conduct.specs.Conduct.{Account, Places}
@@ -50,12 +50,10 @@ pub data IsOfStray (strays : List Stray) (q k s : ℕ) (w : Option ℕ) : Type 0
 
 module _ (m : FlownMission) (strays : Strays) (fl : Flight) (f : ℕ) where
   -- the hearing equations of q for slot k and unit p in frame f. Where p says the slot to q under q's configuration, q hears what p said, if
-  -- both say the slot in one subframe; nothing, if they say it in two; and nothing or one of p's strays, if p has turned. It hears no more
+  -- both say the slot in one subframe, else nothing; and nothing or one of p's strays, if p has turned. It hears no more
   pub record Hears (q : ℕ) (k : Slot) (p : ℕ) : Type 0 where
-    pub as_said : calls m (config_of fl q f) k p q ≡ true → has_turned m p f ≡ false →
-        m.due (config_of fl p f) k ≡ m.due (config_of fl q f) k → fl.heard q f k p ≡ fl.said p f k q
-    pub apart : calls m (config_of fl q f) k p q ≡ true → has_turned m p f ≡ false →
-        m.due (config_of fl p f) k ≢ m.due (config_of fl q f) k → fl.heard q f k p ≡ None
+    pub heard : calls m (config_of fl q f) k p q ≡ true → has_turned m p f ≡ false →
+        fl.heard q f k p ≡ (if nat_eq (m.due (config_of fl p f) k) (m.due (config_of fl q f) k) then fl.said p f k q else None)
     pub strayed : calls m (config_of fl q f) k p q ≡ true → has_turned m p f ≡ true →
         IsOfStray (strays p) q (m.number k) (stamp_of m (config_of fl q f) f k) (fl.heard q f k p)
     pub silent : calls m (config_of fl q f) k p q ≡ false → fl.heard q f k p ≡ None

@@ -1,5 +1,5 @@
 -- What a board has kept does not depend on accounts of later frames.
-use Rattle.std.proofs.Common.{◌≡◌, ℕ, zero, suc, ◌<◌, ◌≤◌, List, Bool, true, false, not, Option, Some, None, inl, inr, refl, ◌∙◌, subst, arith}
+use Rattle.std.proofs.Common.{◌≡◌, ℕ, zero, suc, ◌<◌, ◌≤◌, List, Bool, true, false, not, Option, Some, None, inl, inr, refl, sym, ap, ◌∙◌, subst, arith}
 use Rattle.std.proofs.lemmas.Bool.{cases_lt, le-ltb, lt-ltb}
 use Rattle.sift_base.specs.Units.{has}
 use Rattle.sift_buffer.specs.Conduct.{Conduct as Acts}
@@ -7,7 +7,7 @@ use Rattle.sift_mission.specs.Data.{FlownMission, IsConfigOf}
 use Rattle.sift_conduct.specs.Conduct.{Account, UnitFrame, unit_frame, Conduct, said_of}
 use Rattle.sift_conduct.specs.Acts.{BoardKeeps, ActsAre, unit_flight}
 use Rattle.sift_mission.proofs.lemmas.Storms.{turned_by}
-use Rattle.sift_conduct.specs.Frames.{Flies, UnitFlight, FrameConduct, BeginsWith, IdleConduct}
+use Rattle.sift_conduct.specs.Frames.{Flies, UnitFlight, FrameConduct, IdleConduct}
 
 module _ (m : FlownMission) (u : ℕ) (d : UnitFlight) where
   -- the unit in a frame of its flight, with this account and these words voted in the frame before
@@ -19,7 +19,7 @@ module _ (m : FlownMission) (u : ℕ) (d : UnitFlight) where
       FrameConduct m u (record d { account = b }) f
   conduct_by b zero same c =
       let e : d.account 0 ≡ b 0 = same 0 (omega arith) in record {
-        begins = subst (λ (x : Account). BeginsWith m.units (m.offset u) x) e c.begins;
+        begins = (sym (ap (λ (x : Account). x.cfg) e) ∙ c.begins.0, sym (ap (λ (x : Account). x.clk) e) ∙ c.begins.1);
         said = λ k q. c.said k q ∙ (λ i. said_of (frame_with 0 (e i) m.starts) k q);
         busy = subst (λ (x : Account). has x.cfg u ≡ true → Conduct (frame_with 0 x m.starts)) e c.busy;
         idle = subst (λ (x : Account). has x.cfg u ≡ false → IdleConduct x) e c.idle;
@@ -27,8 +27,10 @@ module _ (m : FlownMission) (u : ℕ) (d : UnitFlight) where
   conduct_by b (suc f) same c =
       let e : d.account (suc f) ≡ b (suc f) = same (suc f) (omega arith) in
       let before : d.account f ≡ b f = same f (omega arith) in record {
-        begins = subst (λ (x : Account). BeginsWith (b f).next_cfg (b f).next_clk x) e
-            (subst (λ (y : Account). BeginsWith y.next_cfg y.next_clk (d.account (suc f))) before c.begins);
+        begins = (
+          sym (ap (λ (x : Account). x.cfg) e) ∙ (c.begins.0 ∙ ap (λ (y : Account). y.next_cfg) before),
+          sym (ap (λ (x : Account). x.clk) e) ∙ (c.begins.1 ∙ ap (λ (y : Account). y.next_clk) before),
+        );
         said = λ k q. c.said k q ∙ (λ i. said_of (frame_with (suc f) (e i) (before i).outs) k q);
         busy = subst (λ (x : Account). has x.cfg u ≡ true → Conduct (frame_with (suc f) x (b f).outs)) e
             (subst (λ (y : Account). has (d.account (suc f)).cfg u ≡ true → Conduct (frame_with (suc f) (d.account (suc f)) y.outs)) before c.busy);

@@ -67,7 +67,7 @@ pub begins_next : (m : FlownMission) (u : ℕ) (a : Accounts) (f : ℕ) → (a (
     BeginConduct m u a (f + 1)
 begins_next m u a f =
     let e : suc f ≡ f + 1 = omega arith in
-    subst (λ n. (a n).cfg ≡ (a f).next_cfg → (a n).clk ≡ (a f).next_clk → BeginConduct m u a n) e (λ x y. record { cfg = x; clk = y })
+    subst (λ n. (a n).cfg ≡ (a f).next_cfg → (a n).clk ≡ (a f).next_clk → BeginConduct m u a n) e (λ x y. (x, y))
 
 -- and has the words voted in it
 pub last_next : (m : FlownMission) (a : Accounts) (f : ℕ) → (a f).outs ≡ last_of m a (f + 1)

@@ -50,7 +50,7 @@ start_going m u places memory c fit unit wide shape fresh = record {
           ∙ sym (choice_none {A = ℕ × ℕ} (calls m (a f).cfg k p u) _ _ (not_past_yet 0 0 f (hear_spot m (a f).cfg k p) (omega arith) refl));
     };
     ended = λ f low. absurd (omega arith);
-    begins = record { cfg = fate.cfg; clk = fate.clk };
+    begins = (fate.cfg, fate.clk);
     last = refl;
     places = λ zero few sub p below call. absurd (omega arith);
     remembers = λ member. record { heard = λ k slot past. absurd (omega arith); ran = λ k slot past. absurd (omega arith) };
