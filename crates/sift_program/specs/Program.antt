@@ -1,7 +1,7 @@
 -- The program as contracts see it, without where it lies in memory, what its tasks read, and when it is sound.
 use Rattle.std.specs.Prelude.{ℕ, List, map, suc, ◌≤◌, [], ◌∷◌, Bool, false, ◌||◌, nat_eq, slice_index_or, ◌≡◌, ◌<◌, length, take, Some, slice_get, All, sum_by}
 use Rattle.std.specs.List.{filter, list_any, range_with_len}
-use Rattle.sift_lang.specs.Tree.{TaskTree, tree_of, Term, number, local, sense, this_frame, last_frame, minus, binary, middle, Statement, bind, assign, output, choose, choose_else, repeat, Block, end, step}
+use Rattle.sift_lang.specs.Tree.{TaskTree, tree_of, Term, this_frame, minus, binary, middle, Statement, bind, assign, output, choose, choose_else, repeat, Block, end, step}
 use Rattle.sift_base.specs.Layout.{sensor_limit, word_limit}
 use Rattle.sift_base.specs.Shapes.{AllShapes, AreShapes, Shape, task_limit}
 use Rattle.sift_lang.specs.Sound.{IsSound, AllNowsBelow}
