@@ -74,7 +74,7 @@ task_at tasks t = slice_index_or tasks t (record { outputs = 0; body = end })
 abbrev pub reads_task : List TaskTree → TaskTree → ℕ → Bool
 reads_task tasks task e = list_any (λ w. block_reads w task.body) (range_with_len (first_word tasks e) (task_at tasks e).outputs)
 
--- the shapes of those of the tasks that stand from place t on: the number of a task's outputs, and the earlier tasks that it reads, in ascending order
+-- the shapes of the tasks that stand from place t on: the number of a task's outputs, and the earlier tasks that it reads, in ascending order
 abbrev pub shapes_from : List TaskTree → ℕ → List TaskTree → List Shape
 shapes_from tasks t [] = []
 shapes_from tasks t (task ∷ rest) =
