@@ -1,5 +1,5 @@
 -- Word arithmetic: a word is a number below 2 ^ 16, and each operation is a formula over numbers.
-use Rattle.std.specs.Prelude.{ℕ, ◌+◌, ◌*◌, ◌/◌, ◌%◌, ◌^◌, ℤ, pos, ◌-ℤ◌, int_div, int_rem, int_lt, int_le, unsigned_abs, Bool, ◌&&◌, ◌||◌, ◌==◌, nat_lt, if◌then◌else◌, bit_and, bit_or, bit_xor}
+use Rattle.std.specs.Prelude.{ℕ, ◌+◌, ◌*◌, ◌/◌, ◌%◌, ◌^◌, ℤ, pos, ◌-ℤ◌, int_div, int_rem, int_lt, int_le, unsigned_abs, Bool, ◌&&◌, ◌||◌, ◌==◌, nat_lt, if◌then◌else◌}
 use Rattle.std.specs.Int.{int_rem_euclid}
 
 -- the number of words
@@ -36,19 +36,7 @@ div a b = if b == 0 then 0 else word_of (int_div (signed_of a) (signed_of b))
 abbrev pub rem : ℕ → ℕ → ℕ
 rem a b = if b == 0 then 0 else word_of (int_rem (signed_of a) (signed_of b))
 
--- ---- bits
-
--- the bits that are set in both words
-abbrev pub and : ℕ → ℕ → ℕ
-and a b = bit_and a b
-
--- the bits that are set in some of the two words
-abbrev pub or : ℕ → ℕ → ℕ
-or a b = bit_or a b
-
--- the bits that are set in one of the two words alone
-abbrev pub xor : ℕ → ℕ → ℕ
-xor a b = bit_xor a b
+-- ---- shifts
 
 -- the first word times 2 to the power of the second, as much of it as a word holds
 abbrev pub shl : ℕ → ℕ → ℕ

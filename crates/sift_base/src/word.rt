@@ -1,7 +1,7 @@
 //! Words of the computer's memory, and their arithmetic.
 
-ghost use Rattle.std.specs.Prelude.{◌≡◌, ℕ, ◌^◌, ◌<◌};
-ghost use Rattle.sift_base.specs.Word.{signed_of, add, sub, mul, div, rem, and, or, xor, shl, shr, lt, eq, mid};
+ghost use Rattle.std.specs.Prelude.{◌≡◌, ℕ, ◌^◌, ◌<◌, bit_and, bit_or, bit_xor};
+ghost use Rattle.sift_base.specs.Word.{signed_of, add, sub, mul, div, rem, shl, shr, lt, eq, mid};
 
 use std::marker::Model;
 
@@ -86,21 +86,21 @@ impl Word {
 
     /// The bits that are set in both.
     pub fn and(self, b: Word) -> Word
-        ensures { result ≡ and self b }
+        ensures { result ≡ bit_and self b }
     {
         Word::of(self.bits & b.bits)
     }
 
     /// The bits that are set in some of the two.
     pub fn or(self, b: Word) -> Word
-        ensures { result ≡ or self b }
+        ensures { result ≡ bit_or self b }
     {
         Word::of(self.bits | b.bits)
     }
 
     /// The bits that are set in one of the two alone.
     pub fn xor(self, b: Word) -> Word
-        ensures { result ≡ xor self b }
+        ensures { result ≡ bit_xor self b }
     {
         Word::of(self.bits ^ b.bits)
     }

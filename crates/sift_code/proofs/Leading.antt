@@ -1,8 +1,9 @@
 -- Each instruction of sound code leads on: jumps, loops, and all of them together.
 use Rattle.std.proofs.Common.{◌≡◌, ℕ, zero, suc, ◌+◌, ◌-◌, ◌*◌, ◌<◌, ◌≤◌, Bool, true, false, List, [], ◌∷◌, length, drop, Some, refl, sym, ap, ◌∙◌, subst, arith, get_or}
+use Rattle.std.specs.Prelude.{bit_and, bit_or, bit_xor}
 use Rattle.std.specs.Prelude.{slice_get, if◌then◌else◌, ◌==◌}
 use Rattle.std.proofs.lemmas.Option.{slice_get_within, slice_get-get_or}
-use Rattle.sift_base.specs.Word.{add, sub, mul, div, rem, and, or, xor, shl, shr, lt, eq}
+use Rattle.sift_base.specs.Word.{add, sub, mul, div, rem, shl, shr, lt, eq}
 use Rattle.sift_code.specs.declared.instr.Instr.{Instr}
 use Rattle.sift_code.specs.declared.instr.Instr.TheVariants.{Push, Load, Store, Sense, Now, Last, Out, Add, Sub, Mul, Div, Rem, And, Or, Xor, Shl, Shr, Lt, Eq, Mid, JumpZ, Jump, Begin, End}
 use Rattle.sift_code.specs.Machine.{Loop, State, Inputs, local_count, effect, step, effect_of, tested, skipped, begun, round_ended, ended, through_end}
@@ -198,13 +199,13 @@ module _ (program : Program) (sound : IsSound program) (inputs : Inputs) (fits :
   leads Rem s at a = combine program sound inputs fits Rem s rem
       (record { nests = λ next loops. refl; costs = λ cs. refl; heights = λ next trail. refl }) at a (λ h. refl)
       (filled program sound s.place Rem at)
-  leads And s at a = combine program sound inputs fits And s and
+  leads And s at a = combine program sound inputs fits And s bit_and
       (record { nests = λ next loops. refl; costs = λ cs. refl; heights = λ next trail. refl }) at a (λ h. refl)
       (filled program sound s.place And at)
-  leads Or s at a = combine program sound inputs fits Or s or
+  leads Or s at a = combine program sound inputs fits Or s bit_or
       (record { nests = λ next loops. refl; costs = λ cs. refl; heights = λ next trail. refl }) at a (λ h. refl)
       (filled program sound s.place Or at)
-  leads Xor s at a = combine program sound inputs fits Xor s xor
+  leads Xor s at a = combine program sound inputs fits Xor s bit_xor
       (record { nests = λ next loops. refl; costs = λ cs. refl; heights = λ next trail. refl }) at a (λ h. refl)
       (filled program sound s.place Xor at)
   leads Shl s at a = combine program sound inputs fits Shl s shl

@@ -1,6 +1,7 @@
 -- Instructions of two operands.
 use Rattle.std.proofs.Common.{◌≡◌, ℕ, List, refl, arith}
-use Rattle.sift_base.specs.Word.{add, sub, mul, div, rem, and, or, xor, shl, shr, lt, eq}
+use Rattle.std.specs.Prelude.{bit_and, bit_or, bit_xor}
+use Rattle.sift_base.specs.Word.{add, sub, mul, div, rem, shl, shr, lt, eq}
 use Rattle.sift_code.specs.declared.instr.Instr.{Instr}
 use Rattle.sift_code.specs.declared.instr.Instr.TheVariants.{Push, Load, Store, Sense, Now, Last, Out, Add, Sub, Mul, Div, Rem, And, Or, Xor, Shl, Shr, Lt, Eq, Mid, JumpZ, Jump, Begin, End}
 use Rattle.sift_code.specs.Machine.{State, Inputs, on_with, combined, effect}
@@ -14,9 +15,9 @@ op_of Sub = sub
 op_of Mul = mul
 op_of Div = div
 op_of Rem = rem
-op_of And = and
-op_of Or = or
-op_of Xor = xor
+op_of And = bit_and
+op_of Or = bit_or
+op_of Xor = bit_xor
 op_of Shl = shl
 op_of Shr = shr
 op_of Lt = lt

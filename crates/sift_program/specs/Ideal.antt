@@ -38,7 +38,8 @@ words_of tasks t task frame = slice_range frame (first_word tasks t) (first_word
 pub record MeetsEachTask (tasks : List TaskTree) (prev agreed shed frame : List ℕ) : Type 0 where
   pub whole : length frame ≡ output_count tasks
   pub each_task : (t : ℕ) (task : TaskTree) → slice_get tasks t ≡ Some task
-      → words_of tasks t task frame ≡ (if has shed t then map (slice_index prev) (range_with_len (first_word tasks t) task.outputs) else meaning task agreed frame prev)
+      → words_of tasks t task frame
+      ≡ (if has shed t then map (slice_index prev) (range_with_len (first_word tasks t) task.outputs) else meaning task agreed frame prev)
 
 -- the words of a frame are the one list that meets each task
 abbrev pub IdealFrameIsUnique : Type 0

@@ -1,7 +1,7 @@
 -- The program as contracts see it, without where it lies in memory, what its tasks read, and when it is sound.
 use Rattle.std.specs.Prelude.{ℕ, List, map, suc, ◌≤◌, [], ◌∷◌, Bool, false, ◌||◌, nat_eq, slice_index_or, ◌≡◌, ◌<◌, length, take, Some, slice_get, All, sum_by}
 use Rattle.std.specs.List.{filter, list_any, range_with_len}
-use Rattle.sift_lang.specs.Tree.{TaskTree, tree_of, Term, number, local, sense, this_frame, last_frame, minus, binary, middle, Statement, bind, assign, output, choose, choose_else, repeat, Block, end, step}
+use Rattle.sift_lang.specs.Tree.{TaskTree, tree_of, Term, this_frame, minus, binary, middle, Statement, bind, assign, output, choose, choose_else, repeat, Block, end, step}
 use Rattle.sift_base.specs.Layout.{sensor_limit, word_limit}
 use Rattle.sift_base.specs.Shapes.{AllShapes, AreShapes, Shape, task_limit}
 use Rattle.sift_lang.specs.Sound.{IsSound, AllNowsBelow}
@@ -74,7 +74,7 @@ task_at tasks t = slice_index_or tasks t (record { outputs = 0; body = end })
 abbrev pub reads_task : List TaskTree → TaskTree → ℕ → Bool
 reads_task tasks task e = list_any (λ w. block_reads w task.body) (range_with_len (first_word tasks e) (task_at tasks e).outputs)
 
--- the shapes of those of the tasks that stand from place t on: the number of a task's outputs, and the earlier tasks that it reads, in ascending order
+-- the shapes of the tasks that stand from place t on: the number of a task's outputs, and the earlier tasks that it reads, in ascending order
 abbrev pub shapes_from : List TaskTree → ℕ → List TaskTree → List Shape
 shapes_from tasks t [] = []
 shapes_from tasks t (task ∷ rest) =
