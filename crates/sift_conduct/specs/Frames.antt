@@ -29,14 +29,9 @@ abbrev pub BeginConduct : FlownMission → ℕ → (ℕ → Account) → ℕ →
 BeginConduct m u a zero = ((a 0).cfg ≡ m.units) × ((a 0).clk ≡ m.offset u)
 BeginConduct m u a (suc f) = ((a (suc f)).cfg ≡ (a f).next_cfg) × ((a (suc f)).clk ≡ (a f).next_clk)
 
--- the account of a unit that is idle, since it is outside its configuration: nothing changes
-pub record IdleConduct (a : Account) : Type 0 where
-  pub idle : a.idle ≡ true
-  pub ins : a.ins ≡ []
-  pub outs : a.outs ≡ []
-  pub bad : a.bad ≡ nobody
-  pub next_cfg : a.next_cfg ≡ a.cfg
-  pub next_clk : a.next_clk ≡ a.clk
+-- the account of a unit that is idle, since it is outside its configuration: it has no word and catches nobody, and nothing changes
+abbrev pub IdleConduct : Account → Type 0
+IdleConduct a = a ≡ record a { idle = true; ins = []; outs = []; bad = nobody; next_cfg = a.cfg; next_clk = a.clk }
 
 -- all that unit u does in frame f of its flight d
 pub record FrameConduct (m : FlownMission) (u : ℕ) (d : UnitFlight) (f : ℕ) : Type 0 where

@@ -66,10 +66,8 @@ module _ (m : FlownMission) (r : Ranges) (c : Core) (fl : TheFlight) (fits : Fit
   home_round f low = let at = round f low in record {
     hearing = λ q k p flies. hears q f k p low flies (at.hearing q k p flies);
     conduct = λ u flies. conduct_is u flies.unit f (at.conduct u flies);
-    turned = λ u unit gone. let silent = at.turned u unit gone in record {
-      said = λ k q. said_is u unit f k q ∙ silent.said k q;
-      heard = λ k p. heard_is u unit f k p ∙ silent.heard k p;
-    };
+    says_nothing = λ u k q unit gone. said_is u unit f k q ∙ at.says_nothing u k q unit gone;
+    hears_nothing = λ u k p unit gone. heard_is u unit f k p ∙ at.hears_nothing u k p unit gone;
   }
 
 -- what a flight tells that has come home from a core is a round flight over the core's strays, where the mission fits

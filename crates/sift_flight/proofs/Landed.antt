@@ -12,10 +12,14 @@ pub landed_frames_are_round : LandedFramesAreRound
 landed_frames_are_round m r c accounts n f fits landed low = record {
   hearing = λ q k p flies. units_hear_by_the_equations m r c accounts n f fits landed low q k p flies;
   conduct = λ u flies. (landed.boards u flies.unit).conduct f low flies;
-  turned = λ u unit gone. record {
-    said = λ k q. elim (cases_Bool (is_slot m k)) [ inl t ↦ rw t (ap word_in_saying (hushed m (m.storm u) (c.of u) f k q t (landed.boards u unit).turns gone)) | inr t ↦ rw t refl ];
-    heard = λ k p. elim (cases_Bool (is_slot m k)) [ inl t ↦ rw t (ap word_in_hearing (deafened m (m.storm u) (c.of u) f k p t (landed.boards u unit).turns gone)) | inr t ↦ rw t refl ];
-  };
+  says_nothing = λ u k q unit gone. elim (cases_Bool (is_slot m k)) [
+    | inl t ↦ rw t (ap word_in_saying (hushed m (m.storm u) (c.of u) f k q t (landed.boards u unit).turns gone))
+    | inr t ↦ rw t refl
+  ];
+  hears_nothing = λ u k p unit gone. elim (cases_Bool (is_slot m k)) [
+    | inl t ↦ rw t (ap word_in_hearing (deafened m (m.storm u) (c.of u) f k p t (landed.boards u unit).turns gone))
+    | inr t ↦ rw t refl
+  ];
 }
 
 -- a lawful core has both

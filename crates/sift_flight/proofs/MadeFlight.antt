@@ -7,7 +7,7 @@ use Rattle.sift_mission.specs.Slots.{calls, stamp_of, has_turned}
 use Rattle.sift_mission.specs.Fits.{Fits}
 use Rattle.sift_conduct.specs.Conduct.{UnitFrame, unit_frame, said_of, Conduct}
 use Rattle.sift_conduct.specs.Frames.{BeginConduct, FrameConduct, Flies, last_of}
-use Rattle.sift_flight.specs.Flight.{Flight, unit_of, config_of, Strays, Hears, IsSilent, IsRound}
+use Rattle.sift_flight.specs.Flight.{Flight, unit_of, config_of, Strays, Hears, IsRound}
 use Rattle.sift_flight.specs.Flight.IsOfStray.{absent}
 use Rattle.sift_flight.specs.Existence.{StrayHearing, IsOfStrays, HearsStrays, EachMissionHasARoundFlight, EachStrayHearingHasARoundFlight}
 use Rattle.sift_flight.proofs.Making.{Start, own_by, out_word, report_word, said_by, start_of, made_flight}
@@ -65,11 +65,13 @@ module _ (m : FlownMission) (strays : Strays) (stray : StrayHearing) (fits : Fit
     idle = λ t. idle_here m stray f (start f) fits u t;
   }
 
-  silent : (f u : ℕ) → has_turned m u f ≡ true → IsSilent fl u f
-  silent f u turned = record { said = λ k q. rw turned refl; heard = λ k p. rw turned refl }
-
   made_round : IsRound m strays fl
-  made_round f low = record { hearing = hearing f; conduct = conduct f; turned = λ u hu turned. silent f u turned }
+  made_round f low = record {
+    hearing = hearing f;
+    conduct = conduct f;
+    says_nothing = λ u k q hu turned. rw turned refl;
+    hears_nothing = λ u k p hu turned. rw turned refl;
+  }
 
   made_hears : HearsStrays m stray fl
   made_hears f low q k p w turned t = rw (w.whole, t, turned) refl

@@ -108,4 +108,4 @@ module _ (m : FlownMission) (stray : StrayHearing) (f : ℕ) (start : ℕ → St
 
   -- and one outside it is idle
   pub idle_here : (u : ℕ) → has (start u).cfg u ≡ false → IdleConduct (account_here m stray f start u)
-  idle_here u t = record { idle = rw t refl; ins = rw t refl; outs = rw t refl; bad = rw t refl; next_cfg = rw t refl; next_clk = rw t refl }
+  idle_here u t = rw t refl

@@ -1,6 +1,6 @@
 -- Round flights are whole, by induction over frames.
 use Rattle.std.proofs.Common.{◌≡◌, ℕ, zero, suc, ◌+◌, ◌*◌, ◌<◌, ◌≤◌, List, length, Bool, not, true, false, Option, None, Some, ℤ, pos, ◌+ℤ◌}
-use Rattle.std.proofs.Common.{inl, inr, refl, subst, arith}
+use Rattle.std.proofs.Common.{inl, inr, refl, ap, subst, arith}
 use Rattle.std.specs.Prelude.{nat_le}
 use Rattle.std.proofs.lemmas.Bool.{cases_Bool, cases_lt, cases_eq, le-ltb, lt-ltb, leb-true}
 use Rattle.std.proofs.lemmas.Int.{ints}
@@ -11,7 +11,7 @@ use Rattle.sift_clock.specs.Distance.{IsWithin}
 use Rattle.sift_exec.specs.Conviction.{is_convicted, kept_by, next_by}
 use Rattle.sift_skew.proofs.lemmas.Changes.{offsets_change_little}
 use Rattle.sift_mission.specs.Data.{IsConfigOf, FlownMission}
-use Rattle.sift_conduct.specs.Conduct.{reading_by}
+use Rattle.sift_conduct.specs.Conduct.{Account, reading_by}
 use Rattle.sift_mission.specs.Flown.{flown}
 use Rattle.sift_conduct.specs.Frames.{frame_of, FrameConduct}
 use Rattle.sift_mission.specs.Premises.{IsFlyable, PartsMakeItFlyable}
@@ -86,7 +86,7 @@ module _ (m : FlownMission) (flyable : IsFlyable m) (near : (u : ℕ) → has m.
         rw same (omega (arith, ints, near_by.0), omega (arith, ints, near_by.1))
     | inr away ↦
         let idle = (conduct u f unit low still).idle away in
-        rw idle.next_clk (omega (arith, ints), omega (arith, ints))
+        rw (ap (λ (z : Account). z.next_clk) idle) (omega (arith, ints), omega (arith, ints))
   ]
 
   -- so is the next configuration one of the mission
@@ -98,7 +98,7 @@ module _ (m : FlownMission) (flyable : IsFlyable m) (near : (u : ℕ) → has m.
         rw busy.next_cfg (next_is_config m _ (fl.account u f).cfg config)
     | inr away ↦
         let idle = (conduct u f unit low still).idle away in
-        rw idle.next_cfg config
+        rw (ap (λ (z : Account). z.next_cfg) idle) config
   ]
 
   -- what a frame begins with decides what it ends with
@@ -135,19 +135,19 @@ module _ (m : FlownMission) (flyable : IsFlyable m) (near : (u : ℕ) → has m.
         next_clock = (omega (arith, ints, r.next_clock.0, r.next_clock.1), omega (arith, ints, r.next_clock.0, r.next_clock.1));
         idle = elim (cases_Bool (has (fl.account u f).cfg u)) [
           | inl there ↦ ((λ e. absurd (never_both _ e (c.busy there).busy)), (λ e. absurd (never_both _ there e)))
-          | inr away ↦ let idle = c.idle away in ((λ e. away), (λ e. idle.idle))
+          | inr away ↦ ((λ e. away), (λ e. ap (λ (z : Account). z.idle) (c.idle away)))
         ];
         inputs = λ busy. elim (cases_Bool (has (fl.account u f).cfg u)) [
           | inl there ↦ (c.busy there).inputs_count
-          | inr away ↦ absurd (never_both _ (c.idle away).idle busy)
+          | inr away ↦ absurd (never_both _ (ap (λ (z : Account). z.idle) (c.idle away)) busy)
         ];
         outputs = λ busy. elim (cases_Bool (has (fl.account u f).cfg u)) [
           | inl there ↦ (c.busy there).outputs_count
-          | inr away ↦ absurd (never_both _ (c.idle away).idle busy)
+          | inr away ↦ absurd (never_both _ (ap (λ (z : Account). z.idle) (c.idle away)) busy)
         ];
         caught_inside = elim (cases_Bool (has (fl.account u f).cfg u)) [
           | inl there ↦ caught_inside (frame_of m u (unit_of fl u) f) (c.busy there)
-          | inr away ↦ (λ v t. absurd (never_both _ t (nobody_caught _ v (c.idle away).bad)))
+          | inr away ↦ (λ v t. absurd (never_both _ t (nobody_caught _ v (ap (λ (z : Account). z.bad) (c.idle away)))))
         ];
       }
 
@@ -157,10 +157,10 @@ module _ (m : FlownMission) (flyable : IsFlyable m) (near : (u : ℕ) → has m.
   idle_next u f unit low still idle =
       let before = still_before (m.storm u) f (suc f) (omega arith) still in
       let away = (account_is u f unit (omega arith) before).idle.0 idle in
-      let stays = ((conduct u f unit (omega arith) before).idle away).next_cfg in
+      let stays = ap (λ (z : Account). z.next_cfg) ((conduct u f unit (omega arith) before).idle away) in
       let begins = (conduct u (suc f) unit low still).begins in
       let out : has (fl.account u (suc f)).cfg u ≡ false = rw (begins.0, stays) away in
-      ((conduct u (suc f) unit low still).idle out).idle
+      ap (λ (z : Account). z.idle) ((conduct u (suc f) unit low still).idle out)
 
   idle_later : (u f later : ℕ) → has m.units u ≡ true → f ≤ later → later < m.frames → has_turned m u later ≡ false
       → (fl.account u f).idle ≡ true → (fl.account u later).idle ≡ true

@@ -54,7 +54,7 @@ hearing_rows = record {
   not_round = λ r. let e : 17 ≡ 16 = ((r.conduct 2 (fly 2 refl)).busy refl).outputs 0 (omega arith) in omega (arith, e);
   votes = refl;
   holds = refl;
-  not_silent = λ r. none-some 0 (sym ((r.turned 3 refl refl).said Report 0));
+  not_silent = λ r. none-some 0 (sym (r.says_nothing 3 Report 0 refl refl));
 }
   where
     taken_is : Some 7 ≡ taken (packed 5 (Some 7)) 5

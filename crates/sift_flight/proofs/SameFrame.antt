@@ -14,7 +14,7 @@ use Rattle.sift_config.specs.Config.{reader_of}
 use Rattle.sift_clock.specs.Correction.{next_offset, reading_of, is_too_far}
 use Rattle.sift_mission.specs.Data.{FlownMission}
 use Rattle.sift_mission.specs.Slots.{executors}
-use Rattle.sift_conduct.specs.Conduct.{UnitFrame, unit_frame, Conduct, any_below, poll_catches, relay_catches, clock_catches, report_of, said_of}
+use Rattle.sift_conduct.specs.Conduct.{Account, UnitFrame, unit_frame, Conduct, any_below, poll_catches, relay_catches, clock_catches, report_of, said_of}
 use Rattle.sift_conduct.specs.Frames.{last_of, Flies, IdleConduct}
 use Rattle.sift_flight.specs.Flight.{Flight, config_of, Strays, AreSameAt}
 use Rattle.sift_flight.specs.Existence.{StrayHearing}
@@ -79,7 +79,7 @@ module _ (m : FlownMission) (strays strays' : Strays) (stray : StrayHearing) (fl
         relay = same_units (fl.account u f).bad.relay (gl.account u f).bad.relay (λ v. cf.relays v ∙ (relay_same u hu v ∙ sym (cg.relays v))) i;
         clock = same_units (fl.account u f).bad.clock (gl.account u f).bad.clock (λ v. cf.clocks v ∙ (clock_same u hu v ∙ sym (cg.clocks v))) i;
       })
-      (λ t. let i = idle u hu t in i.0.bad ∙ sym i.1.bad)
+      (λ t. let i = idle u hu t in ap (λ (z : Account). z.bad) i.0 ∙ sym (ap (λ (z : Account). z.bad) i.1))
 
   -- ---- reports, the next configuration and the next offset
 
@@ -98,7 +98,7 @@ module _ (m : FlownMission) (strays strays' : Strays) (stray : StrayHearing) (fl
   pub next_cfg_same : (u : ℕ) → Flies m u f → (fl.account u f).next_cfg ≡ (gl.account u f).next_cfg
   next_cfg_same u hu = by_place m strays strays' stray fl gl f b (λ u. (fl.account u f).next_cfg ≡ (gl.account u f).next_cfg) u
       (λ t. (one u hu t).next_cfg ∙ ((λ i. next_by (λ r v. has_bit (report_same u hu r i) v) (us u)) ∙ sym (other u hu t).next_cfg))
-      (λ t. let i = idle u hu t in i.0.next_cfg ∙ (b.cfg u hu ∙ sym i.1.next_cfg))
+      (λ t. let i = idle u hu t in ap (λ (z : Account). z.next_cfg) i.0 ∙ (b.cfg u hu ∙ sym (ap (λ (z : Account). z.next_cfg) i.1)))
 
   -- a unit that flies has the same offset in force after the frame in both flights
   pub next_clk_same : (u : ℕ) → Flies m u f → (fl.account u f).next_clk ≡ (gl.account u f).next_clk
@@ -106,12 +106,12 @@ module _ (m : FlownMission) (strays strays' : Strays) (stray : StrayHearing) (fl
       (λ t. (one u hu t).next_clk ∙ ((λ i. next_offset (m.skew +ℤ m.error) (us u)
       (λ p. reading_of (alike Clock (heard_clock m strays strays' stray fl gl f b) u hu i p) (b.clk u hu i) (m.errors u p)) (b.clk u hu i) u (m.drift u))
       ∙ sym (other u hu t).next_clk))
-      (λ t. let i = idle u hu t in i.0.next_clk ∙ (b.clk u hu ∙ sym i.1.next_clk))
+      (λ t. let i = idle u hu t in ap (λ (z : Account). z.next_clk) i.0 ∙ (b.clk u hu ∙ sym (ap (λ (z : Account). z.next_clk) i.1)))
 
   idle_same : (u : ℕ) → Flies m u f → (fl.account u f).idle ≡ (gl.account u f).idle
   idle_same u hu = by_place m strays strays' stray fl gl f b (λ u. (fl.account u f).idle ≡ (gl.account u f).idle) u
       (λ t. (one u hu t).busy ∙ sym (other u hu t).busy)
-      (λ t. let i = idle u hu t in i.0.idle ∙ sym i.1.idle)
+      (λ t. let i = idle u hu t in ap (λ (z : Account). z.idle) i.0 ∙ sym (ap (λ (z : Account). z.idle) i.1))
 
   -- ---- all of it
 

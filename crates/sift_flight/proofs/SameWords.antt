@@ -11,7 +11,7 @@ use Rattle.sift_agree.specs.Agreement.{taken}
 use Rattle.sift_config.specs.Config.{reader_of}
 use Rattle.sift_mission.specs.Data.{FlownMission}
 use Rattle.sift_mission.specs.Slots.{executors, is_held}
-use Rattle.sift_conduct.specs.Conduct.{UnitFrame, unit_frame, input_of, made, polled, voted, Conduct}
+use Rattle.sift_conduct.specs.Conduct.{Account, UnitFrame, unit_frame, input_of, made, polled, voted, Conduct}
 use Rattle.sift_conduct.specs.Frames.{last_of, Flies, IdleConduct}
 use Rattle.sift_flight.specs.Flight.{Flight, config_of, Strays}
 use Rattle.sift_flight.specs.Existence.{StrayHearing}
@@ -59,7 +59,7 @@ module _ (m : FlownMission) (strays strays' : Strays) (stray : StrayHearing) (fl
       let cg = other u hu t in
       same_number_lists (fl.account u f).ins (gl.account u f).ins (cf.inputs_count ∙ sym cg.inputs_count)
       (λ x x_low. let within : x < m.sensors = omega (arith, cf.inputs_count) in cf.inputs x within ∙ (same x ∙ sym (cg.inputs x within))))
-      (λ t. let i = idle u hu t in i.0.ins ∙ sym i.1.ins)
+      (λ t. let i = idle u hu t in ap (λ (z : Account). z.ins) i.0 ∙ sym (ap (λ (z : Account). z.ins) i.1))
     where
       same : (x : ℕ) → input_of (frame_one u) x ≡ input_of (frame_other u) x
       same x = λ i. if nat_eq (reader_of (us u) x) u then m.sensed x f else agreed_of (taken (us u) (reader_of (us u) x) u
@@ -94,7 +94,7 @@ module _ (m : FlownMission) (strays strays' : Strays) (stray : StrayHearing) (fl
   vote_same : (w : ℕ) → w < m.words → SameOuts w → (u : ℕ) → Flies m u f → slice_index (fl.account u f).outs w ≡ slice_index (gl.account u f).outs w
   vote_same w low outs u hu = by_place m strays strays' stray fl gl f b (λ u. slice_index (fl.account u f).outs w ≡ slice_index (gl.account u f).outs w) u
       (λ t. (one u hu t).outputs w low ∙ (voted_same w low outs u hu ∙ sym ((other u hu t).outputs w low)))
-      (λ t. let i = idle u hu t in ap (λ l. slice_index l w) (i.0.outs ∙ sym i.1.outs))
+      (λ t. let i = idle u hu t in ap (λ (z : Account). slice_index z.outs w) i.0 ∙ sym (ap (λ (z : Account). slice_index z.outs w) i.1))
 
   -- all output words of the mission below a number are voted alike in both flights
   pub outs_same : (n : ℕ) → n ≤ m.words → SameOuts n
@@ -113,4 +113,4 @@ module _ (m : FlownMission) (strays strays' : Strays) (stray : StrayHearing) (fl
       let cg = other u hu t in
       same_number_lists (fl.account u f).outs (gl.account u f).outs (cf.outputs_count ∙ sym cg.outputs_count)
       (λ w w_low. outs_same m.words (omega arith) w u (omega (arith, cf.outputs_count)) hu))
-      (λ t. let i = idle u hu t in i.0.outs ∙ sym i.1.outs)
+      (λ t. let i = idle u hu t in ap (λ (z : Account). z.outs) i.0 ∙ sym (ap (λ (z : Account). z.outs) i.1))

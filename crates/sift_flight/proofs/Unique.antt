@@ -1,9 +1,10 @@
 -- Two round flights in which the same is heard of strays are the same; so are all of a mission without storms.
-use Rattle.std.proofs.Common.{◌≡◌, ⊎_elim, ℕ, zero, suc, ◌<◌, None, true, false, refl, sym, ◌∙◌, subst, arith}
+use Rattle.std.proofs.Common.{◌≡◌, ⊎_elim, ℕ, zero, suc, ◌<◌, None, true, false, refl, sym, ap, ◌∙◌, subst, arith}
 use Rattle.std.proofs.lemmas.Bool.{cases_Bool}
 use Rattle.sift_base.specs.Units.{has}
 use Rattle.sift_mission.specs.Data.{FlownMission}
 use Rattle.sift_mission.specs.Slots.{has_turned}
+use Rattle.sift_conduct.specs.Conduct.{Account}
 use Rattle.sift_conduct.specs.Frames.{FrameConduct, Flies}
 use Rattle.sift_mission.specs.Fits.{Fits}
 use Rattle.sift_flight.specs.Flight.{Flight, unit_of, config_of, Strays, IsRound, HasNoStorms, AtMostOneIsRound}
@@ -37,7 +38,7 @@ module _ (m : FlownMission) (strays : Strays) (fl : Flight) (R : IsRound m stray
       let c = conduct_of f low u w in
       ⊎_elim
       (λ t. next_inside _ _ p (subst (λ us. has us p ≡ true) (c.busy t).next_cfg hp))
-      (λ t. subst (λ us. has us p ≡ true) (c.idle t).next_cfg hp)
+      (λ t. subst (λ us. has us p ≡ true) (ap (λ (z : Account). z.next_cfg) (c.idle t)) hp)
       (cases_Bool (has (config_of fl u f) u))
 
   -- so each configuration has units of the mission alone

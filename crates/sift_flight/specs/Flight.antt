@@ -60,16 +60,12 @@ module _ (m : FlownMission) (strays : Strays) (fl : Flight) (f : ℕ) where
 
 -- ---- round flights
 
--- a unit says and hears nothing in a frame
-pub record IsSilent (fl : Flight) (u f : ℕ) : Type 0 where
-  pub said : (k : Slot) (q : ℕ) → fl.said u f k q ≡ None
-  pub heard : (k : Slot) (p : ℕ) → fl.heard u f k p ≡ None
-
--- one frame of a round flight: each unit that has not turned hears and conducts itself as it ought to, and each other is silent
+-- one frame of a round flight: each unit that has not turned hears and conducts itself as it ought to, and each other says and hears nothing
 pub record RoundAt (m : FlownMission) (strays : Strays) (fl : Flight) (f : ℕ) : Type 0 where
   pub hearing : (q : ℕ) (k : Slot) (p : ℕ) → Flies m q f → Hears m strays fl f q k p
   pub conduct : (u : ℕ) → Flies m u f → FrameConduct m u (unit_of fl u) f
-  pub turned : (u : ℕ) → has m.units u ≡ true → has_turned m u f ≡ true → IsSilent fl u f
+  pub says_nothing : (u : ℕ) (k : Slot) (q : ℕ) → has m.units u ≡ true → has_turned m u f ≡ true → fl.said u f k q ≡ None
+  pub hears_nothing : (u : ℕ) (k : Slot) (p : ℕ) → has m.units u ≡ true → has_turned m u f ≡ true → fl.heard u f k p ≡ None
 
 -- a round flight: each frame of the mission is one of a round flight
 abbrev pub IsRound : FlownMission → Strays → Flight → Type 0

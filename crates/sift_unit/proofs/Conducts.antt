@@ -1,5 +1,5 @@
 -- The account of a frame meets the equations of conduct, once all was heard.
-use Rattle.std.proofs.Common.{◌≡◌, inl, inr, ℕ, List, true, not, nat_eq, refl, sym, ap, ◌∙◌, lt-ltb}
+use Rattle.std.proofs.Common.{◌≡◌, inl, inr, ℕ, List, true, not, nat_eq, refl, sym, ap, ◌∙◌, subst, lt-ltb}
 use Rattle.std.specs.Prelude.{ℤ, length, slice_index, ◌+ℤ◌}
 use Rattle.std.proofs.lemmas.Bool.{cases_Bool}
 use Rattle.sift_base.specs.Units.{has, has_bit, holds}
@@ -58,11 +58,4 @@ module _ (m : FlownMission) (us : List ℕ) (u f : ℕ) (clk : ℤ) (a : Account
 
 -- the account of a unit that isn't
 pub idle_is : (us : List ℕ) (clk : ℤ) (a : Account) → a ≡ idle_account us clk → IdleConduct a
-idle_is us clk a e = record {
-  idle = ap (λ (z : Account). z.idle) e;
-  ins = ap (λ (z : Account). z.ins) e;
-  outs = ap (λ (z : Account). z.outs) e;
-  bad = ap (λ (z : Account). z.bad) e;
-  next_cfg = ap (λ (z : Account). z.next_cfg) e ∙ sym (ap (λ (z : Account). z.cfg) e);
-  next_clk = ap (λ (z : Account). z.next_clk) e ∙ sym (ap (λ (z : Account). z.clk) e);
-}
+idle_is us clk a e = subst IdleConduct (sym e) refl
