@@ -1,6 +1,6 @@
 -- A cell: one number that carries a stamp, a mark of presence, and a word.
 use Rattle.sift_base.specs.Word.{word_count}
-use Rattle.std.specs.Prelude.{◌≡◌, ◌≢◌, ℕ, ◌+◌, ◌*◌, ◌/◌, ◌%◌, ◌<◌, ◌==◌, ◌&&◌, Bool, IsTrue, Option, Some, None, if◌then◌else◌}
+use Rattle.std.specs.Prelude.{◌≡◌, ◌≢◌, ℕ, ◌+◌, ◌*◌, ◌/◌, ◌%◌, ◌<◌, ◌==◌, ◌&&◌, IsTrue, Option, Some, None, if◌then◌else◌}
 
 -- what one stamp counts in a cell
 abbrev pub stamp_weight : ℕ
@@ -24,25 +24,14 @@ content_of (Some word) = presence_weight + word
 abbrev pub packed : ℕ → Option ℕ → ℕ
 packed stamp word = stamp * stamp_weight + content_of word
 
--- the stamp that a cell carries
-abbrev pub stamp_in : ℕ → ℕ
-stamp_in cell = cell / stamp_weight
-
--- whether a cell is present
-abbrev pub is_present : ℕ → Bool
-is_present cell = (cell % stamp_weight) / presence_weight == 1
-
--- the word bits of a cell
-abbrev pub word_in : ℕ → ℕ
-word_in cell = cell % presence_weight
-
--- the cell is present and carries this stamp
+-- the cell is present, and carries this stamp
 abbrev pub CarriesWord : ℕ → ℕ → Type 0
-CarriesWord cell stamp = (stamp_in cell ≡ stamp) × IsTrue (is_present cell)
+CarriesWord cell stamp = (cell / stamp_weight ≡ stamp) × IsTrue ((cell % stamp_weight) / presence_weight == 1)
 
--- what is taken of a cell by a stamp: its word where it is present with this stamp, else absence
+-- what is taken of a cell by a stamp: its word, which stands below the mark of presence, where it is present with this stamp; else absence
 unfoldable pub taken : ℕ → ℕ → Option ℕ
-taken cell stamp = if stamp_in cell == stamp && is_present cell then Some (word_in cell) else None
+taken cell stamp =
+    if (cell / stamp_weight == stamp) && ((cell % stamp_weight) / presence_weight == 1) then Some (cell % presence_weight) else None
 
 -- what was packed is taken by its own stamp, and by no other
 pub record PackingIsTaken : Type 0 where

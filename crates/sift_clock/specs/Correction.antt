@@ -29,17 +29,17 @@ abbrev pub int_sum : List ℤ → ℤ
 int_sum [] = pos 0
 int_sum (n ∷ ns) = n +ℤ int_sum ns
 
--- the sum of the readings, those that are absent or too far counted as 0
-abbrev pub counted_sum : ℤ → List (Option ℤ) → ℤ
-counted_sum limit readings = int_sum (map (counted limit) readings)
-
--- the correction with this limit among so many clocks: the floor of the counted sum, divided by the number of clocks
+-- the correction with this limit among so many clocks: the floor of the sum of what the readings count for, divided by the number of clocks
 abbrev pub correction_of : ℤ → ℕ → List (Option ℤ) → ℤ
-correction_of limit clocks readings = int_div_euclid (counted_sum limit readings) (pos clocks)
+correction_of limit clocks readings = int_div_euclid (int_sum (map (counted limit) readings)) (pos clocks)
 
 -- the next offset of unit u in a configuration: the own offset, the correction by what it reads of the others, and the drift
 abbrev pub next_offset : ℤ → List ℕ → (ℕ → Option ℤ) → ℤ → ℕ → ℤ → ℤ
 next_offset limit us read own u drift = own +ℤ correction_of limit (length us) (map read (others u us)) +ℤ drift
+
+-- the sum of what the readings count for
+abbrev pub counted_sum : ℤ → List (Option ℤ) → ℤ
+counted_sum limit readings = int_sum (map (counted limit) readings)
 
 -- the correction is the floor of the mean: times the number of clocks it is at most the counted sum, and a tick
 -- more for each clock would be too much

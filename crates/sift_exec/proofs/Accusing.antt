@@ -1,11 +1,16 @@
 -- Counting accusers: unit by unit, with the report at each position.
 use Rattle.std.proofs.Common.{◌≡◌, ℕ, zero, suc, ◌+◌, Bool, not, ◌&&◌, cond, nat_eq, List, [], ◌∷◌, length, take, get_or, slice_get, Some, unwrap_or, arith, ap, ◌∙◌, refl, inl, inr}
+use Rattle.std.specs.Prelude.{count_by}
 use Rattle.std.proofs.lemmas.Bool.{cases_Bool, eq-eqb, ne_eqb}
 use Rattle.sift_base.specs.Units.{others, IsAscending}
 use Rattle.sift_base.proofs.lemmas.Counts.{count-cons}
 use Rattle.sift_base.proofs.lemmas.Sets.{below_has}
 use Rattle.sift_config.proofs.lemmas.Joining.{has_at}
-use Rattle.sift_exec.specs.Conviction.{accusers, report_by}
+use Rattle.sift_exec.specs.Conviction.{report_by}
+
+-- how many units other than u name u in their reports
+abbrev pub accusers : (ℕ → ℕ → Bool) → List ℕ → ℕ → ℕ
+accusers names us u = count_by (λ r. names r u) (others u us)
 
 -- the report of the unit at a position is the one at that position
 pub report_at : (us reports : List ℕ) (i t d : ℕ) → IsAscending us → length reports ≡ length us → slice_get us i ≡ Some t → report_by us reports t ≡ get_or reports i d

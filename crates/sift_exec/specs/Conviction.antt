@@ -38,13 +38,9 @@ has_kind kinds Clock = kinds.clock
 
 -- ---- who is convicted
 
--- how many units other than u name u in their reports
-abbrev pub accusers : (ℕ → ℕ → Bool) → List ℕ → ℕ → ℕ
-accusers names us u = count_by (λ r. names r u) (others u us)
-
--- u is convicted: it is a unit of the configuration that at least two others name
+-- u is convicted: it is a unit of the configuration that at least two others name in their reports
 abbrev pub is_convicted : (ℕ → ℕ → Bool) → List ℕ → ℕ → Bool
-is_convicted names us u = has us u && nat_lt 1 (accusers names us u)
+is_convicted names us u = has us u && nat_lt 1 (count_by (λ r. names r u) (others u us))
 
 -- the report of a unit, where each unit of the list has one, in their order
 abbrev pub report_by : List ℕ → List ℕ → ℕ → ℕ

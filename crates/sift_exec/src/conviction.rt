@@ -1,8 +1,8 @@
 //! Who is convicted on the units' reports, and the configuration of the next frame.
 
-ghost use Rattle.std.specs.Prelude.{◌≡◌, ℕ, length, not, ◌&&◌, nat_eq};
-ghost use Rattle.sift_base.specs.Units.{holds, has_bit};
-ghost use Rattle.sift_exec.specs.Conviction.{accusers, is_convicted, names_by, next_units, ConvictionIsJust};
+ghost use Rattle.std.specs.Prelude.{◌≡◌, ℕ, count_by, length, not, ◌&&◌, nat_eq};
+ghost use Rattle.sift_base.specs.Units.{holds, has_bit, others};
+ghost use Rattle.sift_exec.specs.Conviction.{is_convicted, names_by, next_units, ConvictionIsJust};
 
 use sift_base::{UnitId, UnitSet, Word};
 use sift_config::Config;
@@ -31,7 +31,7 @@ pub fn convict(masks: &[Word], config: &Config) -> UnitSet
 /// How many other units of the configuration name the unit.
 fn accusers_of(accused: UnitId, masks: &[Word], config: &Config) -> usize
     requires { length masks.now ≡ length config.now }
-    ensures { result ≡ accusers (names_by config.now masks.now) config.now accused }
+    ensures { result ≡ count_by (λ r. names_by config.now masks.now r accused) (others accused config.now) }
 {
     let mut count = 0;
     for position in 0..config.len() {

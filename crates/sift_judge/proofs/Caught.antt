@@ -1,7 +1,7 @@
 -- The units that two tell that they caught, found one by one.
 use Rattle.std.proofs.Common.{◌≡◌, ℕ, zero, suc, ◌+◌, List, [], ◌∷◌, length, take, Bool, true, false, ◌&&◌, ◌||◌, nat_eq, Some, inl}
 use Rattle.std.proofs.Common.{inr, refl, sym, ap, ◌∙◌, add-one, arith}
-use Rattle.std.specs.Prelude.{count_by, slice_get}
+use Rattle.std.specs.Prelude.{count_by, nat_lt, slice_get}
 use Rattle.std.specs.List.{filter}
 use Rattle.std.specs.FinSet as set
 use Rattle.std.proofs.lemmas.Bool.{cases_Bool}
@@ -9,7 +9,14 @@ use Rattle.std.proofs.lemmas.Bool.Decides.{nat_tests}
 use Rattle.sift_base.specs.Units.{Units, has, holds}
 use Rattle.sift_base.proofs.lemmas.Sets.{holds-insert}
 use Rattle.sift_flight.proofs.lemmas.Counted.{filter-count}
+use Rattle.sift_mission.specs.Data.{MissionData}
+use Rattle.sift_report.specs.Told.{told_at, works_in}
+use Rattle.sift_report.specs.declared.line.ReportLine.{ReportLine}
 use Rattle.sift_judge.proofs.UnitSets.{filter_both}
+
+-- at least two working units of a configuration tell that they caught v
+abbrev pub two_tell : MissionData → List ReportLine → ℕ → List ℕ → ℕ → Bool
+two_tell d lines f us v = nat_lt 1 (count_by (λ u. works_in d u f && holds (told_at d lines f u).caught v) us)
 
 -- those of the working units that pass are as many as are counted of all
 pub count_both : (works passes : ℕ → Bool) (us : List ℕ) → length (filter passes (filter works us)) ≡ count_by (λ u. works u && passes u) us

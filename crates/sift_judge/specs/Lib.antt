@@ -1,3 +1,4 @@
+pub mod Clocks
 pub mod Verdict
 pub mod Laws
 pub mod Turns

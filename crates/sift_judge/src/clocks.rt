@@ -2,9 +2,10 @@
 
 ghost use Rattle.std.specs.Prelude.{◌≡◌, ◌<◌, ◌≤◌, ◌↔◌, IsSomeAnd, IsTrue, List, [], MatchOption, ℕ, Some, length, map, pos, ◌≤ℤ◌};
 ghost use Rattle.sift_mission.specs.Parts.{data_of};
-ghost use Rattle.sift_report.specs.Headline.{IsTrueSkew, TellsClockSkew, working_clocks};
-ghost use Rattle.sift_report.specs.Told.{clock_told, config_told, skew_told, slack_told};
+ghost use Rattle.sift_report.specs.Headline.{TellsClockSkew};
+ghost use Rattle.sift_report.specs.Told.{config_told, told_at};
 ghost use Rattle.sift_skew.specs.Figures.{IsHighest, IsLowest, IsSkew};
+ghost use Rattle.sift_judge.specs.Clocks.{IsTrueSkew, clock_told, working_clocks};
 
 use crate::told::{clock_told, skew_told, slack_told};
 use crate::working::{config_told, working_in};
@@ -27,7 +28,7 @@ pub(crate) fn has_clock_skew(mission: &Mission, lines: &[ReportLine], f: u32) ->
 /// Whether the line of a frame tells a slack of at least 1.
 fn has_slack(mission: &Mission, lines: &[ReportLine], f: u32) -> bool
     requires frame { f < (data_of mission.now).frames }
-    ensures { IsTrue result ↔ IsSomeAnd (slack_told (data_of mission.now) lines.now f) (λ slack. pos 1 ≤ℤ slack) }
+    ensures { IsTrue result ↔ IsSomeAnd (told_at (data_of mission.now) lines.now f (data_of mission.now).units).slack (λ slack. pos 1 ≤ℤ slack) }
 {
     match slack_told(mission, lines, f) {
         Some(slack) => slack >= 1,
@@ -39,7 +40,8 @@ fn has_slack(mission: &Mission, lines: &[ReportLine], f: u32) -> bool
 fn has_skew(mission: &Mission, lines: &[ReportLine], f: u32) -> bool
     requires frame { f < (data_of mission.now).frames }
     ensures { IsTrue result ↔ ((us : List ℕ) → config_told (data_of mission.now) lines.now f ≡ Some us
-        → IsSomeAnd (skew_told (data_of mission.now) lines.now f) (IsTrueSkew (data_of mission.now) (working_clocks (data_of mission.now) lines.now f us))) }
+        → IsSomeAnd (told_at (data_of mission.now) lines.now f (data_of mission.now).units).skew
+        (IsTrueSkew (data_of mission.now) (working_clocks (data_of mission.now) lines.now f us))) }
 {
     match config_told(mission, lines, f) {
         Some(config) => has_skew_of(mission, lines, f, &config),
@@ -50,7 +52,7 @@ fn has_skew(mission: &Mission, lines: &[ReportLine], f: u32) -> bool
 /// Whether the line of a frame tells the skew of the working clocks of this configuration.
 fn has_skew_of(mission: &Mission, lines: &[ReportLine], f: u32, config: &Config) -> bool
     requires frame { f < (data_of mission.now).frames }
-    ensures { IsTrue result ↔ IsSomeAnd (skew_told (data_of mission.now) lines.now f)
+    ensures { IsTrue result ↔ IsSomeAnd (told_at (data_of mission.now) lines.now f (data_of mission.now).units).skew
         (IsTrueSkew (data_of mission.now) (working_clocks (data_of mission.now) lines.now f config.now)) }
 {
     match skew_told(mission, lines, f) {

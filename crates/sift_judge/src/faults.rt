@@ -1,11 +1,11 @@
 //! The faults of a frame: whom working units tell that they caught, and who is configured out.
 
-ghost use Rattle.std.specs.Prelude.{◌≡◌, ◌<◌, ◌≤◌, ◌↔◌, ℕ, ◌&&◌, All, IsTrue, List, length, not, false};
+ghost use Rattle.std.specs.Prelude.{◌≡◌, ◌<◌, ◌≤◌, ◌↔◌, ℕ, ◌&&◌, All, IsTrue, List, length, not, false, count_by, nat_lt};
 ghost use Rattle.std.specs.List.{filter};
 ghost use Rattle.sift_base.specs.Units.{has, holds};
 ghost use Rattle.sift_mission.specs.Parts.{data_of};
-ghost use Rattle.sift_report.specs.Headline.{TellsExactRemoval, TellsNoFalseAccusation, two_tell};
-ghost use Rattle.sift_report.specs.Told.{caught_told};
+ghost use Rattle.sift_report.specs.Headline.{TellsExactRemoval, TellsNoFalseAccusation};
+ghost use Rattle.sift_report.specs.Told.{told_at, works_in};
 
 use crate::configuration::are_same_units;
 use crate::told::caught_told;
@@ -33,7 +33,7 @@ fn all_accuse_none(
     others: &[UnitId],
 ) -> bool
     requires frame { f ≤ (data_of mission.now).frames }
-    ensures { IsTrue result ↔ All (λ u. All (λ v. holds (caught_told (data_of mission.now) lines.now f u) v ≡ false) others.now) units.now }
+    ensures { IsTrue result ↔ All (λ u. All (λ v. holds (told_at (data_of mission.now) lines.now f u).caught v ≡ false) others.now) units.now }
 {
     units.iter().all(|unit| has_none(caught_told(mission, lines, f, *unit), others))
 }
@@ -65,7 +65,9 @@ pub(crate) fn has_exact_removal(mission: &Mission, lines: &[ReportLine], f: u32)
 /// Whether the next configuration is this one without exactly the units that two working units tell that they caught.
 fn is_exact(mission: &Mission, lines: &[ReportLine], f: u32, config: &Config, next: &Config) -> bool
     requires frame { f < (data_of mission.now).frames }
-    ensures { IsTrue result ↔ (next.now ≡ filter (λ v. not (two_tell (data_of mission.now) lines.now f config.now v)) config.now) }
+    ensures { IsTrue result ↔ (next.now ≡ filter (λ v. not (
+        nat_lt 1 (count_by (λ u. works_in (data_of mission.now) u f && holds (told_at (data_of mission.now) lines.now f u).caught v)
+        config.now))) config.now) }
 {
     let caught = caught_by_two(mission, lines, f, config);
     are_same_units(next.units(), config.units().minus(caught))
@@ -74,7 +76,8 @@ fn is_exact(mission: &Mission, lines: &[ReportLine], f: u32, config: &Config, ne
 /// The units of a configuration that two working units of it tell that they caught.
 fn caught_by_two(mission: &Mission, lines: &[ReportLine], f: u32, config: &Config) -> UnitSet
     requires frame { f < (data_of mission.now).frames }
-    ensures { (v : ℕ) → holds result v ≡ (has config.now v && two_tell (data_of mission.now) lines.now f config.now v) }
+    ensures { (v : ℕ) → holds result v ≡ (has config.now v
+        && nat_lt 1 (count_by (λ u. works_in (data_of mission.now) u f && holds (told_at (data_of mission.now) lines.now f u).caught v) config.now)) }
 {
     let working = working_in(mission, config, f);
     let mut caught = UnitSet::empty();
@@ -96,7 +99,7 @@ fn count_accusers(
     v: UnitId,
 ) -> usize
     requires frame { f ≤ (data_of mission.now).frames }
-    ensures { result ≡ length (filter (λ u. holds (caught_told (data_of mission.now) lines.now f u) v) units.now) }
+    ensures { result ≡ length (filter (λ u. holds (told_at (data_of mission.now) lines.now f u).caught v) units.now) }
 {
     units
         .iter()

@@ -1,10 +1,11 @@
 //! The form of a report: which lines stand where.
 
-ghost use Rattle.std.specs.Prelude.{◌≡◌, ◌<◌, ◌↔◌, ℕ, true, IfNone, IfSome, IsSomeAnd, IsTrue};
+ghost use Rattle.std.specs.Prelude.{◌≡◌, ◌<◌, ◌↔◌, ℕ, true, IfNone, IfSome, IsSomeAnd, IsTrue, Option, ℤ, Bool, List, length, ◌+◌, ◌*◌, Some};
 ghost use Rattle.sift_base.specs.Units.{holds};
 ghost use Rattle.sift_mission.specs.Parts.{data_of};
-ghost use Rattle.sift_report.specs.Headline.{HasEnd, HasForm, IsFramesLine, IsLastLine, IsUnitsLine, line_count};
+ghost use Rattle.sift_report.specs.Headline.{HasForm, IsUnitsLine};
 ghost use Rattle.sift_report.specs.Told.{line_at};
+ghost use Rattle.sift_report.specs.declared.line.ReportLine.TheVariants.{Frame as frame, Last as last};
 ghost use Rattle.sift_judge.specs.Turns.{HasForms, IsFirstWithoutForm};
 
 use crate::told::line_at;
@@ -100,7 +101,8 @@ fn are_units_of(mission: &Mission, units: UnitSet) -> bool
 /// Whether the frame has its own line.
 fn has_frames_line(mission: &Mission, lines: &[ReportLine], f: u32) -> bool
     requires frame { f < (data_of mission.now).frames }
-    ensures { IsTrue result ↔ IsSomeAnd (line_at (data_of mission.now) lines.now f (data_of mission.now).units) (IsFramesLine f) }
+    ensures { IsTrue result ↔ ((skew : Option ℤ) × (slack : Option ℤ) × (margin : Bool)
+        × (line_at (data_of mission.now) lines.now f (data_of mission.now).units ≡ Some (frame f skew slack margin))) }
 {
     match line_at(mission, lines, f, mission.parts().units) {
         Some(ReportLine::Frame { f: g, .. }) => *g == f,
@@ -110,14 +112,17 @@ fn has_frames_line(mission: &Mission, lines: &[ReportLine], f: u32) -> bool
 
 /// Whether the last line stands behind the last frame, and nothing behind it.
 fn has_end(mission: &Mission, lines: &[ReportLine]) -> bool
-    ensures { IsTrue result ↔ HasEnd (data_of mission.now) lines.now }
+    ensures { IsTrue result ↔ (((cfg : List ℕ) × (margin : Bool)
+        × (line_at (data_of mission.now) lines.now (data_of mission.now).frames 0 ≡ Some (last (data_of mission.now).frames cfg margin)))
+        × (length lines.now ≡ (data_of mission.now).frames * ((data_of mission.now).units + 1) + 1)) }
 {
     has_last_line(mission, lines) && lines.len() == line_count(mission)
 }
 
 /// Whether the last line stands behind the last frame.
 fn has_last_line(mission: &Mission, lines: &[ReportLine]) -> bool
-    ensures { IsTrue result ↔ IsSomeAnd (line_at (data_of mission.now) lines.now (data_of mission.now).frames 0) (IsLastLine (data_of mission.now)) }
+    ensures { IsTrue result ↔ ((cfg : List ℕ) × (margin : Bool)
+        × (line_at (data_of mission.now) lines.now (data_of mission.now).frames 0 ≡ Some (last (data_of mission.now).frames cfg margin))) }
 {
     match line_at(mission, lines, mission.frames(), 0) {
         Some(ReportLine::Last { frames, .. }) => *frames == mission.frames(),
@@ -127,7 +132,7 @@ fn has_last_line(mission: &Mission, lines: &[ReportLine]) -> bool
 
 /// How many lines a report of the mission has.
 fn line_count(mission: &Mission) -> usize
-    ensures { result ≡ line_count (data_of mission.now) }
+    ensures { result ≡ (data_of mission.now).frames * ((data_of mission.now).units + 1) + 1 }
 {
     let width = usize::from(mission.parts().units) + 1;
     mission.frames() as usize * width + 1

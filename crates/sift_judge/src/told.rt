@@ -2,7 +2,8 @@
 
 ghost use Rattle.std.specs.Prelude.{◌≡◌, ◌≤◌, option_map};
 ghost use Rattle.sift_mission.specs.Parts.{data_of};
-ghost use Rattle.sift_report.specs.Told.{caught_told, clock_told, inputs_told, line_at, outputs_told, skew_told, slack_told, told_at};
+ghost use Rattle.sift_report.specs.Told.{line_at, told_at};
+ghost use Rattle.sift_judge.specs.Clocks.{clock_told};
 
 use sift_base::{UnitId, UnitSet, Word};
 use sift_config::Config;
@@ -43,7 +44,7 @@ pub(crate) fn inputs_told<'a>(
     u: UnitId,
 ) -> &'a [Word]
     requires frame { f ≤ (data_of mission.now).frames }
-    ensures { result.now ≡ inputs_told (data_of mission.now) lines.now f u }
+    ensures { result.now ≡ (told_at (data_of mission.now) lines.now f u).inputs }
 {
     match line_at(mission, lines, f, u.get()) {
         Some(ReportLine::Unit { ins, .. }) => ins.as_slice(),
@@ -59,7 +60,7 @@ pub(crate) fn outputs_told<'a>(
     u: UnitId,
 ) -> &'a [Word]
     requires frame { f ≤ (data_of mission.now).frames }
-    ensures { result.now ≡ outputs_told (data_of mission.now) lines.now f u }
+    ensures { result.now ≡ (told_at (data_of mission.now) lines.now f u).outputs }
 {
     match line_at(mission, lines, f, u.get()) {
         Some(ReportLine::Unit { outs, .. }) => outs.as_slice(),
@@ -81,7 +82,7 @@ pub(crate) fn clock_told(mission: &Mission, lines: &[ReportLine], f: u32, u: Uni
 /// The units that a unit tells that it caught, in whatever way.
 pub(crate) fn caught_told(mission: &Mission, lines: &[ReportLine], f: u32, u: UnitId) -> UnitSet
     requires frame { f ≤ (data_of mission.now).frames }
-    ensures { result ≡ caught_told (data_of mission.now) lines.now f u }
+    ensures { result ≡ (told_at (data_of mission.now) lines.now f u).caught }
 {
     match line_at(mission, lines, f, u.get()) {
         Some(ReportLine::Unit { bad, .. }) => bad.units(),
@@ -92,7 +93,7 @@ pub(crate) fn caught_told(mission: &Mission, lines: &[ReportLine], f: u32, u: Un
 /// The skew that the line of a whole frame tells, in ticks.
 pub(crate) fn skew_told(mission: &Mission, lines: &[ReportLine], f: u32) -> Option<i64>
     requires frame { f ≤ (data_of mission.now).frames }
-    ensures { result ≡ skew_told (data_of mission.now) lines.now f }
+    ensures { result ≡ (told_at (data_of mission.now) lines.now f (data_of mission.now).units).skew }
 {
     match line_at(mission, lines, f, mission.parts().units)? {
         ReportLine::Frame { skew, .. } => *skew,
@@ -103,7 +104,7 @@ pub(crate) fn skew_told(mission: &Mission, lines: &[ReportLine], f: u32) -> Opti
 /// The slack that the line of a whole frame tells, in ticks.
 pub(crate) fn slack_told(mission: &Mission, lines: &[ReportLine], f: u32) -> Option<i64>
     requires frame { f ≤ (data_of mission.now).frames }
-    ensures { result ≡ slack_told (data_of mission.now) lines.now f }
+    ensures { result ≡ (told_at (data_of mission.now) lines.now f (data_of mission.now).units).slack }
 {
     match line_at(mission, lines, f, mission.parts().units)? {
         ReportLine::Frame { slack, .. } => *slack,

@@ -6,7 +6,7 @@ ghost use Rattle.sift_mission.specs.Flown.{word_sensed};
 ghost use Rattle.sift_mission.specs.Parts.{data_of};
 ghost use Rattle.sift_program.specs.Ideal.{ideal_words};
 ghost use Rattle.sift_report.specs.Headline.{TellsIdealOutputs, TellsSameInputs};
-ghost use Rattle.sift_report.specs.Told.{agreed_told, config_told, inputs_told, outputs_told, shed_told, works_in};
+ghost use Rattle.sift_report.specs.Told.{agreed_told, config_told, shed_told, works_in, told_at};
 
 use crate::told::{inputs_told, outputs_told};
 use crate::working::{agreed_told, config_told, working_at};
@@ -34,7 +34,7 @@ fn all_tell_inputs(
     agreed: &[Word],
 ) -> bool
     requires frame { f ≤ (data_of mission.now).frames }
-    ensures { IsTrue result ↔ All (λ u. inputs_told (data_of mission.now) lines.now f u ≡ agreed.now) units.now }
+    ensures { IsTrue result ↔ All (λ u. (told_at (data_of mission.now) lines.now f u).inputs ≡ agreed.now) units.now }
 {
     units.iter().all(|unit| are_same(inputs_told(mission, lines, f, *unit), agreed))
 }
@@ -106,7 +106,7 @@ fn all_tell_outputs(
     words: &[Word],
 ) -> bool
     requires frame { f ≤ (data_of mission.now).frames }
-    ensures { IsTrue result ↔ All (λ u. outputs_told (data_of mission.now) lines.now f u ≡ words.now) units.now }
+    ensures { IsTrue result ↔ All (λ u. (told_at (data_of mission.now) lines.now f u).outputs ≡ words.now) units.now }
 {
     units.iter().all(|unit| are_same(outputs_told(mission, lines, f, *unit), words))
 }

@@ -12,11 +12,11 @@ use Rattle.std.proofs.lemmas.Str.Parse.{digit_from_value}
 use Rattle.sift_base.specs.Units.{Units, has, holds, members, unit_limit, unit_numbers}
 use Rattle.sift_base.specs.ReadBack.{has-filter}
 use Rattle.sift_exec.specs.declared.catches.Kinds.{Kinds}
-use Rattle.sift_report.specs.Bad.{catch_of, catch_text, caught_text, kinds_text}
+use Rattle.sift_report.specs.Bad.{caught_text, kinds_text}
 use Rattle.sift_report.specs.declared.bad.Bad.{Bad}
 use Rattle.sift_report.specs.declared.bad.Bad.TheVariants.{Plain, ByKind}
 use Rattle.sift_exec.specs.declared.catches.Catches.{Catches}
-use Rattle.sift_exec.specs.Conviction.{everyone_in}
+use Rattle.sift_exec.specs.Conviction.{everyone_in, kinds_of}
 use Rattle.sift_report.specs.Line.{IsLine, fields_of, line_text}
 use Rattle.sift_report.specs.Part.{AreTicks, IsWord, list_text, margin_text, ticks_text, unit_digit, units_text, word_text, words_text}
 use Rattle.sift_report.specs.declared.line.ReportLine.{ReportLine}
@@ -140,16 +140,16 @@ ascii-kinds kinds = letters kinds.poll kinds.relay kinds.clock
     letters false false true = search rules
     letters false false false = search rules
 
-ascii-catches : (caught : Catches) (us : List ℕ) → AreInside us → AllAscii (map catch_text (map (catch_of caught) us))
+ascii-catches : (caught : Catches) (us : List ℕ) → AreInside us → AllAscii (map (λ u. unit_digit u ∷ kinds_text (kinds_of caught u)) us)
 ascii-catches caught [] inside = tt
 ascii-catches caught (u ∷ us) inside = (
-  (ascii-digit u (inside u (here_first u us)), ascii-kinds (catch_of caught u).kinds),
+  (ascii-digit u (inside u (here_first u us)), ascii-kinds (kinds_of caught u)),
   ascii-catches caught us (λ v there. inside v (there_later u v us there)),
 )
 
 ascii-caught : (bad : Bad) → AreAscii (caught_text bad)
 ascii-caught (Plain units) = ascii-units (members units) (inside_set units)
-ascii-caught (ByKind caught) = ascii-list (map catch_text (map (catch_of caught) (members (everyone_in caught))))
+ascii-caught (ByKind caught) = ascii-list (map (λ u. unit_digit u ∷ kinds_text (kinds_of caught u)) (members (everyone_in caught)))
     (ascii-catches caught (members (everyone_in caught)) (inside_set (everyone_in caught)))
 
 -- ---- lines

@@ -22,11 +22,14 @@ use Rattle.sift_exec.specs.declared.catches.Kind.TheVariants.{Poll, Relay, Clock
 use Rattle.sift_exec.specs.declared.catches.Kinds.{Kinds}
 use Rattle.sift_flight.proofs.lemmas.Counted.{filter-≤}
 use Rattle.sift_flight.proofs.lemmas.Naming.{holds-everyone}
-use Rattle.sift_report.specs.Bad.{AreCatches, AreTold, IsCatch, IsSomeKind, IsToldBy, bad_in, catch_of, catches_in, units_in}
+use Rattle.sift_report.specs.Bad.{AreTold, IsCatch, IsSomeKind, IsToldBy, bad_in, catch_of, catches_in, units_in, IsBad, catch_text, caught_text}
 use Rattle.sift_report.specs.declared.catch.Catch.{Catch}
 use Rattle.sift_report.proofs.Sets.{nat_eq-swap}
 use Rattle.sift_report.specs.declared.version.Version.{Version}
 use Rattle.sift_report.specs.declared.version.Version.TheVariants.{One, Two}
+use Rattle.sift_report.specs.declared.bad.Bad.TheVariants.{ByKind}
+use Rattle.sift_report.specs.Part.{list_text}
+use Rattle.std.proofs.lemmas.Simd.{map-map}
 
 -- both versions name the same units
 pub units_told : (version : Version) (caught : Catches) → units_in (bad_in version caught) ≡ everyone_in caught
@@ -62,15 +65,19 @@ or_elim P false true c x y z t = y refl
 or_elim P false false c x y z t = z t
 
 -- where the units that were caught in each way are units, so is each that was caught in some way
-pub everyone_units : (caught : Catches) → AreCatches caught → AreUnits (everyone_in caught)
+pub everyone_units : (caught : Catches) → IsBad (ByKind caught) → AreUnits (everyone_in caught)
 everyone_units caught are v there = or_elim (v < 8) _ _ _ (are.0 v) (are.1 v) (are.2 v) (some_kind caught v there)
 
 -- each of the list is a catch
-pub all_catches : (caught : Catches) → AreCatches caught → All IsCatch (catches_in caught)
+pub all_catches : (caught : Catches) → IsBad (ByKind caught) → All IsCatch (catches_in caught)
 all_catches caught are =
     All-map IsCatch (catch_of caught) (members (everyone_in caught)) (all_of (λ u. IsCatch (catch_of caught u)) (members (everyone_in caught)) (λ u there.
     let caught_so = sym (in_members (everyone_in caught) (everyone_units caught are) u) ∙ there in
     (everyone_units caught are u caught_so, some_kind caught u caught_so)))
+
+-- they are listed as a line tells them
+pub catches_are : (caught : Catches) → list_text (map catch_text (catches_in caught)) ≡ caught_text (ByKind caught)
+catches_are caught = ap list_text (map-map catch_text (catch_of caught) (members (everyone_in caught)))
 
 -- and there are at most eight
 pub few_members : (units : Units) → length (members units) ≤ 8
@@ -200,7 +207,7 @@ or_right false true c t = refl
 or_right false false c t = t
 
 -- the list of catches tells them
-pub list_tells : (caught : Catches) → AreCatches caught → IsToldBy (catches_in caught) caught
+pub list_tells : (caught : Catches) → IsBad (ByKind caught) → IsToldBy (catches_in caught) caught
 list_tells caught are =
     let all = everyone_units caught are in record {
       poll = list_tells_way caught Poll caught.poll all (λ v. refl)
@@ -224,5 +231,5 @@ one_told list caught told are by =
     λ i. record { poll = poll i; relay = relay i; clock = clock i }
 
 -- what the list of the catches tells is those catches
-pub caught_again : (caught told : Catches) → AreCatches caught → IsToldBy (catches_in caught) told → told ≡ caught
+pub caught_again : (caught told : Catches) → IsBad (ByKind caught) → IsToldBy (catches_in caught) told → told ≡ caught
 caught_again caught told are by = one_told (catches_in caught) caught told (list_tells caught are) by

@@ -1,6 +1,6 @@
 -- A line is known from its fields, with blanks between them.
 use Rattle.std.proofs.Common.{◌≡◌, ℕ, ℤ, ◌<◌, ◌≤◌, ◌^◌, List, [], ◌∷◌, length, map, eqb, Bool, true, false, Option, Some, None, IfSome, sym, ap}
-use Rattle.std.proofs.Common.{◌∙◌, arith, rules, w64}
+use Rattle.std.proofs.Common.{◌∙◌, subst, arith, rules, w64}
 use Rattle.std.specs.Fmt.{decimal, signed_decimal}
 use Rattle.std.specs.Int.RustNames.{FitsSigned}
 use Rattle.std.specs.List.{join_with_byte, slice_split}
@@ -17,6 +17,7 @@ use Rattle.sift_report.specs.declared.catch.Catch.{Catch}
 use Rattle.sift_report.specs.Line.{IsLine, fields_of, line_text}
 use Rattle.sift_report.proofs.Above.{above-decimal, above-signed, above-join, above-lower, above-map, above-word}
 use Rattle.sift_report.proofs.Joined.{split-join}
+use Rattle.sift_report.proofs.Catches.{catches_are}
 
 -- ---- no field has a blank
 
@@ -57,7 +58,8 @@ above-catch c = above-lower 32 45 (catch_text c) (omega arith) (catch_above c)
 
 above-caught : (bad : Bad) → IsAbove 32 (caught_text bad)
 above-caught (Plain units) = above-units (members units)
-above-caught (ByKind caught) = above-list (map catch_text (catches_in caught)) (above-map 32 catch_text (catches_in caught) above-catch)
+above-caught (ByKind caught) = subst (IsAbove 32) (catches_are caught)
+    (above-list (map catch_text (catches_in caught)) (above-map 32 catch_text (catches_in caught) above-catch))
 
 -- the fields of a line have only bytes above the blank
 pub fields_above : (line : ReportLine) → IsLine line → AreAbove 32 (fields_of line)

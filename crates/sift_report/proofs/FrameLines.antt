@@ -13,9 +13,9 @@ use Rattle.sift_flight.specs.Flight.{Flight}
 use Rattle.sift_flight.specs.Headline.{Headline, agreed_at, two_caught}
 use Rattle.sift_flight.proofs.lemmas.Configs.{filter_has, has_filter}
 use Rattle.sift_flight.proofs.lemmas.Leading.{config_within, lead_works}
-use Rattle.sift_report.specs.Headline.{IsTrueSkew, TellsClockSkew, TellsExactRemoval, TellsNoFalseAccusation, TellsSameInputs, two_tell, working_clocks}
-use Rattle.sift_report.specs.Sheet.{account_line, sheet_of}
-use Rattle.sift_report.specs.Told.{agreed_told, caught_told, clock_told, config_told, skew_told, slack_told, told_at, told_by, told_in}
+use Rattle.sift_report.specs.Headline.{TellsClockSkew, TellsExactRemoval, TellsNoFalseAccusation, TellsSameInputs}
+use Rattle.sift_report.specs.Sheet.{sheet_of}
+use Rattle.sift_report.specs.Told.{agreed_told, config_told, told_at, told_in}
 use Rattle.sift_report.specs.declared.version.Version.{Version}
 use Rattle.sift_report.specs.declared.line.ReportLine.{ReportLine}
 use Rattle.sift_report.proofs.Catches.{units_told}
@@ -24,6 +24,7 @@ use Rattle.sift_report.proofs.RoundFlights.{HasLaws}
 use Rattle.sift_report.proofs.SheetConfigs.{agreed_is, config_is}
 use Rattle.sift_report.proofs.SheetForm.{account_is, line_of_member, works_flying}
 use Rattle.sift_report.proofs.SheetPlaces.{first_low, frame_at, unit_at}
+use Rattle.sift_report.proofs.Tells.{two_tell, working_clocks, IsTrueSkew, account_line}
 
 -- ---- figures are there
 
@@ -55,7 +56,7 @@ module _ (d : MissionData) (fl : Flight) (version : Version) (laws : HasLaws d f
     lead = lead_works (flown d) laws.flyable f
 
     -- a working unit tells its account
-    pub tells_account : (u : ℕ) → Works (flown d) u f → told_at d sheet f u ≡ told_by (account_line version f u (fl.account u f))
+    pub tells_account : (u : ℕ) → Works (flown d) u f → told_at d sheet f u ≡ told_in (Some (account_line version f u (fl.account u f)))
     tells_account u w =
         let h = holds_here.same_configuration in
         let member : has (fl.account u f).cfg u ≡ true = subst (λ us. has us u ≡ true) (sym (h.same u w)) (h.member u w) in
@@ -95,7 +96,7 @@ module _ (d : MissionData) (fl : Flight) (version : Version) (laws : HasLaws d f
 
     -- ---- faults
 
-    caught_is : (u : ℕ) → Works (flown d) u f → caught_told d sheet f u ≡ everyone_in (fl.account u f).bad
+    caught_is : (u : ℕ) → Works (flown d) u f → (told_at d sheet f u).caught ≡ everyone_in (fl.account u f).bad
     caught_is u w = ap (λ t. t.caught) (tells_account u w) ∙ units_told version (fl.account u f).bad
 
     -- no working unit tells that it caught a working unit
@@ -105,7 +106,7 @@ module _ (d : MissionData) (fl : Flight) (version : Version) (laws : HasLaws d f
         ap (λ c. holds c v) (caught_is u works) ∙ holds_here.no_false_accusation u v works (works_flying d v f x)
 
     two_alike : (v : ℕ) → two_tell d sheet f (config_at (flown d) fl f) v ≡ two_caught (flown d) fl f v
-    two_alike v = ap (nat_lt 1) (count_alike (λ u. (flown d).works u f && holds (caught_told d sheet f u) v)
+    two_alike v = ap (nat_lt 1) (count_alike (λ u. (flown d).works u f && holds (told_at d sheet f u).caught v)
         (λ u. (flown d).works u f && caught (fl.account u f) v) (config_at (flown d) fl f) (λ u member. elim (cases_Bool ((flown d).works u f)) [
           | inl works ↦ ap (λ c. (flown d).works u f && holds c v) (caught_is u (member_works u member works))
           | inr faulty ↦ rw faulty refl
@@ -124,7 +125,7 @@ module _ (d : MissionData) (fl : Flight) (version : Version) (laws : HasLaws d f
     -- ---- clocks
 
     clocks_alike : working_clocks d sheet f (config_at (flown d) fl f) ≡ offsets_at (flown d) fl f
-    clocks_alike = map_alike (clock_told d sheet f) (λ u. (fl.account u f).clk) (working_at (flown d) fl f) (λ u there.
+    clocks_alike = map_alike (λ u. (told_at d sheet f u).clock) (λ u. (fl.account u f).clk) (working_at (flown d) fl f) (λ u there.
         let both = filter_has (λ v. (flown d).works v f) (config_at (flown d) fl f) u there in
         ap (λ t. t.clock) (tells_account u (member_works u both.1 both.0)))
 
@@ -135,14 +136,14 @@ module _ (d : MissionData) (fl : Flight) (version : Version) (laws : HasLaws d f
         some_offsets (λ u. (fl.account u f).clk) (working_at (flown d) fl f) l
         (has_filter (λ u. (flown d).works u f) (config_at (flown d) fl f) l (holds_here.same_configuration.member l lead) lead.works)
 
-    true_skew : IsSomeAnd (skew_told d sheet f) (IsTrueSkew d (offsets_at (flown d) fl f))
+    true_skew : IsSomeAnd (told_at d sheet f d.units).skew (IsTrueSkew d (offsets_at (flown d) fl f))
     true_skew =
         let a = some_skew (offsets_at (flown d) fl f) some_clock in
         let is_skew = ((laws.skew (offsets_at (flown d) fl f)).0 a.0).0 a.1 in
         subst (λ o. IsSomeAnd o (IsTrueSkew d (offsets_at (flown d) fl f))) (sym (ap (λ o. (told_in o).skew) (frame_at d fl version f within) ∙ a.1))
         (is_skew, holds_here.clock_skew.skew a.0 is_skew)
 
-    true_slack : IsSomeAnd (slack_told d sheet f) (λ slack. pos 1 ≤ℤ slack)
+    true_slack : IsSomeAnd (told_at d sheet f d.units).slack (λ slack. pos 1 ≤ℤ slack)
     true_slack =
         let b = some_slack (flown d).length (offsets_at (flown d) fl f) (next_offsets_at (flown d) fl f) some_clock in
         let is_slack = ((laws.slack (flown d).length (offsets_at (flown d) fl f) (next_offsets_at (flown d) fl f)).0 b.0).0 b.1 in
@@ -152,7 +153,7 @@ module _ (d : MissionData) (fl : Flight) (version : Version) (laws : HasLaws d f
     pub clock_skew : TellsClockSkew d sheet f
     clock_skew = record {
       skew = λ us told.
-          subst (λ c. IsSomeAnd (skew_told d sheet f) (IsTrueSkew d (working_clocks d sheet f c))) (sym (is_told us told))
-          (subst (λ clocks. IsSomeAnd (skew_told d sheet f) (IsTrueSkew d clocks)) (sym clocks_alike) true_skew);
+          subst (λ c. IsSomeAnd (told_at d sheet f d.units).skew (IsTrueSkew d (working_clocks d sheet f c))) (sym (is_told us told))
+          (subst (λ clocks. IsSomeAnd (told_at d sheet f d.units).skew (IsTrueSkew d clocks)) (sym clocks_alike) true_skew);
       slack = true_slack;
     }

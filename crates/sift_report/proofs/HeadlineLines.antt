@@ -1,14 +1,14 @@
 -- The lines of a round flight's report have the headline.
-use Rattle.std.proofs.Common.{◌≡◌, ◌↔◌, ℕ, ◌-◌, ◌<◌, List, Bool, true, refl, sym, ap, ◌∙◌, arith}
+use Rattle.std.proofs.Common.{◌≡◌, ◌↔◌, ℕ, ◌-◌, ◌<◌, List, [], Bool, true, refl, sym, ap, ◌∙◌, arith}
 use Rattle.sift_program.specs.Ideal.{ideal_words}
 use Rattle.sift_mission.specs.Data.{MissionData}
-use Rattle.sift_mission.specs.Flown.{flown}
+use Rattle.sift_mission.specs.Flown.{flown, table_for}
 use Rattle.sift_flight.specs.Figures.{HasMarginAt, margin_at}
 use Rattle.sift_flight.specs.Flight.{Flight}
 use Rattle.sift_flight.specs.Headline.{agreed_at, shed_at}
 use Rattle.sift_report.specs.Headline.{FrameHeadline, TellsIdealOutputs, TellsTrueMargin, ReportHeadline}
 use Rattle.sift_report.specs.Sheet.{sheet_of}
-use Rattle.sift_report.specs.Told.{HasMarginTold, agreed_told, shed_by, shed_told, told_in}
+use Rattle.sift_report.specs.Told.{HasMarginTold, agreed_told, shed_told, told_in}
 use Rattle.sift_report.specs.declared.version.Version.{Version}
 use Rattle.sift_report.specs.declared.line.ReportLine.{ReportLine}
 use Rattle.sift_report.proofs.Alike.{words_alike}
@@ -17,6 +17,7 @@ use Rattle.sift_report.proofs.RoundFlights.{HasLaws}
 use Rattle.sift_report.proofs.SheetConfigs.{at_from, config_is, same_configuration, told_from}
 use Rattle.sift_report.proofs.SheetForm.{form_told, works_flying}
 use Rattle.sift_report.proofs.SheetPlaces.{end_at, frame_at}
+use Rattle.std.specs.Prelude.{option_map, unwrap_or}
 
 module _ (d : MissionData) (fl : Flight) (version : Version) (laws : HasLaws d fl) where
   abbrev sheet : List ReportLine
@@ -26,7 +27,9 @@ module _ (d : MissionData) (fl : Flight) (version : Version) (laws : HasLaws d f
 
   -- the tasks that are shed by the configuration told are those that the flight's sheds
   sheds : (f : ℕ) → f < d.frames → HasMarginAt (flown d) fl f → shed_told d sheet f ≡ shed_at (flown d) fl f
-  sheds f within at = ap (shed_by d) (config_is d fl version laws f (omega arith) (λ g early. at g (omega arith)))
+  sheds f within at =
+      ap (λ c. unwrap_or (option_map (λ us. (table_for d us).shed) c) [])
+      (config_is d fl version laws f (omega arith) (λ g early. at g (omega arith)))
 
   -- so the ideal machine's words over the agreed words and the configurations told are those over the flight's
   words_told : (f : ℕ) → f < d.frames → HasMarginAt (flown d) fl f

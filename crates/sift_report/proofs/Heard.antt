@@ -1,11 +1,11 @@
 -- What a unit said and heard of its words, in its journal.
 use Rattle.std.proofs.Common.{◌≡◌, ◌≢◌, ℕ, ◌<◌, List, [], ◌∷◌, length, get_or, true, false}
 use Rattle.std.proofs.Common.{Some, nat_eq, refl, sym, subst, ◌∙◌, arith, lt-ltb}
-use Rattle.std.specs.Prelude.{slice_get}
+use Rattle.std.specs.Prelude.{slice_get, slice_index}
 use Rattle.std.proofs.lemmas.List.{get_or_default}
 use Rattle.std.proofs.lemmas.List.FromFn.{length-range_with_len}
 use Rattle.sift_base.specs.Layout.{slot_number}
-use Rattle.sift_base.specs.Units.{has, IsAscending}
+use Rattle.sift_base.specs.Units.{has, IsAscending, others}
 use Rattle.sift_base.specs.declared.slot.Slot.TheVariants.{Out}
 use Rattle.sift_base.proofs.lemmas.Counts.{nat_eq-same}
 use Rattle.sift_base.proofs.lemmas.Others.{not_same}
@@ -19,19 +19,20 @@ use Rattle.sift_mission.proofs.lemmas.Numbers.{range-has}
 use Rattle.sift_flight.specs.Flight.{Flight}
 use Rattle.sift_flight.specs.Told.{IsWhole, journal_of, no_pages, told}
 use Rattle.sift_flight.specs.declared.flight.Flight.{Flight as TheFlight}
-use Rattle.sift_report.specs.Votes.{lowest_other, place_of}
+use Rattle.sift_report.specs.Votes.{place_of}
 
 -- ---- the lowest other unit
 
 -- where the lowest unit is another, it is that
-pub lowest_first : (us : List ℕ) (u a : ℕ) → slice_get us 0 ≡ Some a → a ≢ u → lowest_other us u ≡ a
+pub lowest_first : (us : List ℕ) (u a : ℕ) → slice_get us 0 ≡ Some a → a ≢ u → slice_index (others u us) 0 ≡ a
 lowest_first [] u a e other = absurd cc
 lowest_first (v ∷ us) u a e other =
     let same : v ≡ a = (cc) in
     rw (not_same v u (λ own. other (sym same ∙ own))) same
 
 -- where it is the unit itself, the next is
-pub lowest_second : (us : List ℕ) (u b : ℕ) → IsAscending us → slice_get us 0 ≡ Some u → slice_get us 1 ≡ Some b → (lowest_other us u ≡ b) × (b ≢ u)
+pub lowest_second : (us : List ℕ) (u b : ℕ) → IsAscending us → slice_get us 0 ≡ Some u → slice_get us 1 ≡ Some b →
+    (slice_index (others u us) 0 ≡ b) × (b ≢ u)
 lowest_second [] u b up e next = absurd cc
 lowest_second (v ∷ []) u b up e next = absurd cc
 lowest_second (v ∷ w ∷ us) u b up e next =
@@ -75,7 +76,8 @@ module _ (parts : MissionParts) (fit : PartsFit (data_of parts)) (fl : TheFlight
   journal-heard w f v low = rw (lt-ltb w parts.layout.words low, journal-is) refl
 
 -- the place of the unit itself and that of another
-pub place-own : (m : FlownMission) (fl : Flight) (f u w v : ℕ) → v ≡ u → place_of m fl f u w v ≡ fl.said u f (Out w) (lowest_other ((fl.account u f).cfg) u)
+pub place-own : (m : FlownMission) (fl : Flight) (f u w v : ℕ) → v ≡ u →
+    place_of m fl f u w v ≡ fl.said u f (Out w) (slice_index (others u ((fl.account u f).cfg)) 0)
 place-own m fl f u w v same = let test : nat_eq v u ≡ true = rw same (nat_eq-same u) in rw test refl
 
 -- the place of another executor is its word as the unit heard it

@@ -15,6 +15,7 @@ mod SheetConfigs
 mod SheetForm
 mod SheetPlaces
 mod SheetVersions
+mod Tells
 mod TwoCatchers
 mod TwoCatchersFit
 mod Versions

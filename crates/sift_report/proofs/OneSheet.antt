@@ -11,7 +11,7 @@ use Rattle.sift_base.specs.Units.{has, members}
 use Rattle.sift_exec.specs.declared.catches.Catches.{Catches}
 use Rattle.sift_exec.specs.declared.catches.Kinds.{Kinds}
 use Rattle.sift_report.specs.Apart.{catch_above, word_above}
-use Rattle.sift_report.specs.Bad.{AreCatches, IsBad, IsToldBy, catch_text, catches_in, catches_text, caught_text, kinds_text, version_of}
+use Rattle.sift_report.specs.Bad.{IsBad, IsToldBy, catch_text, catches_in, caught_text, kinds_text, version_of}
 use Rattle.sift_report.specs.Line.{HasVersion, IsLine, fields_of, line_text}
 use Rattle.sift_report.specs.OneSheet.{OneLineOfAText, OneSheetOfAText}
 use Rattle.sift_report.specs.Part.{AreTicks, IsAbove, list_text, margin_text, ticks_text, unit_digit, units_text, word_text, words_text}
@@ -24,7 +24,7 @@ use Rattle.sift_report.specs.declared.line.ReportLine.TheVariants.{Unit as unit,
 use Rattle.sift_report.specs.declared.version.Version.{Version}
 use Rattle.sift_report.proofs.Above.{above-map, all-lower}
 use Rattle.sift_report.proofs.Ascending.{no_units}
-use Rattle.sift_report.proofs.Catches.{list_tells, one_told}
+use Rattle.sift_report.proofs.Catches.{list_tells, one_told, catches_are}
 use Rattle.sift_report.proofs.Fields.{fields_of_text}
 use Rattle.sift_report.proofs.Joined.{no_values, split-join}
 use Rattle.sift_report.proofs.LineFeeds.{come_apart}
@@ -140,9 +140,11 @@ one_catch c d e =
     λ i. record { unit = same_unit i; kinds = same_kinds i }
 
 -- the list of them tells who was caught in which way
-one_caught : (caught others : Catches) → AreCatches caught → AreCatches others → catches_text caught ≡ catches_text others → caught ≡ others
+one_caught : (caught others : Catches) → IsBad (ByKind caught) → IsBad (ByKind others)
+    → caught_text (ByKind caught) ≡ caught_text (ByKind others) → caught ≡ others
 one_caught caught others are told e =
-    let same = one_joined catch_text catch_above one_catch (catches_in caught) (catches_in others) e in
+    let same =
+    one_joined catch_text catch_above one_catch (catches_in caught) (catches_in others) (catches_are caught ∙ e ∙ sym (catches_are others)) in
     one_told (catches_in others) others caught (list_tells others told) (subst (λ list. IsToldBy list caught) same (list_tells caught are))
 
 -- what a line of a version tells of catches is known from its text

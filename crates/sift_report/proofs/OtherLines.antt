@@ -7,12 +7,12 @@ use Rattle.sift_base.specs.Units.{HasMargin, has}
 use Rattle.sift_skew.proofs.lemmas.Leads.{skew_is_unique}
 use Rattle.sift_table.specs.Laws.{PlainTablesAreGood}
 use Rattle.sift_flight.specs.Calms.{CalmMissionsFly}
-use Rattle.sift_report.specs.Headline.{two_tell}
 use Rattle.sift_report.specs.Told.{HasMarginTold, IsWorking, works_in}
 use Rattle.sift_report.specs.declared.line.ReportLine.TheVariants.{Frame, Last}
 use Rattle.sift_report.specs.TwoCatchers.{FaultIsWithinTheHeadline, OtherLinesAreRefused, all_five, four_left, mission, one_catcher, other, unit_4_stays}
 use Rattle.sift_report.proofs.TwoCatchers.{headline_holds, holds-none, holds-only, no_skew}
 use Rattle.sift_report.proofs.TwoCatchersFit.{parts_fit}
+use Rattle.sift_report.proofs.Tells.{two_tell}
 
 working : (u f : ℕ) → has all_five u ≡ true → works_in mission u f ≡ true → IsWorking mission u f
 working u f there works = record { unit = there; works = works }
@@ -20,7 +20,7 @@ working u f there works = record { unit = there; works = works }
 other_lines_are_refused : OtherLinesAreRefused
 other_lines_are_refused = record {
   form = λ h. let e : 3 ≡ 2 = (h.units 2 (omega arith)).1 in omega (arith, e);
-  end = λ h. let e : 14 ≡ 13 = (h.end refl).nothing_more in omega (arith, e);
+  end = λ h. let e : 14 ≡ 13 = h.nothing_more refl in omega (arith, e);
   same_configuration = λ h.
       let all : all_five ≡ h.config = same_Some _ _ h.told in
       let here : HasMargin (λ u. works_in mission u 0) all_five = record { few = omega arith; enough = omega arith } in

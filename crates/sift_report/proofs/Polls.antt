@@ -1,7 +1,7 @@
 -- What a unit polled of an output word, the majority of it, and the line of its vote.
 use Rattle.std.proofs.Common.{codes, append_assoc, ◌≡◌, ℕ, ◌+◌, ◌<◌, ◌≤◌, List, [], ◌∷◌, ◌++◌, length, map, get_or, Option}
 use Rattle.std.proofs.Common.{Some, None, refl, sym, ap, ◌∙◌, arith}
-use Rattle.std.specs.Prelude.{IfNone, IfSome}
+use Rattle.std.specs.Prelude.{IfNone, IfSome, slice_index_or}
 use Rattle.std.specs.Fmt.{decimal}
 use Rattle.std.specs.Vec.{vec_len}
 use Rattle.std.specs.List.{join_with_byte}
@@ -19,23 +19,27 @@ use Rattle.sift_mission.specs.PartsFit.{PartsFit}
 use Rattle.sift_mission.specs.declared.parts.MissionParts.{MissionParts}
 use Rattle.sift_vote.specs.Majority.{majority_of, HasNoMajority, IsMajority}
 use Rattle.sift_vote.proofs.lemmas.Found.{majority_is_found}
-use Rattle.sift_flight.specs.Flight.{Flight}
+use Rattle.sift_flight.specs.Flight.{Flight, config_of}
 use Rattle.sift_report.specs.Part.{blank, list_text, unit_digit}
 use Rattle.sift_report.specs.Poll.{poll_of, polled_text, polls_of}
-use Rattle.sift_report.specs.Votes.{name_of, place_of, place_text, poll_text, polled_units, polls_text, vote_fields, vote_text}
-use Rattle.sift_report.specs.Votes.{word_number}
+use Rattle.sift_report.specs.Votes.{place_of, place_text, vote_text}
 use Rattle.sift_report.specs.declared.poll.Poll.{Poll}
+use Rattle.sift_mission.specs.Slots.{executors}
 
 -- the name of a task or a sensor
 abbrev Name : Type 0
 Name = ArrayString 16
 
 -- the words of polls, and their text
-pub polled_words : (m : FlownMission) (fl : Flight) (f u w : ℕ) → map (λ poll. poll.word) (polls_of m fl f u w) ≡ map (place_of m fl f u w) (polled_units m fl f u w)
-polled_words m fl f u w = map-map (λ (poll : Poll). poll.word) (poll_of m fl f u w) (polled_units m fl f u w)
+pub polled_words : (m : FlownMission) (fl : Flight) (f u w : ℕ) →
+    map (λ poll. poll.word) (polls_of m fl f u w) ≡ map (place_of m fl f u w) (executors m (config_of fl u f) w)
+polled_words m fl f u w = map-map (λ (poll : Poll). poll.word) (poll_of m fl f u w) (executors m (config_of fl u f) w)
 
-pub polled_is : (m : FlownMission) (fl : Flight) (f u w : ℕ) → polled_text (polls_of m fl f u w) ≡ polls_text (polled_units m fl f u w) (place_of m fl f u w)
-polled_is m fl f u w = ap list_text (map-map (λ (poll : Poll). poll_text poll.unit poll.word) (poll_of m fl f u w) (polled_units m fl f u w))
+pub polled_is : (m : FlownMission) (fl : Flight) (f u w : ℕ) →
+    polled_text (polls_of m fl f u w)
+    ≡ list_text (map (λ v. unit_digit v ∷ codes ":" ++ place_text (place_of m fl f u w v)) (executors m (config_of fl u f) w))
+polled_is m fl f u w =
+    ap list_text (map-map (λ (poll : Poll). unit_digit poll.unit ∷ codes ":" ++ place_text poll.word) (poll_of m fl f u w) (executors m (config_of fl u f) w))
 
 -- the majority that is found
 pub majority_told : (r : Option ℕ) (places : List (Option ℕ)) → IfSome r (IsMajority places) → IfNone r (HasNoMajority places) → r ≡ majority_of places
@@ -66,26 +70,37 @@ polls_more poll us more u items new p so_far pushed is one =
 -- ---- the line of a vote
 
 module _ (d : MissionData) (fl : Flight) (f u t j : ℕ) where
+  abbrev vote_fields : List (List ℕ)
+  vote_fields =
+      let w = first_word d.program.tasks t + j in
+      let place = place_of (flown d) fl f u w in
+      let us = executors (flown d) (config_of fl u f) w in
+      (codes "f=" ++ decimal f) ∷ (codes "u=" ++ unit_digit u ∷ []) ∷ (codes "t=" ++ (slice_index_or d.names t [] ++ (codes "." ++ decimal j)))
+      ∷ (codes "words=" ++ list_text (map (λ v. unit_digit v ∷ codes ":" ++ place_text (place v)) us))
+      ∷ (codes "vote=" ++ place_text (majority_of (map place us))) ∷ []
+
   -- its fields, written one by one
-  vote_written : (word : ℕ) (name : List ℕ) (polls : List Poll) (vote : Option ℕ) (old a b c e : List ℕ) → name ≡ name_of d t → word ≡ word_number d t j
+  vote_written : (word : ℕ) (name : List ℕ) (polls : List Poll) (vote : Option ℕ) (old a b c e : List ℕ)
+      → name ≡ slice_index_or d.names t [] → word ≡ first_word d.program.tasks t + j
       → polls ≡ polls_of (flown d) fl f u word → vote ≡ majority_of (map (λ poll. poll.word) polls)
       → a ≡ old ++ codes "f=" ++ decimal f ++ codes " u=" ++ unit_digit u ∷ codes " "
       → b ≡ a ++ (codes "t=" ++ (name ++ (codes "." ++ (decimal j ++ codes " words="))))
       → c ≡ b ++ polled_text polls → e ≡ c ++ (codes " vote=" ++ place_text vote)
-      → e ≡ old ++ join_with_byte blank (vote_fields d fl f u t j)
+      → e ≡ old ++ join_with_byte blank vote_fields
   vote_written word name polls vote old a b c e named numbered polled voted head output listed result =
-      let number = word_number d t j in
-      let us = polled_units (flown d) fl f u number in
+      let number = first_word d.program.tasks t + j in
+      let us = executors (flown d) (config_of fl u f) number in
       let place = place_of (flown d) fl f u number in
       let polls_are : polls ≡ polls_of (flown d) fl f u number = polled ∙ ap (polls_of (flown d) fl f u) numbered in
-      let text : polled_text polls ≡ polls_text us place = ap polled_text polls_are ∙ polled_is (flown d) fl f u number in
+      let text : polled_text polls ≡ list_text (map (λ v. unit_digit v ∷ codes ":" ++ place_text (place v)) us) =
+      ap polled_text polls_are ∙ polled_is (flown d) fl f u number in
       let winner : vote ≡ majority_of (map place us) =
       voted ∙ ap (λ ps. majority_of (map (λ (poll : Poll). poll.word) ps)) polls_are ∙ ap majority_of (polled_words (flown d) fl f u number) in
       rw (result, listed, output, head, named, text, winner) (simp append_assoc)
 
   -- and the line feed
   pub vote_ends : (word : ℕ) (name : List ℕ) (polls : List Poll) (vote : Option ℕ) (old a b c e new : List ℕ)
-      → name ≡ name_of d t → word ≡ word_number d t j
+      → name ≡ slice_index_or d.names t [] → word ≡ first_word d.program.tasks t + j
       → polls ≡ polls_of (flown d) fl f u word → vote ≡ majority_of (map (λ poll. poll.word) polls)
       → a ≡ old ++ codes "f=" ++ decimal f ++ codes " u=" ++ unit_digit u ∷ codes " "
       → b ≡ a ++ (codes "t=" ++ (name ++ (codes "." ++ (decimal j ++ codes " words="))))
@@ -93,11 +108,11 @@ module _ (d : MissionData) (fl : Flight) (f u t j : ℕ) where
       → new ≡ old ++ vote_text d fl f u t j
   vote_ends word name polls vote old a b c e new named numbered polled voted head output listed result pushed =
       pushed ∙ ap (λ bs. bs ++ codes "\n") (vote_written word name polls vote old a b c e named numbered polled voted head output listed result)
-      ∙ append_assoc old (join_with_byte blank (vote_fields d fl f u t j)) (codes "\n")
+      ∙ append_assoc old (join_with_byte blank vote_fields) (codes "\n")
 
 -- the name of a task, where it stands
 pub name_is : (parts : MissionParts) (fit : PartsFit (data_of parts)) (t : ℕ) (name : Name) → t < length (data_of parts).program.tasks
-    → name ≡ get_or parts.names.items t name → name.bytes ≡ name_of (data_of parts) t
+    → name ≡ get_or parts.names.items t name → name.bytes ≡ slice_index_or (data_of parts).names t []
 name_is parts fit t name low is =
     ap (λ (n : Name). n.bytes) is
     ∙ sym (get_or-map (λ (n : Name). n.bytes) parts.names.items t name [] (omega (arith, fit.names, length-map parts.names.items (λ (n : Name). n.bytes))))

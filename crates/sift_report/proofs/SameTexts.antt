@@ -13,9 +13,10 @@ use Rattle.sift_flight.proofs.lemmas.TellingAlike.{map-same}
 use Rattle.sift_report.specs.Line.{printed, text_of_lines}
 use Rattle.sift_report.specs.OneText.{AlikeFlightsHaveOneText}
 use Rattle.sift_report.specs.Sheet.{end_of, frame_line, frame_lines, last_line, sheet_of, unit_line, working_line}
-use Rattle.sift_report.specs.Votes.{frame_votes, unit_votes, votes_of}
+use Rattle.sift_report.specs.Votes.{unit_votes, votes_of}
 use Rattle.sift_report.specs.declared.version.Version.{Version}
 use Rattle.sift_report.specs.declared.line.ReportLine.TheVariants.{Faulty, Last}
+use Rattle.sift_report.proofs.Tells.{frame_votes}
 
 -- what is the same at each number from a on is the same of all of them
 flat-same : {A : Type 0} (f g : ℕ → List A) (a n : ℕ) → ((i : ℕ) → i < a + n → f i ≡ g i) → flat_map f (range_with_len a n) ≡ flat_map g (range_with_len a n)

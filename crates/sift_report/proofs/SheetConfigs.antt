@@ -10,14 +10,15 @@ use Rattle.sift_flight.specs.Headline.{agreed_at}
 use Rattle.sift_flight.proofs.lemmas.Leading.{config_within, lead_works}
 use Rattle.sift_report.specs.Headline.{TellsSameConfiguration}
 use Rattle.sift_report.specs.Printed.{TellsItsFlight}
-use Rattle.sift_report.specs.Sheet.{account_line, sheet_of}
-use Rattle.sift_report.specs.Told.{HadMarginTold, HasMarginTold, IsSoundTold, agreed_told, config_told, told_at, told_by, told_in}
+use Rattle.sift_report.specs.Sheet.{sheet_of}
+use Rattle.sift_report.specs.Told.{HadMarginTold, HasMarginTold, IsSoundTold, agreed_told, config_told, told_at, told_in}
 use Rattle.sift_report.specs.declared.version.Version.{Version}
 use Rattle.sift_report.specs.declared.line.ReportLine.{ReportLine}
 use Rattle.sift_report.proofs.Alike.{one_told}
 use Rattle.sift_report.proofs.RoundFlights.{HasLaws}
 use Rattle.sift_report.proofs.SheetForm.{line_of_member, works_flying}
 use Rattle.sift_report.proofs.SheetPlaces.{end_at, first_low, unit_at}
+use Rattle.sift_report.proofs.Tells.{account_line}
 
 module _ (d : MissionData) (fl : Flight) (version : Version) (laws : HasLaws d fl) where
   abbrev sheet : List ReportLine
@@ -56,7 +57,7 @@ module _ (d : MissionData) (fl : Flight) (version : Version) (laws : HasLaws d f
   -- ---- configurations
 
   lead_tells : (f : ℕ) → f < d.frames → HadMargin f
-      → told_at d sheet f (lead_of (flown d) f) ≡ told_by (account_line version f (lead_of (flown d) f) (fl.account (lead_of (flown d) f) f))
+      → told_at d sheet f (lead_of (flown d) f) ≡ told_in (Some (account_line version f (lead_of (flown d) f) (fl.account (lead_of (flown d) f) f)))
   lead_tells f within had =
       let l = lead_of (flown d) f in
       ap told_in (unit_at d fl version f l within (low l f (leads f)) ∙ ap Some (line_of_member d fl version f l (leads f).works (lead_inside f within had)))

@@ -8,14 +8,15 @@ use Rattle.sift_mission.specs.Flown.{flown}
 use Rattle.sift_flight.specs.Figures.{Works}
 use Rattle.sift_flight.specs.Flight.{Flight}
 use Rattle.sift_flight.specs.Told.{IsAccountOf}
-use Rattle.sift_report.specs.Headline.{HasForm, IsFramesLine, IsLastLine, IsUnitsLine}
-use Rattle.sift_report.specs.Sheet.{account_line, sheet_of, unit_line, working_line}
+use Rattle.sift_report.specs.Headline.{HasForm, IsUnitsLine}
+use Rattle.sift_report.specs.Sheet.{sheet_of, unit_line, working_line}
 use Rattle.sift_report.specs.Told.{IsWorking}
 use Rattle.sift_report.specs.declared.version.Version.{Version}
 use Rattle.sift_report.specs.declared.line.ReportLine.TheVariants.{Faulty, Idle}
 use Rattle.sift_report.proofs.Catches.{units_told}
 use Rattle.sift_report.proofs.RoundFlights.{HasLaws}
 use Rattle.sift_report.proofs.SheetPlaces.{end_at, first_low, frame_at, length-sheet, low_first, unit_at}
+use Rattle.sift_report.proofs.Tells.{account_line}
 
 -- who works by the mission's data works in flights
 pub works_flying : (d : MissionData) (u f : ℕ) → IsWorking d u f → Works (flown d) u f
@@ -80,6 +81,7 @@ module _ (d : MissionData) (fl : Flight) (version : Version) (laws : HasLaws d f
   pub form_told : (f : ℕ) → f < d.frames → HasForm d (sheet_of (flown d) fl version) f
   form_told f within = record {
     units = λ u low. subst (λ o. IsSomeAnd o (IsUnitsLine d f u)) (sym (unit_at d fl version f u within low)) (units_line f u within low);
-    whole = subst (λ o. IsSomeAnd o (IsFramesLine f)) (sym (frame_at d fl version f within)) refl;
-    end = λ e. record { last = subst (λ o. IsSomeAnd o (IsLastLine d)) (sym (end_at d fl version)) refl; nothing_more = length-sheet d fl version };
+    whole = (_, _, _, frame_at d fl version f within);
+    last = λ e. (_, _, end_at d fl version);
+    nothing_more = λ e. length-sheet d fl version;
   }

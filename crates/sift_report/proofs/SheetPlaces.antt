@@ -9,7 +9,6 @@ use Rattle.sift_base.specs.Units.{has}
 use Rattle.sift_mission.specs.Data.{MissionData}
 use Rattle.sift_mission.specs.Flown.{flown}
 use Rattle.sift_flight.specs.Flight.{Flight}
-use Rattle.sift_report.specs.Headline.{line_count}
 use Rattle.sift_report.specs.Sheet.{frame_line, frame_lines, last_line, sheet_of, unit_line}
 use Rattle.sift_report.specs.declared.version.Version.{Version}
 use Rattle.sift_report.specs.Told.{line_at}
@@ -64,7 +63,7 @@ module _ (d : MissionData) (fl : Flight) (version : Version) where
   end_at = get-behind (frame_lines (flown d) fl version) (d.units + 1) width (last_line (flown d) fl ∷ []) 0 d.frames 0 (d.frames * (d.units + 1) + 0) refl
 
   -- and no more
-  pub length-sheet : length (sheet_of (flown d) fl version) ≡ line_count d
+  pub length-sheet : length (sheet_of (flown d) fl version) ≡ d.frames * (d.units + 1) + 1
   length-sheet =
       length-append (flat_map (frame_lines (flown d) fl version) (range_with_len 0 d.frames)) (last_line (flown d) fl ∷ [])
       ∙ ap (λ n. n + 1) (length-chunks (frame_lines (flown d) fl version) (d.units + 1) width [] 0 d.frames)

@@ -16,11 +16,12 @@ use Rattle.sift_skew.specs.Figures.{IsSkew}
 use Rattle.sift_skew.proofs.lemmas.Leads.{Contains-map}
 use Rattle.sift_mission.specs.PartsFit.{PartsFit}
 use Rattle.sift_report.specs.Headline.{HasForm, IsUnitsLine}
-use Rattle.sift_report.specs.Headline.{TellsClockSkew, TellsExactRemoval, TellsIdealOutputs, TellsNoFalseAccusation, TellsSameConfiguration, TellsSameInputs, TellsTrueMargin, two_tell, working_clocks}
-use Rattle.sift_report.specs.Told.{HasMarginTold, IsSoundTold, agreed_told, caught_told, inputs_told, line_at, outputs_told, told_at, IsWorking, works_in}
+use Rattle.sift_report.specs.Headline.{TellsClockSkew, TellsExactRemoval, TellsIdealOutputs, TellsNoFalseAccusation, TellsSameConfiguration, TellsSameInputs, TellsTrueMargin}
+use Rattle.sift_report.specs.Told.{HasMarginTold, IsSoundTold, agreed_told, line_at, told_at, IsWorking, works_in}
 use Rattle.sift_report.specs.TwoCatchers.{HeadlineOfAFault, all_five, four_left, lines, mission, no_unit, only}
 use Rattle.sift_report.proofs.Alike.{one_told}
 use Rattle.sift_report.proofs.SheetPlaces.{first_low}
+use Rattle.sift_report.proofs.Tells.{two_tell, working_clocks}
 
 -- ---- units
 
@@ -98,15 +99,17 @@ form zero low = record {
   units = each_below (λ u. IsSomeAnd (line_at mission lines 0 u) (IsUnitsLine mission 0 u))
       (refl, refl, refl, five_low, four_low, refl, refl) (refl, refl, refl, five_low, four_low, refl, refl)
       (refl, refl, refl, five_low, none_low, refl, refl) (refl, refl, refl, five_low, none_low, refl, refl) (refl, refl, refl);
-  whole = refl;
-  end = λ e. absurd (omega (arith, e));
+  whole = (_, _, _, refl);
+  last = λ e. absurd (omega (arith, e));
+  nothing_more = λ e. absurd (omega (arith, e));
 }
 form (suc zero) low = record {
   units = each_below (λ u. IsSomeAnd (line_at mission lines 1 u) (IsUnitsLine mission 1 u))
       (refl, refl, refl, left_low, none_low, refl, refl) (refl, refl, refl, left_low, none_low, refl, refl)
       (refl, refl, refl, left_low, none_low, refl, refl) (refl, refl, refl, left_low, none_low, refl, refl) (refl, refl, refl);
-  whole = refl;
-  end = λ e. record { last = refl; nothing_more = refl };
+  whole = (_, _, _, refl);
+  last = λ e. (_, _, refl);
+  nothing_more = λ e. refl;
 }
 form (suc (suc f)) low = absurd (omega arith)
 
@@ -127,18 +130,18 @@ same_configuration (suc (suc f)) low = absurd (omega arith)
 
 same_inputs : (f : ℕ) → f < 2 → TellsSameInputs mission lines f
 same_inputs zero low = record {
-  same = each_working (λ u. inputs_told mission lines 0 u ≡ agreed_told mission lines 0) refl refl refl refl 0;
+  same = each_working (λ u. (told_at mission lines 0 u).inputs ≡ agreed_told mission lines 0) refl refl refl refl 0;
   sensed = λ us x told few works. absurd (omega (arith, few));
 }
 same_inputs (suc zero) low = record {
-  same = each_working (λ u. inputs_told mission lines 1 u ≡ agreed_told mission lines 1) refl refl refl refl 1;
+  same = each_working (λ u. (told_at mission lines 1 u).inputs ≡ agreed_told mission lines 1) refl refl refl refl 1;
   sensed = λ us x told few works. absurd (omega (arith, few));
 }
 same_inputs (suc (suc f)) low = absurd (omega arith)
 
 ideal_outputs : (f : ℕ) → f < 2 → TellsIdealOutputs mission lines f
-ideal_outputs zero low = each_working (λ u. outputs_told mission lines 0 u ≡ 16 ∷ []) refl refl refl refl 0
-ideal_outputs (suc zero) low = each_working (λ u. outputs_told mission lines 1 u ≡ 49 ∷ []) refl refl refl refl 1
+ideal_outputs zero low = each_working (λ u. (told_at mission lines 0 u).outputs ≡ 16 ∷ []) refl refl refl refl 0
+ideal_outputs (suc zero) low = each_working (λ u. (told_at mission lines 1 u).outputs ≡ 49 ∷ []) refl refl refl refl 1
 ideal_outputs (suc (suc f)) low = absurd (omega arith)
 
 -- a set that has no working unit
@@ -147,9 +150,9 @@ four_blamed f = each_working (λ v. holds (units_in (only 4)) v ≡ false) (hold
 
 no_false_accusation : (f : ℕ) → f < 2 → TellsNoFalseAccusation mission lines f
 no_false_accusation zero low u v w x =
-    each_working (λ u. holds (caught_told mission lines 0 u) v ≡ false) (four_blamed 0 v x) (four_blamed 0 v x) (holds-none v) (holds-none v) 0 u w
+    each_working (λ u. holds (told_at mission lines 0 u).caught v ≡ false) (four_blamed 0 v x) (four_blamed 0 v x) (holds-none v) (holds-none v) 0 u w
 no_false_accusation (suc zero) low u v w x =
-    each_working (λ u. holds (caught_told mission lines 1 u) v ≡ false) (holds-none v) (holds-none v) (holds-none v) (holds-none v) 1 u w
+    each_working (λ u. holds (told_at mission lines 1 u).caught v ≡ false) (holds-none v) (holds-none v) (holds-none v) (holds-none v) 1 u w
 no_false_accusation (suc (suc f)) low u v w x = absurd (omega arith)
 
 -- who is left where two units name unit 4

@@ -7,7 +7,7 @@ use Rattle.sift_base.proofs.lemmas.Counts.{has-head}
 use Rattle.sift_exec.specs.Conviction.{everyone_in, kinds_of}
 use Rattle.sift_exec.specs.declared.catches.Catches.{Catches}
 use Rattle.sift_exec.specs.declared.catches.Kinds.{Kinds}
-use Rattle.sift_report.specs.Bad.{AreCatches, IsBad, IsSomeKind, catch_of, catch_text, caught_text, kinds_text, units_in, version_of}
+use Rattle.sift_report.specs.Bad.{IsBad, IsSomeKind, caught_text, kinds_text, units_in, version_of}
 use Rattle.sift_report.specs.Line.{HasVersion, IsLine, fields_of, line_text}
 use Rattle.sift_report.specs.Part.{AscendFrom, list_text, unit_digit, units_text}
 use Rattle.sift_report.specs.Versions.{LinesTellTheirVersion, NamesNobody}
@@ -50,14 +50,15 @@ letter_second d kinds rest some = elim (cases_Bool kinds.poll) [
 
 -- it begins with the first one
 first_catch : (caught : Catches) (v : ℕ) (vs : List ℕ) →
-    (rest : List ℕ) × (list_text (map catch_text (map (catch_of caught) (v ∷ vs))) ≡ catch_text (catch_of caught v) ++ rest)
-first_catch caught v [] = ([], sym (append-nil (catch_text (catch_of caught v))))
-first_catch caught v (w ∷ ws) = (44 ∷ join_with_byte 44 (map catch_text (map (catch_of caught) (w ∷ ws))), refl)
+    (rest : List ℕ)
+    × (list_text (map (λ u. unit_digit u ∷ kinds_text (kinds_of caught u)) (v ∷ vs)) ≡ (unit_digit v ∷ kinds_text (kinds_of caught v)) ++ rest)
+first_catch caught v [] = ([], sym (append-nil (unit_digit v ∷ kinds_text (kinds_of caught v))))
+first_catch caught v (w ∷ ws) = (44 ∷ join_with_byte 44 (map (λ u. unit_digit u ∷ kinds_text (kinds_of caught u)) (w ∷ ws)), refl)
 
 -- so the texts of the two versions are one only where there is nobody in both
 nobody_in : (units : List ℕ) (caught : Catches) (others : List ℕ) → AscendFrom 0 units
     → ((v : ℕ) (vs : List ℕ) → others ≡ v ∷ vs → IsSomeKind (kinds_of caught v))
-    → units_text units ≡ list_text (map catch_text (map (catch_of caught) others)) → (units ≡ []) × (others ≡ [])
+    → units_text units ≡ list_text (map (λ u. unit_digit u ∷ kinds_text (kinds_of caught u)) others) → (units ≡ []) × (others ≡ [])
 nobody_in [] caught [] up some e = (refl, refl)
 nobody_in [] caught (v ∷ vs) up some e =
     let first = first_catch caught v vs in
@@ -76,7 +77,8 @@ no_member : (units : Units) → AreUnits units → members units ≡ [] → (v :
 no_member units are none v = sym (in_members units are v) ∙ ap (λ us. has us v) none
 
 -- the first of the list of those who were caught was caught
-first_caught : (caught : Catches) → AreCatches caught → (v : ℕ) (vs : List ℕ) → members (everyone_in caught) ≡ v ∷ vs → IsSomeKind (kinds_of caught v)
+first_caught : (caught : Catches) → IsBad (ByKind caught) → (v : ℕ) (vs : List ℕ) → members (everyone_in caught) ≡ v ∷ vs
+    → IsSomeKind (kinds_of caught v)
 first_caught caught are v vs is =
     some_kind caught v (sym (in_members (everyone_in caught) (everyone_units caught are) v) ∙ (ap (λ us. has us v) is ∙ has-head v vs))
 

@@ -21,26 +21,10 @@ abbrev pub kinds_text : Kinds → List ℕ
 kinds_text kinds =
     (if kinds.poll then codes "p" else []) ++ ((if kinds.relay then codes "r" else []) ++ (if kinds.clock then codes "c" else []))
 
--- a unit that was caught: its digit, and the letters of the ways
-abbrev pub catch_text : Catch → List ℕ
-catch_text c = unit_digit c.unit ∷ kinds_text c.kinds
-
--- a unit, and the ways in which it was caught
-abbrev pub catch_of : Catches → ℕ → Catch
-catch_of caught u = record { unit = u; kinds = kinds_of caught u }
-
--- the units that were caught, in ascending order
-abbrev pub catches_in : Catches → List Catch
-catches_in caught = map (catch_of caught) (members (everyone_in caught))
-
--- they are a list
-abbrev pub catches_text : Catches → List ℕ
-catches_text caught = list_text (map catch_text (catches_in caught))
-
--- the units that were caught, as a line tells them
+-- the units that were caught, as a line tells them: in ascending order, in version 2 each with the letters of its ways
 abbrev pub caught_text : Bad → List ℕ
 caught_text (Plain units) = units_text (members units)
-caught_text (ByKind caught) = catches_text caught
+caught_text (ByKind caught) = list_text (map (λ u. unit_digit u ∷ kinds_text (kinds_of caught u)) (members (everyone_in caught)))
 
 -- ---- versions
 
@@ -70,14 +54,23 @@ abbrev pub IsCatch : Catch → Type 0
 IsCatch c = (c.unit < unit_limit) × IsSomeKind c.kinds
 
 -- each number is a unit's
-abbrev pub AreCatches : Catches → Type 0
-AreCatches caught = AreUnits caught.poll × AreUnits caught.relay × AreUnits caught.clock
-
 abbrev pub IsBad : Bad → Type 0
 IsBad (Plain units) = AreUnits units
-IsBad (ByKind caught) = AreCatches caught
+IsBad (ByKind caught) = AreUnits caught.poll × AreUnits caught.relay × AreUnits caught.clock
 
 -- ---- as the code reads them
+
+-- a unit that was caught: its digit, and the letters of the ways
+abbrev pub catch_text : Catch → List ℕ
+catch_text c = unit_digit c.unit ∷ kinds_text c.kinds
+
+-- a unit, and the ways in which it was caught
+abbrev pub catch_of : Catches → ℕ → Catch
+catch_of caught u = record { unit = u; kinds = kinds_of caught u }
+
+-- the units that were caught, in ascending order
+abbrev pub catches_in : Catches → List Catch
+catches_in caught = map (catch_of caught) (members (everyone_in caught))
 
 -- these are the units that a list tells to be caught in this way
 abbrev pub AreTold : List Catch → Kind → Units → Type 0

@@ -1,25 +1,20 @@
 -- The headline of a report: what its lines tell of each frame with margin, whatever faulty units do. It is said of the lines and the mission
 -- alone, one item a definition, each of one frame.
-use Rattle.std.specs.Prelude.{◌≡◌, ℕ, suc, ◌+◌, ◌*◌, ◌<◌, List, length, true, false, IsSomeAnd, ◌↔◌, map, slice_index, nat_lt, not, Bool, Some, ℤ, pos, ◌≤ℤ◌}
+use Rattle.std.specs.Prelude.{◌≡◌, ℕ, suc, ◌+◌, ◌*◌, ◌<◌, List, length, true, false, IsSomeAnd, ◌↔◌, map, slice_index, nat_lt, not, Bool, Some, ℤ, pos, ◌≤ℤ◌, count_by, Option, ◌&&◌}
 use Rattle.std.specs.List.{filter}
 use Rattle.sift_base.specs.Units.{has, holds, HasMargin}
 use Rattle.sift_mission.specs.Data.{MissionData}
 use Rattle.sift_config.specs.Config.{first_units, reader_of}
-use Rattle.sift_exec.specs.Conviction.{working_accusers}
 use Rattle.sift_program.specs.Ideal.{ideal_words}
 use Rattle.sift_skew.specs.Figures.{IsSkew}
 use Rattle.sift_mission.specs.Flown.{word_sensed}
 use Rattle.sift_report.specs.Bad.{units_in}
-use Rattle.sift_report.specs.Told.{line_at, HadMarginTold, HasMarginTold, agreed_told, caught_told, clock_told, config_told, end_margin_told, inputs_told, margin_told, outputs_told, shed_told, skew_told, slack_told, told_at}
+use Rattle.sift_report.specs.Told.{line_at, HadMarginTold, HasMarginTold, agreed_told, config_told, shed_told, told_at}
 use Rattle.sift_report.specs.Told.{works_in, IsWorking}
 use Rattle.sift_report.specs.declared.line.ReportLine.{ReportLine}
 use Rattle.sift_report.specs.declared.line.ReportLine.TheVariants.{Unit as unit, Faulty, Idle, Frame, Last}
 
 -- ---- the form of a report: which lines stand where, with which numbers, whatever they tell
-
--- how many lines a report of the mission has
-abbrev pub line_count : MissionData → ℕ
-line_count d = d.frames * (d.units + 1) + 1
 
 -- a line of unit u in frame f: it is faulty just where the script says so; else it is idle, or tells of the mission's units alone, and has a
 -- word for each sensor and for each output
@@ -33,32 +28,12 @@ IsUnitsLine d f u (Faulty g v) = (g ≡ f) × (v ≡ u) × (works_in d u f ≡ f
 IsUnitsLine d f u (Frame g skew slack margin) = ⊥
 IsUnitsLine d f u (Last frames cfg margin) = ⊥
 
--- the line of the whole of frame f
-abbrev pub IsFramesLine : ℕ → ReportLine → Type 0
-IsFramesLine f (unit g u cfg clk ins outs bad) = ⊥
-IsFramesLine f (Faulty g u) = ⊥
-IsFramesLine f (Idle g u) = ⊥
-IsFramesLine f (Frame g skew slack margin) = g ≡ f
-IsFramesLine f (Last frames cfg margin) = ⊥
-
--- the last line
-abbrev pub IsLastLine : MissionData → ReportLine → Type 0
-IsLastLine d (unit f u cfg clk ins outs bad) = ⊥
-IsLastLine d (Faulty f u) = ⊥
-IsLastLine d (Idle f u) = ⊥
-IsLastLine d (Frame f skew slack margin) = ⊥
-IsLastLine d (Last frames cfg margin) = frames ≡ d.frames
-
--- the last line stands behind the last frame, and nothing behind it
-pub record HasEnd (d : MissionData) (lines : List ReportLine) : Type 0 where
-  pub last : IsSomeAnd (line_at d lines d.frames 0) (IsLastLine d)
-  pub nothing_more : length lines ≡ line_count d
-
--- the lines of a frame stand in their places: one for each unit and one for the frame, and behind the last frame the end
+-- the lines of a frame stand in their places: one for each unit and one for the frame, and behind the last frame the last line and no more
 pub record HasForm (d : MissionData) (lines : List ReportLine) (f : ℕ) : Type 0 where
   pub units : (u : ℕ) → u < d.units → IsSomeAnd (line_at d lines f u) (IsUnitsLine d f u)
-  pub whole : IsSomeAnd (line_at d lines f d.units) (IsFramesLine f)
-  pub end : suc f ≡ d.frames → HasEnd d lines
+  pub whole : (skew : Option ℤ) × (slack : Option ℤ) × (margin : Bool) × (line_at d lines f d.units ≡ Some (Frame f skew slack margin))
+  pub last : suc f ≡ d.frames → (cfg : List ℕ) × (margin : Bool) × (line_at d lines d.frames 0 ≡ Some (Last d.frames cfg margin))
+  pub nothing_more : suc f ≡ d.frames → length lines ≡ d.frames * (d.units + 1) + 1
 
 -- ---- configurations
 
@@ -73,55 +48,44 @@ pub record TellsSameConfiguration (d : MissionData) (lines : List ReportLine) (f
 
 -- each working unit tells the same agreed words, and the word of a sensor that a working unit of the configuration reads is the mission's
 pub record TellsSameInputs (d : MissionData) (lines : List ReportLine) (f : ℕ) : Type 0 where
-  pub same : (u : ℕ) → IsWorking d u f → inputs_told d lines f u ≡ agreed_told d lines f
+  pub same : (u : ℕ) → IsWorking d u f → (told_at d lines f u).inputs ≡ agreed_told d lines f
   pub sensed : (us : List ℕ) (x : ℕ) → config_told d lines f ≡ Some us → x < d.layout.sensors →
       works_in d (reader_of us x) f ≡ true → slice_index (agreed_told d lines f) x ≡ word_sensed d x f
 
 -- each working unit tells the ideal machine's words, over the agreed words and the configurations told so far
 abbrev pub TellsIdealOutputs : MissionData → List ReportLine → ℕ → Type 0
 TellsIdealOutputs d lines f =
-    (u : ℕ) → IsWorking d u f → outputs_told d lines f u ≡ ideal_words d.program (agreed_told d lines) (shed_told d lines) f
+    (u : ℕ) → IsWorking d u f → (told_at d lines f u).outputs ≡ ideal_words d.program (agreed_told d lines) (shed_told d lines) f
 
 -- ---- faults
 
 -- no working unit tells that it caught a working unit, and none that it caught itself
 abbrev pub TellsNoFalseAccusation : MissionData → List ReportLine → ℕ → Type 0
 TellsNoFalseAccusation d lines f =
-    (u v : ℕ) → IsWorking d u f → IsWorking d v f → holds (caught_told d lines f u) v ≡ false
-
--- at least two working units of a configuration tell that they caught v
-abbrev pub two_tell : MissionData → List ReportLine → ℕ → List ℕ → ℕ → Bool
-two_tell d lines f us v = nat_lt 1 (working_accusers (λ u. works_in d u f) (λ u. holds (caught_told d lines f u)) us v)
+    (u v : ℕ) → IsWorking d u f → IsWorking d v f → holds (told_at d lines f u).caught v ≡ false
 
 -- the configuration told at the next frame is the one told at this less exactly the units that two working units tell that they caught
 abbrev pub TellsExactRemoval : MissionData → List ReportLine → ℕ → Type 0
 TellsExactRemoval d lines f =
     (us next : List ℕ) → config_told d lines f ≡ Some us → config_told d lines (suc f) ≡ Some next →
-    next ≡ filter (λ v. not (two_tell d lines f us v)) us
+    next ≡ filter (λ v. not (nat_lt 1 (count_by (λ u. works_in d u f && holds (told_at d lines f u).caught v) us))) us
 
 -- ---- clocks
-
--- the offsets that the working units of a configuration tell
-abbrev pub working_clocks : MissionData → List ReportLine → ℕ → List ℕ → List ℤ
-working_clocks d lines f us = map (clock_told d lines f) (filter (λ u. works_in d u f) us)
-
--- the largest difference of two of these offsets, and at most the mission's skew
-abbrev pub IsTrueSkew : MissionData → List ℤ → ℤ → Type 0
-IsTrueSkew d clocks skew = IsSkew clocks skew × (skew ≤ℤ d.clock.skew)
 
 -- the frame's line tells the largest difference of two working clocks of the configuration, which is at most the mission's skew, and a slack
 -- of at least 1
 pub record TellsClockSkew (d : MissionData) (lines : List ReportLine) (f : ℕ) : Type 0 where
   pub skew : (us : List ℕ) → config_told d lines f ≡ Some us →
-      IsSomeAnd (skew_told d lines f) (IsTrueSkew d (working_clocks d lines f us))
-  pub slack : IsSomeAnd (slack_told d lines f) (λ slack. pos 1 ≤ℤ slack)
+      IsSomeAnd (told_at d lines f d.units).skew (λ skew.
+      IsSkew (map (λ u. (told_at d lines f u).clock) (filter (λ u. works_in d u f) us)) skew × (skew ≤ℤ d.clock.skew))
+  pub slack : IsSomeAnd (told_at d lines f d.units).slack (λ slack. pos 1 ≤ℤ slack)
 
 -- ---- margin
 
 -- the frame's line tells whether the frame has margin by what is told; so does the last line of the last frame
 pub record TellsTrueMargin (d : MissionData) (lines : List ReportLine) (f : ℕ) : Type 0 where
-  pub frame : (margin_told d lines f ≡ true) ↔ HasMarginTold d lines f
-  pub end : suc f ≡ d.frames → (end_margin_told d lines ≡ true) ↔ HasMarginTold d lines f
+  pub frame : ((told_at d lines f d.units).margin ≡ true) ↔ HasMarginTold d lines f
+  pub end : suc f ≡ d.frames → ((told_at d lines d.frames 0).margin ≡ true) ↔ HasMarginTold d lines f
 
 -- ---- the whole report
 

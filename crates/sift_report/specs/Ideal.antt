@@ -15,14 +15,8 @@ sensed_in m f = map (λ x. m.sensed x f) (range_with_len 0 m.sensors)
 abbrev pub outputs_text : ℕ → List ℕ → List ℕ
 outputs_text f outs = join_with_byte blank ((codes "f=" ++ decimal f) ∷ (codes "out=" ++ words_text outs) ∷ []) ++ codes "\n"
 
--- the last line, with its line feed
-abbrev pub frames_text : ℕ → List ℕ
-frames_text frames = join_with_byte blank (codes "end" ∷ (codes "frames=" ++ decimal frames) ∷ []) ++ codes "\n"
-
--- the line of a frame: what the ideal machine puts out in it, where no task is shed
-abbrev pub ideal_line : MissionData → ℕ → List ℕ
-ideal_line d f = outputs_text f (ideal_words d.program (sensed_in (flown d)) (λ g. []) f)
-
--- the ideal machine's outputs in each frame
+-- the outputs of the ideal machine in each frame, where no task is shed, and the last line
 abbrev pub ideal_of : MissionData → List ℕ
-ideal_of d = flat_map (ideal_line d) (range_with_len 0 d.frames) ++ frames_text d.frames
+ideal_of d =
+    flat_map (λ f. outputs_text f (ideal_words d.program (sensed_in (flown d)) (λ g. []) f)) (range_with_len 0 d.frames)
+    ++ (join_with_byte blank (codes "end" ∷ (codes "frames=" ++ decimal d.frames) ∷ []) ++ codes "\n")

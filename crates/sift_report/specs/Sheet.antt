@@ -12,13 +12,10 @@ use Rattle.sift_report.specs.declared.version.Version.{Version}
 use Rattle.sift_report.specs.declared.line.ReportLine.{ReportLine}
 use Rattle.sift_report.specs.declared.line.ReportLine.TheVariants.{Unit as unit, Faulty, Idle, Frame, Last}
 
--- what a working unit of its own configuration tells of a frame, from its account
-abbrev pub account_line : Version → ℕ → ℕ → Account → ReportLine
-account_line version f u a = unit f u a.cfg a.clk (record { items = a.ins }) (record { items = a.outs }) (bad_in version a.bad)
-
--- the line of a unit that works in the frame: it is idle where it is outside its own configuration
+-- the line of a unit that works in the frame: it tells its account, and is idle where it is outside its own configuration
 abbrev pub working_line : Version → ℕ → ℕ → Account → ReportLine
-working_line version f u a = if has a.cfg u then account_line version f u a else Idle f u
+working_line version f u a =
+    if has a.cfg u then unit f u a.cfg a.clk (record { items = a.ins }) (record { items = a.outs }) (bad_in version a.bad) else Idle f u
 
 -- the line of a unit in a frame
 abbrev pub unit_line : FlownMission → Flight → Version → ℕ → ℕ → ReportLine

@@ -1,5 +1,5 @@
 -- Who works in a frame of a mission, and what the lines of a report tell of it, read off the lines and the mission alone.
-use Rattle.std.specs.Prelude.{◌≡◌, ℕ, Bool, true, unwrap_or, ◌+◌, ◌*◌, ◌<◌, ◌≤◌, List, [], false, Option, None, Some, nat_lt, if◌then◌else◌, ℤ, pos}
+use Rattle.std.specs.Prelude.{◌≡◌, ℕ, Bool, true, unwrap_or, option_map, ◌+◌, ◌*◌, ◌<◌, ◌≤◌, List, [], false, Option, None, Some, nat_lt, if◌then◌else◌, ℤ, pos}
 use Rattle.std.specs.List.{find, slice_get}
 use Rattle.std.specs.FinSet as set
 use Rattle.sift_base.specs.Units.{has, Units, HasMargin}
@@ -9,7 +9,7 @@ use Rattle.sift_mission.specs.Data.{MissionData}
 use Rattle.sift_mission.specs.Flown.{table_for}
 use Rattle.sift_report.specs.Bad.{units_in}
 use Rattle.sift_report.specs.declared.line.ReportLine.{ReportLine}
-use Rattle.sift_report.specs.declared.line.ReportLine.TheVariants.{Unit as unit, Faulty, Idle, Frame, Last}
+use Rattle.sift_report.specs.declared.line.ReportLine.TheVariants.{Unit as unit, Frame, Last}
 
 -- ---- who works, and who leads, by the script of faults
 
@@ -44,21 +44,13 @@ pub record Telling : Type 0 where
 abbrev pub nothing : Telling
 nothing = record { config = None; clock = pos 0; inputs = []; outputs = []; caught = set.empty; skew = None; slack = None; margin = false }
 
--- what a line tells is what it prints, and of all else nothing
-abbrev pub told_by : ReportLine → Telling
-told_by (unit f u cfg clk ins outs bad) =
-    record nothing { config = Some cfg; clock = clk; inputs = ins.items; outputs = outs.items; caught = units_in bad }
-told_by (Faulty f u) = nothing
-told_by (Idle f u) = nothing
-told_by (Frame f skew slack margin) = record nothing { skew = skew; slack = slack; margin = margin }
-told_by (Last frames cfg margin) = record nothing { config = Some cfg; margin = margin }
-
--- a line that isn't there tells nothing
+-- what a line tells is what it prints, and of all else nothing; the line of a faulty or an idle unit tells nothing, nor does one that is missing
 abbrev pub told_in : Option ReportLine → Telling
-told_in None = nothing
-told_in (Some line) = told_by line
-
--- ---- the lines of a frame
+told_in (Some (unit f u cfg clk ins outs bad)) =
+    record nothing { config = Some cfg; clock = clk; inputs = ins.items; outputs = outs.items; caught = units_in bad }
+told_in (Some (Frame f skew slack margin)) = record nothing { skew = skew; slack = slack; margin = margin }
+told_in (Some (Last frames cfg margin)) = record nothing { config = Some cfg; margin = margin }
+told_in line = nothing
 
 -- line i of frame f: each frame has a line for each unit of the mission, in their order, and then one for the whole frame
 abbrev pub line_at : MissionData → List ReportLine → (f i : ℕ) → Option ReportLine
@@ -72,48 +64,13 @@ told_at d lines f i = told_in (line_at d lines f i)
 abbrev pub config_told : MissionData → List ReportLine → ℕ → Option (List ℕ)
 config_told d lines f = (told_at d lines f (if nat_lt f d.frames then lead_in d f else 0)).config
 
--- the tasks that a configuration sheds, and none where none is told
-abbrev pub shed_by : MissionData → Option (List ℕ) → List ℕ
-shed_by d None = []
-shed_by d (Some us) = (table_for d us).shed
-
--- the tasks that are shed in a frame: those that the configuration told at it sheds
+-- the tasks that are shed in a frame: those that the configuration told at it sheds, and none where none is told
 abbrev pub shed_told : MissionData → List ReportLine → ℕ → List ℕ
-shed_told d lines f = shed_by d (config_told d lines f)
-
--- the agreed words that a unit tells in a frame
-abbrev pub inputs_told : MissionData → List ReportLine → (f u : ℕ) → List ℕ
-inputs_told d lines f u = (told_at d lines f u).inputs
+shed_told d lines f = unwrap_or (option_map (λ us. (table_for d us).shed) (config_told d lines f)) []
 
 -- the agreed words told in a frame: the lead unit's
 abbrev pub agreed_told : MissionData → List ReportLine → ℕ → List ℕ
-agreed_told d lines f = inputs_told d lines f (lead_in d f)
-
--- the voted words that a unit tells
-abbrev pub outputs_told : MissionData → List ReportLine → (f u : ℕ) → List ℕ
-outputs_told d lines f u = (told_at d lines f u).outputs
-
--- the offset of its clock
-abbrev pub clock_told : MissionData → List ReportLine → (f u : ℕ) → ℤ
-clock_told d lines f u = (told_at d lines f u).clock
-
--- and whom it caught
-abbrev pub caught_told : MissionData → List ReportLine → (f u : ℕ) → Units
-caught_told d lines f u = (told_at d lines f u).caught
-
--- the skew, the slack and the margin that the line of the whole frame tells
-abbrev pub skew_told : MissionData → List ReportLine → ℕ → Option ℤ
-skew_told d lines f = (told_at d lines f d.units).skew
-
-abbrev pub slack_told : MissionData → List ReportLine → ℕ → Option ℤ
-slack_told d lines f = (told_at d lines f d.units).slack
-
-abbrev pub margin_told : MissionData → List ReportLine → ℕ → Bool
-margin_told d lines f = (told_at d lines f d.units).margin
-
--- the margin that the last line tells
-abbrev pub end_margin_told : MissionData → List ReportLine → Bool
-end_margin_told d lines = (told_at d lines d.frames 0).margin
+agreed_told d lines f = (told_at d lines f (lead_in d f)).inputs
 
 -- ---- margin
 

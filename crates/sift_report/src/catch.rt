@@ -3,7 +3,8 @@
 ghost use Rattle.std.specs.Prelude.{◌≡◌, ◌++◌, ◌↔◌, IfSome, IsTrue, OnOk, Some, string_bytes};
 ghost use Rattle.sift_exec.specs.declared.catches.Kinds.{Kinds as TheKinds};
 ghost use Rattle.sift_report.specs.Apart.{catch_above};
-ghost use Rattle.sift_report.specs.Bad.{AreCatches, AreTold, IsCatch, IsSomeKind, IsToldBy, catch_text, catches_in, catches_text, kinds_text};
+ghost use Rattle.sift_report.specs.Bad.{AreTold, IsBad, IsCatch, IsSomeKind, IsToldBy, catch_text, catches_in, caught_text, kinds_text};
+ghost use Rattle.sift_report.specs.declared.bad.Bad.TheVariants.{ByKind};
 
 use crate::list::{Item, read_list};
 use crate::part::{ListPart, Part};
@@ -53,9 +54,9 @@ impl Item for Catch {
 }
 
 impl Part for Catches {
-    ghost text_of = { catches_text };
+    ghost text_of = { λ caught. caught_text (ByKind caught) };
 
-    ghost IsPart = { AreCatches };
+    ghost IsPart = { λ caught. IsBad (ByKind caught) };
 
     fn read(text: &str) -> Option<Catches> {
         let listed: ArrayVec<Catch, 8> = read_list(text)?;

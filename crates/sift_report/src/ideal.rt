@@ -3,7 +3,7 @@
 ghost use Rattle.std.specs.Prelude.{◌≡◌, ◌++◌, ◌≤◌, ◌<◌, IfOk, OnOk, length, string_bytes};
 ghost use Rattle.sift_base.specs.Layout.{sensor_limit};
 ghost use Rattle.sift_mission.specs.Parts.{data_of, flown_of};
-ghost use Rattle.sift_report.specs.Ideal.{frames_text, ideal_of, outputs_text, sensed_in};
+ghost use Rattle.sift_report.specs.Ideal.{ideal_of, outputs_text, sensed_in};
 
 use crate::compiled::CompiledIdeal;
 use crate::list::push_list;

@@ -1,8 +1,8 @@
 //! The poll of one output word by one unit.
 
-ghost use Rattle.std.specs.Prelude.{◌≡◌, ◌≢◌, ◌+◌, ◌<◌, ◌≤◌, ◌++◌, ◌∷◌, All, OnOk, codes, length, map, slice_get, Some, true, string_bytes};
+ghost use Rattle.std.specs.Prelude.{◌≡◌, ◌≢◌, ◌+◌, ◌<◌, ◌≤◌, ◌++◌, ◌∷◌, All, OnOk, codes, length, map, slice_get, Some, true, string_bytes, slice_index};
 ghost use Rattle.std.specs.Fmt.{decimal};
-ghost use Rattle.sift_base.specs.Units.{has, IsAscending};
+ghost use Rattle.sift_base.specs.Units.{has, IsAscending, others};
 ghost use Rattle.sift_vote.specs.Majority.{majority_of};
 ghost use Rattle.sift_program.specs.Program.{first_word, task_at};
 ghost use Rattle.sift_mission.specs.Data.{IsConfigOf};
@@ -11,7 +11,8 @@ ghost use Rattle.sift_mission.specs.Slots.{executors};
 ghost use Rattle.sift_flight.specs.Flight.{config_of};
 ghost use Rattle.sift_flight.specs.Told.{told};
 ghost use Rattle.sift_report.specs.Poll.{IsOutput, TellsIn, poll_of, polled_text, polls_of};
-ghost use Rattle.sift_report.specs.Votes.{lowest_other, place_of, place_text, poll_text, polled_units, vote_text};
+ghost use Rattle.sift_report.specs.Votes.{place_of, place_text, vote_text};
+ghost use Rattle.sift_report.specs.Part.{unit_digit};
 
 use crate::list::{Item, push_list};
 use crate::print::{push_head, push_unit, push_word};
@@ -142,7 +143,7 @@ fn place_of(
 fn lowest_other(config: &Config, u: UnitId) -> UnitId
     requires enough { 2 ≤ length config.now }
     requires ascending { IsAscending config.now }
-    ensures lowest { result ≡ lowest_other config.now u }
+    ensures lowest { result ≡ slice_index (others u config.now) 0 }
     ensures other { result ≢ u }
     ensures there { has config.now result ≡ true }
 {
@@ -167,7 +168,7 @@ fn places_of(polls: &[Poll]) -> ArrayVec<Option<Word>, 8>
 }
 
 impl Item for Poll {
-    ghost item_text = { λ poll. poll_text poll.unit poll.word };
+    ghost item_text = { λ poll. unit_digit poll.unit ∷ codes ":" ++ place_text poll.word };
 
     fn push(self, text: &mut String) -> Result<(), AllocError> {
         push_unit(text, self.unit)?;

@@ -6,7 +6,9 @@ ghost use Rattle.sift_conduct.specs.Conduct.{account_of};
 ghost use Rattle.sift_mission.specs.Parts.{flown_of};
 ghost use Rattle.sift_flight.specs.Figures.{margin_at};
 ghost use Rattle.sift_flight.specs.Told.{IsWhole, told};
-ghost use Rattle.sift_report.specs.Sheet.{account_line, frame_line, last_line, unit_line};
+ghost use Rattle.sift_report.specs.Bad.{bad_in};
+ghost use Rattle.sift_report.specs.declared.line.ReportLine.TheVariants.{Unit as unit};
+ghost use Rattle.sift_report.specs.Sheet.{frame_line, last_line, unit_line};
 
 use crate::bad::Bad;
 use crate::line::ReportLine;
@@ -42,7 +44,8 @@ pub fn unit_line(
 
 /// What a working unit of its own configuration tells of a frame, from its account.
 fn account_line(version: Version, f: u32, u: UnitId, account: &Account) -> ReportLine
-    ensures { result ≡ account_line version f u (account_of account.now) }
+    ensures { result ≡ unit f u (account_of account.now).cfg (account_of account.now).clk (record { items = (account_of account.now).ins })
+        (record { items = (account_of account.now).outs }) (bad_in version (account_of account.now).bad) }
 {
     ReportLine::Unit {
         f,

@@ -1,11 +1,14 @@
 //! The votes of a flight.
 
-ghost use Rattle.std.specs.Prelude.{◌≡◌, ◌<◌, ◌++◌, IfOk, OnOk, length, true, string_bytes};
+ghost use Rattle.std.specs.Prelude.{◌≡◌, ◌<◌, ◌++◌, IfOk, OnOk, length, true, string_bytes, ◌&&◌};
 ghost use Rattle.sift_base.specs.Units.{has};
 ghost use Rattle.sift_mission.specs.Parts.{data_of, flown_of};
 ghost use Rattle.sift_flight.specs.Told.{IsWhole, told};
 ghost use Rattle.sift_report.specs.Poll.{HasWordsFrom, TellsIn};
-ghost use Rattle.sift_report.specs.Votes.{frame_votes, task_votes, tells, unit_votes, vote_text, votes_of};
+ghost use Rattle.sift_report.specs.Votes.{unit_votes, vote_text, votes_of};
+ghost use Rattle.sift_program.specs.Program.{task_at};
+ghost use Rattle.sift_flight.specs.Flight.{config_of};
+ghost use Rattle.std.specs.List.{flat_map, range_with_len};
 
 use crate::poll::{Output, push_vote};
 use crate::report::push_end;
@@ -39,7 +42,7 @@ fn push_frame_votes(
     requires whole { IsWhole (flown_of mission.now) mission.now.layout flight.now }
     requires frame { f < (flown_of mission.now).frames }
     ensures { OnOk result (string_bytes text.new ≡ string_bytes text.old
-        ++ frame_votes (data_of mission.now) (told (flown_of mission.now) flight.now) f) }
+        ++ flat_map (unit_votes (data_of mission.now) (told (flown_of mission.now) flight.now) f) (flown_of mission.now).units) }
 {
     let everyone = mission.everyone();
     for i in 0..everyone.len() {
@@ -78,7 +81,7 @@ fn tells(mission: &Mission, flight: &Flight, f: u32, u: UnitId) -> bool
     requires whole { IsWhole (flown_of mission.now) mission.now.layout flight.now }
     requires unit { has (flown_of mission.now).units u ≡ true }
     requires frame { f < (flown_of mission.now).frames }
-    ensures { result ≡ tells (flown_of mission.now) (told (flown_of mission.now) flight.now) f u }
+    ensures { result ≡ ((flown_of mission.now).works u f && has (config_of (told (flown_of mission.now) flight.now) u f) u) }
 {
     mission.works(u, f) && account_at(mission, flight, u, f).cfg.has(u)
 }
@@ -96,7 +99,8 @@ fn push_task_votes(
     requires tells { TellsIn mission.now flight.now f u }
     requires words { HasWordsFrom (data_of mission.now) t first }
     ensures { OnOk result (string_bytes text.new ≡ string_bytes text.old
-        ++ task_votes (data_of mission.now) (told (flown_of mission.now) flight.now) f u t) }
+        ++ flat_map (vote_text (data_of mission.now) (told (flown_of mission.now) flight.now) f u t)
+        (range_with_len 0 (task_at (data_of mission.now).program.tasks t).outputs)) }
 {
     for j in 0..mission.outputs(t) {
         let word = first + j;

@@ -6,7 +6,8 @@ use Rattle.sift_base.specs.Units.{has, others, faulty_count, HasMargin}
 use Rattle.sift_base.proofs.lemmas.Counts.{count-cons, count-yes, count-no, has-head, has-tail}
 use Rattle.sift_base.proofs.lemmas.Others.{has-others, count-others-≤, others_work}
 use Rattle.sift_base.specs.ReadBack.{false_last}
-use Rattle.sift_exec.specs.Conviction.{accusers, is_convicted, working_accusers, NamesNoWorking, ConvictionIsJust}
+use Rattle.sift_exec.specs.Conviction.{is_convicted, working_accusers, NamesNoWorking, ConvictionIsJust}
+use Rattle.sift_exec.proofs.Accusing.{accusers}
 
 -- ---- counts of units by tests
 

@@ -1,7 +1,8 @@
 use Rattle.std.proofs.Common.{◌≡◌, ℕ, take, nat_lt, ◌&&◌}
 use Rattle.sift_base.specs.Units.{holds, has}
-use Rattle.sift_exec.specs.Conviction.{accusers, names_by}
+use Rattle.sift_exec.specs.Conviction.{names_by}
 use Rattle.sift_exec.proofs.conviction.convict.Given as goal
+use Rattle.sift_exec.proofs.Accusing.{accusers}
 
 -- convicted so far are those of the units seen that at least two others name
 abbrev pub invariant-loop-position : goal.invariant-loop-position

@@ -1,6 +1,6 @@
 use Rattle.std.proofs.Common.{◌≡◌, map, take}
 use Rattle.sift_mission.specs.Parts.{data_of}
-use Rattle.sift_report.specs.Told.{clock_told}
+use Rattle.sift_judge.specs.Clocks.{clock_told}
 use Rattle.sift_judge.proofs.clocks.clocks_of.Given as goal
 
 -- the offsets of the units so far

@@ -6,9 +6,8 @@ use Rattle.std.specs.Ordering.{nat_cmp}
 use Rattle.std.proofs.lemmas.Bool.Decides.{nat_tests}
 use Rattle.sift_base.specs.Units.{holds}
 use Rattle.sift_mission.specs.Parts.{data_of}
-use Rattle.sift_report.specs.Headline.{two_tell}
-use Rattle.sift_report.specs.Told.{caught_told, works_in}
-use Rattle.sift_judge.proofs.Caught.{count_both, with_one, without_one}
+use Rattle.sift_report.specs.Told.{works_in, told_at}
+use Rattle.sift_judge.proofs.Caught.{count_both, with_one, without_one, two_tell}
 use Rattle.sift_judge.proofs.faults.caught_by_two.Goals.{then-count_accusers-gt1, else-count_accusers-gt1}
 use Rattle.sift_judge.proofs.faults.caught_by_two.Goals as goal
 
@@ -23,7 +22,7 @@ loop-i-preserved c =
     let us = c.args.config.now in
     let unit = c.unit_at-unit.result in
     let works : ℕ → Bool = λ u. works_in d u f in
-    let names : ℕ → Bool = λ u. holds (caught_told d lines f u) unit in
+    let names : ℕ → Bool = λ u. holds (told_at d lines f u).caught unit in
     let count : c.count_accusers.result ≡ count_by (λ u. works u && names u) us =
     c.count_accusers.ensures ∙ ap (λ (units : List ℕ). length (filter names units)) (c.deref.ensures.0 ∙ c.working_in-working.ensures) ∙ count_both works names us in
     elim c.if-count_accusers-gt1.branch [

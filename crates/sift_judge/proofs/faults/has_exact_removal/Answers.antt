@@ -1,10 +1,10 @@
 use Rattle.std.proofs.Common.{◌≡◌, ◌∙◌, List, ℕ, Some, suc, add-one, not, subst, sym, arith}
 use Rattle.std.specs.List.{filter}
 use Rattle.sift_mission.specs.Parts.{data_of}
-use Rattle.sift_report.specs.Headline.{two_tell}
 use Rattle.sift_report.specs.Told.{config_told}
 use Rattle.sift_judge.proofs.Lists.{one_told}
 use Rattle.sift_judge.proofs.faults.has_exact_removal.Goals as goal
+use Rattle.sift_judge.proofs.Caught.{two_tell}
 
 pub overflow_add-f : goal.overflow_add-f
 overflow_add-f c = omega (arith, c.requires.frame, c.parts.ensures.fit.limits.few_frames)

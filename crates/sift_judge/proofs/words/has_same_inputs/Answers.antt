@@ -3,7 +3,7 @@ use Rattle.std.specs.Prelude.{◌↔◌}
 use Rattle.sift_config.specs.Config.{reader_of}
 use Rattle.sift_mission.specs.Flown.{word_sensed}
 use Rattle.sift_mission.specs.Parts.{data_of}
-use Rattle.sift_report.specs.Told.{config_told, inputs_told, works_in}
+use Rattle.sift_report.specs.Told.{config_told, works_in, told_at}
 use Rattle.sift_judge.proofs.EachWorking.{decides_each}
 use Rattle.sift_judge.proofs.words.has_same_inputs.Goals as goal
 
@@ -13,7 +13,7 @@ returns-then-all_tell_inputs c =
     let f = c.args.f in
     let lines = c.args.lines.now in
     let is = c.agreed_told-agreed.ensures in
-    let law = decides_each d f (λ u. inputs_told d lines f u ≡ c.agreed_told-agreed.result.now) c.deref.result.now
+    let law = decides_each d f (λ u. (told_at d lines f u).inputs ≡ c.agreed_told-agreed.result.now) c.deref.result.now
     (c.deref.ensures.0 ∙ c.working_at.ensures) c.all_tell_inputs.result c.all_tell_inputs.ensures in
     let sensed = subst (λ (words : List ℕ). (c.are_sensed.result ≡ true) ↔ ((us : List ℕ) (x : ℕ) → config_told d lines f ≡ Some us → x < d.layout.sensors
     → works_in d (reader_of us x) f ≡ true → slice_index words x ≡ word_sensed d x f)) is c.are_sensed.ensures in (
@@ -25,7 +25,7 @@ pub returns-else-all_tell_inputs : goal.returns-else-all_tell_inputs
 returns-else-all_tell_inputs c =
     let d = data_of c.args.mission.now in
     let f = c.args.f in
-    let law = decides_each d f (λ u. inputs_told d c.args.lines.now f u ≡ c.agreed_told-agreed.result.now) c.deref.result.now
+    let law = decides_each d f (λ u. (told_at d c.args.lines.now f u).inputs ≡ c.agreed_told-agreed.result.now) c.deref.result.now
     (c.deref.ensures.0 ∙ c.working_at.ensures) c.all_tell_inputs.result c.all_tell_inputs.ensures in (
       (λ t. (let none = c.if-all_tell_inputs.false in absurd cc)),
       (λ given. law.1 (λ u w. given.same u w ∙ sym c.agreed_told-agreed.ensures)),

@@ -2,8 +2,9 @@ use Rattle.std.proofs.Common.{◌≡◌, [], length, string_bytes}
 use Rattle.std.specs.List.{flat_map, range_with_len}
 use Rattle.sift_program.specs.Ideal.{words_before}
 use Rattle.sift_mission.specs.Parts.{data_of, flown_of}
-use Rattle.sift_report.specs.Ideal.{ideal_line, sensed_in}
+use Rattle.sift_report.specs.Ideal.{sensed_in}
 use Rattle.sift_report.proofs.ideal.ideal_text.Given as goal
+use Rattle.sift_report.proofs.Tells.{ideal_line}
 
 -- the lines of the frames so far are written, and the machine has run them
 abbrev pub invariant-loop-f : goal.invariant-loop-f

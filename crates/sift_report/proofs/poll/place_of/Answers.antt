@@ -6,9 +6,10 @@ use Rattle.sift_base.proofs.lemmas.Counts.{apart}
 use Rattle.sift_buffer.specs.Journals.{heard_in, said_in}
 use Rattle.sift_mission.specs.Parts.{flown_of}
 use Rattle.sift_flight.specs.Told.{told}
-use Rattle.sift_report.specs.Votes.{lowest_other}
 use Rattle.sift_report.proofs.Heard.{journal-heard, journal-place, journal-said, place-other, place-own}
 use Rattle.sift_report.proofs.poll.place_of.Goals as goal
+use Rattle.std.specs.Prelude.{slice_index}
+use Rattle.sift_base.specs.Units.{others}
 
 pub said-requires : goal.said-requires
 said-requires c =
@@ -34,7 +35,7 @@ returns-then-eq c =
     let at = c.index-journal.ensures ∙ ap (λ i. get_or c.args.flight.now.journals.items i c.index-journal.result.now) (c.from.ensures ∙ c.get.ensures.number) in
     let slot : c.number-slot.result ≡ slot_number c.args.mission.now.layout (Out c.args.word) =
     c.number-slot.ensures.number ∙ ap (λ parts. slot_number parts.layout (Out c.args.word)) c.parts.ensures.same in
-    let lowest = c.lowest_other.ensures.lowest ∙ ap (λ a. lowest_other a.cfg c.args.u) c.account_at.ensures.told in
+    let lowest = c.lowest_other.ensures.lowest ∙ ap (λ a. slice_index (others c.args.u a.cfg) 0) c.account_at.ensures.told in
     c.said.ensures ∙ ap (λ k. said_in c.index-journal.result.now c.args.f k c.lowest_other.result) slot
     ∙ journal-said c.args.mission.now c.parts.ensures.fit c.args.flight.now c.requires.tells.whole c.args.u c.requires.tells.unit c.index-journal.result.now at
     c.args.word c.args.f c.lowest_other.result c.requires.word
