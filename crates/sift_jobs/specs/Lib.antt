@@ -2,8 +2,7 @@ pub mod Flights
 pub mod Plan
 pub mod Run
 pub mod Votes
-pub mod Ideal
-pub mod Check
+pub mod Unflown
 pub mod Gen
 pub mod Trial
 pub mod Existence

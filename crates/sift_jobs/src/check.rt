@@ -11,7 +11,7 @@ use std::alloc::Global;
 pub struct CheckJob;
 
 impl<M: Drop, W: Work> MissionJob<M, W> for CheckJob {
-    ghost use Rattle.sift_jobs.specs.Check.{CheckGives};
+    ghost use Rattle.sift_jobs.specs.Unflown.{CheckGives};
 
     ghost gives_for = { λ means. CheckGives };
 
@@ -21,7 +21,7 @@ impl<M: Drop, W: Work> MissionJob<M, W> for CheckJob {
 }
 
 impl<M: Drop, W: Work> Job<M, W> for CheckJob {
-    ghost use Rattle.sift_jobs.specs.Check.{CheckGives};
+    ghost use Rattle.sift_jobs.specs.Unflown.{CheckGives};
     ghost use Rattle.sift_load.specs.Loads.{mission_duty};
 
     ghost duty = { λ means job. mission_duty (CheckGives job) };

@@ -12,7 +12,7 @@ use std::alloc::Global;
 pub struct IdealJob;
 
 impl<M: Drop, W: Work> MissionJob<M, W> for IdealJob {
-    ghost use Rattle.sift_jobs.specs.Ideal.{IdealGives};
+    ghost use Rattle.sift_jobs.specs.Unflown.{IdealGives};
 
     ghost gives_for = { λ means. IdealGives };
 
@@ -23,7 +23,7 @@ impl<M: Drop, W: Work> MissionJob<M, W> for IdealJob {
 }
 
 impl<M: Drop, W: Work> Job<M, W> for IdealJob {
-    ghost use Rattle.sift_jobs.specs.Ideal.{IdealGives};
+    ghost use Rattle.sift_jobs.specs.Unflown.{IdealGives};
     ghost use Rattle.sift_load.specs.Loads.{mission_duty};
 
     ghost duty = { λ means job. mission_duty (IdealGives job) };

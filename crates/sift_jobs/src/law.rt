@@ -1,12 +1,11 @@
 //! The laws of the commands: each gives one reply, whose status is its own.
 
 ghost use Rattle.std.specs.Prelude.{ℕ, List, [], ◌∷◌, ◌++◌};
-ghost use Rattle.sift_jobs.specs.Check.{CheckGives};
+ghost use Rattle.sift_jobs.specs.Unflown.{IdealGives, CheckGives};
 ghost use Rattle.sift_jobs.specs.Existence.{MissionsHaveFlights, TrialsAreThere, VotesAreThere};
 ghost use Rattle.sift_jobs.specs.Flights.{AreCalm};
 ghost use Rattle.sift_jobs.specs.Gen.{gen_duty};
 ghost use Rattle.sift_jobs.specs.Run.{RunIsHeadlined, RunGives};
-ghost use Rattle.sift_jobs.specs.Ideal.{IdealGives};
 ghost use Rattle.sift_jobs.specs.Plan.{PlanNumbers, PlanGives, plan_statuses};
 ghost use Rattle.sift_jobs.specs.Trial.{trial_duty};
 ghost use Rattle.sift_jobs.specs.Votes.{VotesGives};

@@ -3,10 +3,9 @@ use Rattle.std.proofs.Common.{ℕ, List, [], ◌∷◌}
 use Rattle.sift_bus_jobs.specs.Buses.{BusesGives, buses_statuses}
 use Rattle.sift_bus_jobs.specs.declared.buses.BusesJob.{BusesJob}
 use Rattle.sift_flight.specs.Flight.{Strays}
-use Rattle.sift_jobs.specs.Check.{CheckGives}
+use Rattle.sift_jobs.specs.Unflown.{IdealGives, CheckGives}
 use Rattle.sift_jobs.specs.Flights.{AreCalm}
 use Rattle.sift_jobs.specs.Gen.{gen_duty}
-use Rattle.sift_jobs.specs.Ideal.{IdealGives}
 use Rattle.sift_jobs.specs.Plan.{PlanGives, plan_statuses}
 use Rattle.sift_jobs.specs.Run.{RunGives}
 use Rattle.sift_jobs.specs.Trial.{trial_duty}

@@ -5,9 +5,8 @@ use Rattle.sift_options.specs.declared.setting.Flag.TheVariants.{Workers, Order,
 use Rattle.sift_bus_jobs.specs.Buses.{BusesGives}
 use Rattle.sift_bus_jobs.specs.Numbers.{buses_job_of}
 use Rattle.sift_flight.specs.Flight.{Strays}
-use Rattle.sift_jobs.specs.Check.{CheckGives}
+use Rattle.sift_jobs.specs.Unflown.{IdealGives, CheckGives}
 use Rattle.sift_jobs.specs.Gen.{gen_duty, gen_job_of}
-use Rattle.sift_jobs.specs.Ideal.{IdealGives}
 use Rattle.sift_jobs.specs.Plan.{PlanGives, plan_job_of}
 use Rattle.sift_jobs.specs.Run.{RunGives, run_job_of}
 use Rattle.sift_jobs.specs.Trial.{trial_duty, trial_job_of}

@@ -3,8 +3,7 @@ use Rattle.std.specs.Prelude.{ℕ, ◌≡◌, ◌≤◌, ◌⊎◌, List, Some, 
 use Rattle.sift_bus_jobs.specs.Buses.{BusesGives}
 use Rattle.sift_flight.specs.Flight.{Strays}
 use Rattle.sift_io.specs.Flow.{Rose}
-use Rattle.sift_jobs.specs.Check.{CheckGives}
-use Rattle.sift_jobs.specs.Ideal.{IdealGives}
+use Rattle.sift_jobs.specs.Unflown.{IdealGives, CheckGives}
 use Rattle.sift_jobs.specs.Plan.{PlanGives}
 use Rattle.sift_jobs.specs.Run.{RunGives}
 use Rattle.sift_jobs.specs.Votes.{VotesGives}
