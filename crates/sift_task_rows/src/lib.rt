@@ -6,8 +6,6 @@ mod code;
 #[cfg(test)]
 mod compile;
 #[cfg(test)]
-mod compiled;
-#[cfg(test)]
 mod generated;
 #[cfg(test)]
 mod lang;
