@@ -38,11 +38,7 @@ reply_to (Refused (Scenario rule place)) =
 reply_to (Refused (Task task kind at)) =
     record { status = 5; text = concat (codes "task " ∷ decimal task ∷ codes " kind " ∷ decimal kind ∷ codes " at " ∷ decimal at ∷ codes "\n" ∷ []) }
 reply_to (Refused (Table size row rule)) =
-    record {
-      status = 6;
-      text = concat (codes "table " ∷ decimal size ∷ codes " row " ∷ decimal row ∷ codes " rule " ∷ decimal rule
-          ∷ codes "\n" ∷ []);
-    }
+    record { status = 6; text = concat (codes "table " ∷ decimal size ∷ codes " row " ∷ decimal row ∷ codes " rule " ∷ decimal rule ∷ codes "\n" ∷ []) }
 reply_to (Refused (Script entry rule)) =
     record { status = 7; text = concat (codes "script entry " ∷ decimal entry ∷ codes " rule " ∷ decimal rule ∷ codes "\n" ∷ []) }
 
