@@ -28,7 +28,7 @@ round_flight_has_laws flies holds accounts margin skew slack d s fl fits round =
     let flyable = (flies d fits).0 in
     record {
       flyable = flyable;
-      begins = λ u some w. ((round 0 some).conduct u (record { unit = w.unit; whole = flyable.script.whole u 0 w.works })).begins.cfg;
+      begins = λ u some w. ((round 0 some).conduct u (record { unit = w.unit; whole = flyable.script.whole u 0 w.works })).begins.0;
       accounts = accounts (flown d) s fl flyable round;
       headline = holds (flown d) d.program s fl flyable (flies d fits).1 round;
       margin = margin;
