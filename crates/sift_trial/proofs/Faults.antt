@@ -1,10 +1,11 @@
 -- The fault of a drawn document: what its table says, and the rules that it keeps.
-use Rattle.std.proofs.Common.{◌≡◌, ◌<◌, ◌≤◌, ℕ, [], ◌∷◌, Some, None, inl, inr, refl, arith}
+use Rattle.std.proofs.Common.{◌≡◌, ◌<◌, ◌≤◌, ℕ, List, [], ◌∷◌, Some, None, inl, inr, refl, arith}
 use Rattle.std.proofs.lemmas.List.Elements.{All-cons, All-from_recursion, All-nil}
 use Rattle.std.specs.List.{Contains}
+use Rattle.std.specs.Prelude.{codes, ◌⊎◌}
 use Rattle.toml.specs.Data.{Data, Members, table}
 use Rattle.sift_gen.specs.Scenario.{array_of, fault_entries, fault_item}
-use Rattle.sift_scenario.specs.Fault.{IsSaying, changes_of, fault_in, fault_rules, from_of, stated_storm, unit_of}
+use Rattle.sift_scenario.specs.Fault.{IsSaying, IsStorming, changes_of, fault_in, fault_rules, from_of, stated_storm, unit_of}
 use Rattle.sift_scenario.specs.Item.{change_in, item_keys}
 use Rattle.sift_script.specs.Script.{Change, Fault, changing}
 use Rattle.sift_script.specs.declared.script.SlotKind.TheVariants.{Out}
@@ -12,8 +13,11 @@ use Rattle.sift_document.specs.Document.{HasOnlyKeys, IsTableOf, keys_of, member
 use Rattle.sift_document.specs.Rules.{AreKept}
 use Rattle.sift_trial.proofs.Digits.{other_units, others_read}
 use Rattle.sift_trial.proofs.Tables.{not_only}
-use Rattle.sift_scenario.proofs.Named.{fault_keys, IsHeadless, HasOneWay}
 use Rattle.sift_trial.proofs.Values.{number_read, word_read}
+
+-- the keys that a fault may have
+abbrev fault_keys : List (List ℕ)
+fault_keys = codes "unit" ∷ codes "from" ∷ codes "say" ∷ codes "storm" ∷ []
 
 -- what an item of a task's word states
 abbrev pub drawn_change : (units unit task value : ℕ) → Change
@@ -83,12 +87,12 @@ module _
       | inr entry ↦ not_only (table entries) (λ k d. ¬ IsTableOf fault_keys d) (λ fails. fails (entries, refl, fault_known)) place entry
     ],
     (
-      not_only entries (λ k fault. IsHeadless fault) (λ headless. elim headless [
+      not_only entries (λ k fault. (unit_of fault ≡ None) ⊎ (from_of fault ≡ None)) (λ headless. elim headless [
         | inl none ↦ cc (unit_stated, none)
         | inr none ↦ cc (from_stated, none)
       ]),
       (
-        not_only entries (λ k fault. ¬ HasOneWay fault) (λ fails. fails (inl saying)),
+        not_only entries (λ k fault. ¬ (IsSaying fault ⊎ IsStorming fault)) (λ fails. fails (inl saying)),
         (
           not_only entries (λ k fault. changes_of fault ≡ None) (λ none. cc (changes_stated, none)),
           (not_only entries (λ k fault. stated_storm fault ≡ None) (λ none. cc), tt),

@@ -3,7 +3,7 @@ use Rattle.std.proofs.Common.{◌≡◌, ◌≢◌, ◌<◌, ◌≤◌, ◌+◌,
 use Rattle.std.proofs.lemmas.List.FromFn.{get_or-range_with_len, length-map-range_with_len, length-range_with_len}
 use Rattle.std.proofs.lemmas.List.{length-map}
 use Rattle.std.proofs.lemmas.List.Elements.{All-map}
-use Rattle.std.specs.List.{range_with_len, sum}
+use Rattle.std.specs.List.{flat_map, range_with_len, sum}
 use Rattle.std.specs.Prelude.{unwrap_or, codes}
 use Rattle.toml.specs.Data.{Members, get_member}
 use Rattle.sift_base.specs.Name.{IsName}
@@ -13,11 +13,11 @@ use Rattle.sift_gen.specs.Tasks.{sensor_name, task_name}
 use Rattle.sift_parse.specs.Roll.{Roll}
 use Rattle.sift_program.specs.Program.{ProgramTree, program_shapes}
 use Rattle.sift_scenario.specs.Mission.{IsLawful, HasGoodTables, IsMission, IsStated}
-use Rattle.sift_scenario.specs.Program.{IsProgramOf, roll_for}
-use Rattle.sift_scenario.specs.Root.{plain_period, units_of, version_of}
-use Rattle.sift_scenario.specs.Sensor.{sensor_names, sensor_words, words_of}
-use Rattle.sift_scenario.specs.Table.{table_rules, schedules_by}
-use Rattle.sift_scenario.specs.Task.{Form, counts_of, names_of, task_entries, tasks_of, text, task_rules}
+use Rattle.sift_scenario.specs.Program.{IsProgramOf, IsTreeOf, roll_for, turn_of}
+use Rattle.sift_scenario.specs.Root.{plain_period, root_rules, units_of, version_of}
+use Rattle.sift_scenario.specs.Sensor.{sensor_names, sensor_rules, sensor_words, words_of}
+use Rattle.sift_scenario.specs.Table.{table_rules, schedules_by, shed_of}
+use Rattle.sift_scenario.specs.Task.{Form, counts_of, names_of, start_words, task_entries, tasks_of, text, task_rules}
 use Rattle.sift_script.specs.Rules as scripts
 use Rattle.sift_script.specs.Script.{Fault, outputs_of}
 use Rattle.sift_table.specs.Laws.{PlainTablesAreGood}
@@ -25,7 +25,7 @@ use Rattle.sift_table.specs.Rules as tables
 use Rattle.sift_table.specs.Schedule.{plain_of}
 use Rattle.sift_mission.specs.Data.{MissionData, shapes_in}
 use Rattle.sift_document.proofs.lemmas.Order.{kept_joined}
-use Rattle.sift_document.specs.Rules.{AreKept}
+use Rattle.sift_document.specs.Rules.{AreKept, AreMatched, HoldsOf, Rule, rule}
 use Rattle.sift_trial.proofs.Faults.{fault_stated, faults_kept}
 use Rattle.sift_trial.proofs.Program.{drawn_trees, trees_allowed, trees_are, trees_long, trees_of_one_word}
 use Rattle.sift_trial.proofs.Root.{document_of, frames_are, root_kept, units_are}
@@ -37,10 +37,21 @@ use Rattle.sift_trial.proofs.Tasks.{all_known, counts_are, each_kept, forms_are,
 use Rattle.sift_trial.proofs.Sensors as sensing
 use Rattle.sift_trial.proofs.Tasks as tasking
 use Rattle.sift_document.specs.Document.{tables_in}
-use Rattle.sift_scenario.specs.Clock.{clocks_in}
-use Rattle.sift_scenario.specs.Fault.{fault_in}
-use Rattle.sift_scenario.proofs.Named.{themes_for, all_starts, AreTreesOf}
+use Rattle.sift_scenario.specs.Clock.{clock_rules, clocks_in}
+use Rattle.sift_scenario.specs.Fault.{fault_in, fault_rules}
 use Rattle.sift_trial.specs.Texts.{DrawnTasksAreBrief, DrawnTextsAreTasks, drawn_roll, drawn_sensors, drawn_tasks}
+
+-- the rules of a document of so many units, by what they speak of
+abbrev themes_for : (units : ℕ) → Members → List (List Rule)
+themes_for units document =
+    root_rules document
+    ∷ clock_rules units (get_member (codes "clock") document)
+    ∷ sensor_rules (get_member (codes "sensor") document)
+    ∷ task_rules document
+    ∷ table_rules (unwrap_or (version_of document) 0) units (get_member (codes "table") document)
+    ∷ fault_rules (get_member (codes "fault") document)
+    ∷ (rule 31 (λ place. HoldsOf (tables_in (get_member (codes "table") document)) place (λ table. shed_of table ≡ None)) ∷ [])
+    ∷ []
 
 -- counts, and a fault, that may be drawn
 pub record MayBeDrawn (units frames sensors tasks unit from task value : ℕ) : Type 0 where
@@ -137,7 +148,7 @@ module _
 
   -- the program
   abbrev program : ProgramTree
-  program = record { tasks = drawn_trees known.texts known.brief tasks sensors z; starts = all_starts (tasks_of d) }
+  program = record { tasks = drawn_trees known.texts known.brief tasks sensors z; starts = flat_map (λ task. unwrap_or (start_words task) []) (tasks_of d) }
 
   program_stated : IsProgramOf (sensor_names d) (tasks_of d) program
   program_stated =
@@ -145,7 +156,7 @@ module _
         starts = refl;
         forms = forms;
         stated = forms_are tasks sensors z;
-        trees = subst (λ (r : Roll). AreTreesOf r forms program.tasks) (sym roll_is)
+        trees = subst (λ (r : Roll). AreMatched (λ task form tree. IsTreeOf (turn_of task r) form tree) forms program.tasks) (sym roll_is)
             (trees_are known.texts known.brief tasks sensors z may.some_sensor may.few_sensors may.few_tasks);
         allowed = trees_allowed known.texts known.brief tasks sensors z may.few_tasks;
       }

@@ -10,12 +10,12 @@ use Rattle.sift_gen.specs.Scenario.{pattern_from, task_place}
 use Rattle.sift_gen.specs.declared.task.Pattern.{Pattern}
 use Rattle.sift_gen.specs.declared.task.Pattern.TheVariants.{Sum, Middle, Chase, Triple}
 use Rattle.sift_lang.specs.Tree.{TaskTree}
+use Rattle.sift_document.specs.Rules.{AreMatched}
 use Rattle.sift_scenario.specs.Program.{AreAllowed, IsTreeOf, turn_of}
 use Rattle.sift_scenario.specs.Task.{text}
 use Rattle.sift_trial.proofs.Ranges.{at_place, everywhere, matched}
 use Rattle.sift_trial.proofs.Shapes.{AreOfOneWord}
 use Rattle.sift_trial.proofs.Tasks.{text_at}
-use Rattle.sift_scenario.proofs.Named.{AreTreesOf}
 use Rattle.sift_trial.specs.Texts.{DrawnTasksAreBrief, DrawnTextsAreTasks, IsDrawable, drawn_roll, drawn_tree}
 
 -- a task that reads an earlier one isn't the first
@@ -71,7 +71,8 @@ module _ (texts : DrawnTextsAreTasks) (brief : DrawnTasksAreBrief) (tasks sensor
   -- they are those of the texts
   pub trees_are :
       1 ≤ sensors → sensors ≤ 8 → tasks ≤ 12
-      → AreTreesOf (drawn_roll sensors tasks 0) (map (λ t. text (text_at tasks sensors x t)) (range_with_len 0 tasks)) drawn_trees
+      → AreMatched (λ task form tree. IsTreeOf (turn_of task (drawn_roll sensors tasks 0)) form tree)
+      (map (λ t. text (text_at tasks sensors x t)) (range_with_len 0 tasks)) drawn_trees
   trees_are some few few_tasks =
       matched (λ task form tree. IsTreeOf (turn_of task (drawn_roll sensors tasks 0)) form tree) (λ t. text (text_at tasks sensors x t)) tree_at tasks
       (λ t low.

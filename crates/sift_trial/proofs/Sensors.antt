@@ -13,8 +13,11 @@ use Rattle.sift_document.specs.Document.{HasOnlyKeys, each_read, keys_of, list_o
 use Rattle.sift_document.specs.Rules.{AreKept}
 use Rattle.sift_trial.proofs.Ranges.{nowhere}
 use Rattle.sift_trial.proofs.Tables.{entries_kept, is_array, members_are, names_kept}
-use Rattle.sift_scenario.proofs.Named.{sensor_keys}
 use Rattle.sift_trial.proofs.Values.{draw_below, word_read}
+
+-- the keys that a sensor may have
+abbrev sensor_keys : List (List ℕ)
+sensor_keys = codes "name" ∷ codes "words" ∷ []
 
 -- ---- one sensor
 

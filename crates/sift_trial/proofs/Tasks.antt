@@ -14,8 +14,11 @@ use Rattle.sift_document.specs.Rules.{HoldsOf, AreKept}
 use Rattle.sift_trial.proofs.DrawnRoll.{words_sum}
 use Rattle.sift_trial.proofs.Ranges.{made_alike, made_of, matched, nowhere}
 use Rattle.sift_trial.proofs.Tables.{entries_kept, members_are, names_kept, tables_long}
-use Rattle.sift_scenario.proofs.Named.{task_keys}
 use Rattle.sift_trial.proofs.Values.{draw_below, word_read}
+
+-- the keys that a task may have
+abbrev task_keys : List (List ℕ)
+task_keys = codes "name" ∷ codes "start" ∷ codes "text" ∷ codes "linear" ∷ []
 
 -- ---- one task
 
