@@ -65,6 +65,18 @@ none_asked word rest verb options name alone none command asks =
     sym asks.asked_is ∙ (ap (λ (v : Verb). asked v asks.options) verbs ∙ (ap (asked verb) (sym options_are) ∙ none)) in
     cc
 
+-- words that begin with a verb's name and give no options that it may have ask for no command
+pub none_given :
+    (word : List ℕ) (rest : List (List ℕ)) (verb : Verb) → name_of verb ≡ word → ((other : Options) → ¬ Give (flags_of verb) rest other)
+    → (command : Command) → ¬ Asks (word ∷ rest) command
+none_given word rest verb name none command asks =
+    let is = sym name in
+    let verbs : asks.verb ≡ verb =
+    sym (named asks.verb) ∙ (ap (λ (ws : List (List ℕ)). verb_with (get_or ws 0 [])) (sym asks.words_are) ∙ (ap verb_with is ∙ named verb)) in
+    let rests : asks.rest ≡ rest = sym (ap (drop 1) asks.words_are) in
+    none asks.options (subst (λ ws. Give (flags_of verb) ws asks.options) rests
+    (subst (λ v. Give (flags_of v) asks.rest asks.options) verbs asks.gives))
+
 -- what follows where a value isn't there
 pub if_none : {A : Type 0} (found expected : Option A) (P : Type 0) → found ≡ expected → (expected ≡ None → P) → IfNone found P
 if_none (Some x) expected P is then = tt
