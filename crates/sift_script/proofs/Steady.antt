@@ -120,7 +120,8 @@ comes_below (fault ∷ faults) u frames d each = elim (cases_Bool (eqb fault.uni
 ]
 
 -- the storm of a fault comes when the fault does
-storm_comes : (fault : Option Fault) (frames from number strays : ℕ) → IfSome fault (λ f. f.from < frames) → option_and_then (λ f. storm_from f.from f.plan) fault ≡ Some (from, number, strays) → from < frames
+storm_comes : (fault : Option Fault) (frames from number strays : ℕ) → IfSome fault (λ f. f.from < frames) →
+    option_and_then (λ f. storm_from f.from f.plan) fault ≡ Some (from, number, strays) → from < frames
 storm_comes None frames from number strays below is = absurd (none-some _ is)
 storm_comes (Some fault) frames from number strays below is = of_plan fault.plan below is
   where

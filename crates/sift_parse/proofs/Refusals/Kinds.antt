@@ -206,7 +206,8 @@ module _ (r : Roll) (front : List Lexeme) (text : List ℕ) where
 
 -- no kind stands at a place before the one that these lexemes lead to
 abbrev pub NoneEarlier : Roll → List ℕ → List Placed → Type 0
-NoneEarlier r text front = (before more : List Placed) (rest : List ℕ) (kind : Kind) → front ≡ before ++ more → more ≢ [] → Lexes (length text) text before rest → ¬ Stands r (lexemes_of before) rest kind
+NoneEarlier r text front = (before more : List Placed) (rest : List ℕ) (kind : Kind) → front ≡ before ++ more → more ≢ [] →
+    Lexes (length text) text before rest → ¬ Stands r (lexemes_of before) rest kind
 
 pub none_told : (r : Roll) (text : List ℕ) (front : List Placed) → NoneEarlier r text front → NoneBefore r text front
 none_told r text front none before more rest s e some x h =
