@@ -50,7 +50,7 @@ pub data IsOfStray (strays : List Stray) (q k s : ℕ) (w : Option ℕ) : Type 0
 
 module _ (m : FlownMission) (strays : Strays) (fl : Flight) (f : ℕ) where
   -- the hearing equations of q for slot k and unit p in frame f. Where p says the slot to q under q's configuration, q hears what p said, if
-  -- both say the slot in one subframe, else nothing; and nothing or one of p's strays, if p has turned. It hears no more
+  -- both say the slot in one subframe, else nothing; and nothing or one of p's strays, if p has turned. Elsewhere it hears nothing
   pub record Hears (q : ℕ) (k : Slot) (p : ℕ) : Type 0 where
     pub heard : calls m (config_of fl q f) k p q ≡ true → has_turned m p f ≡ false →
         fl.heard q f k p ≡ (if nat_eq (m.due (config_of fl p f) k) (m.due (config_of fl q f) k) then fl.said p f k q else None)
