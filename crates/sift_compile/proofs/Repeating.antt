@@ -1,10 +1,11 @@
 -- The code of a `repeat` makes as many rounds.
 use Rattle.std.proofs.Common.{◌≡◌, ℕ, zero, suc, ◌+◌, List, [], ◌∷◌, ◌++◌, length, Some, refl, sym, ap, subst, arith, length-append}
+use Rattle.std.specs.Fn.{iterate}
 use Rattle.std.specs.Prelude.{slice_get}
 use Rattle.sift_code.specs.declared.instr.Instr.{Instr}
 use Rattle.sift_code.specs.declared.instr.Instr.TheVariants.{Begin, End}
 use Rattle.sift_code.specs.Machine.{Loop, Inputs, skipped}
-use Rattle.sift_lang.specs.Meaning.{State, times}
+use Rattle.sift_lang.specs.Meaning.{State}
 use Rattle.sift_lang.proofs.lemmas.States.{HasSizes}
 use Rattle.sift_compile.proofs.Stands.{Stands, stands_on, stands_here}
 use Rattle.sift_compile.proofs.Comes.{comes_on, comes_by}
@@ -19,7 +20,7 @@ module _ (code : List Instr) (inputs : Inputs) where
       (round t)) where
     -- so many rounds more than one
     rounds_run : (n : ℕ) (locals : List ℕ) (t : State) → Holds depth outputs locals t
-        → Runs code inputs (at p (record { start = p; left = suc n } ∷ loops) locals t.outs) (q + 1) loops (times n round (round t))
+        → Runs code inputs (at p (record { start = p; left = suc n } ∷ loops) locals t.outs) (q + 1) loops (iterate round n (round t))
     rounds_run zero locals t holds =
         let run = runs 1 locals t holds in
         let here = at q (record { start = p; left = 1 } ∷ loops) run.locals (round t).outs in
@@ -35,7 +36,7 @@ module _ (code : List Instr) (inputs : Inputs) where
     -- a `repeat` runs to its end with what its rounds make of a state, where its body runs as one round
     pub repeat_run : (start : ℕ) (body : List Instr) (k : ℕ) (locals : List ℕ) (t : State) → start + 1 ≡ p → p + length body ≡ q
         → IsMatched body → Stands code start (Begin k ∷ (body ++ End ∷ [])) → Holds depth outputs locals t
-        → Runs code inputs (at start loops locals t.outs) (start + length (Begin k ∷ (body ++ End ∷ []))) loops (times k round t)
+        → Runs code inputs (at start loops locals t.outs) (start + length (Begin k ∷ (body ++ End ∷ []))) loops (iterate round k t)
     repeat_run start body zero locals t e f matched stands holds =
         let s = at start loops locals t.outs in
         let there = at (start + 1 + (length body + 1)) loops locals t.outs in
@@ -48,5 +49,5 @@ module _ (code : List Instr) (inputs : Inputs) where
         let there = at (start + 1) (record { start = start + 1; left = suc n } ∷ loops) locals t.outs in
         let whole : q + 1 ≡ start + length (Begin (suc n) ∷ (body ++ End ∷ [])) = omega (arith, length-append body (End ∷ [])) in
         let enter = comes_by code inputs s there (Begin (suc n)) (stands_here code start (Begin (suc n)) _ stands) refl in
-        let rounds = subst (λ x. Runs code inputs (at x (record { start = x; left = suc n } ∷ loops) locals t.outs) (q + 1) loops (times n round (round t))) (sym e) (rounds_run n locals t holds) in
+        let rounds = subst (λ x. Runs code inputs (at x (record { start = x; left = suc n } ∷ loops) locals t.outs) (q + 1) loops (iterate round n (round t))) (sym e) (rounds_run n locals t holds) in
         runs_to code inputs s _ _ loops _ whole (runs_from code inputs s there _ loops _ enter rounds)

@@ -1,9 +1,10 @@
 -- What a task makes depends only on the sensors and the words of this frame that it reads.
 use Rattle.std.proofs.Common.{◌≡◌, ℕ, zero, suc, ◌<◌, List, slice_index, Bool, true, ◌||◌, refl, ap, ◌∙◌}
+use Rattle.std.specs.Fn.{iterate}
 use Rattle.std.proofs.lemmas.Bool.{eq-eqb, or_left, or_right}
 use Rattle.sift_base.specs.Word.{sub}
 use Rattle.sift_lang.specs.Tree.{Term, number, local, sense, this_frame, last_frame, minus, binary, middle, Statement, bind, assign, output, choose, choose_else, repeat, Block, end, step, TaskTree}
-use Rattle.sift_lang.specs.Meaning.{Readings, State, value_of, scoped, chosen, times, after, after_all, meaning}
+use Rattle.sift_lang.specs.Meaning.{Readings, State, value_of, scoped, chosen, after, after_all, meaning}
 use Rattle.sift_lang.specs.Sound.{Bounds, NamesWithin, IsSoundStatement, IsSoundBlock, IsSound, NowsBelow, EachTerm, EachTermOf, AllNowsBelow, locals_after}
 use Rattle.sift_program.proofs.lemmas.ShapeLists.{reads_word}
 use Rattle.sift_program.specs.Program.{term_reads, statement_reads, block_reads}
@@ -21,9 +22,9 @@ right_read : (test other : ℕ → Bool) (made : ℕ) (xs ys : List ℕ) → Sam
 right_read test other made xs ys same v low is = same v low (or_right (test v) (other v) is)
 
 -- rounds that agree on each state lead to one state
-times-same : (n : ℕ) (f g : State → State) → ((s : State) → f s ≡ g s) → (s : State) → times n f s ≡ times n g s
-times-same zero f g same s = refl
-times-same (suc n) f g same s = times-same n f g same (f s) ∙ ap (times n g) (same s)
+iterate-same : (n : ℕ) (f g : State → State) → ((s : State) → f s ≡ g s) → (s : State) → iterate f n s ≡ iterate g n s
+iterate-same zero f g same s = refl
+iterate-same (suc n) f g same s = iterate-same n f g same (f s) ∙ ap (iterate g n) (same s)
 
 -- so do blocks without the locals that they add
 scoped-same : (f g : State → State) → ((s : State) → f s ≡ g s) → (s : State) → scoped f s ≡ scoped g s
@@ -78,7 +79,7 @@ module _ (b : Bounds) (made : ℕ) (r r' : Readings) (alike : AreAlike b r r') w
         let a = scoped-same _ _ (all-same first n sound.1 nows.1 one) s in
         let c = scoped-same _ _ (all-same second n sound.2 nows.2 two) s in
         rw (value-same t n sound.0.names nows.0 test s.locals) (rw (a, c) refl)
-    after-same (repeat k body) n sound nows same s = times-same k _ _ (scoped-same _ _ (all-same body n sound.1 nows same)) s
+    after-same (repeat k body) n sound nows same s = iterate-same k _ _ (scoped-same _ _ (all-same body n sound.1 nows same)) s
 
     -- and so does a block
     all-same : (block : Block) (n : ℕ) → IsSoundBlock b n block → EachTerm (NowsBelow made) block

@@ -1,19 +1,20 @@
 -- Rounds and statements, one after the other.
 use Rattle.std.proofs.Common.{◌≡◌, ℕ, suc, ◌+◌, ◌-◌, ◌<◌, List, ◌∷◌, length, drop, get_or, set, add-one, sym, ap, ◌∙◌, arith}
+use Rattle.std.specs.Fn.{iterate}
 use Rattle.std.specs.List.{refill}
 use Rattle.std.proofs.Math.Seq.{drop-cons, drop-length}
 use Rattle.std.proofs.lemmas.List.{length-set, take_all, append-nil}
 use Rattle.sift_lang.specs.declared.tree.Stmt.{Stmt}
 use Rattle.sift_lang.specs.Tree.{Statement, Block, step, statement_of, block_of}
-use Rattle.sift_lang.specs.Meaning.{Readings, State, times, after}
+use Rattle.sift_lang.specs.Meaning.{Readings, State, after}
 use Rattle.sift_lang.specs.Sound.{IsSoundBlock}
 use Rattle.sift_lang.proofs.lemmas.States.{sizes-after}
 
 -- where n - i rounds are left, one more round leaves n - (i + 1)
-pub times-less : (n i : ℕ) (round : State → State) (s t : State) → i < n → t ≡ round s → times (n - (i + 1)) round t ≡ times (n - i) round s
-times-less n i round s t more is =
+pub iterate-less : (n i : ℕ) (round : State → State) (s t : State) → i < n → t ≡ round s → iterate round (n - (i + 1)) t ≡ iterate round (n - i) s
+iterate-less n i round s t more is =
     let left : n - i ≡ suc (n - (i + 1)) = omega arith in
-    ap (times (n - (i + 1)) round) is ∙ sym (ap (λ k. times k round s) left)
+    ap (iterate round (n - (i + 1))) is ∙ sym (ap (λ k. iterate round k s) left)
 
 -- the statements from i on are the one at i and then the rest
 pub block_of-drop : (statements : List Stmt) (i : ℕ) (statement : Stmt) → i < length statements → statement ≡ get_or statements i statement

@@ -1,8 +1,9 @@
 -- How many locals live and how many output words there are, after statements.
 use Rattle.std.proofs.Common.{◌≡◌, ℕ, zero, suc, ◌≤◌, List, [], ◌∷◌, length, refl, ◌∙◌, arith}
+use Rattle.std.specs.Fn.{iterate}
 use Rattle.std.proofs.lemmas.List.{length-take-le, length-append, length-set, length-replicate}
 use Rattle.sift_lang.specs.Tree.{Statement, bind, assign, output, choose, choose_else, repeat, Block, end, step, TaskTree}
-use Rattle.sift_lang.specs.Meaning.{Readings, State, value_of, scoped, chosen, times, after, after_all, meaning}
+use Rattle.sift_lang.specs.Meaning.{Readings, State, value_of, scoped, chosen, after, after_all, meaning}
 use Rattle.sift_lang.specs.Sound.{locals_after}
 
 -- so many locals live, and there are so many output words
@@ -24,10 +25,10 @@ sizes-chosen : (locals outs n : ℕ) (first second : State) → HasSizes locals 
 sizes-chosen locals outs zero first second p q = q
 sizes-chosen locals outs (suc n) first second p q = p
 
-pub sizes-times : (locals outs n : ℕ) (round : State → State) → ((s : State) → HasSizes locals outs s → HasSizes locals outs (round s)) → (s : State)
-    → HasSizes locals outs s → HasSizes locals outs (times n round s)
-sizes-times locals outs zero round keeps s has = has
-sizes-times locals outs (suc n) round keeps s has = sizes-times locals outs n round keeps (round s) (keeps s has)
+pub sizes-iterate : (locals outs n : ℕ) (round : State → State) → ((s : State) → HasSizes locals outs s → HasSizes locals outs (round s)) → (s : State)
+    → HasSizes locals outs s → HasSizes locals outs (iterate round n s)
+sizes-iterate locals outs zero round keeps s has = has
+sizes-iterate locals outs (suc n) round keeps s has = sizes-iterate locals outs n round keeps (round s) (keeps s has)
 
 has-sizes : (s : State) → HasSizes (length s.locals) (length s.outs) s
 has-sizes s = record { locals_are = refl; outs_are = refl }
@@ -63,7 +64,7 @@ mutual
   sizes-after (choose_else t first second) r s =
       sizes-chosen _ _ (value_of t r s.locals) _ _ (sizes-scoped (after_all first r) s (adds-after_all first r s)) (sizes-scoped (after_all second r) s (adds-after_all second r s))
   sizes-after (repeat k body) r s =
-      sizes-times _ _ k (scoped (after_all body r)) (λ t has. sizes-round _ _ (after_all body r) t has (adds-after_all body r t)) s (has-sizes s)
+      sizes-iterate _ _ k (scoped (after_all body r)) (λ t has. sizes-round _ _ (after_all body r) t has (adds-after_all body r t)) s (has-sizes s)
 
   -- what the statements of a block do to them
   pub adds-after_all : (block : Block) (r : Readings) (s : State) → OnlyAddsLocals s (after_all block r s)

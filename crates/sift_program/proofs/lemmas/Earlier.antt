@@ -1,8 +1,9 @@
 -- A task's meaning depends only on the words that it reads.
 use Rattle.std.proofs.Common.{◌≡◌, ℕ, zero, suc, ◌<◌, List, slice_index, refl, ap, ◌∙◌}
+use Rattle.std.specs.Fn.{iterate}
 use Rattle.sift_base.specs.Word.{sub}
 use Rattle.sift_lang.specs.Tree.{Term, number, local, sense, this_frame, last_frame, minus, binary, middle, Statement, bind, assign, output, choose, choose_else, repeat, Block, end, step, TaskTree}
-use Rattle.sift_lang.specs.Meaning.{Readings, State, value_of, scoped, chosen, times, after, after_all, meaning}
+use Rattle.sift_lang.specs.Meaning.{Readings, State, value_of, scoped, chosen, after, after_all, meaning}
 use Rattle.sift_lang.specs.Sound.{NowsBelow, EachTerm, EachTermOf, AllNowsBelow}
 
 -- the lists have the same words below this number
@@ -32,9 +33,9 @@ module _ (made : ℕ) (r : Readings) (xs ys : List ℕ) (same : SameBelow made x
       cc (a, b, c)
 
 -- rounds that agree on each state lead to one state
-times-same : (n : ℕ) (f g : State → State) → ((s : State) → f s ≡ g s) → (s : State) → times n f s ≡ times n g s
-times-same zero f g same s = refl
-times-same (suc n) f g same s = times-same n f g same (f s) ∙ ap (times n g) (same s)
+iterate-same : (n : ℕ) (f g : State → State) → ((s : State) → f s ≡ g s) → (s : State) → iterate f n s ≡ iterate g n s
+iterate-same zero f g same s = refl
+iterate-same (suc n) f g same s = iterate-same n f g same (f s) ∙ ap (iterate g n) (same s)
 
 scoped-same : (f g : State → State) → ((s : State) → f s ≡ g s) → (s : State) → scoped f s ≡ scoped g s
 scoped-same f g same s = ap (λ (t : State). scoped (λ _. t) s) (same s)
@@ -52,7 +53,7 @@ module _ (made : ℕ) (r : Readings) (xs ys : List ℕ) (same : SameBelow made x
         let a = scoped-same _ _ (after_all-same first below.1) s in
         let b = scoped-same _ _ (after_all-same second below.2) s in
         rw (value_of-same made r xs ys same t s.locals below.0) (rw (a, b) refl)
-    after-same (repeat k body) below s = times-same k _ _ (scoped-same _ _ (after_all-same body below)) s
+    after-same (repeat k body) below s = iterate-same k _ _ (scoped-same _ _ (after_all-same body below)) s
 
     after_all-same : (block : Block) → EachTerm (NowsBelow made) block → (s : State) → after_all block (over r xs) s ≡ after_all block (over r ys) s
     after_all-same end below s = refl

@@ -1,11 +1,11 @@
-use Rattle.std.proofs.Common.{◌≡◌, ◌+◌, drop, arith, ap, ◌∙◌}
+use Rattle.std.proofs.Common.{◌≡◌, ◌+◌, ◌-◌, drop, arith, ap, ◌∙◌}
 use Rattle.std.proofs.lemmas.Grind.{common_steps}
 use Rattle.sift_lang.specs.declared.tree.Stmt.{the_lemmas}
 use Rattle.sift_lang.specs.Tree.{statement_of, block_of}
 use Rattle.sift_lang.specs.Meaning.{after_all, scoped}
 use Rattle.sift_lang.specs.Held.{readings_of, state_of}
 use Rattle.sift_lang.proofs.lemmas.States.{adds-more}
-use Rattle.sift_lang.proofs.lemmas.Rounds.{times-less, block_of-drop, refill-set, IsSoundBlock-rest}
+use Rattle.sift_lang.proofs.lemmas.Rounds.{iterate-less, block_of-drop, refill-set, IsSoundBlock-rest}
 use Rattle.sift_lang.proofs.evaluator.State.+run.Goals as goal
 
 pub run-loop-round-preserved : goal.run-loop-round-preserved
@@ -13,12 +13,19 @@ run-loop-round-preserved t c =
     let round = scoped (after_all (block_of c.in-Repeat.body.items) (readings_of c.args.readings.now)) in
     let ran : state_of c.run_block-in-loop-round.new.self ≡ round (state_of c.loop-round.self) = rw c.deref-in-loop-round.ensures.value at c.run_block-in-loop-round.ensures.means in
     record {
-      left = times-less _ c.loop-round._round round _ _ c.loop-round-test.true ran ∙ c.loop-round.invariant.left;
+      left = iterate-less _ c.loop-round._round round _ _ c.loop-round-test.true ran ∙ c.loop-round.invariant.left;
       sizes = record {
         locals_are = c.run_block-in-loop-round.ensures.locals ∙ c.loop-round.invariant.sizes.locals_are;
         outs_are = c.run_block-in-loop-round.ensures.outs ∙ c.loop-round.invariant.sizes.outs_are;
       };
     }
+
+-- no round is left
+pub run-returns-after-loop-round : goal.run-returns-after-loop-round
+run-returns-after-loop-round t c =
+    let none : c.in-Repeat.rounds - c.loop-round._round ≡ 0 = omega arith in
+    let left = rw none at c.loop-round.invariant.left in
+    rw c.in-Repeat.is (search (left, the_lemmas))
 
 pub run-returns-in-Set : goal.run-returns-in-Set
 run-returns-in-Set t c = grind (arith, common_steps, the_lemmas, refill-set)

@@ -1,7 +1,8 @@
 use Rattle.std.proofs.Common.{◌≡◌, ◌-◌, length, drop}
+use Rattle.std.specs.Fn.{iterate}
 use Rattle.arrayvec.specs.ArrayVec.{array_vec_len}
 use Rattle.sift_lang.specs.Tree.{block_of}
-use Rattle.sift_lang.specs.Meaning.{after_all, scoped, times}
+use Rattle.sift_lang.specs.Meaning.{after_all, scoped}
 use Rattle.sift_lang.specs.Sound.{IsSoundBlock, NowsBelow, EachTerm}
 use Rattle.sift_lang.specs.Held.{readings_of, state_of, bounds_of}
 use Rattle.sift_lang.proofs.lemmas.States.{HasSizes, OnlyAddsLocals}
@@ -12,7 +13,7 @@ abbrev pub invariant-run-loop-round : goal.invariant-run-loop-round
 invariant-run-loop-round l =
     let round = scoped (after_all (block_of l.body.items) (readings_of l.readings)) in
     record {
-      left : times (l._round-end - l._round) round (state_of l.self) ≡ times l._round-end round (state_of l.initial.self);
+      left : iterate round (l._round-end - l._round) (state_of l.self) ≡ iterate round l._round-end (state_of l.initial.self);
       sizes : HasSizes (array_vec_len l.initial.self.locals) (array_vec_len l.initial.self.outs) (state_of l.self);
     }
 
