@@ -1,10 +1,11 @@
 -- What others heard of a unit stays true when its conduct changes, and what is loaded of a cell is from its unit.
 use Rattle.std.proofs.Common.{◌≡◌, ◌⊎◌, inl, inr, ⊎_elim, ℕ, ◌+◌, ◌<◌, ◌≤◌, Option, Some, None, sym, refl, ap, ◌∙◌, arith}
+use Rattle.std.specs.List.{Contains}
 use mathlib.Core.Logic.{dite}
 use native.Mathlib.Decide.{ℕ_discrete}
 use Rattle.sift_buffer.specs.Cell.{packed, taken}
 use Rattle.sift_buffer.specs.Conduct.{Saying, Stray, Conduct, never, saying, stray_to}
-use Rattle.sift_buffer.specs.Lawful.{HasStage, silent, last, IsAmong, HasStamps, IsFromSayings, IsFromStrays, nothing, said, strayed}
+use Rattle.sift_buffer.specs.Lawful.{HasStage, silent, last, HasStamps, IsFromSayings, IsFromStrays, nothing, said, strayed}
 use Rattle.sift_buffer.proofs.Cells.{taken_same, taken_other, taken_zero}
 use Rattle.sift_buffer.proofs.lemmas.Puts.{some_same, none_some}
 use Rattle.sift_buffer.proofs.Sound.{CellIs, HeardIs, from_sayings, flies_or_turned}
@@ -21,13 +22,13 @@ module _ (c d : Conduct) (same : d.said ≡ c.said) where
   }
 
   -- and with the strays that were there, the same source of what is heard later
-  pub strays_same : ((x : Stray) → IsAmong x c.strays → IsAmong x d.strays) → (q k s : ℕ) (w : Option ℕ) → IsFromStrays c q k s w → IsFromStrays d q k s w
+  pub strays_same : ((x : Stray) → Contains c.strays x → Contains d.strays x) → (q k s : ℕ) (w : Option ℕ) → IsFromStrays c q k s w → IsFromStrays d q k s w
   strays_same more q k s w (nothing n) = nothing n
   strays_same more q k s w (said f at) = said f (ap (λ (g : ℕ → ℕ → ℕ → Option Saying). g f k q) same ∙ at)
   strays_same more q k s w (strayed x am is) = strayed x (more (stray_to q k x) am) is
 
   -- a unit that left where it had left is heard as before
-  pub heard_same : d.left ≡ c.left → c.progress ≤ d.progress → ((x : Stray) → IsAmong x c.strays → IsAmong x d.strays) →
+  pub heard_same : d.left ≡ c.left → c.progress ≤ d.progress → ((x : Stray) → Contains c.strays x → Contains d.strays x) →
       (q k s h : ℕ) (w : Option ℕ) → HeardIs c q k s h w → HeardIs d q k s h w
   heard_same left up more q k s h w it = record {
     before = λ l. sayings_same up q k s h w (it.before (omega arith));

@@ -1,12 +1,13 @@
 -- What a change of one unit's conduct, and of the shared words, has to show to keep the core sound.
 use Rattle.std.proofs.Common.{◌≡◌, ◌≢◌, inl, inr, ℕ, ◌<◌, List, length, slice_index, slice_set, Option, Some, sym, ap, ◌∙◌, subst, arith}
+use Rattle.std.specs.List.{Contains}
 use Rattle.std.proofs.lemmas.List.{get_or-set_same, get_or-set_other}
 use mathlib.Core.Logic.{dite}
 use native.Mathlib.Decide.{ℕ_discrete}
 use Rattle.sift_buffer.specs.Ranges.{Ranges, place}
 use Rattle.sift_buffer.specs.Conduct.{Saying, Conduct, put, never, hearing, stray_to}
 use Rattle.sift_buffer.specs.Core.{Core}
-use Rattle.sift_buffer.specs.Lawful.{HasStage, IsLastSaid, silent, last, IsAmong, HasStamps}
+use Rattle.sift_buffer.specs.Lawful.{HasStage, IsLastSaid, silent, last, HasStamps}
 use Rattle.sift_buffer.proofs.Places.{place_apart, place_low, place_high}
 use Rattle.sift_buffer.proofs.lemmas.Puts.{put_else, put_cases}
 use Rattle.sift_buffer.proofs.Sound.{CellIs, GateIs, HeardIs, Sound}
@@ -82,7 +83,7 @@ module _ (r : Ranges) (c : Core) (u : ℕ) (d : Conduct) (hu : u < r.units) (it 
 -- d says all that c says, and each cell of c that is a stray is one of d
 pub record Covers (c d : Conduct) : Type 0 where
   pub said : d.said ≡ c.said
-  pub strays : (q k x : ℕ) → c.left < never → (d.left < never) × (IsAmong (stray_to q k x) c.strays → IsAmong (stray_to q k x) d.strays)
+  pub strays : (q k x : ℕ) → c.left < never → (d.left < never) × (Contains c.strays (stray_to q k x) → Contains d.strays (stray_to q k x))
 
 -- a conduct that has the same sayings covers another of the same stage and strays
 pub said_last : (c d : Conduct) (q k x : ℕ) → d.said ≡ c.said → IsLastSaid c q k x → IsLastSaid d q k x

@@ -84,5 +84,5 @@ tell_apart = record {
   pace = λ law. let n = law 0 1 (omega arith) (omega arith) (omega arith) refl in let s : 2 ≤ 1 = n.sight in absurd (omega arith);
   heard = λ law. let h = law 1 0 0 0 1 0 (Some 7) (omega arith) (omega arith) (omega arith) (omega arith) refl (omega arith) in
       ⊎_elim (λ n. none_some (sym n)) (λ t. none_some t.1) h.source;
-  turned = λ law. ⊎_elim (λ i. not_silent (λ f. refl) i) (λ a. a) (law.cells 0 1 0 (omega arith) (omega arith) (omega arith) (omega arith));
+  turned = λ law. ⊎_elim (λ i. not_silent (λ f. refl) i) (λ among. let low = among.1 in absurd (omega arith)) (law.cells 0 1 0 (omega arith) (omega arith) (omega arith) (omega arith));
 }

@@ -1,13 +1,14 @@
 -- The lawful core in the form in which an event keeps it: whether a unit has turned stands inside each fact.
 use Rattle.std.proofs.Common.{◌≡◌, ◌≢◌, ◌⊎◌, inl, inr, ⊎_elim, ℕ, ◌<◌, ◌≤◌, slice_index, Option, Some, arith}
+use Rattle.std.specs.List.{Contains}
 use Rattle.sift_buffer.specs.Ranges.{Ranges, place}
 use Rattle.sift_buffer.specs.Conduct.{Conduct, never, last_progress, hearing, stray_to}
 use Rattle.sift_buffer.specs.Core.{Core}
-use Rattle.sift_buffer.specs.Lawful.{HasStage, IsLastSaid, IsAmong, HasStamps, IsNear, IsFromSayings, IsFromStrays, nothing, said, IsFormed, Lawful}
+use Rattle.sift_buffer.specs.Lawful.{HasStage, IsLastSaid, HasStamps, IsNear, IsFromSayings, IsFromStrays, nothing, said, IsFormed, Lawful}
 
 -- the cell is what was said last, or a stray of a unit that has turned
 abbrev pub CellIs : Conduct → ℕ → ℕ → ℕ → Type 0
-CellIs d q k x = IsLastSaid d q k x ⊎ ((d.left < never) × IsAmong (stray_to q k x) d.strays)
+CellIs d q k x = IsLastSaid d q k x ⊎ ((d.left < never) × Contains d.strays (stray_to q k x))
 
 -- what d has seen of another is reached, and a unit that flies is near
 pub record GateIs (d other : Conduct) (seen : ℕ) : Type 0 where

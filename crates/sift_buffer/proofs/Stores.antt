@@ -1,8 +1,9 @@
 -- Sayings and strays keep the core sound.
-use Rattle.std.proofs.Common.{◌≡◌, inl, inr, ⊎_elim, ℕ, ◌+◌, ◌≤◌, slice_set, Option, Some, sym, refl, ap, ◌∙◌, subst, arith, length-set}
+use Rattle.std.proofs.Common.{◌≡◌, inl, inr, ⊎_elim, ℕ, suc, ◌+◌, ◌≤◌, List, ◌∷◌, slice_set, Option, Some, sym, refl, ap, ◌∙◌, subst, arith, length-set}
+use Rattle.std.specs.List.{Contains}
 use Rattle.sift_buffer.specs.Cell.{packed, IsWord}
 use Rattle.sift_buffer.specs.Ranges.{Ranges, place}
-use Rattle.sift_buffer.specs.Conduct.{Saying, Conduct, saying, with_said, with_stray}
+use Rattle.sift_buffer.specs.Conduct.{Saying, Stray, Conduct, saying, with_said, with_stray}
 use Rattle.sift_buffer.specs.Conditions.{MaySay}
 use Rattle.sift_buffer.specs.Core.{Core, say, stray, after, Allowed}
 use Rattle.sift_buffer.specs.Lawful.{IsLastSaid, silent, last, HasStamps, IsFromSayings, IsFromStrays, nothing, said, strayed}
@@ -11,6 +12,10 @@ use Rattle.sift_buffer.proofs.Sound.{CellIs, HeardIs, Sound, flies_low}
 use Rattle.sift_buffer.proofs.Keep.{keep, cell_shows, cell_holds, cell_covered}
 use Rattle.sift_buffer.proofs.Heard.{heard_same}
 use Rattle.sift_buffer.proofs.Moves.{gate_same, gate_seen}
+
+-- what is among some strays is among one more
+older : (strays : List Stray) (x y : Stray) → Contains strays x → Contains (y ∷ strays) x
+older strays x y am = let low = am.1 in (suc am.0, omega arith, am.2)
 
 -- one saying more
 module _ (r : Ranges) (c : Conduct) (u q k f s : ℕ) (w : Option ℕ) (may : MaySay r c u q k f s) (word : IsWord w) where
@@ -121,11 +126,11 @@ module _ (r : Ranges) (c : Core) (u : ℕ) (it : Sound r c) where
         wide = length-set c.words (place r u q k) x;
         shows = cell_shows r c u d' hu it q k x refl;
         stage = it.formed.stage u hu;
-        holds = cell_holds r c u d' hu it q k x m.cell.unit m.cell.slot (inr (m.turned, inl refl))
-            (λ q' k' y away old. cell_covered me d' q' k' y (record { said = refl; strays = λ _ _ _ gone. (gone, λ am. inr am) }) old);
+        holds = cell_holds r c u d' hu it q k x m.cell.unit m.cell.slot (inr (m.turned, (0, omega arith, refl)))
+            (λ q' k' y away old. cell_covered me d' q' k' y (record { said = refl; strays = λ _ _ _ gone. (gone, older me.strays _ _) }) old);
         stamps = (let st = it.stamps u hu in record { reached = st.reached; apart = st.apart });
         looks = λ p hp ne. gate_same me d' (c.of p) (me.seen p) refl refl (it.gate u p hu hp ne);
         looked = λ q' hq' nq g. gate_seen me d' (c.of q') ((c.of q').seen u) refl refl g;
         hears = λ p f' k' s' h' w' hp ne hk at. it.heard u p f' k' s' h' w' hu hp ne hk at;
-        heard = heard_same me d' refl refl (omega arith) (λ y am. inr am);
+        heard = heard_same me d' refl refl (omega arith) (λ y. older me.strays y _);
       })

@@ -1,8 +1,9 @@
 -- The lawful core: what each order of events keeps of cells, numbers and acts.
-use Rattle.std.specs.Prelude.{◌≡◌, ◌≢◌, ◌⊎◌, ℕ, ◌+◌, ◌<◌, ◌≤◌, List, [], ◌∷◌, length, slice_index, Option, Some, None}
+use Rattle.std.specs.Prelude.{◌≡◌, ◌≢◌, ◌⊎◌, ℕ, ◌+◌, ◌<◌, ◌≤◌, List, length, slice_index, Option, Some, None}
+use Rattle.std.specs.List.{Contains}
 use Rattle.sift_buffer.specs.Cell.{packed, taken, IsWord}
 use Rattle.sift_buffer.specs.Ranges.{Ranges, shared_words, place}
-use Rattle.sift_buffer.specs.Conduct.{Conduct, Stray, never, last_progress, saying, hearing, stray_to}
+use Rattle.sift_buffer.specs.Conduct.{Conduct, never, last_progress, saying, hearing, stray_to}
 use Rattle.sift_buffer.specs.Core.{Core}
 
 -- ---- one unit, or two
@@ -16,11 +17,6 @@ pub data IsLastSaid (d : Conduct) (q k x : ℕ) : Type 0 where
   silent : ((f : ℕ) → d.said f k q ≡ None) → x ≡ 0 → IsLastSaid d q k x
   last : (f s : ℕ) (w : Option ℕ) → d.said f k q ≡ Some (saying s w) → x ≡ packed s w →
       ((f' s' : ℕ) (w' : Option ℕ) → d.said f' k q ≡ Some (saying s' w') → s' ≤ s) → IsLastSaid d q k x
-
--- the stray is one of these
-abbrev pub IsAmong : Stray → List Stray → Type 0
-IsAmong x [] = ⊥
-IsAmong x (y ∷ ys) = (x ≡ y) ⊎ IsAmong x ys
 
 -- each stamp said is at most the progress plus one, and where the unit has turned, the progress at which it left plus one;
 -- the stamps of one cell are different ones
@@ -47,7 +43,7 @@ pub record IsFromSayings (d : Conduct) (q k s h : ℕ) (w : Option ℕ) : Type 0
 pub data IsFromStrays (d : Conduct) (q k s : ℕ) (w : Option ℕ) : Type 0 where
   nothing : w ≡ None → IsFromStrays d q k s w
   said : (f : ℕ) → d.said f k q ≡ Some (saying s w) → IsFromStrays d q k s w
-  strayed : (x : ℕ) → IsAmong (stray_to q k x) d.strays → w ≡ taken x s → IsFromStrays d q k s w
+  strayed : (x : ℕ) → Contains d.strays (stray_to q k x) → w ≡ taken x s → IsFromStrays d q k s w
 
 -- ---- the core
 
@@ -84,7 +80,7 @@ HearsSayings r c = (q p f k s h : ℕ) (w : Option ℕ) → q < r.units → p < 
 -- and what a unit heard of it after it left is from its sayings or strays
 pub record StraysAreOwn (r : Ranges) (c : Core) : Type 0 where
   pub cells : (p q k : ℕ) → p < r.units → q < r.units → k < r.slots → (c.of p).left < never →
-      let x = slice_index c.words (place r p q k) in IsLastSaid (c.of p) q k x ⊎ IsAmong (stray_to q k x) (c.of p).strays
+      let x = slice_index c.words (place r p q k) in IsLastSaid (c.of p) q k x ⊎ Contains (c.of p).strays (stray_to q k x)
   pub heard : (q p f k s h : ℕ) (w : Option ℕ) → q < r.units → p < r.units → p ≢ q → k < r.slots →
       (c.of q).heard f k p ≡ Some (hearing s h w) → (c.of p).left ≤ h → IsFromStrays (c.of p) q k s w
 

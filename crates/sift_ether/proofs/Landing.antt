@@ -1,12 +1,12 @@
 -- The chronicles of all tokens, in the order of their units, are a lawful core by themselves.
 use Rattle.std.proofs.Common.{◌≡◌, ℕ, zero, suc, ◌+◌, ◌<◌, ◌≤◌, ◌⊎◌, List, [], ◌∷◌, map, length, slice_index, slice_index_or, Some, option_and_then, refl, sym, ap, ◌∙◌, subst, arith}
-use Rattle.std.specs.List.{All}
+use Rattle.std.specs.List.{All, Contains}
 use Rattle.atomic_table.specs.Seated.{TableId}
 use Rattle.sift_base.specs.declared.layout.Layout.{Layout}
 use Rattle.sift_buffer.specs.Ranges.{Ranges, place}
 use Rattle.sift_buffer.specs.Conduct.{Conduct, never, hearing, stray_to}
 use Rattle.sift_buffer.specs.Core.{Core}
-use Rattle.sift_buffer.specs.Lawful.{Lawful, HasStage, IsLastSaid, HasStamps, IsNear, IsFromSayings, IsFromStrays, IsAmong}
+use Rattle.sift_buffer.specs.Lawful.{Lawful, HasStage, IsLastSaid, HasStamps, IsNear, IsFromSayings, IsFromStrays}
 use Rattle.sift_buffer.specs.Ledgers.{HasItsWords}
 use Rattle.sift_ether.specs.declared.token.Token.{Token}
 use Rattle.sift_ether.specs.Landed.{IsJournalFrom}
@@ -31,7 +31,7 @@ lawful_by r ws of of' e law = record {
       (λ i. (e q hq i, e p hp i)) (law.heard q p f k s h w hq hp ne hk);
   turned = record {
     cells = λ p q k hp hq hk.
-        subst (λ (d : Conduct). d.left < never → IsLastSaid d q k (slice_index ws (place r p q k)) ⊎ IsAmong (stray_to q k (slice_index ws (place r p q k))) d.strays)
+        subst (λ (d : Conduct). d.left < never → IsLastSaid d q k (slice_index ws (place r p q k)) ⊎ Contains d.strays (stray_to q k (slice_index ws (place r p q k))))
         (e p hp) (law.turned.cells p q k hp hq hk);
     heard = λ q p f k s h w hq hp ne hk.
         subst (λ (x : Conduct × Conduct). x.0.heard f k p ≡ Some (hearing s h w) → x.1.left ≤ h → IsFromStrays x.1 q k s w)

@@ -48,7 +48,7 @@ unfolding taken
 hearing_rows = record {
   hears = λ q k p hq. (calm_round count count_flies 0 (omega arith)).hearing q k p (fly q hq);
   hears_other = λ h. let e : 17 ≡ 16 = same_Some 17 16 (h.heard refl refl) in omega (arith, e);
-  strayed = stray (packed 5 (Some 7)) (inl refl) taken_is;
+  strayed = stray (packed 5 (Some 7)) (0, omega arith, refl) taken_is;
   no_stray = none;
   round = calm_round count count_flies 0 (omega arith);
   not_round = λ r. let e : 17 ≡ 16 = ((r.conduct 2 (fly 2 refl)).busy refl).outputs 0 (omega arith) in omega (arith, e);
@@ -62,7 +62,7 @@ hearing_rows = record {
 
     none : ¬ IsOfStray [] 1 3 5 (Some 7)
     none (absent e) = none-some 7 (sym e)
-    none (stray x among e) = among
+    none (stray x among e) = let low = among.1 in absurd (omega arith)
 
 -- ---- configurations
 

@@ -1,5 +1,6 @@
 -- Flights: what units said, heard and accounted for, what each hears of another, and the flights in which each does what its conduct says.
 use Rattle.std.specs.Prelude.{ℕ, List, ◌≡◌, [], true, false, Option, None, ◌<◌, nat_eq, if◌then◌else◌}
+use Rattle.std.specs.List.{Contains}
 use Rattle.sift_buffer.specs.Core.{Core}
 use Rattle.sift_mission.specs.Data.{FlownMission}
 use Rattle.sift_conduct.specs.Conduct.{Account, Places}
@@ -7,7 +8,6 @@ use Rattle.sift_conduct.specs.Acts.{said_places, heard_places}
 use Rattle.sift_base.specs.declared.slot.Slot.{Slot}
 use Rattle.sift_buffer.specs.Cell.{taken}
 use Rattle.sift_buffer.specs.Conduct.{Stray, stray_to}
-use Rattle.sift_buffer.specs.Lawful.{IsAmong}
 use Rattle.sift_mission.specs.Slots.{calls, stamp_of, has_turned}
 use Rattle.sift_base.specs.Units.{has}
 use Rattle.sift_conduct.specs.Frames.{UnitFlight, FrameConduct, Flies}
@@ -46,7 +46,7 @@ no_strays p = []
 -- absence, or what is taken of a stray to q in slot number k by the stamp s
 pub data IsOfStray (strays : List Stray) (q k s : ℕ) (w : Option ℕ) : Type 0 where
   absent : w ≡ None → IsOfStray strays q k s w
-  stray : (x : ℕ) → IsAmong (stray_to q k x) strays → w ≡ taken x s → IsOfStray strays q k s w
+  stray : (x : ℕ) → Contains strays (stray_to q k x) → w ≡ taken x s → IsOfStray strays q k s w
 
 module _ (m : FlownMission) (strays : Strays) (fl : Flight) (f : ℕ) where
   -- the hearing equations of q for slot k and unit p in frame f. Where p says the slot to q under q's configuration, q hears what p said, if
