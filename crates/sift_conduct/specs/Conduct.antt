@@ -1,6 +1,7 @@
 -- What a unit does in a frame in which it is in its configuration: equations between its account, what it heard, and the words voted in the
 -- frame before.
-use Rattle.std.specs.Prelude.{ℕ, List, Bool, Option, ℤ, ◌≡◌, zero, suc, ◌<◌, length, map, slice_index, false, not, ◌&&◌, ◌||◌, nat_eq, if◌then◌else◌, None, Some, unwrap_or, ◌+ℤ◌}
+use Rattle.std.specs.Prelude.{ℕ, List, Bool, Option, ℤ, ◌≡◌, ◌<◌, length, map, slice_index, false, not, ◌&&◌, nat_eq, if◌then◌else◌, None, Some, unwrap_or, ◌+ℤ◌}
+use Rattle.std.specs.List.{list_any, range_with_len}
 use Rattle.sift_base.specs.declared.slot.Slot.{Slot}
 use Rattle.sift_base.specs.Units.{holds, has, has_bit, bits_of}
 use Rattle.sift_exec.specs.Conviction.{everyone_in, next_by}
@@ -65,11 +66,6 @@ pub record UnitFrame : Type 0 where
 abbrev pub unit_frame : FlownMission → (config : List ℕ) → (unit frame : ℕ) → Account → (heard : Places) → (last : List ℕ) → UnitFrame
 unit_frame m us u f a h last = record { mission = m; unit = u; frame = f; account = record a { cfg = us }; heard = h; last = last }
 
--- some number below n passes
-abbrev pub any_below : ℕ → (ℕ → Bool) → Bool
-any_below zero test = false
-any_below (suc n) test = any_below n test || test n
-
 -- the report of an account: the byte of the units that were caught
 abbrev pub report_in : Account → ℕ
 report_in a = bits_of (everyone_in a.bad)
@@ -109,12 +105,14 @@ module _ (x : UnitFrame) where
   -- v is an executor of a word that is absent, or differs from a majority that is there
   abbrev pub poll_catches : ℕ → Bool
   poll_catches v =
-      has us v && any_below m.words (λ w. m.executes us w v && differs (polled w v) (majority_of (map (polled w) (executors m us w))))
+      has us v
+      && list_any (λ w. m.executes us w v && differs (polled w v) (majority_of (map (polled w) (executors m us w)))) (range_with_len 0 m.words)
 
   -- v relayed a sensor that u reads as absent, or as another word
   abbrev pub relay_catches : ℕ → Bool
   relay_catches v =
-      has us v && (not (nat_eq v u) && any_below m.sensors (λ s. nat_eq (reader_of us s) u && differs (h (RelaySense s) v) (Some (m.sensed s f))))
+      has us v && (not (nat_eq v u)
+      && list_any (λ s. nat_eq (reader_of us s) u && differs (h (RelaySense s) v) (Some (m.sensed s f))) (range_with_len 0 m.sensors))
 
   -- u's reading of p's clock
   abbrev pub reading_by : ℕ → Option ℤ

@@ -14,8 +14,9 @@ use Rattle.sift_config.specs.Config.{reader_of}
 use Rattle.sift_clock.specs.Correction.{next_offset, reading_of, is_too_far}
 use Rattle.sift_mission.specs.Data.{FlownMission}
 use Rattle.sift_mission.specs.Slots.{executors}
-use Rattle.sift_conduct.specs.Conduct.{Account, UnitFrame, unit_frame, Conduct, any_below, poll_catches, relay_catches, clock_catches, report_of, said_of}
+use Rattle.sift_conduct.specs.Conduct.{Account, UnitFrame, unit_frame, Conduct, poll_catches, relay_catches, clock_catches, report_of, said_of}
 use Rattle.sift_conduct.specs.Frames.{last_of, Flies, IdleConduct}
+use Rattle.sift_conduct.proofs.lemmas.Tests.{any-same}
 use Rattle.sift_flight.specs.Flight.{Flight, config_of, Strays, AreSameAt}
 use Rattle.sift_flight.specs.Existence.{StrayHearing}
 use Rattle.sift_flight.proofs.Same.{AreBothRound, HearAlike, conduct_one, conduct_other, busy_one, idle_one, by_place, say, hear}
@@ -24,11 +25,6 @@ use Rattle.sift_flight.proofs.SameWords.{heard_clock, heard_sense, heard_relay, 
 -- sets that hold the same units are the same
 same_units : (s t : Units) → ((u : ℕ) → holds s u ≡ holds t u) → s ≡ t
 same_units s t same = set.same_set nat_cmp_total set.nat_cmp-IsAntisymmetric s t same
-
--- tests that agree below a number tell alike whether some number below it passes
-any_same : (n : ℕ) (p q : ℕ → Bool) → ((x : ℕ) → x < n → p x ≡ q x) → any_below n p ≡ any_below n q
-any_same zero p q same = refl
-any_same (suc n) p q same = rw (any_same n p q (λ x low. same x (omega arith)), same n (omega arith)) refl
 
 module _ (m : FlownMission) (strays strays' : Strays) (stray : StrayHearing) (fl gl : Flight) (f : ℕ) (b : AreBothRound m strays strays' stray fl gl f) where
   abbrev us : ℕ → List ℕ
@@ -57,12 +53,12 @@ module _ (m : FlownMission) (strays strays' : Strays) (stray : StrayHearing) (fl
   -- ---- catches
 
   poll_same : (u : ℕ) → Flies m u f → (v : ℕ) → poll_catches (frame_one u) v ≡ poll_catches (frame_other u) v
-  poll_same u hu v = ap (λ t. has (us u) v && t) (any_same m.words _ _ (λ w low.
+  poll_same u hu v = ap (λ t. has (us u) v && t) (any-same m.words _ _ (λ w low.
       ap (λ (place : ℕ → Option ℕ). m.executes (us u) w v && differs (place v) (majority_of (map place (executors m (us u) w))))
       (polled_same m strays strays' stray fl gl f b w low (outs_same m strays strays' stray fl gl f b w (omega arith)) u hu)))
 
   relay_same : (u : ℕ) → Flies m u f → (v : ℕ) → relay_catches (frame_one u) v ≡ relay_catches (frame_other u) v
-  relay_same u hu v = ap (λ t. has (us u) v && (not (nat_eq v u) && t)) (any_same m.sensors _ _ (λ x low.
+  relay_same u hu v = ap (λ t. has (us u) v && (not (nat_eq v u) && t)) (any-same m.sensors _ _ (λ x low.
       ap (λ (place : ℕ → Option ℕ). nat_eq (reader_of (us u) x) u && differs (place v) (Some (m.sensed x f))) (alike (RelaySense x) (heard_relay m strays strays' stray fl gl f b x) u hu)))
 
   clock_same : (u : ℕ) → Flies m u f → (v : ℕ) → clock_catches (frame_one u) v ≡ clock_catches (frame_other u) v

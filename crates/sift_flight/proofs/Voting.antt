@@ -1,7 +1,7 @@
 -- Working units vote the words that the tasks make, and catch no working unit for its words.
-use Rattle.std.proofs.Common.{◌≡◌, inl, inr, ℕ, zero, suc, ◌<◌, ◌≤◌, List, [], ◌∷◌, map, slice_index, Bool, true, false, not, Option, Some, refl, sym, ap, ◌∙◌, arith}
+use Rattle.std.proofs.Common.{◌≡◌, inl, inr, ℕ, zero, suc, ◌+◌, ◌<◌, ◌≤◌, List, [], ◌∷◌, map, slice_index, Bool, true, false, not, Option, Some, refl, sym, ap, ◌∙◌, arith}
 use Rattle.std.specs.Prelude.{count_by}
-use Rattle.std.specs.List.{filter}
+use Rattle.std.specs.List.{filter, list_any, range_with_len}
 use Rattle.std.proofs.lemmas.Bool.{cases_Bool, true≢false}
 use Rattle.std.proofs.lemmas.Bool.Decides.{eqb_tells}
 use Rattle.std.proofs.lemmas.List.{length-map}
@@ -15,7 +15,7 @@ use Rattle.sift_agree.proofs.lemmas.Taking.{votes-working}
 use Rattle.sift_agree.proofs.lemmas.Winners.{won-agreed}
 use Rattle.sift_mission.specs.Data.{FlownMission}
 use Rattle.sift_mission.specs.Slots.{executors, is_held}
-use Rattle.sift_conduct.specs.Conduct.{UnitFrame, made, polled, any_below, poll_catches}
+use Rattle.sift_conduct.specs.Conduct.{UnitFrame, made, polled, poll_catches}
 use Rattle.sift_conduct.specs.Frames.{last_of}
 use Rattle.sift_flight.specs.Flight.{Flight, Strays}
 use Rattle.sift_flight.proofs.Calls.{and_both}
@@ -33,13 +33,17 @@ count-filter-≤ p q (u ∷ us) =
       | inr f ↦ rw f (omega (arith, rest, count-cons p u us))
     ]
 
--- some number below n passes
-pub any_found : (n : ℕ) (p : ℕ → Bool) → any_below n p ≡ true → (x : ℕ) × (x < n) × (p x ≡ true)
-any_found zero p e = absurd cc
-any_found (suc n) p e = elim (cases_Bool (any_below n p)) [
-  | inl t ↦ let r = any_found n p t in let low : r.0 < n = r.1 in (r.0, omega arith, r.2)
-  | inr t ↦ (n, omega arith, rw t at e)
+-- some of so many numbers passes, from this one on
+found_from : (from n : ℕ) (p : ℕ → Bool) → list_any p (range_with_len from n) ≡ true → (x : ℕ) × (x < from + n) × (p x ≡ true)
+found_from from zero p e = absurd cc
+found_from from (suc n) p e = elim (cases_Bool (p from)) [
+  | inl t ↦ (from, omega arith, t)
+  | inr t ↦ let r = found_from (from + 1) n p (rw t at e) in let low : r.0 < from + 1 + n = r.1 in (r.0, omega arith, r.2)
 ]
+
+-- some number below n passes
+pub any_found : (n : ℕ) (p : ℕ → Bool) → list_any p (range_with_len 0 n) ≡ true → (x : ℕ) × (x < n) × (p x ≡ true)
+any_found n p e = found_from 0 n p e
 
 -- a word doesn't differ from itself
 pub same_not_differs : (w : ℕ) → differs (Some w) (Some w) ≡ true → ⊥

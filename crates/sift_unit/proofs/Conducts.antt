@@ -1,6 +1,7 @@
 -- The account of a frame meets the equations of conduct, once all was heard.
 use Rattle.std.proofs.Common.{◌≡◌, inl, inr, ℕ, List, true, not, nat_eq, refl, sym, ap, ◌∙◌, subst, lt-ltb}
 use Rattle.std.specs.Prelude.{ℤ, length, slice_index, ◌+ℤ◌}
+use Rattle.std.specs.List.{range_with_len}
 use Rattle.std.proofs.lemmas.Bool.{cases_Bool}
 use Rattle.sift_base.specs.Units.{has, has_bit, holds}
 use Rattle.sift_base.specs.declared.slot.Slot.{Slot}
@@ -10,10 +11,11 @@ use Rattle.sift_mission.specs.Data.{FlownMission, IsConfigOf}
 use Rattle.sift_mission.specs.Slots.{is_slot}
 use Rattle.sift_conduct.specs.Conduct.{Account, Places, UnitFrame, unit_frame, Conduct, report_in, report_of, reading_by}
 use Rattle.sift_conduct.specs.Frames.{IdleConduct}
+use Rattle.sift_conduct.proofs.lemmas.Tests.{any-same}
 use Rattle.sift_unit.specs.Memory.{Memory}
 use Rattle.sift_unit.specs.Tidings.{busy_account, idle_account, names_now}
 use Rattle.sift_unit.specs.Remembered.{Heard, IsShaped, with_clock}
-use Rattle.sift_unit.proofs.Tests.{apart, and_in, any-same, any-and}
+use Rattle.sift_unit.proofs.Tests.{apart, and_in, any-and}
 use Rattle.sift_unit.proofs.Sets.{holds-gathered, next-same}
 
 module _ (m : FlownMission) (us : List ℕ) (u f : ℕ) (clk : ℤ) (a : Account) (h : Places) (last : List ℕ) (config : IsConfigOf m us) where
@@ -34,7 +36,7 @@ module _ (m : FlownMission) (us : List ℕ) (u f : ℕ) (clk : ℤ) (a : Account
         ∙ and_in (has us v) _ _ (λ t. any-same m.words _ _ (λ w low. (heard (Out w) (lt-ltb w m.words low)).1 v ∙ rw t refl));
     relays = λ v. ap (λ (z : Account). holds z.bad.relay v) e ∙ holds-gathered _ us v
         ∙ and_in (has us v) _ _ (λ t. any-same m.sensors _ _ (λ x low. (heard (RelaySense x) (lt-ltb x m.sensors low)).1 v ∙ rw t refl)
-        ∙ any-and m.sensors (not (nat_eq v u)) _);
+        ∙ any-and (range_with_len 0 m.sensors) (not (nat_eq v u)) _);
     clocks = λ v. ap (λ (z : Account). holds z.bad.clock v) e ∙ (heard Clock refl).0 v ∙ rw ck refl;
     next_cfg = ap (λ (z : Account). z.next_cfg) e ∙ next-same (names_now m us u b) (λ r v. has_bit (report_of us u a h r) v) us named;
     next_clk = ap (λ (z : Account). z.next_clk) e ∙ (heard Clock refl).1

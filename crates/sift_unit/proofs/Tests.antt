@@ -1,7 +1,7 @@
 -- Tests of numbers, joined.
-use Rattle.std.proofs.Common.{◌≡◌, ◌≢◌, ℕ, zero, suc, ◌+◌, ◌<◌, ap, Bool, true, false, not, ◌&&◌, ◌||◌, nat_eq, Option, Some, None, refl, sym, ◌∙◌, arith, eq-eqb}
+use Rattle.std.proofs.Common.{◌≡◌, ◌≢◌, ℕ, zero, suc, ◌+◌, List, [], ◌∷◌, ap, Bool, true, false, not, ◌&&◌, ◌||◌, nat_eq, Option, Some, None, refl, sym, ◌∙◌, add-one, arith, eq-eqb}
 use Rattle.std.specs.Prelude.{if◌then◌else◌}
-use Rattle.sift_conduct.specs.Conduct.{any_below}
+use Rattle.std.specs.List.{list_any, range_with_len}
 
 -- two tests that pass
 pub both : (a b : Bool) → a ≡ true → b ≡ true → a && b ≡ true
@@ -50,21 +50,31 @@ pub choice_none : {A : Type 0} (t p : Bool) (x : Option A) → p ≡ false → (
 choice_none true p x e = rw e refl
 choice_none false p x e = refl
 
--- a test that is the same at each number finds a number below n where the other does
-pub any-same : (n : ℕ) (p q : ℕ → Bool) → ((w : ℕ) → w < n → p w ≡ q w) → any_below n p ≡ any_below n q
-any-same zero p q same = refl
-any-same (suc n) p q same = rw (any-same n p q (λ w low. same w (omega arith)), same n (omega arith)) refl
-
 -- a condition beside each test stands beside all
-pub any-and : (n : ℕ) (c : Bool) (p : ℕ → Bool) → any_below n (λ x. c && p x) ≡ (c && any_below n p)
-any-and zero true p = refl
-any-and zero false p = refl
-any-and (suc n) c p = rw (any-and n c p) (spread c (any_below n p) (p n))
+pub any-and : (xs : List ℕ) (c : Bool) (p : ℕ → Bool) → list_any (λ x. c && p x) xs ≡ (c && list_any p xs)
+any-and [] true p = refl
+any-and [] false p = refl
+any-and (x ∷ xs) c p = rw (any-and xs c p) (spread c (p x) (list_any p xs))
   where
     spread : (c x y : Bool) → ((c && x) || (c && y)) ≡ (c && (x || y))
     spread true x y = refl
     spread false x y = refl
 
 -- one test more
-pub any-more : (n : ℕ) (p : ℕ → Bool) → (any_below n p || p n) ≡ any_below (n + 1) p
-any-more n p = let e : suc n ≡ n + 1 = omega arith in ap (λ k. any_below k p) e
+pub any-more : (n : ℕ) (p : ℕ → Bool) → (list_any p (range_with_len 0 n) || p n) ≡ list_any p (range_with_len 0 (n + 1))
+any-more n p = more 0 n ∙ ap (λ k. list_any p (range_with_len 0 k)) (sym (add-one n))
+  where
+    grouped : (x y z : Bool) → ((x || y) || z) ≡ (x || (y || z))
+    grouped true y z = refl
+    grouped false y z = refl
+
+    alone : (x : Bool) → (false || x) ≡ (x || false)
+    alone true = refl
+    alone false = refl
+
+    more : (from k : ℕ) → (list_any p (range_with_len from k) || p (from + k)) ≡ list_any p (range_with_len from (suc k))
+    more from zero = let e : from + 0 ≡ from = omega arith in rw e (alone (p from))
+    more from (suc k) =
+        let e : from + suc k ≡ from + 1 + k = omega arith in
+        grouped (p from) (list_any p (range_with_len (from + 1) k)) (p (from + suc k))
+        ∙ ap (λ t. p from || t) (ap (λ j. list_any p (range_with_len (from + 1) k) || p j) e ∙ more (from + 1) k)

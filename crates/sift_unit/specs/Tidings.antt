@@ -1,5 +1,6 @@
 -- What a board says and accounts for, of what it remembers.
 use Rattle.std.specs.Prelude.{ℕ, List, [], slice_index, Bool, true, false, nat_eq, if◌then◌else◌, Option, Some, unwrap_or, ℤ}
+use Rattle.std.specs.List.{list_any, range_with_len}
 use Rattle.sift_base.specs.Word.{word_of}
 use Rattle.sift_base.specs.Units.{Units, has, holds, has_bit, bits_of}
 use Rattle.sift_base.specs.declared.slot.Slot.{Slot}
@@ -7,18 +8,18 @@ use Rattle.sift_base.specs.declared.slot.Slot.TheVariants.{Clock, Sense, RelaySe
 use Rattle.sift_exec.specs.Conviction.{everyone_in, nobody, next_by}
 use Rattle.sift_exec.specs.declared.catches.Catches.{Catches}
 use Rattle.sift_mission.specs.Data.{FlownMission}
-use Rattle.sift_conduct.specs.Conduct.{Account, any_below}
+use Rattle.sift_conduct.specs.Conduct.{Account}
 use Rattle.sift_unit.specs.Memory.{Memory, place_at, units_at, gathered}
 
 -- ---- catches
 
 -- the units that were caught in the poll of some word
 abbrev pub poll_now : FlownMission → List ℕ → Memory → Units
-poll_now m us b = gathered (λ v. any_below m.words (λ w. holds (units_at b.poll w) v)) us
+poll_now m us b = gathered (λ v. list_any (λ w. holds (units_at b.poll w) v) (range_with_len 0 m.words)) us
 
 -- the units that were caught by their relays of some sensor
 abbrev pub relay_now : FlownMission → List ℕ → Memory → Units
-relay_now m us b = gathered (λ v. any_below m.sensors (λ x. holds (units_at b.relay x) v)) us
+relay_now m us b = gathered (λ v. list_any (λ x. holds (units_at b.relay x) v) (range_with_len 0 m.sensors)) us
 
 -- all that were caught, by kind
 abbrev pub bad_now : FlownMission → List ℕ → Memory → Catches

@@ -1,10 +1,10 @@
 //! What a board says, of what it remembers.
 
 ghost use Rattle.std.specs.Prelude.{◌≡◌, ◌<◌, ◌≤◌, ◌&&◌, ℕ, length, true};
+ghost use Rattle.std.specs.List.{list_any, range_with_len};
 ghost use Rattle.sift_base.specs.Units.{has, holds};
 ghost use Rattle.sift_mission.specs.Fits.{Fits};
 ghost use Rattle.sift_mission.specs.Slots.{is_slot};
-ghost use Rattle.sift_conduct.specs.Conduct.{any_below};
 ghost use Rattle.sift_unit.specs.Memory.{units_at};
 ghost use Rattle.sift_unit.specs.Tidings.{bad_now, report_now, word_now, word_to as word_for};
 ghost use Rattle.sift_unit.specs.Remembered.{IsShaped};
@@ -92,7 +92,7 @@ impl Memory {
 /// The members of the first sets.
 fn union_of(sets: &[UnitSet], count: usize) -> UnitSet
     requires { count ≤ length sets.now }
-    ensures { (v : ℕ) → holds result v ≡ any_below count (λ i. holds (units_at sets.now i) v) }
+    ensures { (v : ℕ) → holds result v ≡ list_any (λ i. holds (units_at sets.now i) v) (range_with_len 0 count) }
 {
     let mut all = UnitSet::empty();
     for i in 0..count {
