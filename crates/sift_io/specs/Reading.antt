@@ -55,13 +55,10 @@ TakesAtMost old new count = (bytes : List ℕ) × Consumes old.left new.left byt
 abbrev pub CountsNothing : Inflow → Inflow → Type 0
 CountsNothing old new = (new.faults ≡ old.faults) × (new.ends ≡ old.ends)
 
--- no fault was counted, and one end
-abbrev pub CountsOneEnd : Inflow → Inflow → Type 0
-CountsOneEnd old new = (new.faults ≡ old.faults) × (new.ends ≡ next_count old.ends)
-
 -- all that was left was taken, these bytes, at most so many; no read failed, and one met the end
 abbrev pub TakesAll : Inflow → Inflow → List ℕ → ℕ → Type 0
-TakesAll old new bytes limit = Consumes old.left new.left bytes × IsAtEnd new.left × (length bytes ≤ limit) × CountsOneEnd old new
+TakesAll old new bytes limit =
+    Consumes old.left new.left bytes × IsAtEnd new.left × (length bytes ≤ limit) × (new.faults ≡ old.faults) × (new.ends ≡ next_count old.ends)
 
 -- a whole read that stops took the byte past the limit, or stopped before that one, at a fault or for want of memory; it met
 -- no end, and where no fault stopped it no read failed
