@@ -6,7 +6,8 @@ use Rattle.sift_load.specs.Loads.{no_mission_statuses}
 use Rattle.sift_mission.specs.Data.{MissionData, FlownMission}
 use Rattle.sift_mission.specs.Flown.{flown}
 use Rattle.sift_reply.specs.Reply.{Reply, done, done_status}
-use Rattle.sift_report.specs.Sheet.{report_of}
+use Rattle.sift_report.specs.Line.{text_of_lines}
+use Rattle.sift_report.specs.Sheet.{sheet_of}
 use Rattle.sift_report.specs.declared.version.Version.TheVariants.{Two}
 use Rattle.sift_bus_jobs.specs.Numbers.{BusNumbers}
 use Rattle.sift_bus_jobs.specs.Text.{words_text}
@@ -37,7 +38,8 @@ pub record FliesCalm (mission : MissionData) (flight : Flight) : Type 0 where
 
 -- the text of a flight: its report in version 2; and for each frame how many words the faulty bus got wrong of those that all units heard
 abbrev pub told : BusNumbers → MissionData → Flight → List ℕ
-told job mission flight = report_of (flown mission) flight Two ++ words_text job.bus mission.frames (wrong_in job (flown mission) flight)
+told job mission flight =
+    text_of_lines (sheet_of (flown mission) flight Two) ++ words_text job.bus mission.frames (wrong_in job (flown mission) flight)
 
 -- ---- what it gives
 

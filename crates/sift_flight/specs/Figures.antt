@@ -76,14 +76,6 @@ abbrev pub slack_of : ℤ → List ℤ → List ℤ → Option ℤ
 slack_of length [] next = None
 slack_of length (p ∷ ps) next = Some (length -ℤ (fold int_max p (ps ++ next) -ℤ fold int_min p ps))
 
--- the skew of a frame, where a unit of its configuration works
-abbrev pub skew_at : FlownMission → Flight → ℕ → Option ℤ
-skew_at m fl f = skew_of (offsets_at m fl f)
-
--- the slack of a frame, where a unit of its configuration works
-abbrev pub slack_at : FlownMission → Flight → ℕ → Option ℤ
-slack_at m fl f = slack_of m.length (offsets_at m fl f) (next_offsets_at m fl f)
-
 -- ---- laws
 
 -- the margin of a frame is told just where it has margin

@@ -3,7 +3,7 @@
 ghost use Rattle.std.specs.Prelude.{◌≡◌, ◌<◌, ◌≤◌, [], All, MatchOption, length, map};
 ghost use Rattle.sift_skew.specs.Figures.{AreInRange};
 ghost use Rattle.sift_mission.specs.Parts.{flown_of};
-ghost use Rattle.sift_flight.specs.Figures.{IsSkewAt, IsSlackAt, Works, working_at, skew_at, slack_at};
+ghost use Rattle.sift_flight.specs.Figures.{IsSkewAt, IsSlackAt, Works, next_offsets_at, offsets_at, skew_of, slack_of, working_at};
 ghost use Rattle.sift_flight.specs.Told.{IsWhole, told};
 
 use crate::figures::working_at;
@@ -18,7 +18,7 @@ use sift_skew::{skew, slack};
 pub fn skew_at(mission: &Mission, flight: &Flight, f: u32) -> Option<i64>
     requires whole { IsWhole (flown_of mission.now) mission.now.layout flight.now }
     requires frame { f < (flown_of mission.now).frames }
-    ensures told { result ≡ skew_at (flown_of mission.now) (told (flown_of mission.now) flight.now) f }
+    ensures told { result ≡ skew_of (offsets_at (flown_of mission.now) (told (flown_of mission.now) flight.now) f) }
     ensures skew { MatchOption result (working_at (flown_of mission.now) (told (flown_of mission.now) flight.now) f ≡ [])
         (IsSkewAt (flown_of mission.now) (told (flown_of mission.now) flight.now) f) }
 {
@@ -31,7 +31,8 @@ pub fn skew_at(mission: &Mission, flight: &Flight, f: u32) -> Option<i64>
 pub fn slack_at(mission: &Mission, flight: &Flight, f: u32) -> Option<i64>
     requires whole { IsWhole (flown_of mission.now) mission.now.layout flight.now }
     requires frame { f < (flown_of mission.now).frames }
-    ensures told { result ≡ slack_at (flown_of mission.now) (told (flown_of mission.now) flight.now) f }
+    ensures told { result ≡ slack_of (flown_of mission.now).length (offsets_at (flown_of mission.now) (told (flown_of mission.now) flight.now) f)
+        (next_offsets_at (flown_of mission.now) (told (flown_of mission.now) flight.now) f) }
     ensures slack { MatchOption result (working_at (flown_of mission.now) (told (flown_of mission.now) flight.now) f ≡ [])
         (IsSlackAt (flown_of mission.now) (told (flown_of mission.now) flight.now) f) }
 {

@@ -22,13 +22,12 @@ not_done (Refused (Script entry rule)) is = omega (arith, is)
 -- the text of a reply of `run` with the status 0 is the report, in the version asked for, of a flight of the mission that the bytes state, and
 -- the headline holds of its lines
 pub headlined : (given : MissionData → Strays → Type 0) → StatedMissionsFit → HeadlineIsPrinted → RunIsHeadlined given
-headlined given fit printed job bytes reply (inl (mission, states, (text, (flight, flies, (lines, told)), is))) status = record {
+headlined given fit printed job bytes reply (inl (mission, states, (text, (flight, flies, told), is))) status = record {
   mission = mission;
   flight = flight;
   stated = states;
   flies = flies;
-  told = ap (λ (r : Reply). r.text) is ∙ told;
-  lines = lines;
+  told = (told.0, ap (λ (r : Reply). r.text) is ∙ told.1);
   headline = printed mission flies.strays flight job.version (fit states.0 mission states.2) flies.round;
 }
 headlined given fit printed job bytes reply (inr (why, none, is)) status =

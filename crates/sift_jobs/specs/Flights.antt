@@ -7,8 +7,8 @@ use Rattle.sift_load.specs.Loads.{States}
 use Rattle.sift_mission.specs.Data.{MissionData}
 use Rattle.sift_mission.specs.Flown.{flown}
 use Rattle.sift_reply.specs.Reply.{Reply, done}
-use Rattle.sift_report.specs.Line.{IsLine}
-use Rattle.sift_report.specs.Sheet.{end_of, report_of, sheet_of}
+use Rattle.sift_report.specs.Line.{IsLine, text_of_lines}
+use Rattle.sift_report.specs.Sheet.{end_of, sheet_of}
 use Rattle.sift_report.specs.Votes.{votes_of}
 use Rattle.sift_jobs.specs.declared.telling.Telling.{Telling}
 use Rattle.sift_jobs.specs.declared.telling.Telling.TheVariants.{Report, Votes, LastLine}
@@ -42,7 +42,7 @@ AreCalm bytes = (mission : MissionData) → States bytes mission → HasNoStorms
 -- the text tells it of a flight of a mission: its report in a version, of which what it prints are lines; its votes; or the report's last line
 abbrev pub IsTelling : MissionData → Flight → Telling → (text : List ℕ) → Type 0
 IsTelling mission flight (Report version) text =
-    All IsLine (sheet_of (flown mission) flight version) × (text ≡ report_of (flown mission) flight version)
+    All IsLine (sheet_of (flown mission) flight version) × (text ≡ text_of_lines (sheet_of (flown mission) flight version))
 IsTelling mission flight Votes text = text ≡ votes_of mission flight
 IsTelling mission flight LastLine text = text ≡ end_of (flown mission) flight
 

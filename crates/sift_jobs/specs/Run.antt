@@ -1,6 +1,5 @@
 -- The command `run`: by which workers it flies, as for every command that flies, the report of a flight in the version asked for, and its headline.
 use Rattle.std.specs.Prelude.{ℕ, Option, Some, None, option_map, unwrap_or, nat_eq, if◌then◌else◌, ◌≡◌, List}
-use Rattle.std.specs.List.{All}
 use Rattle.sift_base.specs.Units.{unit_limit}
 use Rattle.sift_flight.specs.Flight.{Strays, Flight}
 use Rattle.sift_load.specs.Loads.{LoadsThen, States}
@@ -12,9 +11,8 @@ use Rattle.sift_report.specs.declared.version.Version.{Version}
 use Rattle.sift_report.specs.declared.version.Version.TheVariants.{One, Two}
 use Rattle.sift_mission.specs.Flown.{flown}
 use Rattle.sift_report.specs.Headline.{ReportHeadline}
-use Rattle.sift_report.specs.Line.{IsLine, text_of_lines}
 use Rattle.sift_report.specs.Sheet.{sheet_of}
-use Rattle.sift_jobs.specs.Flights.{RepliesWith, IsFlightOf, fewest_workers}
+use Rattle.sift_jobs.specs.Flights.{RepliesWith, IsFlightOf, IsTelling, fewest_workers}
 use Rattle.sift_jobs.specs.declared.run.RunJob.{RunJob}
 use Rattle.sift_jobs.specs.declared.telling.Telling.TheVariants.{Report}
 use Rattle.sift_jobs.specs.declared.workers.Workers.{Workers}
@@ -60,8 +58,7 @@ module _ (given : MissionData → Strays → Type 0) where
     pub flight : Flight
     pub stated : States bytes mission
     pub flies : IsFlightOf given mission flight
-    pub told : text ≡ text_of_lines (sheet_of (flown mission) flight version)
-    pub lines : All IsLine (sheet_of (flown mission) flight version)
+    pub told : IsTelling mission flight (Report version) text
     pub headline : ReportHeadline mission (sheet_of (flown mission) flight version)
 
   -- so it is, in the version asked for, with each reply of `run` that has the status 0

@@ -60,8 +60,8 @@ sheet_read :
     → (version : Version) (document report : List ℕ) (is : IsHeadlined given version document report)
     → AreRead version report (sheet_of (flown is.mission) is.flight version)
 sheet_read given versions apart version document report is = record {
-  all = λ k d low. record { holds = is.lines k d low; told = versions (flown is.mission) is.flight version k d low };
-  texts = apart (sheet_of (flown is.mission) is.flight version) is.lines ∙ ap texts_of (sym is.told);
+  all = λ k d low. record { holds = is.told.0 k d low; told = versions (flown is.mission) is.flight version k d low };
+  texts = apart (sheet_of (flown is.mission) is.flight version) is.told.0 ∙ ap texts_of (sym is.told.1);
 }
 
 -- a report that `run` gives to a document is judged yes behind that document, in the same version

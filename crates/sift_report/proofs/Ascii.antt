@@ -1,6 +1,6 @@
 -- The text of a line is ASCII, and so a text.
 use Rattle.std.proofs.Common.{◌≡◌, ◌∙◌, sym, ℕ, zero, suc, ◌<◌, ◌/◌, ◌%◌, ◌^◌, false, true, ◌||◌, List, [], ◌∷◌, ◌++◌, map, Bool, ◌&&◌, Option, Some, None, ℤ, pos, negsuc, arith, rules, w64, refl}
-use Rattle.std.specs.Prelude.{nat_eq, IsAscii, IsUtf8, ⊤}
+use Rattle.std.specs.Prelude.{nat_eq, IfSome, IsAscii, IsUtf8, ⊤}
 use Rattle.std.specs.Int.RustNames.{FitsSigned}
 use Rattle.std.specs.Fmt.{decimal, signed_decimal, digit_glyph}
 use Rattle.std.specs.List.{All, join_with_byte}
@@ -18,7 +18,7 @@ use Rattle.sift_report.specs.declared.bad.Bad.TheVariants.{Plain, ByKind}
 use Rattle.sift_exec.specs.declared.catches.Catches.{Catches}
 use Rattle.sift_exec.specs.Conviction.{everyone_in, kinds_of}
 use Rattle.sift_report.specs.Line.{IsLine, fields_of, line_text}
-use Rattle.sift_report.specs.Part.{AreTicks, IsWord, list_text, margin_text, ticks_text, unit_digit, units_text, word_text, words_text}
+use Rattle.sift_report.specs.Part.{list_text, margin_text, text_or_dash, unit_digit, units_text, word_text, words_text}
 use Rattle.sift_report.specs.declared.line.ReportLine.{ReportLine}
 use Rattle.sift_report.specs.declared.line.ReportLine.TheVariants.{Unit as unit, Faulty, Idle, Frame, Last}
 
@@ -63,22 +63,22 @@ ascii-signed : (z : ℤ) → FitsSigned w64 z → AreAscii (signed_decimal z)
 ascii-signed (pos n) fits = ascii-decimal n (omega (arith, fits))
 ascii-signed (negsuc n) fits = (omega arith, ascii-decimal (suc n) (omega (arith, fits)))
 
-ascii-ticks : (ticks : Option ℤ) → AreTicks ticks → AreAscii (ticks_text ticks)
+ascii-ticks : (ticks : Option ℤ) → IfSome ticks (FitsSigned w64) → AreAscii (text_or_dash signed_decimal ticks)
 ascii-ticks None h = (omega arith, tt)
 ascii-ticks (Some z) h = ascii-signed z h
 
 ascii-glyph : (d : ℕ) → d < 16 → digit_glyph false d < 128
 ascii-glyph d low = grind (arith, nat_tests)
 
-ascii-word : (w : ℕ) → IsWord w → AreAscii (word_text w)
+ascii-word : (w : ℕ) → w < 2 ^ 16 → AreAscii (word_text w)
 ascii-word w fits =
     (ascii-glyph (w / 4096) (omega arith), (ascii-glyph (w / 256 % 16) (omega arith), (ascii-glyph (w / 16 % 16) (omega arith), (ascii-glyph (w % 16) (omega arith), tt))))
 
-ascii-parts : (words : List ℕ) → All IsWord words → AllAscii (map word_text words)
+ascii-parts : (words : List ℕ) → All (λ w. w < 2 ^ 16) words → AllAscii (map word_text words)
 ascii-parts [] all = tt
 ascii-parts (w ∷ ws) all = (ascii-word w (all 0 w (omega arith)), ascii-parts ws (λ i d low. all (suc i) d (omega arith)))
 
-ascii-words : (words : List ℕ) → All IsWord words → AreAscii (words_text words)
+ascii-words : (words : List ℕ) → All (λ w. w < 2 ^ 16) words → AreAscii (words_text words)
 ascii-words words all = ascii-list (map word_text words) (ascii-parts words all)
 
 ascii-margin : (margin : Bool) → AreAscii (margin_text margin)

@@ -8,7 +8,7 @@ use Rattle.std.proofs.lemmas.List.Splits.{join_with_byte-slice_split}
 use Rattle.sift_base.specs.Units.{members}
 use Rattle.sift_report.specs.declared.line.ReportLine.{ReportLine}
 use Rattle.sift_report.specs.declared.line.ReportLine.TheVariants.{Unit as unit, Faulty, Idle, Frame, Last}
-use Rattle.sift_report.specs.Part.{AreAbove, AreTicks, IsAbove, list_text, margin_text, ticks_text, unit_digit, units_text, word_text, words_text}
+use Rattle.sift_report.specs.Part.{AreAbove, IsAbove, list_text, margin_text, text_or_dash, unit_digit, units_text, word_text, words_text}
 use Rattle.sift_report.specs.Bad.{catch_text, catches_in, caught_text}
 use Rattle.sift_report.specs.Apart.{catch_above}
 use Rattle.sift_report.specs.declared.bad.Bad.{Bad}
@@ -36,7 +36,7 @@ above-units : (units : List ℕ) → IsAbove 32 (units_text units)
 above-units [] = (omega arith, tt)
 above-units (u ∷ us) = above-digits (u ∷ us)
 
-above-ticks : (ticks : Option ℤ) → AreTicks ticks → IsAbove 32 (ticks_text ticks)
+above-ticks : (ticks : Option ℤ) → IfSome ticks (FitsSigned w64) → IsAbove 32 (text_or_dash signed_decimal ticks)
 above-ticks None h = (omega arith, tt)
 above-ticks (Some z) h = above-signed 32 z (omega arith) h
 

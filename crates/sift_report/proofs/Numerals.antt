@@ -9,7 +9,7 @@ use Rattle.std.proofs.lemmas.Fmt.{decimal_is_IsNumeral, decimal_digit, decimal-d
 use Rattle.std.proofs.lemmas.Str.Parse.{IsNumeralModel, digit_from_value, numerals_by_value, tells_digits, parse_plain, parse_signed_plain}
 use Rattle.std.proofs.lemmas.Str.Parse.{parse_signed_minus}
 use Rattle.sift_report.specs.Number.{IsPlain, IsNegative, IsSigned}
-use Rattle.sift_report.specs.Part.{AreTicks, ticks_text}
+use Rattle.sift_report.specs.Part.{text_or_dash}
 use lib.IntN.{neg_ℤ}
 use lib.Signed.{mag}
 
@@ -126,6 +126,6 @@ dash_is_none (inl h) = h
 dash_is_none (inr h) = omega (arith, h)
 
 -- where the text of ticks is `-`, there is no number of them
-pub no_ticks : (ticks : Option ℤ) (bs : List ℕ) → AreTicks ticks → ticks_text ticks ≡ bs → bs ≡ codes "-" → ticks ≡ None
+pub no_ticks : (ticks : Option ℤ) (bs : List ℕ) → IfSome ticks (FitsSigned w64) → text_or_dash signed_decimal ticks ≡ bs → bs ≡ codes "-" → ticks ≡ None
 no_ticks None bs fit e none = refl
 no_ticks (Some z) bs fit e none = absurd (dash_is_none (signed_is_signed z (codes "-") fit (e ∙ none)))

@@ -1,7 +1,8 @@
 -- A text has one sheet: each part of a line is known from its text.
 use Rattle.std.proofs.Common.{◌≡◌, ◌∙◌, refl, sym, ap, subst, ℕ, ℤ, ◌<◌, ◌/◌, ◌%◌, ◌^◌, List, [], ◌∷◌, ◌++◌, length, map, drop}
-use Rattle.std.proofs.Common.{get_or, Bool, false, true, Option, None, Some, codes, eqb, arith}
-use Rattle.std.specs.Fmt.{decimal, digit_glyph}
+use Rattle.std.proofs.Common.{get_or, Bool, false, true, Option, None, Some, IfSome, codes, eqb, arith, w64}
+use Rattle.std.specs.Fmt.{decimal, digit_glyph, signed_decimal}
+use Rattle.std.specs.Int.RustNames.{FitsSigned}
 use Rattle.std.specs.List.{All, slice_split}
 use Rattle.std.proofs.lemmas.Bool.Decides.{nat_tests}
 use Rattle.std.proofs.lemmas.Fmt.{decimal_injective, signed_decimal_injective}
@@ -14,7 +15,7 @@ use Rattle.sift_report.specs.Apart.{catch_above, word_above}
 use Rattle.sift_report.specs.Bad.{IsBad, IsToldBy, catch_text, catches_in, caught_text, kinds_text, version_of}
 use Rattle.sift_report.specs.Line.{HasVersion, IsLine, fields_of, line_text}
 use Rattle.sift_report.specs.OneSheet.{OneLineOfAText, OneSheetOfAText}
-use Rattle.sift_report.specs.Part.{AreTicks, IsAbove, list_text, margin_text, ticks_text, unit_digit, units_text, word_text, words_text}
+use Rattle.sift_report.specs.Part.{IsAbove, list_text, margin_text, text_or_dash, unit_digit, units_text, word_text, words_text}
 use Rattle.sift_report.specs.Texts.{texts_of}
 use Rattle.sift_report.specs.declared.bad.Bad.{Bad}
 use Rattle.sift_report.specs.declared.bad.Bad.TheVariants.{Plain, ByKind}
@@ -78,7 +79,7 @@ one_words ws xs e = one_joined word_text word_above one_word ws xs e
 -- ---- ticks and margins
 
 -- a dash is no number, and numbers are known from their digits
-one_ticks : (s t : Option ℤ) → AreTicks s → AreTicks t → ticks_text s ≡ ticks_text t → s ≡ t
+one_ticks : (s t : Option ℤ) → IfSome s (FitsSigned w64) → IfSome t (FitsSigned w64) → text_or_dash signed_decimal s ≡ text_or_dash signed_decimal t → s ≡ t
 one_ticks None t fits fit e = sym (no_ticks t (codes "-") fit (sym e) refl)
 one_ticks (Some y) None fits fit e = no_ticks (Some y) (codes "-") fits e refl
 one_ticks (Some y) (Some z) fits fit e = ap Some (signed_decimal_injective y z (magnitude y fits) (magnitude z fit) e)

@@ -20,9 +20,9 @@ use Rattle.sift_mission.specs.declared.parts.MissionParts.{MissionParts}
 use Rattle.sift_vote.specs.Majority.{majority_of, HasNoMajority, IsMajority}
 use Rattle.sift_vote.proofs.lemmas.Found.{majority_is_found}
 use Rattle.sift_flight.specs.Flight.{Flight, config_of}
-use Rattle.sift_report.specs.Part.{blank, list_text, unit_digit}
+use Rattle.sift_report.specs.Part.{blank, list_text, text_or_dash, unit_digit, word_text}
 use Rattle.sift_report.specs.Poll.{poll_of, polled_text, polls_of}
-use Rattle.sift_report.specs.Votes.{place_of, place_text, vote_text}
+use Rattle.sift_report.specs.Votes.{place_of, vote_text}
 use Rattle.sift_report.specs.declared.poll.Poll.{Poll}
 use Rattle.sift_mission.specs.Slots.{executors}
 
@@ -37,9 +37,9 @@ polled_words m fl f u w = map-map (λ (poll : Poll). poll.word) (poll_of m fl f 
 
 pub polled_is : (m : FlownMission) (fl : Flight) (f u w : ℕ) →
     polled_text (polls_of m fl f u w)
-    ≡ list_text (map (λ v. unit_digit v ∷ codes ":" ++ place_text (place_of m fl f u w v)) (executors m (config_of fl u f) w))
+    ≡ list_text (map (λ v. unit_digit v ∷ codes ":" ++ text_or_dash word_text (place_of m fl f u w v)) (executors m (config_of fl u f) w))
 polled_is m fl f u w =
-    ap list_text (map-map (λ (poll : Poll). unit_digit poll.unit ∷ codes ":" ++ place_text poll.word) (poll_of m fl f u w) (executors m (config_of fl u f) w))
+    ap list_text (map-map (λ (poll : Poll). unit_digit poll.unit ∷ codes ":" ++ text_or_dash word_text poll.word) (poll_of m fl f u w) (executors m (config_of fl u f) w))
 
 -- the majority that is found
 pub majority_told : (r : Option ℕ) (places : List (Option ℕ)) → IfSome r (IsMajority places) → IfNone r (HasNoMajority places) → r ≡ majority_of places
@@ -76,8 +76,8 @@ module _ (d : MissionData) (fl : Flight) (f u t j : ℕ) where
       let place = place_of (flown d) fl f u w in
       let us = executors (flown d) (config_of fl u f) w in
       (codes "f=" ++ decimal f) ∷ (codes "u=" ++ unit_digit u ∷ []) ∷ (codes "t=" ++ (slice_index_or d.names t [] ++ (codes "." ++ decimal j)))
-      ∷ (codes "words=" ++ list_text (map (λ v. unit_digit v ∷ codes ":" ++ place_text (place v)) us))
-      ∷ (codes "vote=" ++ place_text (majority_of (map place us))) ∷ []
+      ∷ (codes "words=" ++ list_text (map (λ v. unit_digit v ∷ codes ":" ++ text_or_dash word_text (place v)) us))
+      ∷ (codes "vote=" ++ text_or_dash word_text (majority_of (map place us))) ∷ []
 
   -- its fields, written one by one
   vote_written : (word : ℕ) (name : List ℕ) (polls : List Poll) (vote : Option ℕ) (old a b c e : List ℕ)
@@ -85,14 +85,14 @@ module _ (d : MissionData) (fl : Flight) (f u t j : ℕ) where
       → polls ≡ polls_of (flown d) fl f u word → vote ≡ majority_of (map (λ poll. poll.word) polls)
       → a ≡ old ++ codes "f=" ++ decimal f ++ codes " u=" ++ unit_digit u ∷ codes " "
       → b ≡ a ++ (codes "t=" ++ (name ++ (codes "." ++ (decimal j ++ codes " words="))))
-      → c ≡ b ++ polled_text polls → e ≡ c ++ (codes " vote=" ++ place_text vote)
+      → c ≡ b ++ polled_text polls → e ≡ c ++ (codes " vote=" ++ text_or_dash word_text vote)
       → e ≡ old ++ join_with_byte blank vote_fields
   vote_written word name polls vote old a b c e named numbered polled voted head output listed result =
       let number = first_word d.program.tasks t + j in
       let us = executors (flown d) (config_of fl u f) number in
       let place = place_of (flown d) fl f u number in
       let polls_are : polls ≡ polls_of (flown d) fl f u number = polled ∙ ap (polls_of (flown d) fl f u) numbered in
-      let text : polled_text polls ≡ list_text (map (λ v. unit_digit v ∷ codes ":" ++ place_text (place v)) us) =
+      let text : polled_text polls ≡ list_text (map (λ v. unit_digit v ∷ codes ":" ++ text_or_dash word_text (place v)) us) =
       ap polled_text polls_are ∙ polled_is (flown d) fl f u number in
       let winner : vote ≡ majority_of (map place us) =
       voted ∙ ap (λ ps. majority_of (map (λ (poll : Poll). poll.word) ps)) polls_are ∙ ap majority_of (polled_words (flown d) fl f u number) in
@@ -104,7 +104,7 @@ module _ (d : MissionData) (fl : Flight) (f u t j : ℕ) where
       → polls ≡ polls_of (flown d) fl f u word → vote ≡ majority_of (map (λ poll. poll.word) polls)
       → a ≡ old ++ codes "f=" ++ decimal f ++ codes " u=" ++ unit_digit u ∷ codes " "
       → b ≡ a ++ (codes "t=" ++ (name ++ (codes "." ++ (decimal j ++ codes " words="))))
-      → c ≡ b ++ polled_text polls → e ≡ c ++ (codes " vote=" ++ place_text vote) → new ≡ e ++ codes "\n"
+      → c ≡ b ++ polled_text polls → e ≡ c ++ (codes " vote=" ++ text_or_dash word_text vote) → new ≡ e ++ codes "\n"
       → new ≡ old ++ vote_text d fl f u t j
   vote_ends word name polls vote old a b c e new named numbered polled voted head output listed result pushed =
       pushed ∙ ap (λ bs. bs ++ codes "\n") (vote_written word name polls vote old a b c e named numbered polled voted head output listed result)

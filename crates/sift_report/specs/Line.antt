@@ -1,5 +1,5 @@
 -- The lines of a report, and how each is printed. There is no other grammar: a text is read as a line just where it is the line's.
-use Rattle.std.specs.Prelude.{codes, ◌≡◌, ℕ, ◌^◌, ◌<◌, ◌≤◌, List, [], ◌∷◌, ◌++◌, length, ⊤}
+use Rattle.std.specs.Prelude.{codes, ◌≡◌, ℕ, ◌^◌, ◌<◌, ◌≤◌, List, [], ◌∷◌, ◌++◌, length, IfSome, ⊤}
 use Rattle.std.specs.Fmt.{decimal, signed_decimal}
 use Rattle.std.specs.Int.{w64}
 use Rattle.std.specs.Int.RustNames.{FitsSigned}
@@ -8,7 +8,7 @@ use Rattle.sift_base.specs.Layout.{sensor_limit, word_limit}
 use Rattle.sift_base.specs.Units.{unit_limit}
 use Rattle.sift_config.specs.Config.{IsConfig}
 use Rattle.sift_report.specs.Bad.{IsBad, caught_text, version_of}
-use Rattle.sift_report.specs.Part.{IsWord, AreTicks, blank, unit_digit, units_text, words_text, ticks_text, margin_text}
+use Rattle.sift_report.specs.Part.{blank, unit_digit, units_text, words_text, text_or_dash, margin_text}
 use Rattle.sift_report.specs.declared.version.Version.{Version}
 use Rattle.sift_report.specs.declared.line.ReportLine.{ReportLine}
 use Rattle.sift_report.specs.declared.line.ReportLine.TheVariants.{Unit as unit, Faulty, Idle, Frame, Last}
@@ -21,7 +21,8 @@ fields_of (unit f u cfg clk ins outs bad) =
 fields_of (Faulty f u) = (codes "f=" ++ decimal f) ∷ (codes "u=" ++ unit_digit u ∷ []) ∷ codes "faulty" ∷ []
 fields_of (Idle f u) = (codes "f=" ++ decimal f) ∷ (codes "u=" ++ unit_digit u ∷ []) ∷ codes "idle" ∷ []
 fields_of (Frame f skew slack margin) =
-    (codes "f=" ++ decimal f) ∷ (codes "skew=" ++ ticks_text skew) ∷ (codes "slack=" ++ ticks_text slack) ∷ (codes "margin=" ++ margin_text margin) ∷ []
+    (codes "f=" ++ decimal f) ∷ (codes "skew=" ++ text_or_dash signed_decimal skew) ∷ (codes "slack=" ++ text_or_dash signed_decimal slack)
+    ∷ (codes "margin=" ++ margin_text margin) ∷ []
 fields_of (Last frames cfg margin) =
     codes "end" ∷ (codes "frames=" ++ decimal frames) ∷ (codes "cfg=" ++ units_text cfg) ∷ (codes "margin=" ++ margin_text margin) ∷ []
 
@@ -40,11 +41,11 @@ text_of_lines lines = flat_map printed lines
 -- each field of the line holds what it can: a number of 32 bits, a unit, a configuration, ticks of 64 bits, so many words, units
 abbrev pub IsLine : ReportLine → Type 0
 IsLine (unit f u cfg clk ins outs bad) =
-    (f < 2 ^ 32) × (u < unit_limit) × IsConfig cfg × FitsSigned w64 clk × (All IsWord ins.items × (length ins.items ≤ sensor_limit))
-    × (All IsWord outs.items × (length outs.items ≤ word_limit)) × IsBad bad
+    (f < 2 ^ 32) × (u < unit_limit) × IsConfig cfg × FitsSigned w64 clk × (All (λ w. w < 2 ^ 16) ins.items × (length ins.items ≤ sensor_limit))
+    × (All (λ w. w < 2 ^ 16) outs.items × (length outs.items ≤ word_limit)) × IsBad bad
 IsLine (Faulty f u) = (f < 2 ^ 32) × (u < unit_limit)
 IsLine (Idle f u) = (f < 2 ^ 32) × (u < unit_limit)
-IsLine (Frame f skew slack margin) = (f < 2 ^ 32) × AreTicks skew × AreTicks slack
+IsLine (Frame f skew slack margin) = (f < 2 ^ 32) × IfSome skew (FitsSigned w64) × IfSome slack (FitsSigned w64)
 IsLine (Last frames cfg margin) = (frames < 2 ^ 32) × IsConfig cfg
 
 -- the line is one of a report of this version: only caught units are told in two ways

@@ -1,18 +1,12 @@
 -- The parts of a line, and the text of each.
-use Rattle.std.specs.Prelude.{codes, ℕ, ◌+◌, ◌/◌, ◌%◌, ◌^◌, ◌<◌, ◌≤◌, ℤ, List, [], ◌∷◌, map, Bool, true, false, Option, Some, None, ⊤}
-use Rattle.std.specs.Fmt.{digit_glyph, signed_decimal}
-use Rattle.std.specs.Int.{w64}
-use Rattle.std.specs.Int.RustNames.{FitsSigned}
+use Rattle.std.specs.Prelude.{byte, codes, ℕ, ◌+◌, ◌/◌, ◌%◌, ◌<◌, ◌≤◌, List, [], ◌∷◌, map, Bool, true, false, Option, Some, None, ⊤}
+use Rattle.std.specs.Fmt.{digit_glyph}
 use Rattle.std.specs.List.{join_with_byte}
 use Rattle.sift_base.specs.Units.{unit_limit}
 
 -- the byte between the fields of a line
 abbrev pub blank : ℕ
 blank = 32
-
--- the byte between the parts of a list
-abbrev pub comma : ℕ
-comma = 44
 
 -- the byte that stands for what isn't there
 abbrev pub dash : ℕ
@@ -27,16 +21,16 @@ word_text w = digit_glyph false (w / 4096) ∷ digit_glyph false (w / 256 % 16) 
 -- a list: its parts with commas between them, or `-` where it has none
 abbrev pub list_text : List (List ℕ) → List ℕ
 list_text [] = codes "-"
-list_text (part ∷ parts) = join_with_byte comma (part ∷ parts)
+list_text (part ∷ parts) = join_with_byte (byte ",") (part ∷ parts)
 
 -- a list of words
 abbrev pub words_text : List ℕ → List ℕ
 words_text words = list_text (map word_text words)
 
--- ticks, or `-` where there is no number of them
-abbrev pub ticks_text : Option ℤ → List ℕ
-ticks_text None = codes "-"
-ticks_text (Some ticks) = signed_decimal ticks
+-- the text of what is there, or `-` where nothing is
+abbrev pub text_or_dash : {A : Type 0} → (A → List ℕ) → Option A → List ℕ
+text_or_dash text None = codes "-"
+text_or_dash text (Some value) = text value
 
 -- whether a frame has margin
 abbrev pub margin_text : Bool → List ℕ
@@ -53,15 +47,6 @@ units_text [] = codes "-"
 units_text (u ∷ us) = map unit_digit (u ∷ us)
 
 -- ---- values
-
--- a number that a word holds
-abbrev pub IsWord : ℕ → Type 0
-IsWord w = w < 2 ^ 16
-
--- a number of ticks that can be printed, where there is one
-abbrev pub AreTicks : Option ℤ → Type 0
-AreTicks None = ⊤
-AreTicks (Some ticks) = FitsSigned w64 ticks
 
 -- units that ascend, from this one or a later one
 abbrev pub AscendFrom : ℕ → List ℕ → Type 0

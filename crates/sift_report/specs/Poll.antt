@@ -9,8 +9,8 @@ use Rattle.sift_program.specs.Program.{task_at, first_word}
 use Rattle.sift_flight.specs.Flight.{Flight, config_of}
 use Rattle.sift_flight.specs.Told.{IsWhole, told}
 use Rattle.sift_flight.specs.declared.flight.Flight.{Flight as TheFlight}
-use Rattle.sift_report.specs.Part.{list_text, unit_digit}
-use Rattle.sift_report.specs.Votes.{place_of, place_text}
+use Rattle.sift_report.specs.Part.{list_text, text_or_dash, unit_digit, word_text}
+use Rattle.sift_report.specs.Votes.{place_of}
 use Rattle.sift_report.specs.declared.poll.Output.{Output}
 use Rattle.sift_report.specs.declared.poll.Poll.{Poll}
 use Rattle.sift_mission.specs.Slots.{executors}
@@ -44,4 +44,4 @@ polls_of m fl f u w = map (poll_of m fl f u w) (executors m (config_of fl u f) w
 
 -- polls, as a vote tells them
 abbrev pub polled_text : List Poll → List ℕ
-polled_text polls = list_text (map (λ poll. unit_digit poll.unit ∷ codes ":" ++ place_text poll.word) polls)
+polled_text polls = list_text (map (λ poll. unit_digit poll.unit ∷ codes ":" ++ text_or_dash word_text poll.word) polls)

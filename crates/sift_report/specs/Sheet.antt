@@ -5,9 +5,9 @@ use Rattle.sift_base.specs.Units.{has}
 use Rattle.sift_conduct.specs.Conduct.{Account}
 use Rattle.sift_mission.specs.Data.{FlownMission}
 use Rattle.sift_flight.specs.Flight.{Flight}
-use Rattle.sift_flight.specs.Figures.{config_at, margin_at, skew_at, slack_at}
+use Rattle.sift_flight.specs.Figures.{config_at, margin_at, next_offsets_at, offsets_at, skew_of, slack_of}
 use Rattle.sift_report.specs.Bad.{bad_in}
-use Rattle.sift_report.specs.Line.{printed, text_of_lines}
+use Rattle.sift_report.specs.Line.{printed}
 use Rattle.sift_report.specs.declared.version.Version.{Version}
 use Rattle.sift_report.specs.declared.line.ReportLine.{ReportLine}
 use Rattle.sift_report.specs.declared.line.ReportLine.TheVariants.{Unit as unit, Faulty, Idle, Frame, Last}
@@ -21,9 +21,9 @@ working_line version f u a =
 abbrev pub unit_line : FlownMission → Flight → Version → ℕ → ℕ → ReportLine
 unit_line m fl version f u = if m.works u f then working_line version f u (fl.account u f) else Faulty f u
 
--- what is told of a whole frame
+-- what is told of a whole frame: its skew and slack, where a unit of its configuration works, and its margin
 abbrev pub frame_line : FlownMission → Flight → ℕ → ReportLine
-frame_line m fl f = Frame f (skew_at m fl f) (slack_at m fl f) (margin_at m fl f)
+frame_line m fl f = Frame f (skew_of (offsets_at m fl f)) (slack_of m.length (offsets_at m fl f) (next_offsets_at m fl f)) (margin_at m fl f)
 
 -- the lines of a frame: one for each unit, and one for the whole frame
 abbrev pub frame_lines : FlownMission → Flight → Version → ℕ → List ReportLine
@@ -36,10 +36,6 @@ last_line m fl = Last m.frames (config_at m fl m.frames) (margin_at m fl (m.fram
 -- the lines of a flight's report, in this version
 abbrev pub sheet_of : FlownMission → Flight → Version → List ReportLine
 sheet_of m fl version = flat_map (frame_lines m fl version) (range_with_len 0 m.frames) ++ last_line m fl ∷ []
-
--- the report of a flight, in this version
-abbrev pub report_of : FlownMission → Flight → Version → List ℕ
-report_of m fl version = text_of_lines (sheet_of m fl version)
 
 -- the last line of the report, with its line feed
 abbrev pub end_of : FlownMission → Flight → List ℕ

@@ -1,5 +1,5 @@
 -- The votes of a flight: for each output word the places that a unit polled, and their majority.
-use Rattle.std.specs.Prelude.{codes, ℕ, ◌+◌, List, [], ◌∷◌, ◌++◌, map, length, slice_index, slice_index_or, ◌&&◌, nat_eq, if◌then◌else◌, Option, None, Some}
+use Rattle.std.specs.Prelude.{codes, ℕ, ◌+◌, List, [], ◌∷◌, ◌++◌, map, length, slice_index, slice_index_or, ◌&&◌, nat_eq, if◌then◌else◌, Option}
 use Rattle.std.specs.Fmt.{decimal}
 use Rattle.std.specs.List.{flat_map, join_with_byte, range_with_len}
 use Rattle.sift_base.specs.Units.{has, others}
@@ -10,18 +10,13 @@ use Rattle.sift_mission.specs.Data.{MissionData, FlownMission}
 use Rattle.sift_mission.specs.Flown.{flown}
 use Rattle.sift_mission.specs.Slots.{executors}
 use Rattle.sift_flight.specs.Flight.{Flight, config_of}
-use Rattle.sift_report.specs.Part.{blank, unit_digit, list_text, word_text}
+use Rattle.sift_report.specs.Part.{blank, unit_digit, list_text, text_or_dash, word_text}
 use Rattle.sift_report.specs.Sheet.{end_of}
 
 -- the word of an executor as a unit has it: its own as it said it to the lowest other unit of its configuration, each other as it heard it
 abbrev pub place_of : FlownMission → Flight → ℕ → ℕ → ℕ → ℕ → Option ℕ
 place_of m fl f u w v =
     if nat_eq v u then fl.said u f (Out w) (slice_index (others u (config_of fl u f)) 0) else fl.heard u f (Out w) v
-
--- a word, or `-` where there is none
-abbrev pub place_text : Option ℕ → List ℕ
-place_text None = codes "-"
-place_text (Some word) = word_text word
 
 -- the line of a vote, with its line feed: of output j of task t, which is word w of all, with its executors as unit u polled them in frame f
 abbrev pub vote_text : MissionData → Flight → ℕ → ℕ → ℕ → ℕ → List ℕ
@@ -31,8 +26,8 @@ vote_text d fl f u t j =
     let us = executors (flown d) (config_of fl u f) w in
     join_with_byte blank (
     (codes "f=" ++ decimal f) ∷ (codes "u=" ++ unit_digit u ∷ []) ∷ (codes "t=" ++ (slice_index_or d.names t [] ++ (codes "." ++ decimal j)))
-    ∷ (codes "words=" ++ list_text (map (λ v. unit_digit v ∷ codes ":" ++ place_text (place v)) us))
-    ∷ (codes "vote=" ++ place_text (majority_of (map place us))) ∷ []
+    ∷ (codes "words=" ++ list_text (map (λ v. unit_digit v ∷ codes ":" ++ text_or_dash word_text (place v)) us))
+    ∷ (codes "vote=" ++ text_or_dash word_text (majority_of (map place us))) ∷ []
     ) ++ codes "\n"
 
 -- the votes of a unit in a frame: of each output of each task, where the unit works in the frame and is in its own configuration

@@ -1,9 +1,11 @@
 //! What each field of a line holds, by its type.
 
+ghost use Rattle.std.specs.Prelude.{◌<◌, ◌^◌, IfSome};
+ghost use Rattle.std.specs.Int.{w64};
+ghost use Rattle.std.specs.Int.RustNames.{FitsSigned};
 ghost use Rattle.std.specs.List.{All};
 ghost use Rattle.sift_report.specs.Bad.{IsBad};
 ghost use Rattle.sift_report.specs.Line.{IsLine};
-ghost use Rattle.sift_report.specs.Part.{AreTicks, IsWord};
 
 use crate::bad::Bad;
 use crate::line::ReportLine;
@@ -50,7 +52,7 @@ impl ReportLine {
 
 /// Ticks are a number of 64 bits, where there are some.
 fn are_ticks(ticks: Option<i64>)
-    ensures { AreTicks ticks }
+    ensures { IfSome ticks (FitsSigned w64) }
 {
     if let Some(number) = ticks {
         let _number = number;
@@ -59,7 +61,7 @@ fn are_ticks(ticks: Option<i64>)
 
 /// Each of these is a word.
 fn are_words(words: &[Word])
-    ensures { All IsWord words.now }
+    ensures { All (λ w. w < 2 ^ 16) words.now }
 {
     match words {
         [] => {}

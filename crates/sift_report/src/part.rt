@@ -8,7 +8,7 @@ ghost use Rattle.std.specs.List.{All};
 ghost use Rattle.sift_base.specs.Units.{AreUnits, members, unit_limit};
 ghost use Rattle.sift_config.specs.Config.{IsConfig};
 ghost use Rattle.sift_report.specs.Apart.{word_above};
-ghost use Rattle.sift_report.specs.Part.{AreTicks, IsAbove, IsWord, dash, list_text, margin_text, ticks_text, unit_digit, units_text, word_text};
+ghost use Rattle.sift_report.specs.Part.{IsAbove, dash, list_text, margin_text, text_or_dash, unit_digit, units_text, word_text};
 
 use crate::list::read_list;
 use crate::number::{read_number, read_signed};
@@ -68,9 +68,9 @@ impl Part for i64 {
 }
 
 impl Part for Option<i64> {
-    ghost text_of = { ticks_text };
+    ghost text_of = { text_or_dash signed_decimal };
 
-    ghost IsPart = { AreTicks };
+    ghost IsPart = { λ ticks. IfSome ticks (FitsSigned w64) };
 
     fn read(text: &str) -> Option<Option<i64>> {
         read_ticks(text)
@@ -120,7 +120,7 @@ impl Part for Config {
 impl Part for Word {
     ghost text_of = { word_text };
 
-    ghost IsPart = { IsWord };
+    ghost IsPart = { λ w. w < 2 ^ 16 };
 
     fn read(text: &str) -> Option<Word> {
         read_word(text)

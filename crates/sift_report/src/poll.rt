@@ -11,8 +11,8 @@ ghost use Rattle.sift_mission.specs.Slots.{executors};
 ghost use Rattle.sift_flight.specs.Flight.{config_of};
 ghost use Rattle.sift_flight.specs.Told.{told};
 ghost use Rattle.sift_report.specs.Poll.{IsOutput, TellsIn, poll_of, polled_text, polls_of};
-ghost use Rattle.sift_report.specs.Votes.{place_of, place_text, vote_text};
-ghost use Rattle.sift_report.specs.Part.{unit_digit};
+ghost use Rattle.sift_report.specs.Votes.{place_of, vote_text};
+ghost use Rattle.sift_report.specs.Part.{text_or_dash, unit_digit, word_text};
 
 use crate::list::{Item, push_list};
 use crate::print::{push_head, push_unit, push_word};
@@ -81,7 +81,7 @@ fn push_output(text: &mut String, name: &str, j: u8) -> Result<(), AllocError>
 
 /// Appends the majority.
 fn push_result(text: &mut String, vote: Option<Word>) -> Result<(), AllocError>
-    ensures { OnOk result (string_bytes text.new ≡ string_bytes text.old ++ (codes " vote=" ++ place_text vote)) }
+    ensures { OnOk result (string_bytes text.new ≡ string_bytes text.old ++ (codes " vote=" ++ text_or_dash word_text vote)) }
 {
     text.push_str(" vote=")?;
     push_place(text, vote)
@@ -168,7 +168,7 @@ fn places_of(polls: &[Poll]) -> ArrayVec<Option<Word>, 8>
 }
 
 impl Item for Poll {
-    ghost item_text = { λ poll. unit_digit poll.unit ∷ codes ":" ++ place_text poll.word };
+    ghost item_text = { λ poll. unit_digit poll.unit ∷ codes ":" ++ text_or_dash word_text poll.word };
 
     fn push(self, text: &mut String) -> Result<(), AllocError> {
         push_unit(text, self.unit)?;
@@ -179,7 +179,7 @@ impl Item for Poll {
 
 /// Appends a word, or `-` where there is none.
 fn push_place(text: &mut String, place: Option<Word>) -> Result<(), AllocError>
-    ensures { OnOk result (string_bytes text.new ≡ string_bytes text.old ++ place_text place) }
+    ensures { OnOk result (string_bytes text.new ≡ string_bytes text.old ++ text_or_dash word_text place) }
 {
     match place {
         Some(word) => push_word(text, word),

@@ -1,12 +1,12 @@
 //! Lines of a report, printed.
 
 ghost use Rattle.std.specs.Prelude.{◌≡◌, ◌<◌, ◌++◌, ◌∷◌, [], false, codes, string_bytes, OnOk};
-ghost use Rattle.std.specs.Fmt.{decimal, digit_glyph};
+ghost use Rattle.std.specs.Fmt.{decimal, digit_glyph, signed_decimal};
 ghost use Rattle.sift_base.specs.Units.{members};
 ghost use Rattle.sift_report.specs.Bad.{caught_text};
 ghost use Rattle.sift_report.specs.Line.{line_text, printed};
 ghost use Rattle.sift_report.specs.declared.line.ReportLine.TheVariants.{Frame, Last};
-ghost use Rattle.sift_report.specs.Part.{margin_text, ticks_text, unit_digit, units_text, word_text};
+ghost use Rattle.sift_report.specs.Part.{margin_text, text_or_dash, unit_digit, units_text, word_text};
 
 use crate::bad::Bad;
 use crate::catch::catches_in;
@@ -175,7 +175,7 @@ pub fn push_unit(text: &mut String, u: UnitId) -> Result<(), AllocError>
 
 /// Appends ticks, or `-` where there is no number of them.
 fn push_ticks(text: &mut String, ticks: Option<i64>) -> Result<(), AllocError>
-    ensures { OnOk result (string_bytes text.new ≡ string_bytes text.old ++ ticks_text ticks) }
+    ensures { OnOk result (string_bytes text.new ≡ string_bytes text.old ++ text_or_dash signed_decimal ticks) }
 {
     match ticks {
         Some(ticks) => write!(text, "{ticks}"),

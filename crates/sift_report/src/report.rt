@@ -6,7 +6,7 @@ ghost use Rattle.sift_flight.specs.Figures.{margin_at};
 ghost use Rattle.sift_flight.specs.Told.{IsWhole, told};
 ghost use Rattle.std.specs.List.{All};
 ghost use Rattle.sift_report.specs.Line.{IsLine, printed, text_of_lines};
-ghost use Rattle.sift_report.specs.Sheet.{end_of, frame_lines, report_of, sheet_of};
+ghost use Rattle.sift_report.specs.Sheet.{end_of, frame_lines, sheet_of};
 
 use crate::line::ReportLine;
 use crate::print::push_line;
@@ -26,7 +26,7 @@ pub fn report_text(
 ) -> Result<String, NoMemory>
     requires { IsWhole (flown_of mission.now) mission.now.layout flight.now }
     ensures text { IfOk result (λ text. string_bytes text
-        ≡ report_of (flown_of mission.now) (told (flown_of mission.now) flight.now) version) }
+        ≡ text_of_lines (sheet_of (flown_of mission.now) (told (flown_of mission.now) flight.now) version)) }
     ensures lines { IfOk result (λ _. All IsLine
         (sheet_of (flown_of mission.now) (told (flown_of mission.now) flight.now) version)) }
 {

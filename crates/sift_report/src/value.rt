@@ -1,7 +1,10 @@
 //! What stands behind a label, ticks, and margins.
 
 ghost use Rattle.std.specs.Prelude.{◌≡◌, ℤ, ℕ, List, ◌++◌, IfSome, IsSomeAnd, Bool, Option, Some};
-ghost use Rattle.sift_report.specs.Part.{AreTicks, margin_text, ticks_text};
+ghost use Rattle.std.specs.Fmt.{signed_decimal};
+ghost use Rattle.std.specs.Int.{w64};
+ghost use Rattle.std.specs.Int.RustNames.{FitsSigned};
+ghost use Rattle.sift_report.specs.Part.{margin_text, text_or_dash};
 
 use crate::number::read_signed;
 
@@ -15,8 +18,8 @@ pub fn labelled<'a>(field: &'a str, label: &str) -> Option<&'a str>
 
 /// The ticks that are printed so, where there are some.
 pub fn read_ticks(text: &str) -> Option<Option<i64>>
-    ensures printed { IfSome result (λ ticks. ticks_text ticks ≡ text.now) }
-    ensures exact { (ticks : Option ℤ) → AreTicks ticks → ticks_text ticks ≡ text.now → result ≡ Some ticks }
+    ensures printed { IfSome result (λ ticks. text_or_dash signed_decimal ticks ≡ text.now) }
+    ensures exact { (ticks : Option ℤ) → IfSome ticks (FitsSigned w64) → text_or_dash signed_decimal ticks ≡ text.now → result ≡ Some ticks }
 {
     if text == "-" {
         return Some(None);

@@ -1,15 +1,15 @@
 //! Words, read just as they are printed.
 
-ghost use Rattle.std.specs.Prelude.{◌≡◌, ℕ, ◌<◌, false, IfSome, Some};
+ghost use Rattle.std.specs.Prelude.{◌≡◌, ℕ, ◌<◌, ◌^◌, false, IfSome, Some};
 ghost use Rattle.std.specs.Fmt.{digit_glyph};
-ghost use Rattle.sift_report.specs.Part.{IsWord, word_text};
+ghost use Rattle.sift_report.specs.Part.{word_text};
 
 use sift_base::Word;
 
 /// The word that is printed so, where there is one.
 pub fn read_word(text: &str) -> Option<Word>
     ensures printed { IfSome result (λ w. word_text w ≡ text.now) }
-    ensures exact { (w : ℕ) → IsWord w → word_text w ≡ text.now → result ≡ Some w }
+    ensures exact { (w : ℕ) → w < 2 ^ 16 → word_text w ≡ text.now → result ≡ Some w }
 {
     let [first, second, third, fourth] = text.as_bytes() else {
         return None;

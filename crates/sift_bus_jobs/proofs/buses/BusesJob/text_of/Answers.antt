@@ -3,7 +3,8 @@ use Rattle.std.specs.List.{sum_by}
 use Rattle.sift_bus.specs.Logs.{count_in, log_of}
 use Rattle.sift_flight.specs.Told.{told}
 use Rattle.sift_mission.specs.Parts.{data_of, flown_of}
-use Rattle.sift_report.specs.Sheet.{report_of}
+use Rattle.sift_report.specs.Line.{text_of_lines}
+use Rattle.sift_report.specs.Sheet.{sheet_of}
 use Rattle.sift_report.specs.declared.version.Version.TheVariants.{Two}
 use Rattle.sift_bus_jobs.specs.Buses as buses
 use Rattle.sift_bus_jobs.specs.Numbers.{BusNumbers}
@@ -35,6 +36,6 @@ returns g c =
       c.in_ok-push_words.ensures
           ∙ ((λ i. c.in_ok-text.ensures.text i ++ words_text job.bus (c.parts.ensures.same i).frames
           (λ f. sum_by (λ log. count_in (log_of log) f job.bus) (c.deref.ensures.value i)))
-          ∙ ((λ i. report_of m fl Two ++ words i)
+          ∙ ((λ i. text_of_lines (sheet_of m fl Two) ++ words i)
           ∙ ap (λ (numbers : BusNumbers). buses.told numbers (data_of c.args.mission.now) fl) c.self.view_is)),
     )
