@@ -43,7 +43,7 @@ found_from from (suc n) p e = elim (cases_Bool (p from)) [
 
 -- some number below n passes
 pub any_found : (n : ℕ) (p : ℕ → Bool) → list_any p (range_with_len 0 n) ≡ true → (x : ℕ) × (x < n) × (p x ≡ true)
-any_found n p e = found_from 0 n p e
+any_found n p e = let r = found_from 0 n p e in let low : r.0 < 0 + n = r.1 in (r.0, omega arith, r.2)
 
 -- a word doesn't differ from itself
 pub same_not_differs : (w : ℕ) → differs (Some w) (Some w) ≡ true → ⊥

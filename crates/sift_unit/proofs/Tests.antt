@@ -62,7 +62,9 @@ any-and (x ∷ xs) c p = rw (any-and xs c p) (spread c (p x) (list_any p xs))
 
 -- one test more
 pub any-more : (n : ℕ) (p : ℕ → Bool) → (list_any p (range_with_len 0 n) || p n) ≡ list_any p (range_with_len 0 (n + 1))
-any-more n p = more 0 n ∙ ap (λ k. list_any p (range_with_len 0 k)) (sym (add-one n))
+any-more n p =
+    let e : n ≡ 0 + n = omega arith in
+    ap (λ k. list_any p (range_with_len 0 n) || p k) e ∙ (more 0 n ∙ ap (λ k. list_any p (range_with_len 0 k)) (sym (add-one n)))
   where
     grouped : (x y z : Bool) → ((x || y) || z) ≡ (x || (y || z))
     grouped true y z = refl
