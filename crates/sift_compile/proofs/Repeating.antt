@@ -49,5 +49,6 @@ module _ (code : List Instr) (inputs : Inputs) where
         let there = at (start + 1) (record { start = start + 1; left = suc n } ∷ loops) locals t.outs in
         let whole : q + 1 ≡ start + length (Begin (suc n) ∷ (body ++ End ∷ [])) = omega (arith, length-append body (End ∷ [])) in
         let enter = comes_by code inputs s there (Begin (suc n)) (stands_here code start (Begin (suc n)) _ stands) refl in
-        let rounds = subst (λ x. Runs code inputs (at x (record { start = x; left = suc n } ∷ loops) locals t.outs) (q + 1) loops (iterate round n (round t))) (sym e) (rounds_run n locals t holds) in
+        let rounds = subst (λ x. Runs code inputs (at x (record { start = x; left = suc n } ∷ loops) locals t.outs) (q + 1) loops (iterate round n (round t)))
+        (sym e) (rounds_run n locals t holds) in
         runs_to code inputs s _ _ loops _ whole (runs_from code inputs s there _ loops _ enter rounds)
