@@ -1,5 +1,6 @@
 -- The parts of a line, and the text of each.
-use Rattle.std.specs.Prelude.{byte, codes, ℕ, ◌+◌, ◌/◌, ◌%◌, ◌<◌, ◌≤◌, List, [], ◌∷◌, map, Bool, true, false, Option, Some, None, ⊤}
+use Rattle.std.specs.Prelude.{codes, ℕ, ◌+◌, ◌/◌, ◌%◌, ◌<◌, ◌≤◌, List, [], ◌∷◌, map, Bool, true, false, Option, Some, None, ⊤}
+use Rattle.std.specs.Str.{byte}
 use Rattle.std.specs.Fmt.{digit_glyph}
 use Rattle.std.specs.List.{join_with_byte}
 use Rattle.sift_base.specs.Units.{unit_limit}
