@@ -83,7 +83,9 @@ module _ (tasks sensors x : ℕ) where
       (matched (λ place task form. HasForm task form) entries_at (λ t. text (text_at t)) tasks (λ t low. formed t sensors (task_place t x)))
 
   -- with a task there are so many output words as tasks
-  words_few : tasks ≤ 12 → (place : ℕ) → ¬ ((place < length (map (λ t. 1) (range_with_len 0 tasks))) × (word_limit < sum (take (place + 1) (map (λ t. 1) (range_with_len 0 tasks)))))
+  words_few :
+      tasks ≤ 12 → (place : ℕ)
+      → ¬ ((place < length {A = ℕ} (map (λ t. 1) (range_with_len 0 tasks))) × (word_limit < sum (take (place + 1) (map (λ t. 1) (range_with_len 0 tasks)))))
   words_few few place broken =
       let long = length-map-range_with_len {X = ℕ} (λ t. 1) 0 tasks in
       let so_far : sum (take (place + 1) (map (λ t. 1) (range_with_len 0 tasks))) ≡ place + 1 =
