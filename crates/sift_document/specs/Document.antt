@@ -56,15 +56,10 @@ pub record IsArrayOf (low high : ℕ) (value : Data) : Type 0 where
   pub enough : low ≤ length (list_of items)
   pub few : length (list_of items) ≤ high
 
--- what was read of one thing more, in front
-abbrev pub with_front : {A : Type 0} → Option A → Option (List A) → Option (List A)
-with_front (Some first) (Some rest) = Some (first ∷ rest)
-with_front _ _ = None
-
 -- what is read of each, where something is read of each
 abbrev pub each_read : {A B : Type 0} → (A → Option B) → List A → Option (List B)
 each_read read [] = Some []
-each_read read (first ∷ rest) = with_front (read first) (each_read read rest)
+each_read read (first ∷ rest) = option_and_then (λ value. option_map (λ values. value ∷ values) (each_read read rest)) (read first)
 
 -- what is read of each entry of an array
 abbrev pub array_of : {A : Type 0} → (Data → Option A) → Data → Option (List A)

@@ -16,7 +16,7 @@ use Rattle.sift_scenario.proofs.Themes.{kept_themes}
 use Rattle.sift_scenario.proofs.Ticks.{All-replicate, AreRows, AreTicks, right_in, right_or, rows_near, rows_or, ticks_or, zeros_near}
 use Rattle.sift_scenario.specs.Clock.{StartTogether, clock_rules, clocks_in, drifts_of, error_of, errors_of, figure_rules, length_limit, length_of, rate_of, skew_of, starts_of, tick_limit, unit_rules}
 use Rattle.sift_scenario.specs.Mission.{IsLawful}
-use Rattle.sift_scenario.proofs.Named.{clock_themes, stated_clocks}
+use Rattle.sift_scenario.proofs.Named.{clock_themes}
 use Rattle.sift_scenario.specs.Root.{units_of}
 
 -- what isn't less is at least as much
@@ -46,9 +46,14 @@ are_admitted skew error rate long few kept enough = record {
 
 -- a figure that must be there
 figure_at :
-    (low high : ℕ) (d : Option Data) → (option_and_then (integer_between low high) d ≡ None → ⊥)
-    → (unwrap_or (option_and_then (integer_between low high) d) 0) ≤ high
-figure_at low high d some = right_in (λ n. n ≤ high) 0 (option_and_then (integer_between low high) d) some (λ n is. (between_at low high d n is).1)
+    (low high missing : ℕ) (d : Option Data) → (option_and_then (integer_between low high) d ≡ None → ⊥)
+    → (unwrap_or (option_and_then (integer_between low high) d) missing) ≤ high
+figure_at low high missing d some = right_in (λ n. n ≤ high) missing (option_and_then (integer_between low high) d) some (λ n is. (between_at low high d n is).1)
+
+-- what stands for a figure that is missing doesn't matter to one that is there
+any_missing : (m n : ℕ) (figure : Option ℕ) → (figure ≡ None → ⊥) → unwrap_or figure m ≡ unwrap_or figure n
+any_missing m n None some = absurd (some refl)
+any_missing m n (Some figure) some = refl
 
 -- a figure that may be missing, and is 0 then
 figure_or :
@@ -96,10 +101,15 @@ plain_fit units = fitting units 0 0 0 1 (replicate units (pos 0)) (replicate uni
     (are_admitted 0 0 0 1 (omega arith) (omega arith) (omega arith))
     (zeros_near units tick_limit) (zeros_together units 0) (zeros_near units 0) (rows_near units 0)
 
-module _ (units : ℕ) (clock : Members) (figures : AreKept (figure_rules clock)) (rules : AreKept (unit_rules units clock)) where
+module _
+    (units : ℕ) (value : Data) (figures : AreKept (figure_rules (members_of value))) (rules : AreKept (unit_rules units (members_of value))) where
+  -- the table that states the clocks
+  abbrev clock : Members
+  clock = members_of value
+
   -- the figures are within their limits
   skew_fits : (unwrap_or (skew_of clock) 0) ≤ tick_limit
-  skew_fits = figure_at 0 tick_limit (get_member (codes "skew") clock) (λ none. figures.0 0 (refl, none))
+  skew_fits = figure_at 0 tick_limit 0 (get_member (codes "skew") clock) (λ none. figures.0 0 (refl, none))
 
   error_fits : (unwrap_or (error_of clock) 0) ≤ tick_limit
   error_fits = figure_or (get_member (codes "error") clock) (λ none. figures.1.0 0 (refl, inl none))
@@ -107,8 +117,12 @@ module _ (units : ℕ) (clock : Members) (figures : AreKept (figure_rules clock)
   rate_fits : (unwrap_or (rate_of clock) 0) ≤ tick_limit
   rate_fits = figure_or (get_member (codes "rate") clock) (λ none. figures.1.0 0 (refl, inr none))
 
-  length_fits : (unwrap_or (length_of clock) 0) ≤ length_limit
-  length_fits = figure_at 1 length_limit (get_member (codes "length") clock) (λ none. figures.1.1.0 0 (refl, none))
+  length_fits : (unwrap_or (length_of clock) 1) ≤ length_limit
+  length_fits = figure_at 1 length_limit 1 (get_member (codes "length") clock) (λ none. figures.1.1.0 0 (refl, none))
+
+  -- the length is there, whatever would stand for it
+  length_there : unwrap_or (length_of clock) 0 ≡ unwrap_or (length_of clock) 1
+  length_there = any_missing 0 1 (length_of clock) (λ none. figures.1.1.0 0 (refl, none))
 
   -- the clocks start near to 0, and together
   start_fits :
@@ -132,12 +146,12 @@ module _ (units : ℕ) (clock : Members) (figures : AreKept (figure_rules clock)
       (rows_or units error (get_member (codes "errors") clock))
 
   -- clocks that keep the rules fit
-  stated_fit : AreClocks units (stated_clocks units clock)
+  stated_fit : AreClocks units (clocks_in units (Some value))
   stated_fit =
-      fitting units (unwrap_or (skew_of clock) 0) (unwrap_or (error_of clock) 0) (unwrap_or (rate_of clock) 0) (unwrap_or (length_of clock) 0) _ _ _
+      fitting units (unwrap_or (skew_of clock) 0) (unwrap_or (error_of clock) 0) (unwrap_or (rate_of clock) 0) (unwrap_or (length_of clock) 1) _ _ _
       (are_numbers _ _ _ _ skew_fits error_fits rate_fits length_fits)
       (are_admitted _ _ _ _ skew_fits (not_less _ _ (λ small. figures.1.1.1.0 0 (refl, small)))
-      (not_less _ _ (λ short. figures.1.1.1.1.0 0 (refl, short))))
+      (rw (← length_there) (not_less _ _ (λ short. figures.1.1.1.1.0 0 (refl, short)))))
       start_fits.0 start_fits.1 drift_fits rows_fit
 
 -- the clocks that a value of `clock` states fit, and so do those where it is missing
@@ -145,7 +159,7 @@ value_fits : (units : ℕ) (value : Option Data) → AreKept (clock_rules units 
 value_fits units None kept = plain_fit units
 value_fits units (Some value) kept =
     let themes = kept_each (clock_themes units value) kept in
-    stated_fit units (members_of value) themes.1.0 themes.1.1.0
+    stated_fit units value themes.1.0 themes.1.1.0
 
 -- the clocks of a lawful document fit
 pub clocks_fit :

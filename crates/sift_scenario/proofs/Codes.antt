@@ -7,7 +7,7 @@ use Rattle.std.proofs.lemmas.Option.{slice_get_within}
 use Rattle.std.specs.List.{sum}
 use Rattle.sift_code.specs.Bound.{kept}
 use Rattle.sift_code.specs.Refusal.{Program}
-use Rattle.sift_compile.specs.Length.{task_steps}
+use Rattle.sift_compile.specs.Length.{code_limit, task_length, task_steps}
 use Rattle.sift_compile.specs.Tasks.{AreCodesOf, IsCodeOf}
 use Rattle.sift_lang.specs.Sound.{IsSound}
 use Rattle.sift_lang.specs.Tree.{TaskTree}
@@ -16,7 +16,7 @@ use Rattle.sift_parse.specs.Outcome.{AreNames}
 use Rattle.sift_parse.specs.Roll.{first_word, Roll}
 use Rattle.sift_document.proofs.lemmas.Places.{pushed}
 use Rattle.sift_scenario.proofs.Programs.{sound_tree}
-use Rattle.sift_scenario.specs.Program.{AreAllowed, IsTreeOf, IsWithin, steps_left}
+use Rattle.sift_scenario.specs.Program.{AreAllowed, IsTreeOf, steps_left}
 use Rattle.sift_scenario.specs.Task.{Form, linear, text}
 
 -- a tree of a form is sound
@@ -32,25 +32,25 @@ take_before : (ts : List TaskTree) (t : TaskTree) (k : ℕ) → k ≤ length ts 
 take_before ts t k low = take-append-le k ts (t ∷ []) low
 
 -- one tree more is allowed
-pub allowed_more : (ts : List TaskTree) (t : TaskTree) → AreAllowed ts → IsWithin (steps_left ts) t → AreAllowed (ts ++ t ∷ [])
+pub allowed_more : (ts : List TaskTree) (t : TaskTree) → AreAllowed ts → (task_length t ≤ code_limit) × (task_steps t ≤ steps_left ts) → AreAllowed (ts ++ t ∷ [])
 allowed_more ts t each more k tree there = elim (pushed ts t k tree there) [
   | inl before ↦
       rw (take_before ts t k (let low = slice_get_within ts k tree before in omega (arith, low))) (each k tree before)
   | inr at_end ↦
       let whole : take k (ts ++ t ∷ []) ≡ ts = take_at ts (t ∷ []) k (sym at_end.0) in
-      rw whole (subst (λ (u : TaskTree). IsWithin (steps_left ts) u) at_end.1 more)
+      rw whole (subst (λ (u : TaskTree). (task_length u ≤ code_limit) × (task_steps u ≤ steps_left ts)) at_end.1 more)
 ]
 
 -- the steps that are left after one tree more
 pub left_more :
     (ts : List TaskTree) (t : TaskTree) (left bound steps : ℕ)
-    → left ≡ steps_left ts → bound ≡ kept steps → steps ≡ task_steps t → IsWithin left t
+    → left ≡ steps_left ts → bound ≡ kept steps → steps ≡ task_steps t → task_steps t ≤ left
     → left - bound ≡ steps_left (ts ++ t ∷ [])
-left_more ts t left bound steps so is same allowed =
+left_more ts t left bound steps so is same quick =
     let whole = sum_by-append task_steps ts (t ∷ []) in
     let last = sum_by-cons task_steps t [] in
-    let quick : kept (task_steps t) ≡ task_steps t = min-eq_left (omega (arith, allowed.quick, so)) in
-    omega (arith, so, is, ap kept same, quick, whole, last, allowed.quick)
+    let whole_steps : kept (task_steps t) ≡ task_steps t = min-eq_left (omega (arith, quick, so)) in
+    omega (arith, so, is, ap kept same, whole_steps, whole, last, quick)
 
 -- the codes with one more
 pub codes_more :

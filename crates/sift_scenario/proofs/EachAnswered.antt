@@ -23,7 +23,7 @@ use Rattle.sift_scenario.proofs.TaskRefusals.{text_refused_by}
 use Rattle.sift_scenario.proofs.Turns.{code_first, text_first}
 use Rattle.sift_scenario.specs.Laws.{HasAnswer, a_mission, a_refusal, NoDocumentIsUnanswered}
 use Rattle.sift_scenario.specs.Mission.{IsStated, IsLawful}
-use Rattle.sift_scenario.specs.Program.{AreAllowed, IsProgramOf, IsTreeOf, IsWithin, roll_for, steps_left, turn_of}
+use Rattle.sift_scenario.specs.Program.{AreAllowed, IsProgramOf, IsTreeOf, roll_for, steps_left, turn_of}
 use Rattle.sift_scenario.specs.Refusal.{IsFirstRefused, IsNoTask, IsOver, refusal_of, told_number}
 use Rattle.sift_scenario.proofs.Decided.{all_more, at_most}
 use Rattle.sift_scenario.proofs.Themes.{kept_themes}
@@ -93,10 +93,10 @@ over_of : (n limit : ℕ) → (n ≤ limit → ⊥) → limit < n
 over_of n limit over = elim (cases_lt limit n) [ inl more ↦ more | inr within ↦ absurd (over within) ]
 
 -- a tree is within the limits, or over one
-within_or_over : (left task : ℕ) (tree : TaskTree) → IsWithin left tree ⊎ ((e : Refused) × IsOver left task tree e)
+within_or_over : (left task : ℕ) (tree : TaskTree) → ((task_length tree ≤ code_limit) × (task_steps tree ≤ left)) ⊎ ((e : Refused) × IsOver left task tree e)
 within_or_over left task tree = elim (at_most (task_length tree) code_limit) [
   | inl short ↦ elim (at_most (task_steps tree) left) [
-    | inl quick ↦ inl (record { short = short; quick = quick })
+    | inl quick ↦ inl (short, quick)
     | inr slow ↦ inr (
       Task task 7 (told_number (task_steps tree)),
       inr (short, over_of (task_steps tree) left slow, refl),

@@ -1,5 +1,5 @@
 -- Each rule of a document is kept, or broken at a first place; so all are kept, or one is the first that is broken.
-use Rattle.std.proofs.Common.{◌≡◌, ◌+◌, ◌⊎◌, inl, inr, ℕ, suc, List, [], ◌∷◌, ◌++◌, length, map, take, sum, Option, Some, None, refl, arith}
+use Rattle.std.proofs.Common.{◌≡◌, ◌<◌, ◌+◌, ◌⊎◌, inl, inr, ℕ, suc, List, [], ◌∷◌, ◌++◌, length, map, take, sum, Option, Some, None, refl, arith}
 use Rattle.std.proofs.lemmas.Option.{slice_get_within}
 use Rattle.std.specs.Prelude.{unwrap_or, codes}
 use Rattle.toml.specs.Data.{Data, Members, get_member}
@@ -16,10 +16,10 @@ use Rattle.sift_scenario.specs.Mission.{rules_of}
 use Rattle.sift_scenario.specs.Laws.{RulesAreKeptOrBroken}
 use Rattle.sift_scenario.specs.Root.{frames_of, period_of, root_keys, root_rules, units_of, version_of}
 use Rattle.sift_scenario.specs.Sensor.{sensor_rules, words_of}
-use Rattle.sift_scenario.specs.Table.{IsTableEntry, IsTimeless, positions_of, shed_of, size_count, table_rules, subframes_at}
+use Rattle.sift_scenario.specs.Table.{IsTableEntry, positions_of, shed_of, size_count, table_rules, subframes_at}
 use Rattle.sift_scenario.proofs.Named.{fault_keys, sensor_keys, IsHeadless, HasOneWay, task_keys, later_table_rules, clock_themes, themes_for}
 use Rattle.sift_document.proofs.lemmas.Order.{joined, joined_to}
-use Rattle.sift_scenario.specs.Task.{HasForm, IsNewName, counts_of, name_of, start_words, task_entries, tasks_of, BreaksNames, BreaksTasks, BreaksWords, task_rules}
+use Rattle.sift_scenario.specs.Task.{HasForm, IsNewName, counts_of, name_of, start_words, task_entries, tasks_of, BreaksNames, BreaksTasks, task_rules}
 
 -- a rule is broken at a first place, or at none
 abbrev IsDecided : Rule → Type 0
@@ -136,8 +136,8 @@ sensor_known value = (
   ),
 )
 
-words_known : (counts : List ℕ) → IsDecided (rule 21 (BreaksWords counts))
-words_known counts = first_place (BreaksWords counts)
+words_known : (counts : List ℕ) → IsDecided (rule 21 (λ place. (place < length counts) × (word_limit < sum (take (place + 1) counts))))
+words_known counts = first_place (λ place. (place < length counts) × (word_limit < sum (take (place + 1) counts)))
     (λ at. both (at_most (suc at) (length counts)) (at_most (suc word_limit) (sum (take (at + 1) counts)))) (length counts) (λ at broken. broken.0)
 
 tasks_known : (d : Members) → IsDecided (rule 18 (BreaksTasks d))
@@ -169,7 +169,7 @@ table_known : (version units : ℕ) (value : Option Data) → AreDecided (table_
 table_known version units value = (
   of_array (size_count units) (size_count units) (IsTableEntry version) value (known_entry version),
   (
-    of_each (tables_in value) (λ place. IsTimeless)
+    of_each (tables_in value) (λ place table. (subframes_at (codes "run") table ≡ None) ⊎ (subframes_at (codes "poll") table ≡ None))
         (λ place table. either (nothing (subframes_at (codes "run") table)) (nothing (subframes_at (codes "poll") table))),
     (of_each (tables_in value) (λ place table. positions_of table ≡ None) (λ place table. nothing (positions_of table)), tt),
   ),

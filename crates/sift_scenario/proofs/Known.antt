@@ -3,13 +3,12 @@ use Rattle.std.proofs.Common.{◌≡◌, inl, inr, ℕ, List, [], ◌∷◌, len
 use Rattle.std.specs.Prelude.{codes, option_and_then}
 use Rattle.toml.specs.Data.{Data, Items, Members, string, integer, float, boolean, datetime, array, table, as_str, get_member}
 use Rattle.sift_base.specs.Name.{HasNameForm, IsName, IsNameByte, keywords}
-use Rattle.std.specs.List.{All}
 use Rattle.std.specs.Str.{byte}
 use Rattle.sift_document.proofs.lemmas.ReadEntries.{array_between-long}
 use Rattle.sift_document.specs.Document.{HasOnlyKeys, IsArrayOf, IsTableOf, entries_of, keys_of, list_of, members_of, read_at, word_array, word_value}
 use Rattle.sift_scenario.proofs.Decided.{Decided, among, at_most, both, each, either, negated, nothing, same_number, same_option, same_text, same_value}
 use Rattle.sift_base.specs.Layout.{least_units}
-use Rattle.sift_scenario.specs.Fault.{IsSaying, IsStorming, item_limit}
+use Rattle.sift_scenario.specs.Fault.{AreItems, StandsAlone, item_limit}
 use Rattle.sift_scenario.specs.Item.{item_keys}
 use Rattle.sift_scenario.specs.Table.{IsTableEntry, size_of, table_keys}
 use Rattle.sift_scenario.proofs.Named.{HasOneWay, storm_keys}
@@ -58,31 +57,29 @@ known_entry version place entry = elim (both (known_table (table_keys version) e
   | inr other ↦ inr (λ h. other (h.known, h.sized))
 ]
 
--- a fault says items as it may, or not
-saying_by : (fault : Members) (o : Option Data) → (get_member (codes "say") fault) ≡ o → Decided (IsSaying fault)
-saying_by fault None is = inr (λ h. let there = sym is ∙ h.there in cc)
-saying_by fault (Some value) is =
-    elim (both (both (known_array 1 item_limit value) (each (IsTableOf item_keys) (known_table item_keys) (entries_of (Some value))))
-    (nothing (get_member (codes "storm") fault))) [
-      | inl h ↦ inl (record { value = value; there = is; items = record { few = h.0.0; known = h.0.1 }; alone = h.1 })
-      | inr other ↦ inr (λ h. let there : Some value ≡ Some h.value = sym is ∙ h.there in
-          let one : h.value ≡ value = cc there in
-          other ((subst (IsArrayOf 1 item_limit) one h.items.few, subst (λ (v : Data). All (IsTableOf item_keys) (entries_of (Some v))) one h.items.known), h.alone))
-    ]
+-- a value is as many items as it may be, or not
+known_items : (value : Data) → Decided (AreItems value)
+known_items value = elim (both (known_array 1 item_limit value) (each (IsTableOf item_keys) (known_table item_keys) (entries_of (Some value)))) [
+  | inl h ↦ inl (record { few = h.0; known = h.1 })
+  | inr other ↦ inr (λ h. other (h.few, h.known))
+]
 
--- it has a storm as it may, or not
-storming_by : (fault : Members) (o : Option Data) → (get_member (codes "storm") fault) ≡ o → Decided (IsStorming fault)
-storming_by fault None is = inr (λ h. let there = sym is ∙ h.there in cc)
-storming_by fault (Some value) is = elim (both (known_table storm_keys value) (nothing (get_member (codes "say") fault))) [
-  | inl h ↦ inl (record { value = value; there = is; known = h.0; alone = h.1 })
-  | inr other ↦ inr (λ h. let there : Some value ≡ Some h.value = sym is ∙ h.there in
-      let one : h.value ≡ value = cc there in
-      other (subst (IsTableOf storm_keys) one h.known, h.alone))
+-- the value at a key stands alone, and is right, or not
+alone_by :
+    (key other : List ℕ) (IsRight : Data → Type 0) → ((value : Data) → Decided (IsRight value))
+    → (fault : Members) (o : Option Data) → get_member key fault ≡ o → Decided (StandsAlone key other IsRight fault)
+alone_by key other IsRight known fault None is = inr (λ h. let there = sym is ∙ h.there in cc)
+alone_by key other IsRight known fault (Some value) is = elim (both (known value) (nothing (get_member other fault))) [
+  | inl h ↦ inl (record { value = value; there = is; right = h.0; alone = h.1 })
+  | inr wrong ↦ inr (λ h. let there : Some value ≡ Some h.value = sym is ∙ h.there in
+      let one : h.value ≡ value = cc there in wrong (subst IsRight one h.right, h.alone))
 ]
 
 -- it fails in one way, or not
 pub known_way : (fault : Members) → Decided (HasOneWay fault)
-known_way fault = either (saying_by fault (get_member (codes "say") fault) refl) (storming_by fault (get_member (codes "storm") fault) refl)
+known_way fault = either
+    (alone_by (codes "say") (codes "storm") AreItems known_items fault (get_member (codes "say") fault) refl)
+    (alone_by (codes "storm") (codes "say") (IsTableOf storm_keys) (known_table storm_keys) fault (get_member (codes "storm") fault) refl)
 
 -- ---- names
 

@@ -11,7 +11,6 @@ pub mod FirstBroken
 pub mod Fitting
 pub mod Known
 pub mod KnownStarts
-pub mod Limits
 pub mod Made
 pub mod Named
 pub mod NewNames

@@ -1,22 +1,20 @@
 -- Names of proofs for what specs/ says in its place: keys, values, rules and lists of rules.
-use Rattle.std.specs.Prelude.{codes, ℕ, ◌≡◌, ◌⊎◌, ℤ, pos, List, [], ◌∷◌, Option, Some, None, unwrap_or}
+use Rattle.std.specs.Prelude.{codes, ℕ, ◌≡◌, ◌⊎◌, ℤ, List, [], ◌∷◌, Option, Some, None, unwrap_or}
 use Rattle.std.specs.List.{flat_map}
 use Rattle.toml.specs.Data.{Data, Members, get_member}
-use Rattle.sift_mission.specs.Data.{Clocks}
 use Rattle.sift_script.specs.Script.{Change, Failing, changing}
 use Rattle.sift_document.specs.Document.{IsTableOf, members_of, tables_in}
 use Rattle.sift_document.specs.Rules.{AreMatched, BreaksEntries, HoldsOf, OfNoEntry, Rule, rule}
-use Rattle.sift_base.specs.Layout.{sensor_limit}
-use Rattle.sift_scenario.specs.Clock.{StartTogether, clock_keys, clock_rules, drifts_of, error_of, errors_of, figure_rules, length_of, rate_of, skew_of, starts_of, unit_rules}
-use Rattle.sift_scenario.specs.Fault.{IsSaying, IsStorming, changes_of, fault_rules, from_of, stated_storm, unit_of}
+use Rattle.sift_scenario.specs.Clock.{StartTogether, clock_keys, clock_rules, drifts_of, errors_of, figure_rules, starts_of, unit_rules}
+use Rattle.sift_scenario.specs.Fault.{AreItems, StandsAlone, changes_of, fault_rules, from_of, unit_of}
 use Rattle.sift_lang.specs.Tree.{TaskTree}
 use Rattle.sift_parse.specs.Roll.{Roll}
 use Rattle.sift_scenario.specs.Program.{IsTreeOf, roll_for, turn_of}
 use Rattle.sift_scenario.specs.Refusal.{IsFirstRefused}
 use Rattle.sift_scenario.specs.declared.refused.Refused.{Refused}
 use Rattle.sift_scenario.specs.Root.{root_rules, version_of}
-use Rattle.sift_scenario.specs.Sensor.{sensor_rules, words_of}
-use Rattle.sift_scenario.specs.Table.{IsTableEntry, IsTimeless, positions_of, shed_of, size_count, table_rules}
+use Rattle.sift_scenario.specs.Sensor.{sensor_rules}
+use Rattle.sift_scenario.specs.Table.{IsTableEntry, positions_of, shed_of, size_count, subframes_at, table_rules}
 use Rattle.sift_scenario.specs.Task.{AreForms, Form, HasForm, start_words, task_rules}
 
 -- ---- keys and values
@@ -50,18 +48,6 @@ all_starts tasks = flat_map (λ task. unwrap_or (start_words task) []) tasks
 abbrev pub AreTreesOf : Roll → List Form → List TaskTree → Type 0
 AreTreesOf roll forms trees = AreMatched (λ task form tree. IsTreeOf (turn_of task roll) form tree) forms trees
 
--- the clocks that a table states, for so many units
-abbrev pub stated_clocks : (units : ℕ) → Members → Clocks
-stated_clocks units clock = record {
-  skew = pos (unwrap_or (skew_of clock) 0);
-  error = pos (unwrap_or (error_of clock) 0);
-  rate = pos (unwrap_or (rate_of clock) 0);
-  length = pos (unwrap_or (length_of clock) 0);
-  start = unwrap_or (starts_of units clock) [];
-  drift = unwrap_or (drifts_of units (unwrap_or (rate_of clock) 0) clock) [];
-  errors = unwrap_or (errors_of units (unwrap_or (error_of clock) 0) clock) [];
-}
-
 -- the tasks in these tables have forms, of which one is refused, beside sensors of these names
 abbrev pub TasksAreRefused : (sensors : List (List ℕ)) → List Members → Refused → Type 0
 TasksAreRefused sensors tasks refused = (forms : List Form) × AreForms tasks forms × IsFirstRefused (roll_for sensors tasks) forms refused
@@ -78,13 +64,6 @@ BreaksDrift units rate clock = OfNoEntry (drifts_of units rate clock ≡ None)
 abbrev pub BreaksErrors : (units error : ℕ) → Members → ℕ → Type 0
 BreaksErrors units error clock = OfNoEntry (errors_of units error clock ≡ None)
 
--- rules of sensors
-abbrev pub BreaksSensors : Option Data → ℕ → Type 0
-BreaksSensors value place = BreaksEntries 0 sensor_limit (λ at. IsTableOf sensor_keys) value place
-
-abbrev pub BreaksSensed : List Members → ℕ → Type 0
-BreaksSensed sensors place = HoldsOf sensors place (λ sensor. words_of sensor ≡ None)
-
 -- rules of tasks
 abbrev pub BreaksStarts : List Members → ℕ → Type 0
 BreaksStarts tasks place = HoldsOf tasks place (λ task. start_words task ≡ None)
@@ -97,7 +76,7 @@ abbrev pub BreaksTables : (version units : ℕ) → Option Data → ℕ → Type
 BreaksTables version units value place = BreaksEntries (size_count units) (size_count units) (IsTableEntry version) value place
 
 abbrev pub BreaksTimes : List Members → ℕ → Type 0
-BreaksTimes tables place = HoldsOf tables place IsTimeless
+BreaksTimes tables place = HoldsOf tables place (λ table. (subframes_at (codes "run") table ≡ None) ⊎ (subframes_at (codes "poll") table ≡ None))
 
 abbrev pub BreaksPositions : List Members → ℕ → Type 0
 BreaksPositions tables place = HoldsOf tables place (λ table. positions_of table ≡ None)
@@ -110,19 +89,13 @@ abbrev pub IsHeadless : Members → Type 0
 IsHeadless fault = (unit_of fault ≡ None) ⊎ (from_of fault ≡ None)
 
 abbrev pub HasOneWay : Members → Type 0
-HasOneWay fault = IsSaying fault ⊎ IsStorming fault
+HasOneWay fault = StandsAlone (codes "say") (codes "storm") AreItems fault ⊎ StandsAlone (codes "storm") (codes "say") (IsTableOf storm_keys) fault
 
 abbrev pub BreaksHeads : List Members → ℕ → Type 0
 BreaksHeads faults place = HoldsOf faults place IsHeadless
 
-abbrev pub BreaksWays : List Members → ℕ → Type 0
-BreaksWays faults place = HoldsOf faults place (λ fault. ¬ HasOneWay fault)
-
 abbrev pub BreaksItems : List Members → ℕ → Type 0
 BreaksItems faults place = HoldsOf faults place (λ fault. changes_of fault ≡ None)
-
-abbrev pub BreaksStorms : List Members → ℕ → Type 0
-BreaksStorms faults place = HoldsOf faults place (λ fault. stated_storm fault ≡ None)
 
 -- ---- lists of rules
 

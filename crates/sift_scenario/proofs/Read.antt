@@ -17,7 +17,7 @@ use Rattle.sift_scenario.specs.Program.{AreAllowed, roll_for}
 use Rattle.sift_scenario.specs.Reading.{AreTasksOf, IsReadOf, IsRunningOf}
 use Rattle.sift_scenario.specs.Refusal.{IsFirstRefused, IsRefusedWith}
 use Rattle.sift_scenario.specs.Sensor.{sensor_names}
-use Rattle.sift_scenario.specs.Task.{counts_of, task_entries, tasks_of, each_task_rules}
+use Rattle.sift_scenario.specs.Task.{counts_of, task_entries, tasks_of, task_rules}
 use Rattle.sift_scenario.specs.Testing.{AreTurns, form_of}
 use Rattle.sift_scenario.specs.declared.document.Entries.{Entries}
 use Rattle.sift_scenario.specs.declared.program.Running.{Running}
@@ -41,8 +41,8 @@ roll_read entries = record {
 
 module _ (document : Members) (entries : Entries) (read : IsReadOf document entries) where
   -- the rules of the tasks are kept
-  tasks_kept : AreKept (each_task_rules (tasks_of document))
-  tasks_kept = (kept_themes document entries.units read.units read.lawful).1.1.1.0.1
+  tasks_kept : AreKept (task_rules document)
+  tasks_kept = (kept_themes document entries.units read.units read.lawful).1.1.1.0
 
   -- these names are the document's
   pub roll_is : roll_read entries ≡ roll_for (sensor_names document) (tasks_of document)
@@ -62,7 +62,7 @@ module _ (document : Members) (entries : Entries) (read : IsReadOf document entr
 
   -- the tasks have at most 64 output words
   pub words_few : sum (counts_of (tasks_of document)) ≤ 64
-  words_few = few_words (tasks_of document) read.tasks.few.0 tasks_kept.1.1.0
+  words_few = few_words (tasks_of document) read.tasks.some tasks_kept.1.1.1.0
 
   -- there are as many as these names say
   pub words_are : (starts : List ℕ) → starts ≡ flat_map (λ words. words.items) entries.tasks.starts.items → length starts ≡ sum (roll_read entries).sizes
@@ -81,8 +81,8 @@ module _ (document : Members) (entries : Entries) (read : IsReadOf document entr
       let long = length-map entries.tasks.forms.items form_of in
       subst (AreTurns count) (sym roll_is) (λ task low. turns (sensor_names document) (tasks_of document)
       (sensors_differ document entries.units read.units read.lawful) (few_sensors document entries.units read.units read.lawful)
-      tasks_kept.0 tasks_kept.1.0 tasks_kept.1.1.0
-      read.tasks.few.0 read.tasks.few.1 task (omega (arith, low, is, long, read.tasks.forms.as_many)))
+      tasks_kept.1.0 tasks_kept.1.1.0 tasks_kept.1.1.1.0
+      read.tasks.some read.tasks.few task (omega (arith, low, is, long, read.tasks.forms.as_many)))
 
   -- what was made of them is the document's program, with its code
   pub running_from :

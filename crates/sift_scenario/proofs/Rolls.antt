@@ -6,6 +6,7 @@ use Rattle.std.proofs.lemmas.Option.{get_or_from_slice_get, slice_get-get_or, sl
 use Rattle.std.specs.List.{slice_get, sum}
 use Rattle.std.specs.Prelude.{codes, option_and_then, unwrap_or}
 use Rattle.toml.specs.Data.{Data, Members, get_member, no_members}
+use Rattle.sift_base.specs.Layout.{word_limit}
 use Rattle.sift_base.specs.Name.{IsName}
 use Rattle.sift_parse.specs.Answer.{HasSize}
 use Rattle.sift_parse.specs.Outcome.{AreDistinct, AreNames}
@@ -13,7 +14,7 @@ use Rattle.sift_document.proofs.lemmas.ReadEntries.{array_between-long}
 use Rattle.sift_document.specs.Document.{word_array, word_value}
 use Rattle.sift_scenario.specs.Program.{roll_for, turn_of}
 use Rattle.sift_scenario.proofs.Named.{BreaksStarts}
-use Rattle.sift_scenario.specs.Task.{counts_of, name_of, names_of, start_words, task_outputs, BreaksNames, BreaksWords}
+use Rattle.sift_scenario.specs.Task.{counts_of, name_of, names_of, start_words, task_outputs, BreaksNames}
 
 -- within a list the default doesn't matter
 any_default : (xs : List ℕ) (k d e : ℕ) → k < length xs → get_or xs k d ≡ get_or xs k e
@@ -47,7 +48,7 @@ module _ (tasks : List Members) where
   sized sensors kept t low = let count = count_at kept t low in record { some = omega (arith, count.0); few = omega (arith, count.1) }
 
   -- where the rule of the output words is kept, they are few
-  pub few_words : 0 < length tasks → ((at : ℕ) → ¬ BreaksWords (counts_of tasks) at) → sum (counts_of tasks) ≤ 64
+  pub few_words : 0 < length tasks → ((place : ℕ) → ¬ ((place < length (counts_of tasks)) × (word_limit < sum (take (place + 1) (counts_of tasks))))) → sum (counts_of tasks) ≤ 64
   few_words some kept = elim (cases_lt 64 (sum (counts_of tasks))) [
     | inl many ↦
         let long = length-map tasks task_outputs in
@@ -102,7 +103,7 @@ module _ (tasks : List Members) (kept : (at : ℕ) → ¬ BreaksNames tasks at) 
 -- where the rules of the tasks are kept, each may take its turn beside sensors whose names are few and differ
 pub turns :
     (sensors : List (List ℕ)) (tasks : List Members) → AreDistinct sensors → length sensors ≤ 8
-    → ((at : ℕ) → ¬ BreaksNames tasks at) → ((at : ℕ) → ¬ BreaksStarts tasks at) → ((at : ℕ) → ¬ BreaksWords (counts_of tasks) at)
+    → ((at : ℕ) → ¬ BreaksNames tasks at) → ((at : ℕ) → ¬ BreaksStarts tasks at) → ((place : ℕ) → ¬ ((place < length (counts_of tasks)) × (word_limit < sum (take (place + 1) (counts_of tasks)))))
     → 0 < length tasks → length tasks ≤ 24 → (task : ℕ) → task < length tasks → AreNames (turn_of task (roll_for sensors tasks))
 turns sensors tasks differ few_sensors names starts words some few task low = record {
   sensors_differ = differ;

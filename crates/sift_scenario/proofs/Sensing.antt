@@ -10,8 +10,8 @@ use Rattle.sift_mission.specs.PartsFit.{HasWords, sensed_limit}
 use Rattle.sift_base.specs.Layout.{sensor_limit}
 use Rattle.sift_document.proofs.lemmas.DocumentLemmas.{array_entries}
 use Rattle.sift_document.proofs.lemmas.ReadEntries.{array_between-long}
-use Rattle.sift_document.specs.Document.{IsArrayOf, entries_of, members_of, word_array, word_value, tables_in}
-use Rattle.sift_document.specs.Rules.{AreKept, IsKept, rule}
+use Rattle.sift_document.specs.Document.{IsArrayOf, IsTableOf, entries_of, members_of, word_array, word_value, tables_in}
+use Rattle.sift_document.specs.Rules.{AreKept, BreaksEntries, IsKept, rule}
 use Rattle.sift_scenario.proofs.Decided.{stable}
 use Rattle.sift_scenario.proofs.Known.{known_array}
 use Rattle.sift_scenario.proofs.Rolls.{distinct}
@@ -19,7 +19,7 @@ use Rattle.sift_scenario.proofs.Themes.{kept_themes}
 use Rattle.sift_scenario.specs.Mission.{IsLawful}
 use Rattle.sift_scenario.specs.Root.{units_of}
 use Rattle.sift_scenario.specs.Sensor.{sensor_names, sensor_rules, sensor_words, words_of}
-use Rattle.sift_scenario.proofs.Named.{BreaksSensors}
+use Rattle.sift_scenario.proofs.Named.{sensor_keys}
 use Rattle.sift_scenario.specs.Task.{name_of}
 
 -- there are as many words as names
@@ -29,7 +29,7 @@ as_many_sensors document =
     length-map sensors (λ sensor. unwrap_or (words_of sensor) []) ∙ sym (length-map sensors (λ sensor. unwrap_or (name_of sensor) []))
 
 -- there are few sensors where the rule is kept
-few_entries : (value : Option Data) → IsKept (rule 15 (BreaksSensors value)) → length (entries_of value) ≤ 8
+few_entries : (value : Option Data) → IsKept (rule 15 (BreaksEntries 0 sensor_limit (λ at. IsTableOf sensor_keys) value)) → length (entries_of value) ≤ 8
 few_entries None kept = omega arith
 few_entries (Some value) kept =
     let right : IsArrayOf 0 sensor_limit value = stable (known_array 0 sensor_limit value) (λ other. kept 0 (inl (refl, other))) in

@@ -6,7 +6,7 @@ use Rattle.std.specs.List.{All}
 use Rattle.std.specs.Prelude.{ℤ, pos, option_and_then, unwrap_or}
 use Rattle.toml.specs.Data.{Data, string, integer, float, boolean, datetime, array, table}
 use Rattle.sift_clock.specs.Distance.{IsWithin}
-use Rattle.sift_document.proofs.lemmas.ReadEntries.{array_between-long, with_front-parts, of_length}
+use Rattle.sift_document.proofs.lemmas.ReadEntries.{array_between-long, each_read-parts, of_length}
 use Rattle.sift_document.specs.Document.{array_between, array_of, each_read, list_of}
 use Rattle.sift_scenario.proofs.Decided.{all_more}
 use Rattle.sift_document.proofs.lemmas.Numbers.{read_by}
@@ -25,7 +25,7 @@ module _ {B : Type 0} (P : B → Type 0) where
     all_read : (ins : List A) (xs : List B) → each_read read ins ≡ Some xs → All P xs
     all_read [] xs is = let none : [] ≡ xs = cc is in subst (All P) none (λ k d low. absurd (omega (arith, low)))
     all_read (a ∷ ins) xs is =
-        let parts = with_front-parts (read a) (each_read read ins) xs is in
+        let parts = each_read-parts (read a) (each_read read ins) xs is in
         subst (All P) parts.4 (all_more P parts.0 parts.1 (right a parts.0 parts.2) (all_read ins parts.1 parts.3))
 
   module _ (read : Data → Option B) (right : (d : Data) (x : B) → read d ≡ Some x → P x) where

@@ -4,6 +4,7 @@ use Rattle.sift_base.specs.declared.stop.Stop.TheVariants as stop
 use Rattle.std.proofs.lemmas.List.{get_or-take, length-take-le}
 use Rattle.std.proofs.lemmas.Option.{get_or_from_slice_get, slice_get-get_or, slice_get_read, slice_get_within}
 use Rattle.std.specs.List.{slice_get}
+use Rattle.sift_compile.specs.Length.{code_limit, task_length, task_steps}
 use Rattle.sift_lang.specs.Tree.{TaskTree, end}
 use Rattle.sift_parse.proofs.lemmas.OneAnswer.{task_is_answered}
 use Rattle.sift_parse.specs.Outcome.{IsTaskOf, Tells}
@@ -12,7 +13,7 @@ use Rattle.sift_parse.specs.declared.stop.ParseStop.{ParseStop}
 use Rattle.sift_parse.specs.declared.stop.ParseStop.TheVariants as parse
 use Rattle.sift_document.specs.Rules.{EachMatches}
 use Rattle.sift_scenario.proofs.UniqueForms.{one_tree, same_entries}
-use Rattle.sift_scenario.specs.Program.{AreAllowed, IsTreeOf, IsWithin, steps_left, turn_of}
+use Rattle.sift_scenario.specs.Program.{AreAllowed, IsTreeOf, steps_left, turn_of}
 use Rattle.sift_scenario.specs.Refusal.{IsFirstRefused, IsFormRefused, IsNoTask, IsOver, refusal_of}
 use Rattle.sift_scenario.specs.Task.{Form}
 use Rattle.sift_scenario.specs.declared.refused.Refused.{Refused}
@@ -35,14 +36,14 @@ tree_unrefused roll task form tree e is fault =
     task_unrefused roll fault.bytes tree fault.parsed (no_want roll task form e fault) (subst (λ (f : Form). IsTreeOf roll f tree) fault.form_is is) fault.told
 
 -- what is within the limits isn't over one
-within_unrefused : (left task : ℕ) (tree : TaskTree) (e : Refused) → IsWithin left tree → IsOver left task tree e → ⊥
-within_unrefused left task tree e within (inl long) = omega (arith, long.0, within.short)
-within_unrefused left task tree e within (inr slow) = omega (arith, slow.1, within.quick)
+within_unrefused : (left task : ℕ) (tree : TaskTree) (e : Refused) → (task_length tree ≤ code_limit) × (task_steps tree ≤ left) → IsOver left task tree e → ⊥
+within_unrefused left task tree e within (inl long) = omega (arith, long.0, within.0)
+within_unrefused left task tree e within (inr slow) = omega (arith, slow.1, within.1)
 
 -- a task that has an allowed tree isn't refused
 form_unrefused :
     (roll : Roll) (left task : ℕ) (form : Form) (tree : TaskTree) (e : Refused)
-    → IsTreeOf roll form tree → IsWithin left tree → IsFormRefused roll left task form e → ⊥
+    → IsTreeOf roll form tree → (task_length tree ≤ code_limit) × (task_steps tree ≤ left) → IsFormRefused roll left task form e → ⊥
 form_unrefused roll left task form tree e is allowed (inl fault) = tree_unrefused roll task form tree e is fault
 form_unrefused roll left task form tree e is allowed (inr over) =
     let same = one_tree roll form over.0 tree over.1 is in
@@ -72,7 +73,8 @@ unrefused_among roll forms e first all each allowed low =
     let found = each first.task tree there in
     let before : first.trees ≡ take (length first.trees) all = first_trees roll forms first.trees all first.earlier each (omega (arith, low, first.as_many)) in
     let so : take first.task all ≡ first.trees = ap (λ (n : ℕ). take n all) (sym first.as_many) ∙ sym before in
-    let may : IsWithin (steps_left first.trees) tree = subst (λ (ts : List TaskTree). IsWithin (steps_left ts) tree) so (allowed first.task tree there) in
+    let may : (task_length tree ≤ code_limit) × (task_steps tree ≤ steps_left first.trees) =
+    subst (λ (ts : List TaskTree). (task_length tree ≤ code_limit) × (task_steps tree ≤ steps_left ts)) so (allowed first.task tree there) in
     let form = one_entry forms first.task _ _ first.here.there found.there in
     form_unrefused (turn_of first.task roll) (steps_left first.trees) first.task found.entry tree e found.holds may
     (subst (λ (f : Form). IsFormRefused (turn_of first.task roll) (steps_left first.trees) first.task f e) form first.here.holds)

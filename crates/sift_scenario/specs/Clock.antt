@@ -1,7 +1,7 @@
 -- What the table of `clock` says, in ticks, and its rules.
-use Rattle.std.specs.Prelude.{codes, ℕ, ◌≡◌, ◌<◌, ◌+◌, ◌*◌, ◌⊎◌, ℤ, pos, int_le, ◌-ℤ◌, ◌+ℤ◌, ◌≤ℤ◌, ◌&&◌, List, [], ◌∷◌, ◌++◌, if◌then◌else◌, Option, Some, None, replicate, unwrap_or}
+use Rattle.std.specs.Prelude.{codes, ℕ, ◌≡◌, ◌<◌, ◌+◌, ◌*◌, ◌⊎◌, ℤ, pos, int_le, ◌-ℤ◌, ◌+ℤ◌, ◌≤ℤ◌, ◌&&◌, List, [], ◌∷◌, ◌++◌, if◌then◌else◌, Option, Some, None, replicate, option_map, unwrap_or}
 use Rattle.std.specs.List.{All}
-use Rattle.toml.specs.Data.{Data, integer, Members}
+use Rattle.toml.specs.Data.{Data, integer, Members, no_members}
 use Rattle.sift_mission.specs.Data.{Clocks}
 use Rattle.sift_document.specs.Document.{IsTableOf, array_between, integer_between, members_of, read_at, read_or}
 use Rattle.sift_document.specs.Rules.{OfNoEntry, Rule, rule}
@@ -97,21 +97,13 @@ clock_rules units (Some value) =
 
 -- the clocks that the value of `clock` states, for so many units; where it is missing they agree, with subframes of one tick
 abbrev pub clocks_in : (units : ℕ) → Option Data → Clocks
-clocks_in units None = record {
-  skew = pos 0;
-  error = pos 0;
-  rate = pos 0;
-  length = pos 1;
-  start = replicate units (pos 0);
-  drift = replicate units (pos 0);
-  errors = replicate units (replicate units (pos 0));
-}
-clocks_in units (Some value) = record {
-  skew = pos (unwrap_or (skew_of (members_of value)) 0);
-  error = pos (unwrap_or (error_of (members_of value)) 0);
-  rate = pos (unwrap_or (rate_of (members_of value)) 0);
-  length = pos (unwrap_or (length_of (members_of value)) 0);
-  start = unwrap_or (starts_of units (members_of value)) [];
-  drift = unwrap_or (drifts_of units (unwrap_or (rate_of (members_of value)) 0) (members_of value)) [];
-  errors = unwrap_or (errors_of units (unwrap_or (error_of (members_of value)) 0) (members_of value)) [];
-}
+clocks_in units value =
+    let clock = unwrap_or (option_map members_of value) no_members in record {
+      skew = pos (unwrap_or (skew_of clock) 0);
+      error = pos (unwrap_or (error_of clock) 0);
+      rate = pos (unwrap_or (rate_of clock) 0);
+      length = pos (unwrap_or (length_of clock) 1);
+      start = unwrap_or (starts_of units clock) [];
+      drift = unwrap_or (drifts_of units (unwrap_or (rate_of clock) 0) clock) [];
+      errors = unwrap_or (errors_of units (unwrap_or (error_of clock) 0) clock) [];
+    }

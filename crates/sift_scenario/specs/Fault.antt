@@ -42,19 +42,12 @@ pub record AreItems (value : Data) : Type 0 where
   pub few : IsArrayOf 1 item_limit value
   pub known : All (IsTableOf item_keys) (entries_of (Some value))
 
--- `say` of the fault is there and is such an array, and `storm` isn't there
-pub record IsSaying (fault : Members) : Type 0 where
+-- the value at this key is there and is right, and nothing stands at the other key
+pub record StandsAlone (key other : List ℕ) (IsRight : Data → Type 0) (fault : Members) : Type 0 where
   pub value : Data
-  pub there : get_member (codes "say") fault ≡ Some value
-  pub items : AreItems value
-  pub alone : get_member (codes "storm") fault ≡ None
-
--- `storm` of the fault is there and is a table with known keys, and `say` isn't there
-pub record IsStorming (fault : Members) : Type 0 where
-  pub value : Data
-  pub there : get_member (codes "storm") fault ≡ Some value
-  pub known : IsTableOf (codes "number" ∷ codes "strays" ∷ []) value
-  pub alone : get_member (codes "say") fault ≡ None
+  pub there : get_member key fault ≡ Some value
+  pub right : IsRight value
+  pub alone : get_member other fault ≡ None
 
 -- the rules of the faults in the value of `fault`
 abbrev pub fault_rules : Option Data → List Rule
@@ -63,8 +56,10 @@ fault_rules value =
     rule 26 (BreaksEntries 0 fault_limit (λ place. IsTableOf (codes "unit" ∷ codes "from" ∷ codes "say" ∷ codes "storm" ∷ [])) value)
     -- `unit` of a fault is missing or is no integer from 0 to 7, or its `from` is missing or is no integer from 0 to 999
     ∷ rule 27 (λ place. HoldsOf (tables_in value) place (λ fault. (unit_of fault ≡ None) ⊎ (from_of fault ≡ None)))
-    -- a fault has no way of failing, or two, or one that isn't as above
-    ∷ rule 28 (λ place. HoldsOf (tables_in value) place (λ fault. ¬ (IsSaying fault ⊎ IsStorming fault)))
+    -- a fault has neither just a `say`, which is an array of 1 to 64 tables with known keys, nor just a `storm`, which is a table with known keys
+    ∷ rule 28 (λ place. HoldsOf (tables_in value) place (λ fault.
+    ¬ (StandsAlone (codes "say") (codes "storm") AreItems fault
+    ⊎ StandsAlone (codes "storm") (codes "say") (IsTableOf (codes "number" ∷ codes "strays" ∷ [])) fault)))
     -- an item of a fault states no change
     ∷ rule 29 (λ place. HoldsOf (tables_in value) place (λ fault. changes_of fault ≡ None))
     -- `storm` of a fault is there, and its `number` is missing or is no integer of at least 0, or its `strays` is missing or is no integer

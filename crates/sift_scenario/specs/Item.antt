@@ -6,6 +6,7 @@ use Rattle.sift_base.specs.Units.{unit_limit}
 use Rattle.sift_script.specs.Script.{Change}
 use Rattle.sift_script.specs.declared.script.SlotKind.{SlotKind}
 use Rattle.sift_script.specs.declared.script.SlotKind.TheVariants.{Clock, Sense, Relay, Out, Report, RelayReport}
+use Rattle.sift_mission.specs.PartsFit.{frame_limit}
 use Rattle.sift_document.specs.Document.{digits_to, integer_between, read_at, read_or, word_value}
 
 -- the keys that an item may have
@@ -15,10 +16,6 @@ item_keys = codes "slot" ∷ codes "index" ∷ codes "word" ∷ codes "to" ∷ c
 -- the highest number of a sensor, a task, a unit or a word that may be stated
 abbrev pub highest_index : ℕ
 highest_index = 63
-
--- the highest number of a frame that may be stated
-abbrev pub highest_frame : ℕ
-highest_frame = 999
 
 -- the kind of slot of a name
 abbrev pub kind_named : List ℕ → Option SlotKind
@@ -53,7 +50,7 @@ receivers_of item = read_at (digits_to (unit_limit - 1)) (codes "to") item
 
 -- the frame that an item is about, or none where no frame is stated
 abbrev pub frame_of : Members → Option (Option ℕ)
-frame_of item = read_or None (λ value. option_map (λ n. Some n) (integer_between 0 highest_frame value)) (codes "frame") item
+frame_of item = read_or None (λ value. option_map (λ n. Some n) (integer_between 0 (frame_limit - 1) value)) (codes "frame") item
 
 -- the word that an item has said, or absence where no value is stated
 abbrev pub said_of : Members → Option (Option ℕ)

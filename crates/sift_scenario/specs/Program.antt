@@ -35,14 +35,10 @@ step_limit = 16384
 abbrev pub steps_left : List TaskTree → ℕ
 steps_left trees = step_limit - sum_by task_steps trees
 
--- the code of a task is short enough, and takes no more steps than are left
-pub record IsWithin (left : ℕ) (tree : TaskTree) : Type 0 where
-  pub short : task_length tree ≤ code_limit
-  pub quick : task_steps tree ≤ left
-
--- each task is within what those before it leave
+-- the code of each task is short enough, and takes no more steps than those before it leave
 abbrev pub AreAllowed : List TaskTree → Type 0
-AreAllowed trees = (t : ℕ) (tree : TaskTree) → slice_get trees t ≡ Some tree → IsWithin (steps_left (take t trees)) tree
+AreAllowed trees =
+    (t : ℕ) (tree : TaskTree) → slice_get trees t ≡ Some tree → (task_length tree ≤ code_limit) × (task_steps tree ≤ steps_left (take t trees))
 
 -- ---- the program
 

@@ -1,6 +1,7 @@
 -- What is read of a document, and what is made of it. No public clause cites this module.
-use Rattle.std.specs.Prelude.{codes, ◌≡◌, ◌⊎◌, List, [], Some, None, length, map, unwrap_or}
+use Rattle.std.specs.Prelude.{codes, ◌≡◌, ◌<◌, ◌≤◌, ◌⊎◌, List, [], Some, None, length, map, unwrap_or}
 use Rattle.toml.specs.Data.{Members, get_member}
+use Rattle.sift_base.specs.Shapes.{task_limit}
 use Rattle.sift_document.specs.Document.{tables_in}
 use Rattle.sift_compile.specs.Tasks.{AreCodesOf}
 use Rattle.sift_program.specs.Program.{program_of}
@@ -18,20 +19,17 @@ use Rattle.sift_scenario.specs.Mission.{IsLawful}
 use Rattle.sift_scenario.specs.Program.{IsProgramOf}
 use Rattle.sift_scenario.specs.Root.{frames_of, period_of, units_of}
 use Rattle.sift_scenario.specs.Sensor.{sensor_names, words_of}
-use Rattle.sift_scenario.specs.Table.{IsTimeless, positions_of, schedules_by, size_of}
-use Rattle.sift_scenario.specs.Task.{AreForms, name_of, names_of, start_words, task_entries, tasks_of, IsTaskNumber}
+use Rattle.sift_scenario.specs.Table.{positions_of, schedules_by, size_of, subframes_at}
+use Rattle.sift_scenario.specs.Task.{AreForms, name_of, names_of, start_words, task_entries, tasks_of}
 use Rattle.sift_scenario.specs.Testing.{form_of}
 
--- these are the names, the start words and the forms of the tasks in these tables, which are as many as may be
-pub record AreTasksRead (tables : List Members) (tasks : Tasks) : Type 0 where
-  pub few : IsTaskNumber (length tables)
-  pub names : map (λ name. Some name.bytes) tasks.names.items ≡ map name_of tables
-  pub starts : map (λ words. Some words.items) tasks.starts.items ≡ map start_words tables
-  pub forms : AreForms tables (map form_of tasks.forms.items)
-
--- these are the names, the start words and the forms of a document's tasks
-abbrev pub AreTasksOf : Members → Tasks → Type 0
-AreTasksOf document tasks = AreTasksRead (tasks_of document) tasks
+-- these are the names, the start words and the forms of a document's tasks, which are as many as may be
+pub record AreTasksOf (document : Members) (tasks : Tasks) : Type 0 where
+  pub some : 0 < length (tasks_of document)
+  pub few : length (tasks_of document) ≤ task_limit
+  pub names : map (λ name. Some name.bytes) tasks.names.items ≡ map name_of (tasks_of document)
+  pub starts : map (λ words. Some words.items) tasks.starts.items ≡ map start_words (tasks_of document)
+  pub forms : AreForms (tasks_of document) (map form_of tasks.forms.items)
 
 -- these are the names and the words of the sensors in these tables
 pub record AreSensorsIn (tables : List Members) (sensors : Sensors) : Type 0 where
@@ -50,7 +48,9 @@ pub record AreFaultsRead (faults : List Members) (heads : List Head) (said : Lis
 
 -- a part of the table isn't read
 abbrev pub IsPartial : Members → Type 0
-IsPartial table = (size_of table ≡ None) ⊎ (IsTimeless table ⊎ (positions_of table ≡ None))
+IsPartial table =
+    (size_of table ≡ None)
+    ⊎ (((subframes_at (codes "run") table ≡ None) ⊎ (subframes_at (codes "poll") table ≡ None)) ⊎ (positions_of table ≡ None))
 
 -- these are the entries of the document, which keeps all rules
 pub record IsReadOf (document : Members) (entries : Entries) : Type 0 where

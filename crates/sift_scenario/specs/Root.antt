@@ -24,22 +24,15 @@ units_of document = read_at (integer_between least_units unit_limit) (codes "uni
 abbrev pub frames_of : Members → Option ℕ
 frames_of document = read_at (integer_between 1 frame_limit) (codes "frames") document
 
--- the newest version of the format of documents
-abbrev pub newest_version : ℕ
-newest_version = 2
-
--- the version, which is 1 where none is stated
+-- the version of the format of documents, 1 or 2, which is 1 where none is stated
 abbrev pub version_of : Members → Option ℕ
-version_of document = read_or 1 (integer_between 1 newest_version) (codes "version") document
+version_of document = read_or 1 (integer_between 1 2) (codes "version") document
 
--- the number of subframes in which the plain table of so many tasks is run and reported
-abbrev pub plain_period : ℕ → ℕ
-plain_period tasks = agreed_in + hearing_delay * tasks + report_lead
-
--- the number of subframes of a frame: that of the plain table where none is stated
+-- the number of subframes of a frame; where none is stated, that in which the plain table of so many tasks is run and reported
 abbrev pub period_of : Members → Option ℕ
 period_of document =
-    read_or (plain_period (length (task_entries document))) (integer_between shortest_period longest_period) (codes "subframes") document
+    read_or (agreed_in + hearing_delay * length (task_entries document) + report_lead)
+    (integer_between shortest_period longest_period) (codes "subframes") document
 
 -- ---- its rules
 

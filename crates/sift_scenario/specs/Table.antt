@@ -12,14 +12,10 @@ use Rattle.sift_document.specs.Rules.{HoldsOf, BreaksEntries, Rule, rule}
 
 -- ---- what they say
 
--- the first version of documents whose tables may shed tasks
-abbrev pub shedding_version : ℕ
-shedding_version = 2
-
--- the keys that a table of `table` may have in a document of this version
+-- the keys that a table of `table` may have in a document of this version; `shed` came with version 2
 abbrev pub table_keys : (version : ℕ) → List (List ℕ)
 table_keys version =
-    codes "size" ∷ codes "run" ∷ codes "poll" ∷ codes "at" ∷ (if nat_lt version shedding_version then [] else codes "shed" ∷ [])
+    codes "size" ∷ codes "run" ∷ codes "poll" ∷ codes "at" ∷ (if nat_lt version 2 then [] else codes "shed" ∷ [])
 
 -- the size of the configurations that a table is for
 abbrev pub size_of : Members → Option ℕ
@@ -48,17 +44,13 @@ pub record IsTableEntry (version place : ℕ) (entry : Data) : Type 0 where
 abbrev pub size_count : (units : ℕ) → ℕ
 size_count units = units + 1 - least_units
 
--- `run` or `poll` of the table is missing, or is no array of integers from 0 to 63
-abbrev pub IsTimeless : Members → Type 0
-IsTimeless table = (subframes_at (codes "run") table ≡ None) ⊎ (subframes_at (codes "poll") table ≡ None)
-
 -- the rules of the tables in the value of `table`, for a document of this version and so many units
 abbrev pub table_rules : (version units : ℕ) → Option Data → List Rule
 table_rules version units value =
     -- `table` is there, and is no array of one entry for each size, or has an entry that is no table, has an unknown key, or another size
     rule 23 (BreaksEntries (size_count units) (size_count units) (IsTableEntry version) value)
-    -- a table doesn't say when the tasks are run and polled
-    ∷ rule 24 (λ place. HoldsOf (tables_in value) place IsTimeless)
+    -- `run` or `poll` of a table is missing, or is no array of integers from 0 to 63
+    ∷ rule 24 (λ place. HoldsOf (tables_in value) place (λ table. (subframes_at (codes "run") table ≡ None) ⊎ (subframes_at (codes "poll") table ≡ None)))
     -- `at` of a table is missing, or is no array of strings of digits from `0` to `7`
     ∷ rule 25 (λ place. HoldsOf (tables_in value) place (λ table. positions_of table ≡ None))
     ∷ []

@@ -68,13 +68,10 @@ AreForms tasks forms = AreMatched (λ place task form. HasForm task form) tasks 
 
 -- ---- their rules
 
--- there are 1 to 24 entries
-abbrev pub IsTaskNumber : ℕ → Type 0
-IsTaskNumber number = (0 < number) × (number ≤ task_limit)
-
 -- `task` is missing, is no array of 1 to 24 entries, or has an entry that is no table or has an unknown key
 abbrev pub BreaksTasks : Members → ℕ → Type 0
-BreaksTasks document place = OfNoEntry (¬ IsTaskNumber (length (task_entries document))) place
+BreaksTasks document place =
+    OfNoEntry (¬ ((0 < length (task_entries document)) × (length (task_entries document) ≤ task_limit))) place
     ⊎ HoldsOf (task_entries document) place (λ entry. ¬ IsTableOf (codes "name" ∷ codes "start" ∷ codes "text" ∷ codes "linear" ∷ []) entry)
 
 -- a name is missing, is no name, or is an earlier entry's
@@ -82,21 +79,15 @@ abbrev pub BreaksNames : List Members → ℕ → Type 0
 BreaksNames entries place =
     HoldsOf entries place (λ entry. (name : List ℕ) → ¬ IsNewName (map name_of (take place entries)) entry name)
 
--- with this task there are more than 64 output words, where each task has so many
-abbrev pub BreaksWords : List ℕ → ℕ → Type 0
-BreaksWords counts place = (place < length counts) × (word_limit < sum (take (place + 1) counts))
-
--- the rules of each task, where these are the tables of all
-abbrev pub each_task_rules : List Members → List Rule
-each_task_rules tasks =
-    rule 19 (BreaksNames tasks)
-    -- a task's start words are missing, or are no array of 1 to 8 word values
-    ∷ rule 20 (λ place. HoldsOf tasks place (λ task. start_words task ≡ None))
-    ∷ rule 21 (BreaksWords (counts_of tasks))
-    -- a task has neither just a text, which is a string, nor just a linear rule, which is an array of two word values, and one output word
-    ∷ rule 22 (λ place. HoldsOf tasks place (λ task. (form : Form) → ¬ HasForm task form))
-    ∷ []
-
 -- the rules of the tasks
 abbrev pub task_rules : Members → List Rule
-task_rules document = rule 18 (BreaksTasks document) ∷ each_task_rules (tasks_of document)
+task_rules document =
+    rule 18 (BreaksTasks document)
+    ∷ rule 19 (BreaksNames (tasks_of document))
+    -- a task's start words are missing, or are no array of 1 to 8 word values
+    ∷ rule 20 (λ place. HoldsOf (tasks_of document) place (λ task. start_words task ≡ None))
+    -- with a task there are more than 64 output words
+    ∷ rule 21 (λ place. (place < length (counts_of (tasks_of document))) × (word_limit < sum (take (place + 1) (counts_of (tasks_of document)))))
+    -- a task has neither just a text, which is a string, nor just a linear rule, which is an array of two word values, and one output word
+    ∷ rule 22 (λ place. HoldsOf (tasks_of document) place (λ task. (form : Form) → ¬ HasForm task form))
+    ∷ []

@@ -1,13 +1,14 @@
 //! What a document states, by its rules.
 
-ghost use Rattle.std.specs.Prelude.{◌≡◌, ◌≤◌, IfErr, IfOk, IfSome, unwrap_or};
+ghost use Rattle.std.specs.Prelude.{◌≡◌, ◌≤◌, ◌+◌, ◌*◌, IfErr, IfOk, IfSome, unwrap_or};
 ghost use Rattle.toml.specs.View.{table_view};
 ghost use Rattle.sift_base.specs.Shapes.{task_limit};
+ghost use Rattle.sift_table.specs.Rules.{report_lead};
+ghost use Rattle.sift_table.specs.Schedule.{agreed_in, hearing_delay};
 ghost use Rattle.sift_mission.specs.PartsFit.{longest_period};
 ghost use Rattle.sift_document.specs.Testing.{RefusesFirst};
 ghost use Rattle.sift_scenario.specs.Mission.{rules_of};
 ghost use Rattle.sift_scenario.specs.Reading.{IsReadOf};
-ghost use Rattle.sift_scenario.specs.Root.{plain_period};
 
 use crate::clock::plan_of;
 use crate::fault::script_of;
@@ -70,7 +71,7 @@ pub(crate) fn entries_of(
 fn period_of(subframes: Option<u32>, tasks: u8) -> u8
     requires tasks { tasks ≤ task_limit }
     requires subframes { IfSome subframes (λ stated. stated ≤ longest_period) }
-    ensures { result ≡ unwrap_or subframes (plain_period tasks) }
+    ensures { result ≡ unwrap_or subframes (agreed_in + hearing_delay * tasks + report_lead) }
 {
     match subframes {
         Some(stated) => stated as u8,

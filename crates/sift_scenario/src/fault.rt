@@ -1,6 +1,6 @@
 //! The faults of a document.
 
-ghost use Rattle.std.specs.Prelude.{codes, ◌≡◌, ◌≤◌, ◌⊎◌, ◌∷◌, [], IfOk, IfSome, IfNone, None, Some, length, map, option_map, unwrap_or};
+ghost use Rattle.std.specs.Prelude.{codes, ◌≡◌, ◌≤◌, ◌⊎◌, ◌↔◌, ◌∷◌, [], IfOk, IfSome, IfNone, IsSome, None, Some, length, map, option_map, unwrap_or};
 ghost use Rattle.std.specs.List.{All};
 ghost use Rattle.toml.specs.Data.{get_member};
 ghost use Rattle.toml.specs.View.{table_view, view};
@@ -8,7 +8,7 @@ ghost use Rattle.sift_script.specs.Script.{change_of, changing, failing_of, faul
 ghost use Rattle.sift_document.specs.Document.{IsTableOf, each_read, entries_of, members_of, tables_in};
 ghost use Rattle.sift_document.specs.Rules.{BreaksEntries, HoldsOf};
 ghost use Rattle.sift_document.specs.Testing.{Tests, TestsEach};
-ghost use Rattle.sift_scenario.specs.Fault.{AreItems, IsSaying, IsStorming, fault_in, fault_limit, fault_rules, from_of, stated_storm, unit_of};
+ghost use Rattle.sift_scenario.specs.Fault.{AreItems, StandsAlone, fault_in, fault_limit, fault_rules, from_of, stated_storm, unit_of};
 ghost use Rattle.sift_scenario.specs.Item.{change_in, item_keys};
 ghost use Rattle.sift_scenario.specs.Reading.{AreFaultsRead};
 
@@ -117,7 +117,8 @@ fn fault_items<'a>(
         map (λ items. map (λ item. table_view item.now) items.items) found.items
         ≡ map (λ fault. tables_in (get_member (codes "say") (table_view fault.now))) tables.now) }
     ensures tests { Tests 28 (λ place. HoldsOf (map (λ fault. table_view fault.now) tables.now) place
-        (λ fault. ¬ (IsSaying fault ⊎ IsStorming fault))) result }
+        (λ fault. ¬ (StandsAlone (codes "say") (codes "storm") AreItems fault
+        ⊎ StandsAlone (codes "storm") (codes "say") (IsTableOf (codes "number" ∷ codes "strays" ∷ [])) fault))) result }
 {
     let mut found = Vec::new(alloc);
     for (place, fault) in tables.iter().enumerate() {
@@ -133,8 +134,9 @@ fn fault_items<'a>(
 fn items_of(alloc: Global, fault: &Table) -> Result<Option<Vec<&Table>>, NoMemory>
     ensures items { IfOk result (λ found. IfSome found (λ items.
         map (λ item. table_view item.now) items.items ≡ tables_in (get_member (codes "say") (table_view fault.now)))) }
-    ensures one_way { IfOk result (λ found. IfSome found (λ _. IsSaying (table_view fault.now) ⊎ IsStorming (table_view fault.now))) }
-    ensures none { IfOk result (λ found. IfNone found (IsSaying (table_view fault.now) ⊎ IsStorming (table_view fault.now) → ⊥)) }
+    ensures one_way { IfOk result (λ found. IsSome found
+        ↔ (StandsAlone (codes "say") (codes "storm") AreItems (table_view fault.now)
+        ⊎ StandsAlone (codes "storm") (codes "say") (IsTableOf (codes "number" ∷ codes "strays" ∷ [])) (table_view fault.now))) }
 {
     match (member_of(fault, "say"), member_of(fault, "storm")) {
         (Some(said), None) => said_items(alloc, said),

@@ -11,7 +11,7 @@ ghost use Rattle.sift_table.specs.Schedule.{schedule_of};
 ghost use Rattle.sift_document.specs.Document.{members_of, tables_in};
 ghost use Rattle.sift_document.specs.Rules.{BreaksEntries, HoldsOf, IsKept, rule};
 ghost use Rattle.sift_document.specs.Testing.{Tests, TestsEach};
-ghost use Rattle.sift_scenario.specs.Table.{IsTableEntry, IsTimeless, positions_of, schedule_in, schedules_by, shed_of, size_count, size_of, subframes_at, table_keys, table_rules};
+ghost use Rattle.sift_scenario.specs.Table.{IsTableEntry, positions_of, schedule_in, schedules_by, shed_of, size_count, size_of, subframes_at, table_keys, table_rules};
 ghost use Rattle.sift_scenario.specs.Reading.{IsPartial};
 
 use sift_base::{NoMemory, Stop};
@@ -153,7 +153,8 @@ fn table_keys(version: u32) -> &'static [&'static str]
 /// Tests that each table says when the tasks are run and polled.
 fn check_times(alloc: Global, tables: &[&toml::Table]) -> Result<(), Stop<BrokenRule>>
     requires { length tables.now ≤ unit_limit }
-    ensures { Tests 24 (λ place. HoldsOf (map (λ table. table_view table.now) tables.now) place IsTimeless) result }
+    ensures { Tests 24 (λ place. HoldsOf (map (λ table. table_view table.now) tables.now) place
+        (λ table. (subframes_at (codes "run") table ≡ None) ⊎ (subframes_at (codes "poll") table ≡ None))) result }
 {
     for (place, table) in tables.iter().enumerate() {
         let timeless = is_timeless(alloc, table)?;
@@ -166,7 +167,8 @@ fn check_times(alloc: Global, tables: &[&toml::Table]) -> Result<(), Stop<Broken
 
 /// Whether a table doesn't say when the tasks are run and polled.
 fn is_timeless(alloc: Global, table: &toml::Table) -> Result<bool, NoMemory>
-    ensures { IfOk result (λ timeless. IsTrue timeless ↔ IsTimeless (table_view table.now)) }
+    ensures { IfOk result (λ timeless. IsTrue timeless ↔
+        ((subframes_at (codes "run") (table_view table.now) ≡ None) ⊎ (subframes_at (codes "poll") (table_view table.now) ≡ None))) }
 {
     let run = subframes_at(alloc, table, "run")?;
     let poll = subframes_at(alloc, table, "poll")?;
@@ -181,7 +183,8 @@ fn read_tables(
 ) -> Result<Vec<Table>, Stop<BrokenRule>>
     requires few { length tables.now ≤ unit_limit }
     requires sized { All (λ table. size_of (table_view table.now) ≢ None) tables.now }
-    requires timed { IsKept (rule 24 (λ place. HoldsOf (map (λ table. table_view table.now) tables.now) place IsTimeless)) }
+    requires timed { IsKept (rule 24 (λ place. HoldsOf (map (λ table. table_view table.now) tables.now) place
+        (λ table. (subframes_at (codes "run") table ≡ None) ⊎ (subframes_at (codes "poll") table ≡ None)))) }
     ensures read { IfOk result (λ schedules.
         map schedule_of schedules.items ≡ map (λ table. schedule_in period (table_view table.now)) tables.now) }
     ensures tests { Tests 25 (λ place. HoldsOf (map (λ table. table_view table.now) tables.now) place

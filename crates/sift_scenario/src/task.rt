@@ -1,13 +1,14 @@
 //! The rules of the tasks, each over all of them, and what the tasks' tables say.
 
-ghost use Rattle.std.specs.Prelude.{◌≡◌, ◌≢◌, ◌≤◌, ◌∷◌, [], ℕ, IfOk, IfSome, IfNone, None, Some, length, map, option_map};
+ghost use Rattle.std.specs.Prelude.{◌≡◌, ◌≢◌, ◌<◌, ◌≤◌, ◌+◌, ◌∷◌, [], ℕ, IfOk, IfSome, IfNone, None, Some, length, map, option_map, sum, take};
 ghost use Rattle.toml.specs.View.{table_view, view};
+ghost use Rattle.sift_base.specs.Layout.{word_limit};
 ghost use Rattle.sift_base.specs.Shapes.{task_limit};
 ghost use Rattle.sift_document.specs.Document.{word_array};
 ghost use Rattle.sift_document.specs.Rules.{HoldsOf};
 ghost use Rattle.sift_document.specs.Testing.{Tests, TestsEach};
-ghost use Rattle.sift_scenario.specs.Reading.{AreTasksOf, AreTasksRead};
-ghost use Rattle.sift_scenario.specs.Task.{BreaksTasks, BreaksWords, IsTaskNumber, each_task_rules, task_rules};
+ghost use Rattle.sift_scenario.specs.Reading.{AreTasksOf};
+ghost use Rattle.sift_scenario.specs.Task.{BreaksTasks, task_rules};
 ghost use Rattle.sift_scenario.specs.Testing.{IsLinearForm, form_of};
 ghost use Rattle.sift_scenario.specs.Task.{AreForms, Form as Stated, HasForm, counts_of, start_words, tasks_of, task_outputs};
 
@@ -46,19 +47,10 @@ pub(crate) fn tasks_of(alloc: Global, document: &Table) -> Result<Tasks<'_>, Sto
     ensures tests { TestsEach (task_rules (table_view document.now)) result }
 {
     let tables = task_tables(alloc, document)?;
-    read_tasks(alloc, &tables)
-}
-
-/// What these tables state, where no rule of the tasks is broken.
-fn read_tasks<'a>(alloc: Global, tables: &[&'a Table]) -> Result<Tasks<'a>, Stop<BrokenRule>>
-    requires { IsTaskNumber (length tables.now) }
-    ensures read { IfOk result (AreTasksRead (map (λ task. table_view task.now) tables.now)) }
-    ensures tests { TestsEach (each_task_rules (map (λ task. table_view task.now) tables.now)) result }
-{
-    let names = names_in(alloc, tables, 19)?;
-    let starts = task_starts(alloc, tables)?;
+    let names = names_in(alloc, &tables, 19)?;
+    let starts = task_starts(alloc, &tables)?;
     check_words(&starts)?;
-    let forms = task_forms(alloc, tables, &starts)?;
+    let forms = task_forms(alloc, &tables, &starts)?;
     Ok(Tasks {
         names,
         starts,
@@ -70,7 +62,8 @@ fn read_tasks<'a>(alloc: Global, tables: &[&'a Table]) -> Result<Tasks<'a>, Stop
 fn task_tables(alloc: Global, document: &Table) -> Result<Vec<&Table>, Stop<BrokenRule>>
     ensures tables { IfOk result (λ tables.
         map (λ task. table_view task.now) tables.items ≡ tasks_of (table_view document.now)) }
-    ensures few { IfOk result (λ tables. IsTaskNumber (length tables.items)) }
+    ensures some { IfOk result (λ tables. 0 < length tables.items) }
+    ensures few { IfOk result (λ tables. length tables.items ≤ task_limit) }
     ensures tests { Tests 18 (BreaksTasks (table_view document.now)) result }
 {
     let entries = entries_at(document, "task");
@@ -108,7 +101,8 @@ fn start_words(task: &Table) -> Option<Starts>
 /// Tests how many output words there are, where these are the start words of the tasks.
 fn check_words(starts: &[Starts]) -> Result<(), Stop<BrokenRule>>
     requires { length starts.now ≤ task_limit }
-    ensures { Tests 21 (BreaksWords (map (λ words. length words.items) starts.now)) result }
+    ensures { Tests 21 (λ place. (place < length starts.now)
+        × (word_limit < sum (take (place + 1) (map (λ words. length words.items) starts.now)))) result }
 {
     let mut words = 0;
     for (place, task) in starts.iter().enumerate() {

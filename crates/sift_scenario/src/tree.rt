@@ -4,14 +4,14 @@ ghost use Rattle.std.specs.Prelude.{◌≡◌, ◌≢◌, ◌<◌, ◌≤◌, �
 ghost use Rattle.sift_base.specs.Stop.{IfRefused};
 ghost use Rattle.std.specs.List.{flat_map, sum};
 ghost use Rattle.sift_code.specs.Bound.{bound_of};
-ghost use Rattle.sift_compile.specs.Length.{task_steps};
+ghost use Rattle.sift_compile.specs.Length.{code_limit, task_length, task_steps};
 ghost use Rattle.sift_lang.specs.Sound.{IsSound};
 ghost use Rattle.sift_lang.specs.Tree.{tree_of};
 ghost use Rattle.sift_parse.specs.Outcome.{AreNames, linear_tree};
 ghost use Rattle.sift_parse.specs.Roll.{first_word, Roll, roll_of};
 ghost use Rattle.sift_document.specs.Rules.{AreMatched};
 ghost use Rattle.sift_compile.specs.Tasks.{AreCodesOf, IsCodeOf};
-ghost use Rattle.sift_scenario.specs.Program.{AreAllowed, IsTreeOf, IsWithin, step_limit, turn_of};
+ghost use Rattle.sift_scenario.specs.Program.{AreAllowed, IsTreeOf, step_limit, turn_of};
 ghost use Rattle.sift_scenario.specs.Refusal.{IsFirstRefused, IsNoTask};
 ghost use Rattle.sift_base.specs.Layout.{sensor_limit};
 ghost use Rattle.sift_base.specs.Shapes.{task_limit};
@@ -133,7 +133,8 @@ fn tree_code(alloc: Global, tree: &Task, task: usize, room: Room) -> Result<Chec
     requires sound { IsSound room.sensors room.words (tree_of tree.now) }
     requires left { room.left ≤ step_limit }
     ensures code { IfOk result (IsCodeOf room.sensors room.words (tree_of tree.now)) }
-    ensures allowed { IsOk result → IsWithin room.left (tree_of tree.now) }
+    ensures short { IsOk result → task_length (tree_of tree.now) ≤ code_limit }
+    ensures quick { IsOk result → task_steps (tree_of tree.now) ≤ room.left }
     ensures steps { IfOk result (λ code. bound_of code.code ≡ task_steps (tree_of tree.now)) }
     ensures refused { IfErr result (IsCodeStop room.left task (tree_of tree.now)) }
 {

@@ -5,7 +5,7 @@ use Rattle.std.specs.List.{Contains}
 use Rattle.std.specs.Prelude.{codes, ◌⊎◌}
 use Rattle.toml.specs.Data.{Data, Members, table}
 use Rattle.sift_gen.specs.Scenario.{array_of, fault_entries, fault_item}
-use Rattle.sift_scenario.specs.Fault.{IsSaying, IsStorming, changes_of, fault_in, fault_rules, from_of, stated_storm, unit_of}
+use Rattle.sift_scenario.specs.Fault.{AreItems, StandsAlone, changes_of, fault_in, fault_rules, from_of, stated_storm, unit_of}
 use Rattle.sift_scenario.specs.Item.{change_in, item_keys}
 use Rattle.sift_script.specs.Script.{Change, Fault, changing}
 use Rattle.sift_script.specs.declared.script.SlotKind.TheVariants.{Out}
@@ -68,11 +68,11 @@ module _
   fault_known : HasOnlyKeys fault_keys entries
   fault_known = All-from_recursion (Contains fault_keys) (keys_of entries) ((1, omega arith, refl), ((2, omega arith, refl), ((0, omega arith, refl), tt)))
 
-  saying : IsSaying entries
+  saying : StandsAlone (codes "say") (codes "storm") AreItems entries
   saying = record {
     value = array_of (fault_item units unit task value ∷ []);
     there = refl;
-    items = record {
+    right = record {
       few = record { items = _; there = refl; enough = omega arith; few = omega arith };
       known = All-cons (IsTableOf item_keys) (fault_item units unit task value) [] (item, refl, item_known) (All-nil (IsTableOf item_keys));
     };
@@ -92,7 +92,8 @@ module _
         | inr none ↦ cc (from_stated, none)
       ]),
       (
-        not_only entries (λ k fault. ¬ (IsSaying fault ⊎ IsStorming fault)) (λ fails. fails (inl saying)),
+        not_only entries (λ k fault. ¬ (StandsAlone (codes "say") (codes "storm") AreItems fault
+            ⊎ StandsAlone (codes "storm") (codes "say") (IsTableOf (codes "number" ∷ codes "strays" ∷ [])) fault)) (λ fails. fails (inl saying)),
         (
           not_only entries (λ k fault. changes_of fault ≡ None) (λ none. cc (changes_stated, none)),
           (not_only entries (λ k fault. stated_storm fault ≡ None) (λ none. cc), tt),

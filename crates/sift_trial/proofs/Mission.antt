@@ -1,5 +1,5 @@
 -- The mission that a drawn document states.
-use Rattle.std.proofs.Common.{◌≡◌, ◌≢◌, ◌<◌, ◌≤◌, ◌+◌, ◌-◌, ℕ, List, [], ◌∷◌, length, map, None, inl, inr, refl, sym, ap, subst, ◌∙◌, arith}
+use Rattle.std.proofs.Common.{◌≡◌, ◌≢◌, ◌<◌, ◌≤◌, ◌+◌, ◌-◌, ◌*◌, ℕ, List, [], ◌∷◌, length, map, None, inl, inr, refl, sym, ap, subst, ◌∙◌, arith}
 use Rattle.std.proofs.lemmas.List.FromFn.{get_or-range_with_len, length-map-range_with_len, length-range_with_len}
 use Rattle.std.proofs.lemmas.List.{length-map}
 use Rattle.std.proofs.lemmas.List.Elements.{All-map}
@@ -14,7 +14,7 @@ use Rattle.sift_parse.specs.Roll.{Roll}
 use Rattle.sift_program.specs.Program.{ProgramTree, program_shapes}
 use Rattle.sift_scenario.specs.Mission.{IsLawful, HasGoodTables, IsMission, IsStated}
 use Rattle.sift_scenario.specs.Program.{IsProgramOf, IsTreeOf, roll_for, turn_of}
-use Rattle.sift_scenario.specs.Root.{plain_period, root_rules, units_of, version_of}
+use Rattle.sift_scenario.specs.Root.{root_rules, units_of, version_of}
 use Rattle.sift_scenario.specs.Sensor.{sensor_names, sensor_rules, sensor_words, words_of}
 use Rattle.sift_scenario.specs.Table.{table_rules, schedules_by, shed_of}
 use Rattle.sift_scenario.specs.Task.{Form, counts_of, names_of, start_words, task_entries, tasks_of, text, task_rules}
@@ -22,7 +22,8 @@ use Rattle.sift_script.specs.Rules as scripts
 use Rattle.sift_script.specs.Script.{Fault, outputs_of}
 use Rattle.sift_table.specs.Laws.{PlainTablesAreGood}
 use Rattle.sift_table.specs.Rules as tables
-use Rattle.sift_table.specs.Schedule.{plain_of}
+use Rattle.sift_table.specs.Rules.{report_lead}
+use Rattle.sift_table.specs.Schedule.{agreed_in, hearing_delay, plain_of}
 use Rattle.sift_mission.specs.Data.{MissionData, shapes_in}
 use Rattle.sift_document.proofs.lemmas.Order.{kept_joined}
 use Rattle.sift_document.specs.Rules.{AreKept, AreMatched, HoldsOf, Rule, rule}
@@ -33,7 +34,7 @@ use Rattle.sift_trial.proofs.Script.{script_good}
 use Rattle.sift_trial.proofs.Sensors.{sensors_are, sensors_kept}
 use Rattle.sift_trial.proofs.Shapes.{AreOfOneWord, are_shapes, output_is, outputs_long, shapes_long}
 use Rattle.sift_trial.proofs.Tables.{names_are}
-use Rattle.sift_trial.proofs.Tasks.{all_known, counts_are, each_kept, forms_are, tasks_are, tasks_long, text_at}
+use Rattle.sift_trial.proofs.Tasks.{all_known, counts_are, forms_are, forms_right, names_right, starts_right, tasks_are, tasks_long, text_at, words_right}
 use Rattle.sift_trial.proofs.Sensors as sensing
 use Rattle.sift_trial.proofs.Tasks as tasking
 use Rattle.sift_document.specs.Document.{tables_in}
@@ -98,8 +99,11 @@ module _
           | inl none ↦ none.1 (omega (arith, long, may.some_task), omega (arith, long, may.few_tasks))
           | inr entry ↦ all_known tasks sensors z place entry
         ],
-        each_kept tasks sensors z may.few_tasks (λ t low. known.tasks.formed t (omega (arith, low, may.few_tasks)))
-            (λ i k before low. known.tasks.differ i k before (omega (arith, low, may.few_tasks))),
+        (
+          names_right tasks sensors z (λ t low. known.tasks.formed t (omega (arith, low, may.few_tasks)))
+              (λ i k before low. known.tasks.differ i k before (omega (arith, low, may.few_tasks))),
+          (starts_right tasks sensors z, (words_right tasks sensors z may.few_tasks, (forms_right tasks sensors z, tt))),
+        ),
       )
 
   -- there are no tables of which one could be bad
@@ -166,7 +170,7 @@ module _
   -- the data that the document states
   abbrev pub mission : MissionData
   mission =
-      let period = plain_period (length (task_entries d)) in
+      let period = agreed_in + hearing_delay * length (task_entries d) + report_lead in
       let layout : Layout = record { units = units; sensors = length (sensor_words d); words = sum (counts_of (tasks_of d)) } in record {
         units = units;
         frames = frames;

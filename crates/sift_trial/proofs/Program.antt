@@ -94,7 +94,7 @@ module _ (texts : DrawnTextsAreTasks) (brief : DrawnTasksAreBrief) (tasks sensor
       let is_brief = brief (pattern_from t (task_place t x)) t sensors (after (task_place t x) 2) in
       let steps : sum_by task_steps (take t drawn_trees) ≤ 17 * t =
       rw (take-map-range_with_len tree_at 0 tasks t (omega (arith, at.0)))
-      (sum_within task_steps tree_at 17 0 t (λ k. (brief (pattern_from k (task_place k x)) k sensors (after (task_place k x) 2)).quick)) in record {
-        short = omega (arith, is_brief.short, ap task_length at.1);
-        quick = omega (arith, is_brief.quick, ap task_steps at.1, steps, at.0, few);
-      }
+      (sum_within task_steps tree_at 17 0 t (λ k. (brief (pattern_from k (task_place k x)) k sensors (after (task_place k x) 2)).quick)) in (
+        omega (arith, is_brief.short, ap task_length at.1),
+        omega (arith, is_brief.quick, ap task_steps at.1, steps, at.0, few),
+      )

@@ -6,12 +6,13 @@ use Rattle.std.specs.List.{Contains, range_with_len, sum}
 use Rattle.std.specs.Prelude.{codes}
 use Rattle.toml.specs.Data.{Data, Members, member, no_members, string}
 use Rattle.sift_base.specs.Draw.{after, draw_at}
+use Rattle.sift_base.specs.Layout.{word_limit}
 use Rattle.sift_base.specs.Name.{IsName}
 use Rattle.sift_gen.specs.Tasks.{task_name, text_by, word_values}
 use Rattle.sift_gen.specs.Scenario.{array_of, number, pattern_from, task_place, task_tables}
-use Rattle.sift_scenario.specs.Task.{AreForms, Form, HasForm, counts_of, start_words, task_outputs, text, BreaksWords, each_task_rules}
+use Rattle.sift_scenario.specs.Task.{AreForms, Form, HasForm, counts_of, start_words, task_outputs, text, BreaksNames}
 use Rattle.sift_document.specs.Document.{HasOnlyKeys, IsTableOf, entries_of, keys_of, members_of}
-use Rattle.sift_document.specs.Rules.{HoldsOf, AreKept}
+use Rattle.sift_document.specs.Rules.{HoldsOf}
 use Rattle.sift_trial.proofs.DrawnRoll.{words_sum}
 use Rattle.sift_trial.proofs.Ranges.{made_alike, made_of, matched, nowhere}
 use Rattle.sift_trial.proofs.Tables.{entries_kept, members_are, names_kept, tables_long}
@@ -83,31 +84,33 @@ module _ (tasks sensors x : ℕ) where
       (matched (λ place task form. HasForm task form) entries_at (λ t. text (text_at t)) tasks (λ t low. formed t sensors (task_place t x)))
 
   -- with a task there are so many output words as tasks
-  words_few : tasks ≤ 12 → (place : ℕ) → ¬ BreaksWords (map (λ t. 1) (range_with_len 0 tasks)) place
+  words_few :
+      tasks ≤ 12 → (place : ℕ)
+      → ¬ ((place < length {A = ℕ} (map (λ t. 1) (range_with_len 0 tasks))) × (word_limit < sum (take (place + 1) (map (λ t. 1) (range_with_len 0 tasks)))))
   words_few few place broken =
       let long = length-map-range_with_len {X = ℕ} (λ t. 1) 0 tasks in
       let so_far : sum (take (place + 1) (map (λ t. 1) (range_with_len 0 tasks))) ≡ place + 1 =
       ap sum (take-map-range_with_len {X = ℕ} (λ t. 1) 0 tasks (place + 1) (omega (arith, broken.0, long))) ∙ words_sum (place + 1) in
       omega (arith, broken.0, broken.1, long, so_far, few)
 
-  -- they keep the rules of each task
-  pub each_kept :
-      tasks ≤ 12 → ((t : ℕ) → t < tasks → IsName (task_name t)) → ((i k : ℕ) → i < k → k < tasks → task_name i ≢ task_name k)
-      → AreKept (each_task_rules task_members)
-  each_kept few named differ = rw (counts_are, tasks_are) (
-    names_kept entries_at task_name tasks (λ t. refl) named differ,
-    (
-      nowhere entries_at tasks (λ t task. start_words task ≡ None) (λ t low none. cc (started t sensors (task_place t x), none)),
-      (
-        words_few few,
-        (
-          nowhere entries_at tasks (λ t task. (form : Form) → ¬ HasForm task form)
-              (λ t low none. none (text (text_at t)) (formed t sensors (task_place t x))),
-          tt,
-        ),
-      ),
-    ),
-  )
+  -- each has a name that is new, start words and a form, and there are few output words
+  pub names_right :
+      ((t : ℕ) → t < tasks → IsName (task_name t)) → ((i k : ℕ) → i < k → k < tasks → task_name i ≢ task_name k)
+      → (place : ℕ) → ¬ BreaksNames task_members place
+  names_right named differ = rw tasks_are (names_kept entries_at task_name tasks (λ t. refl) named differ)
+
+  pub starts_right : (place : ℕ) → ¬ HoldsOf task_members place (λ task. start_words task ≡ None)
+  starts_right =
+      rw tasks_are (nowhere entries_at tasks (λ t task. start_words task ≡ None) (λ t low none. cc (started t sensors (task_place t x), none)))
+
+  pub words_right :
+      tasks ≤ 12 → (place : ℕ) → ¬ ((place < length (counts_of task_members)) × (word_limit < sum (take (place + 1) (counts_of task_members))))
+  words_right few = rw counts_are (words_few few)
+
+  pub forms_right : (place : ℕ) → ¬ HoldsOf task_members place (λ task. (form : Form) → ¬ HasForm task form)
+  forms_right =
+      rw tasks_are (nowhere entries_at tasks (λ t task. (form : Form) → ¬ HasForm task form)
+      (λ t low none. none (text (text_at t)) (formed t sensors (task_place t x))))
 
   -- there are so many tables with known keys
   pub tasks_long : length (entries_of (Some tasks_value)) ≡ tasks

@@ -3,26 +3,32 @@ use Rattle.std.proofs.Common.{◌≡◌, ◌≢◌, ◌<◌, ◌≤◌, ◌+◌,
 use Rattle.std.proofs.lemmas.Bool.{cases_order}
 use Rattle.std.proofs.lemmas.List.{get_or-map, length-map, take_all, take_more}
 use Rattle.std.specs.Option.{option_and_then}
-use Rattle.std.specs.Prelude.{nat_le, ◌&&◌, if◌then◌else◌}
+use Rattle.std.specs.Prelude.{nat_le, ◌&&◌, if◌then◌else◌, option_map}
 use Rattle.toml.specs.Data.{Data, array, as_array}
 use Rattle.toml.specs.View.{items_view, view}
 use Rattle.toml.specs.declared.value.Value.{Value}
 use Rattle.sift_document.proofs.lemmas.DocumentLemmas.{array_from, list_of-view}
 use Rattle.sift_document.proofs.lemmas.Places.{so_far}
-use Rattle.sift_document.specs.Document.{array_between, array_of, each_read, with_front}
+use Rattle.sift_document.specs.Document.{array_between, array_of, each_read}
 
 -- what is read of a value and of those after it, where the whole is read
-pub with_front-parts :
+pub each_read-parts :
     {A : Type 0} (first : Option A) (rest : Option (List A)) (xs : List A)
-    → with_front first rest ≡ Some xs → (y : A) × (ys : List A) × (first ≡ Some y) × (rest ≡ Some ys) × (y ∷ ys ≡ xs)
-with_front-parts (Some y) (Some ys) xs is = (y, ys, refl, refl, cc)
-with_front-parts (Some y) None xs is = cc
-with_front-parts None rest xs is = cc
+    → option_and_then (λ value. option_map (λ values. value ∷ values) rest) first ≡ Some xs
+    → (y : A) × (ys : List A) × (first ≡ Some y) × (rest ≡ Some ys) × (y ∷ ys ≡ xs)
+each_read-parts (Some y) (Some ys) xs is = (y, ys, refl, refl, cc)
+each_read-parts (Some y) None xs is = cc
+each_read-parts None rest xs is = cc
 
--- without what is read of the rest there is nothing
-with_front-none : {A : Type 0} (first : Option A) → with_front first None ≡ None
-with_front-none None = refl
-with_front-none (Some x) = refl
+-- the two parts are the whole, and without those after it there is nothing
+each_read-joined :
+    {A : Type 0} (first : Option A) (rest : Option (List A)) (y : A) (ys : List A) → first ≡ Some y → rest ≡ Some ys
+    → option_and_then (λ value. option_map (λ values. value ∷ values) rest) first ≡ Some (y ∷ ys)
+each_read-joined first rest y ys here after = rw (here, after) refl
+
+each_read-cut : {A : Type 0} (first : Option A) → option_and_then (λ value. option_map (λ values. value ∷ values) None) first ≡ None
+each_read-cut None = refl
+each_read-cut (Some y) = refl
 
 module _ {A B : Type 0} (read : A → Option B) where
   -- one value more at the end
@@ -31,17 +37,16 @@ module _ {A B : Type 0} (read : A → Option B) where
       let none : [] ≡ xs = cc in
       rw (is, ← none) refl
   each_read-push (b ∷ bs) a xs x before is =
-      let parts = with_front-parts (read b) (each_read read bs) xs before in
+      let parts = each_read-parts (read b) (each_read read bs) xs before in
       let more = each_read-push bs a parts.1 x parts.3 is in
-      ap (λ (w : Option B). with_front w (each_read read (bs ++ a ∷ []))) parts.2
-      ∙ ap (λ (rest : Option (List B)). with_front (Some parts.0) rest) more
+      each_read-joined (read b) (each_read read (bs ++ a ∷ [])) parts.0 (parts.1 ++ x ∷ []) parts.2 more
       ∙ ap (λ (ws : List B). Some (ws ++ x ∷ [])) parts.4
 
   -- there is ins much ins there are values
   pub length-each_read : (ins : List A) (xs : List B) → each_read read ins ≡ Some xs → length xs ≡ length ins
   length-each_read [] xs is = let none : [] ≡ xs = cc in rw (← none) refl
   length-each_read (a ∷ ins) xs is =
-      let parts = with_front-parts (read a) (each_read read ins) xs is in
+      let parts = each_read-parts (read a) (each_read read ins) xs is in
       rw (← parts.4) (ap suc (length-each_read ins parts.1 parts.3))
 
   -- a value of which nothing is read spoils the whole
@@ -50,7 +55,7 @@ module _ {A B : Type 0} (read : A → Option B) where
   each_read-none (a ∷ ins) zero d low is = rw is refl
   each_read-none (a ∷ ins) (suc i) d low is =
       let rest = each_read-none ins i d (omega (arith, low)) is in
-      rw rest (with_front-none (read a))
+      rw rest (each_read-cut (read a))
 
 -- ---- lengths
 

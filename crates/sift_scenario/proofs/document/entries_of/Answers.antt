@@ -1,11 +1,12 @@
-use Rattle.std.proofs.Common.{◌≡◌, Some, Err, rules, length, sym, ap, ◌∙◌, arith}
+use Rattle.std.proofs.Common.{◌≡◌, ◌+◌, ◌*◌, ℕ, Some, Err, rules, length, sym, ap, ◌∙◌, arith}
 use Rattle.std.specs.Prelude.{codes, unwrap_or}
 use Rattle.std.proofs.lemmas.List.{length-map}
 use Rattle.toml.specs.Data.{get_member}
 use Rattle.toml.specs.View.{table_view}
 use Rattle.sift_base.specs.Layout.{least_units}
 use Rattle.sift_base.specs.Units.{unit_limit}
-use Rattle.sift_table.specs.Schedule.{shortest_period}
+use Rattle.sift_table.specs.Rules.{report_lead}
+use Rattle.sift_table.specs.Schedule.{agreed_in, hearing_delay, shortest_period}
 use Rattle.sift_mission.specs.PartsFit.{longest_period}
 use Rattle.sift_document.proofs.lemmas.Order.{stopped}
 use Rattle.sift_document.specs.Document.{members_of}
@@ -14,7 +15,6 @@ use Rattle.sift_document.specs.Testing.{RefusesFirst}
 use Rattle.sift_document.proofs.lemmas.Numbers.{between_at, between_or}
 use Rattle.sift_scenario.proofs.Read.{count_is}
 use Rattle.sift_scenario.proofs.Themes.{for_version, root_refused, theme_refused, themes_kept}
-use Rattle.sift_scenario.specs.Root.{plain_period}
 use Rattle.sift_scenario.specs.Table.{schedules_by, table_rules}
 use Rattle.sift_scenario.specs.Task.{task_entries}
 use Rattle.sift_scenario.proofs.Named.{later_table_rules}
@@ -55,12 +55,12 @@ returns-in_err-tasks-clause-refused c =
 pub overflow_cast-count : goal.overflow_cast-count
 overflow_cast-count c =
     let count = count_is (table_view c.args.document.now) c.in_ok-tasks.tasks c.in_ok-tasks.ensures.read in
-    omega (arith, count, c.in_ok-tasks.ensures.read.few.1, length-map (task_entries (table_view c.args.document.now)) members_of, c.len-count.ensures, c.in_ok-tasks.tasks.forms.ok.0)
+    omega (arith, count, c.in_ok-tasks.ensures.read.few, length-map (task_entries (table_view c.args.document.now)) members_of, c.len-count.ensures, c.in_ok-tasks.tasks.forms.ok.0)
 
 pub period_of-period-requires-clause-tasks : goal.period_of-period-requires-clause-tasks
 period_of-period-requires-clause-tasks c =
     let count = count_is (table_view c.args.document.now) c.in_ok-tasks.tasks c.in_ok-tasks.ensures.read in
-    omega (arith, count, c.in_ok-tasks.ensures.read.few.1, length-map (task_entries (table_view c.args.document.now)) members_of, c.len-count.ensures, c.in_ok-tasks.tasks.forms.ok.0)
+    omega (arith, count, c.in_ok-tasks.ensures.read.few, length-map (task_entries (table_view c.args.document.now)) members_of, c.len-count.ensures, c.in_ok-tasks.tasks.forms.ok.0)
 
 pub period_of-period-requires-clause-subframes : goal.period_of-period-requires-clause-subframes
 period_of-period-requires-clause-subframes c =
@@ -77,7 +77,7 @@ tables_of-requires-clause-few_units c =
 pub tables_of-requires-clause-few_tasks : goal.tables_of-requires-clause-few_tasks
 tables_of-requires-clause-few_tasks c =
     let count = count_is (table_view c.args.document.now) c.in_ok-tasks.tasks c.in_ok-tasks.ensures.read in
-    omega (arith, count, c.in_ok-tasks.ensures.read.few.1, length-map (task_entries (table_view c.args.document.now)) members_of, c.len-count.ensures, c.in_ok-tasks.tasks.forms.ok.0)
+    omega (arith, count, c.in_ok-tasks.ensures.read.few, length-map (task_entries (table_view c.args.document.now)) members_of, c.len-count.ensures, c.in_ok-tasks.tasks.forms.ok.0)
 
 -- a rule of the tables is broken
 pub returns-in_err-tables-clause-refused : goal.returns-in_err-tables-clause-refused
@@ -121,7 +121,7 @@ returns-clause-read c =
     let document = table_view c.args.document.now in
     let root = c.in_ok-root.root in
     let count : c.len-count.result ≡ length (task_entries document) = c.len-count.ensures ∙ c.in_ok-tasks.tasks.forms.ok.0 ∙ count_is document c.in_ok-tasks.tasks c.in_ok-tasks.ensures.read in
-    let plain : plain_period c.len-count.result ≡ plain_period (length (task_entries document)) = ap plain_period count in
+    let plain = λ (n : ℕ). agreed_in + hearing_delay * n + report_lead in
     let tables = for_version document root.version c.in_ok-root.ensures.version
     (λ v. AreKept (table_rules v root.units (get_member (codes "table") document))) c.in_ok-tables.ensures.tests in
     record {
@@ -137,8 +137,8 @@ returns-clause-read c =
       );
       units = c.in_ok-root.ensures.units;
       frames = c.in_ok-root.ensures.frames;
-      period = c.in_ok-root.ensures.subframes (plain_period (length (task_entries document)))
-          ∙ ap (λ n. Some (unwrap_or root.subframes n)) (sym plain) ∙ ap (λ n. Some n) (sym c.period_of-period.ensures);
+      period = c.in_ok-root.ensures.subframes (plain (length (task_entries document)))
+          ∙ ap (λ n. Some (unwrap_or root.subframes (plain n))) (sym count) ∙ ap (λ n. Some n) (sym c.period_of-period.ensures);
       clock = c.in_ok-clock.ensures.read;
       sensors = c.in_ok-sensors.ensures.read;
       tasks = c.in_ok-tasks.ensures.read;

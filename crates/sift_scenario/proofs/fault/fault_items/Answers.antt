@@ -1,4 +1,4 @@
-use Rattle.std.proofs.Common.{below_more, map, ◌∙◌, arith}
+use Rattle.std.proofs.Common.{◌≡◌, true, false, refl, below_more, map, ◌∙◌, arith}
 use Rattle.std.proofs.lemmas.List.{length-map, take_all}
 use Rattle.toml.specs.View.{table_view}
 use Rattle.sift_document.proofs.lemmas.Places.{fails_here, holds_here, nowhere, read_more}
@@ -12,7 +12,7 @@ returns-in-None-clause-tests c =
     rw c.broken.ensures
     (first_broken 28 _ _
     (holds_here (λ fault. table_view fault.now) c.args.tables.now (λ at fault. HasOneWay fault → ⊥) _ _
-    c.loop-place-test.true c.index-tables-place.is (rw c.in-None.is at c.in_ok-items.ensures.none))
+    c.loop-place-test.true c.index-tables-place.is (λ way. let wrong : false ≡ true = rw c.in-None.is at (c.in_ok-items.ensures.one_way.1 way) in cc wrong))
     c.loop-place.invariant.1)
 
 -- a fault more does
@@ -23,7 +23,7 @@ loop-place-preserved c = (
       (rw c.in-Some.is at c.in_ok-items.ensures.items),
   below_more _ _ c.loop-place.invariant.1
       (fails_here (λ fault. table_view fault.now) c.args.tables.now (λ at fault. HasOneWay fault → ⊥) _ _
-      c.loop-place-test.true c.index-tables-place.is (λ none. none (rw c.in-Some.is at c.in_ok-items.ensures.one_way))),
+      c.loop-place-test.true c.index-tables-place.is (λ none. none (c.in_ok-items.ensures.one_way.0 (rw c.in-Some.is refl)))),
 )
 
 -- all faults were read

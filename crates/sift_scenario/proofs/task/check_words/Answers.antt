@@ -1,5 +1,4 @@
 use Rattle.std.proofs.Common.{length, below_more, arith}
-use Rattle.std.proofs.lemmas.List.{length-map}
 use Rattle.sift_document.proofs.lemmas.Testing.{first_broken}
 use Rattle.sift_scenario.proofs.WordCounts.{sum_take-more}
 use Rattle.sift_scenario.proofs.task.check_words.Goals as goal
@@ -9,7 +8,7 @@ pub returns-then-words-gt-WORD_LIMIT : goal.returns-then-words-gt-WORD_LIMIT
 returns-then-words-gt-WORD_LIMIT c =
     let more = sum_take-more (λ words. length words.items) c.args.starts.now _ _ c.loop-place-test.true c.index-starts-place.is in
     rw c.broken.ensures (first_broken 21 _ _
-    (rw length-map c.loop-place-test.true, omega (arith, more, c.loop-place.invariant.0, c.len-words.ensures.value, c.if-words-gt-WORD_LIMIT.true))
+    (c.loop-place-test.true, omega (arith, more, c.loop-place.invariant.0, c.len-words.ensures.value, c.if-words-gt-WORD_LIMIT.true))
     c.loop-place.invariant.2)
 
 -- with this task there aren't

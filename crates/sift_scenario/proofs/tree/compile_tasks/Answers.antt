@@ -62,7 +62,7 @@ loop-task-preserved c =
     let trees = map tree_of c.loop-task.trees.items in
     let tree = tree_of c.in_ok-tree.tree in
     let new : map tree_of c.push.new.self.items ≡ trees ++ tree ∷ [] = rw (c.in_ok-push.ensures.items, map-append) refl in
-    let allowed = c.in_ok-code.ensures.allowed refl in (
+    let quick = c.in_ok-code.ensures.quick refl in (
       omega (arith, c.in_ok-push.ensures.len, c.loop-task.invariant.0),
       c.loop-task.invariant.1,
       c.loop-task.invariant.2,
@@ -72,8 +72,8 @@ loop-task-preserved c =
           (sym (length-map c.loop-task.trees.items tree_of ∙ c.loop-task.invariant.0))
           (taken form_of c.args.forms.now c.loop-task.task _ c.loop-task-test.true c.index-forms-task.is)
           (subst (λ (roll : Roll). IsTreeOf roll (form_of c.index-forms-task.result) tree) turn c.in_ok-tree.ensures.tree)),
-      rw new (allowed_more trees tree c.loop-task.invariant.4 (rw c.loop-task.invariant.5 at allowed)),
+      rw new (allowed_more trees tree c.loop-task.invariant.4 (c.in_ok-code.ensures.short refl, rw c.loop-task.invariant.5 at quick)),
       rw new (left_more trees tree c.loop-task.left c.bound-left.result _ c.loop-task.invariant.5 c.bound-left.ensures
-          c.in_ok-code.ensures.steps allowed),
+          c.in_ok-code.ensures.steps quick),
       rw new (codes_more c.args.sensors c.args.words trees tree _ _ _ c.loop-task.invariant.6 c.in_ok-push-2.ensures.items c.in_ok-code.ensures.code),
     )
