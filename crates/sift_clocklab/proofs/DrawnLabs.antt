@@ -5,11 +5,11 @@ use Rattle.std.specs.List.{range_with_len}
 use Rattle.std.proofs.lemmas.Int.{ints}
 use Rattle.std.proofs.lemmas.Bool.{cases_Bool}
 use Rattle.std.proofs.lemmas.List.FromFn.{get_or-map-range_with_len, length-map-range_with_len}
-use Rattle.sift_base.specs.Draw.{drawn}
+use Rattle.sift_base.specs.Draw.{after, drawn}
 use Rattle.sift_clock.specs.Distance.{IsWithin}
 use Rattle.sift_clocklab.specs.Laboratory.{Laboratory, working_of}
 use Rattle.sift_clocklab.specs.Conditions.{AreInRange, AreOfClocks, IsAdmitted, IsReady, IsRefused, tick_limit}
-use Rattle.sift_clocklab.specs.Draws.{after, drawn_lab, drift_drawn, noise_drawn, noises_drawn, others_before, row_place, spread, start_drawn}
+use Rattle.sift_clocklab.specs.Draws.{drawn_lab, drift_drawn, noise_drawn, noises_drawn, others_before, row_place, spread, start_drawn}
 
 -- ---- sizes
 

@@ -1,24 +1,11 @@
 -- Numbers drawn one after the other.
-use Rattle.std.proofs.Common.{◌≡◌, ◌≢◌, ℕ, nat_eq, true, pos, eq-eqb, zero, suc, ◌+◌, ap, refl, ◌∙◌, add-one, zero-add, sym, arith}
-use Rattle.std.specs.Fn.{iterate}
+use Rattle.std.proofs.Common.{◌≡◌, ◌≢◌, ℕ, nat_eq, true, pos, eq-eqb, ◌+◌, ap, refl, ◌∙◌, sym, arith}
 use Rattle.std.proofs.lemmas.Bool.Decides.{nat_tests}
-use Rattle.sift_base.specs.Draw.{next_number}
+use Rattle.sift_base.specs.Draw.{after, next_number}
+use Rattle.sift_base.proofs.lemmas.Draws as draws
+use Rattle.sift_base.proofs.lemmas.Draws.{after-more}
 use Rattle.sift_base.proofs.lemmas.Others.{not_same}
-use Rattle.sift_clocklab.specs.Draws.{after, noise_drawn, others_before, spread}
-
--- once more
-iterate-suc : {X : Type 0} (f : X → X) (n : ℕ) (x : X) → iterate f (suc n) x ≡ f (iterate f n x)
-iterate-suc f zero x = refl
-iterate-suc f (suc n) x = iterate-suc f n (f x)
-
--- so often, and then so often
-pub iterate-add : {X : Type 0} (f : X → X) (m n : ℕ) (x : X) → iterate f n (iterate f m x) ≡ iterate f (m + n) x
-iterate-add f zero n x = ap (λ k. iterate f k x) (sym (zero-add n))
-iterate-add f (suc m) n x = iterate-add f m n (f x) ∙ ap (λ k. iterate f k x) {x = suc (m + n)} {y = suc m + n} (omega arith)
-
--- one draw more
-pub after-more : (x n : ℕ) → after x (n + 1) ≡ next_number (after x n)
-after-more x n = ap (after x) (add-one n) ∙ iterate-suc next_number n x
+use Rattle.sift_clocklab.specs.Draws.{noise_drawn, others_before, spread}
 
 -- a draw where so many were made
 pub after-next : (x y z n k : ℕ) → y ≡ after x n → z ≡ next_number y → k ≡ n + 1 → z ≡ after x k
@@ -26,7 +13,7 @@ after-next x y z n k is next more = next ∙ (ap next_number is ∙ (sym (after-
 
 -- draws after draws
 pub after-after : (x y m n k : ℕ) → y ≡ after x m → k ≡ m + n → after y n ≡ after x k
-after-after x y m n k is more = ap (λ v. after v n) is ∙ (iterate-add next_number m n x ∙ ap (after x) (sym more))
+after-after x y m n k is more = ap (λ v. after v n) is ∙ (draws.after-after x m n ∙ ap (after x) (sym more))
 
 -- ---- the noise of a row
 

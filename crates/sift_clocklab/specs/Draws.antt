@@ -2,15 +2,11 @@
 use Rattle.std.specs.Prelude.{◌≡◌, ℕ, zero, suc, ◌+◌, ◌-◌, ◌*◌, List, [], ◌∷◌, map, nat_eq, nat_lt, Bool, if◌then◌else◌, Option, None, Some, ℤ, pos, ◌+ℤ◌, ◌-ℤ◌, unsigned_abs}
 use Rattle.std.specs.Fn.{iterate}
 use Rattle.std.specs.List.{range_with_len}
-use Rattle.sift_base.specs.Draw.{next_number, drawn}
+use Rattle.sift_base.specs.Draw.{after, drawn}
 use Rattle.sift_clocklab.specs.declared.drawing.Drawn.{Drawn}
 use Rattle.sift_clocklab.specs.Laboratory.{Laboratory, Run}
 use Rattle.sift_clocklab.specs.Rounds.{run_offsets}
 use Rattle.sift_clocklab.specs.Showing.{Showing}
-
--- the generator's number after so many draws from x
-abbrev pub after : ℕ → ℕ → ℕ
-after x n = iterate next_number n x
 
 -- the number from -most to most that is drawn where the generator's number is now x
 abbrev pub spread : ℕ → ℕ → ℤ

@@ -2,10 +2,10 @@
 
 ghost use Rattle.std.specs.Prelude.{◌≡◌, ◌<◌, ◌^◌, ◌-◌, ◌*◌, ◌+◌, ◌↔◌, IfOk, IsErrOf, map};
 ghost use Rattle.std.specs.List.{range_with_len};
+ghost use Rattle.sift_base.specs.Draw.{after};
 ghost use Rattle.sift_clocklab.specs.Laboratory.{laboratory_of};
 ghost use Rattle.sift_clocklab.specs.Conditions.{AreInRange, IsAdmitted, IsReady, IsRefused};
 ghost use Rattle.sift_clocklab.specs.Draws.{
-  after,
   drawn_face,
   drawn_lab,
   drift_drawn,

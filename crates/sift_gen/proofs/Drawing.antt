@@ -1,27 +1,7 @@
 -- Draws after draws.
-use Rattle.std.proofs.Common.{◌≡◌, ℕ, zero, suc, ◌+◌, refl, ap, sym, ◌∙◌, arith, add-one}
-use Rattle.sift_base.specs.Draw.{next_number, drawn}
-use Rattle.sift_gen.specs.Tasks.{after, draw_at}
-
--- no draw
-pub after-none : (x : ℕ) → after x 0 ≡ x
-unfolding after
-after-none x = refl
-
--- one draw more
-pub after-more : (x n : ℕ) → after x (n + 1) ≡ next_number (after x n)
-unfolding after
-after-more x n = rw (add-one n) refl
-
-after-suc : (x n : ℕ) → after x (suc n) ≡ next_number (after x n)
-unfolding after
-after-suc x n = refl
-
--- draws after draws are draws
-pub after-after : (x a b : ℕ) → after (after x a) b ≡ after x (a + b)
-after-after x a zero = after-none (after x a) ∙ ap (after x) (omega arith)
-after-after x a (suc b) =
-    after-suc (after x a) b ∙ (ap next_number (after-after x a b) ∙ (sym (after-suc x (a + b)) ∙ ap (after x) (omega arith)))
+use Rattle.std.proofs.Common.{◌≡◌, ℕ, ◌+◌, ap, sym, ◌∙◌, arith}
+use Rattle.sift_base.specs.Draw.{after, drawn, draw_at}
+use Rattle.sift_base.proofs.lemmas.Draws.{after-after}
 
 -- a draw after draws is a draw
 pub draw-after : (x a i m : ℕ) → draw_at (after x a) i m ≡ draw_at x (a + i) m

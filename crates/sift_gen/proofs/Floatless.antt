@@ -2,8 +2,9 @@
 use Rattle.std.proofs.Common.{ℕ, zero, suc, ◌+◌, ◌*◌, List, map}
 use Rattle.std.specs.List.{range_with_len}
 use Rattle.toml.specs.Data.{Data}
+use Rattle.sift_base.specs.Draw.{after, draw_at}
 use Rattle.sift_gen.proofs.OneText.{HasNoFloat, NoItemHasFloat, NoMemberHasFloat}
-use Rattle.sift_gen.specs.Tasks.{after, draw_at, word_values}
+use Rattle.sift_gen.specs.Tasks.{word_values}
 use Rattle.sift_gen.specs.Scenario.{number}
 use Rattle.toml.specs.View.{items_of}
 use Rattle.sift_gen.proofs.Trees.{document_of, fault_place, sensor_place}

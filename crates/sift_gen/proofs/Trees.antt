@@ -1,7 +1,7 @@
 -- The tree of a scenario, from its parts.
 use Rattle.std.proofs.Common.{codes, ◌≡◌, ℕ, List, [], ◌∷◌, refl, ap, ◌∙◌}
-use Rattle.sift_gen.specs.Tasks.{after}
 use Rattle.toml.specs.Data.{Data, Members, member, no_members}
+use Rattle.sift_base.specs.Draw.{after}
 use Rattle.sift_gen.specs.Scenario.{array_of, number, task_place, fault_table, first_task_place, frame_count, sensor_count, sensor_tables, task_count, task_tables, tree_of, unit_count}
 
 -- the tree of a document with these units, frames, sensors, tasks and one fault

@@ -8,7 +8,8 @@ use Rattle.toml.specs.Data.{Data, Members, array, integer, member, no_members, s
 use Rattle.toml.specs.Parse.{parse_document}
 use Rattle.toml.specs.View.{items_of}
 use Rattle.toml.specs.Text.{IsDocumentText}
-use Rattle.sift_gen.specs.Tasks.{after, draw_at, draws_by, pattern_count, pattern_of, sensor_name, task_name, text_by, word_values}
+use Rattle.sift_base.specs.Draw.{after, draw_at}
+use Rattle.sift_gen.specs.Tasks.{draws_by, pattern_count, pattern_of, sensor_name, task_name, text_by, word_values}
 use Rattle.sift_gen.specs.declared.task.Pattern.{Pattern}
 
 -- ---- tables and arrays, by their entries

@@ -1,23 +1,10 @@
--- Numbers drawn one after the other, and the tasks of a drawn scenario: each follows one of four patterns.
-use Rattle.std.specs.Prelude.{ℕ, zero, suc, ◌+◌, codes, ◌==◌, ◌&&◌, nat_lt, if◌then◌else◌, List, [], ◌∷◌, ◌++◌}
+-- The tasks of a drawn scenario: each follows one of four patterns.
+use Rattle.std.specs.Prelude.{ℕ, codes, ◌==◌, ◌&&◌, nat_lt, if◌then◌else◌, List, [], ◌∷◌, ◌++◌}
 use Rattle.std.specs.Fmt.{decimal}
 use Rattle.std.specs.List.{concat}
-use Rattle.sift_base.specs.Draw.{next_number, drawn}
+use Rattle.sift_base.specs.Draw.{draw_at}
 use Rattle.sift_gen.specs.declared.task.Pattern.{Pattern}
 use Rattle.sift_gen.specs.declared.task.Pattern.TheVariants.{Sum, Middle, Chase, Triple}
-
--- ---- numbers drawn one after the other
-
--- the generator's number after so many draws from x
-unfoldable pub after : ℕ → ℕ → ℕ
-after x zero = x
-after x (suc n) = next_number (after x n)
-
--- the draw with number i, from 0, of those from x: a number below m
-abbrev pub draw_at : ℕ → ℕ → ℕ → ℕ
-draw_at x i m = drawn (after x (i + 1)) m
-
--- ---- tasks
 
 -- the number of values of a word, and of the patterns
 abbrev pub word_values : ℕ

@@ -3,7 +3,8 @@
 ghost use Rattle.std.specs.Prelude.{◌≡◌, ◌≤◌, ◌*◌, IfOk, map, string_bytes};
 ghost use Rattle.toml.specs.View.{table_view, view};
 ghost use Rattle.toml.specs.Data.{table};
-ghost use Rattle.sift_gen.specs.Tasks.{after, sensor_name};
+ghost use Rattle.sift_base.specs.Draw.{after};
+ghost use Rattle.sift_gen.specs.Tasks.{sensor_name};
 ghost use Rattle.sift_gen.specs.Scenario.{sensor_table, sensor_tables, sensor_words, words_each};
 
 use crate::entry::{array, with};

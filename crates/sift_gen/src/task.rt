@@ -4,7 +4,8 @@ ghost use Rattle.std.specs.Prelude.{codes, ◌≡◌, ◌<◌, ◌≤◌, IfOk, 
 ghost use Rattle.std.specs.List.{concat};
 ghost use Rattle.toml.specs.View.{table_view, view};
 ghost use Rattle.toml.specs.Data.{member, no_members, string, table};
-ghost use Rattle.sift_gen.specs.Tasks.{after, draw_at, draws_by, pattern_of, sensor_name, task_name, text_by};
+ghost use Rattle.sift_base.specs.Draw.{after, draw_at};
+ghost use Rattle.sift_gen.specs.Tasks.{draws_by, pattern_of, sensor_name, task_name, text_by};
 ghost use Rattle.sift_gen.specs.Scenario.{array_of, number, pattern_from, task_place, task_table, task_tables};
 
 use crate::entry::{array_of_one, with};

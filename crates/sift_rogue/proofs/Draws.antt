@@ -1,34 +1,25 @@
 -- Storms that are drawn are the draws.
 use Rattle.std.proofs.Common.{◌≡◌, ℕ, zero, suc, ◌+◌, ◌*◌, List, [], ◌∷◌, length, refl, sym, ap, ◌∙◌, arith, Option, option_to_list}
 use Rattle.std.specs.List.{flat_map}
-use Rattle.sift_base.specs.Draw.{next_number}
+use Rattle.sift_base.specs.Draw.{after}
+use Rattle.sift_base.proofs.lemmas.Draws.{after-after}
 use Rattle.sift_buffer.specs.Conduct.{Stray}
 use Rattle.sift_rogue.specs.declared.act.Act.{Act}
 use Rattle.sift_rogue.specs.declared.storm.Storm.{Storm}
-use Rattle.sift_rogue.specs.Rogues.{AllowsDrawn, after, drawn_act}
+use Rattle.sift_rogue.specs.Rogues.{AllowsDrawn, drawn_act}
 use Rattle.sift_rogue.specs.Storms.{Storms, Answers}
 use Rattle.sift_rogue.specs.DrawnStorms.{DrawnStormsAreTheDraws, drawn_acts}
 
-zero_more : (b : ℕ) → b ≡ 0 + b
-zero_more b = omega arith
-
-suc_more : (a b : ℕ) → suc (a + b) ≡ suc a + b
-suc_more a b = omega arith
-
--- draws after draws are draws
-draws_add : (x a b : ℕ) → after (after x a) b ≡ after x (a + b)
-draws_add x zero b = ap (after x) (zero_more b)
-draws_add x (suc a) b = draws_add (next_number x) a b ∙ ap (after x) (suc_more a b)
-
--- so are five after those of some acts
+-- five draws after those of some acts are those of one act more
 five_more : (x count : ℕ) → after (after x (5 * count)) 5 ≡ after x (5 * suc count)
 five_more x count =
     let more : 5 * count + 5 ≡ 5 * suc count = omega arith in
-    draws_add x (5 * count) 5 ∙ ap (after x) more
+    after-after x (5 * count) 5 ∙ ap (after x) more
 
 -- what was answered is what is drawn, and the drawer stands behind it
 answers_drawn : (x : Storm) (acts : List Act) (y : Storm) → Answers AllowsDrawn x acts y →
     (acts ≡ drawn_acts x.drawer (length acts)) × (y.drawer ≡ after x.drawer (5 * length acts))
+unfolding after
 answers_drawn x [] y is = (refl, ap (λ (s : Storm). s.drawer) is)
 answers_drawn x (a ∷ acts) z w =
     let rest = answers_drawn x acts w.0 w.1 in
@@ -47,6 +38,7 @@ storm_drawn sift number x count strays y storm =
 -- what is drawn is answered
 drawn_answers : (number count : ℕ)
     → Answers AllowsDrawn (record { drawer = number }) (drawn_acts number count) (record { drawer = after number (5 * count) })
+unfolding after
 drawn_answers number zero = refl
 drawn_answers number (suc count) = (record { drawer = after number (5 * count) }, drawn_answers number count, (refl, sym (five_more number count)))
 
@@ -57,6 +49,7 @@ drawn_count number (suc count) = ap suc (drawn_count number count)
 
 -- a storm that is drawn has the strays of its draws and no others, there is one for each number and each count of calls, and it may have a stray
 pub are_the_draws : DrawnStormsAreTheDraws
+unfolding after
 are_the_draws = record {
   strays = storm_drawn;
   some = λ sift number x count. record {

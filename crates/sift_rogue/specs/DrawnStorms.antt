@@ -1,10 +1,11 @@
 -- Storms that are drawn.
 use Rattle.std.specs.Prelude.{◌≡◌, ℕ, zero, suc, ◌*◌, List, [], ◌∷◌, Option, option_to_list}
 use Rattle.std.specs.List.{flat_map}
+use Rattle.sift_base.specs.Draw.{after}
 use Rattle.sift_buffer.specs.Conduct.{Stray, stray_to}
 use Rattle.sift_rogue.specs.declared.act.Act.{Act}
 use Rattle.sift_rogue.specs.declared.storm.Storm.{Storm}
-use Rattle.sift_rogue.specs.Rogues.{AllowsDrawn, after, drawn_act}
+use Rattle.sift_rogue.specs.Rogues.{AllowsDrawn, drawn_act}
 use Rattle.sift_rogue.specs.Storms.{Storms, sifted}
 
 -- so many acts that are drawn from a number, each of them by five draws, the newest first

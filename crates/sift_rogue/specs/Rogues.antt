@@ -1,7 +1,6 @@
 -- The steps that the rogues of this crate allow.
 use Rattle.std.specs.Prelude.{◌≡◌, ℕ, ◌+◌, ◌*◌, nat_lt, if◌then◌else◌, length, slice_index_or, ⊤}
-use Rattle.std.specs.Fn.{iterate}
-use Rattle.sift_base.specs.Draw.{next_number, drawn}
+use Rattle.sift_base.specs.Draw.{after, draw_at}
 use Rattle.sift_buffer.specs.Cell.{stamp_weight, presence_weight}
 use Rattle.sift_rogue.specs.declared.act.Act.{Act}
 use Rattle.sift_rogue.specs.declared.act.Act.TheVariants.{Stray, Rest}
@@ -11,14 +10,9 @@ use Rattle.sift_rogue.specs.Storms.{Call, Started, Answered}
 
 -- ---- draws
 
--- the drawer's number after so many draws from x
-abbrev pub after : ℕ → ℕ → ℕ
-after x n = iterate next_number n x
-
 -- the act that is drawn from x: receiver, slot, and a cell of any stamp, presence and word, in this order
 abbrev pub drawn_act : ℕ → Act
-drawn_act x = Stray (drawn (after x 1) 8) (drawn (after x 2) 90)
-    (drawn (after x 3) 65536 * stamp_weight + drawn (after x 4) 2 * presence_weight + drawn (after x 5) 65536)
+drawn_act x = Stray (draw_at x 0 8) (draw_at x 1 90) (draw_at x 2 65536 * stamp_weight + draw_at x 3 2 * presence_weight + draw_at x 4 65536)
 
 -- `start` gives the drawer its number, and `next` answers what is drawn
 abbrev pub AllowsDrawn : Storm → Call → Storm → Type 0

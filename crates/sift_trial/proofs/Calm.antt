@@ -1,7 +1,7 @@
 -- The one fault of a drawn document is no storm.
 use Rattle.std.proofs.Common.{◌≡◌, ◌==◌, ℕ, [], ◌∷◌, Bool, true, false, None, refl, ap, ◌∙◌}
 use Rattle.toml.specs.Data.{Members}
-use Rattle.sift_gen.specs.Tasks.{draw_at}
+use Rattle.sift_base.specs.Draw.{draw_at}
 use Rattle.sift_gen.specs.Scenario.{fault_entries, first_task_place, frame_count, task_count, task_place, unit_count}
 use Rattle.sift_scenario.specs.Fault.{fault_in}
 use Rattle.sift_script.specs.Faults.{storm_of}

@@ -1,7 +1,8 @@
 -- The texts that are drawn are tasks, with the trees of their patterns.
 use Rattle.std.proofs.Common.{ℕ, ◌<◌, ◌≤◌, List, length, sum, refl, sym, ◌∙◌, subst, arith}
 use Rattle.std.proofs.lemmas.List.FromFn.{length-map-range_with_len}
-use Rattle.sift_gen.specs.Tasks.{draw_at, sensor_name, text_by}
+use Rattle.sift_base.specs.Draw.{draw_at}
+use Rattle.sift_gen.specs.Tasks.{sensor_name, text_by}
 use Rattle.sift_gen.specs.declared.task.Pattern.{Pattern}
 use Rattle.sift_gen.specs.declared.task.Pattern.TheVariants.{Sum, Middle, Chase, Triple}
 use Rattle.sift_lang.specs.Sound.{AllNowsBelow, IsSound}

@@ -1,6 +1,6 @@
 -- The tree of each number states a mission: what its draws give may be drawn.
 use Rattle.std.proofs.Common.{ℕ, arith}
-use Rattle.sift_gen.specs.Tasks.{after, draw_at}
+use Rattle.sift_base.specs.Draw.{after, draw_at}
 use Rattle.sift_gen.specs.Scenario.{first_task_place, frame_count, sensor_count, task_count, task_place, unit_count}
 use Rattle.sift_trial.proofs.Mission.{AreKnown, MayBeDrawn, is_mission, mission}
 use Rattle.sift_trial.proofs.Values.{draw_below}

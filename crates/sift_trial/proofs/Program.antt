@@ -4,8 +4,9 @@ use Rattle.std.proofs.lemmas.Bool.{cases_Bool}
 use Rattle.std.proofs.lemmas.List.FromFn.{length-map-range_with_len, take-map-range_with_len}
 use Rattle.std.proofs.lemmas.List.Sums.{sum_by-cons}
 use Rattle.std.specs.List.{range_with_len, sum_by}
+use Rattle.sift_base.specs.Draw.{after, draw_at}
 use Rattle.sift_compile.specs.Length.{task_length, task_steps}
-use Rattle.sift_gen.specs.Tasks.{after, draw_at, pattern_of}
+use Rattle.sift_gen.specs.Tasks.{pattern_of}
 use Rattle.sift_gen.specs.Scenario.{pattern_from, task_place}
 use Rattle.sift_gen.specs.declared.task.Pattern.{Pattern}
 use Rattle.sift_gen.specs.declared.task.Pattern.TheVariants.{Sum, Middle, Chase, Triple}

@@ -5,8 +5,9 @@ use Rattle.std.specs.List.{Contains, range_with_len}
 use Rattle.std.specs.Prelude.{codes}
 use Rattle.toml.specs.Data.{Data, Members, member, no_members, string}
 use Rattle.toml.specs.View.{items_of}
+use Rattle.sift_base.specs.Draw.{after, draw_at}
 use Rattle.sift_base.specs.Name.{IsName}
-use Rattle.sift_gen.specs.Tasks.{after, draw_at, sensor_name, word_values}
+use Rattle.sift_gen.specs.Tasks.{sensor_name, word_values}
 use Rattle.sift_gen.specs.Scenario.{array_of, number, sensor_tables, sensor_words, words_each}
 use Rattle.sift_scenario.specs.Sensor.{sensor_rules, words_of}
 use Rattle.sift_document.specs.Document.{HasOnlyKeys, each_read, keys_of, list_of, word_value, tables_in, IsTableOf}

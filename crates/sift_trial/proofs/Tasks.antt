@@ -5,8 +5,9 @@ use Rattle.std.proofs.lemmas.List.FromFn.{length-map-range_with_len, take-map-ra
 use Rattle.std.specs.List.{Contains, range_with_len, sum}
 use Rattle.std.specs.Prelude.{codes}
 use Rattle.toml.specs.Data.{Data, Members, member, no_members, string}
+use Rattle.sift_base.specs.Draw.{after, draw_at}
 use Rattle.sift_base.specs.Name.{IsName}
-use Rattle.sift_gen.specs.Tasks.{after, draw_at, task_name, text_by, word_values}
+use Rattle.sift_gen.specs.Tasks.{task_name, text_by, word_values}
 use Rattle.sift_gen.specs.Scenario.{array_of, number, pattern_from, task_place, task_tables}
 use Rattle.sift_scenario.specs.Task.{AreForms, Form, HasForm, counts_of, start_words, task_outputs, text, BreaksWords, each_task_rules}
 use Rattle.sift_document.specs.Document.{HasOnlyKeys, IsTableOf, entries_of, keys_of, members_of}

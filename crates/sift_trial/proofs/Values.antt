@@ -1,7 +1,7 @@
 -- What is read of single values.
 use Rattle.std.proofs.Common.{◌≡◌, ◌<◌, ◌≤◌, ℕ, Some, arith}
 use Rattle.std.proofs.lemmas.Bool.Decides.{nat_tests}
-use Rattle.sift_gen.specs.Tasks.{draw_at}
+use Rattle.sift_base.specs.Draw.{draw_at}
 use Rattle.sift_gen.specs.Scenario.{number}
 use Rattle.sift_document.specs.Document.{integer_between, word_value}
 

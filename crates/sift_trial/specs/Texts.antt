@@ -1,10 +1,11 @@
 -- The tasks of a drawn scenario, as trees: what the text of each pattern says, among the names of the scenario.
 use Rattle.std.specs.Prelude.{◌≡◌, ℕ, ◌<◌, ◌≤◌, List, map}
 use Rattle.std.specs.List.{range_with_len}
+use Rattle.sift_base.specs.Draw.{draw_at}
 use Rattle.sift_base.specs.Layout.{sensor_limit}
 use Rattle.sift_base.specs.Shapes.{task_limit}
 use Rattle.sift_compile.specs.Length.{task_length, task_steps}
-use Rattle.sift_gen.specs.Tasks.{draw_at, sensor_name, task_name, text_by}
+use Rattle.sift_gen.specs.Tasks.{sensor_name, task_name, text_by}
 use Rattle.sift_gen.specs.declared.task.Pattern.{Pattern}
 use Rattle.sift_gen.specs.declared.task.Pattern.TheVariants.{Sum, Middle, Chase, Triple}
 use Rattle.sift_lang.specs.declared.tree.Op.TheVariants.{Add, Sub, Mul, Lt}

@@ -1,10 +1,15 @@
-use Rattle.std.proofs.Common.{◌≡◌, ℕ, ◌+◌, ◌*◌, refl, ap, ◌∙◌, w32, w64, to_z, of_z, arith}
+use Rattle.std.proofs.Common.{◌≡◌, ℕ, ◌+◌, ◌*◌, refl, ap, ◌∙◌, w32, w64, to_z, of_z, arith, rules}
 use Rattle.std.proofs.lemmas.Int.{ints}
-use Rattle.sift_base.specs.Draw.{drawn}
-use Rattle.sift_clocklab.specs.Draws.{after, drift_drawn, spread, start_drawn}
+use Rattle.sift_base.specs.Draw.{after, drawn}
+use Rattle.sift_clocklab.specs.Draws.{drift_drawn, spread, start_drawn}
 use Rattle.sift_clocklab.proofs.Lists.{values_more}
 use Rattle.sift_clocklab.proofs.Numbers.{after-next}
 use Rattle.sift_clocklab.proofs.drawn_lab.drawn_clocks.Goals as goal
+
+-- no clocks yet, and no draws
+pub loop-init : goal.loop-init
+unfolding after
+loop-init c = search rules
 
 -- one clock more, and two draws
 pub loop-preserved : goal.loop-preserved

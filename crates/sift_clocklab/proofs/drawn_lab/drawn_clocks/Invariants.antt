@@ -1,6 +1,7 @@
 use Rattle.std.proofs.Common.{◌≡◌, ◌*◌, map}
 use Rattle.std.specs.List.{range_with_len}
-use Rattle.sift_clocklab.specs.Draws.{after, drift_drawn, start_drawn}
+use Rattle.sift_base.specs.Draw.{after}
+use Rattle.sift_clocklab.specs.Draws.{drift_drawn, start_drawn}
 use Rattle.sift_clocklab.proofs.drawn_lab.drawn_clocks.Given as goal
 
 -- the starts and drifts so far, and as many draws

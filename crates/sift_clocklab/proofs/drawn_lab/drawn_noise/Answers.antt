@@ -1,8 +1,14 @@
-use Rattle.std.proofs.Common.{ℕ, ◌+◌, ◌-◌, ◌*◌, Vec, Global, ℤ, ap, ◌∙◌, arith}
-use Rattle.sift_clocklab.specs.Draws.{after, noises_drawn}
+use Rattle.std.proofs.Common.{ℕ, ◌+◌, ◌-◌, ◌*◌, Vec, Global, ℤ, ap, ◌∙◌, arith, rules}
+use Rattle.sift_base.specs.Draw.{after}
+use Rattle.sift_clocklab.specs.Draws.{noises_drawn}
 use Rattle.sift_clocklab.proofs.Lists.{rows_more, values_more}
 use Rattle.sift_clocklab.proofs.Numbers.{after-after}
 use Rattle.sift_clocklab.proofs.drawn_lab.drawn_noise.Goals as goal
+
+-- no rows yet, and no draws
+pub loop-own-init : goal.loop-own-init
+unfolding after
+loop-own-init c = search rules
 
 -- one row more, and its draws
 pub loop-own-preserved : goal.loop-own-preserved

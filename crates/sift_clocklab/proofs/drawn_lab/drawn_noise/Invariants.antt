@@ -1,6 +1,7 @@
 use Rattle.std.proofs.Common.{◌≡◌, ◌-◌, ◌*◌, map}
 use Rattle.std.specs.List.{range_with_len}
-use Rattle.sift_clocklab.specs.Draws.{after, noises_drawn}
+use Rattle.sift_base.specs.Draw.{after}
+use Rattle.sift_clocklab.specs.Draws.{noises_drawn}
 use Rattle.sift_clocklab.proofs.drawn_lab.drawn_noise.Given as goal
 
 -- the rows so far, and the draws of each

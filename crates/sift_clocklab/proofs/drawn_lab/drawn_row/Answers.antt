@@ -1,10 +1,16 @@
-use Rattle.std.proofs.Common.{◌≡◌, ◌+◌, refl, ap, sym, ◌∙◌, w32, to_z, of_z, arith}
+use Rattle.std.proofs.Common.{◌≡◌, ◌+◌, refl, ap, sym, ◌∙◌, w32, to_z, of_z, arith, rules}
 use Rattle.std.proofs.lemmas.Int.{ints}
-use Rattle.sift_clocklab.specs.Draws.{after, noise_drawn, others_before, spread}
+use Rattle.sift_base.specs.Draw.{after}
+use Rattle.sift_clocklab.specs.Draws.{noise_drawn, others_before, spread}
 use Rattle.sift_clocklab.proofs.Lists.{values_more}
 use Rattle.sift_clocklab.proofs.Numbers.{after-next, before-other, before-same, noise-other, noise-same}
 use Rattle.sift_clocklab.proofs.drawn_lab.drawn_row.Goals as goal
 use Rattle.sift_clocklab.proofs.drawn_lab.drawn_row.Goals.{then-other-own, else-other-own}
+
+-- no clocks yet, and no draws
+pub loop-other-init : goal.loop-other-init
+unfolding after
+loop-other-init c = search rules
 
 -- one clock more, and a draw unless it is the own one
 pub loop-other-preserved : goal.loop-other-preserved

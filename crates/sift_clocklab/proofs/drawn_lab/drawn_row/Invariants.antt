@@ -1,6 +1,7 @@
 use Rattle.std.proofs.Common.{◌≡◌, map}
 use Rattle.std.specs.List.{range_with_len}
-use Rattle.sift_clocklab.specs.Draws.{after, noise_drawn, others_before}
+use Rattle.sift_base.specs.Draw.{after}
+use Rattle.sift_clocklab.specs.Draws.{noise_drawn, others_before}
 use Rattle.sift_clocklab.proofs.drawn_lab.drawn_row.Given as goal
 
 -- the noise of the clocks so far, and a draw for each other one

@@ -2,7 +2,8 @@ use Rattle.std.proofs.Common.{◌≡◌, ◌+◌, ◌-◌, ◌*◌, map, ◌+ℤ
 use Rattle.std.specs.Prelude.{unsigned_abs}
 use Rattle.std.specs.List.{range_with_len}
 use Rattle.std.proofs.lemmas.Int.{ints}
-use Rattle.sift_clocklab.specs.Draws.{after, drift_drawn, noise_place, noises_drawn, start_drawn}
+use Rattle.sift_base.specs.Draw.{after}
+use Rattle.sift_clocklab.specs.Draws.{drift_drawn, noise_place, noises_drawn, start_drawn}
 use Rattle.sift_clocklab.proofs.DrawnLabs.{abs_sum}
 use Rattle.sift_clocklab.proofs.Products.{held}
 use Rattle.sift_clocklab.proofs.drawn_lab.make_drawn.Goals as goal

@@ -1,5 +1,6 @@
 use Rattle.std.proofs.Common.{◌≡◌, refl, ◌∙◌}
-use Rattle.sift_gen.specs.Tasks.{draw_at, word_values}
+use Rattle.sift_base.specs.Draw.{draw_at}
+use Rattle.sift_gen.specs.Tasks.{word_values}
 use Rattle.sift_gen.proofs.Drawing.{after-next, draw-next}
 use Rattle.sift_gen.proofs.fault.fault_table.Goals as goal
 

@@ -1,7 +1,7 @@
 use Rattle.std.proofs.Common.{◌≡◌, ◌+◌, ◌*◌, map, refl, ap, ◌∙◌}
 use Rattle.std.proofs.lemmas.Result.{IfOk-weaker}
 use Rattle.toml.specs.View.{view}
-use Rattle.sift_gen.specs.Tasks.{after, draw_at}
+use Rattle.sift_base.specs.Draw.{after, draw_at}
 use Rattle.sift_gen.specs.Scenario.{fault_table, first_task_place, frame_count, sensor_count, sensor_tables, task_count, task_place, task_tables, unit_count, words_each}
 use Rattle.sift_gen.proofs.Drawing.{after-next, draw-next}
 use Rattle.sift_gen.proofs.Trees.{fault_place, sensor_place, same-four, same-three, same-two, same_tree}

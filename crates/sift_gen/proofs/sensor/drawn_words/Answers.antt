@@ -1,12 +1,12 @@
 use Rattle.std.proofs.Common.{◌≡◌, ℕ, ◌+◌, ◌++◌, ◌∷◌, [], map, refl, ap, sym, ◌∙◌, arith}
 use Rattle.std.proofs.lemmas.List.{map-append}
 use Rattle.std.specs.List.{range_with_len}
-use Rattle.sift_base.specs.Draw.{drawn, next_number}
+use Rattle.sift_base.specs.Draw.{after, draw_at, drawn, next_number}
 use Rattle.toml.specs.Data.{Data}
 use Rattle.toml.specs.View.{view}
-use Rattle.sift_gen.specs.Tasks.{after, draw_at, word_values}
+use Rattle.sift_gen.specs.Tasks.{word_values}
 use Rattle.sift_gen.specs.Scenario.{number, sensor_words}
-use Rattle.sift_gen.proofs.Drawing.{after-none, after-more}
+use Rattle.sift_base.proofs.lemmas.Draws.{after-more, after-none}
 use Rattle.sift_gen.proofs.Listing.{map-more}
 use Rattle.sift_gen.proofs.sensor.drawn_words.Goals as goal
 

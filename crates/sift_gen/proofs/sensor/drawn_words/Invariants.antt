@@ -1,7 +1,8 @@
 use Rattle.std.proofs.Common.{◌≡◌, map}
 use Rattle.std.specs.List.{range_with_len}
 use Rattle.toml.specs.View.{view}
-use Rattle.sift_gen.specs.Tasks.{after, draw_at, word_values}
+use Rattle.sift_base.specs.Draw.{after, draw_at}
+use Rattle.sift_gen.specs.Tasks.{word_values}
 use Rattle.sift_gen.specs.Scenario.{number}
 use Rattle.sift_gen.proofs.sensor.drawn_words.Given as goal
 

@@ -1,6 +1,6 @@
 use Rattle.std.proofs.Common.{◌≡◌, ◌*◌, map}
 use Rattle.toml.specs.View.{view}
-use Rattle.sift_gen.specs.Tasks.{after}
+use Rattle.sift_base.specs.Draw.{after}
 use Rattle.sift_gen.specs.Scenario.{sensor_tables, words_each}
 use Rattle.sift_gen.proofs.sensor.sensor_tables.Given as goal
 

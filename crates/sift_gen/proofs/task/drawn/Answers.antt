@@ -1,5 +1,5 @@
 use Rattle.std.proofs.Common.{rules}
-use Rattle.sift_gen.specs.Tasks.{after}
+use Rattle.sift_base.specs.Draw.{after}
 use Rattle.sift_gen.proofs.task.drawn.Goals as goal
 
 pub returns : goal.returns

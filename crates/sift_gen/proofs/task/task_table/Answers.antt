@@ -1,6 +1,7 @@
 use Rattle.std.proofs.Common.{◌≡◌, refl, ap, ◌∙◌, string_bytes}
 use Rattle.std.proofs.lemmas.Result.{IfOk-weaker}
-use Rattle.sift_gen.specs.Tasks.{after, draw_at, draws_by, pattern_count, pattern_of, text_by, word_values}
+use Rattle.sift_base.specs.Draw.{after, draw_at}
+use Rattle.sift_gen.specs.Tasks.{draws_by, pattern_count, pattern_of, text_by, word_values}
 use Rattle.sift_gen.specs.Scenario.{pattern_from}
 use Rattle.sift_gen.proofs.Drawing.{after-next, draw-next}
 use Rattle.sift_gen.proofs.task.task_table.Goals as goal

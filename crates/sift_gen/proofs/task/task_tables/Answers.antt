@@ -5,7 +5,8 @@ use Rattle.toml.specs.Data.{Data}
 use Rattle.toml.specs.View.{view}
 use Rattle.toml.specs.declared.value.Value.{Table}
 use Rattle.toml.proofs.Views.{view-Table}
-use Rattle.sift_gen.specs.Tasks.{after, draws_by}
+use Rattle.sift_base.specs.Draw.{after}
+use Rattle.sift_gen.specs.Tasks.{draws_by}
 use Rattle.sift_gen.specs.Scenario.{pattern_from, task_place, task_table}
 use Rattle.sift_gen.proofs.Listing.{map-more}
 use Rattle.sift_gen.proofs.task.task_tables.Goals as goal
