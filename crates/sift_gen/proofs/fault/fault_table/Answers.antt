@@ -1,4 +1,4 @@
-use Rattle.std.proofs.Common.{◌≡◌, refl, ◌∙◌}
+use Rattle.std.proofs.Common.{◌≡◌, refl, ◌∙◌, rules}
 use Rattle.sift_base.specs.Draw.{draw_at}
 use Rattle.sift_gen.specs.Tasks.{word_values}
 use Rattle.sift_gen.proofs.Drawing.{after-next, draw-next}
@@ -15,4 +15,4 @@ returns c =
     let from : c.drawn-from.result ≡ draw_at x 1 c.args.frames = c.drawn-from.ensures.drawn ∙ draw-next x _ 1 c.args.frames one in
     let task : c.drawn-task.result ≡ draw_at x 2 c.args.tasks = c.drawn-task.ensures.drawn ∙ draw-next x _ 2 c.args.tasks two in
     let value : c.drawn-value.result ≡ draw_at x 3 word_values = c.drawn-value.ensures.drawn ∙ draw-next x _ 3 word_values three in
-    rw (unit, from, task, value) at c.fault_entries.ensures
+    rw (← unit, ← from, ← task, ← value) (search rules)
