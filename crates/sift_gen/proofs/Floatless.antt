@@ -52,4 +52,4 @@ floatless_counts units frames sensors tasks x =
 
 -- so that of every number has none
 pub floatless_tree : (n : ℕ) → NoMemberHasFloat (tree_of n)
-floatless_tree n = floatless_counts _ _ _ _ (after n 4)
+floatless_tree n = floatless_counts (5 + draw_at n 0 4) (20 + draw_at n 1 181) (1 + draw_at n 2 8) (1 + draw_at n 3 12) (after n 4)

@@ -54,4 +54,4 @@ shallow_counts units frames sensors tasks x =
 
 -- so do those of the tree of every number
 pub shallow_tree : (n : ℕ) → members_depth (tree_of n) ≤ 80
-shallow_tree n = shallow_counts _ _ _ _ (after n 4)
+shallow_tree n = shallow_counts (5 + draw_at n 0 4) (20 + draw_at n 1 181) (1 + draw_at n 2 8) (1 + draw_at n 3 12) (after n 4)
