@@ -3,8 +3,8 @@ use Rattle.std.proofs.Common.{ℕ, zero, suc, ◌+◌, ◌*◌, List, map}
 use Rattle.std.specs.List.{range_with_len}
 use Rattle.toml.specs.Data.{Data}
 use Rattle.sift_base.specs.Draw.{after, draw_at}
+use Rattle.sift_base.specs.Word.{word_count}
 use Rattle.sift_gen.proofs.OneText.{HasNoFloat, NoItemHasFloat, NoMemberHasFloat}
-use Rattle.sift_gen.specs.Tasks.{word_values}
 use Rattle.sift_gen.specs.Scenario.{number}
 use Rattle.toml.specs.View.{items_of}
 use Rattle.sift_gen.proofs.Trees.{document_of}
@@ -17,7 +17,7 @@ floatless_list g a (suc n) each = (each a, floatless_list g (a + 1) n each)
 
 floatless_words : (x : ℕ) → NoItemHasFloat (items_of (sensor_words x))
 unfolding sensor_words
-floatless_words x = floatless_list (λ i. number (draw_at x i word_values)) 0 words_each (λ i. tt)
+floatless_words x = floatless_list (λ i. number (draw_at x i word_count)) 0 words_each (λ i. tt)
 
 floatless_sensor : (k x : ℕ) → HasNoFloat (sensor_table k x)
 floatless_sensor k x = (tt, (floatless_words x, tt))

@@ -3,7 +3,7 @@ use Rattle.std.proofs.Common.{ℕ, zero, suc, ◌+◌, ◌*◌, ◌≤◌, List,
 use Rattle.std.specs.List.{range_with_len}
 use Rattle.toml.specs.Data.{Data, depth, items_depth, members_depth}
 use Rattle.sift_base.specs.Draw.{after, draw_at}
-use Rattle.sift_gen.specs.Tasks.{word_values}
+use Rattle.sift_base.specs.Word.{word_count}
 use Rattle.sift_gen.specs.Scenario.{number}
 use Rattle.toml.specs.View.{items_of}
 use Rattle.sift_gen.proofs.Trees.{document_of}
@@ -19,7 +19,7 @@ shallow_list k g a (suc n) each =
 
 shallow_words : (x : ℕ) → items_depth (items_of (sensor_words x)) ≤ 0
 unfolding sensor_words
-shallow_words x = shallow_list 0 (λ i. number (draw_at x i word_values)) 0 16 (λ i. omega arith)
+shallow_words x = shallow_list 0 (λ i. number (draw_at x i word_count)) 0 16 (λ i. omega arith)
 
 shallow_sensor : (k x : ℕ) → depth (sensor_table k x) ≤ 2
 shallow_sensor k x = let words = shallow_words x in omega arith

@@ -9,7 +9,8 @@ use Rattle.toml.specs.Parse.{parse_document}
 use Rattle.toml.specs.View.{items_of}
 use Rattle.toml.specs.Text.{IsDocumentText}
 use Rattle.sift_base.specs.Draw.{after, draw_at}
-use Rattle.sift_gen.specs.Tasks.{draws_by, pattern_count, pattern_of, sensor_name, task_name, text_by, word_values}
+use Rattle.sift_base.specs.Word.{word_count}
+use Rattle.sift_gen.specs.Tasks.{draws_by, pattern_of, sensor_name, task_name, text_by}
 use Rattle.sift_gen.specs.declared.task.Pattern.{Pattern}
 
 -- ---- tables and arrays, by their entries
@@ -36,7 +37,7 @@ words_each = 16
 
 -- the words of a sensor: the draws from x
 unfoldable pub sensor_words : ℕ → List Data
-sensor_words x = map (λ i. number (draw_at x i word_values)) (range_with_len 0 words_each)
+sensor_words x = map (λ i. number (draw_at x i word_count)) (range_with_len 0 words_each)
 
 -- the table of sensor k, whose words are the draws from x
 abbrev pub sensor_table : (k x : ℕ) → Data
@@ -48,14 +49,14 @@ sensor_tables sensors x = map (λ k. sensor_table k (after x (words_each * k))) 
 
 -- ---- tasks
 
--- the pattern of task t, whose draws are those from x: the second is its pattern
+-- the pattern of task t, whose draws are those from x: the second is one of the four patterns
 abbrev pub pattern_from : (t x : ℕ) → Pattern
-pattern_from t x = pattern_of (draw_at x 1 pattern_count) t
+pattern_from t x = pattern_of (draw_at x 1 4) t
 
 -- the table of task t, whose draws are those from x: its start word, its pattern, and those of the pattern
 abbrev pub task_table : (t sensors x : ℕ) → Data
 task_table t sensors x = table (member (codes "name") (string (task_name t))
-    (member (codes "start") (array_of (number (draw_at x 0 word_values) ∷ []))
+    (member (codes "start") (array_of (number (draw_at x 0 word_count) ∷ []))
     (member (codes "text") (string (text_by (pattern_from t x) t sensors (after x 2))) no_members)))
 
 -- the generator's number where task t begins, where the first task begins at x
@@ -81,7 +82,7 @@ fault_item units unit task value = table (member (codes "index") (number task) (
 -- the table of the fault, whose draws are those from x: the unit, its first frame, and the task for whose word it says a wrong value
 abbrev pub fault_table : (units frames tasks x : ℕ) → Data
 fault_table units frames tasks x = table (member (codes "from") (number (draw_at x 1 frames))
-    (member (codes "say") (array_of (fault_item units (draw_at x 0 units) (draw_at x 2 tasks) (draw_at x 3 word_values) ∷ []))
+    (member (codes "say") (array_of (fault_item units (draw_at x 0 units) (draw_at x 2 tasks) (draw_at x 3 word_count) ∷ []))
     (member (codes "unit") (number (draw_at x 0 units)) no_members)))
 
 -- ---- the tree

@@ -5,7 +5,7 @@ use Rattle.std.specs.List.{Contains}
 use Rattle.std.specs.Prelude.{codes, ◌⊎◌}
 use Rattle.toml.specs.Data.{Data, Members, table}
 use Rattle.sift_base.specs.Draw.{draw_at}
-use Rattle.sift_gen.specs.Tasks.{word_values}
+use Rattle.sift_base.specs.Word.{word_count}
 use Rattle.sift_gen.specs.Scenario.{array_of, fault_item, fault_table}
 use Rattle.sift_scenario.specs.Fault.{IsSaying, IsStorming, changes_of, fault_in, fault_rules, from_of, stated_storm, unit_of}
 use Rattle.sift_scenario.specs.Item.{change_in, item_keys}
@@ -43,7 +43,7 @@ module _
   task = draw_at x 2 tasks
 
   abbrev value : ℕ
-  value = draw_at x 3 word_values
+  value = draw_at x 3 word_count
 
   -- each is below its limit
   pub unit_there : unit < units
@@ -69,7 +69,7 @@ module _
   -- ---- what is stated
 
   change_stated : change_in item ≡ Some (drawn_change units unit task value)
-  change_stated = rw (number_read 0 63 task (omega arith) (omega (arith, among, few_tasks)), others_read units unit enough few, word_read value (draw_below x 3 word_values (omega arith))) refl
+  change_stated = rw (number_read 0 63 task (omega arith) (omega (arith, among, few_tasks)), others_read units unit enough few, word_read value (draw_below x 3 word_count (omega arith))) refl
 
   unit_stated : unit_of entries ≡ Some unit
   unit_stated = number_read 0 7 unit (omega arith) (omega (arith, unit_there, few))

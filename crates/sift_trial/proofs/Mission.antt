@@ -7,10 +7,11 @@ use Rattle.std.specs.List.{flat_map, range_with_len, sum}
 use Rattle.std.specs.Prelude.{unwrap_or, codes}
 use Rattle.toml.specs.Data.{Members, get_member}
 use Rattle.sift_base.specs.Draw.{draw_at}
+use Rattle.sift_base.specs.Word.{word_count}
 use Rattle.sift_base.specs.Name.{IsName}
 use Rattle.sift_base.specs.declared.layout.Layout.{Layout}
 use Rattle.sift_gen.specs.Scenario.{fault_table, sensor_tables, task_tables}
-use Rattle.sift_gen.specs.Tasks.{sensor_name, task_name, word_values}
+use Rattle.sift_gen.specs.Tasks.{sensor_name, task_name}
 use Rattle.sift_parse.specs.Roll.{Roll}
 use Rattle.sift_program.specs.Program.{ProgramTree, program_shapes}
 use Rattle.sift_scenario.specs.Mission.{IsLawful, HasGoodTables, IsMission, IsStated}
@@ -246,7 +247,7 @@ module _
       let here : task < length program.tasks = omega (arith, a_task, trees_here) in
       subst (λ (f : Fault). scripts.IsGood (record { faults = f ∷ []; layout = mission.layout; outputs = outputs; frames = frames }))
       (sym (fault_stated units frames tasks x may.enough_units may.few_units may.some_frames may.few_frames may.some_task may.few_tasks))
-      (script_good mission.layout outputs frames unit (draw_at x 1 frames) task (draw_at x 3 word_values) may.enough_units may.few_units there early_frame
+      (script_good mission.layout outputs frames unit (draw_at x 1 frames) task (draw_at x 3 word_count) may.enough_units may.few_units there early_frame
       (omega (arith, here, long)) (omega (arith, output_is (length (sensor_words d)) program few_sensors few_trees one_word task here)))
 
   -- this is the mission that the document states, with good tables and a good script
