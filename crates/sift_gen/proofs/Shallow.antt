@@ -3,11 +3,11 @@ use Rattle.std.proofs.Common.{ℕ, zero, suc, ◌+◌, ◌*◌, ◌≤◌, List,
 use Rattle.std.specs.List.{range_with_len}
 use Rattle.toml.specs.Data.{Data, depth, items_depth, members_depth}
 use Rattle.sift_base.specs.Draw.{after, draw_at}
-use Rattle.sift_gen.specs.Tasks.{word_values}
+use Rattle.sift_base.specs.Word.{word_count}
 use Rattle.sift_gen.specs.Scenario.{number}
 use Rattle.toml.specs.View.{items_of}
-use Rattle.sift_gen.proofs.Trees.{document_of, fault_place, sensor_place}
-use Rattle.sift_gen.specs.Scenario.{fault_table, first_task_place, frame_count, sensor_count, sensor_table, sensor_tables, sensor_words, task_count, task_place, task_table, task_tables, tree_of, unit_count, words_each}
+use Rattle.sift_gen.proofs.Trees.{document_of}
+use Rattle.sift_gen.specs.Scenario.{fault_table, sensor_table, sensor_tables, sensor_words, task_place, task_table, task_tables, tree_of, tree_with, words_each}
 
 -- a list of shallow values
 shallow_list : (k : ℕ) (g : ℕ → Data) (a n : ℕ) → ((i : ℕ) → depth (g i) ≤ k) → items_depth (items_of (map g (range_with_len a n))) ≤ k
@@ -19,7 +19,7 @@ shallow_list k g a (suc n) each =
 
 shallow_words : (x : ℕ) → items_depth (items_of (sensor_words x)) ≤ 0
 unfolding sensor_words
-shallow_words x = shallow_list 0 (λ i. number (draw_at x i word_values)) 0 16 (λ i. omega arith)
+shallow_words x = shallow_list 0 (λ i. number (draw_at x i word_count)) 0 16 (λ i. omega arith)
 
 shallow_sensor : (k x : ℕ) → depth (sensor_table k x) ≤ 2
 shallow_sensor k x = let words = shallow_words x in omega arith
@@ -44,10 +44,14 @@ shallow_tasks : (tasks sensors x : ℕ) → items_depth (items_of (task_tables t
 shallow_tasks tasks sensors x =
     shallow_list 2 (λ t. task_table t sensors (task_place t x)) 0 tasks (λ t. shallow_task t sensors (task_place t x))
 
--- in the tree of every number arrays and tables nest 80 deep at most
+-- arrays and tables of a tree nest 80 deep at most, whatever its counts
+shallow_counts : (units frames sensors tasks x : ℕ) → members_depth (tree_with units frames sensors tasks x) ≤ 80
+shallow_counts units frames sensors tasks x =
+    let y = after x (words_each * sensors) in
+    let z = task_place tasks y in
+    shallow_document units frames (sensor_tables sensors x) (task_tables tasks sensors y) (fault_table units frames tasks z)
+    (shallow_sensors sensors x) (shallow_tasks tasks sensors y) (shallow_fault units frames tasks z)
+
+-- so do those of the tree of every number
 pub shallow_tree : (n : ℕ) → members_depth (tree_of n) ≤ 80
-shallow_tree n =
-    shallow_document (unit_count n) (frame_count n) (sensor_tables (sensor_count n) (sensor_place n))
-    (task_tables (task_count n) (sensor_count n) (first_task_place n)) (fault_table (unit_count n) (frame_count n) (task_count n) (fault_place n))
-    (shallow_sensors (sensor_count n) (sensor_place n)) (shallow_tasks (task_count n) (sensor_count n) (first_task_place n))
-    (shallow_fault (unit_count n) (frame_count n) (task_count n) (fault_place n))
+shallow_tree n = shallow_counts (5 + draw_at n 0 4) (20 + draw_at n 1 181) (1 + draw_at n 2 8) (1 + draw_at n 3 12) (after n 4)

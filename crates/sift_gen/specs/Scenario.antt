@@ -9,7 +9,8 @@ use Rattle.toml.specs.Parse.{parse_document}
 use Rattle.toml.specs.View.{items_of}
 use Rattle.toml.specs.Text.{IsDocumentText}
 use Rattle.sift_base.specs.Draw.{after, draw_at}
-use Rattle.sift_gen.specs.Tasks.{draws_by, pattern_count, pattern_of, sensor_name, task_name, text_by, word_values}
+use Rattle.sift_base.specs.Word.{word_count}
+use Rattle.sift_gen.specs.Tasks.{draws_by, pattern_of, sensor_name, task_name, text_by}
 use Rattle.sift_gen.specs.declared.task.Pattern.{Pattern}
 
 -- ---- tables and arrays, by their entries
@@ -28,24 +29,6 @@ array_of values = array (items_of values)
 abbrev pub number : ℕ → Data
 number n = integer (pos n)
 
--- ---- counts
-
--- how many units there are: 5 to 8
-abbrev pub unit_count : ℕ → ℕ
-unit_count n = 5 + draw_at n 0 4
-
--- how many frames: 20 to 200
-abbrev pub frame_count : ℕ → ℕ
-frame_count n = 20 + draw_at n 1 181
-
--- how many sensors: 1 to 8
-abbrev pub sensor_count : ℕ → ℕ
-sensor_count n = 1 + draw_at n 2 8
-
--- how many tasks: 1 to 12
-abbrev pub task_count : ℕ → ℕ
-task_count n = 1 + draw_at n 3 12
-
 -- ---- sensors
 
 -- how many words each sensor has
@@ -54,7 +37,7 @@ words_each = 16
 
 -- the words of a sensor: the draws from x
 unfoldable pub sensor_words : ℕ → List Data
-sensor_words x = map (λ i. number (draw_at x i word_values)) (range_with_len 0 words_each)
+sensor_words x = map (λ i. number (draw_at x i word_count)) (range_with_len 0 words_each)
 
 -- the table of sensor k, whose words are the draws from x
 abbrev pub sensor_table : (k x : ℕ) → Data
@@ -66,14 +49,14 @@ sensor_tables sensors x = map (λ k. sensor_table k (after x (words_each * k))) 
 
 -- ---- tasks
 
--- the pattern of task t, whose draws are those from x: the second is its pattern
+-- the pattern of task t, whose draws are those from x: the second is one of the four patterns
 abbrev pub pattern_from : (t x : ℕ) → Pattern
-pattern_from t x = pattern_of (draw_at x 1 pattern_count) t
+pattern_from t x = pattern_of (draw_at x 1 4) t
 
 -- the table of task t, whose draws are those from x: its start word, its pattern, and those of the pattern
 abbrev pub task_table : (t sensors x : ℕ) → Data
 task_table t sensors x = table (member (codes "name") (string (task_name t))
-    (member (codes "start") (array_of (number (draw_at x 0 word_values) ∷ []))
+    (member (codes "start") (array_of (number (draw_at x 0 word_count) ∷ []))
     (member (codes "text") (string (text_by (pattern_from t x) t sensors (after x 2))) no_members)))
 
 -- the generator's number where task t begins, where the first task begins at x
@@ -96,30 +79,27 @@ abbrev pub fault_item : (units unit task value : ℕ) → Data
 fault_item units unit task value = table (member (codes "index") (number task) (member (codes "slot") (string (codes "out"))
     (member (codes "to") (string (other_digits units unit)) (member (codes "value") (number value) (member (codes "word") (number 0) no_members)))))
 
--- the table of a fault: the unit, its first frame, and the wrong value that it says for a task's word
-abbrev pub fault_entries : (units unit from task value : ℕ) → Data
-fault_entries units unit from task value = table (member (codes "from") (number from)
-    (member (codes "say") (array_of (fault_item units unit task value ∷ [])) (member (codes "unit") (number unit) no_members)))
-
--- the table of the fault, whose draws are those from x: the unit, its first frame, the task and the wrong value
+-- the table of the fault, whose draws are those from x: the unit, its first frame, and the task for whose word it says a wrong value
 abbrev pub fault_table : (units frames tasks x : ℕ) → Data
-fault_table units frames tasks x =
-    fault_entries units (draw_at x 0 units) (draw_at x 1 frames) (draw_at x 2 tasks) (draw_at x 3 word_values)
+fault_table units frames tasks x = table (member (codes "from") (number (draw_at x 1 frames))
+    (member (codes "say") (array_of (fault_item units (draw_at x 0 units) (draw_at x 2 tasks) (draw_at x 3 word_count) ∷ []))
+    (member (codes "unit") (number (draw_at x 0 units)) no_members)))
 
 -- ---- the tree
 
--- the generator's number where the tasks begin: behind the draws of the counts and of the sensors' words
-abbrev pub first_task_place : ℕ → ℕ
-first_task_place n = after (after n 4) (words_each * sensor_count n)
+-- the tree of so many units, frames, sensors and tasks: the draws of the sensors are those from x, and those of the tasks and of one fault follow
+abbrev pub tree_with : (units frames sensors tasks x : ℕ) → Members
+tree_with units frames sensors tasks x =
+    let y = after x (words_each * sensors) in
+    member (codes "fault") (array_of (fault_table units frames tasks (task_place tasks y) ∷ []))
+    (member (codes "frames") (number frames)
+    (member (codes "sensor") (array_of (sensor_tables sensors x))
+    (member (codes "task") (array_of (task_tables tasks sensors y))
+    (member (codes "units") (number units) no_members))))
 
--- the tree of the scenario with number n: the draws of the counts, of the sensors, of the tasks and of one fault follow one another
+-- the tree of the scenario with number n: first 5 to 8 units, 20 to 200 frames, 1 to 8 sensors and 1 to 12 tasks are drawn
 abbrev pub tree_of : ℕ → Members
-tree_of n = member (codes "fault")
-    (array_of (fault_table (unit_count n) (frame_count n) (task_count n) (task_place (task_count n) (first_task_place n)) ∷ []))
-    (member (codes "frames") (number (frame_count n))
-    (member (codes "sensor") (array_of (sensor_tables (sensor_count n) (after n 4)))
-    (member (codes "task") (array_of (task_tables (task_count n) (sensor_count n) (first_task_place n)))
-    (member (codes "units") (number (unit_count n)) no_members))))
+tree_of n = tree_with (5 + draw_at n 0 4) (20 + draw_at n 1 181) (1 + draw_at n 2 8) (1 + draw_at n 3 12) (after n 4)
 
 -- ---- its text
 

@@ -6,13 +6,6 @@ use Rattle.sift_base.specs.Draw.{draw_at}
 use Rattle.sift_gen.specs.declared.task.Pattern.{Pattern}
 use Rattle.sift_gen.specs.declared.task.Pattern.TheVariants.{Sum, Middle, Chase, Triple}
 
--- the number of values of a word, and of the patterns
-abbrev pub word_values : ℕ
-word_values = 65536
-
-abbrev pub pattern_count : ℕ
-pattern_count = 4
-
 -- ---- texts
 
 -- the name of a sensor, and of a task

@@ -3,7 +3,7 @@
 ghost use Rattle.std.specs.Prelude.{◌≡◌, ◌<◌, ◌≤◌, IfOk, string_bytes};
 ghost use Rattle.toml.specs.View.{table_view};
 ghost use Rattle.toml.specs.Data.{table};
-ghost use Rattle.sift_gen.specs.Scenario.{fault_entries, fault_item, fault_table, other_digits};
+ghost use Rattle.sift_gen.specs.Scenario.{fault_item, fault_table, other_digits};
 
 use crate::entry::{array_of_one, with, with_number};
 use crate::task::drawn;
@@ -28,20 +28,6 @@ pub(crate) fn fault_table(
     let from = drawn(draw, frames);
     let task = drawn(draw, tasks);
     let value = drawn(draw, 65536);
-    fault_entries(alloc, units, unit, from, task, value)
-}
-
-/// The entries of a fault: the unit, its first frame, and the wrong value that it says for a task's word.
-fn fault_entries(
-    alloc: Global,
-    units: u32,
-    unit: u32,
-    from: u32,
-    task: u32,
-    value: u32,
-) -> Result<Table, NoMemory>
-    ensures { IfOk result (λ entries. table (table_view entries) ≡ fault_entries units unit from task value) }
-{
     let item = Value::Table(fault_item(alloc, units, unit, task, value)?);
     let entries = with_number(alloc, Table::new(alloc), "unit", unit)?;
     let entries = with_number(alloc, entries, "from", from)?;

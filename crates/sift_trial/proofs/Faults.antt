@@ -4,7 +4,9 @@ use Rattle.std.proofs.lemmas.List.Elements.{All-cons, All-from_recursion, All-ni
 use Rattle.std.specs.List.{Contains}
 use Rattle.std.specs.Prelude.{codes, ◌⊎◌}
 use Rattle.toml.specs.Data.{Data, Members, table}
-use Rattle.sift_gen.specs.Scenario.{array_of, fault_entries, fault_item}
+use Rattle.sift_base.specs.Draw.{draw_at}
+use Rattle.sift_base.specs.Word.{word_count}
+use Rattle.sift_gen.specs.Scenario.{array_of, fault_item, fault_table}
 use Rattle.sift_scenario.specs.Fault.{AreItems, StandsAlone, changes_of, fault_in, fault_rules, from_of, stated_storm, unit_of}
 use Rattle.sift_scenario.specs.Item.{change_in, item_keys}
 use Rattle.sift_script.specs.Script.{Change, Fault, changing}
@@ -13,7 +15,7 @@ use Rattle.sift_document.specs.Document.{HasOnlyKeys, IsTableOf, keys_of, member
 use Rattle.sift_document.specs.Rules.{AreKept}
 use Rattle.sift_trial.proofs.Digits.{other_units, others_read}
 use Rattle.sift_trial.proofs.Tables.{not_only}
-use Rattle.sift_trial.proofs.Values.{number_read, word_read}
+use Rattle.sift_trial.proofs.Values.{draw_below, number_read, word_read}
 
 -- the keys that a fault may have
 abbrev fault_keys : List (List ℕ)
@@ -28,29 +30,52 @@ abbrev pub drawn_fault : (units unit from task value : ℕ) → Fault
 drawn_fault units unit from task value = record { unit = unit; from = from; plan = changing (drawn_change units unit task value ∷ []) }
 
 module _
-    (units unit from task value : ℕ) (enough : 5 ≤ units) (few : units ≤ 8) (there : unit < units) (early : from < 200)
-    (among : task < 12) (word : value < 65536) where
+    (units frames tasks x : ℕ) (enough : 5 ≤ units) (few : units ≤ 8) (some_frames : 20 ≤ frames) (few_frames : frames ≤ 200)
+    (some_task : 1 ≤ tasks) (few_tasks : tasks ≤ 12) where
+  -- the unit, its first frame, the task and the wrong value
+  abbrev unit : ℕ
+  unit = draw_at x 0 units
+
+  abbrev from : ℕ
+  from = draw_at x 1 frames
+
+  abbrev task : ℕ
+  task = draw_at x 2 tasks
+
+  abbrev value : ℕ
+  value = draw_at x 3 word_count
+
+  -- each is below its limit
+  pub unit_there : unit < units
+  unit_there = draw_below x 0 units (omega (arith, enough))
+
+  pub early : from < frames
+  early = draw_below x 1 frames (omega (arith, some_frames))
+
+  pub among : task < tasks
+  among = draw_below x 2 tasks (omega (arith, some_task))
+
   -- the entries of the item, and those of the fault
   abbrev item : Members
   item = members_of (fault_item units unit task value)
 
   abbrev entries : Members
-  entries = members_of (fault_entries units unit from task value)
+  entries = members_of (fault_table units frames tasks x)
 
   -- the value of `fault`
   abbrev pub faults_value : Data
-  faults_value = array_of (fault_entries units unit from task value ∷ [])
+  faults_value = array_of (fault_table units frames tasks x ∷ [])
 
   -- ---- what is stated
 
   change_stated : change_in item ≡ Some (drawn_change units unit task value)
-  change_stated = rw (number_read 0 63 task (omega arith) (omega (arith, among)), others_read units unit enough few, word_read value word) refl
+  change_stated = rw (number_read 0 63 task (omega arith) (omega (arith, among, few_tasks)), others_read units unit enough few, word_read value (draw_below x 3 word_count (omega arith))) refl
 
   unit_stated : unit_of entries ≡ Some unit
-  unit_stated = number_read 0 7 unit (omega arith) (omega (arith, there, few))
+  unit_stated = number_read 0 7 unit (omega arith) (omega (arith, unit_there, few))
 
   from_stated : from_of entries ≡ Some from
-  from_stated = number_read 0 999 from (omega arith) (omega (arith, early))
+  from_stated = number_read 0 999 from (omega arith) (omega (arith, early, few_frames))
 
   changes_stated : changes_of entries ≡ Some (drawn_change units unit task value ∷ [])
   changes_stated = rw change_stated refl

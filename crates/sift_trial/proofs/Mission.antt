@@ -6,9 +6,11 @@ use Rattle.std.proofs.lemmas.List.Elements.{All-map}
 use Rattle.std.specs.List.{flat_map, range_with_len, sum}
 use Rattle.std.specs.Prelude.{unwrap_or, codes}
 use Rattle.toml.specs.Data.{Members, get_member}
+use Rattle.sift_base.specs.Draw.{draw_at}
+use Rattle.sift_base.specs.Word.{word_count}
 use Rattle.sift_base.specs.Name.{IsName}
 use Rattle.sift_base.specs.declared.layout.Layout.{Layout}
-use Rattle.sift_gen.specs.Scenario.{fault_entries, sensor_tables, task_tables}
+use Rattle.sift_gen.specs.Scenario.{fault_table, sensor_tables, task_tables}
 use Rattle.sift_gen.specs.Tasks.{sensor_name, task_name}
 use Rattle.sift_parse.specs.Roll.{Roll}
 use Rattle.sift_program.specs.Program.{ProgramTree, program_shapes}
@@ -27,7 +29,7 @@ use Rattle.sift_table.specs.Schedule.{agreed_in, hearing_delay, plain_of}
 use Rattle.sift_mission.specs.Data.{MissionData, shapes_in}
 use Rattle.sift_document.proofs.lemmas.Order.{kept_joined}
 use Rattle.sift_document.specs.Rules.{AreKept, AreMatched, HoldsOf, Rule, rule}
-use Rattle.sift_trial.proofs.Faults.{fault_stated, faults_kept}
+use Rattle.sift_trial.proofs.Faults.{among, early, fault_stated, faults_kept, unit_there}
 use Rattle.sift_trial.proofs.Program.{drawn_trees, trees_allowed, trees_are, trees_long, trees_of_one_word}
 use Rattle.sift_trial.proofs.Root.{document_of, frames_are, root_kept, units_are}
 use Rattle.sift_trial.proofs.Script.{script_good}
@@ -54,8 +56,8 @@ themes_for units document =
     ∷ (rule 31 (λ place. HoldsOf (tables_in (get_member (codes "table") document)) place (λ table. shed_of table ≡ None)) ∷ [])
     ∷ []
 
--- counts, and a fault, that may be drawn
-pub record MayBeDrawn (units frames sensors tasks unit from task value : ℕ) : Type 0 where
+-- counts that may be drawn
+pub record MayBeDrawn (units frames sensors tasks : ℕ) : Type 0 where
   pub enough_units : 5 ≤ units
   pub few_units : units ≤ 8
   pub some_frames : 20 ≤ frames
@@ -64,10 +66,6 @@ pub record MayBeDrawn (units frames sensors tasks unit from task value : ℕ) : 
   pub few_sensors : sensors ≤ 8
   pub some_task : 1 ≤ tasks
   pub few_tasks : tasks ≤ 12
-  pub a_unit : unit < units
-  pub a_frame : from < frames
-  pub a_task : task < tasks
-  pub a_word : value < 65536
 
 -- the names of the tasks and the sensors are names, and no two are one
 pub record AreGoodNames (name : ℕ → List ℕ) (most : ℕ) : Type 0 where
@@ -83,11 +81,10 @@ pub record AreKnown : Type 0 where
   pub tasks : AreGoodNames task_name 12
 
 module _
-    (known : AreKnown) (units frames sensors tasks unit from task value y z : ℕ)
-    (may : MayBeDrawn units frames sensors tasks unit from task value) where
+    (known : AreKnown) (units frames sensors tasks y z x : ℕ) (may : MayBeDrawn units frames sensors tasks) where
   -- the document
   abbrev d : Members
-  d = document_of units frames (sensor_tables sensors y) (task_tables tasks sensors z) (fault_entries units unit from task value)
+  d = document_of units frames (sensor_tables sensors y) (task_tables tasks sensors z) (fault_table units frames tasks x)
 
   -- ---- the rules
 
@@ -114,7 +111,7 @@ module _
   lawful : IsLawful d
   lawful =
       kept_joined (themes_for (unwrap_or (units_of d) 0) d) (
-        root_kept units frames (sensor_tables sensors y) (task_tables tasks sensors z) (fault_entries units unit from task value)
+        root_kept units frames (sensor_tables sensors y) (task_tables tasks sensors z) (fault_table units frames tasks x)
             may.enough_units may.few_units may.some_frames may.few_frames,
         (
           tt,
@@ -126,8 +123,7 @@ module _
               (
                 no_tables (unwrap_or (version_of d) 0) (unwrap_or (units_of d) 0),
                 (
-                  faults_kept units unit from task value may.enough_units may.few_units may.a_unit (omega (arith, may.a_frame, may.few_frames))
-                      (omega (arith, may.a_task, may.few_tasks)) may.a_word,
+                  faults_kept units frames tasks x may.enough_units may.few_units may.some_frames may.few_frames may.some_task may.few_tasks,
                   ((λ place found. absurd (cc found.there), tt), tt),
                 ),
               ),
@@ -192,8 +188,8 @@ module _
   stated : IsStated d mission
   stated = record {
     lawful = lawful;
-    units = units_are units frames (sensor_tables sensors y) (task_tables tasks sensors z) (fault_entries units unit from task value) may.enough_units may.few_units;
-    frames = frames_are units frames (sensor_tables sensors y) (task_tables tasks sensors z) (fault_entries units unit from task value) may.some_frames may.few_frames;
+    units = units_are units frames (sensor_tables sensors y) (task_tables tasks sensors z) (fault_table units frames tasks x) may.enough_units may.few_units;
+    frames = frames_are units frames (sensor_tables sensors y) (task_tables tasks sensors z) (fault_table units frames tasks x) may.some_frames may.few_frames;
     period = refl;
     clock = refl;
     sensors = refl;
@@ -247,12 +243,16 @@ module _
   good_script =
       let outputs = mission.script.outputs in
       let long = outputs_long (length (sensor_words d)) program few_sensors few_trees one_word in
-      let among : task < length program.tasks = omega (arith, may.a_task, trees_here) in
+      let unit = draw_at x 0 units in
+      let task = draw_at x 2 tasks in
+      let there = unit_there units frames tasks x may.enough_units may.few_units may.some_frames may.few_frames may.some_task may.few_tasks in
+      let early_frame = early units frames tasks x may.enough_units may.few_units may.some_frames may.few_frames may.some_task may.few_tasks in
+      let a_task = among units frames tasks x may.enough_units may.few_units may.some_frames may.few_frames may.some_task may.few_tasks in
+      let here : task < length program.tasks = omega (arith, a_task, trees_here) in
       subst (λ (f : Fault). scripts.IsGood (record { faults = f ∷ []; layout = mission.layout; outputs = outputs; frames = frames }))
-      (sym (fault_stated units unit from task value may.enough_units may.few_units may.a_unit (omega (arith, may.a_frame, may.few_frames))
-      (omega (arith, may.a_task, may.few_tasks)) may.a_word))
-      (script_good mission.layout outputs frames unit from task value may.enough_units may.few_units may.a_unit may.a_frame
-      (omega (arith, among, long)) (omega (arith, output_is (length (sensor_words d)) program few_sensors few_trees one_word task among)))
+      (sym (fault_stated units frames tasks x may.enough_units may.few_units may.some_frames may.few_frames may.some_task may.few_tasks))
+      (script_good mission.layout outputs frames unit (draw_at x 1 frames) task (draw_at x 3 word_count) may.enough_units may.few_units there early_frame
+      (omega (arith, here, long)) (omega (arith, output_is (length (sensor_words d)) program few_sensors few_trees one_word task here)))
 
   -- this is the mission that the document states, with good tables and a good script
   pub is_mission : IsMission d mission

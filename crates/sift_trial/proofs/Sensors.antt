@@ -6,8 +6,9 @@ use Rattle.std.specs.Prelude.{codes}
 use Rattle.toml.specs.Data.{Data, Members, member, no_members, string}
 use Rattle.toml.specs.View.{items_of}
 use Rattle.sift_base.specs.Draw.{after, draw_at}
+use Rattle.sift_base.specs.Word.{word_count}
 use Rattle.sift_base.specs.Name.{IsName}
-use Rattle.sift_gen.specs.Tasks.{sensor_name, word_values}
+use Rattle.sift_gen.specs.Tasks.{sensor_name}
 use Rattle.sift_gen.specs.Scenario.{array_of, number, sensor_tables, sensor_words, words_each}
 use Rattle.sift_scenario.specs.Sensor.{sensor_rules, words_of}
 use Rattle.sift_document.specs.Document.{HasOnlyKeys, each_read, keys_of, list_of, word_value, tables_in, IsTableOf}
@@ -33,9 +34,9 @@ words_read f low [] = refl
 words_read f low (k ∷ ks) = rw (word_read (f k) (low k), words_read f low ks) refl
 
 -- the words of a sensor are its draws
-pub sensed : (k x : ℕ) → words_of (sensor_entries k x) ≡ Some (map (λ i. draw_at x i word_values) (range_with_len 0 words_each))
+pub sensed : (k x : ℕ) → words_of (sensor_entries k x) ≡ Some (map (λ i. draw_at x i word_count) (range_with_len 0 words_each))
 unfolding sensor_words
-sensed k x = rw (words_read (λ i. draw_at x i word_values) (λ i. draw_below x i word_values (omega arith)) (range_with_len 0 words_each)) refl
+sensed k x = rw (words_read (λ i. draw_at x i word_count) (λ i. draw_below x i word_count (omega arith)) (range_with_len 0 words_each)) refl
 
 -- its keys are known
 keys_known : (k x : ℕ) → HasOnlyKeys sensor_keys (sensor_entries k x)

@@ -7,8 +7,9 @@ use Rattle.std.specs.Prelude.{codes}
 use Rattle.toml.specs.Data.{Data, Members, member, no_members, string}
 use Rattle.sift_base.specs.Draw.{after, draw_at}
 use Rattle.sift_base.specs.Layout.{word_limit}
+use Rattle.sift_base.specs.Word.{word_count}
 use Rattle.sift_base.specs.Name.{IsName}
-use Rattle.sift_gen.specs.Tasks.{task_name, text_by, word_values}
+use Rattle.sift_gen.specs.Tasks.{task_name, text_by}
 use Rattle.sift_gen.specs.Scenario.{array_of, number, pattern_from, task_place, task_tables}
 use Rattle.sift_scenario.specs.Task.{AreForms, Form, HasForm, counts_of, start_words, task_outputs, text, BreaksNames}
 use Rattle.sift_document.specs.Document.{HasOnlyKeys, IsTableOf, entries_of, keys_of, members_of}
@@ -31,12 +32,12 @@ drawn_text t sensors x = text_by (pattern_from t x) t sensors (after x 2)
 -- the entries of the table of task t, whose draws are those from x
 abbrev pub drawn_entries : (t sensors x : ℕ) → Members
 drawn_entries t sensors x =
-    member (codes "name") (string (task_name t)) (member (codes "start") (array_of (number (draw_at x 0 word_values) ∷ []))
+    member (codes "name") (string (task_name t)) (member (codes "start") (array_of (number (draw_at x 0 word_count) ∷ []))
     (member (codes "text") (string (drawn_text t sensors x)) no_members))
 
 -- its start word is the first draw
-pub started : (t sensors x : ℕ) → start_words (drawn_entries t sensors x) ≡ Some (draw_at x 0 word_values ∷ [])
-started t sensors x = rw (word_read (draw_at x 0 word_values) (draw_below x 0 word_values (omega arith))) refl
+pub started : (t sensors x : ℕ) → start_words (drawn_entries t sensors x) ≡ Some (draw_at x 0 word_count ∷ [])
+started t sensors x = rw (word_read (draw_at x 0 word_count) (draw_below x 0 word_count (omega arith))) refl
 
 -- so it has one output word
 pub one_output : (t sensors x : ℕ) → task_outputs (drawn_entries t sensors x) ≡ 1

@@ -2,9 +2,9 @@ use Rattle.std.proofs.Common.{◌≡◌, ℕ, ◌+◌, ◌++◌, ◌∷◌, [], 
 use Rattle.std.proofs.lemmas.List.{map-append}
 use Rattle.std.specs.List.{range_with_len}
 use Rattle.sift_base.specs.Draw.{after, draw_at, drawn, next_number}
+use Rattle.sift_base.specs.Word.{word_count}
 use Rattle.toml.specs.Data.{Data}
 use Rattle.toml.specs.View.{view}
-use Rattle.sift_gen.specs.Tasks.{word_values}
 use Rattle.sift_gen.specs.Scenario.{number, sensor_words}
 use Rattle.sift_base.proofs.lemmas.Draws.{after-more, after-none}
 use Rattle.sift_gen.proofs.Listing.{map-more}
@@ -20,10 +20,10 @@ loop-preserved c =
     let x = c.args.draw.now in
     let n = c.loop.counter in
     let v = c.from.result in
-    let word_at : ℕ → Data = λ i. number (draw_at x i word_values) in
+    let word_at : ℕ → Data = λ i. number (draw_at x i word_count) in
     let next : c.draw-word.new.self ≡ after x (n + 1) =
     c.draw-word.ensures.next ∙ (ap next_number c.loop.invariant.drawn ∙ sym (after-more x n)) in
-    let word : view v ≡ word_at n = c.from.ensures ∙ ap number (c.draw-word.ensures.drawn ∙ ap (λ y. drawn y word_values) next) in
+    let word : view v ≡ word_at n = c.from.ensures ∙ ap number (c.draw-word.ensures.drawn ∙ ap (λ y. drawn y word_count) next) in
     record {
       made =
           ap (map view) c.in_ok-push.ensures.items ∙ (map-append view c.loop.words.items (v ∷ [])
@@ -37,4 +37,4 @@ pub returns-clause-made : goal.returns-clause-made
 unfolding sensor_words
 returns-clause-made c =
     let done : c.loop.counter ≡ 16 = omega arith in
-    c.loop.invariant.made ∙ ap (λ n. map (λ i. number (draw_at c.args.draw.now i word_values)) (range_with_len 0 n)) done
+    c.loop.invariant.made ∙ ap (λ n. map (λ i. number (draw_at c.args.draw.now i word_count)) (range_with_len 0 n)) done
