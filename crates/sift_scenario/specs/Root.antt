@@ -24,9 +24,13 @@ units_of document = read_at (integer_between least_units unit_limit) (codes "uni
 abbrev pub frames_of : Members → Option ℕ
 frames_of document = read_at (integer_between 1 frame_limit) (codes "frames") document
 
--- the version of the format of documents, 1 or 2, which is 1 where none is stated
+-- the newest version of the format of documents
+abbrev pub newest_version : ℕ
+newest_version = 2
+
+-- the version, which is 1 where none is stated
 abbrev pub version_of : Members → Option ℕ
-version_of document = read_or 1 (integer_between 1 2) (codes "version") document
+version_of document = read_or 1 (integer_between 1 newest_version) (codes "version") document
 
 -- the number of subframes of a frame; where none is stated, that in which the plain table of so many tasks is run and reported
 abbrev pub period_of : Members → Option ℕ

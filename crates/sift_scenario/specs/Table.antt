@@ -12,10 +12,14 @@ use Rattle.sift_document.specs.Rules.{HoldsOf, BreaksEntries, Rule, rule}
 
 -- ---- what they say
 
--- the keys that a table of `table` may have in a document of this version; `shed` came with version 2
+-- the first version of documents whose tables may shed tasks
+abbrev pub shedding_version : ℕ
+shedding_version = 2
+
+-- the keys that a table of `table` may have in a document of this version
 abbrev pub table_keys : (version : ℕ) → List (List ℕ)
 table_keys version =
-    codes "size" ∷ codes "run" ∷ codes "poll" ∷ codes "at" ∷ (if nat_lt version 2 then [] else codes "shed" ∷ [])
+    codes "size" ∷ codes "run" ∷ codes "poll" ∷ codes "at" ∷ (if nat_lt version shedding_version then [] else codes "shed" ∷ [])
 
 -- the size of the configurations that a table is for
 abbrev pub size_of : Members → Option ℕ
