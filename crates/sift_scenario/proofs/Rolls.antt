@@ -103,7 +103,8 @@ module _ (tasks : List Members) (kept : (at : ℕ) → ¬ BreaksNames tasks at) 
 -- where the rules of the tasks are kept, each may take its turn beside sensors whose names are few and differ
 pub turns :
     (sensors : List (List ℕ)) (tasks : List Members) → AreDistinct sensors → length sensors ≤ 8
-    → ((at : ℕ) → ¬ BreaksNames tasks at) → ((at : ℕ) → ¬ BreaksStarts tasks at) → ((place : ℕ) → ¬ ((place < length (counts_of tasks)) × (word_limit < sum (take (place + 1) (counts_of tasks)))))
+    → ((at : ℕ) → ¬ BreaksNames tasks at) → ((at : ℕ) → ¬ BreaksStarts tasks at)
+    → ((place : ℕ) → ¬ ((place < length (counts_of tasks)) × (word_limit < sum (take (place + 1) (counts_of tasks)))))
     → 0 < length tasks → length tasks ≤ 24 → (task : ℕ) → task < length tasks → AreNames (turn_of task (roll_for sensors tasks))
 turns sensors tasks differ few_sensors names starts words some few task low = record {
   sensors_differ = differ;

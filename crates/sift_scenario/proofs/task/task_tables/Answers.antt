@@ -35,5 +35,6 @@ returns-clause-few c =
 pub returns-clause-tests : goal.returns-clause-tests
 returns-clause-tests c =
     let entries = c.entries_at-entries.result.now in
-    let number : (0 < length (map view entries)) × (length (map view entries) ≤ task_limit) = (some_entry entries c.if-is_empty.ensures, omega (arith, length-map entries view, c.if-entries-gt-TASK_LIMIT.false)) in
+    let number : (0 < length (map view entries)) × (length (map view entries) ≤ task_limit)
+    = (some_entry entries c.if-is_empty.ensures, omega (arith, length-map entries view, c.if-entries-gt-TASK_LIMIT.false)) in
     tested_tasks (table_view c.args.document.now) (map view entries) c.entries_at-entries.ensures number c.tables_in.result c.tables_in.ensures.tests
