@@ -1,8 +1,9 @@
-use Rattle.std.proofs.Common.{◌≡◌, ◌+◌, ◌-◌, drop, arith, ap, ◌∙◌}
+use Rattle.std.proofs.Common.{◌≡◌, ℕ, ◌+◌, ◌-◌, ◌≤◌, drop, arith, sym, ap, ◌∙◌}
+use Rattle.std.specs.Fn.{iterate}
 use Rattle.std.proofs.lemmas.Grind.{common_steps}
 use Rattle.sift_lang.specs.declared.tree.Stmt.{the_lemmas}
 use Rattle.sift_lang.specs.Tree.{statement_of, block_of}
-use Rattle.sift_lang.specs.Meaning.{after_all, scoped}
+use Rattle.sift_lang.specs.Meaning.{State, after_all, scoped}
 use Rattle.sift_lang.specs.Held.{readings_of, state_of}
 use Rattle.sift_lang.proofs.lemmas.States.{adds-more}
 use Rattle.sift_lang.proofs.lemmas.Rounds.{iterate-less, block_of-drop, refill-set, IsSoundBlock-rest}
@@ -20,12 +21,17 @@ run-loop-round-preserved t c =
       };
     }
 
--- no round is left
+-- where no round is left, so many rounds lead here as there are in all
+rounds_done : (n i k : ℕ) (round : State → State) (s t : State) → n ≤ i → n ≡ k → iterate round (n - i) s ≡ iterate round n t
+    → s ≡ iterate round k t
+rounds_done n i k round s t none all left =
+    let over : n - i ≡ 0 = omega arith in
+    sym (ap (λ m. iterate round m s) over) ∙ (left ∙ ap (λ m. iterate round m t) all)
+
 pub run-returns-after-loop-round : goal.run-returns-after-loop-round
 run-returns-after-loop-round t c =
-    let none : c.in-Repeat.rounds - c.loop-round._round ≡ 0 = omega arith in
-    let left = rw none at c.loop-round.invariant.left in
-    rw c.in-Repeat.is (search (left, the_lemmas))
+    let done = rounds_done _ c.loop-round._round c.in-Repeat.rounds _ _ _ c.loop-round-test.false (omega arith) c.loop-round.invariant.left in
+    rw c.in-Repeat.is (search (done, the_lemmas))
 
 pub run-returns-in-Set : goal.run-returns-in-Set
 run-returns-in-Set t c = grind (arith, common_steps, the_lemmas, refill-set)
