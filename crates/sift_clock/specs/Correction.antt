@@ -6,8 +6,7 @@ use Rattle.sift_base.specs.Units.{others}
 
 -- ---- what a unit reads: an offset is a whole number of ticks, and a clock word is its lowest 16 bits
 
--- the reading of a clock: how far the heard word is ahead of the word of the own offset, in two's complement, and the
--- reading error; none where nothing was heard
+-- the reading of a clock: how far the heard word is ahead of the own offset's, in two's complement, and the error; none where nothing was heard
 abbrev pub reading_of : Option ℕ → ℤ → ℤ → Option ℤ
 reading_of None own error = None
 reading_of (Some heard) own error = Some (signed_of (sub heard (word_of own)) +ℤ error)
@@ -33,9 +32,9 @@ int_sum (n ∷ ns) = n +ℤ int_sum ns
 abbrev pub correction_of : ℤ → ℕ → List (Option ℤ) → ℤ
 correction_of limit clocks readings = int_div_euclid (int_sum (map (counted limit) readings)) (pos clocks)
 
--- the next offset of unit u in a configuration: the own offset, the correction by what it reads of the others, and the drift
-abbrev pub next_offset : ℤ → List ℕ → (ℕ → Option ℤ) → ℤ → ℕ → ℤ → ℤ
-next_offset limit us read own u drift = own +ℤ correction_of limit (length us) (map read (others u us)) +ℤ drift
+-- the corrected offset of unit u in a configuration: the own offset, and the correction by what it reads of the others
+abbrev pub corrected_offset : ℤ → List ℕ → (ℕ → Option ℤ) → ℤ → ℕ → ℤ
+corrected_offset limit us read own u = own +ℤ correction_of limit (length us) (map read (others u us))
 
 -- the sum of what the readings count for
 abbrev pub counted_sum : ℤ → List (Option ℤ) → ℤ

@@ -1,6 +1,6 @@
 -- The rounds of a laboratory: in each, every working clock reads all others and corrects itself.
 use Rattle.std.specs.Prelude.{ℕ, ◌+◌, ◌-◌, ◌*◌, List, [], ◌∷◌, map, get_or, if◌then◌else◌, Option, None, Some, ℤ, pos, ◌+ℤ◌, ◌-ℤ◌}
-use Rattle.sift_clock.specs.Correction.{next_offset}
+use Rattle.sift_clock.specs.Correction.{corrected_offset}
 use Rattle.sift_clocklab.specs.Laboratory.{Laboratory, clocks_of, working_of, working_clocks, works, reading_limit, drift_of, noise_of}
 
 -- the offset of a working clock among those of all
@@ -22,7 +22,7 @@ reading_of lab offsets shown q p = if works lab p then Some (ticks_ahead lab off
 -- the offset of q after a round: the one before it, the correction by what it reads of all others, and its drift
 abbrev pub offset_after : Laboratory → List ℤ → List (Option ℤ) → ℕ → ℤ
 offset_after lab offsets shown q =
-    next_offset (reading_limit lab) (clocks_of lab) (reading_of lab offsets shown q) (offset_of offsets q) q (drift_of lab q)
+    corrected_offset (reading_limit lab) (clocks_of lab) (reading_of lab offsets shown q) (offset_of offsets q) q +ℤ drift_of lab q
 
 -- the offsets of all working clocks after a round
 abbrev pub offsets_after : Laboratory → List ℤ → List (Option ℤ) → List ℤ

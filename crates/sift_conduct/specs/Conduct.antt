@@ -11,7 +11,7 @@ use Rattle.sift_base.specs.declared.slot.Slot.TheVariants.{Clock, Sense, RelaySe
 use Rattle.sift_vote.specs.Majority.{majority_of, agreed_of, differs}
 use Rattle.sift_agree.specs.Agreement.{taken}
 use Rattle.sift_config.specs.Config.{reader_of}
-use Rattle.sift_clock.specs.Correction.{reading_of, is_too_far, next_offset}
+use Rattle.sift_clock.specs.Correction.{reading_of, is_too_far, corrected_offset}
 use Rattle.sift_mission.specs.Data.{FlownMission}
 use Rattle.sift_mission.specs.Slots.{executors, is_held, calls}
 use Rattle.sift_conduct.specs.declared.account.Account.{Account as TheAccount}
@@ -155,4 +155,4 @@ module _ (x : UnitFrame) where
     -- the next configuration is the one without those whom two other units' reports name
     pub next_cfg : a.next_cfg ≡ next_by (λ r v. has_bit (report_of us u a h r) v) us
     -- the next offset is the corrected one, and the drift
-    pub next_clk : a.next_clk ≡ next_offset (m.skew +ℤ m.error) us reading_by a.clk u (m.drift u)
+    pub next_clk : a.next_clk ≡ corrected_offset (m.skew +ℤ m.error) us reading_by a.clk u +ℤ m.drift u

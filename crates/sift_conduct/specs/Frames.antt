@@ -23,8 +23,7 @@ abbrev pub frame_of : FlownMission → ℕ → UnitFlight → ℕ → UnitFrame
 frame_of m u d f =
     record { mission = m; unit = u; frame = f; account = d.account f; heard = d.heard f; last = last_of m d.account f }
 
--- how a frame begins: the first with all units and the offset at the start, a later one with the configuration and the offset that were
--- found in the frame before
+-- how a frame begins: the first with all units and the offset at the start, a later one with what was found in the frame before
 abbrev pub BeginConduct : FlownMission → ℕ → (ℕ → Account) → ℕ → Type 0
 BeginConduct m u a zero = ((a 0).cfg ≡ m.units) × ((a 0).clk ≡ m.offset u)
 BeginConduct m u a (suc f) = ((a (suc f)).cfg ≡ (a f).next_cfg) × ((a (suc f)).clk ≡ (a f).next_clk)

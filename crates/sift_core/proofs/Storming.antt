@@ -12,7 +12,8 @@ use Rattle.sift_buffer.specs.Ranges.{IsCell}
 use Rattle.sift_buffer.specs.Tables.{ranges_of}
 use Rattle.sift_mission.specs.Data.{MissionData}
 use Rattle.sift_mission.specs.Flown.{flown}
-use Rattle.sift_rogue.specs.Storms.{Call, Started, Shoots, Storms, sifted, stray_of}
+use Rattle.sift_rogue.specs.Storms.{Call, Started, Shoots, sifted, stray_of}
+use Rattle.sift_rogue.proofs.lemmas.Called.{StormsBy}
 use Rattle.sift_rogue.specs.declared.act.Shot.{Shot}
 use Rattle.sift_flight.specs.Flight.{Strays, no_strays, IsRound}
 use Rattle.sift_flight.specs.Told.{told}
@@ -71,12 +72,12 @@ module _ (d : MissionData) (x : Machine) (u : ℕ) (x' : Machine) (one : IsByOne
   module _ {R : Type 0} (allows : R → Call → R → Type 0) where
     -- storms under one layout
     storms_at : (p number : ℕ) (r : R) (count count' : ℕ) (ss ss' : List Stray) (y y' : R) → count' ≡ count → ss' ≡ ss → y' ≡ y →
-        Storms allows (sifted (layout_of x) p) number r count ss y → Storms allows (sifted (layout_of x') p) number r count' ss' y'
+        StormsBy allows (sifted (layout_of x) p) number r count ss y → StormsBy allows (sifted (layout_of x') p) number r count' ss' y'
     storms_at p number r count count' ss ss' y y' ec es ey w =
-        subst (λ (z : R). Storms allows (sifted (layout_of x') p) number r count' ss' z) (sym ey)
-        (subst (λ (z : List Stray). Storms allows (sifted (layout_of x') p) number r count' z y) (sym es)
-        (subst (λ (z : ℕ). Storms allows (sifted (layout_of x') p) number r z ss y) (sym ec)
-        (subst (λ (z : Layout). Storms allows (sifted z p) number r count ss y) (sym one.layout) w)))
+        subst (λ (z : R). StormsBy allows (sifted (layout_of x') p) number r count' ss' z) (sym ey)
+        (subst (λ (z : List Stray). StormsBy allows (sifted (layout_of x') p) number r count' z y) (sym es)
+        (subst (λ (z : ℕ). StormsBy allows (sifted (layout_of x') p) number r z ss y) (sym ec)
+        (subst (λ (z : Layout). StormsBy allows (sifted z p) number r count ss y) (sym one.layout) w)))
 
     made_same : (p : ℕ) (r : R) (l l' : ℕ) (ss ss' : List Stray) (y y' : R) → p ≢ u → l' ≡ l → ss' ≡ ss → y' ≡ y →
         HasMadeCalls allows d x p r l ss y → HasMadeCalls allows d x' p r l' ss' y'
@@ -206,7 +207,7 @@ module _ {R : Type 0} (allows : R → Call → R → Type 0) (d : MissionData) (
         after = λ t at down.
             let first = was.before begun.storm begun.storm_is aloft in let many = way.rogues in
             let now : slice_index_or ys' u r ≡ begun.called.after = own_rogue started u ys ls ys' ls' begun.called (let f = begun_few in omega arith) r in
-            subst (λ (z : ℕ × ℕ × ℕ). Storms allows (sifted (layout_of x') u) z.1 q (z.2 - slice_index ls' u) (k.strays u) (slice_index_or ys' u r))
+            subst (λ (z : ℕ × ℕ × ℕ). StormsBy allows (sifted (layout_of x') u) z.1 q (z.2 - slice_index ls' u) (k.strays u) (slice_index_or ys' u r))
             (same_Some _ _ (sym begun.storm_is ∙ at)) (record {
               begun = slice_index_or ys' u r;
               start = subst (λ (z : R). allows q (Started begun.storm.1) z) (sym now)
@@ -415,8 +416,8 @@ round_by_rogues allows d xs s fl k done layout round = record {
   long = k.called.long;
   storms = λ u r t low at.
       let end = done u (low_unit d.units u low) in
-      subst (λ (l : Layout). Storms allows (sifted l u) t.1 (slice_index_or xs u r) t.2 (k.strays u) (slice_index_or s.rogues u r)) layout
-      (subst (λ (n : ℕ). Storms allows (sifted (layout_of s.machine) u) t.1 (slice_index_or xs u r) n (k.strays u) (slice_index_or s.rogues u r))
+      subst (λ (l : Layout). StormsBy allows (sifted l u) t.1 (slice_index_or xs u r) t.2 (k.strays u) (slice_index_or s.rogues u r)) layout
+      (subst (λ (n : ℕ). StormsBy allows (sifted (layout_of s.machine) u) t.1 (slice_index_or xs u r) n (k.strays u) (slice_index_or s.rogues u r))
       (let none = end.1 in omega arith) ((k.called.each u r low).after t at end.0));
   calm = λ u r low none. (k.called.each u r low).calm none;
   beyond = k.called.beyond;

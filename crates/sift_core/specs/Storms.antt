@@ -40,7 +40,7 @@ module _ {R : Type 0} (allows : R → Call → R → Type 0) where
     pub calm : storm_at d u ≡ None → y ≡ x
     pub before : (storm : ℕ × ℕ × ℕ) → storm_at d u ≡ Some storm → IsAloft (flown d) m u → (y ≡ x) × (strays ≡ [])
     pub after : (storm : ℕ × ℕ × ℕ) → storm_at d u ≡ Some storm → IsDown (flown d) m u →
-        Storms allows (sifted (layout_of m) u) storm.1 x (storm.2 - left) strays y
+        Storms allows (sifted (layout_of m) u) (record { number = storm.1; count = storm.2 - left; strays = strays }) x y
 
   -- so did each unit's rogue, and those beyond the units are as they were
   pub record HaveMadeCalls (d : MissionData) (xs : List R) (w : Strays) (s : Course R) : Type 0 where
@@ -68,6 +68,6 @@ module _ {R : Type 0} (allows : R → Call → R → Type 0) where
     pub round : IsRound (flown d) strays (told (flown d) fl)
     pub long : length ys ≡ length xs
     pub storms : (u : ℕ) (r : R) (storm : ℕ × ℕ × ℕ) → u < d.units → storm_at d u ≡ Some storm →
-        Storms allows (sifted d.layout u) storm.1 (slice_index_or xs u r) storm.2 (strays u) (slice_index_or ys u r)
+        Storms allows (sifted d.layout u) (record { number = storm.1; count = storm.2; strays = strays u }) (slice_index_or xs u r) (slice_index_or ys u r)
     pub calm : (u : ℕ) (r : R) → u < d.units → storm_at d u ≡ None → slice_index_or ys u r ≡ slice_index_or xs u r
     pub beyond : (u : ℕ) (r : R) → d.units ≤ u → slice_index_or ys u r ≡ slice_index_or xs u r

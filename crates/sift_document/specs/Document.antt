@@ -5,6 +5,11 @@ use Rattle.std.specs.Str.{byte}
 use Rattle.toml.specs.Data.{Data, string, integer, array, Items, no_items, item, Members, no_members, member, get_member, as_array, as_table}
 use Rattle.sift_base.specs.Word.{word_of}
 
+-- what is made of a value, where there is one
+infixl 10 ◌>>=◌
+abbrev pub ◌>>=◌ : {A B : Type 0} → Option A → (A → Option B) → Option B
+value >>= made = option_and_then made value
+
 -- ---- tables
 
 -- the keys of a table

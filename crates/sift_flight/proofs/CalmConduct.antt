@@ -10,7 +10,7 @@ use Rattle.sift_vote.specs.Majority.{agreed_of}
 use Rattle.sift_agree.specs.Agreement.{taken}
 use Rattle.sift_exec.specs.Conviction.{nobody, everyone_in, next_by}
 use Rattle.sift_config.specs.Config.{reader_of}
-use Rattle.sift_clock.specs.Correction.{next_offset}
+use Rattle.sift_clock.specs.Correction.{corrected_offset}
 use Rattle.sift_mission.specs.Slots.{executors, calls}
 use Rattle.sift_conduct.specs.Conduct.{input_of, polled, poll_catches, relay_catches, clock_catches, reading_by, own_word, Conduct}
 use Rattle.sift_flight.specs.Calm.{Calm, four_units, mission_of}
@@ -75,7 +75,7 @@ module _ (c : Calm) where
     pub relays : some_of_four (relay_catches (frame_in c u (heard_by c u))) ≡ false
     pub clocks : some_of_four (clock_catches (frame_in c u (heard_by c u))) ≡ false
     pub cfg : four_units ≡ next_by (names_with u 0) four_units
-    pub clk : pos 0 ≡ next_offset (pos 0) four_units (reading_by (frame_in c u (heard_by c u))) (pos 0) u (pos 0)
+    pub clk : pos 0 ≡ corrected_offset (pos 0) four_units (reading_by (frame_in c u (heard_by c u))) (pos 0) u +ℤ pos 0
 
   -- a unit with these figures does in the frame what it ought to, where each task has its output word
   pub conduct_by : length c.outs ≡ length c.tasks → (u : ℕ) → HasFigures u → Conduct (frame_in c u (heard_by c u))

@@ -10,7 +10,7 @@ use Rattle.sift_base.specs.declared.slot.Slot.TheVariants.{Clock, Sense, RelaySe
 use Rattle.sift_exec.specs.Conviction.{nobody, everyone_in, next_by}
 use Rattle.sift_exec.specs.declared.catches.Catches.{Catches}
 use Rattle.sift_config.specs.Config.{reader_of}
-use Rattle.sift_clock.specs.Correction.{next_offset}
+use Rattle.sift_clock.specs.Correction.{corrected_offset}
 use Rattle.sift_mission.specs.Data.{FlownMission}
 use Rattle.sift_mission.specs.Slots.{calls, stamp_of, has_turned}
 use Rattle.sift_conduct.specs.Conduct.{Account, Places, UnitFrame, unit_frame, input_of, voted, poll_catches, relay_catches, clock_catches, reading_by, report_of, said_of}
@@ -142,7 +142,7 @@ module _ (m : FlownMission) (stray : StrayHearing) (f : ℕ) (start : ℕ → St
       let h = heard_here u in
       record (catching u) {
         next_cfg = next_by (λ r v. has_bit (report_of us u (catching u) h r) v) us;
-        next_clk = next_offset (m.skew +ℤ m.error) us (reading_by (frame_by u (catching u) h)) (start u).clk u (m.drift u);
+        next_clk = corrected_offset (m.skew +ℤ m.error) us (reading_by (frame_by u (catching u) h)) (start u).clk u +ℤ m.drift u;
       }
 
   -- and of each unit

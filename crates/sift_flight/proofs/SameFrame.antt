@@ -11,7 +11,7 @@ use Rattle.sift_agree.specs.Agreement.{taken}
 use Rattle.sift_exec.specs.Conviction.{everyone_in, next_by}
 use Rattle.sift_exec.specs.declared.catches.Catches.{Catches}
 use Rattle.sift_config.specs.Config.{reader_of}
-use Rattle.sift_clock.specs.Correction.{next_offset, reading_of, is_too_far}
+use Rattle.sift_clock.specs.Correction.{corrected_offset, reading_of, is_too_far}
 use Rattle.sift_mission.specs.Data.{FlownMission}
 use Rattle.sift_mission.specs.Slots.{executors}
 use Rattle.sift_conduct.specs.Conduct.{Account, UnitFrame, unit_frame, Conduct, poll_catches, relay_catches, clock_catches, report_of, said_of}
@@ -99,8 +99,8 @@ module _ (m : FlownMission) (strays strays' : Strays) (stray : StrayHearing) (fl
   -- a unit that flies has the same offset in force after the frame in both flights
   pub next_clk_same : (u : ℕ) → Flies m u f → (fl.account u f).next_clk ≡ (gl.account u f).next_clk
   next_clk_same u hu = by_place m strays strays' stray fl gl f b (λ u. (fl.account u f).next_clk ≡ (gl.account u f).next_clk) u
-      (λ t. (one u hu t).next_clk ∙ ((λ i. next_offset (m.skew +ℤ m.error) (us u)
-      (λ p. reading_of (alike Clock (heard_clock m strays strays' stray fl gl f b) u hu i p) (b.clk u hu i) (m.errors u p)) (b.clk u hu i) u (m.drift u))
+      (λ t. (one u hu t).next_clk ∙ ((λ i. corrected_offset (m.skew +ℤ m.error) (us u)
+      (λ p. reading_of (alike Clock (heard_clock m strays strays' stray fl gl f b) u hu i p) (b.clk u hu i) (m.errors u p)) (b.clk u hu i) u +ℤ m.drift u)
       ∙ sym (other u hu t).next_clk))
       (λ t. let i = idle u hu t in ap (λ (z : Account). z.next_clk) i.0 ∙ (b.clk u hu ∙ sym (ap (λ (z : Account). z.next_clk) i.1)))
 

@@ -7,7 +7,7 @@ use Rattle.sift_base.specs.declared.slot.Slot.TheVariants.{Out, Report, RelayRep
 use Rattle.sift_buffer.specs.Cell.{packed}
 use Rattle.sift_buffer.specs.Conduct.{stray_to}
 use Rattle.sift_exec.specs.Conviction.{nobody, next_by}
-use Rattle.sift_clock.specs.Correction.{next_offset}
+use Rattle.sift_clock.specs.Correction.{corrected_offset}
 use Rattle.sift_mission.specs.Data.{FlownMission}
 use Rattle.sift_conduct.specs.Conduct.{Account, voted}
 use Rattle.sift_conduct.specs.Frames.{frame_of}
@@ -100,7 +100,7 @@ pub record ConfigurationRows : Type 0 where
   pub lost_margin : HasMargin (λ u. (with_failing (mission_of count) 3 1).works u 1) (config_at (mission_of count) (calm_flight count) 1)
       × (¬ HasMarginAt (with_failing (mission_of count) 3 1) (calm_flight count) 1)
   -- three readings of 4 and the own clock make 12, and a quarter of it is 3
-  pub mean : next_offset (pos 10) four_units (λ v. Some (pos 4)) (pos 0) 0 (pos 0) ≡ pos 3
+  pub mean : corrected_offset (pos 10) four_units (λ v. Some (pos 4)) (pos 0) 0 ≡ pos 3
   pub skew : IsSkewAt (mission_of count) (calm_flight count) 0 (pos 0)
   pub other_skew : ¬ IsSkewAt (mission_of count) (calm_flight count) 0 (pos 1)
   pub slack : IsSlackAt (mission_of count) (calm_flight count) 0 (pos 1)

@@ -10,7 +10,7 @@ use Rattle.sift_planner.specs.Text.{tables_text}
 use Rattle.sift_program.specs.Program.{SoundProgramsHaveShapes}
 use Rattle.sift_reply.specs.Reply.{Reply, done, done_status, shared_statuses}
 use Rattle.sift_scenario.specs.Laws.{StatedMissionsFit}
-use Rattle.sift_jobs.specs.Plan.{PlanGives, PlanNumbers}
+use Rattle.sift_jobs.specs.Plan.{PlanGives, PlanNumbers, no_room}
 
 -- tasks of a mission can be planned
 pub plannable : SoundProgramsHaveShapes → (d : MissionData) → PartsFit d → ArePlannable (shapes_in d)
@@ -26,16 +26,16 @@ module _ (fit : StatedMissionsFit) (shapes : SoundProgramsHaveShapes) (one_each 
       let can = plannable shapes d (fit document d states) in
       let same = one_each (shapes_in d) d.units job.period job.copies tables tables' can plans plans' in
       is ∙ (ap (λ ts. done (tables_text ts)) same ∙ sym is')
-  one_reply job bytes d one other (document, reads, states) (inl (tables, plans, is)) (inr (size, task, without, is')) =
+  one_reply job bytes d one other (document, reads, states) (inl (tables, plans, is)) (inr (none, without, is')) =
       let can = plannable shapes d (fit document d states) in
-      absurd ((one_refusal (shapes_in d) d.units job.period job.copies size task can without).0 tables plans)
-  one_reply job bytes d one other (document, reads, states) (inr (size, task, without, is)) (inl (tables, plans, is')) =
+      absurd ((one_refusal (shapes_in d) d.units job.period job.copies none can without).0 tables plans)
+  one_reply job bytes d one other (document, reads, states) (inr (none, without, is)) (inl (tables, plans, is')) =
       let can = plannable shapes d (fit document d states) in
-      absurd ((one_refusal (shapes_in d) d.units job.period job.copies size task can without).0 tables plans)
-  one_reply job bytes d one other (document, reads, states) (inr (size, task, without, is)) (inr (size', task', without', is')) =
+      absurd ((one_refusal (shapes_in d) d.units job.period job.copies none can without).0 tables plans)
+  one_reply job bytes d one other (document, reads, states) (inr (none, without, is)) (inr (none', without', is')) =
       let can = plannable shapes d (fit document d states) in
-      let same = (one_refusal (shapes_in d) d.units job.period job.copies size' task' can without').1 size task without in
-      is ∙ (rw (same.0, same.1) refl ∙ sym is')
+      let same = (one_refusal (shapes_in d) d.units job.period job.copies none' can without').1 none without in
+      is ∙ ((λ i. no_room (record { size = same.0 i; task = same.1 i })) ∙ sym is')
 
 -- its status is 0 or 14
 pub own :
@@ -43,5 +43,5 @@ pub own :
     → Contains (done_status ∷ 14 ∷ []) came.status × ¬ Contains shared_statuses came.status
 own job d came (inl (tables, plans, is)) = subst
     (λ (r : Reply). Contains (done_status ∷ 14 ∷ []) r.status × ¬ Contains shared_statuses r.status) (sym is) ((0, lit< tt, refl), grind arith)
-own job d came (inr (size, task, without, is)) = subst
+own job d came (inr (none, without, is)) = subst
     (λ (r : Reply). Contains (done_status ∷ 14 ∷ []) r.status × ¬ Contains shared_statuses r.status) (sym is) ((1, lit< tt, refl), grind arith)

@@ -7,6 +7,7 @@ use Rattle.sift_load.specs.Loads.{no_mission_statuses}
 use Rattle.sift_mission.specs.Data.{MissionData, shapes_in}
 use Rattle.sift_options.specs.Options.{within}
 use Rattle.sift_options.specs.declared.setting.Options.{Options}
+use Rattle.sift_planner.specs.declared.sizes.NoRoomAt.{NoRoomAt}
 use Rattle.sift_planner.specs.Plans.{longest_period}
 use Rattle.sift_planner.specs.Sizes.{ArePlans, IsFirstWithoutRoom}
 use Rattle.sift_planner.specs.Text.{tables_text}
@@ -40,14 +41,14 @@ plan_job_of options = plan_with (within least_executors unit_limit options.copie
 -- ---- what it gives
 
 -- the reply where this is the least size for which there is no plan, and this the first task without room there
-abbrev pub no_room : (size task : ℕ) → Reply
-no_room size task = record { status = 14; text = concat (codes "no room " ∷ decimal size ∷ codes " task " ∷ decimal task ∷ codes "\n" ∷ []) }
+abbrev pub no_room : NoRoomAt → Reply
+no_room none = record { status = 14; text = concat (codes "no room " ∷ decimal none.size ∷ codes " task " ∷ decimal none.task ∷ codes "\n" ∷ []) }
 
 -- the text of the plans of all sizes for the mission's tasks, whatever its own tables are, or that a task has no room
 abbrev pub PlanGives : PlanNumbers → MissionData → Reply → Type 0
 PlanGives numbers mission came =
     ((tables : List Schedule) × ArePlans (shapes_in mission) mission.units numbers.period numbers.copies tables × (came ≡ done (tables_text tables)))
-    ⊎ ((size : ℕ) × (task : ℕ) × IsFirstWithoutRoom (shapes_in mission) mission.units numbers.period numbers.copies size task × (came ≡ no_room size task))
+    ⊎ ((none : NoRoomAt) × IsFirstWithoutRoom (shapes_in mission) mission.units numbers.period numbers.copies none × (came ≡ no_room none))
 
 -- the statuses of its replies
 abbrev pub plan_statuses : List ℕ

@@ -20,8 +20,7 @@ use Rattle.sift_jobs.specs.declared.workers.Workers.TheVariants as worker
 
 -- ---- the workers that fly a mission, and how options ask for them
 
--- the workers that these options ask for: one for each unit where there is neither, one alone where there is an order or 1, and else so many,
--- which have no order
+-- the workers that these options ask for: one for each unit where there is neither, one alone for an order or for 1, and else so many, without order
 abbrev pub workers_of : (workers order : Option ℕ) → Option Workers
 workers_of None None = Some worker.OneEach
 workers_of None (Some order) = Some (worker.One order)
@@ -51,8 +50,7 @@ RunGives given job mission = RepliesWith given mission (Report job.version)
 -- ---- its headline: what the lines of its report tell
 
 module _ (given : MissionData → Strays → Type 0) where
-  -- the text is the report, in this version, of a flight of the mission that the bytes state: what it prints are lines, and the headline
-  -- holds of them
+  -- the text is the report, in this version, of a flight of the mission that the bytes state: it prints lines of which the headline holds
   pub record IsHeadlined (version : Version) (bytes text : List ℕ) : Type 0 where
     pub mission : MissionData
     pub flight : Flight

@@ -72,7 +72,7 @@ impl<M: Drop, W: Work> MissionJob<M, W> for PlanJob {
 
 /// The reply where a task has no room at a size.
 fn no_room(alloc: Global, none: NoRoomAt) -> Result<Reply, NoMemory>
-    ensures { IfOk result (λ reply. reply ≡ no_room none.size none.task) }
+    ensures { IfOk result (λ reply. reply ≡ no_room none) }
 {
     let NoRoomAt { size, task } = none;
     let mut line = String::new(alloc);

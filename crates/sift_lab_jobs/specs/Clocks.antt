@@ -4,6 +4,7 @@ use Rattle.sift_clocklab.specs.Conditions.{IsAdmitted, IsRefused}
 use Rattle.sift_clocklab.specs.Draws.{drawn_lab, drawn_run}
 use Rattle.sift_clocklab.specs.Laboratory.{Laboratory, Run}
 use Rattle.sift_clocklab.specs.Text.{IsTextOf}
+use Rattle.sift_document.specs.Document.{◌>>=◌}
 use Rattle.sift_options.specs.Options.{within}
 use Rattle.sift_options.specs.declared.setting.Options.{Options}
 use Rattle.sift_reply.specs.Duty.{Duty}
@@ -22,25 +23,17 @@ pub record LabNumbers : Type 0 where
 
 -- ---- what options ask for
 
--- the laboratory of these numbers, where each is there
-abbrev pub lab_with : (n m skew error rate rounds number : Option ℕ) → Option LabNumbers
-lab_with (Some n) (Some m) (Some skew) (Some error) (Some rate) (Some rounds) (Some number) = Some (record {
-  n = n;
-  m = m;
-  skew = skew;
-  error = error;
-  rate = rate;
-  rounds = rounds;
-  number = number;
-})
-lab_with n m skew error rate rounds number = None
-
 -- what options ask for: each of the seven has to be given, in its range
 abbrev pub clocks_job_of : Options → Option LabNumbers
 clocks_job_of options =
-    lab_with (within 1 32 options.n) (within 0 10 options.m)
-    (within 0 8000 options.skew) (within 0 8000 options.error) (within 0 8000 options.rate)
-    (within 1 1000 options.rounds) options.number
+    within 1 32 options.n >>= λ n.
+    within 0 10 options.m >>= λ m.
+    within 0 8000 options.skew >>= λ skew.
+    within 0 8000 options.error >>= λ error.
+    within 0 8000 options.rate >>= λ rate.
+    within 1 1000 options.rounds >>= λ rounds.
+    options.number >>= λ number.
+    Some (record { n = n; m = m; skew = skew; error = error; rate = rate; rounds = rounds; number = number })
 
 -- ---- what it gives
 

@@ -18,25 +18,25 @@ one_plan_each shapes units period copies some others plannable a b =
 
 -- a first size without room for a task is the only one, with that task, and then there are no plans for all sizes
 pub one_size_without_room : OneSizeWithoutRoom
-one_size_without_room shapes units period copies size task plannable none = (
+one_size_without_room shapes units period copies place plannable none = (
   (λ tables plans.
-      let i = size - least_units in
-      let at : least_units + i ≡ size = omega (arith, none.from) in
+      let i = place.size - least_units in
+      let at : least_units + i ≡ place.size = omega (arith, none.from) in
       let here = plans.each i (omega (arith, plans.count, none.from, none.to)) in
-      (one_refusal shapes (wanted size period copies) task plannable none.no_room).0 (table_at tables i)
+      (one_refusal shapes (wanted place.size period copies) place.task plannable none.no_room).0 (table_at tables i)
       (subst (λ (s : ℕ). IsPlan shapes (wanted s period copies) (table_at tables i)) at here)),
-  (λ other at again.
-      let same : other ≡ size = elim (cases_order other size) [
+  (λ other again.
+      let same : other.size ≡ place.size = elim (cases_order other.size place.size) [
         | inl equal ↦ equal
         | inr (inl before) ↦
-            let plan = none.smaller other again.from before in
-            absurd ((one_refusal shapes (wanted other period copies) at plannable again.no_room).0 plan.0 plan.1)
+            let plan = none.smaller other.size again.from before in
+            absurd ((one_refusal shapes (wanted other.size period copies) other.task plannable again.no_room).0 plan.0 plan.1)
         | inr (inr after) ↦
-            let plan = again.smaller size none.from after in
-            absurd ((one_refusal shapes (wanted size period copies) task plannable none.no_room).0 plan.0 plan.1)
+            let plan = again.smaller place.size none.from after in
+            absurd ((one_refusal shapes (wanted place.size period copies) place.task plannable none.no_room).0 plan.0 plan.1)
       ] in (
         same,
-        (one_refusal shapes (wanted size period copies) task plannable none.no_room).1 at
-            (subst (λ (s : ℕ). HasNoRoom shapes (wanted s period copies) at) same again.no_room),
+        (one_refusal shapes (wanted place.size period copies) place.task plannable none.no_room).1 other.task
+            (subst (λ (s : ℕ). HasNoRoom shapes (wanted s period copies) other.task) same again.no_room),
       )),
 )

@@ -3,6 +3,7 @@ use Rattle.std.specs.Prelude.{◌≡◌, ℕ, ◌+◌, ◌<◌, ◌≤◌, List,
 use Rattle.sift_base.specs.Layout.{least_units}
 use Rattle.sift_base.specs.Shapes.{AllShapes}
 use Rattle.sift_table.specs.Schedule.{Schedule}
+use Rattle.sift_planner.specs.declared.sizes.NoRoomAt.{NoRoomAt}
 use Rattle.sift_planner.specs.Plans.{ArePlannable, HasNoRoom, IsPlan, wanted}
 
 -- the table at a place, and an empty one past the list's end
@@ -15,11 +16,11 @@ pub record ArePlans (shapes : AllShapes) (units period copies : ℕ) (tables : L
   pub each : (i : ℕ) → i < length tables → IsPlan shapes (wanted (least_units + i) period copies) (table_at tables i)
 
 -- each smaller size has a plan, and for this one there is no room for the task
-pub record IsFirstWithoutRoom (shapes : AllShapes) (units period copies size task : ℕ) : Type 0 where
-  pub from : least_units ≤ size
-  pub to : size ≤ units
-  pub smaller : (s : ℕ) → least_units ≤ s → s < size → (table : Schedule) × IsPlan shapes (wanted s period copies) table
-  pub no_room : HasNoRoom shapes (wanted size period copies) task
+pub record IsFirstWithoutRoom (shapes : AllShapes) (units period copies : ℕ) (none : NoRoomAt) : Type 0 where
+  pub from : least_units ≤ none.size
+  pub to : none.size ≤ units
+  pub smaller : (s : ℕ) → least_units ≤ s → s < none.size → (table : Schedule) × IsPlan shapes (wanted s period copies) table
+  pub no_room : HasNoRoom shapes (wanted none.size period copies) none.task
 
 -- ---- laws
 
@@ -32,6 +33,6 @@ OnePlanEach =
 -- where there is no room for a task at a size there are no plans for all, and no other such size and task
 abbrev pub OneSizeWithoutRoom : Type 0
 OneSizeWithoutRoom =
-    (shapes : AllShapes) (units period copies size task : ℕ) → ArePlannable shapes → IsFirstWithoutRoom shapes units period copies size task
+    (shapes : AllShapes) (units period copies : ℕ) (none : NoRoomAt) → ArePlannable shapes → IsFirstWithoutRoom shapes units period copies none
     → ((tables : List Schedule) → ¬ ArePlans shapes units period copies tables)
-    × ((other at : ℕ) → IsFirstWithoutRoom shapes units period copies other at → (other ≡ size) × (at ≡ task))
+    × ((other : NoRoomAt) → IsFirstWithoutRoom shapes units period copies other → (other.size ≡ none.size) × (other.task ≡ none.task))

@@ -32,8 +32,8 @@ pub fn plan_sizes(
     requires limits { IsWithinLimits (wanted units period copies) }
     ensures planned { IfOk result (λ tables.
         ArePlans (shapes_of shapes.now) units period copies (map schedule_of tables.items)) }
-    ensures no_room { IfErr result (IfRefused (λ none.
-        IsFirstWithoutRoom (shapes_of shapes.now) units period copies none.size none.task)) }
+    ensures no_room { IfErr result (IfRefused
+        (IsFirstWithoutRoom (shapes_of shapes.now) units period copies)) }
 {
     let mut tables = Vec::new(alloc);
     for size in 4..units + 1 {

@@ -32,14 +32,14 @@ Name = ArrayString 16
 
 -- the words of polls, and their text
 pub polled_words : (m : FlownMission) (fl : Flight) (f u w : ℕ) →
-    map (λ poll. poll.word) (polls_of m fl f u w) ≡ map (place_of m fl f u w) (executors m (config_of fl u f) w)
-polled_words m fl f u w = map-map (λ (poll : Poll). poll.word) (poll_of m fl f u w) (executors m (config_of fl u f) w)
+    map (λ poll. poll.word) (polls_of m fl f u w) ≡ map (place_of fl f u w) (executors m (config_of fl u f) w)
+polled_words m fl f u w = map-map (λ (poll : Poll). poll.word) (poll_of fl f u w) (executors m (config_of fl u f) w)
 
 pub polled_is : (m : FlownMission) (fl : Flight) (f u w : ℕ) →
     polled_text (polls_of m fl f u w)
-    ≡ list_text (map (λ v. unit_digit v ∷ codes ":" ++ text_or_dash word_text (place_of m fl f u w v)) (executors m (config_of fl u f) w))
+    ≡ list_text (map (λ v. unit_digit v ∷ codes ":" ++ text_or_dash word_text (place_of fl f u w v)) (executors m (config_of fl u f) w))
 polled_is m fl f u w =
-    ap list_text (map-map (λ (poll : Poll). unit_digit poll.unit ∷ codes ":" ++ text_or_dash word_text poll.word) (poll_of m fl f u w) (executors m (config_of fl u f) w))
+    ap list_text (map-map (λ (poll : Poll). unit_digit poll.unit ∷ codes ":" ++ text_or_dash word_text poll.word) (poll_of fl f u w) (executors m (config_of fl u f) w))
 
 -- the majority that is found
 pub majority_told : (r : Option ℕ) (places : List (Option ℕ)) → IfSome r (IsMajority places) → IfNone r (HasNoMajority places) → r ≡ majority_of places
@@ -105,7 +105,7 @@ module _ (d : MissionData) (fl : Flight) (f u t j : ℕ) where
       → a ≡ old ++ codes "f=" ++ decimal f ++ codes " u=" ++ unit_digit u ∷ codes " "
       → b ≡ a ++ (codes "t=" ++ (name ++ (codes "." ++ (decimal j ++ codes " words="))))
       → c ≡ b ++ polled_text polls → e ≡ c ++ (codes " vote=" ++ text_or_dash word_text vote) → new ≡ e ++ codes "\n"
-      → new ≡ old ++ vote_text d fl f u t j
+      → new ≡ old ++ vote_text d fl f u (record { t = t; j = j })
   vote_ends word name polls vote old a b c e new named numbered polled voted head output listed result pushed =
       pushed ∙ ap (λ bs. bs ++ codes "\n") (vote_written word name polls vote old a b c e named numbered polled voted head output listed result)
       ∙ append_assoc old (join_with_byte blank vote_fields) (codes "\n")

@@ -15,7 +15,7 @@ use Rattle.sift_flight.specs.Flight.{Flight}
 use Rattle.sift_report.specs.Bad.{bad_in}
 use Rattle.sift_report.specs.Ideal.{outputs_text, sensed_in}
 use Rattle.sift_report.specs.Part.{blank}
-use Rattle.sift_report.specs.Votes.{unit_votes, vote_text}
+use Rattle.sift_report.specs.Votes.{unit_votes}
 use Rattle.sift_report.specs.declared.line.ReportLine.{ReportLine}
 use Rattle.sift_report.specs.declared.line.ReportLine.TheVariants.{Unit as unit}
 use Rattle.sift_report.specs.declared.version.Version.{Version}
@@ -35,10 +35,6 @@ IsTrueSkew d clocks skew = IsSkew clocks skew × (skew ≤ℤ d.clock.skew)
 -- what a working unit of its own configuration tells of a frame, from its account
 abbrev pub account_line : Version → ℕ → ℕ → Account → ReportLine
 account_line version f u a = unit f u a.cfg a.clk (record { items = a.ins }) (record { items = a.outs }) (bad_in version a.bad)
-
--- the votes of a task
-abbrev pub task_votes : MissionData → Flight → ℕ → ℕ → ℕ → List ℕ
-task_votes d fl f u t = flat_map (vote_text d fl f u t) (range_with_len 0 (task_at d.program.tasks t).outputs)
 
 -- the votes of a frame
 abbrev pub frame_votes : MissionData → Flight → ℕ → List ℕ

@@ -72,8 +72,7 @@ TellsExactRemoval d lines f =
 
 -- ---- clocks
 
--- the frame's line tells the largest difference of two working clocks of the configuration, which is at most the mission's skew, and a slack
--- of at least 1
+-- the frame's line tells the largest difference of two working clocks of the configuration, at most the mission's skew, and a slack of at least 1
 pub record TellsClockSkew (d : MissionData) (lines : List ReportLine) (f : ℕ) : Type 0 where
   pub skew : (us : List ℕ) → config_told d lines f ≡ Some us →
       IsSomeAnd (told_at d lines f d.units).skew (λ skew.

@@ -35,12 +35,12 @@ pub record IsOutput (d : MissionData) (output : Output) : Type 0 where
   pub number : output.word ≡ first_word d.program.tasks output.t + output.j
 
 -- an executor and its word, as a unit has it
-abbrev pub poll_of : FlownMission → Flight → ℕ → ℕ → ℕ → ℕ → Poll
-poll_of m fl f u w v = record { unit = v; word = place_of m fl f u w v }
+abbrev pub poll_of : Flight → ℕ → ℕ → ℕ → ℕ → Poll
+poll_of fl f u w v = record { unit = v; word = place_of fl f u w v }
 
 -- the executors of a word and their words, as a unit has them
 abbrev pub polls_of : FlownMission → Flight → ℕ → ℕ → ℕ → List Poll
-polls_of m fl f u w = map (poll_of m fl f u w) (executors m (config_of fl u f) w)
+polls_of m fl f u w = map (poll_of fl f u w) (executors m (config_of fl u f) w)
 
 -- polls, as a vote tells them
 abbrev pub polled_text : List Poll → List ℕ

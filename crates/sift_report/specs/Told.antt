@@ -28,8 +28,7 @@ lead_in d f = unwrap_or (find (λ u. works_in d u f) (first_units d.units)) 0
 
 -- ---- what one line tells
 
--- what a line tells: a configuration, a clock's offset, the agreed words, the voted words and whom its unit caught; a skew, a slack and a
--- margin
+-- what a line tells: a configuration, an offset, the agreed words, the voted words and whom its unit caught; a skew, a slack and a margin
 pub record Telling : Type 0 where
   pub config : Option (List ℕ)
   pub clock : ℤ

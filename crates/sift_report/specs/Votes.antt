@@ -14,27 +14,35 @@ use Rattle.sift_report.specs.Part.{blank, unit_digit, list_text, text_or_dash, w
 use Rattle.sift_report.specs.Sheet.{end_of}
 
 -- the word of an executor as a unit has it: its own as it said it to the lowest other unit of its configuration, each other as it heard it
-abbrev pub place_of : FlownMission → Flight → ℕ → ℕ → ℕ → ℕ → Option ℕ
-place_of m fl f u w v =
+abbrev pub place_of : Flight → ℕ → ℕ → ℕ → ℕ → Option ℕ
+place_of fl f u w v =
     if nat_eq v u then fl.said u f (Out w) (slice_index (others u (config_of fl u f)) 0) else fl.heard u f (Out w) v
 
--- the line of a vote, with its line feed: of output j of task t, which is word w of all, with its executors as unit u polled them in frame f
-abbrev pub vote_text : MissionData → Flight → ℕ → ℕ → ℕ → ℕ → List ℕ
-vote_text d fl f u t j =
-    let w = first_word d.program.tasks t + j in
-    let place = place_of (flown d) fl f u w in
+-- an output word, by its task and its number among the task's words
+pub record TaskOutput : Type 0 where
+  pub t : ℕ
+  pub j : ℕ
+
+-- the line of a vote, with its line feed: of an output, which is word w of all, with its executors as unit u polled them in frame f
+abbrev pub vote_text : MissionData → Flight → ℕ → ℕ → TaskOutput → List ℕ
+vote_text d fl f u output =
+    let w = first_word d.program.tasks output.t + output.j in
+    let place = place_of fl f u w in
     let us = executors (flown d) (config_of fl u f) w in
     join_with_byte blank (
-    (codes "f=" ++ decimal f) ∷ (codes "u=" ++ unit_digit u ∷ []) ∷ (codes "t=" ++ (slice_index_or d.names t [] ++ (codes "." ++ decimal j)))
+    (codes "f=" ++ decimal f) ∷ (codes "u=" ++ unit_digit u ∷ []) ∷ (codes "t=" ++ (slice_index_or d.names output.t [] ++ (codes "." ++ decimal output.j)))
     ∷ (codes "words=" ++ list_text (map (λ v. unit_digit v ∷ codes ":" ++ text_or_dash word_text (place v)) us))
     ∷ (codes "vote=" ++ text_or_dash word_text (majority_of (map place us))) ∷ []
     ) ++ codes "\n"
 
--- the votes of a unit in a frame: of each output of each task, where the unit works in the frame and is in its own configuration
+-- the votes of the outputs of a task
+abbrev pub task_votes : MissionData → Flight → ℕ → ℕ → ℕ → List ℕ
+task_votes d fl f u t = flat_map (λ j. vote_text d fl f u (record { t = t; j = j })) (range_with_len 0 (task_at d.program.tasks t).outputs)
+
+-- the votes of a unit in a frame: of each task, where the unit works in the frame and is in its own configuration
 abbrev pub unit_votes : MissionData → Flight → ℕ → ℕ → List ℕ
 unit_votes d fl f u =
-    if (flown d).works u f && has (config_of fl u f) u then flat_map (λ t.
-    flat_map (vote_text d fl f u t) (range_with_len 0 (task_at d.program.tasks t).outputs)) (range_with_len 0 (length d.program.tasks)) else []
+    if (flown d).works u f && has (config_of fl u f) u then flat_map (task_votes d fl f u) (range_with_len 0 (length d.program.tasks)) else []
 
 -- the votes of a flight, and the last line of its report
 abbrev pub votes_of : MissionData → Flight → List ℕ

@@ -56,7 +56,7 @@ pub fn push_vote(
     requires tells { TellsIn mission.now flight.now f u }
     requires output { IsOutput (data_of mission.now) output }
     ensures { OnOk result (string_bytes text.new ≡ string_bytes text.old
-        ++ vote_text (data_of mission.now) (told (flown_of mission.now) flight.now) f u output.t output.j) }
+        ++ vote_text (data_of mission.now) (told (flown_of mission.now) flight.now) f u (record { t = output.t; j = output.j })) }
 {
     let name = mission.parts().names[output.t].as_str();
     let polls = polls_of(mission, flight, f, u, output.word);
@@ -127,7 +127,7 @@ fn place_of(
     requires tells { TellsIn mission.now flight.now f u }
     requires word { word < (flown_of mission.now).words }
     requires from { has (flown_of mission.now).units from ≡ true }
-    ensures { result ≡ place_of (flown_of mission.now) (told (flown_of mission.now) flight.now) f u word from }
+    ensures { result ≡ place_of (told (flown_of mission.now) flight.now) f u word from }
 {
     let slot = mission.parts().layout.number(Slot::Out(word));
     let journal = &flight.journals[usize::from(u.get())];

@@ -5,7 +5,7 @@ ghost use Rattle.sift_base.specs.Units.{has};
 ghost use Rattle.sift_mission.specs.Parts.{data_of, flown_of};
 ghost use Rattle.sift_flight.specs.Told.{IsWhole, told};
 ghost use Rattle.sift_report.specs.Poll.{HasWordsFrom, TellsIn};
-ghost use Rattle.sift_report.specs.Votes.{unit_votes, vote_text, votes_of};
+ghost use Rattle.sift_report.specs.Votes.{task_votes, unit_votes, votes_of};
 ghost use Rattle.sift_program.specs.Program.{task_at};
 ghost use Rattle.sift_flight.specs.Flight.{config_of};
 ghost use Rattle.std.specs.List.{flat_map, range_with_len};
@@ -99,8 +99,7 @@ fn push_task_votes(
     requires tells { TellsIn mission.now flight.now f u }
     requires words { HasWordsFrom (data_of mission.now) t first }
     ensures { OnOk result (string_bytes text.new ≡ string_bytes text.old
-        ++ flat_map (vote_text (data_of mission.now) (told (flown_of mission.now) flight.now) f u t)
-        (range_with_len 0 (task_at (data_of mission.now).program.tasks t).outputs)) }
+        ++ task_votes (data_of mission.now) (told (flown_of mission.now) flight.now) f u t) }
 {
     for j in 0..mission.outputs(t) {
         let word = first + j;

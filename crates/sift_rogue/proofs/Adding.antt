@@ -6,7 +6,7 @@ use Rattle.sift_rogue.specs.Storms.{Call, StormsAddUp}
 pub add_up : {R : Type 0} (allows : R → Call → R → Type 0) → StormsAddUp allows
 add_up allows = record {
   begins = λ sift number x y start. record { begun = y; start = start; acts = []; count_is = refl; answers = refl; strays_are = refl };
-  goes_on = λ sift number x count strays y shot z storm shoots. record {
+  goes_on = λ sift calls x y z shot storm shoots. record {
     begun = storm.begun;
     start = storm.start;
     acts = shoots.act ∷ storm.acts;

@@ -7,7 +7,7 @@ use Rattle.sift_buffer.specs.Conduct.{Stray}
 use Rattle.sift_rogue.specs.declared.act.Act.{Act}
 use Rattle.sift_rogue.specs.declared.storm.Storm.{Storm}
 use Rattle.sift_rogue.specs.Rogues.{AllowsDrawn, drawn_act}
-use Rattle.sift_rogue.specs.Storms.{Storms, Answers}
+use Rattle.sift_rogue.specs.Storms.{Calls, Storms, Answers}
 use Rattle.sift_rogue.specs.DrawnStorms.{DrawnStormsAreTheDraws, drawn_acts}
 
 -- five draws after those of some acts are those of one act more
@@ -26,10 +26,9 @@ answers_drawn x (a ∷ acts) z w =
     ((λ i. (w.2.0 ∙ ap drawn_act rest.1) i ∷ rest.0 i), w.2.1 ∙ (ap (λ (n : ℕ). after n 5) rest.1 ∙ five_more x.drawer (length acts)))
 
 -- so is a storm that is drawn
-storm_drawn : (sift : Act → Option Stray) (number : ℕ) (x : Storm) (count : ℕ) (strays : List Stray) (y : Storm)
-    → Storms AllowsDrawn sift number x count strays y →
-    (strays ≡ flat_map (λ act. option_to_list (sift act)) (drawn_acts number count)) × (y.drawer ≡ after number (5 * count))
-storm_drawn sift number x count strays y storm =
+storm_drawn : (sift : Act → Option Stray) (calls : Calls) (x y : Storm) → Storms AllowsDrawn sift calls x y →
+    (calls.strays ≡ flat_map (λ act. option_to_list (sift act)) (drawn_acts calls.number calls.count)) × (y.drawer ≡ after calls.number (5 * calls.count))
+storm_drawn sift calls x y storm =
     let drawn = answers_drawn storm.begun storm.acts y storm.answers in (
       storm.strays_are ∙ ap (flat_map (λ act. option_to_list (sift act))) (drawn.0 ∙ (λ i. drawn_acts (storm.start i) (storm.count_is i))),
       drawn.1 ∙ (λ i. after (storm.start i) (5 * storm.count_is i)),

@@ -17,6 +17,12 @@ pub data Call : Type 0 where
   -- `next`, which answered this act
   Answered : Act → Call
 
+-- calls of a rogue: the number that it is started with, how often it is called then, and the strays that its acts come to, the newest first
+pub record Calls : Type 0 where
+  pub number : ℕ
+  pub count : ℕ
+  pub strays : List Stray
+
 -- ---- acts, and what is stored of them
 
 -- the stray that a unit's act comes to under a layout: none where it rests, or where the receiver is no other unit or the slot isn't there
@@ -36,14 +42,14 @@ module _ {R : Type 0} (allows : R → Call → R → Type 0) where
   Answers x [] y = y ≡ x
   Answers x (a ∷ acts) z = (y : R) × Answers x acts y × allows y (Answered a) z
 
-  -- x was started with this number and then called so many times, and became y; these are the strays that its acts come to, the newest first
-  pub record Storms (sift : Act → Option Stray) (number : ℕ) (x : R) (count : ℕ) (strays : List Stray) (y : R) : Type 0 where
+  -- x was called so and became y
+  pub record Storms (sift : Act → Option Stray) (calls : Calls) (x y : R) : Type 0 where
     pub begun : R
-    pub start : allows x (Started number) begun
+    pub start : allows x (Started calls.number) begun
     pub acts : List Act
-    pub count_is : length acts ≡ count
+    pub count_is : length acts ≡ calls.count
     pub answers : Answers begun acts y
-    pub strays_are : strays ≡ flat_map (λ act. option_to_list (sift act)) acts
+    pub strays_are : calls.strays ≡ flat_map (λ act. option_to_list (sift act)) acts
 
   -- x was called once and became y; its act comes to this shot, or to none
   pub record Shoots (sift : Act → Option Stray) (x : R) (shot : Option Shot) (y : R) : Type 0 where
@@ -53,7 +59,8 @@ module _ {R : Type 0} (allows : R → Call → R → Type 0) where
 
   -- a storm begins with `start`, and with one call more it is a storm still
   pub record StormsAddUp : Type 0 where
-    pub begins : (sift : Act → Option Stray) (number : ℕ) (x y : R) → allows x (Started number) y → Storms sift number x 0 [] y
-    pub goes_on : (sift : Act → Option Stray) (number : ℕ) (x : R) (count : ℕ) (strays : List Stray) (y : R) (shot : Option Shot) (z : R) →
-        Storms sift number x count strays y → Shoots sift y shot z →
-        Storms sift number x (count + 1) (option_to_list (option_map stray_of shot) ++ strays) z
+    pub begins : (sift : Act → Option Stray) (number : ℕ) (x y : R) → allows x (Started number) y →
+        Storms sift (record { number = number; count = 0; strays = [] }) x y
+    pub goes_on : (sift : Act → Option Stray) (calls : Calls) (x y z : R) (shot : Option Shot) →
+        Storms sift calls x y → Shoots sift y shot z →
+        Storms sift (record { number = calls.number; count = calls.count + 1; strays = option_to_list (option_map stray_of shot) ++ calls.strays }) x z

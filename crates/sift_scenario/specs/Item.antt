@@ -7,7 +7,7 @@ use Rattle.sift_script.specs.Script.{Change}
 use Rattle.sift_script.specs.declared.script.SlotKind.{SlotKind}
 use Rattle.sift_script.specs.declared.script.SlotKind.TheVariants.{Clock, Sense, Relay, Out, Report, RelayReport}
 use Rattle.sift_mission.specs.PartsFit.{frame_limit}
-use Rattle.sift_document.specs.Document.{digits_to, integer_between, read_at, read_or, word_value}
+use Rattle.sift_document.specs.Document.{◌>>=◌, digits_to, integer_between, read_at, read_or, word_value}
 
 -- the keys that an item may have
 abbrev pub item_keys : List (List ℕ)
@@ -56,14 +56,13 @@ frame_of item = read_or None (λ value. option_map (λ n. Some n) (integer_betwe
 abbrev pub said_of : Members → Option (Option ℕ)
 said_of item = read_or None (λ value. option_map (λ w. Some w) (word_value value)) (codes "value") item
 
--- a change in a slot of a kind, where all of it is stated
-abbrev pub change_from : SlotKind → (index word : Option ℕ) → (to : Option (List ℕ)) → (frame value : Option (Option ℕ)) → Option Change
-change_from kind (Some index) (Some word) (Some to) (Some frame) (Some value) =
-    Some (record { kind = kind; index = index; word = word; to = to; frame = frame; value = value })
-change_from kind _ _ _ _ _ = None
-
--- the change that an item states: in slots of the kind that is named at `slot`
+-- the change that an item states: in slots of the kind that is named at `slot`, where all of it is stated
 abbrev pub change_in : Members → Option Change
-change_in item = option_and_then (λ kind.
-    change_from kind (number_where (has_index kind) (codes "index") item) (number_where (has_word kind) (codes "word") item)
-    (receivers_of item) (frame_of item) (said_of item)) (option_and_then kind_named (read_at as_str (codes "slot") item))
+change_in item =
+    option_and_then kind_named (read_at as_str (codes "slot") item) >>= λ kind.
+    number_where (has_index kind) (codes "index") item >>= λ index.
+    number_where (has_word kind) (codes "word") item >>= λ word.
+    receivers_of item >>= λ to.
+    frame_of item >>= λ frame.
+    said_of item >>= λ value.
+    Some (record { kind = kind; index = index; word = word; to = to; frame = frame; value = value })

@@ -3,7 +3,7 @@ use Rattle.std.specs.Prelude.{◌≡◌, ◌≢◌, ◌↔◌, ℕ, ◌*◌, ◌
 use Rattle.sift_base.specs.Word.{word_of}
 use Rattle.sift_base.specs.Units.{has, faulty_count, HasMargin}
 use Rattle.sift_clock.specs.Distance.{IsWithin}
-use Rattle.sift_clock.specs.Correction.{reading_of, next_offset}
+use Rattle.sift_clock.specs.Correction.{reading_of, corrected_offset}
 use Rattle.sift_skew.specs.Limits.{skew_limit}
 
 -- the working clocks of a configuration differ by at most the skew
@@ -25,11 +25,11 @@ pub record AreWithin (skew error rate : ℤ) (us : List ℕ) (works : ℕ → Bo
 
 -- each unit's offset when it is corrected, before the drift
 abbrev pub corrected_offsets : ℤ → List ℕ → (ℕ → ℤ) → (ℕ → ℕ → Option ℤ) → ℕ → ℤ
-corrected_offsets limit us clock read u = next_offset limit us (read u) (clock u) u (pos 0)
+corrected_offsets limit us clock read u = corrected_offset limit us (read u) (clock u) u
 
 -- each unit's offset in the next frame
 abbrev pub next_offsets : ℤ → List ℕ → (ℕ → ℤ) → (ℕ → ℤ) → (ℕ → ℕ → Option ℤ) → ℕ → ℤ
-next_offsets limit us clock drift read u = next_offset limit us (read u) (clock u) u (drift u)
+next_offsets limit us clock drift read u = corrected_offset limit us (read u) (clock u) u +ℤ drift u
 
 -- what the corrections of n clocks, m of them faulty, leave between two of the others, n times: 2nE for the reading errors and 3S for each
 -- faulty clock

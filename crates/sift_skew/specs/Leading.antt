@@ -3,7 +3,7 @@ use Rattle.std.specs.Prelude.{◌≡◌, ℕ, suc, List, ◌++◌, length, map, 
 use Rattle.std.specs.List.{Contains}
 use Rattle.sift_base.specs.Units.{has}
 use Rattle.sift_clock.specs.Distance.{IsWithin}
-use Rattle.sift_clock.specs.Correction.{next_offset}
+use Rattle.sift_clock.specs.Correction.{corrected_offset}
 use Rattle.sift_skew.specs.Limits.{IsAdmitted}
 use Rattle.sift_skew.specs.Figures.{IsSkew, IsSlack}
 
@@ -12,7 +12,7 @@ abbrev pub OffsetsChangeLittle : Type 0
 OffsetsChangeLittle =
     (limit rate : ℤ) (us : List ℕ) (read : ℕ → Option ℤ) (own drift : ℤ) (u : ℕ) →
     has us u ≡ true → pos 0 ≤ℤ limit → IsWithin rate drift (pos 0) →
-    IsWithin (limit +ℤ rate) (next_offset limit us read own u drift) own
+    IsWithin (limit +ℤ rate) (corrected_offset limit us read own u +ℤ drift) own
 
 -- where clocks of admitted limits differ by at most the skew, and change at the boundary by at most the limit of readings
 -- and the drift, the slack is at least 1

@@ -8,7 +8,8 @@ use Rattle.sift_mission.specs.declared.parts.MissionParts.{MissionParts}
 use Rattle.sift_conduct.specs.Conduct.{account_of}
 use Rattle.sift_conduct.specs.Acts.{BoardKeeps}
 use Rattle.sift_conduct.specs.Frames.{frames_before}
-use Rattle.sift_rogue.specs.Storms.{Call, Storms}
+use Rattle.sift_rogue.specs.Storms.{Call}
+use Rattle.sift_rogue.proofs.lemmas.Called.{StormsBy}
 use Rattle.sift_rogue.specs.declared.act.Act.{Act}
 use Rattle.sift_unit.specs.Boards.{desk_of}
 use Rattle.sift_unit.specs.Down.{DownLaw, HasFlownAll}
@@ -57,9 +58,9 @@ module _ {T R : Type 0} (view : T → View) (follows : T → List Stray → T �
   stormed (Some left) some storm is = let zero = done.spent left some in let all : storm.2 - left ≡ storm.2 = omega arith in record {
     progress = (straying left some).number;
     rogue =
-        subst (λ (ss : List Stray). Storms allows (sifted_at y) storm.1 x.rogue storm.2 ss y.rogue) (sym strays_are)
-        (subst (λ (s : Act → Option Stray). Storms allows s storm.1 x.rogue storm.2 came.strays y.rogue) (sym (sifted_same x y came.mission came.unit))
-        (subst (λ (n : ℕ). Storms allows (sifted_at x) storm.1 x.rogue n came.strays y.rogue) all
+        subst (λ (ss : List Stray). StormsBy allows (sifted_at y) storm.1 x.rogue storm.2 ss y.rogue) (sym strays_are)
+        (subst (λ (s : Act → Option Stray). StormsBy allows s storm.1 x.rogue storm.2 came.strays y.rogue) (sym (sifted_same x y came.mission came.unit))
+        (subst (λ (n : ℕ). StormsBy allows (sifted_at x) storm.1 x.rogue n came.strays y.rogue) all
         (came.turned left storm some (sym same_storm ∙ is))));
   }
 

@@ -4,7 +4,8 @@ use Rattle.sift_buffer.specs.Conduct.{Stray, never}
 use Rattle.sift_buffer.specs.Views.{View}
 use Rattle.sift_mission.specs.Data.{FlownMission}
 use Rattle.sift_mission.specs.Parts.{data_of}
-use Rattle.sift_rogue.specs.Storms.{Call, Started, Storms, StormsAddUp, Shoots, sifted, stray_of}
+use Rattle.sift_rogue.specs.Storms.{Call, Started, StormsAddUp, Shoots, sifted, stray_of}
+use Rattle.sift_rogue.proofs.lemmas.Called.{StormsBy}
 use Rattle.sift_rogue.specs.declared.act.Act.{Act}
 use Rattle.sift_unit.specs.Boards.{desk_of, Drives}
 use Rattle.sift_unit.specs.Down.{StrayLaw}
@@ -201,8 +202,8 @@ module _ {T R : Type 0} (follows : T → List Stray → T → Type 0) (allows : 
           let zero : 0 ≡ storm.2 - left = omega arith in
           let start : allows w.rogue (Started storm.1) z.rogue = subst (λ (s : ℕ × ℕ × ℕ). allows w.rogue (Started s.1) z.rogue) same
           (subst (λ (r : R). allows r (Started begins.storm.1) z.rogue) flew.0 begins.start) in
-          subst (λ (ss : List Stray). Storms allows (sifted_at w) storm.1 w.rogue (storm.2 - left) ss z.rogue) (sym flew.1)
-          (subst (λ (n : ℕ). Storms allows (sifted_at w) storm.1 w.rogue n [] z.rogue) zero
+          subst (λ (ss : List Stray). StormsBy allows (sifted_at w) storm.1 w.rogue (storm.2 - left) ss z.rogue) (sym flew.1)
+          (subst (λ (n : ℕ). StormsBy allows (sifted_at w) storm.1 w.rogue n [] z.rogue) zero
           (laws.begins (sifted_at w) storm.1 w.rogue z.rogue start));
     })
 
@@ -224,6 +225,7 @@ module _ {T R : Type 0} (follows : T → List Stray → T → Type 0) (allows : 
               let shoots : Shoots allows (sifted_at w) x.rogue next.shot y.rogue =
               subst (λ (s : Act → Option Stray). Shoots allows s x.rogue next.shot y.rogue)
               (sifted_same w x came.mission came.unit) next.shoots in
-              subst (λ (k : ℕ). Storms allows (sifted_at w) storm.1 w.rogue k (option_to_list (option_map stray_of next.shot) ++ came.strays) y.rogue) one
-              (laws.goes_on (sifted_at w) storm.1 w.rogue (storm.2 - left) came.strays x.rogue next.shot y.rogue (came.turned left storm is storm_is) shoots);
+              subst (λ (k : ℕ). StormsBy allows (sifted_at w) storm.1 w.rogue k (option_to_list (option_map stray_of next.shot) ++ came.strays) y.rogue) one
+              (laws.goes_on (sifted_at w) (record { number = storm.1; count = storm.2 - left; strays = came.strays }) w.rogue x.rogue y.rogue next.shot
+              (came.turned left storm is storm_is) shoots);
         })

@@ -24,7 +24,7 @@ pub record HasLanded {R : Type 0} (d : MissionData) (x : R) (c : Conduct) (y : R
 -- strays, and those to which its acts come are the strays that the unit has stored
 pub record HasStrayed {R : Type 0} (allows : R → Call → R → Type 0) (d : MissionData) (u : ℕ) (storm : ℕ × ℕ × ℕ) (x : R) (c : Conduct) (y : R) : Type 0 where
   pub progress : c.progress ≡ never
-  pub rogue : Storms allows (sifted d.layout u) storm.1 x storm.2 c.strays y
+  pub rogue : Storms allows (sifted d.layout u) (record { number = storm.1; count = storm.2; strays = c.strays }) x y
 
 module _ {R : Type 0} (allows : R → Call → R → Type 0) (d : MissionData) where
   -- a unit has flown, with its rogue, which was x before: by its accounts its acts are those of its board's conduct in all frames in which it

@@ -70,7 +70,7 @@ module _ {T R : Type 0} (follows : T → List Stray → T → Type 0) (allows : 
     pub port : follows x.port strays y.port
     pub flies : y.left ≡ None → (y.rogue ≡ x.rogue) × (strays ≡ [])
     pub turned : (left : ℕ) (storm : ℕ × ℕ × ℕ) → y.left ≡ Some left → storm_of x ≡ Some storm →
-        Storms allows (sifted_at x) storm.1 x.rogue (storm.2 - left) strays y.rogue
+        Storms allows (sifted_at x) (record { number = storm.1; count = storm.2 - left; strays = strays }) x.rogue y.rogue
 
   -- whatever a seat came of, the next came of it too
   abbrev pub Comes : Seat T R → Seat T R → Type 0

@@ -8,7 +8,7 @@ use Rattle.sift_base.specs.declared.slot.Slot.TheVariants.{Clock, Sense, RelaySe
 use Rattle.sift_vote.specs.Majority.{majority_of, agreed_of, differs}
 use Rattle.sift_agree.specs.Agreement.{taken}
 use Rattle.sift_config.specs.Config.{reader_of}
-use Rattle.sift_clock.specs.Correction.{reading_of, is_too_far, next_offset}
+use Rattle.sift_clock.specs.Correction.{reading_of, is_too_far, corrected_offset}
 use Rattle.sift_mission.specs.Data.{FlownMission}
 use Rattle.sift_mission.specs.Slots.{executors, is_held}
 use Rattle.sift_unit.specs.FrameWords.{FrameWords}
@@ -70,7 +70,7 @@ caught_by_clock m us u clk heard = gathered (λ v. not (nat_eq v u) && is_too_fa
 
 -- the next offset, by these words
 abbrev pub offset_after : FlownMission → List ℕ → ℕ → ℤ → List (Option ℕ) → ℤ
-offset_after m us u clk heard = next_offset (m.skew +ℤ m.error) us (reading_at m u clk heard) clk u (m.drift u)
+offset_after m us u clk heard = corrected_offset (m.skew +ℤ m.error) us (reading_at m u clk heard) clk u +ℤ m.drift u
 
 -- the memory after all that is to be heard of a slot was heard, where last has the words voted in the frame before
 abbrev pub note : FlownMission → List ℕ → ℕ → ℕ → ℤ → List ℕ → Slot → List (Option ℕ) → Memory → Memory

@@ -6,7 +6,7 @@ use Rattle.sift_base.specs.declared.slot.Slot.TheVariants.{Clock, Sense, RelaySe
 use Rattle.sift_vote.specs.Majority.{majority_of, agreed_of, differs}
 use Rattle.sift_agree.specs.Agreement.{taken}
 use Rattle.sift_config.specs.Config.{reader_of}
-use Rattle.sift_clock.specs.Correction.{next_offset}
+use Rattle.sift_clock.specs.Correction.{corrected_offset}
 use Rattle.sift_mission.specs.Data.{FlownMission}
 use Rattle.sift_mission.specs.Slots.{executors}
 use Rattle.sift_conduct.specs.Conduct.{Account, UnitFrame, input_of, made, polled, voted, reading_by, clock_catches}
@@ -28,7 +28,7 @@ module _ (x : UnitFrame) where
   abbrev pub Heard : ℤ → Memory → Slot → Type 0
   Heard clk b Clock =
       ((v : ℕ) → holds b.clock v ≡ clock_catches (with_clock x clk) v)
-      × (b.next_clk ≡ next_offset (m.skew +ℤ m.error) us (reading_by (with_clock x clk)) clk u (m.drift u))
+      × (b.next_clk ≡ corrected_offset (m.skew +ℤ m.error) us (reading_by (with_clock x clk)) clk u +ℤ m.drift u)
   Heard clk b (Sense s) =
       nat_eq (reader_of us s) u ≡ false → place_at b.direct s ≡ h (Sense s) (reader_of us s)
   Heard clk b (RelaySense s) =

@@ -16,7 +16,7 @@ returns-in-Err-clause-no_room c =
     let size : ℕ = c.loop-size.size in
     rw c.at.ensures
     (refused_at (HasNoRoom shapes (wanted size c.args.period c.args.copies))
-    (λ none. IsFirstWithoutRoom shapes c.args.units c.args.period c.args.copies none.size none.task) size c.in-Err.stop
+    (IsFirstWithoutRoom shapes c.args.units c.args.period c.args.copies) size c.in-Err.stop
     (λ task no_room. record {
       from = omega (arith, c.loop-size.auto.size);
       to = omega (arith, c.loop-size-test.true);

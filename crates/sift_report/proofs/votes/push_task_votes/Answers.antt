@@ -6,5 +6,5 @@ use Rattle.sift_report.proofs.votes.push_task_votes.Goals as goal
 
 pub loop-j-preserved : goal.loop-j-preserved
 loop-j-preserved c =
-    text_more (vote_text (data_of c.args.mission.now) (told (flown_of c.args.mission.now) c.args.flight.now) c.args.f c.args.u c.args.t) c.loop-j.j _ _ _
+    text_more (λ j. vote_text (data_of c.args.mission.now) (told (flown_of c.args.mission.now) c.args.flight.now) c.args.f c.args.u (record { t = c.args.t; j = j })) c.loop-j.j _ _ _
     c.loop-j.invariant c.in_ok-push_vote.ensures

@@ -8,4 +8,4 @@ use Rattle.sift_report.proofs.votes.push_task_votes.Given as goal
 -- the votes of the outputs so far are written
 abbrev pub invariant-loop-j : goal.invariant-loop-j
 invariant-loop-j l = string_bytes l.text ≡ string_bytes l.initial.text
-    ++ flat_map (vote_text (data_of l.mission) (told (flown_of l.mission) l.flight) l.f l.u l.t) (range_with_len 0 l.j)
+    ++ flat_map (λ j. vote_text (data_of l.mission) (told (flown_of l.mission) l.flight) l.f l.u (record { t = l.t; j = j })) (range_with_len 0 l.j)

@@ -4,7 +4,7 @@ use Rattle.sift_flight.specs.Told.{told}
 use Rattle.sift_report.proofs.Polls.{next_first, task_there, word_room}
 use Rattle.sift_report.proofs.lemmas.Printed.{text_more}
 use Rattle.sift_report.proofs.votes.push_unit_votes.Goals as goal
-use Rattle.sift_report.proofs.Tells.{task_votes}
+use Rattle.sift_report.specs.Votes.{task_votes}
 
 pub push_task_votes-requires-clause-words : goal.push_task_votes-requires-clause-words
 push_task_votes-requires-clause-words c =

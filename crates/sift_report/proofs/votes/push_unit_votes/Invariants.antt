@@ -4,7 +4,7 @@ use Rattle.sift_program.specs.Program.{first_word}
 use Rattle.sift_mission.specs.Parts.{data_of, flown_of}
 use Rattle.sift_flight.specs.Told.{told}
 use Rattle.sift_report.proofs.votes.push_unit_votes.Given as goal
-use Rattle.sift_report.proofs.Tells.{task_votes}
+use Rattle.sift_report.specs.Votes.{task_votes}
 
 -- the votes of the tasks so far are written, and the next task's words begin behind theirs
 abbrev pub invariant-loop-t : goal.invariant-loop-t
