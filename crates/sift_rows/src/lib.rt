@@ -1,5 +1,5 @@
 //! Rows of tests that call the lowest crates as their users do, one module a crate. Those of tasks and their code stand in
-//! `sift_task_rows`, those of missions and flights in `sift_flight_rows`, and those of laboratories in `sift_lab_rows`.
+//! `sift_task_rows`, and those of missions and flights in `sift_flight_rows`.
 #![tactic(auto)]
 
 #[cfg(test)]
