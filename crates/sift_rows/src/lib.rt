@@ -12,10 +12,6 @@ mod buffer;
 #[cfg(test)]
 mod clock;
 #[cfg(test)]
-mod config;
-#[cfg(test)]
-mod exec;
-#[cfg(test)]
 mod fixture;
 #[cfg(test)]
 mod io;
@@ -25,5 +21,3 @@ mod pool;
 mod rogue;
 #[cfg(test)]
 mod skew;
-#[cfg(test)]
-mod vote;
