@@ -11,10 +11,6 @@ mod buffer;
 #[cfg(test)]
 mod clock;
 #[cfg(test)]
-mod config;
-#[cfg(test)]
-mod exec;
-#[cfg(test)]
 mod fixture;
 #[cfg(test)]
 mod io;
@@ -24,5 +20,3 @@ mod pool;
 mod rogue;
 #[cfg(test)]
 mod skew;
-#[cfg(test)]
-mod vote;

@@ -10,30 +10,6 @@ use std::alloc::{AllocError, Global};
 use std::process::Abort;
 use std::test::Fail;
 
-/// Texts with a number that is too large.
-const NUMBERS: [&str; 6] = [
-    "out 0 = 65536;",
-    "out 0 = 0x10000;",
-    "out 70000 = 1;",
-    "out 0 = now first.70000;",
-    "repeat 70000 { }",
-    "out 0 = 70000 $",
-];
-
-/// Texts with a name that is too long.
-const NAMES: [&str; 4] = [
-    "let abcdefghijklmnopq = 1;",
-    "abcdefghijklmnopq = 1;",
-    "out 0 = sense abcdefghijklmnopq;",
-    "out 0 = now abcdefghijklmnopq.0;",
-];
-
-/// Texts with too many rounds.
-const REPEATS: [&str; 2] = ["repeat 1025 { }", "repeat 65535 { }"];
-
-/// Pieces that open levels in an expression, with as many of them as are too many.
-const NESTS: [(&str, u16); 4] = [("(", 33), ("-", 33), ("-(", 17), ("mid(", 33)];
-
 /// Expects that a text passes this limit.
 fn expect(rt: &impl Abort, alloc: Global, text: &str, want: Which) -> Result<(), Fail> {
     let names = names(alloc)?;
@@ -42,20 +18,6 @@ fn expect(rt: &impl Abort, alloc: Global, text: &str, want: Which) -> Result<(),
         _ => None,
     };
     assert_eq!(rt; passed, Some(want), "{text:?}");
-    Ok(())
-}
-
-#[test]
-fn texts_pass_a_limit(rt: HostRuntime) -> Result<(), Fail> {
-    for text in NUMBERS {
-        expect(&rt, rt.alloc(), text, Number)?;
-    }
-    for text in NAMES {
-        expect(&rt, rt.alloc(), text, Name)?;
-    }
-    for text in REPEATS {
-        expect(&rt, rt.alloc(), text, Repeat)?;
-    }
     Ok(())
 }
 
@@ -76,33 +38,17 @@ fn long(
 }
 
 #[test]
-fn long_texts_pass_a_limit(rt: HostRuntime) -> Result<(), Fail> {
+fn texts_pass_each_limit(rt: HostRuntime) -> Result<(), Fail> {
     let alloc = rt.alloc();
+    expect(&rt, alloc, "out 0 = 65536;", Number)?;
+    expect(&rt, alloc, "let abcdefghijklmnopq = 1;", Name)?;
+    expect(&rt, alloc, "repeat 1025 { }", Repeat)?;
     let locals = long(alloc, "", "let x = 1; ", 33, "out 0 = x;")?;
     expect(&rt, alloc, &locals, Locals)?;
-    let hidden = long(alloc, "let y = 1; if 1 { ", "let x = 1; ", 32, "}")?;
-    expect(&rt, alloc, &hidden, Locals)?;
-    let name = long(alloc, "", "let x = 1; ", 32, "let abcdefghijklmnopq;")?;
-    expect(&rt, alloc, &name, Name)?;
+    let levels = long(alloc, "out 0 = ", "(", 33, "1;")?;
+    expect(&rt, alloc, &levels, Depth)?;
     let text = long(alloc, "out 0 = 1;", " ", 4087, "")?;
-    expect(&rt, alloc, &text, Text)?;
-    let no_token = long(alloc, "$", " ", 4096, "")?;
-    expect(&rt, alloc, &no_token, Text)
-}
-
-#[test]
-fn deep_texts_pass_a_limit(rt: HostRuntime) -> Result<(), Fail> {
-    let alloc = rt.alloc();
-    for (piece, count) in NESTS {
-        let text = long(alloc, "out 0 = ", piece, count, "1;")?;
-        expect(&rt, alloc, &text, Depth)?;
-    }
-    for piece in ["if 1 { ", "repeat 1 { "] {
-        let text = long(alloc, "", piece, 33, "out 0 = 1;")?;
-        expect(&rt, alloc, &text, Depth)?;
-    }
-    let mixed = long(alloc, "if 1 { out 0 = ", "(", 32, "1;")?;
-    expect(&rt, alloc, &mixed, Depth)
+    expect(&rt, alloc, &text, Text)
 }
 
 /// The first output word of a text's task where all words are 0.
