@@ -13,7 +13,3 @@ mod pilots;
 mod seats;
 #[cfg(test)]
 mod stated;
-#[cfg(test)]
-mod storm;
-#[cfg(test)]
-mod workers;
