@@ -111,31 +111,3 @@ fn one_unit_alone_waits_in_the_second_subframe(rt: HostRuntime) -> Result<(), Fa
     expect_steps(&rt, &mut machine, &mission, first, 3, waits);
     Ok(())
 }
-
-/// A document of four units that count.
-const COUNT: &str =
-    "units = 4\nframes = 1\ntask = [{name = 'count', start = [5], linear = [3, 1]}]\n";
-
-/// Unit 0, which is one of four.
-fn first_of_four(_mission: &Mission) -> UnitId
-    requires { _mission.now.units ≡ 4 }
-    ensures { has (flown_of _mission.now).units result ≡ true }
-{
-    UnitId::default()
-}
-
-/// Unit 0 alone says its clock to three units, enters the second subframe, and waits there for unit 1, however often it
-/// steps.
-#[test]
-fn one_of_four_units_alone_waits(rt: HostRuntime) -> Result<(), Fail> {
-    let mission = stated(rt.alloc(), COUNT)?;
-    let units = mission.parts().units;
-    assert_eq!(rt; units, 4);
-    let first = first_of_four(&mission);
-    let mut machine = Machine::make(rt.alloc(), &mission)?;
-    expect_steps(&rt, &mut machine, &mission, first, 4, Stepped::Moved);
-    let unit = UnitId::of(1).ok_or("unit 1")?;
-    let waits = Stepped::NotYet { unit, seen: 0 };
-    expect_steps(&rt, &mut machine, &mission, first, 5, waits);
-    Ok(())
-}

@@ -3,7 +3,7 @@
 ghost use Rattle.std.specs.Prelude.{◌≡◌, IfOk, length, ⊤};
 
 use crate::flights::flown;
-use crate::storm::{STORM_REPORT, STRAY, with_storm};
+use crate::stated::{STORM, STORM_REPORT, stated};
 use sift_base::NoMemory;
 use sift_report::{Version, report_text};
 use sift_rogue::{Act, Rogue};
@@ -12,6 +12,13 @@ use std::alloc::Global;
 use std::process::Abort;
 use std::sync::atomic::{AtomicU64, Ordering};
 use std::test::Fail;
+
+/// The word 7 to unit 0 in the slot of the task's word, by the stamp that is due there, 5.
+const STRAY: Act = Act::Stray {
+    to: 0,
+    slot: 1,
+    cell: 720_903,
+};
 
 /// How often a unit's rogue was called.
 #[derive(Drop)]
@@ -97,7 +104,7 @@ fn expect_one_storm(rt: &impl Abort, calls: &[Calls; 8]) {
 #[test]
 fn only_the_rogue_of_the_storm_is_called(rt: HostRuntime) -> Result<(), Fail> {
     let alloc = rt.alloc();
-    let mission = with_storm(alloc)?;
+    let mission = stated(alloc, STORM)?;
     let calls = no_calls();
     let rogues = rogues_by(alloc, &calls)?;
     let flight = flown(&rt, alloc, &mission, 2, rogues, &NoProbe)?;

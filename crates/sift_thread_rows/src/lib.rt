@@ -8,10 +8,8 @@ mod flights;
 #[cfg(test)]
 mod meeting;
 #[cfg(test)]
+mod pilots;
+#[cfg(test)]
 mod seats;
 #[cfg(test)]
 mod stated;
-#[cfg(test)]
-mod storm;
-#[cfg(test)]
-mod workers;

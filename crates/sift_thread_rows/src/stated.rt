@@ -21,31 +21,26 @@ pub(crate) const COUNT_REPORT: &str = "f=0 u=0 cfg=0123 clk=0 in=- out=0010 bad=
     f=0 skew=0 slack=1 margin=ok\n\
     end frames=1 cfg=0123 margin=ok\n";
 
-/// Three frames of five units that count. From frame 1 on unit 4 says 7 in place of its word.
-pub(crate) const LIAR: &str =
-    "units = 5\nframes = 3\ntask = [{name = 'count', start = [5], linear = [3, 1]}]\n\
-    fault = [{unit = 4, from = 1, say = [{slot = 'out', index = 0, word = 0, to = '0123', value = 7}]}]\n";
+/// Two frames of five units that count. Unit 4 turns stray in frame 0, and its rogue is asked once.
+pub(crate) const STORM: &str =
+    "units = 5\nframes = 2\ntask = [{name = 'count', start = [5], linear = [3, 1]}]\n\
+    fault = [{unit = 4, from = 0, storm = {number = 1, strays = 1}}]\n";
 
-/// Its report: all catch the liar by their polls in frame 1, and it is out of the configuration of frame 2.
-pub(crate) const LIAR_REPORT: &str = "f=0 u=0 cfg=01234 clk=0 in=- out=0010 bad=-\n\
-    f=0 u=1 cfg=01234 clk=0 in=- out=0010 bad=-\n\
-    f=0 u=2 cfg=01234 clk=0 in=- out=0010 bad=-\n\
-    f=0 u=3 cfg=01234 clk=0 in=- out=0010 bad=-\n\
-    f=0 u=4 cfg=01234 clk=0 in=- out=0010 bad=-\n\
+/// Its report, whether a stray is heard or absence: each catches unit 4 by a poll and by its clock, and it is out of the next
+/// configuration.
+pub(crate) const STORM_REPORT: &str = "f=0 u=0 cfg=01234 clk=0 in=- out=0010 bad=4pc\n\
+    f=0 u=1 cfg=01234 clk=0 in=- out=0010 bad=4pc\n\
+    f=0 u=2 cfg=01234 clk=0 in=- out=0010 bad=4pc\n\
+    f=0 u=3 cfg=01234 clk=0 in=- out=0010 bad=4pc\n\
+    f=0 u=4 faulty\n\
     f=0 skew=0 slack=1 margin=ok\n\
-    f=1 u=0 cfg=01234 clk=0 in=- out=0031 bad=4p\n\
-    f=1 u=1 cfg=01234 clk=0 in=- out=0031 bad=4p\n\
-    f=1 u=2 cfg=01234 clk=0 in=- out=0031 bad=4p\n\
-    f=1 u=3 cfg=01234 clk=0 in=- out=0031 bad=4p\n\
+    f=1 u=0 cfg=0123 clk=0 in=- out=0031 bad=-\n\
+    f=1 u=1 cfg=0123 clk=0 in=- out=0031 bad=-\n\
+    f=1 u=2 cfg=0123 clk=0 in=- out=0031 bad=-\n\
+    f=1 u=3 cfg=0123 clk=0 in=- out=0031 bad=-\n\
     f=1 u=4 faulty\n\
     f=1 skew=0 slack=1 margin=ok\n\
-    f=2 u=0 cfg=0123 clk=0 in=- out=0094 bad=-\n\
-    f=2 u=1 cfg=0123 clk=0 in=- out=0094 bad=-\n\
-    f=2 u=2 cfg=0123 clk=0 in=- out=0094 bad=-\n\
-    f=2 u=3 cfg=0123 clk=0 in=- out=0094 bad=-\n\
-    f=2 u=4 faulty\n\
-    f=2 skew=0 slack=1 margin=ok\n\
-    end frames=3 cfg=0123 margin=ok\n";
+    end frames=2 cfg=0123 margin=ok\n";
 
 /// The mission that a document states.
 pub(crate) fn stated(alloc: Global, document: &str) -> Result<Mission, Fail> {

@@ -12,8 +12,6 @@ mod pilot;
 mod piloting;
 mod seat;
 mod seating;
-#[cfg(test)]
-mod tests;
 
 pub use bell::Bell;
 pub use flight::{fly_seats, fly_threads};

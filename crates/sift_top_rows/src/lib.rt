@@ -1,8 +1,6 @@
-//! Rows of tests of the top call: documents that end early, devices that fail, one worker and several, and rogues and probes of the tests' own.
+//! Rows of tests of the top call: sources and sinks that fail, and rogues and probes of the tests' own.
 #![tactic(auto)]
 
-#[cfg(test)]
-mod beginnings;
 #[cfg(test)]
 mod calling;
 #[cfg(test)]

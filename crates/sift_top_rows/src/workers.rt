@@ -1,10 +1,10 @@
-//! Two workers fly at once, and all numbers of them write one text.
+//! Two workers fly at once.
 
 use crate::calling::{Failing, call};
 use crate::stated::{COUNT, COUNT_REPORT};
 use sift_base::UnitId;
 use sift_rogue::Silent;
-use sift_threads::{NoProbe, Probe};
+use sift_threads::Probe;
 use std::sync::atomic::AtomicBool;
 use std::sync::atomic::Ordering::SeqCst;
 use std::test::Fail;
@@ -74,32 +74,5 @@ fn two_workers_fly_at_once(rt: HostRuntime) -> Result<(), Fail> {
     assert!(rt; meeting.first.load(SeqCst), "unit 0 came there");
     assert!(rt; meeting.second.load(SeqCst), "unit 1 came there");
     assert!(rt; !meeting.missed.load(SeqCst), "they met");
-    Ok(())
-}
-
-#[test]
-fn all_workers_write_one_text(rt: HostRuntime) -> Result<(), Fail> {
-    let alloc = rt.alloc();
-    for workers in ["1", "2", "3", "4", "5", "6", "7", "8"] {
-        let rogues = vec![in alloc;
-            Silent, Silent, Silent, Silent, Silent, Silent, Silent, Silent,
-        ]?;
-        let words = ["run", "--workers", workers];
-        let (status, sink) = call(
-            &rt,
-            alloc,
-            &words,
-            COUNT.as_bytes(),
-            Failing::NONE,
-            rogues,
-            &NoProbe,
-        )?;
-        assert_eq!(rt; status, 0, "status by {workers} workers");
-        assert_eq!(rt;
-            sink.bytes.as_slice(),
-            COUNT_REPORT.as_bytes(),
-            "text by {workers} workers"
-        );
-    }
     Ok(())
 }

@@ -2,10 +2,8 @@
 ghost use Rattle.std.proofs.Common.{◌≡◌, refl, ◌∙◌};
 ghost use Rattle.std.specs.Prelude.{⊤};
 
-use crate::bell::Bell;
-use crate::flying::fly_all;
-use crate::pilot::{Pilot, Probe, Went};
 use sift_base::{NoMemory, UnitId};
+use sift_threads::{Bell, Pilot, Probe, Went, fly_all};
 use std::sync::Wait;
 use std::test::Fail;
 
