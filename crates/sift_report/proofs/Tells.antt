@@ -12,13 +12,13 @@ use Rattle.sift_conduct.specs.Conduct.{Account}
 use Rattle.sift_skew.specs.Figures.{IsSkew}
 use Rattle.sift_report.specs.Told.{told_at, works_in}
 use Rattle.sift_flight.specs.Flight.{Flight}
-use Rattle.sift_report.specs.Bad.{bad_in}
+use Rattle.sift_line.specs.Bad.{bad_in}
 use Rattle.sift_report.specs.Ideal.{outputs_text, sensed_in}
-use Rattle.sift_report.specs.Part.{blank}
+use Rattle.sift_line.specs.Part.{blank}
 use Rattle.sift_report.specs.Votes.{unit_votes}
-use Rattle.sift_report.specs.declared.line.ReportLine.{ReportLine}
-use Rattle.sift_report.specs.declared.line.ReportLine.TheVariants.{Unit as unit}
-use Rattle.sift_report.specs.declared.version.Version.{Version}
+use Rattle.sift_line.specs.declared.line.ReportLine.{ReportLine}
+use Rattle.sift_line.specs.declared.line.ReportLine.TheVariants.{Unit as unit}
+use Rattle.sift_line.specs.declared.version.Version.{Version}
 
 -- at least two working units of a configuration tell that they caught v
 abbrev pub two_tell : MissionData → List ReportLine → ℕ → List ℕ → ℕ → Bool
