@@ -15,14 +15,14 @@ push-requires c =
     let m = flown_of c.args.mission.now in
     let us = c.account_at.result.now.cfg in
     let room = filter-room (m.executes us c.args.word) us c.loop-i.i c.unit_at-unit.result c.unit_at-unit.ensures c.len-i-end.ensures.config in
-    let count = length-map (filter (m.executes us c.args.word) (take c.loop-i.i us)) (poll_of m (told m c.args.flight.now) c.args.f c.args.u c.args.word) in
+    let count = length-map (filter (m.executes us c.args.word) (take c.loop-i.i us)) (poll_of (told m c.args.flight.now) c.args.f c.args.u c.args.word) in
     (omega arith, omega (arith, room, count, ap length c.loop-i.invariant))
 
 pub loop-i-preserved : goal.loop-i-preserved
 loop-i-preserved c =
     let m = flown_of c.args.mission.now in
     let us = c.account_at.result.now.cfg in
-    let poll = poll_of m (told m c.args.flight.now) c.args.f c.args.u c.args.word in
+    let poll = poll_of (told m c.args.flight.now) c.args.f c.args.u c.args.word in
     elim c.if-executes.branch [
       | then-executes w ↦
           let made : Poll = record { unit = c.unit_at-unit.result; word = w.place_of.result } in
