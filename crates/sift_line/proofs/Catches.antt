@@ -22,11 +22,9 @@ use Rattle.sift_exec.specs.declared.catches.Kind.TheVariants.{Poll, Relay, Clock
 use Rattle.sift_exec.specs.declared.catches.Kinds.{Kinds}
 use Rattle.sift_exec.proofs.lemmas.Counted.{filter-≤}
 use Rattle.sift_exec.proofs.lemmas.Everyone.{holds-everyone}
-use Rattle.sift_line.specs.Bad.{AreTold, IsCatch, IsSomeKind, IsToldBy, bad_in, catch_of, catches_in, units_in, IsBad, catch_text, caught_text}
+use Rattle.sift_line.specs.Bad.{AreTold, IsCatch, IsSomeKind, IsToldBy, catch_of, catches_in, IsBad, catch_text, caught_text}
 use Rattle.sift_line.specs.declared.catch.Catch.{Catch}
 use Rattle.sift_line.proofs.Sets.{nat_eq-swap}
-use Rattle.sift_line.specs.declared.version.Version.{Version}
-use Rattle.sift_line.specs.declared.version.Version.TheVariants.{One, Two}
 use Rattle.sift_line.specs.declared.bad.Bad.TheVariants.{ByKind}
 use Rattle.sift_line.specs.Part.{list_text}
 use Rattle.std.proofs.lemmas.Simd.{map-map}

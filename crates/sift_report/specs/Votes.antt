@@ -6,7 +6,7 @@ use Rattle.sift_base.specs.Units.{has, others}
 use Rattle.sift_base.specs.declared.slot.Slot.TheVariants.{Out}
 use Rattle.sift_program.specs.Program.{first_word, task_at}
 use Rattle.sift_vote.specs.Majority.{majority_of}
-use Rattle.sift_mission.specs.Data.{MissionData, FlownMission}
+use Rattle.sift_mission.specs.Data.{MissionData}
 use Rattle.sift_mission.specs.Flown.{flown}
 use Rattle.sift_mission.specs.Slots.{executors}
 use Rattle.sift_flight.specs.Flight.{Flight, config_of}
