@@ -6,9 +6,9 @@ use Rattle.sift_load.specs.Loads.{no_mission_statuses}
 use Rattle.sift_mission.specs.Data.{MissionData, FlownMission}
 use Rattle.sift_mission.specs.Flown.{flown}
 use Rattle.sift_reply.specs.Reply.{Reply, done, done_status}
-use Rattle.sift_report.specs.Line.{text_of_lines}
+use Rattle.sift_line.specs.Line.{text_of_lines}
 use Rattle.sift_report.specs.Sheet.{sheet_of}
-use Rattle.sift_report.specs.declared.version.Version.TheVariants.{Two}
+use Rattle.sift_line.specs.declared.version.Version.TheVariants.{Two}
 use Rattle.sift_bus_jobs.specs.Numbers.{BusNumbers}
 use Rattle.sift_bus_jobs.specs.Text.{words_text}
 use Rattle.sift_bus_jobs.specs.Wrong.{wrong_in}

@@ -1,6 +1,5 @@
 -- What the proofs of crates above may cite.
 pub mod Configs
-pub mod Counted
 pub mod Firsts
 pub mod Leading
 pub mod Naming

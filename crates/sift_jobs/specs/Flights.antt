@@ -7,7 +7,7 @@ use Rattle.sift_load.specs.Loads.{States}
 use Rattle.sift_mission.specs.Data.{MissionData}
 use Rattle.sift_mission.specs.Flown.{flown}
 use Rattle.sift_reply.specs.Reply.{Reply, done}
-use Rattle.sift_report.specs.Line.{IsLine, text_of_lines}
+use Rattle.sift_line.specs.Line.{IsLine, text_of_lines}
 use Rattle.sift_report.specs.Sheet.{end_of, sheet_of}
 use Rattle.sift_report.specs.Votes.{votes_of}
 use Rattle.sift_jobs.specs.declared.telling.Telling.{Telling}

@@ -8,10 +8,10 @@ use Rattle.std.proofs.lemmas.Bool.{cases_Bool}
 use Rattle.std.proofs.lemmas.Bool.Decides.{nat_tests}
 use Rattle.sift_base.specs.Units.{Units, has, holds}
 use Rattle.sift_base.proofs.lemmas.Sets.{holds-insert}
-use Rattle.sift_flight.proofs.lemmas.Counted.{filter-count}
+use Rattle.sift_exec.proofs.lemmas.Counted.{filter-count}
 use Rattle.sift_mission.specs.Data.{MissionData}
 use Rattle.sift_report.specs.Told.{told_at, works_in}
-use Rattle.sift_report.specs.declared.line.ReportLine.{ReportLine}
+use Rattle.sift_line.specs.declared.line.ReportLine.{ReportLine}
 use Rattle.sift_judge.proofs.UnitSets.{filter_both}
 
 -- at least two working units of a configuration tell that they caught v

@@ -5,7 +5,7 @@ use Rattle.std.proofs.lemmas.Bool.{cases_lt}
 use Rattle.sift_mission.specs.Data.{MissionData}
 use Rattle.sift_report.specs.Headline.{HasForm, FrameHeadline, ReportHeadline}
 use Rattle.sift_report.specs.Told.{HasMarginTold}
-use Rattle.sift_report.specs.declared.line.ReportLine.{ReportLine}
+use Rattle.sift_line.specs.declared.line.ReportLine.{ReportLine}
 use Rattle.sift_judge.specs.Turns.{HasForms, IsFirstInFrame, IsFirstWithoutForm, KeepsBefore, KeepsBelow, KeepsFrame, KeepsIfAsked}
 use Rattle.sift_judge.specs.Verdict.{Rule, form, same_configuration, same_inputs, ideal_outputs, no_false_accusation, exact_removal, clock_skew, true_margin, number_of}
 use Rattle.sift_judge.specs.Verdict.{Breaks, IsAsked, IsFirstBroken, Keeps}

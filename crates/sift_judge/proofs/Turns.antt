@@ -2,7 +2,7 @@
 use Rattle.std.proofs.Common.{◌≡◌, ◌⊎◌, ℕ, ◌+◌, ◌*◌, ◌<◌, ◌≤◌, List, nat_eq, if◌then◌else◌, inl, inr, refl, sym, ap, ◌∙◌, arith}
 use Rattle.sift_mission.specs.Data.{MissionData}
 use Rattle.sift_report.specs.Headline.{ReportHeadline}
-use Rattle.sift_report.specs.declared.line.ReportLine.{ReportLine}
+use Rattle.sift_line.specs.declared.line.ReportLine.{ReportLine}
 use Rattle.sift_judge.specs.Laws.{OneVerdict}
 use Rattle.sift_judge.specs.Verdict.{Rule, form, same_configuration, same_inputs, ideal_outputs, no_false_accusation, exact_removal, clock_skew, true_margin, number_of}
 use Rattle.sift_judge.specs.Verdict.{turn_of, Breaks, IsFirstBroken, IsVerdict}

@@ -4,7 +4,7 @@ use Rattle.std.specs.List.{filter}
 use Rattle.sift_mission.specs.Data.{MissionData}
 use Rattle.sift_skew.specs.Figures.{IsSkew}
 use Rattle.sift_report.specs.Told.{told_at, works_in}
-use Rattle.sift_report.specs.declared.line.ReportLine.{ReportLine}
+use Rattle.sift_line.specs.declared.line.ReportLine.{ReportLine}
 
 -- the offset of its clock that a unit tells
 abbrev pub clock_told : MissionData → List ReportLine → (f u : ℕ) → ℤ

@@ -4,7 +4,7 @@ use Rattle.sift_mission.specs.Data.{MissionData}
 use Rattle.sift_program.specs.Ideal.{words_before}
 use Rattle.sift_report.specs.Headline.{HasForm, FrameHeadline, TellsSameConfiguration, TellsTrueMargin}
 use Rattle.sift_report.specs.Told.{HadMarginTold, HasMarginTold, agreed_told, shed_told}
-use Rattle.sift_report.specs.declared.line.ReportLine.{ReportLine}
+use Rattle.sift_line.specs.declared.line.ReportLine.{ReportLine}
 use Rattle.sift_judge.specs.Verdict.{Breaks, IsAsked, Keeps, Rule, number_of}
 
 -- ---- the forms

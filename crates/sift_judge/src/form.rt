@@ -5,7 +5,7 @@ ghost use Rattle.sift_base.specs.Units.{holds};
 ghost use Rattle.sift_mission.specs.Parts.{data_of};
 ghost use Rattle.sift_report.specs.Headline.{HasForm, IsUnitsLine};
 ghost use Rattle.sift_report.specs.Told.{line_at};
-ghost use Rattle.sift_report.specs.declared.line.ReportLine.TheVariants.{Frame as frame, Last as last};
+ghost use Rattle.sift_line.specs.declared.line.ReportLine.TheVariants.{Frame as frame, Last as last};
 ghost use Rattle.sift_judge.specs.Turns.{HasForms, IsFirstWithoutForm};
 
 use crate::told::line_at;

@@ -11,10 +11,10 @@ use Rattle.sift_mission.specs.Data.{MissionData}
 use Rattle.sift_mission.specs.Flown.{flown}
 use Rattle.sift_reply.specs.Reply.{Reply, done}
 use Rattle.sift_report.specs.Sheet.{sheet_of}
-use Rattle.sift_report.specs.Texts.{LinesComeApart, texts_of}
+use Rattle.sift_line.specs.Texts.{LinesComeApart, texts_of}
 use Rattle.sift_report.specs.Versions.{SheetsHaveTheirVersion}
-use Rattle.sift_report.specs.declared.line.ReportLine.{ReportLine}
-use Rattle.sift_report.specs.declared.version.Version.{Version}
+use Rattle.sift_line.specs.declared.line.ReportLine.{ReportLine}
+use Rattle.sift_line.specs.declared.version.Version.{Version}
 use Rattle.sift_judge_jobs.specs.Divided.{AreDivided}
 use Rattle.sift_judge_jobs.specs.Judge.{JudgeGives, ReportGives, told}
 use Rattle.sift_judge_jobs.specs.Judged.{RunsAreJudgedYes}

@@ -2,9 +2,9 @@
 use Rattle.std.proofs.Common.{suc, ◌≡◌, ◌≢◌, ◌++◌, ◌+◌, ◌∷◌, [], inl, inr, ℕ, List, length, map, refl, sym, ap, ◌∙◌}
 use Rattle.std.proofs.lemmas.List.Elements.{All-head, All-tail}
 use Rattle.std.specs.List.{All}
-use Rattle.sift_report.specs.Line.{line_text}
-use Rattle.sift_report.specs.declared.line.ReportLine.{ReportLine}
-use Rattle.sift_report.specs.declared.version.Version.{Version}
+use Rattle.sift_line.specs.Line.{line_text}
+use Rattle.sift_line.specs.declared.line.ReportLine.{ReportLine}
+use Rattle.sift_line.specs.declared.version.Version.{Version}
 use Rattle.sift_judge_jobs.specs.Lines.{AreRead, IsFirstRefused, IsLineOf, IsRefused}
 
 -- equal lists have equal parts

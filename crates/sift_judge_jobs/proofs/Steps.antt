@@ -8,10 +8,10 @@ use Rattle.std.proofs.lemmas.List.Splits.{length-slice_split, slice_split_first,
 use Rattle.std.proofs.lemmas.List.Sums.{fails_before_first, prefix_len-le-length}
 use Rattle.std.specs.List.{All, position, position_or_len}
 use Rattle.std.specs.Result.{MatchResult, result_ok}
-use Rattle.sift_report.specs.Line.{HasVersion, IsLine, line_text}
-use Rattle.sift_report.specs.Texts.{texts_of}
-use Rattle.sift_report.specs.declared.line.ReportLine.{ReportLine}
-use Rattle.sift_report.specs.declared.version.Version.{Version}
+use Rattle.sift_line.specs.Line.{HasVersion, IsLine, line_text}
+use Rattle.sift_line.specs.Texts.{texts_of}
+use Rattle.sift_line.specs.declared.line.ReportLine.{ReportLine}
+use Rattle.sift_line.specs.declared.version.Version.{Version}
 use Rattle.sift_judge_jobs.specs.Lines.{AreAllRead, BeginsRefused, IsFirstRefused, IsLineOf, IsNoLine}
 use Rattle.sift_judge_jobs.proofs.Readings.{head_same, more, tail_same}
 

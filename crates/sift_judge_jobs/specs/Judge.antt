@@ -11,8 +11,8 @@ use Rattle.sift_mission.specs.Data.{MissionData}
 use Rattle.sift_options.specs.declared.setting.Options.{Options}
 use Rattle.sift_reply.specs.Duty.{Duty}
 use Rattle.sift_reply.specs.Reply.{Reply, done, done_status}
-use Rattle.sift_report.specs.declared.line.ReportLine.{ReportLine}
-use Rattle.sift_report.specs.declared.version.Version.{Version}
+use Rattle.sift_line.specs.declared.line.ReportLine.{ReportLine}
+use Rattle.sift_line.specs.declared.version.Version.{Version}
 use Rattle.sift_judge_jobs.specs.Divided.{AreDivided, AreUndivided}
 use Rattle.sift_judge_jobs.specs.Lines.{AreAllRead, IsFirstRefused}
 use Rattle.sift_judge_jobs.specs.declared.judge.JudgeJob.{JudgeJob}

@@ -1,10 +1,10 @@
 -- The lines that are read from a report, or the first that is refused.
 use Rattle.std.specs.Prelude.{ℕ, ◌≡◌, ◌≢◌, ◌+◌, ◌⊎◌, List, [], ◌∷◌, ◌++◌, length, map}
 use Rattle.std.specs.List.{All}
-use Rattle.sift_report.specs.Line.{HasVersion, IsLine, line_text}
-use Rattle.sift_report.specs.Texts.{texts_of}
-use Rattle.sift_report.specs.declared.line.ReportLine.{ReportLine}
-use Rattle.sift_report.specs.declared.version.Version.{Version}
+use Rattle.sift_line.specs.Line.{HasVersion, IsLine, line_text}
+use Rattle.sift_line.specs.Texts.{texts_of}
+use Rattle.sift_line.specs.declared.line.ReportLine.{ReportLine}
+use Rattle.sift_line.specs.declared.version.Version.{Version}
 
 -- ---- a line
 

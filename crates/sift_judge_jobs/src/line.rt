@@ -1,8 +1,8 @@
 //! One line of a report, read from bytes.
 
 ghost use Rattle.std.specs.Prelude.{◌≡◌, IfSome, Some};
-ghost use Rattle.sift_report.specs.Line.{line_text};
-ghost use Rattle.sift_report.specs.declared.line.ReportLine.{ReportLine as Told};
+ghost use Rattle.sift_line.specs.Line.{line_text};
+ghost use Rattle.sift_line.specs.declared.line.ReportLine.{ReportLine as Told};
 ghost use Rattle.sift_judge_jobs.specs.Lines.{IsLineOf};
 
 use sift_report::{ReportLine, Version, lines_are_texts, read_line};

@@ -3,10 +3,10 @@
 ghost use Rattle.std.specs.Prelude.{◌≡◌, ◌≢◌, ◌==◌, ◌<◌, ◌∷◌, [], length, IfErr, IfNone, IfOk, IfSome};
 ghost use Rattle.std.specs.List.{position};
 ghost use Rattle.sift_base.specs.Stop.{IfRefused};
-ghost use Rattle.sift_report.specs.Line.{line_text};
-ghost use Rattle.sift_report.specs.Texts.{line_feed, texts_of};
+ghost use Rattle.sift_line.specs.Line.{line_text};
+ghost use Rattle.sift_line.specs.Texts.{line_feed, texts_of};
 ghost use Rattle.sift_judge_jobs.specs.Lines.{AreAllRead, BeginsRefused, IsFirstRefused, IsLineOf};
-ghost use Rattle.sift_report.specs.declared.line.ReportLine.{ReportLine as Told};
+ghost use Rattle.sift_line.specs.declared.line.ReportLine.{ReportLine as Told};
 
 use crate::line::read_text;
 use sift_base::Stop;

@@ -16,13 +16,12 @@ use Rattle.sift_flight.proofs.lemmas.Leading.{config_within, lead_works}
 use Rattle.sift_report.specs.Headline.{TellsClockSkew, TellsExactRemoval, TellsNoFalseAccusation, TellsSameInputs}
 use Rattle.sift_report.specs.Sheet.{sheet_of}
 use Rattle.sift_report.specs.Told.{agreed_told, config_told, told_at, told_in}
-use Rattle.sift_report.specs.declared.version.Version.{Version}
-use Rattle.sift_report.specs.declared.line.ReportLine.{ReportLine}
-use Rattle.sift_report.proofs.Catches.{units_told}
+use Rattle.sift_line.specs.declared.version.Version.{Version}
+use Rattle.sift_line.specs.declared.line.ReportLine.{ReportLine}
 use Rattle.sift_report.proofs.Alike.{count_alike, map_alike, one_told}
 use Rattle.sift_report.proofs.RoundFlights.{HasLaws}
 use Rattle.sift_report.proofs.SheetConfigs.{agreed_is, config_is}
-use Rattle.sift_report.proofs.SheetForm.{account_is, line_of_member, works_flying}
+use Rattle.sift_report.proofs.SheetForm.{account_is, line_of_member, works_flying, units_told}
 use Rattle.sift_report.proofs.SheetPlaces.{first_low, frame_at, unit_at}
 use Rattle.sift_report.proofs.Tells.{two_tell, working_clocks, IsTrueSkew, account_line}
 

@@ -12,7 +12,6 @@ use Rattle.sift_base.proofs.lemmas.Others.{not_same}
 use Rattle.sift_buffer.specs.Journals.{IsJournalOf, Pages, heard_in, ranges_in, said_in}
 use Rattle.sift_buffer.specs.Ranges.{IsPlace}
 use Rattle.sift_mission.specs.Parts.{data_of, flown_of}
-use Rattle.sift_mission.specs.Data.{FlownMission}
 use Rattle.sift_mission.specs.PartsFit.{PartsFit}
 use Rattle.sift_mission.specs.declared.parts.MissionParts.{MissionParts}
 use Rattle.sift_mission.proofs.lemmas.Numbers.{range-has}
@@ -76,10 +75,10 @@ module _ (parts : MissionParts) (fit : PartsFit (data_of parts)) (fl : TheFlight
   journal-heard w f v low = rw (lt-ltb w parts.layout.words low, journal-is) refl
 
 -- the place of the unit itself and that of another
-pub place-own : (m : FlownMission) (fl : Flight) (f u w v : ℕ) → v ≡ u →
-    place_of m fl f u w v ≡ fl.said u f (Out w) (slice_index (others u ((fl.account u f).cfg)) 0)
-place-own m fl f u w v same = let test : nat_eq v u ≡ true = rw same (nat_eq-same u) in rw test refl
+pub place-own : (fl : Flight) (f u w v : ℕ) → v ≡ u →
+    place_of fl f u w v ≡ fl.said u f (Out w) (slice_index (others u ((fl.account u f).cfg)) 0)
+place-own fl f u w v same = let test : nat_eq v u ≡ true = rw same (nat_eq-same u) in rw test refl
 
 -- the place of another executor is its word as the unit heard it
-pub place-other : (m : FlownMission) (fl : Flight) (f u w v : ℕ) → v ≢ u → place_of m fl f u w v ≡ fl.heard u f (Out w) v
-place-other m fl f u w v other = rw (not_same v u other) refl
+pub place-other : (fl : Flight) (f u w v : ℕ) → v ≢ u → place_of fl f u w v ≡ fl.heard u f (Out w) v
+place-other fl f u w v other = rw (not_same v u other) refl

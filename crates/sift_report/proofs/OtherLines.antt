@@ -8,7 +8,7 @@ use Rattle.sift_skew.proofs.lemmas.Leads.{skew_is_unique}
 use Rattle.sift_table.specs.Laws.{PlainTablesAreGood}
 use Rattle.sift_flight.specs.Calms.{CalmMissionsFly}
 use Rattle.sift_report.specs.Told.{HasMarginTold, IsWorking, works_in}
-use Rattle.sift_report.specs.declared.line.ReportLine.TheVariants.{Frame, Last}
+use Rattle.sift_line.specs.declared.line.ReportLine.TheVariants.{Frame, Last}
 use Rattle.sift_report.specs.TwoCatchers.{FaultIsWithinTheHeadline, OtherLinesAreRefused, all_five, four_left, mission, one_catcher, other, unit_4_stays}
 use Rattle.sift_report.proofs.TwoCatchers.{headline_holds, holds-none, holds-only, no_skew}
 use Rattle.sift_report.proofs.TwoCatchersFit.{parts_fit}

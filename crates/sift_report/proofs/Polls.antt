@@ -20,7 +20,7 @@ use Rattle.sift_mission.specs.declared.parts.MissionParts.{MissionParts}
 use Rattle.sift_vote.specs.Majority.{majority_of, HasNoMajority, IsMajority}
 use Rattle.sift_vote.proofs.lemmas.Found.{majority_is_found}
 use Rattle.sift_flight.specs.Flight.{Flight, config_of}
-use Rattle.sift_report.specs.Part.{blank, list_text, text_or_dash, unit_digit, word_text}
+use Rattle.sift_line.specs.Part.{blank, list_text, text_or_dash, unit_digit, word_text}
 use Rattle.sift_report.specs.Poll.{poll_of, polled_text, polls_of}
 use Rattle.sift_report.specs.Votes.{place_of, vote_text}
 use Rattle.sift_report.specs.declared.poll.Poll.{Poll}
@@ -73,7 +73,7 @@ module _ (d : MissionData) (fl : Flight) (f u t j : ℕ) where
   abbrev vote_fields : List (List ℕ)
   vote_fields =
       let w = first_word d.program.tasks t + j in
-      let place = place_of (flown d) fl f u w in
+      let place = place_of fl f u w in
       let us = executors (flown d) (config_of fl u f) w in
       (codes "f=" ++ decimal f) ∷ (codes "u=" ++ unit_digit u ∷ []) ∷ (codes "t=" ++ (slice_index_or d.names t [] ++ (codes "." ++ decimal j)))
       ∷ (codes "words=" ++ list_text (map (λ v. unit_digit v ∷ codes ":" ++ text_or_dash word_text (place v)) us))
@@ -90,7 +90,7 @@ module _ (d : MissionData) (fl : Flight) (f u t j : ℕ) where
   vote_written word name polls vote old a b c e named numbered polled voted head output listed result =
       let number = first_word d.program.tasks t + j in
       let us = executors (flown d) (config_of fl u f) number in
-      let place = place_of (flown d) fl f u number in
+      let place = place_of fl f u number in
       let polls_are : polls ≡ polls_of (flown d) fl f u number = polled ∙ ap (polls_of (flown d) fl f u) numbered in
       let text : polled_text polls ≡ list_text (map (λ v. unit_digit v ∷ codes ":" ++ text_or_dash word_text (place v)) us) =
       ap polled_text polls_are ∙ polled_is (flown d) fl f u number in

@@ -12,8 +12,8 @@ use Rattle.sift_report.specs.Headline.{TellsSameConfiguration}
 use Rattle.sift_report.specs.Printed.{TellsItsFlight}
 use Rattle.sift_report.specs.Sheet.{sheet_of}
 use Rattle.sift_report.specs.Told.{HadMarginTold, HasMarginTold, IsSoundTold, agreed_told, config_told, told_at, told_in}
-use Rattle.sift_report.specs.declared.version.Version.{Version}
-use Rattle.sift_report.specs.declared.line.ReportLine.{ReportLine}
+use Rattle.sift_line.specs.declared.version.Version.{Version}
+use Rattle.sift_line.specs.declared.line.ReportLine.{ReportLine}
 use Rattle.sift_report.proofs.Alike.{one_told}
 use Rattle.sift_report.proofs.RoundFlights.{HasLaws}
 use Rattle.sift_report.proofs.SheetForm.{line_of_member, works_flying}

@@ -11,12 +11,20 @@ use Rattle.sift_flight.specs.Told.{IsAccountOf}
 use Rattle.sift_report.specs.Headline.{HasForm, IsUnitsLine}
 use Rattle.sift_report.specs.Sheet.{sheet_of, unit_line, working_line}
 use Rattle.sift_report.specs.Told.{IsWorking}
-use Rattle.sift_report.specs.declared.version.Version.{Version}
-use Rattle.sift_report.specs.declared.line.ReportLine.TheVariants.{Faulty, Idle}
-use Rattle.sift_report.proofs.Catches.{units_told}
+use Rattle.sift_line.specs.declared.version.Version.{Version}
+use Rattle.sift_line.specs.declared.line.ReportLine.TheVariants.{Faulty, Idle}
 use Rattle.sift_report.proofs.RoundFlights.{HasLaws}
 use Rattle.sift_report.proofs.SheetPlaces.{end_at, first_low, frame_at, length-sheet, low_first, unit_at}
 use Rattle.sift_report.proofs.Tells.{account_line}
+use Rattle.sift_exec.specs.Conviction.{everyone_in}
+use Rattle.sift_exec.specs.declared.catches.Catches.{Catches}
+use Rattle.sift_line.specs.Bad.{bad_in, units_in}
+use Rattle.sift_line.specs.declared.version.Version.TheVariants.{One, Two}
+
+-- both versions name the same units
+pub units_told : (version : Version) (caught : Catches) → units_in (bad_in version caught) ≡ everyone_in caught
+units_told One caught = refl
+units_told Two caught = refl
 
 -- who works by the mission's data works in flights
 pub works_flying : (d : MissionData) (u f : ℕ) → IsWorking d u f → Works (flown d) u f

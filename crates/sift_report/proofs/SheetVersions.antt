@@ -6,14 +6,14 @@ use Rattle.sift_base.specs.Units.{has}
 use Rattle.sift_exec.specs.declared.catches.Catches.{Catches}
 use Rattle.sift_flight.specs.Flight.{Flight}
 use Rattle.sift_mission.specs.Data.{FlownMission}
-use Rattle.sift_report.specs.Bad.{bad_in, version_of}
-use Rattle.sift_report.specs.Line.{HasVersion}
+use Rattle.sift_line.specs.Bad.{bad_in, version_of}
+use Rattle.sift_line.specs.Line.{HasVersion}
 use Rattle.sift_report.specs.Sheet.{frame_line, frame_lines, last_line, unit_line, working_line}
 use Rattle.sift_report.specs.Versions.{SheetsHaveTheirVersion}
-use Rattle.sift_report.specs.declared.line.ReportLine.{ReportLine}
-use Rattle.sift_report.specs.declared.line.ReportLine.TheVariants.{Faulty, Idle}
-use Rattle.sift_report.specs.declared.version.Version.{Version}
-use Rattle.sift_report.specs.declared.version.Version.TheVariants.{One, Two}
+use Rattle.sift_line.specs.declared.line.ReportLine.{ReportLine}
+use Rattle.sift_line.specs.declared.line.ReportLine.TheVariants.{Faulty, Idle}
+use Rattle.sift_line.specs.declared.version.Version.{Version}
+use Rattle.sift_line.specs.declared.version.Version.TheVariants.{One, Two}
 use Rattle.sift_report.proofs.Tells.{account_line}
 
 -- what a version tells of catches is told in that version

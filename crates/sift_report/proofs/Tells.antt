@@ -2,23 +2,22 @@
 -- the ideal machine's outputs.
 use Rattle.std.specs.Prelude.{◌&&◌, ◌≤ℤ◌, ◌∷◌, ◌++◌, [], codes, ℕ, ℤ, Bool, List, count_by, map, nat_lt}
 use Rattle.std.specs.Fmt.{decimal}
-use Rattle.std.specs.List.{filter, flat_map, join_with_byte, range_with_len}
+use Rattle.std.specs.List.{filter, flat_map, join_with_byte}
 use Rattle.sift_base.specs.Units.{holds}
 use Rattle.sift_mission.specs.Data.{MissionData}
 use Rattle.sift_mission.specs.Flown.{flown}
 use Rattle.sift_program.specs.Ideal.{ideal_words}
-use Rattle.sift_program.specs.Program.{task_at}
 use Rattle.sift_conduct.specs.Conduct.{Account}
 use Rattle.sift_skew.specs.Figures.{IsSkew}
 use Rattle.sift_report.specs.Told.{told_at, works_in}
 use Rattle.sift_flight.specs.Flight.{Flight}
-use Rattle.sift_report.specs.Bad.{bad_in}
+use Rattle.sift_line.specs.Bad.{bad_in}
 use Rattle.sift_report.specs.Ideal.{outputs_text, sensed_in}
-use Rattle.sift_report.specs.Part.{blank}
+use Rattle.sift_line.specs.Part.{blank}
 use Rattle.sift_report.specs.Votes.{unit_votes}
-use Rattle.sift_report.specs.declared.line.ReportLine.{ReportLine}
-use Rattle.sift_report.specs.declared.line.ReportLine.TheVariants.{Unit as unit}
-use Rattle.sift_report.specs.declared.version.Version.{Version}
+use Rattle.sift_line.specs.declared.line.ReportLine.{ReportLine}
+use Rattle.sift_line.specs.declared.line.ReportLine.TheVariants.{Unit as unit}
+use Rattle.sift_line.specs.declared.version.Version.{Version}
 
 -- at least two working units of a configuration tell that they caught v
 abbrev pub two_tell : MissionData → List ReportLine → ℕ → List ℕ → ℕ → Bool

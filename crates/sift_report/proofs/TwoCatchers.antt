@@ -10,8 +10,8 @@ use Rattle.sift_base.specs.Units.{has, holds}
 use Rattle.sift_base.proofs.lemmas.Sets.{holds-insert}
 use Rattle.sift_exec.specs.Conviction.{nobody, noted}
 use Rattle.sift_exec.specs.declared.catches.Kind.TheVariants.{Poll}
-use Rattle.sift_flight.proofs.lemmas.Naming.{holds-everyone}
-use Rattle.sift_report.specs.Bad.{units_in}
+use Rattle.sift_exec.proofs.lemmas.Everyone.{holds-everyone}
+use Rattle.sift_line.specs.Bad.{units_in}
 use Rattle.sift_skew.specs.Figures.{IsSkew}
 use Rattle.sift_skew.proofs.lemmas.Leads.{Contains-map}
 use Rattle.sift_mission.specs.PartsFit.{PartsFit}

@@ -8,11 +8,11 @@ use Rattle.sift_config.specs.Config.{first_units, reader_of}
 use Rattle.sift_program.specs.Ideal.{ideal_words}
 use Rattle.sift_skew.specs.Figures.{IsSkew}
 use Rattle.sift_mission.specs.Flown.{word_sensed}
-use Rattle.sift_report.specs.Bad.{units_in}
+use Rattle.sift_line.specs.Bad.{units_in}
 use Rattle.sift_report.specs.Told.{line_at, HadMarginTold, HasMarginTold, agreed_told, config_told, shed_told, told_at}
 use Rattle.sift_report.specs.Told.{works_in, IsWorking}
-use Rattle.sift_report.specs.declared.line.ReportLine.{ReportLine}
-use Rattle.sift_report.specs.declared.line.ReportLine.TheVariants.{Unit as unit, Faulty, Idle, Frame, Last}
+use Rattle.sift_line.specs.declared.line.ReportLine.{ReportLine}
+use Rattle.sift_line.specs.declared.line.ReportLine.TheVariants.{Unit as unit, Faulty, Idle, Frame, Last}
 
 -- ---- the form of a report: which lines stand where, with which numbers, whatever they tell
 

@@ -5,7 +5,7 @@ use Rattle.std.specs.List.{flat_map, join_with_byte, range_with_len}
 use Rattle.sift_program.specs.Ideal.{ideal_words}
 use Rattle.sift_mission.specs.Data.{MissionData, FlownMission}
 use Rattle.sift_mission.specs.Flown.{flown}
-use Rattle.sift_report.specs.Part.{blank, words_text}
+use Rattle.sift_line.specs.Part.{blank, words_text}
 
 -- the words of the mission's sensors in a frame
 abbrev pub sensed_in : FlownMission → ℕ → List ℕ

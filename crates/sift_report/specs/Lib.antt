@@ -1,16 +1,9 @@
-pub mod Apart
-pub mod Bad
 pub mod Ideal
-pub mod Line
-pub mod Number
-pub mod Part
 pub mod Poll
 pub mod Sheet
 pub mod Votes
 pub mod OneText
-pub mod OneSheet
 pub mod Versions
-pub mod Texts
 pub mod Told
 pub mod Headline
 pub mod Printed

@@ -9,7 +9,7 @@ use Rattle.sift_program.specs.Program.{task_at, first_word}
 use Rattle.sift_flight.specs.Flight.{Flight, config_of}
 use Rattle.sift_flight.specs.Told.{IsWhole, told}
 use Rattle.sift_flight.specs.declared.flight.Flight.{Flight as TheFlight}
-use Rattle.sift_report.specs.Part.{list_text, text_or_dash, unit_digit, word_text}
+use Rattle.sift_line.specs.Part.{list_text, text_or_dash, unit_digit, word_text}
 use Rattle.sift_report.specs.Votes.{place_of}
 use Rattle.sift_report.specs.declared.poll.Output.{Output}
 use Rattle.sift_report.specs.declared.poll.Poll.{Poll}

@@ -6,11 +6,11 @@ use Rattle.sift_conduct.specs.Conduct.{Account}
 use Rattle.sift_mission.specs.Data.{FlownMission}
 use Rattle.sift_flight.specs.Flight.{Flight}
 use Rattle.sift_flight.specs.Figures.{config_at, margin_at, next_offsets_at, offsets_at, skew_of, slack_of}
-use Rattle.sift_report.specs.Bad.{bad_in}
-use Rattle.sift_report.specs.Line.{printed}
-use Rattle.sift_report.specs.declared.version.Version.{Version}
-use Rattle.sift_report.specs.declared.line.ReportLine.{ReportLine}
-use Rattle.sift_report.specs.declared.line.ReportLine.TheVariants.{Unit as unit, Faulty, Idle, Frame, Last}
+use Rattle.sift_line.specs.Bad.{bad_in}
+use Rattle.sift_line.specs.Line.{printed}
+use Rattle.sift_line.specs.declared.version.Version.{Version}
+use Rattle.sift_line.specs.declared.line.ReportLine.{ReportLine}
+use Rattle.sift_line.specs.declared.line.ReportLine.TheVariants.{Unit as unit, Faulty, Idle, Frame, Last}
 
 -- the line of a unit that works in the frame: it tells its account, and is idle where it is outside its own configuration
 abbrev pub working_line : Version → ℕ → ℕ → Account → ReportLine

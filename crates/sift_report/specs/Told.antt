@@ -7,9 +7,9 @@ use Rattle.sift_config.specs.Config.{first_units}
 use Rattle.sift_script.specs.Faults as faults
 use Rattle.sift_mission.specs.Data.{MissionData}
 use Rattle.sift_mission.specs.Flown.{table_for}
-use Rattle.sift_report.specs.Bad.{units_in}
-use Rattle.sift_report.specs.declared.line.ReportLine.{ReportLine}
-use Rattle.sift_report.specs.declared.line.ReportLine.TheVariants.{Unit as unit, Frame, Last}
+use Rattle.sift_line.specs.Bad.{units_in}
+use Rattle.sift_line.specs.declared.line.ReportLine.{ReportLine}
+use Rattle.sift_line.specs.declared.line.ReportLine.TheVariants.{Unit as unit, Frame, Last}
 
 -- ---- who works, and who leads, by the script of faults
 

@@ -14,10 +14,10 @@ use Rattle.sift_flight.specs.Calms.{count_task}
 use Rattle.sift_report.specs.Headline.{HasForm}
 use Rattle.sift_report.specs.Headline.{ReportHeadline, TellsClockSkew, TellsExactRemoval, TellsIdealOutputs, TellsNoFalseAccusation, TellsSameConfiguration, TellsSameInputs, TellsTrueMargin}
 use Rattle.sift_report.specs.Told.{HasMarginTold, config_told, works_in}
-use Rattle.sift_report.specs.declared.bad.Bad.{Bad}
-use Rattle.sift_report.specs.declared.bad.Bad.TheVariants.{ByKind}
-use Rattle.sift_report.specs.declared.line.ReportLine.{ReportLine}
-use Rattle.sift_report.specs.declared.line.ReportLine.TheVariants.{Unit as unit, Faulty, Idle, Frame, Last}
+use Rattle.sift_line.specs.declared.bad.Bad.{Bad}
+use Rattle.sift_line.specs.declared.bad.Bad.TheVariants.{ByKind}
+use Rattle.sift_line.specs.declared.line.ReportLine.{ReportLine}
+use Rattle.sift_line.specs.declared.line.ReportLine.TheVariants.{Unit as unit, Faulty, Idle, Frame, Last}
 
 -- ---- the mission
 

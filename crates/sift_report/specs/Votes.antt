@@ -6,11 +6,11 @@ use Rattle.sift_base.specs.Units.{has, others}
 use Rattle.sift_base.specs.declared.slot.Slot.TheVariants.{Out}
 use Rattle.sift_program.specs.Program.{first_word, task_at}
 use Rattle.sift_vote.specs.Majority.{majority_of}
-use Rattle.sift_mission.specs.Data.{MissionData, FlownMission}
+use Rattle.sift_mission.specs.Data.{MissionData}
 use Rattle.sift_mission.specs.Flown.{flown}
 use Rattle.sift_mission.specs.Slots.{executors}
 use Rattle.sift_flight.specs.Flight.{Flight, config_of}
-use Rattle.sift_report.specs.Part.{blank, unit_digit, list_text, text_or_dash, word_text}
+use Rattle.sift_line.specs.Part.{blank, unit_digit, list_text, text_or_dash, word_text}
 use Rattle.sift_report.specs.Sheet.{end_of}
 
 -- the word of an executor as a unit has it: its own as it said it to the lowest other unit of its configuration, each other as it heard it

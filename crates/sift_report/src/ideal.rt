@@ -6,9 +6,9 @@ ghost use Rattle.sift_mission.specs.Parts.{data_of, flown_of};
 ghost use Rattle.sift_report.specs.Ideal.{ideal_of, outputs_text, sensed_in};
 
 use crate::compiled::CompiledIdeal;
-use crate::list::push_list;
 use arrayvec::ArrayVec;
 use sift_base::{NoMemory, Word};
+use sift_line::push_list;
 use sift_mission::Mission;
 use std::alloc::{AllocError, Global};
 

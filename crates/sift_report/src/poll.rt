@@ -12,14 +12,13 @@ ghost use Rattle.sift_flight.specs.Flight.{config_of};
 ghost use Rattle.sift_flight.specs.Told.{told};
 ghost use Rattle.sift_report.specs.Poll.{IsOutput, TellsIn, poll_of, polled_text, polls_of};
 ghost use Rattle.sift_report.specs.Votes.{place_of, vote_text};
-ghost use Rattle.sift_report.specs.Part.{text_or_dash, unit_digit, word_text};
+ghost use Rattle.sift_line.specs.Part.{text_or_dash, unit_digit, word_text};
 
-use crate::list::{Item, push_list};
-use crate::print::{push_head, push_unit, push_word};
 use arrayvec::ArrayVec;
 use sift_base::{Slot, UnitId, Word};
 use sift_config::Config;
 use sift_flight::{Flight, account_at};
+use sift_line::{Item, push_head, push_list, push_unit, push_word};
 use sift_mission::Mission;
 use sift_vote::majority;
 use std::alloc::AllocError;

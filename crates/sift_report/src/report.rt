@@ -5,15 +5,13 @@ ghost use Rattle.sift_mission.specs.Parts.{flown_of};
 ghost use Rattle.sift_flight.specs.Figures.{margin_at};
 ghost use Rattle.sift_flight.specs.Told.{IsWhole, told};
 ghost use Rattle.std.specs.List.{All};
-ghost use Rattle.sift_report.specs.Line.{IsLine, printed, text_of_lines};
+ghost use Rattle.sift_line.specs.Line.{IsLine, printed, text_of_lines};
 ghost use Rattle.sift_report.specs.Sheet.{end_of, frame_lines, sheet_of};
 
-use crate::line::ReportLine;
-use crate::print::push_line;
 use crate::sheet::{frame_line, last_line, unit_line};
-use crate::version::Version;
 use sift_base::NoMemory;
 use sift_flight::{Flight, is_sound_at, margin_at};
+use sift_line::{ReportLine, Version, push_line};
 use sift_mission::Mission;
 use std::alloc::{AllocError, Global};
 

@@ -6,17 +6,15 @@ ghost use Rattle.sift_conduct.specs.Conduct.{account_of};
 ghost use Rattle.sift_mission.specs.Parts.{flown_of};
 ghost use Rattle.sift_flight.specs.Figures.{margin_at};
 ghost use Rattle.sift_flight.specs.Told.{IsWhole, told};
-ghost use Rattle.sift_report.specs.Bad.{bad_in};
-ghost use Rattle.sift_report.specs.declared.line.ReportLine.TheVariants.{Unit as unit};
+ghost use Rattle.sift_line.specs.Bad.{bad_in};
+ghost use Rattle.sift_line.specs.declared.line.ReportLine.TheVariants.{Unit as unit};
 ghost use Rattle.sift_report.specs.Sheet.{frame_line, last_line, unit_line};
 
-use crate::bad::Bad;
-use crate::line::ReportLine;
-use crate::version::Version;
 use arrayvec::ArrayVec;
 use sift_base::UnitId;
 use sift_conduct::Account;
 use sift_flight::{Flight, account_at, config_at, skew_at, slack_at};
+use sift_line::{Bad, ReportLine, Version};
 use sift_mission::Mission;
 
 /// The line of a unit in a frame, as a report of this version tells it.

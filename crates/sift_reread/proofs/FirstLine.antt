@@ -6,10 +6,10 @@ use Rattle.std.proofs.lemmas.List.{append_cancel_left, get_or_append_left, get_o
 use Rattle.std.proofs.lemmas.List.Elements.{All-cons, All-nil}
 use Rattle.std.proofs.lemmas.List.Splits.{length-slice_split}
 use Rattle.std.proofs.lemmas.List.Sums.{position_or_len_is, sum_by-cons, sum_by_push}
-use Rattle.sift_report.specs.Line.{IsLine, line_text, printed}
-use Rattle.sift_report.specs.Texts.{LinesComeApart, texts_of}
-use Rattle.sift_report.specs.declared.line.ReportLine.{ReportLine}
-use Rattle.sift_report.specs.declared.version.Version.{Version}
+use Rattle.sift_line.specs.Line.{IsLine, line_text, printed}
+use Rattle.sift_line.specs.Texts.{LinesComeApart, texts_of}
+use Rattle.sift_line.specs.declared.line.ReportLine.{ReportLine}
+use Rattle.sift_line.specs.declared.version.Version.{Version}
 use Rattle.sift_reread.specs.Report.{BeginsWithNoLine, IsLineIn, line_feed}
 
 -- a byte is no line feed

@@ -2,11 +2,11 @@
 use Rattle.std.proofs.Common.{◌≡◌, ◌≢◌, ◌∙◌, ◌++◌, ◌∷◌, ◌+◌, [], ℕ, List, length, append_assoc, ap, sym, refl, arith, subst, length-append, ◌≤◌}
 use Rattle.std.specs.List.{All}
 use Rattle.std.proofs.lemmas.List.Elements.{All-head, All-tail}
-use Rattle.sift_report.specs.Line.{line_text, printed, text_of_lines}
-use Rattle.sift_report.specs.Texts.{LinesComeApart}
-use Rattle.sift_report.specs.declared.line.ReportLine.{ReportLine}
-use Rattle.sift_report.specs.declared.version.Version.{Version}
-use Rattle.sift_report.specs.declared.version.Version.TheVariants.{One, Two}
+use Rattle.sift_line.specs.Line.{line_text, printed, text_of_lines}
+use Rattle.sift_line.specs.Texts.{LinesComeApart}
+use Rattle.sift_line.specs.declared.line.ReportLine.{ReportLine}
+use Rattle.sift_line.specs.declared.version.Version.{Version}
+use Rattle.sift_line.specs.declared.version.Version.TheVariants.{One, Two}
 use Rattle.sift_reread.specs.Laws.{ReportsStopNowhere, TextsStopOnce}
 use Rattle.sift_reread.specs.Report.{BeginsWithNoLine, IsLineIn, IsReportIn, StopsIn}
 use Rattle.sift_reread.proofs.FirstLine.{begins, goes_on}

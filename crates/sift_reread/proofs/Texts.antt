@@ -3,10 +3,10 @@ use Rattle.std.proofs.Common.{◌∷◌, [], List, IsUtf8, subst, arith, IsAscii
 use Rattle.std.specs.List.{All}
 use Rattle.std.proofs.lemmas.List.Elements.{All-head, All-tail}
 use Rattle.std.proofs.lemmas.Str.{IsUtf8-append, IsUtf8-from_ascii, IsUtf8-nil}
-use Rattle.sift_report.specs.Line.{line_text, printed, text_of_lines}
-use Rattle.sift_report.specs.Texts.{LinesAreTexts}
-use Rattle.sift_report.specs.declared.line.ReportLine.{ReportLine}
-use Rattle.sift_report.specs.declared.version.Version.{Version}
+use Rattle.sift_line.specs.Line.{line_text, printed, text_of_lines}
+use Rattle.sift_line.specs.Texts.{LinesAreTexts}
+use Rattle.sift_line.specs.declared.line.ReportLine.{ReportLine}
+use Rattle.sift_line.specs.declared.version.Version.{Version}
 use Rattle.sift_reread.specs.Laws.{ReportsAreTexts}
 use Rattle.sift_reread.specs.Report.{IsLineIn}
 

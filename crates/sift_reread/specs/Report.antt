@@ -1,10 +1,10 @@
 -- Texts that are reports, and where another text stops to be one.
 use Rattle.std.specs.Prelude.{◌≡◌, ◌≢◌, ◌==◌, ◌+◌, ◌++◌, ◌⊎◌, ⊤, max, ℕ, List, [], length}
 use Rattle.std.specs.List.{All, before_first, position_or_len}
-use Rattle.sift_report.specs.Line.{HasVersion, IsLine, line_text, text_of_lines}
-use Rattle.sift_report.specs.declared.line.ReportLine.{ReportLine}
-use Rattle.sift_report.specs.declared.version.Version.{Version}
-use Rattle.sift_report.specs.declared.version.Version.TheVariants.{One, Two}
+use Rattle.sift_line.specs.Line.{HasVersion, IsLine, line_text, text_of_lines}
+use Rattle.sift_line.specs.declared.line.ReportLine.{ReportLine}
+use Rattle.sift_line.specs.declared.version.Version.{Version}
+use Rattle.sift_line.specs.declared.version.Version.TheVariants.{One, Two}
 use Rattle.sift_reread.specs.declared.reread.Stop.{Stop}
 use Rattle.sift_reread.specs.declared.reread.Stop.TheVariants.{NoLine, NoMemory}
 

@@ -2,7 +2,7 @@
 
 ghost use Rattle.sift_reread.specs.Laws.{EndingsAreExplained, ReportsAreTexts, ReportsStopNowhere, TextsStopOnce};
 
-use sift_report::{lines_are_texts, lines_come_apart};
+use sift_line::{lines_are_texts, lines_come_apart};
 
 /// A report stops at no line to be one: it is never told that a line of it is none.
 pub fn reports_stop_nowhere()

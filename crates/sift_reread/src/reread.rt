@@ -1,11 +1,11 @@
 //! A report, read back line by line and printed again.
 
 ghost use Rattle.std.specs.Prelude.{◌≡◌, ◌++◌, IfErr, IfNone, IfOk, IfSome, string_bytes};
-ghost use Rattle.sift_report.specs.Line.{printed};
+ghost use Rattle.sift_line.specs.Line.{printed};
 ghost use Rattle.sift_reread.specs.Report.{BeginsWithNoLine, IsLineIn, IsReport, IsReportIn, IsStopped, IsStoppedIn};
 ghost use Rattle.sift_reread.specs.declared.reread.Stop.TheVariants.{NoMemory};
 
-use sift_report::{ReportLine, Version, push_line, read_line};
+use sift_line::{ReportLine, Version, push_line, read_line};
 use std::alloc::{AllocError, Global};
 
 /// Why a text is not printed again.

@@ -1,12 +1,9 @@
 -- No working unit catches a working unit.
 use Rattle.std.proofs.Common.{◌≡◌, inl, inr, ℕ, List, false, not, ◌||◌, nat_eq, Some, refl, sym, ap, ◌∙◌, eqb-true}
 use Rattle.std.proofs.lemmas.Bool.{cases_Bool}
-use Rattle.std.proofs.lemmas.Cmp.{nat_cmp_total}
-use Rattle.std.specs.FinSet as set
-use Rattle.sift_base.specs.Units.{has, holds}
+use Rattle.sift_base.specs.Units.{has}
 use Rattle.sift_base.specs.declared.slot.Slot.TheVariants.{Sense, RelaySense}
-use Rattle.sift_exec.specs.Conviction.{everyone_in}
-use Rattle.sift_exec.specs.declared.catches.Catches.{Catches}
+use Rattle.sift_exec.proofs.lemmas.Everyone.{holds-everyone}
 use Rattle.sift_config.specs.Config.{reader_of}
 use Rattle.sift_mission.specs.Data.{FlownMission}
 use Rattle.sift_conduct.specs.Conduct.{caught, relay_catches, clock_catches}
@@ -17,11 +14,6 @@ use Rattle.sift_flight.proofs.Ideal.{IsStep}
 use Rattle.sift_flight.proofs.Working.{InFrame, Member, by_config, conduct_here, hears, relay_call, sense_call}
 use Rattle.sift_flight.proofs.Timing.{none_far}
 use Rattle.sift_flight.proofs.Voting.{any_found, same_not_differs, none_polled}
-
--- everyone who was caught was caught in one of three ways
-pub holds-everyone : (c : Catches) (v : ℕ) → holds (everyone_in c) v ≡ ((holds c.poll v || holds c.relay v) || holds c.clock v)
-holds-everyone c v = set.contains-union nat_cmp_total (set.union c.poll c.relay) c.clock v
-    ∙ ap (λ t. t || holds c.clock v) (set.contains-union nat_cmp_total c.poll c.relay v)
 
 module _ (m : FlownMission) (strays : Strays) (fl : Flight) (f : ℕ) (us : List ℕ) (here : InFrame m strays fl f us) where
   -- no member catches a member for a relay: it hears the word that it said itself

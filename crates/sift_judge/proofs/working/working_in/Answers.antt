@@ -1,6 +1,6 @@
 use Rattle.std.proofs.Common.{◌≡◌, ℕ, Bool, ◌++◌, ◌∷◌, [], ◌∙◌, length, sym, ap, arith}
 use Rattle.sift_mission.specs.Parts.{data_of}
-use Rattle.sift_flight.proofs.lemmas.Counted.{filter-yes, filter-no, filter-room}
+use Rattle.sift_exec.proofs.lemmas.Counted.{filter-yes, filter-no, filter-room}
 use Rattle.sift_report.specs.Told.{works_in}
 use Rattle.sift_judge.proofs.working.working_in.Goals.{then-works, else-works}
 use Rattle.sift_judge.proofs.working.working_in.Goals as goal

@@ -1,6 +1,6 @@
 use Rattle.std.proofs.Common.{◌≡◌, ◌∙◌, List, ℕ, sym, subst}
 use Rattle.std.specs.Prelude.{IfSome, IsUtf8}
-use Rattle.sift_report.specs.Line.{line_text}
+use Rattle.sift_line.specs.Line.{line_text}
 use Rattle.sift_judge_jobs.proofs.Steps.{failed_as, found_as, read_as}
 use Rattle.sift_judge_jobs.proofs.line.read_text.Goals as goal
 

@@ -1,6 +1,6 @@
 use Rattle.std.proofs.Common.{◌∙◌, ◌∷◌, ◌+◌, ℕ, List, ap, drop}
-use Rattle.sift_report.specs.Line.{line_text}
-use Rattle.sift_report.specs.Texts.{texts_of}
+use Rattle.sift_line.specs.Line.{line_text}
+use Rattle.sift_line.specs.Texts.{texts_of}
 use Rattle.sift_judge_jobs.proofs.Steps.{first_refused, first_text, found_end, no_end, not_there, to_the_end, unended}
 use Rattle.sift_judge_jobs.proofs.lines.first_line.Goals as goal
 

@@ -3,7 +3,7 @@ use Rattle.std.specs.Prelude.{slice_get}
 use Rattle.std.proofs.lemmas.Bool.{eqb-true}
 use Rattle.sift_base.proofs.lemmas.Counts.{apart}
 use Rattle.sift_report.proofs.Heard.{lowest_first, lowest_second}
-use Rattle.sift_flight.proofs.lemmas.Counted.{has_place}
+use Rattle.sift_exec.proofs.lemmas.Counted.{has_place}
 use Rattle.sift_report.proofs.poll.lowest_other.Goals as goal
 
 -- the unit itself is the lowest

@@ -40,7 +40,7 @@ returns-then-eq c =
     ∙ journal-said c.args.mission.now c.parts.ensures.fit c.args.flight.now c.requires.tells.whole c.args.u c.requires.tells.unit c.index-journal.result.now at
     c.args.word c.args.f c.lowest_other.result c.requires.word
     ∙ ap (λ q. fl.said c.args.u c.args.f (Out c.args.word) q) lowest
-    ∙ sym (place-own m fl c.args.f c.args.u c.args.word c.args.from (eqb-true c.args.from c.args.u (sym c.eq.ensures ∙ c.if-eq.true)))
+    ∙ sym (place-own fl c.args.f c.args.u c.args.word c.args.from (eqb-true c.args.from c.args.u (sym c.eq.ensures ∙ c.if-eq.true)))
 
 pub returns-else-eq : goal.returns-else-eq
 returns-else-eq c =
@@ -52,4 +52,4 @@ returns-else-eq c =
     c.heard.ensures ∙ ap (λ k. heard_in c.index-journal.result.now c.args.f k c.args.from) slot
     ∙ journal-heard c.args.mission.now c.parts.ensures.fit c.args.flight.now c.requires.tells.whole c.args.u c.requires.tells.unit c.index-journal.result.now at
     c.args.word c.args.f c.args.from c.requires.word
-    ∙ sym (place-other m fl c.args.f c.args.u c.args.word c.args.from (apart c.args.from c.args.u (sym c.eq.ensures ∙ c.if-eq.false)))
+    ∙ sym (place-other fl c.args.f c.args.u c.args.word c.args.from (apart c.args.from c.args.u (sym c.eq.ensures ∙ c.if-eq.false)))

@@ -3,7 +3,7 @@ use Rattle.std.specs.List.{filter}
 use Rattle.std.proofs.lemmas.List.{length-map}
 use Rattle.sift_mission.specs.Parts.{flown_of}
 use Rattle.sift_flight.specs.Told.{told}
-use Rattle.sift_flight.proofs.lemmas.Counted.{filter-yes, filter-no, filter-room}
+use Rattle.sift_exec.proofs.lemmas.Counted.{filter-yes, filter-no, filter-room}
 use Rattle.sift_report.specs.Poll.{poll_of}
 use Rattle.sift_report.specs.declared.poll.Poll.{Poll}
 use Rattle.sift_report.proofs.Polls.{polls_more}
@@ -15,14 +15,14 @@ push-requires c =
     let m = flown_of c.args.mission.now in
     let us = c.account_at.result.now.cfg in
     let room = filter-room (m.executes us c.args.word) us c.loop-i.i c.unit_at-unit.result c.unit_at-unit.ensures c.len-i-end.ensures.config in
-    let count = length-map (filter (m.executes us c.args.word) (take c.loop-i.i us)) (poll_of m (told m c.args.flight.now) c.args.f c.args.u c.args.word) in
+    let count = length-map (filter (m.executes us c.args.word) (take c.loop-i.i us)) (poll_of (told m c.args.flight.now) c.args.f c.args.u c.args.word) in
     (omega arith, omega (arith, room, count, ap length c.loop-i.invariant))
 
 pub loop-i-preserved : goal.loop-i-preserved
 loop-i-preserved c =
     let m = flown_of c.args.mission.now in
     let us = c.account_at.result.now.cfg in
-    let poll = poll_of m (told m c.args.flight.now) c.args.f c.args.u c.args.word in
+    let poll = poll_of (told m c.args.flight.now) c.args.f c.args.u c.args.word in
     elim c.if-executes.branch [
       | then-executes w ↦
           let made : Poll = record { unit = c.unit_at-unit.result; word = w.place_of.result } in

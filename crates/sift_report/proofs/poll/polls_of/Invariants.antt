@@ -8,4 +8,4 @@ use Rattle.sift_report.proofs.poll.polls_of.Given as goal
 -- the polls of the executors among the first units
 abbrev pub invariant-loop-i : goal.invariant-loop-i
 invariant-loop-i l = l.polls.items
-    ≡ map (poll_of (flown_of l.mission) (told (flown_of l.mission) l.flight) l.f l.u l.word) (filter ((flown_of l.mission).executes l.config l.word) (take l.i l.config))
+    ≡ map (poll_of (told (flown_of l.mission) l.flight) l.f l.u l.word) (filter ((flown_of l.mission).executes l.config l.word) (take l.i l.config))

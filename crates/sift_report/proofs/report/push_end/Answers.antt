@@ -2,7 +2,7 @@ use Rattle.std.proofs.Common.{◌-◌, ◌++◌, ◌∙◌, ap, string_bytes}
 use Rattle.sift_mission.specs.Parts.{flown_of}
 use Rattle.sift_flight.specs.Figures.{margin_at}
 use Rattle.sift_flight.specs.Told.{told}
-use Rattle.sift_report.specs.Line.{printed}
+use Rattle.sift_line.specs.Line.{printed}
 use Rattle.sift_report.proofs.report.push_end.Goals as goal
 
 pub last_line-requires-clause-margin : goal.last_line-requires-clause-margin

@@ -2,7 +2,7 @@ use Rattle.std.proofs.Common.{◌≡◌, ◌++◌, map, take, string_bytes}
 use Rattle.sift_mission.specs.Parts.{flown_of}
 use Rattle.sift_flight.specs.Told.{told}
 use Rattle.std.specs.List.{All}
-use Rattle.sift_report.specs.Line.{IsLine, text_of_lines}
+use Rattle.sift_line.specs.Line.{IsLine, text_of_lines}
 use Rattle.sift_report.specs.Sheet.{unit_line}
 use Rattle.sift_report.proofs.report.push_frame.Given as goal
 

@@ -3,7 +3,7 @@ use Rattle.std.specs.List.{All, flat_map, range_with_len}
 use Rattle.sift_mission.specs.Parts.{flown_of}
 use Rattle.sift_flight.specs.Figures.{margin_before}
 use Rattle.sift_flight.specs.Told.{told}
-use Rattle.sift_report.specs.Line.{IsLine, text_of_lines}
+use Rattle.sift_line.specs.Line.{IsLine, text_of_lines}
 use Rattle.sift_report.specs.Sheet.{frame_lines}
 use Rattle.sift_report.proofs.report.report_text.Given as goal
 

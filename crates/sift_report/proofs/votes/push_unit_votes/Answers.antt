@@ -2,7 +2,7 @@ use Rattle.std.proofs.Common.{arith}
 use Rattle.sift_mission.specs.Parts.{data_of, flown_of}
 use Rattle.sift_flight.specs.Told.{told}
 use Rattle.sift_report.proofs.Polls.{next_first, task_there, word_room}
-use Rattle.sift_report.proofs.lemmas.Printed.{text_more}
+use Rattle.sift_line.proofs.lemmas.Printed.{text_more}
 use Rattle.sift_report.proofs.votes.push_unit_votes.Goals as goal
 use Rattle.sift_report.specs.Votes.{task_votes}
 

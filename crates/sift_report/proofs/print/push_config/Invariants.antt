@@ -1,7 +1,0 @@
-use Rattle.std.proofs.Common.{◌≡◌, ◌++◌, map, take, string_bytes}
-use Rattle.sift_report.specs.Part.{unit_digit}
-use Rattle.sift_report.proofs.print.push_config.Given as goal
-
--- the units so far are written
-abbrev pub invariant-loop-i : goal.invariant-loop-i
-invariant-loop-i l = string_bytes l.text ≡ string_bytes l.initial.text ++ map unit_digit (take l.i l.config)
