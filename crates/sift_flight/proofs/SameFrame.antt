@@ -1,5 +1,5 @@
 -- Two flights of which one frame is that of a round flight, and which begin it alike, are the same in it.
-use Rattle.std.proofs.Common.{◌≡◌, ℕ, zero, suc, ◌<◌, List, map, true, false, not, ◌&&◌, nat_eq, if◌then◌else◌, Bool, Option, Some, refl, sym, ap, ◌∙◌, arith}
+use Rattle.std.proofs.Common.{◌≡◌, ℕ, List, map, true, false, not, ◌&&◌, nat_eq, if◌then◌else◌, Option, Some, sym, ap, ◌∙◌, arith}
 use Rattle.std.specs.Prelude.{◌+ℤ◌}
 use Rattle.std.specs.FinSet as set
 use Rattle.std.proofs.lemmas.Cmp.{nat_cmp_total}

@@ -1,5 +1,5 @@
 -- No working unit catches a working unit.
-use Rattle.std.proofs.Common.{◌≡◌, inl, inr, ℕ, List, false, not, ◌||◌, nat_eq, Some, refl, sym, ap, ◌∙◌, eqb-true}
+use Rattle.std.proofs.Common.{◌≡◌, inl, inr, ℕ, List, false, not, nat_eq, Some, refl, sym, ap, ◌∙◌, eqb-true}
 use Rattle.std.proofs.lemmas.Bool.{cases_Bool}
 use Rattle.sift_base.specs.Units.{has}
 use Rattle.sift_base.specs.declared.slot.Slot.TheVariants.{Sense, RelaySense}
