@@ -1,5 +1,5 @@
 -- What is known of tables, arrays and entries: whether they have known keys and so many entries, and are as a section wants them.
-use Rattle.std.proofs.Common.{◌≡◌, inl, inr, ℕ, List, ◌∷◌, length, Option, Some, None, ◌+◌, refl, sym, ap, subst, ◌∙◌, arith}
+use Rattle.std.proofs.Common.{◌≡◌, inl, inr, ℕ, List, length, Option, Some, None, ◌+◌, refl, sym, ap, subst, ◌∙◌, arith}
 use Rattle.std.specs.Prelude.{codes}
 use Rattle.toml.specs.Data.{Data, Items, Members, string, integer, float, boolean, datetime, array, table, get_member}
 use Rattle.sift_document.specs.Document.{HasOnlyKeys, IsArrayOf, IsTableOf, entries_of, keys_of, list_of, members_of}
