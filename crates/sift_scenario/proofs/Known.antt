@@ -1,5 +1,5 @@
 -- What is known of a task: whether it has a name that is new, and whether it has a form.
-use Rattle.std.proofs.Common.{◌≡◌, inl, inr, ℕ, List, [], ◌∷◌, length, Option, Some, None, ◌+◌, refl, sym, subst, ◌∙◌, arith}
+use Rattle.std.proofs.Common.{◌≡◌, inl, inr, ℕ, List, [], ◌∷◌, length, Option, Some, None, refl, sym, subst, ◌∙◌, arith}
 use Rattle.std.specs.Prelude.{codes, option_and_then}
 use Rattle.toml.specs.Data.{Data, Members, as_str, get_member}
 use Rattle.sift_base.specs.Name.{HasNameForm, IsName, IsNameByte, keywords}

@@ -1,5 +1,5 @@
 -- Names of proofs for what specs/ says in its place: keys, values, rules and lists of rules.
-use Rattle.std.specs.Prelude.{codes, ℕ, ◌≡◌, ◌⊎◌, List, [], ◌∷◌, None, unwrap_or}
+use Rattle.std.specs.Prelude.{codes, ℕ, ◌≡◌, List, [], ◌∷◌, None, unwrap_or}
 use Rattle.std.specs.List.{flat_map}
 use Rattle.toml.specs.Data.{Members, get_member}
 use Rattle.sift_document.specs.Rules.{AreMatched, HoldsOf, Rule}

@@ -1,5 +1,5 @@
 -- A document of version 1 sheds nothing.
-use Rattle.std.proofs.Common.{◌≡◌, ℕ, List, [], ◌∷◌, sym, ap, subst, ◌∙◌, length}
+use Rattle.std.proofs.Common.{◌≡◌, ℕ, List, [], sym, ap, subst, length}
 use Rattle.std.specs.List.{All}
 use Rattle.std.specs.Prelude.{codes, unwrap_or}
 use Rattle.toml.specs.Data.{get_member}

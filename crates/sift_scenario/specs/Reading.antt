@@ -1,5 +1,5 @@
 -- What is read of a document, and what is made of it. No public clause cites this module.
-use Rattle.std.specs.Prelude.{codes, ◌≡◌, ◌<◌, ◌≤◌, ◌⊎◌, List, [], Some, length, map, unwrap_or}
+use Rattle.std.specs.Prelude.{codes, ◌≡◌, ◌<◌, ◌≤◌, List, [], Some, length, map, unwrap_or}
 use Rattle.toml.specs.Data.{Members, get_member}
 use Rattle.sift_base.specs.Shapes.{task_limit}
 use Rattle.sift_document.specs.Document.{tables_in}
