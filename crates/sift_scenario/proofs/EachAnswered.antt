@@ -25,7 +25,7 @@ use Rattle.sift_scenario.specs.Laws.{HasAnswer, a_mission, a_refusal, NoDocument
 use Rattle.sift_scenario.specs.Mission.{IsStated, IsLawful}
 use Rattle.sift_scenario.specs.Program.{AreAllowed, IsProgramOf, IsTreeOf, roll_for, steps_left, turn_of}
 use Rattle.sift_scenario.specs.Refusal.{IsFirstRefused, IsNoTask, IsOver, refusal_of, told_number}
-use Rattle.sift_scenario.proofs.Decided.{all_more, at_most}
+use Rattle.sift_sections.proofs.lemmas.Decided.{all_more, at_most}
 use Rattle.sift_scenario.proofs.Themes.{kept_themes}
 use Rattle.sift_scenario.specs.Root.{frames_of, period_of, units_of}
 use Rattle.sift_scenario.specs.Sensor.{sensor_names}

@@ -18,7 +18,7 @@ use Rattle.sift_scenario.proofs.Clocks.{clocks_fit}
 use Rattle.sift_document.proofs.lemmas.Numbers.{between_at}
 use Rattle.sift_scenario.proofs.Periods.{period_between}
 use Rattle.sift_scenario.proofs.Sensing.{as_many_sensors, few_sensors, words_fit}
-use Rattle.sift_scenario.proofs.Sizes.{IsSized, schedule_at, schedules_long, schedules_sized}
+use Rattle.sift_sections.proofs.lemmas.Sizes.{IsSized, schedule_at, schedules_long, schedules_sized}
 use Rattle.sift_scenario.proofs.SoundPrograms.{stated_is_sound}
 use Rattle.sift_scenario.proofs.Starts.{starts_long}
 use Rattle.sift_scenario.proofs.Themes.{kept_themes}

@@ -12,10 +12,10 @@ use Rattle.sift_scenario.specs.Mission.{IsStated}
 use Rattle.sift_scenario.specs.Program.{IsProgramOf, roll_for}
 use Rattle.sift_scenario.specs.Sensor.{sensor_words}
 use Rattle.std.specs.Prelude.{codes, map}
-use Rattle.sift_scenario.specs.Clock.{clocks_in}
+use Rattle.sift_sections.specs.Clock.{clocks_in}
 use Rattle.sift_document.specs.Document.{tables_in}
-use Rattle.sift_scenario.specs.Fault.{fault_in}
-use Rattle.sift_scenario.specs.Table.{schedules_by}
+use Rattle.sift_sections.specs.Fault.{fault_in}
+use Rattle.sift_sections.specs.Table.{schedules_by}
 use Rattle.sift_scenario.proofs.Named.{AreTreesOf}
 use Rattle.sift_scenario.specs.Task.{Form, counts_of, names_of, tasks_of, task_entries}
 

@@ -12,8 +12,8 @@ use Rattle.sift_document.proofs.lemmas.DocumentLemmas.{array_entries}
 use Rattle.sift_document.proofs.lemmas.ReadEntries.{array_between-long}
 use Rattle.sift_document.specs.Document.{IsArrayOf, IsTableOf, entries_of, members_of, word_array, word_value, tables_in}
 use Rattle.sift_document.specs.Rules.{AreKept, BreaksEntries, IsKept, rule}
-use Rattle.sift_scenario.proofs.Decided.{stable}
-use Rattle.sift_scenario.proofs.Known.{known_array}
+use Rattle.sift_sections.proofs.lemmas.Decided.{stable}
+use Rattle.sift_sections.proofs.lemmas.KnownEntries.{known_array}
 use Rattle.sift_scenario.proofs.Rolls.{distinct}
 use Rattle.sift_scenario.proofs.Themes.{kept_themes}
 use Rattle.sift_scenario.specs.Mission.{IsLawful}

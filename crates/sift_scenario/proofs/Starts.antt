@@ -11,10 +11,6 @@ use Rattle.sift_document.proofs.lemmas.Places.{map_map}
 use Rattle.sift_scenario.proofs.Named.{all_starts}
 use Rattle.sift_scenario.specs.Task.{counts_of, name_of, names_of, start_words, task_outputs}
 
--- what reads the tables of a document reads their values
-pub read_values : {A B : Type 0} (shown : A → Members) (read : Members → B) (tasks : List A) → map (λ task. read (shown task)) tasks ≡ map read (map shown tasks)
-read_values shown read tasks = map_map read shown tasks
-
 module _ {B : Type 0} (words : B → List ℕ) (tasks : List Members) (starts : List B) (read : map (λ ws. Some (words ws)) starts ≡ map start_words tasks) where
   -- there are as many
   pub as_many : length starts ≡ length tasks

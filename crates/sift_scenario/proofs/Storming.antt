@@ -13,9 +13,9 @@ use Rattle.sift_script.specs.Script.{Change, Failing, Fault, FaultScript, changi
 use Rattle.toml.specs.Data.{Members, get_member}
 use Rattle.sift_document.specs.Rules.{HoldsOf}
 use Rattle.sift_scenario.proofs.Themes.{kept_themes}
-use Rattle.sift_scenario.specs.Fault.{fault_in, from_of, stated_storm, unit_of}
+use Rattle.sift_sections.specs.Fault.{fault_in, from_of, stated_storm, unit_of}
 use Rattle.sift_document.specs.Document.{tables_in}
-use Rattle.sift_scenario.proofs.Named.{failing_from, IsHeadless, BreaksHeads}
+use Rattle.sift_sections.proofs.lemmas.Named.{failing_from, IsHeadless, BreaksHeads}
 use Rattle.sift_scenario.specs.Laws.{IsStormOf, StormsAreStated}
 
 -- ---- one fault

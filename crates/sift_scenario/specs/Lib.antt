@@ -1,7 +1,3 @@
-pub mod Clock
-pub mod Storm
-pub mod Fault
-pub mod Item
 pub mod Laws
 pub mod Mission
 pub mod Program
@@ -9,6 +5,5 @@ pub mod Reading
 pub mod Refusal
 pub mod Root
 pub mod Sensor
-pub mod Table
 pub mod Task
 pub mod Testing

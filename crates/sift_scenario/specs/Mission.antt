@@ -8,11 +8,11 @@ use Rattle.sift_script.specs.Rules as scripts
 use Rattle.sift_script.specs.Script.{outputs_of}
 use Rattle.sift_table.specs.Rules as tables
 use Rattle.sift_mission.specs.Data.{MissionData, shapes_in}
-use Rattle.sift_scenario.specs.Clock.{clock_rules, clocks_in}
-use Rattle.sift_scenario.specs.Fault.{fault_rules, fault_in}
+use Rattle.sift_sections.specs.Clock.{clock_rules, clocks_in}
+use Rattle.sift_sections.specs.Fault.{fault_rules, fault_in}
 use Rattle.sift_scenario.specs.Root.{root_rules, units_of, version_of, frames_of, period_of}
 use Rattle.sift_scenario.specs.Sensor.{sensor_rules, sensor_names, sensor_words}
-use Rattle.sift_scenario.specs.Table.{table_rules, schedules_by, shed_of}
+use Rattle.sift_sections.specs.Table.{table_rules, schedules_by, shed_of}
 use Rattle.sift_scenario.specs.Task.{task_rules, counts_of, names_of, task_entries, tasks_of}
 use Rattle.sift_scenario.specs.Program.{IsProgramOf}
 

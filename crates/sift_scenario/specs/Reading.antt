@@ -1,25 +1,24 @@
 -- What is read of a document, and what is made of it. No public clause cites this module.
-use Rattle.std.specs.Prelude.{codes, ◌≡◌, ◌<◌, ◌≤◌, ◌⊎◌, List, [], Some, None, length, map, unwrap_or}
+use Rattle.std.specs.Prelude.{codes, ◌≡◌, ◌<◌, ◌≤◌, List, [], Some, length, map, unwrap_or}
 use Rattle.toml.specs.Data.{Members, get_member}
 use Rattle.sift_base.specs.Shapes.{task_limit}
 use Rattle.sift_document.specs.Document.{tables_in}
 use Rattle.sift_compile.specs.Tasks.{AreCodesOf}
 use Rattle.sift_program.specs.Program.{program_of}
-use Rattle.sift_script.specs.Script.{Change, faults_of}
+use Rattle.sift_script.specs.Script.{faults_of}
 use Rattle.sift_table.specs.Schedule.{schedule_of}
 use Rattle.sift_mission.specs.Parts as unit
 use Rattle.sift_scenario.specs.declared.document.Entries.{Entries}
 use Rattle.sift_scenario.specs.declared.program.Running.{Running}
 use Rattle.sift_scenario.specs.declared.sensor.Sensors.{Sensors}
 use Rattle.sift_scenario.specs.declared.task.Tasks.{Tasks}
-use Rattle.sift_scenario.specs.Clock.{clocks_in}
-use Rattle.sift_scenario.specs.Fault.{changes_of, fault_in, from_of, unit_of}
-use Rattle.sift_scenario.specs.declared.fault.Head.{Head}
+use Rattle.sift_sections.specs.Clock.{clocks_in}
+use Rattle.sift_sections.specs.Fault.{fault_in}
 use Rattle.sift_scenario.specs.Mission.{IsLawful}
 use Rattle.sift_scenario.specs.Program.{IsProgramOf}
 use Rattle.sift_scenario.specs.Root.{frames_of, period_of, units_of}
 use Rattle.sift_scenario.specs.Sensor.{sensor_names, words_of}
-use Rattle.sift_scenario.specs.Table.{positions_of, schedules_by, size_of, subframes_at}
+use Rattle.sift_sections.specs.Table.{schedules_by}
 use Rattle.sift_scenario.specs.Task.{AreForms, name_of, names_of, start_words, task_entries, tasks_of}
 use Rattle.sift_scenario.specs.Testing.{form_of}
 
@@ -39,18 +38,6 @@ pub record AreSensorsIn (tables : List Members) (sensors : Sensors) : Type 0 whe
 -- these are the names and the words of a document's sensors
 abbrev pub AreSensorsOf : Members → Sensors → Type 0
 AreSensorsOf document sensors = AreSensorsIn (tables_in (get_member (codes "sensor") document)) sensors
-
--- these are the heads and the changes of the faults in these tables
-pub record AreFaultsRead (faults : List Members) (heads : List Head) (said : List (List Change)) : Type 0 where
-  pub units : map (λ head. Some head.unit) heads ≡ map unit_of faults
-  pub from : map (λ head. Some head.from) heads ≡ map from_of faults
-  pub changes : map (λ changes. Some changes) said ≡ map changes_of faults
-
--- a part of the table isn't read
-abbrev pub IsPartial : Members → Type 0
-IsPartial table =
-    (size_of table ≡ None)
-    ⊎ (((subframes_at (codes "run") table ≡ None) ⊎ (subframes_at (codes "poll") table ≡ None)) ⊎ (positions_of table ≡ None))
 
 -- these are the entries of the document, which keeps all rules
 pub record IsReadOf (document : Members) (entries : Entries) : Type 0 where

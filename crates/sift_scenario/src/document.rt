@@ -10,15 +10,13 @@ ghost use Rattle.sift_document.specs.Testing.{RefusesFirst};
 ghost use Rattle.sift_scenario.specs.Mission.{rules_of};
 ghost use Rattle.sift_scenario.specs.Reading.{IsReadOf};
 
-use crate::clock::plan_of;
-use crate::fault::script_of;
 use crate::root::root_of;
 use crate::sensor::{Sensors, sensors_of};
-use crate::table::{check_sheds, tables_of};
 use crate::task::{Tasks, tasks_of};
 use sift_base::Stop;
 use sift_document::BrokenRule;
 use sift_script::Script;
+use sift_sections::{check_sheds, plan_of, script_of, tables_of};
 use sift_skew::ClockPlan;
 use sift_table::Table;
 use std::alloc::Global;

@@ -6,19 +6,14 @@
 #![tactic(auto)]
 
 mod checked;
-mod clock;
 mod document;
 mod entries;
-mod fault;
-mod item;
 mod law;
 mod mission;
 mod program;
 mod refused;
 mod root;
 mod sensor;
-mod storm;
-mod table;
 mod task;
 mod tree;
 

@@ -2,7 +2,7 @@
 use Rattle.std.proofs.Common.{◌≡◌, ◌==◌, ◌+◌, ◌*◌, ℕ, [], ◌∷◌, Bool, true, false, None, refl, ap, ◌∙◌}
 use Rattle.sift_base.specs.Draw.{after, draw_at}
 use Rattle.sift_gen.specs.Scenario.{fault_table, task_place, words_each}
-use Rattle.sift_scenario.specs.Fault.{fault_in}
+use Rattle.sift_sections.specs.Fault.{fault_in}
 use Rattle.sift_script.specs.Faults.{storm_of}
 use Rattle.sift_script.specs.Script.{Fault, FaultScript}
 use Rattle.sift_document.specs.Document.{members_of}

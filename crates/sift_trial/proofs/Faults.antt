@@ -7,8 +7,8 @@ use Rattle.toml.specs.Data.{Data, Members, table}
 use Rattle.sift_base.specs.Draw.{draw_at}
 use Rattle.sift_base.specs.Word.{word_count}
 use Rattle.sift_gen.specs.Scenario.{array_of, fault_item, fault_table}
-use Rattle.sift_scenario.specs.Fault.{AreItems, StandsAlone, changes_of, fault_in, fault_rules, from_of, stated_storm, unit_of}
-use Rattle.sift_scenario.specs.Item.{change_in, item_keys}
+use Rattle.sift_sections.specs.Fault.{AreItems, StandsAlone, changes_of, fault_in, fault_rules, from_of, stated_storm, unit_of}
+use Rattle.sift_sections.specs.Item.{change_in, item_keys}
 use Rattle.sift_script.specs.Script.{Change, Fault, changing}
 use Rattle.sift_script.specs.declared.script.SlotKind.TheVariants.{Out}
 use Rattle.sift_document.specs.Document.{HasOnlyKeys, IsTableOf, keys_of, members_of}

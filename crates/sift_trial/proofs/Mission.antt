@@ -18,7 +18,7 @@ use Rattle.sift_scenario.specs.Mission.{IsLawful, HasGoodTables, IsMission, IsSt
 use Rattle.sift_scenario.specs.Program.{IsProgramOf, IsTreeOf, roll_for, turn_of}
 use Rattle.sift_scenario.specs.Root.{root_rules, units_of, version_of}
 use Rattle.sift_scenario.specs.Sensor.{sensor_names, sensor_rules, sensor_words, words_of}
-use Rattle.sift_scenario.specs.Table.{table_rules, schedules_by, shed_of}
+use Rattle.sift_sections.specs.Table.{table_rules, schedules_by, shed_of}
 use Rattle.sift_scenario.specs.Task.{Form, counts_of, names_of, start_words, task_entries, tasks_of, text, task_rules}
 use Rattle.sift_script.specs.Rules as scripts
 use Rattle.sift_script.specs.Script.{Fault, outputs_of}
@@ -40,8 +40,8 @@ use Rattle.sift_trial.proofs.Tasks.{all_known, counts_are, forms_are, forms_righ
 use Rattle.sift_trial.proofs.Sensors as sensing
 use Rattle.sift_trial.proofs.Tasks as tasking
 use Rattle.sift_document.specs.Document.{tables_in}
-use Rattle.sift_scenario.specs.Clock.{clock_rules, clocks_in}
-use Rattle.sift_scenario.specs.Fault.{fault_in, fault_rules}
+use Rattle.sift_sections.specs.Clock.{clock_rules, clocks_in}
+use Rattle.sift_sections.specs.Fault.{fault_in, fault_rules}
 use Rattle.sift_trial.specs.Texts.{DrawnTasksAreBrief, DrawnTextsAreTasks, drawn_roll, drawn_sensors, drawn_tasks}
 
 -- the rules of a document of so many units, by what they speak of

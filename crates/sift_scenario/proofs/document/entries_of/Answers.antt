@@ -15,9 +15,9 @@ use Rattle.sift_document.specs.Testing.{RefusesFirst}
 use Rattle.sift_document.proofs.lemmas.Numbers.{between_at, between_or}
 use Rattle.sift_scenario.proofs.Read.{count_is}
 use Rattle.sift_scenario.proofs.Themes.{for_version, root_refused, theme_refused, themes_kept}
-use Rattle.sift_scenario.specs.Table.{schedules_by, table_rules}
+use Rattle.sift_sections.specs.Table.{schedules_by, table_rules}
 use Rattle.sift_scenario.specs.Task.{task_entries}
-use Rattle.sift_scenario.proofs.Named.{later_table_rules}
+use Rattle.sift_sections.proofs.lemmas.Named.{later_table_rules}
 use Rattle.sift_scenario.proofs.document.entries_of.Goals as goal
 
 -- a rule of the root is broken

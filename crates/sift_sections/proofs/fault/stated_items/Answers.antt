@@ -1,0 +1,43 @@
+use Rattle.std.proofs.Common.{◌≡◌, ◌∙◌, None, Some, below_more, map, sym, arith}
+use Rattle.std.proofs.lemmas.List.{length-map, take_all}
+use Rattle.toml.specs.View.{table_view}
+use Rattle.sift_script.specs.Script.{change_of}
+use Rattle.sift_document.proofs.lemmas.Places.{fails_here, holds_here, nowhere, read_more}
+use Rattle.sift_document.proofs.lemmas.Testing.{first_broken}
+use Rattle.sift_document.specs.Document.{each_read}
+use Rattle.sift_sections.specs.Item.{change_in}
+use Rattle.sift_sections.proofs.fault.stated_items.Goals as goal
+
+-- an item of a fault states no change
+pub returns-in-None-clause-tests : goal.returns-in-None-clause-tests
+returns-in-None-clause-tests c =
+    let none : None ≡ each_read change_in (map (λ item. table_view item.now) c.index-faults-place.result.items) =
+    rw (c.in-None.is, c.deref.ensures.value) at c.in_ok-items.ensures in
+    rw c.broken.ensures
+    (first_broken 29 _ _
+    (holds_here (λ tables. map (λ item. table_view item.now) tables.items) c.args.faults.now (λ at items. each_read change_in items ≡ None) _ _
+    c.loop-place-test.true c.index-faults-place.is (sym none))
+    c.loop-place.invariant.1)
+
+-- each of a fault more does
+pub loop-place-preserved : goal.loop-place-preserved
+loop-place-preserved c =
+    let some : Some (map change_of c.in-Some.items.items) ≡ each_read change_in (map (λ item. table_view item.now) c.index-faults-place.result.items) =
+    rw (c.in-Some.is, c.deref.ensures.value) at c.in_ok-items.ensures in (
+      read_more (λ items. Some (map change_of items.items)) (λ tables. each_read change_in (map (λ item. table_view item.now) tables.items)) c.args.faults.now _ _ _ _ _
+          c.loop-place-test.true c.index-faults-place.is c.loop-place.invariant.0 c.in_ok-push-in-Some.ensures.items some,
+      below_more _ _ c.loop-place.invariant.1
+          (fails_here (λ tables. map (λ item. table_view item.now) tables.items) c.args.faults.now (λ at items. each_read change_in items ≡ None) _ _
+          c.loop-place-test.true c.index-faults-place.is (λ none. let wrong : Some _ ≡ None = some ∙ none in cc wrong)),
+    )
+
+-- the items of all faults were read
+pub returns-clause-changes : goal.returns-clause-changes
+returns-clause-changes c =
+    c.loop-place.invariant.0
+    ∙ take_all c.loop-place.place (map (λ tables. each_read change_in (map (λ item. table_view item.now) tables.items)) c.args.faults.now) (rw length-map c.loop-place-test.false)
+
+pub returns-clause-tests : goal.returns-clause-tests
+returns-clause-tests c =
+    nowhere (λ tables. map (λ item. table_view item.now) tables.items) c.args.faults.now (λ at items. each_read change_in items ≡ None)
+    (λ at low. c.loop-place.invariant.1 at (omega (arith, low, c.loop-place-test.false)))

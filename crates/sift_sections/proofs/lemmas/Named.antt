@@ -1,0 +1,75 @@
+-- Names of proofs for what specs/ says in its place: keys, values, rules and lists of rules of the sections.
+use Rattle.std.specs.Prelude.{codes, ℕ, ◌≡◌, ◌⊎◌, ℤ, List, [], ◌∷◌, Option, Some, None, unwrap_or}
+use Rattle.toml.specs.Data.{Data, Members, get_member}
+use Rattle.sift_script.specs.Script.{Change, Failing, changing}
+use Rattle.sift_document.specs.Document.{IsTableOf, members_of, tables_in}
+use Rattle.sift_document.specs.Rules.{BreaksEntries, HoldsOf, OfNoEntry, Rule, rule}
+use Rattle.sift_sections.specs.Clock.{StartTogether, clock_keys, drifts_of, errors_of, figure_rules, starts_of, unit_rules}
+use Rattle.sift_sections.specs.Fault.{AreItems, StandsAlone, changes_of, from_of, unit_of}
+use Rattle.sift_sections.specs.Table.{IsTableEntry, positions_of, shed_of, size_count, subframes_at}
+
+-- ---- keys and values
+
+-- the keys of faults and storms
+abbrev pub fault_keys : List (List ℕ)
+fault_keys = codes "unit" ∷ codes "from" ∷ codes "say" ∷ codes "storm" ∷ []
+
+abbrev pub storm_keys : List (List ℕ)
+storm_keys = codes "number" ∷ codes "strays" ∷ []
+
+-- the items of a fault
+abbrev pub items_of : Members → List Members
+items_of fault = tables_in (get_member (codes "say") fault)
+
+-- the way of failing that comes of a storm, where there is one, and else of changes
+abbrev pub failing_from : Option Failing → List Change → Failing
+failing_from storm changes = unwrap_or storm (changing changes)
+
+-- ---- rules
+
+-- rules of clocks
+abbrev pub BreaksStart : (units skew : ℕ) → Members → ℕ → Type 0
+BreaksStart units skew clock = OfNoEntry ((starts : List ℤ) → (starts_of units clock ≡ Some starts) → ¬ StartTogether skew starts)
+
+abbrev pub BreaksDrift : (units rate : ℕ) → Members → ℕ → Type 0
+BreaksDrift units rate clock = OfNoEntry (drifts_of units rate clock ≡ None)
+
+abbrev pub BreaksErrors : (units error : ℕ) → Members → ℕ → Type 0
+BreaksErrors units error clock = OfNoEntry (errors_of units error clock ≡ None)
+
+-- rules of tables
+abbrev pub BreaksTables : (version units : ℕ) → Option Data → ℕ → Type 0
+BreaksTables version units value place = BreaksEntries (size_count units) (size_count units) (IsTableEntry version) value place
+
+abbrev pub BreaksTimes : List Members → ℕ → Type 0
+BreaksTimes tables place = HoldsOf tables place (λ table. (subframes_at (codes "run") table ≡ None) ⊎ (subframes_at (codes "poll") table ≡ None))
+
+abbrev pub BreaksPositions : List Members → ℕ → Type 0
+BreaksPositions tables place = HoldsOf tables place (λ table. positions_of table ≡ None)
+
+abbrev pub BreaksShed : List Members → ℕ → Type 0
+BreaksShed tables place = HoldsOf tables place (λ table. shed_of table ≡ None)
+
+-- rules of faults
+abbrev pub IsHeadless : Members → Type 0
+IsHeadless fault = (unit_of fault ≡ None) ⊎ (from_of fault ≡ None)
+
+abbrev pub HasOneWay : Members → Type 0
+HasOneWay fault = StandsAlone (codes "say") (codes "storm") AreItems fault ⊎ StandsAlone (codes "storm") (codes "say") (IsTableOf storm_keys) fault
+
+abbrev pub BreaksHeads : List Members → ℕ → Type 0
+BreaksHeads faults place = HoldsOf faults place IsHeadless
+
+abbrev pub BreaksItems : List Members → ℕ → Type 0
+BreaksItems faults place = HoldsOf faults place (λ fault. changes_of fault ≡ None)
+
+-- ---- lists of rules
+
+-- the rules of a clock, by what they speak of
+abbrev pub clock_themes : (units : ℕ) → Data → List (List Rule)
+clock_themes units value =
+    (rule 6 (OfNoEntry (¬ IsTableOf clock_keys value)) ∷ []) ∷ figure_rules (members_of value) ∷ unit_rules units (members_of value) ∷ []
+
+-- the last rule of the tables
+abbrev pub later_table_rules : Option Data → List Rule
+later_table_rules value = rule 31 (BreaksShed (tables_in value)) ∷ []
