@@ -21,6 +21,7 @@ pub mod Listed
 pub mod MadeFlight
 pub mod MadeFrame
 pub mod Making
+pub mod Naming
 pub mod OneFrame
 pub mod Reaching
 pub mod Removing

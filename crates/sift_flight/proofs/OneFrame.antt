@@ -18,7 +18,7 @@ use Rattle.sift_flight.proofs.Working.{InFrame, Member, works_in, member_of, bus
 use Rattle.sift_flight.proofs.Agreeing.{sensor_own, sensor_same, report_own, report_same}
 use Rattle.sift_flight.proofs.Timing.{leads, skew_within, slack_positive}
 use Rattle.sift_flight.proofs.Voting.{output_is}
-use Rattle.sift_flight.proofs.lemmas.Naming.{none_named}
+use Rattle.sift_flight.proofs.Naming.{none_named}
 use Rattle.sift_flight.proofs.Removing.{names, next_one, next_exact, stays, next_is_config}
 use Rattle.sift_flight.proofs.lemmas.Leading.{lead_works}
 

@@ -2,5 +2,4 @@
 pub mod Configs
 pub mod Firsts
 pub mod Leading
-pub mod Naming
 pub mod TellingAlike

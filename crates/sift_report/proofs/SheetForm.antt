@@ -3,6 +3,9 @@ use Rattle.std.proofs.Common.{◌≡◌, ℕ, ◌<◌, true, false, if◌then◌
 use Rattle.std.specs.Prelude.{IsSomeAnd}
 use Rattle.std.proofs.lemmas.Bool.{cases_Bool}
 use Rattle.sift_base.specs.Units.{has, holds}
+use Rattle.sift_exec.specs.Conviction.{everyone_in}
+use Rattle.sift_exec.specs.declared.catches.Catches.{Catches}
+use Rattle.sift_line.specs.Bad.{bad_in, units_in}
 use Rattle.sift_mission.specs.Data.{MissionData}
 use Rattle.sift_mission.specs.Flown.{flown}
 use Rattle.sift_flight.specs.Figures.{Works}
@@ -12,14 +15,11 @@ use Rattle.sift_report.specs.Headline.{HasForm, IsUnitsLine}
 use Rattle.sift_report.specs.Sheet.{sheet_of, unit_line, working_line}
 use Rattle.sift_report.specs.Told.{IsWorking}
 use Rattle.sift_line.specs.declared.version.Version.{Version}
+use Rattle.sift_line.specs.declared.version.Version.TheVariants.{One, Two}
 use Rattle.sift_line.specs.declared.line.ReportLine.TheVariants.{Faulty, Idle}
 use Rattle.sift_report.proofs.RoundFlights.{HasLaws}
 use Rattle.sift_report.proofs.SheetPlaces.{end_at, first_low, frame_at, length-sheet, low_first, unit_at}
 use Rattle.sift_report.proofs.Tells.{account_line}
-use Rattle.sift_exec.specs.Conviction.{everyone_in}
-use Rattle.sift_exec.specs.declared.catches.Catches.{Catches}
-use Rattle.sift_line.specs.Bad.{bad_in, units_in}
-use Rattle.sift_line.specs.declared.version.Version.TheVariants.{One, Two}
 
 -- both versions name the same units
 pub units_told : (version : Version) (caught : Catches) → units_in (bad_in version caught) ≡ everyone_in caught
