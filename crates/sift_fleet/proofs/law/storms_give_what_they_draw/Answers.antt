@@ -9,4 +9,4 @@ unbegun = record { drawer = 0 }
 pub returns : goal.returns
 returns c = λ storms mission strays given u from number count low storm.
     let gave = given u from number count unbegun low storm in
-    (c.drawn_storms_are_the_draws.ensures.strays (sifted mission.layout u) number _ count (strays u) gave.0 gave.1).0
+    (c.drawn_storms_are_the_draws.ensures.strays (sifted mission.layout u) (record { number = number; count = count; strays = strays u }) _ gave.0 gave.1).0
