@@ -4,11 +4,15 @@ Places are bytes of the text, from 0.
 """
 import difflib
 import re
+import sys
 from dataclasses import dataclass, field
 
 KEYWORDS = ("let", "out", "if", "else", "repeat", "mid", "sense", "now", "last")
 LONGEST_TEXT, LONGEST_NAME, LARGEST_WORD, MOST_ROUNDS, MOST_LOCALS, DEEPEST = 4096, 16, 65535, 1024, 32, 32
 LONGEST_CODE, MOST_STEPS, COUNTED_STEPS = 1024, 16384, 4294967295
+
+# A chain of operators is a tree as deep as it is long, and has an operator in every second byte at most; each level takes two calls.
+sys.setrecursionlimit(max(sys.getrecursionlimit(), 2 * LONGEST_TEXT))
 
 TOKEN = re.compile(
     r"(?P<blank>(?:[ \t\n\r]|#[^\n]*)+)|(?P<word>[a-z][a-z0-9_]*)|(?P<number>0x[0-9A-Fa-f]+|[0-9]+)"
