@@ -6,7 +6,7 @@ ghost use Rattle.sift_base.specs.Draw.{next_number, drawn};
 use std::marker::Model;
 
 /// A drawer of numbers: a linear congruential generator with Knuth's constants for 64 bits. A clause sees its number.
-#[derive(Clone, Copy, Debug, PartialEq, Eq)]
+#[derive(Clone, Copy)]
 pub struct Draw {
     x: u64,
 }

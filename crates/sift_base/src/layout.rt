@@ -6,7 +6,7 @@ ghost use Rattle.sift_base.specs.Layout.{IsLayout, IsSlot, slot_count, slot_numb
 use crate::slot::Slot;
 
 /// How many units, sensors and output words a mission has.
-#[derive(Clone, Copy, Debug, PartialEq, Eq)]
+#[derive(Clone, Copy, PartialEq, Eq)]
 pub struct Layout {
     /// 4 to 8.
     pub units: u8,

@@ -3,7 +3,7 @@
 use crate::unit::UnitId;
 
 /// What a word that a unit says is about.
-#[derive(Clone, Copy, Debug, PartialEq, Eq)]
+#[derive(Clone, Copy)]
 pub enum Slot {
     /// The sender's clock.
     Clock,

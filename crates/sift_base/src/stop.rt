@@ -5,7 +5,7 @@ use std::alloc::{AllocError, AllocFailed};
 
 /// Why a call has no value: what it was asked for is refused, for this reason, or memory was wanting, which says
 /// nothing of it.
-#[derive(Clone, Copy, Debug, PartialEq, Eq)]
+#[derive(Clone, Copy)]
 pub enum Stop<E> {
     Refused(E),
     NoMemory,

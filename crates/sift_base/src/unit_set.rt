@@ -10,7 +10,7 @@ use crate::unit::UnitId;
 use std::marker::Model;
 
 /// A set of units. A clause sees it as a set of numbers below 8.
-#[derive(Clone, Copy, Debug, PartialEq, Eq)]
+#[derive(Clone, Copy)]
 pub struct UnitSet {
     bits: u8,
 }

@@ -8,7 +8,7 @@ use crate::face::Face;
 use sift_base::Draw;
 
 /// Faulty clocks that show what is drawn.
-#[derive(Clone, Copy, Debug, PartialEq, Eq)]
+#[derive(Clone, Copy)]
 pub struct Drawn {
     pub(crate) draw: Draw,
     /// The farthest reading that isn't too far.

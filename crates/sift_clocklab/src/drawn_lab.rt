@@ -21,7 +21,7 @@ use sift_base::{Draw, NoMemory};
 use std::alloc::Global;
 
 /// Why there is no laboratory.
-#[derive(Clone, Copy, Debug, PartialEq, Eq)]
+#[derive(Clone, Copy)]
 pub enum LabStop {
     /// Too few of the clocks work, or the skew has too little room for errors and drifts.
     NotAdmitted,

@@ -4,7 +4,7 @@ ghost use Rattle.std.specs.Prelude.{◌≡◌, ◌<◌};
 
 /// A laboratory of clocks, in whole ticks. The first `n - m` clocks work, and the lists speak of them
 /// alone; the last `m` are faulty.
-#[derive(Debug, Drop)]
+#[derive(Drop)]
 pub struct Lab {
     /// How many clocks there are.
     pub n: u8,
@@ -27,7 +27,7 @@ pub struct Lab {
 }
 
 /// A run of a laboratory.
-#[derive(Debug, Drop)]
+#[derive(Drop)]
 pub struct LabRun {
     /// The offsets of the working clocks: at the start, and after each round.
     pub offsets: Vec<Vec<i64>>,

@@ -6,7 +6,7 @@ ghost use Rattle.sift_code.specs.Heights.{pops as popped, pushes as pushed};
 use sift_base::Word;
 
 /// An instruction of stack code.
-#[derive(Clone, Copy, Debug, PartialEq, Eq)]
+#[derive(Clone, Copy)]
 pub enum Instr {
     /// Pushes the word.
     Push(Word),

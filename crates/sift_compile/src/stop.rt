@@ -6,7 +6,7 @@ use sift_base::NoMemory;
 pub const CODE_LIMIT: u32 = 1024;
 
 /// Why a task isn't compiled.
-#[derive(Clone, Copy, Debug, PartialEq, Eq)]
+#[derive(Clone, Copy)]
 pub enum CompileStop {
     /// The code has more than 1,024 instructions: so many, or 4294967295 where there are more.
     CodeTooLong { len: u32 },

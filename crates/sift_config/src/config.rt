@@ -11,7 +11,7 @@ use sift_base::{UnitId, UnitSet};
 use std::marker::Model;
 
 /// The units that work on the tasks at a time. A clause sees their numbers as an ascending list, of four to eight.
-#[derive(Clone, Copy, Debug, PartialEq, Eq)]
+#[derive(Clone, Copy)]
 pub struct Config {
     units: UnitSet,
 }

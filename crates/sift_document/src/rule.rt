@@ -5,7 +5,7 @@ ghost use Rattle.std.specs.Prelude.{◌≡◌, ◌<◌, ◌^◌};
 use sift_base::Stop;
 
 /// The first of some rules that a document breaks.
-#[derive(Clone, Copy, Debug, PartialEq, Eq)]
+#[derive(Clone, Copy)]
 pub struct BrokenRule {
     pub number: u32,
     /// The number of the first entry that breaks it, and 0 for a rule that speaks of no entry.

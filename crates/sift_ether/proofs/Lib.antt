@@ -3,6 +3,5 @@ pub mod Deeds
 pub mod Landing
 pub mod Lists
 pub mod Puts
-pub mod Ring
 pub mod Seated
 pub mod Seats

@@ -1,7 +1,6 @@
 pub mod Deeds
 pub mod Following
 pub mod Landed
-pub mod Ring
 pub mod Rule
 pub mod Seating
 pub mod Seats

@@ -15,8 +15,6 @@ mod seat;
 mod sit;
 mod sleep;
 mod steps;
-#[cfg(test)]
-mod tests;
 mod token;
 
 pub use deed::{Chronicle, Deed};

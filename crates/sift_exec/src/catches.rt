@@ -6,7 +6,7 @@ ghost use Rattle.sift_exec.specs.Conviction.{everyone_in, has_kind, kinds_of, no
 use sift_base::{UnitId, UnitSet};
 
 /// In which way a unit was caught.
-#[derive(Clone, Copy, Debug, PartialEq, Eq)]
+#[derive(Clone, Copy)]
 pub enum Kind {
     /// A word that it put out is absent, or differs from the majority.
     Poll,
@@ -17,7 +17,7 @@ pub enum Kind {
 }
 
 /// The ways in which one unit was caught.
-#[derive(Clone, Copy, Debug, Default, PartialEq, Eq)]
+#[derive(Clone, Copy, Default, PartialEq, Eq)]
 pub struct Kinds {
     /// When a task was polled.
     pub poll: bool,
@@ -41,7 +41,7 @@ impl Kinds {
 }
 
 /// The units that a unit caught in a frame, by the way in which.
-#[derive(Clone, Copy, Debug, PartialEq, Eq)]
+#[derive(Clone, Copy)]
 pub struct Catches {
     /// Caught when a task was polled.
     pub poll: UnitSet,

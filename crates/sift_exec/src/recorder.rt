@@ -11,7 +11,7 @@ use sift_base::{UnitId, UnitSet};
 use std::marker::Model;
 
 /// Whom a unit has caught so far in the frame. A clause sees the three sets.
-#[derive(Clone, Copy, Debug)]
+#[derive(Clone, Copy)]
 pub struct Recorder {
     caught: Catches,
 }

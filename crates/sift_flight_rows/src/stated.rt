@@ -39,7 +39,8 @@ const EIGHT: &str =
 /// The mission that a document states.
 pub(crate) fn stated(alloc: Global, document: &str) -> Result<Mission, Fail> {
     let table = toml::table_from_str(alloc, document)?;
-    Ok(mission_of(alloc, &table)?)
+    let mission = mission_of(alloc, &table).ok();
+    Ok(mission.ok_or("the document states no mission")?)
 }
 
 /// The mission of four units.

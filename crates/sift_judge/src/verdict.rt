@@ -1,7 +1,7 @@
 //! What a judge answers.
 
 /// Whether lines are a report that a mission may have.
-#[derive(Clone, Copy, Debug, PartialEq, Eq)]
+#[derive(Clone, Copy)]
 pub enum Verdict {
     /// They are: they have the headline of its reports.
     Yes,

@@ -30,7 +30,7 @@ pub fn limits_are_the_languages()
 {}
 
 /// An operator of two words.
-#[derive(Clone, Copy, Debug, PartialEq, Eq)]
+#[derive(Clone, Copy)]
 pub enum Op {
     /// `+`
     Add,

@@ -10,7 +10,7 @@ use sift_base::UnitSet;
 use sift_exec::Catches;
 
 /// The units that a unit caught, as a line tells them.
-#[derive(Clone, Copy, Debug, PartialEq, Eq)]
+#[derive(Clone, Copy)]
 pub enum Bad {
     /// In version 1: the units.
     Plain(UnitSet),

@@ -16,7 +16,7 @@ use sift_exec::{Catches, Kind, Kinds};
 use std::alloc::AllocError;
 
 /// A unit that was caught, and the ways in which.
-#[derive(Clone, Copy, Debug, Default, PartialEq, Eq)]
+#[derive(Clone, Copy, Default, PartialEq, Eq)]
 pub struct Catch {
     pub unit: UnitId,
     pub kinds: Kinds,

@@ -9,7 +9,7 @@ use sift_scenario::Refused;
 use std::alloc::Global;
 
 /// Why bytes state no mission.
-#[derive(Clone, Copy, Debug, PartialEq, Eq)]
+#[derive(Clone, Copy)]
 pub enum NoMission {
     /// They are no TOML document.
     NotADocument,

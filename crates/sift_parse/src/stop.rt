@@ -5,7 +5,7 @@ ghost use Rattle.sift_parse.specs.Lexeme.{text_limit};
 use sift_base::NoMemory;
 
 /// Why a text is no task. `at` is the byte place in the text.
-#[derive(Clone, Copy, Debug, PartialEq, Eq)]
+#[derive(Clone, Copy)]
 pub enum ParseStop {
     /// No token begins here.
     Lex { at: u32 },

@@ -19,7 +19,7 @@ pub(crate) enum Keyword {
 }
 
 /// A sign that is no operator.
-#[derive(Clone, Copy, PartialEq, Eq)]
+#[derive(Clone, Copy)]
 pub(crate) enum Sign {
     /// `=`
     Assign,

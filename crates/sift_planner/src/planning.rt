@@ -14,7 +14,7 @@ use sift_table::Table;
 use std::alloc::Global;
 
 /// Why there is no plan.
-#[derive(Clone, Copy, Debug, PartialEq, Eq)]
+#[derive(Clone, Copy)]
 pub enum PlanStop {
     /// No subframe is open for this task, the first of which that is so.
     NoRoom { task: u8 },

@@ -14,7 +14,7 @@ use sift_table::Table;
 use std::alloc::Global;
 
 /// The least size for which there is no plan, and the first task without room there.
-#[derive(Clone, Copy, Debug, PartialEq, Eq)]
+#[derive(Clone, Copy)]
 pub struct NoRoomAt {
     pub size: u8,
     pub task: u8,

@@ -8,7 +8,7 @@ use std::marker::Model;
 /// A span of a pool: words that lie together.
 ///
 /// A clause sees its number, counted from 0, its start and its length.
-#[derive(Clone, Copy, Debug, PartialEq, Eq)]
+#[derive(Clone, Copy, PartialEq, Eq)]
 pub struct Span {
     pub(crate) number: usize,
     pub(crate) start: usize,
@@ -24,7 +24,7 @@ impl Model for Span {
 }
 
 /// How many spans a pool had when it was marked. A clause sees that number.
-#[derive(Clone, Copy, Debug, PartialEq, Eq)]
+#[derive(Clone, Copy)]
 pub struct Mark {
     pub(crate) count: usize,
 }

@@ -24,7 +24,7 @@ use sift_vote::majority;
 use std::alloc::AllocError;
 
 /// An output of a task, and its number among all words.
-#[derive(Clone, Copy, Debug, PartialEq, Eq)]
+#[derive(Clone, Copy)]
 pub struct Output {
     /// The task.
     pub t: usize,
@@ -35,7 +35,7 @@ pub struct Output {
 }
 
 /// An executor of a word, and its word as a unit has it.
-#[derive(Clone, Copy, Debug, Default, PartialEq, Eq)]
+#[derive(Clone, Copy, Default)]
 pub struct Poll {
     /// The executor.
     pub unit: UnitId,

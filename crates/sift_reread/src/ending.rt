@@ -7,7 +7,7 @@ ghost use Rattle.sift_reread.specs.Ending.{status_of};
 use std::process::ExitCode;
 
 /// How the program ends, and why.
-#[derive(Clone, Copy, Debug, PartialEq, Eq)]
+#[derive(Clone, Copy)]
 pub enum Ending {
     /// The input is a report, and was written again.
     Reread,

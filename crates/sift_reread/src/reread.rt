@@ -9,7 +9,7 @@ use sift_line::{ReportLine, Version, push_line, read_line};
 use std::alloc::{AllocError, Global};
 
 /// Why a text is not printed again.
-#[derive(Clone, Copy, Debug, PartialEq, Eq)]
+#[derive(Clone, Copy)]
 pub enum Stop {
     /// The line of this number, from 1 on, is none of a report.
     NoLine(usize),

@@ -12,7 +12,7 @@ pub enum Act {
 }
 
 /// A stray that is to be stored: the receiver is another unit, and the slot is there.
-#[derive(Clone, Copy, Debug, PartialEq, Eq)]
+#[derive(Clone, Copy)]
 pub struct Shot {
     pub to: UnitId,
     pub slot: usize,

@@ -1,7 +1,7 @@
 //! Rows of agreement on fewer words than a flight has. The others are cases, in cases/sensors.txt.
 
 use sift_agree::{agree, relay_catches};
-use sift_base::{UnitSet, Word};
+use sift_base::Word;
 
 /// A word that was heard.
 fn word(n: u16) -> Option<Word> {
@@ -20,5 +20,5 @@ fn fewer_than_three_places_decide_as_more_do(rt: HostRuntime) {
         assert_eq!(rt; got, Word::of(want), "{row}");
     }
     let none = relay_catches(Word::of(9), &[], &[]);
-    assert_eq!(rt; none, UnitSet::empty(), "there are no units");
+    assert_eq!(rt; none.len(), 0, "there are no units");
 }

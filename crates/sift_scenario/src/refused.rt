@@ -10,7 +10,7 @@ use sift_document::BrokenRule;
 use sift_parse::ParseStop;
 
 /// Why a document states no mission.
-#[derive(Clone, Copy, Debug, PartialEq, Eq)]
+#[derive(Clone, Copy)]
 pub enum Refused {
     /// It breaks the scenario rule of this number. `place` is the number of the first entry that
     /// does, and 0 for a rule that speaks of no entry.

@@ -17,7 +17,7 @@ use sift_base::{Layout, Shapes, Slot, UnitId, Word};
 use std::marker::Model;
 
 /// Why a script is refused: the number of the first rule that it breaks, and the first entry at which it does.
-#[derive(Clone, Copy, Debug, PartialEq, Eq)]
+#[derive(Clone, Copy)]
 pub struct Broken {
     /// 1 to 6.
     pub rule: u8,

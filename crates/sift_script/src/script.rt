@@ -56,7 +56,7 @@ pub struct Item {
 }
 
 /// The kind of a slot that an item speaks of.
-#[derive(Clone, Copy, Debug, PartialEq, Eq)]
+#[derive(Clone, Copy)]
 pub enum SlotKind {
     /// The unit's clock.
     Clock,

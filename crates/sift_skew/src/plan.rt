@@ -9,7 +9,7 @@ use arrayvec::ArrayVec;
 const SKEW_LIMIT: i32 = 8_000;
 
 /// The clocks of a mission, in whole ticks.
-#[derive(Clone, Debug, PartialEq, Eq, Drop)]
+#[derive(Clone, Drop)]
 pub struct ClockPlan {
     /// The most that working clocks differ by.
     pub skew: i32,

@@ -13,7 +13,7 @@ use sift_base::Shapes;
 use std::marker::Model;
 
 /// Why a table is refused: the number of the first rule that it breaks, and the first row in which it does.
-#[derive(Clone, Copy, Debug, PartialEq, Eq)]
+#[derive(Clone, Copy)]
 pub struct Broken {
     /// 1 to 11.
     pub rule: u8,

@@ -6,8 +6,6 @@ mod calls;
 #[cfg(test)]
 mod flights;
 #[cfg(test)]
-mod meeting;
-#[cfg(test)]
 mod pilots;
 #[cfg(test)]
 mod seats;

@@ -5,7 +5,7 @@ ghost use Rattle.sift_threads.specs.Going.{IsHome};
 use sift_base::UnitId;
 
 /// What a step came to.
-#[derive(Clone, Copy, Debug, PartialEq, Eq)]
+#[derive(Clone, Copy, PartialEq, Eq)]
 pub enum Went {
     /// Something was done.
     Moved,
