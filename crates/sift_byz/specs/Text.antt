@@ -1,13 +1,10 @@
 -- The text of vectors: a line for each unit, which says that it lies or has its vector.
-use Rattle.std.specs.Prelude.{codes, ℕ, ◌/◌, ◌%◌, List, [], ◌∷◌, ◌++◌, map, if◌then◌else◌, false}
-use Rattle.std.specs.Fmt.{decimal, digit_glyph}
+use Rattle.std.specs.Prelude.{codes, ℕ, List, ◌++◌, map, if◌then◌else◌}
+use Rattle.std.specs.Fmt.{decimal}
 use Rattle.std.specs.List.{flat_map, join_with_byte}
 use Rattle.std.specs.Str.{byte}
 use Rattle.sift_byz.specs.Plan.{PlanData, all_units, tells_some, vector}
-
--- a word: four hexadecimal digits
-abbrev pub word_text : ℕ → List ℕ
-word_text w = digit_glyph false (w / 4096) ∷ digit_glyph false (w / 256 % 16) ∷ digit_glyph false (w / 16 % 16) ∷ digit_glyph false (w % 16) ∷ []
+use Rattle.sift_line.specs.Part.{word_text}
 
 -- words, with commas between them
 abbrev pub words_text : List ℕ → List ℕ

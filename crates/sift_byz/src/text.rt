@@ -1,13 +1,13 @@
 //! The text of vectors.
 
-ghost use Rattle.std.specs.Prelude.{codes, ◌≡◌, ◌<◌, ◌++◌, if◌then◌else◌, IfOk, OnOk, string_bytes, false};
-ghost use Rattle.std.specs.Fmt.{digit_glyph};
+ghost use Rattle.std.specs.Prelude.{codes, ◌≡◌, ◌++◌, if◌then◌else◌, IfOk, OnOk, string_bytes};
 ghost use Rattle.sift_byz.specs.Plan.{plan_of, stands_last, tells_some, vectors_of};
-ghost use Rattle.sift_byz.specs.Text.{line_text, text_of, word_text, words_text};
+ghost use Rattle.sift_byz.specs.Text.{line_text, text_of, words_text};
 
 use crate::plan::{ByzPlan, Lie};
 use crate::vectors::Vectors;
 use sift_base::{NoMemory, Word};
+use sift_line::push_word;
 use std::alloc::{AllocError, Global};
 
 /// The text of a plan's vectors.
@@ -77,29 +77,4 @@ fn push_words(text: &mut String, words: &[Word]) -> Result<(), AllocError>
         push_word(text, *word)?;
     }
     Ok(())
-}
-
-/// Appends a word as four hexadecimal digits.
-fn push_word(text: &mut String, word: Word) -> Result<(), AllocError>
-    ensures { OnOk result (string_bytes text.new ≡ string_bytes text.old ++ word_text word) }
-{
-    let bits = word.get();
-    text.push(hex_digit(bits / 4096))?;
-    text.push(hex_digit(bits / 256 % 16))?;
-    text.push(hex_digit(bits / 16 % 16))?;
-    text.push(hex_digit(bits % 16))
-}
-
-/// The hexadecimal digit of a value.
-fn hex_digit(value: u16) -> char
-    requires { value < 16 }
-    ensures below { result < 128 }
-    ensures digit { result ≡ digit_glyph false value }
-{
-    let value = value as u8;
-    char::from(if value < 10 {
-        b'0' + value
-    } else {
-        b'a' + (value - 10)
-    })
 }

@@ -147,11 +147,7 @@ fn expect_said(rt: &impl Abort, port: &LonePort)
         assert!(rt; to < 4);
         assert!(rt; to != 1);
         let got = cell(port, slot, to);
-        assert_eq!(rt;
-            got,
-            pack(stamp, Some(Word::of(word))),
-            "slot {slot} to unit {to}"
-        );
+        assert_eq!(rt; got, pack(stamp, Some(Word::of(word))));
     }
 }
 
@@ -163,35 +159,26 @@ fn expect_silence(rt: &impl Abort, port: &LonePort)
         assert!(rt; to < 4);
         assert!(rt; to != 1);
         let got = cell(port, slot, to);
-        assert_eq!(rt; got, 0, "slot {slot} to unit {to}");
+        assert_eq!(rt; got, 0);
     }
 }
 
+/// The sensor's word, the votes, unit 3 alone, which puts out another word and none, and no one removed. What was relayed
+/// only the sensor's reader knows.
 fn expect_account(rt: &impl Abort, account: &Account) {
     assert_eq!(rt; account.cfg.len(), 4);
     assert!(rt; !account.idle);
     assert_eq!(rt; account.clk, 0);
-    assert!(rt; account.ins[..] == [Word::of(1)], "the sensor");
-    assert!(rt; account.outs[..] == [Word::of(1), Word::of(1)], "the votes");
-    assert_eq!(rt;
-        account.bad.poll.bits(),
-        0b1000,
-        "unit 3 puts out another word, and none"
-    );
-    assert_eq!(rt;
-        account.bad.relay.bits(),
-        0,
-        "only a reader knows what was relayed"
-    );
+    assert!(rt; account.ins[..] == [Word::of(1)]);
+    assert!(rt; account.outs[..] == [Word::of(1), Word::of(1)]);
+    assert_eq!(rt; account.bad.poll.bits(), 0b1000);
+    assert_eq!(rt; account.bad.relay.bits(), 0);
     assert_eq!(rt; account.bad.clock.bits(), 0);
-    assert_eq!(rt;
-        account.next_cfg.len(),
-        4,
-        "four units remain, whomever the reports name"
-    );
+    assert_eq!(rt; account.next_cfg.len(), 4);
     assert_eq!(rt; account.next_clk, 0);
 }
 
+/// It says three clocks and enters. With the others ahead of it, it says 18 words, hears 21 and enters 18 times.
 #[test]
 fn a_board_flies_a_frame_beside_one_that_errs(rt: HostRuntime) -> Result<(), Fail> {
     new_boards_may_step();
@@ -202,17 +189,15 @@ fn a_board_flies_a_frame_beside_one_that_errs(rt: HostRuntime) -> Result<(), Fai
     tell(&rt, &mut port);
     let mut board = Board::make(rt.alloc(), &mission, own)?;
     let (moved, stepped) = fly(&mut board, &mission, &mut port);
-    assert_eq!(rt; moved, 4, "three clocks, and an entry");
-    assert_eq!(rt;
-        stepped,
-        Stepped::NotYet {
-            unit: unit(0),
-            seen: 0
-        }
-    );
+    assert_eq!(rt; moved, 4);
+    let waits = Stepped::NotYet {
+        unit: unit(0),
+        seen: 0,
+    };
+    assert_eq!(rt; stepped, waits);
     go_ahead(&mut port);
     let (moved, stepped) = fly(&mut board, &mission, &mut port);
-    assert_eq!(rt; moved, 57, "18 words said, 21 heard, and 18 entries");
+    assert_eq!(rt; moved, 57);
     assert_eq!(rt; stepped, Stepped::Landed);
     let again = board.step(&mission, &mut port);
     assert_eq!(rt; again, Stepped::Landed);

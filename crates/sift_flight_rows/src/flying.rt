@@ -54,7 +54,7 @@ fn expect_turns(
         let last = machine
             .turn(mission, &mut drawer, &mut rogues, &mut left)
             .ok_or("units have yet to land")?;
-        assert_eq!(rt; last.get() + 48, digit, "order {order}");
+        assert_eq!(rt; last.get() + 48, digit);
     }
     Ok(())
 }

@@ -12,16 +12,16 @@ use std::test::Fail;
 
 /// The slots of the mission under its table for all units: the number, and the subframes in which the slot is said
 /// and heard.
-const SLOTS: [(usize, u32, u32, &str); 9] = [
-    (0, 0, 2, "the clock"),
-    (1, 0, 2, "the sensor"),
-    (2, 2, 4, "its relay"),
-    (3, 4, 7, "word 0"),
-    (4, 4, 9, "word 1"),
-    (5, 14, 16, "the report"),
-    (6, 16, 18, "the report of unit 0"),
-    (9, 16, 18, "the report of unit 3"),
-    (13, 16, 18, "the report of unit 7"),
+const SLOTS: [(usize, u32, u32); 9] = [
+    (0, 0, 2), // the clock
+    (1, 0, 2), // the sensor
+    (2, 2, 4), // its relay
+    (3, 4, 7), // word 0
+    (4, 4, 9), // word 1
+    (5, 14, 16), // the report
+    (6, 16, 18), // the report of unit 0
+    (9, 16, 18), // the report of unit 3
+    (13, 16, 18), // the report of unit 7
 ];
 
 /// What comes next, from the first slot and the first task on, in each of the first ten subframes: the slot that is
@@ -51,12 +51,10 @@ fn expect_slots(rt: &impl Abort, mission: &Mission, config: &Config)
     requires { mission.now.units ≡ 8 }
 {
     belongs(mission, config);
-    for (i, due, heard, row) in SLOTS {
-        assert!(rt; i < mission.slots(), "{row}");
-        let said_in = mission.due(config, i);
-        assert_eq!(rt; said_in, due, "{row} is said");
-        let heard_in = mission.heard_in(config, i);
-        assert_eq!(rt; heard_in, heard, "{row} is heard");
+    for (i, due, heard) in SLOTS {
+        assert!(rt; i < mission.slots());
+        assert_eq!(rt; mission.due(config, i), due);
+        assert_eq!(rt; mission.heard_in(config, i), heard);
     }
 }
 
@@ -70,7 +68,7 @@ fn expect_next(rt: &impl Abort, mission: &Mission, config: &Config)
             mission.next_said(config, subframe, 0),
             mission.next_run(config, subframe, 0),
         ];
-        assert_eq!(rt; next, [heard, said, run], "in {subframe}");
+        assert_eq!(rt; next, [heard, said, run]);
     }
 }
 

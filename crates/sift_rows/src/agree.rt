@@ -10,15 +10,15 @@ fn word(n: u16) -> Option<Word> {
 
 #[test]
 fn fewer_than_three_places_decide_as_more_do(rt: HostRuntime) {
-    let cases: [(Option<Word>, &[Option<Word>], u16, &str); 3] = [
-        (word(5), &[word(9)], 0, "one and one"),
-        (None, &[word(5)], 0, "one of two places"),
-        (None, &[], 0, "nothing was heard"),
+    let cases: [(Option<Word>, &[Option<Word>]); 3] = [
+        (word(5), &[word(9)]), // one and one
+        (None, &[word(5)]), // one of two places
+        (None, &[]), // nothing was heard
     ];
-    for (direct, relays, want, row) in cases {
+    for (direct, relays) in cases {
         let got = agree(direct, relays);
-        assert_eq!(rt; got, Word::of(want), "{row}");
+        assert_eq!(rt; got.get(), 0);
     }
     let none = relay_catches(Word::of(9), &[], &[]);
-    assert_eq!(rt; none.len(), 0, "there are no units");
+    assert_eq!(rt; none.len(), 0);
 }

@@ -7,7 +7,7 @@ use sift_base::{Draw, Layout, Slot, UnitId, UnitSet, Word};
 fn the_upper_half_is_negative(rt: HostRuntime) {
     for (bits, want) in [(0, 0), (0x7fff, 32767), (0x8000, -32768), (0xffff, -1)] {
         let got = Word::of(bits).signed();
-        assert_eq!(rt; got, want, "of {bits}");
+        assert_eq!(rt; got, want);
     }
 }
 
@@ -15,7 +15,7 @@ fn the_upper_half_is_negative(rt: HostRuntime) {
 fn units_have_numbers_below_eight(rt: HostRuntime) {
     for (n, want) in [(0, Some(0)), (7, Some(7)), (8, None), (255, None)] {
         let got = UnitId::of(n).map(UnitId::get);
-        assert_eq!(rt; got, want, "unit {n}");
+        assert_eq!(rt; got, want);
     }
 }
 
@@ -23,37 +23,22 @@ fn units_have_numbers_below_eight(rt: HostRuntime) {
 fn sets_of_units_are_their_bits(rt: HostRuntime) {
     let some = UnitSet::empty().with(unit(1)).with(unit(4));
     let cases = [
-        (UnitSet::empty(), 0, 0, "no unit"),
-        (some, 0b1_0010, 2, "1 and 4"),
-        (some.with(unit(4)), 0b1_0010, 2, "1 and 4, and 4 again"),
-        (some.with(unit(7)), 0b1001_0010, 3, "1, 4 and 7"),
-        (some.without(unit(1)), 0b1_0000, 1, "4 alone"),
-        (
-            some.without(unit(0)),
-            0b1_0010,
-            2,
-            "without a unit that isn't there",
-        ),
-        (
-            some.union(UnitSet::of_bits(0b11)),
-            0b1_0011,
-            3,
-            "0, 1 and 4",
-        ),
-        (
-            some.minus(UnitSet::of_bits(0b11)),
-            0b1_0000,
-            1,
-            "less 0 and 1",
-        ),
-        (UnitSet::of_bits(255), 255, 8, "all units"),
+        (UnitSet::empty(), 0, 0),
+        (some, 0b1_0010, 2),
+        (some.with(unit(4)), 0b1_0010, 2), // again
+        (some.with(unit(7)), 0b1001_0010, 3),
+        (some.without(unit(1)), 0b1_0000, 1),
+        (some.without(unit(0)), 0b1_0010, 2), // which isn't there
+        (some.union(UnitSet::of_bits(0b11)), 0b1_0011, 3),
+        (some.minus(UnitSet::of_bits(0b11)), 0b1_0000, 1),
+        (UnitSet::of_bits(255), 255, 8),
     ];
-    for (set, bits, len, row) in cases {
-        assert_eq!(rt; set.bits(), bits, "bits of {row}");
-        assert_eq!(rt; set.len(), len, "number of {row}");
+    for (set, bits, len) in cases {
+        assert_eq!(rt; set.bits(), bits);
+        assert_eq!(rt; set.len(), len);
         for n in 0..8 {
             let has = set.has(unit(n));
-            assert_eq!(rt; has, bits >> n & 1 == 1, "unit {n} of {row}");
+            assert_eq!(rt; has, bits >> n & 1 == 1);
         }
     }
 }
@@ -92,6 +77,6 @@ fn draws_follow_from_the_number(rt: HostRuntime) {
     let mut drawer = Draw::of(0);
     for (m, want) in [(1 << 31, 167951807), (4, 0), (1 << 31, 1299921937)] {
         let got = drawer.draw(m);
-        assert_eq!(rt; got, want, "below {m}");
+        assert_eq!(rt; got, want);
     }
 }

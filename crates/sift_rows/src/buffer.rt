@@ -20,33 +20,33 @@ const LAYOUT: Layout = Layout {
 #[test]
 fn cells_pack_as_worked_out_by_hand(rt: HostRuntime) {
     let cases = [
-        (0, None, 0, "nothing with stamp 0"),
-        (1, None, 131_072, "absence with stamp 1"),
-        (1, Some(0), 196_608, "word 0 with stamp 1"),
-        (3, Some(0xffff), 524_287, "the greatest word with stamp 3"),
-        (64_000, Some(7), 8_388_673_543, "the last stamp"),
+        (0, None, 0),
+        (1, None, 131_072),
+        (1, Some(0), 196_608),
+        (3, Some(0xffff), 524_287),
+        (64_000, Some(7), 8_388_673_543), // the last stamp
     ];
-    for (stamp, word, want, row) in cases {
+    for (stamp, word, want) in cases {
         let cell = pack(stamp, word.map(Word::of));
-        assert_eq!(rt; cell, want, "{row}");
+        assert_eq!(rt; cell, want);
     }
 }
 
 #[test]
 fn cells_give_their_word_to_their_own_stamp(rt: HostRuntime) {
     let cases = [
-        (0, 0, None, "an empty cell"),
-        (131_072, 1, None, "absence isn't word 0"),
-        (196_608, 1, Some(0), "word 0"),
-        (196_608, 2, None, "a cell of an earlier frame"),
-        (524_287, 3, Some(0xffff), "the greatest word"),
-        (524_287, 7, None, "a stamp that the word's bits would make"),
-        (8_388_673_543, 64_000, Some(7), "the last stamp"),
-        (u64::MAX, u32::MAX, None, "a stray of all bits"),
+        (0, 0, None),
+        (131_072, 1, None), // absence isn't word 0
+        (196_608, 1, Some(0)),
+        (196_608, 2, None), // a cell of an earlier frame
+        (524_287, 3, Some(0xffff)),
+        (524_287, 7, None), // a stamp that the word's bits would make
+        (8_388_673_543, 64_000, Some(7)), // the last stamp
+        (u64::MAX, u32::MAX, None), // a stray of all bits
     ];
-    for (cell, stamp, want, row) in cases {
+    for (cell, stamp, want) in cases {
         let word = take(cell, stamp);
-        assert_eq!(rt; word, want.map(Word::of), "{row}");
+        assert_eq!(rt; word, want.map(Word::of));
     }
 }
 
@@ -57,28 +57,24 @@ fn a_journal_gives_what_was_noted_last(rt: HostRuntime) -> Result<(), Fail> {
     let three = unit(3);
     let mut journal = Journal::make(rt.alloc(), LAYOUT, own, 2)?;
     let blank = journal.said(1, 8, three);
-    assert_eq!(rt; blank, None, "nothing was noted");
+    assert_eq!(rt; blank, None);
     journal.note_said(1, 8, three, Some(Word::of(7)));
     journal.note_heard(1, 8, three, Some(Word::of(9)));
     let reads = [
-        (journal.said(1, 8, three), Some(7), "said"),
-        (journal.heard(1, 8, three), Some(9), "heard"),
-        (journal.said(0, 8, three), None, "said in the frame before"),
-        (journal.said(1, 7, three), None, "said in the slot before"),
-        (journal.said(1, 8, one), None, "said to another unit"),
-        (
-            journal.heard(0, 8, three),
-            None,
-            "heard in the frame before",
-        ),
-        (journal.heard(1, 0, one), None, "heard in the first slot"),
+        (journal.said(1, 8, three), Some(7)),
+        (journal.heard(1, 8, three), Some(9)),
+        (journal.said(0, 8, three), None),
+        (journal.said(1, 7, three), None),
+        (journal.said(1, 8, one), None),
+        (journal.heard(0, 8, three), None),
+        (journal.heard(1, 0, one), None),
     ];
-    for (read, want, row) in reads {
-        assert_eq!(rt; read, want.map(Word::of), "{row}");
+    for (read, want) in reads {
+        assert_eq!(rt; read, want.map(Word::of));
     }
     journal.note_said(1, 8, three, None);
     let again = journal.said(1, 8, three);
-    assert_eq!(rt; again, None, "absence was noted last");
+    assert_eq!(rt; again, None);
     Ok(())
 }
 
@@ -87,7 +83,7 @@ const PLACE: usize = size_of::<Option<Word>>();
 
 #[test]
 fn a_place_of_a_journal_takes_four_bytes(rt: HostRuntime) {
-    assert!(rt; PLACE <= 4, "{PLACE}");
+    assert!(rt; PLACE <= 4);
 }
 
 // Says the word 5 in the first slot of frame 0 to a unit, in subframe 0. It is generic, so it sees of the port only what every port promises.
@@ -124,11 +120,11 @@ fn a_unit_says_by_one_store(rt: HostRuntime) -> Result<(), Fail> {
     let mut port = LonePort::make(rt.alloc(), LAYOUT, own, 1)?;
     say_five(&mut port, one);
     let (cell, other_cell) = (port.cell(one, 0), port.cell(two, 0));
-    assert_eq!(rt; cell, pack(1, Some(Word::of(5))), "the receiver's cell");
-    assert_eq!(rt; other_cell, 0, "another unit's cell");
+    assert_eq!(rt; cell, pack(1, Some(Word::of(5))));
+    assert_eq!(rt; other_cell, 0);
     let journal = port.end();
     let said = journal.said(0, 0, one);
-    assert_eq!(rt; said, Some(Word::of(5)), "in the journal");
+    assert_eq!(rt; said, Some(Word::of(5)));
     Ok(())
 }
 
@@ -140,23 +136,15 @@ fn a_unit_enters_where_none_is_behind(rt: HostRuntime) -> Result<(), Fail> {
     let three = unit(3);
     let mut port = LonePort::make(rt.alloc(), LAYOUT, own, 1)?;
     let first = port.try_enter();
-    assert_eq!(rt; first, Entering::Entered, "nobody is behind 0");
+    assert_eq!(rt; first, Entering::Entered);
     let progress = port.progress();
     assert_eq!(rt; progress, 1);
     let alone = port.try_enter();
-    assert_eq!(rt;
-        alone,
-        Entering::NotYet { unit: one, seen: 0 },
-        "unit 1 is behind"
-    );
+    assert_eq!(rt; alone, Entering::NotYet { unit: one, seen: 0 });
     port.set_number(one, 1);
     port.set_number(three, 1);
     let still = port.try_enter();
-    assert_eq!(rt;
-        still,
-        Entering::NotYet { unit: two, seen: 0 },
-        "unit 2 is behind"
-    );
+    assert_eq!(rt; still, Entering::NotYet { unit: two, seen: 0 });
     Ok(())
 }
 
@@ -171,13 +159,13 @@ fn a_unit_hears_the_word_with_its_stamp(rt: HostRuntime) -> Result<(), Fail> {
     port.set_number(two, 4);
     port.set_cell(one, 8, pack(1, Some(Word::of(9))));
     let first = try_once(&mut port);
-    assert_eq!(rt; first, Entering::Entered, "nobody is behind 0");
+    assert_eq!(rt; first, Entering::Entered);
     assert_eq!(rt; port.progress(), 1);
     let second = try_once(&mut port);
-    assert_eq!(rt; second, Entering::Entered, "nobody is behind 1");
+    assert_eq!(rt; second, Entering::Entered);
     assert_eq!(rt; port.progress(), 2);
     let heard = port.hear(one, 8, 0, 1);
-    assert_eq!(rt; heard, Some(Word::of(9)), "the word with this stamp");
+    assert_eq!(rt; heard, Some(Word::of(9)));
     Ok(())
 }
 
@@ -188,14 +176,14 @@ fn a_unit_that_turned_stores_any_number(rt: HostRuntime) -> Result<(), Fail> {
     let three = unit(3);
     let mut port = LonePort::make(rt.alloc(), LAYOUT, own, 1)?;
     let turned = turn_at_once(&mut port);
-    assert_eq!(rt; turned, Entering::Entered, "nobody is behind 0");
+    assert_eq!(rt; turned, Entering::Entered);
     port.stray(three, 8, 7);
     port.stray(three, 8, u64::MAX);
     let progress = port.progress();
-    assert_eq!(rt; progress, u64::MAX, "the number of a unit that has turned");
+    assert_eq!(rt; progress, u64::MAX);
     let (cell, other_cell) = (port.cell(three, 8), port.cell(one, 8));
-    assert_eq!(rt; cell, u64::MAX, "the later of two, of all bits");
-    assert_eq!(rt; other_cell, 0, "another unit's cell");
+    assert_eq!(rt; cell, u64::MAX);
+    assert_eq!(rt; other_cell, 0);
     Ok(())
 }
 
@@ -206,21 +194,17 @@ fn a_unit_turns_where_none_is_behind(rt: HostRuntime) -> Result<(), Fail> {
     let two = unit(2);
     let three = unit(3);
     let behind = Entering::NotYet { unit: two, seen: 0 };
-    let rows = [
-        (0, behind, 1, "unit 2 is behind"),
-        (1, Entering::Entered, u64::MAX, "nobody is behind 1"),
-    ];
-    for (number, want, progress, row) in rows {
+    for (number, want, progress) in [(0, behind, 1), (1, Entering::Entered, u64::MAX)] {
         let mut port = LonePort::make(rt.alloc(), LAYOUT, own, 1)?;
         port.set_number(one, 1);
         port.set_number(two, number);
         port.set_number(three, u64::MAX);
         let first = try_once(&mut port);
-        assert_eq!(rt; first, Entering::Entered, "nobody is behind 0");
+        assert_eq!(rt; first, Entering::Entered);
         let turned = port.turn();
-        assert_eq!(rt; turned, want, "{row}");
+        assert_eq!(rt; turned, want);
         let last = port.progress();
-        assert_eq!(rt; last, progress, "its number, where {row}");
+        assert_eq!(rt; last, progress);
     }
     Ok(())
 }

@@ -6,50 +6,41 @@ use sift_clock::{advance, clock_word, correction, reading, too_far};
 
 #[test]
 fn the_widest_readings_have_their_mean(rt: HostRuntime) {
+    // no limit reaches the lowest number
     let widest = correction(&[Some(i32::MIN); 7], i32::MAX, 8);
-    assert_eq!(rt; widest, 0, "no limit reaches the lowest number");
+    assert_eq!(rt; widest, 0);
+    // 7 * 2147483647 / 8
     let wide = correction(&[Some(i32::MAX); 7], i32::MAX, 8);
-    assert_eq!(rt; wide, 1_879_048_191, "7 * 2147483647 / 8");
+    assert_eq!(rt; wide, 1_879_048_191);
 }
 
 #[test]
 fn a_word_is_at_most_half_of_all_words_away(rt: HostRuntime) {
-    let cases = [
-        (0x7fff, 32_767, "the farthest ahead"),
-        (0x8000, -32_768, "the farthest behind"),
-    ];
-    for (heard, want, row) in cases {
+    for (heard, want) in [(0x7fff, 32_767), (0x8000, -32_768)] {
         let got = reading(Some(Word::of(heard)), 0, 0);
-        assert_eq!(rt; got, Some(want), "{row}");
+        assert_eq!(rt; got, Some(want));
     }
 }
 
 #[test]
 fn the_largest_errors_are_added(rt: HostRuntime) {
     let ahead = reading(Some(Word::of(8_000)), 0, 8_000);
-    assert_eq!(rt; ahead, Some(16_000), "8000 ahead, and misread by 8000");
+    assert_eq!(rt; ahead, Some(16_000));
     let behind = reading(Some(Word::of(0)), 8_000, -8_000);
-    assert_eq!(rt; behind, Some(-16_000), "8000 behind, and misread by -8000");
+    assert_eq!(rt; behind, Some(-16_000));
 }
 
 #[test]
 fn a_reading_past_the_farthest_limits_is_too_far(rt: HostRuntime) {
-    let cases = [
-        (Some(0), -1, "a limit that nothing meets"),
-        (Some(i32::MIN), i32::MAX, "the lowest number"),
-        (None, i32::MAX, "no reading"),
-    ];
-    for (ticks, limit, row) in cases {
-        let got = too_far(ticks, limit);
-        assert_eq!(rt; got, true, "{row}");
+    for (ticks, limit) in [(Some(0), -1), (Some(i32::MIN), i32::MAX), (None, i32::MAX)] {
+        assert!(rt; too_far(ticks, limit));
     }
 }
 
 #[test]
 fn the_farthest_offsets_are_told_by_their_lowest_bits(rt: HostRuntime) {
     for (offset, want) in [(i64::MAX, 0xffff), (i64::MIN, 0x0000)] {
-        let got = clock_word(offset);
-        assert_eq!(rt; got, Word::of(want), "of {offset}");
+        assert_eq!(rt; clock_word(offset).get(), want);
     }
 }
 

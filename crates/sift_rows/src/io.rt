@@ -10,8 +10,8 @@ fn expect_read(rt: &impl Abort, source: &mut BytesIn, room: usize, want: Got, te
     assert!(rt; room <= 4);
     let mut buf = [0; 4];
     let got = source.read(&mut buf[..room]);
-    assert_eq!(rt; got, want, "{text}");
-    assert!(rt; buf.starts_with(text.as_bytes()), "{text}");
+    assert_eq!(rt; got, want);
+    assert!(rt; buf.starts_with(text.as_bytes()));
 }
 
 #[test]
@@ -19,17 +19,17 @@ fn a_source_gives_its_step_and_fails_where_listed(rt: HostRuntime) -> Result<(),
     let alloc = rt.alloc();
     let mut source = BytesIn::new(b"abcdefg".to_vec(alloc)?, 3, [2, 6].to_vec(alloc)?);
     let calls = [
-        (1, 4, Got::Taken(3), "abc", 0),
-        (2, 4, Got::Failed, "", 1),
-        (3, 2, Got::Taken(2), "de", 1),
-        (4, 4, Got::Taken(2), "fg", 1),
-        (5, 4, Got::End, "", 1),
-        (6, 4, Got::Failed, "", 2),
-        (7, 4, Got::End, "", 2),
+        (4, Got::Taken(3), "abc", 0),
+        (4, Got::Failed, "", 1),
+        (2, Got::Taken(2), "de", 1),
+        (4, Got::Taken(2), "fg", 1),
+        (4, Got::End, "", 1),
+        (4, Got::Failed, "", 2),
+        (4, Got::End, "", 2),
     ];
-    for (call, room, want, text, faults) in calls {
+    for (room, want, text, faults) in calls {
         expect_read(&rt, &mut source, room, want, text);
-        assert_eq!(rt; source.faults, faults, "faults after call {call}");
+        assert_eq!(rt; source.faults, faults);
     }
     Ok(())
 }
@@ -39,21 +39,17 @@ fn a_sink_takes_its_step_and_fails_where_listed(rt: HostRuntime) -> Result<(), F
     let alloc = rt.alloc();
     let mut sink = BytesOut::new(alloc, 3, [1, 4].to_vec(alloc)?);
     let calls = [
-        (1, "abcd", Put::Failed, "", 1),
-        (2, "abcd", Put::Took(3), "abc", 1),
-        (3, "d", Put::Took(1), "abcd", 1),
-        (4, "e", Put::Failed, "abcd", 2),
-        (5, "", Put::Took(0), "abcd", 2),
+        ("abcd", Put::Failed, "", 1),
+        ("abcd", Put::Took(3), "abc", 1),
+        ("d", Put::Took(1), "abcd", 1),
+        ("e", Put::Failed, "abcd", 2),
+        ("", Put::Took(0), "abcd", 2),
     ];
-    for (call, piece, want, text, faults) in calls {
+    for (piece, want, text, faults) in calls {
         let put = sink.write(piece.as_bytes());
-        assert_eq!(rt; put, want, "call {call}");
-        assert_eq!(rt;
-            sink.bytes.as_slice(),
-            text.as_bytes(),
-            "bytes after call {call}"
-        );
-        assert_eq!(rt; sink.faults, faults, "faults after call {call}");
+        assert_eq!(rt; put, want);
+        assert_eq!(rt; sink.bytes.as_slice(), text.as_bytes());
+        assert_eq!(rt; sink.faults, faults);
     }
     Ok(())
 }
@@ -64,17 +60,17 @@ fn sure_ends_move_by_their_step(rt: HostRuntime) -> Result<(), Fail> {
     let mut source = SureIn::new(b"abc".to_vec(alloc)?, 2);
     let mut sink = SureOut::new(1);
     let calls = [
-        (1, Got::Taken(2), "ab", Put::Took(1)),
-        (2, Got::Taken(1), "c", Put::Took(1)),
-        (3, Got::End, "", Put::Took(0)),
+        (Got::Taken(2), "ab", Put::Took(1)),
+        (Got::Taken(1), "c", Put::Took(1)),
+        (Got::End, "", Put::Took(0)),
     ];
-    for (call, given, text, taken) in calls {
+    for (given, text, taken) in calls {
         let mut buf = [0; 4];
         let got = source.read(&mut buf);
-        assert_eq!(rt; got, given, "read {call}");
-        assert!(rt; buf.starts_with(text.as_bytes()), "bytes of read {call}");
+        assert_eq!(rt; got, given);
+        assert!(rt; buf.starts_with(text.as_bytes()));
         let put = sink.write(text.as_bytes());
-        assert_eq!(rt; put, taken, "write {call}");
+        assert_eq!(rt; put, taken);
     }
     Ok(())
 }
@@ -103,12 +99,8 @@ fn a_whole_read_stops_at_a_fault_and_past_the_limit(rt: HostRuntime) -> Result<(
     for (limit, fault, want, taken) in cases {
         let mut source = BytesIn::new(b"abcdefgh".to_vec(alloc)?, 3, [fault].to_vec(alloc)?);
         let all = read_all(alloc, &mut source, limit);
-        assert_eq!(rt; all, Err(want), "limit {limit} and a fault at call {fault}");
-        assert_eq!(rt;
-            source.at,
-            taken,
-            "limit {limit} and a fault at call {fault}"
-        );
+        assert_eq!(rt; all, Err(want));
+        assert_eq!(rt; source.at, taken);
     }
     Ok(())
 }
@@ -124,12 +116,8 @@ fn a_whole_write_is_whole_or_stops_at_a_fault(rt: HostRuntime) -> Result<(), Fai
     for (fault, want, text) in cases {
         let mut sink = BytesOut::new(alloc, 3, [fault].to_vec(alloc)?);
         let done = write_all(&mut sink, b"abcdefgh");
-        assert_eq!(rt; done, want, "a fault at call {fault}");
-        assert_eq!(rt;
-            sink.bytes.as_slice(),
-            text.as_bytes(),
-            "a fault at call {fault}"
-        );
+        assert_eq!(rt; done, want);
+        assert_eq!(rt; sink.bytes.as_slice(), text.as_bytes());
     }
     Ok(())
 }

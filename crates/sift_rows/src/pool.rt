@@ -11,13 +11,13 @@ fn what_is_released_is_carved_again(rt: HostRuntime) -> Result<(), Fail> {
     let mut pool = Pool::make(rt.alloc(), 10, 2)?;
     let mark = pool.mark();
     let first = pool.carve(6)?;
-    assert_eq!(rt; pool.live(&first), true, "six words");
+    assert!(rt; pool.live(&first));
     let too_long = pool.carve(5).err();
     assert_eq!(rt; too_long, Some(Full { left: 4 }));
     pool.release(mark);
-    assert_eq!(rt; pool.live(&first), false, "what was released");
+    assert!(rt; !pool.live(&first));
     let all = pool.carve(10)?;
-    assert_eq!(rt; pool.live(&all), true, "ten words");
+    assert!(rt; pool.live(&all));
     assert_eq!(rt; pool.count(), 1);
     Ok(())
 }
@@ -26,7 +26,7 @@ fn what_is_released_is_carved_again(rt: HostRuntime) -> Result<(), Fail> {
 fn a_pool_too_large_for_memory_is_not_made(rt: HostRuntime) {
     for (words, spans) in [(usize::MAX, 1), (1, usize::MAX), (1 << 62, 1), (1, 1 << 59)] {
         let made = Pool::make(rt.alloc(), words, spans).err();
-        assert_eq!(rt; made, Some(NoMemory), "{words} words, {spans} spans");
+        assert_eq!(rt; made, Some(NoMemory));
     }
 }
 
@@ -54,7 +54,7 @@ fn a_write_changes_one_word_of_one_span(rt: HostRuntime) -> Result<(), Fail> {
             pair(&pool, &middle),
             pair(&pool, &right),
         ];
-        assert_eq!(rt; words, [[1, 1], want, [3, 3]], "at {at}");
+        assert_eq!(rt; words, [[1, 1], want, [3, 3]]);
     }
     Ok(())
 }
@@ -77,17 +77,13 @@ fn a_span_carved_again_has_zeros(rt: HostRuntime) -> Result<(), Fail> {
         let released = pool.carve(len)?;
         pool.fill(&released, 9);
         pool.release(mark);
-        let live_between = pool.live(&released);
-        assert!(rt; !live_between, "{len}, before {again}");
+        assert!(rt; !pool.live(&released));
         let next = pool.carve(again)?;
-        let live_again = pool.live(&released);
-        assert_eq!(rt; live_again, live, "{len}, after {again}");
+        assert_eq!(rt; pool.live(&released), live);
         for at in 0..again {
-            let word = pool.get(&next, at);
-            assert_eq!(rt; word, 0, "{again} after {len}, at {at}");
+            assert_eq!(rt; pool.get(&next, at), 0);
         }
-        let words = pair(&pool, &kept);
-        assert_eq!(rt; words, [7, 7], "{again} after {len}");
+        assert_eq!(rt; pair(&pool, &kept), [7, 7]);
     }
     Ok(())
 }

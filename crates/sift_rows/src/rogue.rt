@@ -28,11 +28,7 @@ fn a_storm_is_drawn_from_its_number(rt: HostRuntime) {
         storm.start(number);
         for (to, slot, cell) in [first, second] {
             let act = storm.next();
-            assert_eq!(rt;
-                act,
-                Act::Stray { to, slot, cell },
-                "the storm with number {number}"
-            );
+            assert_eq!(rt; act, stray(to, slot, cell));
         }
     }
 }
@@ -40,35 +36,27 @@ fn a_storm_is_drawn_from_its_number(rt: HostRuntime) {
 #[test]
 fn what_no_other_unit_can_get_is_dropped(rt: HostRuntime) -> Result<(), Fail> {
     let rows = [
-        (
-            stray(0, 8, 5),
-            Some((0, 8, 5)),
-            "to the first unit, in the last slot",
-        ),
-        (
-            stray(4, 0, u64::MAX),
-            Some((4, 0, u64::MAX)),
-            "all bits, to the last unit",
-        ),
-        (stray(0, 9, 5), None, "a slot past the layout"),
-        (stray(5, 0, 5), None, "a unit that isn't there"),
-        (stray(1, 0, 5), None, "to the unit itself"),
-        (stray(255, 65_535, 5), None, "neither unit nor slot"),
-        (Act::Rest, None, "a rest"),
+        (stray(0, 8, 5), Some((0, 8, 5))), // to the first unit, in the last slot
+        (stray(4, 0, u64::MAX), Some((4, 0, u64::MAX))), // all bits, to the last unit
+        (stray(0, 9, 5), None), // a slot past the layout
+        (stray(5, 0, 5), None), // a unit that isn't there
+        (stray(1, 0, 5), None), // to the unit itself
+        (stray(255, 65_535, 5), None), // neither unit nor slot
+        (Act::Rest, None),
     ];
     let mut acts = Vec::new(rt.alloc());
-    for (act, _, _) in rows {
+    for (act, _) in rows {
         acts.push(act)?;
     }
     let mut fixed = Fixed { acts, at: 0 };
     fixed.start(9);
-    for (_, want, row) in rows {
+    for (_, want) in rows {
         let shot = next_shot(&mut fixed, unit(1), LAYOUT);
         let got = shot.map(|shot| (shot.to.get(), shot.slot, shot.cell));
-        assert_eq!(rt; got, want, "{row}");
+        assert_eq!(rt; got, want);
     }
     let behind = fixed.next();
-    assert_eq!(rt; behind, Act::Rest, "behind the last one");
+    assert_eq!(rt; behind, Act::Rest);
     Ok(())
 }
 
@@ -100,13 +88,13 @@ impl Rogue for Wild {
 fn rogues_that_promise_nothing_are_called_as_others(rt: HostRuntime) {
     let mut wild = Wild { number: 0 };
     wild.start(7);
-    for (want, row) in [(21, "once"), (63, "twice")] {
+    for want in [21, 63] {
         let shot = next_shot(&mut wild, unit(0), LAYOUT);
         let got = shot.map(|shot| (shot.to.get(), shot.slot, shot.cell));
-        assert_eq!(rt; got, Some((2, 1, want)), "{row}");
+        assert_eq!(rt; got, Some((2, 1, want)));
     }
     let mut silent = Silent;
     silent.start(7);
     let shot = next_shot(&mut silent, unit(0), LAYOUT);
-    assert!(rt; shot.is_none(), "a silent one");
+    assert!(rt; shot.is_none());
 }

@@ -9,8 +9,8 @@ use std::alloc::{AllocError, Global};
 use std::process::Abort;
 use std::test::Fail;
 
-/// A code, its stack and bound or why it is refused, and what it shows.
-type Row<'a> = (&'a [Instr], Result<(u16, u32), Bad>, &'a str);
+/// A code, and its stack and bound or why it is refused.
+type Row<'a> = (&'a [Instr], Result<(u16, u32), Bad>);
 
 /// The stack and the bound of checked code, or why it is refused.
 fn answer(
@@ -34,16 +34,15 @@ fn expect(
     code: Vec<Instr>,
     sensors: u8,
     want: Result<(u16, u32), Bad>,
-    row: &str,
 ) {
-    assert!(rt; code.len() < 1000, "{row}");
+    assert!(rt; code.len() < 1000);
     let got = answer(alloc, code, sensors, 1, 1);
-    assert_eq!(rt; got, want, "{row}");
+    assert_eq!(rt; got, want);
 }
 
 fn expect_rows(rt: &impl Abort, alloc: Global, sensors: u8, rows: &[Row]) -> Result<(), Fail> {
-    for &(code, want, row) in rows {
-        expect(rt, alloc, code.to_vec(alloc)?, sensors, want, row);
+    for &(code, want) in rows {
+        expect(rt, alloc, code.to_vec(alloc)?, sensors, want);
     }
     Ok(())
 }
@@ -52,23 +51,23 @@ fn expect_rows(rt: &impl Abort, alloc: Global, sensors: u8, rows: &[Row]) -> Res
 #[test]
 fn jumps_go_ahead_within_their_loops(rt: HostRuntime) -> Result<(), Fail> {
     let rows: [Row; 17] = [
-        (&[Jump(0)], Err(Bad::BadJump { at: 0 }), "a jump to itself"),
-        (&[Jump(1)], Ok((0, 1)), "a jump to the end"),
-        (&[Jump(2)], Err(Bad::BadJump { at: 0 }), "a jump past the end"),
-        (&[Load(0), JumpZ(0)], Err(Bad::BadJump { at: 1 }), "a jump back"),
-        (&[Load(0), JumpZ(2)], Ok((1, 2)), "a test before the end"),
-        (&[Load(0), JumpZ(3)], Err(Bad::BadJump { at: 1 }), "a test that goes past the end"),
-        (&[Jump(1), Begin(1), End], Ok((0, 3)), "a jump to a Begin"),
-        (&[Jump(2), Begin(1), End], Err(Bad::BadJump { at: 0 }), "a jump to an End from outside its loop"),
-        (&[Jump(3), Begin(1), End], Ok((0, 3)), "a jump over a loop"),
-        (&[Begin(1), Jump(2), End], Ok((0, 3)), "a jump to the End of its own loop"),
-        (&[Begin(1), Jump(3), End], Err(Bad::BadJump { at: 1 }), "a jump out of a loop to the end"),
-        (&[Begin(1), Jump(3), End, Jump(4)], Err(Bad::BadJump { at: 1 }), "a jump out of a loop"),
-        (&[Begin(1), Jump(4), End, Begin(1), End], Err(Bad::BadJump { at: 1 }), "a jump into another loop"),
-        (&[Begin(1), Jump(4), Begin(1), End, End], Ok((0, 5)), "a jump over an inner loop"),
-        (&[Begin(1), Jump(3), Begin(1), End, End], Err(Bad::BadJump { at: 1 }), "a jump into an inner loop"),
-        (&[Jump(2), Begin(1)], Err(Bad::BadJump { at: 1 }), "a jump over a Begin without an End"),
-        (&[Jump(2), End], Err(Bad::BadJump { at: 1 }), "a jump over an End without a Begin"),
+        (&[Jump(0)], Err(Bad::BadJump { at: 0 })), // a jump to itself
+        (&[Jump(1)], Ok((0, 1))), // a jump to the end
+        (&[Jump(2)], Err(Bad::BadJump { at: 0 })), // a jump past the end
+        (&[Load(0), JumpZ(0)], Err(Bad::BadJump { at: 1 })), // a jump back
+        (&[Load(0), JumpZ(2)], Ok((1, 2))), // a test before the end
+        (&[Load(0), JumpZ(3)], Err(Bad::BadJump { at: 1 })), // a test that goes past the end
+        (&[Jump(1), Begin(1), End], Ok((0, 3))), // a jump to a Begin
+        (&[Jump(2), Begin(1), End], Err(Bad::BadJump { at: 0 })), // a jump to an End from outside its loop
+        (&[Jump(3), Begin(1), End], Ok((0, 3))), // a jump over a loop
+        (&[Begin(1), Jump(2), End], Ok((0, 3))), // a jump to the End of its own loop
+        (&[Begin(1), Jump(3), End], Err(Bad::BadJump { at: 1 })), // a jump out of a loop to the end
+        (&[Begin(1), Jump(3), End, Jump(4)], Err(Bad::BadJump { at: 1 })), // a jump out of a loop
+        (&[Begin(1), Jump(4), End, Begin(1), End], Err(Bad::BadJump { at: 1 })), // a jump into another loop
+        (&[Begin(1), Jump(4), Begin(1), End, End], Ok((0, 5))), // a jump over an inner loop
+        (&[Begin(1), Jump(3), Begin(1), End, End], Err(Bad::BadJump { at: 1 })), // a jump into an inner loop
+        (&[Jump(2), Begin(1)], Err(Bad::BadJump { at: 1 })), // a jump over a Begin without an End
+        (&[Jump(2), End], Err(Bad::BadJump { at: 1 })), // a jump over an End without a Begin
     ];
     expect_rows(&rt, rt.alloc(), 1, &rows)
 }
@@ -77,19 +76,19 @@ fn jumps_go_ahead_within_their_loops(rt: HostRuntime) -> Result<(), Fail> {
 #[test]
 fn loops_are_matched_as_brackets(rt: HostRuntime) -> Result<(), Fail> {
     let rows: [Row; 13] = [
-        (&[Begin(1)], Err(Bad::BadJump { at: 0 }), "a Begin alone"),
-        (&[End], Err(Bad::BadJump { at: 0 }), "an End alone"),
-        (&[Begin(2), End, End], Err(Bad::BadJump { at: 2 }), "an End too many"),
-        (&[Begin(2), Begin(3), End], Err(Bad::BadJump { at: 0 }), "a Begin too many"),
-        (&[Begin(2), End], Ok((0, 3)), "two rounds of an End"),
-        (&[Begin(0), End], Ok((0, 1)), "no round"),
-        (&[Begin(2), Begin(3), End, End], Ok((0, 11)), "nested loops"),
-        (&[Begin(2), End, Begin(3), End], Ok((0, 7)), "loops in a row"),
-        (&[Begin(3), Load(0), Out(0), End], Ok((1, 10)), "three rounds of three"),
-        (&[Begin(65535), Begin(65535), End, End], Ok((0, 4294967295)), "one more than is kept"),
-        (&[Begin(65535), Begin(65534), End, End], Ok((0, 4294901761)), "nearly as much as is kept"),
-        (&[Begin(65535), Begin(65535), Begin(65535), End, End, End], Ok((0, 4294967295)), "far more than is kept"),
-        (&[Begin(0), Begin(65535), Begin(65535), End, End, End], Ok((0, 1)), "many rounds in none"),
+        (&[Begin(1)], Err(Bad::BadJump { at: 0 })), // a Begin alone
+        (&[End], Err(Bad::BadJump { at: 0 })), // an End alone
+        (&[Begin(2), End, End], Err(Bad::BadJump { at: 2 })), // an End too many
+        (&[Begin(2), Begin(3), End], Err(Bad::BadJump { at: 0 })), // a Begin too many
+        (&[Begin(2), End], Ok((0, 3))), // two rounds of an End
+        (&[Begin(0), End], Ok((0, 1))), // no round
+        (&[Begin(2), Begin(3), End, End], Ok((0, 11))), // nested loops
+        (&[Begin(2), End, Begin(3), End], Ok((0, 7))), // loops in a row
+        (&[Begin(3), Load(0), Out(0), End], Ok((1, 10))), // three rounds of three
+        (&[Begin(65535), Begin(65535), End, End], Ok((0, 4294967295))), // one more than is kept
+        (&[Begin(65535), Begin(65534), End, End], Ok((0, 4294901761))), // nearly as much as is kept
+        (&[Begin(65535), Begin(65535), Begin(65535), End, End, End], Ok((0, 4294967295))), // far more than is kept
+        (&[Begin(0), Begin(65535), Begin(65535), End, End, End], Ok((0, 1))), // many rounds in none
     ];
     expect_rows(&rt, rt.alloc(), 1, &rows)
 }
@@ -98,14 +97,14 @@ fn loops_are_matched_as_brackets(rt: HostRuntime) -> Result<(), Fail> {
 #[test]
 fn operands_are_on_the_stack(rt: HostRuntime) -> Result<(), Fail> {
     let rows: [Row; 8] = [
-        (&[Out(0)], Err(Bad::Underflow { at: 0 }), "no word to put out"),
-        (&[Store(0)], Err(Bad::Underflow { at: 0 }), "no word to store"),
-        (&[JumpZ(1)], Err(Bad::Underflow { at: 0 }), "no word to test"),
-        (&[Load(0), Add], Err(Bad::Underflow { at: 1 }), "one word to add"),
-        (&[Load(0), Load(0), Add, Out(0)], Ok((2, 4)), "two words to add"),
-        (&[Load(0), Load(0), Mid], Err(Bad::Underflow { at: 2 }), "two words and a Mid"),
-        (&[Load(0), Load(0), Load(0), Mid, Out(0)], Ok((3, 5)), "three words and a Mid"),
-        (&[Jump(2), Out(0)], Err(Bad::Underflow { at: 1 }), "no word behind a jump"),
+        (&[Out(0)], Err(Bad::Underflow { at: 0 })), // no word to put out
+        (&[Store(0)], Err(Bad::Underflow { at: 0 })), // no word to store
+        (&[JumpZ(1)], Err(Bad::Underflow { at: 0 })), // no word to test
+        (&[Load(0), Add], Err(Bad::Underflow { at: 1 })), // one word to add
+        (&[Load(0), Load(0), Add, Out(0)], Ok((2, 4))), // two words to add
+        (&[Load(0), Load(0), Mid], Err(Bad::Underflow { at: 2 })), // two words and a Mid
+        (&[Load(0), Load(0), Load(0), Mid, Out(0)], Ok((3, 5))), // three words and a Mid
+        (&[Jump(2), Out(0)], Err(Bad::Underflow { at: 1 })), // no word behind a jump
     ];
     expect_rows(&rt, rt.alloc(), 1, &rows)
 }
@@ -114,14 +113,14 @@ fn operands_are_on_the_stack(rt: HostRuntime) -> Result<(), Fail> {
 #[test]
 fn heights_that_meet_are_the_same(rt: HostRuntime) -> Result<(), Fail> {
     let rows: [Row; 8] = [
-        (&[Load(0)], Err(Bad::Unequal { at: 1 }), "a word left at the end"),
-        (&[Begin(2), Load(0), End, Out(0)], Err(Bad::Unequal { at: 2 }), "a word more after each round"),
-        (&[Load(0), Begin(2), Store(0), End], Err(Bad::Unequal { at: 3 }), "a word less after each round"),
-        (&[Load(0), JumpZ(5), Load(0), Jump(5), Out(0)], Err(Bad::Unequal { at: 5 }), "two jumps with two heights"),
-        (&[Load(0), JumpZ(4), Load(0), Jump(5), Load(0), Out(0)], Ok((1, 6)), "either of two words"),
-        (&[Load(0), JumpZ(4), Jump(5), Load(0), Out(0)], Err(Bad::Unequal { at: 4 }), "a word on one way alone"),
-        (&[Load(0), Jump(4), Load(0), Load(0), Out(0)], Err(Bad::Unequal { at: 4 }), "a height kept behind a jump"),
-        (&[Load(0), Jump(3), Add, Out(0)], Err(Bad::Underflow { at: 2 }), "code that no jump reaches"),
+        (&[Load(0)], Err(Bad::Unequal { at: 1 })), // a word left at the end
+        (&[Begin(2), Load(0), End, Out(0)], Err(Bad::Unequal { at: 2 })), // a word more after each round
+        (&[Load(0), Begin(2), Store(0), End], Err(Bad::Unequal { at: 3 })), // a word less after each round
+        (&[Load(0), JumpZ(5), Load(0), Jump(5), Out(0)], Err(Bad::Unequal { at: 5 })), // two jumps with two heights
+        (&[Load(0), JumpZ(4), Load(0), Jump(5), Load(0), Out(0)], Ok((1, 6))), // either of two words
+        (&[Load(0), JumpZ(4), Jump(5), Load(0), Out(0)], Err(Bad::Unequal { at: 4 })), // a word on one way alone
+        (&[Load(0), Jump(4), Load(0), Load(0), Out(0)], Err(Bad::Unequal { at: 4 })), // a height kept behind a jump
+        (&[Load(0), Jump(3), Add, Out(0)], Err(Bad::Underflow { at: 2 })), // code that no jump reaches
     ];
     expect_rows(&rt, rt.alloc(), 1, &rows)
 }
@@ -130,17 +129,17 @@ fn heights_that_meet_are_the_same(rt: HostRuntime) -> Result<(), Fail> {
 #[test]
 fn operands_are_there(rt: HostRuntime) -> Result<(), Fail> {
     let rows: [Row; 11] = [
-        (&[Load(31), Out(0)], Ok((1, 2)), "the last local"),
-        (&[Load(32), Out(0)], Err(Bad::BadOperand { at: 0 }), "no such local to load"),
-        (&[Load(0), Store(31)], Ok((1, 2)), "the last local stored"),
-        (&[Load(0), Store(32)], Err(Bad::BadOperand { at: 1 }), "no such local to store"),
-        (&[Sense(0), Out(0)], Ok((1, 2)), "the last sensor"),
-        (&[Sense(1), Out(0)], Err(Bad::BadOperand { at: 0 }), "no such sensor"),
-        (&[Now(0), Out(0)], Ok((1, 2)), "the last word of this frame"),
-        (&[Now(1), Out(0)], Err(Bad::BadOperand { at: 0 }), "no such word of this frame"),
-        (&[Last(0), Out(0)], Ok((1, 2)), "the last word of the frame before"),
-        (&[Last(1), Out(0)], Err(Bad::BadOperand { at: 0 }), "no such word of the frame before"),
-        (&[Load(0), Out(1)], Err(Bad::BadOperand { at: 1 }), "no such output word"),
+        (&[Load(31), Out(0)], Ok((1, 2))), // the last local
+        (&[Load(32), Out(0)], Err(Bad::BadOperand { at: 0 })), // no such local to load
+        (&[Load(0), Store(31)], Ok((1, 2))), // the last local stored
+        (&[Load(0), Store(32)], Err(Bad::BadOperand { at: 1 })), // no such local to store
+        (&[Sense(0), Out(0)], Ok((1, 2))), // the last sensor
+        (&[Sense(1), Out(0)], Err(Bad::BadOperand { at: 0 })), // no such sensor
+        (&[Now(0), Out(0)], Ok((1, 2))), // the last word of this frame
+        (&[Now(1), Out(0)], Err(Bad::BadOperand { at: 0 })), // no such word of this frame
+        (&[Last(0), Out(0)], Ok((1, 2))), // the last word of the frame before
+        (&[Last(1), Out(0)], Err(Bad::BadOperand { at: 0 })), // no such word of the frame before
+        (&[Load(0), Out(1)], Err(Bad::BadOperand { at: 1 })), // no such output word
     ];
     expect_rows(&rt, rt.alloc(), 1, &rows)
 }
@@ -151,12 +150,12 @@ fn operands_are_there(rt: HostRuntime) -> Result<(), Fail> {
 #[test]
 fn the_first_reason_at_a_place_is_answered(rt: HostRuntime) -> Result<(), Fail> {
     let rows: [Row; 6] = [
-        (&[JumpZ(0)], Err(Bad::BadJump { at: 0 }), "a bad jump before too little"),
-        (&[Load(0), JumpZ(3), Load(0), Jump(0)], Err(Bad::BadJump { at: 3 }), "a bad jump before unequal heights"),
-        (&[Load(0), JumpZ(3), Load(0), Mid], Err(Bad::Unequal { at: 3 }), "unequal heights before too little"),
-        (&[Load(0), JumpZ(3), Load(0), Out(9)], Err(Bad::Unequal { at: 3 }), "unequal heights before no output"),
-        (&[Out(9)], Err(Bad::Underflow { at: 0 }), "too little before no output"),
-        (&[Load(40), Jump(0)], Err(Bad::BadOperand { at: 0 }), "an earlier place before a later"),
+        (&[JumpZ(0)], Err(Bad::BadJump { at: 0 })), // a bad jump before too little
+        (&[Load(0), JumpZ(3), Load(0), Jump(0)], Err(Bad::BadJump { at: 3 })), // a bad jump before unequal heights
+        (&[Load(0), JumpZ(3), Load(0), Mid], Err(Bad::Unequal { at: 3 })), // unequal heights before too little
+        (&[Load(0), JumpZ(3), Load(0), Out(9)], Err(Bad::Unequal { at: 3 })), // unequal heights before no output
+        (&[Out(9)], Err(Bad::Underflow { at: 0 })), // too little before no output
+        (&[Load(40), Jump(0)], Err(Bad::BadOperand { at: 0 })), // an earlier place before a later
     ];
     expect_rows(&rt, rt.alloc(), 1, &rows)
 }
@@ -165,12 +164,12 @@ fn the_first_reason_at_a_place_is_answered(rt: HostRuntime) -> Result<(), Fail> 
 #[test]
 fn codes_without_a_sensor(rt: HostRuntime) -> Result<(), Fail> {
     let rows: [Row; 6] = [
-        (&[Add], Err(Bad::Underflow { at: 0 }), "a sum of nothing"),
-        (&[Jump(0)], Err(Bad::BadJump { at: 0 }), "a jump to itself"),
-        (&[Load(0), JumpZ(3), Load(0), Out(0)], Err(Bad::Unequal { at: 3 }), "two heights at an Out"),
-        (&[Sense(0), Out(0)], Err(Bad::BadOperand { at: 0 }), "no sensor"),
-        (&[Load(0), Out(0)], Ok((1, 2)), "one word put out"),
-        (&[], Ok((0, 0)), "empty code"),
+        (&[Add], Err(Bad::Underflow { at: 0 })), // a sum of nothing
+        (&[Jump(0)], Err(Bad::BadJump { at: 0 })), // a jump to itself
+        (&[Load(0), JumpZ(3), Load(0), Out(0)], Err(Bad::Unequal { at: 3 })), // two heights at an Out
+        (&[Sense(0), Out(0)], Err(Bad::BadOperand { at: 0 })), // no sensor
+        (&[Load(0), Out(0)], Ok((1, 2))), // one word put out
+        (&[], Ok((0, 0))), // empty code
     ];
     expect_rows(&rt, rt.alloc(), 0, &rows)
 }
@@ -199,7 +198,7 @@ fn expect_runs(
     want: Result<(u16, u32), Bad>,
 ) -> Result<(), Fail> {
     let code = runs_of(alloc, &first, count, &second, more)?;
-    expect(rt, alloc, code, 1, want, "so many of two instructions");
+    expect(rt, alloc, code, 1, want);
     Ok(())
 }
 
@@ -250,6 +249,7 @@ fn loops_have_limits(rt: HostRuntime) -> Result<(), Fail> {
     )
 }
 
+/// Heights 0 and 256 at a `Load`.
 #[test]
 fn unequal_heights_go_before_too_many_words(rt: HostRuntime) -> Result<(), Fail> {
     let alloc = rt.alloc();
@@ -258,10 +258,11 @@ fn unequal_heights_go_before_too_many_words(rt: HostRuntime) -> Result<(), Fail>
         code.push(Load(0))?;
     }
     let want = Err(Bad::Unequal { at: 258 });
-    expect(&rt, alloc, code, 1, want, "heights 0 and 256 at a Load");
+    expect(&rt, alloc, code, 1, want);
     Ok(())
 }
 
+/// Heights 0 and 1 at the 33rd `Begin`.
 #[test]
 fn unequal_heights_go_before_too_many_loops(rt: HostRuntime) -> Result<(), Fail> {
     let alloc = rt.alloc();
@@ -273,14 +274,7 @@ fn unequal_heights_go_before_too_many_loops(rt: HostRuntime) -> Result<(), Fail>
         code.push(End)?;
     }
     let want = Err(Bad::Unequal { at: 35 });
-    expect(
-        &rt,
-        alloc,
-        code,
-        1,
-        want,
-        "heights 0 and 1 at the 33rd Begin",
-    );
+    expect(&rt, alloc, code, 1, want);
     Ok(())
 }
 
@@ -289,8 +283,8 @@ fn unequal_heights_go_before_too_many_loops(rt: HostRuntime) -> Result<(), Fail>
 fn pushed_words_are_tested_and_put_out(rt: HostRuntime) -> Result<(), Fail> {
     let (one, two) = (Word::of(1), Word::of(2));
     let rows: [Row; 2] = [
-        (&[Push(one), Out(0)], Ok((1, 2)), "one word put out"),
-        (&[Push(one), JumpZ(3), Push(two), Out(0)], Err(Bad::Unequal { at: 3 }), "two heights at an Out"),
+        (&[Push(one), Out(0)], Ok((1, 2))), // one word put out
+        (&[Push(one), JumpZ(3), Push(two), Out(0)], Err(Bad::Unequal { at: 3 })), // two heights at an Out
     ];
     expect_rows(&rt, rt.alloc(), 0, &rows)?;
     expect_runs(&rt, rt.alloc(), (Push(one), 257), (Out(0), 0), Err(Bad::TooDeep { at: 256 }))

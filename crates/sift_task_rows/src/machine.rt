@@ -13,8 +13,8 @@ use std::alloc::Global;
 use std::process::Abort;
 use std::test::Fail;
 
-/// A code, the two words that it puts out, and what it shows.
-type Row<'a> = (&'a [Instr], [u16; 2], &'a str);
+/// A code, and the two words that it puts out.
+type Row<'a> = (&'a [Instr], [u16; 2]);
 
 /// How many words there are, and the first two of them.
 fn numbers(outs: &ArrayVec<Word, 8>) -> (usize, [u16; 2]) {
@@ -60,11 +60,11 @@ fn run_twice(alloc: Global, code: &Checked) -> Result<([(usize, [u16; 2]); 2], u
 }
 
 fn expect_outputs(rt: &impl Abort, alloc: Global, rows: &[Row]) -> Result<(), Fail> {
-    for &(code, want, row) in rows {
-        assert!(rt; code.len() < 1000, "{row}");
+    for &(code, want) in rows {
+        assert!(rt; code.len() < 1000);
         let checked = verify(alloc, code.to_vec(alloc)?, 2, 2, 2)?;
         let got = run_twice(alloc, &checked)?;
-        assert_eq!(rt; got, ([(2, want), (2, want)], 77), "{row}");
+        assert_eq!(rt; got, ([(2, want), (2, want)], 77));
     }
     Ok(())
 }
@@ -73,8 +73,8 @@ fn expect_outputs(rt: &impl Abort, alloc: Global, rows: &[Row]) -> Result<(), Fa
 #[test]
 fn codes_that_no_text_has_are_run(rt: HostRuntime) -> Result<(), Fail> {
     let rows: [Row; 2] = [
-        (&[Sense(0), Store(31), Load(31), Out(0), Load(30), Out(1)], [5, 0], "a local stored, and one that wasn't"),
-        (&[Sense(0), Begin(2), Sense(1), Add, End, Out(0)], [11, 0], "a word under a loop"),
+        (&[Sense(0), Store(31), Load(31), Out(0), Load(30), Out(1)], [5, 0]), // a local stored, and one that wasn't
+        (&[Sense(0), Begin(2), Sense(1), Add, End, Out(0)], [11, 0]), // a word under a loop
     ];
     expect_outputs(&rt, rt.alloc(), &rows)
 }

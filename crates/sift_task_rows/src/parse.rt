@@ -17,7 +17,7 @@ fn expect(rt: &impl Abort, alloc: Global, text: &str, want: Which) -> Result<(),
         Err(ParseStop::Limit { which, .. }) => Some(which),
         _ => None,
     };
-    assert_eq!(rt; passed, Some(want), "{text:?}");
+    assert_eq!(rt; passed, Some(want));
     Ok(())
 }
 
@@ -65,7 +65,7 @@ fn long_chains_have_their_word(rt: HostRuntime) -> Result<(), Fail> {
     for (piece, count, want) in [("+1", 2043, 2044), ("<<0", 1362, 1)] {
         let text = long(rt.alloc(), "out 0 = 1", piece, count, ";")?;
         let got = first_word(rt.alloc(), &text)?;
-        assert_eq!(rt; got, Some(want), "{count} times {piece:?}");
+        assert_eq!(rt; got, Some(want));
     }
     Ok(())
 }

@@ -48,6 +48,6 @@ pub(crate) fn task_of(alloc: Global, text: &str) -> Result<Task, Fail>
     let names = names(alloc)?;
     match parse_task(alloc, text, &names) {
         Ok(task) => Ok(task),
-        Err(_) => Err(Fail::new(format_args!("{text:?} is refused"))),
+        Err(_) => Err(Fail::new("the text of a row is refused")),
     }
 }

@@ -97,7 +97,7 @@ fn no_calls() -> [Calls; 8] {
 fn expect_one_storm(rt: &impl Abort, calls: &[Calls; 8]) {
     for (unit, of_unit) in calls.iter().enumerate() {
         let want = if unit == 4 { (1, 1) } else { (0, 0) };
-        assert_eq!(rt; of_unit.counts(), want, "unit {unit}");
+        assert_eq!(rt; of_unit.counts(), want);
     }
 }
 

@@ -68,11 +68,11 @@ fn pilots_come_back_in_their_order(rt: HostRuntime) -> Result<(), Fail> {
         }
         let home = fly_all(&rt, rt.alloc(), pilots, workers, &Still)?;
         let count = home.len();
-        assert!(rt; count == 5, "by {workers} workers");
+        assert!(rt; count == 5);
         for place in 0..5 {
             let pilot = &home[usize::from(place)];
             let end = (pilot.number, pilot.left);
-            assert_eq!(rt; end, (place, 0), "by {workers} workers");
+            assert_eq!(rt; end, (place, 0));
         }
     }
     Ok(())

@@ -53,12 +53,13 @@ fn word_heard(mission: &Mission, journals: &[Journal]) -> Result<Option<Word>, F
     Ok(journals[0].heard(0, 1, from))
 }
 
+/// 3 * 5 + 1 is 16.
 #[test]
 fn seats_are_flown_and_landed(rt: HostRuntime) -> Result<(), Fail> {
     let alloc = rt.alloc();
     let mission = stated(alloc, COUNT)?;
     let journals = land(&rt, alloc, &mission)?;
     let heard = word_heard(&mission, &journals)?;
-    assert_eq!(rt; heard, Some(Word::of(16)), "3 * 5 + 1");
+    assert_eq!(rt; heard, Some(Word::of(16)));
     Ok(())
 }

@@ -38,16 +38,13 @@ fn a_source_may_fail_at_any_call(rt: HostRuntime) -> Result<(), Fail> {
     for read in 1..=6 {
         let failing = Failing { read, write: 0 };
         let (status, sink) = call_with_failing(&rt, rt.alloc(), "run", COUNT, failing)?;
-        assert_eq!(rt; status, 8, "status where read {read} fails");
-        assert_eq!(rt;
-            sink.bytes.as_slice(),
-            b"read fault\n".as_slice(),
-            "text where read {read} fails"
-        );
+        assert_eq!(rt; status, 8);
+        assert_eq!(rt; sink.bytes.as_slice(), b"read fault\n".as_slice());
     }
+    // No read comes after the end.
     let failing = Failing { read: 7, write: 0 };
     let (status, _) = call_with_failing(&rt, rt.alloc(), "run", COUNT, failing)?;
-    assert_eq!(rt; status, 0, "status where a read after the end would fail");
+    assert_eq!(rt; status, 0);
     Ok(())
 }
 
@@ -58,40 +55,33 @@ fn a_sink_may_fail_at_any_call(rt: HostRuntime) -> Result<(), Fail> {
     for write in 1..=15 {
         let failing = Failing { read: 0, write };
         let (status, sink) = call_with_failing(&rt, rt.alloc(), "run", COUNT, failing)?;
-        assert_eq!(rt; status, 9, "status where write {write} fails");
-        assert_eq!(rt;
-            sink.bytes.len(),
-            written,
-            "bytes where write {write} fails"
-        );
-        assert!(rt;
-            COUNT_REPORT.as_bytes().starts_with(sink.bytes.as_slice()),
-            "text where write {write} fails"
-        );
+        assert_eq!(rt; status, 9);
+        assert_eq!(rt; sink.bytes.len(), written);
+        assert!(rt; COUNT_REPORT.as_bytes().starts_with(sink.bytes.as_slice()));
         written += 16;
     }
+    // No write comes after the text.
     let failing = Failing { read: 0, write: 16 };
     let (status, _) = call_with_failing(&rt, rt.alloc(), "run", COUNT, failing)?;
-    assert_eq!(rt; status, 0, "status where a write after the text would fail");
+    assert_eq!(rt; status, 0);
     Ok(())
 }
 
 #[test]
 fn the_line_of_a_refusal_may_fail(rt: HostRuntime) -> Result<(), Fail> {
+    // No byte of it is written.
     let failing = Failing { read: 0, write: 1 };
     let (status, sink) = call_with_failing(&rt, rt.alloc(), "fly", COUNT, failing)?;
-    assert_eq!(rt; status, 9, "status where no byte of it is written");
+    assert_eq!(rt; status, 9);
     assert_eq!(rt; sink.bytes.len(), 0);
+    // It is cut.
     let failing = Failing { read: 0, write: 2 };
     let (status, sink) = call_with_failing(&rt, rt.alloc(), "run", "", failing)?;
-    assert_eq!(rt; status, 9, "status where it is cut");
+    assert_eq!(rt; status, 9);
     assert_eq!(rt; sink.bytes.as_slice(), b"scenario rule 2 ".as_slice());
+    // A source fails, and the sink then does.
     let failing = Failing { read: 1, write: 1 };
     let (status, _) = call_with_failing(&rt, rt.alloc(), "run", COUNT, failing)?;
-    assert_eq!(rt;
-        status,
-        9,
-        "status where a source fails, and the sink then does"
-    );
+    assert_eq!(rt; status, 9);
     Ok(())
 }

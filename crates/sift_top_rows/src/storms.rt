@@ -89,17 +89,9 @@ fn only_the_rogue_of_a_stray_unit_is_called(rt: HostRuntime) -> Result<(), Fail>
             rogues,
             &NoProbe,
         )?;
-        assert_eq!(rt; status, 0, "status by {workers} workers");
-        assert_eq!(rt;
-            own.counts(),
-            (1, 100_000),
-            "calls of unit 5's rogue by {workers} workers"
-        );
-        assert_eq!(rt;
-            others.counts(),
-            (0, 0),
-            "calls of others by {workers} workers"
-        );
+        assert_eq!(rt; status, 0);
+        assert_eq!(rt; own.counts(), (1, 100_000));
+        assert_eq!(rt; others.counts(), (0, 0));
     }
     Ok(())
 }

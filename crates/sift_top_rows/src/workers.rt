@@ -71,8 +71,8 @@ fn two_workers_fly_at_once(rt: HostRuntime) -> Result<(), Fail> {
     )?;
     assert_eq!(rt; status, 0);
     assert_eq!(rt; sink.bytes.as_slice(), COUNT_REPORT.as_bytes());
-    assert!(rt; meeting.first.load(SeqCst), "unit 0 came there");
-    assert!(rt; meeting.second.load(SeqCst), "unit 1 came there");
-    assert!(rt; !meeting.missed.load(SeqCst), "they met");
+    assert!(rt; meeting.first.load(SeqCst));
+    assert!(rt; meeting.second.load(SeqCst));
+    assert!(rt; !meeting.missed.load(SeqCst));
     Ok(())
 }

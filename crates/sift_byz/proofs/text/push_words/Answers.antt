@@ -1,5 +1,5 @@
 use Rattle.std.proofs.Common.{◌≡◌, ◌∷◌, rules}
-use Rattle.sift_byz.specs.Text.{word_text}
+use Rattle.sift_line.specs.Part.{word_text}
 use Rattle.sift_byz.proofs.Lists.{all_joined}
 use Rattle.sift_byz.proofs.text.push_words.Goals as goal
 

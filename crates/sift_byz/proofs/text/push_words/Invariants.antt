@@ -1,6 +1,6 @@
 use Rattle.std.proofs.Common.{◌≡◌, ◌++◌, ◌∷◌, take, string_bytes}
 use Rattle.std.specs.List.{flat_map}
-use Rattle.sift_byz.specs.Text.{word_text}
+use Rattle.sift_line.specs.Part.{word_text}
 use Rattle.sift_byz.proofs.text.push_words.Given as goal
 
 -- the words so far are written, each behind a comma
