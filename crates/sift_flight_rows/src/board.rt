@@ -163,46 +163,63 @@ fn expect_silence(rt: &impl Abort, port: &LonePort)
     }
 }
 
+/// It says its clock to three units, enters the second subframe and waits for unit 0.
+fn expect_wait(rt: &impl Abort, board: &mut Board, mission: &Mission, port: &mut LonePort)
+    requires drives { Drives (flown_of mission.now) board.old (view_of port.old) }
+    requires port { IsPortOfOne port.old }
+    ensures drives { Drives (flown_of mission.now) board.new (view_of port.new) }
+    ensures port { IsPortOfOne port.new }
+{
+    let (moved, stepped) = fly(board, mission, port);
+    assert_eq!(rt; moved, 4);
+    let unit = unit(0);
+    assert_eq!(rt; stepped, Stepped::NotYet { unit, seen: 0 });
+}
+
+/// With the others ahead of it, it says 18 words, hears 21 and enters 18 times. Then it has landed.
+#[tactic(auto, using(crate::proofs::Alone::follows_one))]
+fn expect_landing(rt: &impl Abort, board: &mut Board, mission: &Mission, port: &mut LonePort)
+    requires drives { Drives (flown_of mission.now) board.old (view_of port.old) }
+    requires port { IsPortOfOne port.old }
+    requires frames { mission.now.frames ≡ 1 }
+    ensures { IsPortOfOne port.new }
+{
+    boards_account_for_their_frames();
+    let (moved, stepped) = fly(board, mission, port);
+    assert_eq!(rt; moved, 57);
+    assert_eq!(rt; stepped, Stepped::Landed);
+    let again = board.step(mission, port);
+    assert_eq!(rt; again, Stepped::Landed);
+    expect_account(rt, board.account(0));
+}
+
 /// The sensor's word, the votes, unit 3 alone, which puts out another word and none, and no one removed. What was relayed
 /// only the sensor's reader knows.
 fn expect_account(rt: &impl Abort, account: &Account) {
-    assert_eq!(rt; account.cfg.len(), 4);
-    assert!(rt; !account.idle);
-    assert_eq!(rt; account.clk, 0);
+    let sizes = [account.cfg.len(), account.next_cfg.len()];
+    assert_eq!(rt; sizes, [4, 4]);
+    let clocks = [account.clk, account.next_clk];
+    assert_eq!(rt; clocks, [0, 0]);
     assert!(rt; account.ins[..] == [Word::of(1)]);
     assert!(rt; account.outs[..] == [Word::of(1), Word::of(1)]);
-    assert_eq!(rt; account.bad.poll.bits(), 0b1000);
-    assert_eq!(rt; account.bad.relay.bits(), 0);
-    assert_eq!(rt; account.bad.clock.bits(), 0);
-    assert_eq!(rt; account.next_cfg.len(), 4);
-    assert_eq!(rt; account.next_clk, 0);
+    let bad = &account.bad;
+    let caught = [bad.poll.bits(), bad.relay.bits(), bad.clock.bits()];
+    assert_eq!(rt; caught, [0b1000, 0, 0]);
+    assert!(rt; !account.idle);
 }
 
-/// It says three clocks and enters. With the others ahead of it, it says 18 words, hears 21 and enters 18 times.
 #[test]
 fn a_board_flies_a_frame_beside_one_that_errs(rt: HostRuntime) -> Result<(), Fail> {
     new_boards_may_step();
-    boards_account_for_their_frames();
     let mission = four_units(rt.alloc())?;
     let own = unit(1);
     let mut port = LonePort::make(rt.alloc(), LAYOUT, own, 1)?;
     tell(&rt, &mut port);
     let mut board = Board::make(rt.alloc(), &mission, own)?;
-    let (moved, stepped) = fly(&mut board, &mission, &mut port);
-    assert_eq!(rt; moved, 4);
-    let waits = Stepped::NotYet {
-        unit: unit(0),
-        seen: 0,
-    };
-    assert_eq!(rt; stepped, waits);
+    expect_wait(&rt, &mut board, &mission, &mut port);
     go_ahead(&mut port);
-    let (moved, stepped) = fly(&mut board, &mission, &mut port);
-    assert_eq!(rt; moved, 57);
-    assert_eq!(rt; stepped, Stepped::Landed);
-    let again = board.step(&mission, &mut port);
-    assert_eq!(rt; again, Stepped::Landed);
+    expect_landing(&rt, &mut board, &mission, &mut port);
     expect_said(&rt, &port);
     expect_silence(&rt, &port);
-    expect_account(&rt, board.account(0));
     Ok(())
 }

@@ -59,17 +59,24 @@ fn expect_turns(
     Ok(())
 }
 
-#[test]
-fn the_order_number_draws_who_steps(rt: HostRuntime) -> Result<(), Fail> {
-    let mission = stated(rt.alloc(), FIVE)?;
-    for (order, want) in TURNS_OF_FIVE {
-        expect_turns(&rt, rt.alloc(), &mission, order, want.as_bytes())?;
-    }
-    let mission = eight_units(rt.alloc())?;
-    for (order, want) in TURNS_OF_EIGHT {
-        expect_turns(&rt, rt.alloc(), &mission, order, want.as_bytes())?;
+fn expect_orders(
+    rt: &impl Abort,
+    alloc: Global,
+    mission: &Mission,
+    orders: &[(u64, &str)],
+) -> Result<(), Fail> {
+    for &(order, want) in orders {
+        expect_turns(rt, alloc, mission, order, want.as_bytes())?;
     }
     Ok(())
+}
+
+#[test]
+fn the_order_number_draws_who_steps(rt: HostRuntime) -> Result<(), Fail> {
+    let five = stated(rt.alloc(), FIVE)?;
+    expect_orders(&rt, rt.alloc(), &five, &TURNS_OF_FIVE)?;
+    let eight = eight_units(rt.alloc())?;
+    expect_orders(&rt, rt.alloc(), &eight, &TURNS_OF_EIGHT)
 }
 
 /// Unit 0, which is one of eight.
