@@ -3,11 +3,12 @@
 ghost use Rattle.std.specs.Prelude.{◌≡◌, length};
 ghost use Rattle.sift_base.specs.Units.{unit_limit};
 
+use sift_base::NoMemory;
 use sift_io::{BytesIn, BytesOut};
 use sift_rogue::Rogue;
 use sift_run::sift;
 use sift_threads::Probe;
-use std::alloc::{AllocError, Global};
+use std::alloc::Global;
 use std::sync::Wait;
 use std::thread::Threads;
 
@@ -32,7 +33,7 @@ pub(crate) fn call<R: Rogue + Send, P: Probe + Sync, H: Threads + Wait + Sync>(
     failing: Failing,
     rogues: Vec<R>,
     probe: &P,
-) -> Result<(u8, BytesOut), AllocError>
+) -> Result<(u8, BytesOut), NoMemory>
     requires { length rogues.items ≡ unit_limit }
 {
     let mut command = Vec::new(alloc);

@@ -1,11 +1,11 @@
 //! A source and a sink that fail at any one of their calls. What the top call answers else is in cases/.
 
 use crate::calling::{Failing, call};
-use crate::stated::{COUNT, COUNT_REPORT};
+use crate::stated::{COUNT, COUNT_REPORT, silents};
+use sift_base::NoMemory;
 use sift_io::BytesOut;
-use sift_rogue::Silent;
 use sift_threads::NoProbe;
-use std::alloc::{AllocError, Global};
+use std::alloc::Global;
 use std::sync::Wait;
 use std::test::Fail;
 use std::thread::Threads;
@@ -17,10 +17,8 @@ fn call_with_failing<H: Threads + Wait + Sync>(
     word: &str,
     input: &str,
     failing: Failing,
-) -> Result<(u8, BytesOut), AllocError> {
-    let rogues = vec![in alloc;
-        Silent, Silent, Silent, Silent, Silent, Silent, Silent, Silent,
-    ]?;
+) -> Result<(u8, BytesOut), NoMemory> {
+    let rogues = silents(alloc)?;
     call(
         rt,
         alloc,

@@ -1,19 +1,51 @@
-//! The documents of these rows, and their reports.
+//! The missions of the rows, as documents state them, and reports of two, which a plain simulator wrote that shares nothing
+//! with this program.
+
+ghost use Rattle.std.specs.Prelude.{◌≡◌, IfOk, length};
+ghost use Rattle.sift_base.specs.Units.{unit_limit};
+
+use sift_base::NoMemory;
+use sift_mission::Mission;
+use sift_rogue::Silent;
+use sift_scenario::mission_of;
+use std::alloc::Global;
+use std::test::Fail;
 
 /// A mission of one frame and four units.
-pub const COUNT: &str =
+pub(crate) const COUNT: &str =
     "units = 4\nframes = 1\n[[task]]\nname = \"count\"\nstart = [5]\nlinear = [3, 1]\n";
 
 /// Its report: each unit votes 3 * 5 + 1.
-pub const COUNT_REPORT: &str = "f=0 u=0 cfg=0123 clk=0 in=- out=0010 bad=-\n\
+pub(crate) const COUNT_REPORT: &str = "f=0 u=0 cfg=0123 clk=0 in=- out=0010 bad=-\n\
     f=0 u=1 cfg=0123 clk=0 in=- out=0010 bad=-\n\
     f=0 u=2 cfg=0123 clk=0 in=- out=0010 bad=-\n\
     f=0 u=3 cfg=0123 clk=0 in=- out=0010 bad=-\n\
     f=0 skew=0 slack=1 margin=ok\n\
     end frames=1 cfg=0123 margin=ok\n";
 
+/// Two frames of five units that count. Unit 4 turns stray in frame 0, and its rogue is asked once.
+pub(crate) const STORM: &str =
+    "units = 5\nframes = 2\ntask = [{name = 'count', start = [5], linear = [3, 1]}]\n\
+    fault = [{unit = 4, from = 0, storm = {number = 1, strays = 1}}]\n";
+
+/// Its report, whether a stray is heard or absence: each catches unit 4 by a poll and by its clock, and it is out of the next
+/// configuration.
+pub(crate) const STORM_REPORT: &str = "f=0 u=0 cfg=01234 clk=0 in=- out=0010 bad=4pc\n\
+    f=0 u=1 cfg=01234 clk=0 in=- out=0010 bad=4pc\n\
+    f=0 u=2 cfg=01234 clk=0 in=- out=0010 bad=4pc\n\
+    f=0 u=3 cfg=01234 clk=0 in=- out=0010 bad=4pc\n\
+    f=0 u=4 faulty\n\
+    f=0 skew=0 slack=1 margin=ok\n\
+    f=1 u=0 cfg=0123 clk=0 in=- out=0031 bad=-\n\
+    f=1 u=1 cfg=0123 clk=0 in=- out=0031 bad=-\n\
+    f=1 u=2 cfg=0123 clk=0 in=- out=0031 bad=-\n\
+    f=1 u=3 cfg=0123 clk=0 in=- out=0031 bad=-\n\
+    f=1 u=4 faulty\n\
+    f=1 skew=0 slack=1 margin=ok\n\
+    end frames=2 cfg=0123 margin=ok\n";
+
 /// Six units with three sensors and four tasks, of which unit 5 turns stray in frame 10.
-pub const STRAY: &str = "units = 6\nframes = 50\n\
+pub(crate) const STRAY: &str = "units = 6\nframes = 50\n\
     [clock]\nskew = 20\nerror = 2\nrate = 2\nlength = 50\nstart = [0, 5, -5, 10, -10, 3]\ndrift = [1, 0, -1, 2, -2, 0]\n\
     [[sensor]]\nname = \"a\"\nwords = [10, 12, 14]\n\
     [[sensor]]\nname = \"b\"\nwords = [11, 12, 13]\n\
@@ -24,3 +56,20 @@ pub const STRAY: &str = "units = 6\nframes = 50\n\
     [[task]]\nname = \"trim\"\nstart = [0, 0]\n\
     text = \"let d = last elev.0; if d < 0 { out 0 = 0 - d; } else { out 0 = d; } out 1 = now elev.0 * 2;\"\n\
     [[fault]]\nunit = 5\nfrom = 10\nstorm = {number = 1, strays = 100000}\n";
+
+/// The mission that a document states.
+pub(crate) fn stated(alloc: Global, document: &str) -> Result<Mission, Fail> {
+    let table = toml::table_from_str(alloc, document)?;
+    let mission = mission_of(alloc, &table).ok();
+    Ok(mission.ok_or("the document states no mission")?)
+}
+
+/// A rogue that rests, for each unit that there may be.
+pub(crate) fn silents(alloc: Global) -> Result<Vec<Silent>, NoMemory>
+    ensures { IfOk result (λ rogues. length rogues.items ≡ unit_limit) }
+{
+    let rogues = [
+        Silent, Silent, Silent, Silent, Silent, Silent, Silent, Silent,
+    ];
+    Ok(Vec::from_array(alloc, rogues)?)
+}

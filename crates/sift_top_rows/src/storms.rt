@@ -1,18 +1,34 @@
-//! Rogues that count their calls, in the flight of a mission whose unit 5 turns stray.
+//! Rogues that count their calls, in flights of missions in which a unit turns stray.
 
 ghost use Rattle.std.specs.Prelude.{◌≡◌, IfOk, length, ⊤};
 ghost use Rattle.sift_base.specs.Units.{unit_limit};
+ghost use Rattle.sift_flight.specs.Told.{IsWhole};
+ghost use Rattle.sift_mission.specs.Parts.{flown_of};
 
 use crate::calling::{Failing, call};
-use crate::stated::STRAY;
+use crate::stated::{STORM, STORM_REPORT, STRAY, stated};
+use sift_base::NoMemory;
+use sift_flight::{Flight, round_flights_are_whole};
+use sift_mission::Mission;
+use sift_report::{Version, report_text};
 use sift_rogue::{Act, Rogue};
-use sift_threads::NoProbe;
-use std::alloc::{AllocError, Global};
+use sift_threads::{NoProbe, fly_threads};
+use std::alloc::Global;
+use std::process::Abort;
+use std::sync::Wait;
 use std::sync::atomic::AtomicU64;
 use std::sync::atomic::Ordering::SeqCst;
 use std::test::Fail;
+use std::thread::Threads;
 
-/// How often a rogue was called.
+/// The word 7 to unit 0 in the slot of the task's word, by the stamp that is due there, 5.
+const SEVEN: Act = Act::Stray {
+    to: 0,
+    slot: 1,
+    cell: 720_903,
+};
+
+/// How often a unit's rogue was called.
 #[derive(Drop)]
 struct Calls {
     start: AtomicU64,
@@ -34,10 +50,11 @@ impl Calls {
     }
 }
 
-/// A rogue that rests, and counts its calls.
+/// A rogue that counts its calls, and answers always one act.
 #[derive(Drop)]
 struct Counting<'a> {
     calls: &'a Calls,
+    act: Act,
 }
 
 impl Rogue for Counting<'_> {
@@ -49,49 +66,94 @@ impl Rogue for Counting<'_> {
 
     fn next(&mut self) -> Act {
         self.calls.next.fetch_add(1, SeqCst);
-        Act::Rest
+        self.act
     }
 }
 
-/// Rogues of eight units, of which that of unit 5 counts by itself.
-fn rogues_that_count<'a>(
-    alloc: Global,
-    own: &'a Calls,
-    others: &'a Calls,
-) -> Result<Vec<Counting<'a>>, AllocError>
+/// A rogue for each unit that there may be, which counts by the calls at its unit's place.
+fn rogues_by(alloc: Global, calls: &[Calls; 8], act: Act) -> Result<Vec<Counting<'_>>, NoMemory>
     ensures { IfOk result (λ rogues. length rogues.items ≡ unit_limit) }
 {
-    Ok(vec![in alloc;
-        Counting { calls: others },
-        Counting { calls: others },
-        Counting { calls: others },
-        Counting { calls: others },
-        Counting { calls: others },
-        Counting { calls: own },
-        Counting { calls: others },
-        Counting { calls: others },
-    ]?)
+    let [zero, one, two, three, four, five, six, seven] = calls;
+    let rogues = [
+        Counting { calls: zero, act },
+        Counting { calls: one, act },
+        Counting { calls: two, act },
+        Counting { calls: three, act },
+        Counting { calls: four, act },
+        Counting { calls: five, act },
+        Counting { calls: six, act },
+        Counting { calls: seven, act },
+    ];
+    Ok(Vec::from_array(alloc, rogues)?)
+}
+
+/// No rogue was called yet.
+fn no_calls() -> [Calls; 8] {
+    [
+        Calls::none(),
+        Calls::none(),
+        Calls::none(),
+        Calls::none(),
+        Calls::none(),
+        Calls::none(),
+        Calls::none(),
+        Calls::none(),
+    ]
+}
+
+/// The rogue of the stray unit was started once and asked as often as its storm has strays, and no other was called.
+fn expect_one_storm(rt: &impl Abort, calls: &[Calls; 8], stray: usize, strays: u64) {
+    for (unit, of_unit) in calls.iter().enumerate() {
+        let want = if unit == stray { (1, strays) } else { (0, 0) };
+        assert_eq!(rt; of_unit.counts(), want);
+    }
+}
+
+/// A flight of a mission by two workers, with these rogues. It is whole.
+fn flown<R: Rogue + Send, H: Threads + Wait + Sync>(
+    rt: &H,
+    alloc: Global,
+    mission: &Mission,
+    rogues: Vec<R>,
+) -> Result<Flight, NoMemory>
+    requires { length rogues.items ≡ unit_limit }
+    ensures { IfOk result (IsWhole (flown_of mission.now) mission.now.layout) }
+{
+    mission.parts();
+    round_flights_are_whole();
+    fly_threads(rt, alloc, mission, 2, rogues, &NoProbe)
 }
 
 #[test]
-fn only_the_rogue_of_a_stray_unit_is_called(rt: HostRuntime) -> Result<(), Fail> {
+fn only_the_rogue_of_the_storm_is_called(rt: HostRuntime) -> Result<(), Fail> {
+    let alloc = rt.alloc();
+    let mission = stated(alloc, STORM)?;
+    let calls = no_calls();
+    let rogues = rogues_by(alloc, &calls, SEVEN)?;
+    let flight = flown(&rt, alloc, &mission, rogues)?;
+    let report = report_text(alloc, &mission, &flight, Version::Two)?;
+    assert_eq!(rt; report.as_str(), STORM_REPORT);
+    expect_one_storm(&rt, &calls, 4, 1);
+    Ok(())
+}
+
+#[test]
+fn the_top_call_calls_only_the_rogue_of_the_storm(rt: HostRuntime) -> Result<(), Fail> {
     for workers in ["1", "2"] {
-        let own = Calls::none();
-        let others = Calls::none();
-        let rogues = rogues_that_count(rt.alloc(), &own, &others)?;
-        let words = ["run", "--workers", workers];
+        let calls = no_calls();
+        let rogues = rogues_by(rt.alloc(), &calls, Act::Rest)?;
         let (status, _) = call(
             &rt,
             rt.alloc(),
-            &words,
+            &["run", "--workers", workers],
             STRAY.as_bytes(),
             Failing::NONE,
             rogues,
             &NoProbe,
         )?;
         assert_eq!(rt; status, 0);
-        assert_eq!(rt; own.counts(), (1, 100_000));
-        assert_eq!(rt; others.counts(), (0, 0));
+        expect_one_storm(&rt, &calls, 5, 100_000);
     }
     Ok(())
 }

@@ -1,9 +1,8 @@
 //! Two workers fly at once.
 
 use crate::calling::{Failing, call};
-use crate::stated::{COUNT, COUNT_REPORT};
+use crate::stated::{COUNT, COUNT_REPORT, silents};
 use sift_base::UnitId;
-use sift_rogue::Silent;
 use sift_threads::Probe;
 use std::sync::atomic::AtomicBool;
 use std::sync::atomic::Ordering::SeqCst;
@@ -56,9 +55,7 @@ impl Probe for Meeting {
 fn two_workers_fly_at_once(rt: HostRuntime) -> Result<(), Fail> {
     let alloc = rt.alloc();
     let meeting = Meeting::new();
-    let rogues = vec![in alloc;
-        Silent, Silent, Silent, Silent, Silent, Silent, Silent, Silent,
-    ]?;
+    let rogues = silents(alloc)?;
     let words = ["run", "--workers", "2"];
     let (status, sink) = call(
         &rt,

@@ -1,6 +1,6 @@
 use Rattle.sift_mission.specs.Parts.{data_of}
-use Rattle.sift_thread_rows.proofs.Both.{both_ok}
-use Rattle.sift_thread_rows.proofs.flights.flown.Goals as goal
+use Rattle.sift_top_rows.proofs.Both.{both_ok}
+use Rattle.sift_top_rows.proofs.storms.flown.Goals as goal
 
 -- a round flight is whole
 pub returns : goal.returns

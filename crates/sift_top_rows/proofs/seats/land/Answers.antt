@@ -3,8 +3,8 @@ use Rattle.sift_base.specs.declared.layout.Layout.{Layout}
 use Rattle.sift_buffer.specs.Journals.{Pages, IsJournalOf}
 use Rattle.sift_mission.specs.declared.parts.MissionParts.{MissionParts}
 use Rattle.sift_ether.specs.Tokens.{IsMade}
-use Rattle.sift_thread_rows.proofs.Both.{both_ok}
-use Rattle.sift_thread_rows.proofs.seats.land.Goals as goal
+use Rattle.sift_top_rows.proofs.Both.{both_ok}
+use Rattle.sift_top_rows.proofs.seats.land.Goals as goal
 
 -- the ether was made for the mission's layout and frames
 pub returns-clause-owners : goal.returns-clause-owners
