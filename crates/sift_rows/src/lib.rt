@@ -1,5 +1,5 @@
-//! Rows of tests that call the lowest crates as their users do, one module a crate. Those of tasks and their code stand in
-//! `sift_task_rows`, and those of missions and flights in `sift_flight_rows`.
+//! Rows of tests that call the lowest crates, and those of tasks and their code, as their users do. Those of missions and
+//! flights stand in `sift_top_rows`.
 #![tactic(auto)]
 
 #[cfg(test)]
@@ -11,12 +11,20 @@ mod buffer;
 #[cfg(test)]
 mod clock;
 #[cfg(test)]
+mod code;
+#[cfg(test)]
 mod fixture;
 #[cfg(test)]
 mod io;
+#[cfg(test)]
+mod machine;
+#[cfg(test)]
+mod parse;
 #[cfg(test)]
 mod pool;
 #[cfg(test)]
 mod rogue;
 #[cfg(test)]
 mod skew;
+#[cfg(test)]
+mod texts;
