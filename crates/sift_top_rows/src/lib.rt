@@ -1,11 +1,17 @@
-//! Rows of tests of flights on threads and of the top call: sources and sinks that fail, and pilots, rogues and probes of the
-//! tests' own.
+//! Rows of tests of missions, boards and machines, of flights on threads, and of the top call, with pilots, rogues and probes
+//! of the tests' own.
 #![tactic(auto)]
 
+#[cfg(test)]
+mod board;
 #[cfg(test)]
 mod calling;
 #[cfg(test)]
 mod faults;
+#[cfg(test)]
+mod machines;
+#[cfg(test)]
+mod missions;
 #[cfg(test)]
 mod pilots;
 #[cfg(test)]

@@ -1,6 +1,6 @@
 use Rattle.sift_core.specs.Machines.{IsFlying}
 use Rattle.sift_mission.specs.Parts.{flown_of}
-use Rattle.sift_flight_rows.proofs.flying.expect_steps.Given as goal
+use Rattle.sift_top_rows.proofs.machines.expect_steps.Given as goal
 
 -- the machine flies on
 abbrev pub invariant-loop : goal.invariant-loop

@@ -2,8 +2,8 @@ use Rattle.std.proofs.Common.{sym, ◌∙◌, subst}
 use Rattle.sift_buffer.specs.LonePorts.{view_of}
 use Rattle.sift_unit.specs.Boards.{Drives}
 use Rattle.sift_mission.specs.Parts.{flown_of}
-use Rattle.sift_flight_rows.proofs.Alone.{new_drives, new_one, stays_one}
-use Rattle.sift_flight_rows.proofs.board.a_board_flies_a_frame_beside_one_that_errs.Goals as goal
+use Rattle.sift_top_rows.proofs.Alone.{new_drives, new_one, stays_one}
+use Rattle.sift_top_rows.proofs.board.a_board_flies_a_frame_beside_one_that_errs.Goals as goal
 
 -- the new board drives
 pub expect_wait-requires-clause-drives : goal.expect_wait-requires-clause-drives

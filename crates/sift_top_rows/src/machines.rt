@@ -48,7 +48,7 @@ fn expect_turns(
 ) -> Result<(), Fail> {
     let mut machine = Machine::make(alloc, mission)?;
     let mut drawer = Draw::of(order);
-    let mut rogues = silents();
+    let mut rogues = silents(alloc)?;
     let mut left = CallsLeft::of(mission);
     for &digit in want {
         let last = machine

@@ -2,7 +2,7 @@
 
 ghost use Rattle.std.specs.Prelude.{◌≡◌, ◌<◌, ◌≢◌};
 ghost use Rattle.sift_buffer.specs.LonePorts.{view_of};
-ghost use Rattle.sift_flight_rows.specs.Alone.{IsPortOfOne};
+ghost use Rattle.sift_top_rows.specs.Alone.{IsPortOfOne};
 ghost use Rattle.sift_unit.specs.Boards.{Drives};
 ghost use Rattle.sift_mission.specs.Parts.{flown_of};
 

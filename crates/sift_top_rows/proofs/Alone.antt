@@ -10,7 +10,7 @@ use Rattle.sift_mission.specs.Parts.{flown_of}
 use Rattle.sift_unit.specs.declared.board.Board.{Board}
 use Rattle.sift_mission.specs.declared.parts.MissionParts.{MissionParts}
 use Rattle.sift_mission.proofs.lemmas.Numbers.{range-has}
-use Rattle.sift_flight_rows.specs.Alone.{IsPortOfOne, few}
+use Rattle.sift_top_rows.specs.Alone.{IsPortOfOne, few}
 
 -- a port that looks the same as one of unit 1 is one of unit 1 too
 pub stays_one : (p q : LonePort) → IsPortOfOne p → view_of q ≡ view_of p → IsPortOfOne q

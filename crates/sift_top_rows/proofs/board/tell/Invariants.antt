@@ -1,7 +1,7 @@
 use Rattle.std.proofs.Common.{◌≡◌}
 use Rattle.sift_buffer.specs.LonePorts.{view_of}
-use Rattle.sift_flight_rows.specs.Alone.{IsPortOfOne}
-use Rattle.sift_flight_rows.proofs.board.tell.Given as goal
+use Rattle.sift_top_rows.specs.Alone.{IsPortOfOne}
+use Rattle.sift_top_rows.proofs.board.tell.Given as goal
 
 -- the port is the same but for what the others stored
 abbrev pub invariant-loop-slot : goal.invariant-loop-slot

@@ -1,7 +1,7 @@
 use Rattle.sift_core.specs.Courses.{course}
 use Rattle.sift_core.specs.Storms.{IsUnderWay}
 use Rattle.sift_mission.specs.Parts.{data_of}
-use Rattle.sift_flight_rows.proofs.flying.expect_turns.Given as goal
+use Rattle.sift_top_rows.proofs.machines.expect_turns.Given as goal
 
 -- the flight is under way
 abbrev pub invariant-loop-digit : goal.invariant-loop-digit
