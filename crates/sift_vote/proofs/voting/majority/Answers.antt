@@ -5,7 +5,11 @@ use Rattle.sift_vote.proofs.lemmas.Votes.{Loses, majority_is_unique, no_majority
 use Rattle.sift_vote.proofs.voting.majority.Goals as goal
 use Rattle.sift_vote.proofs.voting.majority.Goals.{in-Some+else-votes_for-places, in_default}
 
--- the word that was found is the only majority
+-- the word that was found is the majority
+pub returns-then-votes_for-places-clause-found : goal.returns-then-votes_for-places-clause-found
+returns-then-votes_for-places-clause-found c = omega (arith, c.votes_for.ensures)
+
+-- and the only one
 pub returns-then-votes_for-places-clause-exact : goal.returns-then-votes_for-places-clause-exact
 returns-then-votes_for-places-clause-exact c =
     let here : IsMajority c.args.places.now c.in-Some.word = omega (arith, c.votes_for.ensures) in

@@ -1,4 +1,5 @@
-use Rattle.std.proofs.Common.{◌≡◌, ℕ, ◌+◌, ◌-◌, ◌≤◌, drop, arith, sym, ap, ◌∙◌}
+use Rattle.std.proofs.Common.{◌≡◌, ℕ, ◌+◌, ◌-◌, ◌≤◌, [], length, take, drop, arith, sym, ap, ◌∙◌}
+use Rattle.std.proofs.Math.ListN.{drop_of_length-le}
 use Rattle.std.specs.Fn.{iterate}
 use Rattle.std.proofs.lemmas.Grind.{common_steps}
 use Rattle.sift_lang.specs.declared.tree.Stmt.{the_lemmas}
@@ -52,3 +53,13 @@ run_block-loop-statement-preserved t c =
       sound = IsSoundBlock-rest _ _ (statement_of statement) rest readings (state_of c.loop-statement.self) (state_of c.run.new.self) c.run.ensures (rw front at c.loop-statement.invariant.sound);
       nows = (rw front at c.loop-statement.invariant.nows).1;
     }
+
+-- all statements ran, and the locals that they added are cut off
+pub run_block-returns-clause-means : goal.run_block-returns-clause-means
+run_block-returns-clause-means t c =
+    let none : drop c.loop-statement.statement-index c.args.block.now ≡ [] = drop_of_length-le c.args.block.now (omega arith) in
+    let cut = λ (s : State). (let kept : State = record { locals = take (length c.args.self.now.locals.items) s.locals; outs = s.outs } in kept) in
+    rw (c.truncate.ensures.items, c.len-depth.ensures.value) (ap cut (rw none at c.loop-statement.invariant.left))
+
+pub run_block-returns-clause-locals : goal.run_block-returns-clause-locals
+run_block-returns-clause-locals t c = omega (arith, c.truncate.ensures.len, c.len-depth.ensures.value, c.loop-statement.invariant.sizes.adds)
