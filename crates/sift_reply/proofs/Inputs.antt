@@ -3,7 +3,7 @@ use Rattle.std.proofs.Common.{◌≡◌, ◌≤◌, ◌+◌, ◌⊎◌, inl, inr
 use Rattle.std.proofs.lemmas.List.{append-nil, length-append}
 use Rattle.std.specs.Io.KnownBytes.{Consumes, IsAtEnd}
 use Rattle.sift_io.specs.Flow.{Rose}
-use Rattle.sift_reply.specs.Duty.{IsOwedTo, Owes}
+use Rattle.sift_reply.specs.Duty.{Duty, IsOwedTo, Owes}
 use Rattle.sift_reply.specs.Reply.{Input, Reply, read_fault}
 
 -- what was taken of known bytes, to their end, is these bytes
@@ -40,3 +40,9 @@ owed_to_bytes (Some limit) gives input bytes reply told (inr (inl long)) =
     let within = taken_within input.before.left input.after.left bytes long.1.0 told long.1.1 in
     inl (inr (omega (arith, long.1.2, within), long.0))
 owed_to_bytes (Some limit) gives input bytes reply told (inr (inr failed)) = inr (failed.0, failed.1)
+
+-- what a command owes that has this limit
+pub owes_within :
+    (limit : ℕ) (duty : Duty) (input : Input) (reply : Reply)
+    → Some limit ≡ duty.limit → Owes (record { limit = Some limit; gives = duty.gives }) input reply → Owes duty input reply
+owes_within limit duty input reply is owes = subst (λ (l : Option ℕ). Owes (record { limit = l; gives = duty.gives }) input reply) is owes
