@@ -1,4 +1,5 @@
 use Rattle.std.proofs.Common.{arith}
+use Rattle.std.proofs.lemmas.Grind.{common_steps}
 use Rattle.sift_mission.specs.Parts.{flown_of}
 use Rattle.sift_core.proofs.Least.{least_ends}
 use Rattle.sift_core.proofs.machine.Machine.least.Goals as goal
@@ -16,3 +17,7 @@ returns-clause-none c =
 -- the core is lawful
 pub number_of-progress-requires-clause-lawful : goal.number_of-progress-requires-clause-lawful
 number_of-progress-requires-clause-lawful c = (c.requires.flies.0, c.requires.flies.1.lawful)
+
+-- a unit more is the least where its progress is less, and else the least stays
+pub loop-number-preserved : goal.loop-number-preserved
+loop-number-preserved c = grind (arith, common_steps)

@@ -14,6 +14,12 @@ returns-then-not-stays c =
     turned_is _ _ _ _ _ _ _ _ _ _ _ c.self.invariant _ c.release.ensures.first c.release.ensures.live _ c.load-voted.ensures _ _ c.deref.ensures.0 c.store.ensures
     ∙ (λ i. next_words (sym leaves i) (c.self.view_is i))
 
+-- the span of those before was released
+pub carve-requires-clause-room : goal.carve-requires-clause-room
+carve-requires-clause-room c =
+    let file = turned_file _ _ _ _ _ _ _ _ _ _ _ c.self.invariant _ c.release.ensures.first c.release.ensures.live _ c.load-voted.ensures _ _ c.deref.ensures.0 c.store.ensures in
+    omega (arith, file.carved.scratch, file.carved.room)
+
 -- there is room for them, since the span of those before was released
 pub carve-requires-clause-words : goal.carve-requires-clause-words
 carve-requires-clause-words c =
