@@ -22,26 +22,46 @@ impl NoMission {
     pub fn reply(self, alloc: Global) -> Result<Reply, NoMemory>
         ensures { IfOk result (λ reply. reply ≡ reply_to self) }
     {
-        let mut line = String::new(alloc);
-        let status = match self {
-            NoMission::NotADocument => return Ok(Reply::fixed(3, "not a document\n")),
-            NoMission::Refused(Refused::Scenario { rule, place }) => {
-                write!(line, "scenario rule {rule} at {place}\n")?;
-                4
-            }
-            NoMission::Refused(Refused::Task { task, kind, at }) => {
-                write!(line, "task {task} kind {kind} at {at}\n")?;
-                5
-            }
+        match self {
+            NoMission::NotADocument => Ok(Reply::fixed(3, "not a document\n")),
+            NoMission::Refused(Refused::Scenario { rule, place }) => no_scenario(alloc, rule, place),
+            NoMission::Refused(Refused::Task { task, kind, at }) => no_task(alloc, task, kind, at),
             NoMission::Refused(Refused::Table { size, row, rule }) => {
-                write!(line, "table {size} row {row} rule {rule}\n")?;
-                6
+                no_table(alloc, size, row, rule)
             }
-            NoMission::Refused(Refused::Script { entry, rule }) => {
-                write!(line, "script entry {entry} rule {rule}\n")?;
-                7
-            }
-        };
-        Ok(Reply::made(status, line))
+            NoMission::Refused(Refused::Script { entry, rule }) => no_script(alloc, entry, rule),
+        }
     }
+}
+
+fn no_scenario(alloc: Global, rule: u32, place: u32) -> Result<Reply, NoMemory>
+    ensures { IfOk result (λ reply. reply ≡ reply_to (NoMission.Refused (Refused.Scenario rule place))) }
+{
+    let mut line = String::new(alloc);
+    write!(line, "scenario rule {rule} at {place}\n")?;
+    Ok(Reply::made(4, line))
+}
+
+fn no_task(alloc: Global, task: u32, kind: u32, at: u32) -> Result<Reply, NoMemory>
+    ensures { IfOk result (λ reply. reply ≡ reply_to (NoMission.Refused (Refused.Task task kind at))) }
+{
+    let mut line = String::new(alloc);
+    write!(line, "task {task} kind {kind} at {at}\n")?;
+    Ok(Reply::made(5, line))
+}
+
+fn no_table(alloc: Global, size: u32, row: u32, rule: u32) -> Result<Reply, NoMemory>
+    ensures { IfOk result (λ reply. reply ≡ reply_to (NoMission.Refused (Refused.Table size row rule))) }
+{
+    let mut line = String::new(alloc);
+    write!(line, "table {size} row {row} rule {rule}\n")?;
+    Ok(Reply::made(6, line))
+}
+
+fn no_script(alloc: Global, entry: u32, rule: u32) -> Result<Reply, NoMemory>
+    ensures { IfOk result (λ reply. reply ≡ reply_to (NoMission.Refused (Refused.Script entry rule))) }
+{
+    let mut line = String::new(alloc);
+    write!(line, "script entry {entry} rule {rule}\n")?;
+    Ok(Reply::made(7, line))
 }

@@ -1,4 +1,5 @@
 use Rattle.std.proofs.Common.{◌∷◌, take_all, arith}
+use Rattle.std.proofs.lemmas.Grind.{common_steps}
 use Rattle.sift_agree.proofs.lemmas.Winners.{agreed-found, won-agreed, lost-agreed}
 use Rattle.sift_agree.proofs.agreeing.agree.Goals as goal
 
@@ -20,3 +21,6 @@ returns-clause-agreed c =
 
 pub returns-clause-exact : goal.returns-clause-exact
 returns-clause-exact c = agreed-found (c.args.direct ∷ c.args.relays.now) c.of.result (returns-clause-agreed c)
+
+pub loop-relay-preserved : goal.loop-relay-preserved
+loop-relay-preserved c = grind (arith, common_steps)

@@ -1,4 +1,5 @@
 use Rattle.std.proofs.Common.{arith}
+use Rattle.std.proofs.lemmas.Grind.{common_steps}
 use Rattle.sift_mission.specs.Parts.{data_of}
 use Rattle.sift_judge.specs.Verdict.{same_configuration, true_margin}
 use Rattle.sift_judge.proofs.InTurn.{breaks, breaks_if, is_first, none_below, seven_kept}
@@ -21,3 +22,9 @@ returns-then-not-has_true_margin-clause-found c =
     let two = c.keeps_configuration.ensures.0 c.if-not-keeps_configuration.false in
     is_first d lines f true_margin (omega arith) (seven_kept d lines f two c.in_default.ensures.none)
     (breaks d lines f true_margin c.requires.known.frame tt c.has_true_margin.result c.has_true_margin.ensures c.if-not-has_true_margin.true)
+
+pub returns-clause-none : goal.returns-clause-none
+returns-clause-none c = grind (arith, common_steps)
+
+pub first_with_margin-requires-clause-configuration : goal.first_with_margin-requires-clause-configuration
+first_with_margin-requires-clause-configuration c = grind (arith, common_steps)

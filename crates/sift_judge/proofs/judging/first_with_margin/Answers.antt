@@ -1,4 +1,5 @@
 use Rattle.std.proofs.Common.{arith}
+use Rattle.std.proofs.lemmas.Grind.{common_steps}
 use Rattle.sift_mission.specs.Parts.{data_of}
 use Rattle.sift_judge.specs.Verdict.{clock_skew, exact_removal, ideal_outputs, no_false_accusation, same_inputs}
 use Rattle.sift_judge.proofs.InTurn.{breaks, five_kept, four_kept, is_first, six_kept, three_kept, two_kept}
@@ -67,3 +68,12 @@ returns-clause-none c = λ margin. record {
   exact_removal = c.has_exact_removal.ensures.0 c.if-not-has_exact_removal.false;
   clock_skew = c.has_clock_skew.ensures.0 c.if-not-has_clock_skew.false;
 }
+
+pub returns-then-not-has_margin-clause-runs : goal.returns-then-not-has_margin-clause-runs
+returns-then-not-has_margin-clause-runs c = grind (arith, common_steps)
+
+pub returns-clause-runs : goal.returns-clause-runs
+returns-clause-runs c = grind (arith, common_steps)
+
+pub run_ideal-requires : goal.run_ideal-requires
+run_ideal-requires c = grind (arith, common_steps)

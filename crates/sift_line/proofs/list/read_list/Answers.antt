@@ -3,6 +3,7 @@ use Rattle.std.proofs.lemmas.Iterator.Consumers.{YieldsList-at, YieldsList-turn,
 use Rattle.std.proofs.lemmas.Iterator.Splits.{YieldsList-from_str_split}
 use Rattle.std.proofs.lemmas.List.{length_push}
 use Rattle.std.proofs.lemmas.Slice.Eq.{bytes_eq-Decides}
+use Rattle.std.proofs.lemmas.Grind.{common_steps}
 use Rattle.sift_line.proofs.Reading.{none_read, more_read, none_has, longer, whole_printed, whole_exact}
 use Rattle.sift_line.proofs.Joined.{values_cut, cut_values, no_values}
 use Rattle.sift_line.proofs.Results.{on_ok, on_err}
@@ -67,3 +68,9 @@ returns-clause-exact g c = λ list holds fit e.
     ap (λ xs. Some (record { items = xs }))
     (whole_exact g.T.Part.text_of g.T.Part.IsPart _ _ _ c.loop-part.invariant end.1 list.items holds
     (values_cut g.T.Part.text_of g.met.T.ListPart.apart list.items c.args.text.now e (λ dash. let same = (bytes_eq-Decides _ _).1 dash in (cc))))
+
+pub returns-in_err-ok-clause-printed : goal.returns-in_err-ok-clause-printed
+returns-in_err-ok-clause-printed g c = grind (arith, common_steps)
+
+pub returns-in_err-item-clause-printed : goal.returns-in_err-item-clause-printed
+returns-in_err-item-clause-printed g c = grind (arith, common_steps)

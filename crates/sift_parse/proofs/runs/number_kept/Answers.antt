@@ -2,6 +2,7 @@ use Rattle.std.proofs.Common.{◌≡◌, ◌+◌, ◌*◌, ◌<◌, get_or, take
 use Rattle.std.specs.Char.{digit_value}
 use Rattle.std.specs.Str.Parse.{digits_value}
 use Rattle.std.proofs.lemmas.Int.Digits.{digits_value_more}
+use Rattle.std.proofs.lemmas.Grind.{common_steps}
 use Rattle.sift_parse.specs.Written.{kept}
 use Rattle.sift_parse.proofs.Lexing.Kept.{kept-more, unwrap_or-some}
 use Rattle.sift_parse.proofs.runs.number_kept.Goals as goal
@@ -19,3 +20,9 @@ loop-b-preserved c =
     let value = digits_value_more c.args.radix ds i (omega arith) in
     let n : c.loop-b.n * c.args.radix + c.unwrap_or-digit.result ≡ kept v * c.args.radix + digit_value (get_or ds i 0) = rw (c.loop-b.invariant, digit) refl in
     c.min-n.ensures ∙ (ap (λ x. min x 65536) n ∙ (more ∙ ap kept (sym value)))
+
+pub overflow_add-n : goal.overflow_add-n
+overflow_add-n c = grind (arith, common_steps)
+
+pub overflow_mul-n : goal.overflow_mul-n
+overflow_mul-n c = grind (arith, common_steps)

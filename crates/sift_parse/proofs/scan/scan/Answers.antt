@@ -1,4 +1,5 @@
-use Rattle.std.proofs.Common.{◌+◌, take, drop, slice_index_or}
+use Rattle.std.proofs.Common.{◌+◌, take, drop, slice_index_or, arith}
+use Rattle.std.proofs.lemmas.Grind.{common_steps}
 use Rattle.sift_parse.specs.Roll.{roll_of}
 use Rattle.sift_parse.specs.Held.{force_of}
 use Rattle.sift_parse.specs.Written.{placed_of, lexeme_of}
@@ -29,3 +30,9 @@ loop-placed-preserved c =
     scanning-next (roll_of c.args.names.now) c.args.lexemes.now c.loop-placed.placed-index _
     (force_of c.loop-placed.force) c.loop-placed.tokens.items c.loop-placed-test.true c.loop-placed.invariant c.in_default.ensures.none in
     rw (c.in_ok-advance.ensures, c.in_ok-push.ensures.items, c.token_of.ensures) scanned
+
+pub returns : goal.returns
+returns c = grind (arith, common_steps)
+
+pub place-requires : goal.place-requires
+place-requires c = grind (arith, common_steps)

@@ -1,4 +1,5 @@
-use Rattle.std.proofs.Common.{inr}
+use Rattle.std.proofs.Common.{inr, arith}
+use Rattle.std.proofs.lemmas.Grind.{common_steps}
 use Rattle.sift_reply.specs.Reply.{Input}
 use Rattle.sift_reply.proofs.Inputs.{owes_within}
 use Rattle.sift_reply.proofs.Own.{no_want}
@@ -17,3 +18,21 @@ returns-in-Err-Failed-clause-owed g c =
     let stopped = rw c.in-Err-Failed.field-0-is at c.in-Err-Failed.ensures.stopped in
     let input : Input = record { before = g.S.Source.inflow c.args.source.now; after = g.S.Source.inflow c.read_all.new.source } in
     owes_within c.in-Some.limit (g.J.Job.duty c.args.means c.args.job) input _ (c.in-Some.ensures c.args.means) (inr (inr ((cc), stopped.0, stopped.1)))
+
+pub returns-in-Err-TooLong-clause-unread : goal.returns-in-Err-TooLong-clause-unread
+returns-in-Err-TooLong-clause-unread g c = grind (arith, common_steps)
+
+pub returns-clause-unread : goal.returns-clause-unread
+returns-clause-unread g c = grind (arith, common_steps)
+
+pub returns-in-Ok-clause-unread : goal.returns-in-Ok-clause-unread
+returns-in-Ok-clause-unread g c = grind (arith, common_steps)
+
+pub returns-in-Ok-clause-wanting : goal.returns-in-Ok-clause-wanting
+returns-in-Ok-clause-wanting g c = grind (arith, common_steps)
+
+pub returns-in-Err-Failed-clause-unread : goal.returns-in-Err-Failed-clause-unread
+returns-in-Err-Failed-clause-unread g c = grind (arith, common_steps)
+
+pub returns-in-Ok-clause-owed : goal.returns-in-Ok-clause-owed
+returns-in-Ok-clause-owed g c = grind (arith, common_steps)

@@ -1,4 +1,5 @@
 use Rattle.std.proofs.Common.{ℕ, List, Some, below_more, map, take, sym, ◌∙◌, arith}
+use Rattle.std.proofs.lemmas.Grind.{common_steps}
 use Rattle.toml.specs.Data.{Members}
 use Rattle.toml.specs.View.{table_view}
 use Rattle.sift_document.proofs.lemmas.Places.{fails_here, holds_here, in_two_steps, nowhere, read_more}
@@ -37,3 +38,6 @@ pub returns-clause-tests : goal.returns-clause-tests
 returns-clause-tests c =
     nowhere (λ task. table_view task.now) c.args.tables.now (NoNewName (map (λ task. table_view task.now) c.args.tables.now))
     (λ at low. c.loop-place.invariant.1 at (omega (arith, low, c.loop-place-test.false)))
+
+pub returns-clause-names : goal.returns-clause-names
+returns-clause-names c = grind (arith, common_steps)

@@ -1,5 +1,6 @@
 use Rattle.std.proofs.Common.{◌≡◌, Err, rules, map, length, sym, subst, ◌∙◌, ap, arith}
 use Rattle.std.proofs.lemmas.List.{length-map}
+use Rattle.std.proofs.lemmas.Grind.{common_steps}
 use Rattle.sift_lang.specs.Tree.{tree_of}
 use Rattle.sift_parse.specs.Roll.{Roll, roll_of}
 use Rattle.sift_document.proofs.lemmas.Order.{refused_from}
@@ -63,3 +64,9 @@ returns-clause-running c = λ document read.
     (subst (λ (r : Roll). AreTreesOf r forms trees) roll (rw c.deref-5.ensures.value at c.in_ok-compiled.ensures.trees))
     c.in_ok-compiled.ensures.allowed
     (rw (c.len.ensures ∙ c.args.entries.now.sensors.names.ok.0, c.len-2.ensures ∙ c.in_ok-starts.starts.ok.0) at c.in_ok-compiled.ensures.codes)
+
+pub names_for-requires : goal.names_for-requires
+names_for-requires c = grind (arith, common_steps)
+
+pub compile_tasks-requires-clause-few : goal.compile_tasks-requires-clause-few
+compile_tasks-requires-clause-few c = grind (arith, common_steps)

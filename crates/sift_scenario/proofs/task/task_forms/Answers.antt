@@ -1,5 +1,6 @@
 use Rattle.std.proofs.Common.{◌≡◌, ◌<◌, ℕ, below_more, get_or, length, map, sym, ap, ◌∙◌, arith}
 use Rattle.std.proofs.lemmas.List.{get_or-map, length-map, map-append}
+use Rattle.std.proofs.lemmas.Grind.{common_steps}
 use Rattle.toml.specs.Data.{Members}
 use Rattle.toml.specs.View.{table_view}
 use Rattle.sift_document.proofs.lemmas.Places.{fails_here, holds_here, matches_more, nowhere, same_at, taken}
@@ -55,3 +56,12 @@ pub returns-clause-tests : goal.returns-clause-tests
 returns-clause-tests c =
     nowhere (λ task. table_view task.now) c.args.tasks.now IsFormless
     (λ at low. c.loop-place.invariant.3 at (omega (arith, low, c.loop-place-test.false)))
+
+pub loop-place-init : goal.loop-place-init
+loop-place-init c = grind (arith, common_steps)
+
+pub returns-clause-forms : goal.returns-clause-forms
+returns-clause-forms c = grind (arith, common_steps)
+
+pub bounds-starts-place : goal.bounds-starts-place
+bounds-starts-place c = grind (arith, common_steps)

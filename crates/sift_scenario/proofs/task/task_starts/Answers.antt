@@ -1,4 +1,5 @@
 use Rattle.std.proofs.Common.{◌≡◌, Some, None, below_more, sym, ◌∙◌, arith}
+use Rattle.std.proofs.lemmas.Grind.{common_steps}
 use Rattle.toml.specs.View.{table_view}
 use Rattle.sift_document.proofs.lemmas.Places.{fails_here, holds_here, nowhere, read_more}
 use Rattle.sift_document.proofs.lemmas.Testing.{first_broken}
@@ -30,3 +31,6 @@ pub returns-clause-tests : goal.returns-clause-tests
 returns-clause-tests c =
     nowhere (λ task. table_view task.now) c.args.tasks.now (λ at task. start_words task ≡ None)
     (λ at low. c.loop-place.invariant.1 at (omega (arith, low, c.loop-place-test.false)))
+
+pub returns-clause-starts : goal.returns-clause-starts
+returns-clause-starts c = grind (arith, common_steps)

@@ -1,5 +1,6 @@
 use Rattle.std.proofs.Common.{◌≡◌, ◌<◌, [], ◌∷◌, ◌++◌, length, map, Err, rules, refl, sym, subst, ◌∙◌, arith}
 use Rattle.std.proofs.lemmas.List.{length-map, map-append}
+use Rattle.std.proofs.lemmas.Grind.{common_steps}
 use Rattle.sift_lang.specs.Tree.{tree_of}
 use Rattle.sift_parse.proofs.lemmas.Sound.{has_words}
 use Rattle.sift_parse.specs.Outcome.{AreNames}
@@ -77,3 +78,12 @@ loop-task-preserved c =
           c.in_ok-code.ensures.steps quick),
       rw new (codes_more c.args.sensors c.args.words trees tree _ _ _ c.loop-task.invariant.6 c.in_ok-push-2.ensures.items c.in_ok-code.ensures.code),
     )
+
+pub loop-task-init : goal.loop-task-init
+loop-task-init c = grind (arith, common_steps)
+
+pub returns-clause-trees : goal.returns-clause-trees
+returns-clause-trees c = grind (arith, common_steps)
+
+pub overflow_sub-left : goal.overflow_sub-left
+overflow_sub-left c = grind (arith, common_steps)

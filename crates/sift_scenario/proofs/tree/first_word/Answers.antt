@@ -1,7 +1,8 @@
 use Rattle.std.proofs.Common.{◌+◌, map, take, refl, sym, ap, ◌∙◌, arith}
 use Rattle.std.proofs.lemmas.List.{length-map, take-map, take_all}
-use Rattle.sift_scenario.proofs.WordCounts.{within_all, sum_take-more}
 use Rattle.std.specs.List.{sum}
+use Rattle.std.proofs.lemmas.Grind.{common_steps}
+use Rattle.sift_scenario.proofs.WordCounts.{within_all, sum_take-more}
 use Rattle.sift_scenario.proofs.tree.first_word.Goals as goal
 
 -- no task was counted yet
@@ -31,3 +32,9 @@ returns c =
     let items = take c.args.names.now.this c.deref.result.now in
     let all = take_all c.loop-task.task-index (map (λ task. task.1) items) (rw length-map c.loop-task-test.false) in
     c.loop-task.invariant.0 ∙ ap sum (all ∙ ap (map (λ task. task.1)) c.loop-task.invariant.1 ∙ sym (take-map (λ task. task.1) c.args.names.now.this c.args.names.now.tasks.items))
+
+pub offset_bounds-task-items-task-index : goal.offset_bounds-task-items-task-index
+offset_bounds-task-items-task-index c = grind (arith, common_steps)
+
+pub slice_bounds-task-items-end : goal.slice_bounds-task-items-end
+slice_bounds-task-items-end c = grind (arith, common_steps)

@@ -1,4 +1,5 @@
-use Rattle.std.proofs.Common.{◌≡◌, Err, rules}
+use Rattle.std.proofs.Common.{◌≡◌, Err, rules, arith}
+use Rattle.std.proofs.lemmas.Grind.{common_steps}
 use Rattle.toml.specs.View.{table_view, view}
 use Rattle.sift_sections.proofs.ClockTests.{clock_kept, drift_kept, drift_refused, errors_kept, errors_refused, figure_refused, start_kept, start_refused, units_refused}
 use Rattle.sift_sections.proofs.clock.stated_plan.Goals as goal
@@ -50,3 +51,21 @@ returns-clause-tests c =
         (errors_kept c.args.units clock _ _ _ figures.skew figures.error figures.rate c.in_ok-errors.ensures.tests, tt),
       ),
     )
+
+pub overflow_cast-result : goal.overflow_cast-result
+overflow_cast-result c = grind (arith, common_steps)
+
+pub errors_of-requires-clause-error : goal.errors_of-requires-clause-error
+errors_of-requires-clause-error c = grind (arith, common_steps)
+
+pub overflow_cast-result-2 : goal.overflow_cast-result-2
+overflow_cast-result-2 c = grind (arith, common_steps)
+
+pub drifts_of-requires-clause-rate : goal.drifts_of-requires-clause-rate
+drifts_of-requires-clause-rate c = grind (arith, common_steps)
+
+pub overflow_cast-result-4 : goal.overflow_cast-result-4
+overflow_cast-result-4 c = grind (arith, common_steps)
+
+pub overflow_cast-result-3 : goal.overflow_cast-result-3
+overflow_cast-result-3 c = grind (arith, common_steps)

@@ -1,4 +1,5 @@
-use Rattle.std.proofs.Common.{◌≡◌, ◌∙◌, Some, Ok, Err, List, map, rules, ap}
+use Rattle.std.proofs.Common.{◌≡◌, ◌∙◌, Some, Ok, Err, List, map, rules, ap, arith}
+use Rattle.std.proofs.lemmas.Grind.{common_steps}
 use Rattle.sift_script.specs.declared.script.Item.{Item}
 use Rattle.toml.specs.View.{table_view, view}
 use Rattle.sift_script.specs.Script.{change_of}
@@ -104,3 +105,9 @@ returns-clause-tests c =
     (rw c.deref-3.ensures.value at c.in_ok-said.ensures.tests) in
     let storms = rw (c.deref-4.ensures.value, c.in_ok-tables.ensures.tables) at c.in_ok-entries.ensures.tests in
     (c.in_ok-tables.ensures.tests, (headed, (ways, (said, (storms, tt)))))
+
+pub stated_items-requires : goal.stated_items-requires
+stated_items-requires c = grind (arith, common_steps)
+
+pub fault_entries-requires-clause-few : goal.fault_entries-requires-clause-few
+fault_entries-requires-clause-few c = grind (arith, common_steps)

@@ -1,6 +1,7 @@
 use Rattle.std.proofs.Common.{List, [], ◌∷◌, ◌++◌, length, sym, ap, ◌∙◌, arith}
-use mathlib.Core.List.{append_assoc}
 use Rattle.std.proofs.lemmas.List.{length-append}
+use Rattle.std.proofs.lemmas.Grind.{common_steps}
+use mathlib.Core.List.{append_assoc}
 use Rattle.sift_threads.proofs.Dealt.{dealt_less, dealt_some}
 use Rattle.sift_threads.proofs.dealing.collect.Goals as goal
 
@@ -31,3 +32,9 @@ loop-place-preserved g c = record {
         t.dealt,
       );
 }
+
+pub loop-place-init : goal.loop-place-init
+loop-place-init g c = grind (arith, common_steps)
+
+pub returns : goal.returns
+returns g c = grind (arith, common_steps)

@@ -1,15 +1,16 @@
 use Rattle.std.proofs.Common.{length, length-drop, ap, ◌∙◌, arith}
 use Rattle.std.proofs.Crossing.{crosses}
+use Rattle.std.proofs.lemmas.Grind.{common_steps}
 use denote.Param.Send.{Quiet-if, sendable}
 use denote.Param.{param}
 use denote.Exit.{no, unseen}
 use mir.Syntax.{named, of_param}
-use Rattle.sift_ether.specs.contracts.seat.EtherSeat as EtherSeat
 use Rattle.sift_mission.specs.declared.parts.MissionParts.{MissionParts}
-use Rattle.sift_ether.proofs.seat.EtherSeat.TheSendSync as ether_seat
-use Rattle.sift_threads.specs.contracts.seat.Seat as Seat
 use Rattle.sift_threads.proofs.Home.{home_long}
 use Rattle.sift_threads.proofs.Sent.{seat_send}
+use Rattle.sift_ether.specs.contracts.seat.EtherSeat as EtherSeat
+use Rattle.sift_ether.proofs.seat.EtherSeat.TheSendSync as ether_seat
+use Rattle.sift_threads.specs.contracts.seat.Seat as Seat
 use Rattle.sift_threads.proofs.flight.fly_seats.Goals as goal
 
 -- a seat may be sent to another thread
@@ -46,3 +47,12 @@ pub returns : goal.returns
 returns g c = c.leave_home.ensures c.args.tokens.items c.in_ok-boards.boards.items c.args.rogues.items c.seat_all-seats.result.0.items c.requires.made
     c.seat_all-seats.ensures.seated (let eight = c.requires.rogues in let few = c.parts.ensures.fit.limits.few_units in omega arith)
     c.seat_all-seats.ensures.beyond c.in_ok-home.ensures
+
+pub seat_all-seats-requires-clause-empty : goal.seat_all-seats-requires-clause-empty
+seat_all-seats-requires-clause-empty g c = grind (arith, common_steps)
+
+pub seat_all-seats-requires-clause-room : goal.seat_all-seats-requires-clause-room
+seat_all-seats-requires-clause-room g c = grind (arith, common_steps)
+
+pub seat_all-seats-requires-clause-rogues : goal.seat_all-seats-requires-clause-rogues
+seat_all-seats-requires-clause-rogues g c = grind (arith, common_steps)

@@ -1,5 +1,6 @@
 use Rattle.std.proofs.Common.{◌≡◌, [], ◌∷◌, ◌++◌, List, length-append, sym, ◌∙◌, subst, arith}
 use Rattle.std.proofs.lemmas.List.{append_assoc, append-nil, nil_from_length}
+use Rattle.std.proofs.lemmas.Grind.{common_steps}
 use Rattle.sift_ether.specs.declared.seat.EtherSeat.{EtherSeat}
 use Rattle.sift_threads.specs.Crews.{AreLeftOf}
 use Rattle.sift_threads.specs.declared.seat.Seat.{Seat}
@@ -40,3 +41,6 @@ returns g c =
           inv.left;
       rogues = c.put_behind.ensures;
     }
+
+pub put_behind-requires : goal.put_behind-requires
+put_behind-requires g c = grind (arith, common_steps)

@@ -1,4 +1,5 @@
 use Rattle.std.proofs.Common.{◌≡◌, ℕ, ap, subst, arith}
+use Rattle.std.proofs.lemmas.Grind.{common_steps}
 use Rattle.sift_mission.specs.Parts.{flown_of}
 use Rattle.sift_core.specs.Machines.{AreNewBoards}
 use Rattle.sift_config.proofs.lemmas.FirstUnits.{low_unit}
@@ -35,3 +36,6 @@ returns c =
     let all : c.loop-number.number ≡ c.args.mission.now.units = let w = c.loop-number.invariant.within in let t =
     c.loop-number-test.false in omega arith in
     subst (λ (n : ℕ). AreNewBoards (flown_of c.args.mission.now) n c.loop-number.boards.items) all c.loop-number.invariant.boards
+
+pub loop-number-init : goal.loop-number-init
+loop-number-init c = grind (arith, common_steps)

@@ -1,4 +1,5 @@
-use Rattle.std.proofs.Common.{◌∙◌}
+use Rattle.std.proofs.Common.{◌∙◌, arith}
+use Rattle.std.proofs.lemmas.Grind.{common_steps}
 use Rattle.sift_mission.specs.Parts.{data_of}
 use Rattle.sift_core.specs.Courses.{course}
 use Rattle.sift_core.proofs.Turning.{drawn_there, own_turn, own_nearer, given_done, least_goes_on, least_turn, least_nearer, first_turn, first_nearer}
@@ -75,3 +76,6 @@ unreachable-requires g c = c.are_all_done.ensures.open c.if-are_all_done.false (
     c.args.drawer.now c.drawn_unit-drawn.new.drawer c.drawn_unit-drawn.result c.drawn_unit-drawn.ensures c.requires.under_way
     (course c.goes_itself.new.self c.goes_itself.new.left c.goes_itself.new.rogues) c.goes_itself.ensures.under_way)
     c.if-goes_itself.ensures.tried c.in_default.ensures.none c.in_default-first_left.ensures.none)
+
+pub returns-then-are_all_done-clause-turn : goal.returns-then-are_all_done-clause-turn
+returns-then-are_all_done-clause-turn g c = grind (arith, common_steps)

@@ -1,4 +1,5 @@
-use Rattle.std.proofs.Common.{◌≡◌, ◌<◌, ℕ, Option, slice_index, length, sym, refl, ap, ◌∙◌, subst}
+use Rattle.std.proofs.Common.{◌≡◌, ◌<◌, ℕ, Option, slice_index, length, sym, refl, ap, ◌∙◌, subst, arith}
+use Rattle.std.proofs.lemmas.Grind.{common_steps}
 use Rattle.sift_buffer.specs.Cell.{taken}
 use Rattle.sift_buffer.specs.Ranges.{place, shared_words}
 use Rattle.sift_buffer.specs.Conduct.{put, with_heard}
@@ -33,3 +34,15 @@ returns-clause-follows c =
       of = λ w i. put (core_of x w).of x.unit (with_heard ((core_of x w).of x.unit) a.f a.slot a.from a.stamp (sym found i));
       words = λ w. refl;
     })
+
+pub invariant_of-self : goal.invariant_of-self
+invariant_of-self c = grind (arith, common_steps)
+
+pub note_heard-requires-clause-place : goal.note_heard-requires-clause-place
+note_heard-requires-clause-place c = grind (arith, common_steps)
+
+pub note_heard-requires-clause-flies : goal.note_heard-requires-clause-flies
+note_heard-requires-clause-flies c = grind (arith, common_steps)
+
+pub note_heard-requires-clause-past : goal.note_heard-requires-clause-past
+note_heard-requires-clause-past c = grind (arith, common_steps)

@@ -1,4 +1,5 @@
-use Rattle.std.proofs.Common.{slice_set, sym, refl, ◌∙◌}
+use Rattle.std.proofs.Common.{slice_set, sym, refl, ◌∙◌, arith}
+use Rattle.std.proofs.lemmas.Grind.{common_steps}
 use Rattle.sift_buffer.specs.Conduct.{with_said}
 use Rattle.sift_buffer.specs.Core.{say}
 use Rattle.sift_core.specs.Racks.{ranges_for, conduct_at}
@@ -29,3 +30,15 @@ returns-clause-follows c =
       of = λ w. refl;
       words = λ w i. slice_set x.words.items (sym c.place-place.ensures.place i) (sym c.pack.ensures.cell i);
     })
+
+pub note_said-requires-clause-place : goal.note_said-requires-clause-place
+note_said-requires-clause-place c = grind (arith, common_steps)
+
+pub note_said-requires-clause-near : goal.note_said-requires-clause-near
+note_said-requires-clause-near c = grind (arith, common_steps)
+
+pub note_said-requires-clause-flies : goal.note_said-requires-clause-flies
+note_said-requires-clause-flies c = grind (arith, common_steps)
+
+pub invariant_of-self : goal.invariant_of-self
+invariant_of-self c = grind (arith, common_steps)

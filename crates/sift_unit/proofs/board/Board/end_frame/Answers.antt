@@ -1,5 +1,6 @@
-use Rattle.std.proofs.Common.{rules, inr, refl, ◌∙◌, ap, map, ◌∷◌, []}
+use Rattle.std.proofs.Common.{rules, inr, refl, ◌∙◌, ap, map, ◌∷◌, [], arith}
 use Rattle.std.proofs.lemmas.List.{map-append}
+use Rattle.std.proofs.lemmas.Grind.{common_steps}
 use Rattle.sift_unit.specs.Boards.{desk_of}
 use Rattle.sift_conduct.specs.Conduct.{account_of}
 use Rattle.sift_unit.proofs.Continuing.{frame_on, next_place}
@@ -16,3 +17,6 @@ returns-clause-goes_on g c = let m = g.M.Duty.mission c.args.mission.now in reco
   frame = inr (c.requires.last, refl);
   place = next_place _ c.requires.may.walks.fits (desk_of c.args.self.now) c.requires.may.end c.requires.last;
 }
+
+pub push_reserved-requires : goal.push_reserved-requires
+push_reserved-requires g c = grind (arith, common_steps)

@@ -1,4 +1,5 @@
 use Rattle.std.proofs.Common.{arith}
+use Rattle.std.proofs.lemmas.Grind.{common_steps}
 use Rattle.sift_unit.specs.Boards.{desk_of}
 use Rattle.sift_unit.proofs.Passing.{passes_on, same_on}
 use Rattle.sift_unit.proofs.board.Board.find_call.Goals as goal
@@ -32,3 +33,6 @@ returns-after-loop-self-clause-same g c = same_on c.args.self.now c.loop-self.se
 
 pub returns-else-not-is_end-clause-same : goal.returns-else-not-is_end-clause-same
 returns-else-not-is_end-clause-same g c = same_on c.args.self.now c.loop-self.self c.finds_unit.new.self c.loop-self.invariant.2 c.finds_unit.ensures.same
+
+pub pass-requires-clause-may : goal.pass-requires-clause-may
+pass-requires-clause-may g c = grind (arith, common_steps)

@@ -1,4 +1,5 @@
-use Rattle.std.proofs.Common.{◌∙◌, ap, sym}
+use Rattle.std.proofs.Common.{◌∙◌, ap, sym, arith}
+use Rattle.std.proofs.lemmas.Grind.{common_steps}
 use Rattle.sift_unit.specs.Memory.{note as note_of}
 use Rattle.sift_unit.specs.Boards.{memory_of}
 use Rattle.sift_unit.proofs.memory.Memory.note.Goals as goal
@@ -34,3 +35,9 @@ returns-in-RelayReport-clause-noted g c =
     let b = memory_of c.args.self.now in
     c.note_report.ensures.noted m c.args.frame c.args.clk.now c.args.self.now.words.before
     ∙ ap (λ k. note_of m c.args.config.now c.args.unit c.args.frame c.args.clk.now c.args.self.now.words.before k c.args.places.now b) (sym c.in-RelayReport.is ∙ c.kind.ensures)
+
+pub returns-in-Sense-clause-noted : goal.returns-in-Sense-clause-noted
+returns-in-Sense-clause-noted g c = grind (arith, common_steps)
+
+pub returns-in-Report-clause-noted : goal.returns-in-Report-clause-noted
+returns-in-Report-clause-noted g c = grind (arith, common_steps)

@@ -1,4 +1,5 @@
 use Rattle.std.proofs.Common.{rules, ◌≡◌, ◌+◌, ◌*◌, length, refl, arith}
+use Rattle.std.proofs.lemmas.Grind.{common_steps}
 use Rattle.sift_pool.specs.Region.{empty_region}
 use Rattle.sift_unit.proofs.Filing.{first_is, first_file}
 use Rattle.sift_unit.proofs.word_file.WordFile.make.Goals as goal
@@ -16,3 +17,9 @@ pub returns : goal.returns
 returns c =
     first_is _ _ _ _ _ _ _ _ _ _ _ _ _ _ _ _ (taken c) refl c.carve-agreed.ensures c.carve-before.ensures c.carve-voted.ensures c.carve-work.ensures c.mark-mark.ensures
     c.carve-made.ensures c.store.ensures
+
+pub carve-made-requires-clause-words : goal.carve-made-requires-clause-words
+carve-made-requires-clause-words c = grind (arith, common_steps)
+
+pub carve-work-requires-clause-words : goal.carve-work-requires-clause-words
+carve-work-requires-clause-words c = grind (arith, common_steps)
