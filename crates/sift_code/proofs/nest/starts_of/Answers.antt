@@ -1,9 +1,10 @@
 use Rattle.std.proofs.Common.{◌≡◌, ◌+◌, ◌-◌, length, arith, sym, ◌∙◌, ap}
 use Rattle.std.specs.Prelude.{Some, None, slice_index_or}
+use Rattle.std.proofs.lemmas.Grind.{common_steps}
 use Rattle.sift_code.specs.Nest.{start_at}
 use Rattle.sift_code.proofs.Tables.{tells_above, read_to, read_instr, started, start_at-Begin, start_at-Begin_alone, start_at-End, start_at-End_alone, start_at-other}
-use Rattle.sift_code.proofs.nest.starts_of.Goals as goal
 use Rattle.sift_code.proofs.nest.starts_of.Goals.{in-Begin+in-Some, in-Begin+in-None, in-End+in-Some-index, in-End+in-None-index, in_default}
+use Rattle.sift_code.proofs.nest.starts_of.Goals as goal
 
 -- the Begin of the innermost loop is before
 pub overflow_sub-start : goal.overflow_sub-start
@@ -58,3 +59,6 @@ loop-at-preserved c =
           (omega arith) w.index-in_default.ensures in
           told (w.entry-is ∙ (here ∙ sym (start_at-other c.args.code.now c.loop-at.at c.index-code-at.result at (w.in_default.not-Begin, w.in_default.not-End)))))
     ]
+
+pub overflow_cast-entry : goal.overflow_cast-entry
+overflow_cast-entry c = grind (arith, common_steps)

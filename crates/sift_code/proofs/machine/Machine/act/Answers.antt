@@ -1,4 +1,5 @@
 use Rattle.std.proofs.Common.{◌∙◌, arith, ap, length, refl, sym}
+use Rattle.std.proofs.lemmas.Grind.{common_steps}
 use Rattle.sift_code.specs.declared.instr.Instr.TheVariants.{Add, Sub, Mul, Div, Rem, And, Or, Xor, Shl, Shr, Lt, Eq}
 use Rattle.sift_code.proofs.Sound.{braced, uncrowded}
 use Rattle.sift_code.proofs.Places.{locals_of-get, refill-set}
@@ -335,3 +336,9 @@ pub returns-in_default : goal.returns-in_default
 returns-in_default c inputs =
     let f = fetched c.requires.room c.requires.stands c.nest-nest.ensures.sound c.requires.instr c.in-End.is in
     absurd (started inputs f (rw c.nest-nest.ensures.code at (sym c.start.ensures.found ∙ c.in_default.is)))
+
+pub begin-requires-clause-inside : goal.begin-requires-clause-inside
+begin-requires-clause-inside c = grind (arith, common_steps)
+
+pub end_round-requires-clause-open : goal.end_round-requires-clause-open
+end_round-requires-clause-open c = grind (arith, common_steps)
