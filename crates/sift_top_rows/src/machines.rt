@@ -72,9 +72,13 @@ fn expect_orders(
 }
 
 #[test]
-fn the_order_number_draws_who_steps(rt: HostRuntime) -> Result<(), Fail> {
+fn the_order_number_draws_who_of_five_steps(rt: HostRuntime) -> Result<(), Fail> {
     let five = stated(rt.alloc(), FIVE)?;
-    expect_orders(&rt, rt.alloc(), &five, &TURNS_OF_FIVE)?;
+    expect_orders(&rt, rt.alloc(), &five, &TURNS_OF_FIVE)
+}
+
+#[test]
+fn the_order_number_draws_who_of_eight_steps(rt: HostRuntime) -> Result<(), Fail> {
     let eight = eight_units(rt.alloc())?;
     expect_orders(&rt, rt.alloc(), &eight, &TURNS_OF_EIGHT)
 }
@@ -107,14 +111,20 @@ fn expect_steps(
 }
 
 /// Unit 0 alone says its clock and the sensor to seven units, enters the second subframe, and waits there for unit 1.
+fn expect_waiting(rt: &impl Abort, alloc: Global, mission: &Mission) -> Result<(), Fail>
+    requires { mission.now.units ≡ 8 }
+{
+    let first = first_of(mission);
+    let mut machine = Machine::make(alloc, mission)?;
+    expect_steps(rt, &mut machine, mission, first, 15, Stepped::Moved);
+    let unit = UnitId::of(1).ok_or("unit 1")?;
+    let waits = Stepped::NotYet { unit, seen: 0 };
+    expect_steps(rt, &mut machine, mission, first, 3, waits);
+    Ok(())
+}
+
 #[test]
 fn one_unit_alone_waits_in_the_second_subframe(rt: HostRuntime) -> Result<(), Fail> {
     let mission = eight_units(rt.alloc())?;
-    let first = first_of(&mission);
-    let mut machine = Machine::make(rt.alloc(), &mission)?;
-    expect_steps(&rt, &mut machine, &mission, first, 15, Stepped::Moved);
-    let unit = UnitId::of(1).ok_or("unit 1")?;
-    let waits = Stepped::NotYet { unit, seen: 0 };
-    expect_steps(&rt, &mut machine, &mission, first, 3, waits);
-    Ok(())
+    expect_waiting(&rt, rt.alloc(), &mission)
 }

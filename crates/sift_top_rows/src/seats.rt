@@ -10,6 +10,7 @@ use sift_ether::Ether;
 use sift_mission::{Mission, a_mission_fits};
 use sift_threads::{NoProbe, fly_seats};
 use std::alloc::Global;
+use std::process::Abort;
 use std::sync::Wait;
 use std::test::Fail;
 use std::thread::Threads;
@@ -54,12 +55,19 @@ fn word_heard(mission: &Mission, journals: &[Journal]) -> Result<Option<Word>, F
 }
 
 /// 3 * 5 + 1 is 16.
-#[test]
-fn seats_are_flown_and_landed(rt: HostRuntime) -> Result<(), Fail> {
-    let alloc = rt.alloc();
-    let mission = stated(alloc, COUNT)?;
-    let journals = land(&rt, alloc, &mission)?;
-    let heard = word_heard(&mission, &journals)?;
+fn expect_the_word<H: Threads + Wait + Abort + Sync>(
+    rt: &H,
+    alloc: Global,
+    mission: &Mission,
+) -> Result<(), Fail> {
+    let journals = land(rt, alloc, mission)?;
+    let heard = word_heard(mission, &journals)?;
     assert_eq!(rt; heard, Some(Word::of(16)));
     Ok(())
+}
+
+#[test]
+fn seats_are_flown_and_landed(rt: HostRuntime) -> Result<(), Fail> {
+    let mission = stated(rt.alloc(), COUNT)?;
+    expect_the_word(&rt, rt.alloc(), &mission)
 }

@@ -125,15 +125,27 @@ fn flown<R: Rogue + Send, H: Threads + Wait + Sync>(
     fly_threads(rt, alloc, mission, 2, rogues, &NoProbe)
 }
 
+fn expect_its_report<H: Threads + Wait + Abort + Sync>(
+    rt: &H,
+    alloc: Global,
+    mission: &Mission,
+    rogues: Vec<Counting<'_>>,
+) -> Result<(), Fail>
+    requires { length rogues.items ≡ unit_limit }
+{
+    let flight = flown(rt, alloc, mission, rogues)?;
+    let report = report_text(alloc, mission, &flight, Version::Two)?;
+    assert_eq!(rt; report.as_str(), STORM_REPORT);
+    Ok(())
+}
+
 #[test]
 fn only_the_rogue_of_the_storm_is_called(rt: HostRuntime) -> Result<(), Fail> {
     let alloc = rt.alloc();
     let mission = stated(alloc, STORM)?;
     let calls = no_calls();
     let rogues = rogues_by(alloc, &calls, SEVEN)?;
-    let flight = flown(&rt, alloc, &mission, rogues)?;
-    let report = report_text(alloc, &mission, &flight, Version::Two)?;
-    assert_eq!(rt; report.as_str(), STORM_REPORT);
+    expect_its_report(&rt, alloc, &mission, rogues)?;
     expect_one_storm(&rt, &calls, 4, 1);
     Ok(())
 }

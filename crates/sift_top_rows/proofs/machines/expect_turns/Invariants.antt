@@ -5,4 +5,4 @@ use Rattle.sift_top_rows.proofs.machines.expect_turns.Given as goal
 
 -- the flight is under way
 abbrev pub invariant-loop-digit : goal.invariant-loop-digit
-invariant-loop-digit g l = IsUnderWay (data_of l.mission) (course l.machine l.left l.rogues)
+invariant-loop-digit g l = IsUnderWay (data_of l.mission) (course l.machine l.left l.rogues.items)
