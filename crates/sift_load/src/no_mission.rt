@@ -24,7 +24,9 @@ impl NoMission {
     {
         match self {
             NoMission::NotADocument => Ok(Reply::fixed(3, "not a document\n")),
-            NoMission::Refused(Refused::Scenario { rule, place }) => no_scenario(alloc, rule, place),
+            NoMission::Refused(Refused::Scenario { rule, place }) => no_scenario(
+                alloc, rule, place,
+            ),
             NoMission::Refused(Refused::Task { task, kind, at }) => no_task(alloc, task, kind, at),
             NoMission::Refused(Refused::Table { size, row, rule }) => {
                 no_table(alloc, size, row, rule)
