@@ -1,5 +1,6 @@
-use Rattle.std.proofs.Common.{[], ◌∷◌, ◌++◌, sym, ◌∙◌, subst}
+use Rattle.std.proofs.Common.{[], ◌∷◌, ◌++◌, sym, ◌∙◌, subst, arith}
 use Rattle.std.proofs.lemmas.List.{append_assoc, map-append}
+use Rattle.std.proofs.lemmas.Grind.{common_steps}
 use Rattle.sift_ether.specs.Seating.{IsTokenBack}
 use Rattle.sift_ether.specs.declared.seat.EtherSeat.{EtherSeat}
 use Rattle.sift_bus.proofs.Sides.{side_push}
@@ -17,3 +18,12 @@ loop-flyer-preserved g c = let inv = c.loop-flyer.invariant in record {
   all = append_assoc c.loop-flyer.yielded (c.in-Some.flyer ∷ []) c.next.new.self.rest.items
       ∙ ((λ i. c.loop-flyer.yielded ++ sym c.in-Some.ensures.steps.0 i) ∙ inv.all);
 }
+
+pub returns-clause-logs : goal.returns-clause-logs
+returns-clause-logs g c = grind (arith, common_steps)
+
+pub returns-clause-accounts : goal.returns-clause-accounts
+returns-clause-accounts g c = grind (arith, common_steps)
+
+pub returns-clause-tokens : goal.returns-clause-tokens
+returns-clause-tokens g c = grind (arith, common_steps)

@@ -1,5 +1,6 @@
-use Rattle.std.proofs.Common.{[]}
+use Rattle.std.proofs.Common.{[], arith}
 use Rattle.std.proofs.lemmas.List.Elements.{All-set}
+use Rattle.std.proofs.lemmas.Grind.{common_steps}
 use Rattle.sift_mission.specs.Parts.{flown_of}
 use Rattle.sift_unit.specs.Boards.{Drives}
 use Rattle.sift_bus.proofs.Sides.{side_by_itself, side_set}
@@ -24,3 +25,12 @@ loop-preserved g c = record {
       c.in-Some-next_of.ensures.found.there
       (λ x old. g.met.P.Look.follows_on x.port _ c.step.new.port [] [] old c.step.ensures.follows);
 }
+
+pub offset_bounds-flyers-number : goal.offset_bounds-flyers-number
+offset_bounds-flyers-number g c = grind (arith, common_steps)
+
+pub overflow_mul-end : goal.overflow_mul-end
+overflow_mul-end g c = grind (arith, common_steps)
+
+pub returns-clause-down : goal.returns-clause-down
+returns-clause-down g c = grind (arith, common_steps)

@@ -1,5 +1,6 @@
 use Rattle.std.proofs.Common.{◌≡◌, ◌*◌, ◌+◌, ◌≤◌, lit<, pos, ◌+ℤ◌, ◌-ℤ◌, ◌*ℤ◌, arith}
 use Rattle.std.proofs.lemmas.Int.{ints}
+use Rattle.std.proofs.lemmas.Grind.{common_steps}
 use Rattle.sift_clocklab.proofs.Products.{held, needed_small, product_fits, product_held, room_decides, room_small}
 use Rattle.sift_clocklab.proofs.admitting.admits.Goals as goal
 
@@ -29,3 +30,9 @@ returns-then-beyond-ge1 c =
     room_decides a.n a.m a.skew a.error a.rate _ _ enough
     (product_held 64 16000 _ _ _ _ (lit< tt) (needed_small a.n a.m a.skew a.error a.rate 1 c.requires) clocks changes)
     (product_held 8000 32 _ _ _ _ (lit< tt) (room_small a.n a.m a.skew a.error a.rate 1 c.requires enough) skew beyond)
+
+pub returns-else-beyond-ge1 : goal.returns-else-beyond-ge1
+returns-else-beyond-ge1 c = grind (arith, common_steps)
+
+pub overflow_add-result : goal.overflow_add-result
+overflow_add-result c = grind (arith, common_steps)

@@ -1,5 +1,6 @@
 use Rattle.std.proofs.Common.{◌≡◌, sym, subst, ◌∙◌, arith}
 use Rattle.std.proofs.lemmas.Int.{ints}
+use Rattle.std.proofs.lemmas.Grind.{common_steps}
 use Rattle.sift_clocklab.specs.Conditions.{IsReady}
 use Rattle.sift_clocklab.specs.Draws.{drawn_lab}
 use Rattle.sift_clocklab.proofs.DrawnLabs.{admitted_as_given, drawn_ready, not_both}
@@ -28,3 +29,12 @@ returns-clause-not_admitted c =
     let admitted = admitted_as_given a.n a.m (held a.skew) (held a.error) (held a.rate) a.skew a.error a.rate skew error rate
     c.if-not-admits.ensures in
     (λ ends. cc, λ refused. absurd (not_both a.n a.m a.skew a.error a.rate admitted refused))
+
+pub returns-in_err-make_drawn-clause-not_admitted : goal.returns-in_err-make_drawn-clause-not_admitted
+returns-in_err-make_drawn-clause-not_admitted c = grind (arith, common_steps)
+
+pub make_drawn-requires-clause-in_range : goal.make_drawn-requires-clause-in_range
+make_drawn-requires-clause-in_range c = grind (arith, common_steps)
+
+pub returns-then-not-admits-clause-not_admitted : goal.returns-then-not-admits-clause-not_admitted
+returns-then-not-admits-clause-not_admitted c = grind (arith, common_steps)

@@ -1,5 +1,6 @@
 use Rattle.std.proofs.Common.{◌≡◌, ℕ, ◌+◌, ◌*◌, refl, ap, ◌∙◌, w32, w64, to_z, of_z, arith, rules}
 use Rattle.std.proofs.lemmas.Int.{ints}
+use Rattle.std.proofs.lemmas.Grind.{common_steps}
 use Rattle.sift_base.specs.Draw.{after, drawn}
 use Rattle.sift_clocklab.specs.Draws.{drift_drawn, spread, start_drawn}
 use Rattle.sift_clocklab.proofs.Lists.{values_more}
@@ -33,3 +34,12 @@ loop-preserved c =
           c.in_ok-push-2.ensures.items (held ∙ (c.spread.ensures.drawn ∙ ap (spread c.args.rate) two));
       next = two ∙ ap (after x) places;
     }
+
+pub returns-clause-start : goal.returns-clause-start
+returns-clause-start c = grind (arith, common_steps)
+
+pub returns-clause-next : goal.returns-clause-next
+returns-clause-next c = grind (arith, common_steps)
+
+pub returns-clause-drift : goal.returns-clause-drift
+returns-clause-drift c = grind (arith, common_steps)

@@ -1,9 +1,10 @@
 use Rattle.std.proofs.Common.{◌≡◌, ℕ, ◌<◌, List, [], ◌∷◌, ◌++◌, length, Vec, Global, ℤ, sym, subst, ◌∙◌, w64, to_z, of_z, arith}
 use Rattle.std.proofs.lemmas.Int.{ints}
+use Rattle.std.proofs.lemmas.Grind.{common_steps}
 use Rattle.sift_skew.specs.Figures.{AreInRange, IsSkew}
 use Rattle.sift_clocklab.proofs.Figures.{row_has_skew, skew_small, skew_there, skews_more}
-use Rattle.sift_clocklab.proofs.printing.skews_of.Goals as goal
 use Rattle.sift_clocklab.proofs.printing.skews_of.Goals.{in-Some+in_ok-push, in_default}
+use Rattle.sift_clocklab.proofs.printing.skews_of.Goals as goal
 
 -- figures are told of the offsets
 pub skew-requires : goal.skew-requires
@@ -32,3 +33,6 @@ loop-row-preserved c =
           c.row-item.is c.loop-row.invariant one figure
       | in_default w ↦ absurd (skew_there row.items told (sym c.deref.ensures.value ∙ w.in_default.ensures))
     ]
+
+pub returns : goal.returns
+returns c = grind (arith, common_steps)

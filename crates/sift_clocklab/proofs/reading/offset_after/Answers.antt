@@ -2,6 +2,7 @@ use Rattle.std.proofs.Common.{◌≡◌, ℕ, ◌+◌, ◌<◌, List, length, ma
 use Rattle.std.proofs.lemmas.Int.{ints}
 use Rattle.std.proofs.lemmas.List.{get_or_default, length-map}
 use Rattle.std.proofs.lemmas.List.FromFn.{length-range_with_len}
+use Rattle.std.proofs.lemmas.Grind.{common_steps}
 use Rattle.sift_base.specs.Units.{others}
 use Rattle.sift_clock.specs.Distance.{IsWithin}
 use Rattle.sift_clock.specs.Correction.{correction_of}
@@ -72,3 +73,9 @@ returns c =
       drift_is = c.index.ensures;
     }) in
     omega (arith, ints, sum, c.advance.ensures)
+
+pub correct-correction-requires-clause-limit : goal.correct-correction-requires-clause-limit
+correct-correction-requires-clause-limit c = grind (arith, common_steps)
+
+pub limit-requires : goal.limit-requires
+limit-requires c = grind (arith, common_steps)

@@ -1,7 +1,7 @@
 use Rattle.std.proofs.Common.{◌≡◌, ℕ, ◌+◌, ◌-◌, List, [], ◌∷◌, ◌++◌, ap, sym, ◌∙◌, subst, add-one, append_assoc, arith}
 use Rattle.std.specs.List.{flat_map, range_with_len}
 use Rattle.std.proofs.lemmas.List.{append-nil, map-append}
-use Rattle.std.proofs.lemmas.Grind.{flat_map-append}
+use Rattle.std.proofs.lemmas.Grind.{flat_map-append, common_steps}
 use Rattle.sift_clocklab.specs.Laboratory.{faulty_clocks, laboratory_of, working_of}
 use Rattle.sift_clocklab.specs.Showing.{Pair, ShowsInTurn, pairs_to}
 use Rattle.sift_clocklab.proofs.Ranges.{range-more}
@@ -67,3 +67,12 @@ loop-to-preserved g c =
       each = (let each = inv.each in omega (arith, all));
       room = inv.room;
     }
+
+pub returns-clause-shown : goal.returns-clause-shown
+returns-clause-shown g c = grind (arith, common_steps)
+
+pub push_reserved-requires : goal.push_reserved-requires
+push_reserved-requires g c = grind (arith, common_steps)
+
+pub returns-clause-each : goal.returns-clause-each
+returns-clause-each g c = grind (arith, common_steps)

@@ -1,5 +1,6 @@
 use Rattle.std.proofs.Common.{◌≡◌, [], get_or, length, ap, ◌∙◌, arith}
 use Rattle.std.proofs.lemmas.List.{length-map}
+use Rattle.std.proofs.lemmas.Grind.{common_steps}
 use Rattle.sift_clocklab.specs.Laboratory.{laboratory_of, working_of}
 use Rattle.sift_clocklab.proofs.Lists.{row_at}
 use Rattle.sift_clocklab.proofs.lab.Lab.noise_between.Goals as goal
@@ -15,3 +16,9 @@ index-requires-2 c =
     let each : length (get_or lab.noise c.from.result []) ≡ working_of lab =
     (ready.noise c.from.result [] (omega (arith, ready.noise_of_each))).each in
     omega (arith, c.index.result.now.ok, ap length row ∙ each)
+
+pub returns : goal.returns
+returns c = grind (arith, common_steps)
+
+pub index-requires : goal.index-requires
+index-requires c = grind (arith, common_steps)
