@@ -1,6 +1,7 @@
 use Rattle.std.proofs.Common.{◌≡◌, ◌/◌, ◌<◌, length, reverse, get_or, None, ap, ◌∙◌, arith, add-one}
 use Rattle.std.proofs.lemmas.List.{get_or_default, length-reverse}
 use Rattle.std.proofs.lemmas.Nat.{div_below}
+use Rattle.std.proofs.lemmas.Grind.{common_steps}
 use Rattle.sift_byz.proofs.Searches.{refilled}
 use Rattle.sift_byz.proofs.exchanging.heard_at.Goals as goal
 
@@ -16,3 +17,9 @@ returns c =
     let is : c.index-before-place.result ≡ get_or c.args.before.now (c.args.place / c.from-units.result) None =
     c.index-before-place.is ∙ get_or_default c.args.before.now (c.args.place / c.from-units.result) c.index-before-place.result None low in
     rw (c.unwrap_or.ensures, c.first_lie.ensures, c.deref.ensures.value, written, c.path_in-written.ensures, is, c.from-units.ensures, add-one)
+
+pub offset_bounds-before-place : goal.offset_bounds-before-place
+offset_bounds-before-place c = grind (arith, common_steps)
+
+pub bounds-before-place : goal.bounds-before-place
+bounds-before-place c = grind (arith, common_steps)

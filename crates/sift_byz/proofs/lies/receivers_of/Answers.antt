@@ -1,4 +1,5 @@
 use Rattle.std.proofs.Common.{◌<◌, ◌≤◌, length, arith}
+use Rattle.std.proofs.lemmas.Grind.{common_steps}
 use Rattle.sift_byz.proofs.Testing.{ascending_few}
 use Rattle.sift_byz.proofs.lies.receivers_of.Goals as goal
 
@@ -9,3 +10,9 @@ returns-in_err-to-clause-none c =
     let long : 10 < length to = c.in_err-to.ensures.none to (rw (← c.in_ok-member_in.ensures) at is) in
     let few : length to ≤ c.args.units = ascending_few c.args.units to receivers.ascending receivers.below in
     omega (arith, long, few, c.requires))
+
+pub returns-then-are_receivers-clause-receivers : goal.returns-then-are_receivers-clause-receivers
+returns-then-are_receivers-clause-receivers c = grind (arith, common_steps)
+
+pub returns-else-are_receivers-clause-none : goal.returns-else-are_receivers-clause-none
+returns-else-are_receivers-clause-none c = grind (arith, common_steps)

@@ -1,4 +1,5 @@
 use Rattle.std.proofs.Common.{◌≡◌, ◌+◌, ◌++◌, length, drop, rules, arith, sym, ap, ◌∙◌}
+use Rattle.std.proofs.lemmas.Grind.{common_steps}
 use Rattle.sift_lang.specs.declared.tree.Stmt.{the_lemmas}
 use Rattle.sift_lang.specs.Tree.{term_of, statement_of, block_of, choose, choose_else, repeat}
 use Rattle.sift_lang.proofs.lemmas.Rounds.{block_of-drop}
@@ -127,3 +128,9 @@ emit_statement-returns-in_ok-emit_block-in-Some-2-clause-emitted t c =
     (c.block_length-in-Some.result + 1) c.block_length-in-Some-2.result c.in_ok-emit_test-in-Some.ensures passed one
     c.in_ok-emit_skip-in-Some.ensures past two
     ∙ ap (λ s. old ++ statement_code (length old) c.args.locals s) (sym view)
+
+pub emit_block-returns : goal.emit_block-returns
+emit_block-returns c = grind (arith, common_steps)
+
+pub emit_block-loop-statement-preserved : goal.emit_block-loop-statement-preserved
+emit_block-loop-statement-preserved c = grind (arith, common_steps)

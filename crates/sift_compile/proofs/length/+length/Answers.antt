@@ -1,5 +1,6 @@
 use Rattle.std.proofs.Common.{◌≡◌, ◌+◌, [], drop, ap, arith}
 use Rattle.std.proofs.Math.ListN.{drop_of_length-le}
+use Rattle.std.proofs.lemmas.Grind.{common_steps}
 use Rattle.sift_lang.specs.Tree.{block_of}
 use Rattle.sift_code.specs.Bound.{kept}
 use Rattle.sift_compile.specs.Length.{block_length}
@@ -13,3 +14,6 @@ block_length-returns t c =
     let none : drop i block ≡ [] = drop_of_length-le block (omega arith) in
     let whole = ap (λ rest. kept (c.loop-statement.length + block_length (block_of rest))) none in
     omega (arith, whole, c.loop-statement.invariant.left, c.loop-statement.invariant.few)
+
+pub block_length-loop-statement-preserved : goal.block_length-loop-statement-preserved
+block_length-loop-statement-preserved c = grind (arith, common_steps)

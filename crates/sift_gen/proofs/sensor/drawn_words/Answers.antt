@@ -1,6 +1,7 @@
 use Rattle.std.proofs.Common.{◌≡◌, ℕ, ◌+◌, ◌++◌, ◌∷◌, [], map, refl, ap, sym, ◌∙◌, arith}
 use Rattle.std.proofs.lemmas.List.{map-append}
 use Rattle.std.specs.List.{range_with_len}
+use Rattle.std.proofs.lemmas.Grind.{common_steps}
 use Rattle.sift_base.specs.Draw.{after, draw_at, drawn, next_number}
 use Rattle.sift_base.specs.Word.{word_count}
 use Rattle.toml.specs.Data.{Data}
@@ -38,3 +39,6 @@ unfolding sensor_words
 returns-clause-made c =
     let done : c.loop.counter ≡ 16 = omega arith in
     c.loop.invariant.made ∙ ap (λ n. map (λ i. number (draw_at c.args.draw.now i word_count)) (range_with_len 0 n)) done
+
+pub returns-clause-drawn : goal.returns-clause-drawn
+returns-clause-drawn c = grind (arith, common_steps)

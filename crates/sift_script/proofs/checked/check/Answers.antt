@@ -1,5 +1,6 @@
 use Rattle.std.proofs.Common.{◌≡◌, ap, arith, below_more, length}
 use Rattle.std.proofs.lemmas.List.{length-map}
+use Rattle.std.proofs.lemmas.Grind.{common_steps}
 use Rattle.sift_script.proofs.Bounds.{entries_are_few}
 use Rattle.sift_script.specs.Parts.{script_of}
 use Rattle.sift_base.specs.Requirement.{AreMet}
@@ -29,3 +30,9 @@ invariant_of-result c = (λ at low. c.loop-at.invariant at (omega (arith, length
 
 pub returns-clause-good : goal.returns-clause-good
 returns-clause-good c = λ at low. c.loop-at.invariant at (omega (arith, length-map c.of-parts.result.script.entries.items fault_of))
+
+pub broken_rule-requires : goal.broken_rule-requires
+broken_rule-requires c = grind (arith, common_steps)
+
+pub loop-at-init : goal.loop-at-init
+loop-at-init c = grind (arith, common_steps)

@@ -1,5 +1,6 @@
 use Rattle.std.proofs.Common.{◌≡◌, length, sym, ap, ◌∙◌, arith}
 use Rattle.std.proofs.lemmas.List.{length-map}
+use Rattle.std.proofs.lemmas.Grind.{common_steps}
 use Rattle.sift_lang.specs.Tree.{tree_of}
 use Rattle.sift_program.specs.Program.{program_of}
 use Rattle.sift_program.proofs.lemmas.Frames.{tree_at, words_made-next, CanRun-at, length-ideal_frame}
@@ -45,3 +46,12 @@ returns-clause-as_many c =
     omega (arith, length-map c.args.program.now.tasks.items tree_of, long, c.loop-number-test.false, c.loop-number.auto.number-end) in
     let made = length-ideal_frame program c.self.inside.words.items c.args.agreed.now c.args.shed.now in
     ap length c.loop-number.invariant ∙ (rw all made ∙ (sym c.requires.sound.a_start_each ∙ c.requires.a_start_each))
+
+pub returns-clause-in_turn : goal.returns-clause-in_turn
+returns-clause-in_turn c = grind (arith, common_steps)
+
+pub overflow_cast-number : goal.overflow_cast-number
+overflow_cast-number c = grind (arith, common_steps)
+
+pub returns-clause-ideal : goal.returns-clause-ideal
+returns-clause-ideal c = grind (arith, common_steps)
