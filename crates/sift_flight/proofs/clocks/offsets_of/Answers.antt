@@ -1,4 +1,5 @@
-use Rattle.std.proofs.Common.{ap}
+use Rattle.std.proofs.Common.{ap, arith}
+use Rattle.std.proofs.lemmas.Grind.{common_steps}
 use Rattle.sift_mission.specs.Parts.{flown_of}
 use Rattle.sift_flight.specs.Told.{told}
 use Rattle.sift_flight.proofs.Telling.{offset_more}
@@ -9,3 +10,12 @@ loop-unit-preserved c =
     offset_more (λ u. ((told (flown_of c.args.mission.now) c.args.flight.now).account u c.args.f).clk) c.args.units.now c.loop-unit.unit-index
     c.unit-item.result c.loop-unit.offsets.items _ c.account_at.result.now.clk c.loop-unit.invariant.0 c.loop-unit.invariant.1 c.push.ensures.items
     c.loop-unit-test.true c.unit-item.is (ap (λ a. a.clk) c.account_at.ensures.told) c.account_at.ensures.account.clock
+
+pub push-requires : goal.push-requires
+push-requires c = grind (arith, common_steps)
+
+pub loop-unit-init : goal.loop-unit-init
+loop-unit-init c = grind (arith, common_steps)
+
+pub returns-clause-offsets : goal.returns-clause-offsets
+returns-clause-offsets c = grind (arith, common_steps)

@@ -1,6 +1,7 @@
 use Rattle.std.proofs.Common.{◌≡◌, [], map, ◌∙◌, subst, ap, ℕ, ℤ, to_z, of_z, w32, arith}
 use Rattle.std.proofs.lemmas.Int.{ints}
 use Rattle.std.specs.Prelude.{MatchOption}
+use Rattle.std.proofs.lemmas.Grind.{common_steps}
 use Rattle.sift_skew.specs.Figures.{IsSlack}
 use Rattle.sift_mission.specs.Parts.{flown_of}
 use Rattle.sift_flight.specs.Figures.{next_offsets_at, offsets_at, working_at}
@@ -36,3 +37,12 @@ returns-clause-slack c =
     let m = flown_of c.args.mission.now in
     slack_of_units (λ u. ((told m c.args.flight.now).account u c.args.f).clk) (working_at m (told m c.args.flight.now) c.args.f) c.slack.result
     m.length (next_offsets_at m (told m c.args.flight.now) c.args.f) (found c)
+
+pub slack-requires-clause-now : goal.slack-requires-clause-now
+slack-requires-clause-now c = grind (arith, common_steps)
+
+pub slack-requires-clause-paired : goal.slack-requires-clause-paired
+slack-requires-clause-paired c = grind (arith, common_steps)
+
+pub slack-requires-clause-next : goal.slack-requires-clause-next
+slack-requires-clause-next c = grind (arith, common_steps)

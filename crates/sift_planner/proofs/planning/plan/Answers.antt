@@ -1,5 +1,6 @@
 use Rattle.std.proofs.Common.{◌≡◌, ◌<◌, ◌∙◌, ℕ, List, length, get_or, ap, sym, arith}
 use Rattle.std.proofs.lemmas.List.{length-map}
+use Rattle.std.proofs.lemmas.Grind.{common_steps}
 use Rattle.sift_base.specs.Shapes.{Shape, shape_at, shape_of, shapes_of}
 use Rattle.sift_planner.specs.Drafts.{drafted, rows_in}
 use Rattle.sift_planner.specs.Plans.{wanted}
@@ -50,3 +51,12 @@ returns-clause-good c =
     let whole = planned_whole c.args.shapes.now w c.loop-t.t table c.loop-t.invariant.2
     (omega (arith, c.loop-t-test.false, ap length c.deref-task-items.ensures.value)) in
     c.plans_are_good.ensures (shapes_of c.args.shapes.now) w table c.requires.limits whole
+
+pub returns-in_default-clause-no_room : goal.returns-in_default-clause-no_room
+returns-in_default-clause-no_room c = grind (arith, common_steps)
+
+pub overflow_cast-result : goal.overflow_cast-result
+overflow_cast-result c = grind (arith, common_steps)
+
+pub add_row-requires-clause-kept : goal.add_row-requires-clause-kept
+add_row-requires-clause-kept c = grind (arith, common_steps)

@@ -1,5 +1,6 @@
 use Rattle.std.proofs.Common.{◌≡◌, ◌+◌, ◌-◌, ℕ, length, map, subst, arith}
 use Rattle.std.proofs.lemmas.List.{length_push}
+use Rattle.std.proofs.lemmas.Grind.{common_steps}
 use Rattle.sift_base.specs.Layout.{least_units}
 use Rattle.sift_base.specs.Shapes.{shapes_of}
 use Rattle.sift_table.specs.Schedule.{Schedule, schedule_of}
@@ -43,3 +44,6 @@ loop-size-preserved c =
       omega (arith, length_push c.loop-size.tables.items c.in-Ok.table, c.loop-size.invariant.0),
       tables_more planned c.loop-size.tables.items c.in-Ok.table c.loop-size.invariant.1 here,
     )
+
+pub returns-clause-planned : goal.returns-clause-planned
+returns-clause-planned c = grind (arith, common_steps)

@@ -1,10 +1,11 @@
 use Rattle.std.proofs.Common.{arith}
+use Rattle.std.proofs.lemmas.Grind.{common_steps}
 use Rattle.sift_mission.specs.Parts.{data_of, flown_of}
 use Rattle.sift_flight.specs.Told.{told}
 use Rattle.sift_report.proofs.Polls.{next_first, task_there, word_room}
 use Rattle.sift_line.proofs.lemmas.Printed.{text_more}
-use Rattle.sift_report.proofs.votes.push_unit_votes.Goals as goal
 use Rattle.sift_report.specs.Votes.{task_votes}
+use Rattle.sift_report.proofs.votes.push_unit_votes.Goals as goal
 
 pub push_task_votes-requires-clause-words : goal.push_task_votes-requires-clause-words
 push_task_votes-requires-clause-words c =
@@ -24,3 +25,15 @@ loop-t-preserved c =
           c.loop-t.invariant.0 c.in_ok-push_task_votes.ensures,
       omega (arith, next_first d.program.tasks c.loop-t.t there, c.loop-t.invariant.1, c.outputs-first.ensures),
     )
+
+pub returns : goal.returns
+returns c = grind (arith, common_steps)
+
+pub push_task_votes-requires-clause-tells : goal.push_task_votes-requires-clause-tells
+push_task_votes-requires-clause-tells c = grind (arith, common_steps)
+
+pub outputs-first-requires : goal.outputs-first-requires
+outputs-first-requires c = grind (arith, common_steps)
+
+pub overflow_add-first : goal.overflow_add-first
+overflow_add-first c = grind (arith, common_steps)

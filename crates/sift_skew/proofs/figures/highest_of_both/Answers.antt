@@ -1,6 +1,7 @@
 use Rattle.std.proofs.Common.{◌≡◌, arith, ◌∙◌, w64, to_z, of_z}
 use Rattle.std.specs.Int.{int_max}
 use Rattle.std.proofs.lemmas.Int.{ints}
+use Rattle.std.proofs.lemmas.Grind.{common_steps}
 use Rattle.sift_skew.proofs.lemmas.Extremes.{highest-append}
 use Rattle.sift_skew.proofs.figures.highest_of_both.Goals as goal
 
@@ -15,3 +16,6 @@ returns-clause-highest c =
     let higher : c.max.result ≡ int_max a b = c.max.ensures.value ∙ rw (one, two) in
     rw (fits, higher)
     (highest-append c.args.now.now c.args.next.now a b c.in_ok-highest.ensures.highest c.in_ok-highest-2.ensures.highest)
+
+pub returns-clause-in_range : goal.returns-clause-in_range
+returns-clause-in_range c = grind (arith, common_steps)

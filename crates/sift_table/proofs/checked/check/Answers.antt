@@ -1,5 +1,6 @@
 use Rattle.std.proofs.Common.{inr, arith}
 use Rattle.std.proofs.lemmas.List.{length-map}
+use Rattle.std.proofs.lemmas.Grind.{common_steps}
 use Rattle.sift_base.specs.Shapes.{shape_of, shapes_of}
 use Rattle.sift_table.proofs.checked.check.Goals as goal
 
@@ -21,3 +22,21 @@ invariant_of-result c = record {
     rows = λ t there. c.loop-row.invariant t (omega (arith, length-map c.args.shapes.now.tasks.items shape_of));
   };
 }
+
+pub broken_rule-requires-clause-row : goal.broken_rule-requires-clause-row
+broken_rule-requires-clause-row c = grind (arith, common_steps)
+
+pub loop-row-preserved : goal.loop-row-preserved
+loop-row-preserved c = grind (arith, common_steps)
+
+pub overflow_cast-result : goal.overflow_cast-result
+overflow_cast-result c = grind (arith, common_steps)
+
+pub broken_rule-requires-clause-entries : goal.broken_rule-requires-clause-entries
+broken_rule-requires-clause-entries c = grind (arith, common_steps)
+
+pub loop-row-init : goal.loop-row-init
+loop-row-init c = grind (arith, common_steps)
+
+pub returns-clause-good : goal.returns-clause-good
+returns-clause-good c = grind (arith, common_steps)

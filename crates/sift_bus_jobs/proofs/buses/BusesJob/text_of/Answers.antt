@@ -1,16 +1,17 @@
-use Rattle.std.proofs.Common.{◌++◌, ap, ◌∙◌}
+use Rattle.std.proofs.Common.{◌++◌, ap, ◌∙◌, arith}
 use Rattle.std.specs.List.{sum_by}
+use Rattle.std.proofs.lemmas.Grind.{common_steps}
 use Rattle.sift_bus.specs.Logs.{count_in, log_of}
 use Rattle.sift_flight.specs.Told.{told}
 use Rattle.sift_mission.specs.Parts.{data_of, flown_of}
 use Rattle.sift_line.specs.Line.{text_of_lines}
 use Rattle.sift_report.specs.Sheet.{sheet_of}
 use Rattle.sift_line.specs.declared.version.Version.TheVariants.{Two}
-use Rattle.sift_bus_jobs.specs.Buses as buses
 use Rattle.sift_bus_jobs.specs.Numbers.{BusNumbers}
 use Rattle.sift_bus_jobs.specs.Text.{words_text}
 use Rattle.sift_bus_jobs.proofs.Counted.{frames_are}
 use Rattle.sift_bus_jobs.proofs.Told.{same_words}
+use Rattle.sift_bus_jobs.specs.Buses as buses
 use Rattle.sift_bus_jobs.proofs.buses.BusesJob.text_of.Goals as goal
 
 pub report_text-requires : goal.report_text-requires
@@ -39,3 +40,6 @@ returns g c =
           ∙ ((λ i. text_of_lines (sheet_of m fl Two) ++ words i)
           ∙ ap (λ (numbers : BusNumbers). buses.told numbers (data_of c.args.mission.now) fl) c.self.view_is)),
     )
+
+pub push_words-requires-clause-few : goal.push_words-requires-clause-few
+push_words-requires-clause-few g c = grind (arith, common_steps)

@@ -1,6 +1,7 @@
-use Rattle.std.proofs.Common.{◌≡◌, ◌+◌, ◌++◌, ◌∷◌, ◌∙◌, [], map, set, take, ap, refl, rules}
+use Rattle.std.proofs.Common.{◌≡◌, ◌+◌, ◌++◌, ◌∷◌, ◌∙◌, [], map, set, take, ap, refl, rules, arith}
 use Rattle.std.specs.Prelude.{slice_index}
 use Rattle.std.proofs.lemmas.List.{map_push}
+use Rattle.std.proofs.lemmas.Grind.{common_steps}
 use Rattle.sift_table.specs.Schedule.{hearing_delay}
 use Rattle.sift_planner.specs.Drafts.{drafted, rows_in, with_row}
 use Rattle.sift_planner.specs.Earliest.{free_positions}
@@ -19,3 +20,9 @@ returns-clause-kept c =
     kept_more draft _ c.args.run (c.args.run + hearing_delay) c.requires.kept c.requires.by_reports c.requires.room
     (same_schedule _ (with_row (drafted draft) c.args.run (c.args.run + hearing_delay) at) refl refl c.in_ok-push.ensures.items c.in_ok-push-2.ensures.items rows refl)
     refl (ap (λ e. set draft.used e (slice_index draft.used e + draft.executors)) from)
+
+pub overflow_add-self : goal.overflow_add-self
+overflow_add-self c = grind (arith, common_steps)
+
+pub returns-clause-row : goal.returns-clause-row
+returns-clause-row c = grind (arith, common_steps)

@@ -1,5 +1,6 @@
 use Rattle.std.proofs.Common.{length, arith, refl, ap, subst, sym, replicate, ◌∙◌}
 use Rattle.std.proofs.lemmas.List.{length-replicate, with_items_is}
+use Rattle.std.proofs.lemmas.Grind.{common_steps}
 use Rattle.sift_pool.specs.Layout.{lengths, pieces}
 use Rattle.sift_pool.specs.Region.{Region, KeepsLive}
 use Rattle.sift_pool.proofs.Pieces.{put_mid-filled, length-put_mid}
@@ -48,3 +49,6 @@ returns-clause-live c =
     let Kept : Region → Type 0 = λ new. KeepsLive c.args.self.now new in
     subst Kept (sym (returns-clause-written c))
     (KeepsLive-with_words c.args.self.now c.args.span.now.number _ long)
+
+pub invariant_of-self : goal.invariant_of-self
+invariant_of-self c = grind (arith, common_steps)

@@ -1,4 +1,5 @@
 use Rattle.std.proofs.Common.{◌≡◌, ℕ, List, length, arith, refl, sym, ap, subst, ◌∙◌}
+use Rattle.std.proofs.lemmas.Grind.{common_steps}
 use Rattle.sift_pool.specs.Region.{Region, KeepsLive, words_at, with_words}
 use Rattle.sift_pool.specs.Lending.{Rewrites, with_words_from}
 use Rattle.sift_pool.proofs.Live.{KeepsLive-with_words}
@@ -41,3 +42,6 @@ returns c =
             (ap (λ spans. record c.args.self.now { spans = spans }) (live_alone _ _ _ _ _ holds span ws c.requires (long ∙ sym c.requires.long)));
       },
     )
+
+pub invariant_of-self-lent : goal.invariant_of-self-lent
+invariant_of-self-lent c = grind (arith, common_steps)
