@@ -4,9 +4,3 @@ use Rattle.sift_base.proofs.name.has_name_form.Goals as goal
 
 pub returns-then-is_ascii_lowercase : goal.returns-then-is_ascii_lowercase
 returns-then-is_ascii_lowercase c = grind (arith, common_steps)
-
-pub returns-in-empty : goal.returns-in-empty
-returns-in-empty c = grind (arith, common_steps)
-
-pub returns-else-is_ascii_lowercase : goal.returns-else-is_ascii_lowercase
-returns-else-is_ascii_lowercase c = grind (arith, common_steps)

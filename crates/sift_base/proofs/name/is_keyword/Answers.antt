@@ -1,6 +1,5 @@
-use Rattle.std.proofs.Common.{◌≡◌, ℕ, ◌<◌, ◌↔◌, IsTrue, true, List, length, slice_index_or, lit<, sym, rules, arith}
+use Rattle.std.proofs.Common.{◌≡◌, ℕ, ◌<◌, ◌↔◌, IsTrue, true, List, length, slice_index_or, lit<, sym, rules}
 use Rattle.std.specs.List.{Contains}
-use Rattle.std.proofs.lemmas.Grind.{common_steps}
 use Rattle.sift_base.specs.Name.{keywords}
 use Rattle.sift_base.proofs.name.is_keyword.Goals as goal
 
@@ -25,12 +24,3 @@ returns-in-let-7 c = keywords-at 6 _ (lit< tt) c.in-let.is-sense
 
 pub returns-in-let-8 : goal.returns-in-let-8
 returns-in-let-8 c = keywords-at 7 _ (lit< tt) c.in-let.is-now
-
-pub returns-in-let-2 : goal.returns-in-let-2
-returns-in-let-2 c = grind (arith, common_steps)
-
-pub returns-in-let : goal.returns-in-let
-returns-in-let c = grind (arith, common_steps)
-
-pub returns-in_default : goal.returns-in_default
-returns-in_default c = grind (arith, common_steps)

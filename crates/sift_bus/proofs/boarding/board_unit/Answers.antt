@@ -1,5 +1,4 @@
-use Rattle.std.proofs.Common.{◌≡◌, ap, sym, ◌∙◌, subst, arith}
-use Rattle.std.proofs.lemmas.Grind.{common_steps}
+use Rattle.std.proofs.Common.{◌≡◌, ap, sym, ◌∙◌, subst}
 use Rattle.sift_buffer.specs.Tables.{ranges_of}
 use Rattle.sift_buffer.specs.Views.{fresh_view}
 use Rattle.sift_mission.specs.Parts.{data_of}
@@ -24,6 +23,3 @@ returns g c = let a = c.args in
       seat = subst (λ (s : EtherSeat). IsSeatOf a.ether.now a.token s) (sym c.over-port.ensures.port) c.seat.ensures;
       link = c.over-port.ensures.link ∙ (λ i. first_link (sym c.requires.token.unit i) a.faulty a.bus (log i));
     }
-
-pub make-requires : goal.make-requires
-make-requires g c = grind (arith, common_steps)

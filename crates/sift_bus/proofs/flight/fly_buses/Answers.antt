@@ -1,7 +1,6 @@
 use Rattle.std.proofs.Common.{◌≡◌, ℕ, All, List, ◌++◌, length, take, drop, sym, ap, ◌∙◌, subst, arith}
 use Rattle.std.proofs.Math.Seq.{take-append_seam}
 use Rattle.std.specs.List.{AllZip}
-use Rattle.std.proofs.lemmas.Grind.{common_steps}
 use Rattle.sift_mission.specs.Parts.{data_of, flown_of}
 use Rattle.sift_mission.specs.declared.parts.MissionParts.{MissionParts}
 use Rattle.sift_unit.specs.Boards.{Drives}
@@ -87,6 +86,3 @@ returns-clause-logs g c = let d = data_of c.args.mission.now in (all_told g.B.Bu
     (rw (← written_back g c.before.before.before) c.in_ok-tokens.ensures.accounts)
     (rw (← written_back g c.before.before.before) c.in_ok-tokens.ensures.logs) c.tokens_come_back.ensures c.boards_that_are_down_have_flown.ensures c.flights_that_come_home_are_round.ensures
     c.logs_tell.ensures).2
-
-pub make-requires : goal.make-requires
-make-requires g c = grind (arith, common_steps)

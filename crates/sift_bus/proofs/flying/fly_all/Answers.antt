@@ -29,8 +29,5 @@ loop-preserved g c = record {
 pub offset_bounds-flyers-number : goal.offset_bounds-flyers-number
 offset_bounds-flyers-number g c = grind (arith, common_steps)
 
-pub overflow_mul-end : goal.overflow_mul-end
-overflow_mul-end g c = grind (arith, common_steps)
-
 pub returns-clause-down : goal.returns-clause-down
 returns-clause-down g c = grind (arith, common_steps)

@@ -1,5 +1,4 @@
 use Rattle.std.proofs.Common.{◌<◌, ℕ, option_map, ap, sym, ◌∙◌, arith}
-use Rattle.std.proofs.lemmas.Grind.{common_steps}
 use Rattle.sift_config.proofs.lemmas.FirstUnits.{low_unit, unit_low}
 use Rattle.sift_bus_jobs.proofs.Coming.{comes}
 use Rattle.sift_bus_jobs.proofs.storms.has_storm.Goals as goal
@@ -24,6 +23,3 @@ returns-clause-calm c =
     let units = ap (λ parts. parts.units) c.parts.ensures.same in
     λ _ u there. c.loop-number.invariant u
     (omega (arith, units, unit_low c.args.mission.now.units u there, c.loop-number-test.false, c.loop-number.auto.number-end))
-
-pub returns-then-is_some-clause-calm : goal.returns-then-is_some-clause-calm
-returns-then-is_some-clause-calm c = grind (arith, common_steps)

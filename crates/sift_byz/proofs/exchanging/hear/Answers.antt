@@ -1,7 +1,6 @@
 use Rattle.std.proofs.Common.{◌≡◌, ◌*◌, ◌≤◌, length, map, arith, ap, ◌∙◌}
 use Rattle.std.specs.List.{range_with_len}
 use Rattle.std.proofs.Math.Nat.{mul-le-mul}
-use Rattle.std.proofs.lemmas.Grind.{common_steps}
 use Rattle.sift_byz.specs.Charts.{heard_at}
 use Rattle.sift_byz.specs.Plan.{plan_of}
 use Rattle.sift_byz.proofs.Charts.{heard_shown}
@@ -30,6 +29,3 @@ returns c =
     let all : c.loop-place.place ≡ length c.args.before.now * c.args.plan.now.units = end ∙ ap (λ n. length c.args.before.now * n) c.from.ensures in
     heard_shown (plan_of c.args.plan.now) c.requires.range.some c.args.count c.args.before.now c.loop-place.chart.items c.requires.heard
     (c.loop-place.invariant.filled ∙ ap (λ n. map (heard_at (plan_of c.args.plan.now) c.args.count c.args.before.now) (range_with_len 0 n)) all)
-
-pub heard_at-requires-clause-within : goal.heard_at-requires-clause-within
-heard_at-requires-clause-within c = grind (arith, common_steps)

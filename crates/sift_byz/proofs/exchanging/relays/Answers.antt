@@ -1,7 +1,6 @@
 use Rattle.std.proofs.Common.{◌≡◌, ℕ, suc, ◌+◌, ◌*◌, ◌<◌, List, [], ◌∷◌, ◌++◌, length, map, get_or, true, false, not, None, ap, ◌∙◌, sym, arith}
 use Rattle.std.specs.List.{range_with_len}
 use Rattle.std.proofs.lemmas.List.{append-nil, get_or_default, map-append}
-use Rattle.std.proofs.lemmas.Grind.{common_steps}
 use Rattle.sift_base.specs.Units.{has}
 use Rattle.sift_byz.specs.Charts.{relay_at}
 use Rattle.sift_byz.specs.Plan.{plan_of}
@@ -44,9 +43,3 @@ loop-r-preserved c =
             short = omega (arith, ap (λ v. length v.items) w.relays-is, c.loop-r.invariant.short);
           }
     ]
-
-pub offset_bounds-longer-row : goal.offset_bounds-longer-row
-offset_bounds-longer-row c = grind (arith, common_steps)
-
-pub bounds-longer-row : goal.bounds-longer-row
-bounds-longer-row c = grind (arith, common_steps)

@@ -4,9 +4,3 @@ use Rattle.sift_byz.proofs.lies.+are_different.Goals as goal
 
 pub returns-else-not-contains : goal.returns-else-not-contains
 returns-else-not-contains c = grind (arith, common_steps)
-
-pub returns-in-empty : goal.returns-in-empty
-returns-in-empty c = grind (arith, common_steps)
-
-pub returns-then-not-contains : goal.returns-then-not-contains
-returns-then-not-contains c = grind (arith, common_steps)

@@ -4,9 +4,3 @@ use Rattle.sift_byz.proofs.lies.has_receivers.Goals as goal
 
 pub returns-in-Some-receivers_of : goal.returns-in-Some-receivers_of
 returns-in-Some-receivers_of c = grind (arith, common_steps)
-
-pub returns-in-None-receivers_of : goal.returns-in-None-receivers_of
-returns-in-None-receivers_of c = grind (arith, common_steps)
-
-pub returns-in-None : goal.returns-in-None
-returns-in-None c = grind (arith, common_steps)

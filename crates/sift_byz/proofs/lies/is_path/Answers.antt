@@ -4,6 +4,3 @@ use Rattle.sift_byz.proofs.lies.is_path.Goals as goal
 
 pub returns-else-all : goal.returns-else-all
 returns-else-all c = grind (arith, common_steps)
-
-pub returns-then-all : goal.returns-then-all
-returns-then-all c = grind (arith, common_steps)

@@ -13,6 +13,3 @@ returns-in_err-to-clause-none c =
 
 pub returns-then-are_receivers-clause-receivers : goal.returns-then-are_receivers-clause-receivers
 returns-then-are_receivers-clause-receivers c = grind (arith, common_steps)
-
-pub returns-else-are_receivers-clause-none : goal.returns-else-are_receivers-clause-none
-returns-else-are_receivers-clause-none c = grind (arith, common_steps)

@@ -1,5 +1,4 @@
-use Rattle.std.proofs.Common.{◌≡◌, Err, rules, arith}
-use Rattle.std.proofs.lemmas.Grind.{common_steps}
+use Rattle.std.proofs.Common.{◌≡◌, Err, rules}
 use Rattle.toml.specs.View.{view}
 use Rattle.sift_document.proofs.lemmas.EntryTests.{kept_entries, refused_entry, refused_whole}
 use Rattle.sift_document.specs.Document.{IsTableOf}
@@ -24,6 +23,3 @@ pub returns-clause-tests : goal.returns-clause-tests
 returns-clause-tests c place =
     kept_entries 5 0 lie_limit (λ at. IsTableOf lie_keys) (view c.args.value.now) c.in_ok-entries.ensures.right place
     (rw c.in_ok-entries.ensures.entries at c.in_ok-check_each.ensures place)
-
-pub returns-clause-entries : goal.returns-clause-entries
-returns-clause-entries c = grind (arith, common_steps)

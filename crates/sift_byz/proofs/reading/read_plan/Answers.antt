@@ -142,17 +142,5 @@ returns-clause-accepted c =
       lies = c.in_ok-lies.ensures.lies ∙ ap (map lie_in) c.in_ok-entries.ensures.entries;
     }
 
-pub check_few-requires-clause-traitors : goal.check_few-requires-clause-traitors
-check_few-requires-clause-traitors c = grind (arith, common_steps)
-
-pub check_each-requires-2-clause-limited : goal.check_each-requires-2-clause-limited
-check_each-requires-2-clause-limited c = grind (arith, common_steps)
-
 pub check_few-requires-clause-paths : goal.check_few-requires-clause-paths
 check_few-requires-clause-paths c = grind (arith, common_steps)
-
-pub lies_in-requires-clause-few : goal.lies_in-requires-clause-few
-lies_in-requires-clause-few c = grind (arith, common_steps)
-
-pub lies_in-requires-clause-limited : goal.lies_in-requires-clause-limited
-lies_in-requires-clause-limited c = grind (arith, common_steps)

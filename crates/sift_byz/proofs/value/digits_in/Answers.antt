@@ -1,5 +1,4 @@
 use Rattle.std.proofs.Common.{◌≡◌, ◌∙◌, None, Some, List, ℕ, arith, sym}
-use Rattle.std.proofs.lemmas.Grind.{common_steps}
 use Rattle.sift_document.proofs.lemmas.ReadEntries.{each_read-none, length-each_read, read-step}
 use Rattle.sift_document.specs.Document.{digit_to, each_read}
 use Rattle.sift_byz.proofs.value.digits_in.Goals as goal
@@ -24,6 +23,3 @@ loop-byte-preserved g c =
           c.loop-byte-test.true c.loop-byte.invariant.read (sym c.in_ok-digit_to.ensures));
       long = omega (arith, c.push.ensures.len, c.loop-byte.invariant.long);
     }
-
-pub returns-clause-found : goal.returns-clause-found
-returns-clause-found g c = grind (arith, common_steps)

@@ -33,6 +33,3 @@ returns-then-beyond-ge1 c =
 
 pub returns-else-beyond-ge1 : goal.returns-else-beyond-ge1
 returns-else-beyond-ge1 c = grind (arith, common_steps)
-
-pub overflow_add-result : goal.overflow_add-result
-overflow_add-result c = grind (arith, common_steps)

@@ -2,8 +2,5 @@ use Rattle.std.proofs.Common.{arith}
 use Rattle.std.proofs.lemmas.Grind.{common_steps}
 use Rattle.sift_clocklab.proofs.drawing.spread.Goals as goal
 
-pub overflow_cast-result : goal.overflow_cast-result
-overflow_cast-result c = grind (arith, common_steps)
-
 pub returns-clause-drawn : goal.returns-clause-drawn
 returns-clause-drawn c = grind (arith, common_steps)

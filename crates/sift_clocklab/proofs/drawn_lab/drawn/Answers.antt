@@ -32,9 +32,3 @@ returns-clause-not_admitted c =
 
 pub returns-in_err-make_drawn-clause-not_admitted : goal.returns-in_err-make_drawn-clause-not_admitted
 returns-in_err-make_drawn-clause-not_admitted c = grind (arith, common_steps)
-
-pub make_drawn-requires-clause-in_range : goal.make_drawn-requires-clause-in_range
-make_drawn-requires-clause-in_range c = grind (arith, common_steps)
-
-pub returns-then-not-admits-clause-not_admitted : goal.returns-then-not-admits-clause-not_admitted
-returns-then-not-admits-clause-not_admitted c = grind (arith, common_steps)

@@ -2,7 +2,6 @@ use Rattle.std.proofs.Common.{◌≡◌, ◌+◌, ◌-◌, ◌*◌, map, ◌+ℤ
 use Rattle.std.specs.Prelude.{unsigned_abs}
 use Rattle.std.specs.List.{range_with_len}
 use Rattle.std.proofs.lemmas.Int.{ints}
-use Rattle.std.proofs.lemmas.Grind.{common_steps}
 use Rattle.sift_base.specs.Draw.{after}
 use Rattle.sift_clocklab.specs.Draws.{drift_drawn, noise_place, noises_drawn, start_drawn}
 use Rattle.sift_clocklab.proofs.DrawnLabs.{abs_sum}
@@ -51,18 +50,3 @@ returns-clause-face c =
     let limit : c.unsigned_abs-apart.result + c.unsigned_abs-misread.result ≡ unsigned_abs (a.skew +ℤ a.error) =
     (λ i. apart i + misread i) ∙ abs_sum a.skew a.error c.requires.in_range.small_skew.0 c.requires.in_range.small_error.0 in
     λ i. record { draw = draw i; limit = limit i }
-
-pub overflow_add-limit : goal.overflow_add-limit
-overflow_add-limit c = grind (arith, common_steps)
-
-pub drawn_noise-requires : goal.drawn_noise-requires
-drawn_noise-requires c = grind (arith, common_steps)
-
-pub overflow_cast-limit : goal.overflow_cast-limit
-overflow_cast-limit c = grind (arith, common_steps)
-
-pub drawn_clocks-requires-clause-skew : goal.drawn_clocks-requires-clause-skew
-drawn_clocks-requires-clause-skew c = grind (arith, common_steps)
-
-pub drawn_clocks-requires-clause-rate : goal.drawn_clocks-requires-clause-rate
-drawn_clocks-requires-clause-rate c = grind (arith, common_steps)

@@ -1,6 +1,5 @@
 use Rattle.std.proofs.Common.{ap, arith}
 use Rattle.std.proofs.lemmas.Int.{ints}
-use Rattle.std.proofs.lemmas.Grind.{common_steps}
 use Rattle.sift_clocklab.specs.Laboratory.{laboratory_of}
 use Rattle.sift_clocklab.specs.Rounds.{offset_of}
 use Rattle.sift_clocklab.specs.Skew.{farthest}
@@ -29,6 +28,3 @@ returns c =
     let near = are_near (laboratory_of c.args.lab.now) farthest c.args.offsets.now c.args.own c.args.other
     c.requires.ready c.requires.kept c.requires.working.own c.requires.working.other in
     omega (arith, ints, near, ap offset c.from.ensures, ap offset c.from-2.ensures)
-
-pub noise_between-requires-clause-ready : goal.noise_between-requires-clause-ready
-noise_between-requires-clause-ready c = grind (arith, common_steps)

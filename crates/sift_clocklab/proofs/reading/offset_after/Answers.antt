@@ -76,6 +76,3 @@ returns c =
 
 pub correct-correction-requires-clause-limit : goal.correct-correction-requires-clause-limit
 correct-correction-requires-clause-limit c = grind (arith, common_steps)
-
-pub limit-requires : goal.limit-requires
-limit-requires c = grind (arith, common_steps)

@@ -1,7 +1,6 @@
 use Rattle.std.proofs.Common.{◌≡◌, ◌∷◌, ◌++◌, [], sym, ◌∙◌, w64, to_z, of_z, arith}
 use Rattle.std.proofs.lemmas.Int.{ints}
 use Rattle.std.proofs.lemmas.List.FromFn.{map-range_with_len_more}
-use Rattle.std.proofs.lemmas.Grind.{common_steps}
 use Rattle.sift_clocklab.specs.Laboratory.{laboratory_of}
 use Rattle.sift_clocklab.specs.Rounds.{offset_after}
 use Rattle.sift_clocklab.proofs.running.offsets_after.Goals as goal
@@ -16,9 +15,3 @@ loop-own-preserved c =
       each = (let more = c.push_reserved.ensures.len in let each = c.loop-own.invariant.each in omega arith);
       room = (let same = c.push_reserved.ensures.capacity in let room = c.loop-own.invariant.room in omega arith);
     }
-
-pub offset_after-requires-clause-round : goal.offset_after-requires-clause-round
-offset_after-requires-clause-round c = grind (arith, common_steps)
-
-pub working-own-end-requires : goal.working-own-end-requires
-working-own-end-requires c = grind (arith, common_steps)

@@ -1,6 +1,5 @@
 use Rattle.std.proofs.Common.{◌≡◌, Vec, Global, ℤ, Option, length, ap, ◌∙◌, arith}
 use Rattle.std.proofs.lemmas.List.{length-map}
-use Rattle.std.proofs.lemmas.Grind.{common_steps}
 use Rattle.sift_clocklab.specs.Laboratory.{laboratory_of, run_of}
 use Rattle.sift_clocklab.specs.Rounds.{offsets_after}
 use Rattle.sift_clocklab.specs.Showing.{pairs_of}
@@ -80,9 +79,3 @@ returns-clause-kept g c =
     let inv = c.loop-page.invariant in
     run_kept (laboratory_of c.args.lab.now) run.shown run.offsets c.requires
     (omega (arith, inv.left, inv.rounds, c.in_default.ensures.cases)) inv.offsets
-
-pub loop-page-init : goal.loop-page-init
-loop-page-init g c = grind (arith, common_steps)
-
-pub returns-clause-ran : goal.returns-clause-ran
-returns-clause-ran g c = grind (arith, common_steps)

@@ -68,9 +68,6 @@ loop-to-preserved g c =
       room = inv.room;
     }
 
-pub returns-clause-shown : goal.returns-clause-shown
-returns-clause-shown g c = grind (arith, common_steps)
-
 pub push_reserved-requires : goal.push_reserved-requires
 push_reserved-requires g c = grind (arith, common_steps)
 

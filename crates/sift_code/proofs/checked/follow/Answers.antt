@@ -1,6 +1,5 @@
 use Rattle.std.proofs.Common.{ap, arith, below_more, length, refl}
 use Rattle.std.proofs.lemmas.Result.{err_from_is_err_and}
-use Rattle.std.proofs.lemmas.Grind.{common_steps}
 use Rattle.sift_code.specs.Refusal.{within}
 use Rattle.sift_code.proofs.Firsts.{first_at, free_through}
 use Rattle.sift_code.proofs.Tables.{read_item}
@@ -34,9 +33,3 @@ pub returns-clause-sound : goal.returns-clause-sound
 returns-clause-sound c =
     let same = ap length c.code-instr-items.ensures.same in
     λ ok. free_through (within c.args.nest.now c.args.limits.now) c.loop-at.at c.len.result (omega arith) c.len.ensures c.loop-at.invariant.1 (c.in_ok-check-2.ensures.free refl)
-
-pub returns-clause-stack : goal.returns-clause-stack
-returns-clause-stack c = grind (arith, common_steps)
-
-pub check-requires-2-clause-here : goal.check-requires-2-clause-here
-check-requires-2-clause-here c = grind (arith, common_steps)

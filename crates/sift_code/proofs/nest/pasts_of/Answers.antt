@@ -1,10 +1,9 @@
 use Rattle.std.proofs.Common.{◌≡◌, ◌+◌, ◌-◌, length, arith, sym, ◌∙◌, ap}
 use Rattle.std.specs.Prelude.{Some}
-use Rattle.std.proofs.lemmas.Grind.{common_steps}
 use Rattle.sift_code.specs.Nest.{past_at}
 use Rattle.sift_code.proofs.Tables.{tells_below, read_from, read_instr, past_within, past_at-End, past_at-Begin, past_at-Begin_alone, past_at-other}
-use Rattle.sift_code.proofs.nest.pasts_of.Goals.{in-End, in-Begin+in-Some, in-Begin+in-None, in_default}
 use Rattle.sift_code.proofs.nest.pasts_of.Goals as goal
+use Rattle.sift_code.proofs.nest.pasts_of.Goals.{in-End, in-Begin+in-Some, in-Begin+in-None, in_default}
 
 -- the place behind the End is in the table
 pub index-requires-in-Some : goal.index-requires-in-Some
@@ -40,6 +39,3 @@ loop-at-preserved c =
           (omega arith) w.index-in_default.ensures in
           told (w.entry-is ∙ (next ∙ sym (past_at-other c.args.code.now (c.loop-at.at - 1) c.index-code-at.result at (w.in_default.not-Begin, w.in_default.not-End)))))
     ]
-
-pub loop-at-init : goal.loop-at-init
-loop-at-init c = grind (arith, common_steps)

@@ -129,8 +129,5 @@ emit_statement-returns-in_ok-emit_block-in-Some-2-clause-emitted t c =
     c.in_ok-emit_skip-in-Some.ensures past two
     ∙ ap (λ s. old ++ statement_code (length old) c.args.locals s) (sym view)
 
-pub emit_block-returns : goal.emit_block-returns
-emit_block-returns c = grind (arith, common_steps)
-
 pub emit_block-loop-statement-preserved : goal.emit_block-loop-statement-preserved
 emit_block-loop-statement-preserved c = grind (arith, common_steps)

@@ -5,6 +5,3 @@ use Rattle.sift_core.proofs.going.begin_storm.Goals as goal
 -- the rogue is called by the number of the storm
 pub returns-in-Some : goal.returns-in-Some
 returns-in-Some g c = grind (arith, common_steps)
-
-pub offset_bounds-rogues-from : goal.offset_bounds-rogues-from
-offset_bounds-rogues-from g c = grind (arith, common_steps)

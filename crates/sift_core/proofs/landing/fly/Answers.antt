@@ -1,5 +1,4 @@
-use Rattle.std.proofs.Common.{◌∙◌, ap, subst, arith}
-use Rattle.std.proofs.lemmas.Grind.{common_steps}
+use Rattle.std.proofs.Common.{◌∙◌, ap, subst}
 use Rattle.sift_base.specs.declared.layout.Layout.{Layout}
 use Rattle.sift_buffer.specs.Core.{Core}
 use Rattle.sift_mission.specs.Parts.{data_of, flown_of}
@@ -45,9 +44,3 @@ returns-clause-ordered g c = record {
   turns = c.fly_on.ensures.order;
   landed = c.land.ensures.landed;
 }
-
-pub land-requires-clause-room_for_accounts : goal.land-requires-clause-room_for_accounts
-land-requires-clause-room_for_accounts g c = grind (arith, common_steps)
-
-pub land-requires-clause-room_for_journals : goal.land-requires-clause-room_for_journals
-land-requires-clause-room_for_journals g c = grind (arith, common_steps)

@@ -1,7 +1,6 @@
 use Rattle.std.proofs.Common.{[], ◌∷◌, ◌++◌, length-append, sym, ◌∙◌, arith}
 use Rattle.std.proofs.lemmas.List.{append_assoc, map-append}
 use Rattle.std.proofs.lemmas.List.Elements.{All-append}
-use Rattle.std.proofs.lemmas.Grind.{common_steps}
 use Rattle.sift_buffer.specs.Ledgers.{Ledger, HasItsWords}
 use Rattle.sift_core.proofs.Lists.{all_one}
 use Rattle.sift_core.proofs.landing.journals_of.Goals as goal
@@ -17,6 +16,3 @@ loop-each-preserved c =
       len = (let more = c.push_reserved.ensures.len in let len = inv.len in omega (arith, length-append c.loop-each.yielded (c.in-Some.each ∷ [])));
       room = (let same = c.push_reserved.ensures.capacity in let room = inv.room in omega arith);
     }
-
-pub push_reserved-requires : goal.push_reserved-requires
-push_reserved-requires c = grind (arith, common_steps)

@@ -1,5 +1,4 @@
-use Rattle.std.proofs.Common.{◌≡◌, false, true, Some, sym, subst, ◌∙◌, arith}
-use Rattle.std.proofs.lemmas.Grind.{common_steps}
+use Rattle.std.proofs.Common.{◌≡◌, false, true, Some, sym, subst, ◌∙◌}
 use Rattle.toml.specs.Data.{Members}
 use Rattle.sift_document.specs.Document.{HasOnlyKeys}
 use Rattle.sift_document.proofs.value.table_of.Goals as goal
@@ -14,6 +13,3 @@ returns-else-has_only_keys-clause-none c there =
     let one : there.0 ≡ _ = cc both in
     let wrong : false ≡ true = rw c.if-has_only_keys.false at c.has_only_keys.ensures.1 (subst (λ (members : Members). HasOnlyKeys _ members) one there.2) in
     cc
-
-pub returns-then-has_only_keys-clause-found : goal.returns-then-has_only_keys-clause-found
-returns-then-has_only_keys-clause-found c = grind (arith, common_steps)

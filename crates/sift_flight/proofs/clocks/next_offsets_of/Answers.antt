@@ -13,9 +13,3 @@ loop-unit-preserved c =
 
 pub push-requires : goal.push-requires
 push-requires c = grind (arith, common_steps)
-
-pub loop-unit-init : goal.loop-unit-init
-loop-unit-init c = grind (arith, common_steps)
-
-pub returns-clause-offsets : goal.returns-clause-offsets
-returns-clause-offsets c = grind (arith, common_steps)

@@ -1,7 +1,6 @@
 use Rattle.std.proofs.Common.{◌≡◌, ℕ, ◌*◌, ◌++◌, ◌∷◌, [], map, refl, ap, sym, ◌∙◌, arith}
 use Rattle.std.proofs.lemmas.List.{map-append}
 use Rattle.std.specs.List.{range_with_len}
-use Rattle.std.proofs.lemmas.Grind.{common_steps}
 use Rattle.toml.specs.Data.{Data}
 use Rattle.toml.specs.View.{view}
 use Rattle.toml.specs.declared.value.Value.{Table}
@@ -35,6 +34,3 @@ loop-k-preserved c =
           c.in_ok-sensor_table.ensures.drawn ∙ (ap (λ y. after y words_each) c.loop-k.invariant.drawn
           ∙ (after-after x (words_each * k) words_each ∙ ap (after x) (omega arith)));
     }
-
-pub returns-clause-made : goal.returns-clause-made
-returns-clause-made c = grind (arith, common_steps)

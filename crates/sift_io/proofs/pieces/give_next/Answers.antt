@@ -1,5 +1,4 @@
 use Rattle.std.proofs.Common.{length-take, arith}
-use Rattle.std.proofs.lemmas.Grind.{common_steps}
 use Rattle.sift_io.proofs.Copies.{drop-copied}
 use Rattle.sift_io.proofs.pieces.give_next.Goals as goal
 
@@ -9,9 +8,3 @@ returns-clause-bytes c =
     let n = c.min-n.result in
     drop-copied n c.args.at c.args.bytes.now _ _ (omega (arith, length-take n c.args.buf.now))
     c.copy_from_slice.ensures.after
-
-pub returns-then-n-eq0-clause-bytes : goal.returns-then-n-eq0-clause-bytes
-returns-then-n-eq0-clause-bytes c = grind (arith, common_steps)
-
-pub returns-clause-most : goal.returns-clause-most
-returns-clause-most c = grind (arith, common_steps)

@@ -1,5 +1,4 @@
 use Rattle.std.proofs.Common.{◌+◌, length-take, arith, rules}
-use Rattle.std.proofs.lemmas.Grind.{common_steps}
 use Rattle.sift_io.specs.Reading.{TakesAtMost}
 use Rattle.sift_io.proofs.Stops.{TakesAtMost-more, TakesExactly-more}
 use Rattle.sift_io.proofs.whole.read_all.Goals as goal
@@ -27,15 +26,3 @@ returns-in_err-extend_from_slice-in-Taken-2-clause-stopped g c =
     c.loop-n.invariant.0 c.in-Taken-2.ensures.bytes (omega arith) in
     let no_memory = c.from_residual.ensures in
     search rules
-
-pub loop-n-smaller : goal.loop-n-smaller
-loop-n-smaller g c = grind (arith, common_steps)
-
-pub slice_bounds-extend_from_slice-end : goal.slice_bounds-extend_from_slice-end
-slice_bounds-extend_from_slice-end g c = grind (arith, common_steps)
-
-pub loop-n-preserved : goal.loop-n-preserved
-loop-n-preserved g c = grind (arith, common_steps)
-
-pub slice_bounds-piece-end-in-Taken-2 : goal.slice_bounds-piece-end-in-Taken-2
-slice_bounds-piece-end-in-Taken-2 g c = grind (arith, common_steps)

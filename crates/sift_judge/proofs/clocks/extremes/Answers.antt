@@ -1,6 +1,5 @@
-use Rattle.std.proofs.Common.{rules, w64, arith}
+use Rattle.std.proofs.Common.{rules, w64}
 use Rattle.std.proofs.lemmas.Int.{to_z-of_z}
-use Rattle.std.proofs.lemmas.Grind.{common_steps}
 use Rattle.sift_skew.specs.Figures.{IsHighest, IsLowest}
 use mir.Val.{SFits}
 use Rattle.sift_judge.proofs.clocks.extremes.Goals as goal
@@ -12,9 +11,3 @@ returns c =
     let top : IsHighest c.args.offsets.now c.in_ok-highest.highest = search rules in
     let bottom : IsLowest c.args.offsets.now c.in_ok-lowest.lowest = search rules in
     (rw (to_z-of_z w64 c.in_ok-highest.highest high) top, rw (to_z-of_z w64 c.in_ok-lowest.lowest low) bottom)
-
-pub returns-in_err-lowest : goal.returns-in_err-lowest
-returns-in_err-lowest c = grind (arith, common_steps)
-
-pub returns-in_err-highest : goal.returns-in_err-highest
-returns-in_err-highest c = grind (arith, common_steps)

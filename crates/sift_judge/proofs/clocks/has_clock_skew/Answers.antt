@@ -1,5 +1,3 @@
-use Rattle.std.proofs.Common.{arith}
-use Rattle.std.proofs.lemmas.Grind.{common_steps}
 use Rattle.sift_judge.proofs.clocks.has_clock_skew.Goals as goal
 
 pub returns-then-has_skew : goal.returns-then-has_skew
@@ -7,6 +5,3 @@ returns-then-has_skew c = (
   (λ t. record { skew = c.has_skew.ensures.0 c.if-has_skew.true; slack = c.has_slack.ensures.0 t }),
   (λ told. c.has_slack.ensures.1 told.slack),
 )
-
-pub returns-else-has_skew : goal.returns-else-has_skew
-returns-else-has_skew c = grind (arith, common_steps)

@@ -1,6 +1,5 @@
-use Rattle.std.proofs.Common.{◌≡◌, ◌∙◌, List, ℕ, Some, subst, sym, arith}
+use Rattle.std.proofs.Common.{◌≡◌, ◌∙◌, List, ℕ, Some, subst, sym}
 use Rattle.std.specs.Prelude.{IsSomeAnd}
-use Rattle.std.proofs.lemmas.Grind.{common_steps}
 use Rattle.sift_mission.specs.Parts.{data_of}
 use Rattle.sift_report.specs.Told.{config_told, told_at}
 use Rattle.sift_judge.specs.Clocks.{IsTrueSkew, working_clocks}
@@ -17,6 +16,3 @@ returns-in-Some c =
           (one_told c.in-Some.config us _ is told) (c.has_skew_of.ensures.0 t)),
       (λ given. c.has_skew_of.ensures.1 (given c.in-Some.config is)),
     )
-
-pub returns-in-None : goal.returns-in-None
-returns-in-None c = grind (arith, common_steps)

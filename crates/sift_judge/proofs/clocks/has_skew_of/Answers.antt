@@ -4,6 +4,3 @@ use Rattle.sift_judge.proofs.clocks.has_skew_of.Goals as goal
 
 pub returns-then-is_skew : goal.returns-then-is_skew
 returns-then-is_skew c = grind (arith, common_steps)
-
-pub returns-in-None : goal.returns-in-None
-returns-in-None c = grind (arith, common_steps)

@@ -1,6 +1,5 @@
 use Rattle.std.proofs.Common.{rules, ◌≡◌, ◌-ℤ◌, of_z, subst, sym, to_z, w64, arith}
 use Rattle.std.proofs.lemmas.Int.{ints}
-use Rattle.std.proofs.lemmas.Grind.{common_steps}
 use Rattle.sift_skew.specs.Figures.{IsSkew}
 use Rattle.sift_skew.proofs.lemmas.Extremes.{skew_from}
 use Rattle.sift_judge.proofs.Skews.{same_difference}
@@ -25,6 +24,3 @@ returns-in-Some c =
       (λ t. subst (IsSkew c.args.offsets.now) (sym (same.0 t)) is),
       (λ skew. same.1 (c.skew_is_unique.ensures c.args.offsets.now s (a -ℤ b) skew is)),
     )
-
-pub returns-in-None : goal.returns-in-None
-returns-in-None c = grind (arith, common_steps)

@@ -1,5 +1,4 @@
-use Rattle.std.proofs.Common.{◌≡◌, ℕ, List, Some, ◌∙◌, sym, subst, arith}
-use Rattle.std.proofs.lemmas.Grind.{common_steps}
+use Rattle.std.proofs.Common.{◌≡◌, ℕ, List, Some, ◌∙◌, sym, subst}
 use Rattle.sift_base.specs.Units.{HasMargin}
 use Rattle.sift_mission.specs.Parts.{data_of}
 use Rattle.sift_report.specs.Told.{config_told, told_at, IsWorking, works_in}
@@ -22,9 +21,3 @@ returns-then-is_right_at_first c =
           (subst (λ (us : List ℕ). HasMargin (λ u. works_in d u f) us → (u : ℕ) → IsWorking d u f → (told_at d lines f u).config ≡ Some us)
           (one_told one.config c.in-Some.config _ one.told is) one.same)),
     )
-
-pub returns-in-None : goal.returns-in-None
-returns-in-None c = grind (arith, common_steps)
-
-pub returns-else-is_right_at_first : goal.returns-else-is_right_at_first
-returns-else-is_right_at_first c = grind (arith, common_steps)

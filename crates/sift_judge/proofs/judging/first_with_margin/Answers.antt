@@ -74,6 +74,3 @@ returns-then-not-has_margin-clause-runs c = grind (arith, common_steps)
 
 pub returns-clause-runs : goal.returns-clause-runs
 returns-clause-runs c = grind (arith, common_steps)
-
-pub run_ideal-requires : goal.run_ideal-requires
-run_ideal-requires c = grind (arith, common_steps)

@@ -1,5 +1,4 @@
-use Rattle.std.proofs.Common.{◌≡◌, ◌∙◌, length, ap, refl, subst, sym, arith}
-use Rattle.std.proofs.lemmas.Grind.{common_steps}
+use Rattle.std.proofs.Common.{◌≡◌, ◌∙◌, length, ap, refl, subst, sym}
 use Rattle.sift_mission.specs.Parts.{data_of}
 use Rattle.sift_mission.specs.declared.parts.MissionParts.{MissionParts}
 use Rattle.sift_program.specs.Program.{program_of, IsSoundProgram}
@@ -25,6 +24,3 @@ returns-clause-words c =
     let lines = c.args.lines.now in
     (rw c.parts.ensures.same at c.frame.ensures.in_turn) (agreed_told d lines) (shed_told d lines) c.args.f
     (c.requires.known.runs.words_are refl) c.agreed_told.ensures c.shed_told.ensures
-
-pub frame-requires-clause-a_start_each : goal.frame-requires-clause-a_start_each
-frame-requires-clause-a_start_each c = grind (arith, common_steps)

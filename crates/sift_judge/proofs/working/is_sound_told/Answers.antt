@@ -1,5 +1,4 @@
-use Rattle.std.proofs.Common.{◌≡◌, Some, ◌∙◌, sym, subst, arith}
-use Rattle.std.proofs.lemmas.Grind.{common_steps}
+use Rattle.std.proofs.Common.{◌≡◌, Some, ◌∙◌, sym, subst}
 use Rattle.sift_base.specs.Units.{HasMargin}
 use Rattle.sift_mission.specs.Parts.{data_of}
 use Rattle.sift_report.specs.Told.{config_told, works_in}
@@ -13,6 +12,3 @@ returns-in-Some c =
       (λ t. (c.in-Some.config, is, c.has_margin.ensures.0 t)),
       (λ sound. c.has_margin.ensures.1 (subst (HasMargin (λ u. works_in d u c.args.f)) (one_told sound.0 c.in-Some.config _ sound.1 is) sound.2)),
     )
-
-pub returns-in-None : goal.returns-in-None
-returns-in-None c = grind (arith, common_steps)

@@ -4,9 +4,3 @@ use Rattle.sift_judge_jobs.proofs.divided.are_whole_lines.Goals as goal
 
 pub returns-in_default : goal.returns-in_default
 returns-in_default c = grind (arith, common_steps)
-
-pub returns-in-empty-2 : goal.returns-in-empty-2
-returns-in-empty-2 c = grind (arith, common_steps)
-
-pub returns-in-empty : goal.returns-in-empty
-returns-in-empty c = grind (arith, common_steps)

@@ -1,7 +1,6 @@
-use Rattle.std.proofs.Common.{sym, subst, arith}
+use Rattle.std.proofs.Common.{sym, subst}
 use Rattle.std.proofs.lemmas.Bool.Decides.{Decides-eqb}
 use Rattle.std.proofs.lemmas.Slice.Eq.{strip_prefix_is}
-use Rattle.std.proofs.lemmas.Grind.{common_steps}
 use Rattle.sift_judge_jobs.specs.Divided.{AreWholeLines, divider}
 use Rattle.sift_judge_jobs.proofs.Places.{stripped_elsewhere, stripped_there}
 use Rattle.sift_judge_jobs.proofs.divided.report_at.Goals as goal
@@ -18,6 +17,3 @@ pub returns-clause-elsewhere : goal.returns-clause-elsewhere
 returns-clause-elsewhere c =
     stripped_elsewhere c.args.bytes.now c.args.place c.split_at.result.1.now c.strip_prefix.result (sym c.split_at.ensures.back)
     (strip_prefix_is Decides-eqb c.split_at.result.1.now divider c.strip_prefix.result c.strip_prefix.ensures.cases)
-
-pub returns-then-not-are_whole_lines-clause-elsewhere : goal.returns-then-not-are_whole_lines-clause-elsewhere
-returns-then-not-are_whole_lines-clause-elsewhere c = grind (arith, common_steps)

@@ -4,9 +4,3 @@ use Rattle.sift_line.proofs.form.read_last_line.Goals as goal
 
 pub returns-clause-exact : goal.returns-clause-exact
 returns-clause-exact c = grind (arith, common_steps)
-
-pub returns-in_err-cfg-clause-exact : goal.returns-in_err-cfg-clause-exact
-returns-in_err-cfg-clause-exact c = grind (arith, common_steps)
-
-pub returns-in_err-margin-clause-exact : goal.returns-in_err-margin-clause-exact
-returns-in_err-margin-clause-exact c = grind (arith, common_steps)

@@ -8,8 +8,5 @@ returns g c =
     let cut : c.args.items.now ≡ c.in-Some.first.now ∷ c.in-Some.others.now = search rules in
     parts_all g.T.Item.item_text _ _ _ _ _ _ _ cut c.loop-item-test.false c.in_ok-push.ensures c.loop-item.invariant
 
-pub returns-in_default : goal.returns-in_default
-returns-in_default g c = grind (arith, common_steps)
-
 pub loop-item-preserved : goal.loop-item-preserved
 loop-item-preserved g c = grind (arith, common_steps)

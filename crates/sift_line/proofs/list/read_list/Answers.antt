@@ -71,6 +71,3 @@ returns-clause-exact g c = λ list holds fit e.
 
 pub returns-in_err-ok-clause-printed : goal.returns-in_err-ok-clause-printed
 returns-in_err-ok-clause-printed g c = grind (arith, common_steps)
-
-pub returns-in_err-item-clause-printed : goal.returns-in_err-item-clause-printed
-returns-in_err-item-clause-printed g c = grind (arith, common_steps)

@@ -23,17 +23,8 @@ returns-in-len4-clause-exact c = λ line holds of e.
     four_are_frame line _ _ _ _ c.read_frame_line.result holds
     (e ∙ four_texts c.args.fields.now c.in-len4.len_at_least c.in-len4.len_below) other c.read_frame_line.ensures.exact
 
-pub returns-in-idle-clause-printed : goal.returns-in-idle-clause-printed
-returns-in-idle-clause-printed c = grind (arith, common_steps)
-
 pub returns-in-idle-clause-exact : goal.returns-in-idle-clause-exact
 returns-in-idle-clause-exact c = grind (arith, common_steps)
 
-pub returns-in-end-clause-printed : goal.returns-in-end-clause-printed
-returns-in-end-clause-printed c = grind (arith, common_steps)
-
 pub returns-in-faulty-clause-exact : goal.returns-in-faulty-clause-exact
 returns-in-faulty-clause-exact c = grind (arith, common_steps)
-
-pub returns-in-faulty-clause-printed : goal.returns-in-faulty-clause-printed
-returns-in-faulty-clause-printed c = grind (arith, common_steps)

@@ -1,7 +1,6 @@
 use Rattle.std.proofs.Common.{◌≡◌, ◌∙◌, ◌++◌, ◌∷◌, [], length, ap, sym, arith}
 use Rattle.std.proofs.lemmas.Iterator.Consumers.{YieldsList-at, YieldsList-turn, YieldsList-end}
 use Rattle.std.proofs.lemmas.Iterator.Splits.{YieldsList-from_str_split}
-use Rattle.std.proofs.lemmas.Grind.{common_steps}
 use Rattle.sift_line.proofs.Results.{on_ok, on_err}
 use Rattle.sift_line.proofs.read.split_fields.Goals as goal
 
@@ -27,6 +26,3 @@ returns-clause-split c =
     let runs = YieldsList-at c.into_iter-field-iterator.ensures.into_iter_gives cuts in
     let end = YieldsList-end runs c.loop-field.yielded _ c.loop-field.yielded_by _ _ c.in-None.is c.next.ensures.steps in
     rw c.loop-field.invariant end.0
-
-pub returns-in_err-ok-clause-split : goal.returns-in_err-ok-clause-split
-returns-in_err-ok-clause-split c = grind (arith, common_steps)

@@ -1,7 +1,6 @@
 use Rattle.std.proofs.Common.{◌≡◌, ◌∙◌, ◌<◌, length, Some, ap, sym, codes, arith}
 use Rattle.std.proofs.lemmas.Bool.Decides.{nat_tests}
 use Rattle.std.proofs.lemmas.Slice.Eq.{bytes_eq-Decides}
-use Rattle.std.proofs.lemmas.Grind.{common_steps}
 use Rattle.sift_line.proofs.Ascending.{more_read, none_has, whole_ascend, whole_printed, whole_exact, digits_of_text}
 use Rattle.sift_line.proofs.units.read_units.Goals as goal
 
@@ -38,12 +37,3 @@ returns-clause-exact c = λ units ascend e.
     ap (λ xs. Some (record { items = xs }))
     (whole_exact _ _ c.loop-digit.least _ c.loop-digit.invariant c.loop-digit-test.false units.items ascend
     (digits_of_text units.items _ (e ∙ sym c.as_bytes-digit-items.ensures.value) (λ none. apart (sym c.as_bytes-digit-items.ensures.value ∙ none))))
-
-pub returns-in_err-unit-clause-printed : goal.returns-in_err-unit-clause-printed
-returns-in_err-unit-clause-printed c = grind (arith, common_steps)
-
-pub loop-digit-init : goal.loop-digit-init
-loop-digit-init c = grind (arith, common_steps)
-
-pub returns-in_err-unit-clause-ascend : goal.returns-in_err-unit-clause-ascend
-returns-in_err-unit-clause-ascend c = grind (arith, common_steps)

@@ -26,9 +26,3 @@ returns-then-place-len c = λ config. record {
   roles = c.all_roles.ensures config;
   table = omega (arith, c.len-place.ensures.length);
 }
-
-pub all_roles-requires-clause-crews : goal.all_roles-requires-clause-crews
-all_roles-requires-clause-crews c = grind (arith, common_steps)
-
-pub crews_by-by_task-requires-clause-few : goal.crews_by-by_task-requires-clause-few
-crews_by-by_task-requires-clause-few c = grind (arith, common_steps)

@@ -5,14 +5,5 @@ use Rattle.sift_mission.proofs.timetable.run_times.Goals as goal
 pub loop-t-preserved : goal.loop-t-preserved
 loop-t-preserved c = grind (arith, common_steps)
 
-pub bounds-times-t : goal.bounds-times-t
-bounds-times-t c = grind (arith, common_steps)
-
-pub of-requires : goal.of-requires
-of-requires c = grind (arith, common_steps)
-
-pub returns : goal.returns
-returns c = grind (arith, common_steps)
-
 pub run_of-requires : goal.run_of-requires
 run_of-requires c = grind (arith, common_steps)

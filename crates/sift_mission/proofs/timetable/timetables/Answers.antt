@@ -1,8 +1,7 @@
 use Rattle.std.proofs.Common.{◌<◌, ◌∙◌, sym, subst, length, arith}
-use Rattle.std.proofs.lemmas.List.{get_or-set_other, get_or-set_same, length-set}
-use Rattle.std.proofs.lemmas.Grind.{common_steps}
 use mathlib.Core.Logic.{dite}
 use native.Mathlib.Decide.{ℕ_discrete}
+use Rattle.std.proofs.lemmas.List.{get_or-set_other, get_or-set_same, length-set}
 use Rattle.sift_mission.specs.Parts.{data_of}
 use Rattle.sift_mission.specs.Timetable.{IsTimetableOf}
 use Rattle.sift_mission.proofs.FitTables.{placed-has-rows, table-placed}
@@ -30,6 +29,3 @@ loop-i-preserved c =
           (λ same. rw (same, get_or-set_same c.loop-i.times i c.of.result t inside) (subst (λ table. IsTimetableOf d table c.of.result) (sym placed) c.of.ensures))
           (λ other. rw (get_or-set_other c.loop-i.times i j c.of.result t other) (c.loop-i.invariant.1 j t (omega arith)))),
     )
-
-pub returns : goal.returns
-returns c = grind (arith, common_steps)

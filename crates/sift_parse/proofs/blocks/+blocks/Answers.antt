@@ -71,53 +71,23 @@ second_branch-returns-clause-reads t c =
     search (rules, the_lemmas) in
     rw seen (else-found (term_of c.args.test) first second ts us c.braced.new.tokens.rest.now taken c.in_ok-second.ensures.reads)
 
-pub branches-returns-clause-goes_on : goal.branches-returns-clause-goes_on
-branches-returns-clause-goes_on c = grind (arith, common_steps)
-
 pub statement-returns-in_err-value-in-Keyword-Let-clause-reads : goal.statement-returns-in_err-value-in-Keyword-Let-clause-reads
 statement-returns-in_err-value-in-Keyword-Let-clause-reads c = grind (arith, common_steps)
-
-pub statement-returns-in_err-word-in-Keyword-Out-clause-reads : goal.statement-returns-in_err-word-in-Keyword-Out-clause-reads
-statement-returns-in_err-word-in-Keyword-Out-clause-reads c = grind (arith, common_steps)
-
-pub second_branch-returns-clause-goes_on : goal.second_branch-returns-clause-goes_on
-second_branch-returns-clause-goes_on c = grind (arith, common_steps)
 
 pub statement-returns-in_err-value-in-Name-clause-reads : goal.statement-returns-in_err-value-in-Name-clause-reads
 statement-returns-in_err-value-in-Name-clause-reads c = grind (arith, common_steps)
 
-pub statement-returns-in_err-rounds-in-Keyword-Repeat-clause-reads : goal.statement-returns-in_err-rounds-in-Keyword-Repeat-clause-reads
-statement-returns-in_err-rounds-in-Keyword-Repeat-clause-reads c = grind (arith, common_steps)
-
 pub block-returns-clause-goes_on : goal.block-returns-clause-goes_on
 block-returns-clause-goes_on c = grind (arith, common_steps)
-
-pub statement-returns-in_ok-value-in-Keyword-Let-clause-goes_on : goal.statement-returns-in_ok-value-in-Keyword-Let-clause-goes_on
-statement-returns-in_ok-value-in-Keyword-Let-clause-goes_on c = grind (arith, common_steps)
 
 pub statement-returns-in_err-branches-in-Keyword-If-clause-reads : goal.statement-returns-in_err-branches-in-Keyword-If-clause-reads
 statement-returns-in_err-branches-in-Keyword-If-clause-reads c = grind (arith, common_steps)
 
-pub statement-braced-requires : goal.statement-braced-requires
-statement-braced-requires c = grind (arith, common_steps)
-
-pub block-loop-statements-smaller : goal.block-loop-statements-smaller
-block-loop-statements-smaller c = grind (arith, common_steps)
-
 pub statement-returns-in_ok-branches-in-Keyword-If-clause-reads : goal.statement-returns-in_ok-branches-in-Keyword-If-clause-reads
 statement-returns-in_ok-branches-in-Keyword-If-clause-reads c = grind (arith, common_steps)
 
-pub statement-returns-in_err-name-in-Keyword-Let-clause-reads : goal.statement-returns-in_err-name-in-Keyword-Let-clause-reads
-statement-returns-in_err-name-in-Keyword-Let-clause-reads c = grind (arith, common_steps)
-
 pub statement-returns-in_err-braced-in-Keyword-Repeat-clause-reads : goal.statement-returns-in_err-braced-in-Keyword-Repeat-clause-reads
 statement-returns-in_err-braced-in-Keyword-Repeat-clause-reads c = grind (arith, common_steps)
-
-pub statement-returns-in_ok-braced-in-Keyword-Repeat-clause-goes_on : goal.statement-returns-in_ok-braced-in-Keyword-Repeat-clause-goes_on
-statement-returns-in_ok-braced-in-Keyword-Repeat-clause-goes_on c = grind (arith, common_steps)
-
-pub statement-returns-in_ok-value-in-Keyword-Out-clause-goes_on : goal.statement-returns-in_ok-value-in-Keyword-Out-clause-goes_on
-statement-returns-in_ok-value-in-Keyword-Out-clause-goes_on c = grind (arith, common_steps)
 
 pub statement-returns-in_err-value-in-Keyword-Out-clause-reads : goal.statement-returns-in_err-value-in-Keyword-Out-clause-reads
 statement-returns-in_err-value-in-Keyword-Out-clause-reads c = grind (arith, common_steps)

@@ -107,53 +107,5 @@ middle-returns-clause-reads t c =
     (middle-found ts us vs ws c.closed-3.new.tokens.rest.now (term_of c.in_ok-first.first) (term_of c.in_ok-second.second)
     (term_of c.in_ok-third.third) c.in_ok-sign.ensures c.in_ok-first.ensures.reads c.in_ok-second.ensures.reads c.in_ok-third.ensures.reads)
 
-pub prim-returns-in_ok-word-in-Keyword-Now-clause-reads : goal.prim-returns-in_ok-word-in-Keyword-Now-clause-reads
-prim-returns-in_ok-word-in-Keyword-Now-clause-reads c = grind (arith, common_steps)
-
-pub prim-returns-in-Keyword-Mid-clause-reads : goal.prim-returns-in-Keyword-Mid-clause-reads
-prim-returns-in-Keyword-Mid-clause-reads c = grind (arith, common_steps)
-
-pub prim-returns-in_ok-name-in-Keyword-Sense-clause-goes_on : goal.prim-returns-in_ok-name-in-Keyword-Sense-clause-goes_on
-prim-returns-in_ok-name-in-Keyword-Sense-clause-goes_on c = grind (arith, common_steps)
-
-pub middle-closed-requires-3 : goal.middle-closed-requires-3
-middle-closed-requires-3 c = grind (arith, common_steps)
-
 pub middle-returns-clause-goes_on : goal.middle-returns-clause-goes_on
 middle-returns-clause-goes_on c = grind (arith, common_steps)
-
-pub prim-returns-in_ok-word-in-Keyword-Now-clause-goes_on : goal.prim-returns-in_ok-word-in-Keyword-Now-clause-goes_on
-prim-returns-in_ok-word-in-Keyword-Now-clause-goes_on c = grind (arith, common_steps)
-
-pub chain-loop-op-smaller : goal.chain-loop-op-smaller
-chain-loop-op-smaller c = grind (arith, common_steps)
-
-pub prim-returns-in_ok-word-in-Keyword-Last-clause-goes_on : goal.prim-returns-in_ok-word-in-Keyword-Last-clause-goes_on
-prim-returns-in_ok-word-in-Keyword-Last-clause-goes_on c = grind (arith, common_steps)
-
-pub prim-returns-in-Sign-OpenParen-clause-reads : goal.prim-returns-in-Sign-OpenParen-clause-reads
-prim-returns-in-Sign-OpenParen-clause-reads c = grind (arith, common_steps)
-
-pub prim-returns-in_err-part-in-Operator-Sub-clause-reads : goal.prim-returns-in_err-part-in-Operator-Sub-clause-reads
-prim-returns-in_err-part-in-Operator-Sub-clause-reads c = grind (arith, common_steps)
-
-pub prim-returns-in_ok-name-in-Keyword-Sense-clause-reads : goal.prim-returns-in_ok-name-in-Keyword-Sense-clause-reads
-prim-returns-in_ok-name-in-Keyword-Sense-clause-reads c = grind (arith, common_steps)
-
-pub prim-returns-in_err-word-in-Keyword-Last-clause-reads : goal.prim-returns-in_err-word-in-Keyword-Last-clause-reads
-prim-returns-in_err-word-in-Keyword-Last-clause-reads c = grind (arith, common_steps)
-
-pub prim-returns-in_ok-new-in-Operator-Sub-clause-reads : goal.prim-returns-in_ok-new-in-Operator-Sub-clause-reads
-prim-returns-in_ok-new-in-Operator-Sub-clause-reads c = grind (arith, common_steps)
-
-pub prim-returns-in_err-name-in-Keyword-Sense-clause-reads : goal.prim-returns-in_err-name-in-Keyword-Sense-clause-reads
-prim-returns-in_err-name-in-Keyword-Sense-clause-reads c = grind (arith, common_steps)
-
-pub prim-returns-in_ok-word-in-Keyword-Last-clause-reads : goal.prim-returns-in_ok-word-in-Keyword-Last-clause-reads
-prim-returns-in_ok-word-in-Keyword-Last-clause-reads c = grind (arith, common_steps)
-
-pub chain-returns-then-n-eq-COMPARISON_LEVEL-clause-goes_on : goal.chain-returns-then-n-eq-COMPARISON_LEVEL-clause-goes_on
-chain-returns-then-n-eq-COMPARISON_LEVEL-clause-goes_on c = grind (arith, common_steps)
-
-pub prim-returns-in_err-word-in-Keyword-Now-clause-reads : goal.prim-returns-in_err-word-in-Keyword-Now-clause-reads
-prim-returns-in_err-word-in-Keyword-Now-clause-reads c = grind (arith, common_steps)

@@ -1,11 +1,6 @@
 use Rattle.std.proofs.lemmas.Bool.{leb-true, le-leb}
-use Rattle.std.proofs.Common.{arith}
-use Rattle.std.proofs.lemmas.Grind.{common_steps}
 use Rattle.sift_parse.proofs.look_up.is_this_or_later.Goals as goal
 
 -- the name is a task's, and the numbers are compared
 pub returns-in-Some : goal.returns-in-Some
 returns-in-Some c = rw (← c.task_number.ensures, c.in-Some.is) (leb-true _ _, le-leb _ _)
-
-pub returns-in-None : goal.returns-in-None
-returns-in-None c = grind (arith, common_steps)

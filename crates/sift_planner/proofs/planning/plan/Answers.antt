@@ -57,6 +57,3 @@ returns-in_default-clause-no_room c = grind (arith, common_steps)
 
 pub overflow_cast-result : goal.overflow_cast-result
 overflow_cast-result c = grind (arith, common_steps)
-
-pub add_row-requires-clause-kept : goal.add_row-requires-clause-kept
-add_row-requires-clause-kept c = grind (arith, common_steps)

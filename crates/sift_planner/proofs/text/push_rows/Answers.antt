@@ -1,6 +1,5 @@
 use Rattle.std.proofs.Common.{◌≡◌, ◌<◌, ◌∙◌, length, map, get_or, ap, sym, arith}
 use Rattle.std.proofs.lemmas.List.{get_or-map, length-map}
-use Rattle.std.proofs.lemmas.Grind.{common_steps}
 use Rattle.sift_planner.specs.Text.{positions_text}
 use Rattle.sift_planner.proofs.Listed.{listed_more, written_more}
 use Rattle.sift_planner.proofs.text.push_rows.Goals as goal
@@ -17,6 +16,3 @@ loop-place-preserved c =
     ap (λ row. row.items) c.index-rows-place.is ∙ sym (get_or-map (λ row. row.items) rows place row row.items c.loop-place-test.true) in
     written_more _ _ _ _ _ _ _ _ c.loop-place.invariant c.in_ok-push_break.ensures (rw c.deref.ensures.value at c.in_ok-push_positions.ensures)
     (listed_more positions_text lists place row.items low here)
-
-pub returns : goal.returns
-returns c = grind (arith, common_steps)

@@ -1,5 +1,4 @@
-use Rattle.std.proofs.Common.{inl, map, string_bytes, arith}
-use Rattle.std.proofs.lemmas.Grind.{common_steps}
+use Rattle.std.proofs.Common.{inl, map, string_bytes}
 use Rattle.sift_reply.proofs.Certain.{certain}
 use Rattle.sift_reply.proofs.call.answer.Goals as goal
 
@@ -10,9 +9,3 @@ returns-in-Ok-clause-certain g c =
     (record { before = g.S.Source.inflow c.args.source.now; after = g.S.Source.inflow c.owed.new.source })
     (record { before = g.K.Sink.outflow c.args.sink.now; after = g.K.Sink.outflow c.give.new.sink })
     c.give.result (inl (_, c.in-Ok.ensures.owed, c.give.ensures))
-
-pub returns-in-Err-clause-answered : goal.returns-in-Err-clause-answered
-returns-in-Err-clause-answered g c = grind (arith, common_steps)
-
-pub returns-in-Ok-clause-unwritten : goal.returns-in-Ok-clause-unwritten
-returns-in-Ok-clause-unwritten g c = grind (arith, common_steps)

@@ -19,20 +19,5 @@ returns-in-Err-Failed-clause-owed g c =
     let input : Input = record { before = g.S.Source.inflow c.args.source.now; after = g.S.Source.inflow c.read_all.new.source } in
     owes_within c.in-Some.limit (g.J.Job.duty c.args.means c.args.job) input _ (c.in-Some.ensures c.args.means) (inr (inr ((cc), stopped.0, stopped.1)))
 
-pub returns-in-Err-TooLong-clause-unread : goal.returns-in-Err-TooLong-clause-unread
-returns-in-Err-TooLong-clause-unread g c = grind (arith, common_steps)
-
-pub returns-clause-unread : goal.returns-clause-unread
-returns-clause-unread g c = grind (arith, common_steps)
-
-pub returns-in-Ok-clause-unread : goal.returns-in-Ok-clause-unread
-returns-in-Ok-clause-unread g c = grind (arith, common_steps)
-
-pub returns-in-Ok-clause-wanting : goal.returns-in-Ok-clause-wanting
-returns-in-Ok-clause-wanting g c = grind (arith, common_steps)
-
-pub returns-in-Err-Failed-clause-unread : goal.returns-in-Err-Failed-clause-unread
-returns-in-Err-Failed-clause-unread g c = grind (arith, common_steps)
-
 pub returns-in-Ok-clause-owed : goal.returns-in-Ok-clause-owed
 returns-in-Ok-clause-owed g c = grind (arith, common_steps)

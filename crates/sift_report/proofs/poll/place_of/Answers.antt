@@ -1,7 +1,5 @@
-use Rattle.std.proofs.Common.{◌≡◌, ◌∙◌, get_or, sym, ap, arith}
+use Rattle.std.proofs.Common.{◌≡◌, ◌∙◌, get_or, sym, ap}
 use Rattle.std.proofs.lemmas.Bool.{eqb-true}
-use Rattle.std.specs.Prelude.{slice_index}
-use Rattle.std.proofs.lemmas.Grind.{common_steps}
 use Rattle.sift_base.specs.Layout.{slot_number}
 use Rattle.sift_base.specs.declared.slot.Slot.TheVariants.{Out}
 use Rattle.sift_base.proofs.lemmas.Counts.{apart}
@@ -9,8 +7,9 @@ use Rattle.sift_buffer.specs.Journals.{heard_in, said_in}
 use Rattle.sift_mission.specs.Parts.{flown_of}
 use Rattle.sift_flight.specs.Told.{told}
 use Rattle.sift_report.proofs.Heard.{journal-heard, journal-place, journal-said, place-other, place-own}
-use Rattle.sift_base.specs.Units.{others}
 use Rattle.sift_report.proofs.poll.place_of.Goals as goal
+use Rattle.std.specs.Prelude.{slice_index}
+use Rattle.sift_base.specs.Units.{others}
 
 pub said-requires : goal.said-requires
 said-requires c =
@@ -54,12 +53,3 @@ returns-else-eq c =
     ∙ journal-heard c.args.mission.now c.parts.ensures.fit c.args.flight.now c.requires.tells.whole c.args.u c.requires.tells.unit c.index-journal.result.now at
     c.args.word c.args.f c.args.from c.requires.word
     ∙ sym (place-other fl c.args.f c.args.u c.args.word c.args.from (apart c.args.from c.args.u (sym c.eq.ensures ∙ c.if-eq.false)))
-
-pub number-slot-requires-clause-layout : goal.number-slot-requires-clause-layout
-number-slot-requires-clause-layout c = grind (arith, common_steps)
-
-pub index-journal-requires : goal.index-journal-requires
-index-journal-requires c = grind (arith, common_steps)
-
-pub number-slot-requires-clause-there : goal.number-slot-requires-clause-there
-number-slot-requires-clause-there c = grind (arith, common_steps)

@@ -1,7 +1,6 @@
 use Rattle.std.proofs.Common.{◌≡◌, ℕ, Option, ◌++◌, ◌∷◌, [], ◌∙◌, length, map, take, sym, ap, arith}
 use Rattle.std.specs.List.{filter}
 use Rattle.std.proofs.lemmas.List.{length-map}
-use Rattle.std.proofs.lemmas.Grind.{common_steps}
 use Rattle.sift_mission.specs.Parts.{flown_of}
 use Rattle.sift_flight.specs.Told.{told}
 use Rattle.sift_exec.proofs.lemmas.Counted.{filter-yes, filter-no, filter-room}
@@ -35,6 +34,3 @@ loop-i-preserved c =
           rw w.polls-is (c.loop-i.invariant ∙ ap (map poll)
           (sym (filter-no (m.executes us c.args.word) us c.loop-i.i c.unit_at-unit.result c.unit_at-unit.ensures (sym c.executes.ensures ∙ w.if-executes.false))))
     ]
-
-pub returns : goal.returns
-returns c = grind (arith, common_steps)

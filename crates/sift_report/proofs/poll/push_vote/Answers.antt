@@ -1,5 +1,4 @@
 use Rattle.std.proofs.Common.{◌++◌, ◌∙◌, ap, arith, map, get_or, string_bytes}
-use Rattle.std.proofs.lemmas.Grind.{common_steps}
 use Rattle.sift_mission.specs.Parts.{data_of, flown_of}
 use Rattle.sift_flight.specs.Told.{told}
 use Rattle.sift_vote.specs.Majority.{majority_of}
@@ -26,6 +25,3 @@ returns c =
     c.in_ok-push_head.ensures c.in_ok-push_output.ensures
     (c.in_ok-push_list.ensures ∙ ap (λ ps. string_bytes c.push_output.new.text ++ polled_text ps) c.deref-2.ensures.0)
     c.in_ok-push_result.ensures c.in_ok-push_str.ensures.bytes
-
-pub index-requires : goal.index-requires
-index-requires c = grind (arith, common_steps)

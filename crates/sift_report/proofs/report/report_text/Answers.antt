@@ -1,6 +1,5 @@
 use Rattle.std.proofs.Common.{◌≡◌, [], ◌++◌, ◌∙◌, suc, ◌-◌, true, false, add-one, sym, ap, arith, string_bytes}
 use Rattle.std.specs.List.{flat_map, range_with_len}
-use Rattle.std.proofs.lemmas.Grind.{common_steps}
 use Rattle.sift_mission.specs.Parts.{flown_of}
 use Rattle.sift_flight.specs.Figures.{margin_before}
 use Rattle.sift_flight.specs.Told.{told}
@@ -55,12 +54,3 @@ returns-clause-lines c =
     let end : c.loop-f.f ≡ m.frames = omega (arith, c.loop-f-test.false, c.loop-f.auto.f-end, frames) in
     all_of_report (frame_lines m fl c.args.version) (last_line m fl) c.loop-f.f m.frames c.last_line.result end c.last_line.ensures
     c.loop-f.invariant.2 c.in_ok-push_one.ensures.line
-
-pub push_frame-requires-clause-frame : goal.push_frame-requires-clause-frame
-push_frame-requires-clause-frame c = grind (arith, common_steps)
-
-pub loop-f-init : goal.loop-f-init
-loop-f-init c = grind (arith, common_steps)
-
-pub is_sound_at-margin-requires-clause-frame : goal.is_sound_at-margin-requires-clause-frame
-is_sound_at-margin-requires-clause-frame c = grind (arith, common_steps)

@@ -1,5 +1,3 @@
-use Rattle.std.proofs.Common.{arith}
-use Rattle.std.proofs.lemmas.Grind.{common_steps}
 use Rattle.sift_mission.specs.Parts.{data_of, flown_of}
 use Rattle.sift_flight.specs.Told.{told}
 use Rattle.sift_report.specs.Votes.{unit_votes}
@@ -15,6 +13,3 @@ pub loop-i-preserved : goal.loop-i-preserved
 loop-i-preserved c =
     unit_more (unit_votes (data_of c.args.mission.now) (told (flown_of c.args.mission.now) c.args.flight.now) c.args.f) c.everyone-everyone.result
     c.loop-i.i c.unit_at.result _ _ _ c.unit_at.ensures c.loop-i.invariant c.in_ok-push_unit_votes.ensures
-
-pub returns : goal.returns
-returns c = grind (arith, common_steps)

@@ -26,9 +26,6 @@ loop-t-preserved c =
       omega (arith, next_first d.program.tasks c.loop-t.t there, c.loop-t.invariant.1, c.outputs-first.ensures),
     )
 
-pub returns : goal.returns
-returns c = grind (arith, common_steps)
-
 pub push_task_votes-requires-clause-tells : goal.push_task_votes-requires-clause-tells
 push_task_votes-requires-clause-tells c = grind (arith, common_steps)
 

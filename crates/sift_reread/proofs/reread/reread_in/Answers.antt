@@ -1,5 +1,4 @@
 use Rattle.std.proofs.Common.{◌≤◌, length, string_bytes, arith, rules}
-use Rattle.std.proofs.lemmas.Grind.{common_steps}
 use Rattle.sift_reread.proofs.Lines.{one_more, whole, whole_at_end}
 use Rattle.sift_reread.proofs.reread.reread_in.Goals.{else-loop-lines-test, then-loop-lines-test+then-is_empty}
 use Rattle.sift_reread.proofs.reread.reread_in.Goals as goal
@@ -22,6 +21,3 @@ returns-clause-same c = elim c.loop-lines-test.branch [
       let none : length c.loop-lines.rest.now ≤ 0 = grind arith in
       whole c.args.version c.args.report.now (string_bytes c.loop-lines.text) c.loop-lines.rest.now c.loop-lines.lines c.loop-lines.invariant.0 none
 ]
-
-pub returns-in_default-clause-stopped : goal.returns-in_default-clause-stopped
-returns-in_default-clause-stopped c = grind (arith, common_steps)

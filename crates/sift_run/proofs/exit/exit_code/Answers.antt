@@ -1,5 +1,4 @@
-use Rattle.std.proofs.Common.{ℕ, List, String, Global, map, string_bytes, sym, subst, arith}
-use Rattle.std.proofs.lemmas.Grind.{common_steps}
+use Rattle.std.proofs.Common.{ℕ, List, String, Global, map, string_bytes, sym, subst}
 use Rattle.sift_fleet.specs.Given.{AreGiven}
 use Rattle.sift_reply.specs.Reply.{Input, Output}
 use Rattle.sift_reply.specs.Promise.{IsAnswered}
@@ -16,6 +15,3 @@ returns-in-Ok-Ok-clause-answered g c =
     c.deref.ensures.value c.sift.ensures.answered in
     rw c.in-Ok-Ok.is-0 (rw c.in-Ok-Ok.is-1
     (subst (λ (n : ℕ). IsAnswered all (map (string_bytes {Z = Global}) c.in-Ok-Ok.words.items) came went n) (sym c.from.ensures) answered))
-
-pub sift-requires-after_bounds : goal.sift-requires-after_bounds
-sift-requires-after_bounds g c = grind (arith, common_steps)

@@ -17,8 +17,5 @@ returns-clause-headline g c = rw (← c.of-fleet.ensures)
     (record { before = g.K.Sink.outflow c.args.sink.now; after = g.K.Sink.outflow c.answer.new.sink })
     c.answer.result c.answer.ensures.answered)
 
-pub returns-clause-unread : goal.returns-clause-unread
-returns-clause-unread g c = grind (arith, common_steps)
-
 pub answer-requires-clause-callable : goal.answer-requires-clause-callable
 answer-requires-clause-callable g c = grind (arith, common_steps)

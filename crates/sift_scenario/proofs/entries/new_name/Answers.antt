@@ -1,10 +1,9 @@
-use Rattle.std.proofs.Common.{◌≡◌, Some, false, true, sym, arith}
-use Rattle.std.proofs.lemmas.Grind.{common_steps}
+use Rattle.std.proofs.Common.{◌≡◌, Some, false, true, sym}
 use Rattle.toml.specs.View.{table_view}
 use Rattle.sift_scenario.specs.Task.{name_of}
 use Rattle.sift_scenario.proofs.NewNames.{found_name, is_new, no_new}
-use Rattle.sift_scenario.proofs.entries.new_name.Goals.{else-is_name-via-then-is_name+else-not-is_among, else-is_name-via-else-is_name}
 use Rattle.sift_scenario.proofs.entries.new_name.Goals as goal
+use Rattle.sift_scenario.proofs.entries.new_name.Goals.{else-is_name-via-then-is_name+else-not-is_among, else-is_name-via-else-is_name}
 
 -- a name that no earlier entry has
 pub returns-then-not-is_among-clause-found : goal.returns-then-not-is_among-clause-found
@@ -23,6 +22,3 @@ returns-else-is_name-clause-none c name =
       | else-is_name-via-then-is_name+else-not-is_among w ↦ λ form. w.is_among.ensures.0 w.if-not-is_among.false
       | else-is_name-via-else-is_name w ↦ λ form. let wrong : false ≡ true = rw w.if-is_name.false at c.is_name.ensures.1 form in cc wrong
     ])
-
-pub returns-then-not-is_among-clause-none : goal.returns-then-not-is_among-clause-none
-returns-then-not-is_among-clause-none c = grind (arith, common_steps)

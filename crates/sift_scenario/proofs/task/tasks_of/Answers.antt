@@ -1,7 +1,6 @@
 use Rattle.std.proofs.Common.{◌≡◌, ◌<◌, ◌+◌, ℕ, Err, rules, length, map, take, sym, ap, arith, ◌∙◌}
 use Rattle.std.proofs.lemmas.List.{length-map}
 use Rattle.std.specs.List.{sum}
-use Rattle.std.proofs.lemmas.Grind.{common_steps}
 use Rattle.toml.specs.View.{table_view}
 use Rattle.sift_base.specs.Layout.{word_limit}
 use Rattle.sift_document.proofs.lemmas.Order.{stopped}
@@ -96,9 +95,3 @@ returns-clause-tests c =
     rw (← counts, length-map) (rw c.deref-3.ensures.value at c.in_ok-check_words.ensures) in
     let forms = rw (c.deref-4.ensures.value, c.in_ok-tables.ensures.tables) at c.in_ok-forms.ensures.tests in
     (c.in_ok-tables.ensures.tests, (named, (starting, (few, (forms, tt)))))
-
-pub task_forms-requires-clause-few : goal.task_forms-requires-clause-few
-task_forms-requires-clause-few c = grind (arith, common_steps)
-
-pub check_words-requires : goal.check_words-requires
-check_words-requires c = grind (arith, common_steps)

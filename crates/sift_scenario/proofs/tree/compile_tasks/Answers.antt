@@ -79,11 +79,5 @@ loop-task-preserved c =
       rw new (codes_more c.args.sensors c.args.words trees tree _ _ _ c.loop-task.invariant.6 c.in_ok-push-2.ensures.items c.in_ok-code.ensures.code),
     )
 
-pub loop-task-init : goal.loop-task-init
-loop-task-init c = grind (arith, common_steps)
-
 pub returns-clause-trees : goal.returns-clause-trees
 returns-clause-trees c = grind (arith, common_steps)
-
-pub overflow_sub-left : goal.overflow_sub-left
-overflow_sub-left c = grind (arith, common_steps)

@@ -35,6 +35,3 @@ returns c =
 
 pub offset_bounds-task-items-task-index : goal.offset_bounds-task-items-task-index
 offset_bounds-task-items-task-index c = grind (arith, common_steps)
-
-pub slice_bounds-task-items-end : goal.slice_bounds-task-items-end
-slice_bounds-task-items-end c = grind (arith, common_steps)

@@ -33,6 +33,3 @@ returns-clause-good c = λ at low. c.loop-at.invariant at (omega (arith, length-
 
 pub broken_rule-requires : goal.broken_rule-requires
 broken_rule-requires c = grind (arith, common_steps)
-
-pub loop-at-init : goal.loop-at-init
-loop-at-init c = grind (arith, common_steps)

@@ -1,6 +1,5 @@
-use Rattle.std.proofs.Common.{sym, ◌∙◌, arith}
+use Rattle.std.proofs.Common.{sym, ◌∙◌}
 use Rattle.std.proofs.lemmas.Bool.{false≢true}
-use Rattle.std.proofs.lemmas.Grind.{common_steps}
 use Rattle.sift_script.proofs.Views.{change_more, not_each}
 use Rattle.sift_script.specs.Parts.{script_of}
 use Rattle.sift_script.specs.Rules.{IsThere}
@@ -19,6 +18,3 @@ pub loop-item-preserved : goal.loop-item-preserved
 loop-item-preserved c =
     change_more (IsThere (script_of c.args.parts.now) c.args.from) c.args.items.now c.loop-item.item-index c.item-item.result c.loop-item-test.true c.item-item.is
     c.loop-item.invariant (c.is_there.ensures.0 c.if-not-is_there.false)
-
-pub returns : goal.returns
-returns c = grind (arith, common_steps)

@@ -1,6 +1,5 @@
 use Rattle.std.proofs.Common.{◌≡◌, ◌<◌, arith, length, sym}
 use Rattle.std.proofs.lemmas.List.{length-map}
-use Rattle.std.proofs.lemmas.Grind.{common_steps}
 use Rattle.sift_base.specs.Units.{has}
 use Rattle.sift_script.proofs.Views.{fault_of-at, not_iff, units_named-entries, no_fault}
 use Rattle.sift_script.specs.Parts.{script_of}
@@ -17,6 +16,3 @@ returns c =
     let test : has (units_named (faults_of parts.script) c.args.at) (fault_at (script_of parts) c.args.at).unit ≡ c.is_named.result =
     rw (units_named-entries entries c.args.at, fault, ← c.deref.ensures.value) (sym c.is_named.ensures) in
     not_iff _ c.is_named.result test
-
-pub slice_bounds-is_named-end : goal.slice_bounds-is_named-end
-slice_bounds-is_named-end c = grind (arith, common_steps)

@@ -1,6 +1,5 @@
 use Rattle.std.proofs.Common.{◌≡◌, ◌+◌, arith, false, refl, sym, true, ◌∙◌}
 use Rattle.std.proofs.lemmas.Bool.{false≢true}
-use Rattle.std.proofs.lemmas.Grind.{common_steps}
 use Rattle.sift_base.specs.Units.{has}
 use Rattle.sift_script.proofs.Views.{units_named-entries}
 use Rattle.sift_script.specs.Rules.{units_named}
@@ -24,9 +23,3 @@ returns c = (
       false≢true (sym left.2 ∙ named)
       ),
 )
-
-pub slice_bounds-entries-end : goal.slice_bounds-entries-end
-slice_bounds-entries-end c = grind (arith, common_steps)
-
-pub overflow_add-entries : goal.overflow_add-entries
-overflow_add-entries c = grind (arith, common_steps)

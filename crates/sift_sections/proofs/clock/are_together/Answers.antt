@@ -1,5 +1,3 @@
-use Rattle.std.proofs.Common.{arith}
-use Rattle.std.proofs.lemmas.Grind.{common_steps}
 use Rattle.sift_sections.proofs.clock.are_together.Goals as goal
 
 -- an offset isn't near to all
@@ -8,6 +6,3 @@ returns-then-not-is_near c = (
   λ found. cc,
   λ each. rw c.if-not-is_near.true at c.is_near.ensures.1 (each c.loop-offset.offset-index _ c.loop-offset-test.true),
 )
-
-pub returns : goal.returns
-returns c = grind (arith, common_steps)

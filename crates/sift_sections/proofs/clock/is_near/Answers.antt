@@ -7,6 +7,3 @@ returns-then-from c = grind (arith, common_steps)
 
 pub loop-other-preserved : goal.loop-other-preserved
 loop-other-preserved c = grind (arith, common_steps)
-
-pub returns : goal.returns
-returns c = grind (arith, common_steps)

@@ -55,14 +55,8 @@ returns-clause-tests c =
 pub overflow_cast-result : goal.overflow_cast-result
 overflow_cast-result c = grind (arith, common_steps)
 
-pub errors_of-requires-clause-error : goal.errors_of-requires-clause-error
-errors_of-requires-clause-error c = grind (arith, common_steps)
-
 pub overflow_cast-result-2 : goal.overflow_cast-result-2
 overflow_cast-result-2 c = grind (arith, common_steps)
-
-pub drifts_of-requires-clause-rate : goal.drifts_of-requires-clause-rate
-drifts_of-requires-clause-rate c = grind (arith, common_steps)
 
 pub overflow_cast-result-4 : goal.overflow_cast-result-4
 overflow_cast-result-4 c = grind (arith, common_steps)

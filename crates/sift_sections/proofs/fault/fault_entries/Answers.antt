@@ -3,7 +3,6 @@ use Rattle.std.proofs.lemmas.Iterator.Adapters.{YieldsList-from_vec}
 use Rattle.std.proofs.lemmas.Iterator.Consumers.{YieldsList-end, YieldsList-turn}
 use Rattle.std.proofs.lemmas.List.{length-append, length-map, take_all}
 use Rattle.std.specs.Prelude.{option_map}
-use Rattle.std.proofs.lemmas.Grind.{common_steps}
 use Rattle.toml.specs.View.{table_view}
 use Rattle.sift_script.specs.Script.{change_of, failing_of, fault_of}
 use Rattle.sift_document.proofs.lemmas.Places.{fails_here, holds_here, nowhere, read_more}
@@ -99,12 +98,3 @@ returns-clause-tests c =
       length-map c.args.said.items (λ items. map change_of items.items),
       length-map c.args.tables.now (λ fault. table_view fault.now),
     )))
-
-pub broken-requires : goal.broken-requires
-broken-requires c = grind (arith, common_steps)
-
-pub offset_bounds-heads-place : goal.offset_bounds-heads-place
-offset_bounds-heads-place c = grind (arith, common_steps)
-
-pub offset_bounds-tables-place : goal.offset_bounds-tables-place
-offset_bounds-tables-place c = grind (arith, common_steps)

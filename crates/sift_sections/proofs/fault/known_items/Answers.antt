@@ -1,7 +1,6 @@
-use Rattle.std.proofs.Common.{◌∙◌, map, take, sym, ap, subst, arith}
+use Rattle.std.proofs.Common.{◌∙◌, map, take, sym, ap, subst}
 use Rattle.std.proofs.lemmas.List.{get_or-map, length-map, take_all}
 use Rattle.std.proofs.lemmas.List.Elements.{All-push}
-use Rattle.std.proofs.lemmas.Grind.{common_steps}
 use Rattle.toml.specs.Data.{Data}
 use Rattle.toml.specs.View.{table_view, view}
 use Rattle.sift_document.proofs.lemmas.Places.{read_more, so_far}
@@ -33,6 +32,3 @@ returns-clause-items c =
 pub returns-clause-known : goal.returns-clause-known
 returns-clause-known c =
     rw (take_all c.loop-entry.entry-index (map view c.args.entries.now) (rw length-map c.loop-entry-test.false)) at c.loop-entry.invariant.1
-
-pub loop-entry-init : goal.loop-entry-init
-loop-entry-init c = grind (arith, common_steps)

@@ -108,6 +108,3 @@ returns-clause-tests c =
 
 pub stated_items-requires : goal.stated_items-requires
 stated_items-requires c = grind (arith, common_steps)
-
-pub fault_entries-requires-clause-few : goal.fault_entries-requires-clause-few
-fault_entries-requires-clause-few c = grind (arith, common_steps)

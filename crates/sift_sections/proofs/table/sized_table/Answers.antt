@@ -1,5 +1,4 @@
-use Rattle.std.proofs.Common.{◌≡◌, ◌+◌, ◌∙◌, Some, None, List, ℕ, ap, rules, subst, sym, arith}
-use Rattle.std.proofs.lemmas.Grind.{common_steps}
+use Rattle.std.proofs.Common.{◌≡◌, ◌+◌, ◌∙◌, Some, None, List, ℕ, ap, rules, subst, sym}
 use Rattle.toml.specs.View.{view}
 use Rattle.sift_document.specs.Document.{IsTableOf}
 use Rattle.sift_sections.specs.Table.{size_of}
@@ -19,6 +18,3 @@ returns-then-eq-clause-sized c =
       known = subst (λ (keys : List (List ℕ)). IsTableOf keys (view c.args.entry.now)) c.table_keys.ensures c.in_ok-table.ensures.known;
       sized = ap size_of (sym c.in_ok-table.ensures.found) ∙ sym c.number_at.ensures ∙ number;
     }
-
-pub returns-then-eq-clause-found : goal.returns-then-eq-clause-found
-returns-then-eq-clause-found c = grind (arith, common_steps)

@@ -1,5 +1,4 @@
-use Rattle.std.proofs.Common.{◌≡◌, ℕ, Some, Err, rules, map, ap, subst, ◌∙◌, List, arith}
-use Rattle.std.proofs.lemmas.Grind.{common_steps}
+use Rattle.std.proofs.Common.{◌≡◌, ℕ, Some, Err, rules, map, ap, subst, ◌∙◌, List}
 use Rattle.toml.specs.Data.{Members}
 use Rattle.toml.specs.View.{table_view, view}
 use Rattle.sift_document.proofs.lemmas.Order.{ended, ok_from, stopped}
@@ -48,6 +47,3 @@ returns-clause-tests c =
     ended (table_rules c.args.version c.args.units (Some (view c.args.value.now))) c.read_tables.result
     (λ schedules is. (c.in_ok-tables.ensures.tests, (timed, (rw is at placed, tt))))
     (λ e is. stopped 2 (table_rules c.args.version c.args.units (Some (view c.args.value.now))) e (c.in_ok-tables.ensures.tests, (timed, rw is at placed)))
-
-pub returns-clause-few : goal.returns-clause-few
-returns-clause-few c = grind (arith, common_steps)

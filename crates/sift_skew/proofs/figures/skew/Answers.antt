@@ -1,6 +1,5 @@
 use Rattle.std.proofs.Common.{◌≡◌, ◌-ℤ◌, arith}
 use Rattle.std.proofs.lemmas.Int.{ints}
-use Rattle.std.proofs.lemmas.Grind.{common_steps}
 use Rattle.sift_skew.proofs.lemmas.Extremes.{held, skew_from}
 use Rattle.sift_skew.proofs.figures.skew.Goals as goal
 
@@ -12,6 +11,3 @@ returns c =
     let fits : held (held highest -ℤ held lowest) ≡ highest -ℤ lowest =
     omega (arith, ints, c.in_ok-highest.ensures.in_range, c.in_ok-lowest.ensures.in_range) in
     rw fits (skew_from c.args.offsets.now highest lowest c.in_ok-highest.ensures.highest c.in_ok-lowest.ensures.lowest)
-
-pub overflow_sub-result : goal.overflow_sub-result
-overflow_sub-result c = grind (arith, common_steps)

@@ -1,8 +1,7 @@
-use Rattle.std.proofs.Common.{sym, ◌∙◌, arith}
-use Rattle.std.proofs.lemmas.Grind.{common_steps}
+use Rattle.std.proofs.Common.{sym, ◌∙◌}
 use Rattle.sift_skew.proofs.Limits.{kept-true, kept-holds, told-true, told-holds, last_decides}
-use Rattle.sift_skew.proofs.plan.admits.Goals.{then-error-rate, else-error-rate}
 use Rattle.sift_skew.proofs.plan.admits.Goals as goal
+use Rattle.sift_skew.proofs.plan.admits.Goals.{then-error-rate, else-error-rate}
 
 -- the first two limits are met, and the last test decides
 pub returns-then-skew-le-SKEW_LIMIT : goal.returns-then-skew-le-SKEW_LIMIT
@@ -29,9 +28,3 @@ returns-else-skew-le-SKEW_LIMIT c =
             ∙ kept-holds a.skew a.error a.rate a.length c.requires admitted.kept,
       )
     ]
-
-pub overflow_add-result : goal.overflow_add-result
-overflow_add-result c = grind (arith, common_steps)
-
-pub overflow_add-result-then-skew-le-SKEW_LIMIT : goal.overflow_add-result-then-skew-le-SKEW_LIMIT
-overflow_add-result-then-skew-le-SKEW_LIMIT c = grind (arith, common_steps)

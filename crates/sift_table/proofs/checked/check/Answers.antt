@@ -32,11 +32,5 @@ loop-row-preserved c = grind (arith, common_steps)
 pub overflow_cast-result : goal.overflow_cast-result
 overflow_cast-result c = grind (arith, common_steps)
 
-pub broken_rule-requires-clause-entries : goal.broken_rule-requires-clause-entries
-broken_rule-requires-clause-entries c = grind (arith, common_steps)
-
-pub loop-row-init : goal.loop-row-init
-loop-row-init c = grind (arith, common_steps)
-
 pub returns-clause-good : goal.returns-clause-good
 returns-clause-good c = grind (arith, common_steps)

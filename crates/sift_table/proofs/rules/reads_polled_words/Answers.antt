@@ -4,6 +4,3 @@ use Rattle.sift_table.proofs.rules.reads_polled_words.Goals as goal
 
 pub returns-then-index : goal.returns-then-index
 returns-then-index c = grind (arith, common_steps)
-
-pub index-requires : goal.index-requires
-index-requires c = grind (arith, common_steps)

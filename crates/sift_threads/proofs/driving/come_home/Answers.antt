@@ -7,6 +7,3 @@ loop-preserved g c = grind (arith, common_steps)
 
 pub returns-clause-comes : goal.returns-clause-comes
 returns-clause-comes g c = grind (arith, common_steps)
-
-pub returns-clause-home : goal.returns-clause-home
-returns-clause-home g c = grind (arith, common_steps)

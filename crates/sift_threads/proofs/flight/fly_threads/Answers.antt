@@ -1,5 +1,4 @@
-use Rattle.std.proofs.Common.{refl, subst, arith}
-use Rattle.std.proofs.lemmas.Grind.{common_steps}
+use Rattle.std.proofs.Common.{refl, subst}
 use Rattle.sift_mission.specs.Parts.{data_of}
 use Rattle.sift_mission.specs.declared.parts.MissionParts.{MissionParts}
 use Rattle.sift_ether.specs.Tokens.{IsMade}
@@ -26,12 +25,3 @@ returns-clause-logged g c =
     landed_logged g.R.Rogue.allows (data_of c.args.mission.now) c.parts-parts.ensures.fit c.in_ok-ether.ether
     c.args.rogues.items c.requires.rogues c.in_ok-flown.flown c.in_ok-flown.ensures
     (record { journals = c.in_ok-journals.journals; accounts = c.in_ok-flown.flown.accounts }) refl landed
-
-pub fly_seats-requires-clause-made : goal.fly_seats-requires-clause-made
-fly_seats-requires-clause-made g c = grind (arith, common_steps)
-
-pub make-requires : goal.make-requires
-make-requires g c = grind (arith, common_steps)
-
-pub land-requires : goal.land-requires
-land-requires g c = grind (arith, common_steps)

@@ -1,6 +1,5 @@
 use Rattle.std.proofs.Common.{◌≡◌, ℕ, sym, ap, ◌∙◌, subst, arith}
 use Rattle.std.specs.Vec.Iter.{into_iter_items}
-use Rattle.std.proofs.lemmas.Grind.{common_steps}
 use Rattle.sift_mission.specs.declared.parts.MissionParts.{MissionParts}
 use Rattle.sift_ether.specs.Tokens.{IsTokenOf}
 use Rattle.sift_ether.specs.declared.token.Token.{Token}
@@ -60,12 +59,3 @@ returns-clause-manned g c =
     c.requires.made c.requires.boards c.loop-number.seats.items
     (subst (λ (n : ℕ). AreSeated c.args.mission.now c.args.ether.now c.args.tokens.items c.args.boards.items c.args.rogues.items n c.loop-number.seats.items) all
     c.loop-number.invariant.seated)
-
-pub push_reserved-requires : goal.push_reserved-requires
-push_reserved-requires g c = grind (arith, common_steps)
-
-pub take_next-board-requires : goal.take_next-board-requires
-take_next-board-requires g c = grind (arith, common_steps)
-
-pub take_next-token-requires : goal.take_next-token-requires
-take_next-token-requires g c = grind (arith, common_steps)

@@ -1,11 +1,10 @@
 use Rattle.std.specs.Prelude.{Option, Bool, ℕ, ℤ}
 use Rattle.std.proofs.Common.{◌++◌, ◌∷◌, [], ◌<◌, not, nat_eq, ◌∙◌, sym, arith, length}
-use Rattle.std.proofs.lemmas.Grind.{common_steps}
 use Rattle.sift_config.proofs.lemmas.Joining.{has_at}
 use Rattle.sift_unit.specs.Memory.{reading_at}
 use Rattle.sift_unit.proofs.InTurn.{passing_yes, passing_no, room_in_turn}
-use Rattle.sift_unit.proofs.readings.readings_of.Goals.{then-ne, else-ne}
 use Rattle.sift_unit.proofs.readings.readings_of.Goals as goal
+use Rattle.sift_unit.proofs.readings.readings_of.Goals.{then-ne, else-ne}
 
 -- the other unit is one of the mission
 pub reading_of-requires-clause-other : goal.reading_of-requires-clause-other
@@ -36,6 +35,3 @@ loop-position-preserved g c =
       | else-ne w ↦ (λ j. (w.readings-is j).items) ∙ c.loop-position.invariant
           ∙ sym (passing_no f p us i t c.unit_at-other.ensures (sym c.ne.ensures ∙ w.if-ne.false))
     ]
-
-pub returns : goal.returns
-returns g c = grind (arith, common_steps)

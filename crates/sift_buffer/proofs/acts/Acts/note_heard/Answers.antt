@@ -1,5 +1,4 @@
 use Rattle.std.proofs.Common.{◌≤◌, arith, sym, subst, ◌∙◌, length-set}
-use Rattle.std.proofs.lemmas.Grind.{common_steps}
 use Rattle.sift_buffer.specs.Ranges.{IsPlace}
 use Rattle.sift_buffer.specs.Conduct.{last_progress}
 use Rattle.sift_buffer.specs.Journals.{Pages, ranges_in}
@@ -41,9 +40,3 @@ invariant_of-self c =
       words = words_heard _ _ full.words a.f a.slot a.from a.stamp a.word noted
           (ledger_heard _ _ _ full a.f a.slot a.from a.stamp a.word pages place c.requires.stamp noted).conduct;
     })
-
-pub note_heard_at-requires : goal.note_heard_at-requires
-note_heard_at-requires c = grind (arith, common_steps)
-
-pub overflow_cast-self-inside : goal.overflow_cast-self-inside
-overflow_cast-self-inside c = grind (arith, common_steps)

@@ -1,5 +1,4 @@
 use Rattle.std.proofs.Common.{◌≤◌, arith, sym, subst, ◌∙◌, length-set}
-use Rattle.std.proofs.lemmas.Grind.{common_steps}
 use Rattle.sift_buffer.specs.Ranges.{IsPlace}
 use Rattle.sift_buffer.specs.Conduct.{last_progress}
 use Rattle.sift_buffer.specs.Journals.{Pages, ranges_in}
@@ -38,6 +37,3 @@ invariant_of-self c =
       words = words_said _ _ full.words a.f a.slot a.to a.stamp a.word noted
           (ledger_said _ _ _ full a.f a.slot a.to a.stamp a.word pages place c.requires.stamp noted).conduct;
     })
-
-pub note_said_at-requires : goal.note_said_at-requires
-note_said_at-requires c = grind (arith, common_steps)

@@ -1,5 +1,4 @@
-use Rattle.std.proofs.Common.{◌∙◌, arith}
-use Rattle.std.proofs.lemmas.Grind.{common_steps}
+use Rattle.std.proofs.Common.{◌∙◌}
 use Rattle.sift_buffer.specs.Tables.{entry_number}
 use Rattle.sift_buffer.specs.Journals.{ranges_in}
 use Rattle.sift_buffer.proofs.Notes.{entry_of}
@@ -10,6 +9,3 @@ returns c =
     let a = c.args in
     let number = c.index-entry.ensures.number ∙ (λ i. entry_number (ranges_in (c.self.view_is i)) a.f a.slot a.from) in
     c.note_heard_at.ensures a.f a.slot a.from (entry_of a.self.now a.f a.slot a.from c.requires) number
-
-pub note_heard_at-requires : goal.note_heard_at-requires
-note_heard_at-requires c = grind (arith, common_steps)

@@ -1,5 +1,4 @@
-use Rattle.std.proofs.Common.{◌≡◌, ◌<◌, ℕ, [], Option, slice_index, length, sym, refl, ap, ◌∙◌, subst, arith}
-use Rattle.std.proofs.lemmas.Grind.{common_steps}
+use Rattle.std.proofs.Common.{◌≡◌, ◌<◌, ℕ, [], Option, slice_index, length, sym, refl, ap, ◌∙◌, subst}
 use Rattle.sift_buffer.specs.Cell.{taken}
 use Rattle.sift_buffer.specs.Ranges.{place, shared_words}
 use Rattle.sift_buffer.specs.Conduct.{Conduct, put, with_heard}
@@ -29,6 +28,3 @@ returns-clause-follows c =
       of = λ before others i. put (core_beside p before others).of p.unit (with_heard (here p before others i) a.f a.slot a.from a.stamp (sym found i));
       words = λ before others. refl;
     })
-
-pub note_heard-requires-clause-place : goal.note_heard-requires-clause-place
-note_heard-requires-clause-place c = grind (arith, common_steps)

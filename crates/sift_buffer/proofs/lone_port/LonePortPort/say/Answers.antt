@@ -1,5 +1,4 @@
-use Rattle.std.proofs.Common.{[], slice_set, sym, refl, subst, arith}
-use Rattle.std.proofs.lemmas.Grind.{common_steps}
+use Rattle.std.proofs.Common.{[], slice_set, sym, refl, subst}
 use Rattle.sift_buffer.specs.Conduct.{Conduct, put, with_said}
 use Rattle.sift_buffer.specs.Conditions.{MaySay}
 use Rattle.sift_buffer.specs.Core.{say}
@@ -26,6 +25,3 @@ returns-clause-follows c =
       of = λ before others i. put (core_beside p before others).of p.unit (with_said (here p before others i) a.f a.slot a.to a.stamp a.word);
       words = λ before others i. slice_set p.words.items (sym c.place-place.ensures.place i) (sym c.pack.ensures.cell i);
     })
-
-pub note_said-requires-clause-place : goal.note_said-requires-clause-place
-note_said-requires-clause-place c = grind (arith, common_steps)

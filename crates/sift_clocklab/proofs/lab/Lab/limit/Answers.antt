@@ -4,6 +4,3 @@ use Rattle.sift_clocklab.proofs.lab.Lab.limit.Goals as goal
 
 pub returns : goal.returns
 returns c = grind (arith, common_steps)
-
-pub overflow_add-result : goal.overflow_add-result
-overflow_add-result c = grind (arith, common_steps)

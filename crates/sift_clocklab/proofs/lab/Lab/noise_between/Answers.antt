@@ -19,6 +19,3 @@ index-requires-2 c =
 
 pub returns : goal.returns
 returns c = grind (arith, common_steps)
-
-pub index-requires : goal.index-requires
-index-requires c = grind (arith, common_steps)

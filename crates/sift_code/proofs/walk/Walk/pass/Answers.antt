@@ -1,6 +1,5 @@
-use Rattle.std.proofs.Common.{◌+◌, ◌-◌, ◌∙◌, sym, ap, length, refl, subst, inl, inr, arith}
+use Rattle.std.proofs.Common.{◌+◌, ◌-◌, ◌∙◌, sym, ap, length, refl, subst, inl, inr}
 use Rattle.std.specs.Prelude.{Some}
-use Rattle.std.proofs.lemmas.Grind.{common_steps}
 use Rattle.sift_code.specs.Heights.{brought_by, trail_at}
 use Rattle.sift_code.specs.Walk.{AreBrought}
 use Rattle.sift_code.proofs.Passing.{passed, brought_by_jump, deeper, shallower, as_deep, brings_nothing, jump_brings, jump_may_be_bad, jump_depth}
@@ -60,18 +59,3 @@ returns-in_default c =
     (sym (brings_nothing c.args.instr (trail_at c.args.nest.now c.args.at) c.in_default.not-JumpZ c.in_default.not-Jump))
     c.requires.here.brought)
     (c.requires.here.depth ∙ sym (as_deep c.args.nest.now c.args.at c.args.instr c.requires.read (c.in_default.not-Begin, c.in_default.not-End))) c.max-self.ensures
-
-pub overflow_sub-left : goal.overflow_sub-left
-overflow_sub-left c = grind (arith, common_steps)
-
-pub overflow_sub-self : goal.overflow_sub-self
-overflow_sub-self c = grind (arith, common_steps)
-
-pub bring-requires : goal.bring-requires
-bring-requires c = grind (arith, common_steps)
-
-pub bring-requires-in-Jump : goal.bring-requires-in-Jump
-bring-requires-in-Jump c = grind (arith, common_steps)
-
-pub overflow_add-self : goal.overflow_add-self
-overflow_add-self c = grind (arith, common_steps)

@@ -1,5 +1,4 @@
-use Rattle.std.proofs.Common.{◌∙◌, arith}
-use Rattle.std.proofs.lemmas.Grind.{common_steps}
+use Rattle.std.proofs.Common.{◌∙◌}
 use Rattle.sift_mission.specs.Parts.{data_of}
 use Rattle.sift_core.specs.Courses.{course}
 use Rattle.sift_core.proofs.Turning.{turns_more, turns_end}
@@ -25,6 +24,3 @@ returns-clause-order g c =
 
 pub returns-clause-storms : goal.returns-clause-storms
 returns-clause-storms g c = λ xs k. c.turn_before.ensures.storms xs (c.loop-drawer.invariant.storms xs k)
-
-pub loop-drawer-smaller : goal.loop-drawer-smaller
-loop-drawer-smaller g c = grind (arith, common_steps)

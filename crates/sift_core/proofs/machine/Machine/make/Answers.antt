@@ -1,5 +1,4 @@
-use Rattle.std.proofs.Common.{ap, subst, arith}
-use Rattle.std.proofs.lemmas.Grind.{common_steps}
+use Rattle.std.proofs.Common.{ap, subst}
 use Rattle.sift_buffer.specs.Core.{Core}
 use Rattle.sift_mission.specs.Parts.{data_of}
 use Rattle.sift_mission.specs.declared.parts.MissionParts.{MissionParts}
@@ -24,6 +23,3 @@ returns-clause-calls c = λ left all. first_left (data_of c.args.mission.now) _
     (subst (λ (p : MissionParts). IsNewRack c.in_ok-rack.rack p.layout p.frames) c.parts-parts.ensures.same c.in_ok-rack.ensures)
     c.in_ok-boards.ensures)
     (λ u. ap (λ (z : Core). (z.of u).progress) c.in_ok-rack.ensures.core) left all
-
-pub make-requires : goal.make-requires
-make-requires c = grind (arith, common_steps)

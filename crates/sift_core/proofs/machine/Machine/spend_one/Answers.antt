@@ -1,5 +1,3 @@
-use Rattle.std.proofs.Common.{arith}
-use Rattle.std.proofs.lemmas.Grind.{common_steps}
 use Rattle.sift_mission.specs.Parts.{data_of, flown_of}
 use Rattle.sift_core.specs.Courses.{course}
 use Rattle.sift_config.proofs.lemmas.FirstUnits.{unit_low}
@@ -28,6 +26,3 @@ returns-clause-storms g c = spent_storms g.R.Rogue.allows (data_of c.args.missio
     (course c.store_shot.new.self c.call_next-shot.new.left c.call_next-shot.new.rogues) c.requires.unit c.requires.under_way c.requires.down c.requires.some
     (record { shot = c.call_next-shot.result; called = c.call_next-shot.ensures.called; stored = c.store_shot.ensures.stored })
     (λ w flies. c.store_shot.ensures.flies (flown_of c.args.mission.now) w flies)
-
-pub returns-clause-spent : goal.returns-clause-spent
-returns-clause-spent g c = grind (arith, common_steps)

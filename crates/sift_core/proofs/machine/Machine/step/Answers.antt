@@ -1,5 +1,4 @@
-use Rattle.std.proofs.Common.{◌∙◌, refl, arith}
-use Rattle.std.proofs.lemmas.Grind.{common_steps}
+use Rattle.std.proofs.Common.{◌∙◌, refl}
 use Rattle.sift_mission.specs.Parts.{flown_of}
 use Rattle.sift_core.proofs.MachineSteps.{unit_below, drives_chosen, step_flies, step_stepped}
 use Rattle.sift_core.proofs.machine.Machine.step.Goals as goal
@@ -39,6 +38,3 @@ returns-clause-stepped c = step_stepped (flown_of c.args.mission.now) c.args.sel
       steps = c.step.ensures.steps;
       follows = c.step.ensures.follows;
     }) _ refl
-
-pub index_mut-requires : goal.index_mut-requires
-index_mut-requires c = grind (arith, common_steps)

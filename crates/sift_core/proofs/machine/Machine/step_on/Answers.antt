@@ -1,5 +1,3 @@
-use Rattle.std.proofs.Common.{arith}
-use Rattle.std.proofs.lemmas.Grind.{common_steps}
 use Rattle.sift_mission.specs.Parts.{data_of}
 use Rattle.sift_core.proofs.Storming.{moved, waited, landed, turned, has_storm, some_left}
 use Rattle.sift_core.proofs.machine.Machine.step_on.Goals as goal
@@ -49,15 +47,3 @@ pub returns-in-Turned-clause-storms : goal.returns-in-Turned-clause-storms
 returns-in-Turned-clause-storms g c = (turned g.R.Rogue.allows (data_of c.args.mission.now) c.args.u c.args.self.now c.step.new.self c.args.left.now c.args.rogues.now
     c.requires.unit c.requires.under_way c.requires.aloft c.step.ensures.flies c.in-Turned.ensures.stepped
     c.begin_storm.new.left c.begin_storm.new.rogues c.begin_storm.ensures).storms
-
-pub returns-in-Landed-clause-waited : goal.returns-in-Landed-clause-waited
-returns-in-Landed-clause-waited g c = grind (arith, common_steps)
-
-pub returns-in-NotYet-clause-went : goal.returns-in-NotYet-clause-went
-returns-in-NotYet-clause-went g c = grind (arith, common_steps)
-
-pub returns-in-Turned-clause-waited : goal.returns-in-Turned-clause-waited
-returns-in-Turned-clause-waited g c = grind (arith, common_steps)
-
-pub returns-in-Moved-clause-waited : goal.returns-in-Moved-clause-waited
-returns-in-Moved-clause-waited g c = grind (arith, common_steps)

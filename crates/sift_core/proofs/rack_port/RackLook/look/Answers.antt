@@ -1,5 +1,4 @@
 use Rattle.std.proofs.Common.{◌≡◌, ◌<◌, ℕ, slice_index, length, sym, refl, ◌∙◌, arith}
-use Rattle.std.proofs.lemmas.Grind.{common_steps}
 use Rattle.sift_buffer.specs.Conduct.{put, with_seen}
 use Rattle.sift_buffer.specs.Core.{look}
 use Rattle.sift_core.specs.Racks.{core_of}
@@ -27,6 +26,3 @@ returns-clause-follows c =
       of = λ w i. put (core_of x w).of x.unit (with_seen ((core_of x w).of x.unit) other (sym found i));
       words = λ w. refl;
     })
-
-pub invariant_of-self : goal.invariant_of-self
-invariant_of-self c = grind (arith, common_steps)

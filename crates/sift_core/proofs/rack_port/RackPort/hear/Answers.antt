@@ -40,9 +40,3 @@ invariant_of-self c = grind (arith, common_steps)
 
 pub note_heard-requires-clause-place : goal.note_heard-requires-clause-place
 note_heard-requires-clause-place c = grind (arith, common_steps)
-
-pub note_heard-requires-clause-flies : goal.note_heard-requires-clause-flies
-note_heard-requires-clause-flies c = grind (arith, common_steps)
-
-pub note_heard-requires-clause-past : goal.note_heard-requires-clause-past
-note_heard-requires-clause-past c = grind (arith, common_steps)

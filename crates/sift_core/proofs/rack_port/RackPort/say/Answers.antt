@@ -34,11 +34,5 @@ returns-clause-follows c =
 pub note_said-requires-clause-place : goal.note_said-requires-clause-place
 note_said-requires-clause-place c = grind (arith, common_steps)
 
-pub note_said-requires-clause-near : goal.note_said-requires-clause-near
-note_said-requires-clause-near c = grind (arith, common_steps)
-
-pub note_said-requires-clause-flies : goal.note_said-requires-clause-flies
-note_said-requires-clause-flies c = grind (arith, common_steps)
-
 pub invariant_of-self : goal.invariant_of-self
 invariant_of-self c = grind (arith, common_steps)

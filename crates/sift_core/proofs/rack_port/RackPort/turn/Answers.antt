@@ -1,5 +1,4 @@
 use Rattle.std.proofs.Common.{◌≡◌, ◌<◌, [], length, ap, ◌∙◌, arith}
-use Rattle.std.proofs.lemmas.Grind.{common_steps}
 use Rattle.sift_buffer.specs.Ledgers.{Ledger}
 use Rattle.sift_buffer.specs.Views.{after_round}
 use Rattle.sift_core.specs.Crews.{no_ledger, ledger_at}
@@ -23,9 +22,3 @@ pub returns-clause-follows : goal.returns-clause-follows
 returns-clause-follows c =
     let f = c.find_behind.ensures.follows in
     further c.args.self.now _ _ [] [] (record { layout = f.layout; frames = f.frames; unit = f.unit; reaches = f.reaches }) c.leave-2.ensures.follows
-
-pub leave-requires-2-clause-may : goal.leave-requires-2-clause-may
-leave-requires-2-clause-may c = grind (arith, common_steps)
-
-pub leave-requires-2-clause-gate : goal.leave-requires-2-clause-gate
-leave-requires-2-clause-gate c = grind (arith, common_steps)

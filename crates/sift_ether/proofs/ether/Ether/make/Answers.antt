@@ -1,5 +1,4 @@
 use Rattle.std.proofs.Common.{◌+◌, ◌-◌, [], ◌∙◌, ap, arith}
-use Rattle.std.proofs.lemmas.Grind.{common_steps}
 use Rattle.sift_buffer.specs.Tables.{ranges_of}
 use Rattle.sift_ether.specs.Deeds.{blank, blanks_from, view_by}
 use Rattle.sift_ether.proofs.Lists.{new_push}
@@ -19,6 +18,3 @@ loop-number-preserved c =
       })
       | in_default w ↦ let high = w.in_default.ensures.none in let few = c.requires.few_units in absurd (omega arith)
     ]
-
-pub loop-number-init : goal.loop-number-init
-loop-number-init c = grind (arith, common_steps)

@@ -1,25 +1,6 @@
-use Rattle.std.proofs.Common.{refl, arith}
-use Rattle.std.proofs.lemmas.Grind.{common_steps}
+use Rattle.std.proofs.Common.{refl}
 use Rattle.sift_ether.proofs.Seats.{follows_one}
 use Rattle.sift_ether.proofs.port.EtherSeatPort.say.Goals as goal
 
 pub returns-clause-follows : goal.returns-clause-follows
 returns-clause-follows c = follows_one c.args.self.now _ _ _ refl refl refl c.store.ensures.table c.store.ensures.seat refl
-
-pub note_said-requires-clause-flies : goal.note_said-requires-clause-flies
-note_said-requires-clause-flies c = grind (arith, common_steps)
-
-pub note_said-requires-clause-near : goal.note_said-requires-clause-near
-note_said-requires-clause-near c = grind (arith, common_steps)
-
-pub store-requires-clause-may : goal.store-requires-clause-may
-store-requires-clause-may c = grind (arith, common_steps)
-
-pub invariant_of-self : goal.invariant_of-self
-invariant_of-self c = grind (arith, common_steps)
-
-pub store-requires-clause-word : goal.store-requires-clause-word
-store-requires-clause-word c = grind (arith, common_steps)
-
-pub note_said-requires-clause-place : goal.note_said-requires-clause-place
-note_said-requires-clause-place c = grind (arith, common_steps)

@@ -6,8 +6,5 @@ use Rattle.sift_ether.proofs.port.EtherSeatPort.try_enter.Goals as goal
 pub returns-clause-follows : goal.returns-clause-follows
 returns-clause-follows c = further _ _ _ [] [] c.find_behind.ensures.follows c.go_on.ensures.follows
 
-pub returns-clause-tried : goal.returns-clause-tried
-returns-clause-tried c = grind (arith, common_steps)
-
 pub go_on-requires-clause-gate : goal.go_on-requires-clause-gate
 go_on-requires-clause-gate c = grind (arith, common_steps)

@@ -1,5 +1,4 @@
 use Rattle.std.proofs.Common.{◌<◌, [], ap, arith}
-use Rattle.std.proofs.lemmas.Grind.{common_steps}
 use Rattle.sift_buffer.specs.Conduct.{Conduct}
 use Rattle.sift_buffer.specs.Views.{after_round}
 use Rattle.sift_ether.specs.Following.{further}
@@ -14,6 +13,3 @@ returns-clause-tried c =
 
 pub returns-clause-follows : goal.returns-clause-follows
 returns-clause-follows c = further _ _ _ [] [] c.find_behind.ensures.follows c.leave-2.ensures.follows
-
-pub leave-requires-2-clause-gate : goal.leave-requires-2-clause-gate
-leave-requires-2-clause-gate c = grind (arith, common_steps)

@@ -5,17 +5,5 @@ use Rattle.sift_io.proofs.bytes_in.BytesInSource.read.Goals as goal
 pub invariant_of-self-2 : goal.invariant_of-self-2
 invariant_of-self-2 c = grind (arith, common_steps)
 
-pub returns-then-is_listed-clause-listed : goal.returns-then-is_listed-clause-listed
-returns-then-is_listed-clause-listed c = grind (arith, common_steps)
-
 pub returns-clause-listed : goal.returns-clause-listed
 returns-clause-listed c = grind (arith, common_steps)
-
-pub overflow_add-self : goal.overflow_add-self
-overflow_add-self c = grind (arith, common_steps)
-
-pub returns-clause-bytes : goal.returns-clause-bytes
-returns-clause-bytes c = grind (arith, common_steps)
-
-pub returns-clause-exact : goal.returns-clause-exact
-returns-clause-exact c = grind (arith, common_steps)

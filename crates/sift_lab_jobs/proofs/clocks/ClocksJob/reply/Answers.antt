@@ -1,6 +1,5 @@
 use Rattle.std.proofs.Common.{◌≡◌, [], pos, subst, arith}
 use Rattle.std.proofs.lemmas.Int.{ints}
-use Rattle.std.proofs.lemmas.Grind.{common_steps}
 use Rattle.sift_clocklab.specs.Laboratory.{run_of}
 use Rattle.sift_lab_jobs.specs.Clocks.{ClocksGives, LabNumbers}
 use Rattle.sift_lab_jobs.proofs.DrawnText.{drawn_text, held_as, kept_as}
@@ -26,15 +25,3 @@ returns c =
     (drawn_text c.drawn_runs_are_of_the_draws.ensures numbers _ _ _ _ _ _ (run_of c.in_ok-run.run') _ [] _
     skew error rate c.in-Ok.ensures.lab c.in-Ok.ensures.face c.in-Ok.ensures.ready
     c.in_ok-run.ensures.ran c.in_ok-text.ensures c.done.ensures)
-
-pub lab_text-requires-clause-kept : goal.lab_text-requires-clause-kept
-lab_text-requires-clause-kept c = grind (arith, common_steps)
-
-pub run_lab-requires : goal.run_lab-requires
-run_lab-requires c = grind (arith, common_steps)
-
-pub lab_text-requires-clause-ready : goal.lab_text-requires-clause-ready
-lab_text-requires-clause-ready c = grind (arith, common_steps)
-
-pub drawn-requires : goal.drawn-requires
-drawn-requires c = grind (arith, common_steps)

@@ -1,5 +1,4 @@
 use Rattle.std.proofs.Common.{◌≡◌, ◌<◌, get_or, arith}
-use Rattle.std.proofs.lemmas.Grind.{common_steps}
 use Rattle.sift_mission.proofs.Rows.{words-there}
 use Rattle.sift_mission.proofs.mission.Mission.sensed.Goals as goal
 
@@ -13,9 +12,3 @@ pub index-requires : goal.index-requires
 index-requires c =
     let some : 0 < c.len.result = nonzero_rem-f c in
     omega (arith, c.len.ensures)
-
-pub returns : goal.returns
-returns c = grind (arith, common_steps)
-
-pub index-words-requires : goal.index-words-requires
-index-words-requires c = grind (arith, common_steps)

@@ -1,9 +1,9 @@
 use Rattle.std.proofs.Common.{◌≡◌, length, map, string_bytes, Global, ◌≤◌, sym, subst, arith}
 use Rattle.std.proofs.lemmas.Bool.Decides.{nat_tests}
 use Rattle.std.proofs.lemmas.List.{length-map}
-use Rattle.std.proofs.lemmas.Option.{IfSome_then, none-some, same_Some}
-use Rattle.std.proofs.lemmas.Grind.{common_steps}
+use Rattle.std.proofs.lemmas.Option.{IfSome_then}
 use Rattle.sift_options.specs.Options.{Adds, more, none}
+use Rattle.std.proofs.lemmas.Option.{none-some, same_Some}
 use Rattle.sift_options.proofs.Settings.{begins, fewer_behind, adds_nothing}
 use Rattle.sift_options.proofs.lemmas.Words.{map-nothing, map-something}
 use Rattle.sift_options.proofs.setting.Options.+and.Goals as goal
@@ -45,6 +45,3 @@ returns-in-None-2-clause-exact n c = λ options adds.
     let nothing = adds_nothing c.args.flags.now c.args.self options _ c.in-None-2.ensures.none adds in
     let some : 1 ≤ length c.args.words.now = grind (arith, nat_tests, c.is_empty.ensures, c.if-is_empty.false) in
     absurd (map-something (string_bytes {Z = Global}) c.args.words.now some nothing.0)
-
-pub returns-in-None-clause-exact : goal.returns-in-None-clause-exact
-returns-in-None-clause-exact c = grind (arith, common_steps)

@@ -21,8 +21,5 @@ returns-clause-kept c =
     (same_schedule _ (with_row (drafted draft) c.args.run (c.args.run + hearing_delay) at) refl refl c.in_ok-push.ensures.items c.in_ok-push-2.ensures.items rows refl)
     refl (ap (λ e. set draft.used e (slice_index draft.used e + draft.executors)) from)
 
-pub overflow_add-self : goal.overflow_add-self
-overflow_add-self c = grind (arith, common_steps)
-
 pub returns-clause-row : goal.returns-clause-row
 returns-clause-row c = grind (arith, common_steps)

@@ -47,11 +47,5 @@ returns-clause-as_many c =
     let made = length-ideal_frame program c.self.inside.words.items c.args.agreed.now c.args.shed.now in
     ap length c.loop-number.invariant ∙ (rw all made ∙ (sym c.requires.sound.a_start_each ∙ c.requires.a_start_each))
 
-pub returns-clause-in_turn : goal.returns-clause-in_turn
-returns-clause-in_turn c = grind (arith, common_steps)
-
-pub overflow_cast-number : goal.overflow_cast-number
-overflow_cast-number c = grind (arith, common_steps)
-
 pub returns-clause-ideal : goal.returns-clause-ideal
 returns-clause-ideal c = grind (arith, common_steps)

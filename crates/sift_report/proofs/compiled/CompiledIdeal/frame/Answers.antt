@@ -1,5 +1,4 @@
 use Rattle.std.proofs.Common.{◌≡◌, ◌<◌, length, ap, ◌∙◌, arith}
-use Rattle.std.proofs.lemmas.Grind.{common_steps}
 use Rattle.sift_lang.specs.Meaning.{meaning}
 use Rattle.sift_mission.specs.Parts.{data_of}
 use Rattle.sift_program.specs.Program.{task_at}
@@ -35,15 +34,3 @@ loop-t-preserved c =
           (low c.before) (c.loop-t.invariant.1 ∙ c.requires.words ∙ runs.words) (are c.before)
           c.loop-t.invariant.2),
     )
-
-pub returns-clause-in_turn : goal.returns-clause-in_turn
-returns-clause-in_turn c = grind (arith, common_steps)
-
-pub words_of-outs-requires-clause-words : goal.words_of-outs-requires-clause-words
-words_of-outs-requires-clause-words c = grind (arith, common_steps)
-
-pub words_of-outs-requires-clause-made : goal.words_of-outs-requires-clause-made
-words_of-outs-requires-clause-made c = grind (arith, common_steps)
-
-pub returns-clause-ideal : goal.returns-clause-ideal
-returns-clause-ideal c = grind (arith, common_steps)

@@ -1,5 +1,4 @@
 use Rattle.std.proofs.Common.{string_bytes, Global, arith}
-use Rattle.std.proofs.lemmas.Grind.{common_steps}
 use Rattle.sift_options.proofs.lemmas.Words.{map-first}
 use Rattle.sift_run.proofs.command.CommandAskedFlightOrder.from_words.Goals as goal
 
@@ -8,9 +7,3 @@ pub returns-clause-none : goal.returns-clause-none
 returns-clause-none g c =
     rw (map-first (string_bytes {Z = Global}) c.args.words.now c.word-item.result (omega (arith, c.in-len1-up.len_at_least)) c.word-item.is)
     (rw c.as_str.ensures.value at c.command_of.ensures.none)
-
-pub returns-in_default-clause-none : goal.returns-in_default-clause-none
-returns-in_default-clause-none g c = grind (arith, common_steps)
-
-pub returns-clause-found : goal.returns-clause-found
-returns-clause-found g c = grind (arith, common_steps)

@@ -1,5 +1,4 @@
-use Rattle.std.proofs.Common.{[], ◌∷◌, ◌++◌, ◌≡◌, ap, get_or, sym, ◌∙◌, arith}
-use Rattle.std.proofs.lemmas.Grind.{common_steps}
+use Rattle.std.proofs.Common.{[], ◌∷◌, ◌++◌, ◌≡◌, ap, get_or, sym, ◌∙◌}
 use Rattle.sift_script.proofs.Views.{outputs_more}
 use Rattle.sift_script.proofs.parts.Parts.of.Goals as goal
 
@@ -11,6 +10,3 @@ loop-task-preserved c =
     let is : task ≡ get_or tasks at task = rw (← c.deref-task-items.ensures.value) c.task-item.is in
     c.push.ensures.items ∙ ap (λ xs. xs ++ task.outputs ∷ []) c.loop-task.invariant
     ∙ sym (outputs_more tasks at task (rw (← c.deref-task-items.ensures.value) c.loop-task-test.true) is)
-
-pub push-requires : goal.push-requires
-push-requires c = grind (arith, common_steps)

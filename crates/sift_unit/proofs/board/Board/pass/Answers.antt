@@ -1,5 +1,4 @@
 use Rattle.std.proofs.Common.{◌≡◌, ◌<◌, ap, inl, inr, arith}
-use Rattle.std.proofs.lemmas.Grind.{common_steps}
 use mathlib.Core.Logic.{dite}
 use native.Mathlib.Decide.{ℕ_discrete}
 use Rattle.sift_unit.specs.Boards.{desk_of, part_of}
@@ -23,12 +22,3 @@ returns-in-Saying-clause-onward g c =
       runs = λ p. absurd (omega arith);
       says = λ p. dite (ℕ_discrete b.subframe (m.due b.cfg (m.kind b.slot))) (λ now. inl (c.requires.may.whole.said last low now)) (λ apart. inr apart);
     })
-
-pub pass_hearing-requires-clause-at : goal.pass_hearing-requires-clause-at
-pass_hearing-requires-clause-at g c = grind (arith, common_steps)
-
-pub pass_running-requires-clause-at : goal.pass_running-requires-clause-at
-pass_running-requires-clause-at g c = grind (arith, common_steps)
-
-pub next_part-requires-clause-inside : goal.next_part-requires-clause-inside
-next_part-requires-clause-inside g c = grind (arith, common_steps)

@@ -1,5 +1,4 @@
 use Rattle.std.proofs.Common.{◌∙◌, sym, arith}
-use Rattle.std.proofs.lemmas.Grind.{common_steps}
 use Rattle.sift_unit.specs.Boards.{desk_of, memory_of}
 use Rattle.sift_unit.proofs.Passing.{slot_onward, run_onward}
 use Rattle.sift_unit.proofs.board.Board.pass_running.Goals as goal
@@ -19,6 +18,3 @@ returns-clause-onward g c = run_onward _ c.requires.walks.fits (desk_of c.args.s
       slot = (let few = c.if-self-tasks.false in let tasks = c.tasks.ensures in omega arith);
       subframe = c.if-self-run_in.false ∙ c.run_in.ensures;
     }) c.run.ensures.made _ c.run.ensures.before
-
-pub run-requires-clause-before : goal.run-requires-clause-before
-run-requires-clause-before g c = grind (arith, common_steps)

@@ -61,23 +61,8 @@ returns-clause-steps g c =
     moves_from _ (desk_of c.args.self.now) (desk_of c.find_call.new.self) (desk_of c.hear.new.self) (g.T.Look.view c.args.port.now) (g.T.Look.view c.hear.new.port)
     c.find_call.ensures.passes c.find_call.ensures.nearer c.hear.ensures.moved
 
-pub find_call-requires-clause-frame : goal.find_call-requires-clause-frame
-find_call-requires-clause-frame g c = grind (arith, common_steps)
-
 pub returns-then-eq-clause-steps : goal.returns-then-eq-clause-steps
 returns-then-eq-clause-steps g c = grind (arith, common_steps)
-
-pub returns-then-self-frames-clause-steps : goal.returns-then-self-frames-clause-steps
-returns-then-self-frames-clause-steps g c = grind (arith, common_steps)
-
-pub returns-then-self-frames-clause-follows : goal.returns-then-self-frames-clause-follows
-returns-then-self-frames-clause-follows g c = grind (arith, common_steps)
-
-pub find_call-requires-clause-walks : goal.find_call-requires-clause-walks
-find_call-requires-clause-walks g c = grind (arith, common_steps)
-
-pub returns-then-eq-clause-follows : goal.returns-then-eq-clause-follows
-returns-then-eq-clause-follows g c = grind (arith, common_steps)
 
 pub returns-then-eq-clause-drives : goal.returns-then-eq-clause-drives
 returns-then-eq-clause-drives g c = grind (arith, common_steps)

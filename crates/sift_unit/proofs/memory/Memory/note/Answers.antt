@@ -36,8 +36,5 @@ returns-in-RelayReport-clause-noted g c =
     c.note_report.ensures.noted m c.args.frame c.args.clk.now c.args.self.now.words.before
     ∙ ap (λ k. note_of m c.args.config.now c.args.unit c.args.frame c.args.clk.now c.args.self.now.words.before k c.args.places.now b) (sym c.in-RelayReport.is ∙ c.kind.ensures)
 
-pub returns-in-Sense-clause-noted : goal.returns-in-Sense-clause-noted
-returns-in-Sense-clause-noted g c = grind (arith, common_steps)
-
 pub returns-in-Report-clause-noted : goal.returns-in-Report-clause-noted
 returns-in-Report-clause-noted g c = grind (arith, common_steps)

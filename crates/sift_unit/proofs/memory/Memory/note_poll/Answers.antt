@@ -1,7 +1,6 @@
-use Rattle.std.proofs.Common.{◌≡◌, ◌∙◌, ◌&&◌, ap, map, nat_eq, length, List, arith}
+use Rattle.std.proofs.Common.{◌≡◌, ◌∙◌, ◌&&◌, ap, map, nat_eq, length, List}
 use Rattle.std.specs.List.{filter}
 use Rattle.std.specs.Prelude.{ℕ, Option, if◌then◌else◌, slice_index, slice_set, unwrap_or}
-use Rattle.std.proofs.lemmas.Grind.{common_steps}
 use Rattle.sift_base.specs.Units.{has}
 use Rattle.sift_vote.specs.Majority.{majority_of, differs}
 use Rattle.sift_unit.specs.FrameWords.{FrameWords, with_voted}
@@ -40,6 +39,3 @@ returns-clause-noted g c =
 -- the words before stay
 pub returns-clause-before : goal.returns-clause-before
 returns-clause-before g c = ap (λ (w : FrameWords). w.before) c.vote.ensures
-
-pub wrong_executors-wrong-requires : goal.wrong_executors-wrong-requires
-wrong_executors-wrong-requires g c = grind (arith, common_steps)

@@ -1,5 +1,4 @@
-use Rattle.std.proofs.Common.{sym, arith}
-use Rattle.std.proofs.lemmas.Grind.{common_steps}
+use Rattle.std.proofs.Common.{sym}
 use Rattle.sift_unit.specs.Memory.{is_made_by}
 use Rattle.sift_unit.specs.Boards.{memory_of}
 use Rattle.sift_unit.proofs.InTurn.{renewed-none, made_not}
@@ -15,6 +14,3 @@ returns-else-runs-clause-made g c =
     let t = c.args.task in
     let same = renewed-none (is_made_by m us u t) (λ w. m.word w b.ins b.outs c.args.self.now.words.before) b.made 0 (made_not m us u t c.runs.result c.runs.ensures.words c.if-runs.false) in
     λ i. record b { made = sym same i }
-
-pub returns-then-runs-clause-made : goal.returns-then-runs-clause-made
-returns-then-runs-clause-made g c = grind (arith, common_steps)

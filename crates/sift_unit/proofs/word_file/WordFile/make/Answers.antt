@@ -20,6 +20,3 @@ returns c =
 
 pub carve-made-requires-clause-words : goal.carve-made-requires-clause-words
 carve-made-requires-clause-words c = grind (arith, common_steps)
-
-pub carve-work-requires-clause-words : goal.carve-work-requires-clause-words
-carve-work-requires-clause-words c = grind (arith, common_steps)

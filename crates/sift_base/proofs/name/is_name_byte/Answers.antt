@@ -1,9 +1,0 @@
-use Rattle.std.proofs.Common.{arith}
-use Rattle.std.proofs.lemmas.Grind.{common_steps}
-use Rattle.sift_base.proofs.name.is_name_byte.Goals as goal
-
-pub returns-then-is_ascii_digit : goal.returns-then-is_ascii_digit
-returns-then-is_ascii_digit c = grind (arith, common_steps)
-
-pub returns-else-is_ascii_digit : goal.returns-else-is_ascii_digit
-returns-else-is_ascii_digit c = grind (arith, common_steps)

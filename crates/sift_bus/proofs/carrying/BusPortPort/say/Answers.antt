@@ -1,6 +1,0 @@
-use Rattle.std.proofs.Common.{arith}
-use Rattle.std.proofs.lemmas.Grind.{common_steps}
-use Rattle.sift_bus.proofs.carrying.BusPortPort.say.Goals as goal
-
-pub returns-clause-follows : goal.returns-clause-follows
-returns-clause-follows g c = grind (arith, common_steps)

@@ -1,9 +1,0 @@
-use Rattle.std.proofs.Common.{arith}
-use Rattle.std.proofs.lemmas.Grind.{common_steps}
-use Rattle.sift_byz.proofs.lies.are_receivers.Goals as goal
-
-pub returns-then-all : goal.returns-then-all
-returns-then-all c = grind (arith, common_steps)
-
-pub returns-else-all : goal.returns-else-all
-returns-else-all c = grind (arith, common_steps)

@@ -1,6 +1,0 @@
-use Rattle.std.proofs.Common.{arith}
-use Rattle.std.proofs.lemmas.Grind.{common_steps}
-use Rattle.sift_byz.proofs.text.push_told.Goals as goal
-
-pub returns-in_ok-push_str : goal.returns-in_ok-push_str
-returns-in_ok-push_str c = grind (arith, common_steps)

@@ -1,9 +1,0 @@
-use Rattle.std.proofs.Common.{arith}
-use Rattle.std.proofs.lemmas.Grind.{common_steps}
-use Rattle.sift_io.proofs.sure.SureInSource.read.Goals as goal
-
-pub invariant_of-self : goal.invariant_of-self
-invariant_of-self c = grind (arith, common_steps)
-
-pub returns-clause-exact : goal.returns-clause-exact
-returns-clause-exact c = grind (arith, common_steps)

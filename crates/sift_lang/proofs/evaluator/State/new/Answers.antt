@@ -1,9 +1,0 @@
-use Rattle.std.proofs.Common.{arith}
-use Rattle.std.proofs.lemmas.Grind.{common_steps}
-use Rattle.sift_lang.proofs.evaluator.State.new.Goals as goal
-
-pub loop-output-preserved : goal.loop-output-preserved
-loop-output-preserved c = grind (arith, common_steps)
-
-pub push-requires : goal.push-requires
-push-requires c = grind (arith, common_steps)
