@@ -1,4 +1,5 @@
 use Rattle.std.proofs.Common.{◌<◌, [], arith}
+use Rattle.std.proofs.lemmas.Grind.{common_steps}
 use Rattle.sift_buffer.specs.Ledgers.{conduct_in}
 use Rattle.sift_buffer.specs.Views.{after_round}
 use Rattle.sift_buffer.specs.Following.{further}
@@ -11,3 +12,6 @@ returns-clause-tried c =
 
 pub returns-clause-follows : goal.returns-clause-follows
 returns-clause-follows c = further _ _ _ [] [] c.find_behind.ensures.follows c.leave-2.ensures.follows
+
+pub leave-requires-clause-gate : goal.leave-requires-clause-gate
+leave-requires-clause-gate c = grind (arith, common_steps)
