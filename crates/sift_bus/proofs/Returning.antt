@@ -35,16 +35,16 @@ use Rattle.sift_flight.specs.Landing.{HasPlacesFor, strays_in}
 use Rattle.sift_flight.specs.Told.{told, journal_of, accounts_of, no_pages, no_account, IsLogged}
 use Rattle.sift_flight.specs.declared.flight.Flight.{Flight as TheFlight}
 use Rattle.sift_bus.specs.Boarding.{AreBoarded, Boarded, IsBoarded, seat_view}
-use Rattle.sift_bus.specs.Buses.{Carriage}
-use Rattle.sift_bus.specs.Flown.{IsLogOf, AreLogsOf}
-use Rattle.sift_bus.specs.Links.{GoesOn, Link, first_link, link_of}
-use Rattle.sift_bus.specs.Logs.{blank_log, log_of}
-use Rattle.sift_bus.specs.Telling.{LogsTellWhatWasHeard}
-use Rattle.sift_bus.specs.declared.log.BusLog.{BusLog}
+use Rattle.sift_bus_port.specs.Buses.{Carriage}
+use Rattle.sift_bus_port.specs.Flown.{IsLogOf, AreLogsOf}
+use Rattle.sift_bus_port.specs.Links.{GoesOn, Link, first_link, link_of}
+use Rattle.sift_bus_port.specs.Logs.{blank_log, log_of}
+use Rattle.sift_bus_port.specs.Telling.{LogsTellWhatWasHeard}
+use Rattle.sift_bus_port.specs.declared.log.BusLog.{BusLog}
 use Rattle.sift_config.proofs.lemmas.FirstUnits.{low_unit, unit_low}
 use Rattle.sift_bus.proofs.Seating.{places_for, units_of}
 use Rattle.sift_bus.proofs.SeatsTaken.{boarded_long, boarded_at}
-use Rattle.sift_bus.proofs.Telling.{same_ranges}
+use Rattle.sift_bus_port.proofs.lemmas.Ranges.{same_ranges}
 use Rattle.sift_bus.proofs.Sides.{side_at, side_long}
 
 -- what stands at a place of a list, whatever stands for places past its end

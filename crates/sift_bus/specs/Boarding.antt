@@ -11,10 +11,10 @@ use Rattle.sift_ether.specs.Tokens.{IsTokenOf, token_view}
 use Rattle.sift_ether.specs.declared.ether.Ether.{Ether}
 use Rattle.sift_ether.specs.declared.seat.EtherSeat.{EtherSeat}
 use Rattle.sift_ether.specs.declared.token.Token.{Token}
-use Rattle.sift_bus.specs.Links.{first_link, link_of}
-use Rattle.sift_bus.specs.Logs.{blank_log}
+use Rattle.sift_bus_port.specs.Links.{first_link, link_of}
+use Rattle.sift_bus_port.specs.Logs.{blank_log}
 use Rattle.sift_bus.specs.declared.flying.Flyer.{Flyer}
-use Rattle.sift_bus.specs.declared.port.BusPort.{BusPort}
+use Rattle.sift_bus_port.specs.declared.port.BusPort.{BusPort}
 
 -- a unit at its seat, with three buses before its port
 abbrev pub Boarded : Type 0 → Type 0

@@ -5,14 +5,12 @@ ghost use Rattle.sift_base.specs.Units.{has, unit_limit};
 ghost use Rattle.sift_mission.specs.Parts.{flown_of};
 ghost use Rattle.sift_ether.specs.Seating.{IsTokenBack};
 ghost use Rattle.sift_ether.specs.Tokens.{IsMade};
-ghost use Rattle.sift_bus.specs.Buses.{bus_count};
+ghost use Rattle.sift_bus_port.specs.Buses.{bus_count};
 ghost use Rattle.sift_bus.specs.Boarding.{AreBoarded, IsBoarded, IsEtherFor, IsNewToken};
 
-use crate::bus::Bus;
 use crate::flying::Flyer;
-use crate::log::BusLog;
-use crate::port::BusPort;
 use sift_base::{NoMemory, UnitId};
+use sift_bus_port::{Bus, BusLog, BusPort};
 use sift_conduct::Account;
 use sift_ether::{Ether, EtherSeat, Token};
 use sift_mission::{Mission, a_mission_fits};

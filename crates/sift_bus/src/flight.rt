@@ -3,15 +3,13 @@ ghost use Rattle.std.specs.Prelude.{◌≡◌, ◌<◌, IfOk, length, map};
 ghost use Rattle.sift_mission.specs.Parts.{flown_of};
 ghost use Rattle.sift_flight.specs.Flight.{Strays, HasNoStorms, IsRound};
 ghost use Rattle.sift_flight.specs.Told.{IsLogged, told};
-ghost use Rattle.sift_bus.specs.Buses.{bus_count};
-ghost use Rattle.sift_bus.specs.Flown.{AreLogsOf};
+ghost use Rattle.sift_bus_port.specs.Buses.{bus_count};
+ghost use Rattle.sift_bus_port.specs.Flown.{AreLogsOf};
 
 use crate::boarding::{board_all, leave_all};
-use crate::bus::Bus;
 use crate::flying::fly_all;
-use crate::laws::logs_tell;
-use crate::log::BusLog;
 use sift_base::NoMemory;
+use sift_bus_port::{Bus, BusLog, logs_tell_what_was_heard};
 use sift_ether::{Ether, tokens_come_back};
 use sift_flight::{Flight, flights_that_come_home_are_round};
 use sift_mission::{Mission, a_mission_fits};
@@ -42,7 +40,7 @@ pub fn fly_buses<B: Bus, H: Wait>(
     tokens_come_back();
     boards_that_are_down_have_flown();
     flights_that_come_home_are_round();
-    logs_tell::<B>();
+    logs_tell_what_was_heard::<B>();
     let parts = mission.parts();
     let (ether, tokens) = Ether::make(alloc, parts.layout, parts.frames)?;
     let mut flyers = board_all(alloc, mission, &ether, tokens, faulty, buses)?;

@@ -13,14 +13,14 @@ use Rattle.sift_flight.specs.Flight.{Flight, config_of}
 use Rattle.sift_mission.specs.Fits.{IsNumbered}
 use Rattle.sift_mission.specs.Data.{FlownMission}
 use Rattle.sift_mission.specs.Slots.{calls}
-use Rattle.sift_bus.specs.Buses.{AllowsConstant, Carriage, is_same}
-use Rattle.sift_bus.specs.Flown.{AreLogsOf, IsLogOf}
-use Rattle.sift_bus.specs.Links.{CarriesAll, Link, first_link}
-use Rattle.sift_bus.specs.Logs.{Log, blank_log, count_below, count_in, count_places, has_entry, log_of}
-use Rattle.sift_bus.specs.Telling.{IsCarried, LogsTellWhatWasHeard, TellsCarried}
-use Rattle.sift_bus.specs.Telling as telling
-use Rattle.sift_bus.specs.declared.constant.Constant.{Constant}
-use Rattle.sift_bus.specs.declared.log.BusLog.{BusLog}
+use Rattle.sift_bus_port.specs.Buses.{AllowsConstant, Carriage, is_same}
+use Rattle.sift_bus_port.specs.Flown.{AreLogsOf, IsLogOf}
+use Rattle.sift_bus_port.specs.Links.{CarriesAll, Link, first_link}
+use Rattle.sift_bus_port.specs.Logs.{Log, blank_log, count_below, count_in, count_places, has_entry, log_of}
+use Rattle.sift_bus_port.specs.Telling.{IsCarried, LogsTellWhatWasHeard, TellsCarried}
+use Rattle.sift_bus_port.specs.Telling as telling
+use Rattle.sift_bus_port.specs.declared.constant.Constant.{Constant}
+use Rattle.sift_bus_port.specs.declared.log.BusLog.{BusLog}
 use Rattle.sift_bus_jobs.specs.Numbers.{BusNumbers}
 use Rattle.sift_bus_jobs.specs.Wrong.{carried_for, is_changed, is_wrong_at, wrong_for, wrong_in}
 

@@ -3,7 +3,7 @@ use Rattle.std.proofs.Common.{◌≡◌, inl, inr, ℕ, ◌+◌, ◌<◌, ◌&&�
 use Rattle.std.specs.List.{sum_by}
 use Rattle.std.proofs.lemmas.List.Sums.{sum_by-cons}
 use Rattle.sift_base.specs.Units.{has}
-use Rattle.sift_bus.specs.Logs.{count_places}
+use Rattle.sift_bus_port.specs.Logs.{count_places}
 use Rattle.sift_flight.specs.Alike.{AreAlike, RoundFlightsAreAlike}
 use Rattle.sift_flight.specs.Flight.{Flight}
 use Rattle.sift_load.specs.Loads.{States}

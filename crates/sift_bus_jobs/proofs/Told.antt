@@ -2,11 +2,11 @@
 use Rattle.std.proofs.Common.{◌≡◌, List, length, replicate, refl, sym, ◌∙◌}
 use Rattle.std.specs.List.{range_with_len, sum_by}
 use Rattle.std.proofs.lemmas.List.FromFn.{length-range_with_len}
-use Rattle.sift_bus.specs.Buses.{AllowsConstant}
-use Rattle.sift_bus.specs.Flown.{AreLogsOf}
-use Rattle.sift_bus.specs.Logs.{count_in, log_of}
-use Rattle.sift_bus.specs.Telling.{LogsTellWhatWasHeard}
-use Rattle.sift_bus.specs.declared.log.BusLog.{BusLog}
+use Rattle.sift_bus_port.specs.Buses.{AllowsConstant}
+use Rattle.sift_bus_port.specs.Flown.{AreLogsOf}
+use Rattle.sift_bus_port.specs.Logs.{count_in, log_of}
+use Rattle.sift_bus_port.specs.Telling.{LogsTellWhatWasHeard}
+use Rattle.sift_bus_port.specs.declared.log.BusLog.{BusLog}
 use Rattle.sift_flight.specs.Flight.{Flight}
 use Rattle.sift_mission.specs.Data.{MissionData}
 use Rattle.sift_mission.specs.Fits.{IsNumbered}

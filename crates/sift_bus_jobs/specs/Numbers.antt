@@ -1,6 +1,6 @@
 -- What options ask of `buses`: which bus is faulty, from which frame on, and what it carries then.
 use Rattle.std.specs.Prelude.{ℕ, ◌<◌, ◌≤◌, Option, Some, None, IfSome, option_map}
-use Rattle.sift_bus.specs.Buses.{bus_count}
+use Rattle.sift_bus_port.specs.Buses.{bus_count}
 use Rattle.sift_options.specs.Options.{within}
 use Rattle.sift_options.specs.declared.setting.Options.{Options}
 

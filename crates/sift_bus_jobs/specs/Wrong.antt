@@ -1,8 +1,8 @@
 -- How many words a faulty bus gets wrong in a flight, absence included. No log is needed to tell them: they are told by the words of the flight.
 use Rattle.std.specs.Prelude.{ℕ, ◌&&◌, Bool, length, not, nat_lt, if◌then◌else◌, Option}
 use Rattle.std.specs.List.{sum_by}
-use Rattle.sift_bus.specs.Buses.{is_same}
-use Rattle.sift_bus.specs.Logs.{count_places}
+use Rattle.sift_bus_port.specs.Buses.{is_same}
+use Rattle.sift_bus_port.specs.Logs.{count_places}
 use Rattle.sift_flight.specs.Flight.{Flight, config_of}
 use Rattle.sift_mission.specs.Data.{FlownMission}
 use Rattle.sift_mission.specs.Slots.{calls}

@@ -10,7 +10,7 @@ use crate::counts::push_words;
 use crate::flier::BusFlier;
 use crate::storms::has_storm;
 use sift_base::{NoMemory, Word};
-use sift_bus::{Constant, logs_tell_what_was_heard};
+use sift_bus_port::{Constant, logs_tell_what_was_heard};
 use sift_flight::round_flights_are_whole;
 use sift_load::{DOCUMENT_LIMIT, MissionJob, begin_for_bytes};
 use sift_mission::{Mission, a_mission_fits};
@@ -90,7 +90,7 @@ impl BusesJob {
         };
         round_flights_are_whole();
         a_mission_fits(mission);
-        logs_tell_what_was_heard(&bus);
+        logs_tell_what_was_heard::<Constant>();
         let (flight, logs) = flier.fly_buses(alloc, mission, self.bus, bus)?;
         let mut text = report_text(alloc, mission, &flight, Version::Two)?;
         push_words(&mut text, self.bus, frames, &logs)?;

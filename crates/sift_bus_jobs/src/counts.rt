@@ -3,11 +3,11 @@
 ghost use Rattle.std.specs.Prelude.{◌≡◌, ◌<◌, ◌≤◌, ◌++◌, All, OnOk, length, string_bytes};
 ghost use Rattle.std.specs.List.{sum_by};
 ghost use Rattle.sift_base.specs.Units.{unit_limit};
-ghost use Rattle.sift_bus.specs.Buses.{bus_count};
-ghost use Rattle.sift_bus.specs.Logs.{count_in, log_of};
+ghost use Rattle.sift_bus_port.specs.Buses.{bus_count};
+ghost use Rattle.sift_bus_port.specs.Logs.{count_in, log_of};
 ghost use Rattle.sift_bus_jobs.specs.Text.{end_line, frame_text, words_text};
 
-use sift_bus::BusLog;
+use sift_bus_port::BusLog;
 use std::alloc::AllocError;
 
 /// Appends what the logs tell of a bus: how many words it got wrong in each frame in which it did,

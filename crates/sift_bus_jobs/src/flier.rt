@@ -1,14 +1,14 @@
 //! What flies missions over three buses.
 
 ghost use Rattle.std.specs.Prelude.{◌≡◌, ◌<◌, IfOk, replicate};
-ghost use Rattle.sift_bus.specs.Buses.{AllowsConstant, bus_count};
-ghost use Rattle.sift_bus.specs.Flown.{AreLogsOf};
+ghost use Rattle.sift_bus_port.specs.Buses.{AllowsConstant, bus_count};
+ghost use Rattle.sift_bus_port.specs.Flown.{AreLogsOf};
 ghost use Rattle.sift_flight.specs.Flight.{Strays, HasNoStorms, IsRound};
 ghost use Rattle.sift_flight.specs.Told.{IsLogged, told};
 ghost use Rattle.sift_mission.specs.Parts.{flown_of};
 
 use sift_base::NoMemory;
-use sift_bus::{BusLog, Constant};
+use sift_bus_port::{BusLog, Constant};
 use sift_flight::Flight;
 use sift_mission::Mission;
 use std::alloc::Global;

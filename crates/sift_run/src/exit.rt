@@ -3,10 +3,10 @@
 ghost use Rattle.std.specs.Prelude.{◌≡◌, ◌⊎◌, IfOk, IsErr, length, map, string_bytes};
 ghost use Rattle.std.specs.Process.{exit_status};
 ghost use Rattle.sift_base.specs.Units.{unit_limit};
-ghost use Rattle.sift_fleet.specs.Given.{AreGiven};
+ghost use Rattle.sift_run.specs.Given.{AreGiven};
 ghost use Rattle.sift_reply.specs.Reply.{no_memory_status};
 ghost use Rattle.sift_reply.specs.Promise.{IsAnswered};
-ghost use Rattle.sift_run.specs.Command.{commands};
+ghost use Rattle.sift_commands.specs.Command.{commands};
 
 use crate::top::sift;
 use sift_base::NoMemory;

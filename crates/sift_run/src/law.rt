@@ -1,103 +1,12 @@
-//! The laws of the commands.
+//! The law of storms that are drawn.
 
-ghost use Rattle.sift_reply.specs.Laws.{ShareNoStatus};
-ghost use Rattle.sift_run.specs.Command.{OneCommand, commands};
-ghost use Rattle.sift_run.specs.Headline.{HeadlineIsWritten};
-ghost use Rattle.sift_run.specs.OneReply.{CommandsGiveOne, WorkersDoNotShow};
-ghost use Rattle.sift_run.specs.Stated.{MissionsAreAnswered, MissionsEndWell};
-ghost use Rattle.sift_run.specs.Statuses.{CommandsHaveOwnStatuses, StatusesAreKnown};
+ghost use Rattle.sift_run.specs.Given.{StormsGiveWhatTheyDraw};
 
-use crate::command::Command;
-use sift_bus_jobs::{BusFlier, buses_gives_one, buses_has_own_statuses};
-use sift_jobs::{
-    Flier, FlightOrder, check_gives_one, check_has_own_statuses, gen_gives_one,
-    gen_has_own_statuses, ideal_gives_one, ideal_has_own_statuses, plan_gives_one,
-    plan_has_own_statuses, run_gives_one, run_has_own_statuses, run_is_headlined, trial_gives_one,
-    trial_has_own_statuses, votes_gives_one, votes_has_own_statuses,
-};
-use sift_judge_jobs::{judge_gives_one, judge_has_own_statuses};
-use sift_lab_jobs::{
-    byz_gives_one, byz_has_own_statuses, clocks_give_one, clocks_have_own_statuses,
-};
-use sift_load::bytes_state_one_mission;
-use sift_options::one_list_of_options;
-use sift_reply::statuses_are_explained;
+use sift_rogue::drawn_storms_are_the_draws;
 
-/// Words ask for one command at most.
-pub fn one_command()
-    ensures { OneCommand }
+/// Where the rogues are `Storm`s, each unit that turns stray stores what is drawn from its storm's number.
+pub fn storms_give_what_they_draw()
+    ensures { StormsGiveWhatTheyDraw }
 {
-    one_list_of_options();
-}
-
-/// The statuses of each command's replies are its own.
-pub fn commands_have_own_statuses<F: Flier + BusFlier>()
-    ensures own { (flier : F) → CommandsHaveOwnStatuses (F.gives flier) }
-    ensures apart { (flier : F) → ShareNoStatus (commands (F.gives flier)) }
-{
-    run_has_own_statuses::<F>();
-    votes_has_own_statuses::<F>();
-    ideal_has_own_statuses();
-    check_has_own_statuses();
-    gen_has_own_statuses();
-    trial_has_own_statuses::<F>();
-    plan_has_own_statuses();
-    judge_has_own_statuses();
-    buses_has_own_statuses::<F>();
-    byz_has_own_statuses();
-    clocks_have_own_statuses();
-}
-
-/// Each command gives one reply at most to an input: neither workers nor an order of steps show. Where the input states a storm, `run` and
-/// `votes` may give several, by what is heard of its strays.
-pub fn commands_give_one<F: Flier + BusFlier>()
-    ensures { (flier : F) → CommandsGiveOne (F.gives flier) }
-{
-    run_gives_one::<F>();
-    votes_gives_one::<F>();
-    ideal_gives_one();
-    check_gives_one();
-    gen_gives_one();
-    trial_gives_one::<F>();
-    plan_gives_one();
-    judge_gives_one();
-    buses_gives_one::<F>();
-    byz_gives_one();
-    clocks_give_one();
-}
-
-/// A command's text is one whatever its workers and the order of their steps: commands that differ in these alone give one reply to an input.
-pub fn workers_do_not_show<F: Flier + BusFlier>()
-    ensures { (flier : F) → WorkersDoNotShow (F.gives flier) }
-{
-    commands_give_one::<F>();
-}
-
-/// The headline is a consequence of the promise.
-pub fn the_headline_is_written<F: Flier + BusFlier>()
-    ensures { (flier : F) → HeadlineIsWritten (F.gives flier) }
-{
-    one_command();
-    commands_have_own_statuses::<F>();
-    statuses_are_explained::<F, FlightOrder<F>, Command>();
-    run_is_headlined::<F>();
-}
-
-/// Which command may end with which status.
-pub fn statuses_are_known<F: Flier + BusFlier>()
-    ensures { (flier : F) → StatusesAreKnown (F.gives flier) }
-{
-    one_command();
-    commands_have_own_statuses::<F>();
-    statuses_are_explained::<F, FlightOrder<F>, Command>();
-}
-
-/// An input that states a mission gets a reply that the command gives for it, or memory was wanting, where neither side fails; and
-/// 0 or 10 from a command that does what was asked for each mission. No flight is asked of the caller.
-pub fn missions_are_answered<F: Flier + BusFlier>()
-    ensures answered { (flier : F) → MissionsAreAnswered (F.gives flier) }
-    ensures well { (flier : F) → MissionsEndWell (F.gives flier) }
-{
-    one_command();
-    bytes_state_one_mission();
+    drawn_storms_are_the_draws();
 }

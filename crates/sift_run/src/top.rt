@@ -2,18 +2,18 @@
 
 ghost use Rattle.std.specs.Prelude.{◌≡◌, IfOk, length, map, string_bytes};
 ghost use Rattle.sift_base.specs.Units.{unit_limit};
-ghost use Rattle.sift_fleet.specs.Given.{AreGiven};
+ghost use Rattle.sift_run.specs.Given.{AreGiven};
 ghost use Rattle.sift_jobs.specs.Flights.{TellsFlight};
 ghost use Rattle.sift_mission.specs.Parts.{data_of};
 ghost use Rattle.sift_reply.specs.Reply.{no_memory_status};
 ghost use Rattle.sift_reply.specs.Promise.{AskForNoInput, IsAnswered, IsCertain};
-ghost use Rattle.sift_run.specs.Command.{commands};
-ghost use Rattle.sift_run.specs.Headline.{IsHeadlineWritten};
+ghost use Rattle.sift_commands.specs.Command.{commands};
+ghost use Rattle.sift_commands.specs.Headline.{IsHeadlineWritten};
 
-use crate::command::Command;
-use crate::law::{commands_have_own_statuses, the_headline_is_written};
+use crate::fleet::Fleet;
+use crate::flying::tell;
 use sift_base::NoMemory;
-use sift_fleet::{Fleet, tell};
+use sift_commands::{Command, commands_have_own_statuses, the_headline_is_written};
 use sift_io::{Sink, Source};
 use sift_jobs::FlightOrder;
 use sift_reply::answer;

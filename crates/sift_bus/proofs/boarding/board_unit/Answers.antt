@@ -5,8 +5,8 @@ use Rattle.sift_mission.specs.Parts.{data_of}
 use Rattle.sift_ether.specs.Seats.{view_of}
 use Rattle.sift_ether.specs.Seating.{IsSeatOf}
 use Rattle.sift_ether.specs.declared.seat.EtherSeat.{EtherSeat}
-use Rattle.sift_bus.specs.Links.{first_link}
-use Rattle.sift_bus.specs.Logs.{blank_log, log_of}
+use Rattle.sift_bus_port.specs.Links.{first_link}
+use Rattle.sift_bus_port.specs.Logs.{blank_log, log_of}
 use Rattle.sift_bus.proofs.Seating.{new_drives}
 use Rattle.sift_bus.proofs.boarding.board_unit.Goals as goal
 

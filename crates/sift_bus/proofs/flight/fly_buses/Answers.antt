@@ -67,7 +67,7 @@ returns-clause-round g c = let d = data_of c.args.mission.now in (all_told g.B.B
     c.parts-parts.ensures.fit c.a_mission_fits.ensures.fits c.requires.calm (have_flown g c.before.before.before) (landed g c)
     (rw (← written_back g c.before.before.before) c.in_ok-tokens.ensures.accounts)
     (rw (← written_back g c.before.before.before) c.in_ok-tokens.ensures.logs) c.tokens_come_back.ensures c.boards_that_are_down_have_flown.ensures c.flights_that_come_home_are_round.ensures
-    c.logs_tell.ensures).0
+    c.logs_tell_what_was_heard.ensures).0
 
 pub returns-clause-logged : goal.returns-clause-logged
 returns-clause-logged g c = let d = data_of c.args.mission.now in (all_told g.B.Bus.allows d c.in_ok-ether.ether c.args.faulty
@@ -76,7 +76,7 @@ returns-clause-logged g c = let d = data_of c.args.mission.now in (all_told g.B.
     c.parts-parts.ensures.fit c.a_mission_fits.ensures.fits c.requires.calm (have_flown g c.before.before.before) (landed g c)
     (rw (← written_back g c.before.before.before) c.in_ok-tokens.ensures.accounts)
     (rw (← written_back g c.before.before.before) c.in_ok-tokens.ensures.logs) c.tokens_come_back.ensures c.boards_that_are_down_have_flown.ensures c.flights_that_come_home_are_round.ensures
-    c.logs_tell.ensures).1
+    c.logs_tell_what_was_heard.ensures).1
 
 pub returns-clause-logs : goal.returns-clause-logs
 returns-clause-logs g c = let d = data_of c.args.mission.now in (all_told g.B.Bus.allows d c.in_ok-ether.ether c.args.faulty
@@ -85,4 +85,4 @@ returns-clause-logs g c = let d = data_of c.args.mission.now in (all_told g.B.Bu
     c.parts-parts.ensures.fit c.a_mission_fits.ensures.fits c.requires.calm (have_flown g c.before.before.before) (landed g c)
     (rw (← written_back g c.before.before.before) c.in_ok-tokens.ensures.accounts)
     (rw (← written_back g c.before.before.before) c.in_ok-tokens.ensures.logs) c.tokens_come_back.ensures c.boards_that_are_down_have_flown.ensures c.flights_that_come_home_are_round.ensures
-    c.logs_tell.ensures).2
+    c.logs_tell_what_was_heard.ensures).2

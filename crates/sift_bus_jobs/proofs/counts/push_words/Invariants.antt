@@ -1,6 +1,6 @@
 use Rattle.std.proofs.Common.{◌≡◌, ◌++◌, nat_lt, string_bytes}
 use Rattle.std.specs.List.{flat_map, list_any, range_with_len, sum_by}
-use Rattle.sift_bus.specs.Logs.{count_in, log_of}
+use Rattle.sift_bus_port.specs.Logs.{count_in, log_of}
 use Rattle.sift_bus_jobs.specs.Text.{frame_text}
 use Rattle.sift_bus_jobs.proofs.counts.push_words.Given as goal
 

@@ -1,6 +1,6 @@
 use Rattle.std.proofs.Common.{◌≡◌, ◌≤◌, ◌*◌, ◌^◌, take}
 use Rattle.std.specs.List.{sum_by}
-use Rattle.sift_bus.specs.Logs.{count_in, log_of}
+use Rattle.sift_bus_port.specs.Logs.{count_in, log_of}
 use Rattle.sift_bus_jobs.proofs.counts.wrong_in.Given as goal
 
 -- the words that the logs so far count, each of them few

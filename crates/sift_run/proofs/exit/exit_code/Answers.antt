@@ -1,8 +1,8 @@
 use Rattle.std.proofs.Common.{ℕ, List, String, Global, map, string_bytes, sym, subst}
-use Rattle.sift_fleet.specs.Given.{AreGiven}
+use Rattle.sift_run.specs.Given.{AreGiven}
 use Rattle.sift_reply.specs.Reply.{Input, Output}
 use Rattle.sift_reply.specs.Promise.{IsAnswered}
-use Rattle.sift_run.specs.Command.{commands}
+use Rattle.sift_commands.specs.Command.{commands}
 use Rattle.sift_run.proofs.exit.exit_code.Goals as goal
 
 -- the program ends with the status that was answered

@@ -1,7 +1,7 @@
 use Rattle.std.proofs.Common.{◌++◌, ap, ◌∙◌, arith}
 use Rattle.std.specs.List.{sum_by}
 use Rattle.std.proofs.lemmas.Grind.{common_steps}
-use Rattle.sift_bus.specs.Logs.{count_in, log_of}
+use Rattle.sift_bus_port.specs.Logs.{count_in, log_of}
 use Rattle.sift_flight.specs.Told.{told}
 use Rattle.sift_mission.specs.Parts.{data_of, flown_of}
 use Rattle.sift_line.specs.Line.{text_of_lines}

@@ -1,0 +1,4 @@
+pub mod Logs
+pub mod Outvoting
+pub mod Telling
+pub mod lemmas

@@ -1,0 +1,6 @@
+pub mod Each
+pub mod Headline
+pub mod One
+pub mod Statuses
+pub mod Stated
+pub mod Workers

@@ -1,0 +1,5 @@
+pub mod Command
+pub mod Headline
+pub mod Statuses
+pub mod OneReply
+pub mod Stated

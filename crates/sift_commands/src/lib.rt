@@ -1,0 +1,13 @@
+//! The commands of the program: their words and options, what each has to do, and what holds of
+//! all of them. Who flies their missions is any `Flier` and `BusFlier`.
+#![tactic(auto)]
+
+mod command;
+mod law;
+mod verb;
+
+pub use command::Command;
+pub use law::{
+    commands_give_one, commands_have_own_statuses, missions_are_answered, one_command,
+    statuses_are_known, the_headline_is_written, workers_do_not_show,
+};

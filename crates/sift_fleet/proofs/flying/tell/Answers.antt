@@ -1,6 +1,0 @@
-use Rattle.sift_fleet.proofs.Both.{map_ok}
-use Rattle.sift_fleet.proofs.flying.tell.Goals as goal
-
--- the text tells it of this flight
-pub returns : goal.returns
-returns g c = map_ok c.text.result _ _ c.text.ensures (λ text told. (_, c.in_ok-flight.ensures.round, told))
