@@ -43,11 +43,7 @@ pub fn fly_seats<R: Rogue + Send, B: Probe + Sync, H: Threads + Wait + Sync>(
     ensures { IfOk result (λ flown. HaveFlown R.allows (data_of mission.now) ether.now rogues.items flown) }
 {
     let units = usize::from(mission.parts().units);
-    let empty = Flown {
-        tokens: Vec::with_capacity(alloc, units)?,
-        accounts: Vec::with_capacity(alloc, units)?,
-        rogues: Vec::with_capacity(alloc, rogues.len())?,
-    };
+    let empty = Flown::with_room(alloc, units, rogues.len())?;
     let room = Vec::with_capacity(alloc, units)?;
     let boards = Machine::make_boards(alloc, mission)?;
     let (seats, beyond) = seat_all(mission, ether, tokens, boards, rogues, room);

@@ -27,13 +27,13 @@ pub leave_home-requires-clause-no_tokens : goal.leave_home-requires-clause-no_to
 leave_home-requires-clause-no_tokens g c =
     let units = ap (λ (p : MissionParts). p.units) c.parts.ensures.same in let count = c.from-units.ensures in
     let long = home_long _ _ _ _ c.in_ok-home.ensures c.seat_all-seats.ensures.seated.count in let len = c.in_ok-home.home.ok.0 in
-    let room = c.in_ok-with_capacity.ensures.capacity in (c.in_ok-with_capacity.ensures.items, omega arith)
+    let empty = c.in_ok-empty.ensures.tokens in let room = empty.1 in (empty.0, omega arith)
 
 pub leave_home-requires-clause-no_accounts : goal.leave_home-requires-clause-no_accounts
 leave_home-requires-clause-no_accounts g c =
     let units = ap (λ (p : MissionParts). p.units) c.parts.ensures.same in let count = c.from-units.ensures in
     let long = home_long _ _ _ _ c.in_ok-home.ensures c.seat_all-seats.ensures.seated.count in let len = c.in_ok-home.home.ok.0 in
-    let room = c.in_ok-with_capacity-2.ensures.capacity in (c.in_ok-with_capacity-2.ensures.items, omega arith)
+    let empty = c.in_ok-empty.ensures.accounts in let room = empty.1 in (empty.0, omega arith)
 
 pub leave_home-requires-clause-no_rogues : goal.leave_home-requires-clause-no_rogues
 leave_home-requires-clause-no_rogues g c =
@@ -41,7 +41,7 @@ leave_home-requires-clause-no_rogues g c =
     let behind = ap length c.seat_all-seats.ensures.beyond ∙ length-drop c.args.mission.now.units c.args.rogues.items in
     let eight = c.requires.rogues in let few = c.parts.ensures.fit.limits.few_units in
     let all = c.len.ensures in let own = c.args.rogues.ok.0 in
-    let room = c.in_ok-with_capacity-3.ensures.capacity in (c.in_ok-with_capacity-3.ensures.items, omega arith)
+    let empty = c.in_ok-empty.ensures.rogues in let room = empty.1 in (empty.0, omega arith)
 
 pub returns : goal.returns
 returns g c = c.leave_home.ensures c.args.tokens.items c.in_ok-boards.boards.items c.args.rogues.items c.seat_all-seats.result.0.items c.requires.made

@@ -4,3 +4,6 @@ use Rattle.sift_threads.proofs.seating.put_behind.Goals as goal
 
 pub loop-rogue-preserved : goal.loop-rogue-preserved
 loop-rogue-preserved g c = grind (arith, common_steps)
+
+pub returns : goal.returns
+returns g c = grind (arith, common_steps)

@@ -1,4 +1,5 @@
-use Rattle.std.proofs.Common.{◌≡◌, ◌<◌, ◌+◌, ℕ, length, slice_set, sym, refl, ap, ◌∙◌}
+use Rattle.std.proofs.Common.{◌≡◌, ◌<◌, ◌+◌, ℕ, length, slice_set, sym, refl, ap, ◌∙◌, arith}
+use Rattle.std.proofs.lemmas.Grind.{common_steps}
 use Rattle.sift_buffer.specs.Conduct.{with_entered}
 use Rattle.sift_buffer.specs.Core.{enter}
 use Rattle.sift_buffer.specs.Ledgers.{Ledger}
@@ -33,3 +34,6 @@ returns-clause-follows c =
       of = λ w. refl;
       words = λ w i. slice_set x.words.items (sym at i) (sym number i);
     })
+
+pub overflow_add-progress : goal.overflow_add-progress
+overflow_add-progress c = grind (arith, common_steps)

@@ -1,4 +1,5 @@
-use Rattle.std.proofs.Common.{◌≡◌, ap, ◌∙◌, map}
+use Rattle.std.proofs.Common.{◌≡◌, ap, ◌∙◌, map, arith}
+use Rattle.std.proofs.lemmas.Grind.{common_steps}
 use Rattle.sift_base.specs.Units.{has_bit}
 use Rattle.sift_exec.specs.Conviction.{names_by, report_by}
 use Rattle.sift_unit.specs.Tidings.{report_taken, names_now}
@@ -17,3 +18,6 @@ returns g c =
     c.next_config.ensures ∙ next_is us c.convict.result (names_by us c.deref.result.now) c.convict.ensures
     ∙ next-same (names_by us c.deref.result.now) (names_now m us c.args.unit b) us (λ r v there. ap (λ w. has_bit w v)
     (ap (λ ws. report_by us ws r) words ∙ report_of_unit f us r there))
+
+pub convict-requires : goal.convict-requires
+convict-requires g c = grind (arith, common_steps)

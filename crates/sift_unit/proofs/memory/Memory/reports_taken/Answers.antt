@@ -1,4 +1,5 @@
 use Rattle.std.proofs.Common.{◌≡◌, ◌++◌, ◌∷◌, [], ap, ◌∙◌, sym, arith, length, nat_eq}
+use Rattle.std.proofs.lemmas.Grind.{common_steps}
 use Rattle.std.specs.Prelude.{slice_index, if◌then◌else◌}
 use Rattle.sift_unit.specs.Tidings.{report_taken}
 use Rattle.sift_unit.specs.Boards.{memory_of}
@@ -27,3 +28,6 @@ loop-position-preserved g c =
     let t = c.unit_at.result in
     let is : c.report_of.result ≡ f t = c.report_of.ensures ∙ ap (λ own. if nat_eq t c.args.unit then own else slice_index b.agreed t) c.report-own.ensures in
     c.push.ensures.items ∙ (λ i. c.loop-position.invariant i ++ is i ∷ []) ∙ sym (map_more f us c.loop-position.position t c.unit_at.ensures)
+
+pub returns : goal.returns
+returns g c = grind (arith, common_steps)
