@@ -1,1 +1,6 @@
+mod Agreed
+mod Cells
+mod Clocks
+mod Drawn
 pub mod Ports
+mod Words

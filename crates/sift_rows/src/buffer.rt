@@ -1,4 +1,4 @@
-//! Cells, journals, and a port among units that the test moves.
+//! Journals, and a port among units that the test moves. Rows of cells are proved, in proofs/Cells.antt.
 ghost use Rattle.std.specs.Prelude.{◌≡◌, Some};
 ghost use Rattle.sift_buffer.specs.Conditions.{MayEnter, MayTurn};
 ghost use Rattle.sift_buffer.specs.Views.{PortMaySay, view_with_said, view_with_turned};
@@ -6,7 +6,7 @@ ghost use Rattle.sift_rows.specs.Ports.{KeepsActs};
 
 use crate::fixture::unit;
 use sift_base::{Layout, UnitId, Word};
-use sift_buffer::{Entering, Journal, LonePort, Port, pack, take};
+use sift_buffer::{Entering, Journal, LonePort, Port, pack};
 use std::mem::size_of;
 use std::test::Fail;
 
@@ -16,39 +16,6 @@ const LAYOUT: Layout = Layout {
     sensors: 1,
     words: 1,
 };
-
-#[test]
-fn cells_pack_as_worked_out_by_hand(rt: HostRuntime) {
-    let cases = [
-        (0, None, 0),
-        (1, None, 131_072),
-        (1, Some(0), 196_608),
-        (3, Some(0xffff), 524_287),
-        (64_000, Some(7), 8_388_673_543), // the last stamp
-    ];
-    for (stamp, word, want) in cases {
-        let cell = pack(stamp, word.map(Word::of));
-        assert_eq!(rt; cell, want);
-    }
-}
-
-#[test]
-fn cells_give_their_word_to_their_own_stamp(rt: HostRuntime) {
-    let cases = [
-        (0, 0, None),
-        (131_072, 1, None), // absence isn't word 0
-        (196_608, 1, Some(0)),
-        (196_608, 2, None), // a cell of an earlier frame
-        (524_287, 3, Some(0xffff)),
-        (524_287, 7, None), // a stamp that the word's bits would make
-        (8_388_673_543, 64_000, Some(7)), // the last stamp
-        (u64::MAX, u32::MAX, None), // a stray of all bits
-    ];
-    for (cell, stamp, want) in cases {
-        let word = take(cell, stamp);
-        assert_eq!(rt; word, want.map(Word::of));
-    }
-}
 
 #[test]
 fn a_journal_gives_what_was_noted_last(rt: HostRuntime) -> Result<(), Fail> {

@@ -9,8 +9,6 @@ mod base;
 #[cfg(test)]
 mod buffer;
 #[cfg(test)]
-mod clock;
-#[cfg(test)]
 mod code;
 #[cfg(test)]
 mod fixture;
@@ -24,7 +22,5 @@ mod parse;
 mod pool;
 #[cfg(test)]
 mod rogue;
-#[cfg(test)]
-mod skew;
 #[cfg(test)]
 mod texts;

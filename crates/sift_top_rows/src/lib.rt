@@ -15,8 +15,6 @@ mod missions;
 #[cfg(test)]
 mod pilots;
 #[cfg(test)]
-mod seats;
-#[cfg(test)]
 mod stated;
 #[cfg(test)]
 mod storms;

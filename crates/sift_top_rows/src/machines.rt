@@ -1,15 +1,9 @@
-//! Machines over the missions of the rows: who steps, and a unit that waits alone.
-
-ghost use Rattle.std.specs.Prelude.{◌≡◌, true};
-ghost use Rattle.sift_base.specs.Units.{has};
-ghost use Rattle.sift_core.specs.Machines.{IsFlying};
-ghost use Rattle.sift_mission.specs.Parts.{flown_of};
+//! Machines over the missions of the rows: who steps.
 
 use crate::stated::{FIVE, eight_units, silents, stated};
-use sift_base::{Draw, UnitId};
+use sift_base::Draw;
 use sift_core::{CallsLeft, Machine};
 use sift_mission::Mission;
-use sift_unit::Stepped;
 use std::alloc::Global;
 use std::process::Abort;
 use std::test::Fail;
@@ -81,50 +75,4 @@ fn the_order_number_draws_who_of_five_steps(rt: HostRuntime) -> Result<(), Fail>
 fn the_order_number_draws_who_of_eight_steps(rt: HostRuntime) -> Result<(), Fail> {
     let eight = eight_units(rt.alloc())?;
     expect_orders(&rt, rt.alloc(), &eight, &TURNS_OF_EIGHT)
-}
-
-/// Unit 0, which is one of eight.
-fn first_of(_mission: &Mission) -> UnitId
-    requires { _mission.now.units ≡ 8 }
-    ensures { has (flown_of _mission.now).units result ≡ true }
-{
-    UnitId::default()
-}
-
-/// So many steps of a unit, each with the same answer.
-fn expect_steps(
-    rt: &impl Abort,
-    machine: &mut Machine,
-    mission: &Mission,
-    u: UnitId,
-    times: u8,
-    want: Stepped,
-)
-    requires flies { IsFlying (flown_of mission.now) machine.old }
-    requires unit { has (flown_of mission.now).units u ≡ true }
-    ensures { IsFlying (flown_of mission.now) machine.new }
-{
-    for _ in 0..times {
-        let stepped = machine.step(mission, u);
-        assert_eq!(rt; stepped, want);
-    }
-}
-
-/// Unit 0 alone says its clock and the sensor to seven units, enters the second subframe, and waits there for unit 1.
-fn expect_waiting(rt: &impl Abort, alloc: Global, mission: &Mission) -> Result<(), Fail>
-    requires { mission.now.units ≡ 8 }
-{
-    let first = first_of(mission);
-    let mut machine = Machine::make(alloc, mission)?;
-    expect_steps(rt, &mut machine, mission, first, 15, Stepped::Moved);
-    let unit = UnitId::of(1).ok_or("unit 1")?;
-    let waits = Stepped::NotYet { unit, seen: 0 };
-    expect_steps(rt, &mut machine, mission, first, 3, waits);
-    Ok(())
-}
-
-#[test]
-fn one_unit_alone_waits_in_the_second_subframe(rt: HostRuntime) -> Result<(), Fail> {
-    let mission = eight_units(rt.alloc())?;
-    expect_waiting(&rt, rt.alloc(), &mission)
 }

@@ -1,18 +1,14 @@
-//! Rogues that count their calls, in flights of missions in which a unit turns stray.
+//! Rogues that count their calls, in flights of missions in which a unit turns stray, by the top call.
 
 ghost use Rattle.std.specs.Prelude.{◌≡◌, IfOk, length, ⊤};
 ghost use Rattle.sift_base.specs.Units.{unit_limit};
-ghost use Rattle.sift_flight.specs.Told.{IsWhole};
-ghost use Rattle.sift_mission.specs.Parts.{flown_of};
 
 use crate::calling::{Failing, call};
-use crate::stated::{STORM, STORM_REPORT, STRAY, stated};
+use crate::stated::{STORM, STORM_REPORT, STRAY};
 use sift_base::NoMemory;
-use sift_flight::{Flight, round_flights_are_whole};
-use sift_mission::Mission;
-use sift_report::{Version, report_text};
+use sift_io::BytesOut;
 use sift_rogue::{Act, Rogue};
-use sift_threads::{NoProbe, fly_threads};
+use sift_threads::NoProbe;
 use std::alloc::Global;
 use std::process::Abort;
 use std::sync::Wait;
@@ -110,60 +106,44 @@ fn expect_one_storm(rt: &impl Abort, calls: &[Calls; 8], stray: usize, strays: u
     }
 }
 
-/// A flight of a mission by two workers, with these rogues. It is whole.
-fn flown<R: Rogue + Send, H: Threads + Wait + Sync>(
+/// The report of a mission, by the top call with so many workers and rogues that answer always this act.
+fn report_of<H: Threads + Wait + Sync>(
     rt: &H,
     alloc: Global,
-    mission: &Mission,
-    rogues: Vec<R>,
-) -> Result<Flight, NoMemory>
-    requires { length rogues.items ≡ unit_limit }
-    ensures { IfOk result (IsWhole (flown_of mission.now) mission.now.layout) }
-{
-    mission.parts();
-    round_flights_are_whole();
-    fly_threads(rt, alloc, mission, 2, rogues, &NoProbe)
-}
-
-fn expect_its_report<H: Threads + Wait + Abort + Sync>(
-    rt: &H,
-    alloc: Global,
-    mission: &Mission,
-    rogues: Vec<Counting<'_>>,
-) -> Result<(), Fail>
-    requires { length rogues.items ≡ unit_limit }
-{
-    let flight = flown(rt, alloc, mission, rogues)?;
-    let report = report_text(alloc, mission, &flight, Version::Two)?;
-    assert_eq!(rt; report.as_str(), STORM_REPORT);
-    Ok(())
+    (document, workers): (&str, &str),
+    calls: &[Calls; 8],
+    act: Act,
+) -> Result<(u8, BytesOut), NoMemory> {
+    let rogues = rogues_by(alloc, calls, act)?;
+    let words = ["run", "--workers", workers];
+    call(
+        rt,
+        alloc,
+        &words,
+        document.as_bytes(),
+        Failing::NONE,
+        rogues,
+        &NoProbe,
+    )
 }
 
 #[test]
 fn only_the_rogue_of_the_storm_is_called(rt: HostRuntime) -> Result<(), Fail> {
-    let alloc = rt.alloc();
-    let mission = stated(alloc, STORM)?;
-    let calls = no_calls();
-    let rogues = rogues_by(alloc, &calls, SEVEN)?;
-    expect_its_report(&rt, alloc, &mission, rogues)?;
-    expect_one_storm(&rt, &calls, 4, 1);
+    for workers in ["1", "2"] {
+        let calls = no_calls();
+        let (status, sink) = report_of(&rt, rt.alloc(), (STORM, workers), &calls, SEVEN)?;
+        assert_eq!(rt; status, 0);
+        assert_eq!(rt; sink.bytes.as_slice(), STORM_REPORT.as_bytes());
+        expect_one_storm(&rt, &calls, 4, 1);
+    }
     Ok(())
 }
 
 #[test]
-fn the_top_call_calls_only_the_rogue_of_the_storm(rt: HostRuntime) -> Result<(), Fail> {
+fn a_rogue_is_asked_as_often_as_its_storm_has_strays(rt: HostRuntime) -> Result<(), Fail> {
     for workers in ["1", "2"] {
         let calls = no_calls();
-        let rogues = rogues_by(rt.alloc(), &calls, Act::Rest)?;
-        let (status, _) = call(
-            &rt,
-            rt.alloc(),
-            &["run", "--workers", workers],
-            STRAY.as_bytes(),
-            Failing::NONE,
-            rogues,
-            &NoProbe,
-        )?;
+        let (status, _) = report_of(&rt, rt.alloc(), (STRAY, workers), &calls, Act::Rest)?;
         assert_eq!(rt; status, 0);
         expect_one_storm(&rt, &calls, 5, 100_000);
     }
