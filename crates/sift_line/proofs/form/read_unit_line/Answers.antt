@@ -1,4 +1,4 @@
-use Rattle.std.proofs.Common.{sym, subst, w64}
+use Rattle.std.proofs.Common.{[], ◌∷◌, sym, subst, rules, w64}
 use Rattle.std.proofs.lemmas.Int.{to_z-of_z}
 use mir.Val.{SFits}
 use Rattle.sift_line.proofs.LineForms.{field_at, same_unit}
@@ -28,6 +28,16 @@ returns-in_err-outs-clause-exact c = λ n v us ticks agreed voted caught holds o
 pub returns-in_err-bad-clause-exact : goal.returns-in_err-bad-clause-exact
 returns-in_err-bad-clause-exact c = λ n v us ticks agreed voted caught holds of e.
     absurd (none_given caught (c.in_err-bad.ensures.exact caught holds.6 of (field_at 6 _ _ e)))
+
+pub returns-clause-version : goal.returns-clause-version
+returns-clause-version c = c.in_ok-bad.ensures.version
+
+pub returns-clause-printed : goal.returns-clause-printed
+returns-clause-printed c =
+    let fits : SFits w64 c.in_ok-clk.clk = search rules in
+    rw (to_z-of_z w64 c.in_ok-clk.clk fits)
+    (λ i. c.in_ok-f.ensures.printed.0 i ∷ c.in_ok-f.ensures.printed.1 i ∷ c.in_ok-cfg.ensures.printed i ∷ c.in_ok-clk.ensures.printed i
+    ∷ c.in_ok-ins.ensures.printed i ∷ c.in_ok-outs.ensures.printed i ∷ c.in_ok-bad.ensures.printed i ∷ [])
 
 pub returns-clause-exact : goal.returns-clause-exact
 returns-clause-exact c = λ n v us ticks agreed voted caught holds of e.

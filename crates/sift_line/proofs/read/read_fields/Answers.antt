@@ -2,6 +2,9 @@ use Rattle.std.proofs.Common.{◌∙◌, arith}
 use Rattle.sift_line.proofs.LineForms.{three_texts, four_texts, seven_texts, few_have_version, seven_are_unit}
 use Rattle.sift_line.proofs.read.read_fields.Goals as goal
 
+pub returns-in-len7-clause-version : goal.returns-in-len7-clause-version
+returns-in-len7-clause-version c = c.read_unit_line.ensures.version
+
 pub returns-in-len7-clause-printed : goal.returns-in-len7-clause-printed
 returns-in-len7-clause-printed c =
     rw (seven_texts c.args.fields.now c.in-len7.len_at_least c.in-len7.len_below) c.read_unit_line.ensures.printed
