@@ -1,5 +1,6 @@
--- What the option of a result tells of it.
-use Rattle.std.proofs.Common.{◌≡◌, Bool, true, false, Result, Ok, Err, Some, None}
+-- What results, options and tests of texts tell.
+use Rattle.std.proofs.Common.{◌≡◌, ◌∙◌, ℕ, List, Bool, true, false, Result, Ok, Err, Some, None, bytes_eq, sym}
+use Rattle.std.proofs.lemmas.Slice.Eq.{bytes_eq-Decides}
 use Rattle.std.specs.Result.{OnOk, OnErr, result_ok}
 
 -- where there is a value, the result was one
@@ -20,3 +21,15 @@ not_both false t f = cc
 -- values that are given are one where the options are
 pub held : {X : Type 0} (x y : X) → Some x ≡ Some y → x ≡ y
 held x y e = cc
+
+-- no value is given and none
+pub none_given : {X : Type 0} (x : X) → None ≡ Some x → ⊥
+none_given x e = cc
+
+-- texts are one where they were found to be
+pub same_where : (b : Bool) (xs ys : List ℕ) → b ≡ bytes_eq xs ys → b ≡ true → xs ≡ ys
+same_where b xs ys found t = (bytes_eq-Decides xs ys).0 (sym found ∙ t)
+
+-- and two where they weren't
+pub differ_where : (b : Bool) (xs ys : List ℕ) → b ≡ bytes_eq xs ys → b ≡ false → xs ≡ ys → ⊥
+differ_where b xs ys found f same = not_both b (found ∙ (bytes_eq-Decides xs ys).1 same) f

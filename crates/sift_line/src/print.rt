@@ -5,8 +5,8 @@ ghost use Rattle.std.specs.Fmt.{decimal, digit_glyph, signed_decimal};
 ghost use Rattle.sift_base.specs.Units.{members};
 ghost use Rattle.sift_line.specs.Bad.{caught_text};
 ghost use Rattle.sift_line.specs.Line.{line_text, printed};
-ghost use Rattle.sift_line.specs.declared.line.ReportLine.TheVariants.{Frame, Last};
-ghost use Rattle.sift_line.specs.Part.{margin_text, text_or_dash, unit_digit, units_text, word_text};
+ghost use Rattle.sift_line.specs.declared.line.ReportLine.TheVariants.{Unit, Frame, Last};
+ghost use Rattle.sift_line.specs.Part.{margin_text, text_or_dash, unit_digit, units_text, word_text, words_text};
 
 use crate::bad::Bad;
 use crate::catch::catches_in;
@@ -38,26 +38,9 @@ fn push_fields(text: &mut String, line: &ReportLine) -> Result<(), AllocError>
             ins,
             outs,
             bad,
-        } => {
-            push_head(text, *f, *u)?;
-            text.push_str("cfg=")?;
-            push_config(text, cfg)?;
-            write!(text, " clk={clk} in=")?;
-            push_list(text, ins)?;
-            text.push_str(" out=")?;
-            push_list(text, outs)?;
-            text.push_str(" bad=")?;
-            push_caught(text, bad)?;
-            Ok(())
-        }
-        ReportLine::Faulty { f, u } => {
-            push_head(text, *f, *u)?;
-            text.push_str("faulty")
-        }
-        ReportLine::Idle { f, u } => {
-            push_head(text, *f, *u)?;
-            text.push_str("idle")
-        }
+        } => push_account(text, *f, *u, cfg, *clk, ins, outs, bad),
+        ReportLine::Faulty { f, u } => push_state(text, *f, *u, "faulty"),
+        ReportLine::Idle { f, u } => push_state(text, *f, *u, "idle"),
         ReportLine::Frame {
             f,
             skew,
@@ -72,6 +55,57 @@ fn push_fields(text: &mut String, line: &ReportLine) -> Result<(), AllocError>
     }
 }
 
+/// Appends what a unit tells that works in its own configuration.
+fn push_account(
+    text: &mut String,
+    f: u32,
+    u: UnitId,
+    cfg: &Config,
+    clk: i64,
+    ins: &[Word],
+    outs: &[Word],
+    bad: &Bad,
+) -> Result<(), AllocError>
+    ensures { OnOk result (string_bytes text.new
+        ≡ string_bytes text.old ++ line_text (Unit f u cfg.now clk (record { items = ins.now }) (record { items = outs.now }) bad.now)) }
+{
+    push_head(text, f, u)?;
+    push_standing(text, cfg, clk)?;
+    push_words(text, ins, outs)?;
+    text.push_str(" bad=")?;
+    push_caught(text, bad)
+}
+
+/// Appends the configuration and the clock of a unit.
+fn push_standing(text: &mut String, cfg: &Config, clk: i64) -> Result<(), AllocError>
+    ensures { OnOk result (string_bytes text.new
+        ≡ string_bytes text.old ++ codes "cfg=" ++ units_text cfg.now ++ codes " clk=" ++ signed_decimal clk) }
+{
+    text.push_str("cfg=")?;
+    push_config(text, cfg)?;
+    write!(text, " clk={clk}")
+}
+
+/// Appends the words that a unit read and voted.
+fn push_words(text: &mut String, ins: &[Word], outs: &[Word]) -> Result<(), AllocError>
+    ensures { OnOk result (string_bytes text.new
+        ≡ string_bytes text.old ++ codes " in=" ++ words_text ins.now ++ codes " out=" ++ words_text outs.now) }
+{
+    text.push_str(" in=")?;
+    push_list(text, ins)?;
+    text.push_str(" out=")?;
+    push_list(text, outs)
+}
+
+/// Appends the frame, the unit and the state of a unit that tells no account.
+fn push_state(text: &mut String, f: u32, u: UnitId, state: &str) -> Result<(), AllocError>
+    ensures { OnOk result (string_bytes text.new
+        ≡ string_bytes text.old ++ codes "f=" ++ decimal f ++ codes " u=" ++ unit_digit u ∷ codes " " ++ state.now) }
+{
+    push_head(text, f, u)?;
+    text.push_str(state)
+}
+
 /// Appends what is told of a whole frame.
 fn push_figures(
     text: &mut String,
@@ -82,12 +116,10 @@ fn push_figures(
 ) -> Result<(), AllocError>
     ensures { OnOk result (string_bytes text.new ≡ string_bytes text.old ++ line_text (Frame f skew slack margin)) }
 {
-    write!(text, "f={f} skew=")?;
-    push_ticks(text, skew)?;
-    text.push_str(" slack=")?;
-    push_ticks(text, slack)?;
-    push_margin(text, margin)?;
-    Ok(())
+    write!(text, "f={f}")?;
+    push_ticks(text, " skew=", skew)?;
+    push_ticks(text, " slack=", slack)?;
+    push_margin(text, margin)
 }
 
 /// Appends the end of a report.
@@ -96,8 +128,7 @@ fn push_end(text: &mut String, frames: u32, cfg: &Config, margin: bool) -> Resul
 {
     write!(text, "end frames={frames} cfg=")?;
     push_config(text, cfg)?;
-    push_margin(text, margin)?;
-    Ok(())
+    push_margin(text, margin)
 }
 
 /// Appends the frame and the unit that a line begins with, and a blank.
@@ -173,10 +204,12 @@ pub fn push_unit(text: &mut String, u: UnitId) -> Result<(), AllocError>
     text.push(char::from(b'0' + u.get()))
 }
 
-/// Appends ticks, or `-` where there is no number of them.
-fn push_ticks(text: &mut String, ticks: Option<i64>) -> Result<(), AllocError>
-    ensures { OnOk result (string_bytes text.new ≡ string_bytes text.old ++ text_or_dash signed_decimal ticks) }
+/// Appends a label, and ticks behind it, or `-` where there is no number of them.
+fn push_ticks(text: &mut String, label: &str, ticks: Option<i64>) -> Result<(), AllocError>
+    ensures { OnOk result (string_bytes text.new
+        ≡ string_bytes text.old ++ label.now ++ text_or_dash signed_decimal ticks) }
 {
+    text.push_str(label)?;
     match ticks {
         Some(ticks) => write!(text, "{ticks}"),
         None => text.push('-'),

@@ -5,9 +5,7 @@ ghost use Rattle.std.specs.List.{slice_split};
 ghost use Rattle.sift_line.specs.Line.{HasVersion, IsLine, fields_of, line_text};
 ghost use Rattle.sift_line.specs.Part.{blank};
 
-use crate::form::{
-    read_faulty_line, read_frame_line, read_idle_line, read_last_line, read_unit_line,
-};
+use crate::form::{read_frame_or_last_line, read_state_line, read_unit_line};
 use crate::line::ReportLine;
 use crate::version::Version;
 use arrayvec::ArrayVec;
@@ -53,14 +51,12 @@ fn read_fields(fields: &[&str], version: Version) -> Option<ReportLine>
     ensures exact { (line : ReportLine) → IsLine line → HasVersion version line
         → fields_of line ≡ map (λ f. f.now) fields.now → result ≡ Some line }
 {
-    match fields {
+    match *fields {
         [f, u, cfg, clk, ins, outs, bad] => {
             read_unit_line(f, u, cfg, clk, ins, outs, bad, version)
         }
-        [f, u, "faulty"] => read_faulty_line(f, u),
-        [f, u, "idle"] => read_idle_line(f, u),
-        ["end", frames, cfg, margin] => read_last_line(frames, cfg, margin),
-        [f, skew, slack, margin] => read_frame_line(f, skew, slack, margin),
+        [f, u, state] => read_state_line(f, u, state),
+        [first, second, third, margin] => read_frame_or_last_line(first, second, third, margin),
         _ => None,
     }
 }

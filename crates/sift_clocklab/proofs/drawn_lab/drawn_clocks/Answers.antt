@@ -1,6 +1,6 @@
-use Rattle.std.proofs.Common.{◌≡◌, ℕ, ◌+◌, ◌*◌, refl, ap, ◌∙◌, w32, w64, to_z, of_z, arith, rules}
-use Rattle.std.proofs.lemmas.Int.{ints}
-use Rattle.std.proofs.lemmas.Grind.{common_steps}
+use Rattle.std.proofs.Common.{◌≡◌, ℕ, ◌+◌, ◌*◌, map, refl, ap, ◌∙◌, w32, w64, to_z, of_z, arith, rules}
+use Rattle.std.proofs.lemmas.Int.{ints, to_z-of_z}
+use Rattle.std.specs.List.{range_with_len}
 use Rattle.sift_base.specs.Draw.{after, drawn}
 use Rattle.sift_clocklab.specs.Draws.{drift_drawn, spread, start_drawn}
 use Rattle.sift_clocklab.proofs.Lists.{values_more}
@@ -23,7 +23,7 @@ loop-preserved c =
     let number : c.draw.result ≡ drawn (after x (2 * k + 1)) (c.args.skew + 1) =
     c.draw.ensures.drawn ∙ (λ i. drawn (one i) (c.from.ensures i + 1)) in
     let start : to_z w64 c.draw.result ≡ start_drawn c.args.skew x k = omega (arith, ints, number) in
-    let held : to_z w32 (of_z w32 c.spread.result) ≡ c.spread.result = omega (arith, ints) in
+    let held : to_z w32 (of_z w32 c.spread.result) ≡ c.spread.result = to_z-of_z w32 c.spread.result (record { sfits = c.spread.type_inv }) in
     let places : 2 * k + 2 ≡ 2 * (k + 1) = omega arith in
     record {
       start =
@@ -36,10 +36,16 @@ loop-preserved c =
     }
 
 pub returns-clause-start : goal.returns-clause-start
-returns-clause-start c = grind (arith, common_steps)
-
-pub returns-clause-next : goal.returns-clause-next
-returns-clause-next c = grind (arith, common_steps)
+returns-clause-start c =
+    let end : c.loop.counter ≡ c.args.working = omega arith in
+    c.loop.invariant.start ∙ ap (λ n. map (start_drawn c.args.skew c.args.draw.now) (range_with_len 0 n)) end
 
 pub returns-clause-drift : goal.returns-clause-drift
-returns-clause-drift c = grind (arith, common_steps)
+returns-clause-drift c =
+    let end : c.loop.counter ≡ c.args.working = omega arith in
+    c.loop.invariant.drift ∙ ap (λ n. map (drift_drawn c.args.rate c.args.draw.now) (range_with_len 0 n)) end
+
+pub returns-clause-next : goal.returns-clause-next
+returns-clause-next c =
+    let end : c.loop.counter ≡ c.args.working = omega arith in
+    c.loop.invariant.next ∙ ap (λ n. after c.args.draw.now (2 * n)) end

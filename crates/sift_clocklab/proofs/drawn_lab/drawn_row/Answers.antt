@@ -1,5 +1,5 @@
-use Rattle.std.proofs.Common.{◌≡◌, ◌+◌, refl, ap, sym, ◌∙◌, w32, to_z, of_z, arith, rules}
-use Rattle.std.proofs.lemmas.Int.{ints}
+use Rattle.std.proofs.Common.{◌≡◌, ◌+◌, refl, ap, sym, ◌∙◌, w32, to_z, of_z, rules}
+use Rattle.std.proofs.lemmas.Int.{to_z-of_z}
 use Rattle.sift_base.specs.Draw.{after}
 use Rattle.sift_clocklab.specs.Draws.{noise_drawn, others_before, spread}
 use Rattle.sift_clocklab.proofs.Lists.{values_more}
@@ -24,7 +24,8 @@ loop-other-preserved c =
           (elim c.if-other-own.branch [
             | then-other-own w ↦ w.noise-is ∙ sym (noise-same c.args.error x own other w.if-other-own.true)
             | else-other-own w ↦
-                let held : to_z w32 (of_z w32 w.spread-noise.result) ≡ w.spread-noise.result = omega (arith, ints) in
+                let held : to_z w32 (of_z w32 w.spread-noise.result) ≡ w.spread-noise.result =
+                to_z-of_z w32 w.spread-noise.result (record { sfits = w.spread-noise.type_inv }) in
                 let next = after-next x c.loop-other.draw w.spread-noise.new.draw (others_before own other) (others_before own other + 1)
                 inv.next w.spread-noise.ensures.next refl in
                 w.noise-is ∙ (held ∙ (w.spread-noise.ensures.drawn ∙ (ap (spread c.args.error) next

@@ -1,7 +1,7 @@
-use Rattle.std.proofs.Common.{◌≡◌, ◌+◌, ◌-◌, ◌*◌, map, ◌+ℤ◌, ap, ◌∙◌, arith}
+use Rattle.std.proofs.Common.{◌≡◌, ◌+◌, ◌-◌, ◌*◌, map, ◌+ℤ◌, ap, ◌∙◌, w32}
 use Rattle.std.specs.Prelude.{unsigned_abs}
 use Rattle.std.specs.List.{range_with_len}
-use Rattle.std.proofs.lemmas.Int.{ints}
+use Rattle.std.proofs.lemmas.Int.{to_z-of_z}
 use Rattle.sift_base.specs.Draw.{after}
 use Rattle.sift_clocklab.specs.Draws.{drift_drawn, noise_place, noises_drawn, start_drawn}
 use Rattle.sift_clocklab.proofs.DrawnLabs.{abs_sum}
@@ -12,9 +12,9 @@ pub returns-clause-lab : goal.returns-clause-lab
 returns-clause-lab c =
     let a = c.args in
     let clocks = range_with_len 0 (a.n - a.m) in
-    let skew : held a.skew ≡ a.skew = omega (arith, ints) in
-    let error : held a.error ≡ a.error = omega (arith, ints) in
-    let rate : held a.rate ≡ a.rate = omega (arith, ints) in
+    let skew : held a.skew ≡ a.skew = to_z-of_z w32 a.skew c.ranges.skew in
+    let error : held a.error ≡ a.error = to_z-of_z w32 a.error c.ranges.error in
+    let rate : held a.rate ≡ a.rate = to_z-of_z w32 a.rate c.ranges.rate in
     let apart : c.unsigned_abs-apart.result ≡ unsigned_abs a.skew = c.unsigned_abs-apart.ensures.value ∙ ap unsigned_abs skew in
     let misread : c.unsigned_abs-misread.result ≡ unsigned_abs a.error = c.unsigned_abs-misread.ensures.value ∙ ap unsigned_abs error in
     let change : c.unsigned_abs-change.result ≡ unsigned_abs a.rate = c.unsigned_abs-change.ensures.value ∙ ap unsigned_abs rate in
@@ -40,8 +40,8 @@ returns-clause-lab c =
 pub returns-clause-face : goal.returns-clause-face
 returns-clause-face c =
     let a = c.args in
-    let skew : held a.skew ≡ a.skew = omega (arith, ints) in
-    let error : held a.error ≡ a.error = omega (arith, ints) in
+    let skew : held a.skew ≡ a.skew = to_z-of_z w32 a.skew c.ranges.skew in
+    let error : held a.error ≡ a.error = to_z-of_z w32 a.error c.ranges.error in
     let apart : c.unsigned_abs-apart.result ≡ unsigned_abs a.skew = c.unsigned_abs-apart.ensures.value ∙ ap unsigned_abs skew in
     let misread : c.unsigned_abs-misread.result ≡ unsigned_abs a.error = c.unsigned_abs-misread.ensures.value ∙ ap unsigned_abs error in
     let next : c.drawn_clocks.new.draw ≡ noise_place (a.n - a.m) a.number =

@@ -1,8 +1,9 @@
-use Rattle.std.proofs.Common.{◌≡◌, ℕ, ◌+◌, ◌<◌, List, length, map, get_or, Option, ℤ, pos, ◌+ℤ◌, ap, sym, ◌∙◌, w32, to_z, of_z, arith}
-use Rattle.std.proofs.lemmas.Int.{ints}
+use Rattle.std.proofs.Common.{◌≡◌, ℕ, ◌+◌, ◌<◌, List, length, map, get_or, Option, ℤ, pos, ◌+ℤ◌, ap, sym, ◌∙◌, w32, w64, to_z, of_z, arith, rules}
+use Rattle.std.proofs.lemmas.Int.{ints, to_z-of_z}
 use Rattle.std.proofs.lemmas.List.{get_or_default, length-map}
 use Rattle.std.proofs.lemmas.List.FromFn.{length-range_with_len}
 use Rattle.std.proofs.lemmas.Grind.{common_steps}
+use mir.Val.{SFits}
 use Rattle.sift_base.specs.Units.{others}
 use Rattle.sift_clock.specs.Distance.{IsWithin}
 use Rattle.sift_clock.specs.Correction.{correction_of}
@@ -36,6 +37,15 @@ sum_is lab offsets shown own at limit correction drift round low parts =
       near_after lab farthest offsets shown own round.ready round.kept low,
     )
 
+-- parts that fit are held as they are
+parts_held : (x y z : ℤ) → SFits w64 x → SFits w64 y → SFits w32 z
+    → to_z w64 (of_z w64 x) +ℤ to_z w64 (of_z w64 y) +ℤ to_z w32 (of_z w32 z) ≡ x +ℤ y +ℤ z
+parts_held x y z x_fits y_fits z_fits = λ i. to_z-of_z w64 x x_fits i +ℤ to_z-of_z w64 y y_fits i +ℤ to_z-of_z w32 z z_fits i
+
+-- a sum that is near enough to 0 fits
+sum_fits : (x n : ℤ) → x ≡ n → IsWithin (pos (farthest + 24000)) n (pos 0) → SFits w64 x
+sum_fits x n is near = rw is (omega (arith, ints, near))
+
 -- a clock reads all but itself
 pub correct-correction-requires-clause-others : goal.correct-correction-requires-clause-others
 correct-correction-requires-clause-others c =
@@ -49,7 +59,8 @@ correct-correction-requires-clause-others c =
 pub advance-requires : goal.advance-requires
 advance-requires c =
     let a = c.args in
-    let limit : to_z w32 (of_z w32 c.limit.result) ≡ reading_limit (laboratory_of a.lab.now) = omega (arith, ints, c.limit.ensures) in
+    let limit : to_z w32 (of_z w32 c.limit.result) ≡ reading_limit (laboratory_of a.lab.now) =
+    to_z-of_z w32 c.limit.result (record { sfits = c.limit.type_inv }) ∙ c.limit.ensures in
     let sum = sum_is (laboratory_of a.lab.now) a.offsets.now a.shown.now a.own c.from-at.result (to_z w32 (of_z w32 c.limit.result))
     c.correct-correction.result c.index.result.now c.requires.round c.requires.own (record {
       place = c.from-at.ensures;
@@ -58,12 +69,16 @@ advance-requires c =
           ∙ ap (correction_of (to_z w32 (of_z w32 c.limit.result)) a.lab.now.n) (c.deref.ensures.0 ∙ c.readings.ensures);
       drift_is = c.index.ensures;
     }) in
-    omega (arith, ints, sum)
+    let at_fits : SFits w64 (offset_of a.offsets.now c.from-at.result) = search rules in
+    let drift_fits : SFits w32 c.index.result.now = search rules in
+    let held = parts_held _ _ _ at_fits (record { sfits = c.correct-correction.type_inv }) drift_fits in
+    sum_fits _ _ (held ∙ sum.0) sum.1
 
 pub returns : goal.returns
 returns c =
     let a = c.args in
-    let limit : to_z w32 (of_z w32 c.limit.result) ≡ reading_limit (laboratory_of a.lab.now) = omega (arith, ints, c.limit.ensures) in
+    let limit : to_z w32 (of_z w32 c.limit.result) ≡ reading_limit (laboratory_of a.lab.now) =
+    to_z-of_z w32 c.limit.result (record { sfits = c.limit.type_inv }) ∙ c.limit.ensures in
     let sum = sum_is (laboratory_of a.lab.now) a.offsets.now a.shown.now a.own c.from-at.result (to_z w32 (of_z w32 c.limit.result))
     c.correct-correction.result c.index.result.now c.requires.round c.requires.own (record {
       place = c.from-at.ensures;
@@ -72,7 +87,10 @@ returns c =
           ∙ ap (correction_of (to_z w32 (of_z w32 c.limit.result)) a.lab.now.n) (c.deref.ensures.0 ∙ c.readings.ensures);
       drift_is = c.index.ensures;
     }) in
-    omega (arith, ints, sum, c.advance.ensures)
+    let at_fits : SFits w64 (offset_of a.offsets.now c.from-at.result) = search rules in
+    let drift_fits : SFits w32 c.index.result.now = search rules in
+    let held = parts_held _ _ _ at_fits (record { sfits = c.correct-correction.type_inv }) drift_fits in
+    to_z-of_z w64 c.advance.result (record { sfits = c.advance.type_inv }) ∙ c.advance.ensures ∙ held ∙ sum.0
 
 pub correct-correction-requires-clause-limit : goal.correct-correction-requires-clause-limit
 correct-correction-requires-clause-limit c = grind (arith, common_steps)

@@ -1,7 +1,7 @@
-use Rattle.std.proofs.Common.{◌≡◌, Vec, Global, ℤ, Option, length, ap, ◌∙◌, arith}
+use Rattle.std.proofs.Common.{◌≡◌, Vec, Global, ℤ, Option, length, refl, ap, sym, ◌∙◌, arith}
 use Rattle.std.proofs.lemmas.List.{length-map}
 use Rattle.sift_clocklab.specs.Laboratory.{laboratory_of, run_of}
-use Rattle.sift_clocklab.specs.Rounds.{offsets_after}
+use Rattle.sift_clocklab.specs.Rounds.{offsets_after, run_offsets}
 use Rattle.sift_clocklab.specs.Showing.{pairs_of}
 use Rattle.sift_clocklab.specs.Pages.{IsBlank}
 use Rattle.sift_clocklab.proofs.Lists.{All-front, All-last, rows_more}
@@ -35,6 +35,39 @@ offsets_after-offsets-requires-clause-room g c =
     let blank = All-last (IsBlank (laboratory_of c.args.lab.now)) c.loop-page.pages.items c.pop.new.self.items c.in-Some.page
     c.in-Some.ensures.items c.loop-page.invariant.blank in
     blank.room_for_offsets
+
+-- no round was run yet
+pub loop-page-init : goal.loop-page-init
+loop-page-init g c =
+    let lab = laboratory_of c.args.lab.now in
+    let start = c.in_ok-run.ensures in
+    record {
+      shown = rw start.shown refl;
+      offsets = start.offsets ∙ ap (run_offsets lab) (sym start.shown);
+      blank = c.in_ok-pages.ensures.blank;
+      left = (let each = c.in_ok-pages.ensures.each in let none = start.none in omega arith);
+      one_more = (let one = start.one in let none = start.none in omega arith);
+      rounds = ap length start.shown ∙ sym start.none;
+      lists = ap length start.offsets ∙ sym start.one;
+      room_for_offsets = start.room_for_offsets;
+      room_for_shown = start.room_for_shown;
+    }
+
+pub show_round-shown-requires-clause-empty : goal.show_round-shown-requires-clause-empty
+show_round-shown-requires-clause-empty g c =
+    let blank = All-last (IsBlank (laboratory_of c.args.lab.now)) c.loop-page.pages.items c.pop.new.self.items c.in-Some.page
+    c.in-Some.ensures.items c.loop-page.invariant.blank in
+    blank.none_shown
+
+pub show_round-shown-requires-clause-room : goal.show_round-shown-requires-clause-room
+show_round-shown-requires-clause-room g c =
+    let blank = All-last (IsBlank (laboratory_of c.args.lab.now)) c.loop-page.pages.items c.pop.new.self.items c.in-Some.page
+    c.in-Some.ensures.items c.loop-page.invariant.blank in
+    blank.room_for_shown
+
+-- a list of offsets is the latest
+pub latest-requires : goal.latest-requires
+latest-requires g c = (let inv = c.loop-page.invariant in omega (arith, inv.rounds, inv.lists, inv.one_more))
 
 -- one round more was run
 pub loop-page-preserved : goal.loop-page-preserved
@@ -72,6 +105,11 @@ loop-page-preserved g c =
       room_for_offsets = (let same = lists.ensures.capacity in let room = inv.room_for_offsets in omega arith);
       room_for_shown = (let same = rounds.ensures.capacity in let room = inv.room_for_shown in omega arith);
     }
+
+pub returns-clause-ran : goal.returns-clause-ran
+returns-clause-ran g c =
+    let inv = c.loop-page.invariant in
+    record { rounds = omega (arith, inv.left, inv.rounds, c.in_default.ensures.cases); shown = inv.shown; offsets = inv.offsets }
 
 pub returns-clause-kept : goal.returns-clause-kept
 returns-clause-kept g c =

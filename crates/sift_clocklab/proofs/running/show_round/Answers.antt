@@ -1,7 +1,8 @@
-use Rattle.std.proofs.Common.{◌≡◌, ℕ, ◌+◌, ◌-◌, List, [], ◌∷◌, ◌++◌, ap, sym, ◌∙◌, subst, add-one, append_assoc, arith}
+use Rattle.std.proofs.Common.{◌≡◌, ℕ, ◌+◌, ◌-◌, ◌*◌, ◌<◌, List, [], ◌∷◌, ◌++◌, ap, sym, ◌∙◌, subst, add-one, append_assoc, arith}
 use Rattle.std.specs.List.{flat_map, range_with_len}
 use Rattle.std.proofs.lemmas.List.{append-nil, map-append}
-use Rattle.std.proofs.lemmas.Grind.{flat_map-append, common_steps}
+use Rattle.std.proofs.lemmas.Nat.{mul-add-lt}
+use Rattle.std.proofs.lemmas.Grind.{flat_map-append}
 use Rattle.sift_clocklab.specs.Laboratory.{faulty_clocks, laboratory_of, working_of}
 use Rattle.sift_clocklab.specs.Showing.{Pair, ShowsInTurn, pairs_to}
 use Rattle.sift_clocklab.proofs.Ranges.{range-more}
@@ -69,7 +70,26 @@ loop-to-preserved g c =
     }
 
 pub push_reserved-requires : goal.push_reserved-requires
-push_reserved-requires g c = grind (arith, common_steps)
+push_reserved-requires g c =
+    let lab = laboratory_of c.args.lab.now in
+    let k : ℕ = c.loop-clock.clock - working_of lab in
+    let low : c.loop-to.to < working_of lab = omega arith in
+    let few : k < lab.m = omega arith in
+    let inv = c.loop-clock.invariant in
+    let room = mul-add-lt c.loop-to.to lab.m k (working_of lab) low few in
+    omega (arith, room, inv.each, inv.room)
+
+pub returns-clause-shown : goal.returns-clause-shown
+returns-clause-shown g c =
+    let lab = laboratory_of c.args.lab.now in
+    let end : c.loop-to.to ≡ working_of lab = omega arith in
+    subst (λ (n : ℕ). ShowsInTurn g.F.Face.allows c.args.round c.args.face.now (flat_map (pairs_to (faulty_clocks lab)) (range_with_len 0 n))
+    c.loop-to.shown.items c.loop-to.face) end c.loop-to.invariant.shown
 
 pub returns-clause-each : goal.returns-clause-each
-returns-clause-each g c = grind (arith, common_steps)
+returns-clause-each g c =
+    let lab = laboratory_of c.args.lab.now in
+    let end : c.loop-to.to ≡ working_of lab = omega arith in
+    let each = c.loop-to.invariant.each ∙ ap (λ n. n * lab.m) end in
+    let ok = c.loop-to.shown.ok in
+    omega (arith, each)

@@ -2,16 +2,14 @@ use Rattle.std.proofs.Common.{◌≡◌, ◌∙◌, ◌++◌, ◌∷◌, [], ◌
 use Rattle.std.proofs.lemmas.Iterator.Consumers.{YieldsList-at, YieldsList-turn, YieldsList-end}
 use Rattle.std.proofs.lemmas.Iterator.Splits.{YieldsList-from_str_split}
 use Rattle.std.proofs.lemmas.List.{length_push}
-use Rattle.std.proofs.lemmas.Slice.Eq.{bytes_eq-Decides}
-use Rattle.std.proofs.lemmas.Grind.{common_steps}
 use Rattle.sift_line.proofs.Reading.{none_read, more_read, none_has, longer, whole_printed, whole_exact}
 use Rattle.sift_line.proofs.Joined.{values_cut, cut_values, no_values}
-use Rattle.sift_line.proofs.Results.{on_ok, on_err}
+use Rattle.sift_line.proofs.Results.{held, none_given, differ_where, same_where, on_ok, on_err}
 use Rattle.sift_line.proofs.list.read_list.Goals as goal
 
 pub returns-then-eq-clause-exact : goal.returns-then-eq-clause-exact
 returns-then-eq-clause-exact g c = λ list holds fit e.
-    let none : list.items ≡ [] = no_values g.T.Part.text_of g.met.T.ListPart.apart list.items c.args.text.now e ((bytes_eq-Decides _ _).0 (cc)) in
+    let none : list.items ≡ [] = no_values g.T.Part.text_of g.met.T.ListPart.apart list.items c.args.text.now e (same_where c.eq.result _ _ c.eq.ensures c.if-eq.true) in
     ap (λ xs. Some (record { items = xs })) (c.new-list.ensures ∙ sym none)
 
 pub loop-part-init : goal.loop-part-init
@@ -27,7 +25,7 @@ loop-part-preserved g c =
     on_ok c.try_push.result c.in_ok-ok.field-0 _ (sym c.ok.ensures.value ∙ c.in_ok-ok.was) c.try_push.ensures.ok in
     rw (length_push c.loop-part.yielded c.in-Some.part, pushed)
     (more_read g.T.Part.text_of g.T.Part.IsPart _ _ _ c.in_ok-item.item c.in-Some.part.now c.loop-part.invariant turn.0 turn.1 c.in_ok-item.ensures.printed
-    (λ w holds e. let exact = c.in_ok-item.ensures.exact w holds e in (cc)))
+    (λ w holds e. held c.in_ok-item.item w (c.in_ok-item.ensures.exact w holds e)))
 
 pub returns-in_err-item-clause-exact : goal.returns-in_err-item-clause-exact
 returns-in_err-item-clause-exact g c = λ list holds fit e.
@@ -36,8 +34,8 @@ returns-in_err-item-clause-exact g c = λ list holds fit e.
     let runs = YieldsList-at c.into_iter-part-iterator.ensures.into_iter_gives cuts in
     let turn = YieldsList-turn runs c.loop-part.yielded _ c.loop-part.yielded_by _ _ c.in-Some.part c.in-Some.is c.next.ensures.steps in
     absurd (none_has g.T.Part.text_of g.T.Part.IsPart _ _ c.in-Some.part.now turn.0 turn.1
-    (λ w held printed. let exact = c.in_err-item.ensures.exact w held printed in (cc)) list.items holds
-    (values_cut g.T.Part.text_of g.met.T.ListPart.apart list.items c.args.text.now e (λ dash. let same = (bytes_eq-Decides _ _).1 dash in (cc))))
+    (λ w holds e. none_given w (c.in_err-item.ensures.exact w holds e)) list.items holds
+    (values_cut g.T.Part.text_of g.met.T.ListPart.apart list.items c.args.text.now e (differ_where c.eq.result _ _ c.eq.ensures c.if-eq.false)))
 
 pub returns-in_err-ok-clause-exact : goal.returns-in_err-ok-clause-exact
 returns-in_err-ok-clause-exact g c = λ list holds fit e.
@@ -48,7 +46,7 @@ returns-in_err-ok-clause-exact g c = λ list holds fit e.
     let full : length c.loop-part.list.items ≡ g.row.N = on_err c.try_push.result _ (sym c.ok.ensures.value ∙ c.in_err-ok.was) c.try_push.ensures.full in
     let more : length c.loop-part.list.items < length list.items =
     longer g.T.Part.text_of g.T.Part.IsPart _ _ _ c.loop-part.invariant turn.0 list.items
-    (values_cut g.T.Part.text_of g.met.T.ListPart.apart list.items c.args.text.now e (λ dash. let same = (bytes_eq-Decides _ _).1 dash in (cc))) in
+    (values_cut g.T.Part.text_of g.met.T.ListPart.apart list.items c.args.text.now e (differ_where c.eq.result _ _ c.eq.ensures c.if-eq.false)) in
     absurd (omega arith)
 
 pub returns-clause-printed : goal.returns-clause-printed
@@ -67,7 +65,13 @@ returns-clause-exact g c = λ list holds fit e.
     let end = YieldsList-end runs c.loop-part.yielded _ c.loop-part.yielded_by _ _ c.in-None.is c.next.ensures.steps in
     ap (λ xs. Some (record { items = xs }))
     (whole_exact g.T.Part.text_of g.T.Part.IsPart _ _ _ c.loop-part.invariant end.1 list.items holds
-    (values_cut g.T.Part.text_of g.met.T.ListPart.apart list.items c.args.text.now e (λ dash. let same = (bytes_eq-Decides _ _).1 dash in (cc))))
+    (values_cut g.T.Part.text_of g.met.T.ListPart.apart list.items c.args.text.now e (differ_where c.eq.result _ _ c.eq.ensures c.if-eq.false)))
 
 pub returns-in_err-ok-clause-printed : goal.returns-in_err-ok-clause-printed
-returns-in_err-ok-clause-printed g c = grind (arith, common_steps)
+returns-in_err-ok-clause-printed g c = rw c.from_residual-in_err-ok.ensures tt
+
+pub returns-in_err-item-clause-printed : goal.returns-in_err-item-clause-printed
+returns-in_err-item-clause-printed g c = rw c.from_residual.ensures tt
+
+pub returns-then-eq-clause-printed : goal.returns-then-eq-clause-printed
+returns-then-eq-clause-printed g c = rw c.new-list.ensures (sym (same_where c.eq.result _ _ c.eq.ensures c.if-eq.true))
