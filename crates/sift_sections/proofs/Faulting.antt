@@ -1,10 +1,11 @@
 -- The faults of a document: how they are read.
-use Rattle.std.proofs.Common.{◌≡◌, ◌<◌, ℕ, List, length, get_or, map, Option, Some, None, IfNone, IfSome, Result, Ok, Err, true, false, refl, sym, ap, subst, ◌∙◌}
+use Rattle.std.proofs.Common.{◌≡◌, ◌<◌, ℕ, List, length, get_or, map, Option, Some, None, IfNone, IfSome, Result, Ok, Err, Bool, true, false, refl, sym, ap, subst, ◌∙◌}
 use Rattle.sift_base.specs.declared.stop.Stop.{Stop}
-use Rattle.toml.specs.Data.{Data, Members}
+use Rattle.toml.specs.Data.{Data, Members, get_member}
 use Rattle.std.proofs.lemmas.List.{length-map}
 use Rattle.std.proofs.lemmas.Option.{slice_get-get_or, slice_get-map}
 use Rattle.std.specs.List.{slice_get}
+use Rattle.std.specs.Bool.{IsTrue}
 use Rattle.std.specs.Option.{is_some}
 use Rattle.std.specs.Prelude.{option_map, unwrap_or}
 use Rattle.sift_script.specs.Script.{Change, Failing, Fault}
@@ -14,7 +15,7 @@ use Rattle.sift_document.specs.Document.{IsTableOf, tables_in}
 use Rattle.sift_document.specs.Rules.{AreKept, BreaksEntries, IsKept, rule}
 use Rattle.sift_document.specs.Testing.{RefusesFirst, Tests, TestsEach}
 use Rattle.sift_document.specs.declared.rule.BrokenRule.{BrokenRule}
-use Rattle.sift_sections.specs.Fault.{changes_of, fault_in, fault_limit, fault_rules, from_of, stated_storm, unit_of}
+use Rattle.sift_sections.specs.Fault.{StandsAlone, changes_of, fault_in, fault_limit, fault_rules, from_of, stated_storm, unit_of}
 use Rattle.sift_sections.proofs.lemmas.Values.{read_values}
 use Rattle.sift_sections.specs.Reading.{AreFaultsRead}
 use Rattle.sift_sections.proofs.lemmas.Named.{BreaksHeads, BreaksItems, BreaksStorms, BreaksWays, each_fault_rules, failing_from, fault_keys}
@@ -143,3 +144,28 @@ if_found P None found holds = cc found
 pub if_missing : {A : Type 0} (P : Type 0) (o : Option A) → is_some o ≡ false → IfNone o P → P
 if_missing P (Some x) missing holds = cc missing
 if_missing P None missing holds = holds
+
+-- what holds just where something was found, and the test of that
+pub found_where :
+    {A : Type 0} (P : Type 0) (o : Option A) (test : Bool) → test ≡ is_some o → IfSome o (λ _. P) → IfNone o (P → ⊥)
+    → (IsTrue test → P) × (P → IsTrue test)
+found_where P (Some x) test is found none = (λ yes. found, λ holds. is)
+found_where P None test is found none = (λ yes. let wrong : false ≡ true = sym is ∙ yes in cc wrong, λ holds. absurd (none holds))
+
+-- ---- how a fault fails
+
+-- a value at a key, and none at another
+module _ (key other : List ℕ) (IsRight : Data → Type 0) (fault : Members) (value : Data) where
+  pub alone_where :
+      Some value ≡ get_member key fault → None ≡ get_member other fault
+      → (IsRight value → StandsAlone key other IsRight fault) × (StandsAlone key other IsRight fault → IsRight value)
+  alone_where there none = (
+    λ right. record { value = value; there = sym there; right = right; alone = sym none },
+    λ alone.
+        let both : Some alone.value ≡ Some value = sym (there ∙ alone.there) in
+        let same : alone.value ≡ value = cc both in subst IsRight same alone.right,
+  )
+
+-- where nothing stands at a key, nothing stands there alone
+pub not_alone : (key other : List ℕ) (IsRight : Data → Type 0) (fault : Members) → None ≡ get_member key fault → StandsAlone key other IsRight fault → ⊥
+not_alone key other IsRight fault none alone = let wrong : Some alone.value ≡ None = sym alone.there ∙ sym none in cc wrong
