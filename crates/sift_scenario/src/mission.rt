@@ -67,6 +67,12 @@ fn assemble(alloc: Global, entries: Entries<'_>, running: Running) -> Result<Mis
     ensures refused { IfErr result (λ why. (document : Members) → IsReadOf document entries.entry
         → IsRunningOf document running → IfRefused (IsRefusedWith document) why) }
 {
+    let layout = Layout {
+        units: entries.units,
+        sensors: entries.sensors.words.len() as u8,
+        words: running.program.starts.len() as u8,
+    };
+    let shapes = shapes_of(alloc, &running.program, layout.sensors)?;
     let Entries {
         units,
         frames,
@@ -78,12 +84,6 @@ fn assemble(alloc: Global, entries: Entries<'_>, running: Running) -> Result<Mis
         script,
     } = entries;
     let Running { program, code } = running;
-    let layout = Layout {
-        units,
-        sensors: sensors.words.len() as u8,
-        words: program.starts.len() as u8,
-    };
-    let shapes = shapes_of(alloc, &program, layout.sensors)?;
     let tables = check_tables(alloc, tables, &shapes)?;
     let script = check_script(script, &layout, &shapes, frames)?;
     Ok(Mission::of(MissionParts {

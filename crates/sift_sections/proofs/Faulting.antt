@@ -1,68 +1,65 @@
 -- The faults of a document: how they are read.
-use Rattle.std.proofs.Common.{◌≡◌, ◌<◌, ℕ, zero, suc, List, [], ◌∷◌, length, get_or, map, Option, Some, None, IfNone, IfSome, Result, refl, sym, ap, ◌∙◌, arith}
+use Rattle.std.proofs.Common.{◌≡◌, ◌<◌, ℕ, List, length, get_or, map, Option, Some, None, IfNone, IfSome, Result, Ok, Err, Bool, true, false, refl, sym, ap, subst, ◌∙◌}
 use Rattle.sift_base.specs.declared.stop.Stop.{Stop}
-use Rattle.toml.specs.Data.{Members}
+use Rattle.toml.specs.Data.{Data, Members, get_member}
 use Rattle.std.proofs.lemmas.List.{length-map}
 use Rattle.std.proofs.lemmas.Option.{slice_get-get_or, slice_get-map}
 use Rattle.std.specs.List.{slice_get}
+use Rattle.std.specs.Bool.{IsTrue}
+use Rattle.std.specs.Option.{is_some}
 use Rattle.std.specs.Prelude.{option_map, unwrap_or}
 use Rattle.sift_script.specs.Script.{Change, Failing, Fault}
+use Rattle.sift_document.proofs.lemmas.Order.{later, stopped}
 use Rattle.sift_document.proofs.lemmas.Places.{map_map, taken}
-use Rattle.sift_document.proofs.lemmas.Testing.{tests_same}
-use Rattle.sift_document.specs.Document.{each_read}
-use Rattle.sift_document.specs.Rules.{HoldsOf}
-use Rattle.sift_document.specs.Testing.{Tests}
+use Rattle.sift_document.specs.Document.{IsTableOf, tables_in}
+use Rattle.sift_document.specs.Rules.{AreKept, BreaksEntries, IsKept, rule}
+use Rattle.sift_document.specs.Testing.{RefusesFirst, Tests, TestsEach}
 use Rattle.sift_document.specs.declared.rule.BrokenRule.{BrokenRule}
-use Rattle.sift_sections.specs.Fault.{changes_of, fault_in, from_of, stated_storm, unit_of}
+use Rattle.sift_sections.specs.Fault.{StandsAlone, changes_of, fault_in, fault_limit, fault_rules, from_of, stated_storm, unit_of}
 use Rattle.sift_sections.proofs.lemmas.Values.{read_values}
-use Rattle.sift_sections.specs.Item.{change_in}
 use Rattle.sift_sections.specs.Reading.{AreFaultsRead}
-use Rattle.sift_sections.proofs.lemmas.Named.{items_of, failing_from, BreaksItems}
+use Rattle.sift_sections.proofs.lemmas.Named.{BreaksHeads, BreaksItems, BreaksStorms, BreaksWays, each_fault_rules, failing_from, fault_keys}
 use Rattle.sift_sections.specs.declared.fault.Head.{Head}
+
+-- ---- the rules of the faults
+
+-- the value is an array of tables, so the first broken rule of the faults in these tables is that of the value
+pub faults_refused :
+    (value : Data) (faults : List Members) → faults ≡ tables_in (Some value)
+    → IsKept (rule 26 (BreaksEntries 0 fault_limit (λ place. IsTableOf fault_keys) (Some value)))
+    → (e : Stop BrokenRule) → RefusesFirst (each_fault_rules faults) e → RefusesFirst (fault_rules (Some value)) e
+faults_refused value faults same whole e refused =
+    later _ (each_fault_rules (tables_in (Some value))) e whole (subst (λ (ts : List Members). RefusesFirst (each_fault_rules ts) e) same refused)
+
+-- and what tests their rules tests those of the value
+pub faults_tested :
+    {A : Type 0} (value : Data) (faults : List Members) → faults ≡ tables_in (Some value)
+    → IsKept (rule 26 (BreaksEntries 0 fault_limit (λ place. IsTableOf fault_keys) (Some value)))
+    → (r : Result A (Stop BrokenRule)) → TestsEach (each_fault_rules faults) r → TestsEach (fault_rules (Some value)) r
+faults_tested value faults same whole (Ok x) kept = (whole, subst (λ (ts : List Members). AreKept (each_fault_rules ts)) same kept)
+faults_tested value faults same whole (Err e) refused = faults_refused value faults same whole e refused
+
+-- where the other rules are kept, what tests the last of them tests all
+pub storms_tested :
+    {A : Type 0} (faults : List Members) → IsKept (rule 27 (BreaksHeads faults)) → IsKept (rule 28 (BreaksWays faults)) → IsKept (rule 29 (BreaksItems faults))
+    → (r : Result A (Stop BrokenRule)) → Tests 30 (BreaksStorms faults) r → TestsEach (each_fault_rules faults) r
+storms_tested faults headed ways said (Ok x) kept = (headed, (ways, (said, (kept, tt))))
+storms_tested faults headed ways said (Err e) refused = stopped 3 (each_fault_rules faults) e (headed, (ways, (said, refused)))
 
 -- ---- faults, one after another
 
--- what was read of the tables of the faults, first their heads, then their items and what these state, is theirs
+-- what was read of the tables of the faults, their heads and what they say, is theirs
 pub faults_read :
-    {A B C : Type 0} (shown : A → Members) (items : B → List Members) (changes : C → List Change)
-    (tables : List A) (heads : List Head) (found : List B) (stated : List C)
+    {A B : Type 0} (shown : A → Members) (changes : B → List Change) (tables : List A) (heads : List Head) (said : List B)
     → map (λ head. Some head.unit) heads ≡ map (λ table. unit_of (shown table)) tables
     → map (λ head. Some head.from) heads ≡ map (λ table. from_of (shown table)) tables
-    → map items found ≡ map (λ table. items_of (shown table)) tables
-    → map (λ one. Some (changes one)) stated ≡ map (λ one. each_read change_in (items one)) found
-    → AreFaultsRead (map shown tables) heads (map changes stated)
-faults_read shown items changes tables heads found stated units from items_are read = record {
+    → map (λ items. Some (changes items)) said ≡ map (λ table. changes_of (shown table)) tables
+    → AreFaultsRead (map shown tables) heads (map changes said)
+faults_read shown changes tables heads said units from read = record {
   units = units ∙ read_values shown unit_of tables;
   from = from ∙ read_values shown from_of tables;
-  changes =
-      sym (map_map (λ (c : List Change). Some c) changes stated)
-      ∙ read
-      ∙ map_map (each_read change_in) items found
-      ∙ ap (map (each_read change_in)) items_are
-      ∙ sym (map_map (each_read change_in) (λ table. items_of (shown table)) tables)
-      ∙ read_values shown changes_of tables;
+  changes = sym (map_map (λ (c : List Change). Some c) changes said) ∙ read ∙ read_values shown changes_of tables;
 }
-
--- what stands at a place of what is made of a list is made of what stands there
-from_map : {A B : Type 0} (g : A → B) (xs : List A) (i : ℕ) (y : B) → slice_get (map g xs) i ≡ Some y → (x : A) × (slice_get xs i ≡ Some x) × (g x ≡ y)
-from_map g [] zero y there = cc
-from_map g [] (suc i) y there = cc
-from_map g (x ∷ xs) zero y there = (x, refl, cc there)
-from_map g (x ∷ xs) (suc i) y there = from_map g xs i y there
-
--- what tests the items of the faults, list by list, tests the rule
-pub items_tested :
-    {A : Type 0} (faults : List Members) (found : List (List Members)) → found ≡ map items_of faults
-    → (r : Result A (Stop BrokenRule)) → Tests 29 (λ place. HoldsOf found place (λ items. each_read change_in items ≡ None)) r → Tests 29 (BreaksItems faults) r
-items_tested faults found are r tests =
-    tests_same 29 (λ place. HoldsOf found place (λ items. each_read change_in items ≡ None)) (BreaksItems faults)
-    (λ at broken. let fault = from_map items_of faults at broken.entry (ap (λ xs. slice_get xs at) (sym are) ∙ broken.there) in
-    record { entry = fault.0; there = fault.1; holds = ap (each_read change_in) fault.2 ∙ broken.holds })
-    (λ at broken. record {
-      entry = items_of broken.entry;
-      there = ap (λ xs. slice_get xs at) are ∙ slice_get-map items_of faults at ∙ ap (option_map items_of) broken.there;
-      holds = broken.holds;
-    }) r tests
 
 -- there are as many heads, and as many lists of changes, as faults
 pub faults_long : (faults : List Members) (heads : List Head) (said : List (List Change)) → AreFaultsRead faults heads said → (length heads ≡ length faults) × (length said ≡ length faults)
@@ -117,34 +114,58 @@ no_head = record { unit = 0; from = 0 }
 
 module _
     {A C : Type 0} (shown : A → Members) (changes : C → List Change) (tables : List A) (heads : List Head) (said : List C)
-    (read : AreFaultsRead (map shown tables) heads (map changes said)) (i : ℕ) (table : A) (items : C) (low : i < length said)
-    (table_is : table ≡ get_or tables i table) (items_is : items ≡ get_or said i items) where
-  -- there is a table, and a head, for what a loop takes of what the faults say
-  pub table_low : i < length tables
-  table_low =
+    (read : AreFaultsRead (map shown tables) heads (map changes said)) where
+  -- there are as many heads, and as many tables, as lists of changes
+  pub as_many : (length heads ≡ length said) × (length tables ≡ length said)
+  as_many =
       let long = faults_long (map shown tables) heads (map changes said) read in
-      omega (arith, low, long.1, length-map said changes, length-map tables shown)
+      let changed = sym long.1 ∙ length-map said changes in (
+        long.0 ∙ changed,
+        sym (length-map tables shown) ∙ changed,
+      )
 
-  head_low : i < length heads
-  head_low =
-      let long = faults_long (map shown tables) heads (map changes said) read in omega (arith, table_low, long.0, length-map tables shown)
-
-  -- so the fault of its head and its plan is the one that its table states
+  -- so the fault of a head and a plan is the one that the table at their place states
   pub fault_taken :
-      (plan : Failing) → Some plan ≡ option_map (λ storm. failing_from storm (changes items)) (stated_storm (shown table))
+      (i : ℕ) (table : A) (items : C) (plan : Failing) → i < length said → table ≡ get_or tables i table → items ≡ get_or said i items
+      → Some plan ≡ option_map (λ storm. failing_from storm (changes items)) (stated_storm (shown table))
       → (let made : Fault = record { unit = (get_or heads i no_head).unit; from = (get_or heads i no_head).from; plan = plan } in made) ≡ fault_in (shown table)
-  fault_taken plan planned =
+  fault_taken i table items plan low table_is items_is planned =
       fault_made (map shown tables) heads (map changes said) i (shown table) (get_or heads i no_head) (changes items) plan read
-      (taken shown tables i table table_low table_is) (slice_get-get_or heads i no_head head_low) (taken changes said i items low items_is) planned
+      (taken shown tables i table (rw as_many.1 low) table_is) (slice_get-get_or heads i no_head (rw as_many.0 low)) (taken changes said i items low items_is) planned
 
 -- ---- what was found, or not
 
--- what holds of what was found, of what follows
-pub some_from : {A : Type 0} (P Q : A → Type 0) (o : Option A) → ((x : A) → P x → Q x) → IfSome o P → IfSome o Q
-some_from P Q (Some x) so holds = so x holds
-some_from P Q None so holds = tt
+-- what holds where something was found, and it was
+pub if_found : {A : Type 0} (P : Type 0) (o : Option A) → is_some o ≡ true → IfSome o (λ _. P) → P
+if_found P (Some x) found holds = holds
+if_found P None found holds = cc found
 
--- and where nothing was found
-pub none_from : {A : Type 0} (P Q : Type 0) (o : Option A) → (P → Q) → IfNone o P → IfNone o Q
-none_from P Q (Some x) so holds = tt
-none_from P Q None so holds = so holds
+-- what holds where nothing was, and nothing was
+pub if_missing : {A : Type 0} (P : Type 0) (o : Option A) → is_some o ≡ false → IfNone o P → P
+if_missing P (Some x) missing holds = cc missing
+if_missing P None missing holds = holds
+
+-- what holds just where something was found, and the test of that
+pub found_where :
+    {A : Type 0} (P : Type 0) (o : Option A) (test : Bool) → test ≡ is_some o → IfSome o (λ _. P) → IfNone o (P → ⊥)
+    → (IsTrue test → P) × (P → IsTrue test)
+found_where P (Some x) test is found none = (λ yes. found, λ holds. is)
+found_where P None test is found none = (λ yes. let wrong : false ≡ true = sym is ∙ yes in cc wrong, λ holds. absurd (none holds))
+
+-- ---- how a fault fails
+
+-- a value at a key, and none at another
+module _ (key other : List ℕ) (IsRight : Data → Type 0) (fault : Members) (value : Data) where
+  pub alone_where :
+      Some value ≡ get_member key fault → None ≡ get_member other fault
+      → (IsRight value → StandsAlone key other IsRight fault) × (StandsAlone key other IsRight fault → IsRight value)
+  alone_where there none = (
+    λ right. record { value = value; there = sym there; right = right; alone = sym none },
+    λ alone.
+        let both : Some alone.value ≡ Some value = sym (there ∙ alone.there) in
+        let same : alone.value ≡ value = cc both in subst IsRight same alone.right,
+  )
+
+-- where nothing stands at a key, nothing stands there alone
+pub not_alone : (key other : List ℕ) (IsRight : Data → Type 0) (fault : Members) → None ≡ get_member key fault → StandsAlone key other IsRight fault → ⊥
+not_alone key other IsRight fault none alone = let wrong : Some alone.value ≡ None = sym alone.there ∙ sym none in cc wrong

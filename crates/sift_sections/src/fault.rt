@@ -1,14 +1,14 @@
 //! The faults of a document.
 
-ghost use Rattle.std.specs.Prelude.{codes, ◌≡◌, ◌≤◌, ◌⊎◌, ◌↔◌, ◌∷◌, [], IfOk, IfSome, IfNone, IsSome, None, Some, length, map, option_map, unwrap_or};
+ghost use Rattle.std.specs.Prelude.{codes, ◌≡◌, ◌≤◌, ◌⊎◌, ◌↔◌, ◌∷◌, [], IfOk, IfSome, IfNone, IsTrue, None, Some, length, map, option_map, unwrap_or};
 ghost use Rattle.std.specs.List.{All};
 ghost use Rattle.toml.specs.Data.{get_member};
 ghost use Rattle.toml.specs.View.{table_view, view};
 ghost use Rattle.sift_script.specs.Script.{change_of, changing, failing_of, fault_of, faults_of};
-ghost use Rattle.sift_document.specs.Document.{IsTableOf, each_read, entries_of, members_of, tables_in};
+ghost use Rattle.sift_document.specs.Document.{IsTableOf, each_read, members_of, tables_in};
 ghost use Rattle.sift_document.specs.Rules.{BreaksEntries, HoldsOf};
 ghost use Rattle.sift_document.specs.Testing.{Tests, TestsEach};
-ghost use Rattle.sift_sections.specs.Fault.{AreItems, StandsAlone, fault_in, fault_limit, fault_rules, from_of, stated_storm, unit_of};
+ghost use Rattle.sift_sections.specs.Fault.{AreItems, StandsAlone, changes_of, fault_in, fault_limit, fault_rules, from_of, stated_storm, unit_of};
 ghost use Rattle.sift_sections.specs.Item.{change_in, item_keys};
 ghost use Rattle.sift_sections.specs.Reading.{AreFaultsRead};
 
@@ -16,7 +16,7 @@ use crate::item::item_of;
 use crate::storm::storm_in;
 use sift_base::{NoMemory, Stop};
 use sift_document::{
-    BrokenRule, broken, entries_between, member_of, number_at, table_of, tables_in,
+    BrokenRule, broken, entries_at, entries_between, member_of, number_at, table_of, tables_in,
 };
 use sift_script::{Entry, Item, Plan, Script};
 use std::alloc::Global;
@@ -46,12 +46,12 @@ fn stated_script(alloc: Global, value: &Value) -> Result<Script, Stop<BrokenRule
         faults_of script ≡ map fault_in (tables_in (Some (view value.now)))) }
     ensures tests { TestsEach (fault_rules (Some (view value.now))) result }
 {
-    let tables = fault_tables(alloc, value)?;
-    let heads = fault_heads(alloc, &tables)?;
-    let items = fault_items(alloc, &tables)?;
-    let said = stated_items(alloc, &items)?;
-    let entries = fault_entries(alloc, &tables, &heads, said)?;
-    Ok(Script { entries })
+    let faults = fault_tables(alloc, value)?;
+    let tables = faults.as_slice();
+    let heads = fault_heads(alloc, tables)?;
+    check_ways(tables)?;
+    let said = said_items(alloc, tables)?;
+    script_from(alloc, tables, &heads, said)
 }
 
 /// The tables of the faults.
@@ -111,106 +111,81 @@ fn head_of(fault: &Table) -> Option<Head>
     }
 }
 
-/// The items of each fault, which fails in one way.
-fn fault_items<'a>(
-    alloc: Global,
-    tables: &[&'a Table],
-) -> Result<Vec<Vec<&'a Table>>, Stop<BrokenRule>>
+/// Tests that each fault fails in one way.
+fn check_ways(tables: &[&Table]) -> Result<(), Stop<BrokenRule>>
     requires { length tables.now ≤ fault_limit }
-    ensures items { IfOk result (λ found.
-        map (λ items. map (λ item. table_view item.now) items.items) found.items
-        ≡ map (λ fault. tables_in (get_member (codes "say") (table_view fault.now))) tables.now) }
-    ensures tests { Tests 28 (λ place. HoldsOf (map (λ fault. table_view fault.now) tables.now) place
+    ensures { Tests 28 (λ place. HoldsOf (map (λ fault. table_view fault.now) tables.now) place
         (λ fault. ¬ (StandsAlone (codes "say") (codes "storm") AreItems fault
         ⊎ StandsAlone (codes "storm") (codes "say") (IsTableOf (codes "number" ∷ codes "strays" ∷ [])) fault))) result }
 {
-    let mut found = Vec::new(alloc);
     for (place, fault) in tables.iter().enumerate() {
-        match items_of(alloc, fault)? {
-            Some(items) => found.push(items)?,
-            None => return Err(broken(28, place)),
+        if !has_one_way(fault) {
+            return Err(broken(28, place));
         }
     }
-    Ok(found)
+    Ok(())
 }
 
-/// The items of a fault, where it fails in one way: by what it says, or by a storm, which has no items.
-fn items_of(alloc: Global, fault: &Table) -> Result<Option<Vec<&Table>>, NoMemory>
-    ensures items { IfOk result (λ found. IfSome found (λ items.
-        map (λ item. table_view item.now) items.items ≡ tables_in (get_member (codes "say") (table_view fault.now)))) }
-    ensures one_way { IfOk result (λ found. IsSome found
-        ↔ (StandsAlone (codes "say") (codes "storm") AreItems (table_view fault.now)
-        ⊎ StandsAlone (codes "storm") (codes "say") (IsTableOf (codes "number" ∷ codes "strays" ∷ [])) (table_view fault.now))) }
+/// Whether a fault fails in one way: by what it says, or by a storm.
+fn has_one_way(fault: &Table) -> bool
+    ensures { IsTrue result ↔ (StandsAlone (codes "say") (codes "storm") AreItems (table_view fault.now)
+        ⊎ StandsAlone (codes "storm") (codes "say") (IsTableOf (codes "number" ∷ codes "strays" ∷ [])) (table_view fault.now)) }
 {
     match (member_of(fault, "say"), member_of(fault, "storm")) {
-        (Some(said), None) => said_items(alloc, said),
-        (None, Some(storm)) => match table_of(storm, &["number", "strays"]) {
-            Some(_) => Ok(Some(Vec::new(alloc))),
-            None => Ok(None),
-        },
-        (Some(_), Some(_)) | (None, None) => Ok(None),
+        (Some(said), None) => are_items(said),
+        (None, Some(storm)) => table_of(storm, &["number", "strays"]).is_some(),
+        (Some(_), Some(_)) | (None, None) => false,
     }
 }
 
-/// The items of a `say`, where it has as many as it may, each a table with no other keys than it may have.
-fn said_items(alloc: Global, said: &Value) -> Result<Option<Vec<&Table>>, NoMemory>
-    ensures items { IfOk result (λ found. IfSome found (λ items.
-        map (λ item. table_view item.now) items.items ≡ map members_of (entries_of (Some (view said.now))))) }
-    ensures right { IfOk result (λ found. IfSome found (λ _. AreItems (view said.now))) }
-    ensures none { IfOk result (λ found. IfNone found (AreItems (view said.now) → ⊥)) }
+/// Whether a `say` has as many items as it may, each a table with no other keys than it may have.
+fn are_items(said: &Value) -> bool
+    ensures { IsTrue result ↔ AreItems (view said.now) }
 {
     match entries_between(said, 1, 64, 28) {
-        Ok(entries) => known_items(alloc, entries),
-        Err(_) => Ok(None),
+        Ok(entries) => have_item_keys(entries),
+        Err(_) => false,
     }
 }
 
-/// The tables that these entries are, where each is one with no other keys than an item may have.
-fn known_items(alloc: Global, entries: &[Value]) -> Result<Option<Vec<&Table>>, NoMemory>
-    ensures items { IfOk result (λ found. IfSome found (λ items.
-        map (λ item. table_view item.now) items.items ≡ map (λ entry. members_of (view entry)) entries.now)) }
-    ensures known { IfOk result (λ found. IfSome found (λ _.
-        All (IsTableOf item_keys) (map (λ entry. view entry) entries.now))) }
-    ensures none { IfOk result (λ found. IfNone found (
-        All (IsTableOf item_keys) (map (λ entry. view entry) entries.now) → ⊥)) }
+/// Whether each of these entries is a table with no other keys than an item may have.
+fn have_item_keys(entries: &[Value]) -> bool
+    ensures { IsTrue result ↔ All (IsTableOf item_keys) (map (λ entry. view entry) entries.now) }
 {
-    let mut items = Vec::new(alloc);
     for entry in entries {
-        match table_of(entry, &["slot", "index", "word", "to", "frame", "value"]) {
-            Some(table) => items.push(table)?,
-            None => return Ok(None),
+        if table_of(entry, &["slot", "index", "word", "to", "frame", "value"]).is_none() {
+            return false;
         }
     }
-    Ok(Some(items))
+    true
 }
 
-/// The items that the tables of each fault state.
-fn stated_items(alloc: Global, faults: &[Vec<&Table>]) -> Result<Vec<Vec<Item>>, Stop<BrokenRule>>
-    requires { length faults.now ≤ fault_limit }
-    ensures changes { IfOk result (λ stated.
-        map (λ items. Some (map change_of items.items)) stated.items
-        ≡ map (λ tables. each_read change_in (map (λ item. table_view item.now) tables.items)) faults.now) }
-    ensures tests { Tests 29 (λ place. HoldsOf (map (λ tables. map (λ item. table_view item.now) tables.items) faults.now) place
-        (λ items. each_read change_in items ≡ None)) result }
+/// The items that each fault says.
+fn said_items(alloc: Global, tables: &[&Table]) -> Result<Vec<Vec<Item>>, Stop<BrokenRule>>
+    requires { length tables.now ≤ fault_limit }
+    ensures changes { IfOk result (λ said.
+        map (λ items. Some (map change_of items.items)) said.items ≡ map (λ fault. changes_of (table_view fault.now)) tables.now) }
+    ensures tests { Tests 29 (λ place. HoldsOf (map (λ fault. table_view fault.now) tables.now) place
+        (λ fault. changes_of fault ≡ None)) result }
 {
-    let mut stated = Vec::new(alloc);
-    for (place, tables) in faults.iter().enumerate() {
-        match items_in(alloc, tables)? {
-            Some(items) => stated.push(items)?,
+    let mut said = Vec::new(alloc);
+    for (place, fault) in tables.iter().enumerate() {
+        match items_in(alloc, entries_at(fault, "say"))? {
+            Some(items) => said.push(items)?,
             None => return Err(broken(29, place)),
         }
     }
-    Ok(stated)
+    Ok(said)
 }
 
-/// The items that these tables state, where each states one.
-fn items_in(alloc: Global, tables: &[&Table]) -> Result<Option<Vec<Item>>, NoMemory>
+/// The items that these entries state, where each states one.
+fn items_in(alloc: Global, entries: &[Value]) -> Result<Option<Vec<Item>>, NoMemory>
     ensures { IfOk result (λ found. option_map (λ items. map change_of items.items) found
-        ≡ each_read change_in (map (λ item. table_view item.now) tables.now)) }
+        ≡ each_read change_in (map (λ entry. members_of (view entry)) entries.now)) }
 {
     let mut items = Vec::new(alloc);
-    for table in tables {
-        match item_of(alloc, table)? {
+    for entry in entries {
+        match stated_item(alloc, entry)? {
             Some(item) => items.push(item)?,
             None => return Ok(None),
         }
@@ -218,18 +193,28 @@ fn items_in(alloc: Global, tables: &[&Table]) -> Result<Option<Vec<Item>>, NoMem
     Ok(Some(items))
 }
 
-/// The entries of faults, where these are their heads, and what they say.
-fn fault_entries(
+/// The item that an entry states, where it is a table that states one.
+fn stated_item(alloc: Global, entry: &Value) -> Result<Option<Item>, NoMemory>
+    ensures { IfOk result (λ found. option_map change_of found ≡ change_in (members_of (view entry.now))) }
+{
+    match entry.as_table() {
+        Some(table) => item_of(alloc, table),
+        None => Ok(None),
+    }
+}
+
+/// The script of faults, where these are their heads, and what they say.
+fn script_from(
     alloc: Global,
     tables: &[&Table],
     heads: &[Head],
     said: Vec<Vec<Item>>,
-) -> Result<Vec<Entry>, Stop<BrokenRule>>
+) -> Result<Script, Stop<BrokenRule>>
     requires few { length tables.now ≤ fault_limit }
     requires read { AreFaultsRead (map (λ fault. table_view fault.now) tables.now) heads.now
         (map (λ items. map change_of items.items) said.items) }
-    ensures read { IfOk result (λ entries.
-        map fault_of entries.items ≡ map (λ fault. fault_in (table_view fault.now)) tables.now) }
+    ensures read { IfOk result (λ script.
+        faults_of script ≡ map (λ fault. fault_in (table_view fault.now)) tables.now) }
     ensures tests { Tests 30 (λ place. HoldsOf (map (λ fault. table_view fault.now) tables.now) place
         (λ fault. stated_storm fault ≡ None)) result }
 {
@@ -242,7 +227,7 @@ fn fault_entries(
             None => return Err(broken(30, place)),
         }
     }
-    Ok(entries)
+    Ok(Script { entries })
 }
 
 /// How a fault fails that says this: by its storm, where it has one. `None` where its `storm` states none.

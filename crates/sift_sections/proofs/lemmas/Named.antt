@@ -5,7 +5,7 @@ use Rattle.sift_script.specs.Script.{Change, Failing, changing}
 use Rattle.sift_document.specs.Document.{IsTableOf, members_of, tables_in}
 use Rattle.sift_document.specs.Rules.{BreaksEntries, HoldsOf, OfNoEntry, Rule, rule}
 use Rattle.sift_sections.specs.Clock.{StartTogether, clock_keys, drifts_of, errors_of, figure_rules, starts_of, unit_rules}
-use Rattle.sift_sections.specs.Fault.{AreItems, StandsAlone, changes_of, from_of, unit_of}
+use Rattle.sift_sections.specs.Fault.{AreItems, StandsAlone, changes_of, from_of, stated_storm, unit_of}
 use Rattle.sift_sections.specs.Table.{IsTableEntry, positions_of, shed_of, size_count, subframes_at}
 
 -- ---- keys and values
@@ -60,8 +60,14 @@ HasOneWay fault = StandsAlone (codes "say") (codes "storm") AreItems fault ⊎ S
 abbrev pub BreaksHeads : List Members → ℕ → Type 0
 BreaksHeads faults place = HoldsOf faults place IsHeadless
 
+abbrev pub BreaksWays : List Members → ℕ → Type 0
+BreaksWays faults place = HoldsOf faults place (λ fault. HasOneWay fault → ⊥)
+
 abbrev pub BreaksItems : List Members → ℕ → Type 0
 BreaksItems faults place = HoldsOf faults place (λ fault. changes_of fault ≡ None)
+
+abbrev pub BreaksStorms : List Members → ℕ → Type 0
+BreaksStorms faults place = HoldsOf faults place (λ fault. stated_storm fault ≡ None)
 
 -- ---- lists of rules
 
@@ -69,6 +75,10 @@ BreaksItems faults place = HoldsOf faults place (λ fault. changes_of fault ≡ 
 abbrev pub clock_themes : (units : ℕ) → Data → List (List Rule)
 clock_themes units value =
     (rule 6 (OfNoEntry (¬ IsTableOf clock_keys value)) ∷ []) ∷ figure_rules (members_of value) ∷ unit_rules units (members_of value) ∷ []
+
+-- the rules of the faults in some tables
+abbrev pub each_fault_rules : List Members → List Rule
+each_fault_rules faults = rule 27 (BreaksHeads faults) ∷ rule 28 (BreaksWays faults) ∷ rule 29 (BreaksItems faults) ∷ rule 30 (BreaksStorms faults) ∷ []
 
 -- the last rule of the tables
 abbrev pub later_table_rules : Option Data → List Rule

@@ -38,3 +38,6 @@ returns-clause-same c =
     YieldsList-end (YieldsList-from_vec {s = c.into_iter-table-iterator.result} c.args.tables.items (search rules) (search rules))
     c.loop-table.yielded c.loop-table.table-iterator c.loop-table.yielded_by c.next.result c.next.new.self c.in-None.is c.next.ensures.steps in
     c.loop-table.invariant.0 ∙ ap (map schedule_of) (sym (map-id c.loop-table.yielded) ∙ end.0)
+
+pub returns-clause-good : goal.returns-clause-good
+returns-clause-good c = c.loop-table.invariant.1

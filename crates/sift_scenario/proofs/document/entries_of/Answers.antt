@@ -146,3 +146,7 @@ returns-clause-read c =
           ∙ ap (λ n. schedules_by (get_member (codes "table") document) root.units c.period_of-period.result n) count;
       faults = c.in_ok-script.ensures.read;
     }
+
+-- the tables are few
+pub check_sheds-requires : goal.check_sheds-requires
+check_sheds-requires c = c.in_ok-tables.ensures.few

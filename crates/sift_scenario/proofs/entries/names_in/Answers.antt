@@ -1,10 +1,10 @@
 use Rattle.std.proofs.Common.{ℕ, List, Some, below_more, map, take, sym, ◌∙◌, arith}
-use Rattle.std.proofs.lemmas.Grind.{common_steps}
 use Rattle.toml.specs.Data.{Members}
 use Rattle.toml.specs.View.{table_view}
 use Rattle.sift_document.proofs.lemmas.Places.{fails_here, holds_here, in_two_steps, nowhere, read_more}
 use Rattle.sift_document.proofs.lemmas.Testing.{first_broken}
 use Rattle.sift_scenario.specs.Task.{IsNewName, name_of}
+use Rattle.std.proofs.lemmas.List.{length-map, take_all}
 use Rattle.sift_scenario.proofs.entries.names_in.Goals as goal
 
 -- no name is a new one of the entry at a place
@@ -40,4 +40,5 @@ returns-clause-tests c =
     (λ at low. c.loop-place.invariant.1 at (omega (arith, low, c.loop-place-test.false)))
 
 pub returns-clause-names : goal.returns-clause-names
-returns-clause-names c = grind (arith, common_steps)
+returns-clause-names c =
+    c.loop-place.invariant.0 ∙ take_all c.loop-place.place (map (λ entry. name_of (table_view entry.now)) c.args.tables.now) (rw length-map c.loop-place-test.false)

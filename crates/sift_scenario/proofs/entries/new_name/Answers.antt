@@ -1,4 +1,4 @@
-use Rattle.std.proofs.Common.{◌≡◌, Some, false, true, sym}
+use Rattle.std.proofs.Common.{◌≡◌, ◌∙◌, Some, None, false, true, refl, sym}
 use Rattle.toml.specs.View.{table_view}
 use Rattle.sift_scenario.specs.Task.{name_of}
 use Rattle.sift_scenario.proofs.NewNames.{found_name, is_new, no_new}
@@ -22,3 +22,14 @@ returns-else-is_name-clause-none c name =
       | else-is_name-via-then-is_name+else-not-is_among w ↦ λ form. w.is_among.ensures.0 w.if-not-is_among.false
       | else-is_name-via-else-is_name w ↦ λ form. let wrong : false ≡ true = rw w.if-is_name.false at c.is_name.ensures.1 form in cc wrong
     ])
+
+-- no text is there
+pub returns-in_err-member_of-clause-none : goal.returns-in_err-member_of-clause-none
+returns-in_err-member_of-clause-none c =
+    let none : name_of (table_view c.args.entry.now) ≡ None = rw (← c.in_err-member_of.ensures) refl in
+    rw c.from_residual.ensures (λ name new. let wrong : Some name ≡ None = sym new.stated ∙ none in cc wrong)
+
+pub returns-in_err-text-clause-none : goal.returns-in_err-text-clause-none
+returns-in_err-text-clause-none c =
+    let none : name_of (table_view c.args.entry.now) ≡ None = rw (← c.in_ok-member_of.ensures) (sym c.in_err-text.ensures) in
+    rw c.from_residual-in_err-text.ensures (λ name new. let wrong : Some name ≡ None = sym new.stated ∙ none in cc wrong)

@@ -1,6 +1,5 @@
-use Rattle.std.proofs.Common.{◌≡◌, Err, rules, map, length, sym, subst, ◌∙◌, ap, arith}
+use Rattle.std.proofs.Common.{◌≡◌, Err, rules, map, length, sym, subst, ◌∙◌, ap, arith, Some}
 use Rattle.std.proofs.lemmas.List.{length-map}
-use Rattle.std.proofs.lemmas.Grind.{common_steps}
 use Rattle.sift_lang.specs.Tree.{tree_of}
 use Rattle.sift_parse.specs.Roll.{Roll, roll_of}
 use Rattle.sift_document.proofs.lemmas.Order.{refused_from}
@@ -8,6 +7,7 @@ use Rattle.sift_scenario.proofs.Read.{length_is, roll_read, running_from, sensor
 use Rattle.sift_scenario.specs.Refusal.{IsFirstRefused}
 use Rattle.sift_scenario.specs.Testing.{AreTurns, form_of}
 use Rattle.sift_scenario.proofs.Named.{AreTreesOf}
+use Rattle.sift_scenario.specs.Task.{name_of, start_words, tasks_of}
 use Rattle.sift_scenario.proofs.program.run_entries.Goals as goal
 
 -- the sensors and the start words are few
@@ -65,8 +65,15 @@ returns-clause-running c = λ document read.
     c.in_ok-compiled.ensures.allowed
     (rw (c.len.ensures ∙ c.args.entries.now.sensors.names.ok.0, c.len-2.ensures ∙ c.in_ok-starts.starts.ok.0) at c.in_ok-compiled.ensures.codes)
 
+-- the tasks are few, and each has a name and start words
 pub names_for-requires : goal.names_for-requires
-names_for-requires c = grind (arith, common_steps)
+names_for-requires c =
+    let tasks = c.requires.1.tasks in
+    let names = sym (length-map c.args.entries.now.tasks.names.items (λ name. Some name.bytes)) ∙ ap length tasks.names ∙ length-map (tasks_of c.requires.0) name_of in
+    let starts = sym (length-map c.args.entries.now.tasks.starts.items (λ words. Some words.items)) ∙ ap length tasks.starts ∙ length-map (tasks_of c.requires.0) start_words in
+    ap length c.deref-2.ensures.value ∙ names ∙ sym (ap length c.deref-3.ensures.value ∙ starts)
 
 pub compile_tasks-requires-clause-few : goal.compile_tasks-requires-clause-few
-compile_tasks-requires-clause-few c = grind (arith, common_steps)
+compile_tasks-requires-clause-few c =
+    let tasks = c.requires.1.tasks in
+    omega (arith, ap length c.deref-5.ensures.value, length-map c.args.entries.now.tasks.forms.items form_of, tasks.forms.as_many, tasks.few)

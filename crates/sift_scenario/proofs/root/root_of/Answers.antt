@@ -40,3 +40,16 @@ returns-clause-tests c = (
   c.in_ok-check_keys.ensures,
   (c.in_ok-units.ensures.tests, (c.in_ok-frames.ensures.tests, (c.in_ok-version.ensures.tests, (c.in_ok-subframes.ensures.tests, tt)))),
 )
+
+-- what was read is what the root states
+pub returns-clause-version : goal.returns-clause-version
+returns-clause-version c = c.in_ok-version.ensures.version
+
+pub returns-clause-units : goal.returns-clause-units
+returns-clause-units c = c.in_ok-units.ensures.units
+
+pub returns-clause-frames : goal.returns-clause-frames
+returns-clause-frames c = c.in_ok-frames.ensures.frames
+
+pub returns-clause-subframes : goal.returns-clause-subframes
+returns-clause-subframes c = c.in_ok-subframes.ensures.subframes

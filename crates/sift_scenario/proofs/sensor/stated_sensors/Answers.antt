@@ -1,4 +1,4 @@
-use Rattle.std.proofs.Common.{◌≡◌, [], Some, Err, rules, map, ap, ◌∙◌}
+use Rattle.std.proofs.Common.{◌≡◌, [], Some, Err, rules, map, ap, ◌∙◌, length, arith}
 use Rattle.toml.specs.View.{table_view, view}
 use Rattle.sift_document.proofs.lemmas.Order.{stopped}
 use Rattle.sift_scenario.proofs.Starts.{names_from, unwrapped}
@@ -48,3 +48,10 @@ returns-clause-tests c =
     let named = rw (c.deref.ensures.value, c.in_ok-tables.ensures.tables) at c.in_ok-names.ensures.tests in
     let sensed = rw (c.deref-2.ensures.value, c.in_ok-tables.ensures.tables) at c.in_ok-words.ensures.tests in
     (c.in_ok-tables.ensures.tests, (named, (sensed, tt)))
+
+-- the sensors are few
+pub names_in-requires : goal.names_in-requires
+names_in-requires c = omega (arith, ap length c.deref.ensures.value, c.in_ok-tables.ensures.few)
+
+pub sensed_words-requires : goal.sensed_words-requires
+sensed_words-requires c = omega (arith, ap length c.deref-2.ensures.value, c.in_ok-tables.ensures.few)

@@ -61,7 +61,22 @@ pub loop-place-init : goal.loop-place-init
 loop-place-init c = grind (arith, common_steps)
 
 pub returns-clause-forms : goal.returns-clause-forms
-returns-clause-forms c = grind (arith, common_steps)
+returns-clause-forms c = record {
+  as_many = omega (
+    arith,
+    length-map c.loop-place.forms.items form_of,
+    length-map c.args.tasks.now (λ task. table_view task.now),
+    c.loop-place.invariant.0,
+    c.loop-place-test.false,
+    c.loop-place.auto.place-end,
+  );
+  each = c.loop-place.invariant.2;
+}
 
+-- there are as many start words as tasks
 pub bounds-starts-place : goal.bounds-starts-place
-bounds-starts-place c = grind (arith, common_steps)
+bounds-starts-place c =
+    let tables = map (λ task. table_view task.now) c.args.tasks.now in
+    let as_many : length c.args.starts.now ≡ length tables =
+    sym (length-map c.args.starts.now (λ words. length words.items)) ∙ ap length c.requires.starts ∙ length-map tables task_outputs in
+    rw (as_many, length-map) c.loop-place-test.true

@@ -1,9 +1,9 @@
-use Rattle.std.proofs.Common.{◌≡◌, Some, None, below_more, sym, ◌∙◌, arith}
-use Rattle.std.proofs.lemmas.Grind.{common_steps}
+use Rattle.std.proofs.Common.{◌≡◌, Some, None, below_more, sym, ◌∙◌, arith, map}
 use Rattle.toml.specs.View.{table_view}
 use Rattle.sift_document.proofs.lemmas.Places.{fails_here, holds_here, nowhere, read_more}
 use Rattle.sift_document.proofs.lemmas.Testing.{first_broken}
 use Rattle.sift_scenario.specs.Task.{start_words}
+use Rattle.std.proofs.lemmas.List.{length-map, take_all}
 use Rattle.sift_scenario.proofs.task.task_starts.Goals as goal
 
 -- a task has no start words
@@ -33,4 +33,5 @@ returns-clause-tests c =
     (λ at low. c.loop-place.invariant.1 at (omega (arith, low, c.loop-place-test.false)))
 
 pub returns-clause-starts : goal.returns-clause-starts
-returns-clause-starts c = grind (arith, common_steps)
+returns-clause-starts c =
+    c.loop-place.invariant.0 ∙ take_all c.loop-place.place (map (λ task. start_words (table_view task.now)) c.args.tasks.now) (rw length-map c.loop-place-test.false)

@@ -1,4 +1,4 @@
-use Rattle.std.proofs.Common.{◌≡◌, ◌<◌, ◌+◌, ℕ, Err, rules, length, map, take, sym, ap, arith, ◌∙◌}
+use Rattle.std.proofs.Common.{◌≡◌, ◌<◌, ◌+◌, ℕ, Err, rules, length, map, take, sym, ap, arith, ◌∙◌, Some}
 use Rattle.std.proofs.lemmas.List.{length-map}
 use Rattle.std.specs.List.{sum}
 use Rattle.toml.specs.View.{table_view}
@@ -95,3 +95,19 @@ returns-clause-tests c =
     rw (← counts, length-map) (rw c.deref-3.ensures.value at c.in_ok-check_words.ensures) in
     let forms = rw (c.deref-4.ensures.value, c.in_ok-tables.ensures.tables) at c.in_ok-forms.ensures.tests in
     (c.in_ok-tables.ensures.tests, (named, (starting, (few, (forms, tt)))))
+
+-- the tasks are few
+pub names_in-requires : goal.names_in-requires
+names_in-requires c = omega (arith, ap length c.deref.ensures.value, c.in_ok-tables.ensures.few)
+
+pub task_starts-requires : goal.task_starts-requires
+task_starts-requires c = omega (arith, ap length c.deref-2.ensures.value, c.in_ok-tables.ensures.few)
+
+pub check_words-requires : goal.check_words-requires
+check_words-requires c =
+    let many = sym (length-map c.in_ok-starts.starts.items (λ words. Some words.items)) ∙ ap length c.in_ok-starts.ensures.starts
+    ∙ length-map c.deref-2.result.now (λ task. start_words (table_view task.now)) in
+    omega (arith, many, ap length c.deref-2.ensures.value, ap length c.deref-3.ensures.value, c.in_ok-tables.ensures.few)
+
+pub task_forms-requires-clause-few : goal.task_forms-requires-clause-few
+task_forms-requires-clause-few c = omega (arith, ap length c.deref-4.ensures.value, c.in_ok-tables.ensures.few)

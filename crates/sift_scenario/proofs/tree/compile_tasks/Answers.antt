@@ -1,6 +1,5 @@
 use Rattle.std.proofs.Common.{◌≡◌, ◌<◌, [], ◌∷◌, ◌++◌, length, map, Err, rules, refl, sym, subst, ◌∙◌, arith}
 use Rattle.std.proofs.lemmas.List.{length-map, map-append}
-use Rattle.std.proofs.lemmas.Grind.{common_steps}
 use Rattle.sift_lang.specs.Tree.{tree_of}
 use Rattle.sift_parse.proofs.lemmas.Sound.{has_words}
 use Rattle.sift_parse.specs.Outcome.{AreNames}
@@ -79,5 +78,32 @@ loop-task-preserved c =
       rw new (codes_more c.args.sensors c.args.words trees tree _ _ _ c.loop-task.invariant.6 c.in_ok-push-2.ensures.items c.in_ok-code.ensures.code),
     )
 
+-- a task has a number, and some steps are left
+pub tree_code-requires-clause-task : goal.tree_code-requires-clause-task
+tree_code-requires-clause-task c = omega (arith, c.loop-task-test.true, c.requires.few)
+
+pub tree_code-requires-clause-left : goal.tree_code-requires-clause-left
+tree_code-requires-clause-left c = omega (arith, c.loop-task.invariant.5)
+
+pub overflow_sub-left : goal.overflow_sub-left
+overflow_sub-left c = omega (arith, c.bound-left.ensures, c.in_ok-code.ensures.steps, c.in_ok-code.ensures.quick refl)
+
+-- all tasks have a tree and code
 pub returns-clause-trees : goal.returns-clause-trees
-returns-clause-trees c = grind (arith, common_steps)
+returns-clause-trees c = record {
+  as_many = omega (
+    arith,
+    length-map c.loop-task.trees.items tree_of,
+    length-map c.args.forms.now form_of,
+    c.loop-task.invariant.0,
+    c.loop-task-test.false,
+    c.loop-task.auto.task-end,
+  );
+  each = c.loop-task.invariant.3;
+}
+
+pub returns-clause-allowed : goal.returns-clause-allowed
+returns-clause-allowed c = c.loop-task.invariant.4
+
+pub returns-clause-codes : goal.returns-clause-codes
+returns-clause-codes c = c.loop-task.invariant.6

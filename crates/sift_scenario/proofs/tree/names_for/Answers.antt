@@ -18,3 +18,7 @@ returns c =
     let names = take_all c.loop-place.place (map (λ name. name.bytes) c.args.names.now) (rw length-map c.loop-place-test.false) in
     let sizes = take_all c.loop-place.place (map (λ words. length words.items) c.args.starts.now) (rw length-map (omega (arith, c.loop-place-test.false, c.requires))) in
     rw (c.in_ok-from_slice.ensures.items, c.loop-place.invariant.0, names, c.loop-place.invariant.1, sizes) refl
+
+-- there are as many start words as names
+pub bounds-starts-place : goal.bounds-starts-place
+bounds-starts-place c = omega (arith, c.loop-place-test.true, c.requires)

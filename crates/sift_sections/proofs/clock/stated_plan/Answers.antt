@@ -1,8 +1,16 @@
-use Rattle.std.proofs.Common.{◌≡◌, Err, rules, arith}
-use Rattle.std.proofs.lemmas.Grind.{common_steps}
+use Rattle.std.proofs.Common.{◌≡◌, Some, Err, rules, arith}
 use Rattle.toml.specs.View.{table_view, view}
+use Rattle.sift_document.proofs.lemmas.Order.{stopped}
+use Rattle.sift_sections.specs.Clock.{clock_rules}
 use Rattle.sift_sections.proofs.ClockTests.{clock_kept, drift_kept, drift_refused, errors_kept, errors_refused, figure_refused, start_kept, start_refused, units_refused}
+use Rattle.sift_sections.proofs.Figures.{few_error, few_length, few_rate, few_skew}
 use Rattle.sift_sections.proofs.clock.stated_plan.Goals as goal
+
+-- the value is no table of a clock
+pub returns-in_err-clock-clause-tests : goal.returns-in_err-clock-clause-tests
+returns-in_err-clock-clause-tests c =
+    let same : c.from_residual.result ≡ Err c.in_err-clock.field-0.0 = search rules in
+    rw same (stopped 0 (clock_rules c.args.units (Some (view c.args.value.now))) c.in_err-clock.field-0.0 c.in_err-clock.ensures.tests)
 
 -- a figure is refused
 pub returns-in_err-figures-clause-tests : goal.returns-in_err-figures-clause-tests
@@ -52,14 +60,24 @@ returns-clause-tests c =
       ),
     )
 
+-- the figures are within their limits
+pub starts_of-requires-clause-skew : goal.starts_of-requires-clause-skew
+starts_of-requires-clause-skew c = few_skew (table_view c.in_ok-clock.clock.now) _ c.in_ok-figures.ensures.skew
+
+pub drifts_of-requires-clause-rate : goal.drifts_of-requires-clause-rate
+drifts_of-requires-clause-rate c = few_rate (table_view c.in_ok-clock.clock.now) _ c.in_ok-figures.ensures.rate
+
+pub errors_of-requires-clause-error : goal.errors_of-requires-clause-error
+errors_of-requires-clause-error c = few_error (table_view c.in_ok-clock.clock.now) _ c.in_ok-figures.ensures.error
+
 pub overflow_cast-result : goal.overflow_cast-result
-overflow_cast-result c = grind (arith, common_steps)
+overflow_cast-result c = omega (arith, few_skew (table_view c.in_ok-clock.clock.now) _ c.in_ok-figures.ensures.skew)
 
 pub overflow_cast-result-2 : goal.overflow_cast-result-2
-overflow_cast-result-2 c = grind (arith, common_steps)
-
-pub overflow_cast-result-4 : goal.overflow_cast-result-4
-overflow_cast-result-4 c = grind (arith, common_steps)
+overflow_cast-result-2 c = omega (arith, few_error (table_view c.in_ok-clock.clock.now) _ c.in_ok-figures.ensures.error)
 
 pub overflow_cast-result-3 : goal.overflow_cast-result-3
-overflow_cast-result-3 c = grind (arith, common_steps)
+overflow_cast-result-3 c = omega (arith, few_rate (table_view c.in_ok-clock.clock.now) _ c.in_ok-figures.ensures.rate)
+
+pub overflow_cast-result-4 : goal.overflow_cast-result-4
+overflow_cast-result-4 c = omega (arith, few_length (table_view c.in_ok-clock.clock.now) _ c.in_ok-figures.ensures.length)

@@ -3,7 +3,7 @@ use Rattle.toml.specs.View.{table_view}
 use Rattle.sift_script.specs.Script.{fault_of}
 use Rattle.sift_document.specs.Rules.{HoldsOf}
 use Rattle.sift_sections.specs.Fault.{fault_in, stated_storm}
-use Rattle.sift_sections.proofs.fault.fault_entries.Given as goal
+use Rattle.sift_sections.proofs.fault.script_from.Given as goal
 
 -- the faults so far, none of which breaks the rule
 abbrev pub invariant-loop-items : goal.invariant-loop-items
