@@ -3,6 +3,7 @@ pub mod BlockLaws
 pub mod Chains
 pub mod Complete
 pub mod CompleteChains
+pub mod Exits
 pub mod ExprLaws
 pub mod Laws
 pub mod Looks
@@ -10,6 +11,7 @@ pub mod Offending
 pub mod PrimLaws
 pub mod Sequences
 pub mod Signs
+pub mod Starts
 pub mod Steps
 pub mod Turns
 pub mod ValueLaws
