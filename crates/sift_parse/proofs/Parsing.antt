@@ -10,6 +10,7 @@ pub mod Looks
 pub mod Offending
 pub mod PrimLaws
 pub mod Sequences
+pub mod Shorter
 pub mod Signs
 pub mod Starts
 pub mod Steps

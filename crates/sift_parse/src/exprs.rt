@@ -48,8 +48,9 @@ fn chain(alloc: Global, tokens: &mut Tokens<'_>, n: u8, first: Expr) -> Result<E
 {
     let mut left = first;
     while let Some(op) = tokens.operator(n) {
+        let before = Box::new(alloc, left)?;
         let right = level(alloc, tokens, n + 1)?;
-        left = Expr::Binary(op, Box::new(alloc, left)?, Box::new(alloc, right)?);
+        left = Expr::Binary(op, before, Box::new(alloc, right)?);
         if n == COMPARISON_LEVEL {
             return Ok(left);
         }

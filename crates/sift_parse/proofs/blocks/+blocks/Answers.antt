@@ -13,6 +13,7 @@ use Rattle.sift_parse.specs.Reading.{fault, read_sign, read_name, read_number, r
 use Rattle.sift_parse.specs.ReadingBlocks.{read_block, braced_by, valued_by, else_by, if_by, statement_by}
 use Rattle.sift_parse.proofs.Parsing.Exits.{out-of-memory, part-failed, token-failed}
 use Rattle.sift_parse.proofs.Parsing.Sequences.{closed-inner, closed-sign, braced-open, braced-rest}
+use Rattle.sift_parse.proofs.Parsing.Shorter.{behind, behind-sign, behind-name, behind-number, behind-index}
 use Rattle.sift_parse.proofs.Parsing.Starts.{none-left, front, statement-none, let-name, let-value, set-value, out-word, out-value, if-rest, repeat-number, repeat-block, of-let, of-set, of-output, of-repeat, of-if, of-if_else}
 use Rattle.sift_parse.proofs.Parsing.Turns.{turns-more, turns-end, turns-fault, else-found, else-fault, else-none, if-test, if-fault, if-to, answered}
 use Rattle.sift_parse.proofs.blocks.+blocks.Goals as goal
@@ -280,3 +281,38 @@ statement-returns-in_ok-value-in-Name-clause-reads t c =
     let begins = front (Name c.in-Name.local) (Keyword Let) ts c.in-len1-up.len_at_least c.in-Name.is in
     rw (of-set c.in-Name.local c.in_ok-value-in-Name.field-0)
     (set-value c.in-Name.local ts us _ begins c.in_ok-value-in-Name.ensures.reads)
+
+pub braced-returns-clause-goes_on : goal.braced-returns-clause-goes_on
+braced-returns-clause-goes_on t c =
+    let ts = c.args.tokens.now.rest.now in
+    let us = c.sign.new.self.rest.now in
+    let vs = c.block.new.tokens.rest.now in
+    omega (arith, behind-sign OpenBrace ts us c.in_ok-sign.ensures, c.in_ok-inner.ensures.goes_on, behind-sign CloseBrace vs c.sign-2.new.self.rest.now c.in_ok-sign-2.ensures)
+
+pub statement-returns-in_ok-value-in-Keyword-Let-clause-goes_on : goal.statement-returns-in_ok-value-in-Keyword-Let-clause-goes_on
+statement-returns-in_ok-value-in-Keyword-Let-clause-goes_on t c =
+    let ts = c.args.tokens.now.rest.now in
+    let us = take (length ts - 1) (drop 1 ts) in
+    omega (arith, behind ts c.in-len1-up.len_at_least, behind-name us c.name.new.self.rest.now _ c.in_ok-name-in-Keyword-Let.ensures, c.in_ok-value-in-Keyword-Let.ensures.goes_on)
+
+pub statement-returns-in_ok-value-in-Keyword-Out-clause-goes_on : goal.statement-returns-in_ok-value-in-Keyword-Out-clause-goes_on
+statement-returns-in_ok-value-in-Keyword-Out-clause-goes_on t c =
+    let ts = c.args.tokens.now.rest.now in
+    let us = take (length ts - 1) (drop 1 ts) in
+    omega (arith, behind ts c.in-len1-up.len_at_least, behind-index us c.index.new.self.rest.now _ c.in_ok-word-in-Keyword-Out.ensures, c.in_ok-value-in-Keyword-Out.ensures.goes_on)
+
+pub statement-returns-in_ok-braced-in-Keyword-Repeat-clause-goes_on : goal.statement-returns-in_ok-braced-in-Keyword-Repeat-clause-goes_on
+statement-returns-in_ok-braced-in-Keyword-Repeat-clause-goes_on t c =
+    let ts = c.args.tokens.now.rest.now in
+    let us = take (length ts - 1) (drop 1 ts) in
+    omega (arith, behind ts c.in-len1-up.len_at_least, behind-number us c.number.new.self.rest.now _ c.in_ok-rounds-in-Keyword-Repeat.ensures, c.in_ok-braced-in-Keyword-Repeat.ensures.goes_on)
+
+pub statement-returns-in_ok-branches-in-Keyword-If-clause-goes_on : goal.statement-returns-in_ok-branches-in-Keyword-If-clause-goes_on
+statement-returns-in_ok-branches-in-Keyword-If-clause-goes_on t c =
+    let ts = c.args.tokens.now.rest.now in
+    omega (arith, behind ts c.in-len1-up.len_at_least, c.in_ok-branches-in-Keyword-If.ensures.goes_on)
+
+pub statement-returns-in_ok-value-in-Name-clause-goes_on : goal.statement-returns-in_ok-value-in-Name-clause-goes_on
+statement-returns-in_ok-value-in-Name-clause-goes_on t c =
+    let ts = c.args.tokens.now.rest.now in
+    omega (arith, behind ts c.in-len1-up.len_at_least, c.in_ok-value-in-Name.ensures.goes_on)

@@ -11,6 +11,7 @@ use Rattle.sift_parse.specs.Reading.{read_sign, read_name, read_word, prim_by, c
 use Rattle.sift_parse.proofs.Parsing.Chains.{leads-start, leads-more, leads-compared, leads-fault, leads-end, reads-prim, reads-chain, reads-fault}
 use Rattle.sift_parse.proofs.Parsing.Exits.{out-of-memory, part-failed, token-failed}
 use Rattle.sift_parse.proofs.Parsing.Sequences.{reads-suc, answered, closed-inner, closed-sign, middle-open, middle-first, middle-second, middle-third, middle-found}
+use Rattle.sift_parse.proofs.Parsing.Shorter.{behind, behind-sign, behind-name, behind-word}
 use Rattle.sift_parse.proofs.Parsing.Starts.{none-left, front, prim-none, number-here, local-here, minus-prim, paren-rest, mid-rest, sense-name, now-word, last-word}
 use Rattle.sift_parse.proofs.exprs.+exprs.Goals as goal
 
@@ -23,7 +24,7 @@ chain-returns-in_err-right-clause-reads t c =
     let us = c.operator.new.self.rest.now in
     let ts = c.args.tokens.now.rest.now in
     part-failed Term Term Expr Expr term_of term_of (λ fuel. read fuel (n + 1)) (λ fuel. tail fuel n (term_of c.args.first))
-    us c.args.tokens.now.rest.now c.level.new.tokens.rest.now c.in_err-right.field-0.0 c.from_residual.result c.from_residual.ensures
+    us c.args.tokens.now.rest.now c.level.new.tokens.rest.now c.in_err-right.field-0.0 c.from_residual-in_err-right.result c.from_residual-in_err-right.ensures
     (λ bad r. leads-fault n c.in-Some.op (term_of c.args.first) (term_of c.loop-op.left) ts us bad c.in-Some.ensures.1
     (rw c.in-Some.ensures.0 at c.loop-op.invariant.leads) (reads-suc n us _ r)) c.in_err-right.ensures.reads
 
@@ -31,7 +32,7 @@ pub chain-returns-then-n-eq-COMPARISON_LEVEL-clause-reads : goal.chain-returns-t
 chain-returns-then-n-eq-COMPARISON_LEVEL-clause-reads t c =
     let n = c.args.n in
     let us = c.operator.new.self.rest.now in
-    rw (c.in_ok-new.ensures.ok, c.in_ok-new-2.ensures.ok)
+    rw (c.in_ok-before.ensures.ok, c.in_ok-new.ensures.ok)
     (leads-compared n c.in-Some.op (term_of c.args.first) (term_of c.loop-op.left)
     (term_of c.in_ok-right.right) c.args.tokens.now.rest.now us c.level.new.tokens.rest.now c.if-n-eq-COMPARISON_LEVEL.true
     c.in-Some.ensures.1 (rw c.in-Some.ensures.0 at c.loop-op.invariant.leads) (reads-suc n us _ c.in_ok-right.ensures.reads))
@@ -44,7 +45,7 @@ chain-loop-op-preserved t c =
     record {
       shorter = omega (arith, c.in_ok-right.ensures.goes_on);
       leads =
-          rw (c.in_ok-new.ensures.ok, c.in_ok-new-2.ensures.ok)
+          rw (c.in_ok-before.ensures.ok, c.in_ok-new.ensures.ok)
           (leads-more n c.in-Some.op (term_of c.args.first) (term_of c.loop-op.left)
           (term_of c.in_ok-right.right) c.args.tokens.now.rest.now us c.level.new.tokens.rest.now (omega arith) c.in-Some.ensures.1
           (rw c.in-Some.ensures.0 at c.loop-op.invariant.leads) (reads-suc n us _ c.in_ok-right.ensures.reads));
@@ -110,32 +111,20 @@ middle-returns-clause-reads t c =
     (term_of c.in_ok-third.third) c.in_ok-sign.ensures c.in_ok-first.ensures.reads c.in_ok-second.ensures.reads c.in_ok-third.ensures.reads)
 
 pub middle-returns-clause-goes_on : goal.middle-returns-clause-goes_on
-middle-returns-clause-goes_on c = grind (arith, common_steps)
+middle-returns-clause-goes_on t c =
+    let ts = c.args.tokens.now.rest.now in
+    omega (arith, behind-sign OpenParen ts c.sign.new.self.rest.now c.in_ok-sign.ensures, c.in_ok-first.ensures.goes_on,
+    c.in_ok-second.ensures.goes_on, c.in_ok-third.ensures.goes_on)
+
+pub chain-returns-in_err-before-clause-reads : goal.chain-returns-in_err-before-clause-reads
+chain-returns-in_err-before-clause-reads t c =
+    out-of-memory Term Expr term_of (λ fuel. tail fuel c.args.n (term_of c.args.first))
+    c.args.tokens.now.rest.now c.operator.new.self.rest.now c.from_residual.result c.from_residual.ensures
 
 pub chain-returns-in_err-new-clause-reads : goal.chain-returns-in_err-new-clause-reads
 chain-returns-in_err-new-clause-reads t c =
     out-of-memory Term Expr term_of (λ fuel. tail fuel c.args.n (term_of c.args.first))
     c.args.tokens.now.rest.now c.level.new.tokens.rest.now c.from_residual-in_err-new.result c.from_residual-in_err-new.ensures
-
-pub chain-returns-in_err-new-2-clause-reads : goal.chain-returns-in_err-new-2-clause-reads
-chain-returns-in_err-new-2-clause-reads t c =
-    out-of-memory Term Expr term_of (λ fuel. tail fuel c.args.n (term_of c.args.first))
-    c.args.tokens.now.rest.now c.level.new.tokens.rest.now c.from_residual-in_err-new-2.result c.from_residual-in_err-new-2.ensures
-
-pub middle-returns-in_err-new-clause-reads : goal.middle-returns-in_err-new-clause-reads
-middle-returns-in_err-new-clause-reads t c =
-    out-of-memory Term Expr term_of (λ fuel. middle_by (read fuel 0))
-    c.args.tokens.now.rest.now c.closed-3.new.tokens.rest.now c.from_residual-in_err-new.result c.from_residual-in_err-new.ensures
-
-pub middle-returns-in_err-new-2-clause-reads : goal.middle-returns-in_err-new-2-clause-reads
-middle-returns-in_err-new-2-clause-reads t c =
-    out-of-memory Term Expr term_of (λ fuel. middle_by (read fuel 0))
-    c.args.tokens.now.rest.now c.closed-3.new.tokens.rest.now c.from_residual-in_err-new-2.result c.from_residual-in_err-new-2.ensures
-
-pub middle-returns-in_err-new-3-clause-reads : goal.middle-returns-in_err-new-3-clause-reads
-middle-returns-in_err-new-3-clause-reads t c =
-    out-of-memory Term Expr term_of (λ fuel. middle_by (read fuel 0))
-    c.args.tokens.now.rest.now c.closed-3.new.tokens.rest.now c.from_residual-in_err-new-3.result c.from_residual-in_err-new-3.ensures
 
 pub prim-returns-in_err-new-in-Operator-Sub-clause-reads : goal.prim-returns-in_err-new-in-Operator-Sub-clause-reads
 prim-returns-in_err-new-in-Operator-Sub-clause-reads t c =
@@ -281,3 +270,53 @@ prim-returns-in_ok-word-in-Keyword-Last-clause-reads t c =
     let is = c.in-Keyword-Last.is ∙ ap Keyword (rw c.in-Keyword-Last.is at c.in-Keyword-Last.field-0-is) in
     let begins = front (Keyword Last) (Keyword Let) ts c.in-len1-up.len_at_least is in
     last-word ts us _ begins c.in_ok-word-in-Keyword-Last.ensures
+
+pub closed-returns-clause-goes_on : goal.closed-returns-clause-goes_on
+closed-returns-clause-goes_on t c =
+    omega (arith, c.in_ok-inner.ensures.goes_on, behind-sign c.args.sign c.level.new.tokens.rest.now c.sign.new.self.rest.now c.in_ok-sign.ensures)
+
+pub prim-returns-in_ok-new-in-Operator-Sub-clause-goes_on : goal.prim-returns-in_ok-new-in-Operator-Sub-clause-goes_on
+prim-returns-in_ok-new-in-Operator-Sub-clause-goes_on t c =
+    let ts = c.args.tokens.now.rest.now in
+    omega (arith, behind ts c.in-len1-up.len_at_least, c.in_ok-part-in-Operator-Sub.ensures.goes_on)
+
+pub prim-returns-in-Number-clause-goes_on : goal.prim-returns-in-Number-clause-goes_on
+prim-returns-in-Number-clause-goes_on t c =
+    behind c.args.tokens.now.rest.now c.in-len1-up.len_at_least
+
+pub prim-returns-in-Name-clause-goes_on : goal.prim-returns-in-Name-clause-goes_on
+prim-returns-in-Name-clause-goes_on t c =
+    behind c.args.tokens.now.rest.now c.in-len1-up.len_at_least
+
+pub prim-returns-in_ok-name-in-Keyword-Sense-clause-goes_on : goal.prim-returns-in_ok-name-in-Keyword-Sense-clause-goes_on
+prim-returns-in_ok-name-in-Keyword-Sense-clause-goes_on t c =
+    let ts = c.args.tokens.now.rest.now in
+    let us = take (length ts - 1) (drop 1 ts) in
+    omega (arith, behind ts c.in-len1-up.len_at_least, behind-name us c.name.new.self.rest.now _ c.in_ok-name-in-Keyword-Sense.ensures)
+
+pub prim-returns-in_ok-word-in-Keyword-Now-clause-goes_on : goal.prim-returns-in_ok-word-in-Keyword-Now-clause-goes_on
+prim-returns-in_ok-word-in-Keyword-Now-clause-goes_on t c =
+    let ts = c.args.tokens.now.rest.now in
+    let us = take (length ts - 1) (drop 1 ts) in
+    omega (arith, behind ts c.in-len1-up.len_at_least, behind-word us c.word.new.self.rest.now _ c.in_ok-word-in-Keyword-Now.ensures)
+
+pub prim-returns-in_ok-word-in-Keyword-Last-clause-goes_on : goal.prim-returns-in_ok-word-in-Keyword-Last-clause-goes_on
+prim-returns-in_ok-word-in-Keyword-Last-clause-goes_on t c =
+    let ts = c.args.tokens.now.rest.now in
+    let us = take (length ts - 1) (drop 1 ts) in
+    omega (arith, behind ts c.in-len1-up.len_at_least, behind-word us c.word-in-Keyword-Last.new.self.rest.now _ c.in_ok-word-in-Keyword-Last.ensures)
+
+pub middle-returns-in_err-new-clause-reads : goal.middle-returns-in_err-new-clause-reads
+middle-returns-in_err-new-clause-reads t c =
+    out-of-memory Term Expr term_of (λ fuel. middle_by (read fuel 0))
+    c.args.tokens.now.rest.now c.closed-3.new.tokens.rest.now c.from_residual-in_err-new.result c.from_residual-in_err-new.ensures
+
+pub middle-returns-in_err-new-2-clause-reads : goal.middle-returns-in_err-new-2-clause-reads
+middle-returns-in_err-new-2-clause-reads t c =
+    out-of-memory Term Expr term_of (λ fuel. middle_by (read fuel 0))
+    c.args.tokens.now.rest.now c.closed-3.new.tokens.rest.now c.from_residual-in_err-new-2.result c.from_residual-in_err-new-2.ensures
+
+pub middle-returns-in_err-new-3-clause-reads : goal.middle-returns-in_err-new-3-clause-reads
+middle-returns-in_err-new-3-clause-reads t c =
+    out-of-memory Term Expr term_of (λ fuel. middle_by (read fuel 0))
+    c.args.tokens.now.rest.now c.closed-3.new.tokens.rest.now c.from_residual-in_err-new-3.result c.from_residual-in_err-new-3.ensures
