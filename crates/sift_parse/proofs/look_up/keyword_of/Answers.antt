@@ -14,3 +14,15 @@ returns-in-sense c = grind (arith, common_steps)
 
 pub returns-in-last : goal.returns-in-last
 returns-in-last c = grind (arith, common_steps)
+
+pub returns-in-now : goal.returns-in-now
+returns-in-now c = grind (arith, common_steps)
+
+pub returns-in-mid : goal.returns-in-mid
+returns-in-mid c = grind (arith, common_steps)
+
+pub returns-in-out : goal.returns-in-out
+returns-in-out c = grind (arith, common_steps)
+
+pub returns-in-let : goal.returns-in-let
+returns-in-let c = grind (arith, common_steps)
