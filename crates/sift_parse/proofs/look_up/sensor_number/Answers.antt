@@ -4,4 +4,4 @@ use Rattle.sift_parse.proofs.Places.Newest.{position_from-dropped}
 use Rattle.sift_parse.proofs.look_up.sensor_number.Goals as goal
 
 pub loop-i-preserved : goal.loop-i-preserved
-loop-i-preserved c = first_of (search (rules, position_from-dropped), grind (arith, common_steps, position_from-dropped))
+loop-i-preserved c = grind (arith, common_steps, position_from-dropped)
