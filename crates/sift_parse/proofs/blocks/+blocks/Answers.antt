@@ -316,3 +316,43 @@ pub statement-returns-in_ok-value-in-Name-clause-goes_on : goal.statement-return
 statement-returns-in_ok-value-in-Name-clause-goes_on t c =
     let ts = c.args.tokens.now.rest.now in
     omega (arith, behind ts c.in-len1-up.len_at_least, c.in_ok-value-in-Name.ensures.goes_on)
+
+pub braced-block-requires : goal.braced-block-requires
+braced-block-requires t c =
+    let ts = c.args.tokens.now.rest.now in
+    (omega (arith, behind-sign OpenBrace ts c.sign.new.self.rest.now c.in_ok-sign.ensures), tt)
+
+pub branches-braced-requires : goal.branches-braced-requires
+branches-braced-requires t c =
+    (omega (arith, c.in_ok-test.ensures.goes_on), tt)
+
+pub branches-second_branch-requires : goal.branches-second_branch-requires
+branches-second_branch-requires t c =
+    (omega (arith, c.in_ok-test.ensures.goes_on, c.in_ok-first.ensures.goes_on), tt)
+
+pub second_branch-braced-requires : goal.second_branch-braced-requires
+second_branch-braced-requires t c =
+    (omega (arith, ap length c.if-not-otherwise.ensures), tt)
+
+pub second_branch-returns-clause-goes_on : goal.second_branch-returns-clause-goes_on
+second_branch-returns-clause-goes_on t c =
+    omega (arith, ap length c.if-not-otherwise.ensures, c.in_ok-second.ensures.goes_on)
+
+pub statement-branches-requires : goal.statement-branches-requires
+statement-branches-requires t c =
+    let ts = c.args.tokens.now.rest.now in
+    (omega (arith, behind ts c.in-len1-up.len_at_least), tt)
+
+pub statement-braced-requires : goal.statement-braced-requires
+statement-braced-requires t c =
+    let ts = c.args.tokens.now.rest.now in
+    let us = take (length ts - 1) (drop 1 ts) in
+    (omega (arith, behind ts c.in-len1-up.len_at_least, behind-number us c.number.new.self.rest.now _ c.in_ok-rounds-in-Keyword-Repeat.ensures), tt)
+
+pub block-loop-statements-smaller : goal.block-loop-statements-smaller
+block-loop-statements-smaller t c =
+    rw c.in-Some.is at c.in_ok-next.ensures.goes_on
+
+pub block-statement-requires : goal.block-statement-requires
+block-statement-requires t c =
+    (omega (arith, c.loop-statements.invariant.shorter), tt)

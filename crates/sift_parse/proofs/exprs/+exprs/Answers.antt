@@ -320,3 +320,49 @@ pub middle-returns-in_err-new-3-clause-reads : goal.middle-returns-in_err-new-3-
 middle-returns-in_err-new-3-clause-reads t c =
     out-of-memory Term Expr term_of (λ fuel. middle_by (read fuel 0))
     c.args.tokens.now.rest.now c.closed-3.new.tokens.rest.now c.from_residual-in_err-new-3.result c.from_residual-in_err-new-3.ensures
+
+pub prim-level-requires : goal.prim-level-requires
+prim-level-requires t c =
+    let ts = c.args.tokens.now.rest.now in
+    (omega (arith, behind ts c.in-len1-up.len_at_least), omega arith)
+
+pub prim-closed-requires : goal.prim-closed-requires
+prim-closed-requires t c =
+    let ts = c.args.tokens.now.rest.now in
+    (omega (arith, behind ts c.in-len1-up.len_at_least), tt)
+
+pub prim-middle-requires : goal.prim-middle-requires
+prim-middle-requires t c =
+    let ts = c.args.tokens.now.rest.now in
+    (omega (arith, behind ts c.in-len1-up.len_at_least), tt)
+
+pub middle-closed-requires : goal.middle-closed-requires
+middle-closed-requires t c =
+    let ts = c.args.tokens.now.rest.now in
+    (omega (arith, behind-sign OpenParen ts c.sign.new.self.rest.now c.in_ok-sign.ensures), tt)
+
+pub middle-closed-requires-2 : goal.middle-closed-requires-2
+middle-closed-requires-2 t c =
+    let ts = c.args.tokens.now.rest.now in
+    (omega (arith, behind-sign OpenParen ts c.sign.new.self.rest.now c.in_ok-sign.ensures, c.in_ok-first.ensures.goes_on), tt)
+
+pub middle-closed-requires-3 : goal.middle-closed-requires-3
+middle-closed-requires-3 t c =
+    let ts = c.args.tokens.now.rest.now in
+    (omega (arith, behind-sign OpenParen ts c.sign.new.self.rest.now c.in_ok-sign.ensures, c.in_ok-first.ensures.goes_on, c.in_ok-second.ensures.goes_on), tt)
+
+pub closed-level-requires : goal.closed-level-requires
+closed-level-requires t c =
+    (omega arith, omega arith)
+
+pub chain-level-requires : goal.chain-level-requires
+chain-level-requires t c =
+    (omega (arith, ap length c.in-Some.ensures.0), omega arith)
+
+pub chain-loop-op-smaller : goal.chain-loop-op-smaller
+chain-loop-op-smaller t c =
+    omega (arith, ap length c.in-Some.ensures.0, c.in_ok-right.ensures.goes_on)
+
+pub chain-returns-then-n-eq-COMPARISON_LEVEL-clause-goes_on : goal.chain-returns-then-n-eq-COMPARISON_LEVEL-clause-goes_on
+chain-returns-then-n-eq-COMPARISON_LEVEL-clause-goes_on t c =
+    omega (arith, ap length c.in-Some.ensures.0, c.in_ok-right.ensures.goes_on)
