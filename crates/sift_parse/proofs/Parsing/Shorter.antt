@@ -3,7 +3,7 @@ use Rattle.std.proofs.Common.{◌≡◌, ℕ, ◌-◌, ◌<◌, ◌≤◌, Bool,
 use Rattle.std.proofs.lemmas.List.{length-take-le}
 use Rattle.sift_parse.specs.declared.token.Sign as signs
 use Rattle.sift_parse.specs.declared.token.Token.{Token}
-use Rattle.sift_parse.specs.declared.token.Token.TheVariants.{Keyword, Name, Number, Index, Operator, Sign}
+use Rattle.sift_parse.specs.declared.token.Token.TheVariants.{Name, Number, Index, Sign}
 use Rattle.sift_parse.specs.declared.token.Sign.TheVariants.{Dot}
 use Rattle.sift_parse.specs.Reading.{Outcome, found, fault, and_then, number_of, read_sign, read_name, read_number, read_index, read_word}
 

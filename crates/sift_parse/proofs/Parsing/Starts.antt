@@ -1,5 +1,5 @@
 -- How statements and prims are read from their first token on.
-use Rattle.std.proofs.Common.{rules, ◌≡◌, ℕ, suc, ◌+◌, ◌-◌, ◌<◌, ◌≤◌, List, [], ◌∷◌, Option, Some, None, length, take, drop, get_or, Vec, Global, refl, sym, ap, ◌∙◌, arith}
+use Rattle.std.proofs.Common.{rules, ◌≡◌, ℕ, suc, ◌-◌, ◌<◌, ◌≤◌, List, [], ◌∷◌, Option, Some, None, length, take, drop, get_or, Vec, Global, refl, sym, ap, ◌∙◌, arith}
 use Rattle.std.proofs.lemmas.List.{take_all}
 use Rattle.sift_lang.specs.declared.tree.Expr.{Expr}
 use Rattle.sift_lang.specs.declared.tree.Op.TheVariants.{Sub}
@@ -12,7 +12,7 @@ use Rattle.sift_parse.specs.declared.token.Token.{Token}
 use Rattle.sift_parse.specs.declared.token.Token.TheVariants.{Keyword, Name, Number, Operator, Sign}
 use Rattle.sift_parse.specs.Grammar.{prim_level}
 use Rattle.sift_parse.specs.Reading.{Outcome, found, fault, and_then, read_name, read_number, read_index, read_word, closed_by, middle_by, prim_from, prim_by, read}
-use Rattle.sift_parse.specs.ReadingBlocks.{braced_by, if_by, valued_by, value_by, some_by, statement_from, statement_by, read_block}
+use Rattle.sift_parse.specs.ReadingBlocks.{braced_by, if_by, valued_by, value_by, statement_from, statement_by, read_block}
 use Rattle.sift_parse.specs.Parsing.{Settles}
 
 -- no token is left

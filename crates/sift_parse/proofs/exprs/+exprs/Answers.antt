@@ -1,5 +1,4 @@
-use Rattle.std.proofs.Common.{arith, ◌≡◌, ℕ, ◌+◌, ◌-◌, ap, ◌∙◌, length, take, drop}
-use Rattle.std.proofs.lemmas.Grind.{common_steps}
+use Rattle.std.proofs.Common.{arith, ℕ, ◌+◌, ◌-◌, ap, ◌∙◌, length, take, drop}
 use Rattle.sift_lang.specs.declared.tree.Expr.{Expr}
 use Rattle.sift_lang.specs.declared.tree.Op.TheVariants.{Sub}
 use Rattle.sift_lang.specs.Tree.{Term, term_of}
@@ -113,8 +112,13 @@ middle-returns-clause-reads t c =
 pub middle-returns-clause-goes_on : goal.middle-returns-clause-goes_on
 middle-returns-clause-goes_on t c =
     let ts = c.args.tokens.now.rest.now in
-    omega (arith, behind-sign OpenParen ts c.sign.new.self.rest.now c.in_ok-sign.ensures, c.in_ok-first.ensures.goes_on,
-    c.in_ok-second.ensures.goes_on, c.in_ok-third.ensures.goes_on)
+    omega (
+      arith,
+      behind-sign OpenParen ts c.sign.new.self.rest.now c.in_ok-sign.ensures,
+      c.in_ok-first.ensures.goes_on,
+      c.in_ok-second.ensures.goes_on,
+      c.in_ok-third.ensures.goes_on,
+    )
 
 pub chain-returns-in_err-before-clause-reads : goal.chain-returns-in_err-before-clause-reads
 chain-returns-in_err-before-clause-reads t c =
