@@ -79,25 +79,25 @@ level-returns-clause-reads t c =
     (λ o r. reads-chain n ts mid (term_of c.in_ok-first.first) o (omega arith)
     (reads-suc n ts _ c.in_ok-first.ensures.reads) r) c.chain.ensures.reads
 
-pub middle-returns-in_err-second-clause-reads : goal.middle-returns-in_err-second-clause-reads
-middle-returns-in_err-second-clause-reads t c =
+pub middle-returns-in_err-closed-2-clause-reads : goal.middle-returns-in_err-closed-2-clause-reads
+middle-returns-in_err-closed-2-clause-reads t c =
     let ts = c.args.tokens.now.rest.now in
     let us = c.sign.new.self.rest.now in
     let vs = c.closed.new.tokens.rest.now in
     part-failed Term Term Expr Expr term_of term_of (λ fuel. closed_by Comma (read fuel 0)) (λ fuel. middle_by (read fuel 0))
-    vs c.args.tokens.now.rest.now c.closed-2.new.tokens.rest.now c.in_err-second.field-0.0 c.from_residual-in_err-second.result c.from_residual-in_err-second.ensures
-    (λ bad r. middle-second ts us vs bad (term_of c.in_ok-first.first) c.in_ok-sign.ensures c.in_ok-first.ensures.reads r) c.in_err-second.ensures.reads
+    vs c.args.tokens.now.rest.now c.closed-2.new.tokens.rest.now c.in_err-closed-2.field-0.0 c.from_residual-in_err-closed-2.result c.from_residual-in_err-closed-2.ensures
+    (λ bad r. middle-second ts us vs bad (term_of c.in_ok-closed.field-0) c.in_ok-sign.ensures c.in_ok-closed.ensures.reads r) c.in_err-closed-2.ensures.reads
 
-pub middle-returns-in_err-third-clause-reads : goal.middle-returns-in_err-third-clause-reads
-middle-returns-in_err-third-clause-reads t c =
+pub middle-returns-in_err-closed-3-clause-reads : goal.middle-returns-in_err-closed-3-clause-reads
+middle-returns-in_err-closed-3-clause-reads t c =
     let ts = c.args.tokens.now.rest.now in
     let us = c.sign.new.self.rest.now in
     let vs = c.closed.new.tokens.rest.now in
     let ws = c.closed-2.new.tokens.rest.now in
     part-failed Term Term Expr Expr term_of term_of (λ fuel. closed_by CloseParen (read fuel 0)) (λ fuel. middle_by (read fuel 0))
-    ws c.args.tokens.now.rest.now c.closed-3.new.tokens.rest.now c.in_err-third.field-0.0 c.from_residual-in_err-third.result c.from_residual-in_err-third.ensures
-    (λ bad r. middle-third ts us vs ws bad (term_of c.in_ok-first.first) (term_of c.in_ok-second.second)
-    c.in_ok-sign.ensures c.in_ok-first.ensures.reads c.in_ok-second.ensures.reads r) c.in_err-third.ensures.reads
+    ws c.args.tokens.now.rest.now c.closed-3.new.tokens.rest.now c.in_err-closed-3.field-0.0 c.from_residual-in_err-closed-3.result c.from_residual-in_err-closed-3.ensures
+    (λ bad r. middle-third ts us vs ws bad (term_of c.in_ok-closed.field-0) (term_of c.in_ok-closed-2.field-0)
+    c.in_ok-sign.ensures c.in_ok-closed.ensures.reads c.in_ok-closed-2.ensures.reads r) c.in_err-closed-3.ensures.reads
 
 pub middle-returns-clause-reads : goal.middle-returns-clause-reads
 middle-returns-clause-reads t c =
@@ -105,9 +105,9 @@ middle-returns-clause-reads t c =
     let us = c.sign.new.self.rest.now in
     let vs = c.closed.new.tokens.rest.now in
     let ws = c.closed-2.new.tokens.rest.now in
-    rw (c.in_ok-new.ensures.ok, c.in_ok-new-2.ensures.ok, c.in_ok-new-3.ensures.ok)
-    (middle-found ts us vs ws c.closed-3.new.tokens.rest.now (term_of c.in_ok-first.first) (term_of c.in_ok-second.second)
-    (term_of c.in_ok-third.third) c.in_ok-sign.ensures c.in_ok-first.ensures.reads c.in_ok-second.ensures.reads c.in_ok-third.ensures.reads)
+    rw (c.in_ok-first.ensures.ok, c.in_ok-second.ensures.ok, c.in_ok-third.ensures.ok)
+    (middle-found ts us vs ws c.closed-3.new.tokens.rest.now (term_of c.in_ok-closed.field-0) (term_of c.in_ok-closed-2.field-0)
+    (term_of c.in_ok-closed-3.field-0) c.in_ok-sign.ensures c.in_ok-closed.ensures.reads c.in_ok-closed-2.ensures.reads c.in_ok-closed-3.ensures.reads)
 
 pub middle-returns-clause-goes_on : goal.middle-returns-clause-goes_on
 middle-returns-clause-goes_on t c =
@@ -115,9 +115,9 @@ middle-returns-clause-goes_on t c =
     omega (
       arith,
       behind-sign OpenParen ts c.sign.new.self.rest.now c.in_ok-sign.ensures,
-      c.in_ok-first.ensures.goes_on,
-      c.in_ok-second.ensures.goes_on,
-      c.in_ok-third.ensures.goes_on,
+      c.in_ok-closed.ensures.goes_on,
+      c.in_ok-closed-2.ensures.goes_on,
+      c.in_ok-closed-3.ensures.goes_on,
     )
 
 pub chain-returns-in_err-before-clause-reads : goal.chain-returns-in_err-before-clause-reads
@@ -161,13 +161,13 @@ middle-returns-in_err-sign-clause-reads t c =
     c.args.tokens.now.rest.now c.sign.new.self.rest.now c.in_err-sign.field-0.0 c.from_residual.result c.from_residual.ensures
     (λ r. middle-open ts _ r) c.in_err-sign.ensures
 
-pub middle-returns-in_err-first-clause-reads : goal.middle-returns-in_err-first-clause-reads
-middle-returns-in_err-first-clause-reads t c =
+pub middle-returns-in_err-closed-clause-reads : goal.middle-returns-in_err-closed-clause-reads
+middle-returns-in_err-closed-clause-reads t c =
     let ts = c.args.tokens.now.rest.now in
     let us = c.sign.new.self.rest.now in
     part-failed Term Term Expr Expr term_of term_of (λ fuel. closed_by Comma (read fuel 0)) (λ fuel. middle_by (read fuel 0))
-    us c.args.tokens.now.rest.now c.closed.new.tokens.rest.now c.in_err-first.field-0.0 c.from_residual-in_err-first.result c.from_residual-in_err-first.ensures
-    (λ bad r. middle-first ts us bad c.in_ok-sign.ensures r) c.in_err-first.ensures.reads
+    us c.args.tokens.now.rest.now c.closed.new.tokens.rest.now c.in_err-closed.field-0.0 c.from_residual-in_err-closed.result c.from_residual-in_err-closed.ensures
+    (λ bad r. middle-first ts us bad c.in_ok-sign.ensures r) c.in_err-closed.ensures.reads
 
 pub prim-returns-in_default-clause-reads : goal.prim-returns-in_default-clause-reads
 prim-returns-in_default-clause-reads t c =
@@ -310,21 +310,6 @@ prim-returns-in_ok-word-in-Keyword-Last-clause-goes_on t c =
     let us = take (length ts - 1) (drop 1 ts) in
     omega (arith, behind ts c.in-len1-up.len_at_least, behind-word us c.word-in-Keyword-Last.new.self.rest.now _ c.in_ok-word-in-Keyword-Last.ensures)
 
-pub middle-returns-in_err-new-clause-reads : goal.middle-returns-in_err-new-clause-reads
-middle-returns-in_err-new-clause-reads t c =
-    out-of-memory Term Expr term_of (λ fuel. middle_by (read fuel 0))
-    c.args.tokens.now.rest.now c.closed-3.new.tokens.rest.now c.from_residual-in_err-new.result c.from_residual-in_err-new.ensures
-
-pub middle-returns-in_err-new-2-clause-reads : goal.middle-returns-in_err-new-2-clause-reads
-middle-returns-in_err-new-2-clause-reads t c =
-    out-of-memory Term Expr term_of (λ fuel. middle_by (read fuel 0))
-    c.args.tokens.now.rest.now c.closed-3.new.tokens.rest.now c.from_residual-in_err-new-2.result c.from_residual-in_err-new-2.ensures
-
-pub middle-returns-in_err-new-3-clause-reads : goal.middle-returns-in_err-new-3-clause-reads
-middle-returns-in_err-new-3-clause-reads t c =
-    out-of-memory Term Expr term_of (λ fuel. middle_by (read fuel 0))
-    c.args.tokens.now.rest.now c.closed-3.new.tokens.rest.now c.from_residual-in_err-new-3.result c.from_residual-in_err-new-3.ensures
-
 pub prim-level-requires : goal.prim-level-requires
 prim-level-requires t c =
     let ts = c.args.tokens.now.rest.now in
@@ -348,12 +333,12 @@ middle-closed-requires t c =
 pub middle-closed-requires-2 : goal.middle-closed-requires-2
 middle-closed-requires-2 t c =
     let ts = c.args.tokens.now.rest.now in
-    (omega (arith, behind-sign OpenParen ts c.sign.new.self.rest.now c.in_ok-sign.ensures, c.in_ok-first.ensures.goes_on), tt)
+    (omega (arith, behind-sign OpenParen ts c.sign.new.self.rest.now c.in_ok-sign.ensures, c.in_ok-closed.ensures.goes_on), tt)
 
 pub middle-closed-requires-3 : goal.middle-closed-requires-3
 middle-closed-requires-3 t c =
     let ts = c.args.tokens.now.rest.now in
-    (omega (arith, behind-sign OpenParen ts c.sign.new.self.rest.now c.in_ok-sign.ensures, c.in_ok-first.ensures.goes_on, c.in_ok-second.ensures.goes_on), tt)
+    (omega (arith, behind-sign OpenParen ts c.sign.new.self.rest.now c.in_ok-sign.ensures, c.in_ok-closed.ensures.goes_on, c.in_ok-closed-2.ensures.goes_on), tt)
 
 pub closed-level-requires : goal.closed-level-requires
 closed-level-requires t c =
@@ -370,3 +355,18 @@ chain-loop-op-smaller t c =
 pub chain-returns-then-n-eq-COMPARISON_LEVEL-clause-goes_on : goal.chain-returns-then-n-eq-COMPARISON_LEVEL-clause-goes_on
 chain-returns-then-n-eq-COMPARISON_LEVEL-clause-goes_on t c =
     omega (arith, ap length c.in-Some.ensures.0, c.in_ok-right.ensures.goes_on)
+
+pub middle-returns-in_err-first-clause-reads : goal.middle-returns-in_err-first-clause-reads
+middle-returns-in_err-first-clause-reads t c =
+    out-of-memory Term Expr term_of (λ fuel. middle_by (read fuel 0))
+    c.args.tokens.now.rest.now c.closed.new.tokens.rest.now c.from_residual-in_err-first.result c.from_residual-in_err-first.ensures
+
+pub middle-returns-in_err-second-clause-reads : goal.middle-returns-in_err-second-clause-reads
+middle-returns-in_err-second-clause-reads t c =
+    out-of-memory Term Expr term_of (λ fuel. middle_by (read fuel 0))
+    c.args.tokens.now.rest.now c.closed-2.new.tokens.rest.now c.from_residual-in_err-second.result c.from_residual-in_err-second.ensures
+
+pub middle-returns-in_err-third-clause-reads : goal.middle-returns-in_err-third-clause-reads
+middle-returns-in_err-third-clause-reads t c =
+    out-of-memory Term Expr term_of (λ fuel. middle_by (read fuel 0))
+    c.args.tokens.now.rest.now c.closed-3.new.tokens.rest.now c.from_residual-in_err-third.result c.from_residual-in_err-third.ensures
