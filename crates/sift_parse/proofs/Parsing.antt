@@ -3,13 +3,16 @@ pub mod BlockLaws
 pub mod Chains
 pub mod Complete
 pub mod CompleteChains
+pub mod Exits
 pub mod ExprLaws
 pub mod Laws
 pub mod Looks
 pub mod Offending
 pub mod PrimLaws
 pub mod Sequences
+pub mod Shorter
 pub mod Signs
+pub mod Starts
 pub mod Steps
 pub mod Turns
 pub mod ValueLaws

@@ -48,8 +48,9 @@ fn chain(alloc: Global, tokens: &mut Tokens<'_>, n: u8, first: Expr) -> Result<E
 {
     let mut left = first;
     while let Some(op) = tokens.operator(n) {
+        let before = Box::new(alloc, left)?;
         let right = level(alloc, tokens, n + 1)?;
-        left = Expr::Binary(op, Box::new(alloc, left)?, Box::new(alloc, right)?);
+        left = Expr::Binary(op, before, Box::new(alloc, right)?);
         if n == COMPARISON_LEVEL {
             return Ok(left);
         }
@@ -105,12 +106,8 @@ fn middle(alloc: Global, tokens: &mut Tokens<'_>) -> Result<Expr, ReadStop>
     ensures goes_on { OnOk result (length tokens.new.rest.now < length tokens.old.rest.now) }
 {
     tokens.sign(Sign::OpenParen)?;
-    let first = closed(alloc, tokens, Sign::Comma)?;
-    let second = closed(alloc, tokens, Sign::Comma)?;
-    let third = closed(alloc, tokens, Sign::CloseParen)?;
-    Ok(Expr::Mid(
-        Box::new(alloc, first)?,
-        Box::new(alloc, second)?,
-        Box::new(alloc, third)?,
-    ))
+    let first = Box::new(alloc, closed(alloc, tokens, Sign::Comma)?)?;
+    let second = Box::new(alloc, closed(alloc, tokens, Sign::Comma)?)?;
+    let third = Box::new(alloc, closed(alloc, tokens, Sign::CloseParen)?)?;
+    Ok(Expr::Mid(first, second, third))
 }

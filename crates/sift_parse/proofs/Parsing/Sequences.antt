@@ -1,12 +1,14 @@
 -- How one reader goes after another, and what is answered then.
 use Rattle.std.proofs.Common.{◌≡◌, ℕ, suc, ◌+◌, List, refl, ap, ◌∙◌, subst, arith, add-one, Result, Ok, Err}
 use Rattle.sift_lang.specs.declared.tree.Expr.{Expr}
-use Rattle.sift_lang.specs.Tree.{Term, middle, term_of}
-use Rattle.sift_parse.specs.declared.token.Sign.TheVariants.{OpenParen, CloseParen, Comma}
+use Rattle.sift_lang.specs.Tree.{Term, Block, middle, term_of}
+use Rattle.sift_parse.specs.declared.token.Sign.TheVariants.{OpenParen, CloseParen, OpenBrace, CloseBrace, Comma}
+use Rattle.sift_parse.specs.declared.token.Sign as signs
 use Rattle.sift_parse.specs.declared.tokens.ReadStop.{ReadStop}
 use Rattle.sift_parse.specs.declared.tokens.ReadStop.TheVariants.{Syntax, NoMemory}
 use Rattle.sift_parse.specs.declared.token.Token.{Token}
 use Rattle.sift_parse.specs.Reading.{Outcome, found, fault, and_then, read_sign, closed_by, middle_by, read}
+use Rattle.sift_parse.specs.ReadingBlocks.{braced_by, read_block}
 use Rattle.sift_parse.specs.Parsing.{Settles, Reading}
 
 -- ---- one reader after another
@@ -31,6 +33,34 @@ pub reads-suc : (n : ℕ) (ts : List Token) (o : Outcome Term) → Settles Term 
     → Settles Term (λ fuel. read fuel (suc n)) ts o
 reads-suc n ts o r = subst (λ m. Settles Term (λ fuel. read fuel m) ts o) (add-one n) r
 
+-- ---- a reader and the sign after it
+
+-- the reader offends
+pub closed-inner : (A : Type 0) (s : signs.Sign) (R : ℕ → List Token → Outcome A) (ts bad : List Token) → Settles A R ts (fault bad)
+    → Settles A (λ fuel. closed_by s (R fuel)) ts (fault bad)
+closed-inner A s R ts bad r = reads-then_fault A A R (λ fuel a us. and_then (read_sign s us) (λ _ vs. found a vs)) ts bad r
+
+-- the reader finds something, and what stands behind it decides
+pub closed-sign : (A : Type 0) (s : signs.Sign) (R : ℕ → List Token → Outcome A) (ts us : List Token) (a : A) (o : Outcome (Unit {0}))
+    → Settles A R ts (found a us) → read_sign s us ≡ o → Settles A (λ fuel. closed_by s (R fuel)) ts (and_then o (λ _ vs. found a vs))
+closed-sign A s R ts us a o r e =
+    reads-then A A R (λ fuel a us. and_then (read_sign s us) (λ _ vs. found a vs)) ts us a (and_then o (λ _ vs. found a vs)) r
+    (record { least = 0; from = λ fuel le. ap (λ o. and_then o (λ _ vs. found a vs)) e })
+
+-- a block in braces, without the first brace
+pub braced-open : (ts bad : List Token) → read_sign OpenBrace ts ≡ fault bad → Settles Block (λ fuel. braced_by (read_block fuel)) ts (fault bad)
+braced-open ts bad e =
+    record { least = 0; from = λ fuel le. ap (λ o. and_then o (λ _ us. closed_by CloseBrace (read_block fuel) us)) e }
+
+-- a block in braces, behind the first brace
+pub braced-rest : (ts us : List Token) (o : Outcome Block) → read_sign OpenBrace ts ≡ found tt us
+    → Settles Block (λ fuel. closed_by CloseBrace (read_block fuel)) us o → Settles Block (λ fuel. braced_by (read_block fuel)) ts o
+braced-rest ts us o e r =
+    record {
+      least = r.least;
+      from = λ fuel le. ap (λ o. and_then o (λ _ us. closed_by CloseBrace (read_block fuel) us)) e ∙ r.from fuel le;
+    }
+
 -- ---- results
 
 -- what is answered by one reader is answered by another
@@ -39,13 +69,6 @@ pub answered : (R S : ℕ → List Token → Outcome Term) (ts us left : List To
 answered R S ts us left (Ok e) f h = f (found (term_of e) left) h
 answered R S ts us left (Err Syntax) f h = f (fault left) h
 answered R S ts us left (Err NoMemory) f h = tt
-
--- what offends for one reader offends for another
-pub failed : (R S : ℕ → List Token → Outcome Term) (ts us left : List Token) (e : ReadStop)
-    → ((bad : List Token) → Settles Term R ts (fault bad) → Settles Term S us (fault bad)) → Reading {T = Expr} term_of R ts (Err e) left
-    → Reading {T = Expr} term_of S us (Err e) left
-failed R S ts us left Syntax f h = f left h
-failed R S ts us left NoMemory f h = tt
 
 -- ---- `mid`
 
@@ -98,3 +121,17 @@ middle-found ts us vs ws left t u v e r s q =
     (reads-then Term Term (λ fuel. closed_by Comma (read fuel 0)) (λ fuel. third_by fuel t) vs ws u (found (middle t u v) left) s
     (reads-then Term Term (λ fuel. closed_by CloseParen (read fuel 0)) (λ fuel v rest. found (middle t u v) rest) ws left v
     (found (middle t u v) left) q (record { least = 0; from = λ fuel le. refl }))))
+
+-- where the first part of a `mid` offends, behind its `(`, the `mid` offends there
+pub middle-first : (ts us bad : List Token) → read_sign OpenParen ts ≡ found tt us
+    → Settles Term (λ fuel. closed_by Comma (read fuel 0)) us (fault bad) → Settles Term (λ fuel. middle_by (read fuel 0)) ts (fault bad)
+middle-first ts us bad e r =
+    middle-step ts us (fault bad) e (reads-then_fault Term Term (λ fuel. closed_by Comma (read fuel 0)) second_by us bad r)
+
+-- a `mid` without its `(`
+pub middle-open : (ts bad : List Token) → read_sign OpenParen ts ≡ fault bad → Settles Term (λ fuel. middle_by (read fuel 0)) ts (fault bad)
+middle-open ts bad e =
+    record {
+      least = 0;
+      from = λ fuel le. ap (λ o. and_then o (λ _ us. and_then (closed_by Comma (read fuel 0) us) (second_by fuel))) e;
+    }

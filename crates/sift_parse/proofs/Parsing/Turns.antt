@@ -1,6 +1,6 @@
 -- How the reader of a block goes, statement by statement, from some number of calls on.
 use Rattle.std.proofs.Common.{◌≡◌, ℕ, suc, ◌+◌, ◌-◌, ◌≤◌, List, [], ◌∷◌, ◌++◌, Option, Some, None, refl, sym, ap, ◌∙◌, arith, Result, Ok, Err}
-use Rattle.sift_lang.specs.Tree.{Term, Statement, Block, choose_else, end, step}
+use Rattle.sift_lang.specs.Tree.{Term, Statement, Block, choose, choose_else, end, step}
 use Rattle.sift_lang.specs.Tree as tree
 use Rattle.sift_parse.specs.declared.token.Keyword.TheVariants.{Else}
 use Rattle.sift_parse.specs.declared.token.Token.{Token}
@@ -9,7 +9,7 @@ use Rattle.sift_parse.specs.declared.tokens.ReadStop.{ReadStop}
 use Rattle.sift_parse.specs.declared.tokens.ReadStop.TheVariants.{Syntax, NoMemory}
 use Rattle.sift_parse.specs.Reading.{Outcome, found, fault, and_then, read}
 use Rattle.sift_parse.specs.ReadingBlocks.{braced_by, else_by, if_by, statement_by, block_from, read_block}
-use Rattle.sift_parse.specs.Parsing.{Settles, Reading}
+use Rattle.sift_parse.specs.Parsing.{Settles, Reading, NoElse}
 use Rattle.sift_parse.proofs.Parsing.Sequences.{reads-then, reads-then_fault}
 
 -- a block's outcome, with these statements before it
@@ -94,6 +94,31 @@ pub else-found : (t : Term) (first second : Block) (ts us left : List Token) →
     → Settles Statement (λ fuel. else_by (read_block fuel) t first) ts (found (choose_else t first second) left)
 else-found t first second ts us left e r = else-to t first ts us (found second left) e r
 
+-- the second block offends
+pub else-fault : (t : Term) (first : Block) (ts us bad : List Token) → ts ≡ Keyword Else ∷ us
+    → Settles Block (λ fuel. braced_by (read_block fuel)) us (fault bad)
+    → Settles Statement (λ fuel. else_by (read_block fuel) t first) ts (fault bad)
+else-fault t first ts us bad e r = else-to t first ts us (fault bad) e r
+
+else-stopped : (t : Term) (first : Block) (ts : List Token) → NoElse ts → (fuel : ℕ)
+    → else_by (read_block fuel) t first ts ≡ found (choose t first) ts
+else-stopped t first [] none fuel = refl
+else-stopped t first (Keyword Else ∷ ts) none fuel = absurd none
+else-stopped t first (_ ∷ ts) none fuel = refl
+
+-- there is no `else`
+pub else-none : (t : Term) (first : Block) (ts us : List Token) → ts ≡ us → NoElse ts
+    → Settles Statement (λ fuel. else_by (read_block fuel) t first) ts (found (choose t first) us)
+else-none t first ts us same none =
+    record { least = 0; from = λ fuel le. else-stopped t first ts none fuel ∙ ap (λ us. found (choose t first) us) same }
+
+-- the test offends
+pub if-test : (ts bad : List Token) → Settles Term (λ fuel. read fuel 0) ts (fault bad)
+    → Settles Statement (λ fuel. if_by (read fuel 0) (read_block fuel)) ts (fault bad)
+if-test ts bad r =
+    reads-then_fault Term Statement (λ fuel. read fuel 0)
+    (λ fuel t us. and_then (braced_by (read_block fuel) us) (λ first vs. else_by (read_block fuel) t first vs)) ts bad r
+
 -- the first block offends
 pub if-fault : (t : Term) (ts us bad : List Token) → Settles Term (λ fuel. read fuel 0) ts (found t us)
     → Settles Block (λ fuel. braced_by (read_block fuel)) us (fault bad)
@@ -124,11 +149,3 @@ pub answered : (A T : Type 0) (view : T → A) (R S : ℕ → List Token → Out
 answered A T view R S ts us left (Ok e) f h = f (found (view e) left) h
 answered A T view R S ts us left (Err Syntax) f h = f (fault left) h
 answered A T view R S ts us left (Err NoMemory) f h = tt
-
--- what offends for one reader offends for another
-pub failed : (A B T U : Type 0) (view : T → A) (other : U → B) (R : ℕ → List Token → Outcome A) (S : ℕ → List Token → Outcome B)
-    (ts us left : List Token) (e : ReadStop)
-    → ((bad : List Token) → Settles A R ts (fault bad) → Settles B S us (fault bad)) → Reading {A = A} {T = T} view R ts (Err e) left
-    → Reading {A = B} {T = U} other S us (Err e) left
-failed A B T U view other R S ts us left Syntax f h = f left h
-failed A B T U view other R S ts us left NoMemory f h = tt

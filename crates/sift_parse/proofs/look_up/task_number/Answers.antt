@@ -5,3 +5,6 @@ use Rattle.sift_parse.proofs.look_up.task_number.Goals as goal
 
 pub loop-i-preserved : goal.loop-i-preserved
 loop-i-preserved c = first_of (search (rules, position_from-dropped), grind (arith, common_steps, position_from-dropped))
+
+pub returns-then-eq : goal.returns-then-eq
+returns-then-eq c = grind (arith, common_steps)

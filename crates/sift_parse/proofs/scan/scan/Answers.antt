@@ -33,3 +33,6 @@ loop-placed-preserved c =
 
 pub returns : goal.returns
 returns c = grind (arith, common_steps)
+
+pub place-requires : goal.place-requires
+place-requires c = grind (arith, common_steps)
