@@ -5,6 +5,42 @@ use Rattle.sift_line.proofs.LineForms.{field_at, same_unit}
 use Rattle.sift_line.proofs.Results.{held, none_given}
 use Rattle.sift_line.proofs.form.read_unit_line.Goals as goal
 
+pub returns-in_err-f-clause-version : goal.returns-in_err-f-clause-version
+returns-in_err-f-clause-version c = rw c.from_residual.ensures tt
+
+pub returns-in_err-f-clause-printed : goal.returns-in_err-f-clause-printed
+returns-in_err-f-clause-printed c = rw c.from_residual.ensures tt
+
+pub returns-in_err-cfg-clause-version : goal.returns-in_err-cfg-clause-version
+returns-in_err-cfg-clause-version c = rw c.from_residual-in_err-cfg.ensures tt
+
+pub returns-in_err-cfg-clause-printed : goal.returns-in_err-cfg-clause-printed
+returns-in_err-cfg-clause-printed c = rw c.from_residual-in_err-cfg.ensures tt
+
+pub returns-in_err-clk-clause-version : goal.returns-in_err-clk-clause-version
+returns-in_err-clk-clause-version c = rw c.from_residual-in_err-clk.ensures tt
+
+pub returns-in_err-clk-clause-printed : goal.returns-in_err-clk-clause-printed
+returns-in_err-clk-clause-printed c = rw c.from_residual-in_err-clk.ensures tt
+
+pub returns-in_err-bad-clause-version : goal.returns-in_err-bad-clause-version
+returns-in_err-bad-clause-version c = rw c.from_residual-in_err-bad.ensures tt
+
+pub returns-in_err-bad-clause-printed : goal.returns-in_err-bad-clause-printed
+returns-in_err-bad-clause-printed c = rw c.from_residual-in_err-bad.ensures tt
+
+pub returns-in_err-ins-clause-version : goal.returns-in_err-ins-clause-version
+returns-in_err-ins-clause-version c = rw c.from_residual-in_err-ins.ensures tt
+
+pub returns-in_err-ins-clause-printed : goal.returns-in_err-ins-clause-printed
+returns-in_err-ins-clause-printed c = rw c.from_residual-in_err-ins.ensures tt
+
+pub returns-in_err-outs-clause-version : goal.returns-in_err-outs-clause-version
+returns-in_err-outs-clause-version c = rw c.from_residual-in_err-outs.ensures tt
+
+pub returns-in_err-outs-clause-printed : goal.returns-in_err-outs-clause-printed
+returns-in_err-outs-clause-printed c = rw c.from_residual-in_err-outs.ensures tt
+
 pub returns-in_err-f-clause-exact : goal.returns-in_err-f-clause-exact
 returns-in_err-f-clause-exact c = λ n v us ticks agreed voted caught holds of e.
     absurd (none_given (n, v) (c.in_err-f.ensures.exact n v holds.0 holds.1 (field_at 0 _ _ e) (field_at 1 _ _ e)))
