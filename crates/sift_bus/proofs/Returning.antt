@@ -275,20 +275,25 @@ module _ {B : Type 0} (allows : B → Carriage → B → Type 0) where
   landed_as e layout frames back journals layout_is frames_are landed = subst (λ (n : ℕ). HaveLanded layout n back journals) frames_are
       (subst (λ (l : Layout). HaveLanded l e.grid.frames back journals) layout_is landed)
 
+  -- the whole flight is round and logged, and these are its logs
+  pub record IsToldWhole (d : MissionData) (faulty : ℕ) (buses : List B) (fl : TheFlight) (told_logs : List BusLog) : Type 0 where
+    pub round : (strays : Strays) × IsRound (flown d) strays (told (flown d) fl)
+    pub logged : IsLogged (flown d) d.layout fl
+    pub logs : AreLogsOf allows (flown d) (told (flown d) fl) d.layout faulty buses told_logs
+
   -- what is told of the whole flight
   pub all_told : (d : MissionData) (e : Ether) (faulty : ℕ) (tokens : List Token) (buses : List B) (xs ys : List (Boarded B)) (back : List Token)
       (fl : TheFlight) (logs : List BusLog) → PartsFit d → Fits (flown d) → HasNoStorms (flown d) →
       HaveFlown (flown d) e d.layout faulty tokens buses xs ys back → HaveLanded d.layout d.frames back fl.journals.items →
       fl.accounts.items ≡ map (λ z. z.board.accounts) ys → logs ≡ map (λ z. z.port.log) ys →
       TokensComeBack → DownLaw → FlightsThatComeHomeAreRound → LogsTellWhatWasHeard allows →
-      ((strays : Strays) × IsRound (flown d) strays (told (flown d) fl)) × IsLogged (flown d) d.layout fl
-      × AreLogsOf allows (flown d) (told (flown d) fl) d.layout faulty buses logs
-  all_told d e faulty tokens buses xs ys back fl logs fit fits calm have landed accounts are comes law round tell = (
-    (
+      IsToldWhole d faulty buses fl logs
+  all_told d e faulty tokens buses xs ys back fl logs fit fits calm have landed accounts are comes law round tell = record {
+    round = (
       strays_in (record { words = landed.words; of = conduct_at back }),
       round (flown d) (ranges_of d.layout d.frames) (record { words = landed.words; of = conduct_at back }) fl fits
           (come_home (flown d) e d.layout faulty tokens buses xs ys back have fl comes law landed accounts (units_of d fit) (places_for d fit)),
-    ),
-    logged (flown d) e d.layout faulty tokens buses xs ys back have fl comes law landed accounts (units_of d fit),
-    logs_are (flown d) e d.layout faulty tokens buses xs ys back have fl comes law landed accounts (units_of d fit) logs are calm tell,
-  )
+    );
+    logged = logged (flown d) e d.layout faulty tokens buses xs ys back have fl comes law landed accounts (units_of d fit);
+    logs = logs_are (flown d) e d.layout faulty tokens buses xs ys back have fl comes law landed accounts (units_of d fit) logs are calm tell;
+  }

@@ -1,5 +1,6 @@
 -- The next of several units, found place by place.
-use Rattle.std.proofs.Common.{◌≡◌, ℕ, ◌+◌, ◌<◌, ◌≤◌, List, slice_index_or, Option, Some, None, arith}
+use Rattle.std.proofs.Common.{◌≡◌, ℕ, ◌+◌, ◌<◌, ◌≤◌, List, length, slice_index_or, Option, Some, None, IfSome, IfNone, All, arith}
+use Rattle.sift_bus.specs.Turns.{IsNext}
 use mathlib.Core.Logic.{dite}
 use native.Mathlib.Decide.{ℕ_discrete}
 
@@ -31,3 +32,17 @@ module _ {X : Type 0} (progress : X → ℕ) (end : ℕ) (xs : List X) where
   bound_low : (n below : ℕ) (next : Option ℕ) → IsFound n below next → below ≤ end
   bound_low n below None f = omega arith
   bound_low n below (Some u) f = let a = f.1 in omega arith
+
+  -- what was found among all of them
+  pub next_ends : (n below : ℕ) (next : Option ℕ) → IsNextBelow n below next → n ≡ length xs →
+      IfSome next (IsNext progress end xs) × IfNone next (All (λ x. end ≤ progress x) xs)
+  next_ends n below None l all = (tt, λ v d low. let f = l.found in let less = l.none_less v d (omega arith) in omega arith)
+  next_ends n below (Some u) l all = (
+    record {
+      there = (let low = l.found.0 in omega arith);
+      below = λ d. let low = l.found.1 in let is = l.found.2 d in omega arith;
+      least = λ v d low. let is = l.found.2 d in let less = l.none_less v d (omega arith) in omega arith;
+      lowest = λ v d low. let is = l.found.2 d in let less = l.found.3 v d low in omega arith;
+    },
+    tt,
+  )

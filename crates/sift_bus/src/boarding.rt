@@ -1,6 +1,7 @@
 //! Units take their seats and leave them.
-ghost use Rattle.std.specs.Prelude.{◌≡◌, ◌<◌, IfOk, length, map, true};
+ghost use Rattle.std.specs.Prelude.{◌≡◌, ◌+◌, ◌<◌, ◌∷◌, IfOk, length, map, true};
 ghost use Rattle.std.specs.List.{AllZip};
+ghost use Rattle.std.specs.Vec.Iter.{into_iter_items, into_iter_len};
 ghost use Rattle.sift_base.specs.Units.{has, unit_limit};
 ghost use Rattle.sift_mission.specs.Parts.{flown_of};
 ghost use Rattle.sift_ether.specs.Seating.{IsTokenBack};
@@ -16,6 +17,7 @@ use sift_ether::{Ether, EtherSeat, Token};
 use sift_mission::{Mission, a_mission_fits};
 use sift_unit::{Board, new_boards_may_step};
 use std::alloc::Global;
+use std::vec::IntoIter;
 
 /// A unit takes its seat, with its board, and with three buses before its port.
 fn board_unit<'a, B: Bus>(
@@ -47,8 +49,17 @@ fn unit_numbered(number: usize) -> UnitId
     requires { number < unit_limit }
     ensures { result ≡ number }
 {
-    match UnitId::of(number as u8) {
-        Some(unit) => unit,
+    UnitId::of(number as u8).unwrap()
+}
+
+/// The next of tokens, of which there is one.
+fn next_token(tokens: &mut IntoIter<Token>) -> Token
+    requires { 0 < into_iter_len tokens.old }
+    ensures token { into_iter_items tokens.old ≡ result ∷ into_iter_items tokens.new }
+    ensures left { into_iter_len tokens.new + 1 ≡ into_iter_len tokens.old }
+{
+    match tokens.next() {
+        Some(token) => token,
         None => unreachable!(),
     }
 }
@@ -73,18 +84,14 @@ pub(crate) fn board_all<'a, B: Bus>(
     let mut tokens = tokens.into_iter();
     for bus in buses {
         let unit = unit_numbered(flyers.len());
-        match tokens.next() {
-            Some(token) => {
-                let flyer = board_unit(alloc, mission, ether, token, unit, faulty, bus)?;
-                flyers.push(flyer)?;
-            }
-            None => unreachable!(),
-        }
+        let token = next_token(&mut tokens);
+        flyers.push_reserved(board_unit(alloc, mission, ether, token, unit, faulty, bus)?);
     }
     Ok(flyers)
 }
 
-/// What units leave behind, in order: their tokens, their accounts, and the logs of their buses.
+/// What units leave behind, in order: their tokens, their accounts, and the logs of their buses. The
+/// lists have room for all before the first unit leaves.
 pub(crate) fn leave_all<B: Bus>(
     alloc: Global,
     flyers: Vec<Flyer<BusPort<EtherSeat<'_>, B>>>,
@@ -93,15 +100,16 @@ pub(crate) fn leave_all<B: Bus>(
     ensures accounts { IfOk result (λ left. left.1.items ≡ map (λ flyer. flyer.board.accounts) flyers.entry.items) }
     ensures logs { IfOk result (λ left. left.2.items ≡ map (λ flyer. flyer.port.log) flyers.entry.items) }
 {
-    let mut tokens = Vec::new(alloc);
-    let mut accounts = Vec::new(alloc);
-    let mut logs = Vec::new(alloc);
+    let units = flyers.len();
+    let mut tokens = Vec::with_capacity(alloc, units)?;
+    let mut accounts = Vec::with_capacity(alloc, units)?;
+    let mut logs = Vec::with_capacity(alloc, units)?;
     for flyer in flyers {
         let Flyer { board, port } = flyer;
         let (seat, _, log) = port.end();
-        tokens.push(seat.end())?;
-        accounts.push(board.end())?;
-        logs.push(log)?;
+        tokens.push_reserved(seat.end());
+        accounts.push_reserved(board.end());
+        logs.push_reserved(log);
     }
     Ok((tokens, accounts, logs))
 }

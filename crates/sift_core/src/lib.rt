@@ -10,6 +10,7 @@ mod machine;
 mod order;
 mod rack;
 mod rack_port;
+mod units;
 
 pub use calls::CallsLeft;
 pub use landing::fly;

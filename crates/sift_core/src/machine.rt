@@ -14,6 +14,7 @@ ghost use Rattle.sift_core.specs.Courses.{AreAllLeft};
 ghost use Rattle.sift_core.specs.Storms.{AreLeft};
 
 use crate::rack::Rack;
+use crate::units::unit_numbered;
 use sift_base::{NoMemory, UnitId};
 use sift_buffer::{events_keep_the_core_lawful, fresh_is_lawful};
 use sift_mission::{Mission, a_mission_fits};
@@ -51,9 +52,8 @@ impl Machine {
         let units = mission.parts().units;
         let mut boards = Vec::with_capacity(alloc, usize::from(units))?;
         for number in 0..units {
-            if let Some(unit) = UnitId::of(number) {
-                boards.push_reserved(Board::make(alloc, mission, unit)?);
-            }
+            let unit = unit_numbered(number);
+            boards.push_reserved(Board::make(alloc, mission, unit)?);
         }
         Ok(boards)
     }

@@ -10,6 +10,7 @@ ghost use Rattle.sift_core.specs.Turns.{end_in, AreAllDone, AreAllDown, IsFirstL
 
 use crate::calls::CallsLeft;
 use crate::machine::Machine;
+use crate::units::unit_numbered;
 use sift_base::{Draw, UnitId};
 use sift_mission::Mission;
 use sift_rogue::Rogue;
@@ -47,12 +48,11 @@ impl Machine {
         let mut least = None;
         let mut below = end;
         for number in 0..self.rack.grid.layout.units {
-            if let Some(unit) = UnitId::of(number) {
-                let progress = self.rack.number_of(unit);
-                if progress < below {
-                    least = Some(unit);
-                    below = progress;
-                }
+            let unit = unit_numbered(number);
+            let progress = self.rack.number_of(unit);
+            if progress < below {
+                least = Some(unit);
+                below = progress;
             }
         }
         least
@@ -65,10 +65,9 @@ impl Machine {
         ensures none { IfNone result ((u : ℕ) → has (flown_of mission.now).units u ≡ true → slice_index left.now u ≡ 0) }
     {
         for number in 0..self.rack.grid.layout.units {
-            if let Some(unit) = UnitId::of(number) {
-                if !left.is_spent(unit) {
-                    return Some(unit);
-                }
+            let unit = unit_numbered(number);
+            if !left.is_spent(unit) {
+                return Some(unit);
             }
         }
         None
@@ -82,13 +81,12 @@ impl Machine {
         ensures open { result ≡ false → ¬ AreAllDone (flown_of mission.now) self.now left.now }
     {
         for number in 0..self.rack.grid.layout.units {
-            if let Some(unit) = UnitId::of(number) {
-                if self.rack.number_of(unit) < end {
-                    return false;
-                }
-                if !left.is_spent(unit) {
-                    return false;
-                }
+            let unit = unit_numbered(number);
+            if self.rack.number_of(unit) < end {
+                return false;
+            }
+            if !left.is_spent(unit) {
+                return false;
             }
         }
         true
@@ -99,10 +97,7 @@ impl Machine {
         ensures { IsDrawn (layout_of self.now).units drawer.old drawer.new result }
     {
         let number = drawn_below(drawer, self.rack.grid.layout.units);
-        if let Some(unit) = UnitId::of(number as u8) {
-            return unit;
-        }
-        unreachable!()
+        unit_numbered(number as u8)
     }
 
     /// The turn of a unit, if it is not done. It answers whether the unit went on, and doesn't wait.

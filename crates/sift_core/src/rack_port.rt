@@ -12,6 +12,7 @@ ghost use Rattle.sift_core.specs.Crews.{IsCrew};
 ghost use Rattle.sift_core.specs.Following.{itself, further};
 
 use crate::rack::Rack;
+use crate::units::unit_numbered;
 use sift_base::{Layout, NoMemory, UnitId, Word};
 use sift_buffer::{Acts, Entering, Grid, Look, Port, find_behind, pack, take};
 use std::alloc::Global;
@@ -43,9 +44,8 @@ impl Rack {
     {
         let mut all = Vec::with_capacity(alloc, usize::from(layout.units))?;
         for number in 0..layout.units {
-            if let Some(unit) = UnitId::of(number) {
-                all.push_reserved(Acts::make(alloc, layout, unit, frames)?);
-            }
+            let unit = unit_numbered(number);
+            all.push_reserved(Acts::make(alloc, layout, unit, frames)?);
         }
         Ok(all)
     }

@@ -1,5 +1,5 @@
 -- Hands that are dealt, one item more and one item less, and what holds of the items of all hands.
-use Rattle.std.proofs.Common.{◌≡◌, ◌≢◌, ℕ, zero, suc, ◌+◌, ◌%◌, ◌<◌, ◌==◌, if◌then◌else◌, List, [], ◌∷◌, ◌++◌, Vec, length, slice_index_or, slice_set, All, length-set, refl, sym, ap, ◌∙◌, subst, arith, eq-eqb, ne_eqb}
+use Rattle.std.proofs.Common.{◌≡◌, ◌≢◌, ℕ, zero, suc, ◌+◌, ◌%◌, ◌<◌, ◌≤◌, ◌==◌, if◌then◌else◌, List, [], ◌∷◌, ◌++◌, Vec, length, slice_index_or, slice_set, All, length-set, length-append, refl, sym, ap, ◌∙◌, subst, arith, eq-eqb, ne_eqb}
 use Rattle.std.specs.List.{AllZip}
 use Rattle.std.specs.declared.alloc.Global.{Global}
 use Rattle.std.proofs.lemmas.List.{get_or-set_same, get_or-set_other, same_from_push, length_push}
@@ -8,7 +8,7 @@ use Rattle.std.proofs.lemmas.Nat.{mod_below}
 use mathlib.Core.Logic.{dite}
 use native.Mathlib.Decide.{ℕ_discrete}
 use Rattle.sift_threads.specs.Going.{AtEachPlace}
-use Rattle.std.proofs.lemmas.List.{get_or_default}
+use Rattle.std.proofs.lemmas.List.{append-nil, get_or_default}
 use Rattle.sift_threads.specs.Hands.{thread_for, hand, IsDealt, InHands}
 
 -- what holds at each place holds place by place
@@ -20,6 +20,11 @@ zip_of R (x ∷ xs) (y ∷ ys) e = (
   e.at 0 x (omega arith),
   zip_of R xs ys (record { long = (let l = e.long in omega arith); at = λ i d low. e.at (suc i) d (omega arith) }),
 )
+
+-- a list that is a part with others behind it, and no longer than the part, is the part
+pub all_of : {X : Type 0} (xs all rest : List X) → xs ≡ all ++ rest → length xs ≤ length all → all ≡ xs
+all_of xs all [] is low = sym (append-nil all) ∙ sym is
+all_of xs all (r ∷ rs) is low = absurd (omega (arith, ap length is, length-append all (r ∷ rs)))
 
 module _ {X : Type 0} where
   -- the first item goes to its own hand, and to no other

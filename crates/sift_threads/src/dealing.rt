@@ -12,7 +12,7 @@ fn empty_hands<P: Drop>(alloc: Global, count: u8) -> Result<Vec<Vec<P>>, NoMemor
 {
     let mut hands = Vec::with_capacity(alloc, usize::from(count))?;
     for _ in 0..count {
-        hands.push(Vec::new(alloc))?;
+        hands.push_reserved(Vec::new(alloc));
     }
     Ok(hands)
 }

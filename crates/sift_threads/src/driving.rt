@@ -101,19 +101,14 @@ impl Patience {
 
 /// Steps all pilots of a hand in turn until each is home, or the threads are to stop. A thread that has waited for long
 /// has them all stop.
-fn drive_on<P: Pilot, B: Bell, H: Wait>(
-    rt: &H,
-    hand: &mut Vec<P>,
-    bell: &B,
-    stop: &AtomicBool,
-) -> Went
-    requires { All P.drives hand.old.items }
-    ensures drives { All P.drives hand.new.items }
-    ensures comes { AtEachPlace P.comes hand.old.items hand.new.items }
-    ensures home { IsHome result → All P.is_home hand.new.items }
+fn drive_on<P: Pilot, B: Bell, H: Wait>(rt: &H, hand: &mut [P], bell: &B, stop: &AtomicBool) -> Went
+    requires { All P.drives hand.old }
+    ensures drives { All P.drives hand.new }
+    ensures comes { AtEachPlace P.comes hand.old hand.new }
+    ensures home { IsHome result → All P.is_home hand.new }
 {
     let mut patience = Patience::new();
-    let mut went = turn_each(hand.as_mut_slice(), bell);
+    let mut went = turn_each(hand, bell);
     for _ in rt.forever() {
         if went == Went::Home || stop.load(Ordering::SeqCst) {
             break;
@@ -122,7 +117,7 @@ fn drive_on<P: Pilot, B: Bell, H: Wait>(
         if patience.is_out() {
             stop.store(true, Ordering::SeqCst);
         }
-        went = turn_each(hand.as_mut_slice(), bell);
+        went = turn_each(hand, bell);
     }
     went
 }
@@ -139,15 +134,15 @@ pub(crate) fn drive<P: Pilot, B: Bell, H: Wait>(
     ensures { AllZip (λ x y. P.comes x y × P.drives y) hand.items result.items }
 {
     let mut hand = hand;
-    drive_on(rt, &mut hand, bell, stop);
+    drive_on(rt, hand.as_mut_slice(), bell, stop);
     hand
 }
 
 /// Steps all pilots in turn until each is home.
-fn come_home<P: Pilot, B: Bell, H: Wait>(rt: &H, pilots: &mut Vec<P>, bell: &B)
-    requires { All P.drives pilots.old.items }
-    ensures comes { AtEachPlace P.comes pilots.old.items pilots.new.items }
-    ensures home { All P.is_home pilots.new.items }
+fn come_home<P: Pilot, B: Bell, H: Wait>(rt: &H, pilots: &mut [P], bell: &B)
+    requires { All P.drives pilots.old }
+    ensures comes { AtEachPlace P.comes pilots.old pilots.new }
+    ensures home { All P.is_home pilots.new }
 {
     let alone = AtomicBool::new(false);
     for _ in rt.forever() {
@@ -164,6 +159,6 @@ pub(crate) fn drive_home<P: Pilot, B: Bell, H: Wait>(rt: &H, pilots: Vec<P>, bel
         → AllZip (λ x y. P.comes x y × P.is_home y) starts result.items }
 {
     let mut pilots = pilots;
-    come_home(rt, &mut pilots, bell);
+    come_home(rt, pilots.as_mut_slice(), bell);
     pilots
 }

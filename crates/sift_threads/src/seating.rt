@@ -1,6 +1,7 @@
 //! Tokens, boards and rogues at their seats, and from their seats again.
 ghost use Rattle.std.specs.Prelude.{◌≡◌, ◌+◌, ◌<◌, ◌≤◌, [], ◌∷◌, ◌++◌, drop, length, vec_len, vec_capacity, All};
 ghost use Rattle.std.specs.Vec.Iter.{into_iter_items, into_iter_len};
+ghost use Rattle.sift_base.specs.Units.{unit_limit};
 ghost use Rattle.sift_mission.specs.Parts.{flown_of};
 ghost use Rattle.sift_core.specs.Machines.{AreNewBoards};
 ghost use Rattle.sift_ether.specs.Seating.{IsTokenBack};
@@ -32,6 +33,14 @@ fn take_next<X: Drop>(rest: &mut IntoIter<X>) -> X
         Some(item) => item,
         None => unreachable!(),
     }
+}
+
+/// The unit of a number.
+fn unit_numbered(number: u8) -> UnitId
+    requires { number < unit_limit }
+    ensures { result ≡ number }
+{
+    UnitId::of(number).unwrap()
 }
 
 /// A unit at its seat.
@@ -82,12 +91,11 @@ pub(crate) fn seat_all<'a, R: Drop>(
     let mut boards = boards.into_iter();
     let mut rogues = rogues.into_iter();
     for number in 0..mission.parts().units {
-        if let Some(unit) = UnitId::of(number) {
-            let token = take_next(&mut tokens);
-            let board = take_next(&mut boards);
-            let rogue = take_next(&mut rogues);
-            seats.push_reserved(seat_one(mission, ether, unit, token, board, rogue));
-        }
+        let unit = unit_numbered(number);
+        let token = take_next(&mut tokens);
+        let board = take_next(&mut boards);
+        let rogue = take_next(&mut rogues);
+        seats.push_reserved(seat_one(mission, ether, unit, token, board, rogue));
     }
     (seats, rogues)
 }

@@ -1,8 +1,9 @@
 -- What a board may ask of its port.
-use Rattle.std.proofs.Common.{◌≡◌, inl, inr, ◌<◌, Some, sym, ap, ◌∙◌, subst, arith}
+use Rattle.std.proofs.Common.{◌≡◌, inl, inr, ◌<◌, true, Some, sym, ap, ◌∙◌, subst, arith}
 use Rattle.std.proofs.lemmas.Bool.{cases_lt}
 use mathlib.Core.Logic.{dite}
 use native.Mathlib.Decide.{ℕ_discrete}
+use Rattle.sift_base.specs.Units.{has}
 use Rattle.sift_buffer.specs.Conduct.{saying}
 use Rattle.sift_buffer.specs.Conduct.{Conduct as Acts}
 use Rattle.sift_buffer.specs.Ranges.{Ranges}
@@ -60,3 +61,19 @@ module _ (m : FlownMission) (fit : Fits m) (r : Ranges) (of : IsPortOf m r) (b :
               | inr lf ↦ let lf' : b.frame < f' = omega arith in let up = frame_low m.period b.frame f' lf' in omega arith
             ]);
       }
+
+  -- the slot that it hears is due within the frame
+  pub heard_inside : AtHearing m fit b → m.due b.cfg (m.kind b.slot) < m.period
+  heard_inside at =
+      let call = call_of m b.cfg (m.kind b.slot) b.other b.unit at.call in
+      let apart = fit.timed.apart b.cfg (m.kind b.slot) g.range.config call.slot
+      (speaks m b.cfg (m.kind b.slot) b.other b.unit fit.executors g.range.config at.call) in
+      let sub = at.subframe in let inside = g.range.subframe in omega arith
+
+  -- and so is that which it says
+  pub said_inside : AtSaying m fit b → m.due b.cfg (m.kind b.slot) < m.period
+  said_inside at = let sub = at.subframe in let inside = g.range.subframe in omega arith
+
+  -- a unit that says a word is in its configuration
+  pub sayer_there : AtSaying m fit b → has b.cfg b.unit ≡ true
+  sayer_there at = (call_of m b.cfg (m.kind b.slot) b.unit b.other at.call).from

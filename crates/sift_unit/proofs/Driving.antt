@@ -1,6 +1,7 @@
 -- A board on its port, call by call.
 use Rattle.std.proofs.Common.{◌≡◌, inl, ℕ, ◌+◌, ◌*◌, ◌<◌, true, Option, Some, refl, sym, ap, ◌∙◌, subst, arith}
 use Rattle.std.specs.Prelude.{slice_set}
+use Rattle.sift_base.specs.Units.{has}
 use Rattle.sift_buffer.specs.Conduct.{Conduct as Acts}
 use Rattle.sift_buffer.specs.Conditions.{MaySay, MayHear, MayEnter}
 use Rattle.sift_buffer.specs.Views.{View, view_with_said, view_with_heard, view_with_entered, view_with_turned, KeepsOwn, EntersAfterRound, Turns, at_once, after_round}
@@ -9,15 +10,16 @@ use Rattle.sift_mission.specs.Fits.{Fits}
 use Rattle.sift_unit.specs.Tidings.{word_to}
 use Rattle.sift_unit.specs.Desk.{Desk, is_hearing, is_saying}
 use Rattle.sift_unit.specs.Going.{Going}
-use Rattle.sift_unit.specs.Passing.{Passes}
+use Rattle.sift_unit.specs.Passing.{Passes, IsSlotOfFrame}
+use Rattle.sift_unit.specs.Remembered.{IsShaped}
 use Rattle.sift_unit.specs.Stepping.{HasMoved, said, heard}
 use Rattle.sift_unit.specs.Keeping.{Turned, KeepsAs, IsEarly}
-use Rattle.sift_unit.specs.Conditions.{IsInFlight}
-use Rattle.sift_unit.specs.Boards.{desk_of, IsPortOf, Drives, IsSameBoard, IsMarked, GoesOn, TurnsNext, BeginsNext}
+use Rattle.sift_unit.specs.Conditions.{IsInFlight, MayWalk}
+use Rattle.sift_unit.specs.Boards.{desk_of, memory_of, IsPortOf, Drives, IsSameBoard, IsMarked, GoesOn, TurnsNext, BeginsNext}
 use Rattle.sift_unit.specs.declared.board.Board.{Board as TheBoard}
 use Rattle.sift_unit.proofs.Hearing.{hearing_is, hear_going}
 use Rattle.sift_unit.proofs.Saying.{saying_is, say_going}
-use Rattle.sift_unit.proofs.Asking.{may_hear, may_say}
+use Rattle.sift_unit.proofs.Asking.{may_hear, may_say, heard_inside, said_inside, sayer_there}
 use Rattle.sift_unit.proofs.Starting.{turned_on}
 use Rattle.sift_unit.proofs.Marks.{flying_as, FliesOn, early_flies, is_early, early_same, early_on, early_before, below_last}
 
@@ -133,6 +135,10 @@ module _ (m : FlownMission) (b : TheBoard) (v : View) (d : Drives m b v) (early 
 pub early_at : (m : FlownMission) (b : TheBoard) (v : View) → Drives m b v → (b.storm ≡ Some b.frame → ⊥) → IsEarly m (desk_of b)
 early_at m b v d other = is_early m b.turned (desk_of b) v.conduct d.keeps (λ storm. other (d.storm ∙ storm))
 
+-- so it may walk
+pub walks_here : (m : FlownMission) (b : TheBoard) (v : View) → Drives m b v → (b.storm ≡ Some b.frame → ⊥) → MayWalk m (desk_of b)
+walks_here m b v d other = record { fits = d.fits; range = (flies_here m b v d (early_at m b v d other)).going.range }
+
 -- so it is in flight, before the end, and where it passes places
 pub in_flight : (m : FlownMission) (b : TheBoard) (v : View) → Drives m b v → (b.storm ≡ Some b.frame → ⊥) → (b.frame ≡ m.frames → ⊥) →
     (b' : TheBoard) → Passes m (desk_of b) (desk_of b') → IsSameBoard b b' → IsInFlight m b' v
@@ -158,6 +164,31 @@ module _ (m : FlownMission) (b : TheBoard) (v : View) (flight : IsInFlight m b v
   -- the stamp of the slot at which the board stands
   abbrev pub stamp_here : ℕ
   stamp_here = b.frame * m.period + m.due b.cfg (m.kind b.slot) + 1
+
+  -- a slot of a frame at which it stands
+  slot_here : b.slot < m.slots → IsSlotOfFrame m b.cfg b.frame b.slot
+  slot_here low = record { fits = fit; slot = record { config = going_here.range.config; slot = low }; frame = flight.frame }
+
+  -- it stands at one where it hears, which is due within the frame
+  pub hear_slot : is_hearing m (desk_of b) ≡ true → IsSlotOfFrame m b.cfg b.frame b.slot
+  hear_slot e = slot_here (hearing_is m fit (desk_of b) e).slot
+
+  pub hear_inside : is_hearing m (desk_of b) ≡ true → m.due b.cfg (m.kind b.slot) < m.period
+  hear_inside e = heard_inside m fit v.ranges flight.drives.ranges (desk_of b) v.conduct going_here flight.frame (hearing_is m fit (desk_of b) e)
+
+  -- and where it says
+  pub say_slot : is_saying m (desk_of b) ≡ true → IsSlotOfFrame m b.cfg b.frame b.slot
+  say_slot e = slot_here (saying_is m fit (desk_of b) e).slot
+
+  pub say_inside : is_saying m (desk_of b) ≡ true → m.due b.cfg (m.kind b.slot) < m.period
+  say_inside e = said_inside m fit v.ranges flight.drives.ranges (desk_of b) v.conduct going_here flight.frame (saying_is m fit (desk_of b) e)
+
+  -- its unit is in its configuration there, and its memory in shape
+  pub say_member : is_saying m (desk_of b) ≡ true → has b.cfg b.unit ≡ true
+  say_member e = sayer_there m fit v.ranges flight.drives.ranges (desk_of b) v.conduct going_here flight.frame (saying_is m fit (desk_of b) e)
+
+  pub shape_here : IsShaped m b.cfg b.unit (memory_of b.memory)
+  shape_here = going_here.range.shape
 
   -- it may hear there
   pub may_hear_at : is_hearing m (desk_of b) ≡ true → (p s : ℕ) → p ≡ b.other → s ≡ stamp_here → MayHear v.ranges v.conduct v.unit p b.slot b.frame s

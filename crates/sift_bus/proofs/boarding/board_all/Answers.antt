@@ -1,7 +1,8 @@
-use Rattle.std.proofs.Common.{◌≡◌, [], ◌∷◌, ◌++◌, length, length-append, true, false, sym, ap, ◌∙◌, arith}
+use Rattle.std.proofs.Common.{◌≡◌, [], ◌∷◌, ◌++◌, length, length-append, sym, ap, ◌∙◌, arith}
 use Rattle.std.proofs.lemmas.List.{append_assoc}
 use Rattle.sift_base.specs.declared.layout.Layout.{Layout}
 use Rattle.sift_mission.specs.Parts.{flown_of}
+use Rattle.sift_mission.specs.declared.parts.MissionParts.{MissionParts}
 use Rattle.sift_bus.proofs.SeatsTaken.{no_rest, shorter, new_token, boarded_long, boarded_push}
 use Rattle.sift_config.proofs.lemmas.FirstUnits.{low_unit}
 use Rattle.sift_bus.proofs.boarding.board_all.Goals as goal
@@ -37,35 +38,45 @@ board_unit-requires-clause-token g c =
     ((λ i. c.loop-bus.yielded ++ sym c.in-Some.ensures.steps.0 i) ∙ c.loop-bus.invariant.all) in
     let size = c.loop-bus.flyers.ok.0 in
     new_token c.args.ether.now c.args.mission.now.layout c.args.mission.now.frames c.unit_numbered-unit.result c.args.tokens.items b.0
-    c.next-in-loop-bus.new.self.rest.items c.in-Some-next.token c.requires.made ((λ i. b.0 ++ sym c.in-Some-next.ensures.items i) ∙ b.1)
+    c.next_token-token.new.tokens.rest.items c.next_token-token.result c.requires.made ((λ i. b.0 ++ sym c.next_token-token.ensures.token i) ∙ b.1)
     (omega (arith, long.0, long.1, size, c.unit_numbered-unit.ensures, c.len.ensures))
     (omega (arith, long.1, low, size, c.unit_numbered-unit.ensures, c.len.ensures, c.requires.count))
+
+-- and room for the unit
+pub push_reserved-requires : goal.push_reserved-requires
+push_reserved-requires g c =
+    let b = c.loop-bus.invariant.boarded in
+    let long = boarded_long (flown_of c.args.mission.now) c.args.ether.now c.args.faulty b.0 c.loop-bus.yielded c.loop-bus.flyers.items b.3 in
+    let low = shorter c.loop-bus.yielded c.next.new.self.rest.items c.args.buses.items c.in-Some.bus
+    ((λ i. c.loop-bus.yielded ++ sym c.in-Some.ensures.steps.0 i) ∙ c.loop-bus.invariant.all) in
+    let size = c.loop-bus.flyers.ok.0 in let room = c.loop-bus.invariant.room in
+    omega (arith, long.1, low, size, room, c.requires.count, c.parts.ensures.fit.layout.units)
 
 pub loop-bus-preserved : goal.loop-bus-preserved
 loop-bus-preserved g c =
     let b = c.loop-bus.invariant.boarded in
     record {
       boarded = (
-        b.0 ++ (c.in-Some-next.token ∷ []),
-        append_assoc b.0 (c.in-Some-next.token ∷ []) c.next-in-loop-bus.new.self.rest.items ∙ ((λ i. b.0 ++ sym c.in-Some-next.ensures.items i) ∙ b.1),
-        (let less = c.in-Some-next.ensures.len in omega (arith, less, b.2, length-append b.0 (c.in-Some-next.token ∷ []))),
-        rw c.in_ok-push-in-Some-next.ensures.items (boarded_push (flown_of c.args.mission.now) c.args.ether.now c.args.faulty b.0 c.loop-bus.yielded c.loop-bus.flyers.items
-            c.in-Some-next.token c.in-Some.bus c.in_ok-flyer-in-Some-next.flyer b.3 c.in_ok-flyer-in-Some-next.ensures),
+        b.0 ++ (c.next_token-token.result ∷ []),
+        append_assoc b.0 (c.next_token-token.result ∷ []) c.next_token-token.new.tokens.rest.items ∙ ((λ i. b.0 ++ sym c.next_token-token.ensures.token i) ∙ b.1),
+        (let less = c.next_token-token.ensures.left in omega (arith, less, b.2, length-append b.0 (c.next_token-token.result ∷ []))),
+        rw c.push_reserved.ensures.items (boarded_push (flown_of c.args.mission.now) c.args.ether.now c.args.faulty b.0 c.loop-bus.yielded c.loop-bus.flyers.items
+            c.next_token-token.result c.in-Some.bus _ b.3 c.in_ok-board_unit.ensures),
       );
+      room = (let room = c.loop-bus.invariant.room in let same = c.push_reserved.ensures.capacity in omega arith);
       all = append_assoc c.loop-bus.yielded (c.in-Some.bus ∷ []) c.next.new.self.rest.items
           ∙ ((λ i. c.loop-bus.yielded ++ sym c.in-Some.ensures.steps.0 i) ∙ c.loop-bus.invariant.all);
     }
 
 -- there are as many tokens as units too
-pub unreachable-requires : goal.unreachable-requires
-unreachable-requires g c =
+pub next_token-token-requires : goal.next_token-token-requires
+next_token-token-requires g c =
     let b = c.loop-bus.invariant.boarded in
     let long = boarded_long (flown_of c.args.mission.now) c.args.ether.now c.args.faulty b.0 c.loop-bus.yielded c.loop-bus.flyers.items b.3 in
     let low = shorter c.loop-bus.yielded c.next.new.self.rest.items c.args.buses.items c.in-Some.bus
     ((λ i. c.loop-bus.yielded ++ sym c.in-Some.ensures.steps.0 i) ∙ c.loop-bus.invariant.all) in
-    let len = c.in-None-next.ensures.variant in
     let count = c.requires.made.all.count ∙ ap (λ (l : Layout). l.units) c.requires.made.layout_is in
-    let bad : false ≡ true = len.1 (omega (arith, long.0, low, b.2, count, c.requires.count)) in absurd (cc)
+    omega (arith, long.0, low, b.2, count, c.requires.count)
 
 pub loop-bus-init : goal.loop-bus-init
 loop-bus-init g c = record {
@@ -75,6 +86,11 @@ loop-bus-init g c = record {
     (let size = c.args.tokens.ok.0 in omega (arith, size, c.into_iter-tokens.ensures.len)),
     rw c.in_ok-flyers.ensures.items tt,
   );
+  room = (
+      let units = ap (λ (p : MissionParts). p.units) c.parts.ensures.same in
+      let count = c.from-units.ensures in
+      let room = c.in_ok-flyers.ensures.capacity in omega arith
+      );
   all = c.into_iter-bus-iterator.ensures.into_iter_gives.0;
 }
 

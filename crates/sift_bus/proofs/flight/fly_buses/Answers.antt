@@ -8,7 +8,7 @@ use Rattle.sift_ether.specs.Landed.{HaveLanded}
 use Rattle.sift_ether.specs.Seating.{IsTokenBack}
 use Rattle.sift_ether.specs.Tokens.{IsMade}
 use Rattle.sift_bus.specs.Boarding.{Boarded, seat_view}
-use Rattle.sift_bus.proofs.Returning.{HaveFlown, Flew, all_back, all_told, landed_as}
+use Rattle.sift_bus.proofs.Returning.{HaveFlown, IsToldWhole, Flew, all_back, all_told, landed_as}
 use Rattle.sift_bus.proofs.SeatsTaken.{boarded_drive}
 use Rattle.sift_bus.proofs.Sides.{side_long}
 use Rattle.sift_bus.proofs.flight.fly_buses.Given.{Over}
@@ -60,29 +60,22 @@ landed g c = let made = subst (λ (p : MissionParts). IsMade c.in_ok-ether.ether
     landed_as g.B.Bus.allows c.in_ok-ether.ether c.args.mission.now.layout c.args.mission.now.frames c.in_ok-tokens.tokens.items
     c.in_ok-journals.journals.items made.layout_is made.frames_are c.in_ok-journals.ensures
 
-pub returns-clause-round : goal.returns-clause-round
-returns-clause-round g c = let d = data_of c.args.mission.now in (all_told g.B.Bus.allows d c.in_ok-ether.ether c.args.faulty
+-- what is told of the flight
+told_whole : (g : Over) (c : goal.In_ok-journals g) → IsToldWhole g.B.Bus.allows (data_of c.args.mission.now) c.args.faulty c.args.buses.items
+    (record { journals = c.in_ok-journals.journals; accounts = c.in_ok-tokens.accounts }) c.in_ok-tokens.logs.items
+told_whole g c = all_told g.B.Bus.allows (data_of c.args.mission.now) c.in_ok-ether.ether c.args.faulty
     c.in_ok-ether.tokens.items c.args.buses.items c.in_ok-flyers.flyers.items c.fly_all.new.flyers c.in_ok-tokens.tokens.items
     (record { journals = c.in_ok-journals.journals; accounts = c.in_ok-tokens.accounts }) c.in_ok-tokens.logs.items
     c.parts-parts.ensures.fit c.a_mission_fits.ensures.fits c.requires.calm (have_flown g c.before.before.before) (landed g c)
     (rw (← written_back g c.before.before.before) c.in_ok-tokens.ensures.accounts)
-    (rw (← written_back g c.before.before.before) c.in_ok-tokens.ensures.logs) c.tokens_come_back.ensures c.boards_that_are_down_have_flown.ensures c.flights_that_come_home_are_round.ensures
-    c.logs_tell_what_was_heard.ensures).0
+    (rw (← written_back g c.before.before.before) c.in_ok-tokens.ensures.logs) c.tokens_come_back.ensures c.boards_that_are_down_have_flown.ensures
+    c.flights_that_come_home_are_round.ensures c.logs_tell_what_was_heard.ensures
+
+pub returns-clause-round : goal.returns-clause-round
+returns-clause-round g c = (told_whole g c).round
 
 pub returns-clause-logged : goal.returns-clause-logged
-returns-clause-logged g c = let d = data_of c.args.mission.now in (all_told g.B.Bus.allows d c.in_ok-ether.ether c.args.faulty
-    c.in_ok-ether.tokens.items c.args.buses.items c.in_ok-flyers.flyers.items c.fly_all.new.flyers c.in_ok-tokens.tokens.items
-    (record { journals = c.in_ok-journals.journals; accounts = c.in_ok-tokens.accounts }) c.in_ok-tokens.logs.items
-    c.parts-parts.ensures.fit c.a_mission_fits.ensures.fits c.requires.calm (have_flown g c.before.before.before) (landed g c)
-    (rw (← written_back g c.before.before.before) c.in_ok-tokens.ensures.accounts)
-    (rw (← written_back g c.before.before.before) c.in_ok-tokens.ensures.logs) c.tokens_come_back.ensures c.boards_that_are_down_have_flown.ensures c.flights_that_come_home_are_round.ensures
-    c.logs_tell_what_was_heard.ensures).1
+returns-clause-logged g c = (told_whole g c).logged
 
 pub returns-clause-logs : goal.returns-clause-logs
-returns-clause-logs g c = let d = data_of c.args.mission.now in (all_told g.B.Bus.allows d c.in_ok-ether.ether c.args.faulty
-    c.in_ok-ether.tokens.items c.args.buses.items c.in_ok-flyers.flyers.items c.fly_all.new.flyers c.in_ok-tokens.tokens.items
-    (record { journals = c.in_ok-journals.journals; accounts = c.in_ok-tokens.accounts }) c.in_ok-tokens.logs.items
-    c.parts-parts.ensures.fit c.a_mission_fits.ensures.fits c.requires.calm (have_flown g c.before.before.before) (landed g c)
-    (rw (← written_back g c.before.before.before) c.in_ok-tokens.ensures.accounts)
-    (rw (← written_back g c.before.before.before) c.in_ok-tokens.ensures.logs) c.tokens_come_back.ensures c.boards_that_are_down_have_flown.ensures c.flights_that_come_home_are_round.ensures
-    c.logs_tell_what_was_heard.ensures).2
+returns-clause-logs g c = (told_whole g c).logs

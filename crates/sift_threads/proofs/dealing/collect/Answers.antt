@@ -1,8 +1,7 @@
 use Rattle.std.proofs.Common.{List, [], ◌∷◌, ◌++◌, length, sym, ap, ◌∙◌, arith}
 use Rattle.std.proofs.lemmas.List.{length-append}
-use Rattle.std.proofs.lemmas.Grind.{common_steps}
 use mathlib.Core.List.{append_assoc}
-use Rattle.sift_threads.proofs.Dealt.{dealt_less, dealt_some}
+use Rattle.sift_threads.proofs.Dealt.{dealt_less, dealt_some, all_of}
 use Rattle.sift_threads.proofs.dealing.collect.Goals as goal
 
 pub unreachable-requires : goal.unreachable-requires
@@ -34,7 +33,14 @@ loop-place-preserved g c = record {
 }
 
 pub loop-place-init : goal.loop-place-init
-loop-place-init g c = grind (arith, common_steps)
+loop-place-init g c = record {
+  within = omega arith;
+  count = ap length c.requires.empty;
+  room = c.requires.room;
+  rest = λ xs long dealt. (xs, (λ i. sym c.requires.empty i ++ xs), dealt);
+}
 
 pub returns : goal.returns
-returns g c = grind (arith, common_steps)
+returns g c = λ xs long dealt.
+    let inv = c.loop-place.invariant in let r = inv.rest xs long dealt in
+    all_of xs c.loop-place.all.items r.0 r.1 (let count = inv.count in let all = c.loop-place-test.false in omega arith)

@@ -6,6 +6,6 @@ use Rattle.sift_threads.proofs.driving.come_home.Given as goal
 abbrev pub invariant-loop : goal.invariant-loop
 invariant-loop g l = record {
   can : (goal.iterator-loop g).can_next l.iterator' × (goal.iterator-loop g).is_finite l.iterator';
-  drives : All g.P.Pilot.drives l.pilots.items;
-  comes : AtEachPlace (g.P.Pilot.comes) l.fn.pilots.items l.pilots.items;
+  drives : All g.P.Pilot.drives l.pilots;
+  comes : AtEachPlace (g.P.Pilot.comes) l.fn.pilots l.pilots;
 }

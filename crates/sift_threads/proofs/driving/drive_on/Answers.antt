@@ -1,9 +1,22 @@
-use Rattle.std.proofs.Common.{arith}
-use Rattle.std.proofs.lemmas.Grind.{common_steps}
+use Rattle.sift_threads.proofs.Places.{each_further}
 use Rattle.sift_threads.proofs.driving.drive_on.Goals as goal
 
 pub loop-init : goal.loop-init
-loop-init g c = grind (arith, common_steps)
+loop-init g c = record {
+  can = (tt, tt);
+  drives = c.turn_each-went.ensures.drives;
+  comes = c.turn_each-went.ensures.comes;
+  home = c.turn_each-went.ensures.home;
+}
 
-pub turn_each-went-requires-in-loop : goal.turn_each-went-requires-in-loop
-turn_each-went-requires-in-loop g c = grind (arith, common_steps)
+-- each pilot went once more
+pub loop-preserved : goal.loop-preserved
+loop-preserved g c = let turn = c.turn_each-went-in-loop.ensures in record {
+  can = c.loop.invariant.can;
+  drives = turn.drives;
+  comes = each_further g.P.Pilot.comes g.met.P.Pilot.comes_on c.args.hand.now c.loop.hand c.turn_each-went-in-loop.new.hand c.loop.invariant.comes turn.comes;
+  home = turn.home;
+}
+
+pub returns : goal.returns
+returns g c = let inv = c.loop.invariant in record { drives = inv.drives; comes = inv.comes; home = inv.home }

@@ -1,6 +1,5 @@
 use Rattle.std.proofs.Common.{length, length-drop, ap, ◌∙◌, arith}
 use Rattle.std.proofs.Crossing.{crosses}
-use Rattle.std.proofs.lemmas.Grind.{common_steps}
 use denote.Param.Send.{Quiet-if, sendable}
 use denote.Param.{param}
 use denote.Exit.{no, unseen}
@@ -49,10 +48,13 @@ returns g c = c.leave_home.ensures c.args.tokens.items c.in_ok-boards.boards.ite
     c.seat_all-seats.ensures.beyond c.in_ok-home.ensures
 
 pub seat_all-seats-requires-clause-empty : goal.seat_all-seats-requires-clause-empty
-seat_all-seats-requires-clause-empty g c = grind (arith, common_steps)
+seat_all-seats-requires-clause-empty g c = c.in_ok-room.ensures.items
 
 pub seat_all-seats-requires-clause-room : goal.seat_all-seats-requires-clause-room
-seat_all-seats-requires-clause-room g c = grind (arith, common_steps)
+seat_all-seats-requires-clause-room g c =
+    let units = ap (λ (p : MissionParts). p.units) c.parts.ensures.same in let count = c.from-units.ensures in
+    let room = c.in_ok-room.ensures.capacity in omega arith
 
 pub seat_all-seats-requires-clause-rogues : goal.seat_all-seats-requires-clause-rogues
-seat_all-seats-requires-clause-rogues g c = grind (arith, common_steps)
+seat_all-seats-requires-clause-rogues g c =
+    let eight = c.requires.rogues in let few = c.parts.ensures.fit.limits.few_units in omega arith

@@ -5,6 +5,13 @@ use Rattle.sift_ether.specs.Tokens.{IsMade}
 use Rattle.sift_threads.proofs.Landing.{landed_as_made, landed_round, landed_logged}
 use Rattle.sift_threads.proofs.flight.fly_threads.Goals as goal
 
+pub fly_seats-requires-clause-made : goal.fly_seats-requires-clause-made
+fly_seats-requires-clause-made g c κs within =
+    subst (λ (p : MissionParts). IsMade c.in_ok-ether.ether c.in_ok-ether.tokens.items p.layout p.frames) c.parts-parts.ensures.same c.in_ok-ether.ensures
+
+pub land-requires : goal.land-requires
+land-requires g c = c.in_ok-flown.ensures.tokens
+
 pub returns-clause-round : goal.returns-clause-round
 returns-clause-round g c =
     let made = subst (λ (p : MissionParts). IsMade c.in_ok-ether.ether c.in_ok-ether.tokens.items p.layout p.frames) c.parts-parts.ensures.same c.in_ok-ether.ensures in

@@ -1,11 +1,47 @@
-use Rattle.std.proofs.Common.{◌≡◌, [], ◌∷◌, ◌++◌, List, length-append, sym, ◌∙◌, subst, arith}
+use Rattle.std.proofs.Common.{◌≡◌, ◌<◌, [], ◌∷◌, ◌++◌, List, length, length-append, vec_len, sym, ap, ◌∙◌, subst, arith}
 use Rattle.std.proofs.lemmas.List.{append_assoc, append-nil, nil_from_length}
 use Rattle.std.proofs.lemmas.Grind.{common_steps}
 use Rattle.sift_ether.specs.declared.seat.EtherSeat.{EtherSeat}
 use Rattle.sift_threads.specs.Crews.{AreLeftOf}
 use Rattle.sift_threads.specs.declared.seat.Seat.{Seat}
 use Rattle.sift_threads.proofs.Crews.{left_push}
+use Rattle.sift_threads.proofs.seating.leave_all.Given.{Over}
+use Rattle.sift_threads.proofs.seating.leave_all.Goals.{In-Some}
 use Rattle.sift_threads.proofs.seating.leave_all.Goals as goal
+
+pub loop-seat-init : goal.loop-seat-init
+loop-seat-init g c = let none = c.requires in record {
+  left = record {
+    count = ap length none.no_tokens.0;
+    back = λ u x t low. absurd (omega arith);
+    accounts_are = none.no_accounts.0;
+    rogues_are = none.no_rogues.0;
+  };
+  all = c.into_iter-seat-iterator.ensures.into_iter_gives.0;
+  tokens = ((let zero = ap length none.no_tokens.0 in let size = c.args.empty.tokens.ok.0 in omega arith), none.no_tokens.1);
+  accounts = ((let zero = ap length none.no_accounts.0 in let size = c.args.empty.accounts.ok.0 in omega arith), none.no_accounts.1);
+  rogues = ((let zero = ap length none.no_rogues.0 in let size = c.args.empty.rogues.ok.0 in omega arith), none.no_rogues.1);
+}
+
+-- fewer than all have left before the next seat
+few_left : (g : Over) (c : In-Some g) → length c.loop-seat.yielded < vec_len c.args.home
+few_left g c =
+    let all : c.loop-seat.yielded ++ (c.in-Some.seat ∷ c.next.new.self.rest.items) ≡ c.args.home.items =
+    (λ i. c.loop-seat.yielded ++ sym c.in-Some.ensures.steps.0 i) ∙ c.loop-seat.invariant.all in
+    let size = c.args.home.ok.0 in
+    omega (arith, ap length all, length-append c.loop-seat.yielded (c.in-Some.seat ∷ c.next.new.self.rest.items), size)
+
+pub push_reserved-requires : goal.push_reserved-requires
+push_reserved-requires g c = let few = few_left g (goal.at.push_reserved-requires g c).In-Some in
+    let room = c.loop-seat.invariant.tokens in let len = room.0 in let all = room.1 in omega arith
+
+pub push_reserved-requires-in-loop-seat : goal.push_reserved-requires-in-loop-seat
+push_reserved-requires-in-loop-seat g c = let few = few_left g (goal.at.push_reserved-requires-in-loop-seat g c).In-Some in
+    let room = c.loop-seat.invariant.accounts in let len = room.0 in let all = room.1 in omega arith
+
+pub push_reserved-requires-in-loop-seat-2 : goal.push_reserved-requires-in-loop-seat-2
+push_reserved-requires-in-loop-seat-2 g c = let few = few_left g (goal.at.push_reserved-requires-in-loop-seat-2 g c).In-Some in
+    let room = c.loop-seat.invariant.rogues in let len = room.0 in let all = room.1 in omega arith
 
 pub loop-seat-preserved : goal.loop-seat-preserved
 loop-seat-preserved g c =

@@ -1,6 +1,12 @@
 use Rattle.std.proofs.Common.{refl}
-use Rattle.sift_unit.proofs.Driving.{may_hear_at, hear_drives, hear_moves}
+use Rattle.sift_unit.proofs.Driving.{may_hear_at, hear_slot, hear_inside, hear_drives, hear_moves}
 use Rattle.sift_unit.proofs.board.Board.hear.Goals as goal
+
+pub stamp-stamp-requires-clause-slot : goal.stamp-stamp-requires-clause-slot
+stamp-stamp-requires-clause-slot g c = hear_slot _ c.args.self.now (g.T.Look.view c.args.port.now) c.requires.flight c.requires.here
+
+pub stamp-stamp-requires-clause-inside : goal.stamp-stamp-requires-clause-inside
+stamp-stamp-requires-clause-inside g c = hear_inside _ c.args.self.now (g.T.Look.view c.args.port.now) c.requires.flight c.requires.here
 
 pub hear-word-requires : goal.hear-word-requires
 hear-word-requires g c =

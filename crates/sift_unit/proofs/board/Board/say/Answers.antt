@@ -1,6 +1,21 @@
 use Rattle.std.proofs.Common.{refl}
-use Rattle.sift_unit.proofs.Driving.{may_say_at, say_drives, say_moves}
+use Rattle.sift_unit.proofs.Driving.{may_say_at, say_slot, say_inside, say_member, shape_here, say_drives, say_moves}
 use Rattle.sift_unit.proofs.board.Board.say.Goals as goal
+
+pub stamp-stamp-requires-clause-slot : goal.stamp-stamp-requires-clause-slot
+stamp-stamp-requires-clause-slot g c = say_slot _ c.args.self.now (g.T.Look.view c.args.port.now) c.requires.flight c.requires.here
+
+pub stamp-stamp-requires-clause-inside : goal.stamp-stamp-requires-clause-inside
+stamp-stamp-requires-clause-inside g c = say_inside _ c.args.self.now (g.T.Look.view c.args.port.now) c.requires.flight c.requires.here
+
+pub word_to-word-requires-clause-slot : goal.word_to-word-requires-clause-slot
+word_to-word-requires-clause-slot g c = say_slot _ c.args.self.now (g.T.Look.view c.args.port.now) c.requires.flight c.requires.here
+
+pub word_to-word-requires-clause-member : goal.word_to-word-requires-clause-member
+word_to-word-requires-clause-member g c = say_member _ c.args.self.now (g.T.Look.view c.args.port.now) c.requires.flight c.requires.here
+
+pub word_to-word-requires-clause-shape : goal.word_to-word-requires-clause-shape
+word_to-word-requires-clause-shape g c = shape_here _ c.args.self.now (g.T.Look.view c.args.port.now) c.requires.flight
 
 pub say-requires : goal.say-requires
 say-requires g c =

@@ -2,10 +2,22 @@ use Rattle.std.proofs.Common.{◌∙◌, sym, arith}
 use Rattle.std.proofs.lemmas.Grind.{common_steps}
 use Rattle.sift_unit.specs.Boards.{desk_of}
 use Rattle.sift_unit.proofs.Quiet.{call_says, call_hears}
-use Rattle.sift_unit.proofs.Driving.{early_at, flies_here, in_flight}
+use Rattle.sift_unit.proofs.Driving.{early_at, flies_here, in_flight, walks_here}
 use Rattle.sift_unit.proofs.Continuing.{moves_from, steps_from}
 use Rattle.sift_unit.proofs.Marks.{apart_by, not_never}
 use Rattle.sift_unit.proofs.board.Board.step_by.Goals as goal
+
+-- before its storm it may walk, in a frame of the flight
+pub find_call-requires-clause-walks : goal.find_call-requires-clause-walks
+find_call-requires-clause-walks g c =
+    walks_here (g.M.Duty.mission c.args.mission.now) c.args.self.now (g.T.Look.view c.args.port.now) c.requires
+    (apart_by c.args.self.now.storm c.args.self.now.frame (sym c.eq.ensures ∙ c.if-eq.false))
+
+pub find_call-requires-clause-frame : goal.find_call-requires-clause-frame
+find_call-requires-clause-frame g c =
+    let walks = walks_here (g.M.Duty.mission c.args.mission.now) c.args.self.now (g.T.Look.view c.args.port.now) c.requires
+    (apart_by c.args.self.now.storm c.args.self.now.frame (sym c.eq.ensures ∙ c.if-eq.false)) in
+    let most = walks.range.frame in let more = c.if-self-frames.false in let is = c.frames.ensures in omega arith
 
 -- where it found its call, it is in flight
 pub enter-requires-clause-flight : goal.enter-requires-clause-flight
@@ -66,3 +78,7 @@ returns-then-eq-clause-steps g c = grind (arith, common_steps)
 
 pub returns-then-eq-clause-drives : goal.returns-then-eq-clause-drives
 returns-then-eq-clause-drives g c = grind (arith, common_steps)
+
+-- where it has landed its port is as it was
+pub returns-then-self-frames-clause-follows : goal.returns-then-self-frames-clause-follows
+returns-then-self-frames-clause-follows g c = g.met.T.Look.follows_itself c.args.port.now
