@@ -1,5 +1,5 @@
--- Where the test of a clock stops, and where it doesn't.
-use Rattle.std.proofs.Common.{◌≡◌, ℕ, Some, sym, ap, subst}
+-- Where the test of a clock stops, and where it doesn't; and the clocks that are read.
+use Rattle.std.proofs.Common.{◌≡◌, ℕ, ℤ, pos, List, Some, refl, sym, ap, subst}
 use Rattle.sift_base.specs.declared.stop.Stop.{Stop}
 use Rattle.toml.specs.Data.{Data, Members}
 use Rattle.sift_document.proofs.lemmas.Order.{kept_joined, stopped, stopped_in}
@@ -9,7 +9,8 @@ use Rattle.sift_document.specs.Testing.{RefusesBy, RefusesFirst}
 use Rattle.sift_document.specs.declared.rule.BrokenRule.{BrokenRule}
 use Rattle.std.specs.Prelude.{unwrap_or}
 use Rattle.sift_sections.proofs.lemmas.Named.{BreaksStart, BreaksDrift, BreaksErrors, clock_themes}
-use Rattle.sift_sections.specs.Clock.{clock_rules, error_of, figure_rules, rate_of, skew_of, unit_rules, clock_keys}
+use Rattle.sift_mission.specs.Data.{Clocks}
+use Rattle.sift_sections.specs.Clock.{clock_rules, clocks_in, drifts_of, error_of, errors_of, figure_rules, length_of, rate_of, skew_of, starts_of, unit_rules, clock_keys}
 
 -- a value, and the table that it is
 module _
@@ -80,3 +81,14 @@ module _
               (sym (ap (λ o. unwrap_or o 0) error_is)) refused,
         ),
       )
+
+-- the clocks that were read are those of the value
+pub clocks_read :
+    (units : ℕ) (value : Data) (clock : Members) (skew error rate length : ℕ) (start drift : List ℤ) (errors : List (List ℤ))
+    → clock ≡ members_of value
+    → skew_of clock ≡ Some skew → error_of clock ≡ Some error → rate_of clock ≡ Some rate → length_of clock ≡ Some length
+    → starts_of units clock ≡ Some start → drifts_of units rate clock ≡ Some drift → errors_of units error clock ≡ Some errors
+    → (let clocks : Clocks = record { skew = pos skew; error = pos error; rate = pos rate; length = pos length; start = start; drift = drift; errors = errors } in clocks)
+    ≡ clocks_in units (Some value)
+clocks_read units value clock skew error rate length start drift errors same skew_is error_is rate_is length_is start_is drift_is errors_is =
+    rw (← same, skew_is, error_is, rate_is, length_is, start_is, drift_is, errors_is) refl

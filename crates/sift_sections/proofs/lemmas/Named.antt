@@ -1,6 +1,6 @@
 -- Names of proofs for what specs/ says in its place: keys, values, rules and lists of rules of the sections.
 use Rattle.std.specs.Prelude.{codes, ℕ, ◌≡◌, ◌⊎◌, ℤ, List, [], ◌∷◌, Option, Some, None, unwrap_or}
-use Rattle.toml.specs.Data.{Data, Members, get_member}
+use Rattle.toml.specs.Data.{Data, Members}
 use Rattle.sift_script.specs.Script.{Change, Failing, changing}
 use Rattle.sift_document.specs.Document.{IsTableOf, members_of, tables_in}
 use Rattle.sift_document.specs.Rules.{BreaksEntries, HoldsOf, OfNoEntry, Rule, rule}
@@ -16,10 +16,6 @@ fault_keys = codes "unit" ∷ codes "from" ∷ codes "say" ∷ codes "storm" ∷
 
 abbrev pub storm_keys : List (List ℕ)
 storm_keys = codes "number" ∷ codes "strays" ∷ []
-
--- the items of a fault
-abbrev pub items_of : Members → List Members
-items_of fault = tables_in (get_member (codes "say") fault)
 
 -- the way of failing that comes of a storm, where there is one, and else of changes
 abbrev pub failing_from : Option Failing → List Change → Failing

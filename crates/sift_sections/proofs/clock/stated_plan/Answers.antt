@@ -1,8 +1,9 @@
-use Rattle.std.proofs.Common.{◌≡◌, Some, Err, rules, arith}
+use Rattle.std.proofs.Common.{◌≡◌, Some, Err, pos, to_z, w32, rules, arith}
+use Rattle.std.proofs.lemmas.Int.{ints}
 use Rattle.toml.specs.View.{table_view, view}
 use Rattle.sift_document.proofs.lemmas.Order.{stopped}
 use Rattle.sift_sections.specs.Clock.{clock_rules}
-use Rattle.sift_sections.proofs.ClockTests.{clock_kept, drift_kept, drift_refused, errors_kept, errors_refused, figure_refused, start_kept, start_refused, units_refused}
+use Rattle.sift_sections.proofs.ClockTests.{clock_kept, clocks_read, drift_kept, drift_refused, errors_kept, errors_refused, figure_refused, start_kept, start_refused, units_refused}
 use Rattle.sift_sections.proofs.Figures.{few_error, few_length, few_rate, few_skew}
 use Rattle.sift_sections.proofs.clock.stated_plan.Goals as goal
 
@@ -81,3 +82,16 @@ overflow_cast-result-3 c = omega (arith, few_rate (table_view c.in_ok-clock.cloc
 
 pub overflow_cast-result-4 : goal.overflow_cast-result-4
 overflow_cast-result-4 c = omega (arith, few_length (table_view c.in_ok-clock.clock.now) _ c.in_ok-figures.ensures.length)
+
+-- the clocks are those that the value states
+pub returns-clause-read : goal.returns-clause-read
+returns-clause-read c =
+    let clock = table_view c.in_ok-clock.clock.now in
+    let figures = c.in_ok-figures.ensures in
+    let read = c.in_ok-figures.figures in
+    let skew : to_z w32 read.skew ≡ pos read.skew = omega (arith, ints, few_skew clock _ figures.skew) in
+    let error : to_z w32 read.error ≡ pos read.error = omega (arith, ints, few_error clock _ figures.error) in
+    let rate : to_z w32 read.rate ≡ pos read.rate = omega (arith, ints, few_rate clock _ figures.rate) in
+    let length : to_z w32 read.length ≡ pos read.length = omega (arith, ints, few_length clock _ figures.length) in
+    rw (skew, error, rate, length) (clocks_read c.args.units (view c.args.value.now) clock _ _ _ _ _ _ _ c.in_ok-clock.ensures.read
+    figures.skew figures.error figures.rate figures.length c.in_ok-start.ensures.read c.in_ok-drift.ensures.read c.in_ok-errors.ensures.read)

@@ -43,3 +43,6 @@ pub returns-clause-tests : goal.returns-clause-tests
 returns-clause-tests c =
     nowhere (λ fault. table_view fault.now) c.args.tables.now (λ at fault. changes_of fault ≡ None)
     (λ at low. c.loop-place.invariant.1 at (omega (arith, low, c.loop-place-test.false)))
+
+pub broken-requires : goal.broken-requires
+broken-requires c = omega (arith, c.loop-place-test.true, c.requires)

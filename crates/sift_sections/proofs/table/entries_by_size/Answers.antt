@@ -39,3 +39,13 @@ pub returns-clause-tests : goal.returns-clause-tests
 returns-clause-tests c =
     nowhere (λ entry. view entry) c.args.entries.now (λ at entry. ¬ IsTableEntry c.args.version at entry)
     (λ at low. c.loop-place.invariant.2 at (omega (arith, low, c.loop-place-test.false)))
+
+pub returns-clause-sized : goal.returns-clause-sized
+returns-clause-sized c = c.loop-place.invariant.1
+
+-- the places are few
+pub sized_table-requires : goal.sized_table-requires
+sized_table-requires c = omega (arith, c.loop-place-test.true, c.requires)
+
+pub broken-requires : goal.broken-requires
+broken-requires c = omega (arith, c.loop-place-test.true, c.requires)

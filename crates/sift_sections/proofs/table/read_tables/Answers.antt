@@ -40,3 +40,6 @@ pub returns-clause-tests : goal.returns-clause-tests
 returns-clause-tests c =
     nowhere (λ table. table_view table.now) c.args.tables.now (λ at table. positions_of table ≡ None)
     (λ at low. c.loop-place.invariant.1 at (omega (arith, low, c.loop-place-test.false)))
+
+pub broken-requires : goal.broken-requires
+broken-requires c = omega (arith, c.loop-place-test.true, c.requires.few)

@@ -1,4 +1,4 @@
-use Rattle.std.proofs.Common.{◌≡◌, ℕ, Some, Err, rules, map, ap, subst, ◌∙◌, List}
+use Rattle.std.proofs.Common.{◌≡◌, ℕ, Some, Err, rules, map, ap, subst, ◌∙◌, List, length, arith}
 use Rattle.toml.specs.Data.{Members}
 use Rattle.toml.specs.View.{table_view, view}
 use Rattle.sift_document.proofs.lemmas.Order.{ended, ok_from, stopped}
@@ -47,3 +47,13 @@ returns-clause-tests c =
     ended (table_rules c.args.version c.args.units (Some (view c.args.value.now))) c.read_tables.result
     (λ schedules is. (c.in_ok-tables.ensures.tests, (timed, (rw is at placed, tt))))
     (λ e is. stopped 2 (table_rules c.args.version c.args.units (Some (view c.args.value.now))) e (c.in_ok-tables.ensures.tests, (timed, rw is at placed)))
+
+-- the tables are few, and each has a size
+pub check_times-requires : goal.check_times-requires
+check_times-requires c = omega (arith, ap length c.deref.ensures.value, c.in_ok-tables.ensures.few)
+
+pub read_tables-requires-clause-few : goal.read_tables-requires-clause-few
+read_tables-requires-clause-few c = omega (arith, ap length c.deref-2.ensures.value, c.in_ok-tables.ensures.few)
+
+pub read_tables-requires-clause-sized : goal.read_tables-requires-clause-sized
+read_tables-requires-clause-sized c = rw c.deref-2.ensures.value c.in_ok-tables.ensures.sized
