@@ -228,7 +228,8 @@ prim-returns-in_err-name-in-Keyword-Sense-clause-reads t c =
     let is = c.in-Keyword-Sense.is ∙ ap Keyword (rw c.in-Keyword-Sense.is at c.in-Keyword-Sense.field-0-is) in
     let begins = front (Keyword Sense) (Keyword Let) ts c.in-len1-up.len_at_least is in
     token-failed ℕ Term ℕ Expr (λ n. n) term_of (read_name us) (λ fuel. prim_by (read fuel prim_level) (read fuel 0))
-    c.args.tokens.now.rest.now c.name.new.self.rest.now c.in_err-name-in-Keyword-Sense.field-0.0 c.from_residual-in_err-name-in-Keyword-Sense.result c.from_residual-in_err-name-in-Keyword-Sense.ensures
+    c.args.tokens.now.rest.now c.name.new.self.rest.now c.in_err-name-in-Keyword-Sense.field-0.0
+    c.from_residual-in_err-name-in-Keyword-Sense.result c.from_residual-in_err-name-in-Keyword-Sense.ensures
     (λ r. sense-name ts us _ begins r) c.in_err-name-in-Keyword-Sense.ensures
 
 pub prim-returns-in_ok-name-in-Keyword-Sense-clause-reads : goal.prim-returns-in_ok-name-in-Keyword-Sense-clause-reads
@@ -264,7 +265,8 @@ prim-returns-in_err-word-in-Keyword-Last-clause-reads t c =
     let is = c.in-Keyword-Last.is ∙ ap Keyword (rw c.in-Keyword-Last.is at c.in-Keyword-Last.field-0-is) in
     let begins = front (Keyword Last) (Keyword Let) ts c.in-len1-up.len_at_least is in
     token-failed ℕ Term ℕ Expr (λ n. n) term_of (read_word us) (λ fuel. prim_by (read fuel prim_level) (read fuel 0))
-    c.args.tokens.now.rest.now c.word-in-Keyword-Last.new.self.rest.now c.in_err-word-in-Keyword-Last.field-0.0 c.from_residual-in_err-word-in-Keyword-Last.result c.from_residual-in_err-word-in-Keyword-Last.ensures
+    c.args.tokens.now.rest.now c.word-in-Keyword-Last.new.self.rest.now c.in_err-word-in-Keyword-Last.field-0.0
+    c.from_residual-in_err-word-in-Keyword-Last.result c.from_residual-in_err-word-in-Keyword-Last.ensures
     (λ r. last-word ts us _ begins r) c.in_err-word-in-Keyword-Last.ensures
 
 pub prim-returns-in_ok-word-in-Keyword-Last-clause-reads : goal.prim-returns-in_ok-word-in-Keyword-Last-clause-reads

@@ -10,7 +10,8 @@ taken c = search (rules, c.make.ensures.made, c.map_err.ensures, c.in_ok-pool.en
 
 pub invariant_of-result : goal.invariant_of-result
 invariant_of-result c =
-    first_file _ _ _ _ _ _ _ _ _ _ _ _ _ _ _ _ (taken (goal.at.invariant_of-result c).In_ok-pool) refl c.carve-agreed.ensures c.carve-before.ensures c.carve-voted.ensures c.carve-work.ensures c.mark-mark.ensures
+    first_file _ _ _ _ _ _ _ _ _ _ _ _ _ _ _ _ (taken (goal.at.invariant_of-result c).In_ok-pool) refl
+    c.carve-agreed.ensures c.carve-before.ensures c.carve-voted.ensures c.carve-work.ensures c.mark-mark.ensures
     c.carve-made.ensures c.store.ensures _ _ _ c.requires.sensors (omega (arith, c.requires.starts)) c.load.ensures c.load-2.ensures c.load-3.ensures
 
 pub returns : goal.returns
