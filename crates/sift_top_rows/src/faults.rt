@@ -6,6 +6,7 @@ use sift_base::NoMemory;
 use sift_io::BytesOut;
 use sift_threads::NoProbe;
 use std::alloc::Global;
+use std::process::Abort;
 use std::sync::Wait;
 use std::test::Fail;
 use std::thread::Threads;
@@ -65,21 +66,29 @@ fn a_sink_may_fail_at_any_call(rt: HostRuntime) -> Result<(), Fail> {
     Ok(())
 }
 
+/// Calls the top call where the source and the sink fail so: the status is 9, and so much of the text is written.
+fn expect_cut<H: Threads + Wait + Abort + Sync>(
+    rt: &H,
+    alloc: Global,
+    (word, input): (&str, &str),
+    failing: Failing,
+    text: &str,
+) -> Result<(), Fail> {
+    let (status, sink) = call_with_failing(rt, alloc, word, input, failing)?;
+    assert_eq!(rt; status, 9);
+    assert_eq!(rt; sink.bytes.as_slice(), text.as_bytes());
+    Ok(())
+}
+
 #[test]
 fn the_line_of_a_refusal_may_fail(rt: HostRuntime) -> Result<(), Fail> {
+    let first = Failing { read: 0, write: 1 };
+    let second = Failing { read: 0, write: 2 };
+    let both = Failing { read: 1, write: 1 };
     // No byte of it is written.
-    let failing = Failing { read: 0, write: 1 };
-    let (status, sink) = call_with_failing(&rt, rt.alloc(), "fly", COUNT, failing)?;
-    assert_eq!(rt; status, 9);
-    assert_eq!(rt; sink.bytes.len(), 0);
+    expect_cut(&rt, rt.alloc(), ("fly", COUNT), first, "")?;
     // It is cut.
-    let failing = Failing { read: 0, write: 2 };
-    let (status, sink) = call_with_failing(&rt, rt.alloc(), "run", "", failing)?;
-    assert_eq!(rt; status, 9);
-    assert_eq!(rt; sink.bytes.as_slice(), b"scenario rule 2 ".as_slice());
+    expect_cut(&rt, rt.alloc(), ("run", ""), second, "scenario rule 2 ")?;
     // A source fails, and the sink then does.
-    let failing = Failing { read: 1, write: 1 };
-    let (status, _) = call_with_failing(&rt, rt.alloc(), "run", COUNT, failing)?;
-    assert_eq!(rt; status, 9);
-    Ok(())
+    expect_cut(&rt, rt.alloc(), ("run", COUNT), both, "")
 }
