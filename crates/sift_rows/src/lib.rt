@@ -19,6 +19,8 @@ mod machine;
 #[cfg(test)]
 mod parse;
 #[cfg(test)]
+mod pilots;
+#[cfg(test)]
 mod pool;
 #[cfg(test)]
 mod rogue;

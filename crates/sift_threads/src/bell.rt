@@ -1,17 +1,11 @@
-//! How threads sleep while they wait for a unit, and who wakes them.
+//! The bell of an ether: who wakes threads that sleep while they wait for a unit.
 
-use crate::pilot::Probe;
 use sift_base::UnitId;
 use sift_ether::Ether;
+use sift_workers::{Bell, Probe};
 use std::sync::Wait;
 use std::sync::atomic::{AtomicU64, Ordering};
 use std::time::Duration;
-
-/// A probe at whose words sleepers wake. No clause depends on what it does.
-pub trait Bell: Probe {
-    /// Sleeps for a bounded time, where the unit's progress number still is the one that was seen.
-    fn sleep_while<H: Wait>(&self, rt: &H, unit: UnitId, seen: u64);
-}
 
 /// How many milliseconds a thread sleeps at most, if nobody wakes it.
 const LONGEST: u64 = 1;

@@ -9,8 +9,6 @@ ghost use Rattle.sift_threads.specs.Flown.{HaveFlown};
 
 use crate::bell::EtherBell;
 use crate::flown::Flown;
-use crate::flying::fly_all;
-use crate::pilot::Probe;
 use crate::seating::{leave_home, seat_all};
 use sift_base::NoMemory;
 use sift_core::Machine;
@@ -18,6 +16,7 @@ use sift_ether::{Ether, Token};
 use sift_flight::{Flight, flights_that_come_home_are_round};
 use sift_mission::{Mission, a_mission_fits};
 use sift_rogue::Rogue;
+use sift_workers::{Probe, fly_all};
 use std::alloc::Global;
 use std::sync::Wait;
 use std::thread::Threads;

@@ -2,10 +2,10 @@
 ghost use Rattle.sift_threads.specs.Coming.{itself, further};
 ghost use Rattle.sift_threads.specs.Seats.{IsManned, IsDone, Comes};
 
-use crate::pilot::{Pilot, Probe, Went};
 use crate::seat::Seat;
 use sift_buffer::Port;
 use sift_rogue::Rogue;
+use sift_workers::{Pilot, Probe, Went};
 
 impl<T: Port + Drop, R: Rogue> Pilot for Seat<'_, T, R> {
     ghost drives = { IsManned T.view };

@@ -1,15 +1,15 @@
 //! A unit's board at its port, with its rogue.
 ghost use Rattle.std.specs.Prelude.{◌≡◌, ◌<◌, ℕ, Some, None};
-ghost use Rattle.sift_threads.specs.Going.{IsHome};
+ghost use Rattle.sift_workers.specs.Going.{IsHome};
 ghost use Rattle.sift_threads.specs.Seats.{IsManned, IsStraying, IsDone, Comes, storm_of};
 ghost use Rattle.sift_threads.specs.SeatSteps.{BeginsStorm, StoresNext};
 
-use crate::pilot::{Probe, Went};
 use sift_base::UnitId;
 use sift_buffer::Port;
 use sift_mission::Mission;
 use sift_rogue::{Rogue, next_shot, storms_add_up};
 use sift_unit::{Board, Stepped, boards_drive_beside_strays};
+use sift_workers::{Probe, Went};
 
 /// A unit of a mission: its board at its port, and its rogue, which is called once the unit has
 /// turned.

@@ -1,5 +1,5 @@
-//! Rows of tests of missions, boards and machines, of flights on threads, and of the top call, with pilots, rogues and probes
-//! of the tests' own.
+//! Rows of tests of missions, boards and machines, of flights on threads, and of the top call, with rogues and probes of the
+//! tests' own.
 #![tactic(auto)]
 
 #[cfg(test)]
@@ -12,8 +12,6 @@ mod faults;
 mod machines;
 #[cfg(test)]
 mod missions;
-#[cfg(test)]
-mod pilots;
 #[cfg(test)]
 mod stated;
 #[cfg(test)]

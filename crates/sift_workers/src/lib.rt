@@ -1,0 +1,13 @@
+//! Workers. They drive the pilots that were dealt to them, on as many threads as there are processors, and all come
+//! back in their order. What a pilot flies, no worker knows.
+#![tactic(auto)]
+
+mod bell;
+mod dealing;
+mod driving;
+mod flying;
+mod pilot;
+
+pub use bell::Bell;
+pub use flying::fly_all;
+pub use pilot::{NoProbe, Pilot, Probe, Went};
