@@ -1,10 +1,26 @@
--- Entries that are read one after another, and how many receivers there may be.
-use Rattle.std.proofs.Common.{◌≡◌, ◌<◌, ◌≤◌, ◌+◌, ℕ, suc, List, [], ◌∷◌, ◌++◌, length, get_or, map, take, sym, ap, ◌∙◌, arith}
+-- What is read and tested, entries that are read one after another, and how many receivers there may be.
+use Rattle.std.proofs.Common.{◌≡◌, ◌<◌, ◌≤◌, ◌+◌, ℕ, suc, List, [], ◌∷◌, ◌++◌, length, get_or, map, take, Bool, true, false, Option, None, Some, sym, ap, ◌∙◌, arith}
+use Rattle.std.specs.Option.{IfNone, IfSome, is_some}
 use Rattle.std.specs.List.{All}
 use Rattle.std.proofs.lemmas.List.{get_or-map, length-map, map-append, take_more}
 use Rattle.std.proofs.lemmas.List.Elements.{All-head, All-tail}
 use Rattle.sift_base.proofs.lemmas.Counts.{IsBelowAll}
 use Rattle.sift_base.specs.Units.{IsAscending}
+
+-- ---- what is read, and what is tested
+
+-- what is read is one value
+pub one_value : {A : Type 0} (found : Option A) (one other : A) → found ≡ Some one → found ≡ Some other → one ≡ other
+one_value found one other is is' = let both : Some one ≡ Some other = sym is ∙ is' in cc both
+
+-- no test is passed and failed
+pub not_both : {b : Bool} → b ≡ true → b ≡ false → ⊥
+not_both passed failed = let both : true ≡ false = sym passed ∙ failed in absurd (cc both)
+
+-- a test for what is found tells whether the fact holds
+pub found_where : {T P : Type 0} (found : Option T) (b : Bool) → b ≡ is_some found → IfSome found (λ _. P) → IfNone found (P → ⊥) → (b ≡ true → P) × (P → b ≡ true)
+found_where None b is known none = (λ passed. absurd (not_both passed is), λ holds. absurd (none holds))
+found_where (Some x) b is known none = (λ _. known, λ _. is)
 
 -- ---- entries
 

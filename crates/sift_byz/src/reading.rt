@@ -1,15 +1,16 @@
 //! The plan that a document states.
 
-ghost use Rattle.std.specs.Prelude.{◌≡◌, ◌≤◌, IfErr, IfOk, Some, None, length, map, option_map};
+ghost use Rattle.std.specs.Prelude.{◌≡◌, ◌≤◌, IfErr, IfOk, Some, None, drop, length, map, option_map};
 ghost use Rattle.std.specs.List.{All};
 ghost use Rattle.toml.specs.View.{table_view};
 ghost use Rattle.sift_base.specs.Stop.{IfRefused};
 ghost use Rattle.sift_document.specs.Document.{HasOnlyKeys};
 ghost use Rattle.sift_document.specs.Rules.{OfNoEntry};
-ghost use Rattle.sift_document.specs.Testing.{OnlyRefuses, RefusesFirst, Tests};
-ghost use Rattle.sift_byz.specs.Lawful.{BreaksFew, IsPlanOf, IsRefusedWith, rules_of};
+ghost use Rattle.sift_document.specs.Testing.{OnlyRefuses, RefusesFirst, Tests, TestsEach};
+ghost use Rattle.sift_byz.specs.Lawful.{BreaksFew, IsPlanOf, IsRefusedWith, rules_for, rules_of};
 ghost use Rattle.sift_byz.specs.Plan.{IsInRange, PlanData, TraitorsAreFew, lie_of, plan_of, most_traitors, most_units};
-ghost use Rattle.sift_byz.specs.Stated.{IsPath, lie_limit, m_of, root_keys, units_of, values_of};
+ghost use Rattle.sift_byz.specs.Testing.{MayBe};
+ghost use Rattle.sift_byz.specs.Stated.{IsPath, lie_in, lie_limit, lies_of, m_of, root_keys, units_of, values_of};
 
 use crate::lies::{EntryRule, check_each, lie_entries, lies_in};
 use crate::plan::{ByzPlan, Lie};
@@ -44,17 +45,32 @@ fn read_plan(alloc: Global, document: &Table) -> Result<ByzPlan, Stop<BrokenRule
     let m = m_of(document)?;
     let units = units_of(document, m)?;
     let values = values_of(document, units)?;
-    let entries = lie_entries(document)?;
-    check_each(entries, EntryRule::Path { units, m })?;
-    check_each(entries, EntryRule::Receivers { units, m })?;
-    let lies = lies_in(alloc, entries, units, m)?;
-    check_few(&lies, units, m)?;
+    let lies = stated_lies(alloc, document, units, m)?;
     Ok(ByzPlan {
         units,
         m,
         values,
         lies,
     })
+}
+
+/// The lies that a document states, or the first of the rules from the fifth on that it breaks, where so many units may lie.
+fn stated_lies(
+    alloc: Global,
+    document: &Table,
+    units: u8,
+    m: u8,
+) -> Result<Vec<Lie>, Stop<BrokenRule>>
+    requires { MayBe units m }
+    ensures lies { IfOk result (λ lies. map lie_of lies.items ≡ map lie_in (lies_of (table_view document.now))) }
+    ensures tests { TestsEach (drop 4 (rules_for units m (table_view document.now))) result }
+{
+    let entries = lie_entries(document)?;
+    check_each(entries, EntryRule::Path { units, m })?;
+    check_each(entries, EntryRule::Receivers { units, m })?;
+    let lies = lies_in(alloc, entries, units, m)?;
+    check_few(&lies, units, m)?;
+    Ok(lies)
 }
 
 /// Tests the keys of the root.
@@ -110,7 +126,10 @@ fn stated_values(document: &Table, units: usize) -> Option<ArrayVec<Word, 10>>
     requires { units ≤ most_units }
     ensures { option_map (λ values. values.items) result ≡ values_of units (table_view document.now) }
 {
-    word_array(member_of(document, "values")?, units, units)
+    match member_of(document, "values") {
+        Some(value) => word_array(value, units, units),
+        None => None,
+    }
 }
 
 /// Tests that at most `m` units stand last in a path.
