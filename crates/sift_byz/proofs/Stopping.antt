@@ -1,19 +1,34 @@
 -- The rules of a document, where it is known how many units there are and how many may lie, and what is handed on.
-use Rattle.std.proofs.Common.{◌≡◌, ℕ, zero, suc, List, [], ◌∷◌, take, drop, Result, Err, Some, sym, ap, subst, ◌∙◌}
+use Rattle.std.proofs.Common.{◌≡◌, ℕ, zero, suc, List, [], ◌∷◌, take, drop, Option, Result, Err, Some, None, sym, ap, subst, ◌∙◌}
 use Rattle.std.specs.Prelude.{IsErr, IsErrAnd, unwrap_or}
 use Rattle.std.proofs.lemmas.Result.{err_from_is_err_and}
 use Rattle.toml.specs.Data.{Members}
 use Rattle.sift_base.specs.declared.stop.Stop.{Stop}
+use Rattle.sift_base.specs.declared.stop.Stop.TheVariants as stop
 use Rattle.sift_document.proofs.lemmas.Order.{StopsAt, later, stopped}
-use Rattle.sift_document.specs.Rules.{AreKept, Rule}
+use Rattle.sift_document.proofs.lemmas.Testing.{refused_of_none}
+use Rattle.sift_document.specs.Rules.{AreKept, IsFirstPlace, OfNoEntry, Rule}
 use Rattle.sift_document.specs.Testing.{RefusesFirst}
 use Rattle.sift_document.specs.declared.rule.BrokenRule.{BrokenRule}
 use Rattle.sift_byz.specs.Lawful.{rules_for, rules_of}
 use Rattle.sift_byz.specs.Stated.{m_of, units_of}
+use Rattle.sift_byz.proofs.Testing.{none_some}
 
 -- what `?` hands on is the refusal that it met
 pub handed_on : {A E : Type 0} (r : Result A E) (e : E) → IsErr r × IsErrAnd r (λ met. met ≡ e) → r ≡ Err e
 handed_on r e given = let met = err_from_is_err_and r given.1 in met.1 ∙ ap Err met.2
+
+-- the refusal of a rule that speaks of no entry
+abbrev pub refusal : ℕ → Stop BrokenRule
+refusal number = stop.Refused (record { number = number; place = 0 })
+
+-- a rule is kept that asks for what is stated
+pub kept_stated : {A : Type 0} {stated : Option A} {x : A} → Some x ≡ stated → (place : ℕ) → ¬ OfNoEntry (stated ≡ None) place
+kept_stated is place broken = none_some (sym broken.1) (sym is)
+
+-- and refused where that isn't stated
+pub refused_unstated : {A : Type 0} (number : ℕ) {stated : Option A} → None ≡ stated → (number ≡ number) × IsFirstPlace (OfNoEntry (stated ≡ None)) 0
+refused_unstated number none = refused_of_none number _ (sym none)
 
 -- the first rules are kept, and one of the others is refused
 later_all : (k : ℕ) (rules : List Rule) (e : Stop BrokenRule) → AreKept (take k rules) → RefusesFirst (drop k rules) e → RefusesFirst rules e

@@ -1,7 +1,8 @@
 -- What is read and tested, entries that are read one after another, and how many receivers there may be.
-use Rattle.std.proofs.Common.{◌≡◌, ◌<◌, ◌≤◌, ◌+◌, ℕ, suc, List, [], ◌∷◌, ◌++◌, length, get_or, map, take, Bool, true, false, Option, None, Some, sym, ap, ◌∙◌, arith}
+use Rattle.std.proofs.Common.{◌≡◌, ◌<◌, ◌≤◌, ◌+◌, ℕ, suc, List, [], ◌∷◌, ◌++◌, length, get_or, map, take, Bool, true, false, Option, None, Some, refl, sym, ap, ◌∙◌, arith}
 use Rattle.std.specs.Option.{IfNone, IfSome, is_some}
 use Rattle.std.specs.List.{All}
+use Rattle.toml.specs.Data.{Data, Members, string, integer, float, boolean, datetime, array, table, as_table, get, get_member}
 use Rattle.std.proofs.lemmas.List.{get_or-map, length-map, map-append, take_more}
 use Rattle.std.proofs.lemmas.List.Elements.{All-head, All-tail}
 use Rattle.sift_base.proofs.lemmas.Counts.{IsBelowAll}
@@ -17,10 +18,36 @@ one_value found one other is is' = let both : Some one ≡ Some other = sym is �
 pub not_both : {b : Bool} → b ≡ true → b ≡ false → ⊥
 not_both passed failed = let both : true ≡ false = sym passed ∙ failed in absurd (cc both)
 
+-- nothing is no value
+pub none_some : {A : Type 0} {found : Option A} {x : A} → None ≡ found → found ≡ Some x → ⊥
+none_some none some = let both : None ≡ Some _ = none ∙ some in absurd (cc both)
+
 -- a test for what is found tells whether the fact holds
 pub found_where : {T P : Type 0} (found : Option T) (b : Bool) → b ≡ is_some found → IfSome found (λ _. P) → IfNone found (P → ⊥) → (b ≡ true → P) × (P → b ≡ true)
 found_where None b is known none = (λ passed. absurd (not_both passed is), λ holds. absurd (none holds))
 found_where (Some x) b is known none = (λ _. known, λ _. is)
+
+-- ---- values of a document
+
+-- what stands at a key of a table
+pub got_from : (key : List ℕ) (d : Data) (ms : Members) → Some ms ≡ as_table d → get_member key ms ≡ get key d
+got_from key (table ms) ms' is = let same : ms' ≡ ms = cc is in ap (get_member key) same
+got_from key (string s) ms' is = cc
+got_from key (integer z) ms' is = cc
+got_from key (float x) ms' is = cc
+got_from key (boolean b) ms' is = cc
+got_from key (datetime t) ms' is = cc
+got_from key (array ds) ms' is = cc
+
+-- and nothing where no table is
+pub got_none : (key : List ℕ) (d : Data) → None ≡ as_table d → None ≡ get key d
+got_none key (table ms) none = cc
+got_none key (string s) none = refl
+got_none key (integer z) none = refl
+got_none key (float x) none = refl
+got_none key (boolean b) none = refl
+got_none key (datetime t) none = refl
+got_none key (array ds) none = refl
 
 -- ---- entries
 

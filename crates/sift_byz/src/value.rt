@@ -25,18 +25,10 @@ pub(crate) fn digits_at<const N: usize>(value: &Value, key: &str) -> Option<Arra
     ensures none { IfNone result ((digits : List ℕ) → option_and_then (digits_to 9) (get key.now (view value.now)) ≡ Some digits → N < length digits) }
 {
     match member_in(value, key) {
-        Some(member) => digits_of(member),
-        None => None,
-    }
-}
-
-/// The numbers of a string of digits, if there are at most `N`.
-fn digits_of<const N: usize>(value: &Value) -> Option<ArrayVec<u8, N>>
-    ensures found { IfSome result (λ digits. digits_to 9 (view value.now) ≡ Some digits.items) }
-    ensures none { IfNone result ((digits : List ℕ) → digits_to 9 (view value.now) ≡ Some digits → N < length digits) }
-{
-    match value.as_str() {
-        Some(text) => digits_in(text),
+        Some(member) => match member.as_str() {
+            Some(text) => digits_in(text),
+            None => None,
+        },
         None => None,
     }
 }

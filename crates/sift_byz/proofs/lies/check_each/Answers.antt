@@ -3,6 +3,7 @@ use Rattle.toml.specs.View.{view}
 use Rattle.sift_document.proofs.lemmas.Places.{fails_here, holds_here, nowhere}
 use Rattle.sift_document.proofs.lemmas.Testing.{first_broken}
 use Rattle.sift_byz.specs.Testing.{Keeps, number_of}
+use Rattle.sift_byz.proofs.Testing.{not_both}
 use Rattle.sift_byz.proofs.lies.check_each.Goals as goal
 
 -- this entry is the first that doesn't keep the rule
@@ -11,7 +12,7 @@ returns-then-not-keeps c =
     rw (c.broken.ensures, c.number_of.ensures)
     (first_broken (number_of c.args.rule) _ _
     (holds_here (λ entry. view entry) c.args.entries.now (λ at lie. ¬ Keeps c.args.rule lie) _ _
-    c.loop-place-test.true c.index-entries-place.is (λ kept. let is = c.keeps.ensures.1 kept in cc))
+    c.loop-place-test.true c.index-entries-place.is (λ kept. not_both (c.keeps.ensures.1 kept) c.if-not-keeps.true))
     c.loop-place.invariant)
 
 -- one entry more keeps it
