@@ -35,3 +35,6 @@ returns c =
     let own : ℕ → Option ℕ = λ u. Some (value_of (plan_of c.args.plan.now) u) in
     let all : c.loop-unit.unit ≡ c.args.plan.now.units = omega (arith, c.loop-unit.auto, c.loop-unit-test.false, c.from-unit-end.ensures) in
     own_shown (plan_of c.args.plan.now) c.requires.some c.loop-unit.chart.items (c.loop-unit.invariant.filled ∙ ap (λ n. map own (range_with_len 0 n)) all)
+
+pub bounds-deref-unit : goal.bounds-deref-unit
+bounds-deref-unit c = rw (c.deref.ensures.0, c.requires.valued) (rw c.from-unit-end.ensures at c.loop-unit-test.true)
