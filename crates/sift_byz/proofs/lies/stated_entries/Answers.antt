@@ -13,7 +13,8 @@ returns-in_err-entries-clause-tests c =
 -- an entry is no table, or has an unknown key
 pub returns-in_err-check_each-clause-tests : goal.returns-in_err-check_each-clause-tests
 returns-in_err-check_each-clause-tests c =
-    rw (handed_on c.from_residual-in_err-check_each.result _ c.from_residual-in_err-check_each.ensures) (refused_entry 5 0 lie_limit (λ at. IsTableOf lie_keys) (view c.args.value.now) c.in_ok-entries.ensures.right c.in_err-check_each.field-0.0
+    rw (handed_on c.from_residual-in_err-check_each.result _ c.from_residual-in_err-check_each.ensures)
+    (refused_entry 5 0 lie_limit (λ at. IsTableOf lie_keys) (view c.args.value.now) c.in_ok-entries.ensures.right c.in_err-check_each.field-0.0
     (rw c.in_ok-entries.ensures.entries at c.in_err-check_each.ensures))
 
 -- no entry is

@@ -12,7 +12,8 @@ use Rattle.sift_byz.proofs.reading.read_plan.Goals as goal
 -- a key is unknown
 pub returns-then-not-has_only_keys-clause-refused : goal.returns-then-not-has_only_keys-clause-refused
 returns-then-not-has_only_keys-clause-refused c =
-    rw c.broken.ensures (stopped 0 (rules_of (table_view c.args.document.now)) (refusal 1) (refused_of_none 1 (¬ HasOnlyKeys root_keys (table_view c.args.document.now)) (λ only. not_both (c.has_only_keys.ensures.1 only) c.if-not-has_only_keys.true)))
+    rw c.broken.ensures (stopped 0 (rules_of (table_view c.args.document.now)) (refusal 1)
+    (refused_of_none 1 (¬ HasOnlyKeys root_keys (table_view c.args.document.now)) (λ only. not_both (c.has_only_keys.ensures.1 only) c.if-not-has_only_keys.true)))
 
 -- it isn't stated how many may lie
 pub returns-in_default-clause-refused : goal.returns-in_default-clause-refused
