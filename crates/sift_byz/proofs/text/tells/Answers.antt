@@ -1,4 +1,4 @@
-use Rattle.std.proofs.Common.{◌≡◌, ◌≤◌, ◌-◌, length, ap, sym, arith}
+use Rattle.std.proofs.Common.{◌≤◌, ◌-◌, length, ap, sym, arith}
 use Rattle.std.proofs.lemmas.List.{nil_from_length}
 use Rattle.sift_byz.specs.Plan.{stands_last}
 use Rattle.sift_byz.proofs.Tellers.{stands_last-at}
