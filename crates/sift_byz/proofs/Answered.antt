@@ -16,6 +16,7 @@ use Rattle.sift_byz.specs.Plan.{LieData, PlanData, teller_count, most_traitors, 
 use Rattle.sift_byz.specs.Stated.{lie_in, lies_of}
 use Rattle.sift_byz.proofs.Stopping.{kept_for_units}
 use Rattle.sift_byz.proofs.Tellers.{few_tellers}
+use Rattle.sift_byz.proofs.Testing.{one_value}
 
 -- ---- answers
 
@@ -47,10 +48,6 @@ module _ {A : Type 0} (document : Members) where
   exact_of stated_of (Err stop.NoMemory) stated refused owed owes = (refl, inr refl)
 
 -- ---- plans
-
--- a document states one number, list or plan
-one_value : {A : Type 0} (found : Option A) (one other : A) → found ≡ Some one → found ≡ Some other → one ≡ other
-one_value found one other is is' = let both : Some one ≡ Some other = sym is ∙ is' in cc both
 
 -- a document states at most one plan
 pub one_plan : OnePlan

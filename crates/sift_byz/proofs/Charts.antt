@@ -1,5 +1,5 @@
 -- Charts, one after another: those of what was heard, and those of results.
-use Rattle.std.proofs.Common.{◌≡◌, ℕ, suc, ◌+◌, ◌-◌, ◌*◌, ◌/◌, ◌%◌, ◌^◌, ◌<◌, List, [], ◌∷◌, length, map, reverse, get_or, Option, None, Some, sym, ap, ◌∙◌, subst, arith}
+use Rattle.std.proofs.Common.{◌≡◌, ℕ, suc, ◌+◌, ◌-◌, ◌*◌, ◌/◌, ◌%◌, ◌^◌, ◌<◌, List, [], ◌∷◌, ◌++◌, append_assoc, length, map, reverse, get_or, Option, None, Some, sym, ap, ◌∙◌, subst, arith}
 use Rattle.std.specs.Prelude.{unwrap_or}
 use Rattle.std.specs.List.{range_with_len}
 use Rattle.std.proofs.lemmas.Nat.{div-mul-add, mod-mul-add, mod_below}
@@ -11,6 +11,18 @@ use Rattle.sift_byz.specs.Plan.{PlanData, all_units, first_lie, heard, value_of}
 use Rattle.sift_byz.specs.Relaying.{outside, result_of}
 use Rattle.sift_byz.proofs.Digits.{digit_below, longer, one_digit, pow-one, shorter, square}
 use Rattle.sift_byz.proofs.Outside.{map_same, outside_has, row_low}
+
+-- ---- paths
+
+-- the digits so far, and then those of the rest, with one digit more
+pub digit_more :
+    (n count done rest row : ℕ) (old new : List ℕ) → done < count → new ≡ old ++ rest % n ∷ []
+    → old ++ path_in n (count - done) rest ≡ path_in n count row → new ++ path_in n (count - (done + 1)) (rest / n) ≡ path_in n count row
+digit_more n count done rest row old new low added so_far =
+    let left : suc (count - (done + 1)) ≡ count - done = omega arith in
+    ap (λ ds. ds ++ path_in n (count - (done + 1)) (rest / n)) added
+    ∙ append_assoc old (rest % n ∷ []) (path_in n (count - (done + 1)) (rest / n))
+    ∙ ap (λ k. old ++ path_in n k rest) left ∙ so_far
 
 -- ---- a chart that was filled place by place
 

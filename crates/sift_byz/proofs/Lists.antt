@@ -1,22 +1,30 @@
--- Lists with commas.
-use Rattle.std.proofs.Common.{◌≡◌, ℕ, suc, ◌+◌, ◌≤◌, List, [], ◌∷◌, ◌++◌, length, map, take, append_assoc, sym, ap, ◌∙◌, arith}
-use Rattle.std.specs.List.{flat_map, join_with_byte, range_with_len}
+-- Lists with commas, and texts of numbers.
+use Rattle.std.proofs.Common.{◌≡◌, ℕ, suc, ◌+◌, List, [], ◌∷◌, ◌++◌, length, map, true, false, Result, Ok, Err, refl, sym, ap, ◌∙◌, arith}
+use Rattle.std.specs.Bool.{◌==◌, if◌then◌else◌}
+use Rattle.std.specs.Result.{is_ok, OnOk}
+use Rattle.std.specs.List.{flat_map, range_with_len}
+use Rattle.std.proofs.lemmas.Bool.{eqb-true}
 use Rattle.std.proofs.lemmas.Grind.{flat_map-append}
-use Rattle.std.proofs.lemmas.List.{append-nil, take_all}
+use Rattle.std.proofs.lemmas.List.{append-nil}
+use Rattle.sift_line.specs.Part.{list_text, word_text}
+use Rattle.sift_byz.specs.Text.{words_text}
 use Rattle.sift_byz.proofs.Outside.{row_more}
+use Rattle.sift_byz.proofs.Testing.{not_both}
 
--- parts that are joined: the first, and each other one behind a comma
-joined-cons : {V : Type 0} (text : V → List ℕ) (v : V) (vs : List V) → join_with_byte 44 (map text (v ∷ vs)) ≡ text v ++ flat_map (λ w. 44 ∷ text w) vs
-joined-cons text v [] = sym (append-nil (text v))
-joined-cons text v (w ∷ ws) = ap (λ bs. text v ++ 44 ∷ bs) (joined-cons text w ws)
+-- a text is written where that is answered
+pub written : {T E : Type 0} (r : Result T E) (now new old : List ℕ) → now ≡ (if is_ok r then new else old) → OnOk r (now ≡ new)
+written (Ok x) now new old is = is
+written (Err e) now new old is = tt
 
--- all parts are written where the first is, and then the others
-pub all_joined :
-    {V : Type 0} (text : V → List ℕ) (vs : List V) (first : V) (others : List V) (k : ℕ) (old before now : List ℕ) → vs ≡ first ∷ others
-    → length others ≤ k → before ≡ old ++ text first → now ≡ before ++ flat_map (λ w. 44 ∷ text w) (take k others)
-    → now ≡ old ++ join_with_byte 44 (map text vs)
-all_joined text vs first others k old before now cut seen start rest =
-    rw (rest, take_all k others seen, start, cut, joined-cons text first others) (append_assoc old (text first) (flat_map (λ w. 44 ∷ text w) others))
+-- no words have an empty text
+pub no_words : (text words : List ℕ) → (length words == 0) ≡ true → text ≡ text ++ words_text words
+no_words text [] none = sym (append-nil text)
+no_words text (w ∷ ws) none = absurd (omega (arith, eqb-true (length (w ∷ ws)) 0 none))
+
+-- and the text of some words is that of their list
+pub some_words : (words : List ℕ) → (length words == 0) ≡ false → list_text (map word_text words) ≡ words_text words
+some_words [] some = absurd (not_both refl some)
+some_words (w ∷ ws) some = refl
 
 -- the text of one number more
 pub text_more :

@@ -1,12 +1,84 @@
--- Entries that are read one after another, and how many receivers there may be.
-use Rattle.std.proofs.Common.{◌≡◌, ◌<◌, ◌≤◌, ◌+◌, ℕ, suc, List, [], ◌∷◌, ◌++◌, length, get_or, map, take, sym, ap, ◌∙◌, arith}
+-- What is read and tested, entries that are read one after another, and how many receivers there may be.
+use Rattle.std.proofs.Common.{◌≡◌, ◌<◌, ◌≤◌, ◌+◌, ℕ, suc, List, [], ◌∷◌, ◌++◌, length, get_or, map, take, Bool, true, false, Option, None, Some, refl, sym, ap, ◌∙◌, arith}
+use Rattle.std.specs.Option.{IfNone, IfSome, is_some}
 use Rattle.std.specs.List.{All}
+use Rattle.toml.specs.Data.{Data, Members, string, integer, float, boolean, datetime, array, table, as_str, as_table, get, get_member}
+use Rattle.sift_document.specs.Document.{digit_to, digits_to, each_read}
+use Rattle.sift_byz.specs.Stated.{lie_limit}
 use Rattle.std.proofs.lemmas.List.{get_or-map, length-map, map-append, take_more}
 use Rattle.std.proofs.lemmas.List.Elements.{All-head, All-tail}
 use Rattle.sift_base.proofs.lemmas.Counts.{IsBelowAll}
 use Rattle.sift_base.specs.Units.{IsAscending}
 
+-- ---- what is read, and what is tested
+
+-- what is read is one value
+pub one_value : {A : Type 0} (found : Option A) (one other : A) → found ≡ Some one → found ≡ Some other → one ≡ other
+one_value found one other is is' = let both : Some one ≡ Some other = sym is ∙ is' in cc both
+
+-- no test is passed and failed
+pub not_both : {b : Bool} → b ≡ true → b ≡ false → ⊥
+not_both passed failed = let both : true ≡ false = sym passed ∙ failed in absurd (cc both)
+
+-- nothing is no value
+pub none_some : {A : Type 0} {found : Option A} {x : A} → None ≡ found → found ≡ Some x → ⊥
+none_some none some = let both : None ≡ Some _ = none ∙ some in absurd (cc both)
+
+-- a test for what is found tells whether the fact holds
+pub found_where : {T P : Type 0} (found : Option T) (b : Bool) → b ≡ is_some found → IfSome found (λ _. P) → IfNone found (P → ⊥) → (b ≡ true → P) × (P → b ≡ true)
+found_where None b is known none = (λ passed. absurd (not_both passed is), λ holds. absurd (none holds))
+found_where (Some x) b is known none = (λ _. known, λ _. is)
+
+-- ---- values of a document
+
+-- what stands at a key of a table
+pub got_from : (key : List ℕ) (d : Data) (ms : Members) → Some ms ≡ as_table d → get_member key ms ≡ get key d
+got_from key (table ms) ms' is = let same : ms' ≡ ms = cc is in ap (get_member key) same
+got_from key (string s) ms' is = cc
+got_from key (integer z) ms' is = cc
+got_from key (float x) ms' is = cc
+got_from key (boolean b) ms' is = cc
+got_from key (datetime t) ms' is = cc
+got_from key (array ds) ms' is = cc
+
+-- and nothing where no table is
+pub got_none : (key : List ℕ) (d : Data) → None ≡ as_table d → None ≡ get key d
+got_none key (table ms) none = cc
+got_none key (string s) none = refl
+got_none key (integer z) none = refl
+got_none key (float x) none = refl
+got_none key (boolean b) none = refl
+got_none key (datetime t) none = refl
+got_none key (array ds) none = refl
+
+-- the digits of a text, and none of another value
+pub digits_from : (d : Data) (text : List ℕ) → Some text ≡ as_str d → each_read (digit_to 9) text ≡ digits_to 9 d
+digits_from (string s) text is = let same : text ≡ s = cc is in ap (each_read (digit_to 9)) same
+digits_from (integer z) text is = cc
+digits_from (float x) text is = cc
+digits_from (boolean b) text is = cc
+digits_from (datetime t) text is = cc
+digits_from (array ds) text is = cc
+digits_from (table ms) text is = cc
+
+pub no_digits : (d : Data) → None ≡ as_str d → None ≡ digits_to 9 d
+no_digits (string s) none = cc
+no_digits (integer z) none = refl
+no_digits (float x) none = refl
+no_digits (boolean b) none = refl
+no_digits (datetime t) none = refl
+no_digits (array ds) none = refl
+no_digits (table ms) none = refl
+
 -- ---- entries
+
+-- no number is below 0
+pub not_below : {k : ℕ} → k < 0 → ⊥
+not_below low = omega (arith, low)
+
+-- the place of an entry is a small number
+pub place_fits : {place entries : ℕ} → place < entries → entries ≤ lie_limit → place < 4294967296
+place_fits low few = omega (arith, low, few)
 
 -- what is made of the entries so far is one more
 pub made_more :

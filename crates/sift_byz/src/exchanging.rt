@@ -24,14 +24,22 @@ pub fn exchange(alloc: Global, plan: &ByzPlan) -> Result<Vectors, NoMemory>
     ensures vectors { IfOk result (λ vectors. vectors ≡ vectors_of (plan_of plan.now)) }
     ensures units { IfOk result (λ vectors. length vectors ≡ plan.now.units) }
 {
-    let own = own_values(alloc, plan)?;
-    let heard = hear(alloc, plan, 0, &own)?;
-    let results = agree_on(alloc, plan, 1, usize::from(plan.m), heard)?;
+    let results = results_of(alloc, plan)?;
     let mut rows = Vec::with_capacity(alloc, usize::from(plan.units))?;
     for q in 0..plan.units {
-        rows.push(vector_of(plan, &results, q))?;
+        rows.push_reserved(vector_of(plan, &results, q));
     }
     Ok(Vectors { rows })
+}
+
+/// The chart of the results for the paths of one unit, from which vectors are made.
+fn results_of(alloc: Global, plan: &ByzPlan) -> Result<Vec<Option<Word>>, NoMemory>
+    requires { IsInRange (plan_of plan.now) }
+    ensures { IfOk result (λ chart. HasResults (plan_of plan.now) chart.items) }
+{
+    let own = own_values(alloc, plan)?;
+    let heard = hear(alloc, plan, 0, &own)?;
+    agree_on(alloc, plan, 1, usize::from(plan.m), heard)
 }
 
 // ---- what is heard
@@ -43,7 +51,7 @@ fn own_values(alloc: Global, plan: &ByzPlan) -> Result<Vec<Option<Word>>, NoMemo
 {
     let mut chart = Vec::with_capacity(alloc, usize::from(plan.units))?;
     for unit in 0..usize::from(plan.units) {
-        chart.push(Some(plan.values[unit]))?;
+        chart.push_reserved(Some(plan.values[unit]));
     }
     Ok(chart)
 }
@@ -63,7 +71,7 @@ fn hear(
     let places = before.len() * usize::from(plan.units);
     let mut chart = Vec::with_capacity(alloc, places)?;
     for place in 0..places {
-        chart.push(heard_at(plan, count, before, place))?;
+        chart.push_reserved(heard_at(plan, count, before, place));
     }
     Ok(chart)
 }
@@ -85,9 +93,12 @@ fn heard_at(plan: &ByzPlan, count: usize, before: &[Option<Word>], place: usize)
 fn first_lie(lies: &[Lie], written: &[u8], to: u8) -> Option<Option<Word>>
     ensures { result ≡ first_lie (map lie_of lies.now) written.now to }
 {
-    lies.iter()
-        .find(|lie| lie.path.as_slice() == written && lie.to.contains(&to))
-        .map(|lie| lie.value)
+    for lie in lies {
+        if lie.path.as_slice() == written && lie.to.contains(&to) {
+            return Some(lie.value);
+        }
+    }
+    None
 }
 
 /// The path of so many units in a row of a chart, its last unit first.
@@ -144,7 +155,7 @@ fn fold(
 {
     let mut chart = Vec::with_capacity(alloc, heard.len())?;
     for place in 0..heard.len() {
-        chart.push(Some(agreed_at(plan, count, heard, longer, place)))?;
+        chart.push_reserved(Some(agreed_at(plan, count, heard, longer, place)));
     }
     Ok(chart)
 }

@@ -1,6 +1,6 @@
 //! The entries of `lie`, and the lies that they state.
 
-ghost use Rattle.std.specs.Prelude.{codes, ◌≡◌, ◌≤◌, ◌↔◌, ℕ, List, IfOk, IfSome, IfNone, IsTrue, Some, length, map, option_and_then};
+ghost use Rattle.std.specs.Prelude.{codes, ◌≡◌, ◌<◌, ◌≤◌, ◌↔◌, ℕ, List, IfOk, IfSome, IfNone, IsTrue, Some, length, map, option_and_then};
 ghost use Rattle.std.specs.List.{All, list_any};
 ghost use Rattle.toml.specs.Data.{get};
 ghost use Rattle.toml.specs.View.{table_view, view};
@@ -14,7 +14,7 @@ ghost use Rattle.sift_byz.specs.Stated.{AreDifferent, AreReceivers, HasPath, Has
 ghost use Rattle.sift_byz.specs.Testing.{BreaksEntry, IsLimited, Keeps, MayBe, number_of};
 
 use crate::plan::Lie;
-use crate::value::{digits_of, member_in};
+use crate::value::{digits_at, member_in};
 use arrayvec::ArrayVec;
 use sift_base::{Stop, Word, is_ascending};
 use sift_document::{BrokenRule, broken, entries_between, member_of, table_of, word_value};
@@ -149,10 +149,16 @@ fn lie_in(entry: &Value, units: u8, m: u8) -> Option<Lie>
     ensures word { IfSome result (λ _. HasWord (view entry.now)) }
     ensures none { IfNone result (HasReceivers units m (view entry.now) → ¬ HasWord (view entry.now)) }
 {
-    let path = path_of(entry, units, m)?;
-    let to = receivers_of(entry, units, &path)?;
-    let value = said_of(entry)?;
-    Some(Lie { path, to, value })
+    let Some(path) = path_of(entry, units, m) else {
+        return None;
+    };
+    let Some(to) = receivers_of(entry, units, &path) else {
+        return None;
+    };
+    match said_of(entry) {
+        Some(value) => Some(Lie { path, to, value }),
+        None => None,
+    }
 }
 
 /// The path of an entry, in the order in which its units spoke.
@@ -162,7 +168,9 @@ fn path_of(entry: &Value, units: u8, m: u8) -> Option<ArrayVec<u8, 3>>
     ensures path { IfSome result (λ path. IsPath units m path.items) }
     ensures none { IfNone result (¬ HasPath units m (view entry.now)) }
 {
-    let path = digits_of(member_in(entry, "path")?)?;
+    let Some(path) = digits_at(entry, "path") else {
+        return None;
+    };
     if is_path(&path, units, m) {
         Some(path)
     } else {
@@ -177,7 +185,9 @@ fn receivers_of(entry: &Value, units: u8, path: &[u8]) -> Option<ArrayVec<u8, 10
     ensures receivers { IfSome result (λ to. AreReceivers units path.now to.items) }
     ensures none { IfNone result ((to : List ℕ) → to_of (view entry.now) ≡ Some to → ¬ AreReceivers units path.now to) }
 {
-    let to = digits_of(member_in(entry, "to")?)?;
+    let Some(to) = digits_at(entry, "to") else {
+        return None;
+    };
     if are_receivers(&to, units, path) {
         Some(to)
     } else {
@@ -208,8 +218,20 @@ fn is_path(path: &[u8], units: u8, m: u8) -> bool
 {
     !path.is_empty()
         && path.len() <= usize::from(m) + 1
-        && path.iter().all(|unit| *unit < units)
+        && are_below(path, units)
         && are_different(path)
+}
+
+/// Whether each of these is below `units`.
+fn are_below(list: &[u8], units: u8) -> bool
+    ensures { IsTrue result ↔ All (λ u. u < units) list.now }
+{
+    for unit in list {
+        if *unit >= units {
+            return false;
+        }
+    }
+    true
 }
 
 /// Whether no unit stands in a list twice.
@@ -226,12 +248,17 @@ fn are_different(list: &[u8]) -> bool
 fn are_receivers(to: &[u8], units: u8, path: &[u8]) -> bool
     ensures { IsTrue result ↔ AreReceivers units path.now to.now }
 {
-    !to.is_empty() && is_ascending(to) && to.iter().all(|unit| *unit < units) && !has_any(path, to)
+    !to.is_empty() && is_ascending(to) && are_below(to, units) && !has_any(path, to)
 }
 
 /// Whether some of these units are in a path.
 fn has_any(path: &[u8], units: &[u8]) -> bool
     ensures { result ≡ list_any (has path.now) units.now }
 {
-    units.iter().any(|unit| path.contains(unit))
+    for unit in units {
+        if path.contains(unit) {
+            return true;
+        }
+    }
+    false
 }

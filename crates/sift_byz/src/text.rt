@@ -7,7 +7,7 @@ ghost use Rattle.sift_byz.specs.Text.{line_text, text_of, words_text};
 use crate::plan::{ByzPlan, Lie};
 use crate::vectors::Vectors;
 use sift_base::{NoMemory, Word};
-use sift_line::push_word;
+use sift_line::push_list;
 use std::alloc::{AllocError, Global};
 
 /// The text of a plan's vectors.
@@ -51,7 +51,12 @@ fn push_told(text: &mut String, plan: &ByzPlan, unit: u8, vector: &[Word]) -> Re
 fn is_traitor(plan: &ByzPlan, unit: u8) -> bool
     ensures { result ≡ tells_some (plan_of plan.now).lies unit }
 {
-    plan.lies.iter().any(|lie| tells(lie, unit))
+    for lie in &plan.lies {
+        if tells(lie, unit) {
+            return true;
+        }
+    }
+    false
 }
 
 /// Whether a unit stands last in the path of this lie.
@@ -68,13 +73,8 @@ fn tells(lie: &Lie, unit: u8) -> bool
 fn push_words(text: &mut String, words: &[Word]) -> Result<(), AllocError>
     ensures { OnOk result (string_bytes text.new ≡ string_bytes text.old ++ words_text words.now) }
 {
-    let Some((first, others)) = words.split_first() else {
+    if words.is_empty() {
         return Ok(());
-    };
-    push_word(text, *first)?;
-    for word in others {
-        text.push(',')?;
-        push_word(text, *word)?;
     }
-    Ok(())
+    push_list(text, words)
 }

@@ -1,6 +1,6 @@
 //! Readers of the values of an entry.
 
-ghost use Rattle.std.specs.Prelude.{◌≡◌, ◌<◌, ℕ, List, IfSome, IfNone, Some, length, option_map};
+ghost use Rattle.std.specs.Prelude.{◌≡◌, ◌<◌, ℕ, List, IfSome, IfNone, Some, length, option_map, option_and_then};
 ghost use Rattle.toml.specs.Data.{get};
 ghost use Rattle.toml.specs.View.{view};
 ghost use Rattle.sift_document.specs.Document.{digit_to, digits_to, each_read};
@@ -19,13 +19,16 @@ pub(crate) fn member_in<'a>(value: &'a Value, key: &str) -> Option<&'a Value>
     }
 }
 
-/// The numbers of a string of digits, if there are at most `N`.
-pub(crate) fn digits_of<const N: usize>(value: &Value) -> Option<ArrayVec<u8, N>>
-    ensures found { IfSome result (λ digits. digits_to 9 (view value.now) ≡ Some digits.items) }
-    ensures none { IfNone result ((digits : List ℕ) → digits_to 9 (view value.now) ≡ Some digits → N < length digits) }
+/// The numbers of the string of digits at a key of a value, if there are at most `N`.
+pub(crate) fn digits_at<const N: usize>(value: &Value, key: &str) -> Option<ArrayVec<u8, N>>
+    ensures found { IfSome result (λ digits. option_and_then (digits_to 9) (get key.now (view value.now)) ≡ Some digits.items) }
+    ensures none { IfNone result ((digits : List ℕ) → option_and_then (digits_to 9) (get key.now (view value.now)) ≡ Some digits → N < length digits) }
 {
-    match value.as_str() {
-        Some(text) => digits_in(text),
+    match member_in(value, key) {
+        Some(member) => match member.as_str() {
+            Some(text) => digits_in(text),
+            None => None,
+        },
         None => None,
     }
 }

@@ -1,15 +1,35 @@
-use Rattle.std.proofs.Common.{◌≡◌, ◌∙◌, length, map, arith, ap, sym, subst}
+use Rattle.std.proofs.Common.{◌≡◌, ◌+◌, ◌∙◌, length, map, arith, ap, sym, subst}
 use Rattle.std.specs.List.{range_with_len}
 use Rattle.std.proofs.lemmas.List.FromFn.{length-map-range_with_len}
 use Rattle.sift_byz.specs.Plan.{IsSquare, plan_of, vector}
 use Rattle.sift_byz.proofs.Entries.{vectors_are_square}
-use Rattle.sift_byz.proofs.Growing.{grown_in_part}
+use Rattle.sift_byz.proofs.Growing.{grown_in_part, room_left}
 use Rattle.sift_byz.proofs.exchanging.exchange.Goals as goal
+
+-- there is room for each unit
+pub loop-q-init : goal.loop-q-init
+loop-q-init c =
+    record {
+      filled = ap (map (λ row. row.items)) c.in_ok-rows.ensures.items;
+      each = c.in_ok-rows.ensures.len;
+      room = rw c.from.ensures at c.in_ok-rows.ensures.capacity;
+    }
+
+pub push_reserved-requires : goal.push_reserved-requires
+push_reserved-requires c = room_left _ _ _ _ c.loop-q.invariant.each c.loop-q-test.true c.loop-q.invariant.room
+
+pub vector_of-requires : goal.vector_of-requires
+vector_of-requires c = record { results = rw c.deref.ensures.value c.in_ok-results.ensures; unit = c.loop-q-test.true }
 
 -- one vector more
 pub loop-q-preserved : goal.loop-q-preserved
 loop-q-preserved c =
-    record { filled = grown_in_part (λ row. row.items) (vector (plan_of c.args.plan.now)) _ _ _ _ c.loop-q.invariant.filled c.in_ok-push.ensures.items c.vector_of.ensures }
+    record {
+      filled = grown_in_part (λ row. row.items) (vector (plan_of c.args.plan.now)) _ _ _ _ c.loop-q.invariant.filled
+          c.push_reserved.ensures.items c.vector_of.ensures;
+      each = c.push_reserved.ensures.len ∙ ap (λ n. n + 1) c.loop-q.invariant.each;
+      room = rw c.push_reserved.ensures.capacity c.loop-q.invariant.room;
+    }
 
 -- all vectors
 pub invariant_of-result : goal.invariant_of-result

@@ -1,24 +1,35 @@
-use Rattle.std.proofs.Common.{◌≡◌, ◌&&◌, ap, rules, sym, tests, ◌∙◌}
-use Rattle.std.proofs.lemmas.Iterator.{YieldsList-from_slice}
-use Rattle.std.proofs.lemmas.Iterator.Search.{find_from_yields_List}
-use Rattle.std.specs.List.{find}
+use Rattle.std.proofs.Common.{◌≡◌, ◌&&◌, ap, false, sym, ◌∙◌}
 use Rattle.std.specs.Str.{bytes_eq}
 use Rattle.sift_base.specs.Units.{has}
-use Rattle.std.specs.Option.{option_map}
-use Rattle.sift_byz.specs.declared.plan.Lie.{Lie}
-use Rattle.sift_byz.specs.Plan.{LieData, lie_of}
-use Rattle.sift_byz.proofs.Searches.{find-map, option_map-twice}
+use Rattle.sift_byz.proofs.Searches.{first_end, first_here, first_more}
+use Rattle.sift_byz.proofs.exchanging.first_lie.Goals.{else-eq-via-then-eq+else-contains, else-eq-via-else-eq}
 use Rattle.sift_byz.proofs.exchanging.first_lie.Goals as goal
 
--- the first lie that is told so is the first of those that the code holds
+-- this lie tells it
+pub returns-then-contains : goal.returns-then-contains
+returns-then-contains c =
+    first_here c.args.lies.now c.args.written.now c.args.to c.loop-lie.lie-index c.lie-item.result c.loop-lie-test.true c.lie-item.is
+    c.loop-lie.invariant.left
+    (rw c.as_slice.ensures.value at (sym c.eq.ensures ∙ c.if-eq.true))
+    (rw c.deref.ensures.0 at (sym c.contains.ensures.value ∙ c.if-contains.true))
+
+-- this one goes by another path, or to other units
+pub loop-lie-preserved : goal.loop-lie-preserved
+loop-lie-preserved c =
+    let lie = c.lie-item.result in
+    let by = rw c.as_slice.ensures.value at c.eq.ensures in
+    let none : (bytes_eq lie.path.items c.args.written.now && has lie.to.items c.args.to) ≡ false =
+    elim c.else-eq.branch [
+      | else-eq-via-then-eq+else-contains w ↦
+          ap (λ b. b && has lie.to.items c.args.to) (sym by ∙ w.if-eq.true)
+          ∙ (rw w.deref.ensures.0 at (sym w.contains.ensures.value ∙ w.if-contains.false))
+      | else-eq-via-else-eq w ↦ ap (λ b. b && has lie.to.items c.args.to) (sym by ∙ w.if-eq.false)
+    ] in
+    record {
+      left = first_more c.args.lies.now c.args.written.now c.args.to c.loop-lie.lie-index lie c.loop-lie-test.true c.lie-item.is
+          c.loop-lie.invariant.left none;
+    }
+
+-- none tells it
 pub returns : goal.returns
-returns c =
-    let told = λ (lie : LieData). bytes_eq lie.path c.args.written.now && has lie.to c.args.to in
-    let said = λ (lie : LieData). lie.value in
-    let lies = c.args.lies.now in
-    let here = λ (lie : Lie). told (lie_of lie) in
-    let found : option_map (λ lie. lie.now) c.find.result ≡ find here lies =
-    find_from_yields_List here _ _ c.find.result c.find.ensures.ran (YieldsList-from_slice lies cc) (λ x b q k. search (rules, tests)) in
-    let mapped : c.map.result ≡ option_map (λ lie. said (lie_of lie.now)) c.find.result = search rules in
-    mapped ∙ sym (option_map-twice _ (λ (lie : Lie). said (lie_of lie)) c.find.result) ∙ ap (option_map (λ (lie : Lie). said (lie_of lie))) found
-    ∙ sym (option_map-twice lie_of said _) ∙ ap (option_map said) (sym (find-map lie_of told lies))
+returns c = first_end c.args.lies.now c.args.written.now c.args.to c.loop-lie.lie-index c.loop-lie.invariant.left c.loop-lie-test.false

@@ -1,11 +1,11 @@
-use Rattle.std.proofs.Common.{◌≡◌, ◌*◌, ◌≤◌, length, map, arith, ap, ◌∙◌}
+use Rattle.std.proofs.Common.{◌≡◌, ◌+◌, ◌*◌, ◌≤◌, length, map, arith, ap, ◌∙◌}
 use Rattle.std.specs.List.{range_with_len}
 use Rattle.std.proofs.Math.Nat.{mul-le-mul}
 use Rattle.sift_byz.specs.Charts.{heard_at}
 use Rattle.sift_byz.specs.Plan.{plan_of}
 use Rattle.sift_byz.proofs.Charts.{heard_shown}
 use Rattle.sift_byz.proofs.Digits.{few_places}
-use Rattle.sift_byz.proofs.Growing.{grown}
+use Rattle.sift_byz.proofs.Growing.{grown, room_left}
 use Rattle.sift_byz.proofs.exchanging.hear.Goals as goal
 
 -- the next chart is small
@@ -17,10 +17,26 @@ overflow_mul-places c =
     let most : length c.args.before.now * c.from.result ≤ 10000 * 10 = mul-le-mul few ten in
     omega arith
 
+-- there is room for each place
+pub loop-place-init : goal.loop-place-init
+loop-place-init c =
+    record { filled = c.in_ok-chart.ensures.items; each = c.in_ok-chart.ensures.len; room = rw c.from.ensures at c.in_ok-chart.ensures.capacity }
+
+pub push_reserved-requires : goal.push_reserved-requires
+push_reserved-requires c = room_left _ _ _ _ c.loop-place.invariant.each (rw c.from.ensures at c.loop-place-test.true) c.loop-place.invariant.room
+
+pub heard_at-requires : goal.heard_at-requires
+heard_at-requires c = record { range = c.requires.range; short = c.requires.short; within = rw c.from.ensures at c.loop-place-test.true }
+
 -- one place more
 pub loop-place-preserved : goal.loop-place-preserved
 loop-place-preserved c =
-    record { filled = grown (heard_at (plan_of c.args.plan.now) c.args.count c.args.before.now) _ _ _ _ c.loop-place.invariant.filled c.in_ok-push.ensures.items c.heard_at.ensures }
+    record {
+      filled = grown (heard_at (plan_of c.args.plan.now) c.args.count c.args.before.now) _ _ _ _ c.loop-place.invariant.filled
+          c.push_reserved.ensures.items c.heard_at.ensures;
+      each = c.push_reserved.ensures.len ∙ ap (λ n. n + 1) c.loop-place.invariant.each;
+      room = rw c.push_reserved.ensures.capacity c.loop-place.invariant.room;
+    }
 
 -- all places
 pub returns : goal.returns

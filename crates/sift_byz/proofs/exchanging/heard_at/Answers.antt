@@ -21,5 +21,7 @@ returns c =
 pub offset_bounds-before-place : goal.offset_bounds-before-place
 offset_bounds-before-place c = grind (arith, common_steps)
 
+-- the place before is there
 pub bounds-before-place : goal.bounds-before-place
-bounds-before-place c = grind (arith, common_steps)
+bounds-before-place c =
+    rw c.from-units.ensures (div_below c.args.place c.args.plan.now.units (length c.args.before.now) c.requires.range.some c.requires.within)

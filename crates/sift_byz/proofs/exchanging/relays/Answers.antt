@@ -43,3 +43,8 @@ loop-r-preserved c =
             short = omega (arith, ap (λ v. length v.items) w.relays-is, c.loop-r.invariant.short);
           }
     ]
+
+-- the place of the relay is there
+pub bounds-longer-row : goal.bounds-longer-row
+bounds-longer-row c =
+    rw (c.from-units.ensures, c.from.ensures, c.from-then-is_outside.ensures) (c.requires.relayed.each c.loop-r.r c.loop-r-test.true)

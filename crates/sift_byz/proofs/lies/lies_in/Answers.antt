@@ -1,4 +1,4 @@
-use Rattle.std.proofs.Common.{◌∙◌, below_more, map, arith}
+use Rattle.std.proofs.Common.{◌∙◌, ap, below_more, map, arith}
 use Rattle.std.proofs.lemmas.List.{length-map, take_all}
 use Rattle.std.proofs.lemmas.List.Elements.{All-push}
 use Rattle.toml.specs.View.{view}
@@ -6,7 +6,7 @@ use Rattle.sift_document.proofs.lemmas.Places.{fails_here, holds_here, nowhere}
 use Rattle.sift_document.proofs.lemmas.Testing.{first_broken}
 use Rattle.sift_byz.specs.Plan.{lie_of}
 use Rattle.sift_byz.specs.Stated.{HasReceivers, HasWord, IsPath, lie_in}
-use Rattle.sift_byz.proofs.Testing.{made_more}
+use Rattle.sift_byz.proofs.Testing.{made_more, not_below, place_fits}
 use Rattle.sift_byz.proofs.lies.lies_in.Goals as goal
 
 -- this entry, which has receivers, is the first that has no word
@@ -44,3 +44,15 @@ pub returns-clause-tests : goal.returns-clause-tests
 returns-clause-tests c =
     nowhere (λ entry. view entry) c.args.entries.now (λ at lie. ¬ HasWord lie)
     (λ at low. c.loop-place.invariant.kept at (omega (arith, low, c.loop-place-test.false)))
+
+-- no lies yet
+pub loop-place-init : goal.loop-place-init
+loop-place-init c =
+    record {
+      stated = ap (map lie_of) c.new-lies.ensures.items;
+      paths = rw c.new-lies.ensures.items (λ k d low. absurd (not_below low));
+      kept = λ at low. absurd (not_below low);
+    }
+
+pub broken-requires : goal.broken-requires
+broken-requires c = place_fits c.loop-place-test.true c.requires.few

@@ -5,6 +5,7 @@ use Rattle.sift_byz.specs.Lawful.{BreaksFew}
 use Rattle.sift_byz.specs.Plan.{LieData, lie_of}
 use Rattle.sift_byz.proofs.Tellers.{AreTellers, no_tellers, told_again, told_first}
 use Rattle.sift_byz.proofs.reading.check_few.Goals.{then-not-contains+else-len-from, else-not-contains}
+use Rattle.sift_byz.proofs.Testing.{place_fits}
 use Rattle.sift_byz.proofs.reading.check_few.Goals as goal
 
 -- no units yet
@@ -87,3 +88,6 @@ returns-then-len-from c =
 -- no lie is
 pub returns : goal.returns
 returns c at broken = c.loop-place.invariant.kept at (omega (arith, broken.there, length-map c.args.lies.now lie_of, c.loop-place-test.false)) broken
+
+pub broken-requires : goal.broken-requires
+broken-requires c = place_fits c.loop-place-test.true c.requires.few

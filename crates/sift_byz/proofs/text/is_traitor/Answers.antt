@@ -1,15 +1,25 @@
-use Rattle.std.proofs.Common.{rules, sym, tests, ◌∙◌}
-use Rattle.std.proofs.lemmas.Iterator.{YieldsList-from_slice}
-use Rattle.std.proofs.lemmas.Iterator.Search.{any_from_yields_List}
-use Rattle.sift_byz.specs.declared.plan.Lie.{Lie}
-use Rattle.sift_byz.specs.Plan.{LieData, lie_of, stands_last}
-use Rattle.sift_byz.proofs.Searches.{list_any-map}
+use Rattle.std.proofs.Common.{sym, ◌∙◌}
+use Rattle.sift_byz.proofs.Searches.{tells_here, tells_more, tells_none}
 use Rattle.sift_byz.proofs.text.is_traitor.Goals as goal
 
--- a lie that the code holds is told by the unit
+-- the unit tells this lie
+pub returns-then-tells : goal.returns-then-tells
+returns-then-tells c =
+    let lies = c.deref-lie-items.ensures.value in
+    tells_here c.args.plan.now.lies.items c.args.unit c.loop-lie.lie-index c.lie-item.result (rw lies at c.loop-lie-test.true) (rw lies at c.lie-item.is)
+    c.loop-lie.invariant.left (sym c.tells.ensures ∙ c.if-tells.true)
+
+-- another one tells it
+pub loop-lie-preserved : goal.loop-lie-preserved
+loop-lie-preserved c =
+    let lies = c.deref-lie-items.ensures.value in
+    record {
+      left = tells_more c.args.plan.now.lies.items c.args.unit c.loop-lie.lie-index c.lie-item.result (rw lies at c.loop-lie-test.true)
+          (rw lies at c.lie-item.is) c.loop-lie.invariant.left (sym c.tells.ensures ∙ c.if-tells.false);
+    }
+
+-- it tells none
 pub returns : goal.returns
 returns c =
-    let lies = c.args.plan.now.lies.items in
-    any_from_yields_List (λ (lie : Lie). stands_last c.args.unit lie.path.items) _ _ c.any.result c.any.ensures.ran (YieldsList-from_slice lies cc)
-    (λ x b q k. search (rules, tests))
-    ∙ sym (list_any-map lie_of (λ (lie : LieData). stands_last c.args.unit lie.path) lies)
+    tells_none c.args.plan.now.lies.items c.args.unit c.loop-lie.lie-index c.loop-lie.invariant.left
+    (rw c.deref-lie-items.ensures.value at c.loop-lie-test.false)

@@ -1,14 +1,11 @@
-use Rattle.std.proofs.Common.{◌≡◌, ◌∷◌, rules, arith}
-use Rattle.std.proofs.lemmas.Grind.{common_steps}
-use Rattle.sift_line.specs.Part.{word_text}
-use Rattle.sift_byz.proofs.Lists.{all_joined}
+use Rattle.std.proofs.Common.{string_bytes, sym, ◌∙◌}
+use Rattle.sift_byz.proofs.Lists.{no_words, some_words}
 use Rattle.sift_byz.proofs.text.push_words.Goals as goal
 
--- all words
-pub returns : goal.returns
-returns c =
-    let cut : c.args.words.now ≡ c.in-Some.first.now ∷ c.in-Some.others.now = search rules in
-    all_joined word_text _ _ _ _ _ _ _ cut c.loop-word-test.false c.in_ok-push_word.ensures c.loop-word.invariant
+-- there are none
+pub returns-then-is_empty : goal.returns-then-is_empty
+returns-then-is_empty c = no_words (string_bytes c.args.text.now) c.args.words.now (sym c.is_empty.ensures ∙ c.if-is_empty.true)
 
-pub loop-word-preserved : goal.loop-word-preserved
-loop-word-preserved c = grind (arith, common_steps)
+-- there are some
+pub returns : goal.returns
+returns c = rw (some_words c.args.words.now (sym c.is_empty.ensures ∙ c.if-is_empty.false)) at c.push_list.ensures

@@ -1,6 +1,6 @@
 use Rattle.std.proofs.Common.{◌≡◌, ◌∙◌, ℕ, List, [], get_or, length, ap, arith}
 use Rattle.std.proofs.lemmas.List.FromFn.{get_or-map-range_with_len, length-map-range_with_len}
-use Rattle.std.proofs.lemmas.Grind.{common_steps}
+use Rattle.std.specs.List.{flat_map, range_with_len}
 use Rattle.sift_byz.specs.Plan.{plan_of, vector}
 use Rattle.sift_byz.specs.Text.{line_text}
 use Rattle.sift_byz.proofs.Lists.{text_more}
@@ -22,5 +22,9 @@ loop-unit-preserved c =
     ∙ get_or-map-range_with_len (vector plan) 0 c.args.plan.now.units unit unit [] c.loop-unit-test.true (omega arith) in
     text_more (λ u. line_text plan u (vector plan u)) unit _ _ c.loop-unit.invariant (rw there at c.in_ok-push_line.ensures)
 
+-- all lines
 pub returns : goal.returns
-returns c = grind (arith, common_steps)
+returns c =
+    let plan = plan_of c.args.plan.now in
+    let all : c.loop-unit.unit ≡ c.args.plan.now.units = omega (arith, c.loop-unit.auto, c.loop-unit-test.false) in
+    c.loop-unit.invariant ∙ ap (λ n. flat_map (λ u. line_text plan u (vector plan u)) (range_with_len 0 n)) all

@@ -1,6 +1,8 @@
-use Rattle.std.proofs.Common.{◌≡◌, ◌∙◌, None, Some, List, ℕ, arith, sym}
+use Rattle.std.proofs.Common.{◌≡◌, ◌∙◌, None, List, ℕ, ap, arith, sym}
+use Rattle.std.proofs.lemmas.List.{take_all}
 use Rattle.sift_document.proofs.lemmas.ReadEntries.{each_read-none, length-each_read, read-step}
 use Rattle.sift_document.specs.Document.{digit_to, each_read}
+use Rattle.sift_byz.proofs.Testing.{none_some}
 use Rattle.sift_byz.proofs.value.digits_in.Goals as goal
 
 -- a text of more bytes is none of fewer digits
@@ -12,8 +14,16 @@ pub returns-in_err-digit_to-clause-none : goal.returns-in_err-digit_to-clause-no
 returns-in_err-digit_to-clause-none g c =
     let bytes : List ℕ = c.as_bytes-byte-items.result.now in
     let none : each_read (digit_to 9) bytes ≡ None = each_read-none (digit_to 9) bytes c.loop-byte.byte-index 0 c.loop-byte-test.true (sym c.in_err-digit_to.ensures) in
-    rw c.from_residual.ensures (λ digits read.
-    let both : None ≡ Some digits = sym none ∙ rw c.as_bytes-byte-items.ensures.value read in absurd cc)
+    rw c.from_residual.ensures (λ digits read. absurd (none_some {x = digits} (sym none) (rw c.as_bytes-byte-items.ensures.value read)))
+
+pub returns-in_err-digit_to-clause-found : goal.returns-in_err-digit_to-clause-found
+returns-in_err-digit_to-clause-found g c = rw c.from_residual.ensures tt
+
+-- all digits
+pub returns-clause-found : goal.returns-clause-found
+returns-clause-found g c =
+    ap (each_read (digit_to 9)) (sym (take_all c.loop-byte.byte-index c.as_bytes-byte-items.result.now c.loop-byte-test.false ∙ c.as_bytes-byte-items.ensures.value))
+    ∙ c.loop-byte.invariant.read
 
 -- one digit more
 pub loop-byte-preserved : goal.loop-byte-preserved
