@@ -1,6 +1,7 @@
 mod Lists
 mod UnitSets
 mod EachUnit
+mod EachInTurn
 mod Agreeing
 mod EachWorking
 mod Margins

@@ -83,17 +83,25 @@ fn is_skew(offsets: &[i64], skew: i64) -> bool
     ensures { IsTrue result ↔ IsSkew offsets.now skew }
 {
     skew_is_unique();
-    match extremes(offsets) {
-        Some((highest, lowest)) => i128::from(highest) - i128::from(lowest) == i128::from(skew),
-        None => false,
-    }
+    let Some(highest) = highest(offsets) else {
+        return false;
+    };
+    let Some(lowest) = lowest(offsets) else {
+        return false;
+    };
+    i128::from(highest) - i128::from(lowest) == i128::from(skew)
 }
 
-/// The highest and the lowest of these offsets, where there are some.
-fn extremes(offsets: &[i64]) -> Option<(i64, i64)>
-    ensures { MatchOption result (offsets.now ≡ []) (λ found. IsHighest offsets.now found.0 × IsLowest offsets.now found.1) }
+/// The highest of these offsets, where there are some.
+fn highest(offsets: &[i64]) -> Option<i64>
+    ensures { MatchOption result (offsets.now ≡ []) (IsHighest offsets.now) }
 {
-    let highest = offsets.iter().copied().max()?;
-    let lowest = offsets.iter().copied().min()?;
-    Some((highest, lowest))
+    offsets.iter().copied().max()
+}
+
+/// The lowest of these offsets, where there are some.
+fn lowest(offsets: &[i64]) -> Option<i64>
+    ensures { MatchOption result (offsets.now ≡ []) (IsLowest offsets.now) }
+{
+    offsets.iter().copied().min()
 }

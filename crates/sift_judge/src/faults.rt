@@ -35,14 +35,24 @@ fn all_accuse_none(
     requires frame { f ≤ (data_of mission.now).frames }
     ensures { IsTrue result ↔ All (λ u. All (λ v. holds (told_at (data_of mission.now) lines.now f u).caught v ≡ false) others.now) units.now }
 {
-    units.iter().all(|unit| has_none(caught_told(mission, lines, f, *unit), others))
+    for unit in units {
+        if !has_none(caught_told(mission, lines, f, *unit), others) {
+            return false;
+        }
+    }
+    true
 }
 
 /// Whether a set has none of these units.
 fn has_none(caught: UnitSet, units: &[UnitId]) -> bool
     ensures { IsTrue result ↔ All (λ v. holds caught v ≡ false) units.now }
 {
-    units.iter().all(|unit| !caught.has(*unit))
+    for unit in units {
+        if caught.has(*unit) {
+            return false;
+        }
+    }
+    true
 }
 
 /// Whether the configuration told at the next frame is the one told at this without exactly the units that two working units tell
@@ -101,8 +111,11 @@ fn count_accusers(
     requires frame { f ≤ (data_of mission.now).frames }
     ensures { result ≡ length (filter (λ u. holds (told_at (data_of mission.now) lines.now f u).caught v) units.now) }
 {
-    units
-        .iter()
-        .filter(|unit| caught_told(mission, lines, f, **unit).has(v))
-        .count()
+    let mut accusers = 0;
+    for unit in units {
+        if caught_told(mission, lines, f, *unit).has(v) {
+            accusers += 1;
+        }
+    }
+    accusers
 }
