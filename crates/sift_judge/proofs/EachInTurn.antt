@@ -7,14 +7,6 @@ use Rattle.std.proofs.lemmas.List.{length-take-le}
 use Rattle.std.proofs.lemmas.List.Elements.{AllWithin-more, All-from_all_within, at_read, filter_more}
 use Rattle.sift_exec.proofs.lemmas.Counted.{filter-≤}
 
--- nothing is both
-pub not_both : (b : Bool) → b ≡ true → b ≡ false → ⊥
-not_both b t f = absurd cc
-
--- a test that fails tells that what it tests doesn't hold
-pub fails : (b : Bool) (P : Type 0) → ((b ≡ true) ↔ P) → b ≡ false → P → ⊥
-fails b P decides f holds = not_both b (decides.1 holds) f
-
 module _ (P : ℕ → Type 0) (us : List ℕ) (i : ℕ) where
   module _ (u : ℕ) (inside : i < length us) (is : u ≡ get_or us i u) where
     -- one unit more of which it holds

@@ -1,3 +1,6 @@
+use Rattle.sift_report.specs.Headline.{TellsClockSkew}
+use Rattle.sift_mission.specs.Parts.{data_of}
+use Rattle.sift_judge.proofs.Deciding.{no_since}
 use Rattle.sift_judge.proofs.clocks.has_clock_skew.Goals as goal
 
 pub returns-then-has_skew : goal.returns-then-has_skew
@@ -5,3 +8,8 @@ returns-then-has_skew c = (
   (λ t. record { skew = c.has_skew.ensures.0 c.if-has_skew.true; slack = c.has_slack.ensures.0 t }),
   (λ told. c.has_slack.ensures.1 told.slack),
 )
+
+pub returns-else-has_skew : goal.returns-else-has_skew
+returns-else-has_skew c =
+    no_since c.has_skew.result _ _ c.if-has_skew.false c.has_skew.ensures
+    (λ (told : TellsClockSkew (data_of c.args.mission.now) c.args.lines.now c.args.f). told.skew)

@@ -1,4 +1,5 @@
-use Rattle.std.proofs.Common.{◌≡◌, ◌∙◌, List, ℕ, Some, subst, sym}
+use Rattle.sift_judge.proofs.Deciding.{none_told}
+use Rattle.std.proofs.Common.{◌≡◌, ◌∙◌, List, ℕ, Some, subst, sym, refl}
 use Rattle.std.specs.Prelude.{IsSomeAnd}
 use Rattle.sift_mission.specs.Parts.{data_of}
 use Rattle.sift_report.specs.Told.{config_told, told_at}
@@ -16,3 +17,7 @@ returns-in-Some c =
           (one_told c.in-Some.config us _ is told) (c.has_skew_of.ensures.0 t)),
       (λ given. c.has_skew_of.ensures.1 (given c.in-Some.config is)),
     )
+
+pub returns-in-None : goal.returns-in-None
+returns-in-None c =
+    ((λ t us told. absurd (none_told _ us (sym c.config_told.ensures ∙ c.in-None.is) told)), (λ given. refl))

@@ -1,4 +1,5 @@
-use Rattle.std.proofs.Common.{◌≡◌, ◌∙◌, List, ℕ, Some, suc, add-one, not, subst, sym, arith}
+use Rattle.sift_judge.proofs.Deciding.{none_told}
+use Rattle.std.proofs.Common.{◌≡◌, ◌∙◌, List, ℕ, Some, suc, add-one, not, subst, sym, arith, None, refl}
 use Rattle.std.specs.List.{filter}
 use Rattle.sift_mission.specs.Parts.{data_of}
 use Rattle.sift_report.specs.Told.{config_told}
@@ -23,3 +24,10 @@ returns-in-Some-Some c =
           (sym (one_told vs next _ is_next told_next) ∙ c.is_exact.ensures.0 t)),
       (λ given. c.is_exact.ensures.1 (given us vs is is_next)),
     )
+
+pub returns-in_default : goal.returns-in_default
+returns-in_default c =
+    let d = data_of c.args.mission.now in
+    let none : config_told d c.args.lines.now (suc c.args.f) ≡ None =
+    subst (λ g. config_told d c.args.lines.now g ≡ None) (add-one c.args.f) (sym c.config_told-2.ensures ∙ c.in_default.is-1) in
+    ((λ t us next told told_next. absurd (none_told _ next none told_next)), (λ given. refl))

@@ -1,7 +1,8 @@
 use Rattle.std.proofs.Common.{◌≡◌, ◌∙◌, false, sym}
 use Rattle.sift_base.specs.Units.{holds}
 use Rattle.std.proofs.lemmas.List.Elements.{AllWithin-none}
-use Rattle.sift_judge.proofs.EachInTurn.{all_are, not_all, not_both, one_more}
+use Rattle.sift_judge.proofs.Deciding.{not_both}
+use Rattle.sift_judge.proofs.EachInTurn.{all_are, not_all, one_more}
 use Rattle.sift_judge.proofs.faults.has_none.Goals as goal
 
 pub loop-unit-init : goal.loop-unit-init

@@ -23,8 +23,14 @@ returns-then-not-has_true_margin-clause-found c =
     is_first d lines f true_margin (omega arith) (seven_kept d lines f two c.in_default.ensures.none)
     (breaks d lines f true_margin c.requires.known.frame tt c.has_true_margin.result c.has_true_margin.ensures c.if-not-has_true_margin.true)
 
-pub returns-clause-none : goal.returns-clause-none
-returns-clause-none c = grind (arith, common_steps)
-
 pub first_with_margin-requires-clause-configuration : goal.first_with_margin-requires-clause-configuration
-first_with_margin-requires-clause-configuration c = grind (arith, common_steps)
+first_with_margin-requires-clause-configuration c =
+    c.keeps_configuration.ensures.0 c.if-not-keeps_configuration.false
+
+pub returns-clause-none : goal.returns-clause-none
+returns-clause-none c =
+    record {
+      same_configuration = c.keeps_configuration.ensures.0 c.if-not-keeps_configuration.false;
+      frame = c.in_default.ensures.none;
+      true_margin = c.has_true_margin.ensures.0 c.if-not-has_true_margin.false;
+    }

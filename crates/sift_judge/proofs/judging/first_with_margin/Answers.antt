@@ -1,4 +1,5 @@
-use Rattle.std.proofs.Common.{arith}
+use Rattle.sift_judge.proofs.Deciding.{not_both}
+use Rattle.std.proofs.Common.{arith, add-one}
 use Rattle.std.proofs.lemmas.Grind.{common_steps}
 use Rattle.sift_mission.specs.Parts.{data_of}
 use Rattle.sift_judge.specs.Verdict.{clock_skew, exact_removal, ideal_outputs, no_false_accusation, same_inputs}
@@ -70,7 +71,12 @@ returns-clause-none c = λ margin. record {
 }
 
 pub returns-then-not-has_margin-clause-runs : goal.returns-then-not-has_margin-clause-runs
-returns-then-not-has_margin-clause-runs c = grind (arith, common_steps)
+returns-then-not-has_margin-clause-runs c =
+    record {
+      words_are = λ t. absurd (not_both c.args.has_margin t c.if-not-has_margin.true);
+      as_many = c.requires.known.runs.as_many;
+    }
 
 pub returns-clause-runs : goal.returns-clause-runs
-returns-clause-runs c = grind (arith, common_steps)
+returns-clause-runs c =
+    record { words_are = λ t. rw (add-one c.args.f) c.run_ideal.ensures.words; as_many = c.run_ideal.ensures.as_many }

@@ -1,3 +1,5 @@
+use Rattle.sift_report.specs.Headline.{TellsTrueMargin}
+use Rattle.sift_judge.proofs.Deciding.{no_since}
 use Rattle.std.proofs.Common.{◌≡◌, ◌-◌, true, ap, sym, subst, lt-ltb, arith}
 use Rattle.std.specs.Prelude.{◌↔◌}
 use Rattle.sift_mission.specs.Parts.{data_of}
@@ -32,4 +34,4 @@ returns-else-tells_margin c =
     let d = data_of c.args.mission.now in
     let back = subst (λ n. ((told_at d c.args.lines.now c.args.f n).margin ≡ true) ↔ HasMarginTold d c.args.lines.now c.args.f)
     (sym (ap (λ (p : MissionParts). p.units) c.parts.ensures.same)) in
-    ((λ t. (let f = c.if-tells_margin.false in absurd cc)), (λ m. c.tells_margin.ensures.1 (back m.frame)))
+    no_since c.tells_margin.result _ _ c.if-tells_margin.false c.tells_margin.ensures (λ (m : TellsTrueMargin d c.args.lines.now c.args.f). back m.frame)

@@ -3,7 +3,8 @@ use Rattle.std.specs.Prelude.{◌↔◌}
 use Rattle.sift_mission.specs.Parts.{data_of}
 use Rattle.sift_report.specs.Told.{told_at}
 use Rattle.std.proofs.lemmas.List.Elements.{AllWithin-none}
-use Rattle.sift_judge.proofs.EachInTurn.{all_are, fails, not_all, one_more}
+use Rattle.sift_judge.proofs.Deciding.{fails}
+use Rattle.sift_judge.proofs.EachInTurn.{all_are, not_all, one_more}
 use Rattle.sift_judge.proofs.words.all_tell_inputs.Goals as goal
 
 pub loop-unit-init : goal.loop-unit-init
