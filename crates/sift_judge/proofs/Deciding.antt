@@ -1,6 +1,7 @@
 -- What a test decides: where it fails nothing holds that it decides, and an option that is there is asked by its value.
-use Rattle.std.proofs.Common.{◌≡◌, ℕ, List, Bool, true, false, Option, None, Some, sym, subst}
+use Rattle.std.proofs.Common.{◌≡◌, ℕ, List, Bool, true, false, Option, None, Some, refl, sym, subst}
 use Rattle.std.specs.Prelude.{◌↔◌, IsSomeAnd}
+use mathlib.Core.Bool.{beq}
 
 -- nothing is both
 pub not_both : (b : Bool) → b ≡ true → b ≡ false → ⊥
@@ -29,3 +30,10 @@ no_value o P none = subst (λ p. (false ≡ true) ↔ IsSomeAnd p P) (sym none) 
 -- what holds of a value holds of what it is the value of
 pub of_value : {X : Type 0} (o : Option X) (x : X) (P : X → Type 0) (b : Bool) → o ≡ Some x → ((b ≡ true) ↔ P x) → (b ≡ true) ↔ IsSomeAnd o P
 of_value o x P b is decides = subst (λ p. (b ≡ true) ↔ IsSomeAnd p P) (sym is) decides
+
+-- bits that agree are the same
+pub beq_decides : (a b : Bool) → (beq a b ≡ true) ↔ (a ≡ b)
+beq_decides true true = ((λ t. refl), (λ e. refl))
+beq_decides true false = ((λ t. absurd cc), (λ e. absurd cc))
+beq_decides false true = ((λ t. absurd cc), (λ e. absurd cc))
+beq_decides false false = ((λ t. refl), (λ e. refl))
