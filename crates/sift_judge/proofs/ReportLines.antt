@@ -36,3 +36,15 @@ last_line o n frames cfg margin is = (
 -- a line that is missing is none
 pub no_last_line : (o : Option ReportLine) (n : ℕ) → o ≡ None → (false ≡ true) ↔ ((us : List ℕ) × (m : Bool) × (o ≡ Some (Last n us m)))
 no_last_line o n is = ((λ t. absurd cc), (λ there. absurd (cc (there.2))))
+
+-- another line isn't one of a whole frame
+pub other_frames_line : (o : Option ReportLine) (line : ReportLine) (f : ℕ) → o ≡ Some line
+    → ((g : ℕ) (s t : Option ℤ) (m : Bool) → line ≡ Frame g s t m → ⊥)
+    → (false ≡ true) ↔ ((s : Option ℤ) × (t : Option ℤ) × (m : Bool) × (o ≡ Some (Frame f s t m)))
+other_frames_line o line f is other = ((λ t. absurd cc), (λ there. absurd (other f there.0 there.1 there.2 (cc (is, there.3)))))
+
+-- nor the last one
+pub other_last_line : (o : Option ReportLine) (line : ReportLine) (n : ℕ) → o ≡ Some line
+    → ((frames : ℕ) (us : List ℕ) (m : Bool) → line ≡ Last frames us m → ⊥)
+    → (false ≡ true) ↔ ((us : List ℕ) × (m : Bool) × (o ≡ Some (Last n us m)))
+other_last_line o line n is other = ((λ t. absurd cc), (λ there. absurd (other n there.0 there.1 (cc (is, there.2)))))

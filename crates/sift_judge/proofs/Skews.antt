@@ -8,7 +8,7 @@ use mir.Syntax.{w32, w128}
 use mir.Val.{SFits}
 
 -- the difference of two is another, just where their bits are the same
-pub same_difference : (a b c : ℤ) → SFits w64 a → SFits w64 b → SFits w64 c → (nat_eq (of_z w128 (a -ℤ b)) (of_z w128 c) ≡ true) ↔ (c ≡ a -ℤ b)
+same_difference : (a b c : ℤ) → SFits w64 a → SFits w64 b → SFits w64 c → (nat_eq (of_z w128 (a -ℤ b)) (of_z w128 c) ≡ true) ↔ (c ≡ a -ℤ b)
 same_difference a b c fits_a fits_b fits_c =
     let here : to_z w128 (of_z w128 (a -ℤ b)) ≡ a -ℤ b = omega (arith, ints, fits_a, fits_b) in
     let there : to_z w128 (of_z w128 c) ≡ c = omega (arith, ints, fits_c) in (
@@ -16,7 +16,7 @@ same_difference a b c fits_a fits_b fits_c =
       (λ e. eq-eqb (of_z w128 (a -ℤ b)) (of_z w128 c) (ap (of_z w128) (sym e))),
     )
 
--- it fits
+-- their difference fits
 pub difference_fits : (a b : ℤ) → SFits w128 (to_z w128 (of_z w128 (to_z w64 (of_z w64 a))) -ℤ to_z w128 (of_z w128 (to_z w64 (of_z w64 b))))
 difference_fits a b = omega (arith, ints)
 
@@ -37,3 +37,12 @@ skew_decides offsets s limit from fits fits_limit is skew =
     let held = to_z-of_z w64 s fits in
     let told : to_z w64 (of_z w64 from) ≡ limit = omega (arith, ints, is, fits_limit) in
     rw told (rw held ((λ t. (rw held at skew, grind (arith, ints, t))), (λ both. grind (arith, ints, both.1))))
+
+-- the highest offset without the lowest, each held in 64 bits, is a number just where its bits in 128 say so
+pub difference_decides : (a b s p q r : ℤ) → SFits w64 a → SFits w64 b → SFits w64 s
+    → p ≡ to_z w64 (of_z w64 a) → q ≡ to_z w64 (of_z w64 b) → r ≡ to_z w64 (of_z w64 s)
+    → (nat_eq (of_z w128 (to_z w128 (of_z w128 p) -ℤ to_z w128 (of_z w128 q))) (of_z w128 r) ≡ true) ↔ (s ≡ a -ℤ b)
+difference_decides a b s p q r fits_a fits_b fits_s is_a is_b is_s =
+    let difference : to_z w128 (of_z w128 p) -ℤ to_z w128 (of_z w128 q) ≡ a -ℤ b = omega (arith, ints, fits_a, fits_b, is_a, is_b) in
+    let told : r ≡ s = omega (arith, ints, fits_s, is_s) in
+    rw (difference, told) (same_difference a b s fits_a fits_b fits_s)

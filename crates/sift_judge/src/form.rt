@@ -123,8 +123,11 @@ fn has_frames_line(mission: &Mission, lines: &[ReportLine], f: u32) -> bool
     ensures { IsTrue result ↔ ((skew : Option ℤ) × (slack : Option ℤ) × (margin : Bool)
         × (line_at (data_of mission.now) lines.now f (data_of mission.now).units ≡ Some (frame f skew slack margin))) }
 {
-    match line_at(mission, lines, f, mission.parts().units) {
-        Some(ReportLine::Frame { f: g, .. }) => *g == f,
+    let Some(line) = line_at(mission, lines, f, mission.parts().units) else {
+        return false;
+    };
+    match line {
+        ReportLine::Frame { f: g, .. } => *g == f,
         _ => false,
     }
 }
@@ -143,8 +146,11 @@ fn has_last_line(mission: &Mission, lines: &[ReportLine]) -> bool
     ensures { IsTrue result ↔ ((cfg : List ℕ) × (margin : Bool)
         × (line_at (data_of mission.now) lines.now (data_of mission.now).frames 0 ≡ Some (last (data_of mission.now).frames cfg margin))) }
 {
-    match line_at(mission, lines, mission.frames(), 0) {
-        Some(ReportLine::Last { frames, .. }) => *frames == mission.frames(),
+    let Some(line) = line_at(mission, lines, mission.frames(), 0) else {
+        return false;
+    };
+    match line {
+        ReportLine::Last { frames, .. } => *frames == mission.frames(),
         _ => false,
     }
 }

@@ -16,7 +16,7 @@ use Rattle.sift_judge.proofs.clocks.has_skew_of.Goals as goal
 pub returns-in-None : goal.returns-in-None
 returns-in-None c =
     let d = data_of c.args.mission.now in
-    no_value _ (IsTrueSkew d (working_clocks d c.args.lines.now c.args.f c.args.config.now)) (sym c.skew_told.ensures ∙ c.in-None.is)
+    no_value _ (IsTrueSkew d (working_clocks d c.args.lines.now c.args.f c.args.config.now)) c.in-None.is
 
 pub returns-then-is_skew : goal.returns-then-is_skew
 returns-then-is_skew c =
@@ -29,7 +29,7 @@ returns-then-is_skew c =
     let fits : SFits w64 s = search rules in
     let fits_limit : SFits w32 c.parts.result.now.clock.skew = search rules in
     let skew = subst (λ (cs : List ℤ). IsSkew cs (to_z w64 (of_z w64 s))) clocks (c.is_skew.ensures.0 c.if-is_skew.true) in
-    of_value _ s (IsTrueSkew d (working_clocks d lines f c.args.config.now)) _ (sym c.skew_told.ensures ∙ c.in-Some.is)
+    of_value _ s (IsTrueSkew d (working_clocks d lines f c.args.config.now)) _ c.in-Some.is
     (rw c.parts.ensures.same at (skew_decides (working_clocks d lines f c.args.config.now) s c.parts.result.now.clock.skew c.from.result fits fits_limit c.from.ensures skew))
 
 pub returns-else-is_skew : goal.returns-else-is_skew
@@ -42,5 +42,5 @@ returns-else-is_skew c =
     c.deref-in-Some.ensures.0 ∙ c.clocks_of.ensures ∙ ap (map (clock_told d lines f)) (c.deref.ensures.0 ∙ c.working_in-working.ensures) in
     let fits : SFits w64 s = search rules in
     let decides = rw (to_z-of_z w64 s fits) at (subst (λ (cs : List ℤ). (c.is_skew.result ≡ true) ↔ IsSkew cs (to_z w64 (of_z w64 s))) clocks c.is_skew.ensures) in
-    of_value _ s (IsTrueSkew d (working_clocks d lines f c.args.config.now)) _ (sym c.skew_told.ensures ∙ c.in-Some.is)
+    of_value _ s (IsTrueSkew d (working_clocks d lines f c.args.config.now)) _ c.in-Some.is
     (no_since c.is_skew.result _ _ c.if-is_skew.false decides (λ both. both.0))

@@ -27,3 +27,7 @@ returns-then-not-has_units_line c =
     (λ u. IsSomeAnd (line_at (data_of c.args.mission.now) c.args.lines.now c.args.f u) (IsUnitsLine (data_of c.args.mission.now) c.args.f u))
     c.args.mission.now.units c.everyone-everyone.result c.everyone-everyone.ensures c.loop-i.i c.unit_at.result c.unit_at.ensures
     (fails c.has_units_line.result _ c.has_units_line.ensures c.if-not-has_units_line.true))
+
+pub loop-i-init : goal.loop-i-init
+loop-i-init c =
+    λ u low. absurd (omega (arith, low))

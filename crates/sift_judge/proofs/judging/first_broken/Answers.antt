@@ -34,3 +34,7 @@ returns-clause-none c =
       frame = c.in_default.ensures.none;
       true_margin = c.has_true_margin.ensures.0 c.if-not-has_true_margin.false;
     }
+
+pub has_true_margin-requires-clause-frame : goal.has_true_margin-requires-clause-frame
+has_true_margin-requires-clause-frame c =
+    c.requires.known.frame

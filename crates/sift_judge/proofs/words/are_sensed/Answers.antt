@@ -33,3 +33,7 @@ returns c =
           (one_told c.in-Some.config us _ is told) (c.loop-x.invariant x (omega (arith, low, seen)))),
       (λ all. refl),
     )
+
+pub loop-x-init : goal.loop-x-init
+loop-x-init c =
+    λ x low. absurd (omega (arith, low))
