@@ -1,10 +1,10 @@
 -- Each unit of a list in turn: what holds of all of them, and how many pass a test.
-use Rattle.std.proofs.Common.{◌≡◌, ℕ, ◌+◌, ◌<◌, ◌≤◌, List, [], ◌∷◌, ◌++◌, length, get_or, take, Bool, true, false, cond, refl, sym, ap, ◌∙◌, subst, arith}
+use Rattle.std.proofs.Common.{◌≡◌, ℕ, ◌+◌, ◌<◌, ◌≤◌, List, [], ◌∷◌, length, get_or, take, Bool, true, false, cond, refl, sym, ap, ◌∙◌, subst, arith}
 use Rattle.std.proofs.Common.{length-append}
 use Rattle.std.specs.Prelude.{◌↔◌}
 use Rattle.std.specs.List.{All, AllWithin, filter}
 use Rattle.std.proofs.lemmas.List.{length-take-le}
-use Rattle.std.proofs.lemmas.List.Elements.{AllWithin-more, All-from_all_within, at_read, filter_more}
+use Rattle.std.proofs.lemmas.List.Elements.{AllWithin-more, at_read, filter_more}
 use Rattle.sift_exec.proofs.lemmas.Counted.{filter-≤}
 
 module _ (P : ℕ → Type 0) (us : List ℕ) (i : ℕ) where

@@ -1,10 +1,14 @@
 -- Lines of a report, looked at one by one.
-use Rattle.std.proofs.Common.{◌≡◌, ℕ, ◌<◌, ◌≤◌, List, length, Bool, true, false, nat_eq, ℤ, Option, None, Some, sym, ap, ◌∙◌, eq-eqb, eqb-true}
+use Rattle.std.proofs.Common.{◌≡◌, ℕ, ◌<◌, ◌≤◌, List, length, Bool, true, false, nat_eq, ℤ, Option, None, Some, refl, sym, ap, ◌∙◌, eq-eqb, eqb-true}
 use Rattle.std.specs.Prelude.{◌↔◌, MatchOption, option_map}
 use Rattle.std.specs.List.{HoldsAt, slice_get}
 use Rattle.std.proofs.lemmas.Option.{slice_get-get_or, slice_get_past}
 use Rattle.sift_line.specs.declared.line.ReportLine.{ReportLine}
-use Rattle.sift_line.specs.declared.line.ReportLine.TheVariants.{Frame, Last}
+use Rattle.sift_line.specs.declared.line.ReportLine.TheVariants.{Unit as unit, Faulty, Idle, Frame, Last}
+use Rattle.sift_line.specs.declared.bad.Bad.{Bad}
+use Rattle.arrayvec.specs.ArrayVec.{ArrayVec as Items}
+use Rattle.sift_mission.specs.Data.{MissionData}
+use Rattle.sift_report.specs.Headline.{IsUnitsLine}
 
 -- what is read at a place of a list stands there
 pub read_at : {B X : Type 0} (now : B → X) (o : Option B) (xs : List X) (i : ℕ)
@@ -48,3 +52,13 @@ pub other_last_line : (o : Option ReportLine) (line : ReportLine) (n : ℕ) → 
     → ((frames : ℕ) (us : List ℕ) (m : Bool) → line ≡ Last frames us m → ⊥)
     → (false ≡ true) ↔ ((us : List ℕ) × (m : Bool) × (o ≡ Some (Last n us m)))
 other_last_line o line n is other = ((λ t. absurd cc), (λ there. absurd (other n there.0 there.1 (cc (is, there.2)))))
+
+-- a line that is neither a unit's, nor that of an idle or a faulty one, is no unit's
+pub other_units_line : (d : MissionData) (f u : ℕ) (line : ReportLine)
+    → ((g v : ℕ) (cfg : List ℕ) (clk : ℤ) (ins outs : Items ℕ) (bad : Bad) → line ≡ unit g v cfg clk ins outs bad → ⊥)
+    → ((g v : ℕ) → line ≡ Faulty g v → ⊥) → ((g v : ℕ) → line ≡ Idle g v → ⊥) → (false ≡ true) ↔ IsUnitsLine d f u line
+other_units_line d f u (unit g v cfg clk ins outs bad) told faulty idle = absurd (told g v cfg clk ins outs bad refl)
+other_units_line d f u (Faulty g v) told faulty idle = absurd (faulty g v refl)
+other_units_line d f u (Idle g v) told faulty idle = absurd (idle g v refl)
+other_units_line d f u (Frame g skew slack margin) told faulty idle = ((λ t. absurd cc), (λ is. absurd is))
+other_units_line d f u (Last frames cfg margin) told faulty idle = ((λ t. absurd cc), (λ is. absurd is))

@@ -21,22 +21,16 @@ pub(crate) fn has_no_false_accusation(mission: &Mission, lines: &[ReportLine], f
     ensures { IsTrue result ↔ TellsNoFalseAccusation (data_of mission.now) lines.now f }
 {
     let working = working_at(mission, f);
-    all_accuse_none(mission, lines, f, &working, &working)
+    all_accuse_none(mission, lines, f, &working)
 }
 
-/// Whether none of these units tells that it caught one of the others.
-fn all_accuse_none(
-    mission: &Mission,
-    lines: &[ReportLine],
-    f: u32,
-    units: &[UnitId],
-    others: &[UnitId],
-) -> bool
+/// Whether none of these units tells that it caught one of them.
+fn all_accuse_none(mission: &Mission, lines: &[ReportLine], f: u32, units: &[UnitId]) -> bool
     requires frame { f ≤ (data_of mission.now).frames }
-    ensures { IsTrue result ↔ All (λ u. All (λ v. holds (told_at (data_of mission.now) lines.now f u).caught v ≡ false) others.now) units.now }
+    ensures { IsTrue result ↔ All (λ u. All (λ v. holds (told_at (data_of mission.now) lines.now f u).caught v ≡ false) units.now) units.now }
 {
     for unit in units {
-        if !has_none(caught_told(mission, lines, f, *unit), others) {
+        if !has_none(caught_told(mission, lines, f, *unit), units) {
             return false;
         }
     }
@@ -63,13 +57,13 @@ pub(crate) fn has_exact_removal(mission: &Mission, lines: &[ReportLine], f: u32)
 {
     // The parts of a mission fit, so there is a number behind each frame's.
     mission.parts();
-    match (
-        config_told(mission, lines, f),
-        config_told(mission, lines, f + 1),
-    ) {
-        (Some(config), Some(next)) => is_exact(mission, lines, f, &config, &next),
-        _ => true,
-    }
+    let Some(config) = config_told(mission, lines, f) else {
+        return true;
+    };
+    let Some(next) = config_told(mission, lines, f + 1) else {
+        return true;
+    };
+    is_exact(mission, lines, f, &config, &next)
 }
 
 /// Whether the next configuration is this one without exactly the units that two working units tell that they caught.

@@ -1,16 +1,13 @@
 use Rattle.std.proofs.lemmas.Int.{to_z-of_z}
 use mir.Val.{SFits}
 use mir.Syntax.{w32}
-use Rattle.sift_mission.specs.declared.parts.MissionParts.{MissionParts}
 use Rattle.sift_judge.proofs.Skews.{skew_decides}
 use Rattle.sift_judge.proofs.Deciding.{no_since, no_value, of_value}
 use Rattle.sift_judge.specs.Clocks.{IsTrueSkew, clock_told, working_clocks}
 use Rattle.sift_skew.specs.Figures.{IsSkew}
-use Rattle.sift_report.specs.Told.{told_at}
-use Rattle.std.specs.Prelude.{◌↔◌, IsSomeAnd}
+use Rattle.std.specs.Prelude.{◌↔◌}
 use Rattle.sift_mission.specs.Parts.{data_of}
-use Rattle.std.proofs.Common.{arith, ◌≡◌, ◌∙◌, ℤ, List, rules, Some, ap, map, subst, sym, to_z, of_z, true, w64}
-use Rattle.std.proofs.lemmas.Grind.{common_steps}
+use Rattle.std.proofs.Common.{◌≡◌, ◌∙◌, ℤ, List, rules, ap, map, subst, to_z, of_z, true, w64}
 use Rattle.sift_judge.proofs.clocks.has_skew_of.Goals as goal
 
 pub returns-in-None : goal.returns-in-None

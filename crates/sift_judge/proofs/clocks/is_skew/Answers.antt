@@ -1,9 +1,7 @@
-use Rattle.std.proofs.Common.{rules, ◌≡◌, ◌-ℤ◌, of_z, subst, sym, to_z, w64, arith}
-use Rattle.std.proofs.lemmas.Int.{ints}
+use Rattle.std.proofs.Common.{rules, ◌-ℤ◌, subst, sym, w64}
 use Rattle.sift_skew.specs.Figures.{IsSkew}
 use Rattle.sift_skew.proofs.lemmas.Extremes.{skew_from}
 use Rattle.sift_judge.proofs.Skews.{difference_decides, difference_fits, no_skew}
-use mir.Syntax.{w128}
 use mir.Val.{SFits}
 use Rattle.sift_judge.proofs.clocks.is_skew.Goals as goal
 

@@ -1,4 +1,4 @@
-use Rattle.std.proofs.Common.{◌≡◌, ◌∙◌, ℕ, Bool, List, length, sym, ap, arith}
+use Rattle.std.proofs.Common.{◌∙◌, ℕ, Bool, List, length, sym, ap, arith}
 use Rattle.std.specs.List.{filter}
 use Rattle.std.proofs.lemmas.List.{take_all}
 use Rattle.sift_base.specs.Units.{holds}

@@ -1,3 +1,4 @@
+use Rattle.sift_judge.proofs.ReportLines.{other_units_line}
 use Rattle.sift_judge.proofs.Deciding.{no_since}
 use Rattle.sift_line.specs.declared.line.ReportLine.TheVariants.{Unit as unit}
 use Rattle.sift_line.specs.declared.line.ReportLine.{ReportLine}
@@ -47,3 +48,7 @@ returns-else-is_of c =
     let line = unit c.in-Unit.g c.in-Unit.v c.in-Unit.cfg c.in-Unit.clk c.in-Unit.ins c.in-Unit.outs c.in-Unit.bad in
     subst (λ (l : ReportLine). (c.is_of.result ≡ true) ↔ IsUnitsLine d c.args.f c.args.u l) (sym c.in-Unit.is)
     (no_since c.is_of.result _ (IsUnitsLine d c.args.f c.args.u line) c.if-is_of.false c.is_of.ensures (λ is. (is.0, is.1, is.2)))
+
+pub returns-in_default : goal.returns-in_default
+returns-in_default c =
+    other_units_line (data_of c.args.mission.now) c.args.f c.args.u c.args.line.now c.in_default.not-Unit c.in_default.not-Faulty c.in_default.not-Idle

@@ -1,5 +1,4 @@
 use Rattle.std.proofs.Common.{arith}
-use Rattle.std.proofs.lemmas.Grind.{common_steps}
 use Rattle.sift_mission.specs.Parts.{data_of}
 use Rattle.sift_judge.specs.Verdict.{same_configuration, true_margin}
 use Rattle.sift_judge.proofs.InTurn.{breaks, breaks_if, is_first, none_below, seven_kept}

@@ -1,7 +1,6 @@
 use Rattle.sift_judge.specs.Turns.{KnowsBefore}
 use Rattle.sift_judge.proofs.Deciding.{not_both, fails}
 use Rattle.std.proofs.Common.{arith, add-one, subst}
-use Rattle.std.proofs.lemmas.Grind.{common_steps}
 use Rattle.sift_mission.specs.Parts.{data_of}
 use Rattle.sift_judge.specs.Verdict.{clock_skew, exact_removal, ideal_outputs, no_false_accusation, same_inputs}
 use Rattle.sift_judge.proofs.InTurn.{breaks, five_kept, four_kept, is_first, six_kept, three_kept, two_kept}
