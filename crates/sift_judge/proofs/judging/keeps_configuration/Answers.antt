@@ -8,9 +8,3 @@ returns-then-not-had_margin c =
       (λ _ had. let has : c.args.had_margin ≡ true = c.requires.had.1 had in (cc)),
       (λ _. lost),
     )
-
-pub returns-else-not-had_margin : goal.returns-else-not-had_margin
-returns-else-not-had_margin c = (
-  (λ t had. c.has_same_configuration.ensures.0 t),
-  (λ given. c.has_same_configuration.ensures.1 (given (c.requires.had.0 c.if-not-had_margin.false))),
-)
