@@ -1,10 +1,13 @@
 mod Lists
 mod UnitSets
 mod EachUnit
+mod EachInTurn
 mod Agreeing
+mod Deciding
 mod EachWorking
 mod Margins
 mod Caught
+mod ReportLines
 mod Skews
 mod Turns
 mod InTurn

@@ -3,11 +3,11 @@
 ghost use Rattle.std.specs.Prelude.{◌≡◌, ◌<◌, ◌≤◌, ◌↔◌, IsSomeAnd, IsTrue, List, [], MatchOption, ℕ, Some, length, map, pos, ◌≤ℤ◌};
 ghost use Rattle.sift_mission.specs.Parts.{data_of};
 ghost use Rattle.sift_report.specs.Headline.{TellsClockSkew};
-ghost use Rattle.sift_report.specs.Told.{config_told, told_at};
+ghost use Rattle.sift_report.specs.Told.{config_told};
 ghost use Rattle.sift_skew.specs.Figures.{IsHighest, IsLowest, IsSkew};
 ghost use Rattle.sift_judge.specs.Clocks.{IsTrueSkew, clock_told, working_clocks};
 
-use crate::told::{clock_told, skew_told, slack_told};
+use crate::told::{clock_told, figures_told};
 use crate::working::{config_told, working_in};
 use arrayvec::ArrayVec;
 use sift_base::UnitId;
@@ -22,40 +22,44 @@ pub(crate) fn has_clock_skew(mission: &Mission, lines: &[ReportLine], f: u32) ->
     requires frame { f < (data_of mission.now).frames }
     ensures { IsTrue result ↔ TellsClockSkew (data_of mission.now) lines.now f }
 {
-    has_skew(mission, lines, f) && has_slack(mission, lines, f)
+    let (skew, slack) = figures_told(mission, lines, f);
+    has_skew(mission, lines, f, skew) && is_slack(slack)
 }
 
-/// Whether the line of a frame tells a slack of at least 1.
-fn has_slack(mission: &Mission, lines: &[ReportLine], f: u32) -> bool
-    requires frame { f < (data_of mission.now).frames }
-    ensures { IsTrue result ↔ IsSomeAnd (told_at (data_of mission.now) lines.now f (data_of mission.now).units).slack (λ slack. pos 1 ≤ℤ slack) }
+/// Whether this is a slack of at least 1.
+fn is_slack(slack: Option<i64>) -> bool
+    ensures { IsTrue result ↔ IsSomeAnd slack (λ slack. pos 1 ≤ℤ slack) }
 {
-    match slack_told(mission, lines, f) {
+    match slack {
         Some(slack) => slack >= 1,
         None => false,
     }
 }
 
-/// Whether the line of a frame tells the skew of the working clocks of the configuration, where one is told.
-fn has_skew(mission: &Mission, lines: &[ReportLine], f: u32) -> bool
+/// Whether this is the skew of the working clocks of the configuration told in a frame, where one is told.
+fn has_skew(mission: &Mission, lines: &[ReportLine], f: u32, skew: Option<i64>) -> bool
     requires frame { f < (data_of mission.now).frames }
     ensures { IsTrue result ↔ ((us : List ℕ) → config_told (data_of mission.now) lines.now f ≡ Some us
-        → IsSomeAnd (told_at (data_of mission.now) lines.now f (data_of mission.now).units).skew
-        (IsTrueSkew (data_of mission.now) (working_clocks (data_of mission.now) lines.now f us))) }
+        → IsSomeAnd skew (IsTrueSkew (data_of mission.now) (working_clocks (data_of mission.now) lines.now f us))) }
 {
     match config_told(mission, lines, f) {
-        Some(config) => has_skew_of(mission, lines, f, &config),
+        Some(config) => has_skew_of(mission, lines, f, &config, skew),
         None => true,
     }
 }
 
-/// Whether the line of a frame tells the skew of the working clocks of this configuration.
-fn has_skew_of(mission: &Mission, lines: &[ReportLine], f: u32, config: &Config) -> bool
+/// Whether this is the skew of the working clocks of this configuration.
+fn has_skew_of(
+    mission: &Mission,
+    lines: &[ReportLine],
+    f: u32,
+    config: &Config,
+    skew: Option<i64>,
+) -> bool
     requires frame { f < (data_of mission.now).frames }
-    ensures { IsTrue result ↔ IsSomeAnd (told_at (data_of mission.now) lines.now f (data_of mission.now).units).skew
-        (IsTrueSkew (data_of mission.now) (working_clocks (data_of mission.now) lines.now f config.now)) }
+    ensures { IsTrue result ↔ IsSomeAnd skew (IsTrueSkew (data_of mission.now) (working_clocks (data_of mission.now) lines.now f config.now)) }
 {
-    match skew_told(mission, lines, f) {
+    match skew {
         Some(skew) => {
             let working = working_in(mission, config, f);
             is_skew(&clocks_of(mission, lines, f, &working), skew)
@@ -83,17 +87,25 @@ fn is_skew(offsets: &[i64], skew: i64) -> bool
     ensures { IsTrue result ↔ IsSkew offsets.now skew }
 {
     skew_is_unique();
-    match extremes(offsets) {
-        Some((highest, lowest)) => i128::from(highest) - i128::from(lowest) == i128::from(skew),
-        None => false,
-    }
+    let Some(highest) = highest(offsets) else {
+        return false;
+    };
+    let Some(lowest) = lowest(offsets) else {
+        return false;
+    };
+    i128::from(highest) - i128::from(lowest) == i128::from(skew)
 }
 
-/// The highest and the lowest of these offsets, where there are some.
-fn extremes(offsets: &[i64]) -> Option<(i64, i64)>
-    ensures { MatchOption result (offsets.now ≡ []) (λ found. IsHighest offsets.now found.0 × IsLowest offsets.now found.1) }
+/// The highest of these offsets, where there are some.
+fn highest(offsets: &[i64]) -> Option<i64>
+    ensures { MatchOption result (offsets.now ≡ []) (IsHighest offsets.now) }
 {
-    let highest = offsets.iter().copied().max()?;
-    let lowest = offsets.iter().copied().min()?;
-    Some((highest, lowest))
+    offsets.iter().copied().max()
+}
+
+/// The lowest of these offsets, where there are some.
+fn lowest(offsets: &[i64]) -> Option<i64>
+    ensures { MatchOption result (offsets.now ≡ []) (IsLowest offsets.now) }
+{
+    offsets.iter().copied().min()
 }

@@ -55,9 +55,12 @@ fn all_tell_config(
     requires frame { f ≤ (data_of mission.now).frames }
     ensures { IsTrue result ↔ All (λ u. (told_at (data_of mission.now) lines.now f u).config ≡ Some config.now) units.now }
 {
-    units
-        .iter()
-        .all(|unit| tells_config(mission, lines, f, *unit, config))
+    for unit in units {
+        if !tells_config(mission, lines, f, *unit, config) {
+            return false;
+        }
+    }
+    true
 }
 
 /// Whether a unit tells a configuration.

@@ -21,28 +21,32 @@ pub(crate) fn has_no_false_accusation(mission: &Mission, lines: &[ReportLine], f
     ensures { IsTrue result ↔ TellsNoFalseAccusation (data_of mission.now) lines.now f }
 {
     let working = working_at(mission, f);
-    all_accuse_none(mission, lines, f, &working, &working)
+    all_accuse_none(mission, lines, f, &working)
 }
 
-/// Whether none of these units tells that it caught one of the others.
-fn all_accuse_none(
-    mission: &Mission,
-    lines: &[ReportLine],
-    f: u32,
-    units: &[UnitId],
-    others: &[UnitId],
-) -> bool
+/// Whether none of these units tells that it caught one of them.
+fn all_accuse_none(mission: &Mission, lines: &[ReportLine], f: u32, units: &[UnitId]) -> bool
     requires frame { f ≤ (data_of mission.now).frames }
-    ensures { IsTrue result ↔ All (λ u. All (λ v. holds (told_at (data_of mission.now) lines.now f u).caught v ≡ false) others.now) units.now }
+    ensures { IsTrue result ↔ All (λ u. All (λ v. holds (told_at (data_of mission.now) lines.now f u).caught v ≡ false) units.now) units.now }
 {
-    units.iter().all(|unit| has_none(caught_told(mission, lines, f, *unit), others))
+    for unit in units {
+        if !has_none(caught_told(mission, lines, f, *unit), units) {
+            return false;
+        }
+    }
+    true
 }
 
 /// Whether a set has none of these units.
 fn has_none(caught: UnitSet, units: &[UnitId]) -> bool
     ensures { IsTrue result ↔ All (λ v. holds caught v ≡ false) units.now }
 {
-    units.iter().all(|unit| !caught.has(*unit))
+    for unit in units {
+        if caught.has(*unit) {
+            return false;
+        }
+    }
+    true
 }
 
 /// Whether the configuration told at the next frame is the one told at this without exactly the units that two working units tell
@@ -53,13 +57,13 @@ pub(crate) fn has_exact_removal(mission: &Mission, lines: &[ReportLine], f: u32)
 {
     // The parts of a mission fit, so there is a number behind each frame's.
     mission.parts();
-    match (
-        config_told(mission, lines, f),
-        config_told(mission, lines, f + 1),
-    ) {
-        (Some(config), Some(next)) => is_exact(mission, lines, f, &config, &next),
-        _ => true,
-    }
+    let Some(config) = config_told(mission, lines, f) else {
+        return true;
+    };
+    let Some(next) = config_told(mission, lines, f + 1) else {
+        return true;
+    };
+    is_exact(mission, lines, f, &config, &next)
 }
 
 /// Whether the next configuration is this one without exactly the units that two working units tell that they caught.
@@ -101,8 +105,11 @@ fn count_accusers(
     requires frame { f ≤ (data_of mission.now).frames }
     ensures { result ≡ length (filter (λ u. holds (told_at (data_of mission.now) lines.now f u).caught v) units.now) }
 {
-    units
-        .iter()
-        .filter(|unit| caught_told(mission, lines, f, **unit).has(v))
-        .count()
+    let mut accusers = 0;
+    for unit in units {
+        if caught_told(mission, lines, f, *unit).has(v) {
+            accusers += 1;
+        }
+    }
+    accusers
 }

@@ -4,7 +4,7 @@ ghost use Rattle.std.specs.Prelude.{◌≡◌, ◌<◌, ◌↔◌, ℕ, true, If
 ghost use Rattle.sift_base.specs.Units.{holds};
 ghost use Rattle.sift_mission.specs.Parts.{data_of};
 ghost use Rattle.sift_report.specs.Headline.{HasForm, IsUnitsLine};
-ghost use Rattle.sift_report.specs.Told.{line_at};
+ghost use Rattle.sift_report.specs.Told.{line_at, works_in};
 ghost use Rattle.sift_line.specs.declared.line.ReportLine.TheVariants.{Frame as frame, Last as last};
 ghost use Rattle.sift_judge.specs.Turns.{HasForms, IsFirstWithoutForm};
 
@@ -32,8 +32,8 @@ fn has_form(mission: &Mission, lines: &[ReportLine], f: u32) -> bool
     ensures { IsTrue result ↔ HasForm (data_of mission.now) lines.now f }
 {
     has_units_lines(mission, lines, f)
-        && has_frames_line(mission, lines, f)
-        && (f < mission.frames() - 1 || has_end(mission, lines))
+        && (has_frames_line(mission, lines, f)
+            && (f < mission.frames() - 1 || has_end(mission, lines)))
 }
 
 /// Whether each unit has its line in a frame.
@@ -76,19 +76,38 @@ fn is_units_line(mission: &Mission, f: u32, u: UnitId, line: &ReportLine) -> boo
             bad,
             ..
         } => {
-            let layout = &mission.parts().layout;
-            *g == f
-                && *v == u
-                && mission.works(u, f)
-                && are_units_of(mission, cfg.units())
-                && are_units_of(mission, bad.units())
-                && ins.len() == usize::from(layout.sensors)
-                && outs.len() == usize::from(layout.words)
+            is_of(mission, f, u, *g, *v, true)
+                && is_full(mission, cfg.units(), bad.units(), ins.len(), outs.len())
         }
-        ReportLine::Idle { f: g, u: v } => *g == f && *v == u && mission.works(u, f),
-        ReportLine::Faulty { f: g, u: v } => *g == f && *v == u && !mission.works(u, f),
+        ReportLine::Idle { f: g, u: v } => is_of(mission, f, u, *g, *v, true),
+        ReportLine::Faulty { f: g, u: v } => is_of(mission, f, u, *g, *v, false),
         _ => false,
     }
+}
+
+/// Whether a line names this frame and this unit, which works there or doesn't.
+fn is_of(mission: &Mission, f: u32, u: UnitId, g: u32, v: UnitId, works: bool) -> bool
+    ensures { IsTrue result ↔ ((g ≡ f) × (v ≡ u) × (works_in (data_of mission.now) u f ≡ works)) }
+{
+    g == f && (v == u && mission.works(u, f) == works)
+}
+
+/// Whether a line tells of the mission's units alone, and has a word for each sensor and for each output.
+fn is_full(
+    mission: &Mission,
+    config: UnitSet,
+    caught: UnitSet,
+    inputs: usize,
+    outputs: usize,
+) -> bool
+    ensures { IsTrue result ↔ (((w : ℕ) → holds config w ≡ true → w < (data_of mission.now).units)
+        × ((w : ℕ) → holds caught w ≡ true → w < (data_of mission.now).units)
+        × (inputs ≡ (data_of mission.now).layout.sensors) × (outputs ≡ (data_of mission.now).layout.words)) }
+{
+    let layout = &mission.parts().layout;
+    are_units_of(mission, config)
+        && (are_units_of(mission, caught)
+            && (inputs == usize::from(layout.sensors) && outputs == usize::from(layout.words)))
 }
 
 /// Whether each of these units is one of the mission.
@@ -104,8 +123,11 @@ fn has_frames_line(mission: &Mission, lines: &[ReportLine], f: u32) -> bool
     ensures { IsTrue result ↔ ((skew : Option ℤ) × (slack : Option ℤ) × (margin : Bool)
         × (line_at (data_of mission.now) lines.now f (data_of mission.now).units ≡ Some (frame f skew slack margin))) }
 {
-    match line_at(mission, lines, f, mission.parts().units) {
-        Some(ReportLine::Frame { f: g, .. }) => *g == f,
+    let Some(line) = line_at(mission, lines, f, mission.parts().units) else {
+        return false;
+    };
+    match line {
+        ReportLine::Frame { f: g, .. } => *g == f,
         _ => false,
     }
 }
@@ -124,8 +146,11 @@ fn has_last_line(mission: &Mission, lines: &[ReportLine]) -> bool
     ensures { IsTrue result ↔ ((cfg : List ℕ) × (margin : Bool)
         × (line_at (data_of mission.now) lines.now (data_of mission.now).frames 0 ≡ Some (last (data_of mission.now).frames cfg margin))) }
 {
-    match line_at(mission, lines, mission.frames(), 0) {
-        Some(ReportLine::Last { frames, .. }) => *frames == mission.frames(),
+    let Some(line) = line_at(mission, lines, mission.frames(), 0) else {
+        return false;
+    };
+    match line {
+        ReportLine::Last { frames, .. } => *frames == mission.frames(),
         _ => false,
     }
 }

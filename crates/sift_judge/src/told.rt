@@ -90,25 +90,19 @@ pub(crate) fn caught_told(mission: &Mission, lines: &[ReportLine], f: u32, u: Un
     }
 }
 
-/// The skew that the line of a whole frame tells, in ticks.
-pub(crate) fn skew_told(mission: &Mission, lines: &[ReportLine], f: u32) -> Option<i64>
+/// The skew and the slack that the line of a whole frame tells, in ticks.
+pub(crate) fn figures_told(
+    mission: &Mission,
+    lines: &[ReportLine],
+    f: u32,
+) -> (Option<i64>, Option<i64>)
     requires frame { f ≤ (data_of mission.now).frames }
-    ensures { result ≡ (told_at (data_of mission.now) lines.now f (data_of mission.now).units).skew }
+    ensures skew { result.0 ≡ (told_at (data_of mission.now) lines.now f (data_of mission.now).units).skew }
+    ensures slack { result.1 ≡ (told_at (data_of mission.now) lines.now f (data_of mission.now).units).slack }
 {
-    match line_at(mission, lines, f, mission.parts().units)? {
-        ReportLine::Frame { skew, .. } => *skew,
-        _ => None,
-    }
-}
-
-/// The slack that the line of a whole frame tells, in ticks.
-pub(crate) fn slack_told(mission: &Mission, lines: &[ReportLine], f: u32) -> Option<i64>
-    requires frame { f ≤ (data_of mission.now).frames }
-    ensures { result ≡ (told_at (data_of mission.now) lines.now f (data_of mission.now).units).slack }
-{
-    match line_at(mission, lines, f, mission.parts().units)? {
-        ReportLine::Frame { slack, .. } => *slack,
-        _ => None,
+    match line_at(mission, lines, f, mission.parts().units) {
+        Some(ReportLine::Frame { skew, slack, .. }) => (*skew, *slack),
+        _ => (None, None),
     }
 }
 

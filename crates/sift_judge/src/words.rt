@@ -36,7 +36,12 @@ fn all_tell_inputs(
     requires frame { f ≤ (data_of mission.now).frames }
     ensures { IsTrue result ↔ All (λ u. (told_at (data_of mission.now) lines.now f u).inputs ≡ agreed.now) units.now }
 {
-    units.iter().all(|unit| are_same(inputs_told(mission, lines, f, *unit), agreed))
+    for unit in units {
+        if !are_same(inputs_told(mission, lines, f, *unit), agreed) {
+            return false;
+        }
+    }
+    true
 }
 
 /// Whether two lists of words are the same.
@@ -108,5 +113,10 @@ fn all_tell_outputs(
     requires frame { f ≤ (data_of mission.now).frames }
     ensures { IsTrue result ↔ All (λ u. (told_at (data_of mission.now) lines.now f u).outputs ≡ words.now) units.now }
 {
-    units.iter().all(|unit| are_same(outputs_told(mission, lines, f, *unit), words))
+    for unit in units {
+        if !are_same(outputs_told(mission, lines, f, *unit), words) {
+            return false;
+        }
+    }
+    true
 }

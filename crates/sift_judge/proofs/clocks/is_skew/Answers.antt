@@ -1,26 +1,29 @@
-use Rattle.std.proofs.Common.{rules, ◌≡◌, ◌-ℤ◌, of_z, subst, sym, to_z, w64, arith}
-use Rattle.std.proofs.lemmas.Int.{ints}
+use Rattle.std.proofs.Common.{rules, ◌-ℤ◌, subst, sym, w64}
 use Rattle.sift_skew.specs.Figures.{IsSkew}
 use Rattle.sift_skew.proofs.lemmas.Extremes.{skew_from}
-use Rattle.sift_judge.proofs.Skews.{same_difference}
-use mir.Syntax.{w128}
+use Rattle.sift_judge.proofs.Skews.{difference_decides, difference_fits, no_skew}
 use mir.Val.{SFits}
 use Rattle.sift_judge.proofs.clocks.is_skew.Goals as goal
 
-pub returns-in-Some : goal.returns-in-Some
-returns-in-Some c =
+pub overflow_sub-result : goal.overflow_sub-result
+overflow_sub-result c = rw (c.from.ensures, c.from-2.ensures) (difference_fits c.in-Some.highest c.in-Some-lowest.lowest)
+
+pub returns-in_default : goal.returns-in_default
+returns-in_default c = no_skew c.args.offsets.now c.args.skew c.in_default.ensures
+
+pub returns-in_default-lowest : goal.returns-in_default-lowest
+returns-in_default-lowest c = no_skew c.args.offsets.now c.args.skew c.in_default-lowest.ensures
+
+pub returns : goal.returns
+returns c =
     let a = c.in-Some.highest in
-    let b = c.in-Some.lowest in
+    let b = c.in-Some-lowest.lowest in
     let s = c.args.skew in
     let fits_a : SFits w64 a = search rules in
     let fits_b : SFits w64 b = search rules in
-    let fits_s : SFits w64 s = search rules in
-    let difference : to_z w128 (of_z w128 c.from.result) -ℤ to_z w128 (of_z w128 c.from-in-Some.result) ≡ a -ℤ b =
-    omega (arith, ints, fits_a, fits_b, c.from.ensures, c.from-in-Some.ensures) in
-    let told : c.from-in-Some-2.result ≡ s = omega (arith, ints, fits_s, c.from-in-Some-2.ensures) in
-    let is = skew_from c.args.offsets.now a b c.in-Some.ensures.0 c.in-Some.ensures.1 in
-    let same = same_difference a b s fits_a fits_b fits_s in
-    rw (difference, told) (
+    let is = skew_from c.args.offsets.now a b c.in-Some.ensures c.in-Some-lowest.ensures in
+    let same = difference_decides a b s c.from.result c.from-2.result c.from-3.result fits_a fits_b c.ranges.skew
+    c.from.ensures c.from-2.ensures c.from-3.ensures in (
       (λ t. subst (IsSkew c.args.offsets.now) (sym (same.0 t)) is),
       (λ skew. same.1 (c.skew_is_unique.ensures c.args.offsets.now s (a -ℤ b) skew is)),
     )

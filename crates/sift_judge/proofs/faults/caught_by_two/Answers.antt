@@ -1,10 +1,11 @@
-use Rattle.std.proofs.Common.{◌≡◌, ◌∙◌, ◌&&◌, ℕ, Bool, List, length, true, false, ap, arith}
+use Rattle.std.proofs.lemmas.List.{take_all}
+use Rattle.std.proofs.Common.{◌≡◌, ◌∙◌, ◌&&◌, ℕ, Bool, List, length, true, false, ap, arith, ◌≤◌}
 use Rattle.std.specs.Prelude.{count_by}
 use Rattle.std.specs.List.{filter}
 use Rattle.std.specs.FinSet as set
 use Rattle.std.specs.Ordering.{nat_cmp}
 use Rattle.std.proofs.lemmas.Bool.Decides.{nat_tests}
-use Rattle.sift_base.specs.Units.{holds}
+use Rattle.sift_base.specs.Units.{holds, has}
 use Rattle.sift_mission.specs.Parts.{data_of}
 use Rattle.sift_report.specs.Told.{works_in, told_at}
 use Rattle.sift_judge.proofs.Caught.{count_both, with_one, without_one, two_tell}
@@ -37,3 +38,10 @@ loop-i-preserved c =
           λ v. ap (λ units. holds units v) w.caught-is
           ∙ without_one (two_tell d lines f us) us c.loop-i.i unit c.unit_at-unit.ensures c.loop-i.caught c.loop-i.invariant two v
     ]
+
+pub returns : goal.returns
+returns c =
+    let us = c.args.config.now in
+    let seen : length us ≤ c.loop-i.i = omega (arith, c.loop-i-test.false, c.len-i-end.ensures.length) in
+    λ v. c.loop-i.invariant v
+    ∙ ap (λ (units : List ℕ). has units v && two_tell (data_of c.args.mission.now) c.args.lines.now c.args.f us v) (take_all c.loop-i.i us seen)

@@ -11,3 +11,7 @@ loop-f-preserved c = λ g low. elim (cases_lt g c.loop-f.f) [
       let e : c.loop-f.f ≡ g = omega (arith, low, more) in
       subst (HasForm (data_of c.args.mission.now) c.args.lines.now) e (c.has_form.ensures.0 c.if-not-has_form.false)
 ]
+
+pub loop-f-init : goal.loop-f-init
+loop-f-init c =
+    λ g low. absurd (omega (arith, low))

@@ -1,5 +1,4 @@
 use Rattle.std.proofs.Common.{arith}
-use Rattle.std.proofs.lemmas.Grind.{common_steps}
 use Rattle.sift_mission.specs.Parts.{data_of}
 use Rattle.sift_judge.specs.Verdict.{same_configuration, true_margin}
 use Rattle.sift_judge.proofs.InTurn.{breaks, breaks_if, is_first, none_below, seven_kept}
@@ -23,8 +22,18 @@ returns-then-not-has_true_margin-clause-found c =
     is_first d lines f true_margin (omega arith) (seven_kept d lines f two c.in_default.ensures.none)
     (breaks d lines f true_margin c.requires.known.frame tt c.has_true_margin.result c.has_true_margin.ensures c.if-not-has_true_margin.true)
 
-pub returns-clause-none : goal.returns-clause-none
-returns-clause-none c = grind (arith, common_steps)
-
 pub first_with_margin-requires-clause-configuration : goal.first_with_margin-requires-clause-configuration
-first_with_margin-requires-clause-configuration c = grind (arith, common_steps)
+first_with_margin-requires-clause-configuration c =
+    c.keeps_configuration.ensures.0 c.if-not-keeps_configuration.false
+
+pub returns-clause-none : goal.returns-clause-none
+returns-clause-none c =
+    record {
+      same_configuration = c.keeps_configuration.ensures.0 c.if-not-keeps_configuration.false;
+      frame = c.in_default.ensures.none;
+      true_margin = c.has_true_margin.ensures.0 c.if-not-has_true_margin.false;
+    }
+
+pub has_true_margin-requires-clause-frame : goal.has_true_margin-requires-clause-frame
+has_true_margin-requires-clause-frame c =
+    c.requires.known.frame

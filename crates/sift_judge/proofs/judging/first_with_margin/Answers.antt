@@ -1,5 +1,6 @@
-use Rattle.std.proofs.Common.{arith}
-use Rattle.std.proofs.lemmas.Grind.{common_steps}
+use Rattle.sift_judge.specs.Turns.{KnowsBefore}
+use Rattle.sift_judge.proofs.Deciding.{not_both, fails}
+use Rattle.std.proofs.Common.{arith, add-one, subst}
 use Rattle.sift_mission.specs.Parts.{data_of}
 use Rattle.sift_judge.specs.Verdict.{clock_skew, exact_removal, ideal_outputs, no_false_accusation, same_inputs}
 use Rattle.sift_judge.proofs.InTurn.{breaks, five_kept, four_kept, is_first, six_kept, three_kept, two_kept}
@@ -70,7 +71,42 @@ returns-clause-none c = λ margin. record {
 }
 
 pub returns-then-not-has_margin-clause-runs : goal.returns-then-not-has_margin-clause-runs
-returns-then-not-has_margin-clause-runs c = grind (arith, common_steps)
+returns-then-not-has_margin-clause-runs c =
+    record {
+      words_are = λ t. absurd (not_both c.args.has_margin t c.if-not-has_margin.true);
+      as_many = c.requires.known.runs.as_many;
+    }
 
 pub returns-clause-runs : goal.returns-clause-runs
-returns-clause-runs c = grind (arith, common_steps)
+returns-clause-runs c =
+    record { words_are = λ t. rw (add-one c.args.f) c.run_ideal.ensures.words; as_many = c.run_ideal.ensures.as_many }
+
+pub returns-then-not-has_margin-clause-none : goal.returns-then-not-has_margin-clause-none
+returns-then-not-has_margin-clause-none c =
+    λ margin. absurd (fails c.args.has_margin _ c.requires.known.margin_is c.if-not-has_margin.true margin)
+
+pub has_ideal_outputs-requires-clause-frame : goal.has_ideal_outputs-requires-clause-frame
+has_ideal_outputs-requires-clause-frame c =
+    c.requires.known.frame
+
+pub run_ideal-requires : goal.run_ideal-requires
+run_ideal-requires c =
+    record {
+      known = subst (λ b. KnowsBefore (data_of c.args.mission.now) c.args.lines.now c.args.f b c.args.ideal.now) c.if-not-has_margin.false c.requires.known;
+    }
+
+pub has_clock_skew-requires : goal.has_clock_skew-requires
+has_clock_skew-requires c =
+    record { frame = c.requires.known.frame }
+
+pub has_exact_removal-requires : goal.has_exact_removal-requires
+has_exact_removal-requires c =
+    record { frame = c.requires.known.frame }
+
+pub has_no_false_accusation-requires : goal.has_no_false_accusation-requires
+has_no_false_accusation-requires c =
+    record { frame = c.requires.known.frame }
+
+pub has_same_inputs-requires : goal.has_same_inputs-requires
+has_same_inputs-requires c =
+    record { frame = c.requires.known.frame }

@@ -1,3 +1,5 @@
+use Rattle.sift_report.specs.Headline.{TellsSameInputs}
+use Rattle.sift_judge.proofs.Deciding.{no_since}
 use Rattle.std.proofs.Common.{◌≡◌, ◌∙◌, ◌<◌, ℕ, List, Some, slice_index, sym, subst, true}
 use Rattle.std.specs.Prelude.{◌↔◌}
 use Rattle.sift_config.specs.Config.{reader_of}
@@ -26,7 +28,6 @@ returns-else-all_tell_inputs c =
     let d = data_of c.args.mission.now in
     let f = c.args.f in
     let law = decides_each d f (λ u. (told_at d c.args.lines.now f u).inputs ≡ c.agreed_told-agreed.result.now) c.deref.result.now
-    (c.deref.ensures.0 ∙ c.working_at.ensures) c.all_tell_inputs.result c.all_tell_inputs.ensures in (
-      (λ t. (let none = c.if-all_tell_inputs.false in absurd cc)),
-      (λ given. law.1 (λ u w. given.same u w ∙ sym c.agreed_told-agreed.ensures)),
-    )
+    (c.deref.ensures.0 ∙ c.working_at.ensures) c.all_tell_inputs.result c.all_tell_inputs.ensures in
+    no_since c.all_tell_inputs.result _ _ c.if-all_tell_inputs.false law
+    (λ (given : TellsSameInputs d c.args.lines.now f) u w. given.same u w ∙ sym c.agreed_told-agreed.ensures)

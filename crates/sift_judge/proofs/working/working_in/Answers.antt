@@ -1,4 +1,6 @@
-use Rattle.std.proofs.Common.{◌≡◌, ℕ, Bool, ◌++◌, ◌∷◌, [], ◌∙◌, length, sym, ap, arith}
+use Rattle.std.specs.List.{filter}
+use Rattle.std.proofs.lemmas.List.{take_all}
+use Rattle.std.proofs.Common.{◌≡◌, ℕ, Bool, ◌++◌, ◌∷◌, [], ◌∙◌, length, sym, ap, arith, ◌≤◌}
 use Rattle.sift_mission.specs.Parts.{data_of}
 use Rattle.sift_exec.proofs.lemmas.Counted.{filter-yes, filter-no, filter-room}
 use Rattle.sift_report.specs.Told.{works_in}
@@ -25,3 +27,9 @@ loop-i-preserved c =
           let no = sym c.works.ensures ∙ w.if-works.false in
           rw w.working-is (c.loop-i.invariant ∙ sym (filter-no works us c.loop-i.i c.unit_at-unit.result c.unit_at-unit.ensures no))
     ]
+
+pub returns : goal.returns
+returns c =
+    let us = c.args.config.now in
+    let seen : length us ≤ c.loop-i.i = omega (arith, c.loop-i-test.false, c.len-i-end.ensures.length) in
+    c.loop-i.invariant ∙ ap (filter (λ u. works_in (data_of c.args.mission.now) u c.args.f)) (take_all c.loop-i.i us seen)

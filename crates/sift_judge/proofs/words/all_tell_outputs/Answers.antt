@@ -1,0 +1,32 @@
+use Rattle.std.proofs.Common.{◌≡◌, List, ℕ, true, subst}
+use Rattle.std.specs.Prelude.{◌↔◌}
+use Rattle.sift_mission.specs.Parts.{data_of}
+use Rattle.sift_report.specs.Told.{told_at}
+use Rattle.std.proofs.lemmas.List.Elements.{AllWithin-none}
+use Rattle.sift_judge.proofs.Deciding.{fails}
+use Rattle.sift_judge.proofs.EachInTurn.{all_are, not_all, one_more}
+use Rattle.sift_judge.proofs.words.all_tell_outputs.Goals as goal
+
+pub loop-unit-init : goal.loop-unit-init
+loop-unit-init c =
+    let tells : ℕ → Type 0 = λ u. (told_at (data_of c.args.mission.now) c.args.lines.now c.args.f u).outputs ≡ c.args.words.now in
+    AllWithin-none tells c.args.units.now 0
+
+pub loop-unit-preserved : goal.loop-unit-preserved
+loop-unit-preserved c =
+    let tells : ℕ → Type 0 = λ u. (told_at (data_of c.args.mission.now) c.args.lines.now c.args.f u).outputs ≡ c.args.words.now in
+    let is = subst (λ (ws : List ℕ). (c.are_same.result ≡ true) ↔ (ws ≡ c.args.words.now)) c.outputs_told.ensures c.are_same.ensures in
+    one_more tells c.args.units.now c.loop-unit.unit-index c.unit-item.result c.loop-unit-test.true c.unit-item.is
+    c.loop-unit.invariant (is.0 c.if-not-are_same.false)
+
+pub returns-then-not-are_same : goal.returns-then-not-are_same
+returns-then-not-are_same c =
+    let tells : ℕ → Type 0 = λ u. (told_at (data_of c.args.mission.now) c.args.lines.now c.args.f u).outputs ≡ c.args.words.now in
+    let is = subst (λ (ws : List ℕ). (c.are_same.result ≡ true) ↔ (ws ≡ c.args.words.now)) c.outputs_told.ensures c.are_same.ensures in
+    not_all tells c.args.units.now c.loop-unit.unit-index c.unit-item.result c.loop-unit-test.true c.unit-item.is
+    (fails c.are_same.result (tells c.unit-item.result) is c.if-not-are_same.true)
+
+pub returns : goal.returns
+returns c =
+    let tells : ℕ → Type 0 = λ u. (told_at (data_of c.args.mission.now) c.args.lines.now c.args.f u).outputs ≡ c.args.words.now in
+    all_are tells c.args.units.now c.loop-unit.unit-index c.loop-unit-test.false c.loop-unit.invariant
