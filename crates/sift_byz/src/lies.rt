@@ -149,16 +149,10 @@ fn lie_in(entry: &Value, units: u8, m: u8) -> Option<Lie>
     ensures word { IfSome result (λ _. HasWord (view entry.now)) }
     ensures none { IfNone result (HasReceivers units m (view entry.now) → ¬ HasWord (view entry.now)) }
 {
-    let Some(path) = path_of(entry, units, m) else {
-        return None;
-    };
-    let Some(to) = receivers_of(entry, units, &path) else {
-        return None;
-    };
-    match said_of(entry) {
-        Some(value) => Some(Lie { path, to, value }),
-        None => None,
-    }
+    let path = path_of(entry, units, m)?;
+    let to = receivers_of(entry, units, &path)?;
+    let value = said_of(entry)?;
+    Some(Lie { path, to, value })
 }
 
 /// The path of an entry, in the order in which its units spoke.
@@ -168,9 +162,7 @@ fn path_of(entry: &Value, units: u8, m: u8) -> Option<ArrayVec<u8, 3>>
     ensures path { IfSome result (λ path. IsPath units m path.items) }
     ensures none { IfNone result (¬ HasPath units m (view entry.now)) }
 {
-    let Some(path) = digits_at(entry, "path") else {
-        return None;
-    };
+    let path = digits_at(entry, "path")?;
     if is_path(&path, units, m) {
         Some(path)
     } else {
@@ -185,9 +177,7 @@ fn receivers_of(entry: &Value, units: u8, path: &[u8]) -> Option<ArrayVec<u8, 10
     ensures receivers { IfSome result (λ to. AreReceivers units path.now to.items) }
     ensures none { IfNone result ((to : List ℕ) → to_of (view entry.now) ≡ Some to → ¬ AreReceivers units path.now to) }
 {
-    let Some(to) = digits_at(entry, "to") else {
-        return None;
-    };
+    let to = digits_at(entry, "to")?;
     if are_receivers(&to, units, path) {
         Some(to)
     } else {

@@ -84,10 +84,8 @@ fn m_of(document: &Table) -> Option<u8>
     ensures m { result ≡ m_of (table_view document.now) }
     ensures few { IfSome result (λ m. m ≤ most_traitors) }
 {
-    match number_at(document, "m", 0, 2) {
-        Some(m) => Some(m as u8),
-        None => None,
-    }
+    let m = number_at(document, "m", 0, 2)?;
+    Some(m as u8)
 }
 
 /// How many units there are, where so many may lie, if that is stated.
@@ -96,10 +94,8 @@ fn units_of(document: &Table, m: u8) -> Option<u8>
     ensures units { result ≡ units_of m (table_view document.now) }
     ensures few { IfSome result (λ units. units ≤ most_units) }
 {
-    match number_at(document, "units", 3 * u32::from(m) + 1, 10) {
-        Some(units) => Some(units as u8),
-        None => None,
-    }
+    let units = number_at(document, "units", 3 * u32::from(m) + 1, 10)?;
+    Some(units as u8)
 }
 
 /// The words of `values`, if there are as many as units.
@@ -107,10 +103,8 @@ fn values_of(document: &Table, units: u8) -> Option<ArrayVec<Word, 10>>
     requires { units ≤ most_units }
     ensures { option_map (λ values. values.items) result ≡ values_of units (table_view document.now) }
 {
-    match member_of(document, "values") {
-        Some(value) => word_array(value, usize::from(units), usize::from(units)),
-        None => None,
-    }
+    let values = member_of(document, "values")?;
+    word_array(values, usize::from(units), usize::from(units))
 }
 
 /// Tests that at most `m` units stand last in a path.

@@ -24,13 +24,8 @@ pub(crate) fn digits_at<const N: usize>(value: &Value, key: &str) -> Option<Arra
     ensures found { IfSome result (λ digits. option_and_then (digits_to 9) (get key.now (view value.now)) ≡ Some digits.items) }
     ensures none { IfNone result ((digits : List ℕ) → option_and_then (digits_to 9) (get key.now (view value.now)) ≡ Some digits → N < length digits) }
 {
-    match member_in(value, key) {
-        Some(member) => match member.as_str() {
-            Some(text) => digits_in(text),
-            None => None,
-        },
-        None => None,
-    }
+    let digits = member_in(value, key)?.as_str()?;
+    digits_in(digits)
 }
 
 /// The numbers of a text of digits, if there are at most `N`.

@@ -4,9 +4,10 @@ use Rattle.sift_byz.proofs.Testing.{ascending_few, not_both, one_value}
 use Rattle.sift_byz.proofs.lies.receivers_of.Goals as goal
 
 -- receivers are no more than units
-pub returns-in_default-clause-none : goal.returns-in_default-clause-none
-returns-in_default-clause-none c to is receivers =
-    omega (arith, c.in_default.ensures.none to is, ascending_few c.args.units to receivers.ascending receivers.below, c.requires)
+pub returns-in_err-to-clause-none : goal.returns-in_err-to-clause-none
+returns-in_err-to-clause-none c =
+    rw c.from_residual.ensures (λ to is receivers.
+    omega (arith, c.in_err-to.ensures.none to is, ascending_few c.args.units to receivers.ascending receivers.below, c.requires))
 
 -- these are receivers
 pub returns-then-are_receivers-clause-receivers : goal.returns-then-are_receivers-clause-receivers
@@ -15,5 +16,5 @@ returns-then-are_receivers-clause-receivers c = rw c.deref.ensures.0 at (c.are_r
 -- these aren't
 pub returns-else-are_receivers-clause-none : goal.returns-else-are_receivers-clause-none
 returns-else-are_receivers-clause-none c to is receivers =
-    let same = one_value _ to c.in-Some.to.items is c.in-Some.ensures.found in
+    let same = one_value _ to c.in_ok-to.to.items is c.in_ok-to.ensures.found in
     not_both (c.are_receivers.ensures.1 (rw c.deref.ensures.0 (subst (AreReceivers c.args.units c.args.path.now) same receivers))) c.if-are_receivers.false

@@ -6,14 +6,14 @@ use Rattle.sift_document.proofs.lemmas.Numbers.{between_at}
 use Rattle.sift_byz.proofs.reading.m_of.Goals as goal
 
 -- it is read within its limits
-pub returns-in-Some-clause-few : goal.returns-in-Some-clause-few
-returns-in-Some-clause-few c = (between_at 0 2 (get_member (codes "m") (table_view c.args.document.now)) c.in-Some.m (sym c.in-Some.ensures)).1
+pub returns-clause-few : goal.returns-clause-few
+returns-clause-few c = (between_at 0 2 (get_member (codes "m") (table_view c.args.document.now)) c.in_ok-m.m (sym c.in_ok-m.ensures)).1
 
 pub overflow_cast-result : goal.overflow_cast-result
-overflow_cast-result c = let few = (between_at 0 2 (get_member (codes "m") (table_view c.args.document.now)) c.in-Some.m (sym c.in-Some.ensures)).1 in omega (arith, few)
+overflow_cast-result c = let few = (between_at 0 2 (get_member (codes "m") (table_view c.args.document.now)) c.in_ok-m.m (sym c.in_ok-m.ensures)).1 in omega (arith, few)
 
-pub returns-in-None-clause-m : goal.returns-in-None-clause-m
-returns-in-None-clause-m c = c.in-None.ensures
+pub returns-in_err-m-clause-m : goal.returns-in_err-m-clause-m
+returns-in_err-m-clause-m c = rw c.from_residual.ensures c.in_err-m.ensures
 
-pub returns-in-Some-clause-m : goal.returns-in-Some-clause-m
-returns-in-Some-clause-m c = c.in-Some.ensures
+pub returns-clause-m : goal.returns-clause-m
+returns-clause-m c = c.in_ok-m.ensures
