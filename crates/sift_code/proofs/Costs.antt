@@ -84,6 +84,9 @@ append_same : (extra base : List ℕ) → base ≡ extra ++ base → extra ≡ [
 append_same [] base e = refl
 append_same (x ∷ extra) base e = absurd (omega (arith, ap length e, length-append extra base))
 
+one_on : (q m n : ℕ) → n ≡ suc m → q + 1 + m ≡ q + n
+one_on q m n more = omega arith
+
 -- where one more is a number, there was a number before, and it is less by 1
 pub one_more_some : (o : Option ℕ) (n : ℕ) → one_more o ≡ Some n → (m : ℕ) × (o ≡ Some m) × (n ≡ suc m)
 one_more_some None n e = cc
@@ -162,19 +165,19 @@ module _ (code : List Instr) (braced : IsBraced code) where
       moved (q + 1) (q + n) b base cs (omega arith) (record { last = q; next = refl; ends = at; inside = is; outside = next ∙ ap (drop 1) is; costs_are = same })
   past_step End q b n (x ∷ e) base cs rest at same is next through ih =
       let more = one_more_some _ n through in
-      moved (q + 1 + more.0) (q + n) b base _ (omega (arith, more.2)) (ih e more.0 (next ∙ ap (drop 1) is) more.1)
+      moved (q + 1 + more.0) (q + n) b base _ (one_on q more.0 n more.2) (ih e more.0 (next ∙ ap (drop 1) is) more.1)
   past_step (Begin k) q b n [] base cs rest at same is next through ih =
       let more = one_more_some _ n through in
-      moved (q + 1 + more.0) (q + n) b base _ (omega (arith, more.2)) (ih ((q + 1) ∷ []) more.0 (next ∙ ap (λ l. (q + 1) ∷ l) is) more.1)
+      moved (q + 1 + more.0) (q + n) b base _ (one_on q more.0 n more.2) (ih ((q + 1) ∷ []) more.0 (next ∙ ap (λ l. (q + 1) ∷ l) is) more.1)
   past_step (Begin k) q b n (x ∷ e) base cs rest at same is next through ih =
       let more = one_more_some _ n through in
-      moved (q + 1 + more.0) (q + n) b base _ (omega (arith, more.2)) (ih ((q + 1) ∷ x ∷ e) more.0 (next ∙ ap (λ l. (q + 1) ∷ l) is) more.1)
+      moved (q + 1 + more.0) (q + n) b base _ (one_on q more.0 n more.2) (ih ((q + 1) ∷ x ∷ e) more.0 (next ∙ ap (λ l. (q + 1) ∷ l) is) more.1)
   past_step _ q b n [] base cs rest at same is next through ih =
       let more = one_more_some _ n through in
-      moved (q + 1 + more.0) (q + n) b base _ (omega (arith, more.2)) (ih [] more.0 (next ∙ is) more.1)
+      moved (q + 1 + more.0) (q + n) b base _ (one_on q more.0 n more.2) (ih [] more.0 (next ∙ is) more.1)
   past_step _ q b n (x ∷ e) base cs rest at same is next through ih =
       let more = one_more_some _ n through in
-      moved (q + 1 + more.0) (q + n) b base _ (omega (arith, more.2)) (ih (x ∷ e) more.0 (next ∙ is) more.1)
+      moved (q + 1 + more.0) (q + n) b base _ (one_on q more.0 n more.2) (ih (x ∷ e) more.0 (next ∙ is) more.1)
 
   nothing_through : (e : List ℕ) (n : ℕ) → through_end (length e) [] ≡ Some n → ⊥
   nothing_through [] n h = cc

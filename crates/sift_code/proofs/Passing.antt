@@ -1,9 +1,8 @@
 -- The walk goes on over an instruction.
-use Rattle.std.proofs.Common.{◌≡◌, ℕ, ◌+◌, ◌-◌, ◌<◌, ◌≤◌, Bool, true, false, List, [], ◌∷◌, ◌++◌, length, take, drop, Option, Some, None, refl, sym, ap, ◌∙◌, subst, arith, add-one, inl, inr, append-nil}
+use Rattle.std.proofs.Common.{◌≡◌, ℕ, ◌+◌, ◌-◌, ◌<◌, ◌≤◌, Bool, true, false, List, [], ◌∷◌, ◌++◌, length, take, drop, Option, Some, None, refl, sym, ap, ◌∙◌, subst, arith, add-one, inl, inr}
 use Rattle.std.specs.Prelude.{slice_get, slice_set, slice_index, slice_index_or, ◌≢◌, ◌⊎◌, ◌==◌, if◌then◌else◌, max}
 use Rattle.std.proofs.lemmas.Bool.Decides.{eqb_tells}
-use Rattle.std.proofs.Math.ListN.{drop_of_length-le}
-use Rattle.std.proofs.lemmas.List.{get_or-set_same, get_or-set_other, length-set, length-drop, take_all}
+use Rattle.std.proofs.lemmas.List.{get_or-set_same, get_or-set_other, length-set, length-drop}
 use Rattle.sift_code.specs.declared.instr.Instr.{Instr}
 use Rattle.sift_code.specs.declared.instr.Instr.TheVariants.{JumpZ, Jump, Begin, End}
 use Rattle.sift_code.specs.declared.walk.Brought.{Brought}
@@ -11,9 +10,10 @@ use Rattle.sift_code.specs.declared.walk.Walk.{Walk}
 use Rattle.sift_code.specs.Machine.{through_end}
 use Rattle.sift_code.specs.Enclosing.{opened_by, enclosing}
 use Rattle.sift_code.specs.Heights.{Arrival, Trail, trail_at, height_at, height_after, pops, pushes, next_height, height_behind, behind_jump, brought_by, brought_to}
-use Rattle.sift_code.specs.Refusal.{IsBadJump, IsBadJumpAt, IsBadTarget}
+use Rattle.sift_code.specs.Refusal.{IsBadJump, IsBadJumpAt, IsBadTarget, IsUnderflow, IsUnderflowAt, IsTooDeep, IsTallAt, stack_limit}
 use Rattle.sift_code.specs.Walk.{joined, summary, behind, AreBrought, IsAt}
 use Rattle.sift_code.proofs.lemmas.Enclosing.{IsNoBrace, enclosing_here, opened_plain}
+use Rattle.sift_code.proofs.Tables.{all_written}
 use Rattle.sift_code.proofs.Walks.{read_height, read_brought}
 use Rattle.std.proofs.lemmas.Option.{slice_get_within}
 use Rattle.sift_code.proofs.lemmas.Heights.{trail_here, height_here}
@@ -69,12 +69,6 @@ brought_more arrival rest last table within are = record {
   long = length-set table arrival.place _ ∙ are.long;
   entries = λ p to. brought_step arrival rest p last table are.long within (are.entries p to) (eqb_tells arrival.place p);
 }
-
--- a vector whose elements were all written
-pub all_written : (items written : List (Option Brought)) (len : ℕ) → length items ≡ len → length written ≡ length items → take len (written ++ drop (length written) items) ≡ written
-all_written items written len is long =
-    let none : drop (length written) items ≡ [] = drop_of_length-le items (omega arith) in
-    ap (λ rest. take len (written ++ rest)) none ∙ (ap (take len) (append-nil written) ∙ take_all len written (omega arith))
 
 -- a jump that isn't bad goes no farther than the code's length
 pub target_within : (code : List Instr) (p to : ℕ) (i : Instr) → slice_get code p ≡ Some i
@@ -134,6 +128,25 @@ passed code p i w t v h pop push brought at here h_is pop_is push_is brought_is 
       stack = stack ∙ (ap (max w.stack) (after_is ∙ sym (ap (λ o. height_behind o (height_at code p)) at))
           ∙ (ap (λ s. max s (height_behind (slice_get code p) (height_at code p))) here.stack ∙ rw add-one refl));
     }
+
+-- where there is no underflow, what was read is at least what the instruction pops
+pub high_enough : (code : List Instr) (p : ℕ) (i : Instr) (w : Walk) (h pop : ℕ) → slice_get code p ≡ Some i → IsAt code p w
+    → h ≡ slice_index_or w.heights.items p h → pop ≡ pops i → (IsUnderflow code p → ⊥) → pop ≤ h
+high_enough code p i w h pop at here h_is pop_is filled =
+    let within : p < length code = slice_get_within code p i at in
+    let high = read_height w.heights.items p h (height_at code p) (omega (arith, here.long)) h_is (here.heights p (omega arith)) in
+    let enough : (height_at code p < pops i) → ⊥ = λ few. filled (subst (λ o. IsUnderflowAt (height_at code p) o) (sym at) few) in
+    omega arith
+
+-- where the stack isn't too deep, the height after the instruction is at most its limit
+pub low_enough : (code : List Instr) (p : ℕ) (i : Instr) (w : Walk) (h pop push : ℕ) → slice_get code p ≡ Some i → IsAt code p w
+    → h ≡ slice_index_or w.heights.items p h → pop ≡ pops i → push ≡ pushes i → (IsTooDeep code p → ⊥) → h - pop + push ≤ stack_limit
+low_enough code p i w h pop push at here h_is pop_is push_is shallow =
+    let within : p < length code = slice_get_within code p i at in
+    let high = read_height w.heights.items p h (height_at code p) (omega (arith, here.long)) h_is (here.heights p (omega arith)) in
+    let after_is : h - pop + push ≡ height_after i (height_at code p) = cc in
+    let low : (stack_limit < height_after i (height_at code p)) → ⊥ = λ tall. shallow (inl (subst (λ o. IsTallAt (height_at code p) o) (sym at) tall)) in
+    omega arith
 
 -- a jump brought its height, in a table that was written in place
 pub brought_by_jump : (code : List Instr) (p to : ℕ) (i : Instr) (w : Walk) (h pop push : ℕ) (table written : List (Option Brought))

@@ -1,7 +1,8 @@
 -- A machine at an instruction of sound code.
-use Rattle.std.proofs.Common.{◌≡◌, ℕ, ◌+◌, ◌-◌, ◌≤◌, List, length, Some, sym, ap, ◌∙◌}
+use Rattle.std.proofs.Common.{◌≡◌, ℕ, ◌+◌, ◌-◌, ◌≤◌, List, length, Some, sym, ap, ◌∙◌, arith}
 use Rattle.std.specs.Prelude.{slice_get}
 use Rattle.sift_code.specs.declared.instr.Instr.{Instr}
+use Rattle.sift_code.specs.declared.instr.Instr.TheVariants.{Push, Load, Store, Sense, Now, Last, Out, Mid, JumpZ, Jump, Begin, End}
 use Rattle.sift_code.specs.declared.machine.Machine.{Machine}
 use Rattle.sift_code.specs.Machine.{Loop, State, Inputs, effect, effect_of}
 use Rattle.sift_code.specs.Enclosing.{enclosing}
@@ -43,6 +44,25 @@ pub heights : {program : Program} {m : Machine} {ws outs : List ℕ} {i : Instr}
 heights {program} {m} {ws} {outs} {i} f =
     let high : m.height ≡ height_at program.code m.place = sym (length-stack_of m.height ws) ∙ f.stands.agrees.height in
     rw high (filled program f.sound m.place i f.at, shallow program f.sound m.place i f.at)
+
+pops_few : (i : Instr) → pops i ≤ 3
+pops_few (Push w) = omega arith
+pops_few (Load l) = omega arith
+pops_few (Store l) = omega arith
+pops_few (Sense x) = omega arith
+pops_few (Now w) = omega arith
+pops_few (Last w) = omega arith
+pops_few (Out j) = omega arith
+pops_few Mid = omega arith
+pops_few (JumpZ to) = omega arith
+pops_few (Jump to) = omega arith
+pops_few (Begin k) = omega arith
+pops_few End = omega arith
+pops_few _ = omega arith
+
+-- the stack lies in the words that a run works in
+pub inside : {program : Program} {m : Machine} {ws outs : List ℕ} {i : Instr} → Fetched program m ws outs i → m.height ≤ 352
+inside {program} {m} {ws} {outs} {i} f = let h = heights f in omega (arith, h.0, h.1, pops_few i)
 
 -- what it names is there
 pub operand : {program : Program} {m : Machine} {ws outs : List ℕ} {i : Instr} → Fetched program m ws outs i → IsBadOperandAt program.limits (Some i) → ⊥

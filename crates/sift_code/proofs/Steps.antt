@@ -1,7 +1,7 @@
 -- Each instruction that goes on to the next place is a step of the machine, on the words of a span.
 use Rattle.std.proofs.Common.{◌≡◌, ℕ, ◌+◌, ◌-◌, ◌<◌, ◌≤◌, Bool, true, List, ◌∷◌, length, Option, Some, None, refl, sym, ap, ◌∙◌, arith}
 use Rattle.std.specs.Prelude.{slice_index, slice_set, nat_lt, if◌then◌else◌}
-use Rattle.std.proofs.lemmas.Bool.Decides.{nat_tests}
+use Rattle.std.proofs.lemmas.Bool.{lt-ltb}
 use Rattle.sift_base.specs.Word.{mid}
 use Rattle.sift_code.specs.declared.instr.Instr.{Instr}
 use Rattle.sift_code.specs.declared.instr.Instr.TheVariants.{Store, Out, Mid}
@@ -70,7 +70,7 @@ module _ {program : Program} (inputs : Inputs) {m : Machine} {ws outs : List ℕ
       let there : l < 32 = (let named = operand f in omega (arith, named)) in
       let some : 1 ≤ m.height = (heights f).0 in
       let low : m.height - 1 ≤ 256 = (let h = heights f in omega (arith, h.1)) in
-      let holds : nat_lt l (length (locals_of ws)) ≡ true = (let long = length-locals_of ws (omega arith) in grind (arith, nat_tests)) in
+      let holds : nat_lt l (length (locals_of ws)) ≡ true = lt-ltb _ _ (omega (arith, there, length-locals_of ws (omega (arith, wide)))) in
       let top = slice_index ws (m.height - 1) in
       let next : State = state (m.place + 1) (stack_of (m.height - 1) ws) (loops_of (enclosing program.code m.place) ws) (slice_set (locals_of ws) l top) outs in
       rw (machine_is, words, word) (plain inputs f (machine (m.place + 1) (m.height - 1) m.depth) (slice_set ws (256 + l) top) outs (stack_of (m.height - 1) ws) (slice_set (locals_of ws) l top) outs
@@ -86,7 +86,7 @@ module _ {program : Program} (inputs : Inputs) {m : Machine} {ws outs : List ℕ
       → n ≡ machine (m.place + 1) (m.height - 1) m.depth → puts ≡ slice_set outs j w → Steps program inputs m ws outs n ws puts
   puts_out {j} f w word machine_is words =
       let there : j < length outs = (let named = operand f in omega (arith, named, f.stands.agrees.outs)) in
-      let holds : nat_lt j (length outs) ≡ true = grind (arith, nat_tests) in
+      let holds : nat_lt j (length outs) ≡ true = lt-ltb _ _ there in
       let top = slice_index ws (m.height - 1) in
       let next : State = state (m.place + 1) (stack_of (m.height - 1) ws) (loops_of (enclosing program.code m.place) ws) (locals_of ws) (slice_set outs j top) in
       rw (machine_is, words, word) (plain inputs f (machine (m.place + 1) (m.height - 1) m.depth) ws (slice_set outs j top) (stack_of (m.height - 1) ws) (locals_of ws) (slice_set outs j top)

@@ -1,11 +1,13 @@
 -- Entries of the tables of starts and pasts, from the entries beside them.
-use Rattle.std.proofs.Common.{◌≡◌, ℕ, suc, ◌+◌, ◌-◌, ◌<◌, ◌≤◌, List, [], ◌∷◌, ◌++◌, length, drop, Option, Some, None, refl, sym, ap, ◌∙◌, subst, arith, get_or, inl, inr, eqb}
-use Rattle.std.specs.Prelude.{slice_get, slice_index_or, slice_set, ◌≢◌, ◌⊎◌, ◌==◌, Bool, true, false, IfSome}
-use Rattle.std.specs.Option.{option_eq}
-use Rattle.std.proofs.lemmas.Bool.{eqb-true, eq-eqb}
+use Rattle.std.proofs.Common.{◌≡◌, ℕ, suc, ◌+◌, ◌-◌, ◌<◌, ◌≤◌, List, [], ◌∷◌, ◌++◌, length, take, drop, Option, Some, None, refl, sym, ap, ◌∙◌, subst, arith, get_or, inl, inr, eqb}
+use Rattle.std.specs.Prelude.{slice_get, slice_index_or, slice_set, ◌≢◌, ◌⊎◌, ◌==◌, Bool, true, false, IfSome, nat_lt}
+use Rattle.std.specs.Borrow.{Bor}
+use Rattle.std.specs.Option.{option_eq, option_copied, is_some}
+use Rattle.std.proofs.lemmas.Bool.{eqb-true, eq-eqb, ltb-true, ltb-false}
 use Rattle.std.proofs.lemmas.Bool.Decides.{eqb_tells}
-use Rattle.std.proofs.lemmas.List.{get_or-set_same, get_or-set_other, length-set, drop-drop, length-drop}
-use Rattle.std.proofs.lemmas.Option.{slice_get-get_or}
+use Rattle.std.proofs.Math.ListN.{drop_of_length-le}
+use Rattle.std.proofs.lemmas.List.{get_or-set_same, get_or-set_other, length-set, drop-drop, length-drop, take_all, append-nil}
+use Rattle.std.proofs.lemmas.Option.{slice_get-get_or, slice_get_past, slice_get_read}
 use Rattle.sift_code.specs.declared.instr.Instr.{Instr}
 use Rattle.sift_code.specs.declared.instr.Instr.TheVariants.{Begin, End}
 use Rattle.sift_code.specs.Machine.{through_end, one_more}
@@ -24,6 +26,12 @@ entry_set entry table k p v inside is others = by (eqb_tells p k)
     by : ((p == k) ≡ true) × (p ≡ k) ⊎ (((p == k) ≡ false) × (p ≢ k)) → slice_index_or (slice_set table k v) p None ≡ entry p
     by (inl e) = rw e.1 (get_or-set_same table k v None inside ∙ is)
     by (inr d) = get_or-set_other table k p v None d.1 ∙ others d.1
+
+-- a vector whose elements were all written
+pub all_written : {A : Type 0} (items written : List A) (len : ℕ) → length items ≡ len → length written ≡ length items → take len (written ++ drop (length written) items) ≡ written
+all_written items written len is long =
+    let none : drop (length written) items ≡ [] = drop_of_length-le items (omega arith) in
+    ap (λ rest. take len (written ++ rest)) none ∙ (ap (take len) (append-nil written) ∙ take_all len written (omega arith))
 
 -- the entries from a place on, and no others
 abbrev pub TellsFrom : (ℕ → Option ℕ) → ℕ → ℕ → List (Option ℕ) → Type 0
@@ -76,6 +84,12 @@ read_instr code k i within is = slice_get-get_or code k i within ∙ ap Some (sy
 -- the instruction that was read of items which are the code is the one at that place of the code
 pub read_item : (items code : List Instr) (k : ℕ) (i : Instr) → items ≡ code → k < length items → i ≡ slice_index_or items k i → slice_get code k ≡ Some i
 read_item items code k i same within is = subst (λ l. slice_get l k ≡ Some i) same (read_instr items k i within is)
+
+-- an element that was looked up and copied is the one at that place, and none past the end
+pub copied_get : (items : List Instr) (k : ℕ) (o : Option (Bor Instr)) → is_some o ≡ nat_lt k (length items)
+    → IfSome o (λ i. i.now ≡ slice_index_or items k i.now) → option_copied o ≡ slice_get items k
+copied_get items k None there read = sym (slice_get_past items k (ltb-false _ _ (sym there)))
+copied_get items k (Some i) there read = sym (slice_get_read items (length items) k i.now refl (ltb-true _ _ (sym there)) read)
 
 -- ---- pasts
 
@@ -141,16 +155,19 @@ through_none (Begin k ∷ rest) (y ∷ inner) outer x e = ap one_more (through_n
 through_none (i ∷ rest) [] outer x e = ap one_more (through_none rest [] outer x (one_more_none (through_end (length {A = ℕ} []) rest) e))
 through_none (i ∷ rest) (y ∷ inner) outer x e = ap one_more (through_none rest (y ∷ inner) outer x (one_more_none (through_end (length (y ∷ inner)) rest) e))
 
+one_longer : (n m : ℕ) (rest : List Instr) → n ≡ suc m → m ≤ length rest → n ≤ suc (length rest)
+one_longer n m rest more le = omega arith
+
 through_within : (rest : List Instr) (inner : List ℕ) (n : ℕ) → through_end (length inner) rest ≡ Some n → n ≤ length rest
 through_within [] [] n e = cc
 through_within [] (y ∷ inner) n e = cc
 through_within (End ∷ rest) [] n e = let one : n ≡ 1 = cc in omega arith
-through_within (End ∷ rest) (y ∷ inner) n e = let more = one_more_some (through_end (length inner) rest) n e in omega (arith, more.2, through_within rest inner more.0 more.1)
-through_within (Begin k ∷ rest) [] n e = let more = one_more_some (through_end (length {A = ℕ} (0 ∷ [])) rest) n e in omega (arith, more.2, through_within rest (0 ∷ []) more.0 more.1)
+through_within (End ∷ rest) (y ∷ inner) n e = let more = one_more_some (through_end (length inner) rest) n e in one_longer n more.0 rest more.2 (through_within rest inner more.0 more.1)
+through_within (Begin k ∷ rest) [] n e = let more = one_more_some (through_end (length {A = ℕ} (0 ∷ [])) rest) n e in one_longer n more.0 rest more.2 (through_within rest (0 ∷ []) more.0 more.1)
 through_within (Begin k ∷ rest) (y ∷ inner) n e = let more = one_more_some (through_end (length {A = ℕ} (0 ∷ y ∷ inner)) rest) n e in
-    omega (arith, more.2, through_within rest (0 ∷ y ∷ inner) more.0 more.1)
-through_within (i ∷ rest) [] n e = let more = one_more_some (through_end (length {A = ℕ} []) rest) n e in omega (arith, more.2, through_within rest [] more.0 more.1)
-through_within (i ∷ rest) (y ∷ inner) n e = let more = one_more_some (through_end (length (y ∷ inner)) rest) n e in omega (arith, more.2, through_within rest (y ∷ inner) more.0 more.1)
+    one_longer n more.0 rest more.2 (through_within rest (0 ∷ y ∷ inner) more.0 more.1)
+through_within (i ∷ rest) [] n e = let more = one_more_some (through_end (length {A = ℕ} []) rest) n e in one_longer n more.0 rest more.2 (through_within rest [] more.0 more.1)
+through_within (i ∷ rest) (y ∷ inner) n e = let more = one_more_some (through_end (length (y ∷ inner)) rest) n e in one_longer n more.0 rest more.2 (through_within rest (y ∷ inner) more.0 more.1)
 
 past_by : (code : List Instr) (p : ℕ) (i : Instr) → slice_get code p ≡ Some i → past_at code p ≡ onward p (through_end 0 (i ∷ drop (p + 1) code))
 past_by code p i at = ap (λ l. onward p (through_end 0 l)) (drop_here code p i at)
@@ -158,6 +175,9 @@ past_by code p i at = ap (λ l. onward p (through_end 0 l)) (drop_here code p i 
 -- at an End it is the next place
 pub past_at-End : (code : List Instr) (p : ℕ) → slice_get code p ≡ Some End → past_at code p ≡ Some (p + 1)
 past_at-End code p at = past_by code p End at
+
+ends_within : (code : List Instr) (p n q : ℕ) → p ≤ length code → p + n ≡ q → n ≤ length (drop p code) → (p ≤ q) × (q ≤ length code)
+ends_within code p n q within same le = (omega arith, omega (arith, length-drop p code))
 
 -- the place behind an End is ahead, in the code or its length
 pub past_within : (code : List Instr) (p q : ℕ) → p ≤ length code → past_at code p ≡ Some q → (p ≤ q) × (q ≤ length code)
@@ -167,7 +187,7 @@ past_within code p q within e = by (through_end 0 (drop p code)) refl
     by None is = let bad = sym (ap (onward p) is) ∙ e in cc
     by (Some n) is =
         let same : p + n ≡ q = (let f = sym (ap (onward p) is) ∙ e in cc) in
-        (omega arith, omega (arith, through_within (drop p code) [] n is, length-drop p code))
+        ends_within code p n q within same (through_within (drop p code) [] n is)
 
 -- at a Begin with a match it is that of the place behind its End
 pub past_at-Begin : (code : List Instr) (p k q : ℕ) → slice_get code p ≡ Some (Begin k) → past_at code (p + 1) ≡ Some q → past_at code p ≡ past_at code q

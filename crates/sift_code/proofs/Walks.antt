@@ -6,6 +6,9 @@ use Rattle.std.proofs.lemmas.Bool.Decides.{eqb_tells}
 use Rattle.std.proofs.lemmas.List.Elements.{All-head, All-tail, All-cons, All-nil}
 use Rattle.std.proofs.lemmas.Option.{slice_get-get_or}
 use Rattle.sift_code.specs.declared.walk.Brought.{Brought}
+use Rattle.sift_code.specs.declared.instr.Instr.{Instr}
+use Rattle.sift_code.specs.Heights.{height_at, heights_brought}
+use Rattle.sift_code.specs.Refusal.{IsUnequal, IsUnequalEnd}
 use Rattle.sift_code.specs.Walk.{joined, summary}
 
 -- what a summary says of the heights
@@ -92,3 +95,22 @@ agrees hs b x v e alike is = by (eqb_tells b.height v)
     by : ((b.height == v) ≡ true) × (b.height ≡ v) ⊎ (((b.height == v) ≡ false) × (b.height ≢ v)) → Meets (not (b.height == v)) hs x
     by (inl same) = (λ t all. absurd (grind (arith, same.0, t)), λ differ. absurd (differ (agree_with hs b x e (grind arith) (same.1 ∙ is))))
     by (inr d) = (λ t all. differ_from hs b x e (inr (λ f. d.1 (f ∙ sym is))) all, λ differ. ap not d.0)
+
+-- what a test answers that is false doesn't hold
+pub unset : {P : Type 0} {b : Bool} → b ≡ false → (P → b ≡ true) → P → ⊥
+unset none test p = let yes = test p in cc
+
+-- at the code's length, where no jump brought another height and no round ends with one, a height other than 0 is the answer
+pub unequal_at_end : (code : List Instr) (p v : ℕ) → v ≡ height_at code p → p ≡ length code
+    → ((All (λ height. height ≡ height_at code p) (heights_brought code p) → ⊥) → ⊥) → (IsUnequalEnd code p (slice_get code p) → ⊥)
+    → (not (v == 0) ≡ true → IsUnequal code p) × (IsUnequal code p → not (v == 0) ≡ true)
+unequal_at_end code p v high end same round = by (eqb_tells v 0)
+  where
+    none : v ≡ 0 → IsUnequal code p → ⊥
+    none e (inl differ) = same differ
+    none e (inr (inl ends)) = round ends
+    none e (inr (inr last)) = last.1 (sym high ∙ e)
+
+    by : ((v == 0) ≡ true) × (v ≡ 0) ⊎ (((v == 0) ≡ false) × (v ≢ 0)) → (not (v == 0) ≡ true → IsUnequal code p) × (IsUnequal code p → not (v == 0) ≡ true)
+    by (inl e) = (λ t. absurd (let f = ap not e.0 in cc), λ unequal. absurd (none e.1 unequal))
+    by (inr d) = (λ t. inr (inr (end, λ zero. d.1 (high ∙ zero))), λ unequal. ap not d.0)

@@ -57,3 +57,6 @@ pub returns : goal.returns
 returns c =
     let same = ap length c.code-instr-items.ensures.same in
     c.loop-instr.invariant.0 ∙ ap kept (bound_whole c.args.nest.now c.loop-instr.instr-index (omega arith))
+
+pub offset_bounds-instr-items-instr-index : goal.offset_bounds-instr-items-instr-index
+offset_bounds-instr-items-instr-index c = grind arith

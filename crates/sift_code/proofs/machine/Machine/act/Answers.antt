@@ -3,7 +3,7 @@ use Rattle.std.proofs.lemmas.Grind.{common_steps}
 use Rattle.sift_code.specs.declared.instr.Instr.TheVariants.{Add, Sub, Mul, Div, Rem, And, Or, Xor, Shl, Shr, Lt, Eq}
 use Rattle.sift_code.proofs.Sound.{braced, uncrowded}
 use Rattle.sift_code.proofs.Places.{locals_of-get, refill-set}
-use Rattle.sift_code.proofs.Standing.{fetched, heights, operand}
+use Rattle.sift_code.proofs.Standing.{fetched, heights, inside, operand}
 use Rattle.sift_code.proofs.Operators.{combining}
 use Rattle.sift_code.proofs.Steps.{pushes_word, combines, middles, stores, puts_out}
 use Rattle.sift_code.proofs.Turns.{enclosing_few, jumps, jumps_at_zero, begins, started, ends}
@@ -21,163 +21,131 @@ load-requires-clause-inside c =
 -- there is enough on the stack
 pub store-requires-clause-filled : goal.store-requires-clause-filled
 store-requires-clause-filled c =
-    let f = fetched c.requires.room c.requires.stands c.nest-nest.ensures.sound c.requires.instr c.in-Store.is in
-    let h = heights f in omega (arith, h.0)
+    (heights (fetched c.requires.room c.requires.stands c.nest-nest.ensures.sound c.requires.instr c.in-Store.is)).0
 
 pub store-requires-clause-inside : goal.store-requires-clause-inside
 store-requires-clause-inside c =
-    let f = fetched c.requires.room c.requires.stands c.nest-nest.ensures.sound c.requires.instr c.in-Store.is in
-    let h = heights f in omega (arith, h.1)
+    inside (fetched c.requires.room c.requires.stands c.nest-nest.ensures.sound c.requires.instr c.in-Store.is)
 
 pub pop-word-requires-clause-filled : goal.pop-word-requires-clause-filled
 pop-word-requires-clause-filled c =
-    let f = fetched c.requires.room c.requires.stands c.nest-nest.ensures.sound c.requires.instr c.in-Out.is in
-    let h = heights f in omega (arith, h.0)
+    (heights (fetched c.requires.room c.requires.stands c.nest-nest.ensures.sound c.requires.instr c.in-Out.is)).0
 
 pub pop-word-requires-clause-inside : goal.pop-word-requires-clause-inside
 pop-word-requires-clause-inside c =
-    let f = fetched c.requires.room c.requires.stands c.nest-nest.ensures.sound c.requires.instr c.in-Out.is in
-    let h = heights f in omega (arith, h.1)
+    inside (fetched c.requires.room c.requires.stands c.nest-nest.ensures.sound c.requires.instr c.in-Out.is)
 
 pub middle-requires-clause-filled : goal.middle-requires-clause-filled
 middle-requires-clause-filled c =
-    let f = fetched c.requires.room c.requires.stands c.nest-nest.ensures.sound c.requires.instr c.in-Mid.is in
-    let h = heights f in omega (arith, h.0)
+    (heights (fetched c.requires.room c.requires.stands c.nest-nest.ensures.sound c.requires.instr c.in-Mid.is)).0
 
 pub middle-requires-clause-inside : goal.middle-requires-clause-inside
 middle-requires-clause-inside c =
-    let f = fetched c.requires.room c.requires.stands c.nest-nest.ensures.sound c.requires.instr c.in-Mid.is in
-    let h = heights f in omega (arith, h.1)
+    inside (fetched c.requires.room c.requires.stands c.nest-nest.ensures.sound c.requires.instr c.in-Mid.is)
 
 pub pop-word-requires-in-JumpZ-clause-filled : goal.pop-word-requires-in-JumpZ-clause-filled
 pop-word-requires-in-JumpZ-clause-filled c =
-    let f = fetched c.requires.room c.requires.stands c.nest-nest.ensures.sound c.requires.instr c.in-JumpZ.is in
-    let h = heights f in omega (arith, h.0)
+    (heights (fetched c.requires.room c.requires.stands c.nest-nest.ensures.sound c.requires.instr c.in-JumpZ.is)).0
 
 pub pop-word-requires-in-JumpZ-clause-inside : goal.pop-word-requires-in-JumpZ-clause-inside
 pop-word-requires-in-JumpZ-clause-inside c =
-    let f = fetched c.requires.room c.requires.stands c.nest-nest.ensures.sound c.requires.instr c.in-JumpZ.is in
-    let h = heights f in omega (arith, h.1)
+    inside (fetched c.requires.room c.requires.stands c.nest-nest.ensures.sound c.requires.instr c.in-JumpZ.is)
 
 pub combine-requires-clause-filled : goal.combine-requires-clause-filled
 combine-requires-clause-filled c =
-    let f = fetched c.requires.room c.requires.stands c.nest-nest.ensures.sound c.requires.instr c.in-Add.is in
-    let h = heights f in omega (arith, h.0)
+    (heights (fetched c.requires.room c.requires.stands c.nest-nest.ensures.sound c.requires.instr c.in-Add.is)).0
 
 pub combine-requires-clause-inside : goal.combine-requires-clause-inside
 combine-requires-clause-inside c =
-    let f = fetched c.requires.room c.requires.stands c.nest-nest.ensures.sound c.requires.instr c.in-Add.is in
-    let h = heights f in omega (arith, h.1)
+    inside (fetched c.requires.room c.requires.stands c.nest-nest.ensures.sound c.requires.instr c.in-Add.is)
 
 pub combine-requires-in-Sub-clause-filled : goal.combine-requires-in-Sub-clause-filled
 combine-requires-in-Sub-clause-filled c =
-    let f = fetched c.requires.room c.requires.stands c.nest-nest.ensures.sound c.requires.instr c.in-Sub.is in
-    let h = heights f in omega (arith, h.0)
+    (heights (fetched c.requires.room c.requires.stands c.nest-nest.ensures.sound c.requires.instr c.in-Sub.is)).0
 
 pub combine-requires-in-Sub-clause-inside : goal.combine-requires-in-Sub-clause-inside
 combine-requires-in-Sub-clause-inside c =
-    let f = fetched c.requires.room c.requires.stands c.nest-nest.ensures.sound c.requires.instr c.in-Sub.is in
-    let h = heights f in omega (arith, h.1)
+    inside (fetched c.requires.room c.requires.stands c.nest-nest.ensures.sound c.requires.instr c.in-Sub.is)
 
 pub combine-requires-in-Mul-clause-filled : goal.combine-requires-in-Mul-clause-filled
 combine-requires-in-Mul-clause-filled c =
-    let f = fetched c.requires.room c.requires.stands c.nest-nest.ensures.sound c.requires.instr c.in-Mul.is in
-    let h = heights f in omega (arith, h.0)
+    (heights (fetched c.requires.room c.requires.stands c.nest-nest.ensures.sound c.requires.instr c.in-Mul.is)).0
 
 pub combine-requires-in-Mul-clause-inside : goal.combine-requires-in-Mul-clause-inside
 combine-requires-in-Mul-clause-inside c =
-    let f = fetched c.requires.room c.requires.stands c.nest-nest.ensures.sound c.requires.instr c.in-Mul.is in
-    let h = heights f in omega (arith, h.1)
+    inside (fetched c.requires.room c.requires.stands c.nest-nest.ensures.sound c.requires.instr c.in-Mul.is)
 
 pub combine-requires-in-Div-clause-filled : goal.combine-requires-in-Div-clause-filled
 combine-requires-in-Div-clause-filled c =
-    let f = fetched c.requires.room c.requires.stands c.nest-nest.ensures.sound c.requires.instr c.in-Div.is in
-    let h = heights f in omega (arith, h.0)
+    (heights (fetched c.requires.room c.requires.stands c.nest-nest.ensures.sound c.requires.instr c.in-Div.is)).0
 
 pub combine-requires-in-Div-clause-inside : goal.combine-requires-in-Div-clause-inside
 combine-requires-in-Div-clause-inside c =
-    let f = fetched c.requires.room c.requires.stands c.nest-nest.ensures.sound c.requires.instr c.in-Div.is in
-    let h = heights f in omega (arith, h.1)
+    inside (fetched c.requires.room c.requires.stands c.nest-nest.ensures.sound c.requires.instr c.in-Div.is)
 
 pub combine-requires-in-Rem-clause-filled : goal.combine-requires-in-Rem-clause-filled
 combine-requires-in-Rem-clause-filled c =
-    let f = fetched c.requires.room c.requires.stands c.nest-nest.ensures.sound c.requires.instr c.in-Rem.is in
-    let h = heights f in omega (arith, h.0)
+    (heights (fetched c.requires.room c.requires.stands c.nest-nest.ensures.sound c.requires.instr c.in-Rem.is)).0
 
 pub combine-requires-in-Rem-clause-inside : goal.combine-requires-in-Rem-clause-inside
 combine-requires-in-Rem-clause-inside c =
-    let f = fetched c.requires.room c.requires.stands c.nest-nest.ensures.sound c.requires.instr c.in-Rem.is in
-    let h = heights f in omega (arith, h.1)
+    inside (fetched c.requires.room c.requires.stands c.nest-nest.ensures.sound c.requires.instr c.in-Rem.is)
 
 pub combine-requires-in-And-clause-filled : goal.combine-requires-in-And-clause-filled
 combine-requires-in-And-clause-filled c =
-    let f = fetched c.requires.room c.requires.stands c.nest-nest.ensures.sound c.requires.instr c.in-And.is in
-    let h = heights f in omega (arith, h.0)
+    (heights (fetched c.requires.room c.requires.stands c.nest-nest.ensures.sound c.requires.instr c.in-And.is)).0
 
 pub combine-requires-in-And-clause-inside : goal.combine-requires-in-And-clause-inside
 combine-requires-in-And-clause-inside c =
-    let f = fetched c.requires.room c.requires.stands c.nest-nest.ensures.sound c.requires.instr c.in-And.is in
-    let h = heights f in omega (arith, h.1)
+    inside (fetched c.requires.room c.requires.stands c.nest-nest.ensures.sound c.requires.instr c.in-And.is)
 
 pub combine-requires-in-Or-clause-filled : goal.combine-requires-in-Or-clause-filled
 combine-requires-in-Or-clause-filled c =
-    let f = fetched c.requires.room c.requires.stands c.nest-nest.ensures.sound c.requires.instr c.in-Or.is in
-    let h = heights f in omega (arith, h.0)
+    (heights (fetched c.requires.room c.requires.stands c.nest-nest.ensures.sound c.requires.instr c.in-Or.is)).0
 
 pub combine-requires-in-Or-clause-inside : goal.combine-requires-in-Or-clause-inside
 combine-requires-in-Or-clause-inside c =
-    let f = fetched c.requires.room c.requires.stands c.nest-nest.ensures.sound c.requires.instr c.in-Or.is in
-    let h = heights f in omega (arith, h.1)
+    inside (fetched c.requires.room c.requires.stands c.nest-nest.ensures.sound c.requires.instr c.in-Or.is)
 
 pub combine-requires-in-Xor-clause-filled : goal.combine-requires-in-Xor-clause-filled
 combine-requires-in-Xor-clause-filled c =
-    let f = fetched c.requires.room c.requires.stands c.nest-nest.ensures.sound c.requires.instr c.in-Xor.is in
-    let h = heights f in omega (arith, h.0)
+    (heights (fetched c.requires.room c.requires.stands c.nest-nest.ensures.sound c.requires.instr c.in-Xor.is)).0
 
 pub combine-requires-in-Xor-clause-inside : goal.combine-requires-in-Xor-clause-inside
 combine-requires-in-Xor-clause-inside c =
-    let f = fetched c.requires.room c.requires.stands c.nest-nest.ensures.sound c.requires.instr c.in-Xor.is in
-    let h = heights f in omega (arith, h.1)
+    inside (fetched c.requires.room c.requires.stands c.nest-nest.ensures.sound c.requires.instr c.in-Xor.is)
 
 pub combine-requires-in-Shl-clause-filled : goal.combine-requires-in-Shl-clause-filled
 combine-requires-in-Shl-clause-filled c =
-    let f = fetched c.requires.room c.requires.stands c.nest-nest.ensures.sound c.requires.instr c.in-Shl.is in
-    let h = heights f in omega (arith, h.0)
+    (heights (fetched c.requires.room c.requires.stands c.nest-nest.ensures.sound c.requires.instr c.in-Shl.is)).0
 
 pub combine-requires-in-Shl-clause-inside : goal.combine-requires-in-Shl-clause-inside
 combine-requires-in-Shl-clause-inside c =
-    let f = fetched c.requires.room c.requires.stands c.nest-nest.ensures.sound c.requires.instr c.in-Shl.is in
-    let h = heights f in omega (arith, h.1)
+    inside (fetched c.requires.room c.requires.stands c.nest-nest.ensures.sound c.requires.instr c.in-Shl.is)
 
 pub combine-requires-in-Shr-clause-filled : goal.combine-requires-in-Shr-clause-filled
 combine-requires-in-Shr-clause-filled c =
-    let f = fetched c.requires.room c.requires.stands c.nest-nest.ensures.sound c.requires.instr c.in-Shr.is in
-    let h = heights f in omega (arith, h.0)
+    (heights (fetched c.requires.room c.requires.stands c.nest-nest.ensures.sound c.requires.instr c.in-Shr.is)).0
 
 pub combine-requires-in-Shr-clause-inside : goal.combine-requires-in-Shr-clause-inside
 combine-requires-in-Shr-clause-inside c =
-    let f = fetched c.requires.room c.requires.stands c.nest-nest.ensures.sound c.requires.instr c.in-Shr.is in
-    let h = heights f in omega (arith, h.1)
+    inside (fetched c.requires.room c.requires.stands c.nest-nest.ensures.sound c.requires.instr c.in-Shr.is)
 
 pub combine-requires-in-Lt-clause-filled : goal.combine-requires-in-Lt-clause-filled
 combine-requires-in-Lt-clause-filled c =
-    let f = fetched c.requires.room c.requires.stands c.nest-nest.ensures.sound c.requires.instr c.in-Lt.is in
-    let h = heights f in omega (arith, h.0)
+    (heights (fetched c.requires.room c.requires.stands c.nest-nest.ensures.sound c.requires.instr c.in-Lt.is)).0
 
 pub combine-requires-in-Lt-clause-inside : goal.combine-requires-in-Lt-clause-inside
 combine-requires-in-Lt-clause-inside c =
-    let f = fetched c.requires.room c.requires.stands c.nest-nest.ensures.sound c.requires.instr c.in-Lt.is in
-    let h = heights f in omega (arith, h.1)
+    inside (fetched c.requires.room c.requires.stands c.nest-nest.ensures.sound c.requires.instr c.in-Lt.is)
 
 pub combine-requires-in-Eq-clause-filled : goal.combine-requires-in-Eq-clause-filled
 combine-requires-in-Eq-clause-filled c =
-    let f = fetched c.requires.room c.requires.stands c.nest-nest.ensures.sound c.requires.instr c.in-Eq.is in
-    let h = heights f in omega (arith, h.0)
+    (heights (fetched c.requires.room c.requires.stands c.nest-nest.ensures.sound c.requires.instr c.in-Eq.is)).0
 
 pub combine-requires-in-Eq-clause-inside : goal.combine-requires-in-Eq-clause-inside
 combine-requires-in-Eq-clause-inside c =
-    let f = fetched c.requires.room c.requires.stands c.nest-nest.ensures.sound c.requires.instr c.in-Eq.is in
-    let h = heights f in omega (arith, h.1)
+    inside (fetched c.requires.room c.requires.stands c.nest-nest.ensures.sound c.requires.instr c.in-Eq.is)
 
 pub load-requires-clause-named : goal.load-requires-clause-named
 load-requires-clause-named c =
@@ -342,3 +310,108 @@ begin-requires-clause-inside c = grind (arith, common_steps)
 
 pub end_round-requires-clause-open : goal.end_round-requires-clause-open
 end_round-requires-clause-open c = grind (arith, common_steps)
+
+pub combine-requires-in-Lt-clause-room : goal.combine-requires-in-Lt-clause-room
+combine-requires-in-Lt-clause-room c = c.requires.room
+
+pub combine-requires-in-Xor-clause-callable : goal.combine-requires-in-Xor-clause-callable
+combine-requires-in-Xor-clause-callable c = grind arith
+
+pub unreachable-requires : goal.unreachable-requires
+unreachable-requires c = grind arith
+
+pub combine-requires-in-Div-clause-callable : goal.combine-requires-in-Div-clause-callable
+combine-requires-in-Div-clause-callable c = grind arith
+
+pub combine-requires-in-Mul-clause-callable : goal.combine-requires-in-Mul-clause-callable
+combine-requires-in-Mul-clause-callable c = grind arith
+
+pub end_round-requires-clause-room : goal.end_round-requires-clause-room
+end_round-requires-clause-room c = c.requires.room
+
+pub combine-requires-in-Eq-clause-callable : goal.combine-requires-in-Eq-clause-callable
+combine-requires-in-Eq-clause-callable c = grind arith
+
+pub combine-requires-in-And-clause-callable : goal.combine-requires-in-And-clause-callable
+combine-requires-in-And-clause-callable c = grind arith
+
+pub combine-requires-in-Rem-clause-room : goal.combine-requires-in-Rem-clause-room
+combine-requires-in-Rem-clause-room c = c.requires.room
+
+pub combine-requires-in-Sub-clause-room : goal.combine-requires-in-Sub-clause-room
+combine-requires-in-Sub-clause-room c = c.requires.room
+
+pub middle-requires-clause-room : goal.middle-requires-clause-room
+middle-requires-clause-room c = c.requires.room
+
+pub combine-requires-in-Sub-clause-callable : goal.combine-requires-in-Sub-clause-callable
+combine-requires-in-Sub-clause-callable c = grind arith
+
+pub load-requires-clause-room : goal.load-requires-clause-room
+load-requires-clause-room c = c.requires.room
+
+pub combine-requires-in-Lt-clause-callable : goal.combine-requires-in-Lt-clause-callable
+combine-requires-in-Lt-clause-callable c = grind arith
+
+pub begin-requires-clause-room : goal.begin-requires-clause-room
+begin-requires-clause-room c = c.requires.room
+
+pub combine-requires-in-Shr-clause-callable : goal.combine-requires-in-Shr-clause-callable
+combine-requires-in-Shr-clause-callable c = grind arith
+
+pub start-requires : goal.start-requires
+start-requires c = grind arith
+
+pub combine-requires-in-Shr-clause-room : goal.combine-requires-in-Shr-clause-room
+combine-requires-in-Shr-clause-room c = c.requires.room
+
+pub store-requires-clause-room : goal.store-requires-clause-room
+store-requires-clause-room c = c.requires.room
+
+pub combine-requires-in-Or-clause-callable : goal.combine-requires-in-Or-clause-callable
+combine-requires-in-Or-clause-callable c = grind arith
+
+pub combine-requires-in-Eq-clause-room : goal.combine-requires-in-Eq-clause-room
+combine-requires-in-Eq-clause-room c = c.requires.room
+
+pub combine-requires-in-Shl-clause-callable : goal.combine-requires-in-Shl-clause-callable
+combine-requires-in-Shl-clause-callable c = grind arith
+
+pub combine-requires-in-Or-clause-room : goal.combine-requires-in-Or-clause-room
+combine-requires-in-Or-clause-room c = c.requires.room
+
+pub combine-requires-in-Rem-clause-callable : goal.combine-requires-in-Rem-clause-callable
+combine-requires-in-Rem-clause-callable c = grind arith
+
+pub combine-requires-in-Mul-clause-room : goal.combine-requires-in-Mul-clause-room
+combine-requires-in-Mul-clause-room c = c.requires.room
+
+pub combine-requires-in-Div-clause-room : goal.combine-requires-in-Div-clause-room
+combine-requires-in-Div-clause-room c = c.requires.room
+
+pub combine-requires-clause-room : goal.combine-requires-clause-room
+combine-requires-clause-room c = c.requires.room
+
+pub combine-requires-clause-callable : goal.combine-requires-clause-callable
+combine-requires-clause-callable c = grind arith
+
+pub combine-requires-in-Xor-clause-room : goal.combine-requires-in-Xor-clause-room
+combine-requires-in-Xor-clause-room c = c.requires.room
+
+pub combine-requires-in-And-clause-room : goal.combine-requires-in-And-clause-room
+combine-requires-in-And-clause-room c = c.requires.room
+
+pub pop-word-requires-in-JumpZ-clause-room : goal.pop-word-requires-in-JumpZ-clause-room
+pop-word-requires-in-JumpZ-clause-room c = c.requires.room
+
+pub combine-requires-in-Shl-clause-room : goal.combine-requires-in-Shl-clause-room
+combine-requires-in-Shl-clause-room c = c.requires.room
+
+pub pop-word-requires-clause-room : goal.pop-word-requires-clause-room
+pop-word-requires-clause-room c = c.requires.room
+
+pub offset_bounds-deref_mut-output : goal.offset_bounds-deref_mut-output
+offset_bounds-deref_mut-output c = grind arith
+
+pub overflow_cast-start : goal.overflow_cast-start
+overflow_cast-start c = grind arith

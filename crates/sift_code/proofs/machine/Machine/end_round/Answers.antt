@@ -16,3 +16,21 @@ returns-then-left-gt1 c =
     let left : ℕ = slice_index c.args.words.now (LEFTS_AT + c.args.self.now.depth - 1) in
     let one : left ≡ c.of.result + 1 = omega (arith, c.read.ensures, c.get-left.ensures, c.of.ensures, c.if-left-gt1.true) in
     record { ended = next_round left c.of.result c.args.start c.args.self.now _ _ one (omega (arith, c.of.ensures, c.if-left-gt1.true)) c.write.ensures }
+
+pub write-requires : goal.write-requires
+write-requires c = omega arith
+
+pub returns-else-left-gt1 : goal.returns-else-left-gt1
+returns-else-left-gt1 c = grind arith
+
+pub overflow_sub-at : goal.overflow_sub-at
+overflow_sub-at c = omega arith
+
+pub read-requires : goal.read-requires
+read-requires c = omega arith
+
+pub overflow_sub-self : goal.overflow_sub-self
+overflow_sub-self c = grind arith
+
+pub overflow_add-at : goal.overflow_add-at
+overflow_add-at c = grind arith

@@ -1,4 +1,5 @@
 use Rattle.std.proofs.Common.{◌≡◌, length, refl, sym, ap, ◌∙◌, arith}
+use Rattle.std.proofs.lemmas.Grind.{common_steps}
 use Rattle.std.specs.Prelude.{slice_index}
 use Rattle.std.proofs.lemmas.List.{get_or-map, get_or_read_under}
 use Rattle.sift_code.specs.Sources.{words_at}
@@ -20,3 +21,6 @@ returns c =
       own = λ none. omega (arith, c.of.ensures, c.get-own.ensures, c.get-own.type_inv, there, none);
       there = λ none. omega (arith, c.of.ensures, c.get-own.ensures, c.get-there.type_inv, there, none);
     }
+
+pub bounds-list-self : goal.bounds-list-self
+bounds-list-self c = grind (arith, common_steps)

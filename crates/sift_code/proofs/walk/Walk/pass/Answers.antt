@@ -1,8 +1,10 @@
-use Rattle.std.proofs.Common.{◌+◌, ◌-◌, ◌∙◌, sym, ap, length, refl, subst, inl, inr}
+use Rattle.std.proofs.Common.{◌+◌, ◌-◌, ◌∙◌, sym, ap, length, refl, subst, inl, inr, arith}
+use Rattle.std.proofs.lemmas.Grind.{common_steps}
 use Rattle.std.specs.Prelude.{Some}
 use Rattle.sift_code.specs.Heights.{brought_by, trail_at}
 use Rattle.sift_code.specs.Walk.{AreBrought}
-use Rattle.sift_code.proofs.Passing.{passed, brought_by_jump, deeper, shallower, as_deep, brings_nothing, jump_brings, jump_may_be_bad, jump_depth}
+use Rattle.sift_code.proofs.Passing.{passed, brought_by_jump, deeper, shallower, as_deep, brings_nothing, jump_brings, jump_may_be_bad, jump_depth, high_enough, low_enough}
+use Rattle.std.proofs.lemmas.Option.{slice_get_within}
 use Rattle.sift_code.proofs.walk.Walk.pass.Goals as goal
 
 -- a JumpZ brings the height after it
@@ -59,3 +61,49 @@ returns-in_default c =
     (sym (brings_nothing c.args.instr (trail_at c.args.nest.now c.args.at) c.in_default.not-JumpZ c.in_default.not-Jump))
     c.requires.here.brought)
     (c.requires.here.depth ∙ sym (as_deep c.args.nest.now c.args.at c.args.instr c.requires.read (c.in_default.not-Begin, c.in_default.not-End))) c.max-self.ensures
+
+pub overflow_cast-to-in-Jump : goal.overflow_cast-to-in-Jump
+overflow_cast-to-in-Jump c = grind arith
+
+pub bring-requires : goal.bring-requires
+bring-requires c = grind arith
+
+pub bring-requires-in-Jump : goal.bring-requires-in-Jump
+bring-requires-in-Jump c = grind arith
+
+pub overflow_add-self : goal.overflow_add-self
+overflow_add-self c = grind arith
+
+pub overflow_cast-to : goal.overflow_cast-to
+overflow_cast-to c = grind arith
+
+pub overflow_sub-self : goal.overflow_sub-self
+overflow_sub-self c = grind (arith, common_steps)
+
+pub overflow_sub-left : goal.overflow_sub-left
+overflow_sub-left c =
+    high_enough c.args.nest.now c.args.at c.args.instr c.args.self.now c.index.result.now c.pops.result c.requires.read c.requires.here c.index.ensures c.pops.ensures
+    c.requires.filled
+
+pub index-requires : goal.index-requires
+index-requires c = omega (arith, slice_get_within c.args.nest.now c.args.at c.args.instr c.requires.read, c.requires.here.long, c.args.self.now.heights.ok.0)
+
+pub index_mut-requires : goal.index_mut-requires
+index_mut-requires c = omega (arith, slice_get_within c.args.nest.now c.args.at c.args.instr c.requires.read, c.requires.here.long, c.args.self.now.heights.ok.0)
+
+pub index-requires-2 : goal.index-requires-2
+index-requires-2 c = omega (arith, slice_get_within c.args.nest.now c.args.at c.args.instr c.requires.read, c.requires.here.brought.long, c.args.self.now.brought.ok.0)
+
+pub overflow_add-at : goal.overflow_add-at
+overflow_add-at c = omega (arith, slice_get_within c.args.nest.now c.args.at c.args.instr c.requires.read, c.requires.short)
+
+pub overflow_add-at-2 : goal.overflow_add-at-2
+overflow_add-at-2 c = omega (arith, slice_get_within c.args.nest.now c.args.at c.args.instr c.requires.read, c.requires.short)
+
+pub overflow_add-after : goal.overflow_add-after
+overflow_add-after c =
+    omega (
+      arith,
+      low_enough c.args.nest.now c.args.at c.args.instr c.args.self.now c.index.result.now c.pops.result c.pushes.result c.requires.read c.requires.here
+          c.index.ensures c.pops.ensures c.pushes.ensures c.requires.shallow,
+    )
