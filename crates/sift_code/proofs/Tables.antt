@@ -163,11 +163,13 @@ through_within [] [] n e = cc
 through_within [] (y ∷ inner) n e = cc
 through_within (End ∷ rest) [] n e = let one : n ≡ 1 = cc in omega arith
 through_within (End ∷ rest) (y ∷ inner) n e = let more = one_more_some (through_end (length inner) rest) n e in one_longer n more.0 rest more.2 (through_within rest inner more.0 more.1)
-through_within (Begin k ∷ rest) [] n e = let more = one_more_some (through_end (length {A = ℕ} (0 ∷ [])) rest) n e in one_longer n more.0 rest more.2 (through_within rest (0 ∷ []) more.0 more.1)
+through_within (Begin k ∷ rest) [] n e = let more = one_more_some (through_end (length {A = ℕ} (0 ∷ [])) rest) n e in
+    one_longer n more.0 rest more.2 (through_within rest (0 ∷ []) more.0 more.1)
 through_within (Begin k ∷ rest) (y ∷ inner) n e = let more = one_more_some (through_end (length {A = ℕ} (0 ∷ y ∷ inner)) rest) n e in
     one_longer n more.0 rest more.2 (through_within rest (0 ∷ y ∷ inner) more.0 more.1)
 through_within (i ∷ rest) [] n e = let more = one_more_some (through_end (length {A = ℕ} []) rest) n e in one_longer n more.0 rest more.2 (through_within rest [] more.0 more.1)
-through_within (i ∷ rest) (y ∷ inner) n e = let more = one_more_some (through_end (length (y ∷ inner)) rest) n e in one_longer n more.0 rest more.2 (through_within rest (y ∷ inner) more.0 more.1)
+through_within (i ∷ rest) (y ∷ inner) n e = let more = one_more_some (through_end (length (y ∷ inner)) rest) n e in
+    one_longer n more.0 rest more.2 (through_within rest (y ∷ inner) more.0 more.1)
 
 past_by : (code : List Instr) (p : ℕ) (i : Instr) → slice_get code p ≡ Some i → past_at code p ≡ onward p (through_end 0 (i ∷ drop (p + 1) code))
 past_by code p i at = ap (λ l. onward p (through_end 0 l)) (drop_here code p i at)

@@ -10,7 +10,9 @@ pub returns-clause-few : goal.returns-clause-few
 returns-clause-few c = (between_at (3 * c.from.result + 1) 10 (get_member (codes "units") (table_view c.args.document.now)) c.in_ok-units.units (sym c.in_ok-units.ensures)).1
 
 pub overflow_cast-result : goal.overflow_cast-result
-overflow_cast-result c = let few = (between_at (3 * c.from.result + 1) 10 (get_member (codes "units") (table_view c.args.document.now)) c.in_ok-units.units (sym c.in_ok-units.ensures)).1 in omega (arith, few)
+overflow_cast-result c =
+    let few = (between_at (3 * c.from.result + 1) 10 (get_member (codes "units") (table_view c.args.document.now)) c.in_ok-units.units (sym c.in_ok-units.ensures)).1 in
+    omega (arith, few)
 
 pub returns-in_err-units-clause-units : goal.returns-in_err-units-clause-units
 returns-in_err-units-clause-units c = rw c.from_residual.ensures (rw c.from.ensures at c.in_err-units.ensures)

@@ -14,7 +14,8 @@ is_sensed-requires-clause-sensor c =
 
 pub loop-x-preserved : goal.loop-x-preserved
 loop-x-preserved c =
-    below_more (λ x. works_in (data_of c.args.mission.now) (reader_of c.in-Some.config x) c.args.f ≡ true → slice_index c.args.agreed.now x ≡ word_sensed (data_of c.args.mission.now) x c.args.f)
+    let d = data_of c.args.mission.now in
+    below_more (λ x. works_in d (reader_of c.in-Some.config x) c.args.f ≡ true → slice_index c.args.agreed.now x ≡ word_sensed d x c.args.f)
     c.loop-x.x c.loop-x.invariant (c.is_sensed.ensures.0 c.if-not-is_sensed.false)
 
 pub returns-then-not-is_sensed : goal.returns-then-not-is_sensed
