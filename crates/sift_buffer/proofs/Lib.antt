@@ -1,13 +1,15 @@
+pub mod Beside
 pub mod Cells
 pub mod Events
 pub mod Heard
 pub mod Keep
 pub mod LedgerLemmas
-pub mod LoneEvents
 pub mod Moves
 pub mod NewLedgers
+pub mod NewRacks
 pub mod Notes
 pub mod Places
+pub mod RackEvents
 pub mod Rounds
 pub mod Samples
 pub mod Sound

@@ -1,5 +1,5 @@
 -- What a contract sees of a journal: whose it is, and the words that its unit said and heard.
-use Rattle.std.specs.Prelude.{◌≡◌, ℕ, List, Option, None, option_and_then}
+use Rattle.std.specs.Prelude.{◌≡◌, ℕ, List, [], Option, None, option_and_then}
 use Rattle.sift_base.specs.declared.layout.Layout.{Layout}
 use Rattle.sift_buffer.specs.Ranges.{Ranges}
 use Rattle.sift_buffer.specs.Conduct.{Conduct, put_at}
@@ -12,6 +12,10 @@ pub record Pages : Type 0 where
   pub frames : ℕ
   pub said : List (Option ℕ)
   pub heard : List (Option ℕ)
+
+-- an empty journal, which stands for that of a unit that isn't there
+abbrev pub no_pages : Pages
+no_pages = record { layout = record { units = 0; sensors = 0; words = 0 }; unit = 0; frames = 0; said = []; heard = [] }
 
 -- the numbers of units, slots and frames of a journal
 abbrev pub ranges_in : Pages → Ranges

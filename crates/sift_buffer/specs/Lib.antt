@@ -12,5 +12,6 @@ pub mod Ledgers
 pub mod Sizes
 pub mod Views
 pub mod Reaches
-pub mod LonePorts
+pub mod Crews
+pub mod Racks
 pub mod Following

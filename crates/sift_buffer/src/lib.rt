@@ -1,5 +1,5 @@
 //! What units share: cells and progress numbers, what every order of loads and stores keeps of
-//! them, and ports, by which a unit reaches them.
+//! them, and ports, by which a unit reaches them: among these the plain memory of all units.
 #![tactic(auto)]
 
 mod acts;
@@ -8,9 +8,9 @@ mod gate;
 mod grid;
 mod journal;
 mod laws;
-mod lone;
-mod lone_port;
 mod port;
+mod rack;
+mod rack_port;
 
 pub use acts::Acts;
 pub use cell::{pack, take};
@@ -20,5 +20,5 @@ pub use journal::Journal;
 pub use laws::{
     conditions_tell_cores_apart, events_keep_the_core_lawful, fresh_is_lawful, packing_is_taken,
 };
-pub use lone::LonePort;
 pub use port::{Entering, Port};
+pub use rack::Rack;

@@ -8,7 +8,7 @@ use Rattle.sift_base.specs.Units.{has}
 use Rattle.sift_base.specs.declared.layout.Layout.{Layout}
 use Rattle.sift_config.specs.Config.{first_units}
 use Rattle.sift_buffer.specs.Conduct.{Conduct, Hearing, fresh}
-use Rattle.sift_buffer.specs.Journals.{Pages, HasWordsOf}
+use Rattle.sift_buffer.specs.Journals.{Pages, HasWordsOf, no_pages}
 use Rattle.sift_buffer.specs.Tables.{ranges_of}
 use Rattle.sift_buffer.specs.Views.{View}
 use Rattle.sift_mission.specs.Data.{MissionData, FlownMission}
@@ -32,7 +32,7 @@ use Rattle.sift_ether.specs.declared.token.Token.{Token}
 use Rattle.sift_flight.specs.Flight.{config_of, Strays, HasNoStorms, IsRound}
 use Rattle.sift_flight.specs.Homing.{HasComeHome, FlightsThatComeHomeAreRound}
 use Rattle.sift_flight.specs.Landing.{HasPlacesFor, strays_in}
-use Rattle.sift_flight.specs.Told.{told, journal_of, accounts_of, no_pages, no_account, IsLogged}
+use Rattle.sift_flight.specs.Told.{told, journal_of, accounts_of, no_account, IsLogged}
 use Rattle.sift_flight.specs.declared.flight.Flight.{Flight as TheFlight}
 use Rattle.sift_bus.specs.Boarding.{AreBoarded, Boarded, IsBoarded, seat_view}
 use Rattle.sift_bus_port.specs.Buses.{Carriage}

@@ -10,11 +10,11 @@ use Rattle.sift_unit.specs.Keeping.{HasFlown}
 use Rattle.sift_unit.specs.declared.board.Board.{Board}
 use Rattle.sift_flight.specs.Flight.{Strays}
 use Rattle.sift_flight.specs.Landing.{LandedFramesAreRound, LawfulCoresHearLawfully, HasPlacesFor}
-use Rattle.sift_core.specs.Racks.{ranges_for, core_of, view_at}
+use Rattle.sift_buffer.specs.Racks.{ranges_for, core_of, view_at}
 use Rattle.sift_core.specs.Machines.{Flies, IsFlying, HasTurnedIn, board_at, accounts_at}
 use Rattle.sift_core.specs.Ended.{EndedFramesAreRound}
 use Rattle.sift_core.specs.declared.machine.Machine.{Machine}
-use Rattle.sift_core.specs.declared.rack.Rack.{Rack}
+use Rattle.sift_buffer.specs.declared.rack.Rack.{Rack}
 use Rattle.sift_core.proofs.MachineSteps.{unit_below}
 use Rattle.sift_core.proofs.Progress.{flyable}
 use Rattle.sift_core.proofs.lemmas.Stages.{keeps_turned}

@@ -3,7 +3,7 @@ use Rattle.std.proofs.Common.{◌≡◌, ℕ, ◌<◌, List, [], length, map, sl
 use Rattle.std.specs.List.{All}
 use Rattle.std.proofs.lemmas.List.{get_or-map, length-map}
 use Rattle.sift_base.specs.Units.{has}
-use Rattle.sift_buffer.specs.Journals.{Pages, HasWordsOf, IsJournalOf}
+use Rattle.sift_buffer.specs.Journals.{Pages, HasWordsOf, IsJournalOf, no_pages}
 use Rattle.sift_buffer.specs.Ledgers.{Ledger, HasItsWords}
 use Rattle.sift_mission.specs.Data.{FlownMission}
 use Rattle.sift_conduct.specs.Conduct.{Account, account_of}
@@ -14,10 +14,10 @@ use Rattle.sift_unit.specs.Down.{DownLaw, StrayLaw, HasFlownAll}
 use Rattle.sift_unit.specs.declared.board.Board.{Board}
 use Rattle.sift_flight.specs.Flight.{Strays, IsRound}
 use Rattle.sift_flight.specs.Homing.{FlightsThatComeHomeAreRound}
-use Rattle.sift_flight.specs.Told.{told, no_pages, no_account, journal_of, accounts_of, IsLogged}
+use Rattle.sift_flight.specs.Told.{told, no_account, journal_of, accounts_of, IsLogged}
 use Rattle.sift_flight.specs.declared.flight.Flight.{Flight as TheFlight}
-use Rattle.sift_core.specs.Crews.{ledger_at, no_ledger}
-use Rattle.sift_core.specs.Racks.{ranges_for, core_of}
+use Rattle.sift_buffer.specs.Crews.{ledger_at, no_ledger}
+use Rattle.sift_buffer.specs.Racks.{ranges_for, core_of}
 use Rattle.sift_core.specs.Machines.{Flies, IsFlying, board_at, layout_of}
 use Rattle.sift_core.specs.Turns.{AreAllDown}
 use Rattle.sift_core.specs.declared.machine.Machine.{Machine}

@@ -1,14 +1,11 @@
-pub mod Beside
 pub mod EndedFrames
 pub mod Home
 pub mod Least
 pub mod Lists
 pub mod MachineSteps
 pub mod NewMachines
-pub mod NewRacks
 pub mod Others
 pub mod Progress
-pub mod RackEvents
 pub mod Storming
 pub mod StrayEvents
 pub mod Turning

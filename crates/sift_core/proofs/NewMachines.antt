@@ -20,7 +20,7 @@ use Rattle.sift_mission.specs.PartsFit.{PartsFit}
 use Rattle.sift_unit.specs.Boards.{IsNewBoard, NewBoardLaw, IsPortOf}
 use Rattle.sift_unit.specs.declared.board.Board.{Board}
 use Rattle.sift_flight.specs.Flight.{no_strays}
-use Rattle.sift_core.specs.Racks.{IsNewRack, ranges_for, core_of, view_at}
+use Rattle.sift_buffer.specs.Racks.{IsNewRack, ranges_for, core_of, view_at}
 use Rattle.sift_core.specs.Machines.{Flies, AreNewBoards, IsNewMachine}
 use Rattle.sift_core.specs.declared.machine.Machine.{Machine}
 use Rattle.sift_config.proofs.lemmas.FirstUnits.{unit_low, low_unit}

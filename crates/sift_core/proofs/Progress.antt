@@ -16,7 +16,7 @@ use Rattle.sift_unit.specs.declared.board.Board.{Board}
 use Rattle.sift_unit.specs.declared.stepped.Stepped.{Stepped}
 use Rattle.sift_unit.specs.declared.stepped.Stepped.TheVariants.{Moved, NotYet, Turned, Landed}
 use Rattle.sift_flight.specs.Flight.{no_strays}
-use Rattle.sift_core.specs.Racks.{ranges_for, core_of, conduct_at, view_at, Stands}
+use Rattle.sift_buffer.specs.Racks.{ranges_for, core_of, conduct_at, view_at, Stands}
 use Rattle.sift_core.specs.Machines.{IsFlying, HasTurnedIn, board_at, layout_of, progress_at, distances}
 use Rattle.sift_core.specs.Steps.{StepsUnit, IsWaiting}
 use Rattle.sift_core.specs.Turns.{IsAloft, IsLeast}

@@ -21,9 +21,9 @@ use Rattle.sift_flight.specs.declared.flight.Flight.{Flight}
 use Rattle.sift_unit.specs.declared.stepped.Stepped.{Stepped}
 use Rattle.sift_unit.specs.declared.stepped.Stepped.TheVariants.{Moved, NotYet, Turned, Landed}
 use Rattle.sift_buffer.specs.Ledgers.{conduct_in}
-use Rattle.sift_core.specs.Crews.{ledger_at, with_strays}
-use Rattle.sift_core.specs.Racks.{ranges_for}
-use Rattle.sift_core.specs.declared.rack.Rack.{Rack}
+use Rattle.sift_buffer.specs.Crews.{ledger_at, with_strays}
+use Rattle.sift_buffer.specs.Racks.{ranges_for}
+use Rattle.sift_buffer.specs.declared.rack.Rack.{Rack}
 use Rattle.sift_core.specs.Machines.{Flies, IsFlying, HasTurnedIn, layout_of, progress_at}
 use Rattle.sift_core.specs.Steps.{StepsUnit, Stores}
 use Rattle.sift_core.specs.Courses.{AreAllLeft, Course, IsCalled, BeginsStorm, Spends, calls_of, course, storm_at}

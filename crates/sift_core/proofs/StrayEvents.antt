@@ -17,45 +17,17 @@ use Rattle.sift_mission.specs.Data.{FlownMission}
 use Rattle.sift_unit.specs.Boards.{Drives}
 use Rattle.sift_unit.specs.declared.board.Board.{Board}
 use Rattle.sift_flight.specs.Flight.{Strays}
-use Rattle.sift_core.specs.Crews.{ledger_at, with_strays}
-use Rattle.sift_core.specs.Racks.{IsStored, ranges_for, core_of, conduct_at, view_at}
+use Rattle.sift_buffer.specs.Crews.{ledger_at, with_strays}
+use Rattle.sift_buffer.specs.Racks.{IsStored, ranges_for, core_of, conduct_at, view_at}
 use Rattle.sift_core.specs.Machines.{Flies, HasTurnedIn, StoresStray, board_at, layout_of}
 use Rattle.sift_core.specs.declared.machine.Machine.{Machine}
-use Rattle.sift_core.specs.declared.rack.Rack.{Rack}
+use Rattle.sift_buffer.specs.declared.rack.Rack.{Rack}
+use Rattle.sift_buffer.proofs.lemmas.StoredStrays.{same_ranges, same_view, stray_reaches}
 use Rattle.sift_core.proofs.Others.{reached_lawful}
-use Rattle.sift_core.proofs.RackEvents.{conducts_put}
 
 -- a unit whose number is that of one that has turned has left
 pub has_left : (c : Conduct) → HasStage c → c.progress ≡ never → c.left < never
 has_left c stage turned = ⊎_elim (λ f. absurd (let low = f.1 in omega arith)) (λ t. let low = t.0 in omega arith) stage
-
-module _ (a : Rack) (u : ℕ) (s : Stray) (b : Rack) (stored : IsStored a u s b) where
-  pub same_ranges : ranges_for b ≡ ranges_for a
-  same_ranges i = ranges_of (stored.layout i) (stored.frames i)
-
-  same_ledger : (j : ℕ) → ledger_at b.acts.items j ≡ ledger_at a.acts.items j
-  same_ledger j i = ledger_at (stored.acts i).items j
-
-  -- no unit's own view has changed
-  pub same_view : (p : ℕ) → view_at b p ≡ view_at a p
-  same_view p i = record {
-    ranges = same_ranges i;
-    unit = p;
-    conduct = conduct_in (same_ledger p i);
-    looks = stored.looks i;
-    last = record { unit = stored.last_unit i; number = stored.last_number i };
-  }
-
-  -- whatever was stored before, the core is reached by one event
-  pub stray_reaches : u < a.grid.layout.units → (conduct_at a u).left < never → IsCell (ranges_for a) u s.to s.slot → (w : Strays) →
-      Reaches (ranges_for a) u (core_of a w) (core_of b (with_strays w u (s ∷ [])))
-  stray_reaches there left cell w = reaches_one (ranges_for a) u (core_of a w) (core_of b (with_strays w u (s ∷ []))) (stray u s.to s.slot s.cell) refl
-      (there, record { turned = left; cell = cell })
-      (λ i. record { words = sym stored.words i; of = sym of i })
-    where
-      of : (core_of b (with_strays w u (s ∷ []))).of ≡ put (core_of a w).of u (with_stray ((core_of a w).of u) s.to s.slot s.cell)
-      of = conducts_put a.acts.items b.acts.items w u (s ∷ w u) (λ j ne. same_ledger j)
-          ∙ ap (λ (l : Ledger). put (core_of a w).of u (conduct_with l (s ∷ w u))) (same_ledger u)
 
 -- a machine flies on with a stray of a unit that has turned
 pub stray_flies : EventsKeepLawful → (x x' : Machine) (u : ℕ) (s : Stray) → StoresStray u s x x' → u < (layout_of x).units → HasTurnedIn x u →

@@ -4,7 +4,7 @@ use Rattle.sift_base.specs.Units.{has}
 use Rattle.sift_mission.specs.Data.{FlownMission}
 use Rattle.sift_unit.specs.declared.board.Board.{Board}
 use Rattle.sift_flight.specs.Flight.{flight_of, Strays, RoundAt}
-use Rattle.sift_core.specs.Racks.{core_of}
+use Rattle.sift_buffer.specs.Racks.{core_of}
 use Rattle.sift_core.specs.Machines.{Flies, HasTurnedIn, board_at, accounts_at}
 use Rattle.sift_core.specs.declared.machine.Machine.{Machine}
 

@@ -1,10 +1,7 @@
 pub mod Courses
-pub mod Crews
 pub mod Ended
-pub mod Following
 pub mod Landing
 pub mod Machines
-pub mod Racks
 pub mod Steps
 pub mod Storms
 pub mod Turns

@@ -12,7 +12,7 @@ use Rattle.sift_unit.specs.Passing.{distance}
 use Rattle.sift_unit.specs.Boards.{desk_of, Drives, IsNewBoard}
 use Rattle.sift_unit.specs.declared.board.Board.{Board}
 use Rattle.sift_flight.specs.Flight.{Strays}
-use Rattle.sift_core.specs.Racks.{IsNewRack, IsStored, ranges_for, core_of, conduct_at, view_at}
+use Rattle.sift_buffer.specs.Racks.{IsNewRack, IsStored, ranges_for, core_of, conduct_at, view_at}
 use Rattle.sift_core.specs.declared.machine.Machine.{Machine}
 
 -- the layout of the machine's slots

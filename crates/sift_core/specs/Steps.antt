@@ -9,7 +9,7 @@ use Rattle.sift_unit.specs.declared.board.Board.{Board}
 use Rattle.sift_unit.specs.declared.stepped.Stepped.{Stepped}
 use Rattle.sift_unit.specs.declared.stepped.Stepped.TheVariants.{Moved, NotYet, Turned, Landed}
 use Rattle.sift_flight.specs.Flight.{Strays}
-use Rattle.sift_core.specs.Racks.{ranges_for, core_of, view_at, Stands}
+use Rattle.sift_buffer.specs.Racks.{ranges_for, core_of, view_at, Stands}
 use Rattle.sift_core.specs.Machines.{layout_of, board_at, StoresStray}
 use Rattle.sift_core.specs.declared.machine.Machine.{Machine}
 

@@ -8,8 +8,8 @@ ghost use Rattle.sift_mission.specs.Data.{FlownMission};
 ghost use Rattle.sift_mission.specs.Parts.{data_of, flown_of};
 ghost use Rattle.sift_rogue.specs.Storms.{Shoots, sifted, stray_of};
 ghost use Rattle.sift_flight.specs.Flight.{Strays};
-ghost use Rattle.sift_core.specs.Crews.{with_strays};
-ghost use Rattle.sift_core.specs.Racks.{ranges_for};
+ghost use Rattle.sift_buffer.specs.Crews.{with_strays};
+ghost use Rattle.sift_buffer.specs.Racks.{ranges_for};
 ghost use Rattle.sift_core.specs.Machines.{Flies, HasTurnedIn, layout_of};
 ghost use Rattle.sift_core.specs.Steps.{Stores};
 ghost use Rattle.sift_core.specs.Courses.{BeginsStorm, IsCalled, Spends, course, storm_at};
@@ -70,7 +70,7 @@ impl Machine {
         ensures spent { Spends R.allows u (course self.old left.old rogues.old) (course self.new left.new rogues.new) }
         ensures storms { CarriesOn R.allows (data_of mission.now) (course self.old left.old rogues.old) (course self.new left.new rogues.new) }
     {
-        let shot = call_next(self.rack.grid.layout, rogues, left, u);
+        let shot = call_next(self.rack.layout(), rogues, left, u);
         self.store_shot(u, shot);
     }
 

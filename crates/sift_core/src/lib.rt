@@ -8,8 +8,6 @@ mod landing;
 mod laws;
 mod machine;
 mod order;
-mod rack;
-mod rack_port;
 mod units;
 
 pub use calls::CallsLeft;

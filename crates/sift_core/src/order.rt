@@ -47,7 +47,7 @@ impl Machine {
     {
         let mut least = None;
         let mut below = end;
-        for number in 0..self.rack.grid.layout.units {
+        for number in 0..self.rack.layout().units {
             let unit = unit_numbered(number);
             let progress = self.rack.number_of(unit);
             if progress < below {
@@ -64,7 +64,7 @@ impl Machine {
         ensures found { IfSome result (λ u. IsFirstLeft (flown_of mission.now) left.now u) }
         ensures none { IfNone result ((u : ℕ) → has (flown_of mission.now).units u ≡ true → slice_index left.now u ≡ 0) }
     {
-        for number in 0..self.rack.grid.layout.units {
+        for number in 0..self.rack.layout().units {
             let unit = unit_numbered(number);
             if !left.is_spent(unit) {
                 return Some(unit);
@@ -80,7 +80,7 @@ impl Machine {
         ensures done { result ≡ true → AreAllDone (flown_of mission.now) self.now left.now }
         ensures open { result ≡ false → ¬ AreAllDone (flown_of mission.now) self.now left.now }
     {
-        for number in 0..self.rack.grid.layout.units {
+        for number in 0..self.rack.layout().units {
             let unit = unit_numbered(number);
             if self.rack.number_of(unit) < end {
                 return false;
@@ -96,7 +96,7 @@ impl Machine {
     fn drawn_unit(&self, drawer: &mut Draw) -> UnitId
         ensures { IsDrawn (layout_of self.now).units drawer.old drawer.new result }
     {
-        let number = drawn_below(drawer, self.rack.grid.layout.units);
+        let number = drawn_below(drawer, self.rack.layout().units);
         unit_numbered(number as u8)
     }
 

@@ -2,7 +2,7 @@
 use Rattle.std.specs.Prelude.{◌≡◌, ℕ, ◌<◌, ◌≤◌, List, [], length, slice_index_or, map, true, false, None, if◌then◌else◌, pos, ℤ}
 use Rattle.sift_base.specs.Units.{has}
 use Rattle.sift_base.specs.declared.layout.Layout.{Layout}
-use Rattle.sift_buffer.specs.Journals.{Pages, said_in, heard_in, IsJournalOf}
+use Rattle.sift_buffer.specs.Journals.{Pages, no_pages, said_in, heard_in, IsJournalOf}
 use Rattle.sift_clock.specs.Distance.{IsWithin}
 use Rattle.sift_exec.specs.Conviction.{nobody}
 use Rattle.sift_mission.specs.Data.{FlownMission, IsConfigOf}
@@ -13,10 +13,6 @@ use Rattle.sift_flight.specs.Flight.{Flight}
 use Rattle.sift_flight.specs.declared.flight.Flight.{Flight as TheFlight}
 
 -- ---- what it tells
-
--- an empty journal, which stands for that of a unit that isn't there
-abbrev pub no_pages : Pages
-no_pages = record { layout = record { units = 0; sensors = 0; words = 0 }; unit = 0; frames = 0; said = []; heard = [] }
 
 -- an empty account, which stands for that of a frame that wasn't flown
 abbrev pub no_account : Account

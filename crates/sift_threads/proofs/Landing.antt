@@ -6,7 +6,7 @@ use Rattle.std.proofs.lemmas.List.FromFn.{length-range_with_len}
 use Rattle.sift_base.specs.Units.{has, unit_limit}
 use Rattle.sift_base.specs.declared.layout.Layout.{Layout}
 use Rattle.sift_buffer.specs.Core.{Core}
-use Rattle.sift_buffer.specs.Journals.{Pages}
+use Rattle.sift_buffer.specs.Journals.{Pages, no_pages}
 use Rattle.sift_buffer.specs.Tables.{ranges_of}
 use Rattle.sift_mission.specs.Data.{MissionData, FlownMission}
 use Rattle.sift_mission.specs.Fits.{Fits}
@@ -18,7 +18,7 @@ use Rattle.sift_conduct.specs.Frames.{frames_before}
 use Rattle.sift_conduct.specs.declared.account.Account.{Account as TheAccount}
 use Rattle.sift_rogue.specs.Storms.{Call}
 use Rattle.sift_flight.specs.Homing.{HasComeHome, FlightsThatComeHomeAreRound}
-use Rattle.sift_flight.specs.Told.{told, no_pages, no_account, accounts_of, IsLogged}
+use Rattle.sift_flight.specs.Told.{told, no_account, accounts_of, IsLogged}
 use Rattle.sift_flight.specs.declared.flight.Flight.{Flight as TheFlight}
 use Rattle.sift_ether.specs.Landed.{HaveLanded}
 use Rattle.sift_ether.specs.Tokens.{IsMade, conduct_at}

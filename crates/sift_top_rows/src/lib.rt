@@ -1,9 +1,7 @@
-//! Rows of tests of missions, boards and machines, of flights on threads, and of the top call, with rogues and probes of the
+//! Rows of tests of missions and machines, of flights on threads, and of the top call, with rogues and probes of the
 //! tests' own.
 #![tactic(auto)]
 
-#[cfg(test)]
-mod board;
 #[cfg(test)]
 mod calling;
 #[cfg(test)]

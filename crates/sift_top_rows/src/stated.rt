@@ -1,26 +1,15 @@
 //! The missions of the rows, as documents state them, and reports of two, which a plain simulator wrote that shares nothing
-//! with this program. Those of four, five and eight units that read a sensor have two tasks that each put out its word.
+//! with this program. Those of five and eight units that read a sensor have two tasks that each put out its word.
 
 ghost use Rattle.std.specs.Prelude.{◌≡◌, IfOk, length};
 ghost use Rattle.sift_base.specs.Units.{unit_limit};
 
-use sift_base::{Layout, NoMemory};
+use sift_base::NoMemory;
 use sift_mission::Mission;
 use sift_rogue::Silent;
 use sift_scenario::mission_of;
 use std::alloc::Global;
 use std::test::Fail;
-
-/// Four units, a sensor and two words: ten slots.
-pub(crate) const LAYOUT: Layout = Layout {
-    units: 4,
-    sensors: 1,
-    words: 2,
-};
-
-/// Four units and one frame. Each unit runs each task, the first in subframe 4 and the second in subframe 6.
-const FOUR: &str = "units = 4\nframes = 1\nsubframes = 20\nsensor = [{name = 'x', words = [1]}]\n\
-    task = [{name = 'a', start = [5], text = 'out 0 = sense x;'}, {name = 'b', start = [7], text = 'out 0 = sense x;'}]\n";
 
 /// Five units and two frames.
 pub(crate) const FIVE: &str =
@@ -89,18 +78,6 @@ pub(crate) fn stated(alloc: Global, document: &str) -> Result<Mission, Fail> {
     let table = toml::table_from_str(alloc, document)?;
     let mission = mission_of(alloc, &table).ok();
     Ok(mission.ok_or("the document states no mission")?)
-}
-
-/// The mission of four units.
-pub(crate) fn four_units(alloc: Global) -> Result<Mission, Fail>
-    ensures { IfOk result (λ mission. (mission.layout ≡ record { units = 4; sensors = 1; words = 2 }) × (mission.frames ≡ 1) × (mission.units ≡ 4)) }
-{
-    let mission = stated(alloc, FOUR)?;
-    let parts = mission.parts();
-    if parts.layout != LAYOUT || parts.frames != 1 || parts.units != 4 {
-        return Err(Fail::new("another mission than the document's"));
-    }
-    Ok(mission)
 }
 
 /// The mission of eight units.

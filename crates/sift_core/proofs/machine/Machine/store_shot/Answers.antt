@@ -1,6 +1,6 @@
 use Rattle.std.proofs.Common.{sym, subst}
 use Rattle.sift_flight.specs.Flight.{Strays}
-use Rattle.sift_core.specs.Following.{none_more}
+use Rattle.sift_buffer.specs.Following.{none_more}
 use Rattle.sift_core.specs.Machines.{Flies}
 use Rattle.sift_core.proofs.machine.Machine.store_shot.Goals as goal
 

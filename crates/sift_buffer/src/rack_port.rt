@@ -1,0 +1,200 @@
+//! The plain memory of all units as the port of each.
+ghost use Rattle.std.specs.Prelude.{◌≡◌, ◌<◌, ◌+◌, ℕ, List, [], IfOk};
+ghost use Rattle.sift_base.specs.Layout.{IsLayout};
+ghost use Rattle.sift_buffer.specs.Conduct.{Stray, stray_to};
+ghost use Rattle.sift_buffer.specs.Conditions.{MayEnter, MayTurn, PassesGate};
+ghost use Rattle.sift_buffer.specs.Lawful.{Lawful};
+ghost use Rattle.sift_buffer.specs.Ranges.{IsCell};
+ghost use Rattle.sift_buffer.specs.Views.{view_with_entered, view_with_turned};
+ghost use Rattle.sift_buffer.specs.Racks.{IsNewRack, IsChosen, IsStored, Follows, Stands, view_of, ranges_for, core_of, conduct_at};
+ghost use Rattle.sift_buffer.specs.Crews.{IsCrew};
+ghost use Rattle.sift_buffer.specs.Following.{itself, further};
+
+use crate::acts::Acts;
+use crate::cell::{pack, take};
+use crate::gate::{Look, find_behind};
+use crate::grid::Grid;
+use crate::port::{Entering, Port};
+use crate::rack::Rack;
+use sift_base::{Layout, NoMemory, UnitId, Word};
+use std::alloc::Global;
+
+impl Rack {
+    /// A rack on which no unit has done anything, with the memory for all their acts.
+    pub fn make(alloc: Global, layout: Layout, frames: u32) -> Result<Rack, NoMemory>
+        requires { IsLayout layout }
+        ensures { IfOk result (λ rack. IsNewRack rack layout frames) }
+    {
+        let grid = Grid::of(layout, frames);
+        let words = vec![in alloc; 0; grid.shared_words()]?;
+        let acts = Rack::make_acts(alloc, layout, frames)?;
+        Ok(Rack {
+            grid,
+            unit: UnitId::default(),
+            words,
+            acts,
+            looks: 0,
+            last_unit: 0,
+            last_number: 0,
+        })
+    }
+
+    /// The acts of all units of a layout, in their order, in which nothing was done.
+    fn make_acts(alloc: Global, layout: Layout, frames: u32) -> Result<Vec<Acts>, NoMemory>
+        requires { IsLayout layout }
+        ensures { IfOk result (λ acts. IsCrew acts.items layout.units layout frames) }
+    {
+        let mut all = Vec::with_capacity(alloc, usize::from(layout.units))?;
+        for number in 0..layout.units {
+            let unit = UnitId::of(number).unwrap();
+            all.push_reserved(Acts::make(alloc, layout, unit, frames)?);
+        }
+        Ok(all)
+    }
+
+    /// The layout of its units and their slots.
+    pub fn layout(&self) -> Layout
+        ensures { result ≡ self.now.grid.layout }
+    {
+        self.grid.layout
+    }
+
+    /// Makes it the port of another unit.
+    pub fn choose(&mut self, unit: UnitId)
+        requires { unit < self.old.grid.layout.units }
+        ensures { IsChosen self.old unit self.new }
+    {
+        self.unit = unit;
+    }
+
+    /// The progress of a unit.
+    pub fn progress_of(&self, unit: UnitId) -> u64
+        requires { unit < self.now.grid.layout.units }
+        ensures { result ≡ (conduct_at self.now unit).progress }
+    {
+        self.acts[usize::from(unit.get())].progress()
+    }
+
+    /// The progress of a unit, as its number among the shared words tells it: these lie close together.
+    pub fn number_of(&self, unit: UnitId) -> u64
+        requires lawful { (w : ℕ → List Stray) × Lawful (ranges_for self.now) (core_of self.now w) }
+        requires unit { unit < self.now.grid.layout.units }
+        ensures { result ≡ (conduct_at self.now unit).progress }
+    {
+        self.words[usize::from(unit.get())]
+    }
+
+    /// The acts alone.
+    pub fn end(self) -> Vec<Acts>
+        ensures { result ≡ self.acts }
+    {
+        self.acts
+    }
+
+    /// Stores the progress of the unit, raised by one.
+    fn go_on(&mut self)
+        requires may { MayEnter (view_of self.old).conduct }
+        requires gate { PassesGate (ranges_for self.old) (view_of self.old).conduct self.old.unit }
+        ensures entered { view_of self.new ≡ view_with_entered (view_of self.old) }
+        ensures follows { Follows self.old [] self.new }
+    {
+        let unit = usize::from(self.unit.get());
+        let own = &mut self.acts[unit];
+        self.words[unit] = own.progress() + 1;
+        own.note_entered();
+    }
+
+    /// Stores the progress number of a unit that has turned.
+    fn leave(&mut self)
+        requires may { MayTurn (view_of self.old).conduct }
+        requires gate { 0 < (view_of self.old).conduct.progress → PassesGate (ranges_for self.old) (view_of self.old).conduct self.old.unit }
+        ensures turned { view_of self.new ≡ view_with_turned (view_of self.old) }
+        ensures follows { Follows self.old [] self.new }
+    {
+        let unit = usize::from(self.unit.get());
+        let own = &mut self.acts[unit];
+        own.note_turned();
+        self.words[unit] = own.progress();
+    }
+
+    /// Stores a number in a unit's own cell for another unit in a slot.
+    pub fn store(&mut self, unit: UnitId, to: UnitId, slot: usize, cell: u64)
+        requires unit { unit < self.old.grid.layout.units }
+        requires cell { IsCell (ranges_for self.old) unit to slot }
+        ensures { IsStored self.old unit (stray_to to slot cell) self.new }
+    {
+        let place = self.grid.place(unit, to, slot);
+        self.words[place] = cell;
+    }
+}
+
+impl Look for Rack {
+    ghost view = { view_of };
+
+    ghost follows = { Follows };
+
+    ghost stands = { Stands };
+
+    ghost follows_itself = { itself };
+
+    ghost follows_on = { further };
+
+    fn look(&mut self, other: UnitId) -> u64 {
+        let number = self.words[usize::from(other.get())];
+        let own = &mut self.acts[usize::from(self.unit.get())];
+        own.note_seen(other, number);
+        self.looks = self.looks.saturating_add(1);
+        self.last_unit = other.get();
+        self.last_number = number;
+        number
+    }
+}
+
+impl Port for Rack {
+    fn progress(&self) -> u64 {
+        self.acts[usize::from(self.unit.get())].progress()
+    }
+
+    fn say(&mut self, to: UnitId, slot: usize, f: u32, stamp: u32, word: Option<Word>) {
+        let stored = word;
+        let place = self.grid.place(self.unit, to, slot);
+        self.words[place] = pack(stamp, stored);
+        let own = &mut self.acts[usize::from(self.unit.get())];
+        own.note_said(f, slot, to, stamp, word);
+    }
+
+    fn hear(&mut self, from: UnitId, slot: usize, f: u32, stamp: u32) -> Option<Word> {
+        let place = self.grid.place(from, self.unit, slot);
+        let word = take(self.words[place], stamp);
+        let heard = word;
+        let own = &mut self.acts[usize::from(self.unit.get())];
+        own.note_heard(f, slot, from, stamp, heard);
+        word
+    }
+
+    fn try_enter(&mut self) -> Entering {
+        let progress = self.acts[usize::from(self.unit.get())].progress();
+        if let Some((unit, seen)) = find_behind(self, self.grid.layout.units, self.unit, progress) {
+            return Entering::NotYet { unit, seen };
+        }
+        self.go_on();
+        Entering::Entered
+    }
+
+    fn turn(&mut self) -> Entering {
+        let progress = self.acts[usize::from(self.unit.get())].progress();
+        if progress == 0 {
+            self.leave();
+            return Entering::Entered;
+        }
+        if let Some((unit, seen)) = find_behind(self, self.grid.layout.units, self.unit, progress) {
+            return Entering::NotYet { unit, seen };
+        }
+        self.leave();
+        Entering::Entered
+    }
+
+    fn stray(&mut self, to: UnitId, slot: usize, cell: u64) {
+        self.store(self.unit, to, slot, cell);
+    }
+}
