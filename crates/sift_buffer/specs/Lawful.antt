@@ -1,5 +1,5 @@
 -- The lawful core: what each order of events keeps of cells, numbers and acts.
-use Rattle.std.specs.Prelude.{◌≡◌, ◌≢◌, ◌⊎◌, ℕ, ◌+◌, ◌<◌, ◌≤◌, List, length, slice_index, Option, Some, None}
+use Rattle.std.specs.Prelude.{◌≡◌, ◌≢◌, ◌⊎◌, ℕ, ◌+◌, ◌<◌, ◌≤◌, length, slice_index, Option, Some, None}
 use Rattle.std.specs.List.{Contains}
 use Rattle.sift_buffer.specs.Cell.{packed, taken, IsWord}
 use Rattle.sift_buffer.specs.Ranges.{Ranges, shared_words, place}
