@@ -431,8 +431,13 @@ spender_turned d x u left k some down = by_storm (storm_at d u) refl
     by_storm None is = absurd (let none = k.calm is in omega arith)
     by_storm (Some t) is = (k.after t is down).1
 
--- a shot's cell is one of the rack's
-pub shot_there : (x : Rack) (u : ℕ) (o : Option Shot) → IfSome o (λ s. (frames : ℕ) → IsCell (ranges_of x.grid.layout frames) u s.to s.slot) →
-    IfSome o (λ s. IsCell (ranges_for x) u s.to s.slot)
-shot_there x u None there = tt
-shot_there x u (Some s) there = there x.grid.frames
+-- a shot's cell of the rack's layout is one of the rack's
+pub shot_there : (x : Rack) (u : ℕ) (l : Layout) (o : Option Shot) → l ≡ x.grid.layout →
+    IfSome o (λ s. (frames : ℕ) → IsCell (ranges_of l frames) u s.to s.slot) → IfSome o (λ s. IsCell (ranges_for x) u s.to s.slot)
+shot_there x u l None same there = tt
+shot_there x u l (Some s) same there = subst (λ (k : Layout). IsCell (ranges_of k x.grid.frames) u s.to s.slot) same (there x.grid.frames)
+
+-- a call by one layout is a call by the same
+pub called_by : {R : Type 0} (allows : R → Call → R → Type 0) (l k : Layout) (u : ℕ) (o : Option Shot) (xs : List R) (left : List ℕ) (ys : List R) (left' : List ℕ) →
+    l ≡ k → IsCalled (λ x y. Shoots allows (sifted l u) x o y) u xs left ys left' → IsCalled (λ x y. Shoots allows (sifted k u) x o y) u xs left ys left'
+called_by {R} allows l k u o xs left ys left' same called = subst (λ (z : Layout). IsCalled (λ x y. Shoots allows (sifted z u) x o y) u xs left ys left') same called

@@ -1,24 +1,19 @@
 -- A stray that is stored, as an event of a rack.
-use Rattle.std.proofs.Common.{◌≡◌, ℕ, ◌<◌, [], ◌∷◌, length, slice_index_or, ⊎_elim, Vec, refl, sym, ap, ◌∙◌, subst, arith}
+use Rattle.std.proofs.Common.{◌≡◌, ℕ, ◌<◌, [], ◌∷◌, length, slice_index_or, ⊎_elim, Vec, sym, ap, ◌∙◌, subst, arith}
 use Rattle.std.specs.declared.alloc.Global.{Global}
 use Rattle.sift_base.specs.declared.layout.Layout.{Layout}
 use Rattle.sift_config.specs.Config.{first_units}
 use Rattle.sift_buffer.specs.Ranges.{Ranges, IsCell}
-use Rattle.sift_buffer.specs.Conduct.{Conduct, Stray, put, never, with_stray}
-use Rattle.sift_buffer.specs.Core.{stray}
-use Rattle.sift_buffer.specs.Ledgers.{Ledger, conduct_in, conduct_with}
+use Rattle.sift_buffer.specs.Conduct.{Conduct, Stray, never}
 use Rattle.sift_buffer.specs.Lawful.{Lawful, HasStage}
 use Rattle.sift_buffer.specs.Laws.{EventsKeepLawful}
-use Rattle.sift_buffer.specs.Following.{reaches_one}
-use Rattle.sift_buffer.specs.Reaches.{Reaches}
-use Rattle.sift_buffer.specs.Tables.{ranges_of}
 use Rattle.sift_buffer.specs.Views.{View}
 use Rattle.sift_mission.specs.Data.{FlownMission}
 use Rattle.sift_unit.specs.Boards.{Drives}
 use Rattle.sift_unit.specs.declared.board.Board.{Board}
 use Rattle.sift_flight.specs.Flight.{Strays}
-use Rattle.sift_buffer.specs.Crews.{ledger_at, with_strays}
-use Rattle.sift_buffer.specs.Racks.{IsStored, ranges_for, core_of, conduct_at, view_at}
+use Rattle.sift_buffer.specs.Crews.{with_strays}
+use Rattle.sift_buffer.specs.Racks.{ranges_for, core_of, conduct_at, view_at}
 use Rattle.sift_core.specs.Machines.{Flies, HasTurnedIn, StoresStray, board_at, layout_of}
 use Rattle.sift_core.specs.declared.machine.Machine.{Machine}
 use Rattle.sift_buffer.specs.declared.rack.Rack.{Rack}

@@ -1,5 +1,6 @@
-use Rattle.std.proofs.Common.{◌<◌, slice_index, sym, arith}
+use Rattle.std.proofs.Common.{◌<◌, slice_index, sym, ap, arith}
 use Rattle.std.proofs.lemmas.Bool.{eqb-false}
+use Rattle.sift_base.specs.declared.layout.Layout.{Layout}
 use Rattle.sift_mission.specs.Parts.{flown_of}
 use Rattle.sift_core.specs.Machines.{layout_of}
 use Rattle.sift_core.proofs.MachineSteps.{unit_below}
@@ -9,14 +10,16 @@ use Rattle.sift_core.proofs.machine.Machine.are_all_done.Goals as goal
 -- a unit that has yet to land
 pub returns-then-number_of-end-clause-open : goal.returns-then-number_of-end-clause-open
 returns-then-number_of-end-clause-open c = λ same done.
-    let low : c.unit_numbered-unit.result < (layout_of c.args.self.now).units = omega (arith, c.unit_numbered-unit.ensures, c.loop-number-test.true) in
+    let low : c.unit_numbered-unit.result < (layout_of c.args.self.now).units =
+    (let units = ap (λ (l : Layout). l.units) c.layout-number-end.ensures in omega (arith, c.unit_numbered-unit.ensures, c.loop-number-test.true)) in
     let there = unit_there (flown_of c.args.mission.now) c.args.self.now c.unit_numbered-unit.result c.requires.flies low in
     omega (arith, (done c.unit_numbered-unit.result there).0, c.if-number_of-end.true, c.number_of.ensures, c.requires.end)
 
 -- or that has yet to spend its storm
 pub returns-then-not-is_spent-clause-open : goal.returns-then-not-is_spent-clause-open
 returns-then-not-is_spent-clause-open c = λ same done.
-    let low : c.unit_numbered-unit.result < (layout_of c.args.self.now).units = omega (arith, c.unit_numbered-unit.ensures, c.loop-number-test.true) in
+    let low : c.unit_numbered-unit.result < (layout_of c.args.self.now).units =
+    (let units = ap (λ (l : Layout). l.units) c.layout-number-end.ensures in omega (arith, c.unit_numbered-unit.ensures, c.loop-number-test.true)) in
     let there = unit_there (flown_of c.args.mission.now) c.args.self.now c.unit_numbered-unit.result c.requires.flies low in
     eqb-false (slice_index c.args.left.now c.unit_numbered-unit.result) 0 (sym c.if-not-is_spent.ensures) (done c.unit_numbered-unit.result there).1
 
@@ -24,7 +27,8 @@ returns-then-not-is_spent-clause-open c = λ same done.
 pub returns-clause-done : goal.returns-clause-done
 returns-clause-done c = λ same u there.
     let low = unit_below (flown_of c.args.mission.now) c.args.self.now u c.requires.flies there in
-    let below : u < c.loop-number.number = omega (arith, low, c.loop-number-test.false) in
+    let below : u < c.loop-number.number =
+    (let units = ap (λ (l : Layout). l.units) c.layout-number-end.ensures in omega (arith, low, c.loop-number-test.false)) in
     let done = c.loop-number.invariant.1 u below in
     (omega (arith, done.0, c.requires.end), done.1)
 

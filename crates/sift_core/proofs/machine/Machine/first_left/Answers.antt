@@ -1,5 +1,6 @@
-use Rattle.std.proofs.Common.{◌<◌, ◌≢◌, slice_index, sym, arith}
+use Rattle.std.proofs.Common.{◌<◌, ◌≢◌, slice_index, sym, ap, arith}
 use Rattle.std.proofs.lemmas.Bool.{eqb-false}
+use Rattle.sift_base.specs.declared.layout.Layout.{Layout}
 use Rattle.sift_mission.specs.Parts.{flown_of}
 use Rattle.sift_core.specs.Machines.{layout_of}
 use Rattle.sift_core.proofs.MachineSteps.{unit_below}
@@ -8,7 +9,8 @@ use Rattle.sift_core.proofs.machine.Machine.first_left.Goals as goal
 
 pub returns-then-not-is_spent-clause-found : goal.returns-then-not-is_spent-clause-found
 returns-then-not-is_spent-clause-found c =
-    let low : c.unit_numbered-unit.result < (layout_of c.args.self.now).units = omega (arith, c.unit_numbered-unit.ensures, c.loop-number-test.true) in
+    let low : c.unit_numbered-unit.result < (layout_of c.args.self.now).units =
+    (let units = ap (λ (l : Layout). l.units) c.layout-number-end.ensures in omega (arith, c.unit_numbered-unit.ensures, c.loop-number-test.true)) in
     let some : slice_index c.args.left.now c.unit_numbered-unit.result ≢ 0 = eqb-false (slice_index c.args.left.now c.unit_numbered-unit.result) 0 (sym c.if-not-is_spent.ensures) in
     record {
       unit = unit_there (flown_of c.args.mission.now) c.args.self.now c.unit_numbered-unit.result c.requires.flies low;
@@ -19,4 +21,5 @@ returns-then-not-is_spent-clause-found c =
 pub returns-clause-none : goal.returns-clause-none
 returns-clause-none c = λ u there.
     let low = unit_below (flown_of c.args.mission.now) c.args.self.now u c.requires.flies there in
+    let units = ap (λ (l : Layout). l.units) c.layout-number-end.ensures in
     c.loop-number.invariant.1 u (omega (arith, low, c.loop-number-test.false))

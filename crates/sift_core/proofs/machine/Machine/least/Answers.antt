@@ -1,5 +1,6 @@
-use Rattle.std.proofs.Common.{arith}
+use Rattle.std.proofs.Common.{ap, arith}
 use Rattle.std.proofs.lemmas.Grind.{common_steps}
+use Rattle.sift_base.specs.declared.layout.Layout.{Layout}
 use Rattle.sift_mission.specs.Parts.{flown_of}
 use Rattle.sift_core.proofs.Least.{least_ends}
 use Rattle.sift_core.proofs.machine.Machine.least.Goals as goal
@@ -7,12 +8,12 @@ use Rattle.sift_core.proofs.machine.Machine.least.Goals as goal
 pub returns-clause-found : goal.returns-clause-found
 returns-clause-found c =
     (least_ends (flown_of c.args.mission.now) c.args.self.now c.loop-number.number c.loop-number.below c.loop-number.least c.requires.flies
-    (let w = c.loop-number.invariant.within in let t = c.loop-number-test.false in omega arith) c.loop-number.invariant.least).0
+    (let w = c.loop-number.invariant.within in let t = c.loop-number-test.false in let units = ap (λ (l : Layout). l.units) c.layout-number-end.ensures in omega arith) c.loop-number.invariant.least).0
 
 pub returns-clause-none : goal.returns-clause-none
 returns-clause-none c =
     (least_ends (flown_of c.args.mission.now) c.args.self.now c.loop-number.number c.loop-number.below c.loop-number.least c.requires.flies
-    (let w = c.loop-number.invariant.within in let t = c.loop-number-test.false in omega arith) c.loop-number.invariant.least).1
+    (let w = c.loop-number.invariant.within in let t = c.loop-number-test.false in let units = ap (λ (l : Layout). l.units) c.layout-number-end.ensures in omega arith) c.loop-number.invariant.least).1
 
 -- the core is lawful
 pub number_of-progress-requires-clause-lawful : goal.number_of-progress-requires-clause-lawful
