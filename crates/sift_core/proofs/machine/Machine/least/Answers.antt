@@ -8,12 +8,14 @@ use Rattle.sift_core.proofs.machine.Machine.least.Goals as goal
 pub returns-clause-found : goal.returns-clause-found
 returns-clause-found c =
     (least_ends (flown_of c.args.mission.now) c.args.self.now c.loop-number.number c.loop-number.below c.loop-number.least c.requires.flies
-    (let w = c.loop-number.invariant.within in let t = c.loop-number-test.false in let units = ap (λ (l : Layout). l.units) c.layout-number-end.ensures in omega arith) c.loop-number.invariant.least).0
+    (let within = c.loop-number.invariant.within in let units = ap (λ (l : Layout). l.units) c.layout-number-end.ensures in
+    omega (arith, c.loop-number-test.false)) c.loop-number.invariant.least).0
 
 pub returns-clause-none : goal.returns-clause-none
 returns-clause-none c =
     (least_ends (flown_of c.args.mission.now) c.args.self.now c.loop-number.number c.loop-number.below c.loop-number.least c.requires.flies
-    (let w = c.loop-number.invariant.within in let t = c.loop-number-test.false in let units = ap (λ (l : Layout). l.units) c.layout-number-end.ensures in omega arith) c.loop-number.invariant.least).1
+    (let within = c.loop-number.invariant.within in let units = ap (λ (l : Layout). l.units) c.layout-number-end.ensures in
+    omega (arith, c.loop-number-test.false)) c.loop-number.invariant.least).1
 
 -- the core is lawful
 pub number_of-progress-requires-clause-lawful : goal.number_of-progress-requires-clause-lawful
