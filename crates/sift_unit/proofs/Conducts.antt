@@ -12,11 +12,13 @@ use Rattle.sift_mission.specs.Slots.{is_slot}
 use Rattle.sift_conduct.specs.Conduct.{Account, Places, UnitFrame, unit_frame, Conduct, report_in, report_of, reading_by}
 use Rattle.sift_conduct.specs.Frames.{IdleConduct}
 use Rattle.sift_conduct.proofs.lemmas.Tests.{any-same}
-use Rattle.sift_unit.specs.Memory.{Memory}
-use Rattle.sift_unit.specs.Tidings.{busy_account, idle_account, names_now}
-use Rattle.sift_unit.specs.Remembered.{Heard, IsShaped, with_clock}
-use Rattle.sift_unit.proofs.Tests.{apart, and_in, any-and}
-use Rattle.sift_unit.proofs.Sets.{holds-gathered, next-same}
+use Rattle.sift_memory.specs.Memory.{Memory}
+use Rattle.sift_memory.specs.Tidings.{busy_account, idle_account, names_now}
+use Rattle.sift_unit.specs.Remembered.{Heard, with_clock}
+use Rattle.sift_memory.specs.Conditions.{IsShaped}
+use Rattle.sift_unit.proofs.Tests.{apart, any-and}
+use Rattle.sift_memory.proofs.lemmas.Tests.{and_in}
+use Rattle.sift_memory.proofs.lemmas.Sets.{holds-gathered, next-same}
 
 module _ (m : FlownMission) (us : List ℕ) (u f : ℕ) (clk : ℤ) (a : Account) (h : Places) (last : List ℕ) (config : IsConfigOf m us) where
   -- the unit in the frame

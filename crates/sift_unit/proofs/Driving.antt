@@ -7,15 +7,16 @@ use Rattle.sift_buffer.specs.Conditions.{MaySay, MayHear, MayEnter}
 use Rattle.sift_buffer.specs.Views.{View, view_with_said, view_with_heard, view_with_entered, view_with_turned, KeepsOwn, EntersAfterRound, Turns, at_once, after_round}
 use Rattle.sift_mission.specs.Data.{FlownMission}
 use Rattle.sift_mission.specs.Fits.{Fits}
-use Rattle.sift_unit.specs.Tidings.{word_to}
+use Rattle.sift_memory.specs.Tidings.{word_to}
 use Rattle.sift_unit.specs.Desk.{Desk, is_hearing, is_saying}
 use Rattle.sift_unit.specs.Going.{Going}
-use Rattle.sift_unit.specs.Passing.{Passes, IsSlotOfFrame}
-use Rattle.sift_unit.specs.Remembered.{IsShaped}
+use Rattle.sift_unit.specs.Passing.{Passes}
+use Rattle.sift_memory.specs.Conditions.{IsSlotOfFrame, IsShaped}
 use Rattle.sift_unit.specs.Stepping.{HasMoved, said, heard}
 use Rattle.sift_unit.specs.Keeping.{Turned, KeepsAs, IsEarly}
 use Rattle.sift_unit.specs.Conditions.{IsInFlight, MayWalk}
-use Rattle.sift_unit.specs.Boards.{desk_of, memory_of, IsPortOf, Drives, IsSameBoard, IsMarked, GoesOn, TurnsNext, BeginsNext}
+use Rattle.sift_unit.specs.Boards.{desk_of, IsPortOf, Drives, IsSameBoard, IsMarked, GoesOn, TurnsNext, BeginsNext}
+use Rattle.sift_memory.specs.Memories.{memory_of}
 use Rattle.sift_unit.specs.declared.board.Board.{Board as TheBoard}
 use Rattle.sift_unit.proofs.Hearing.{hearing_is, hear_going}
 use Rattle.sift_unit.proofs.Saying.{saying_is, say_going}

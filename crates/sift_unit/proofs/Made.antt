@@ -11,11 +11,12 @@ use Rattle.sift_mission.specs.Data.{FlownMission, IsConfigOf}
 use Rattle.sift_mission.specs.Slots.{is_slot, calls}
 use Rattle.sift_conduct.specs.Conduct.{Account, Places, UnitFrame, unit_frame, own_word}
 use Rattle.sift_mission.specs.Fits.{Fits}
-use Rattle.sift_unit.specs.Memory.{Memory, run, is_made_by}
-use Rattle.sift_unit.specs.Tidings.{word_now}
-use Rattle.sift_unit.specs.Remembered.{Heard, Ran, Matches, Settled, IsShaped}
+use Rattle.sift_memory.specs.Memory.{Memory, run, is_made_by}
+use Rattle.sift_memory.specs.Tidings.{word_now}
+use Rattle.sift_unit.specs.Remembered.{Heard, Ran, Matches, Settled}
+use Rattle.sift_memory.specs.Conditions.{IsShaped}
 use Rattle.sift_unit.proofs.Tests.{apart, not_true}
-use Rattle.sift_unit.proofs.Sets.{renewed-here}
+use Rattle.sift_memory.proofs.lemmas.Sets.{renewed-here}
 use Rattle.sift_unit.proofs.Calls.{call_of}
 use Rattle.sift_unit.proofs.Kept.{made_long}
 use Rattle.sift_mission.proofs.lemmas.Silent.{not_held}

@@ -9,8 +9,10 @@ use Rattle.sift_buffer.specs.Conduct.{Conduct as Acts}
 use Rattle.sift_mission.specs.Data.{FlownMission}
 use Rattle.sift_mission.specs.Slots.{is_slot, calls}
 use Rattle.sift_mission.specs.Fits.{Fits}
-use Rattle.sift_unit.specs.Desk.{Desk, spot, cursor, hear_spot, say_spot, heard_mark, run_mark, moved}
+use Rattle.sift_unit.specs.Desk.{Desk, cursor, heard_mark, run_mark, moved}
+use Rattle.sift_memory.specs.Stops.{spot, hear_spot, say_spot}
 use Rattle.sift_unit.specs.Going.{Accounts, Words, ActsTo, Fate, Meets, InRange, Going, HasHeard}
+use Rattle.sift_memory.proofs.lemmas.Tasks.{few_tasks}
 use Rattle.sift_unit.proofs.Acting.{acts_on}
 
 -- no mark lies between two places
@@ -50,16 +52,12 @@ module _ (m : FlownMission) (fit : Fits m) where
     };
   }
 
-  -- tasks are fewer than slots
-  pub few_tasks : m.tasks ≤ m.slots
-  few_tasks = let t = fit.counted.tasks in let w = fit.counted.words in omega arith
-
   -- no mark lies between a place and the next of its slot
   pub free_place : (b : Desk) → InRange m b → b.slot < m.slots → b.other < unit_limit → Free m b.cfg b.unit (cursor b) (spot b.subframe b.part b.slot (b.other + 1))
   free_place b r low here = let few = fit.numbered.few in let part = r.part in record {
     up = omega arith;
     heard = λ t k slot low'. let nk = fit.numbered.low k slot in omega arith;
-    ran = λ t k slot low'. let nk = few_tasks in omega arith;
+    ran = λ t k slot low'. let nk = few_tasks m fit in omega arith;
   }
 
   -- a board in range stays so at another place of its frame

@@ -5,15 +5,16 @@ use native.Mathlib.Decide.{ℕ_discrete}
 use Rattle.sift_base.specs.Units.{has, unit_limit}
 use Rattle.sift_mission.specs.Data.{FlownMission}
 use Rattle.sift_mission.specs.Fits.{Fits}
-use Rattle.sift_unit.specs.Memory.{Memory}
-use Rattle.sift_unit.specs.Desk.{Desk, spot, cursor, is_hearing, is_saying, is_call, is_end, moved}
+use Rattle.sift_memory.specs.Memory.{Memory}
+use Rattle.sift_unit.specs.Desk.{Desk, cursor, is_hearing, is_saying, is_call, is_end, moved}
+use Rattle.sift_memory.specs.Stops.{spot, IsNothingBetween}
 use Rattle.sift_unit.specs.Going.{InRange}
-use Rattle.sift_unit.specs.Stops.{IsNothingBetween}
 use Rattle.sift_unit.specs.Passing.{Passes, Onward}
 use Rattle.sift_unit.specs.Boards.{IsSameBoard}
 use Rattle.sift_unit.specs.declared.board.Board.{Board as TheBoard}
 use Rattle.sift_unit.proofs.Tests.{neither, not_both}
-use Rattle.sift_unit.proofs.Moving.{few_tasks, range_at, skip_range, skip_going}
+use Rattle.sift_memory.proofs.lemmas.Tasks.{few_tasks}
+use Rattle.sift_unit.proofs.Moving.{range_at, skip_range, skip_going}
 use Rattle.sift_unit.proofs.Skipping.{Idles, IsPartDone, pass_going, slot_going, part_going}
 use Rattle.sift_unit.proofs.Jumping.{jump_skips, idle_skips}
 use Rattle.sift_unit.proofs.Noting.{onto, noted, AtNote, note_range, note_going}

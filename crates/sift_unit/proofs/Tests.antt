@@ -1,7 +1,7 @@
 -- Tests of numbers, joined.
-use Rattle.std.proofs.Common.{◌≡◌, ◌≢◌, ℕ, zero, suc, ◌+◌, List, [], ◌∷◌, ap, Bool, true, false, not, ◌&&◌, ◌||◌, nat_eq, Option, Some, None, refl, sym, ◌∙◌, add-one, arith, eq-eqb}
+use Rattle.std.proofs.Common.{◌≡◌, ◌≢◌, ℕ, List, [], ◌∷◌, Bool, true, false, not, ◌&&◌, ◌||◌, nat_eq, Option, Some, None, refl, sym, ◌∙◌, eq-eqb}
 use Rattle.std.specs.Prelude.{if◌then◌else◌}
-use Rattle.std.specs.List.{list_any, range_with_len}
+use Rattle.std.specs.List.{list_any}
 
 -- two tests that pass
 pub both : (a b : Bool) → a ≡ true → b ≡ true → a && b ≡ true
@@ -30,11 +30,6 @@ some_none e = cc
 pub apart : (v u : ℕ) → nat_eq v u ≡ false → v ≢ u
 apart v u t e = let w = rw (eq-eqb v u e) at t in let z : ⊥ = cc in z
 
--- the second of two tests may be another where the first passes
-pub and_in : (x y y' : Bool) → (x ≡ true → y ≡ y') → (x && y) ≡ (x && y')
-and_in true y y' e = e refl
-and_in false y y' e = refl
-
 -- a choice by two tests is the same where the second is, once the first passes
 pub choice_same : {A : Type 0} (b p p' : Bool) (x : Option A) → (b ≡ true → p ≡ p') → (if b && p then x else None) ≡ (if b && p' then x else None)
 choice_same true p p' x e = rw (e refl) refl
@@ -59,24 +54,3 @@ any-and (x ∷ xs) c p = rw (any-and xs c p) (spread c (p x) (list_any p xs))
     spread : (c x y : Bool) → ((c && x) || (c && y)) ≡ (c && (x || y))
     spread true x y = refl
     spread false x y = refl
-
--- one test more
-pub any-more : (n : ℕ) (p : ℕ → Bool) → (list_any p (range_with_len 0 n) || p n) ≡ list_any p (range_with_len 0 (n + 1))
-any-more n p =
-    let e : n ≡ 0 + n = omega arith in
-    ap (λ k. list_any p (range_with_len 0 n) || p k) e ∙ (more 0 n ∙ ap (λ k. list_any p (range_with_len 0 k)) (sym (add-one n)))
-  where
-    grouped : (x y z : Bool) → ((x || y) || z) ≡ (x || (y || z))
-    grouped true y z = refl
-    grouped false y z = refl
-
-    alone : (x : Bool) → (false || x) ≡ (x || false)
-    alone true = refl
-    alone false = refl
-
-    more : (from k : ℕ) → (list_any p (range_with_len from k) || p (from + k)) ≡ list_any p (range_with_len from (suc k))
-    more from zero = let e : from + 0 ≡ from = omega arith in rw e (alone (p from))
-    more from (suc k) =
-        let e : from + suc k ≡ from + 1 + k = omega arith in
-        grouped (p from) (list_any p (range_with_len (from + 1) k)) (p (from + suc k))
-        ∙ ap (λ t. p from || t) (ap (λ j. list_any p (range_with_len (from + 1) k) || p j) e ∙ more (from + 1) k)

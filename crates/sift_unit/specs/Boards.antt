@@ -1,5 +1,5 @@
 -- A board, an account and a memory of the code, as the plain records of the definitions.
-use Rattle.std.specs.Prelude.{◌≡◌, ◌⊎◌, ℕ, ℤ, List, ◌+◌, ◌*◌, ◌<◌, ◌≤◌, map, length, slice_index_or, true, false, Some, pos}
+use Rattle.std.specs.Prelude.{◌≡◌, ◌⊎◌, ℕ, ◌+◌, ◌*◌, ◌<◌, ◌≤◌, map, length, slice_index_or, true, false, Some, pos}
 use Rattle.sift_base.specs.Units.{has, unit_limit}
 use Rattle.sift_buffer.specs.Conduct.{never, with_entered}
 use Rattle.sift_buffer.specs.Conduct.{Conduct as Acts}
@@ -10,40 +10,16 @@ use Rattle.sift_skew.specs.Limits.{offset_limit}
 use Rattle.sift_mission.specs.Data.{FlownMission}
 use Rattle.sift_mission.specs.Slots.{StormsCome}
 use Rattle.sift_conduct.specs.Conduct.{account_of}
-use Rattle.sift_unit.specs.Memory.{Memory}
 use Rattle.sift_conduct.specs.Acts.{BoardKeeps, IsUnderway}
 use Rattle.sift_mission.specs.Fits.{Fits}
-use Rattle.sift_unit.specs.Remembered.{IsShaped}
-use Rattle.sift_unit.specs.Tidings.{frame_account}
+use Rattle.sift_memory.specs.Stops.{part_of}
+use Rattle.sift_memory.specs.Conditions.{IsShaped}
+use Rattle.sift_memory.specs.Memories.{memory_of}
 use Rattle.sift_unit.specs.Keeping.{KeepsAs, HasFlown, IsFresh}
 use Rattle.sift_unit.specs.Desk.{Desk, cursor, first_desk, accounts_of}
 use Rattle.sift_unit.specs.Going.{Going}
 use Rattle.sift_conduct.specs.declared.account.Account.{Account as TheAccount}
-use Rattle.sift_unit.specs.declared.memory.Memory.{Memory as TheMemory}
 use Rattle.sift_unit.specs.declared.board.Board.{Board as TheBoard}
-use Rattle.sift_unit.specs.declared.part.Part.{Part}
-use Rattle.sift_unit.specs.declared.part.Part.TheVariants.{Hearing, Running, Saying}
-
--- the number of a part of a subframe
-abbrev pub part_of : Part → ℕ
-part_of Hearing = 0
-part_of Running = 1
-part_of Saying = 2
-
--- a memory
-abbrev pub memory_of : TheMemory → Memory
-memory_of b = record {
-  clock = b.clock;
-  next_clk = b.next_clk;
-  direct = b.direct;
-  ins = b.words.agreed;
-  relay = b.relay;
-  made = b.words.made;
-  outs = b.words.voted;
-  poll = b.poll;
-  reports = b.reports;
-  agreed = b.agreed;
-}
 
 -- a board
 abbrev pub desk_of : TheBoard → Desk
@@ -61,14 +37,6 @@ desk_of b = record {
   memory = memory_of b.memory;
   accounts = map account_of b.accounts.items;
 }
-
--- a memory that is in shape, and has this account of its frame, is in shape for the next
-abbrev pub TurnsInShape : List ℕ → ℕ → TheAccount → Memory → Memory → Type 0
-TurnsInShape us u a b b' = (m : FlownMission) (clk : ℤ) → IsShaped m us u b → account_of a ≡ frame_account m us u clk b → IsShaped m a.next_cfg u b'
-
--- the words before are those of this account
-abbrev pub TakesBefore : List ℕ → ℕ → TheAccount → Memory → List ℕ → Type 0
-TakesBefore us u a b before = (m : FlownMission) (clk : ℤ) → account_of a ≡ frame_account m us u clk b → before ≡ a.outs.items
 
 -- the port has the units, slots and frames of the mission
 pub record IsPortOf (m : FlownMission) (r : Ranges) : Type 0 where

@@ -1,11 +1,8 @@
 -- When a board is in flight, and when it may walk, pass, go on and note.
-use Rattle.std.specs.Prelude.{◌≡◌, ℕ, ◌<◌, List, length, true}
-use Rattle.sift_base.specs.Units.{has}
+use Rattle.std.specs.Prelude.{◌≡◌, ℕ, ◌<◌, true}
 use Rattle.sift_buffer.specs.Views.{View}
 use Rattle.sift_mission.specs.Data.{FlownMission}
 use Rattle.sift_mission.specs.Fits.{Fits}
-use Rattle.sift_unit.specs.Memory.{Memory}
-use Rattle.sift_unit.specs.Remembered.{IsShaped}
 use Rattle.sift_unit.specs.Desk.{Desk, is_end}
 use Rattle.sift_unit.specs.Going.{InRange}
 use Rattle.sift_unit.specs.Keeping.{IsEarly}
@@ -42,10 +39,3 @@ pub record MayGoOn (m : FlownMission) (b : TheBoard) : Type 0 where
   pub frame : b.frame < m.frames
   pub frames : b.frames ≡ m.frames
   pub end : is_end m (desk_of b) ≡ true
-
--- u may note in its memory b what it heard: it is in its configuration us, its memory is in shape, and there is a word before, in last, for
--- each output word
-pub record MayNote (m : FlownMission) (us : List ℕ) (u : ℕ) (b : Memory) (last : List ℕ) : Type 0 where
-  pub member : has us u ≡ true
-  pub shape : IsShaped m us u b
-  pub before : length last ≡ m.words

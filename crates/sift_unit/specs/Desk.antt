@@ -1,12 +1,13 @@
 -- A board as a plain record: where its unit stands in the flight, and what it remembers.
-use Rattle.std.specs.Prelude.{ℕ, ◌+◌, ◌*◌, ◌&&◌, ◌||◌, nat_lt, nat_eq, Bool, List, [], Option, if◌then◌else◌, slice_index_or, ℤ}
+use Rattle.std.specs.Prelude.{ℕ, ◌+◌, ◌&&◌, ◌||◌, nat_lt, nat_eq, Bool, List, [], Option, if◌then◌else◌, slice_index_or, ℤ}
 use Rattle.sift_base.specs.declared.slot.Slot.{Slot}
 use Rattle.sift_base.specs.declared.slot.Slot.TheVariants.{Report}
 use Rattle.sift_mission.specs.Data.{FlownMission}
 use Rattle.sift_mission.specs.Slots.{calls}
 use Rattle.sift_conduct.specs.Conduct.{Account}
-use Rattle.sift_unit.specs.Memory.{Memory}
-use Rattle.sift_unit.specs.Tidings.{frame_account}
+use Rattle.sift_memory.specs.Memory.{Memory}
+use Rattle.sift_memory.specs.Tidings.{frame_account}
+use Rattle.sift_memory.specs.Stops.{spot}
 
 -- a board: its unit; the place at which it stands, by frame, subframe, part, slot and other unit; its configuration, its clock's offset and
 -- the words voted in the frame before; by unit, what it heard in the slot at which it stands; what it remembers; and its accounts of all
@@ -28,21 +29,9 @@ pub record Desk : Type 0 where
 
 -- ---- places of a frame, in the order in which a board comes to them
 
--- the number of a place in its frame: each slot has 16 units at most, each part 128 slots, and each subframe 4 parts
-abbrev pub spot : ℕ → ℕ → ℕ → ℕ → ℕ
-spot subframe part slot other = subframe * 8192 + part * 2048 + slot * 16 + other
-
 -- where a board stands in its frame
 abbrev pub cursor : Desk → ℕ
 cursor b = spot b.subframe b.part b.slot b.other
-
--- where a slot is heard from p
-abbrev pub hear_spot : FlownMission → List ℕ → Slot → ℕ → ℕ
-hear_spot m us k p = spot (m.heard_in us k) 0 (m.number k) p
-
--- where a slot is said to q
-abbrev pub say_spot : FlownMission → List ℕ → Slot → ℕ → ℕ
-say_spot m us k q = spot (m.due us k) 2 (m.number k) q
 
 -- from where on all of a slot was heard
 abbrev pub heard_mark : FlownMission → List ℕ → Slot → ℕ

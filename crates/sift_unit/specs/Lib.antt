@@ -1,16 +1,11 @@
 pub mod BoardLaws
 pub mod Boards
-pub mod Carving
 pub mod Conditions
 pub mod Desk
 pub mod Down
-pub mod FrameWords
 pub mod Going
 pub mod Keeping
-pub mod Memory
 pub mod Passing
 pub mod Reach
 pub mod Remembered
 pub mod Stepping
-pub mod Stops
-pub mod Tidings

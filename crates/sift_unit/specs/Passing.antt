@@ -1,9 +1,8 @@
 -- What a board does of itself, without its port.
-use Rattle.std.specs.Prelude.{◌≡◌, ℕ, ◌+◌, ◌-◌, ◌*◌, ◌<◌, ◌≤◌, List, Bool, true, false}
-use Rattle.sift_base.specs.Units.{has, unit_limit}
+use Rattle.std.specs.Prelude.{◌≡◌, ℕ, ◌+◌, ◌-◌, ◌*◌, ◌<◌, ◌≤◌, Bool, false}
+use Rattle.sift_base.specs.Units.{unit_limit}
 use Rattle.sift_buffer.specs.Conduct.{Conduct as Acts}
-use Rattle.sift_mission.specs.Data.{FlownMission, IsConfigOf}
-use Rattle.sift_mission.specs.Fits.{Fits}
+use Rattle.sift_mission.specs.Data.{FlownMission}
 use Rattle.sift_unit.specs.Desk.{Desk, is_call}
 use Rattle.sift_unit.specs.Going.{InRange, Going}
 
@@ -39,34 +38,3 @@ pub record Finds (m : FlownMission) (b : Desk) (found : Bool) (b' : Desk) : Type
 -- how far a board is from the flight's end: by subframes that are left, and by places that are left in its own
 abbrev pub distance : FlownMission → Desk → ℕ
 distance m b = (m.frames * m.period - (b.frame * m.period + b.subframe)) * 8192 + left b
-
--- a configuration of the mission and the number of a slot
-pub record IsSlotOf (m : FlownMission) (us : List ℕ) (i : ℕ) : Type 0 where
-  pub config : IsConfigOf m us
-  pub slot : i < m.slots
-
--- a configuration of the mission and one of its units
-pub record IsUnitOf (m : FlownMission) (us : List ℕ) (u : ℕ) : Type 0 where
-  pub config : IsConfigOf m us
-  pub member : has us u ≡ true
-
--- a configuration of the mission and an output word
-pub record IsOutputOf (m : FlownMission) (us : List ℕ) (w : ℕ) : Type 0 where
-  pub config : IsConfigOf m us
-  pub word : w < m.words
-
--- a sensor of the mission and one of its frames
-pub record IsSensedIn (m : FlownMission) (x f : ℕ) : Type 0 where
-  pub sensor : x < m.sensors
-  pub frame : f < m.frames
-
--- a slot of a frame of the flight, in a mission that boards can fly
-pub record IsSlotOfFrame (m : FlownMission) (us : List ℕ) (f i : ℕ) : Type 0 where
-  pub fits : Fits m
-  pub slot : IsSlotOf m us i
-  pub frame : f < m.frames
-
--- a configuration of the mission and a task
-pub record IsTaskOf (m : FlownMission) (us : List ℕ) (t : ℕ) : Type 0 where
-  pub config : IsConfigOf m us
-  pub task : t < m.tasks

@@ -1,6 +1,6 @@
 -- What the memory of a board holds, over its unit's frame: what it heard, the account, and the words voted before.
-use Rattle.std.specs.Prelude.{◌≡◌, ◌≢◌, ℕ, ◌≤◌, List, length, map, slice_index, true, false, not, ◌&&◌, nat_eq, if◌then◌else◌, Option, Some, ℤ, ◌+ℤ◌}
-use Rattle.sift_base.specs.Units.{has, holds, unit_limit}
+use Rattle.std.specs.Prelude.{◌≡◌, ◌≢◌, ℕ, List, map, slice_index, true, false, not, ◌&&◌, nat_eq, Option, Some, ℤ, ◌+ℤ◌}
+use Rattle.sift_base.specs.Units.{has, holds}
 use Rattle.sift_base.specs.declared.slot.Slot.{Slot}
 use Rattle.sift_base.specs.declared.slot.Slot.TheVariants.{Clock, Sense, RelaySense, Out, Report, RelayReport}
 use Rattle.sift_vote.specs.Majority.{majority_of, agreed_of, differs}
@@ -10,8 +10,8 @@ use Rattle.sift_clock.specs.Correction.{corrected_offset}
 use Rattle.sift_mission.specs.Data.{FlownMission}
 use Rattle.sift_mission.specs.Slots.{executors}
 use Rattle.sift_conduct.specs.Conduct.{Account, UnitFrame, input_of, made, polled, voted, reading_by, clock_catches}
-use Rattle.sift_unit.specs.Memory.{Memory, place_at, units_at}
-use Rattle.sift_unit.specs.Tidings.{bad_now}
+use Rattle.sift_memory.specs.Memory.{Memory, place_at, units_at}
+use Rattle.sift_memory.specs.Tidings.{bad_now}
 
 -- the words of a poll, as the equations of conduct have them
 abbrev pub polled_words : UnitFrame → ℕ → List (Option ℕ)
@@ -58,14 +58,3 @@ Matches b a (RelayReport s) = Unit {0}
 -- the account has the catches of the memory, all of which are known
 abbrev pub Settled : FlownMission → List ℕ → Memory → Account → Type 0
 Settled m us b a = bad_now m us b ≡ a.bad
-
--- the lists of the memory have a place for each sensor, word and unit; those that the account takes have no more, and made words stand only
--- where the unit u is in its configuration us
-pub record IsShaped (m : FlownMission) (us : List ℕ) (u : ℕ) (b : Memory) : Type 0 where
-  pub direct : m.sensors ≤ length b.direct
-  pub ins : length b.ins ≡ m.sensors
-  pub relay : m.sensors ≤ length b.relay
-  pub made : length b.made ≡ (if has us u then m.words else 0)
-  pub outs : length b.outs ≡ m.words
-  pub poll : m.words ≤ length b.poll
-  pub agreed : unit_limit ≤ length b.agreed

@@ -2,11 +2,10 @@
 
 ghost use Rattle.std.specs.Prelude.{◌≡◌, ◌<◌, ◌≤◌, length, slice_index_or, vec_capacity};
 
-use crate::memory::Memory;
-use crate::part::Part;
 use sift_base::{UnitId, Word};
 use sift_conduct::Account;
 use sift_config::Config;
+use sift_memory::{Memory, Part};
 
 /// One unit in a flight: where it stands, what it remembers of the frame, and its accounts of the
 /// frames that it has ended.

@@ -1,22 +1,12 @@
 //! Boards, which fly missions: what one unit says, hears and does in each frame, step by step, on any port.
 #![tactic(auto)]
 
-mod accounting;
 mod board;
-mod duties;
-mod duty;
 mod laws;
-mod memory;
 mod new_board;
-mod noted;
-mod part;
-mod readings;
-mod spans;
 mod stepped;
 mod stepping;
-mod tidings;
 mod walk;
-mod word_file;
 
 pub use board::Board;
 pub use laws::{
@@ -25,8 +15,6 @@ pub use laws::{
     boards_that_turn_at_once_keep_to_it, boards_that_turn_keep_to_it, new_boards_keep_to_it,
     new_boards_may_step,
 };
-pub use memory::Memory;
-pub use part::Part;
 pub use sift_conduct::Account;
 pub use sift_mission::{Mission, MissionParts};
 pub use stepped::Stepped;

@@ -6,9 +6,8 @@ ghost use Rattle.sift_mission.specs.Parts.{flown_of};
 ghost use Rattle.sift_unit.specs.Boards.{IsNewBoard};
 
 use crate::board::Board;
-use crate::memory::Memory;
-use crate::part::Part;
 use sift_base::{NoMemory, UnitId};
+use sift_memory::{Memory, Part};
 use sift_mission::{Mission, a_mission_fits};
 use std::alloc::Global;
 

@@ -5,17 +5,16 @@ ghost use Rattle.sift_buffer.specs.Conditions.{MayTurn};
 ghost use Rattle.sift_buffer.specs.Views.{Turns};
 ghost use Rattle.sift_unit.specs.Desk.{is_hearing as at_hearing, is_saying as at_saying, is_end as at_end};
 ghost use Rattle.sift_mission.specs.Parts.{flown_of};
-ghost use Rattle.sift_unit.specs.Passing.{IsSlotOfFrame};
+ghost use Rattle.sift_memory.specs.Conditions.{IsSlotOfFrame};
 ghost use Rattle.sift_unit.specs.Stepping.{Steps, HasMoved};
 ghost use Rattle.sift_unit.specs.Conditions.{IsInFlight, MayWalk, MayGoOn};
 ghost use Rattle.sift_unit.specs.Boards.{desk_of, Drives, IsMarked, GoesOn, TurnsNext, BeginsNext};
 
 use crate::board::Board;
-use crate::duty::Duty;
-use crate::part::Part;
 use crate::stepped::Stepped;
 use sift_base::UnitId;
 use sift_buffer::{Entering, Port};
+use sift_memory::{Duty, Part};
 use sift_mission::Mission;
 use sift_skew::offsets_change_little;
 

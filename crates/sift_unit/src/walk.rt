@@ -8,8 +8,7 @@ ghost use Rattle.sift_unit.specs.Conditions.{MayWalk, MayPass, IsAtSlot};
 ghost use Rattle.sift_unit.specs.Boards.{desk_of, IsSameBoard};
 
 use crate::board::Board;
-use crate::duty::Duty;
-use crate::part::Part;
+use sift_memory::{Duty, Part};
 
 impl Board {
     /// Whether the board is in the part of its subframe in which it says words.

@@ -1,0 +1,10 @@
+pub mod Carved
+pub mod Due
+pub mod Filing
+pub mod InTurn
+pub mod Making
+pub mod Memories
+pub mod Polls
+pub mod Splices
+pub mod Writing
+pub mod lemmas

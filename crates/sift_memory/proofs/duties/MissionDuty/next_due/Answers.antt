@@ -1,0 +1,18 @@
+use Rattle.sift_mission.specs.Parts.{flown_of}
+use Rattle.sift_memory.proofs.Due.{none_heard, none_run, none_said}
+use Rattle.sift_memory.proofs.duties.MissionDuty.next_due.Goals as goal
+
+-- what isn't heard is passed over
+pub returns-in-Hearing-clause-idle : goal.returns-in-Hearing-clause-idle
+returns-in-Hearing-clause-idle c = rw c.in-Hearing.is
+    (none_heard (flown_of c.args.self.now) c.requires.fits c.args.config.now c.args.subframe c.args.slot c.next_heard.result c.next_heard.ensures.within c.next_heard.ensures.passed)
+
+-- what isn't run
+pub returns-in-Running-clause-idle : goal.returns-in-Running-clause-idle
+returns-in-Running-clause-idle c = rw c.in-Running.is
+    (none_run (flown_of c.args.self.now) c.requires.fits c.args.config.now c.args.subframe c.args.slot c.next_task.result c.next_task.ensures.within c.next_task.ensures.passed)
+
+-- and what isn't said
+pub returns-in-Saying-clause-idle : goal.returns-in-Saying-clause-idle
+returns-in-Saying-clause-idle c = rw c.in-Saying.is
+    (none_said (flown_of c.args.self.now) c.requires.fits c.args.config.now c.args.subframe c.args.slot c.next_said.result c.next_said.ensures.within c.next_said.ensures.passed)

@@ -1,0 +1,4 @@
+pub mod Offsets
+pub mod Sets
+pub mod Tasks
+pub mod Tests

@@ -1,0 +1,7 @@
+pub mod Carving
+pub mod Conditions
+pub mod FrameWords
+pub mod Memories
+pub mod Memory
+pub mod Stops
+pub mod Tidings

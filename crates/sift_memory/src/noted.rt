@@ -1,0 +1,291 @@
+//! What a unit notes of a slot, all of which it has heard.
+
+ghost use Rattle.std.specs.Prelude.{◌≡◌, ◌<◌, length, ◌&&◌, ℕ, ℤ, List, pos, Some, if◌then◌else◌, map, not, nat_eq, slice_index, true, unwrap_or};
+ghost use Rattle.std.specs.List.{filter};
+ghost use Rattle.sift_base.specs.Units.{has, holds};
+ghost use Rattle.sift_vote.specs.Majority.{differs as is_other};
+ghost use Rattle.sift_clock.specs.Distance.{IsWithin};
+ghost use Rattle.sift_skew.specs.Limits.{offset_limit};
+ghost use Rattle.sift_mission.specs.Data.{FlownMission};
+ghost use Rattle.sift_mission.specs.Fits.{Fits};
+ghost use Rattle.sift_memory.specs.Memory.{place_at, polled_at, note as note_of};
+ghost use Rattle.sift_memory.specs.Conditions.{IsShaped, IsUnitOf, IsOutputOf, IsSensedIn, IsSlotOfFrame, MayNote};
+ghost use Rattle.sift_memory.specs.Memories.{memory_of};
+ghost use Rattle.sift_base.specs.declared.slot.Slot.TheVariants.{Clock, RelaySense, Out, RelayReport};
+
+use crate::duty::Duty;
+use crate::memory::Memory;
+use crate::readings::{far_clocks, next_offset};
+use arrayvec::ArrayVec;
+use sift_agree::agree;
+use sift_base::{Slot, UnitId, UnitSet, Word};
+use sift_config::Config;
+use sift_vote::majority;
+
+/// A poll of an output word, as a unit takes it.
+#[derive(Clone, Copy)]
+struct Poll<'a> {
+    unit: UnitId,
+    /// The word's number.
+    word: u8,
+    /// The units that put the word out.
+    executors: UnitSet,
+    /// What was heard of it, by unit.
+    places: &'a [Option<Word>; 8],
+    ghost eight: { length places.now ≡ 8 },
+}
+
+impl Memory {
+    /// Notes what was heard of a slot, by unit.
+    #[inline(never)]
+    pub fn note<M: Duty>(
+        &mut self,
+        mission: &M,
+        config: &Config,
+        unit: UnitId,
+        frame: u32,
+        clk: &i64,
+        slot: usize,
+        places: &[Option<Word>; 8],
+    )
+        requires slot { IsSlotOfFrame (M.mission mission.now) config.now frame slot }
+        requires near { IsWithin offset_limit clk.now (pos 0) }
+        requires may { MayNote (M.mission mission.now) config.now unit (memory_of self.old) self.old.words.before }
+        ensures noted { memory_of self.new ≡ note_of (M.mission mission.now) config.now unit frame clk.now self.old.words.before ((M.mission mission.now).kind slot) places.now (memory_of self.old) }
+        ensures before { self.new.words.before ≡ self.old.words.before }
+    {
+        match mission.kind(slot) {
+            Slot::Clock => self.note_clocks(mission, config, unit, clk, places),
+            Slot::Sense(x) => {
+                let reader = config.reader_of(x);
+                self.direct[usize::from(x)] = places[usize::from(reader.get())];
+            }
+            Slot::RelaySense(x) => self.note_relays(mission, config, unit, frame, x, places),
+            Slot::Out(w) => self.note_poll(mission, config, unit, w, places),
+            Slot::Report => self.reports.copy_from_slice(places),
+            Slot::RelayReport(s) => self.note_report(config, unit, s, places),
+        }
+    }
+
+    /// Notes whose clock is too far away, and the next offset.
+    fn note_clocks<M: Duty>(
+        &mut self,
+        mission: &M,
+        config: &Config,
+        unit: UnitId,
+        clk: &i64,
+        places: &[Option<Word>; 8],
+    )
+        requires fits { Fits (M.mission mission.now) }
+        requires unit { IsUnitOf (M.mission mission.now) config.now unit }
+        requires near { IsWithin offset_limit clk.now (pos 0) }
+        ensures noted { (f : ℕ) (last : List ℕ) → memory_of self.new ≡ note_of (M.mission mission.now) config.now unit f clk.now last Clock places.now (memory_of self.old) }
+        ensures before { self.new.words.before ≡ self.old.words.before }
+    {
+        self.clock = far_clocks(mission, config, unit, clk, places);
+        self.next_clk = next_offset(mission, config, unit, clk, places);
+    }
+
+    /// Notes a sensor's word, and who relayed another.
+    fn note_relays<M: Duty>(
+        &mut self,
+        mission: &M,
+        config: &Config,
+        unit: UnitId,
+        frame: u32,
+        sensor: u8,
+        places: &[Option<Word>; 8],
+    )
+        requires fits { Fits (M.mission mission.now) }
+        requires sensed { IsSensedIn (M.mission mission.now) sensor frame }
+        requires shape { IsShaped (M.mission mission.now) config.now unit (memory_of self.old) }
+        ensures noted { (clk : ℤ) (last : List ℕ) → memory_of self.new ≡ note_of (M.mission mission.now) config.now unit frame clk last (RelaySense sensor) places.now (memory_of self.old) }
+        ensures before { self.new.words.before ≡ self.old.words.before }
+    {
+        let reader = config.reader_of(sensor);
+        if reader == unit {
+            let own = mission.sensed(sensor, frame);
+            self.words.agree(sensor, own);
+            self.relay[usize::from(sensor)] = liars(config, unit, own, places);
+            return;
+        }
+        let relays = relays_of(places, config, reader, unit);
+        let word = agree(self.direct_of(sensor), &relays);
+        self.words.agree(sensor, word);
+        self.relay[usize::from(sensor)] = UnitSet::empty();
+    }
+
+    /// The word of a sensor as its reader said it.
+    fn direct_of(&self, sensor: u8) -> Option<Word>
+        requires { sensor < 8 }
+        ensures { result ≡ place_at (memory_of self.now).direct sensor }
+    {
+        self.direct[usize::from(sensor)]
+    }
+
+    /// Notes the voted word of a number, and who put out another.
+    fn note_poll<M: Duty>(
+        &mut self,
+        mission: &M,
+        config: &Config,
+        unit: UnitId,
+        word: u8,
+        places: &[Option<Word>; 8],
+    )
+        requires fits { Fits (M.mission mission.now) }
+        requires word { IsOutputOf (M.mission mission.now) config.now word }
+        requires may { MayNote (M.mission mission.now) config.now unit (memory_of self.old) self.old.words.before }
+        ensures noted { (f : ℕ) (clk : ℤ) → memory_of self.new ≡ note_of (M.mission mission.now) config.now unit f clk self.old.words.before (Out word) places.now (memory_of self.old) }
+        ensures before { self.new.words.before ≡ self.old.words.before }
+    {
+        let executors = mission.executors(config, word);
+        let poll = Poll {
+            unit,
+            word,
+            executors,
+            places,
+        };
+        let ballots = self.ballots(config, &poll);
+        let vote = majority(&ballots);
+        let wrong = self.wrong_executors(config, &poll, &vote);
+        let voted = self.voted(word, &ballots, vote);
+        self.words.vote(word, voted);
+        self.poll[usize::from(word)] = wrong;
+    }
+
+    /// The word of a number after its poll: the vote, or 0 where there is none. Where there are no ballots, its task is shed,
+    /// and it stays what it was in the frame before.
+    fn voted(&self, word: u8, ballots: &[Option<Word>], vote: Option<Word>) -> Word
+        requires { word < length self.now.words.before }
+        ensures { result ≡ (if nat_eq (length ballots.now) 0 then slice_index self.now.words.before word else unwrap_or vote 0) }
+    {
+        if ballots.is_empty() {
+            return self.words.before(word);
+        }
+        vote.unwrap_or(Word::of(0))
+    }
+
+    /// The executors' words, in the order of their units. There are none where the word's task is shed.
+    fn ballots(&self, config: &Config, poll: &Poll<'_>) -> ArrayVec<Option<Word>, 8>
+        requires { poll.now.word < length (memory_of self.now).made }
+        ensures { result.items ≡ map (polled_at poll.now.unit (memory_of self.now) poll.now.places.now poll.now.word) (filter (holds poll.now.executors) config.now) }
+    {
+        let mut ballots = ArrayVec::new();
+        for position in 0..config.len() {
+            let executor = config.unit_at(position);
+            if poll.executors.has(executor) {
+                ballots.push(self.ballot(poll, executor));
+            }
+        }
+        ballots
+    }
+
+    /// The word of an executor in a poll: the own one as it was made, another's as it was heard.
+    fn ballot(&self, poll: &Poll<'_>, executor: UnitId) -> Option<Word>
+        requires { poll.now.word < length (memory_of self.now).made }
+        ensures { result ≡ polled_at poll.now.unit (memory_of self.now) poll.now.places.now poll.now.word executor }
+    {
+        if executor == poll.unit {
+            return Some(self.words.made(poll.word));
+        }
+        poll.places[usize::from(executor.get())]
+    }
+
+    /// The executors whose word is absent, or differs from a vote that is there.
+    fn wrong_executors(&self, config: &Config, poll: &Poll<'_>, vote: &Option<Word>) -> UnitSet
+        requires { poll.now.word < length (memory_of self.now).made }
+        ensures { (v : ℕ) → holds result v ≡ (has config.now v && (holds poll.now.executors v && is_other (polled_at poll.now.unit (memory_of self.now) poll.now.places.now poll.now.word v) vote.now)) }
+    {
+        let mut wrong = UnitSet::empty();
+        for position in 0..config.len() {
+            let executor = config.unit_at(position);
+            if self.is_wrong(poll, vote, executor) {
+                wrong = wrong.with(executor);
+            }
+        }
+        wrong
+    }
+
+    /// Whether a unit is an executor whose word is absent, or differs from a vote that is there.
+    fn is_wrong(&self, poll: &Poll<'_>, vote: &Option<Word>, executor: UnitId) -> bool
+        requires { poll.now.word < length (memory_of self.now).made }
+        ensures { result ≡ (holds poll.now.executors executor && is_other (polled_at poll.now.unit (memory_of self.now) poll.now.places.now poll.now.word executor) vote.now) }
+    {
+        poll.executors.has(executor) && differs(&self.ballot(poll, executor), vote)
+    }
+
+    /// Notes the agreed report of a unit.
+    fn note_report(&mut self, config: &Config, unit: UnitId, of: UnitId, places: &[Option<Word>; 8])
+        ensures noted { (m : FlownMission) (f : ℕ) (clk : ℤ) (last : List ℕ) → memory_of self.new ≡ note_of m config.now unit f clk last (RelayReport of) places.now (memory_of self.old) }
+        ensures before { self.new.words.before ≡ self.old.words.before }
+    {
+        let relays = relays_of(places, config, of, unit);
+        self.agreed[usize::from(of.get())] = agree(place_of(&self.reports, of), &relays);
+    }
+}
+
+/// The place of a unit.
+pub(crate) fn place_of(places: &[Option<Word>; 8], unit: UnitId) -> Option<Word>
+    ensures { result ≡ place_at places.now unit }
+{
+    places[usize::from(unit.get())]
+}
+
+/// Whether a place is absent, or differs from a vote that is there.
+fn differs(place: &Option<Word>, vote: &Option<Word>) -> bool
+    ensures { result ≡ is_other place.now vote.now }
+{
+    match (*place, *vote) {
+        (None, _) => true,
+        (Some(_), None) => false,
+        (Some(word), Some(winner)) => word != winner,
+    }
+}
+
+/// The other units that relayed another word than the own one, or none.
+fn liars(config: &Config, unit: UnitId, own: Word, places: &[Option<Word>; 8]) -> UnitSet
+    ensures { (v : ℕ) → holds result v ≡ (has config.now v && (not (nat_eq v unit) && is_other (place_at places.now v) (Some own))) }
+{
+    let told = Some(own);
+    let mut liars = UnitSet::empty();
+    for position in 0..config.len() {
+        let other = config.unit_at(position);
+        if lies(unit, &told, places, other) {
+            liars = liars.with(other);
+        }
+    }
+    liars
+}
+
+/// Whether it is another unit, whose relay is absent or differs from what it was told.
+fn lies(unit: UnitId, told: &Option<Word>, places: &[Option<Word>; 8], other: UnitId) -> bool
+    ensures { result ≡ (not (nat_eq other unit) && is_other (place_at places.now other) told.now) }
+{
+    other != unit && differs(&places[usize::from(other.get())], told)
+}
+
+/// Whether it is a unit other than these two.
+fn is_third(unit: UnitId, of: UnitId, own: UnitId) -> bool
+    ensures { result ≡ (not (nat_eq unit of) && not (nat_eq unit own)) }
+{
+    unit != of && unit != own
+}
+
+/// The words of the units other than these two, in their order.
+fn relays_of(
+    places: &[Option<Word>; 8],
+    config: &Config,
+    of: UnitId,
+    own: UnitId,
+) -> ArrayVec<Option<Word>, 8>
+    ensures { result.items ≡ map (place_at places.now) (filter (λ v. not (nat_eq v of) && not (nat_eq v own)) config.now) }
+{
+    let mut relays = ArrayVec::new();
+    for position in 0..config.len() {
+        let unit = config.unit_at(position);
+        if is_third(unit, of, own) {
+            relays.push(place_of(places, unit));
+        }
+    }
+    relays
+}
