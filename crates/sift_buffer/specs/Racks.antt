@@ -71,8 +71,12 @@ pub record IsStored (a : Rack) (u : ℕ) (s : Stray) (b : Rack) : Type 0 where
   pub last_unit : b.last_unit ≡ a.last_unit
   pub last_number : b.last_number ≡ a.last_number
 
--- a rack of this layout and number of frames on which no unit has done anything
+-- a rack of this layout and number of frames on which no unit has done anything: it is the port of unit 0, and nobody has looked
 pub record IsNewRack (x : Rack) (layout : Layout) (frames : ℕ) : Type 0 where
   pub layout_is : x.grid.layout ≡ layout
   pub frames_are : x.grid.frames ≡ frames
   pub core : core_of x (λ _. []) ≡ fresh_core (ranges_of layout frames)
+  pub unit : x.unit ≡ 0
+  pub looks : x.looks ≡ 0
+  pub last_unit : x.last_unit ≡ 0
+  pub last_number : x.last_number ≡ 0

@@ -20,7 +20,7 @@ use sift_base::{Layout, NoMemory, UnitId, Word};
 use std::alloc::Global;
 
 impl Rack {
-    /// A rack on which no unit has done anything, with the memory for all their acts.
+    /// A rack on which no unit has done anything, with the memory for all their acts. It is the port of unit 0.
     pub fn make(alloc: Global, layout: Layout, frames: u32) -> Result<Rack, NoMemory>
         requires { IsLayout layout }
         ensures { IfOk result (λ rack. IsNewRack rack layout frames) }

@@ -1,4 +1,4 @@
-use Rattle.std.proofs.Common.{◌≡◌, ◌∙◌}
+use Rattle.std.proofs.Common.{◌≡◌, ◌∙◌, refl, sym}
 use Rattle.sift_buffer.specs.Ranges.{shared_words}
 use Rattle.sift_buffer.specs.Tables.{ranges_of}
 use Rattle.sift_buffer.proofs.NewRacks.{core_fresh}
@@ -12,4 +12,8 @@ returns c =
       frames_are = c.of-grid.ensures.frames;
       core = core_fresh c.in_ok-words.words.items c.in_ok-acts.acts.items c.args.layout c.args.frames _
           (c.in_ok-words.ensures.items_if_clones_equal (λ y e. e)) (c.shared_words.ensures ∙ wide) c.in_ok-acts.ensures;
+      unit = let e = c.default.ensures in sym e.1 ∙ e.2;
+      looks = refl;
+      last_unit = refl;
+      last_number = refl;
     }
