@@ -18,7 +18,8 @@ use sift_config::Config;
 use sift_exec::{Catches, convict, next_config};
 
 impl Memory {
-    /// The account of a unit in a frame.
+    /// The account of a unit in a frame, of which all was noted and made. The offset of its clock, `clk`,
+    /// is in ticks.
     pub fn account<M: Duty>(&self, mission: &M, config: &Config, unit: UnitId, clk: &i64) -> Account
         requires fits { Fits (M.mission mission.now) }
         requires config { IsConfigOf (M.mission mission.now) config.now }

@@ -37,7 +37,7 @@ pub struct Memory {
 
 impl Memory {
     /// A memory with room for all that is to be remembered of a mission's frames, and the words before
-    /// frame 0.
+    /// frame 0. `NoMemory` comes where there is no memory for its words; no other call takes any.
     pub fn make<M: Duty>(alloc: Global, mission: &M) -> Result<Memory, NoMemory>
         requires fits { Fits (M.mission mission.now) }
         ensures shape { IfOk result (λ b. (u : ℕ) → has (M.mission mission.now).units u ≡ true → IsShaped (M.mission mission.now) (M.mission mission.now).units u (memory_of b)) }
@@ -55,7 +55,8 @@ impl Memory {
         })
     }
 
-    /// Runs a task, where the unit is to run it.
+    /// Runs a task, where the unit is to run it, on the agreed words, this frame's voted words and those
+    /// of the frame before.
     #[inline(never)]
     pub fn run<M: Duty>(&mut self, mission: &M, config: &Config, unit: UnitId, task: usize)
         requires task { IsTaskOf (M.mission mission.now) config.now task }
@@ -69,7 +70,8 @@ impl Memory {
         }
     }
 
-    /// Keeps what is read in the next frame of the words of one that this account is of.
+    /// Goes over to the next frame, and keeps what is read there of the words of the frame that this
+    /// account is of.
     pub fn turn_over(&mut self, config: &Config, unit: UnitId, account: &Account)
         ensures shape { TurnsInShape config.now unit account.now (memory_of self.old) (memory_of self.new) }
         ensures before { TakesBefore config.now unit account.now (memory_of self.old) self.new.words.before }

@@ -36,7 +36,8 @@ struct Poll<'a> {
 }
 
 impl Memory {
-    /// Notes what was heard of a slot, by unit.
+    /// Notes what was heard of a slot, by unit, once all of it was heard. The offset of the unit's clock,
+    /// `clk`, is in ticks.
     #[inline(never)]
     pub fn note<M: Duty>(
         &mut self,

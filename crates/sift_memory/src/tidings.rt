@@ -18,7 +18,8 @@ use sift_config::Config;
 use sift_exec::Catches;
 
 impl Memory {
-    /// The word to say in a slot to a unit: the own word, or what the script puts in its place.
+    /// The word to say in a slot to a unit: the own word, or what the script puts in its place. There is
+    /// none where nothing is to be said.
     pub fn word_to<M: Duty>(
         &self,
         mission: &M,
