@@ -30,7 +30,7 @@ adds old new len span c kept fits =
 -- ---- the spans of a frame
 
 -- a span has as many words as it says
-pub span_long : (pool : Region) (span : Extent) (number len : ℕ) → IsSpan pool span number len → length (words_at pool number) ≡ len
+span_long : (pool : Region) (span : Extent) (number len : ℕ) → IsSpan pool span number len → length (words_at pool number) ≡ len
 span_long pool span number len s = ap (λ n. length (words_at pool n)) (sym s.numbered) ∙ sym s.live.long ∙ s.long
 
 module _ (old new : Region) (kept : KeepsLive old new) where

@@ -66,7 +66,7 @@ module _ (m : FlownMission) (us : List ℕ) (u t : ℕ) (runs : Bool) (tells : (
 -- ---- units that pass a test, in turn
 
 -- values of those units in turn, one unit more
-pub passing_more : {A : Type 0} (f : ℕ → A) (p : ℕ → Bool) (us : List ℕ) (i t : ℕ) → slice_get us i ≡ Some t →
+passing_more : {A : Type 0} (f : ℕ → A) (p : ℕ → Bool) (us : List ℕ) (i t : ℕ) → slice_get us i ≡ Some t →
     map f (filter p (take (i + 1) us)) ≡ map f (filter p (take i us)) ++ (if p t then f t ∷ [] else [])
 passing_more {A = A} f p us i t at = rw (add-one i) (more us i at)
   where
@@ -82,7 +82,7 @@ passing_more {A = A} f p us i t at = rw (add-one i) (more us i at)
     ]
 
 -- they are no more than so many
-pub length-passing : {A : Type 0} (f : ℕ → A) (p : ℕ → Bool) (us : List ℕ) (i : ℕ) → length (map f (filter p (take i us))) ≤ i
+length-passing : {A : Type 0} (f : ℕ → A) (p : ℕ → Bool) (us : List ℕ) (i : ℕ) → length (map f (filter p (take i us))) ≤ i
 length-passing f p [] zero = omega arith
 length-passing f p [] (suc i) = omega arith
 length-passing f p (u ∷ us) zero = omega arith

@@ -6,5 +6,7 @@ pub mod Making
 pub mod Memories
 pub mod Polls
 pub mod Splices
+pub mod Sums
+pub mod Tests
 pub mod Writing
 pub mod lemmas

@@ -75,7 +75,7 @@ module _ (m : FlownMission) (program : ProgramTree) (runs : RunsProgram m progra
   module _ (code : Program) (of : IsCodeOf m.sensors m.words task code) (ins now last : List ℕ)
       (in_size : length ins ≡ m.sensors) (now_size : length now ≡ m.words) (last_size : length last ≡ m.words) where
     -- the task's code runs on as many words as there are
-    pub code_fits : Fits (inputs ins now last) code.limits
+    code_fits : Fits (inputs ins now last) code.limits
     code_fits = rw of.limits_are (record { sensed = in_size; made = now_size; last = last_size })
 
     -- a run of it leaves the task's words, put into their places

@@ -1,11 +1,11 @@
--- What may be asked of a mission beside one of its configurations, when a memory is in shape, and when its unit may note in it.
+-- What may be asked of a mission and its configurations and frames, when a memory is in shape, and when its unit may note in it.
 use Rattle.std.specs.Prelude.{◌≡◌, ℕ, ◌<◌, ◌≤◌, List, length, true, if◌then◌else◌}
 use Rattle.sift_base.specs.Units.{has, unit_limit}
 use Rattle.sift_mission.specs.Data.{FlownMission, IsConfigOf}
 use Rattle.sift_mission.specs.Fits.{Fits}
 use Rattle.sift_memory.specs.Memory.{Memory}
 
--- ---- of a mission and a configuration
+-- ---- of a mission, with a configuration or a frame
 
 -- a configuration of the mission and the number of a slot
 pub record IsSlotOf (m : FlownMission) (us : List ℕ) (i : ℕ) : Type 0 where

@@ -37,14 +37,6 @@ impl Duty for Mission {
         self.words()
     }
 
-    fn everyone(&self) -> Config {
-        self.everyone()
-    }
-
-    fn offset(&self, unit: UnitId) -> i64 {
-        self.offset(unit)
-    }
-
     fn starts(&self) -> &[Word] {
         self.starts()
     }

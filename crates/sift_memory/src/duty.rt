@@ -46,15 +46,6 @@ pub trait Duty {
     fn words(&self) -> usize
         ensures { result ≡ (mission self.now).words };
 
-    /// All units, which are the first configuration.
-    fn everyone(&self) -> Config
-        ensures { result ≡ (mission self.now).units };
-
-    /// The offset of a unit's clock at the start.
-    fn offset(&self, unit: UnitId) -> i64
-        requires { has (mission self.now).units unit ≡ true }
-        ensures { result ≡ (mission self.now).offset unit };
-
     /// The words before frame 0.
     fn starts(&self) -> &[Word]
         ensures words { result.now ≡ (mission self.now).starts }

@@ -18,19 +18,19 @@ use std::alloc::Global;
 #[derive(Drop)]
 pub struct Memory {
     /// The units caught by their clocks.
-    pub clock: UnitSet,
+    pub(crate) clock: UnitSet,
     /// The next offset.
-    pub next_clk: i64,
+    pub(crate) next_clk: i64,
     /// Each sensor's word, as its reader said it.
-    pub direct: [Option<Word>; 8],
+    pub(crate) direct: [Option<Word>; 8],
     /// By sensor, the units caught by their relays.
-    pub relay: [UnitSet; 8],
+    pub(crate) relay: [UnitSet; 8],
     /// By word, the units caught in its poll.
-    pub poll: [UnitSet; 64],
+    pub(crate) poll: [UnitSet; 64],
     /// Each unit's report, as it said it.
-    pub reports: [Option<Word>; 8],
+    pub(crate) reports: [Option<Word>; 8],
     /// Each unit's report, as it was agreed.
-    pub agreed: [Word; 8],
+    pub(crate) agreed: [Word; 8],
     /// The agreed words, the words before, the voted words and those that the unit made itself.
     pub(crate) words: WordFile,
 }

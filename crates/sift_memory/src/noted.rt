@@ -195,7 +195,8 @@ impl Memory {
     /// The executors whose word is absent, or differs from a vote that is there.
     fn wrong_executors(&self, config: &Config, poll: &Poll<'_>, vote: &Option<Word>) -> UnitSet
         requires { poll.now.word < length (memory_of self.now).made }
-        ensures { (v : ℕ) → holds result v ≡ (has config.now v && (holds poll.now.executors v && is_other (polled_at poll.now.unit (memory_of self.now) poll.now.places.now poll.now.word v) vote.now)) }
+        ensures { (v : ℕ) → holds result v ≡
+            (has config.now v && (holds poll.now.executors v && is_other (polled_at poll.now.unit (memory_of self.now) poll.now.places.now poll.now.word v) vote.now)) }
     {
         let mut wrong = UnitSet::empty();
         for position in 0..config.len() {

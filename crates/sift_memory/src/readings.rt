@@ -81,7 +81,8 @@ pub(crate) fn far_clocks<M: Duty>(
     places: &[Option<Word>; 8],
 ) -> UnitSet
     requires { IsUnitOf (M.mission mission.now) config.now unit }
-    ensures { (v : ℕ) → holds result v ≡ (has config.now v && (not (nat_eq v unit) && is_too_far ((M.mission mission.now).skew +ℤ (M.mission mission.now).error) (reading_at (M.mission mission.now) unit clk.now places.now v))) }
+    ensures { (v : ℕ) → holds result v ≡
+        (has config.now v && (not (nat_eq v unit) && is_too_far ((M.mission mission.now).skew +ℤ (M.mission mission.now).error) (reading_at (M.mission mission.now) unit clk.now places.now v))) }
 {
     let mut far = UnitSet::empty();
     for position in 0..config.len() {

@@ -8,8 +8,8 @@ use Rattle.sift_base.proofs.lemmas.Sets.{passing_ascend}
 use Rattle.sift_exec.specs.Conviction.{is_convicted, kept_by, next_by}
 use Rattle.sift_mission.specs.Data.{FlownMission, IsConfigOf}
 use Rattle.sift_mission.specs.Slots.{is_slot, calls, is_senders}
-use Rattle.sift_unit.proofs.Tests.{both}
 use Rattle.sift_memory.proofs.lemmas.Sets.{filter_has}
+use Rattle.sift_unit.proofs.Tests.{both}
 
 -- what a call tells, part by part
 pub record Call (m : FlownMission) (us : List ℕ) (k : Slot) (p q : ℕ) : Type 0 where

@@ -14,11 +14,11 @@ use Rattle.sift_conduct.specs.Frames.{IdleConduct}
 use Rattle.sift_conduct.proofs.lemmas.Tests.{any-same}
 use Rattle.sift_memory.specs.Memory.{Memory}
 use Rattle.sift_memory.specs.Tidings.{busy_account, idle_account, names_now}
-use Rattle.sift_unit.specs.Remembered.{Heard, with_clock}
 use Rattle.sift_memory.specs.Conditions.{IsShaped}
-use Rattle.sift_unit.proofs.Tests.{apart, any-and}
 use Rattle.sift_memory.proofs.lemmas.Tests.{and_in}
 use Rattle.sift_memory.proofs.lemmas.Sets.{holds-gathered, next-same}
+use Rattle.sift_unit.specs.Remembered.{Heard, with_clock}
+use Rattle.sift_unit.proofs.Tests.{apart, any-and}
 
 module _ (m : FlownMission) (us : List ℕ) (u f : ℕ) (clk : ℤ) (a : Account) (h : Places) (last : List ℕ) (config : IsConfigOf m us) where
   -- the unit in the frame

@@ -9,9 +9,9 @@ use Rattle.sift_mission.specs.Data.{FlownMission}
 use Rattle.sift_mission.specs.Slots.{StormsCome}
 use Rattle.sift_conduct.specs.Conduct.{Account}
 use Rattle.sift_mission.specs.Fits.{Fits}
-use Rattle.sift_unit.specs.Desk.{Desk, is_end, account_now, moved}
 use Rattle.sift_memory.specs.Memory.{Memory}
 use Rattle.sift_memory.specs.Conditions.{IsShaped}
+use Rattle.sift_unit.specs.Desk.{Desk, is_end, account_now, moved}
 use Rattle.sift_unit.specs.Going.{InRange, Going}
 use Rattle.sift_unit.specs.Keeping.{IsEarly}
 use Rattle.sift_unit.specs.Passing.{Passes, distance, left}

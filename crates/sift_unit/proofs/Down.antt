@@ -64,13 +64,13 @@ module _ (m : FlownMission) (b : TheBoard) (v : View) (d : Drives m b v) (down :
   under f low flies = ⊎_elim (λ ended. let e = ended.0 in omega arith)
       (λ (t : Turned m (desk_of b) v.conduct). before_storm f b.frame (subst (λ (o : Option ℕ). turned_by o f ≡ false) t.storm flies.whole)) at_end
 
-  pub kept_all : (absent : Account) → BoardKeeps m b.unit v.conduct (λ f. slice_index_or (desk_of b).accounts f absent) m.frames
+  kept_all : (absent : Account) → BoardKeeps m b.unit v.conduct (λ f. slice_index_or (desk_of b).accounts f absent) m.frames
   kept_all absent = keeps_by m b.unit v.conduct (accounts_of m (desk_of b)) (λ f. slice_index_or (desk_of b).accounts f absent) m.frames
       (λ f low flies. (stands m (desk_of b) v.conduct range).accounts f absent (under f low flies))
       ((drive_law m b v d).ended m.frames flown)
 
   -- there are as many accounts as frames before its unit's storm
-  pub count_all : length (desk_of b).accounts ≡ frames_before (m.storm b.unit) m.frames
+  count_all : length (desk_of b).accounts ≡ frames_before (m.storm b.unit) m.frames
   count_all = range.count ∙ ⊎_elim (λ ended. ended.0 ∙ sym (ap (λ (o : Option ℕ). frames_before o m.frames) ended.1))
       (λ (t : Turned m (desk_of b) v.conduct). sym (ap (λ (o : Option ℕ). frames_before o m.frames) t.storm ∙ min-eq_left range.frame)) at_end
 

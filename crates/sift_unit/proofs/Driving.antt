@@ -8,15 +8,15 @@ use Rattle.sift_buffer.specs.Views.{View, view_with_said, view_with_heard, view_
 use Rattle.sift_mission.specs.Data.{FlownMission}
 use Rattle.sift_mission.specs.Fits.{Fits}
 use Rattle.sift_memory.specs.Tidings.{word_to}
+use Rattle.sift_memory.specs.Conditions.{IsSlotOfFrame, IsShaped}
+use Rattle.sift_memory.specs.Memories.{memory_of}
 use Rattle.sift_unit.specs.Desk.{Desk, is_hearing, is_saying}
 use Rattle.sift_unit.specs.Going.{Going}
 use Rattle.sift_unit.specs.Passing.{Passes}
-use Rattle.sift_memory.specs.Conditions.{IsSlotOfFrame, IsShaped}
 use Rattle.sift_unit.specs.Stepping.{HasMoved, said, heard}
 use Rattle.sift_unit.specs.Keeping.{Turned, KeepsAs, IsEarly}
 use Rattle.sift_unit.specs.Conditions.{IsInFlight, MayWalk}
 use Rattle.sift_unit.specs.Boards.{desk_of, IsPortOf, Drives, IsSameBoard, IsMarked, GoesOn, TurnsNext, BeginsNext}
-use Rattle.sift_memory.specs.Memories.{memory_of}
 use Rattle.sift_unit.specs.declared.board.Board.{Board as TheBoard}
 use Rattle.sift_unit.proofs.Hearing.{hearing_is, hear_going}
 use Rattle.sift_unit.proofs.Saying.{saying_is, say_going}
@@ -25,7 +25,7 @@ use Rattle.sift_unit.proofs.Starting.{turned_on}
 use Rattle.sift_unit.proofs.Marks.{flying_as, FliesOn, early_flies, is_early, early_same, early_on, early_before, below_last}
 
 -- what a unit has seen is nothing that its board knows of
-pub seen_going : (m : FlownMission) (b : Desk) (c : Acts) (s : ℕ → ℕ) → Going m b c → Going m b (record c { seen = s })
+seen_going : (m : FlownMission) (b : Desk) (c : Acts) (s : ℕ → ℕ) → Going m b c → Going m b (record c { seen = s })
 seen_going m b c s g = record {
   range = g.range;
   progress = g.progress;

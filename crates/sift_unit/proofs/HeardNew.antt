@@ -18,14 +18,14 @@ use Rattle.sift_mission.specs.Slots.{executors, is_held, is_slot, is_senders, ca
 use Rattle.sift_conduct.specs.Conduct.{Account, Places, UnitFrame, unit_frame, polled, reading_by}
 use Rattle.sift_mission.specs.Fits.{Fits}
 use Rattle.sift_memory.specs.Memory.{Memory, place_at, reading_at, polled_at, poll_of, note}
-use Rattle.sift_unit.specs.Remembered.{Heard, Ran, polled_words, with_clock}
 use Rattle.sift_memory.specs.Conditions.{IsShaped}
-use Rattle.sift_unit.proofs.Tests.{apart, both, not_true}
 use Rattle.sift_memory.proofs.lemmas.Tests.{and_in}
 use Rattle.sift_memory.proofs.lemmas.Sets.{holds-gathered, filter_has, map-same}
-use Rattle.sift_unit.proofs.Calls.{call_is}
 use Rattle.sift_mission.proofs.lemmas.Configs.{has-reader}
 use Rattle.sift_mission.proofs.lemmas.Silent.{not_held}
+use Rattle.sift_unit.specs.Remembered.{Heard, Ran, polled_words, with_clock}
+use Rattle.sift_unit.proofs.Tests.{apart, both, not_true}
+use Rattle.sift_unit.proofs.Calls.{call_is}
 
 module _ (m : FlownMission) (us : List ℕ) (u f : ℕ) (clk : ℤ) (a : Account) (h : Places) (last : List ℕ) (fit : Fits m) (config : IsConfigOf m us) (member : has us u ≡ true) where
   -- the unit in the frame

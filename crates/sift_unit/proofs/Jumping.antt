@@ -4,15 +4,15 @@ use Rattle.std.proofs.lemmas.Bool.{cases_lt}
 use Rattle.sift_base.specs.Units.{has}
 use Rattle.sift_mission.specs.Data.{FlownMission}
 use Rattle.sift_mission.specs.Fits.{Fits}
-use Rattle.sift_unit.specs.Desk.{Desk, cursor, heard_mark, run_mark}
 use Rattle.sift_memory.specs.Stops.{spot, hear_spot, say_spot, IsNothingBetween, hearing, running, saying}
+use Rattle.sift_memory.proofs.lemmas.Tasks.{few_tasks}
+use Rattle.sift_unit.specs.Desk.{Desk, cursor, heard_mark, run_mark}
 use Rattle.sift_unit.specs.Going.{InRange}
 use Rattle.sift_unit.specs.BoardLaws.{JumpLaw}
 use Rattle.sift_unit.proofs.Tests.{not_both}
 use Rattle.sift_unit.proofs.Calls.{call_of}
 use Rattle.sift_unit.proofs.Acting.{small_of}
 use Rattle.sift_unit.proofs.Moving.{Skips, skip_going}
-use Rattle.sift_memory.proofs.lemmas.Tasks.{few_tasks}
 
 module _ (m : FlownMission) (fit : Fits m) where
   -- from the start of a slot to the next stop, or the subframe's end

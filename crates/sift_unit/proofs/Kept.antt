@@ -11,9 +11,9 @@ use Rattle.sift_conduct.specs.Conduct.{Account, Places, UnitFrame, unit_frame}
 use Rattle.sift_mission.specs.Fits.{is_caught_in}
 use Rattle.sift_memory.specs.Memory.{Memory, note, run, is_made_by}
 use Rattle.sift_memory.specs.Tidings.{busy_account}
-use Rattle.sift_unit.specs.Remembered.{Heard, Ran, Matches, Settled}
 use Rattle.sift_memory.specs.Conditions.{IsShaped}
 use Rattle.sift_memory.proofs.lemmas.Sets.{renewed-other, length-renewed}
+use Rattle.sift_unit.specs.Remembered.{Heard, Ran, Matches, Settled}
 
 module _ (m : FlownMission) (us : List ℕ) (u f : ℕ) (clk : ℤ) (a : Account) (h : Places) (last : List ℕ) where
   -- the unit in the frame

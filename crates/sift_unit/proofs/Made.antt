@@ -13,13 +13,13 @@ use Rattle.sift_conduct.specs.Conduct.{Account, Places, UnitFrame, unit_frame, o
 use Rattle.sift_mission.specs.Fits.{Fits}
 use Rattle.sift_memory.specs.Memory.{Memory, run, is_made_by}
 use Rattle.sift_memory.specs.Tidings.{word_now}
-use Rattle.sift_unit.specs.Remembered.{Heard, Ran, Matches, Settled}
 use Rattle.sift_memory.specs.Conditions.{IsShaped}
-use Rattle.sift_unit.proofs.Tests.{apart, not_true}
 use Rattle.sift_memory.proofs.lemmas.Sets.{renewed-here}
+use Rattle.sift_mission.proofs.lemmas.Silent.{not_held}
+use Rattle.sift_unit.specs.Remembered.{Heard, Ran, Matches, Settled}
+use Rattle.sift_unit.proofs.Tests.{apart, not_true}
 use Rattle.sift_unit.proofs.Calls.{call_of}
 use Rattle.sift_unit.proofs.Kept.{made_long}
-use Rattle.sift_mission.proofs.lemmas.Silent.{not_held}
 
 module _ (m : FlownMission) (us : List ℕ) (u f : ℕ) (clk : ℤ) (a : Account) (h : Places) (last : List ℕ) (fit : Fits m) (config : IsConfigOf m us) where
   -- the unit in the frame

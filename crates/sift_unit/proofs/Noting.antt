@@ -10,15 +10,15 @@ use Rattle.sift_mission.specs.Data.{FlownMission}
 use Rattle.sift_mission.specs.Slots.{is_slot}
 use Rattle.sift_mission.specs.Fits.{Fits, is_caught_in}
 use Rattle.sift_memory.specs.Memory.{Memory, note}
-use Rattle.sift_unit.specs.Remembered.{Heard}
 use Rattle.sift_memory.specs.Conditions.{IsShaped}
-use Rattle.sift_unit.specs.Desk.{Desk, cursor, heard_mark, run_mark}
 use Rattle.sift_memory.specs.Stops.{spot}
+use Rattle.sift_memory.proofs.lemmas.Tasks.{few_tasks}
+use Rattle.sift_unit.specs.Remembered.{Heard}
+use Rattle.sift_unit.specs.Desk.{Desk, cursor, heard_mark, run_mark}
 use Rattle.sift_unit.specs.Going.{Accounts, Words, ActsTo, Fate, InRange, Going, desk_frame}
 use Rattle.sift_unit.proofs.Kept.{heard_kept, ran_heard, matches_back, settled_back, shape_noted}
 use Rattle.sift_unit.proofs.HeardNew.{heard_new}
 use Rattle.sift_unit.proofs.Acting.{small_of, acts_on}
-use Rattle.sift_memory.proofs.lemmas.Tasks.{few_tasks}
 use Rattle.sift_unit.proofs.Skipping.{kind_is}
 
 module _ (m : FlownMission) (fit : Fits m) where

@@ -6,14 +6,14 @@ use Rattle.sift_base.specs.Units.{has, unit_limit}
 use Rattle.sift_mission.specs.Data.{FlownMission}
 use Rattle.sift_mission.specs.Fits.{Fits}
 use Rattle.sift_memory.specs.Memory.{Memory}
-use Rattle.sift_unit.specs.Desk.{Desk, cursor, is_hearing, is_saying, is_call, is_end, moved}
 use Rattle.sift_memory.specs.Stops.{spot, IsNothingBetween}
+use Rattle.sift_memory.proofs.lemmas.Tasks.{few_tasks}
+use Rattle.sift_unit.specs.Desk.{Desk, cursor, is_hearing, is_saying, is_call, is_end, moved}
 use Rattle.sift_unit.specs.Going.{InRange}
 use Rattle.sift_unit.specs.Passing.{Passes, Onward}
 use Rattle.sift_unit.specs.Boards.{IsSameBoard}
 use Rattle.sift_unit.specs.declared.board.Board.{Board as TheBoard}
 use Rattle.sift_unit.proofs.Tests.{neither, not_both}
-use Rattle.sift_memory.proofs.lemmas.Tasks.{few_tasks}
 use Rattle.sift_unit.proofs.Moving.{range_at, skip_range, skip_going}
 use Rattle.sift_unit.proofs.Skipping.{Idles, IsPartDone, pass_going, slot_going, part_going}
 use Rattle.sift_unit.proofs.Jumping.{jump_skips, idle_skips}
@@ -35,7 +35,7 @@ pub same_on : (a b d : TheBoard) → IsSameBoard a b → IsSameBoard b d → IsS
 same_on a b d p q = record { unit = q.unit ∙ p.unit; frames = q.frames ∙ p.frames; storm = q.storm ∙ p.storm; turned = q.turned ∙ p.turned }
 
 -- a board that isn't at its subframe's end is in an earlier part, or at an earlier slot
-pub inside_is : (m : FlownMission) (b : Desk) → InRange m b → is_end m b ≡ false → (b.part < 2) ⊎ (b.slot < m.slots)
+inside_is : (m : FlownMission) (b : Desk) → InRange m b → is_end m b ≡ false → (b.part < 2) ⊎ (b.slot < m.slots)
 inside_is m b r inside = let part = r.part in let slot = r.slot in dite (ℕ_discrete b.part 2)
     (λ e. dite (ℕ_discrete b.slot m.slots)
     (λ s. absurd (not_both _ inside (rw (eq-eqb b.part 2 e, eq-eqb b.slot m.slots s) refl)))

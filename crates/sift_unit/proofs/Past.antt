@@ -8,7 +8,7 @@ use Rattle.sift_memory.specs.Stops.{spot}
 use Rattle.sift_unit.specs.Desk.{is_past}
 
 -- a place is below both of two marks or neither, where it is below the first if it is below the second
-pub lt_moves : (s from to : ℕ) → from ≤ to → (s < to → s < from) → nat_lt s from ≡ nat_lt s to
+lt_moves : (s from to : ℕ) → from ≤ to → (s < to → s < from) → nat_lt s from ≡ nat_lt s to
 lt_moves s from to up free = elim (cases_Bool (nat_lt s to)) [
   | inl t ↦ rw (t, lt-ltb s from (free (ltb-true s to t))) refl
   | inr t ↦ let low = ltb-false s to t in rw (t, le-ltb s from (omega arith)) refl

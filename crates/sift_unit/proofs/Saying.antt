@@ -11,8 +11,9 @@ use Rattle.sift_conduct.specs.Conduct.{own_word, unit_frame}
 use Rattle.sift_conduct.specs.Acts.{heard_places}
 use Rattle.sift_mission.specs.Fits.{Fits}
 use Rattle.sift_memory.specs.Tidings.{word_now, word_to}
-use Rattle.sift_unit.specs.Desk.{Desk, cursor, is_saying, accounts_of, moved}
 use Rattle.sift_memory.specs.Stops.{spot, say_spot}
+use Rattle.sift_memory.proofs.lemmas.Tasks.{few_tasks}
+use Rattle.sift_unit.specs.Desk.{Desk, cursor, is_saying, accounts_of, moved}
 use Rattle.sift_unit.specs.Going.{Accounts, Words, word_in_frame, ActsTo, Fate, Meets, Going, desk_frame}
 use Rattle.sift_unit.proofs.Tests.{both}
 use Rattle.sift_unit.proofs.Calls.{call_of}
@@ -20,7 +21,6 @@ use Rattle.sift_unit.proofs.Made.{word_is}
 use Rattle.sift_unit.proofs.Acting.{small_of, acts_said, said_none}
 use Rattle.sift_unit.proofs.Standing.{stands}
 use Rattle.sift_unit.proofs.Moving.{fate_back, meets_on, free_place, range_place}
-use Rattle.sift_memory.proofs.lemmas.Tasks.{few_tasks}
 
 module _ (m : FlownMission) (fit : Fits m) where
   -- where a board stands that says

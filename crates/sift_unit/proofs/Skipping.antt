@@ -9,13 +9,13 @@ use Rattle.sift_buffer.specs.Conduct.{Conduct as Acts}
 use Rattle.sift_mission.specs.Data.{FlownMission}
 use Rattle.sift_mission.specs.Slots.{is_slot, calls}
 use Rattle.sift_mission.specs.Fits.{Fits}
-use Rattle.sift_unit.specs.Desk.{Desk, cursor, is_hearing, is_saying, moved}
 use Rattle.sift_memory.specs.Stops.{hear_spot, say_spot}
+use Rattle.sift_memory.proofs.lemmas.Tasks.{few_tasks}
+use Rattle.sift_unit.specs.Desk.{Desk, cursor, is_hearing, is_saying, moved}
 use Rattle.sift_unit.specs.Going.{Going}
 use Rattle.sift_unit.proofs.Tests.{not_both}
 use Rattle.sift_unit.proofs.Past.{spot_same}
 use Rattle.sift_unit.proofs.Acting.{small_of}
-use Rattle.sift_memory.proofs.lemmas.Tasks.{few_tasks}
 use Rattle.sift_unit.proofs.Moving.{free_place, skip_going}
 use Rattle.sift_unit.proofs.Hearing.{hearing_at}
 use Rattle.sift_unit.proofs.Saying.{said_on, saying_at}

@@ -37,7 +37,7 @@ module _ (m : FlownMission) (b : Desk) (strays : List Stray) where
     meets = λ a h fate. meets_with c a h (going.meets a h (fate_without c a h fate));
   }
 
-  pub keeps_with : (turned : Bool) (c : Acts) → KeepsAs m turned b c → KeepsAs m turned b (with_strays c)
+  keeps_with : (turned : Bool) (c : Acts) → KeepsAs m turned b c → KeepsAs m turned b (with_strays c)
   keeps_with true c keeps = record {
     storm = keeps.storm;
     at = keeps.at;

@@ -1,4 +1,4 @@
--- A board, an account and a memory of the code, as the plain records of the definitions.
+-- A board of the code as the plain record of the definitions, what its steps want and keep, and what it has kept and accounted for.
 use Rattle.std.specs.Prelude.{◌≡◌, ◌⊎◌, ℕ, ◌+◌, ◌*◌, ◌<◌, ◌≤◌, map, length, slice_index_or, true, false, Some, pos}
 use Rattle.sift_base.specs.Units.{has, unit_limit}
 use Rattle.sift_buffer.specs.Conduct.{never, with_entered}
@@ -9,16 +9,16 @@ use Rattle.sift_clock.specs.Distance.{IsWithin}
 use Rattle.sift_skew.specs.Limits.{offset_limit}
 use Rattle.sift_mission.specs.Data.{FlownMission}
 use Rattle.sift_mission.specs.Slots.{StormsCome}
+use Rattle.sift_mission.specs.Fits.{Fits}
 use Rattle.sift_conduct.specs.Conduct.{account_of}
 use Rattle.sift_conduct.specs.Acts.{BoardKeeps, IsUnderway}
-use Rattle.sift_mission.specs.Fits.{Fits}
+use Rattle.sift_conduct.specs.declared.account.Account.{Account as TheAccount}
 use Rattle.sift_memory.specs.Stops.{part_of}
 use Rattle.sift_memory.specs.Conditions.{IsShaped}
 use Rattle.sift_memory.specs.Memories.{memory_of}
 use Rattle.sift_unit.specs.Keeping.{KeepsAs, HasFlown, IsFresh}
 use Rattle.sift_unit.specs.Desk.{Desk, cursor, first_desk, accounts_of}
 use Rattle.sift_unit.specs.Going.{Going}
-use Rattle.sift_conduct.specs.declared.account.Account.{Account as TheAccount}
 use Rattle.sift_unit.specs.declared.board.Board.{Board as TheBoard}
 
 -- a board

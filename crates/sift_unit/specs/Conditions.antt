@@ -1,4 +1,4 @@
--- When a board is in flight, and when it may walk, pass, go on and note.
+-- When a board is in flight or stands at a slot, and when it may walk, pass and go on.
 use Rattle.std.specs.Prelude.{◌≡◌, ℕ, ◌<◌, true}
 use Rattle.sift_buffer.specs.Views.{View}
 use Rattle.sift_mission.specs.Data.{FlownMission}

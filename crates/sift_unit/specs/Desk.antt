@@ -27,7 +27,7 @@ pub record Desk : Type 0 where
   pub memory : Memory
   pub accounts : List Account
 
--- ---- places of a frame, in the order in which a board comes to them
+-- ---- where a board stands in its frame, and from where on what is past
 
 -- where a board stands in its frame
 abbrev pub cursor : Desk → ℕ

@@ -10,11 +10,11 @@ use Rattle.sift_conduct.specs.Conduct.{Account, Places, UnitFrame, unit_frame, o
 use Rattle.sift_conduct.specs.Frames.{last_of, BeginConduct, IdleConduct}
 use Rattle.sift_conduct.specs.Acts.{stamp_and_moment}
 use Rattle.sift_memory.specs.Memory.{Memory, place_at}
-use Rattle.sift_unit.specs.Remembered.{Heard, Ran, Matches, Settled}
 use Rattle.sift_memory.specs.Conditions.{IsShaped}
+use Rattle.sift_memory.specs.Stops.{hear_spot, say_spot}
+use Rattle.sift_unit.specs.Remembered.{Heard, Ran, Matches, Settled}
 use Rattle.sift_unit.specs.Reach.{IsNearIn, IsNear}
 use Rattle.sift_unit.specs.Desk.{Desk, cursor, heard_mark, run_mark, settled_mark, is_past}
-use Rattle.sift_memory.specs.Stops.{hear_spot, say_spot}
 
 -- the account of each frame
 abbrev pub Accounts : Type 0

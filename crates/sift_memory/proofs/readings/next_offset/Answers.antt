@@ -5,7 +5,8 @@ use Rattle.std.proofs.lemmas.Int.{to_z-of_z}
 use Rattle.std.proofs.lemmas.List.{length-map}
 use Rattle.sift_memory.specs.Memory.{reading_at, offset_after}
 use Rattle.sift_memory.proofs.InTurn.{few_units, others_and_one}
-use Rattle.sift_memory.proofs.lemmas.Offsets.{next_little, offset_sum, advanced_fits}
+use Rattle.sift_memory.proofs.Sums.{offset_sum, advanced_fits}
+use Rattle.sift_memory.proofs.lemmas.Offsets.{next_little}
 use Rattle.sift_memory.proofs.readings.next_offset.Goals as goal
 
 -- there are eight units at most

@@ -3,8 +3,8 @@ use Rattle.std.specs.FinSet as set
 use Rattle.std.specs.Cmp.{nat_cmp_total}
 use Rattle.sift_base.specs.Units.{holds}
 use Rattle.sift_memory.specs.Memory.{units_at}
-use Rattle.sift_memory.proofs.lemmas.Tests.{any-more}
 use Rattle.sift_memory.proofs.Memories.{set_at}
+use Rattle.sift_memory.proofs.Tests.{any-more}
 use Rattle.sift_memory.proofs.tidings.union_of.Goals as goal
 
 pub loop-i-init : goal.loop-i-init

@@ -1,6 +1,6 @@
 use Rattle.std.proofs.Common.{◌∙◌, ap}
-use Rattle.sift_unit.specs.Boards.{desk_of}
 use Rattle.sift_memory.specs.Stops.{part_of}
+use Rattle.sift_unit.specs.Boards.{desk_of}
 use Rattle.sift_unit.proofs.Finding.{none_at_end, none_running}
 use Rattle.sift_unit.proofs.board.Board.finds_unit.Goals as goal
 

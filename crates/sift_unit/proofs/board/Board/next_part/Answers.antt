@@ -1,5 +1,5 @@
-use Rattle.sift_unit.specs.Boards.{desk_of}
 use Rattle.sift_memory.specs.Stops.{part_of}
+use Rattle.sift_unit.specs.Boards.{desk_of}
 use Rattle.sift_unit.proofs.Passing.{part_onward}
 use Rattle.sift_unit.proofs.board.Board.next_part.Goals as goal
 

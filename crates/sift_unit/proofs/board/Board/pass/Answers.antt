@@ -1,8 +1,8 @@
 use Rattle.std.proofs.Common.{◌≡◌, ◌<◌, ap, inl, inr, arith}
 use mathlib.Core.Logic.{dite}
 use native.Mathlib.Decide.{ℕ_discrete}
-use Rattle.sift_unit.specs.Boards.{desk_of}
 use Rattle.sift_memory.specs.Stops.{part_of}
+use Rattle.sift_unit.specs.Boards.{desk_of}
 use Rattle.sift_unit.proofs.Passing.{jump_onward, slot_onward}
 use Rattle.sift_unit.proofs.board.Board.pass.Goals as goal
 

@@ -1,6 +1,6 @@
 use Rattle.std.proofs.Common.{◌∙◌, sym, arith}
-use Rattle.sift_unit.specs.Boards.{desk_of}
 use Rattle.sift_memory.specs.Memories.{memory_of}
+use Rattle.sift_unit.specs.Boards.{desk_of}
 use Rattle.sift_unit.proofs.Passing.{slot_onward, note_onward}
 use Rattle.sift_unit.proofs.board.Board.pass_hearing.Goals as goal
 
