@@ -27,6 +27,12 @@ hear_spot m us k p = spot (m.heard_in us k) 0 (m.number k) p
 abbrev pub say_spot : FlownMission → List ℕ → Slot → ℕ → ℕ
 say_spot m us k q = spot (m.due us k) 2 (m.number k) q
 
+-- in this part of a subframe there is something to do of a slot, which is a task's number in the part in which tasks are run
+abbrev pub IsDueIn : FlownMission → List ℕ → ℕ → Part → ℕ → Type 0
+IsDueIn m us subframe Hearing slot = m.heard_in us (m.kind slot) ≡ subframe
+IsDueIn m us subframe Running slot = m.run_in us slot ≡ subframe
+IsDueIn m us subframe Saying slot = m.due us (m.kind slot) ≡ subframe
+
 -- ---- stops
 
 -- a place is the first of a slot that is heard, of a task that is run, or of a slot that is said

@@ -8,7 +8,7 @@ ghost use Rattle.sift_mission.specs.Data.{FlownMission, IsConfigOf};
 ghost use Rattle.sift_mission.specs.Slots.{calls, IsFirstFrom};
 ghost use Rattle.sift_mission.specs.Fits.{Fits};
 ghost use Rattle.sift_memory.specs.Memory.{with_task_made};
-ghost use Rattle.sift_memory.specs.Stops.{spot, IsNothingBetween, part_of};
+ghost use Rattle.sift_memory.specs.Stops.{spot, part_of, IsDueIn, IsNothingBetween};
 ghost use Rattle.sift_memory.specs.Conditions.{IsSlotOf, IsTaskOf, IsOutputOf, IsSensedIn};
 ghost use Rattle.sift_memory.specs.FrameWords.{HasAllWords};
 
@@ -101,6 +101,7 @@ pub trait Duty {
         requires slot { slot ≤ (mission self.now).slots }
         ensures from { slot ≤ result }
         ensures to { result ≤ (mission self.now).slots }
+        ensures found { result < (mission self.now).slots → IsDueIn (mission self.now) config.now subframe part result }
         ensures idle { IsNothingBetween (mission self.now) config.now (spot subframe (part_of part) slot 0) (spot subframe (part_of part) result 0) };
 
     /// How far another clock may be ahead or behind as it is read: the skew and the reading error.

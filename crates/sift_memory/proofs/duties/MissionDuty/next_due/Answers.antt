@@ -16,3 +16,13 @@ returns-in-Running-clause-idle c = rw c.in-Running.is
 pub returns-in-Saying-clause-idle : goal.returns-in-Saying-clause-idle
 returns-in-Saying-clause-idle c = rw c.in-Saying.is
     (none_said (flown_of c.args.self.now) c.requires.fits c.args.config.now c.args.subframe c.args.slot c.next_said.result c.next_said.ensures.within c.next_said.ensures.passed)
+
+-- what is found is due
+pub returns-in-Hearing-clause-found : goal.returns-in-Hearing-clause-found
+returns-in-Hearing-clause-found c = rw c.in-Hearing.is c.next_heard.ensures.found
+
+pub returns-in-Running-clause-found : goal.returns-in-Running-clause-found
+returns-in-Running-clause-found c = rw c.in-Running.is c.next_task.ensures.found
+
+pub returns-in-Saying-clause-found : goal.returns-in-Saying-clause-found
+returns-in-Saying-clause-found c = rw c.in-Saying.is c.next_said.ensures.found
