@@ -1,3 +1,2 @@
 pub mod Ascending
 pub mod Shifts
-pub mod lemmas

@@ -1,9 +1,9 @@
 pub mod Draw
 pub mod Layout
 pub mod Name
-pub mod ReadBack
 pub mod Requirement
 pub mod Shapes
 pub mod Stop
 pub mod Units
 pub mod Word
+pub mod laws

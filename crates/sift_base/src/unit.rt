@@ -34,8 +34,8 @@ impl UnitId {
         }
     }
 
-    /// The unit of a number that is known to be below 8.
-    pub(crate) fn low(n: u8) -> UnitId
+    /// The unit of a number that is known to be below 8. Where that isn't known, `of` asks.
+    pub fn numbered(n: u8) -> UnitId
         requires { n < unit_limit }
         ensures { result ≡ n }
     {

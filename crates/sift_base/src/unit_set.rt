@@ -4,7 +4,7 @@ ghost use Rattle.std.specs.Prelude.{◌≡◌, ◌<◌, ◌^◌, length, slice_g
 ghost use Rattle.std.specs.Coded.{coded_ℕ};
 ghost use Rattle.std.specs.FinSet as set;
 ghost use Rattle.sift_base.specs.Units.{Units, holds, members, units_of, bits_of, AreUnits, MembersAreTheSet};
-ghost use Rattle.sift_base.specs.ReadBack.{bits_of-units_of};
+ghost use Rattle.sift_base.specs.laws.ReadBack.{bits_of-units_of};
 
 use crate::unit::UnitId;
 use std::marker::Model;
@@ -101,7 +101,7 @@ impl UnitSet {
         requires { 0 < length (members self) }
         ensures { slice_get (members self) 0 ≡ Some result }
     {
-        UnitId::low(self.bits.trailing_zeros() as u8)
+        UnitId::numbered(self.bits.trailing_zeros() as u8)
     }
 
     /// How many units are members.

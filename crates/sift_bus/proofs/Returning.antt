@@ -15,8 +15,7 @@ use Rattle.sift_mission.specs.Data.{MissionData, FlownMission}
 use Rattle.sift_mission.specs.Fits.{Fits}
 use Rattle.sift_mission.specs.Flown.{flown}
 use Rattle.sift_mission.specs.PartsFit.{PartsFit}
-use Rattle.sift_mission.specs.Slots.{calls, heard_at, stamp_of}
-use Rattle.sift_mission.proofs.lemmas.Storms.{turned_by}
+use Rattle.sift_mission.specs.Slots.{calls, heard_at, stamp_of, turned_by}
 use Rattle.sift_conduct.specs.Conduct.{Account, account_of}
 use Rattle.sift_conduct.specs.declared.account.Account.{Account as TheAccount}
 use Rattle.sift_conduct.specs.Acts.{BoardKeeps, stamp_and_moment}
@@ -41,7 +40,7 @@ use Rattle.sift_bus_port.specs.Links.{GoesOn, Link, first_link, link_of}
 use Rattle.sift_bus_port.specs.Logs.{blank_log, log_of}
 use Rattle.sift_bus_port.specs.Telling.{LogsTellWhatWasHeard}
 use Rattle.sift_bus_port.specs.declared.log.BusLog.{BusLog}
-use Rattle.sift_config.proofs.lemmas.FirstUnits.{low_unit, unit_low}
+use Rattle.sift_config.specs.laws.FirstUnits.{low_unit, unit_low}
 use Rattle.sift_bus.proofs.Seating.{places_for, units_of}
 use Rattle.sift_bus.proofs.SeatsTaken.{boarded_long, boarded_at}
 use Rattle.sift_bus_port.proofs.lemmas.Ranges.{same_ranges}

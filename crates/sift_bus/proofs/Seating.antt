@@ -10,7 +10,7 @@ use Rattle.sift_unit.specs.Boards.{Drives, IsNewBoard, NewBoardLaw, IsPortOf}
 use Rattle.sift_unit.specs.declared.board.Board.{Board}
 use Rattle.sift_config.specs.Config.{first_units}
 use Rattle.sift_flight.specs.Landing.{HasPlacesFor}
-use Rattle.sift_config.proofs.lemmas.FirstUnits.{unit_low}
+use Rattle.sift_config.specs.laws.FirstUnits.{unit_low}
 
 -- a port of the mission's layout and frames has room for the mission
 port_fits : (d : MissionData) → PartsFit d → IsPortOf (flown d) (ranges_of d.layout d.frames)

@@ -2,7 +2,7 @@
 ghost use Rattle.std.specs.Prelude.{◌≡◌, ◌+◌, ◌<◌, ◌∷◌, IfOk, length, map, true};
 ghost use Rattle.std.specs.List.{AllZip};
 ghost use Rattle.std.specs.Vec.Iter.{into_iter_items, into_iter_len};
-ghost use Rattle.sift_base.specs.Units.{has, unit_limit};
+ghost use Rattle.sift_base.specs.Units.{has};
 ghost use Rattle.sift_mission.specs.Parts.{flown_of};
 ghost use Rattle.sift_ether.specs.Seating.{IsTokenBack};
 ghost use Rattle.sift_ether.specs.Tokens.{IsMade};
@@ -44,14 +44,6 @@ fn board_unit<'a, B: Bus>(
     Ok(Flyer { board, port })
 }
 
-/// The unit of a number.
-fn unit_numbered(number: usize) -> UnitId
-    requires { number < unit_limit }
-    ensures { result ≡ number }
-{
-    UnitId::of(number as u8).unwrap()
-}
-
 /// The next of tokens, of which there is one.
 fn next_token(tokens: &mut IntoIter<Token>) -> Token
     requires { 0 < into_iter_len tokens.old }
@@ -83,7 +75,7 @@ pub(crate) fn board_all<'a, B: Bus>(
     let mut flyers = Vec::with_capacity(alloc, units)?;
     let mut tokens = tokens.into_iter();
     for bus in buses {
-        let unit = unit_numbered(flyers.len());
+        let unit = UnitId::numbered(flyers.len() as u8);
         let token = next_token(&mut tokens);
         flyers.push_reserved(board_unit(alloc, mission, ether, token, unit, faulty, bus)?);
     }

@@ -3,7 +3,7 @@ use Rattle.std.proofs.Common.{◌≡◌, ℕ, zero, suc, ◌+◌, ◌<◌, ◌||
 use Rattle.std.specs.List.{flat_map, list_any, range_with_len}
 use Rattle.std.proofs.lemmas.List.Concat.{flat_map-cons}
 use Rattle.std.proofs.lemmas.List.Folds.{list_any-append}
-use Rattle.sift_line.proofs.lemmas.Printed.{range-more}
+use Rattle.sift_line.specs.laws.Printed.{range-more}
 use Rattle.sift_bus_jobs.specs.Text.{end_line, frame_text, words_text}
 
 none_after : (b c : Bool) → (b || (c || false)) ≡ (b || c)

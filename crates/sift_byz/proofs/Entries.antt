@@ -1,12 +1,12 @@
 -- The vectors of a plan.
 use Rattle.std.proofs.Common.{◌≡◌, ℕ, suc, ◌<◌, ◌≤◌, ◌||◌, ◌&&◌, inl, inr, List, [], ◌∷◌, ◌++◌, length, map, reverse, get_or, Bool, true, false, not, nat_eq, Option, None, refl, sym, ap, ◌∙◌, arith}
 use Rattle.std.specs.Str.{bytes_eq}
-use Rattle.std.proofs.lemmas.Bool.{and_parts, cases_Bool, eqb-true}
+use Rattle.std.proofs.lemmas.Bool.{and_parts, cases_Bool, eqb-true, eqb-false, eq-eqb}
 use Rattle.std.proofs.lemmas.List.{reverse-append}
 use Rattle.std.proofs.lemmas.List.FromFn.{get_or-map-range_with_len, length-map-range_with_len, length-range_with_len}
 use Rattle.std.proofs.lemmas.Slice.Eq.{bytes_eq-Decides}
 use Rattle.sift_base.specs.Units.{faulty_count, has, others}
-use Rattle.sift_base.proofs.lemmas.Counts.{apart, count-no, count-yes, nat_eq-same}
+use Rattle.sift_base.specs.laws.Counts.{count-no, count-yes}
 use Rattle.sift_vote.specs.Majority.{agreed_of}
 use Rattle.sift_byz.specs.Laws.{LoyalValuesAreKept, OneTraitorIsAsInFlights, VectorsAreEqual, VectorsHoldTheEntries}
 use Rattle.sift_byz.specs.Plan.{IsSquare, LieData, PlanData, TraitorsAreFew, all_units, entry, first_lie, heard, is_loyal, stands_last, tells_some, traitor_count, value_of, vector, vectors_of}
@@ -28,7 +28,7 @@ stands_last-append u (v ∷ w ∷ rest) r = stands_last-append u (w ∷ rest) r
 last_written : (written : List ℕ) (r : ℕ) (path : List ℕ) → bytes_eq written (reverse (r ∷ path)) ≡ true → stands_last r written ≡ true
 last_written written r path same =
     ap (stands_last r) ((bytes_eq-Decides written (reverse (r ∷ path))).0 same ∙ reverse-append (r ∷ []) path)
-    ∙ stands_last-append r (reverse path) r ∙ nat_eq-same r
+    ∙ stands_last-append r (reverse path) r ∙ eq-eqb r r refl
 
 -- where neither of two holds, each fails
 neither : (a b : Bool) → (a || b) ≡ false → (a ≡ false) × (b ≡ false)
@@ -86,7 +86,7 @@ one_left plan s low =
 
 -- another unit is outside of it
 other_left : (plan : PlanData) (s q : ℕ) → q < plan.units → nat_eq s q ≡ false → has (outside (all_units plan) (s ∷ [])) q ≡ true
-other_left plan s q low other = still_outside (all_units plan) [] s q (outside_none plan q low) (apart s q other)
+other_left plan s q low other = still_outside (all_units plan) [] s q (outside_none plan q low) (eqb-false s q other)
 
 -- the traitors outside are no more than all
 traitors_left : (plan : PlanData) (s : ℕ) → faulty_count (is_loyal plan) (outside (all_units plan) (s ∷ [])) ≤ faulty_count (is_loyal plan) (all_units plan)

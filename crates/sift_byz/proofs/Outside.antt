@@ -1,11 +1,11 @@
 -- The units outside of a path.
 use Rattle.std.proofs.Common.{◌≡◌, ◌≢◌, ℕ, zero, suc, ◌+◌, ◌<◌, ◌≤◌, inl, inr, List, [], ◌∷◌, ◌++◌, length, map, Bool, true, false, not, nat_eq, refl, sym, ap, ◌∙◌, arith}
 use Rattle.std.specs.List.{range_with_len}
-use Rattle.std.proofs.lemmas.Bool.{cases_Bool, eq-eqb, eqb-true, or_cases}
+use Rattle.std.proofs.lemmas.Bool.{cases_Bool, eq-eqb, eqb-true, or_cases, ne_eqb, eqb-false}
 use Rattle.std.proofs.lemmas.List.Elements.{filter-append}
 use Rattle.sift_base.specs.Units.{faulty_count, has, others, IsAscending}
-use Rattle.sift_base.proofs.lemmas.Counts.{apart, has-head, has-tail, nat_eq-same, IsBelowAll}
-use Rattle.sift_base.proofs.lemmas.Others.{count-others-<, count-others-≤, has-others, length-others, not_same, others-has, times_in, times_in-ascending}
+use Rattle.sift_base.specs.laws.Counts.{has-head, has-tail, IsBelowAll}
+use Rattle.sift_base.specs.laws.Others.{count-others-<, count-others-≤, has-others, length-others, others-has, times_in, times_in-ascending}
 use Rattle.sift_byz.specs.Relaying.{outside}
 
 -- ---- a path that is longer by a unit
@@ -24,7 +24,7 @@ outside-cons (u ∷ us) path r =
       | inl t ↦ elim (cases_Bool (nat_eq r u)) [ inl same ↦ rw (same, t) rest | inr other ↦ rw (other, t) rest ]
       | inr f ↦ elim (cases_Bool (nat_eq r u)) [
         | inl same ↦ rw (same, f, eq-eqb u r (sym (eqb-true r u same))) rest
-        | inr other ↦ rw (other, f, not_same u r (λ e. apart r u other (sym e))) (ap (λ vs. u ∷ vs) rest)
+        | inr other ↦ rw (other, f, ne_eqb u r (λ e. eqb-false r u other (sym e))) (ap (λ vs. u ∷ vs) rest)
       ]
     ]
 
@@ -43,7 +43,7 @@ module _ (us path : List ℕ) (t : ℕ) where
         arith,
         length-others t (outside us path),
         outside_once us path t ascending,
-        count-others-< (λ v. nat_eq v t) t (outside us path) t_in (nat_eq-same t),
+        count-others-< (λ v. nat_eq v t) t (outside us path) t_in (eq-eqb t t refl),
       ))
 
   -- no more traitors
@@ -83,7 +83,7 @@ row_has a zero u least most = absurd (omega arith)
 row_has a (suc n) u least most =
     elim (cases_Bool (nat_eq a u)) [
       | inl t ↦ rw t
-      | inr f ↦ rw f (row_has (a + 1) n u (let differ = apart a u f in omega arith) (omega arith))
+      | inr f ↦ rw f (row_has (a + 1) n u (let differ = eqb-false a u f in omega arith) (omega arith))
     ]
 
 -- and none from its end on

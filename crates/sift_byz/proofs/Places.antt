@@ -1,15 +1,15 @@
 -- The agreed word of places. An absent place counts as one of 0: 0 is the agreed word wherever no other word is.
 use Rattle.std.proofs.Common.{◌≡◌, ◌≢◌, ℕ, ◌*◌, ◌<◌, ◌≤◌, inl, inr, List, [], ◌∷◌, length, map, Bool, true, nat_eq, Option, None, Some, refl, sym, ap, ◌∙◌, arith}
 use Rattle.std.specs.Prelude.{unwrap_or}
-use Rattle.std.proofs.lemmas.Bool.{cases_Bool, cases_eq, eqb-true, ne_eqb}
+use Rattle.std.proofs.lemmas.Bool.{cases_Bool, cases_eq, eqb-true, ne_eqb, eq-eqb}
 use Rattle.std.proofs.lemmas.List.{length-map}
-use Rattle.sift_agree.proofs.lemmas.Taking.{votes-working}
-use Rattle.sift_agree.proofs.lemmas.Winners.{won-agreed}
+use Rattle.sift_agree.specs.laws.Taking.{votes-working}
+use Rattle.sift_agree.specs.laws.Winners.{won-agreed}
 use Rattle.sift_base.specs.Units.{faulty_count, has, others}
-use Rattle.sift_base.proofs.lemmas.Counts.{count-cons, count-no, count-yes, has-head, has-tail, nat_eq-same}
-use Rattle.sift_base.proofs.lemmas.Others.{count-others-<, has-others, length-others, times_in}
+use Rattle.sift_base.specs.laws.Counts.{count-cons, count-no, count-yes, has-head, has-tail}
+use Rattle.sift_base.specs.laws.Others.{count-others-<, has-others, length-others, times_in}
 use Rattle.sift_vote.specs.Majority.{agreed_of, IsAgreed, IsMajority, decided, is_vote_for, undecided, votes_for}
-use Rattle.sift_vote.proofs.lemmas.Found.{agreed_word_is_found}
+use Rattle.sift_vote.specs.laws.Found.{agreed_word_is_found}
 
 -- ---- absence is read as 0
 
@@ -91,7 +91,7 @@ votes-first w g u (v ∷ us) u_in once =
 -- they are as many
 length-first : {X : Type 0} (x : X) (f : ℕ → X) (u : ℕ) (us : List ℕ) → has us u ≡ true → times_in u us ≤ 1 → length (x ∷ map f (others u us)) ≡ length us
 length-first x f u us u_in once =
-    omega (arith, length-others u us, length-map (others u us) f, count-others-< (λ v. nat_eq v u) u us u_in (nat_eq-same u))
+    omega (arith, length-others u us, length-map (others u us) f, count-others-< (λ v. nat_eq v u) u us u_in (eq-eqb u u refl))
 
 -- ---- what is agreed on
 
@@ -121,4 +121,4 @@ agreed_loyal loyal h us w few says =
 -- the agreed word of one place is what it is read as
 pub agreed_one : (place : Option ℕ) → agreed_of (place ∷ []) ≡ unwrap_or place 0
 agreed_one None = refl
-agreed_one (Some v) = sym (won-agreed (Some v ∷ []) v (omega (arith, count-yes (is_vote_for v) (Some v) [] (nat_eq-same v))))
+agreed_one (Some v) = sym (won-agreed (Some v ∷ []) v (omega (arith, count-yes (is_vote_for v) (Some v) [] (eq-eqb v v refl))))

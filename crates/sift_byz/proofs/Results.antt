@@ -1,10 +1,9 @@
 -- The laws of oral messages, by induction over the rounds of relaying that are left.
 use Rattle.std.proofs.Common.{◌≡◌, ◌≢◌, ℕ, zero, suc, ◌*◌, ◌≤◌, inl, inr, List, ◌∷◌, length, map, Bool, true, false, not, nat_eq, Option, Some, refl, sym, ap, ◌∙◌, arith}
 use Rattle.std.specs.Prelude.{unwrap_or, if◌then◌else◌}
-use Rattle.std.proofs.lemmas.Bool.{cases_Bool}
+use Rattle.std.proofs.lemmas.Bool.{cases_Bool, ne_eqb, eqb-false, eq-eqb}
 use Rattle.sift_base.specs.Units.{faulty_count, has, IsAscending}
-use Rattle.sift_base.proofs.lemmas.Counts.{apart, count-no, count-yes, nat_eq-same}
-use Rattle.sift_base.proofs.lemmas.Others.{not_same}
+use Rattle.sift_base.specs.laws.Counts.{count-no, count-yes}
 use Rattle.sift_vote.specs.Majority.{agreed_of}
 use Rattle.sift_byz.specs.Laws.{AnyUnitIsAgreedOn, LoyalUnitIsBelieved}
 use Rattle.sift_byz.specs.Relaying.{Hearing, LoyalUnitsRelay, outside, result_of}
@@ -42,10 +41,10 @@ loyal_unit_is_believed us loyal heard (suc k) r path q ascending relays enough r
       | inl same ↦ rw same
       | inr other ↦ rw other (loyal_unit_is_believed us loyal heard k t (r ∷ path) q ascending relays
           (omega (arith, one_fewer us (r ∷ path) t ascending t_in, no_more us (r ∷ path) t loyal))
-          t_loyal (still_outside us (r ∷ path) t q q_in (apart t q other)) q_loyal ∙ held t)
+          t_loyal (still_outside us (r ∷ path) t q q_in (eqb-false t q other)) q_loyal ∙ held t)
     ] in
     result_in_order us heard ascending k (r ∷ path) q (read_at q word results) q_in
-    (rw (nat_eq-same q) (held q)) (λ t t_in differ. rw (not_same t q differ))
+    (rw (eq-eqb q q refl) (held q)) (λ t t_in differ. rw (ne_eqb t q differ))
     ∙ agreed_loyal loyal (read_at q word results) left word (omega arith) says
 
 -- ---- any unit

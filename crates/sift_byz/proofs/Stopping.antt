@@ -5,8 +5,8 @@ use Rattle.std.proofs.lemmas.Result.{err_from_is_err_and}
 use Rattle.toml.specs.Data.{Members}
 use Rattle.sift_base.specs.declared.stop.Stop.{Stop}
 use Rattle.sift_base.specs.declared.stop.Stop.TheVariants as stop
-use Rattle.sift_document.proofs.lemmas.Order.{StopsAt, later, stopped}
-use Rattle.sift_document.proofs.lemmas.Testing.{refused_of_none}
+use Rattle.sift_document.specs.laws.Order.{StopsAt, later, stopped}
+use Rattle.sift_document.specs.laws.Testing.{refused_of_none}
 use Rattle.sift_document.specs.Rules.{AreKept, IsFirstPlace, OfNoEntry, Rule}
 use Rattle.sift_document.specs.Testing.{RefusesFirst}
 use Rattle.sift_document.specs.declared.rule.BrokenRule.{BrokenRule}

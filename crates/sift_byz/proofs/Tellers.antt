@@ -2,12 +2,12 @@
 use Rattle.std.proofs.Common.{◌≡◌, ◌<◌, ◌≤◌, ◌+◌, ◌-◌, inl, inr, ℕ, zero, suc, List, [], ◌∷◌, ◌++◌, length, length-append, get_or, map, take, Bool, true, false, ◌||◌, nat_eq, refl, sym, ap, subst, ◌∙◌, arith}
 use Rattle.std.specs.Prelude.{count_by}
 use Rattle.std.specs.List.{All, range_with_len}
-use Rattle.std.proofs.lemmas.Bool.{cases_Bool, cases_lt, eqb-true}
+use Rattle.std.proofs.lemmas.Bool.{cases_Bool, cases_lt, eqb-true, eq-eqb}
 use Rattle.std.proofs.lemmas.List.{get_or-map, length-map, take_all, take_more}
 use Rattle.std.proofs.lemmas.List.Folds.{list_any-append}
 use Rattle.sift_base.specs.Units.{has}
-use Rattle.sift_base.proofs.lemmas.Counts.{count-cons, count-no, count-yes, nat_eq-same}
-use Rattle.sift_base.proofs.lemmas.Others.{count-others-<, times_in, times_in-ascending}
+use Rattle.sift_base.specs.laws.Counts.{count-cons, count-no, count-yes}
+use Rattle.sift_base.specs.laws.Others.{count-others-<, times_in, times_in-ascending}
 use Rattle.sift_byz.specs.declared.plan.Lie.{Lie}
 use Rattle.sift_byz.specs.Lawful.{BreaksFew}
 use Rattle.sift_byz.specs.Plan.{LieData, lie_of, stands_last, teller_count, tells_some}
@@ -54,7 +54,7 @@ count-wider p q t (u ∷ us) fails wider =
       | inl same ↦
           let is : u ≡ t = eqb-true u t same in
           let old : p u ≡ false = ap p is ∙ fails in
-          let new : q u ≡ true = wider u ∙ rw old (ap (λ x. nat_eq x u) (sym is) ∙ nat_eq-same u) in
+          let new : q u ≡ true = wider u ∙ rw old (ap (λ x. nat_eq x u) (sym is) ∙ eq-eqb u u refl) in
           omega (arith, rest, count-yes q u us new, count-no p u us old, count-yes (λ v. nat_eq v t) u us same)
       | inr other ↦
           let same : q u ≡ p u = wider u ∙ ap (λ b. p u || b) (turned t u other) ∙ or_false (p u) in
@@ -64,7 +64,7 @@ count-wider p q t (u ∷ us) fails wider =
   where
     turned : (t u : ℕ) → nat_eq u t ≡ false → nat_eq t u ≡ false
     turned t u other = elim (cases_Bool (nat_eq t u)) [
-      | inl same ↦ let e : nat_eq u t ≡ true = ap (λ x. nat_eq u x) (eqb-true t u same) ∙ nat_eq-same u in cc
+      | inl same ↦ let e : nat_eq u t ≡ true = ap (λ x. nat_eq u x) (eqb-true t u same) ∙ eq-eqb u u refl in cc
       | inr f ↦ f
     ]
 
@@ -75,7 +75,7 @@ once units t low =
     omega (
       arith,
       times_in-ascending t us (row_ascends 0 units),
-      count-others-< (λ v. nat_eq v t) t us (row_has 0 units t (omega arith) (omega arith)) (nat_eq-same t),
+      count-others-< (λ v. nat_eq v t) t us (row_has 0 units t (omega arith) (omega arith)) (eq-eqb t t refl),
     )
 
 -- ---- tellers

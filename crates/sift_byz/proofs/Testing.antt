@@ -7,7 +7,7 @@ use Rattle.sift_document.specs.Document.{digit_to, digits_to, each_read}
 use Rattle.sift_byz.specs.Stated.{lie_limit}
 use Rattle.std.proofs.lemmas.List.{get_or-map, length-map, map-append, take_more}
 use Rattle.std.proofs.lemmas.List.Elements.{All-head, All-tail}
-use Rattle.sift_base.proofs.lemmas.Counts.{IsBelowAll}
+use Rattle.sift_base.specs.laws.Counts.{IsBelowAll}
 use Rattle.sift_base.specs.Units.{IsAscending}
 
 -- ---- what is read, and what is tested

@@ -9,7 +9,7 @@ use Rattle.std.proofs.lemmas.Slice.Zip.{AllZip-long}
 use Rattle.sift_clock.specs.Distance.{IsWithin}
 use Rattle.sift_skew.specs.Limits.{offset_limit}
 use Rattle.sift_skew.specs.Figures.{IsHighest, IsSkew}
-use Rattle.sift_skew.proofs.lemmas.Leads.{skew_is_unique}
+use Rattle.sift_skew.specs.laws.Leads.{skew_is_unique}
 use Rattle.sift_clocklab.specs.Laboratory.{Laboratory}
 use Rattle.sift_clocklab.specs.Skew.{AreKept, farthest}
 use Rattle.sift_clocklab.specs.Text.{HasSkew, MostIsWithinTheBound, OneTextOfARun, last_line, round_line, round_lines}

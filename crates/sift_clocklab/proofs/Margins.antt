@@ -4,7 +4,7 @@ use Rattle.std.specs.Prelude.{◌≤ℤ◌, count_by}
 use Rattle.std.proofs.lemmas.Int.{ints}
 use Rattle.std.proofs.Math.Nat.{mul-le-mul_left}
 use Rattle.sift_base.specs.Units.{faulty_count}
-use Rattle.sift_base.proofs.lemmas.Counts.{both_counts}
+use Rattle.sift_base.specs.laws.Counts.{both_counts}
 use Rattle.sift_clocklab.specs.Margin.{MarginLeavesRoom, NoFaultLeavesRoom}
 
 -- so many times a difference

@@ -1,10 +1,10 @@
 -- Numbers drawn one after the other.
 use Rattle.std.proofs.Common.{◌≡◌, ◌≢◌, ℕ, nat_eq, true, pos, eq-eqb, ◌+◌, ap, refl, ◌∙◌, sym, arith}
 use Rattle.std.proofs.lemmas.Bool.Decides.{nat_tests}
+use Rattle.std.proofs.lemmas.Bool.{ne_eqb}
 use Rattle.sift_base.specs.Draw.{after, next_number}
-use Rattle.sift_base.proofs.lemmas.Draws as draws
-use Rattle.sift_base.proofs.lemmas.Draws.{after-more}
-use Rattle.sift_base.proofs.lemmas.Others.{not_same}
+use Rattle.sift_base.specs.laws.Draws as draws
+use Rattle.sift_base.specs.laws.Draws.{after-more}
 use Rattle.sift_clocklab.specs.Draws.{noise_drawn, others_before, spread}
 
 -- a draw where so many were made
@@ -23,7 +23,7 @@ noise-same error x q p same = let test : nat_eq p q ≡ true = eq-eqb p q same i
 
 -- another one is misread by a draw
 pub noise-other : (error x q p : ℕ) → p ≢ q → noise_drawn error x q p ≡ spread error (after x (others_before q p + 1))
-noise-other error x q p differ = rw (not_same p q differ) refl
+noise-other error x q p differ = rw (ne_eqb p q differ) refl
 
 -- past itself as many others were before as at itself
 pub before-same : (q p : ℕ) → p ≡ q → others_before q (p + 1) ≡ others_before q p

@@ -10,7 +10,7 @@ use Rattle.sift_code.specs.declared.instr.Instr.TheVariants.{Begin, End}
 use Rattle.sift_code.specs.Enclosing.{enclosing}
 use Rattle.sift_code.specs.Bound.{product, sum_within, bound_of, kept, kept_limit}
 use Rattle.sift_code.specs.Kept.{rounds_behind, rounds_at, bound_before, products_outside}
-use Rattle.sift_code.proofs.lemmas.Enclosing.{IsNoBrace}
+use Rattle.sift_code.specs.laws.Enclosing.{IsNoBrace}
 use Rattle.sift_code.proofs.Costs.{IsBraced, drop_here, nested, nested_here}
 use Rattle.sift_code.proofs.Sound.{at_place, braced, uncrowded}
 use Rattle.sift_code.specs.Refusal.{Program, IsSound}

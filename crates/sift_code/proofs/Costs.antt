@@ -8,7 +8,7 @@ use Rattle.sift_code.specs.declared.instr.Instr.{Instr}
 use Rattle.sift_code.specs.declared.instr.Instr.TheVariants.{Begin, End}
 use Rattle.sift_code.specs.Machine.{through_end, one_more}
 use Rattle.sift_code.specs.Enclosing.{opened, opened_by, enclosing}
-use Rattle.sift_code.proofs.lemmas.Enclosing.{AreOpen, enclosing_here, opened_before, open_between}
+use Rattle.sift_code.specs.laws.Enclosing.{AreOpen, enclosing_here, opened_before, open_between}
 
 -- the first of some numbers, and 0 where there is none
 abbrev pub head0 : List ℕ → ℕ

@@ -12,11 +12,11 @@ use Rattle.sift_code.specs.Enclosing.{opened_by, enclosing}
 use Rattle.sift_code.specs.Heights.{Arrival, Trail, trail_at, height_at, height_after, pops, pushes, next_height, height_behind, behind_jump, brought_by, brought_to}
 use Rattle.sift_code.specs.Refusal.{IsBadJump, IsBadJumpAt, IsBadTarget, IsUnderflow, IsUnderflowAt, IsTooDeep, IsTallAt, stack_limit}
 use Rattle.sift_code.specs.Walk.{joined, summary, behind, AreBrought, IsAt}
-use Rattle.sift_code.proofs.lemmas.Enclosing.{IsNoBrace, enclosing_here, opened_plain}
+use Rattle.sift_code.specs.laws.Enclosing.{IsNoBrace, enclosing_here, opened_plain}
 use Rattle.sift_code.proofs.Tables.{all_written}
 use Rattle.sift_code.proofs.Walks.{read_height, read_brought}
 use Rattle.std.proofs.lemmas.Option.{slice_get_within}
-use Rattle.sift_code.proofs.lemmas.Heights.{trail_here, height_here}
+use Rattle.sift_code.specs.laws.Heights.{trail_here, height_here}
 
 -- ---- heights
 

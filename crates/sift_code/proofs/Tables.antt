@@ -13,7 +13,7 @@ use Rattle.sift_code.specs.declared.instr.Instr.TheVariants.{Begin, End}
 use Rattle.sift_code.specs.Machine.{through_end, one_more}
 use Rattle.sift_code.specs.Enclosing.{opened, opened_by, enclosing, innermost}
 use Rattle.sift_code.specs.Nest.{onward, past_at, start_at}
-use Rattle.sift_code.proofs.lemmas.Enclosing.{Opened, IsNoBrace, enclosing_by_innermost, enclosing_here, opened_before, opened_plain}
+use Rattle.sift_code.specs.laws.Enclosing.{Opened, IsNoBrace, enclosing_by_innermost, enclosing_here, opened_before, opened_plain}
 use Rattle.sift_code.proofs.Costs.{drop_here, one_more_some}
 
 -- ---- tables

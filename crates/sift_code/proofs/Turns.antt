@@ -10,7 +10,7 @@ use Rattle.sift_code.specs.Enclosing.{enclosing, innermost}
 use Rattle.sift_code.specs.Nest.{start_at, onward}
 use Rattle.sift_code.specs.Refusal.{Program, IsSound}
 use Rattle.sift_code.specs.Work.{Steps, at_place, Passes, Enters, EndsRound, stack_of, locals_of, loops_of, state_of, lefts_start}
-use Rattle.sift_code.proofs.lemmas.Enclosing.{opened_before}
+use Rattle.sift_code.specs.laws.Enclosing.{opened_before}
 use Rattle.sift_code.proofs.Costs.{nested, nested_here, past_end}
 use Rattle.sift_code.proofs.Sound.{braced, uncrowded, jumpz_lands, jump_lands, at_place as instr_at}
 use Rattle.sift_code.proofs.Places.{stack_of-set, stack_of-top, locals_of-above, loops_of-push}

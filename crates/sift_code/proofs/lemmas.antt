@@ -1,4 +1,2 @@
 -- What the proofs of crates above may cite.
-pub mod Enclosing
 pub mod Ending
-pub mod Heights

@@ -10,3 +10,4 @@ pub mod Walk
 pub mod Kept
 pub mod Changes
 pub mod Work
+pub mod laws

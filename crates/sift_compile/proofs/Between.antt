@@ -9,7 +9,7 @@ use Rattle.sift_code.specs.Refusal.{Limits}
 use Rattle.sift_lang.specs.Tree.{Statement}
 use Rattle.sift_lang.specs.Meaning.{Readings, State, scoped, after}
 use Rattle.sift_lang.specs.Sound.{Bounds, locals_after}
-use Rattle.sift_lang.proofs.lemmas.States.{HasSizes, sizes-after}
+use Rattle.sift_lang.specs.laws.States.{HasSizes, sizes-after}
 use Rattle.sift_compile.proofs.Stands.{Stands, stands_next}
 use Rattle.sift_compile.proofs.Locals.{BeginWith, begin-take}
 use Rattle.sift_compile.proofs.Comes.{Comes, comes_on, comes_by}

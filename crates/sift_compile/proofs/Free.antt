@@ -9,7 +9,7 @@ use Rattle.sift_code.specs.declared.instr.Instr.TheVariants.{JumpZ, Jump, Begin,
 use Rattle.sift_code.specs.Enclosing.{enclosing}
 use Rattle.sift_code.specs.Heights.{Arrival, Trail, trail_at, brought_to, height_at, height_after, next_height, brought_by, pops}
 use Rattle.sift_code.specs.Refusal.{Program, IsBadJumpAt, IsUnequal, IsUnequalEnd, IsUnderflowAt, IsTallAt, IsCrowdedAt, IsTooDeep, IsBadOperandAt, IsFree, stack_limit}
-use Rattle.sift_code.proofs.lemmas.Heights.{trail_here}
+use Rattle.sift_code.specs.laws.Heights.{trail_here}
 
 -- on arrival this height is there, and this was brought
 abbrev pub trail : ℕ → List Arrival → Trail

@@ -8,7 +8,7 @@ use Rattle.sift_code.proofs.lemmas.Ending.{sound_ends}
 use Rattle.sift_lang.specs.Tree.{TaskTree}
 use Rattle.sift_lang.specs.Meaning.{State, after_all}
 use Rattle.sift_lang.specs.Sound.{Bounds, IsSound}
-use Rattle.sift_lang.proofs.lemmas.States.{HasSizes}
+use Rattle.sift_lang.specs.laws.States.{HasSizes}
 use Rattle.sift_compile.specs.Code.{task_code, task_program}
 use Rattle.sift_compile.specs.Correct.{meaning_of, Means}
 use Rattle.sift_compile.proofs.Stands.{stands_whole}

@@ -6,7 +6,7 @@ use Rattle.sift_code.specs.declared.instr.Instr.TheVariants.{JumpZ, Jump}
 use Rattle.sift_code.specs.Enclosing.{enclosing}
 use Rattle.sift_code.specs.Heights.{Arrival, trail_at, brought_to, followed}
 use Rattle.sift_code.specs.Refusal.{Program, IsBadTarget, IsFree, stack_limit}
-use Rattle.sift_code.proofs.lemmas.Heights.{trail_here}
+use Rattle.sift_code.specs.laws.Heights.{trail_here}
 use Rattle.sift_lang.specs.Tree.{Term}
 use Rattle.sift_lang.specs.Sound.{need}
 use Rattle.sift_compile.specs.Code.{term_code}

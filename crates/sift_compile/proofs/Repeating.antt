@@ -6,7 +6,7 @@ use Rattle.sift_code.specs.declared.instr.Instr.{Instr}
 use Rattle.sift_code.specs.declared.instr.Instr.TheVariants.{Begin, End}
 use Rattle.sift_code.specs.Machine.{Loop, Inputs, skipped}
 use Rattle.sift_lang.specs.Meaning.{State}
-use Rattle.sift_lang.proofs.lemmas.States.{HasSizes}
+use Rattle.sift_lang.specs.laws.States.{HasSizes}
 use Rattle.sift_compile.proofs.Stands.{Stands, stands_on, stands_here}
 use Rattle.sift_compile.proofs.Comes.{comes_on, comes_by}
 use Rattle.sift_compile.proofs.Matched.{IsMatched, closes}

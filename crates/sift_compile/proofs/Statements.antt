@@ -9,7 +9,7 @@ use Rattle.sift_code.specs.Ends.{Fits}
 use Rattle.sift_lang.specs.Tree.{Term, Statement, bind, assign, output, choose, choose_else, repeat, Block, end, step}
 use Rattle.sift_lang.specs.Meaning.{State, value_of, scoped, after, after_all}
 use Rattle.sift_lang.specs.Sound.{Bounds, NamesWithin, IsSoundTerm, IsSoundStatement, IsSoundBlock, locals_after}
-use Rattle.sift_lang.proofs.lemmas.States.{HasSizes, sizes-round, adds-after_all}
+use Rattle.sift_lang.specs.laws.States.{HasSizes, sizes-round, adds-after_all}
 use Rattle.sift_compile.specs.Code.{term_code, behind, statement_code, block_code}
 use Rattle.sift_compile.proofs.Stands.{Stands, stands_front, stands_back, stands_on, stands_next, stands_behind}
 use Rattle.sift_compile.proofs.Locals.{BeginWith, begin-set, begin-more, begin-long}

@@ -1,3 +1,4 @@
 pub mod Acts
 pub mod Conduct
 pub mod Frames
+pub mod laws

@@ -4,7 +4,7 @@ ghost use Rattle.std.specs.Prelude.{◌≡◌, ℕ, ◌<◌, ◌≤◌, List, le
 ghost use Rattle.std.specs.FinSet as set;
 ghost use Rattle.sift_base.specs.Units.{AreUnits, members, units_of, unit_limit, has, holds};
 ghost use Rattle.sift_base.specs.Layout.{least_units};
-ghost use Rattle.sift_base.specs.ReadBack.{set-members};
+ghost use Rattle.sift_base.specs.laws.ReadBack.{set-members};
 ghost use Rattle.sift_config.specs.Config.{IsConfig, first_units, reader_of, remaining};
 
 use sift_base::{UnitId, UnitSet};

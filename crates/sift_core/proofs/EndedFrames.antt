@@ -17,7 +17,7 @@ use Rattle.sift_core.specs.declared.machine.Machine.{Machine}
 use Rattle.sift_buffer.specs.declared.rack.Rack.{Rack}
 use Rattle.sift_core.proofs.MachineSteps.{unit_below}
 use Rattle.sift_core.proofs.Progress.{flyable}
-use Rattle.sift_core.proofs.lemmas.Stages.{keeps_turned}
+use Rattle.sift_core.specs.laws.Stages.{keeps_turned}
 
 -- the rack as the port of a unit that has stored these strays
 abbrev pub view_beside : Rack → Strays → ℕ → View

@@ -9,4 +9,3 @@ pub mod Progress
 pub mod Storming
 pub mod StrayEvents
 pub mod Turning
-pub mod lemmas

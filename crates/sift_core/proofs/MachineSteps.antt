@@ -30,7 +30,7 @@ use Rattle.sift_core.specs.Machines.{Flies, IsFlying, board_at, layout_of}
 use Rattle.sift_core.specs.Steps.{StepsUnit}
 use Rattle.sift_core.specs.declared.machine.Machine.{Machine}
 use Rattle.sift_buffer.specs.declared.rack.Rack.{Rack}
-use Rattle.sift_config.proofs.lemmas.FirstUnits.{unit_low}
+use Rattle.sift_config.specs.laws.FirstUnits.{unit_low}
 use Rattle.sift_core.proofs.Others.{others_stay, reached_lawful}
 
 -- the unit is one of the rack's

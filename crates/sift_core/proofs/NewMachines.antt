@@ -23,7 +23,7 @@ use Rattle.sift_flight.specs.Flight.{no_strays}
 use Rattle.sift_buffer.specs.Racks.{IsNewRack, ranges_for, core_of, view_at}
 use Rattle.sift_core.specs.Machines.{Flies, AreNewBoards, IsNewMachine}
 use Rattle.sift_core.specs.declared.machine.Machine.{Machine}
-use Rattle.sift_config.proofs.lemmas.FirstUnits.{unit_low, low_unit}
+use Rattle.sift_config.specs.laws.FirstUnits.{unit_low, low_unit}
 
 -- one board more
 pub boards_push : (m : FlownMission) (n u : ℕ) (xs : List Board) (b : Board) → AreNewBoards m n xs → u ≡ n → IsNewBoard m u b → AreNewBoards m (n + 1)

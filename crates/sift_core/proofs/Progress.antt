@@ -21,11 +21,11 @@ use Rattle.sift_core.specs.Machines.{IsFlying, HasTurnedIn, board_at, layout_of,
 use Rattle.sift_core.specs.Steps.{StepsUnit, IsWaiting}
 use Rattle.sift_core.specs.Turns.{IsAloft, IsLeast}
 use Rattle.sift_core.specs.declared.machine.Machine.{Machine}
-use Rattle.sift_config.proofs.lemmas.FirstUnits.{low_unit}
+use Rattle.sift_config.specs.laws.FirstUnits.{low_unit}
 use Rattle.sift_core.proofs.MachineSteps.{unit_below}
 use Rattle.sift_core.proofs.Others.{others_stay}
 use Rattle.sift_core.proofs.Lists.{sums}
-use Rattle.sift_core.proofs.lemmas.Stages.{end_low, keeps_flying, not_left, unfinished_low}
+use Rattle.sift_core.specs.laws.Stages.{end_low, keeps_flying, not_left, unfinished_low}
 
 -- a board of a list that has one
 pub first_of : (xs : List Board) (u : ℕ) → u < length xs → Board

@@ -12,8 +12,7 @@ use Rattle.sift_buffer.specs.Ranges.{IsCell}
 use Rattle.sift_buffer.specs.Tables.{ranges_of}
 use Rattle.sift_mission.specs.Data.{MissionData}
 use Rattle.sift_mission.specs.Flown.{flown}
-use Rattle.sift_rogue.specs.Storms.{Call, Started, Shoots, sifted, stray_of}
-use Rattle.sift_rogue.proofs.lemmas.Called.{StormsBy}
+use Rattle.sift_rogue.specs.Storms.{Call, Started, Shoots, sifted, stray_of, StormsBy}
 use Rattle.sift_rogue.specs.declared.act.Shot.{Shot}
 use Rattle.sift_flight.specs.Flight.{Strays, no_strays, IsRound}
 use Rattle.sift_flight.specs.Told.{told}
@@ -30,9 +29,9 @@ use Rattle.sift_core.specs.Courses.{AreAllLeft, Course, IsCalled, BeginsStorm, S
 use Rattle.sift_core.specs.Storms.{CarriesOn, FliesByRogues, HasMadeCalls, HaveMadeCalls, AreLeft, IsLeft, IsRoundByRogues, IsUnderWay}
 use Rattle.sift_core.specs.Turns.{AreAllDone, IsAloft, IsDown, end_in}
 use Rattle.sift_core.specs.declared.machine.Machine.{Machine}
-use Rattle.sift_config.proofs.lemmas.FirstUnits.{low_unit, unit_low}
+use Rattle.sift_config.specs.laws.FirstUnits.{low_unit, unit_low}
 use Rattle.sift_core.proofs.Progress.{flyable, others_progress, step_comes}
-use Rattle.sift_core.proofs.lemmas.Stages.{end_low}
+use Rattle.sift_core.specs.laws.Stages.{end_low}
 
 -- no option is both
 none_some : {A B : Type 0} {x : A} → None ≡ Some x → B

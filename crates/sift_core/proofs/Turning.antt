@@ -22,7 +22,7 @@ use Rattle.sift_core.specs.Courses.{Course, IsCalled, IsUncalled, Begins, Spends
 use Rattle.sift_core.specs.Storms.{IsUnderWay}
 use Rattle.sift_core.specs.Turns.{IsDrawn, AreAllDone, AreAllDown, IsAloft, IsFirstLeft, IsLeast, Tries, StepsItself, SpendsItself, Waits, GivesAway, TakesTurn, TurnsAt, AfterTurns, FliesInOrder}
 use Rattle.sift_core.specs.declared.machine.Machine.{Machine}
-use Rattle.sift_config.proofs.lemmas.FirstUnits.{low_unit, unit_low}
+use Rattle.sift_config.specs.laws.FirstUnits.{low_unit, unit_low}
 use Rattle.sift_core.proofs.Progress.{flyable, step_near, waits_in_place, least_goes}
 
 -- a mission has as many units as the machine

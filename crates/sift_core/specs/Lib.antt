@@ -5,3 +5,4 @@ pub mod Machines
 pub mod Steps
 pub mod Storms
 pub mod Turns
+pub mod laws

@@ -4,7 +4,6 @@ ghost use Rattle.sift_base.specs.Units.{unit_limit};
 ghost use Rattle.sift_mission.specs.Parts.{data_of};
 ghost use Rattle.sift_core.specs.Courses.{AreAllLeft, calls_of, storm_at};
 
-use crate::units::unit_numbered;
 use sift_base::UnitId;
 use sift_mission::Mission;
 use std::marker::Model;
@@ -35,7 +34,7 @@ impl CallsLeft {
     {
         let mut of = [0; 8];
         for number in 0..mission.parts().units {
-            of[usize::from(number)] = calls_of(mission, unit_numbered(number));
+            of[usize::from(number)] = calls_of(mission, UnitId::numbered(number));
         }
         CallsLeft { of }
     }

@@ -8,7 +8,6 @@ mod landing;
 mod laws;
 mod machine;
 mod order;
-mod units;
 
 pub use calls::CallsLeft;
 pub use landing::fly;

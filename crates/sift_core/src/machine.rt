@@ -13,7 +13,6 @@ ghost use Rattle.sift_core.specs.Steps.{StepsUnit};
 ghost use Rattle.sift_core.specs.Courses.{AreAllLeft};
 ghost use Rattle.sift_core.specs.Storms.{AreLeft};
 
-use crate::units::unit_numbered;
 use sift_base::{NoMemory, UnitId};
 use sift_buffer::{Rack, events_keep_the_core_lawful, fresh_is_lawful};
 use sift_mission::{Mission, a_mission_fits};
@@ -51,7 +50,7 @@ impl Machine {
         let units = mission.parts().units;
         let mut boards = Vec::with_capacity(alloc, usize::from(units))?;
         for number in 0..units {
-            let unit = unit_numbered(number);
+            let unit = UnitId::numbered(number);
             boards.push_reserved(Board::make(alloc, mission, unit)?);
         }
         Ok(boards)

@@ -10,7 +10,6 @@ ghost use Rattle.sift_core.specs.Turns.{end_in, AreAllDone, AreAllDown, IsFirstL
 
 use crate::calls::CallsLeft;
 use crate::machine::Machine;
-use crate::units::unit_numbered;
 use sift_base::{Draw, UnitId};
 use sift_mission::Mission;
 use sift_rogue::Rogue;
@@ -48,7 +47,7 @@ impl Machine {
         let mut least = None;
         let mut below = end;
         for number in 0..self.rack.layout().units {
-            let unit = unit_numbered(number);
+            let unit = UnitId::numbered(number);
             let progress = self.rack.number_of(unit);
             if progress < below {
                 least = Some(unit);
@@ -65,7 +64,7 @@ impl Machine {
         ensures none { IfNone result ((u : ℕ) → has (flown_of mission.now).units u ≡ true → slice_index left.now u ≡ 0) }
     {
         for number in 0..self.rack.layout().units {
-            let unit = unit_numbered(number);
+            let unit = UnitId::numbered(number);
             if !left.is_spent(unit) {
                 return Some(unit);
             }
@@ -81,7 +80,7 @@ impl Machine {
         ensures open { result ≡ false → ¬ AreAllDone (flown_of mission.now) self.now left.now }
     {
         for number in 0..self.rack.layout().units {
-            let unit = unit_numbered(number);
+            let unit = UnitId::numbered(number);
             if self.rack.number_of(unit) < end {
                 return false;
             }
@@ -97,7 +96,7 @@ impl Machine {
         ensures { IsDrawn (layout_of self.now).units drawer.old drawer.new result }
     {
         let number = drawn_below(drawer, self.rack.layout().units);
-        unit_numbered(number as u8)
+        UnitId::numbered(number as u8)
     }
 
     /// The turn of a unit, if it is not done. It answers whether the unit went on, and doesn't wait.

@@ -1,3 +1,4 @@
 pub mod Document
 pub mod Rules
 pub mod Testing
+pub mod laws

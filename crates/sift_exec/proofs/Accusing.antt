@@ -3,9 +3,9 @@ use Rattle.std.proofs.Common.{◌≡◌, ℕ, zero, suc, ◌+◌, Bool, not, ◌
 use Rattle.std.specs.Prelude.{count_by}
 use Rattle.std.proofs.lemmas.Bool.{cases_Bool, eq-eqb, ne_eqb}
 use Rattle.sift_base.specs.Units.{others, IsAscending}
-use Rattle.sift_base.proofs.lemmas.Counts.{count-cons}
-use Rattle.sift_base.proofs.lemmas.Sets.{below_has}
-use Rattle.sift_config.proofs.lemmas.Joining.{has_at}
+use Rattle.sift_base.specs.laws.Counts.{count-cons}
+use Rattle.sift_base.specs.laws.Sets.{below_has}
+use Rattle.sift_config.specs.laws.Joining.{has_at}
 use Rattle.sift_exec.specs.Conviction.{report_by}
 
 -- how many units other than u name u in their reports

@@ -1,1 +1,2 @@
 pub mod Conviction
+pub mod laws

@@ -1,12 +1,11 @@
 -- Working units agree on sensors and on reports.
 use Rattle.std.proofs.Common.{◌≡◌, inl, inr, ℕ, ◌<◌, List, Bool, true, false, nat_eq, slice_index, refl, sym, ap, ◌∙◌}
-use Rattle.std.proofs.lemmas.Bool.{cases_Bool}
+use Rattle.std.proofs.lemmas.Bool.{cases_Bool, ne_eqb}
 use Rattle.std.proofs.lemmas.Bool.Decides.{eqb_tells}
 use Rattle.sift_base.specs.Units.{has}
 use Rattle.sift_base.specs.declared.slot.Slot.TheVariants.{Sense, RelaySense, Report, RelayReport}
-use Rattle.sift_base.proofs.lemmas.Others.{not_same}
 use Rattle.sift_agree.specs.Agreement.{RelaysWell}
-use Rattle.sift_agree.proofs.lemmas.Taking.{faulty_unit_is_agreed_on, working_unit_is_agreed_on}
+use Rattle.sift_agree.specs.laws.Taking.{faulty_unit_is_agreed_on, working_unit_is_agreed_on}
 use Rattle.sift_config.specs.Config.{reader_of}
 use Rattle.sift_mission.specs.Data.{FlownMission}
 use Rattle.sift_conduct.specs.Conduct.{report_in, report_of}
@@ -15,7 +14,7 @@ use Rattle.sift_flight.proofs.Working.{InFrame, Member, conduct_here, hears, sen
 
 -- a unit that works isn't one that doesn't
 differs_in_work : (works : ℕ → Bool) (s u : ℕ) → works s ≡ false → works u ≡ true → nat_eq s u ≡ false
-differs_in_work works s u fs wu = not_same s u (λ e. let t = ap works e in cc)
+differs_in_work works s u fs wu = ne_eqb s u (λ e. let t = ap works e in cc)
 
 module _ (m : FlownMission) (strays : Strays) (fl : Flight) (f : ℕ) (us : List ℕ) (here : InFrame m strays fl f us) where
   -- ---- sensors

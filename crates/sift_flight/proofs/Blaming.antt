@@ -7,7 +7,7 @@ use Rattle.sift_exec.specs.Conviction.{everyone_in, nobody}
 use Rattle.sift_exec.specs.declared.catches.Catches.{Catches}
 use Rattle.sift_conduct.specs.Conduct.{UnitFrame, caught, Conduct}
 use Rattle.sift_flight.proofs.Calls.{and_both}
-use Rattle.sift_exec.proofs.lemmas.Everyone.{holds-everyone}
+use Rattle.sift_exec.specs.laws.Everyone.{holds-everyone}
 
 -- where one of three tests is passed, what follows from each follows
 one_of : (a b c : Bool) (P : Type 0) → ((a || b) || c) ≡ true → (a ≡ true → P) → (b ≡ true → P) → (c ≡ true → P) → P

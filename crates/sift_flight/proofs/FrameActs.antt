@@ -7,8 +7,7 @@ use Rattle.sift_base.specs.declared.slot.Slot.{Slot}
 use Rattle.sift_buffer.specs.Conduct.{Hearing, hearing, never}
 use Rattle.sift_buffer.specs.Conduct.{Conduct as Acts}
 use Rattle.sift_mission.specs.Data.{FlownMission}
-use Rattle.sift_mission.specs.Slots.{is_slot}
-use Rattle.sift_mission.proofs.lemmas.Storms.{turned_by}
+use Rattle.sift_mission.specs.Slots.{is_slot, turned_by}
 use Rattle.sift_conduct.specs.Acts.{Turns, word_in_hearing, stamp_and_moment}
 
 -- ---- frames

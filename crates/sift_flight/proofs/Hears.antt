@@ -15,7 +15,7 @@ use Rattle.sift_conduct.specs.Conduct.{Account}
 use Rattle.sift_conduct.specs.Frames.{Flies}
 use Rattle.sift_conduct.specs.Acts.{ActsAre, BoardKeeps, word_in_saying, word_in_hearing}
 use Rattle.sift_mission.specs.Fits.{Fits}
-use Rattle.sift_mission.proofs.lemmas.Silent.{speaks}
+use Rattle.sift_mission.specs.laws.Silent.{speaks}
 use Rattle.sift_flight.specs.Flight.{IsOfStray, absent, stray}
 use Rattle.sift_flight.specs.Landing.{HaveLanded, UnitsHearByTheEquations}
 use Rattle.sift_flight.proofs.Calls.{call_of}

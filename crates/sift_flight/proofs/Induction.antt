@@ -12,7 +12,7 @@ use Rattle.sift_mission.specs.Premises.{IsFlyable, RunsProgram}
 use Rattle.sift_flight.specs.Headline.{agreed_at, shed_at, HeadlineHolds}
 use Rattle.sift_flight.proofs.Working.{InFrame, Member, member_of}
 use Rattle.sift_flight.proofs.Timing.{next_together}
-use Rattle.sift_flight.proofs.lemmas.Leading.{lead_works, config_within}
+use Rattle.sift_flight.specs.laws.Leading.{lead_works, config_within}
 use Rattle.sift_flight.proofs.OneFrame.{outputs, next, next_is, next_good, stays_in, headline_by}
 
 -- the induction's state: the configuration of all working units, and the words before

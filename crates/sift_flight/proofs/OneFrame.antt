@@ -20,7 +20,7 @@ use Rattle.sift_flight.proofs.Timing.{leads, skew_within, slack_positive}
 use Rattle.sift_flight.proofs.Voting.{output_is}
 use Rattle.sift_flight.proofs.Naming.{none_named}
 use Rattle.sift_flight.proofs.Removing.{names, next_one, next_exact, stays, next_is_config}
-use Rattle.sift_flight.proofs.lemmas.Leading.{lead_works}
+use Rattle.sift_flight.specs.laws.Leading.{lead_works}
 
 module _ (m : FlownMission) (program : ProgramTree) (strays : Strays) (fl : Flight) (f : ℕ) (runs : RunsProgram m program) (here : InFrame m strays fl f (config_at m fl f))
     (last_is : (u : ℕ) → Works m u f → last_of m (fl.account u) f ≡ words_before program (agreed_at m fl) (shed_at m fl) f) where

@@ -6,7 +6,7 @@ use Rattle.std.proofs.lemmas.Bool.{cases_Bool, cases_lt, cases_eq, le-ltb, lt-lt
 use Rattle.std.proofs.lemmas.Int.{ints}
 use Rattle.sift_base.specs.Units.{has}
 use Rattle.sift_base.specs.Layout.{least_units}
-use Rattle.sift_base.proofs.lemmas.Sets.{passing_ascend}
+use Rattle.sift_base.specs.laws.Sets.{passing_ascend}
 use Rattle.sift_clock.specs.Distance.{IsWithin}
 use Rattle.sift_exec.specs.Conviction.{is_convicted, kept_by, next_by}
 use Rattle.sift_skew.proofs.lemmas.Changes.{offsets_change_little}
@@ -15,8 +15,7 @@ use Rattle.sift_conduct.specs.Conduct.{Account, reading_by}
 use Rattle.sift_mission.specs.Flown.{flown}
 use Rattle.sift_conduct.specs.Frames.{frame_of, FrameConduct}
 use Rattle.sift_mission.specs.Premises.{IsFlyable, PartsMakeItFlyable}
-use Rattle.sift_mission.specs.Slots.{has_turned}
-use Rattle.sift_mission.proofs.lemmas.Storms.{turned_by}
+use Rattle.sift_mission.specs.Slots.{has_turned, turned_by}
 use Rattle.sift_flight.specs.Flight.{Flight, unit_of, Strays, IsRound}
 use Rattle.sift_flight.specs.Told.{AreAccountsOf, IsAccountOf, told}
 use Rattle.sift_flight.specs.Whole.{RoundFlightsAreWhole, RoundFlightsHaveAccounts}

@@ -5,8 +5,8 @@ use Rattle.std.specs.List.{filter}
 use Rattle.std.proofs.lemmas.Bool.{cases_Bool, le-leb}
 use Rattle.sift_base.specs.Units.{has, others, has_bit}
 use Rattle.sift_base.specs.Layout.{least_units}
-use Rattle.sift_base.proofs.lemmas.Others.{has-others}
-use Rattle.sift_base.proofs.lemmas.Sets.{filter_same, passing_ascend}
+use Rattle.sift_base.specs.laws.Others.{has-others}
+use Rattle.sift_base.specs.laws.Sets.{filter_same, passing_ascend}
 use Rattle.sift_exec.specs.Conviction.{everyone_in, is_convicted, kept_by, next_by, IsJust, working_accusers}
 use Rattle.sift_exec.proofs.lemmas.Justice.{conviction_holds, count_of_same}
 use Rattle.sift_mission.specs.Data.{FlownMission, IsConfigOf}

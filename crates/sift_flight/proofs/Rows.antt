@@ -9,10 +9,10 @@ use Rattle.sift_buffer.specs.Cell.{taken, packed}
 use Rattle.sift_conduct.specs.Frames.{Flies}
 use Rattle.std.specs.List.{Contains}
 use Rattle.std.proofs.lemmas.List.Elements.{Contains-append_cases}
-use Rattle.sift_base.proofs.lemmas.Sets.{holds-insert}
+use Rattle.sift_base.specs.laws.Sets.{holds-insert}
 use Rattle.sift_exec.specs.Conviction.{nobody, everyone_in}
-use Rattle.sift_skew.proofs.lemmas.Leads.{Contains-map, skew_is_unique, slack_is_unique}
-use Rattle.sift_exec.proofs.lemmas.Everyone.{holds-everyone}
+use Rattle.sift_skew.specs.laws.Leads.{Contains-map, skew_is_unique, slack_is_unique}
+use Rattle.sift_exec.specs.laws.Everyone.{holds-everyone}
 use Rattle.sift_flight.proofs.CalmConduct.{no_report}
 use Rattle.sift_flight.specs.Calm.{Calm, four_units, mission_of, program_of}
 use Rattle.sift_flight.specs.CalmFlight.{account_of, core_of, ranges_of}

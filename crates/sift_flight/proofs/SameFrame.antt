@@ -16,7 +16,7 @@ use Rattle.sift_mission.specs.Data.{FlownMission}
 use Rattle.sift_mission.specs.Slots.{executors}
 use Rattle.sift_conduct.specs.Conduct.{Account, UnitFrame, unit_frame, Conduct, poll_catches, relay_catches, clock_catches, report_of, said_of}
 use Rattle.sift_conduct.specs.Frames.{last_of, Flies, IdleConduct}
-use Rattle.sift_conduct.proofs.lemmas.Tests.{any-same}
+use Rattle.sift_conduct.specs.laws.Tests.{any-same}
 use Rattle.sift_flight.specs.Flight.{Flight, config_of, Strays, AreSameAt}
 use Rattle.sift_flight.specs.Existence.{StrayHearing}
 use Rattle.sift_flight.proofs.Same.{AreBothRound, HearAlike, conduct_one, conduct_other, busy_one, idle_one, by_place, say, hear}

@@ -12,7 +12,7 @@ use Rattle.std.proofs.lemmas.List.{map_more}
 use Rattle.sift_clock.specs.Distance.{IsWithin}
 use Rattle.sift_skew.specs.Limits.{offset_limit}
 use Rattle.sift_skew.specs.Figures.{AreInRange, IsHighest, IsLowest, IsSkew, IsSlack}
-use Rattle.sift_skew.proofs.lemmas.Extremes.{skew_from, slack_from}
+use Rattle.sift_skew.specs.laws.Extremes.{skew_from, slack_from}
 use Rattle.sift_mission.specs.Data.{FlownMission}
 use Rattle.sift_flight.specs.Flight.{Flight}
 use Rattle.sift_flight.specs.Figures.{config_at, MarginIsTold, SkewIsTold, SlackIsTold, is_sound_at, margin_before, skew_of, slack_of}

@@ -9,10 +9,10 @@ use Rattle.sift_clock.specs.Distance.{IsWithin}
 use Rattle.sift_clock.specs.Correction.{is_too_far}
 use Rattle.sift_skew.specs.Keeping.{AreTogether, ReadsWell, AreWithin, next_offsets}
 use Rattle.sift_skew.specs.Figures.{IsSkew, IsSlack}
-use Rattle.sift_skew.proofs.lemmas.Readings.{heard_clocks_are_read_well}
+use Rattle.sift_skew.specs.laws.Readings.{heard_clocks_are_read_well}
 use Rattle.sift_skew.proofs.lemmas.Keeps.{skew_is_kept_with_margin}
 use Rattle.sift_skew.proofs.lemmas.Changes.{offsets_change_little}
-use Rattle.sift_skew.proofs.lemmas.Leads.{Contains-map, slack_is_positive}
+use Rattle.sift_skew.specs.laws.Leads.{Contains-map, slack_is_positive}
 use Rattle.sift_mission.specs.Data.{FlownMission}
 use Rattle.sift_conduct.specs.Conduct.{reading_by}
 use Rattle.sift_flight.specs.Flight.{Flight, Strays}

@@ -2,17 +2,17 @@
 use Rattle.std.proofs.Common.{◌≡◌, inl, inr, ℕ, zero, suc, ◌+◌, ◌<◌, ◌≤◌, List, [], ◌∷◌, map, slice_index, Bool, true, false, not, Option, Some, refl, sym, ap, ◌∙◌, arith}
 use Rattle.std.specs.Prelude.{count_by}
 use Rattle.std.specs.List.{filter, list_any, range_with_len}
-use Rattle.std.proofs.lemmas.Bool.{cases_Bool, true≢false}
+use Rattle.std.proofs.lemmas.Bool.{cases_Bool, true≢false, eq-eqb}
 use Rattle.std.proofs.lemmas.Bool.Decides.{eqb_tells}
 use Rattle.std.proofs.lemmas.List.{length-map}
 use Rattle.std.proofs.lemmas.Grind.{same_number_lists}
 use Rattle.sift_base.specs.Units.{has}
 use Rattle.sift_base.specs.declared.slot.Slot.TheVariants.{Out}
-use Rattle.sift_base.proofs.lemmas.Counts.{count-cons, nat_eq-same}
+use Rattle.sift_base.specs.laws.Counts.{count-cons}
 use Rattle.sift_vote.specs.Majority.{IsMajority, differs}
-use Rattle.sift_vote.proofs.lemmas.Found.{majority_is_found}
-use Rattle.sift_agree.proofs.lemmas.Taking.{votes-working}
-use Rattle.sift_agree.proofs.lemmas.Winners.{won-agreed}
+use Rattle.sift_vote.specs.laws.Found.{majority_is_found}
+use Rattle.sift_agree.specs.laws.Taking.{votes-working}
+use Rattle.sift_agree.specs.laws.Winners.{won-agreed}
 use Rattle.sift_mission.specs.Data.{FlownMission}
 use Rattle.sift_mission.specs.Slots.{executors, is_held}
 use Rattle.sift_conduct.specs.Conduct.{UnitFrame, made, polled, poll_catches}
@@ -47,7 +47,7 @@ any_found n p e = let r = found_from 0 n p e in let low : r.0 < 0 + n = r.1 in (
 
 -- a word doesn't differ from itself
 pub same_not_differs : (w : ℕ) → differs (Some w) (Some w) ≡ true → ⊥
-same_not_differs w e = let z = rw (nat_eq-same w) at e in cc
+same_not_differs w e = let z = rw (eq-eqb w w refl) at e in cc
 
 module _ (m : FlownMission) (strays : Strays) (fl : Flight) (f : ℕ) (us : List ℕ) (here : InFrame m strays fl f us)
     (ins before outs : List ℕ) (step : IsStep m us ins before outs)

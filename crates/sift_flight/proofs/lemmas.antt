@@ -1,5 +1,3 @@
 -- What the proofs of crates above may cite.
 pub mod Configs
-pub mod Firsts
-pub mod Leading
 pub mod TellingAlike

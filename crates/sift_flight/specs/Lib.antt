@@ -11,3 +11,4 @@ pub mod Calm
 pub mod CalmFlight
 pub mod Calms
 pub mod Rows
+pub mod laws

@@ -1,7 +1,7 @@
 -- Draws after draws.
 use Rattle.std.proofs.Common.{◌≡◌, ℕ, ◌+◌, ap, sym, ◌∙◌, arith}
 use Rattle.sift_base.specs.Draw.{after, drawn, draw_at}
-use Rattle.sift_base.proofs.lemmas.Draws.{after-after}
+use Rattle.sift_base.specs.laws.Draws.{after-after}
 
 -- a draw after draws is a draw
 pub draw-after : (x a i m : ℕ) → draw_at (after x a) i m ≡ draw_at x (a + i) m

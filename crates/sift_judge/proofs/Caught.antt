@@ -7,8 +7,8 @@ use Rattle.std.specs.FinSet as set
 use Rattle.std.proofs.lemmas.Bool.{cases_Bool}
 use Rattle.std.proofs.lemmas.Bool.Decides.{nat_tests}
 use Rattle.sift_base.specs.Units.{Units, has, holds}
-use Rattle.sift_base.proofs.lemmas.Sets.{holds-insert}
-use Rattle.sift_exec.proofs.lemmas.Counted.{filter-count}
+use Rattle.sift_base.specs.laws.Sets.{holds-insert}
+use Rattle.sift_exec.specs.laws.Counted.{filter-count}
 use Rattle.sift_mission.specs.Data.{MissionData}
 use Rattle.sift_report.specs.Told.{told_at, works_in}
 use Rattle.sift_line.specs.declared.line.ReportLine.{ReportLine}

@@ -5,7 +5,7 @@ use Rattle.std.specs.Prelude.{◌↔◌}
 use Rattle.std.specs.List.{All, AllWithin, filter}
 use Rattle.std.proofs.lemmas.List.{length-take-le}
 use Rattle.std.proofs.lemmas.List.Elements.{AllWithin-more, at_read, filter_more}
-use Rattle.sift_exec.proofs.lemmas.Counted.{filter-≤}
+use Rattle.sift_exec.specs.laws.Counted.{filter-≤}
 
 module _ (P : ℕ → Type 0) (us : List ℕ) (i : ℕ) where
   module _ (u : ℕ) (inside : i < length us) (is : u ≡ get_or us i u) where

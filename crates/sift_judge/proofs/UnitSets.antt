@@ -9,7 +9,7 @@ use Rattle.std.proofs.lemmas.Bool.{cases_Bool, cases_lt}
 use Rattle.std.proofs.lemmas.Cmp.{nat_cmp_total}
 use Rattle.std.proofs.lemmas.List.Elements.{filter_agree}
 use Rattle.sift_base.specs.Units.{Units, AreUnits, MembersAreTheSet, has, holds, members, unit_limit, unit_numbers}
-use Rattle.sift_base.proofs.lemmas.Counts.{has-head, has-tail}
+use Rattle.sift_base.specs.laws.Counts.{has-head, has-tail}
 use Rattle.sift_judge.proofs.Lists.{first_low, low_first}
 
 module _ (units all : Units) (n : ℕ) (first : (w : ℕ) → holds all w ≡ has (range_with_len 0 n) w) where

@@ -2,3 +2,4 @@ pub mod Held
 pub mod Meaning
 pub mod Sound
 pub mod Tree
+pub mod laws

@@ -10,7 +10,7 @@ use Rattle.std.proofs.lemmas.Fmt.{decimal_is_IsNumeral}
 use Rattle.std.proofs.lemmas.Str.{IsUtf8-from_ascii}
 use Rattle.std.proofs.lemmas.Str.Parse.{digit_from_value}
 use Rattle.sift_base.specs.Units.{Units, has, holds, members, unit_limit, unit_numbers}
-use Rattle.sift_base.specs.ReadBack.{has-filter}
+use Rattle.sift_base.specs.laws.ReadBack.{has-filter}
 use Rattle.sift_exec.specs.declared.catches.Kinds.{Kinds}
 use Rattle.sift_line.specs.Bad.{caught_text, kinds_text}
 use Rattle.sift_line.specs.declared.bad.Bad.{Bad}

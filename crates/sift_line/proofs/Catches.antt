@@ -12,16 +12,16 @@ use Rattle.std.proofs.lemmas.List.{length-map}
 use Rattle.std.proofs.lemmas.List.Folds.{list_any_more}
 use Rattle.std.proofs.lemmas.List.Elements.{All-cons, All-map, All-nil}
 use Rattle.sift_base.specs.Units.{Units, AreUnits, has, holds, members, unit_numbers}
-use Rattle.sift_base.specs.ReadBack.{has-filter, has_low}
-use Rattle.sift_base.proofs.lemmas.Counts.{has-head, has-tail}
-use Rattle.sift_base.proofs.lemmas.Sets.{holds-insert}
+use Rattle.sift_base.specs.laws.ReadBack.{has-filter, has_low}
+use Rattle.sift_base.specs.laws.Counts.{has-head, has-tail}
+use Rattle.sift_base.specs.laws.Sets.{holds-insert}
 use Rattle.sift_exec.specs.Conviction.{everyone_in, has_kind, kinds_of}
 use Rattle.sift_exec.specs.declared.catches.Catches.{Catches}
 use Rattle.sift_exec.specs.declared.catches.Kind.{Kind}
 use Rattle.sift_exec.specs.declared.catches.Kind.TheVariants.{Poll, Relay, Clock}
 use Rattle.sift_exec.specs.declared.catches.Kinds.{Kinds}
-use Rattle.sift_exec.proofs.lemmas.Counted.{filter-≤}
-use Rattle.sift_exec.proofs.lemmas.Everyone.{holds-everyone}
+use Rattle.sift_exec.specs.laws.Counted.{filter-≤}
+use Rattle.sift_exec.specs.laws.Everyone.{holds-everyone}
 use Rattle.sift_line.specs.Bad.{AreTold, IsCatch, IsSomeKind, IsToldBy, catch_of, catches_in, IsBad, catch_text, caught_text}
 use Rattle.sift_line.specs.declared.catch.Catch.{Catch}
 use Rattle.sift_line.proofs.Sets.{nat_eq-swap}

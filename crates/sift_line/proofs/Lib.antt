@@ -13,4 +13,3 @@ pub mod Reading
 pub mod Remaining
 pub mod Results
 pub mod Sets
-pub mod lemmas

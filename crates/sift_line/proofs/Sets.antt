@@ -4,13 +4,12 @@ use Rattle.std.proofs.Common.{◌||◌, inl, inr, refl, sym, ap, ◌∙◌, arit
 use Rattle.std.specs.FinSet as set
 use Rattle.std.specs.Ordering.{nat_cmp}
 use Rattle.std.specs.List.{filter, range_with_len}
-use Rattle.std.proofs.lemmas.Bool.{cases_Bool, cases_eq, eqb-true}
+use Rattle.std.proofs.lemmas.Bool.{cases_Bool, cases_eq, eqb-true, ne_eqb}
 use Rattle.std.proofs.lemmas.List.{take_more}
 use Rattle.sift_base.specs.Units.{Units, AreUnits, IsAscending, has, holds, members, unit_limit, unit_numbers}
-use Rattle.sift_base.specs.ReadBack.{has-filter, set-members}
-use Rattle.sift_base.proofs.lemmas.Counts.{has-head, has-tail}
-use Rattle.sift_base.proofs.lemmas.Others.{not_same}
-use Rattle.sift_base.proofs.lemmas.Sets.{filter_same, below_has, holds-insert}
+use Rattle.sift_base.specs.laws.ReadBack.{has-filter, set-members}
+use Rattle.sift_base.specs.laws.Counts.{has-head, has-tail}
+use Rattle.sift_base.specs.laws.Sets.{filter_same, below_has, holds-insert}
 use Rattle.sift_config.specs.Config.{IsConfig}
 use Rattle.sift_line.specs.Part.{AscendFrom}
 
@@ -52,7 +51,7 @@ config_up us config = up_from 0 us config.ascending (λ u there. (omega arith, c
 
 -- a first unit that is above a number isn't it
 not_head : (u v : ℕ) (us : List ℕ) → u < v → has (u ∷ us) v ≡ has us v
-not_head u v us less = rw (not_same u v (λ e. absurd (omega arith))) refl
+not_head u v us less = rw (ne_eqb u v (λ e. absurd (omega arith))) refl
 
 -- each of the numbers from one on is at least that one
 numbers_from : (a n v : ℕ) → a + n ≡ unit_limit → has (range_with_len a n) v ≡ true → a ≤ v
@@ -106,7 +105,7 @@ same_members one other are_one are_other same =
 pub nat_eq-swap : (u v : ℕ) → nat_eq u v ≡ nat_eq v u
 nat_eq-swap u v = elim (cases_eq u v) [
   | inl same ↦ rw same refl
-  | inr other ↦ not_same u v other ∙ sym (not_same v u (λ e. other (sym e)))
+  | inr other ↦ ne_eqb u v other ∙ sym (ne_eqb v u (λ e. other (sym e)))
 ]
 
 or_swap : (a b c : Bool) → (a || (b || c)) ≡ (b || (a || c))

@@ -3,7 +3,7 @@ use Rattle.std.proofs.Common.{◌≡◌, ℕ, ◌<◌, ◌≤◌, List, [], ◌�
 use Rattle.std.specs.List.{join_with_byte}
 use Rattle.std.proofs.lemmas.Bool.{cases_Bool}
 use Rattle.sift_base.specs.Units.{Units, AreUnits, has, holds, members}
-use Rattle.sift_base.proofs.lemmas.Counts.{has-head}
+use Rattle.sift_base.specs.laws.Counts.{has-head}
 use Rattle.sift_exec.specs.Conviction.{everyone_in, kinds_of}
 use Rattle.sift_exec.specs.declared.catches.Catches.{Catches}
 use Rattle.sift_exec.specs.declared.catches.Kinds.{Kinds}

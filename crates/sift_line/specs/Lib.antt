@@ -6,3 +6,4 @@ pub mod Part
 pub mod OneSheet
 pub mod Versions
 pub mod Texts
+pub mod laws

@@ -9,4 +9,3 @@ pub mod Splices
 pub mod Sums
 pub mod Tests
 pub mod Writing
-pub mod lemmas

@@ -5,3 +5,4 @@ pub mod Memories
 pub mod Memory
 pub mod Stops
 pub mod Tidings
+pub mod laws

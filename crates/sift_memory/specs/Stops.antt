@@ -30,7 +30,7 @@ say_spot m us k q = spot (m.due us k) 2 (m.number k) q
 -- in this part of a subframe there is something to do of a slot, which is a task's number in the part in which tasks are run
 abbrev pub IsDueIn : FlownMission → List ℕ → ℕ → Part → ℕ → Type 0
 IsDueIn m us subframe Hearing slot = m.heard_in us (m.kind slot) ≡ subframe
-IsDueIn m us subframe Running slot = m.run_in us slot ≡ subframe
+IsDueIn m us subframe Running slot = (slot < m.tasks) × (m.run_in us slot ≡ subframe)
 IsDueIn m us subframe Saying slot = m.due us (m.kind slot) ≡ subframe
 
 -- ---- stops

@@ -20,9 +20,9 @@ use Rattle.sift_mission.specs.PartsFit.{IsTableFor, PartsFit, table_at}
 use Rattle.sift_mission.specs.Timetable.{HasRowsFor}
 use Rattle.sift_mission.specs.Slots.{is_held, is_silent, is_slot}
 use Rattle.sift_mission.proofs.FitSlots.{is-slot}
-use Rattle.sift_mission.proofs.lemmas.Numbers.{range-has}
+use Rattle.sift_mission.specs.laws.Numbers.{range-has}
 use Rattle.sift_mission.proofs.Positions.{length-ascending, positions-filtered}
-use Rattle.sift_program.proofs.lemmas.ShapeLists.{length-shapes, words-shapes}
+use Rattle.sift_program.specs.laws.ShapeLists.{length-shapes, words-shapes}
 use Rattle.sift_mission.proofs.Tasks.{among-below}
 
 module _ (d : MissionData) (fit : PartsFit d) where

@@ -20,8 +20,8 @@ use Rattle.sift_mission.specs.Premises.{IsAmong, RunsProgram}
 use Rattle.sift_mission.proofs.FitSlots.{few-words}
 use Rattle.sift_mission.proofs.FitTables.{table-is, task-below, words-are}
 use Rattle.sift_mission.proofs.Meanings.{SameRead, meaning-same}
-use Rattle.sift_mission.proofs.lemmas.Numbers.{has-range, range-has}
-use Rattle.sift_program.proofs.lemmas.ShapeLists.{shape_in, length-shapes, shape-there, take-shapes, words-shapes, reads_word}
+use Rattle.sift_mission.specs.laws.Numbers.{has-range, range-has}
+use Rattle.sift_program.specs.laws.ShapeLists.{shape_in, length-shapes, shape-there, take-shapes, words-shapes, reads_word}
 use Rattle.sift_mission.proofs.Tasks.{among-before, among-earlier, among-own, any-has, contains-has, filter-has, has-filter}
 
 -- sound tasks have a word each, or more

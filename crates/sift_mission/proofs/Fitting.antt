@@ -11,7 +11,7 @@ use Rattle.sift_mission.specs.Premises.{PartsMakeItFit}
 use Rattle.sift_mission.proofs.FitSlots.{numbered}
 use Rattle.sift_mission.proofs.FitTables.{executors, timed}
 use Rattle.sift_mission.proofs.FitTasks.{counted, read}
-use Rattle.sift_mission.proofs.lemmas.Numbers.{range-ascends}
+use Rattle.sift_mission.specs.laws.Numbers.{range-ascends}
 use Rattle.sift_mission.proofs.Rows.{drift-low, start-low}
 
 -- all units are a configuration

@@ -8,11 +8,10 @@ use Rattle.sift_mission.specs.Data.{MissionData}
 use Rattle.sift_mission.specs.Flown.{flown}
 use Rattle.sift_mission.specs.PartsFit.{PartsFit}
 use Rattle.sift_mission.specs.Premises.{AreClocksSound, IsScriptSound, PartsMakeItFit, PartsMakeItFlyable}
-use Rattle.sift_mission.specs.Slots.{StormsCome}
-use Rattle.sift_mission.proofs.lemmas.Storms.{turned_by}
+use Rattle.sift_mission.specs.Slots.{StormsCome, turned_by}
 use Rattle.sift_mission.proofs.FitTasks.{program-is}
 use Rattle.sift_mission.proofs.Rows.{drift-low, error-low, errors-low, start-low}
-use Rattle.sift_mission.proofs.lemmas.Numbers.{has-range}
+use Rattle.sift_mission.specs.laws.Numbers.{has-range}
 
 -- a storm has come where its first frame has
 turned-is : (storm : Option (ℕ × ℕ × ℕ)) (f : ℕ) → turned_by (option_map (λ s. s.0) storm) f ≡ faults.has_come storm f

@@ -3,7 +3,7 @@ use Rattle.std.proofs.Common.{◌≡◌, ℕ, ◌<◌, List, length, slice_index
 use Rattle.sift_base.specs.Layout.{slot_count, slot_kind}
 use Rattle.sift_base.specs.declared.slot.Slot.TheVariants.{Out}
 use Rattle.sift_mission.proofs.FitSlots.{numbered}
-use Rattle.sift_mission.proofs.lemmas.ByWords.{at-by_word, length-by_word}
+use Rattle.sift_mission.specs.laws.ByWords.{at-by_word, length-by_word}
 use Rattle.sift_mission.proofs.FitTasks.{task-there}
 use Rattle.sift_mission.specs.ByWord.{IsHeld, by_word}
 use Rattle.sift_mission.specs.Data.{MissionData}

@@ -10,4 +10,3 @@ pub mod Positions
 pub mod Rows
 pub mod Sayers
 pub mod Tasks
-pub mod lemmas

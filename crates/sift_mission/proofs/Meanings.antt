@@ -6,7 +6,7 @@ use Rattle.sift_base.specs.Word.{sub}
 use Rattle.sift_lang.specs.Tree.{Term, number, local, sense, this_frame, last_frame, minus, binary, middle, Statement, bind, assign, output, choose, choose_else, repeat, Block, end, step, TaskTree}
 use Rattle.sift_lang.specs.Meaning.{Readings, State, value_of, scoped, chosen, after, after_all, meaning}
 use Rattle.sift_lang.specs.Sound.{Bounds, NamesWithin, IsSoundStatement, IsSoundBlock, IsSound, NowsBelow, EachTerm, EachTermOf, AllNowsBelow, locals_after}
-use Rattle.sift_program.proofs.lemmas.ShapeLists.{reads_word}
+use Rattle.sift_program.specs.laws.ShapeLists.{reads_word}
 use Rattle.sift_program.specs.Program.{term_reads, statement_reads, block_reads}
 
 -- the lists have the same words at the places below made that pass a test

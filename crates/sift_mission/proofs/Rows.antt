@@ -9,8 +9,8 @@ use Rattle.sift_mission.specs.Data.{MissionData}
 use Rattle.sift_mission.specs.Parts.{data_of}
 use Rattle.sift_mission.specs.PartsFit.{HasWords, PartsFit}
 use Rattle.sift_mission.specs.declared.parts.MissionParts.{MissionParts}
-use Rattle.sift_mission.proofs.lemmas.ByWords.{get_or-map}
-use Rattle.sift_mission.proofs.lemmas.Numbers.{range-has}
+use Rattle.sift_mission.specs.laws.ByWords.{get_or-map}
+use Rattle.sift_mission.specs.laws.Numbers.{range-has}
 
 module _ (d : MissionData) (fit : PartsFit d) (u : ℕ) (there : has (first_units d.units) u ≡ true) where
   -- a unit is one of those that there are

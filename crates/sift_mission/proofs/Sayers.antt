@@ -4,12 +4,11 @@ use Rattle.std.specs.Int.{bit_at, trailing_zeros, w16}
 use Rattle.std.specs.Ordering.{nat_cmp}
 use Rattle.std.specs.Cmp.{nat_cmp_total, unsigned_tied}
 use Rattle.std.specs.FinSet as set
-use Rattle.std.proofs.lemmas.Bool.{cases_Bool, cases_lt}
+use Rattle.std.proofs.lemmas.Bool.{cases_Bool, cases_lt, eqb-false}
 use Rattle.std.proofs.lemmas.Nat.{shr-shr}
 use Rattle.std.proofs.lemmas.Nat.Bits.{bit_at-zero, bit_at_above, bit_at-trailing_zeros}
 use Rattle.sift_base.specs.Units.{Units, has, holds, units_of}
-use Rattle.sift_base.proofs.lemmas.Counts.{apart}
-use Rattle.sift_base.proofs.lemmas.Sets.{holds_low, holds-insert}
+use Rattle.sift_base.specs.laws.Sets.{holds_low, holds-insert}
 use Rattle.sift_base.specs.declared.slot.Slot.{Slot}
 use Rattle.sift_mission.specs.Data.{FlownMission}
 use Rattle.sift_base.specs.declared.slot.Slot.TheVariants.{Clock, Sense, RelaySense, Out, Report, RelayReport}
@@ -103,7 +102,7 @@ twice false b = refl
 same_test : (a b : ℕ) → nat_eq a b ≡ nat_eq b a
 same_test a b = elim (cases_Bool (nat_eq a b)) [
   | inl same ↦ rw (same, eq-eqb b a (sym (eqb-true a b same))) refl
-  | inr other ↦ rw (other, ne_eqb b a (λ e. apart a b other (sym e))) refl
+  | inr other ↦ rw (other, ne_eqb b a (λ e. eqb-false a b other (sym e))) refl
 ]
 
 -- three tests in another order

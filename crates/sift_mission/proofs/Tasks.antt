@@ -4,7 +4,7 @@ use Rattle.std.specs.List.{Contains, filter, list_any}
 use Rattle.std.proofs.lemmas.Bool.{cases_Bool, cases_lt, eqb-true, lt-ltb, le-ltb, or_left, or_right}
 use Rattle.sift_base.specs.Shapes.{Shape, words_in}
 use Rattle.sift_base.specs.Units.{has}
-use Rattle.sift_program.proofs.lemmas.ShapeLists.{words_in-cons}
+use Rattle.sift_program.specs.laws.ShapeLists.{words_in-cons}
 use Rattle.sift_table.specs.Timing.{task_of}
 
 -- ---- words of tasks

@@ -8,3 +8,4 @@ pub mod PartsFit
 pub mod Premises
 pub mod Slots
 pub mod Timetable
+pub mod laws

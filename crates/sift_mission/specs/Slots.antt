@@ -1,5 +1,5 @@
 -- Who says which slot to whom under a configuration, and when.
-use Rattle.std.specs.Prelude.{◌≡◌, ℕ, ◌+◌, ◌*◌, ◌<◌, ◌≤◌, List, Bool, true, false, not, ◌&&◌, nat_eq, nat_lt, Some}
+use Rattle.std.specs.Prelude.{◌≡◌, ℕ, ◌+◌, ◌*◌, ◌<◌, ◌≤◌, List, Bool, true, false, not, ◌&&◌, nat_eq, nat_lt, Option, Some}
 use Rattle.std.specs.List.{filter}
 use Rattle.std.specs.Option.{option_map_or}
 use Rattle.sift_base.specs.Units.{has, unit_limit}
@@ -54,9 +54,13 @@ stamp_of m us f k = f * m.period + m.due us k + 1
 abbrev pub heard_at : FlownMission → List ℕ → ℕ → Slot → ℕ
 heard_at m us f k = f * m.period + m.heard_in us k
 
--- unit u has turned stray by frame f: there is a frame from which on it is stray, and that has come
+-- the frame from which on a unit is stray, if there is one, has come by frame f
+abbrev pub turned_by : Option ℕ → ℕ → Bool
+turned_by storm f = option_map_or (λ from. not (nat_lt f from)) storm false
+
+-- unit u has turned stray by frame f
 abbrev pub has_turned : FlownMission → ℕ → ℕ → Bool
-has_turned m u f = option_map_or (λ from. not (nat_lt f from)) (m.storm u) false
+has_turned m u f = turned_by (m.storm u) f
 
 -- each storm comes in a frame of the mission
 abbrev pub StormsCome : FlownMission → Type 0

@@ -51,7 +51,7 @@ impl Mission {
         ensures after { from ≤ result }
         ensures within { result ≤ (flown_of self.now).slots }
         ensures passed { (t : ℕ) → t < (flown_of self.now).tasks → from ≤ t → t < result → (flown_of self.now).run_in config.now t ≢ subframe }
-        ensures found { result < (flown_of self.now).slots → (flown_of self.now).run_in config.now result ≡ subframe }
+        ensures found { result < (flown_of self.now).slots → (result < (flown_of self.now).tasks) × ((flown_of self.now).run_in config.now result ≡ subframe) }
     {
         let tasks = self.tasks();
         if from < tasks {

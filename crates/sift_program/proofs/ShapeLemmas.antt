@@ -10,7 +10,7 @@ use Rattle.sift_lang.specs.Tree.{TaskTree, block_of, end, statement_of, step, tr
 use Rattle.sift_lang.specs.declared.tree.Stmt.{Stmt}
 use Rattle.sift_lang.specs.declared.tree.Task.{Task}
 use Rattle.sift_program.specs.Program.{first_word, output_count, reads_task, shapes_from, task_at}
-use Rattle.sift_program.proofs.lemmas.ShapeLists.{reads_word, shape_in, length-shapes, shape-there}
+use Rattle.sift_program.specs.laws.ShapeLists.{reads_word, shape_in, length-shapes, shape-there}
 
 -- ---- blocks
 

@@ -7,7 +7,7 @@ use Rattle.sift_base.specs.Layout.{sensor_limit}
 use Rattle.sift_base.specs.Shapes.{AreShapes, Shape, shape_at}
 use Rattle.sift_lang.specs.Tree.{TaskTree, end}
 use Rattle.sift_program.specs.Program.{ProgramTree, IsSoundProgram, program_shapes, reads_task, task_at}
-use Rattle.sift_program.proofs.lemmas.ShapeLists.{shape_in, length-shapes, shape-there, words-shapes}
+use Rattle.sift_program.specs.laws.ShapeLists.{shape_in, length-shapes, shape-there, words-shapes}
 
 -- the numbers from 0 on are below so many
 below_all : (n : ℕ) → All (λ k. k < n) (range_with_len 0 n)

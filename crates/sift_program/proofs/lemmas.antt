@@ -1,5 +1,4 @@
 -- What the proofs of crates above may cite.
 pub mod Earlier
 pub mod Frames
-pub mod ShapeLists
 pub mod Unique

@@ -1,2 +1,3 @@
 pub mod Ideal
 pub mod Program
+pub mod laws

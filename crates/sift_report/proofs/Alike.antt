@@ -2,7 +2,7 @@
 use Rattle.std.proofs.Common.{◌≡◌, ℕ, zero, suc, ◌<◌, List, [], ◌∷◌, map, Bool, true, Option, None, Some, refl, sym, ap, ◌∙◌, arith}
 use Rattle.std.specs.Prelude.{count_by}
 use Rattle.sift_base.specs.Units.{has}
-use Rattle.sift_base.proofs.lemmas.Counts.{count-cons, has-head, has-tail}
+use Rattle.sift_base.specs.laws.Counts.{count-cons, has-head, has-tail}
 use Rattle.sift_program.specs.Ideal.{words_before}
 use Rattle.sift_program.specs.Program.{ProgramTree}
 

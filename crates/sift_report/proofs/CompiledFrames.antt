@@ -5,7 +5,7 @@ use Rattle.std.proofs.lemmas.List.Sums.{sum_by_more_le}
 use Rattle.std.proofs.lemmas.Option.{slice_get-get_or}
 use Rattle.sift_lang.specs.Tree.{TaskTree, end}
 use Rattle.sift_lang.specs.Meaning.{meaning}
-use Rattle.sift_lang.proofs.lemmas.States.{length-meaning}
+use Rattle.sift_lang.specs.laws.States.{length-meaning}
 use Rattle.sift_program.proofs.lemmas.Earlier.{meaning-same}
 use Rattle.sift_program.proofs.lemmas.Frames.{first_word-more, words_made-more}
 use Rattle.sift_program.specs.Ideal.{words_made}

@@ -12,7 +12,7 @@ use Rattle.sift_flight.specs.Figures.{HasMarginAt, Works, config_at, lead_of, ne
 use Rattle.sift_flight.specs.Flight.{Flight}
 use Rattle.sift_flight.specs.Headline.{Headline, agreed_at, two_caught}
 use Rattle.sift_flight.proofs.lemmas.Configs.{filter_has, has_filter}
-use Rattle.sift_flight.proofs.lemmas.Leading.{config_within, lead_works}
+use Rattle.sift_flight.specs.laws.Leading.{config_within, lead_works}
 use Rattle.sift_report.specs.Headline.{TellsClockSkew, TellsExactRemoval, TellsNoFalseAccusation, TellsSameInputs}
 use Rattle.sift_report.specs.Sheet.{sheet_of}
 use Rattle.sift_report.specs.Told.{agreed_told, config_told, told_at, told_in}

@@ -4,17 +4,16 @@ use Rattle.std.proofs.Common.{Some, nat_eq, refl, sym, subst, ◌∙◌, arith, 
 use Rattle.std.specs.Prelude.{slice_get, slice_index}
 use Rattle.std.proofs.lemmas.List.{get_or_default}
 use Rattle.std.proofs.lemmas.List.FromFn.{length-range_with_len}
+use Rattle.std.proofs.lemmas.Bool.{ne_eqb, eq-eqb}
 use Rattle.sift_base.specs.Layout.{slot_number}
 use Rattle.sift_base.specs.Units.{has, IsAscending, others}
 use Rattle.sift_base.specs.declared.slot.Slot.TheVariants.{Out}
-use Rattle.sift_base.proofs.lemmas.Counts.{nat_eq-same}
-use Rattle.sift_base.proofs.lemmas.Others.{not_same}
 use Rattle.sift_buffer.specs.Journals.{IsJournalOf, Pages, heard_in, ranges_in, said_in, no_pages}
 use Rattle.sift_buffer.specs.Ranges.{IsPlace}
 use Rattle.sift_mission.specs.Parts.{data_of, flown_of}
 use Rattle.sift_mission.specs.PartsFit.{PartsFit}
 use Rattle.sift_mission.specs.declared.parts.MissionParts.{MissionParts}
-use Rattle.sift_mission.proofs.lemmas.Numbers.{range-has}
+use Rattle.sift_mission.specs.laws.Numbers.{range-has}
 use Rattle.sift_flight.specs.Flight.{Flight}
 use Rattle.sift_flight.specs.Told.{IsWhole, journal_of, told}
 use Rattle.sift_flight.specs.declared.flight.Flight.{Flight as TheFlight}
@@ -27,7 +26,7 @@ pub lowest_first : (us : List ℕ) (u a : ℕ) → slice_get us 0 ≡ Some a →
 lowest_first [] u a e other = absurd cc
 lowest_first (v ∷ us) u a e other =
     let same : v ≡ a = (cc) in
-    rw (not_same v u (λ own. other (sym same ∙ own))) same
+    rw (ne_eqb v u (λ own. other (sym same ∙ own))) same
 
 -- where it is the unit itself, the next is
 pub lowest_second : (us : List ℕ) (u b : ℕ) → IsAscending us → slice_get us 0 ≡ Some u → slice_get us 1 ≡ Some b →
@@ -38,8 +37,8 @@ lowest_second (v ∷ w ∷ us) u b up e next =
     let own : v ≡ u = (cc) in
     let same : w ≡ b = (cc) in
     let above : w ≢ u = λ at. absurd (omega (arith, up.0.0)) in
-    let passed : nat_eq v u ≡ true = rw own (nat_eq-same u) in
-    let kept : nat_eq w u ≡ false = not_same w u above in
+    let passed : nat_eq v u ≡ true = rw own (eq-eqb u u refl) in
+    let kept : nat_eq w u ≡ false = ne_eqb w u above in
     (rw (passed, kept) same, λ at. above (same ∙ at))
 
 -- ---- journals
@@ -77,8 +76,8 @@ module _ (parts : MissionParts) (fit : PartsFit (data_of parts)) (fl : TheFlight
 -- the place of the unit itself and that of another
 pub place-own : (fl : Flight) (f u w v : ℕ) → v ≡ u →
     place_of fl f u w v ≡ fl.said u f (Out w) (slice_index (others u ((fl.account u f).cfg)) 0)
-place-own fl f u w v same = let test : nat_eq v u ≡ true = rw same (nat_eq-same u) in rw test refl
+place-own fl f u w v same = let test : nat_eq v u ≡ true = rw same (eq-eqb u u refl) in rw test refl
 
 -- the place of another executor is its word as the unit heard it
 pub place-other : (fl : Flight) (f u w v : ℕ) → v ≢ u → place_of fl f u w v ≡ fl.heard u f (Out w) v
-place-other fl f u w v other = rw (not_same v u other) refl
+place-other fl f u w v other = rw (ne_eqb v u other) refl

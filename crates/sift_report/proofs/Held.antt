@@ -6,10 +6,10 @@ use Rattle.std.specs.List.{All, flat_map, range_with_len}
 use Rattle.std.proofs.lemmas.Grind.{flat_map-append}
 use Rattle.std.proofs.lemmas.List.{append-nil, map_more, take_all}
 use Rattle.std.proofs.lemmas.List.Elements.{All-append}
-use Rattle.sift_exec.proofs.lemmas.Counted.{place_holds, place_there}
+use Rattle.sift_exec.specs.laws.Counted.{place_holds, place_there}
 use Rattle.sift_line.specs.Line.{IsLine}
 use Rattle.sift_line.specs.declared.line.ReportLine.{ReportLine}
-use Rattle.sift_line.proofs.lemmas.Printed.{range-more}
+use Rattle.sift_line.specs.laws.Printed.{range-more}
 
 -- what holds in any case holds where all went well
 pub on_ok : {T E : Type 0} (r : Result T E) {X : Type 0} → X → OnOk r X

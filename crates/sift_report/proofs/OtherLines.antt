@@ -4,7 +4,7 @@ use Rattle.std.specs.List.{filter}
 use Rattle.std.proofs.lemmas.Int.{ints}
 use Rattle.std.proofs.lemmas.Option.{none-some, same_Some}
 use Rattle.sift_base.specs.Units.{HasMargin, has}
-use Rattle.sift_skew.proofs.lemmas.Leads.{skew_is_unique}
+use Rattle.sift_skew.specs.laws.Leads.{skew_is_unique}
 use Rattle.sift_table.specs.Laws.{PlainTablesAreGood}
 use Rattle.sift_flight.specs.Calms.{CalmMissionsFly}
 use Rattle.sift_report.specs.Told.{HasMarginTold, IsWorking, works_in}

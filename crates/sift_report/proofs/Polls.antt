@@ -18,7 +18,7 @@ use Rattle.sift_mission.specs.Flown.{flown}
 use Rattle.sift_mission.specs.PartsFit.{PartsFit}
 use Rattle.sift_mission.specs.declared.parts.MissionParts.{MissionParts}
 use Rattle.sift_vote.specs.Majority.{majority_of, HasNoMajority, IsMajority}
-use Rattle.sift_vote.proofs.lemmas.Found.{majority_is_found}
+use Rattle.sift_vote.specs.laws.Found.{majority_is_found}
 use Rattle.sift_flight.specs.Flight.{Flight, config_of}
 use Rattle.sift_line.specs.Part.{blank, list_text, text_or_dash, unit_digit, word_text}
 use Rattle.sift_report.specs.Poll.{poll_of, polled_text, polls_of}

@@ -2,7 +2,7 @@
 use Rattle.std.proofs.Common.{◌≡◌, ℕ, zero, suc, ◌+◌, ◌-◌, ◌<◌, List, [], ◌∷◌, ◌++◌, map, true, if◌then◌else◌, refl, ap, ◌∙◌, arith}
 use Rattle.std.specs.List.{flat_map, range_with_len}
 use Rattle.sift_base.specs.Units.{has}
-use Rattle.sift_base.proofs.lemmas.Counts.{has-head, has-tail}
+use Rattle.sift_base.specs.laws.Counts.{has-head, has-tail}
 use Rattle.sift_conduct.specs.Conduct.{Account, Places}
 use Rattle.sift_mission.specs.Data.{MissionData}
 use Rattle.sift_mission.specs.Flown.{flown}

@@ -7,7 +7,7 @@ use Rattle.sift_mission.specs.Flown.{flown}
 use Rattle.sift_flight.specs.Figures.{HasMarginAt, Works, config_at, lead_of}
 use Rattle.sift_flight.specs.Flight.{Flight, config_of}
 use Rattle.sift_flight.specs.Headline.{agreed_at}
-use Rattle.sift_flight.proofs.lemmas.Leading.{config_within, lead_works}
+use Rattle.sift_flight.specs.laws.Leading.{config_within, lead_works}
 use Rattle.sift_report.specs.Headline.{TellsSameConfiguration}
 use Rattle.sift_report.specs.Printed.{TellsItsFlight}
 use Rattle.sift_report.specs.Sheet.{sheet_of}

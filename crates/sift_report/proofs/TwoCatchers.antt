@@ -7,13 +7,13 @@ use Rattle.std.specs.Ordering.{nat_cmp}
 use Rattle.std.proofs.lemmas.Bool.{le-leb}
 use Rattle.std.proofs.lemmas.Int.{ints}
 use Rattle.sift_base.specs.Units.{has, holds}
-use Rattle.sift_base.proofs.lemmas.Sets.{holds-insert}
+use Rattle.sift_base.specs.laws.Sets.{holds-insert}
 use Rattle.sift_exec.specs.Conviction.{nobody, noted}
 use Rattle.sift_exec.specs.declared.catches.Kind.TheVariants.{Poll}
-use Rattle.sift_exec.proofs.lemmas.Everyone.{holds-everyone}
+use Rattle.sift_exec.specs.laws.Everyone.{holds-everyone}
 use Rattle.sift_line.specs.Bad.{units_in}
 use Rattle.sift_skew.specs.Figures.{IsSkew}
-use Rattle.sift_skew.proofs.lemmas.Leads.{Contains-map}
+use Rattle.sift_skew.specs.laws.Leads.{Contains-map}
 use Rattle.sift_mission.specs.PartsFit.{PartsFit}
 use Rattle.sift_report.specs.Headline.{HasForm, IsUnitsLine}
 use Rattle.sift_report.specs.Headline.{TellsClockSkew, TellsExactRemoval, TellsIdealOutputs, TellsNoFalseAccusation, TellsSameConfiguration, TellsSameInputs, TellsTrueMargin}

@@ -2,7 +2,7 @@
 use Rattle.std.proofs.Common.{◌≡◌, ℕ, zero, suc, ◌+◌, ◌*◌, List, [], ◌∷◌, length, refl, sym, ap, ◌∙◌, arith, Option, option_to_list}
 use Rattle.std.specs.List.{flat_map}
 use Rattle.sift_base.specs.Draw.{after}
-use Rattle.sift_base.proofs.lemmas.Draws.{after-after}
+use Rattle.sift_base.specs.laws.Draws.{after-after}
 use Rattle.sift_buffer.specs.Conduct.{Stray}
 use Rattle.sift_rogue.specs.declared.act.Act.{Act}
 use Rattle.sift_rogue.specs.declared.storm.Storm.{Storm}

@@ -51,6 +51,10 @@ module _ {R : Type 0} (allows : R → Call → R → Type 0) where
     pub answers : Answers begun acts y
     pub strays_are : calls.strays ≡ flat_map (λ act. option_to_list (sift act)) acts
 
+  -- the same by its figures: x was started with this number and then called so many times, and became y, with these strays
+  abbrev pub StormsBy : (Act → Option Stray) → ℕ → R → ℕ → List Stray → R → Type 0
+  StormsBy sift number x count strays y = Storms sift (record { number = number; count = count; strays = strays }) x y
+
   -- x was called once and became y; its act comes to this shot, or to none
   pub record Shoots (sift : Act → Option Stray) (x : R) (shot : Option Shot) (y : R) : Type 0 where
     pub act : Act

@@ -6,7 +6,7 @@ use Rattle.std.specs.List.{All}
 use Rattle.sift_base.specs.Shapes.{AllShapes}
 use Rattle.sift_table.specs.Rules.{IsGood}
 use Rattle.sift_table.specs.Schedule.{Schedule}
-use Rattle.sift_document.proofs.lemmas.Places.{holds_here}
+use Rattle.sift_document.specs.laws.Places.{holds_here}
 use Rattle.sift_scenario.specs.Testing.{IsBadTable, RefusesTable}
 use Rattle.sift_scenario.specs.declared.refused.Refused.{Refused}
 use Rattle.sift_scenario.specs.declared.refused.Refused.TheVariants.{Scenario, Task, Table, Script}

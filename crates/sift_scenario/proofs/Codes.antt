@@ -14,7 +14,7 @@ use Rattle.sift_lang.specs.Tree.{TaskTree}
 use Rattle.sift_parse.proofs.lemmas.Sound.{has_size, task_is_sound}
 use Rattle.sift_parse.specs.Outcome.{AreNames}
 use Rattle.sift_parse.specs.Roll.{first_word, Roll}
-use Rattle.sift_document.proofs.lemmas.Places.{pushed}
+use Rattle.sift_document.specs.laws.Places.{pushed}
 use Rattle.sift_scenario.proofs.Programs.{sound_tree}
 use Rattle.sift_scenario.specs.Program.{AreAllowed, IsTreeOf, steps_left}
 use Rattle.sift_scenario.specs.Task.{Form, linear, text}

@@ -13,7 +13,7 @@ use Rattle.sift_parse.proofs.lemmas.Answered.{no_text_is_unanswered}
 use Rattle.sift_parse.specs.Answer as texts
 use Rattle.sift_parse.specs.Roll.{Roll, first_word}
 use Rattle.sift_parse.specs.Outcome.{linear_tree}
-use Rattle.sift_document.proofs.lemmas.Places.{matches_more}
+use Rattle.sift_document.specs.laws.Places.{matches_more}
 use Rattle.sift_document.specs.Rules.{EachMatches, AreKept}
 use Rattle.sift_scenario.proofs.Codes.{allowed_more}
 use Rattle.sift_scenario.proofs.FirstBroken.{kept_or_broken}
@@ -25,7 +25,7 @@ use Rattle.sift_scenario.specs.Laws.{HasAnswer, a_mission, a_refusal, NoDocument
 use Rattle.sift_scenario.specs.Mission.{IsStated, IsLawful}
 use Rattle.sift_scenario.specs.Program.{AreAllowed, IsProgramOf, IsTreeOf, roll_for, steps_left, turn_of}
 use Rattle.sift_scenario.specs.Refusal.{IsFirstRefused, IsNoTask, IsOver, refusal_of, told_number}
-use Rattle.sift_sections.proofs.lemmas.Decided.{all_more, at_most}
+use Rattle.sift_sections.specs.laws.Decided.{all_more, at_most}
 use Rattle.sift_scenario.proofs.Themes.{kept_themes}
 use Rattle.sift_scenario.specs.Root.{frames_of, period_of, units_of}
 use Rattle.sift_scenario.specs.Sensor.{sensor_names}

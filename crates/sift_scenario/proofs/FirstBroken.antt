@@ -7,9 +7,9 @@ use Rattle.sift_base.specs.Layout.{sensor_limit, word_limit}
 use Rattle.sift_base.specs.Shapes.{task_limit}
 use Rattle.sift_document.specs.Document.{tables_in, IsTableOf}
 use Rattle.sift_document.specs.Rules.{AreKept, BreaksFirst, Rule, rule}
-use Rattle.sift_sections.proofs.lemmas.Decided.{Decided, at_most, both, either, first_place, holds, negated, nothing, same_number}
+use Rattle.sift_sections.specs.laws.Decided.{Decided, at_most, both, either, first_place, holds, negated, nothing, same_number}
 use Rattle.sift_scenario.proofs.Known.{form_known, new_name_of}
-use Rattle.sift_sections.proofs.lemmas.KnownEntries.{known_keys, known_table}
+use Rattle.sift_sections.specs.laws.KnownEntries.{known_keys, known_table}
 use Rattle.sift_scenario.specs.Mission.{rules_of}
 use Rattle.sift_scenario.specs.Laws.{RulesAreKeptOrBroken}
 use Rattle.sift_scenario.specs.Root.{frames_of, period_of, root_keys, root_rules, units_of, version_of}

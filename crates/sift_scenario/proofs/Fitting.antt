@@ -13,9 +13,9 @@ use Rattle.sift_script.specs.Script.{FaultScript}
 use Rattle.sift_table.specs.Schedule.{Schedule}
 use Rattle.sift_mission.specs.Data.{Clocks, MissionData}
 use Rattle.sift_mission.specs.PartsFit.{AreClocks, AreTables, HasWords, PartsFit, frame_limit, table_at}
-use Rattle.sift_document.proofs.lemmas.Order.{AreAllKept}
+use Rattle.sift_document.specs.laws.Order.{AreAllKept}
 use Rattle.sift_scenario.proofs.Clocks.{clocks_fit}
-use Rattle.sift_document.proofs.lemmas.Numbers.{between_at}
+use Rattle.sift_document.specs.laws.Numbers.{between_at}
 use Rattle.sift_scenario.proofs.Periods.{period_between}
 use Rattle.sift_scenario.proofs.Sensing.{as_many_sensors, few_sensors, words_fit}
 use Rattle.sift_sections.proofs.lemmas.Sizes.{IsSized, schedule_at, schedules_long, schedules_sized}

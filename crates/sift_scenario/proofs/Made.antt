@@ -19,7 +19,7 @@ use Rattle.sift_table.specs.Schedule.{Schedule, schedule_of}
 use Rattle.sift_mission.specs.PartsFit.{PartsFit}
 use Rattle.sift_scenario.proofs.Assembling.{is_stated, layout_read, made, script_read, script_refused, table_refused}
 use Rattle.sift_scenario.proofs.Fitting.{fit}
-use Rattle.sift_document.proofs.lemmas.Numbers.{between_at}
+use Rattle.sift_document.specs.laws.Numbers.{between_at}
 use Rattle.sift_scenario.proofs.Sensing.{as_many_sensors, few_sensors}
 use Rattle.sift_scenario.proofs.SoundPrograms.{stated_is_sound}
 use Rattle.sift_scenario.specs.Mission.{HasGoodTables, IsMission, IsStated}

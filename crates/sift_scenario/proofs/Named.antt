@@ -14,7 +14,7 @@ use Rattle.sift_scenario.specs.Root.{root_rules, version_of}
 use Rattle.sift_scenario.specs.Sensor.{sensor_rules}
 use Rattle.sift_sections.specs.Table.{table_rules}
 use Rattle.sift_scenario.specs.Task.{AreForms, Form, HasForm, start_words, task_rules}
-use Rattle.sift_sections.proofs.lemmas.Named.{later_table_rules}
+use Rattle.sift_sections.specs.laws.Named.{later_table_rules}
 
 -- ---- keys and values
 

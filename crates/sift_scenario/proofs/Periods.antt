@@ -8,8 +8,8 @@ use Rattle.sift_base.specs.Shapes.{task_limit}
 use Rattle.sift_mission.specs.PartsFit.{longest_period}
 use Rattle.sift_document.specs.Document.{integer_between}
 use Rattle.sift_document.specs.Rules.{AreKept}
-use Rattle.sift_sections.proofs.lemmas.Decided.{at_most, both, stable}
-use Rattle.sift_document.proofs.lemmas.Numbers.{between, read_by}
+use Rattle.sift_sections.specs.laws.Decided.{at_most, both, stable}
+use Rattle.sift_document.specs.laws.Numbers.{between, read_by}
 use Rattle.sift_scenario.specs.Root.{period_of}
 use Rattle.sift_scenario.specs.Task.{task_entries, task_rules}
 

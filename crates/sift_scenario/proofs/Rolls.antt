@@ -10,7 +10,7 @@ use Rattle.sift_base.specs.Layout.{word_limit}
 use Rattle.sift_base.specs.Name.{IsName}
 use Rattle.sift_parse.specs.Answer.{HasSize}
 use Rattle.sift_parse.specs.Outcome.{AreDistinct, AreNames}
-use Rattle.sift_document.proofs.lemmas.ReadEntries.{array_between-long}
+use Rattle.sift_document.specs.laws.ReadEntries.{array_between-long}
 use Rattle.sift_document.specs.Document.{word_array, word_value}
 use Rattle.sift_scenario.specs.Program.{roll_for, turn_of}
 use Rattle.sift_scenario.proofs.Named.{BreaksStarts}

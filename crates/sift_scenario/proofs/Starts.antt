@@ -7,7 +7,7 @@ use Rattle.std.proofs.lemmas.List.Sums.{sum-map}
 use Rattle.std.specs.List.{flat_map, sum}
 use Rattle.std.specs.Prelude.{unwrap_or}
 use Rattle.toml.specs.Data.{Members}
-use Rattle.sift_document.proofs.lemmas.Places.{map_map}
+use Rattle.sift_document.specs.laws.Places.{map_map}
 use Rattle.sift_scenario.proofs.Named.{all_starts}
 use Rattle.sift_scenario.specs.Task.{counts_of, name_of, names_of, start_words, task_outputs}
 

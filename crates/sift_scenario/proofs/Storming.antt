@@ -15,7 +15,7 @@ use Rattle.sift_document.specs.Rules.{HoldsOf}
 use Rattle.sift_scenario.proofs.Themes.{kept_themes}
 use Rattle.sift_sections.specs.Fault.{fault_in, from_of, stated_storm, unit_of}
 use Rattle.sift_document.specs.Document.{tables_in}
-use Rattle.sift_sections.proofs.lemmas.Named.{failing_from, IsHeadless, BreaksHeads}
+use Rattle.sift_sections.specs.laws.Named.{failing_from, IsHeadless, BreaksHeads}
 use Rattle.sift_scenario.specs.Laws.{IsStormOf, StormsAreStated}
 
 -- ---- one fault

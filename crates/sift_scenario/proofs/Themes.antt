@@ -3,7 +3,7 @@ use Rattle.std.proofs.Common.{◌≡◌, ℕ, Some, sym, ap, subst}
 use Rattle.sift_base.specs.declared.stop.Stop.{Stop}
 use Rattle.std.specs.Prelude.{unwrap_or}
 use Rattle.toml.specs.Data.{Members}
-use Rattle.sift_document.proofs.lemmas.Order.{AreAllKept, StopsIn, kept_each, kept_joined, stopped_in}
+use Rattle.sift_document.specs.laws.Order.{AreAllKept, StopsIn, kept_each, kept_joined, stopped_in}
 use Rattle.sift_document.specs.Testing.{RefusesFirst}
 use Rattle.sift_document.specs.declared.rule.BrokenRule.{BrokenRule}
 use Rattle.sift_scenario.specs.Mission.{IsLawful, rules_of}

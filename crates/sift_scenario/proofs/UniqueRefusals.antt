@@ -21,7 +21,7 @@ use Rattle.sift_table.specs.Schedule.{Schedule}
 use Rattle.sift_mission.specs.Data.{MissionData, shapes_in}
 use Rattle.sift_mission.specs.Parts.{data_of}
 use Rattle.sift_mission.specs.declared.parts.MissionParts.{MissionParts}
-use Rattle.sift_document.proofs.lemmas.OneBroken.{kept_unbroken, one_broken}
+use Rattle.sift_document.specs.laws.OneBroken.{kept_unbroken, one_broken}
 use Rattle.sift_document.specs.Testing.{OnlyRefuses}
 use Rattle.sift_scenario.proofs.Named.{TasksAreRefused}
 use Rattle.sift_scenario.proofs.OneMission.{one_stated}

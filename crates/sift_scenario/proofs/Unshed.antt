@@ -8,7 +8,7 @@ use Rattle.sift_document.specs.Rules.{IsKept, rule}
 use Rattle.sift_scenario.proofs.Themes.{kept_themes}
 use Rattle.sift_scenario.specs.Laws.{VersionOneShedsNothing}
 use Rattle.sift_scenario.specs.Root.{version_of}
-use Rattle.sift_sections.proofs.lemmas.Named.{BreaksTables}
+use Rattle.sift_sections.specs.laws.Named.{BreaksTables}
 use Rattle.sift_scenario.specs.Task.{task_entries}
 use Rattle.sift_sections.proofs.lemmas.Unshed.{schedules_unshed}
 

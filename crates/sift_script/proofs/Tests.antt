@@ -2,7 +2,7 @@
 use Rattle.std.proofs.Common.{◌≡◌, ◌≤◌, ◌<◌, ◌⊎◌, inl, inr, ℕ, zero, suc, Bool, true, false, ◌&&◌, ◌||◌, List, [], ◌∷◌, All, Decides, leb, ltb, leb-true, le-leb, refl}
 use Rattle.std.proofs.lemmas.Bool.Decides.{Decides-and, Decides-below_or, Decides-by_and, Decides-ltb, not_from_Decides}
 use Rattle.std.specs.List.{list_all}
-use Rattle.sift_base.proofs.lemmas.Counts.{IsBelowAll}
+use Rattle.sift_base.specs.laws.Counts.{IsBelowAll}
 use Rattle.sift_base.specs.Units.{IsAscending}
 
 -- a test that decides a fact

@@ -4,7 +4,7 @@ use Rattle.std.specs.Prelude.{codes, unwrap_or}
 use Rattle.sift_base.specs.declared.stop.Stop.{Stop}
 use Rattle.toml.specs.Data.{Data, Members, get_member}
 use Rattle.sift_document.specs.Document.{integer_between}
-use Rattle.sift_document.proofs.lemmas.Numbers.{between, between_at, read_by}
+use Rattle.sift_document.specs.laws.Numbers.{between, between_at, read_by}
 use Rattle.sift_document.specs.Rules.{IsKept, OfNoEntry, rule}
 use Rattle.sift_document.specs.Testing.{RefusesBy}
 use Rattle.sift_document.specs.declared.rule.BrokenRule.{BrokenRule}

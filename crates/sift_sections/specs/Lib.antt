@@ -4,3 +4,4 @@ pub mod Item
 pub mod Reading
 pub mod Storm
 pub mod Table
+pub mod laws

@@ -4,7 +4,7 @@ use Rattle.std.proofs.lemmas.Int.{ints}
 use Rattle.std.proofs.Math.IntN.{*ℤ_comm, suc_ℤ, suc_ℤ-*ℤ}
 use Rattle.std.proofs.Math.Nat.{mul-le-mul_right}
 use Rattle.sift_base.specs.Units.{faulty_count}
-use Rattle.sift_base.proofs.lemmas.Counts.{length-has}
+use Rattle.sift_base.specs.laws.Counts.{length-has}
 use Rattle.sift_skew.specs.Keeping.{AreWithin, CeilingFitsExactlyWhere, CorrectedOffsetsAreClose, IsCeiling, left_apart}
 use Rattle.sift_skew.proofs.Products.{scaled-add, scaled-sub, scaled-≤}
 use Rattle.sift_skew.proofs.Steps.{corrected_by_room}

@@ -4,7 +4,7 @@ use Rattle.std.specs.Prelude.{◌≤ℤ◌, if◌then◌else◌}
 use Rattle.std.proofs.lemmas.Int.{ints}
 use Rattle.std.proofs.lemmas.Bool.{cases_Bool}
 use Rattle.sift_base.specs.Units.{has, others, faulty_count}
-use Rattle.sift_base.proofs.lemmas.Counts.{count-yes, count-no, has-head, has-tail}
+use Rattle.sift_base.specs.laws.Counts.{count-yes, count-no, has-head, has-tail}
 use Rattle.sift_clock.specs.Correction.{counted, int_sum, counted_sum}
 
 -- the sum of a number for each unit

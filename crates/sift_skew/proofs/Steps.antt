@@ -2,12 +2,12 @@
 use Rattle.std.proofs.Common.{◌≡◌, ℕ, ◌+◌, ◌*◌, ◌<◌, ◌≤◌, List, length, map, Bool, true, nat_eq, ℤ, pos, ◌+ℤ◌, ◌*ℤ◌, ◌<ℤ◌, Option, inl, inr, arith, ap, ◌∙◌}
 use Rattle.std.specs.Prelude.{◌≤ℤ◌}
 use Rattle.std.proofs.lemmas.Int.{ints}
-use Rattle.std.proofs.lemmas.Bool.{cases_Bool, eqb-true}
+use Rattle.std.proofs.lemmas.Bool.{cases_Bool, eqb-true, eqb-false}
 use Rattle.sift_base.specs.Units.{has, others, faulty_count}
-use Rattle.sift_base.proofs.lemmas.Counts.{apart, length-has}
+use Rattle.sift_base.specs.laws.Counts.{length-has}
 use Rattle.sift_clock.specs.Distance.{IsWithin}
 use Rattle.sift_clock.specs.Correction.{counted, counted_sum, correction_of}
-use Rattle.sift_clock.proofs.lemmas.Floors.{floor_is}
+use Rattle.sift_clock.specs.laws.Floors.{floor_is}
 use Rattle.sift_skew.specs.Keeping.{AreTogether, AreWithin, DriftsAddTwice, corrected_offsets, next_offsets}
 use Rattle.sift_skew.proofs.lemmas.Changes.{counted_within, counted_is}
 use Rattle.sift_skew.proofs.Products.{scaled-add, scaled-cancel}
@@ -22,7 +22,7 @@ seen_near skew error rate us works clock drift read within u u_in u_works v v_in
     elim (cases_Bool (nat_eq v u)) [
       | inl t ↦ let same : clock v ≡ clock u = ap clock (eqb-true v u t) in rw t (omega (arith, ints), omega (arith, ints))
       | inr f ↦
-          let reading = within.readings u u_in u_works v v_in v_works (apart v u f) in
+          let reading = within.readings u u_in u_works v v_in v_works (eqb-false v u f) in
           let ahead = within.together v u v_in v_works u_in u_works in
           let behind = within.together u v u_in u_works v_in v_works in
           let near : IsWithin (pos (skew + error)) reading.0 (pos 0) =

@@ -2,3 +2,4 @@ pub mod Limits
 pub mod Figures
 pub mod Keeping
 pub mod Leading
+pub mod laws

@@ -6,7 +6,7 @@ use Rattle.std.proofs.lemmas.List.Sums.{sum_by-cons}
 use Rattle.std.specs.List.{AllByRecursion, range_with_len}
 use Rattle.sift_base.specs.Requirement.{AreMet}
 use Rattle.sift_base.specs.Shapes.{AllShapes, shape_at}
-use Rattle.sift_base.proofs.lemmas.Counts.{IsBelowAll}
+use Rattle.sift_base.specs.laws.Counts.{IsBelowAll}
 use Rattle.sift_base.specs.Units.{has, IsAscending}
 use Rattle.sift_base.specs.declared.slot.Slot.TheVariants.{Clock, Sense, RelaySense, Out, Report, RelayReport}
 use Rattle.sift_table.proofs.Words.{words_have_their_task}

@@ -5,7 +5,7 @@ use Rattle.std.proofs.lemmas.List.FromFn.{get_or-map-range_with_len, get_or-rang
 use Rattle.std.specs.List.{All, range_with_len}
 use Rattle.sift_base.specs.Requirement.{AreMet}
 use Rattle.sift_base.specs.Shapes.{AllShapes, AreShapes, shape_at}
-use Rattle.sift_base.proofs.lemmas.Counts.{IsBelowAll}
+use Rattle.sift_base.specs.laws.Counts.{IsBelowAll}
 use Rattle.sift_base.specs.Units.{IsAscending}
 use Rattle.sift_table.specs.Laws.{PlainTablesAreGood}
 use Rattle.sift_table.specs.Rules.{ReadsPolledWords, SharesNoPosition, rules_where}

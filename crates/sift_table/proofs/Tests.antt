@@ -2,7 +2,7 @@
 use Rattle.std.proofs.Common.{◌≡◌, ◌≤◌, ◌<◌, ◌⊎◌, inl, inr, ℕ, zero, suc, Bool, true, false, ◌&&◌, List, [], ◌∷◌, All, Decides, eqb, leb, ltb, leb-true, le-leb, refl, sym}
 use Rattle.std.proofs.lemmas.Bool.Decides.{Decides-and, Decides-below_and, Decides-by_and, Decides-eqb, Decides-like, Decides-ltb, not_from_Decides}
 use Rattle.std.specs.List.{list_all}
-use Rattle.sift_base.proofs.lemmas.Counts.{IsBelowAll}
+use Rattle.sift_base.specs.laws.Counts.{IsBelowAll}
 use Rattle.sift_base.specs.Units.{IsAscending}
 
 -- a test that decides a fact

@@ -24,7 +24,7 @@ use Rattle.sift_unit.specs.Boards.{Drives, IsNewBoard, IsPortOf, NewBoardLaw}
 use Rattle.sift_unit.specs.Keeping.{IsFresh}
 use Rattle.sift_unit.specs.declared.board.Board.{Board}
 use Rattle.sift_core.specs.Machines.{AreNewBoards}
-use Rattle.sift_config.proofs.lemmas.FirstUnits.{unit_low, low_unit}
+use Rattle.sift_config.specs.laws.FirstUnits.{unit_low, low_unit}
 use Rattle.sift_threads.specs.Crews.{IsSeated, AreSeated, AreLeftOf}
 use Rattle.sift_threads.specs.Seats.{IsManned}
 use Rattle.sift_threads.specs.declared.seat.Seat.{Seat}

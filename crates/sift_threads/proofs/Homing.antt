@@ -8,12 +8,11 @@ use Rattle.sift_mission.specs.declared.parts.MissionParts.{MissionParts}
 use Rattle.sift_conduct.specs.Conduct.{account_of}
 use Rattle.sift_conduct.specs.Acts.{BoardKeeps}
 use Rattle.sift_conduct.specs.Frames.{frames_before}
-use Rattle.sift_rogue.specs.Storms.{Call}
-use Rattle.sift_rogue.proofs.lemmas.Called.{StormsBy}
+use Rattle.sift_rogue.specs.Storms.{Call, StormsBy}
 use Rattle.sift_rogue.specs.declared.act.Act.{Act}
 use Rattle.sift_unit.specs.Boards.{desk_of}
 use Rattle.sift_unit.specs.Down.{DownLaw, HasFlownAll}
-use Rattle.sift_core.proofs.lemmas.Stages.{end_low}
+use Rattle.sift_core.specs.laws.Stages.{end_low}
 use Rattle.sift_threads.specs.Flown.{HasLanded, HasStrayed, HasFlown}
 use Rattle.sift_threads.specs.Seats.{data_at, mission_at, end_at, storm_of, sifted_at, IsStraying, IsManned, IsDone, Came}
 use Rattle.sift_threads.specs.declared.seat.Seat.{Seat}

@@ -25,7 +25,7 @@ use Rattle.sift_ether.specs.Tokens.{IsMade, conduct_at}
 use Rattle.sift_ether.specs.declared.ether.Ether.{Ether}
 use Rattle.sift_ether.specs.declared.token.Token.{Token}
 use Rattle.sift_core.specs.Storms.{IsRoundByRogues}
-use Rattle.sift_config.proofs.lemmas.FirstUnits.{unit_low}
+use Rattle.sift_config.specs.laws.FirstUnits.{unit_low}
 use Rattle.sift_threads.specs.Flown.{HaveFlown, HasFlown}
 use Rattle.sift_threads.specs.declared.flown.Flown.{Flown}
 

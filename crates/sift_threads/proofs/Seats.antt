@@ -4,8 +4,7 @@ use Rattle.sift_buffer.specs.Conduct.{Stray, never}
 use Rattle.sift_buffer.specs.Views.{View}
 use Rattle.sift_mission.specs.Data.{FlownMission}
 use Rattle.sift_mission.specs.Parts.{data_of}
-use Rattle.sift_rogue.specs.Storms.{Call, Started, StormsAddUp, Shoots, sifted, stray_of}
-use Rattle.sift_rogue.proofs.lemmas.Called.{StormsBy}
+use Rattle.sift_rogue.specs.Storms.{Call, Started, StormsAddUp, Shoots, sifted, stray_of, StormsBy}
 use Rattle.sift_rogue.specs.declared.act.Act.{Act}
 use Rattle.sift_unit.specs.Boards.{desk_of, Drives}
 use Rattle.sift_unit.specs.Down.{StrayLaw}
@@ -14,7 +13,7 @@ use Rattle.sift_unit.specs.declared.board.Board.{Board}
 use Rattle.sift_unit.specs.declared.stepped.Stepped.{Stepped}
 use Rattle.sift_unit.specs.declared.stepped.Stepped.TheVariants.{Moved, NotYet, Turned, Landed}
 use Rattle.sift_core.specs.Courses.{storm_at}
-use Rattle.sift_core.proofs.lemmas.Stages.{end_low}
+use Rattle.sift_core.specs.laws.Stages.{end_low}
 use Rattle.sift_threads.specs.SeatSteps.{BeginsStorm, StoresNext}
 use Rattle.sift_threads.specs.Seats.{mission_at, end_at, storm_of, sifted_at, IsAloft, IsStraying, IsManned, IsDone, Came, Comes}
 use Rattle.sift_threads.specs.declared.seat.Seat.{Seat}

@@ -1,7 +1,6 @@
 //! Tokens, boards and rogues at their seats, and from their seats again.
 ghost use Rattle.std.specs.Prelude.{◌≡◌, ◌+◌, ◌<◌, ◌≤◌, [], ◌∷◌, ◌++◌, drop, length, vec_len, vec_capacity, All};
 ghost use Rattle.std.specs.Vec.Iter.{into_iter_items, into_iter_len};
-ghost use Rattle.sift_base.specs.Units.{unit_limit};
 ghost use Rattle.sift_mission.specs.Parts.{flown_of};
 ghost use Rattle.sift_core.specs.Machines.{AreNewBoards};
 ghost use Rattle.sift_ether.specs.Seating.{IsTokenBack};
@@ -33,14 +32,6 @@ fn take_next<X: Drop>(rest: &mut IntoIter<X>) -> X
         Some(item) => item,
         None => unreachable!(),
     }
-}
-
-/// The unit of a number.
-fn unit_numbered(number: u8) -> UnitId
-    requires { number < unit_limit }
-    ensures { result ≡ number }
-{
-    UnitId::of(number).unwrap()
 }
 
 /// A unit at its seat.
@@ -91,7 +82,7 @@ pub(crate) fn seat_all<'a, R: Drop>(
     let mut boards = boards.into_iter();
     let mut rogues = rogues.into_iter();
     for number in 0..mission.parts().units {
-        let unit = unit_numbered(number);
+        let unit = UnitId::numbered(number);
         let token = take_next(&mut tokens);
         let board = take_next(&mut boards);
         let rogue = take_next(&mut rogues);

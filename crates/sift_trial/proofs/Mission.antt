@@ -27,7 +27,7 @@ use Rattle.sift_table.specs.Rules as tables
 use Rattle.sift_table.specs.Rules.{report_lead}
 use Rattle.sift_table.specs.Schedule.{agreed_in, hearing_delay, plain_of}
 use Rattle.sift_mission.specs.Data.{MissionData, shapes_in}
-use Rattle.sift_document.proofs.lemmas.Order.{kept_joined}
+use Rattle.sift_document.specs.laws.Order.{kept_joined}
 use Rattle.sift_document.specs.Rules.{AreKept, AreMatched, HoldsOf, Rule, rule}
 use Rattle.sift_trial.proofs.Faults.{among, early, fault_stated, faults_kept, unit_there}
 use Rattle.sift_trial.proofs.Program.{drawn_trees, trees_allowed, trees_are, trees_long, trees_of_one_word}

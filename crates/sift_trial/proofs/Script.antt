@@ -1,8 +1,8 @@
 -- The script of one fault, which says a wrong word of a task to all other units, is good.
 use Rattle.std.proofs.Common.{◌≡◌, ◌<◌, ◌≤◌, ℕ, zero, suc, List, [], ◌∷◌, length, false, nat_eq, refl, arith}
 use Rattle.std.proofs.lemmas.List.Elements.{All-cons, All-nil}
+use Rattle.std.proofs.lemmas.Bool.{ne_eqb}
 use Rattle.std.specs.Prelude.{slice_index}
-use Rattle.sift_base.proofs.lemmas.Others.{not_same}
 use Rattle.sift_base.specs.declared.layout.Layout.{Layout}
 use Rattle.sift_script.specs.Rules.{AreReceivers, IsGood, IsThere}
 use Rattle.sift_script.specs.Script.{FaultScript}
@@ -20,7 +20,7 @@ spared-few (suc unit) = omega arith
 
 spared-other : (unit : ℕ) → nat_eq unit (spared unit) ≡ false
 spared-other zero = refl
-spared-other (suc unit) = not_same (suc unit) 0 (λ e. omega (arith, e))
+spared-other (suc unit) = ne_eqb (suc unit) 0 (λ e. omega (arith, e))
 
 module _
     (layout : Layout) (outputs : List ℕ) (frames unit from task value : ℕ) (enough : 5 ≤ layout.units) (few : layout.units ≤ 8)

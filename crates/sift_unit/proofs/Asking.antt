@@ -11,7 +11,7 @@ use Rattle.sift_buffer.specs.Conditions.{MaySay, MayHear}
 use Rattle.sift_mission.specs.Data.{FlownMission}
 use Rattle.sift_mission.specs.Slots.{stamp_of}
 use Rattle.sift_mission.specs.Fits.{Fits}
-use Rattle.sift_mission.proofs.lemmas.Silent.{speaks}
+use Rattle.sift_mission.specs.laws.Silent.{speaks}
 use Rattle.sift_unit.specs.Desk.{Desk}
 use Rattle.sift_unit.specs.Going.{Going}
 use Rattle.sift_unit.specs.Boards.{IsPortOf}

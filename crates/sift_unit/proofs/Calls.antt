@@ -4,11 +4,11 @@ use Rattle.std.specs.Prelude.{nat_le}
 use Rattle.std.proofs.lemmas.Bool.{cases_Bool, and_parts, leb-true}
 use Rattle.sift_base.specs.Units.{has}
 use Rattle.sift_base.specs.declared.slot.Slot.{Slot}
-use Rattle.sift_base.proofs.lemmas.Sets.{passing_ascend}
+use Rattle.sift_base.specs.laws.Sets.{passing_ascend}
 use Rattle.sift_exec.specs.Conviction.{is_convicted, kept_by, next_by}
 use Rattle.sift_mission.specs.Data.{FlownMission, IsConfigOf}
 use Rattle.sift_mission.specs.Slots.{is_slot, calls, is_senders}
-use Rattle.sift_memory.proofs.lemmas.Sets.{filter_has}
+use Rattle.sift_memory.specs.laws.Sets.{filter_has}
 use Rattle.sift_unit.proofs.Tests.{both}
 
 -- what a call tells, part by part

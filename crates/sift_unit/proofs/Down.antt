@@ -7,8 +7,7 @@ use native.Mathlib.Decide.{ℕ_discrete}
 use Rattle.sift_buffer.specs.Conduct.{Conduct as Acts}
 use Rattle.sift_buffer.specs.Views.{View}
 use Rattle.sift_mission.specs.Data.{FlownMission}
-use Rattle.sift_mission.specs.Slots.{StormsCome}
-use Rattle.sift_mission.proofs.lemmas.Storms.{turned_by}
+use Rattle.sift_mission.specs.Slots.{StormsCome, turned_by}
 use Rattle.sift_conduct.specs.Conduct.{Account}
 use Rattle.sift_conduct.specs.Acts.{BoardKeeps}
 use Rattle.sift_conduct.specs.Frames.{Flies, frames_before}

@@ -8,7 +8,7 @@ use Rattle.sift_base.specs.Units.{has}
 use Rattle.sift_skew.specs.Leading.{OffsetsChangeLittle}
 use Rattle.sift_buffer.specs.Conduct.{with_entered}
 use Rattle.sift_buffer.specs.Conduct.{Conduct as Acts}
-use Rattle.sift_mission.proofs.lemmas.Silent.{speaks}
+use Rattle.sift_mission.specs.laws.Silent.{speaks}
 use Rattle.sift_mission.specs.Data.{FlownMission, IsConfigOf}
 use Rattle.sift_conduct.specs.Conduct.{Account, unit_frame, Conduct}
 use Rattle.sift_conduct.specs.Frames.{last_of}

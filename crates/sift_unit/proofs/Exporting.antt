@@ -5,7 +5,7 @@ use Rattle.std.proofs.lemmas.Bool.{cases_Bool, cases_lt}
 use Rattle.sift_base.specs.declared.slot.Slot.{Slot}
 use Rattle.sift_buffer.specs.Conduct.{Saying, Hearing, saying}
 use Rattle.sift_buffer.specs.Conduct.{Conduct as Acts}
-use Rattle.sift_mission.proofs.lemmas.Silent.{speaks}
+use Rattle.sift_mission.specs.laws.Silent.{speaks}
 use Rattle.sift_mission.specs.Data.{FlownMission}
 use Rattle.sift_mission.specs.Slots.{is_slot, calls, stamp_of, heard_at}
 use Rattle.sift_conduct.specs.Frames.{UnitFlight, FrameConduct, Flies}

@@ -8,7 +8,7 @@ use Rattle.sift_mission.specs.Data.{FlownMission}
 use Rattle.std.proofs.lemmas.List.{length-map}
 use Rattle.sift_memory.specs.Memory.{Memory}
 use Rattle.sift_memory.specs.Memories.{memory_of}
-use Rattle.sift_mission.proofs.lemmas.ByWords.{get_or-map}
+use Rattle.sift_mission.specs.laws.ByWords.{get_or-map}
 use Rattle.sift_unit.specs.Desk.{Desk, first_desk}
 use Rattle.sift_unit.specs.Keeping.{Flying, KeepsAs}
 use Rattle.sift_conduct.specs.Conduct.{Account, account_of}

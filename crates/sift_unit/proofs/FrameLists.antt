@@ -6,7 +6,7 @@ use Rattle.sift_buffer.specs.Conduct.{Conduct as Acts}
 use Rattle.sift_mission.specs.Data.{FlownMission, IsConfigOf}
 use Rattle.sift_conduct.specs.Conduct.{Account, UnitFrame, unit_frame, Conduct, said_of}
 use Rattle.sift_conduct.specs.Acts.{BoardKeeps, ActsAre, unit_flight}
-use Rattle.sift_mission.proofs.lemmas.Storms.{turned_by}
+use Rattle.sift_mission.specs.Slots.{turned_by}
 use Rattle.sift_conduct.specs.Frames.{Flies, UnitFlight, FrameConduct, IdleConduct}
 
 module _ (m : FlownMission) (u : ℕ) (d : UnitFlight) where

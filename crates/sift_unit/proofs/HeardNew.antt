@@ -3,12 +3,11 @@ use Rattle.std.proofs.Common.{◌≡◌, ◌≢◌, inl, inr, ℕ, ◌<◌, List
 use Rattle.std.proofs.Common.{None, Some, refl, sym, ap, ◌∙◌, subst, arith, ne_eqb, eqb-true, ltb-true, lt-ltb, get_or-set_same}
 use Rattle.std.specs.Prelude.{ℤ, ◌+ℤ◌, if◌then◌else◌, slice_index}
 use Rattle.std.specs.FinSet as set
-use Rattle.std.proofs.lemmas.Bool.{cases_Bool}
+use Rattle.std.proofs.lemmas.Bool.{cases_Bool, eq-eqb}
 use Rattle.sift_base.specs.Units.{has, holds, others}
 use Rattle.sift_base.specs.declared.slot.Slot.{Slot}
 use Rattle.sift_base.specs.declared.slot.Slot.TheVariants.{Clock, Sense, RelaySense, Out, Report, RelayReport}
-use Rattle.sift_base.proofs.lemmas.Counts.{nat_eq-same}
-use Rattle.sift_base.proofs.lemmas.Others.{has-others}
+use Rattle.sift_base.specs.laws.Others.{has-others}
 use Rattle.sift_vote.specs.Majority.{majority_of, agreed_of, differs}
 use Rattle.sift_agree.specs.Agreement.{taken}
 use Rattle.sift_config.specs.Config.{reader_of}
@@ -19,10 +18,10 @@ use Rattle.sift_conduct.specs.Conduct.{Account, Places, UnitFrame, unit_frame, p
 use Rattle.sift_mission.specs.Fits.{Fits}
 use Rattle.sift_memory.specs.Memory.{Memory, place_at, reading_at, polled_at, poll_of, note}
 use Rattle.sift_memory.specs.Conditions.{IsShaped}
-use Rattle.sift_memory.proofs.lemmas.Tests.{and_in}
-use Rattle.sift_memory.proofs.lemmas.Sets.{holds-gathered, filter_has, map-same}
-use Rattle.sift_mission.proofs.lemmas.Configs.{has-reader}
-use Rattle.sift_mission.proofs.lemmas.Silent.{not_held}
+use Rattle.sift_memory.specs.laws.Tests.{and_in}
+use Rattle.sift_memory.specs.laws.Sets.{holds-gathered, filter_has, map-same}
+use Rattle.sift_mission.specs.laws.Configs.{has-reader}
+use Rattle.sift_mission.specs.laws.Silent.{not_held}
 use Rattle.sift_unit.specs.Remembered.{Heard, Ran, polled_words, with_clock}
 use Rattle.sift_unit.proofs.Tests.{apart, both, not_true}
 use Rattle.sift_unit.proofs.Calls.{call_is}
@@ -78,7 +77,7 @@ module _ (m : FlownMission) (us : List ℕ) (u f : ℕ) (clk : ℤ) (a : Account
       let few : x < m.sensors = ltb-true x m.sensors slot in
       let long = shape.direct in let low : x < length b.direct = omega arith in
       let r = reader_of us x in
-      get_or-set_same b.direct x _ None low ∙ places r (calling (Sense x) r slot (has-reader m us x config) (apart r u other) (nat_eq-same r))
+      get_or-set_same b.direct x _ None low ∙ places r (calling (Sense x) r slot (has-reader m us x config) (apart r u other) (eq-eqb r r refl))
   heard_new (RelaySense x) heard b slot shape places before ran =
       let few : x < m.sensors = ltb-true x m.sensors slot in
       let low : x < length b.ins = rw shape.ins few in

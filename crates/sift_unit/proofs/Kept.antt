@@ -3,7 +3,7 @@ use Rattle.std.proofs.Common.{◌≡◌, ◌≢◌, ℕ, List, length, true, fal
 use Rattle.std.specs.Prelude.{ℤ, nat_lt}
 use Rattle.std.specs.FinSet as set
 use Rattle.sift_base.specs.Units.{has, holds}
-use Rattle.sift_base.specs.ReadBack.{false_last}
+use Rattle.sift_base.specs.laws.ReadBack.{false_last}
 use Rattle.sift_base.specs.declared.slot.Slot.{Slot}
 use Rattle.sift_base.specs.declared.slot.Slot.TheVariants.{Clock, Sense, RelaySense, Out, Report, RelayReport}
 use Rattle.sift_mission.specs.Data.{FlownMission}
@@ -12,7 +12,7 @@ use Rattle.sift_mission.specs.Fits.{is_caught_in}
 use Rattle.sift_memory.specs.Memory.{Memory, note, run, is_made_by}
 use Rattle.sift_memory.specs.Tidings.{busy_account}
 use Rattle.sift_memory.specs.Conditions.{IsShaped}
-use Rattle.sift_memory.proofs.lemmas.Sets.{renewed-other, length-renewed}
+use Rattle.sift_memory.specs.laws.Sets.{renewed-other, length-renewed}
 use Rattle.sift_unit.specs.Remembered.{Heard, Ran, Matches, Settled}
 
 module _ (m : FlownMission) (us : List ℕ) (u f : ℕ) (clk : ℤ) (a : Account) (h : Places) (last : List ℕ) where

@@ -14,8 +14,8 @@ use Rattle.sift_mission.specs.Fits.{Fits}
 use Rattle.sift_memory.specs.Memory.{Memory, run, is_made_by}
 use Rattle.sift_memory.specs.Tidings.{word_now}
 use Rattle.sift_memory.specs.Conditions.{IsShaped}
-use Rattle.sift_memory.proofs.lemmas.Sets.{renewed-here}
-use Rattle.sift_mission.proofs.lemmas.Silent.{not_held}
+use Rattle.sift_memory.specs.laws.Sets.{renewed-here}
+use Rattle.sift_mission.specs.laws.Silent.{not_held}
 use Rattle.sift_unit.specs.Remembered.{Heard, Ran, Matches, Settled}
 use Rattle.sift_unit.proofs.Tests.{apart, not_true}
 use Rattle.sift_unit.proofs.Calls.{call_of}

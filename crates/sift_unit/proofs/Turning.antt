@@ -3,7 +3,7 @@ use Rattle.std.proofs.Common.{◌≡◌, ◌⊎◌, inl, inr, ℕ, ◌+◌, ◌*
 use Rattle.std.proofs.lemmas.Bool.{cases_Bool}
 use Rattle.sift_buffer.specs.Conduct.{Conduct as Acts}
 use Rattle.sift_mission.specs.Data.{FlownMission}
-use Rattle.sift_mission.proofs.lemmas.Storms.{turned_by}
+use Rattle.sift_mission.specs.Slots.{turned_by}
 use Rattle.sift_conduct.specs.Frames.{Flies}
 use Rattle.sift_conduct.specs.Acts.{Turns, IsUnderway}
 use Rattle.sift_mission.specs.Fits.{Fits}

@@ -3,8 +3,8 @@ use Rattle.std.proofs.Common.{◌≡◌, ℕ, zero, suc, ◌<◌, Bool, true, fa
 use Rattle.std.specs.FinSet as set
 use Rattle.std.proofs.lemmas.Bool.{cases_eq, eq-eqb, ne_eqb}
 use Rattle.sift_base.specs.Units.{Units, holds}
-use Rattle.sift_base.specs.ReadBack.{true_last, false_last}
-use Rattle.sift_base.proofs.lemmas.Sets.{holds-insert}
+use Rattle.sift_base.specs.laws.ReadBack.{true_last, false_last}
+use Rattle.sift_base.specs.laws.Sets.{holds-insert}
 use Rattle.sift_vote.specs.Majority.{differs, has_differing}
 
 -- the first units with one more have what they had, and that one's place

@@ -3,9 +3,9 @@ use Rattle.std.proofs.Common.{◌≡◌, ℕ, ◌≤◌, Bool, true, false, not,
 use Rattle.std.proofs.lemmas.Bool.{cases_Bool, eqb-true, le-ltb}
 use Rattle.std.proofs.lemmas.List.Sums.{length-filter}
 use Rattle.sift_base.specs.Units.{has, others, faulty_count, HasMargin}
-use Rattle.sift_base.proofs.lemmas.Counts.{count-cons, count-yes, count-no, has-head, has-tail}
-use Rattle.sift_base.proofs.lemmas.Others.{has-others, count-others-≤, others_work}
-use Rattle.sift_base.specs.ReadBack.{false_last}
+use Rattle.sift_base.specs.laws.Counts.{count-cons, count-yes, count-no, has-head, has-tail}
+use Rattle.sift_base.specs.laws.Others.{has-others, count-others-≤, others_work}
+use Rattle.sift_base.specs.laws.ReadBack.{false_last}
 use Rattle.sift_exec.specs.Conviction.{is_convicted, working_accusers, NamesNoWorking, ConvictionIsJust}
 use Rattle.sift_exec.proofs.Accusing.{accusers}
 

@@ -6,8 +6,8 @@ use Rattle.std.proofs.lemmas.Bool.{cases_Bool}
 use Rattle.std.proofs.Math.Nat.{mod-lt}
 use Rattle.sift_base.specs.Units.{has}
 use Rattle.sift_base.specs.Layout.{least_units}
-use Rattle.sift_base.specs.ReadBack.{has-filter}
-use Rattle.sift_base.proofs.lemmas.Counts.{has-head, has-tail}
+use Rattle.sift_base.specs.laws.ReadBack.{has-filter}
+use Rattle.sift_base.specs.laws.Counts.{has-head, has-tail}
 use Rattle.sift_config.specs.Config.{reader_of}
 use Rattle.sift_exec.specs.Conviction.{is_convicted, kept_by, next_by}
 use Rattle.sift_flight.proofs.Calls.{and_both, both}

@@ -4,7 +4,7 @@ use Rattle.std.specs.List.{filter}
 use Rattle.std.proofs.lemmas.Bool.{cases_Bool}
 use Rattle.std.proofs.lemmas.Bool.Decides.{nat_tests}
 use Rattle.sift_base.specs.Units.{has}
-use Rattle.sift_base.proofs.lemmas.Counts.{has-head, has-tail}
+use Rattle.sift_base.specs.laws.Counts.{has-head, has-tail}
 use Rattle.sift_conduct.specs.Conduct.{Account}
 use Rattle.sift_mission.specs.Data.{FlownMission}
 use Rattle.sift_mission.specs.Premises.{IsFlyable}
@@ -12,7 +12,7 @@ use Rattle.sift_flight.specs.Alike.{AreSameFrame, RoundFlightsAreAlike}
 use Rattle.sift_flight.specs.Flight.{Flight, Strays, AreSameAt, HasNoStorms, IsRound}
 use Rattle.sift_flight.specs.Figures.{config_at, lead_of, working_at, offsets_at, next_offsets_at, is_sound_at, margin_before, skew_of, slack_of}
 use Rattle.sift_flight.proofs.lemmas.Configs.{filter_has}
-use Rattle.sift_flight.proofs.lemmas.Leading.{lead_works, config_within}
+use Rattle.sift_flight.specs.laws.Leading.{lead_works, config_within}
 use Rattle.sift_flight.proofs.Unique.{at_most_one_flight_is_round, flies_always, inside as units_inside}
 
 -- what is the same at each unit of a list is the same of the list

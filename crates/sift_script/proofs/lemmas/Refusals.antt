@@ -1,5 +1,5 @@
 -- A script is refused in one way.
-use Rattle.sift_base.proofs.lemmas.Requirements.{met_unbroken, one_refused}
+use Rattle.sift_base.specs.laws.Requirements.{met_unbroken, one_refused}
 use Rattle.sift_script.specs.Laws.{OneBrokenRule}
 use Rattle.sift_script.specs.Rules.{entry_rules}
 

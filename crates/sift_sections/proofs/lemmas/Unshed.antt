@@ -11,8 +11,8 @@ use Rattle.sift_document.specs.Document.{HasOnlyKeys, entries_of, keys_of, membe
 use Rattle.sift_document.specs.Rules.{IsKept, rule}
 use Rattle.sift_sections.proofs.lemmas.Sizes.{entry_fits}
 use Rattle.sift_sections.specs.Table.{IsTableEntry, schedule_in, schedules_by, shed_of, size_count, table_keys}
-use Rattle.sift_sections.proofs.lemmas.Named.{BreaksTables}
-use Rattle.sift_document.proofs.lemmas.Numbers.{read_by}
+use Rattle.sift_sections.specs.laws.Named.{BreaksTables}
+use Rattle.sift_document.specs.laws.Numbers.{read_by}
 
 -- a key of version 1 isn't `shed`
 other_key :

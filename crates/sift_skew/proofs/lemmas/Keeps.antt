@@ -2,10 +2,10 @@
 use Rattle.std.proofs.Common.{◌≡◌, ℕ, zero, suc, ◌+◌, ◌-◌, ◌*◌, ◌<◌, ◌≤◌, List, length, Bool, nat_eq, ℤ, pos, negsuc, ◌+ℤ◌, ◌-ℤ◌, ◌*ℤ◌, Option, ◌⊎◌, inl, inr, arith, ap, refl}
 use Rattle.std.specs.Prelude.{◌≤ℤ◌}
 use Rattle.std.proofs.lemmas.Int.{ints}
-use Rattle.std.proofs.lemmas.Bool.{cases_Bool, eqb-true}
+use Rattle.std.proofs.lemmas.Bool.{cases_Bool, eqb-true, eqb-false}
 use Rattle.std.proofs.Math.Nat.{le_of_mul-le-mul_left, mul-le-mul_left, mul-le-mul_right}
 use Rattle.sift_base.specs.Units.{faulty_count, HasMargin}
-use Rattle.sift_base.proofs.lemmas.Counts.{apart, both_counts, length-has}
+use Rattle.sift_base.specs.laws.Counts.{both_counts, length-has}
 use Rattle.sift_skew.specs.Keeping.{AreTogether, AreWithin, next_offsets, SkewIsKept, SkewIsKeptWithoutFaults, SkewIsKeptWithMargin}
 use Rattle.sift_skew.proofs.Products.{room}
 use Rattle.sift_skew.proofs.Steps.{step_by_room}
@@ -28,7 +28,7 @@ kept_from P us works clock drift read natural (pos s) (negsuc e) r premise withi
           let same = ap (next_offsets (pos s +ℤ negsuc e) us clock drift read) (eqb-true q p t) in
           omega (arith, ints, same)
       | inr f ↦
-          let reading = within.readings p p_in p_works q q_in q_works (apart q p f) in
+          let reading = within.readings p p_in p_works q q_in q_works (eqb-false q p f) in
           absurd (omega (arith, ints, reading.2))
     ]
 

@@ -2,7 +2,7 @@
 use Rattle.std.proofs.Common.{◌≡◌, ◌≤◌, ◌<◌, ◌+◌, inl, inr, ℕ, Bool, true, false, not, List, All, length, refl}
 use Rattle.std.proofs.lemmas.Bool.Decides.{Decides-like}
 use Rattle.std.specs.List.{list_all}
-use Rattle.sift_base.proofs.lemmas.Requirements.{AreTested, entries_met, met_or_broken}
+use Rattle.sift_base.specs.laws.Requirements.{AreTested, entries_met, met_or_broken}
 use Rattle.sift_base.specs.Shapes.{AllShapes, shape_at}
 use Rattle.sift_base.specs.Units.{has}
 use Rattle.sift_table.proofs.Apart.{all_from_apart, apart_from_all}

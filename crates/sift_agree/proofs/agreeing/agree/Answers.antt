@@ -1,6 +1,6 @@
 use Rattle.std.proofs.Common.{◌∷◌, take_all, arith}
 use Rattle.std.proofs.lemmas.Grind.{common_steps}
-use Rattle.sift_agree.proofs.lemmas.Winners.{agreed-found, won-agreed, lost-agreed}
+use Rattle.sift_agree.specs.laws.Winners.{agreed-found, won-agreed, lost-agreed}
 use Rattle.sift_agree.proofs.agreeing.agree.Goals as goal
 
 -- the direct word is the majority

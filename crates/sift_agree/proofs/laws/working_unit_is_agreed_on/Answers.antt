@@ -1,4 +1,4 @@
-use Rattle.sift_agree.proofs.lemmas.Taking.{working_unit_is_agreed_on}
+use Rattle.sift_agree.specs.laws.Taking.{working_unit_is_agreed_on}
 use Rattle.sift_agree.proofs.laws.working_unit_is_agreed_on.Goals as goal
 
 pub returns : goal.returns

@@ -1,4 +1,4 @@
-use Rattle.sift_base.proofs.lemmas.Numbers.{kind-of-number, number-of-kind}
+use Rattle.sift_base.specs.laws.Numbers.{kind-of-number, number-of-kind}
 use Rattle.sift_base.proofs.layout.numbers_have_their_slots.Goals as goal
 
 pub returns : goal.returns

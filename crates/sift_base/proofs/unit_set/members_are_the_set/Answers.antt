@@ -1,4 +1,4 @@
-use Rattle.sift_base.proofs.lemmas.Sets.{members_are}
+use Rattle.sift_base.specs.laws.Sets.{members_are}
 use Rattle.sift_base.proofs.unit_set.members_are_the_set.Goals as goal
 
 pub returns : goal.returns

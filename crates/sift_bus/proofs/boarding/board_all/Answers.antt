@@ -4,12 +4,12 @@ use Rattle.sift_base.specs.declared.layout.Layout.{Layout}
 use Rattle.sift_mission.specs.Parts.{flown_of}
 use Rattle.sift_mission.specs.declared.parts.MissionParts.{MissionParts}
 use Rattle.sift_bus.proofs.SeatsTaken.{no_rest, shorter, new_token, boarded_long, boarded_push}
-use Rattle.sift_config.proofs.lemmas.FirstUnits.{low_unit}
+use Rattle.sift_config.specs.laws.FirstUnits.{low_unit}
 use Rattle.sift_bus.proofs.boarding.board_all.Goals as goal
 
 -- there are as many buses as units, and the next bus is one of them
-pub unit_numbered-unit-requires : goal.unit_numbered-unit-requires
-unit_numbered-unit-requires g c =
+pub numbered-unit-requires : goal.numbered-unit-requires
+numbered-unit-requires g c =
     let b = c.loop-bus.invariant.boarded in
     let long = boarded_long (flown_of c.args.mission.now) c.args.ether.now c.args.faulty b.0 c.loop-bus.yielded c.loop-bus.flyers.items b.3 in
     let low = shorter c.loop-bus.yielded c.next.new.self.rest.items c.args.buses.items c.in-Some.bus
@@ -24,8 +24,8 @@ board_unit-requires-clause-unit g c =
     let low = shorter c.loop-bus.yielded c.next.new.self.rest.items c.args.buses.items c.in-Some.bus
     ((λ i. c.loop-bus.yielded ++ sym c.in-Some.ensures.steps.0 i) ∙ c.loop-bus.invariant.all) in
     let size = c.loop-bus.flyers.ok.0 in
-    low_unit c.args.mission.now.units c.unit_numbered-unit.result
-    (omega (arith, long.1, low, size, c.unit_numbered-unit.ensures, c.len.ensures, c.requires.count, c.parts.ensures.fit.layout.units))
+    low_unit c.args.mission.now.units c.numbered-unit.result
+    (omega (arith, long.1, low, size, c.numbered-unit.ensures, c.len.ensures, c.requires.count, c.parts.ensures.fit.layout.units))
 
 pub board_unit-requires-clause-ether : goal.board_unit-requires-clause-ether
 board_unit-requires-clause-ether g c = record { layout_is = c.requires.made.layout_is; frames_are = c.requires.made.frames_are }
@@ -37,10 +37,10 @@ board_unit-requires-clause-token g c =
     let low = shorter c.loop-bus.yielded c.next.new.self.rest.items c.args.buses.items c.in-Some.bus
     ((λ i. c.loop-bus.yielded ++ sym c.in-Some.ensures.steps.0 i) ∙ c.loop-bus.invariant.all) in
     let size = c.loop-bus.flyers.ok.0 in
-    new_token c.args.ether.now c.args.mission.now.layout c.args.mission.now.frames c.unit_numbered-unit.result c.args.tokens.items b.0
+    new_token c.args.ether.now c.args.mission.now.layout c.args.mission.now.frames c.numbered-unit.result c.args.tokens.items b.0
     c.next_token-token.new.tokens.rest.items c.next_token-token.result c.requires.made ((λ i. b.0 ++ sym c.next_token-token.ensures.token i) ∙ b.1)
-    (omega (arith, long.0, long.1, size, c.unit_numbered-unit.ensures, c.len.ensures))
-    (omega (arith, long.1, low, size, c.unit_numbered-unit.ensures, c.len.ensures, c.requires.count))
+    (omega (arith, long.0, long.1, size, c.numbered-unit.ensures, c.len.ensures))
+    (omega (arith, long.1, low, size, c.numbered-unit.ensures, c.len.ensures, c.requires.count))
 
 -- and room for the unit
 pub push_reserved-requires : goal.push_reserved-requires

@@ -1,5 +1,5 @@
 use Rattle.std.proofs.Common.{◌<◌, ℕ, option_map, ap, sym, ◌∙◌, arith}
-use Rattle.sift_config.proofs.lemmas.FirstUnits.{low_unit, unit_low}
+use Rattle.sift_config.specs.laws.FirstUnits.{low_unit, unit_low}
 use Rattle.sift_bus_jobs.proofs.Coming.{comes}
 use Rattle.sift_bus_jobs.proofs.storms.has_storm.Goals as goal
 

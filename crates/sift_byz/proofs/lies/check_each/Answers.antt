@@ -1,7 +1,7 @@
 use Rattle.std.proofs.Common.{below_more, arith}
 use Rattle.toml.specs.View.{view}
-use Rattle.sift_document.proofs.lemmas.Places.{fails_here, holds_here, nowhere}
-use Rattle.sift_document.proofs.lemmas.Testing.{first_broken}
+use Rattle.sift_document.specs.laws.Places.{fails_here, holds_here, nowhere}
+use Rattle.sift_document.specs.laws.Testing.{first_broken}
 use Rattle.sift_byz.specs.Testing.{Keeps, number_of}
 use Rattle.sift_byz.proofs.Testing.{not_both, place_fits}
 use Rattle.sift_byz.proofs.lies.check_each.Goals as goal

@@ -2,8 +2,8 @@ use Rattle.std.proofs.Common.{◌∙◌, ap, below_more, map, arith}
 use Rattle.std.proofs.lemmas.List.{length-map, take_all}
 use Rattle.std.proofs.lemmas.List.Elements.{All-push}
 use Rattle.toml.specs.View.{view}
-use Rattle.sift_document.proofs.lemmas.Places.{fails_here, holds_here, nowhere}
-use Rattle.sift_document.proofs.lemmas.Testing.{first_broken}
+use Rattle.sift_document.specs.laws.Places.{fails_here, holds_here, nowhere}
+use Rattle.sift_document.specs.laws.Testing.{first_broken}
 use Rattle.sift_byz.specs.Plan.{lie_of}
 use Rattle.sift_byz.specs.Stated.{HasReceivers, HasWord, IsPath, lie_in}
 use Rattle.sift_byz.proofs.Testing.{made_more, not_below, place_fits}

@@ -2,7 +2,7 @@ use Rattle.std.proofs.Common.{sym, arith}
 use Rattle.std.specs.Prelude.{codes}
 use Rattle.toml.specs.Data.{get_member}
 use Rattle.toml.specs.View.{table_view}
-use Rattle.sift_document.proofs.lemmas.Numbers.{between_at}
+use Rattle.sift_document.specs.laws.Numbers.{between_at}
 use Rattle.sift_byz.proofs.reading.m_of.Goals as goal
 
 -- it is read within its limits

@@ -1,7 +1,7 @@
 use Rattle.std.proofs.Common.{sym}
 use Rattle.toml.specs.View.{table_view}
-use Rattle.sift_document.proofs.lemmas.Order.{stopped}
-use Rattle.sift_document.proofs.lemmas.Testing.{refused_of_none}
+use Rattle.sift_document.specs.laws.Order.{stopped}
+use Rattle.sift_document.specs.laws.Testing.{refused_of_none}
 use Rattle.sift_document.specs.Document.{HasOnlyKeys}
 use Rattle.sift_byz.specs.Lawful.{rules_of}
 use Rattle.sift_byz.specs.Stated.{root_keys}

@@ -1,7 +1,7 @@
 use Rattle.std.proofs.Common.{◌≡◌, ◌∙◌, drop, map, sym, ap, length}
 use Rattle.std.proofs.lemmas.List.{length-map}
 use Rattle.toml.specs.View.{table_view, view}
-use Rattle.sift_document.proofs.lemmas.Order.{stopped}
+use Rattle.sift_document.specs.laws.Order.{stopped}
 use Rattle.sift_byz.specs.Lawful.{rules_for}
 use Rattle.sift_byz.specs.Plan.{lie_of}
 use Rattle.sift_byz.specs.Stated.{lie_in}

@@ -1,4 +1,4 @@
-use Rattle.sift_clock.proofs.lemmas.Floors.{correction_is_the_floor}
+use Rattle.sift_clock.specs.laws.Floors.{correction_is_the_floor}
 use Rattle.sift_clock.proofs.laws.correction_is_the_floor.Goals as goal
 
 pub returns : goal.returns

@@ -7,7 +7,7 @@ use Rattle.sift_base.specs.Word.{word_count}
 use Rattle.toml.specs.Data.{Data}
 use Rattle.toml.specs.View.{view}
 use Rattle.sift_gen.specs.Scenario.{number, sensor_words}
-use Rattle.sift_base.proofs.lemmas.Draws.{after-more, after-none}
+use Rattle.sift_base.specs.laws.Draws.{after-more, after-none}
 use Rattle.sift_gen.proofs.Listing.{map-more}
 use Rattle.sift_gen.proofs.sensor.drawn_words.Goals as goal
 

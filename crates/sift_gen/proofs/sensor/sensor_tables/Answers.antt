@@ -6,7 +6,7 @@ use Rattle.toml.specs.View.{view}
 use Rattle.toml.specs.declared.value.Value.{Table}
 use Rattle.toml.proofs.Views.{view-Table}
 use Rattle.sift_base.specs.Draw.{after}
-use Rattle.sift_base.proofs.lemmas.Draws.{after-after, after-none}
+use Rattle.sift_base.specs.laws.Draws.{after-after, after-none}
 use Rattle.sift_gen.specs.Scenario.{sensor_table, words_each}
 use Rattle.sift_gen.proofs.Listing.{map-more}
 use Rattle.sift_gen.proofs.sensor.sensor_tables.Goals as goal

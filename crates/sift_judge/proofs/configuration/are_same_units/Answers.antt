@@ -1,6 +1,6 @@
 use Rattle.std.proofs.Common.{◌∙◌, ap, eq-eqb, eqb-true, sym}
 use Rattle.sift_base.specs.Units.{bits_of, members, units_of}
-use Rattle.sift_base.proofs.lemmas.Sets.{members_are}
+use Rattle.sift_base.specs.laws.Sets.{members_are}
 use Rattle.sift_judge.proofs.UnitSets.{one_set}
 use Rattle.sift_judge.proofs.configuration.are_same_units.Goals as goal
 

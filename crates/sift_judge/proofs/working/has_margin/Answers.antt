@@ -1,7 +1,7 @@
 use Rattle.std.proofs.Common.{ℕ, Bool, ◌∙◌, ◌-◌, length, ap, arith}
 use Rattle.std.proofs.lemmas.Bool.{le-leb, leb-true}
 use Rattle.sift_mission.specs.Parts.{data_of}
-use Rattle.sift_exec.proofs.lemmas.Counted.{faulty-rest, filter-count, filter-≤}
+use Rattle.sift_exec.specs.laws.Counted.{faulty-rest, filter-count, filter-≤}
 use Rattle.sift_report.specs.Told.{works_in}
 use Rattle.sift_judge.proofs.working.has_margin.Goals as goal
 

@@ -1,6 +1,6 @@
 use Rattle.std.proofs.Common.{◌≡◌, ◌∷◌, rules, arith}
 use Rattle.std.proofs.lemmas.Grind.{common_steps}
-use Rattle.sift_line.proofs.lemmas.Printed.{parts_all}
+use Rattle.sift_line.specs.laws.Printed.{parts_all}
 use Rattle.sift_line.proofs.list.push_list.Goals as goal
 
 pub returns : goal.returns

@@ -2,7 +2,7 @@ use Rattle.std.proofs.Common.{◌≡◌, ◌++◌, ◌∷◌, [], ◌∙◌, len
 use Rattle.std.specs.List.{filter}
 use Rattle.std.proofs.lemmas.List.{take_all}
 use Rattle.sift_base.specs.Units.{holds, members}
-use Rattle.sift_exec.proofs.lemmas.Counted.{filter-yes, filter-no, filter-room}
+use Rattle.sift_exec.specs.laws.Counted.{filter-yes, filter-no, filter-room}
 use Rattle.sift_line.proofs.print.members_of.Goals.{then-has, else-has}
 use Rattle.sift_line.proofs.print.members_of.Goals as goal
 

@@ -1,5 +1,5 @@
 use Rattle.std.proofs.Common.{arith}
-use Rattle.sift_line.proofs.lemmas.Printed.{digit_more, digits_all}
+use Rattle.sift_line.specs.laws.Printed.{digit_more, digits_all}
 use Rattle.sift_line.proofs.print.push_config.Goals as goal
 
 pub loop-i-preserved : goal.loop-i-preserved

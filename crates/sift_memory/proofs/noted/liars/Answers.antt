@@ -3,8 +3,8 @@ use Rattle.std.specs.Prelude.{Some}
 use Rattle.std.specs.FinSet as set
 use Rattle.sift_base.specs.Units.{holds, has}
 use Rattle.sift_vote.specs.Majority.{differs}
-use Rattle.sift_config.proofs.lemmas.Lists.{has_front, get-drop}
-use Rattle.sift_config.proofs.lemmas.Joining.{passing_joins, failing_stays}
+use Rattle.sift_config.specs.laws.Lists.{has_front, get-drop}
+use Rattle.sift_config.specs.laws.Joining.{passing_joins, failing_stays}
 use Rattle.sift_memory.specs.Memory.{place_at}
 use Rattle.sift_memory.proofs.noted.liars.Goals as goal
 use Rattle.sift_memory.proofs.noted.liars.Goals.{then-lies, else-lies}

@@ -3,8 +3,8 @@ use Rattle.std.specs.Prelude.{◌+ℤ◌}
 use Rattle.std.specs.FinSet as set
 use Rattle.sift_base.specs.Units.{holds, has}
 use Rattle.sift_clock.specs.Correction.{is_too_far}
-use Rattle.sift_config.proofs.lemmas.Lists.{has_front, get-drop}
-use Rattle.sift_config.proofs.lemmas.Joining.{failing_stays, has_at, passing_joins}
+use Rattle.sift_config.specs.laws.Lists.{has_front, get-drop}
+use Rattle.sift_config.specs.laws.Joining.{failing_stays, has_at, passing_joins}
 use Rattle.sift_memory.specs.Memory.{reading_at}
 use Rattle.sift_memory.proofs.readings.far_clocks.Goals as goal
 use Rattle.sift_memory.proofs.readings.far_clocks.Goals.{then-is_far, else-is_far}

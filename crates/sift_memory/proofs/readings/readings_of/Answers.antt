@@ -1,6 +1,6 @@
 use Rattle.std.specs.Prelude.{Option, Bool, ℕ, ℤ}
 use Rattle.std.proofs.Common.{◌++◌, ◌∷◌, [], ◌<◌, not, nat_eq, ◌∙◌, sym, arith, length}
-use Rattle.sift_config.proofs.lemmas.Joining.{has_at}
+use Rattle.sift_config.specs.laws.Joining.{has_at}
 use Rattle.sift_memory.specs.Memory.{reading_at}
 use Rattle.sift_memory.proofs.InTurn.{passing_yes, passing_no, room_in_turn}
 use Rattle.sift_memory.proofs.readings.readings_of.Goals as goal

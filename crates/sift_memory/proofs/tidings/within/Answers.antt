@@ -1,8 +1,8 @@
 use Rattle.std.proofs.Common.{ℕ, ◌&&◌, take, nat_cmp, ap, ◌∙◌, sym}
 use Rattle.std.specs.FinSet as set
 use Rattle.sift_base.specs.Units.{holds, has}
-use Rattle.sift_config.proofs.lemmas.Lists.{has_front, get-drop}
-use Rattle.sift_config.proofs.lemmas.Joining.{passing_joins, failing_stays}
+use Rattle.sift_config.specs.laws.Lists.{has_front, get-drop}
+use Rattle.sift_config.specs.laws.Joining.{passing_joins, failing_stays}
 use Rattle.sift_memory.proofs.tidings.within.Goals as goal
 use Rattle.sift_memory.proofs.tidings.within.Goals.{then-has, else-has}
 

@@ -2,8 +2,8 @@ use Rattle.std.proofs.Common.{◌≡◌, ℕ, ◌&&◌, take, nat_cmp, ap, ◌�
 use Rattle.std.specs.FinSet as set
 use Rattle.sift_base.specs.Units.{holds, has}
 use Rattle.sift_table.specs.Schedule.{positions_of}
-use Rattle.sift_config.proofs.lemmas.Lists.{has_front, get-drop}
-use Rattle.sift_config.proofs.lemmas.Joining.{passing_joins, failing_stays}
+use Rattle.sift_config.specs.laws.Lists.{has_front, get-drop}
+use Rattle.sift_config.specs.laws.Joining.{passing_joins, failing_stays}
 use Rattle.sift_mission.specs.Flown.{position_in}
 use Rattle.sift_mission.proofs.Positions.{position-found}
 use Rattle.sift_mission.proofs.crews.crew_by.Goals as goal

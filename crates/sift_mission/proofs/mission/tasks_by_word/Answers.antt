@@ -1,5 +1,5 @@
 use Rattle.std.proofs.Common.{◌++◌, length, replicate, ap, sym, ◌∙◌, arith}
-use Rattle.sift_mission.proofs.lemmas.ByWords.{by_word-more, by_word-room}
+use Rattle.sift_mission.specs.laws.ByWords.{by_word-more, by_word-room}
 use Rattle.sift_mission.proofs.mission.tasks_by_word.Goals as goal
 
 pub push_copies-requires : goal.push_copies-requires

@@ -3,7 +3,7 @@ use Rattle.std.specs.FinSet as set
 use Rattle.sift_base.specs.Units.{holds, has}
 use Rattle.sift_mission.specs.Crews.{sends}
 use Rattle.sift_mission.specs.Parts.{data_of, flown_of}
-use Rattle.sift_mission.proofs.lemmas.Configs.{has-reader}
+use Rattle.sift_mission.specs.laws.Configs.{has-reader}
 use Rattle.sift_mission.proofs.Held.{held-place, held-task, held-there, out_low}
 use Rattle.sift_mission.proofs.Sayers.{just_one, all_but, twice, rotated, holds_removed}
 use Rattle.sift_mission.proofs.roles.senders_of.Goals as goal

@@ -4,7 +4,7 @@ use Rattle.std.proofs.lemmas.List.Folds.{list_any_at, list_any_more}
 use Rattle.std.proofs.lemmas.List.FromFn.{get_or-range_with_len, length-range_with_len}
 use Rattle.std.specs.List.{list_any, range_with_len}
 use Rattle.sift_lang.specs.Tree.{tree_of}
-use Rattle.sift_program.proofs.lemmas.ShapeLists.{reads_word}
+use Rattle.sift_program.specs.laws.ShapeLists.{reads_word}
 use Rattle.sift_program.proofs.shapes.reads_some.Goals as goal
 
 -- the task reads a word

@@ -1,7 +1,7 @@
 use Rattle.std.proofs.Common.{◌≡◌, ◌-◌, false, take}
 use Rattle.std.specs.List.{list_any, range_with_len}
 use Rattle.sift_lang.specs.Tree.{tree_of}
-use Rattle.sift_program.proofs.lemmas.ShapeLists.{reads_word}
+use Rattle.sift_program.specs.laws.ShapeLists.{reads_word}
 use Rattle.sift_program.proofs.shapes.reads_some.Given as goal
 
 -- no word so far is read

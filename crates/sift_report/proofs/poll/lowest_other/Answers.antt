@@ -1,9 +1,8 @@
 use Rattle.std.proofs.Common.{◌≡◌, ◌≢◌, ◌∙◌, sym, ap, Some}
 use Rattle.std.specs.Prelude.{slice_get}
-use Rattle.std.proofs.lemmas.Bool.{eqb-true}
-use Rattle.sift_base.proofs.lemmas.Counts.{apart}
+use Rattle.std.proofs.lemmas.Bool.{eqb-true, eqb-false}
 use Rattle.sift_report.proofs.Heard.{lowest_first, lowest_second}
-use Rattle.sift_exec.proofs.lemmas.Counted.{has_place}
+use Rattle.sift_exec.specs.laws.Counted.{has_place}
 use Rattle.sift_report.proofs.poll.lowest_other.Goals as goal
 
 -- the unit itself is the lowest
@@ -21,7 +20,7 @@ returns-then-eq-clause-there c = has_place c.args.config.now 1 c.unit_at.result 
 
 pub returns-else-eq-clause-lowest : goal.returns-else-eq-clause-lowest
 returns-else-eq-clause-lowest c =
-    let other : c.unit_at-lowest.result ≢ c.args.u = apart c.unit_at-lowest.result c.args.u (sym c.eq.ensures ∙ c.if-eq.false) in
+    let other : c.unit_at-lowest.result ≢ c.args.u = eqb-false c.unit_at-lowest.result c.args.u (sym c.eq.ensures ∙ c.if-eq.false) in
     sym (lowest_first c.args.config.now c.args.u c.unit_at-lowest.result c.unit_at-lowest.ensures other)
 
 pub returns-else-eq-clause-there : goal.returns-else-eq-clause-there

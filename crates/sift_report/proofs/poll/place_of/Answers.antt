@@ -1,8 +1,7 @@
 use Rattle.std.proofs.Common.{◌≡◌, ◌∙◌, get_or, sym, ap}
-use Rattle.std.proofs.lemmas.Bool.{eqb-true}
+use Rattle.std.proofs.lemmas.Bool.{eqb-true, eqb-false}
 use Rattle.sift_base.specs.Layout.{slot_number}
 use Rattle.sift_base.specs.declared.slot.Slot.TheVariants.{Out}
-use Rattle.sift_base.proofs.lemmas.Counts.{apart}
 use Rattle.sift_buffer.specs.Journals.{heard_in, said_in}
 use Rattle.sift_mission.specs.Parts.{flown_of}
 use Rattle.sift_flight.specs.Told.{told}
@@ -26,7 +25,7 @@ heard-requires c =
     let slot : c.number-slot.result ≡ slot_number c.args.mission.now.layout (Out c.args.word) =
     c.number-slot.ensures.number ∙ ap (λ parts. slot_number parts.layout (Out c.args.word)) c.parts.ensures.same in
     rw slot (journal-place c.args.mission.now c.parts.ensures.fit c.args.flight.now c.requires.tells.whole c.args.u c.requires.tells.unit c.index-journal.result.now at
-    c.args.word c.args.f c.args.from c.requires.word c.requires.tells.frame c.requires.from (apart c.args.from c.args.u (sym c.eq.ensures ∙ c.if-eq.false)))
+    c.args.word c.args.f c.args.from c.requires.word c.requires.tells.frame c.requires.from (eqb-false c.args.from c.args.u (sym c.eq.ensures ∙ c.if-eq.false)))
 
 pub returns-then-eq : goal.returns-then-eq
 returns-then-eq c =
@@ -52,4 +51,4 @@ returns-else-eq c =
     c.heard.ensures ∙ ap (λ k. heard_in c.index-journal.result.now c.args.f k c.args.from) slot
     ∙ journal-heard c.args.mission.now c.parts.ensures.fit c.args.flight.now c.requires.tells.whole c.args.u c.requires.tells.unit c.index-journal.result.now at
     c.args.word c.args.f c.args.from c.requires.word
-    ∙ sym (place-other fl c.args.f c.args.u c.args.word c.args.from (apart c.args.from c.args.u (sym c.eq.ensures ∙ c.if-eq.false)))
+    ∙ sym (place-other fl c.args.f c.args.u c.args.word c.args.from (eqb-false c.args.from c.args.u (sym c.eq.ensures ∙ c.if-eq.false)))

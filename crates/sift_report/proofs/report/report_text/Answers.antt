@@ -6,7 +6,7 @@ use Rattle.sift_flight.specs.Told.{told}
 use Rattle.sift_line.specs.Line.{printed, text_of_lines}
 use Rattle.sift_report.specs.Sheet.{frame_lines, last_line}
 use Rattle.sift_report.proofs.Held.{one_frame_more, all_of_report}
-use Rattle.sift_line.proofs.lemmas.Printed.{line_after, lines_more}
+use Rattle.sift_line.specs.laws.Printed.{line_after, lines_more}
 use Rattle.sift_report.proofs.report.report_text.Goals.{then-margin, else-margin}
 use Rattle.sift_report.proofs.report.report_text.Goals as goal
 

@@ -1,6 +1,6 @@
 use Rattle.std.proofs.Common.{◌≡◌, Err, rules}
 use Rattle.toml.specs.View.{table_view}
-use Rattle.sift_document.proofs.lemmas.Order.{err_from, ok_from}
+use Rattle.sift_document.specs.laws.Order.{err_from, ok_from}
 use Rattle.sift_scenario.proofs.mission.read_mission.Goals as goal
 
 -- a rule is broken

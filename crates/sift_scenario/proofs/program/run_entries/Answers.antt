@@ -2,7 +2,7 @@ use Rattle.std.proofs.Common.{◌≡◌, Err, rules, map, length, sym, subst, �
 use Rattle.std.proofs.lemmas.List.{length-map}
 use Rattle.sift_lang.specs.Tree.{tree_of}
 use Rattle.sift_parse.specs.Roll.{Roll, roll_of}
-use Rattle.sift_document.proofs.lemmas.Order.{refused_from}
+use Rattle.sift_document.specs.laws.Order.{refused_from}
 use Rattle.sift_scenario.proofs.Read.{length_is, roll_read, running_from, sensors_few, task_refused, turns_are, words_are, words_few}
 use Rattle.sift_scenario.specs.Refusal.{IsFirstRefused}
 use Rattle.sift_scenario.specs.Testing.{AreTurns, form_of}

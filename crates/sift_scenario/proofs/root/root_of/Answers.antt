@@ -1,6 +1,6 @@
 use Rattle.std.proofs.Common.{◌≡◌, Err, rules}
 use Rattle.toml.specs.View.{table_view}
-use Rattle.sift_document.proofs.lemmas.Order.{stopped}
+use Rattle.sift_document.specs.laws.Order.{stopped}
 use Rattle.sift_scenario.specs.Root.{root_rules}
 use Rattle.sift_scenario.proofs.root.root_of.Goals as goal
 

@@ -1,5 +1,5 @@
 use Rattle.std.proofs.Common.{◌≡◌, Some, None, sym, ◌∙◌}
-use Rattle.sift_document.proofs.lemmas.Testing.{kept_of_none, refused_of_none}
+use Rattle.sift_document.specs.laws.Testing.{kept_of_none, refused_of_none}
 use Rattle.sift_scenario.proofs.root.version_of.Goals as goal
 
 pub returns-in-Some-clause-version : goal.returns-in-Some-clause-version

@@ -1,8 +1,8 @@
 use Rattle.std.proofs.Common.{◌≡◌, Some, None, below_more, map, sym, ◌∙◌, arith}
 use Rattle.std.proofs.lemmas.List.{length-map, take_all}
 use Rattle.toml.specs.View.{table_view}
-use Rattle.sift_document.proofs.lemmas.Places.{fails_here, holds_here, nowhere, read_more}
-use Rattle.sift_document.proofs.lemmas.Testing.{first_broken}
+use Rattle.sift_document.specs.laws.Places.{fails_here, holds_here, nowhere, read_more}
+use Rattle.sift_document.specs.laws.Testing.{first_broken}
 use Rattle.sift_scenario.specs.Sensor.{words_of}
 use Rattle.sift_scenario.proofs.sensor.sensed_words.Goals as goal
 

@@ -1,5 +1,5 @@
 use Rattle.std.proofs.Common.{length, below_more, arith}
-use Rattle.sift_document.proofs.lemmas.Testing.{first_broken}
+use Rattle.sift_document.specs.laws.Testing.{first_broken}
 use Rattle.sift_scenario.proofs.WordCounts.{sum_take-more}
 use Rattle.sift_scenario.proofs.task.check_words.Goals as goal
 

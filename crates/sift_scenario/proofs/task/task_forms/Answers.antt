@@ -3,8 +3,8 @@ use Rattle.std.proofs.lemmas.List.{get_or-map, length-map, map-append}
 use Rattle.std.proofs.lemmas.Grind.{common_steps}
 use Rattle.toml.specs.Data.{Members}
 use Rattle.toml.specs.View.{table_view}
-use Rattle.sift_document.proofs.lemmas.Places.{fails_here, holds_here, matches_more, nowhere, same_at, taken}
-use Rattle.sift_document.proofs.lemmas.Testing.{first_broken}
+use Rattle.sift_document.specs.laws.Places.{fails_here, holds_here, matches_more, nowhere, same_at, taken}
+use Rattle.sift_document.specs.laws.Testing.{first_broken}
 use Rattle.sift_scenario.specs.Task.{Form, HasForm, task_outputs}
 use Rattle.sift_scenario.specs.Testing.{form_of}
 use Rattle.sift_scenario.proofs.task.task_forms.Goals as goal

@@ -5,8 +5,8 @@ use Rattle.sift_parse.proofs.lemmas.Sound.{has_words}
 use Rattle.sift_parse.specs.Outcome.{AreNames}
 use Rattle.sift_parse.specs.Roll.{Roll, roll_of}
 use Rattle.sift_parse.specs.declared.names.Names.{Names}
-use Rattle.sift_document.proofs.lemmas.Order.{refused_from}
-use Rattle.sift_document.proofs.lemmas.Places.{matches_more, taken}
+use Rattle.sift_document.specs.laws.Order.{refused_from}
+use Rattle.sift_document.specs.laws.Places.{matches_more, taken}
 use Rattle.sift_scenario.proofs.Codes.{allowed_more, codes_more, left_more, sound_form}
 use Rattle.sift_scenario.proofs.Turns.{code_first, same_turn, text_first}
 use Rattle.sift_scenario.specs.Program.{IsTreeOf, turn_of}

@@ -1,6 +1,6 @@
 use Rattle.std.proofs.Common.{length, map, refl, arith}
 use Rattle.std.proofs.lemmas.List.{length-map, take_all}
-use Rattle.sift_document.proofs.lemmas.Places.{read_more}
+use Rattle.sift_document.specs.laws.Places.{read_more}
 use Rattle.sift_scenario.proofs.tree.names_for.Goals as goal
 
 -- a task more

@@ -1,7 +1,7 @@
 use Rattle.std.proofs.Common.{◌≡◌, Some, Err, pos, to_z, w32, rules, arith}
 use Rattle.std.proofs.lemmas.Int.{ints}
 use Rattle.toml.specs.View.{table_view, view}
-use Rattle.sift_document.proofs.lemmas.Order.{stopped}
+use Rattle.sift_document.specs.laws.Order.{stopped}
 use Rattle.sift_sections.specs.Clock.{clock_rules}
 use Rattle.sift_sections.proofs.ClockTests.{clock_kept, clocks_read, drift_kept, drift_refused, errors_kept, errors_refused, figure_refused, start_kept, start_refused, units_refused}
 use Rattle.sift_sections.proofs.Figures.{few_error, few_length, few_rate, few_skew}

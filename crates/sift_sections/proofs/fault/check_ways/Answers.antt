@@ -1,8 +1,8 @@
 use Rattle.std.proofs.Common.{◌≡◌, true, false, below_more, arith}
 use Rattle.toml.specs.View.{table_view}
-use Rattle.sift_document.proofs.lemmas.Places.{fails_here, holds_here, nowhere}
-use Rattle.sift_document.proofs.lemmas.Testing.{first_broken}
-use Rattle.sift_sections.proofs.lemmas.Named.{HasOneWay}
+use Rattle.sift_document.specs.laws.Places.{fails_here, holds_here, nowhere}
+use Rattle.sift_document.specs.laws.Testing.{first_broken}
+use Rattle.sift_sections.specs.laws.Named.{HasOneWay}
 use Rattle.sift_sections.proofs.fault.check_ways.Goals as goal
 
 -- a fault doesn't fail in one way

@@ -1,6 +1,6 @@
 use Rattle.std.proofs.Common.{◌<◌, ℕ, map}
 use Rattle.toml.specs.View.{table_view}
-use Rattle.sift_sections.proofs.lemmas.Named.{BreaksWays}
+use Rattle.sift_sections.specs.laws.Named.{BreaksWays}
 use Rattle.sift_sections.proofs.fault.check_ways.Given as goal
 
 -- no fault so far breaks the rule

@@ -1,10 +1,10 @@
 use Rattle.std.proofs.Common.{◌≡◌, Some, None, inl, inr, below_more, map, sym, ◌∙◌, arith}
 use Rattle.std.proofs.lemmas.List.{length-map, take_all}
 use Rattle.toml.specs.View.{table_view}
-use Rattle.sift_document.proofs.lemmas.Places.{fails_here, holds_here, nowhere, read_more}
-use Rattle.sift_document.proofs.lemmas.Testing.{first_broken}
+use Rattle.sift_document.specs.laws.Places.{fails_here, holds_here, nowhere, read_more}
+use Rattle.sift_document.specs.laws.Testing.{first_broken}
 use Rattle.sift_sections.specs.Fault.{from_of, unit_of}
-use Rattle.sift_sections.proofs.lemmas.Named.{IsHeadless}
+use Rattle.sift_sections.specs.laws.Named.{IsHeadless}
 use Rattle.sift_sections.proofs.fault.fault_heads.Goals as goal
 
 -- a fault has no unit, or no first frame

@@ -1,7 +1,7 @@
 use Rattle.std.proofs.Common.{◌≡◌, ◌<◌, ℕ, Some, map, take}
 use Rattle.toml.specs.View.{table_view}
 use Rattle.sift_sections.specs.Fault.{from_of, unit_of}
-use Rattle.sift_sections.proofs.lemmas.Named.{BreaksHeads}
+use Rattle.sift_sections.specs.laws.Named.{BreaksHeads}
 use Rattle.sift_sections.proofs.fault.fault_heads.Given as goal
 
 -- the units and the first frames of the faults so far, none of which breaks the rule

@@ -2,7 +2,7 @@ use Rattle.std.proofs.Common.{◌≡◌, ◌<◌, ℕ, Some, map, take}
 use Rattle.toml.specs.View.{table_view}
 use Rattle.sift_script.specs.Script.{change_of}
 use Rattle.sift_sections.specs.Fault.{changes_of}
-use Rattle.sift_sections.proofs.lemmas.Named.{BreaksItems}
+use Rattle.sift_sections.specs.laws.Named.{BreaksItems}
 use Rattle.sift_sections.proofs.fault.said_items.Given as goal
 
 -- the changes of the faults so far, none of which breaks the rule

@@ -5,11 +5,11 @@ use Rattle.std.proofs.lemmas.List.{length-append, length-map, take_all}
 use Rattle.std.specs.Prelude.{option_map}
 use Rattle.toml.specs.View.{table_view}
 use Rattle.sift_script.specs.Script.{change_of, failing_of, fault_of}
-use Rattle.sift_document.proofs.lemmas.Places.{fails_here, holds_here, nowhere, read_more}
-use Rattle.sift_document.proofs.lemmas.Testing.{first_broken}
+use Rattle.sift_document.specs.laws.Places.{fails_here, holds_here, nowhere, read_more}
+use Rattle.sift_document.specs.laws.Testing.{first_broken}
 use Rattle.sift_sections.proofs.Faulting.{as_many, fault_taken, planned_storm, unplanned_storm}
 use Rattle.sift_sections.specs.Fault.{fault_in, stated_storm}
-use Rattle.sift_sections.proofs.lemmas.Named.{failing_from}
+use Rattle.sift_sections.specs.laws.Named.{failing_from}
 use Rattle.sift_sections.proofs.fault.script_from.Goals as goal
 
 -- each place has a head and a table

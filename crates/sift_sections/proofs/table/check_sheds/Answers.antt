@@ -1,8 +1,8 @@
 use Rattle.std.proofs.Common.{List, refl, subst}
 use Rattle.toml.specs.Data.{Members}
-use Rattle.sift_document.proofs.lemmas.EntryTests.{of_entries}
+use Rattle.sift_document.specs.laws.EntryTests.{of_entries}
 use Rattle.sift_document.specs.Testing.{Tests}
-use Rattle.sift_sections.proofs.lemmas.Named.{BreaksShed}
+use Rattle.sift_sections.specs.laws.Named.{BreaksShed}
 use Rattle.sift_sections.proofs.table.check_sheds.Goals as goal
 
 -- the tables of the entries are those of the document

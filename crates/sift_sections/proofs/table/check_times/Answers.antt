@@ -1,8 +1,8 @@
 use Rattle.std.proofs.Common.{◌≡◌, ◌⊎◌, true, false, None, below_more, arith}
 use Rattle.std.specs.Prelude.{codes}
 use Rattle.toml.specs.View.{table_view}
-use Rattle.sift_document.proofs.lemmas.Places.{fails_here, holds_here, nowhere}
-use Rattle.sift_document.proofs.lemmas.Testing.{first_broken}
+use Rattle.sift_document.specs.laws.Places.{fails_here, holds_here, nowhere}
+use Rattle.sift_document.specs.laws.Testing.{first_broken}
 use Rattle.sift_sections.specs.Table.{subframes_at}
 use Rattle.sift_sections.proofs.table.check_times.Goals as goal
 

@@ -1,6 +1,6 @@
 use Rattle.std.proofs.Common.{◌<◌, ℕ, map}
 use Rattle.toml.specs.View.{table_view}
-use Rattle.sift_sections.proofs.lemmas.Named.{BreaksTimes}
+use Rattle.sift_sections.specs.laws.Named.{BreaksTimes}
 use Rattle.sift_sections.proofs.table.check_times.Given as goal
 
 -- no table so far breaks the rule

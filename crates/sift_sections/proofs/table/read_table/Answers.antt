@@ -5,7 +5,7 @@ use Rattle.toml.specs.Data.{get_member}
 use Rattle.toml.specs.View.{table_view}
 use Rattle.sift_base.specs.Layout.{least_units}
 use Rattle.sift_base.specs.Units.{unit_limit}
-use Rattle.sift_document.proofs.lemmas.Numbers.{between_at}
+use Rattle.sift_document.specs.laws.Numbers.{between_at}
 use Rattle.sift_sections.proofs.table.read_table.Goals as goal
 
 pub returns-in-Some-Some-Some-Some-clause-found : goal.returns-in-Some-Some-Some-Some-clause-found

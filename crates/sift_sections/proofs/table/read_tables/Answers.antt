@@ -2,8 +2,8 @@ use Rattle.std.proofs.Common.{◌≡◌, None, below_more, map, ◌∙◌, arith
 use Rattle.std.proofs.lemmas.List.{length-map, take_all}
 use Rattle.toml.specs.View.{table_view}
 use Rattle.sift_table.specs.Schedule.{schedule_of}
-use Rattle.sift_document.proofs.lemmas.Places.{fails_here, holds_here, nowhere, read_more}
-use Rattle.sift_document.proofs.lemmas.Testing.{first_broken}
+use Rattle.sift_document.specs.laws.Places.{fails_here, holds_here, nowhere, read_more}
+use Rattle.sift_document.specs.laws.Testing.{first_broken}
 use Rattle.sift_sections.proofs.TableReading.{positionless}
 use Rattle.sift_sections.specs.Reading.{IsPartial}
 use Rattle.sift_sections.specs.Table.{positions_of, schedule_in}

@@ -2,7 +2,7 @@ use Rattle.std.proofs.Common.{◌≡◌, ◌<◌, ℕ, map, take}
 use Rattle.toml.specs.View.{table_view}
 use Rattle.sift_table.specs.Schedule.{schedule_of}
 use Rattle.sift_sections.specs.Table.{schedule_in}
-use Rattle.sift_sections.proofs.lemmas.Named.{BreaksPositions}
+use Rattle.sift_sections.specs.laws.Named.{BreaksPositions}
 use Rattle.sift_sections.proofs.table.read_tables.Given as goal
 
 -- the schedules so far, and no table so far breaks the rule

@@ -1,7 +1,7 @@
 use Rattle.std.proofs.Common.{◌≡◌, ◌-◌, Err, rules, arith}
 use Rattle.toml.specs.View.{view}
-use Rattle.sift_document.proofs.lemmas.EntryTests.{of_entries, refused_whole, tested}
-use Rattle.sift_document.proofs.lemmas.Order.{ok_from}
+use Rattle.sift_document.specs.laws.EntryTests.{of_entries, refused_whole, tested}
+use Rattle.sift_document.specs.laws.Order.{ok_from}
 use Rattle.sift_sections.specs.Table.{IsTableEntry, size_count}
 use Rattle.sift_sections.proofs.table.sized_tables.Goals as goal
 

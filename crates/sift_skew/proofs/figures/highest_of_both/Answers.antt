@@ -2,7 +2,7 @@ use Rattle.std.proofs.Common.{◌≡◌, arith, ◌∙◌, w64, to_z, of_z}
 use Rattle.std.specs.Int.{int_max}
 use Rattle.std.proofs.lemmas.Int.{ints}
 use Rattle.std.proofs.lemmas.Grind.{common_steps}
-use Rattle.sift_skew.proofs.lemmas.Extremes.{highest-append}
+use Rattle.sift_skew.specs.laws.Extremes.{highest-append}
 use Rattle.sift_skew.proofs.figures.highest_of_both.Goals as goal
 
 -- the higher of two highest offsets

@@ -1,6 +1,6 @@
 use Rattle.std.proofs.Common.{◌≡◌, ◌-ℤ◌, arith}
 use Rattle.std.proofs.lemmas.Int.{ints}
-use Rattle.sift_skew.proofs.lemmas.Extremes.{held, skew_from}
+use Rattle.sift_skew.specs.laws.Extremes.{held, skew_from}
 use Rattle.sift_skew.proofs.figures.skew.Goals as goal
 
 -- the highest and the lowest offset are farthest apart

@@ -1,6 +1,6 @@
 use Rattle.std.proofs.Common.{◌≡◌, ◌-ℤ◌, arith}
 use Rattle.std.proofs.lemmas.Int.{ints}
-use Rattle.sift_skew.proofs.lemmas.Extremes.{held, slack_from}
+use Rattle.sift_skew.specs.laws.Extremes.{held, slack_from}
 use Rattle.sift_skew.proofs.figures.slack.Goals as goal
 
 -- the lowest offset in force and the highest one leave least of a subframe

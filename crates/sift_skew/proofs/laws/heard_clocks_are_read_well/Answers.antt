@@ -1,4 +1,4 @@
-use Rattle.sift_skew.proofs.lemmas.Readings.{heard_clocks_are_read_well}
+use Rattle.sift_skew.specs.laws.Readings.{heard_clocks_are_read_well}
 use Rattle.sift_skew.proofs.laws.heard_clocks_are_read_well.Goals as goal
 
 pub returns : goal.returns

@@ -1,4 +1,4 @@
-use Rattle.sift_skew.proofs.lemmas.Leads.{lead_is_at_most_one}
+use Rattle.sift_skew.specs.laws.Leads.{lead_is_at_most_one}
 use Rattle.sift_skew.proofs.laws.lead_is_at_most_one.Goals as goal
 
 pub returns : goal.returns

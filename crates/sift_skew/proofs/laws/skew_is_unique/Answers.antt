@@ -1,4 +1,4 @@
-use Rattle.sift_skew.proofs.lemmas.Leads.{skew_is_unique}
+use Rattle.sift_skew.specs.laws.Leads.{skew_is_unique}
 use Rattle.sift_skew.proofs.laws.skew_is_unique.Goals as goal
 
 pub returns : goal.returns

@@ -1,4 +1,4 @@
-use Rattle.sift_skew.proofs.lemmas.Leads.{slack_is_positive}
+use Rattle.sift_skew.specs.laws.Leads.{slack_is_positive}
 use Rattle.sift_skew.proofs.laws.slack_is_positive.Goals as goal
 
 pub returns : goal.returns

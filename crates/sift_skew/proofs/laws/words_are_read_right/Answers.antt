@@ -1,4 +1,4 @@
-use Rattle.sift_skew.proofs.lemmas.Readings.{words_are_read_right}
+use Rattle.sift_skew.specs.laws.Readings.{words_are_read_right}
 use Rattle.sift_skew.proofs.laws.words_are_read_right.Goals as goal
 
 pub returns : goal.returns

@@ -22,8 +22,8 @@ loop-number-init g c = record {
 }
 
 -- a unit is left, with its token, its board and its rogue
-pub unit_numbered-unit-requires : goal.unit_numbered-unit-requires
-unit_numbered-unit-requires g c =
+pub numbered-unit-requires : goal.numbered-unit-requires
+numbered-unit-requires g c =
     let units = ap (λ (p : MissionParts). p.units) c.parts.ensures.same in let test = c.loop-number-test.true in
     let few = c.parts.ensures.fit.limits.few_units in omega arith
 
@@ -76,8 +76,8 @@ loop-number-preserved g c =
       rogues = r.rest_is;
       rogues_left = (let left = inv.rogues_left in let less = c.take_next-rogue.ensures.left in omega arith);
       seated = rw c.push_reserved.ensures.items (seated_push c.args.mission.now c.args.ether.now c.args.tokens.items c.args.boards.items c.args.rogues.items
-          c.loop-number.number c.unit_numbered-unit.result c.loop-number.seats.items c.seat_one.result c.take_next-token.result c.take_next-board.result
-          c.take_next-rogue.result inv.seated c.unit_numbered-unit.ensures t.here b.here r.here c.seat_one.ensures);
+          c.loop-number.number c.numbered-unit.result c.loop-number.seats.items c.seat_one.result c.take_next-token.result c.take_next-board.result
+          c.take_next-rogue.result inv.seated c.numbered-unit.ensures t.here b.here r.here c.seat_one.ensures);
     }
 
 pub returns-clause-seated : goal.returns-clause-seated

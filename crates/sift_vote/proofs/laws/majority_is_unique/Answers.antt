@@ -1,4 +1,4 @@
-use Rattle.sift_vote.proofs.lemmas.Votes.{majority_is_unique}
+use Rattle.sift_vote.specs.laws.Votes.{majority_is_unique}
 use Rattle.sift_vote.proofs.laws.majority_is_unique.Goals as goal
 
 pub returns : goal.returns

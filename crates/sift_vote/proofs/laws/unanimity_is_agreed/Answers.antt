@@ -1,4 +1,4 @@
-use Rattle.sift_vote.proofs.lemmas.Votes.{unanimity_is_agreed}
+use Rattle.sift_vote.specs.laws.Votes.{unanimity_is_agreed}
 use Rattle.sift_vote.proofs.laws.unanimity_is_agreed.Goals as goal
 
 pub returns : goal.returns

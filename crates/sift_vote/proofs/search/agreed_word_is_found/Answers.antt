@@ -1,4 +1,4 @@
-use Rattle.sift_vote.proofs.lemmas.Found.{agreed_word_is_found}
+use Rattle.sift_vote.specs.laws.Found.{agreed_word_is_found}
 use Rattle.sift_vote.proofs.search.agreed_word_is_found.Goals as goal
 
 pub returns : goal.returns

@@ -1,4 +1,4 @@
-use Rattle.sift_vote.proofs.lemmas.Found.{majority_is_found}
+use Rattle.sift_vote.specs.laws.Found.{majority_is_found}
 use Rattle.sift_vote.proofs.search.majority_is_found.Goals as goal
 
 pub returns : goal.returns

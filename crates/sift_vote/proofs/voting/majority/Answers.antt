@@ -1,7 +1,7 @@
 use Rattle.std.proofs.Common.{◌≡◌, Some, ap, arith, take_all}
 use Rattle.std.proofs.lemmas.List.Elements.{All-more}
 use Rattle.sift_vote.specs.Majority.{votes_for, IsMajority}
-use Rattle.sift_vote.proofs.lemmas.Votes.{Loses, majority_is_unique, no_majority}
+use Rattle.sift_vote.specs.laws.Votes.{Loses, majority_is_unique, no_majority}
 use Rattle.sift_vote.proofs.voting.majority.Goals as goal
 use Rattle.sift_vote.proofs.voting.majority.Goals.{in-Some+else-votes_for-places, in_default}
 

@@ -1,5 +1,5 @@
 use Rattle.std.proofs.Common.{All, take}
-use Rattle.sift_vote.proofs.lemmas.Votes.{Loses}
+use Rattle.sift_vote.specs.laws.Votes.{Loses}
 use Rattle.sift_vote.proofs.voting.majority.Given as goal
 
 -- no word so far is the majority

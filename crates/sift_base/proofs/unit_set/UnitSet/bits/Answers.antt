@@ -1,6 +1,6 @@
 use Rattle.std.proofs.Common.{sym}
-use Rattle.sift_base.specs.ReadBack.{bits_of-units_of}
-use Rattle.sift_base.proofs.lemmas.Sets.{are_units}
+use Rattle.sift_base.specs.laws.ReadBack.{bits_of-units_of}
+use Rattle.sift_base.specs.laws.Sets.{are_units}
 use Rattle.sift_base.proofs.unit_set.UnitSet.bits.Goals as goal
 
 pub returns-clause-byte : goal.returns-clause-byte

@@ -1,10 +1,10 @@
 use Rattle.std.proofs.Common.{slice_get, ◌∙◌, ap, sym, Some}
 use Rattle.sift_base.specs.Units.{members}
-use Rattle.sift_base.proofs.lemmas.Sets.{lowest_is_first}
+use Rattle.sift_base.specs.laws.Sets.{lowest_is_first}
 use Rattle.sift_base.proofs.unit_set.UnitSet.first.Goals as goal
 
-pub low-requires : goal.low-requires
-low-requires c = (lowest_is_first c.self.inside.bits c.self.invariant (rw c.self.view_is c.requires)).0
+pub numbered-requires : goal.numbered-requires
+numbered-requires c = (lowest_is_first c.self.inside.bits c.self.invariant (rw c.self.view_is c.requires)).0
 
 pub returns : goal.returns
 returns c =

@@ -1,6 +1,6 @@
 use Rattle.std.proofs.Common.{ap, ◌∙◌, sym, ◌==◌}
 use Rattle.std.proofs.lemmas.Nat.Bits.{shr_and_one}
-use Rattle.sift_base.proofs.lemmas.Sets.{holds_low}
+use Rattle.sift_base.specs.laws.Sets.{holds_low}
 use Rattle.sift_base.proofs.unit_set.UnitSet.has.Goals as goal
 
 pub returns : goal.returns

@@ -1,4 +1,4 @@
-use Rattle.sift_base.proofs.lemmas.Sets.{ones_are_members}
+use Rattle.sift_base.specs.laws.Sets.{ones_are_members}
 use Rattle.sift_base.proofs.unit_set.UnitSet.len.Goals as goal
 
 pub returns : goal.returns

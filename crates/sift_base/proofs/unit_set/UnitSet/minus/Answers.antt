@@ -1,4 +1,4 @@
-use Rattle.sift_base.proofs.lemmas.Sets.{difference_bits}
+use Rattle.sift_base.specs.laws.Sets.{difference_bits}
 use Rattle.sift_base.proofs.unit_set.UnitSet.minus.Goals as goal
 
 pub returns : goal.returns

@@ -1,4 +1,4 @@
-use Rattle.sift_base.proofs.lemmas.Sets.{union_bits}
+use Rattle.sift_base.specs.laws.Sets.{union_bits}
 use Rattle.sift_base.proofs.unit_set.UnitSet.union.Goals as goal
 
 pub returns : goal.returns

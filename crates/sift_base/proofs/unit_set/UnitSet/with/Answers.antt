@@ -1,4 +1,4 @@
-use Rattle.sift_base.proofs.lemmas.Sets.{with_bit}
+use Rattle.sift_base.specs.laws.Sets.{with_bit}
 use Rattle.sift_base.proofs.unit_set.UnitSet.with.Goals as goal
 
 pub returns : goal.returns

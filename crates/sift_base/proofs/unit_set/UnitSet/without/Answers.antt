@@ -1,4 +1,4 @@
-use Rattle.sift_base.proofs.lemmas.Sets.{without_bit}
+use Rattle.sift_base.specs.laws.Sets.{without_bit}
 use Rattle.sift_base.proofs.unit_set.UnitSet.without.Goals as goal
 
 pub returns : goal.returns

@@ -1,7 +1,7 @@
 use Rattle.std.proofs.Common.{◌/◌, ◌^◌, ◌-◌, ap, ◌∙◌}
 use Rattle.sift_base.specs.Units.{members}
-use Rattle.sift_base.proofs.lemmas.Sets.{are_units}
-use Rattle.sift_config.proofs.lemmas.Lists.{first_bits, first_are_config}
+use Rattle.sift_base.specs.laws.Sets.{are_units}
+use Rattle.sift_config.specs.laws.Lists.{first_bits, first_are_config}
 use Rattle.sift_config.proofs.config.Config.all.Goals as goal
 
 pub invariant_of-result : goal.invariant_of-result

@@ -1,6 +1,6 @@
 use Rattle.std.proofs.Common.{◌∙◌, ap, sym}
 use Rattle.sift_base.specs.Units.{has}
-use Rattle.sift_config.proofs.lemmas.Lists.{has-members}
+use Rattle.sift_config.specs.laws.Lists.{has-members}
 use Rattle.sift_config.proofs.config.Config.has.Goals as goal
 
 pub returns : goal.returns

@@ -1,9 +1,9 @@
 use Rattle.std.proofs.Common.{◌≡◌, ◌≤◌, ◌-◌, ◌/◌, ◌^◌, ◌∙◌, ap, sym, length, arith}
 use Rattle.std.proofs.lemmas.Bool.{eqb-true}
 use Rattle.sift_base.specs.Units.{members, units_of}
-use Rattle.sift_base.proofs.lemmas.Sets.{len_of_members}
+use Rattle.sift_base.specs.laws.Sets.{len_of_members}
 use Rattle.sift_config.specs.Config.{first_units}
-use Rattle.sift_config.proofs.lemmas.Lists.{first_bits, members_are_few}
+use Rattle.sift_config.specs.laws.Lists.{first_bits, members_are_few}
 use Rattle.sift_config.proofs.config.Config.is_unbroken.Goals as goal
 
 -- there are four to eight

@@ -1,5 +1,5 @@
 use Rattle.std.proofs.Common.{◌∙◌, ap, sym, length}
-use Rattle.sift_base.proofs.lemmas.Sets.{len_of_members}
+use Rattle.sift_base.specs.laws.Sets.{len_of_members}
 use Rattle.sift_config.proofs.config.Config.len.Goals as goal
 
 pub returns-clause-length : goal.returns-clause-length

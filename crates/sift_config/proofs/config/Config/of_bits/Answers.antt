@@ -1,7 +1,7 @@
 use Rattle.std.proofs.Common.{ap, length, arith}
 use Rattle.sift_base.specs.Units.{members, AreUnits}
-use Rattle.sift_base.proofs.lemmas.Sets.{are_units, len_of_members}
-use Rattle.sift_config.proofs.lemmas.Lists.{members_are_config}
+use Rattle.sift_base.specs.laws.Sets.{are_units, len_of_members}
+use Rattle.sift_config.specs.laws.Lists.{members_are_config}
 use Rattle.sift_config.proofs.config.Config.of_bits.Goals as goal
 
 pub returns-clause-none : goal.returns-clause-none

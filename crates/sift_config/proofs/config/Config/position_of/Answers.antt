@@ -1,6 +1,6 @@
 use Rattle.std.proofs.Common.{◌<◌, ◌∙◌, ap, sym, slice_get, arith, length}
 use Rattle.sift_base.specs.Units.{members}
-use Rattle.sift_config.proofs.lemmas.Lists.{next_members, has_front}
+use Rattle.sift_config.specs.laws.Lists.{next_members, has_front}
 use Rattle.sift_config.proofs.config.Config.position_of.Goals as goal
 
 pub loop-position-preserved : goal.loop-position-preserved

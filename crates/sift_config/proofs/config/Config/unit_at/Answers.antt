@@ -1,6 +1,6 @@
 use Rattle.std.proofs.Common.{◌≡◌, ◌<◌, ◌∙◌, ap, sym, length, slice_get, arith, refl}
 use Rattle.sift_base.specs.Units.{members}
-use Rattle.sift_config.proofs.lemmas.Lists.{next_members, get-drop, number_at}
+use Rattle.sift_config.specs.laws.Lists.{next_members, get-drop, number_at}
 use Rattle.sift_config.proofs.config.Config.unit_at.Goals as goal
 
 -- each unit stands at its number

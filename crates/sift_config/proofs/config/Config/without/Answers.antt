@@ -1,8 +1,8 @@
 use Rattle.std.proofs.Common.{◌≡◌, ◌∙◌, ap, length, arith}
 use Rattle.sift_base.specs.Units.{members, AreUnits}
-use Rattle.sift_base.proofs.lemmas.Sets.{len_of_members}
+use Rattle.sift_base.specs.laws.Sets.{len_of_members}
 use Rattle.sift_config.specs.Config.{remaining}
-use Rattle.sift_config.proofs.lemmas.Lists.{members-difference, difference_are_units, remaining_are_config}
+use Rattle.sift_config.specs.laws.Lists.{members-difference, difference_are_units, remaining_are_config}
 use Rattle.sift_config.proofs.config.Config.without.Goals as goal
 
 pub returns-then-len-lt4-clause-none : goal.returns-then-len-lt4-clause-none

@@ -10,18 +10,18 @@ use Rattle.sift_core.proofs.machine.Machine.are_all_done.Goals as goal
 -- a unit that has yet to land
 pub returns-then-number_of-end-clause-open : goal.returns-then-number_of-end-clause-open
 returns-then-number_of-end-clause-open c = λ same done.
-    let low : c.unit_numbered-unit.result < (layout_of c.args.self.now).units =
-    (let units = ap (λ (l : Layout). l.units) c.layout-number-end.ensures in omega (arith, c.unit_numbered-unit.ensures, c.loop-number-test.true)) in
-    let there = unit_there (flown_of c.args.mission.now) c.args.self.now c.unit_numbered-unit.result c.requires.flies low in
-    omega (arith, (done c.unit_numbered-unit.result there).0, c.if-number_of-end.true, c.number_of.ensures, c.requires.end)
+    let low : c.numbered-unit.result < (layout_of c.args.self.now).units =
+    (let units = ap (λ (l : Layout). l.units) c.layout-number-end.ensures in omega (arith, c.numbered-unit.ensures, c.loop-number-test.true)) in
+    let there = unit_there (flown_of c.args.mission.now) c.args.self.now c.numbered-unit.result c.requires.flies low in
+    omega (arith, (done c.numbered-unit.result there).0, c.if-number_of-end.true, c.number_of.ensures, c.requires.end)
 
 -- or that has yet to spend its storm
 pub returns-then-not-is_spent-clause-open : goal.returns-then-not-is_spent-clause-open
 returns-then-not-is_spent-clause-open c = λ same done.
-    let low : c.unit_numbered-unit.result < (layout_of c.args.self.now).units =
-    (let units = ap (λ (l : Layout). l.units) c.layout-number-end.ensures in omega (arith, c.unit_numbered-unit.ensures, c.loop-number-test.true)) in
-    let there = unit_there (flown_of c.args.mission.now) c.args.self.now c.unit_numbered-unit.result c.requires.flies low in
-    eqb-false (slice_index c.args.left.now c.unit_numbered-unit.result) 0 (sym c.if-not-is_spent.ensures) (done c.unit_numbered-unit.result there).1
+    let low : c.numbered-unit.result < (layout_of c.args.self.now).units =
+    (let units = ap (λ (l : Layout). l.units) c.layout-number-end.ensures in omega (arith, c.numbered-unit.ensures, c.loop-number-test.true)) in
+    let there = unit_there (flown_of c.args.mission.now) c.args.self.now c.numbered-unit.result c.requires.flies low in
+    eqb-false (slice_index c.args.left.now c.numbered-unit.result) 0 (sym c.if-not-is_spent.ensures) (done c.numbered-unit.result there).1
 
 -- none is left
 pub returns-clause-done : goal.returns-clause-done

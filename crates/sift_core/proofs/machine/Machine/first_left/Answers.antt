@@ -9,13 +9,13 @@ use Rattle.sift_core.proofs.machine.Machine.first_left.Goals as goal
 
 pub returns-then-not-is_spent-clause-found : goal.returns-then-not-is_spent-clause-found
 returns-then-not-is_spent-clause-found c =
-    let low : c.unit_numbered-unit.result < (layout_of c.args.self.now).units =
-    (let units = ap (λ (l : Layout). l.units) c.layout-number-end.ensures in omega (arith, c.unit_numbered-unit.ensures, c.loop-number-test.true)) in
-    let some : slice_index c.args.left.now c.unit_numbered-unit.result ≢ 0 = eqb-false (slice_index c.args.left.now c.unit_numbered-unit.result) 0 (sym c.if-not-is_spent.ensures) in
+    let low : c.numbered-unit.result < (layout_of c.args.self.now).units =
+    (let units = ap (λ (l : Layout). l.units) c.layout-number-end.ensures in omega (arith, c.numbered-unit.ensures, c.loop-number-test.true)) in
+    let some : slice_index c.args.left.now c.numbered-unit.result ≢ 0 = eqb-false (slice_index c.args.left.now c.numbered-unit.result) 0 (sym c.if-not-is_spent.ensures) in
     record {
-      unit = unit_there (flown_of c.args.mission.now) c.args.self.now c.unit_numbered-unit.result c.requires.flies low;
+      unit = unit_there (flown_of c.args.mission.now) c.args.self.now c.numbered-unit.result c.requires.flies low;
       some = omega arith;
-      lowest = λ p under. c.loop-number.invariant.1 p (omega (arith, c.unit_numbered-unit.ensures, under));
+      lowest = λ p under. c.loop-number.invariant.1 p (omega (arith, c.numbered-unit.ensures, under));
     }
 
 pub returns-clause-none : goal.returns-clause-none

@@ -2,22 +2,22 @@ use Rattle.std.proofs.Common.{◌≡◌, ℕ, ap, subst, arith}
 use Rattle.std.proofs.lemmas.Grind.{common_steps}
 use Rattle.sift_mission.specs.Parts.{flown_of}
 use Rattle.sift_core.specs.Machines.{AreNewBoards}
-use Rattle.sift_config.proofs.lemmas.FirstUnits.{low_unit}
+use Rattle.sift_config.specs.laws.FirstUnits.{low_unit}
 use Rattle.sift_core.proofs.NewMachines.{boards_push}
 use Rattle.sift_core.proofs.machine.Machine.make_boards.Goals as goal
 
 pub make-requires : goal.make-requires
 make-requires c =
     let units : c.parts.result.now.units ≡ c.args.mission.now.units = ap (λ parts. parts.units) c.parts.ensures.same in
-    let t = c.loop-number-test.true in let here = c.unit_numbered-unit.ensures in
-    low_unit c.args.mission.now.units c.unit_numbered-unit.result (omega arith)
+    let t = c.loop-number-test.true in let here = c.numbered-unit.ensures in
+    low_unit c.args.mission.now.units c.numbered-unit.result (omega arith)
 
 pub loop-number-preserved : goal.loop-number-preserved
 loop-number-preserved c = let inv = c.loop-number.invariant in record {
   within = (let t = c.loop-number-test.true in omega arith);
   room = (let r = inv.room in let k = c.push_reserved.ensures.capacity in omega arith);
-  boards = rw c.push_reserved.ensures.items (boards_push (flown_of c.args.mission.now) c.loop-number.number c.unit_numbered-unit.result
-      c.loop-number.boards.items _ inv.boards c.unit_numbered-unit.ensures c.in_ok-make.ensures);
+  boards = rw c.push_reserved.ensures.items (boards_push (flown_of c.args.mission.now) c.loop-number.number c.numbered-unit.result
+      c.loop-number.boards.items _ inv.boards c.numbered-unit.ensures c.in_ok-make.ensures);
 }
 
 pub returns : goal.returns

@@ -1,7 +1,7 @@
 use Rattle.std.proofs.Common.{◌≡◌, ap, ◌∙◌}
 use Rattle.std.proofs.lemmas.Result.{IfOk-weaker}
 use Rattle.sift_base.specs.Draw.{after, draw_at}
-use Rattle.sift_base.proofs.lemmas.Draws.{after-after}
+use Rattle.sift_base.specs.laws.Draws.{after-after}
 use Rattle.sift_gen.proofs.Drawing.{draw-after}
 use Rattle.sift_gen.proofs.task.Pattern.text.Goals as goal
 

@@ -6,8 +6,8 @@ use Rattle.sift_lang.specs.declared.tree.Stmt.{the_lemmas}
 use Rattle.sift_lang.specs.Tree.{statement_of, block_of}
 use Rattle.sift_lang.specs.Meaning.{State, after_all, scoped}
 use Rattle.sift_lang.specs.Held.{readings_of, state_of}
-use Rattle.sift_lang.proofs.lemmas.States.{adds-more}
-use Rattle.sift_lang.proofs.lemmas.Rounds.{iterate-less, block_of-drop, refill-set, IsSoundBlock-rest}
+use Rattle.sift_lang.specs.laws.States.{adds-more}
+use Rattle.sift_lang.specs.laws.Rounds.{iterate-less, block_of-drop, refill-set, IsSoundBlock-rest}
 use Rattle.sift_lang.proofs.evaluator.State.+run.Goals as goal
 
 pub run-loop-round-preserved : goal.run-loop-round-preserved

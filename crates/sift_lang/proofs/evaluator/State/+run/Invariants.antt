@@ -5,7 +5,7 @@ use Rattle.sift_lang.specs.Tree.{block_of}
 use Rattle.sift_lang.specs.Meaning.{after_all, scoped}
 use Rattle.sift_lang.specs.Sound.{IsSoundBlock, NowsBelow, EachTerm}
 use Rattle.sift_lang.specs.Held.{readings_of, state_of, bounds_of}
-use Rattle.sift_lang.proofs.lemmas.States.{HasSizes, OnlyAddsLocals}
+use Rattle.sift_lang.specs.laws.States.{HasSizes, OnlyAddsLocals}
 use Rattle.sift_lang.proofs.evaluator.State.+run.Given as goal
 
 -- the rounds that are left lead where all of them lead from the start

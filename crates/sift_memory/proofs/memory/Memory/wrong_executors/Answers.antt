@@ -2,8 +2,8 @@ use Rattle.std.proofs.Common.{◌≡◌, ℕ, ◌&&◌, take, nat_cmp, ap, ◌�
 use Rattle.std.specs.FinSet as set
 use Rattle.sift_base.specs.Units.{holds, has}
 use Rattle.sift_vote.specs.Majority.{differs}
-use Rattle.sift_config.proofs.lemmas.Lists.{has_front, get-drop}
-use Rattle.sift_config.proofs.lemmas.Joining.{passing_joins, failing_stays}
+use Rattle.sift_config.specs.laws.Lists.{has_front, get-drop}
+use Rattle.sift_config.specs.laws.Joining.{passing_joins, failing_stays}
 use Rattle.sift_memory.specs.Memory.{polled_at}
 use Rattle.sift_memory.specs.Memories.{memory_of}
 use Rattle.sift_memory.proofs.memory.Memory.wrong_executors.Goals as goal

@@ -1,0 +1,58 @@
+-- Lists of units: who is in them, and how many of them pass a test.
+use Rattle.std.proofs.Common.{◌≡◌, ◌≢◌, ℕ, suc, ◌+◌, ◌<◌, ◌≤◌, inl, inr, List, [], ◌∷◌, length, Bool, true, false, not, cond, nat_eq, ap, ◌∙◌, arith, refl}
+use Rattle.std.specs.Prelude.{count_by}
+use Rattle.std.specs.List.{AllByRecursion}
+use Rattle.std.proofs.lemmas.Bool.{cases_Bool, eqb-false, eq-eqb}
+use Rattle.std.proofs.lemmas.Bool.Decides.{nat_tests}
+use Rattle.std.proofs.lemmas.List.Sums.{sum_by-cons}
+use Rattle.sift_base.specs.Units.{has, others, faulty_count}
+
+-- u is below each unit of the list
+abbrev pub IsBelowAll : ℕ → List ℕ → Type 0
+IsBelowAll u us = AllByRecursion (λ v. u < v) us
+
+-- ---- counts
+
+-- one element more
+pub count-cons : {X : Type 0} (p : X → Bool) (x : X) (xs : List X) → count_by p (x ∷ xs) ≡ cond (p x) 1 0 + count_by p xs
+count-cons p x xs = sum_by-cons (λ y. cond (p y) 1 0) x xs
+
+-- one element more that passes
+pub count-yes : {X : Type 0} (p : X → Bool) (x : X) (xs : List X) → p x ≡ true → count_by p (x ∷ xs) ≡ suc (count_by p xs)
+count-yes p x xs passes = count-cons p x xs ∙ rw passes (omega arith)
+
+-- one element more that doesn't pass
+pub count-no : {X : Type 0} (p : X → Bool) (x : X) (xs : List X) → p x ≡ false → count_by p (x ∷ xs) ≡ count_by p xs
+count-no p x xs fails = count-cons p x xs ∙ rw fails (omega arith)
+
+-- each unit works or is faulty
+pub both_counts : (works : ℕ → Bool) (us : List ℕ) → faulty_count works us + count_by works us ≡ length us
+both_counts works [] = omega arith
+both_counts works (u ∷ us) =
+    let rest = both_counts works us in
+    elim (cases_Bool (works u)) [
+      | inl t ↦ rw (count-yes works u us t, count-no (λ v. not (works v)) u us (ap not t)) (omega arith)
+      | inr f ↦ rw (count-no works u us f, count-yes (λ v. not (works v)) u us (ap not f)) (omega arith)
+    ]
+
+-- ---- members
+
+-- the first of a list is in it
+pub has-head : (u : ℕ) (us : List ℕ) → has (u ∷ us) u ≡ true
+has-head u us = rw (eq-eqb u u refl)
+
+-- so is one that follows
+pub has-tail : (u : ℕ) (us : List ℕ) (v : ℕ) → has us v ≡ true → has (u ∷ us) v ≡ true
+has-tail u us v in_us = elim (cases_Bool (nat_eq u v)) [ inl t ↦ rw t | inr f ↦ rw f in_us ]
+
+-- a list with a unit isn't empty
+pub length-has : (u : ℕ) (us : List ℕ) → has us u ≡ true → 0 < length us
+length-has u [] in_us = absurd cc
+length-has u (v ∷ us) in_us = omega arith
+
+-- the others of a list are no more than all
+pub length-others-≤ : (u : ℕ) (us : List ℕ) → length (others u us) ≤ length us
+length-others-≤ u [] = omega arith
+length-others-≤ u (v ∷ us) =
+    let rest = length-others-≤ u us in
+    elim (cases_Bool (nat_eq v u)) [ inl t ↦ rw t (omega arith) | inr f ↦ rw f (omega arith) ]

@@ -1,4 +1,0 @@
--- What the proofs of crates above may cite.
-pub mod FirstUnits
-pub mod Joining
-pub mod Lists

@@ -1,9 +1,0 @@
--- What the proofs of crates above may cite.
-pub mod DocumentLemmas
-pub mod EntryTests
-pub mod Numbers
-pub mod OneBroken
-pub mod Order
-pub mod Places
-pub mod ReadEntries
-pub mod Testing

@@ -1,4 +1,0 @@
-pub mod Offsets
-pub mod Sets
-pub mod Tasks
-pub mod Tests

@@ -1,0 +1,5 @@
+-- What follows from the definitions, with its proofs: what the proofs of crates above may cite.
+pub mod ByWords
+pub mod Configs
+pub mod Numbers
+pub mod Silent

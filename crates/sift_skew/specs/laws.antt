@@ -1,0 +1,4 @@
+-- What follows from the definitions, with its proofs: what the proofs of crates above may cite.
+pub mod Extremes
+pub mod Leads
+pub mod Readings
