@@ -9,4 +9,4 @@ numbered-requires c = (lowest_is_first c.self.inside.bits c.self.invariant (rw c
 pub returns : goal.returns
 returns c =
     let first = lowest_is_first c.self.inside.bits c.self.invariant (rw c.self.view_is c.requires) in
-    ap (λ units. slice_get (members units) 0) (sym c.self.view_is) ∙ first.1 ∙ ap (λ t. Some t) (sym c.low.ensures)
+    ap (λ units. slice_get (members units) 0) (sym c.self.view_is) ∙ first.1 ∙ ap (λ t. Some t) (sym c.numbered.ensures)
