@@ -1,8 +1,8 @@
 -- What a log tells, word by word.
 use Rattle.std.proofs.Common.{◌≡◌, inl, inr, ℕ, zero, suc, ◌+◌, ◌<◌, ◌==◌, ◌&&◌, Bool, true, false, not, List, [], ◌∷◌, Option, Some, None, if◌then◌else◌, refl, sym, ap, ◌∙◌, subst, arith, lt-ltb, ne_eqb, eq-eqb}
+use Rattle.std.proofs.lemmas.Option.{same_Some}
 use Rattle.sift_buffer.specs.Conduct.{Hearing, put_at}
 use Rattle.sift_buffer.specs.Ranges.{Ranges}
-use Rattle.sift_buffer.proofs.lemmas.Puts.{some_same}
 use Rattle.sift_bus_port.specs.Buses.{Carriage, is_same}
 use Rattle.sift_bus_port.specs.Links.{Link, CarriesAll, IsBlank, HasHeardNothing, gets_wrong}
 use Rattle.sift_bus_port.specs.Logs.{Log, log_with, has_entry, count_below, count_places}
@@ -114,7 +114,7 @@ module _ (words : List Carriage) (heard : ℕ → ℕ → ℕ → Option Hearing
   -- the test of one place tells that the word is that of the hearing
   at_place : (f k p : ℕ) (a : Hearing) → is_place c.frame c.slot c.from f k p ≡ true → Some act ≡ Some a → IsOfHearing c f k p a
   at_place f k p a is same = let at : (f ≡ c.frame) × ((k ≡ c.slot) × (p ≡ c.from)) = grind arith in
-      record { frame = sym at.0; slot = sym at.1.0; from = sym at.1.1; word = sym word ∙ ap (λ (h : Hearing). h.word) (some_same same) }
+      record { frame = sym at.0; slot = sym at.1.0; from = sym at.1.1; word = sym word ∙ ap (λ (h : Hearing). h.word) (same_Some _ _ same) }
 
   carried_inside : (f k p : ℕ) (a : Hearing) (at : Bool) → is_place c.frame c.slot c.from f k p ≡ at → (if at then Some act else heard f k p) ≡ Some a →
       has_entry l.ranges f k p ≡ true → CarriedOf (c ∷ words) f k p a (if at then c.carried else l.carried f k p)

@@ -16,7 +16,7 @@ use Rattle.sift_conduct.specs.Conduct.{input_of, polled, poll_catches, relay_cat
 use Rattle.sift_flight.specs.Calm.{Calm, four_units, mission_of}
 use Rattle.sift_flight.specs.CalmFlight.{word_in}
 use Rattle.sift_flight.proofs.Calls.{Call, call_of, call_is, and_both, told_apart}
-use Rattle.sift_flight.proofs.lemmas.Configs.{reader_in}
+use Rattle.sift_flight.proofs.Configs.{reader_in}
 use Rattle.sift_exec.specs.laws.Everyone.{holds-everyone}
 use Rattle.sift_flight.proofs.CalmBoards.{heard_by, frame_in}
 

@@ -9,6 +9,7 @@ pub mod CalmCount
 pub mod CalmFits
 pub mod CalmGauge
 pub mod CalmStages
+pub mod Configs
 pub mod CountProgram
 pub mod FrameActs
 pub mod GaugeProgram
@@ -30,8 +31,8 @@ pub mod Same
 pub mod SameFrame
 pub mod SameWords
 pub mod Telling
+pub mod TellingAlike
 pub mod Timing
 pub mod Unique
 pub mod Voting
 pub mod Working
-pub mod lemmas

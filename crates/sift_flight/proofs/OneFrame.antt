@@ -12,7 +12,7 @@ use Rattle.sift_flight.specs.Flight.{Flight, Strays}
 use Rattle.sift_flight.specs.Figures.{Works, lead_of, config_at}
 use Rattle.sift_mission.specs.Premises.{RunsProgram}
 use Rattle.sift_flight.specs.Headline.{agreed_at, shed_at, Headline}
-use Rattle.sift_flight.proofs.lemmas.Configs.{reader_in}
+use Rattle.sift_flight.proofs.Configs.{reader_in}
 use Rattle.sift_flight.proofs.Ideal.{IsStep, ideal_step}
 use Rattle.sift_flight.proofs.Working.{InFrame, Member, works_in, member_of, busy_here, conduct_here}
 use Rattle.sift_flight.proofs.Agreeing.{sensor_own, sensor_same, report_own, report_same}

@@ -20,7 +20,7 @@ use Rattle.sift_flight.specs.Flight.{Flight, unit_of, Strays, IsRound}
 use Rattle.sift_flight.specs.Told.{AreAccountsOf, IsAccountOf, told}
 use Rattle.sift_flight.specs.Whole.{RoundFlightsAreWhole, RoundFlightsHaveAccounts}
 use Rattle.sift_flight.proofs.Blaming.{caught_inside, nobody_caught}
-use Rattle.sift_flight.proofs.lemmas.Configs.{next_inside}
+use Rattle.sift_flight.proofs.Configs.{next_inside}
 
 -- a test isn't passed and failed
 never_both : (b : Bool) → b ≡ true → b ≡ false → ⊥

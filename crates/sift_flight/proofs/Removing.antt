@@ -7,13 +7,13 @@ use Rattle.sift_base.specs.Units.{has, others, has_bit}
 use Rattle.sift_base.specs.Layout.{least_units}
 use Rattle.sift_base.specs.laws.Others.{has-others}
 use Rattle.sift_base.specs.laws.Sets.{filter_same, passing_ascend}
+use Rattle.sift_base.specs.laws.Counts.{filter_has, has_filter}
 use Rattle.sift_exec.specs.Conviction.{everyone_in, is_convicted, kept_by, next_by, IsJust, working_accusers}
 use Rattle.sift_exec.proofs.lemmas.Justice.{conviction_holds, count_of_same}
 use Rattle.sift_mission.specs.Data.{FlownMission, IsConfigOf}
 use Rattle.sift_conduct.specs.Conduct.{caught}
 use Rattle.sift_flight.specs.Flight.{Flight, Strays}
 use Rattle.sift_flight.proofs.Bits.{has_bit-bits_of}
-use Rattle.sift_flight.proofs.lemmas.Configs.{filter_has, has_filter}
 use Rattle.sift_flight.proofs.Working.{InFrame, Member, conduct_here}
 use Rattle.sift_flight.proofs.Agreeing.{report, report_own, report_same}
 

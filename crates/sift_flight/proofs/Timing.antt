@@ -5,6 +5,7 @@ use Rattle.std.specs.List.{filter}
 use Rattle.std.proofs.lemmas.Int.{ints}
 use Rattle.sift_base.specs.Units.{has}
 use Rattle.sift_base.specs.declared.slot.Slot.TheVariants.{Clock}
+use Rattle.sift_base.specs.laws.Counts.{filter_has}
 use Rattle.sift_clock.specs.Distance.{IsWithin}
 use Rattle.sift_clock.specs.Correction.{is_too_far}
 use Rattle.sift_skew.specs.Keeping.{AreTogether, ReadsWell, AreWithin, next_offsets}
@@ -17,7 +18,6 @@ use Rattle.sift_mission.specs.Data.{FlownMission}
 use Rattle.sift_conduct.specs.Conduct.{reading_by}
 use Rattle.sift_flight.specs.Flight.{Flight, Strays}
 use Rattle.sift_flight.specs.Headline.{HasLead}
-use Rattle.sift_flight.proofs.lemmas.Configs.{filter_has}
 use Rattle.sift_flight.proofs.Working.{InFrame, Member, by_config, conduct_here, hears, clock_call}
 
 -- what is too far is not within the limit

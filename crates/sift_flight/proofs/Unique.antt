@@ -10,7 +10,7 @@ use Rattle.sift_mission.specs.Fits.{Fits}
 use Rattle.sift_flight.specs.Flight.{Flight, unit_of, config_of, Strays, IsRound, HasNoStorms, AtMostOneIsRound}
 use Rattle.sift_flight.specs.Existence.{StrayHearing, HearsStrays, AtMostOneHearsThem}
 use Rattle.sift_flight.proofs.Calls.{call_of}
-use Rattle.sift_flight.proofs.lemmas.Configs.{next_inside}
+use Rattle.sift_flight.proofs.Configs.{next_inside}
 use Rattle.sift_flight.proofs.Reaching.{still_before}
 use Rattle.sift_flight.proofs.Same.{AreBothRound}
 use Rattle.sift_flight.proofs.SameWords.{all_outs}

@@ -8,7 +8,7 @@ use Rattle.std.proofs.lemmas.List.{length-map}
 use Rattle.std.proofs.lemmas.Grind.{same_number_lists}
 use Rattle.sift_base.specs.Units.{has}
 use Rattle.sift_base.specs.declared.slot.Slot.TheVariants.{Out}
-use Rattle.sift_base.specs.laws.Counts.{count-cons}
+use Rattle.sift_base.specs.laws.Counts.{count-cons, filter_has, has_filter}
 use Rattle.sift_vote.specs.Majority.{IsMajority, differs}
 use Rattle.sift_vote.specs.laws.Found.{majority_is_found}
 use Rattle.sift_agree.specs.laws.Taking.{votes-working}
@@ -19,7 +19,6 @@ use Rattle.sift_conduct.specs.Conduct.{UnitFrame, made, polled, poll_catches}
 use Rattle.sift_conduct.specs.Frames.{last_of}
 use Rattle.sift_flight.specs.Flight.{Flight, Strays}
 use Rattle.sift_flight.proofs.Calls.{and_both}
-use Rattle.sift_flight.proofs.lemmas.Configs.{filter_has, has_filter}
 use Rattle.sift_flight.proofs.Ideal.{IsStep}
 use Rattle.sift_flight.proofs.Working.{InFrame, Member, by_config, conduct_here, hears, out_call}
 

@@ -4,6 +4,7 @@ use Rattle.std.specs.Prelude.{IsSomeAnd, pos, ◌≤ℤ◌}
 use Rattle.std.specs.List.{filter}
 use Rattle.std.proofs.lemmas.Bool.{cases_Bool}
 use Rattle.sift_base.specs.Units.{has, holds}
+use Rattle.sift_base.specs.laws.Counts.{filter_has, has_filter}
 use Rattle.sift_exec.specs.Conviction.{everyone_in}
 use Rattle.sift_conduct.specs.Conduct.{caught}
 use Rattle.sift_mission.specs.Data.{MissionData}
@@ -11,7 +12,6 @@ use Rattle.sift_mission.specs.Flown.{flown}
 use Rattle.sift_flight.specs.Figures.{HasMarginAt, Works, config_at, lead_of, next_offsets_at, offsets_at, working_at, skew_of, slack_of}
 use Rattle.sift_flight.specs.Flight.{Flight}
 use Rattle.sift_flight.specs.Headline.{Headline, agreed_at, two_caught}
-use Rattle.sift_flight.proofs.lemmas.Configs.{filter_has, has_filter}
 use Rattle.sift_flight.specs.laws.Leading.{config_within, lead_works}
 use Rattle.sift_report.specs.Headline.{TellsClockSkew, TellsExactRemoval, TellsNoFalseAccusation, TellsSameInputs}
 use Rattle.sift_report.specs.Sheet.{sheet_of}

@@ -5,10 +5,10 @@ use Rattle.std.proofs.lemmas.Bool.{cases_Bool, and_parts, leb-true}
 use Rattle.sift_base.specs.Units.{has}
 use Rattle.sift_base.specs.declared.slot.Slot.{Slot}
 use Rattle.sift_base.specs.laws.Sets.{passing_ascend}
+use Rattle.sift_base.specs.laws.Counts.{filter_has}
 use Rattle.sift_exec.specs.Conviction.{is_convicted, kept_by, next_by}
 use Rattle.sift_mission.specs.Data.{FlownMission, IsConfigOf}
 use Rattle.sift_mission.specs.Slots.{is_slot, calls, is_senders}
-use Rattle.sift_memory.specs.laws.Sets.{filter_has}
 use Rattle.sift_unit.proofs.Tests.{both}
 
 -- what a call tells, part by part
@@ -40,7 +40,7 @@ next_is_config m names us config = elim (cases_Bool (nat_le 4 (length (kept_by n
   | inl t ↦ rw t (record {
     enough = leb-true 4 (length (kept_by names us)) t;
     ascending = passing_ascend (λ v. not (is_convicted names us v)) us config.ascending;
-    inside = λ u there. config.inside u (filter_has (λ v. not (is_convicted names us v)) us u there).0;
+    inside = λ u there. config.inside u (filter_has (λ v. not (is_convicted names us v)) us u there).1;
   })
   | inr t ↦ rw t config
 ]

@@ -1,11 +1,11 @@
 -- Lists of units: who is in them, and how many of them pass a test.
-use Rattle.std.proofs.Common.{◌≡◌, ◌≢◌, ℕ, suc, ◌+◌, ◌<◌, ◌≤◌, inl, inr, List, [], ◌∷◌, length, Bool, true, false, not, cond, nat_eq, ap, ◌∙◌, arith, refl}
+use Rattle.std.proofs.Common.{◌≡◌, ℕ, zero, suc, ◌+◌, ◌<◌, ◌≤◌, inl, inr, List, [], ◌∷◌, length, map, slice_index, Bool, true, false, not, cond, nat_eq, refl, sym, ap, ◌∙◌, arith}
 use Rattle.std.specs.Prelude.{count_by}
-use Rattle.std.specs.List.{AllByRecursion}
-use Rattle.std.proofs.lemmas.Bool.{cases_Bool, eqb-false, eq-eqb}
-use Rattle.std.proofs.lemmas.Bool.Decides.{nat_tests}
+use Rattle.std.specs.List.{AllByRecursion, filter}
+use Rattle.std.proofs.lemmas.Bool.{and_parts, cases_Bool, eq-eqb}
 use Rattle.std.proofs.lemmas.List.Sums.{sum_by-cons}
 use Rattle.sift_base.specs.Units.{has, others, faulty_count}
+use Rattle.sift_base.specs.laws.ReadBack.{has-filter}
 
 -- u is below each unit of the list
 abbrev pub IsBelowAll : ℕ → List ℕ → Type 0
@@ -44,6 +44,25 @@ has-head u us = rw (eq-eqb u u refl)
 -- so is one that follows
 pub has-tail : (u : ℕ) (us : List ℕ) (v : ℕ) → has us v ≡ true → has (u ∷ us) v ≡ true
 has-tail u us v in_us = elim (cases_Bool (nat_eq u v)) [ inl t ↦ rw t | inr f ↦ rw f in_us ]
+
+-- what stands at a place of a list is in it
+pub has_index : (us : List ℕ) (i : ℕ) → i < length us → has us (slice_index us i) ≡ true
+has_index [] i low = absurd (omega arith)
+has_index (u ∷ us) zero low = has-head u us
+has_index (u ∷ us) (suc i) low = has-tail u us (slice_index us i) (has_index us i (omega arith))
+
+-- what passes a test in a list is in the list, and passes
+pub filter_has : (p : ℕ → Bool) (us : List ℕ) (v : ℕ) → has (filter p us) v ≡ true → (p v ≡ true) × (has us v ≡ true)
+filter_has p us v there = and_parts (p v) (has us v) (sym (has-filter p us v) ∙ there)
+
+-- and the other way round
+pub has_filter : (p : ℕ → Bool) (us : List ℕ) (v : ℕ) → has us v ≡ true → p v ≡ true → has (filter p us) v ≡ true
+has_filter p us v there passes = has-filter p us v ∙ rw (passes, there) refl
+
+-- values that are the same at each unit of a list
+pub map-same : {A : Type 0} (f g : ℕ → A) (us : List ℕ) → ((u : ℕ) → has us u ≡ true → f u ≡ g u) → map f us ≡ map g us
+map-same f g [] same = refl
+map-same f g (u ∷ us) same = rw (same u (has-head u us), map-same f g us (λ v there. same v (has-tail u us v there))) refl
 
 -- a list with a unit isn't empty
 pub length-has : (u : ℕ) (us : List ℕ) → has us u ≡ true → 0 < length us

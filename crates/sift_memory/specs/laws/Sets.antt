@@ -1,9 +1,8 @@
 -- Units that pass a test: as a set, as a list, and place by place.
-use Rattle.std.proofs.Common.{◌≡◌, ℕ, zero, suc, ◌+◌, ◌<◌, List, [], ◌∷◌, length, map, Bool, true, false, not, ◌&&◌, cond, nat_lt, refl, sym, ap, ◌∙◌, subst, arith}
+use Rattle.std.proofs.Common.{◌≡◌, ℕ, zero, suc, ◌+◌, ◌<◌, List, [], ◌∷◌, length, Bool, true, false, not, ◌&&◌, cond, nat_lt, refl, sym, ap, ◌∙◌, subst, arith}
 use Rattle.std.specs.Prelude.{slice_index_or, count_by, nat_le, if◌then◌else◌}
 use Rattle.std.specs.List.{filter}
 use Rattle.std.specs.FinSet as set
-use Rattle.std.proofs.lemmas.Bool.{and_parts}
 use Rattle.sift_base.specs.Units.{has, others, holds}
 use Rattle.sift_base.specs.laws.ReadBack.{has-filter}
 use Rattle.sift_base.specs.laws.Counts.{has-head, has-tail, count-cons}
@@ -22,15 +21,6 @@ swapped false false = refl
 pub holds-gathered : (test : ℕ → Bool) (us : List ℕ) (v : ℕ) → holds (gathered test us) v ≡ (has us v && test v)
 unfolding gathered
 holds-gathered test us v = set.contains-from_list_nat (filter test us) v ∙ (has-filter test us v ∙ swapped (test v) (has us v))
-
--- a unit of a filtered list is one of the list, and passes
-pub filter_has : (p : ℕ → Bool) (us : List ℕ) (v : ℕ) → has (filter p us) v ≡ true → (has us v ≡ true) × (p v ≡ true)
-filter_has p us v there = let parts = and_parts (p v) (has us v) (sym (has-filter p us v) ∙ there) in (parts.1, parts.0)
-
--- values that are the same at each unit of a list
-pub map-same : {A : Type 0} (g g' : ℕ → A) (us : List ℕ) → ((v : ℕ) → has us v ≡ true → g v ≡ g' v) → map g us ≡ map g' us
-map-same g g' [] same = refl
-map-same g g' (u ∷ us) same = rw (same u (has-head u us), map-same g g' us (λ v h. same v (has-tail u us v h))) refl
 
 -- ---- the next configuration
 

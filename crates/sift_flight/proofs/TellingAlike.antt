@@ -1,25 +1,18 @@
 -- Two round flights of a mission tell the same of each frame.
-use Rattle.std.proofs.Common.{◌≡◌, ℕ, zero, suc, ◌-◌, ◌<◌, ◌≤◌, List, [], ◌∷◌, map, ℤ, true, false, ◌&&◌, nat_lt, refl, sym, ap, ◌∙◌, subst, arith, inl, inr}
+use Rattle.std.proofs.Common.{◌≡◌, ℕ, zero, suc, ◌-◌, ◌<◌, ◌≤◌, map, ℤ, true, false, ◌&&◌, nat_lt, refl, sym, ap, ◌∙◌, subst, arith, inl, inr}
 use Rattle.std.specs.List.{filter}
 use Rattle.std.proofs.lemmas.Bool.{cases_Bool}
 use Rattle.std.proofs.lemmas.Bool.Decides.{nat_tests}
 use Rattle.sift_base.specs.Units.{has}
-use Rattle.sift_base.specs.laws.Counts.{has-head, has-tail}
+use Rattle.sift_base.specs.laws.Counts.{filter_has, map-same}
 use Rattle.sift_conduct.specs.Conduct.{Account}
 use Rattle.sift_mission.specs.Data.{FlownMission}
 use Rattle.sift_mission.specs.Premises.{IsFlyable}
 use Rattle.sift_flight.specs.Alike.{AreSameFrame, RoundFlightsAreAlike}
 use Rattle.sift_flight.specs.Flight.{Flight, Strays, AreSameAt, HasNoStorms, IsRound}
 use Rattle.sift_flight.specs.Figures.{config_at, lead_of, working_at, offsets_at, next_offsets_at, is_sound_at, margin_before, skew_of, slack_of}
-use Rattle.sift_flight.proofs.lemmas.Configs.{filter_has}
 use Rattle.sift_flight.specs.laws.Leading.{lead_works, config_within}
 use Rattle.sift_flight.proofs.Unique.{at_most_one_flight_is_round, flies_always, inside as units_inside}
-
--- what is the same at each unit of a list is the same of the list
-pub map-same : {A : Type 0} (f g : ℕ → A) (us : List ℕ) → ((u : ℕ) → has us u ≡ true → f u ≡ g u) → map f us ≡ map g us
-map-same f g [] same = refl
-map-same f g (u ∷ us) same =
-    ap (λ x. x ∷ map f us) (same u (has-head u us)) ∙ ap (λ xs. g u ∷ xs) (map-same f g us (λ v h. same v (has-tail u us v h)))
 
 module _ (m : FlownMission) (s s' : Strays) (fl gl : Flight) (flyable : IsFlyable m) (calm : HasNoStorms m) (some : 0 < m.frames)
     (R : IsRound m s fl) (S : IsRound m s' gl) where
