@@ -7,7 +7,7 @@ use Rattle.sift_buffer.specs.Cell.{packed, taken}
 use Rattle.sift_buffer.specs.Conduct.{Saying, Stray, Conduct, never, saying, stray_to}
 use Rattle.sift_buffer.specs.Lawful.{HasStage, silent, last, HasStamps, IsFromSayings, IsFromStrays, nothing, said, strayed}
 use Rattle.sift_buffer.proofs.Cells.{taken_same, taken_other, taken_zero}
-use Rattle.sift_buffer.proofs.lemmas.Puts.{some_same, none_some}
+use Rattle.sift_buffer.proofs.Puts.{some_same, none_some}
 use Rattle.sift_buffer.proofs.Sound.{CellIs, HeardIs, from_sayings, flies_or_turned}
 
 module _ (c d : Conduct) (same : d.said ≡ c.said) where

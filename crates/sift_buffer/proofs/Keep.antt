@@ -9,7 +9,7 @@ use Rattle.sift_buffer.specs.Conduct.{Saying, Conduct, put, never, hearing, stra
 use Rattle.sift_buffer.specs.Core.{Core}
 use Rattle.sift_buffer.specs.Lawful.{HasStage, IsLastSaid, silent, last, HasStamps}
 use Rattle.sift_buffer.proofs.Places.{place_apart, place_low, place_high}
-use Rattle.sift_buffer.proofs.lemmas.Puts.{put_else, put_cases}
+use Rattle.sift_buffer.proofs.Puts.{put_else, put_cases}
 use Rattle.sift_buffer.proofs.Sound.{CellIs, GateIs, HeardIs, Sound}
 
 -- the shared words show this number of each unit

@@ -9,6 +9,7 @@ pub mod NewLedgers
 pub mod NewRacks
 pub mod Notes
 pub mod Places
+pub mod Puts
 pub mod RackEvents
 pub mod Rounds
 pub mod Samples

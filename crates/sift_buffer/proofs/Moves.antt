@@ -5,7 +5,7 @@ use Rattle.sift_buffer.specs.Cell.{taken}
 use Rattle.sift_buffer.specs.Ranges.{Ranges, place}
 use Rattle.sift_buffer.specs.Conduct.{Hearing, Conduct, never, last_progress, hearing, with_seen, with_heard, with_entered, with_turned}
 use Rattle.sift_buffer.specs.Core.{Core, look, hear, enter, turn, after, Allowed}
-use Rattle.sift_buffer.proofs.lemmas.Puts.{some_same, put_cases, put_at_cases}
+use Rattle.sift_buffer.proofs.Puts.{some_same, put_cases, put_at_cases}
 use Rattle.sift_buffer.proofs.Sound.{GateIs, HeardIs, Sound, flies_low, from_sayings}
 use Rattle.sift_buffer.proofs.Keep.{keep, same_shows, number_shows, same_holds, number_holds}
 use Rattle.sift_buffer.proofs.Heard.{sayings_same, strays_same, heard_same, load_is}

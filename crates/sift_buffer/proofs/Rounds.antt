@@ -6,7 +6,7 @@ use Rattle.sift_buffer.specs.Ranges.{Ranges}
 use Rattle.sift_buffer.specs.Conduct.{Conduct, with_seen}
 use Rattle.sift_buffer.specs.Conditions.{PassesGate}
 use Rattle.sift_buffer.specs.Views.{View, view_with_look, view_with_looks, AreReached, LooksRound, FindsBehind, KeepsOwn, FindsNone, IsOther}
-use Rattle.sift_buffer.proofs.lemmas.Puts.{put_here, put_cases}
+use Rattle.sift_buffer.proofs.Puts.{put_here, put_cases}
 
 -- the own unit is passed over
 pub round_skip : (v v' : View) (k : ℕ) → LooksRound v k v' → k ≡ v.unit → LooksRound v (k + 1) v'

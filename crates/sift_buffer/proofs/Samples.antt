@@ -5,7 +5,7 @@ use Rattle.sift_buffer.specs.Conduct.{put}
 use Rattle.sift_buffer.specs.Core.{AllAllowed}
 use Rattle.sift_buffer.specs.Lawful.{IsLastSaid, silent, last}
 use Rattle.sift_buffer.specs.Samples.{pair, idle, story, ConditionsTellApart}
-use Rattle.sift_buffer.proofs.lemmas.Puts.{none_some, put_cases}
+use Rattle.sift_buffer.proofs.Puts.{none_some, put_cases}
 use Rattle.sift_buffer.proofs.Events.{fresh_lawful, events_keep}
 
 -- a unit that has said nothing has no cell with 7

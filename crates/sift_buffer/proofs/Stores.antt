@@ -7,7 +7,7 @@ use Rattle.sift_buffer.specs.Conduct.{Saying, Stray, Conduct, saying, with_said,
 use Rattle.sift_buffer.specs.Conditions.{MaySay}
 use Rattle.sift_buffer.specs.Core.{Core, say, stray, after, Allowed}
 use Rattle.sift_buffer.specs.Lawful.{IsLastSaid, silent, last, HasStamps, IsFromSayings, IsFromStrays, nothing, said, strayed}
-use Rattle.sift_buffer.proofs.lemmas.Puts.{IsAt, some_same, moved, put_at_here, put_at_cases, put_at_keeps}
+use Rattle.sift_buffer.proofs.Puts.{IsAt, some_same, moved, put_at_here, put_at_cases, put_at_keeps}
 use Rattle.sift_buffer.proofs.Sound.{CellIs, HeardIs, Sound, flies_low}
 use Rattle.sift_buffer.proofs.Keep.{keep, cell_shows, cell_holds, cell_covered}
 use Rattle.sift_buffer.proofs.Heard.{heard_same}

@@ -1,4 +1,3 @@
 -- What the proofs of crates above may cite.
-pub mod Puts
 pub mod StoredStrays
 pub mod Tables

@@ -7,7 +7,7 @@ use Rattle.sift_buffer.specs.Ranges.{Ranges}
 use Rattle.sift_buffer.specs.Conduct.{put_at}
 use Rattle.sift_buffer.specs.Tables.{IsEntry, entry_number, entry_count, entry_at}
 use Rattle.sift_buffer.proofs.Places.{split_row}
-use Rattle.sift_buffer.proofs.lemmas.Puts.{IsAt, put_at_cases}
+use Rattle.sift_buffer.proofs.Puts.{IsAt, put_at_cases}
 
 -- each entry is one of the list
 pub entry_low : (r : Ranges) (f k q : ℕ) → IsEntry r f k q → entry_number r f k q < entry_count r
