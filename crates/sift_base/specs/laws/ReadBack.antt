@@ -10,10 +10,12 @@ use Rattle.sift_base.specs.Units.{Units, unit_numbers, holds, has_bit, units_of,
 
 -- ---- members of filtered lists
 
+-- a test beside one that fails fails
 pub false_last : (t : Bool) → (t && false) ≡ false
 false_last true = refl
 false_last false = refl
 
+-- and beside one that passes it is itself
 pub true_last : (t : Bool) → (t && true) ≡ t
 true_last true = refl
 true_last false = refl

@@ -75,6 +75,7 @@ kept_to : (first : List Rule) (themes : List (List Rule)) → AreKept first → 
 kept_to first [] these kept = these
 kept_to first (rules ∷ rest) these kept = kept_to (first ++ rules) rest (kept_both first rules these kept.0) kept.1
 
+-- so where the rules of each list are kept, they are in the one list
 pub kept_joined : (themes : List (List Rule)) → AreAllKept themes → AreKept (joined themes)
 kept_joined themes kept = kept_to [] themes tt kept
 
@@ -85,6 +86,7 @@ kept_each_to first (rules ∷ rest) kept =
     let parts = kept_each_to (first ++ rules) rest kept in
     (kept_first first rules parts.0, (kept_second first rules parts.0, parts.1))
 
+-- and the other way round
 pub kept_each : (themes : List (List Rule)) → AreKept (joined themes) → AreAllKept themes
 kept_each themes kept = (kept_each_to [] themes kept).1
 
@@ -106,6 +108,7 @@ stopped_to k first [] e kept stops = absurd stops
 stopped_to zero first (rules ∷ rest) e kept stops = refused_to (first ++ rules) rest e (refused_second first rules e kept stops)
 stopped_to (suc k) first (rules ∷ rest) e kept stops = stopped_to k (first ++ rules) rest e (kept_both first rules kept stops.0) stops.1
 
+-- the one that is refused is the first that is broken in the one list
 pub stopped_in : (k : ℕ) (themes : List (List Rule)) (e : Stop BrokenRule) → StopsIn k themes e → RefusesFirst (joined themes) e
 stopped_in k themes e stops = stopped_to k [] themes e tt stops
 

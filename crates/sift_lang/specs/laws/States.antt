@@ -21,10 +21,12 @@ pub sizes-scoped : (body : State → State) (s : State) → OnlyAddsLocals s (bo
 sizes-scoped body s only =
     record { locals_are = length-take-le (length s.locals) (body s).locals only.adds; outs_are = only.outs_are }
 
+-- of two states that have these sizes either has them
 sizes-chosen : (locals outs n : ℕ) (first second : State) → HasSizes locals outs first → HasSizes locals outs second → HasSizes locals outs (chosen n first second)
 sizes-chosen locals outs zero first second p q = q
 sizes-chosen locals outs (suc n) first second p q = p
 
+-- rounds that keep the sizes keep them however many there are
 pub sizes-iterate : (locals outs n : ℕ) (round : State → State) → ((s : State) → HasSizes locals outs s → HasSizes locals outs (round s)) → (s : State)
     → HasSizes locals outs s → HasSizes locals outs (iterate round n s)
 sizes-iterate locals outs zero round keeps s has = has

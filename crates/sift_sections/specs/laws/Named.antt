@@ -1,4 +1,4 @@
--- Names of proofs for what specs/ says in its place: keys, values, rules and lists of rules of the sections.
+-- Names, for laws and proofs, of what the definitions say in its place: keys, values, rules and lists of rules of the sections.
 use Rattle.std.specs.Prelude.{codes, ℕ, ◌≡◌, ◌⊎◌, ℤ, List, [], ◌∷◌, Option, Some, None, unwrap_or}
 use Rattle.toml.specs.Data.{Data, Members}
 use Rattle.sift_script.specs.Script.{Change, Failing, changing}
