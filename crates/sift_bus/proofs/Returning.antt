@@ -16,6 +16,7 @@ use Rattle.sift_mission.specs.Fits.{Fits}
 use Rattle.sift_mission.specs.Flown.{flown}
 use Rattle.sift_mission.specs.PartsFit.{PartsFit}
 use Rattle.sift_mission.specs.Slots.{calls, heard_at, stamp_of, turned_by}
+use Rattle.sift_mission.specs.laws.Configs.{units_fit}
 use Rattle.sift_conduct.specs.Conduct.{Account, account_of}
 use Rattle.sift_conduct.specs.declared.account.Account.{Account as TheAccount}
 use Rattle.sift_conduct.specs.Acts.{BoardKeeps, stamp_and_moment}
@@ -41,7 +42,7 @@ use Rattle.sift_bus_port.specs.Logs.{blank_log, log_of}
 use Rattle.sift_bus_port.specs.Telling.{LogsTellWhatWasHeard}
 use Rattle.sift_bus_port.specs.declared.log.BusLog.{BusLog}
 use Rattle.sift_config.specs.laws.FirstUnits.{low_unit, unit_low}
-use Rattle.sift_bus.proofs.Seating.{places_for, units_of}
+use Rattle.sift_bus.proofs.Seating.{places_for}
 use Rattle.sift_bus.proofs.SeatsTaken.{boarded_long, boarded_at}
 use Rattle.sift_bus_port.proofs.lemmas.Ranges.{same_ranges}
 use Rattle.sift_bus.proofs.Sides.{side_at, side_long}
@@ -291,8 +292,8 @@ module _ {B : Type 0} (allows : B → Carriage → B → Type 0) where
     round = (
       strays_in (record { words = landed.words; of = conduct_at back }),
       round (flown d) (ranges_of d.layout d.frames) (record { words = landed.words; of = conduct_at back }) fl fits
-          (come_home (flown d) e d.layout faulty tokens buses xs ys back have fl comes law landed accounts (units_of d fit) (places_for d fit)),
+          (come_home (flown d) e d.layout faulty tokens buses xs ys back have fl comes law landed accounts (units_fit d fit) (places_for d fit)),
     );
-    logged = logged (flown d) e d.layout faulty tokens buses xs ys back have fl comes law landed accounts (units_of d fit);
-    logs = logs_are (flown d) e d.layout faulty tokens buses xs ys back have fl comes law landed accounts (units_of d fit) logs are calm tell;
+    logged = logged (flown d) e d.layout faulty tokens buses xs ys back have fl comes law landed accounts (units_fit d fit);
+    logs = logs_are (flown d) e d.layout faulty tokens buses xs ys back have fl comes law landed accounts (units_fit d fit) logs are calm tell;
   }

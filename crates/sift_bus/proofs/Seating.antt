@@ -1,5 +1,5 @@
 -- Units that take their seats.
-use Rattle.std.proofs.Common.{◌≡◌, ℕ, refl, sym, ap, subst, true, arith}
+use Rattle.std.proofs.Common.{◌≡◌, ℕ, refl, sym, subst, true, arith}
 use Rattle.sift_base.specs.Units.{has}
 use Rattle.sift_buffer.specs.Tables.{ranges_of}
 use Rattle.sift_buffer.specs.Views.{View, fresh_view}
@@ -8,7 +8,6 @@ use Rattle.sift_mission.specs.Flown.{flown}
 use Rattle.sift_mission.specs.PartsFit.{PartsFit}
 use Rattle.sift_unit.specs.Boards.{Drives, IsNewBoard, NewBoardLaw, IsPortOf}
 use Rattle.sift_unit.specs.declared.board.Board.{Board}
-use Rattle.sift_config.specs.Config.{first_units}
 use Rattle.sift_flight.specs.Landing.{HasPlacesFor}
 use Rattle.sift_config.specs.laws.FirstUnits.{unit_low}
 
@@ -23,10 +22,6 @@ port_fits d fit = record {
 -- and a place for each of its units and slots
 pub places_for : (d : MissionData) → PartsFit d → HasPlacesFor (flown d) (ranges_of d.layout d.frames)
 places_for d fit = record { units = (port_fits d fit).units; slots = (port_fits d fit).slots }
-
--- the mission's units are those of its layout
-pub units_of : (d : MissionData) → PartsFit d → (flown d).units ≡ first_units d.layout.units
-units_of d fit = ap first_units (sym fit.layout.units)
 
 -- a new board drives on a port on which nothing was done
 pub new_drives : (d : MissionData) (u : ℕ) (b : Board) (v : View) → PartsFit d → NewBoardLaw → has (flown d).units u ≡ true → IsNewBoard (flown d) u b →

@@ -1,5 +1,5 @@
 -- The logs of a flight over a bus that carries one value count the words that the flight tells to be wrong.
-use Rattle.std.proofs.Common.{◌≡◌, inl, inr, ℕ, zero, suc, ◌+◌, ◌<◌, ◌&&◌, Bool, true, false, not, nat_lt, List, [], ◌∷◌, length, replicate, slice_index_or, All, Option, Some, None, option_map, if◌then◌else◌, refl, sym, ap, ◌∙◌, subst, arith, lt-ltb}
+use Rattle.std.proofs.Common.{◌≡◌, inl, inr, ℕ, suc, ◌+◌, ◌<◌, ◌&&◌, Bool, true, false, not, nat_lt, List, [], ◌∷◌, length, replicate, slice_index_or, All, Option, Some, None, option_map, if◌then◌else◌, refl, sym, ap, ◌∙◌, subst, arith}
 use Rattle.std.specs.List.{range_with_len, sum_by}
 use Rattle.std.proofs.lemmas.List.{get_or-replicate, length-replicate}
 use Rattle.std.proofs.lemmas.List.Sums.{sum_by-cons}
@@ -16,27 +16,16 @@ use Rattle.sift_mission.specs.Slots.{calls}
 use Rattle.sift_bus_port.specs.Buses.{AllowsConstant, Carriage, is_same}
 use Rattle.sift_bus_port.specs.Flown.{AreLogsOf, IsLogOf}
 use Rattle.sift_bus_port.specs.Links.{CarriesAll, Link, first_link}
-use Rattle.sift_bus_port.specs.Logs.{Log, blank_log, count_below, count_in, count_places, has_entry, log_of}
+use Rattle.sift_bus_port.specs.Logs.{Log, blank_log, count_in, count_places, has_entry, log_of}
 use Rattle.sift_bus_port.specs.Telling.{IsCarried, LogsTellWhatWasHeard, TellsCarried}
 use Rattle.sift_bus_port.specs.Telling as telling
 use Rattle.sift_bus_port.specs.declared.constant.Constant.{Constant}
 use Rattle.sift_bus_port.specs.declared.log.BusLog.{BusLog}
+use Rattle.sift_bus_port.specs.laws.Counting.{same_places, entry_there}
 use Rattle.sift_bus_jobs.specs.Numbers.{BusNumbers}
 use Rattle.sift_bus_jobs.specs.Wrong.{carried_for, is_changed, is_wrong_at, wrong_for, wrong_in}
 
 -- ---- counts
-
--- where two tests are one below a number, they count the same
-same_below : (is was : ℕ → Bool) (n : ℕ) → ((i : ℕ) → i < n → is i ≡ was i) → count_below is n ≡ count_below was n
-same_below is was zero all = refl
-same_below is was (suc n) all = λ i. same_below is was n (λ j low. all j (omega arith)) i + (if all n (omega arith) i then 1 else 0)
-
--- and of places
-pub same_places : (is was : ℕ → ℕ → Bool) (slots units : ℕ) → ((k p : ℕ) → k < slots → p < units → is k p ≡ was k p) →
-    count_places is slots units ≡ count_places was slots units
-same_places is was zero units all = refl
-same_places is was (suc n) units all = λ i. same_places is was n units (λ k p low here. all k p (omega arith) here) i
-    + same_below (is n) (was n) units (λ p here. all n p (omega arith) here) i
 
 -- the sum over a list is that over the numbers of its places
 sum_range : {X : Type 0} (g : X → ℕ) (h : ℕ → ℕ) (xs : List X) (a : ℕ) → ((i : ℕ) (d : X) → i < length xs → g (slice_index_or xs i d) ≡ h (a + i)) →
@@ -77,10 +66,6 @@ wrong_word None false word carried job f heard of = refl
 wrong_word (Some act) true word carried job f heard of =
     ap (λ (v : Option ℕ). not (is_same v act.word)) (of act refl) ∙ ap (λ (w : Option ℕ). is_changed job f w) (same_Some act.word word heard)
 wrong_word (Some act) false word carried job f heard of = absurd cc
-
--- a frame, a slot and a unit below the ranges are an entry
-entry_there : (r : Ranges) (f k p : ℕ) → f < r.frames → k < r.slots → p < r.units → has_entry r f k p ≡ true
-entry_there r f k p frame slot unit = rw (lt-ltb f r.frames frame, lt-ltb k r.slots slot, lt-ltb p r.units unit) refl
 
 -- all logs have the frames of the mission, whatever the buses carried
 pub frames_are : (m : FlownMission) (fl : Flight) (layout : Layout) (faulty : ℕ) (buses : List Constant) (logs : List BusLog) →

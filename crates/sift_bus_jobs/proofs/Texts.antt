@@ -3,7 +3,7 @@ use Rattle.std.proofs.Common.{◌≡◌, ℕ, zero, suc, ◌+◌, ◌<◌, ◌||
 use Rattle.std.specs.List.{flat_map, list_any, range_with_len}
 use Rattle.std.proofs.lemmas.List.Concat.{flat_map-cons}
 use Rattle.std.proofs.lemmas.List.Folds.{list_any-append}
-use Rattle.sift_line.specs.laws.Printed.{range-more}
+use Rattle.sift_base.specs.laws.Ranges.{range-next}
 use Rattle.sift_bus_jobs.specs.Text.{end_line, frame_text, words_text}
 
 none_after : (b c : Bool) → (b || (c || false)) ≡ (b || c)
@@ -13,7 +13,7 @@ none_after false false = refl
 
 -- a number more is tested
 pub any_more : (p : ℕ → Bool) (n : ℕ) → list_any p (range_with_len 0 (n + 1)) ≡ (list_any p (range_with_len 0 n) || p n)
-any_more p n = ap (list_any p) (range-more n) ∙ (list_any-append p (range_with_len 0 n) (n ∷ []) ∙ none_after (list_any p (range_with_len 0 n)) (p n))
+any_more p n = ap (list_any p) (range-next n) ∙ (list_any-append p (range_with_len 0 n) (n ∷ []) ∙ none_after (list_any p (range_with_len 0 n)) (p n))
 
 -- texts that are one below a number are one together
 same_texts : (text was : ℕ → List ℕ) (a n : ℕ) → ((f : ℕ) → f < a + n → text f ≡ was f) →

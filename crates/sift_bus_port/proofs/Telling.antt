@@ -1,5 +1,5 @@
 -- What a log tells, word by word.
-use Rattle.std.proofs.Common.{◌≡◌, inl, inr, ℕ, zero, suc, ◌+◌, ◌<◌, ◌==◌, ◌&&◌, Bool, true, false, not, List, [], ◌∷◌, Option, Some, None, if◌then◌else◌, refl, sym, ap, ◌∙◌, subst, arith, lt-ltb, ne_eqb, eq-eqb}
+use Rattle.std.proofs.Common.{◌≡◌, inl, inr, ℕ, zero, suc, ◌==◌, ◌&&◌, Bool, true, false, not, List, [], ◌∷◌, Option, Some, None, if◌then◌else◌, refl, sym, ap, ◌∙◌, subst, arith, ne_eqb, eq-eqb}
 use Rattle.std.proofs.lemmas.Option.{same_Some}
 use Rattle.sift_buffer.specs.Conduct.{Hearing, put_at}
 use Rattle.sift_buffer.specs.Ranges.{Ranges}
@@ -7,6 +7,7 @@ use Rattle.sift_bus_port.specs.Buses.{Carriage, is_same}
 use Rattle.sift_bus_port.specs.Links.{Link, CarriesAll, IsBlank, HasHeardNothing, gets_wrong}
 use Rattle.sift_bus_port.specs.Logs.{Log, log_with, has_entry, count_below, count_places}
 use Rattle.sift_bus_port.specs.Telling.{is_wrong, TellsHeard, TellsCarried, IsCarried, IsOfHearing, LogsTellWhatWasHeard}
+use Rattle.sift_bus_port.specs.laws.Counting.{same_places, entry_there}
 
 -- at each entry the faulty bus is wrong where it carried another word than was heard, and no other bus is
 abbrev TellsEach : ℕ → (ℕ → ℕ → ℕ → Option Hearing) → Log → Type 0
@@ -15,17 +16,6 @@ TellsEach faulty heard l = (f k p bus : ℕ) → has_entry l.ranges f k p ≡ tr
 
 -- ---- counts
 
--- where two tests are one below a number, they count the same
-same_below : (is was : ℕ → Bool) (n : ℕ) → ((i : ℕ) → i < n → is i ≡ was i) → count_below is n ≡ count_below was n
-same_below is was zero all = refl
-same_below is was (suc n) all = λ i. same_below is was n (λ j low. all j (omega arith)) i + (if all n (omega arith) i then 1 else 0)
-
-same_places : (is was : ℕ → ℕ → Bool) (slots units : ℕ) → ((k p : ℕ) → k < slots → p < units → is k p ≡ was k p) →
-    count_places is slots units ≡ count_places was slots units
-same_places is was zero units all = refl
-same_places is was (suc n) units all = λ i. same_places is was n units (λ k p low here. all k p (omega arith) here) i
-    + same_below (is n) (was n) units (λ p here. all n p (omega arith) here) i
-
 none_below : (n : ℕ) → count_below (λ _. false) n ≡ 0
 none_below zero = refl
 none_below (suc n) = let rest = none_below n in omega arith
@@ -33,10 +23,6 @@ none_below (suc n) = let rest = none_below n in omega arith
 no_places : (slots units : ℕ) → count_places (λ _ _. false) slots units ≡ 0
 no_places zero units = refl
 no_places (suc n) units = let rest = no_places n units in let last = none_below units in omega arith
-
--- a frame, a slot and a unit below the ranges are an entry
-entry_there : (r : Ranges) (f k p : ℕ) → f < r.frames → k < r.slots → p < r.units → has_entry r f k p ≡ true
-entry_there r f k p frame slot unit = rw (lt-ltb f r.frames frame, lt-ltb k r.slots slot, lt-ltb p r.units unit) refl
 
 -- the counts of a log that tells each word
 pub counts_are : (faulty : ℕ) (heard : ℕ → ℕ → ℕ → Option Hearing) (l : Log) → TellsEach faulty heard l → TellsHeard faulty heard l

@@ -4,3 +4,4 @@ pub mod Following
 pub mod Links
 pub mod Logs
 pub mod Telling
+pub mod laws

@@ -5,12 +5,14 @@ use Rattle.std.specs.List.{range_with_len}
 use Rattle.std.proofs.lemmas.Nat.{div-mul-add, mod-mul-add, mod_below}
 use Rattle.std.proofs.lemmas.List.FromFn.{get_or-map-range_with_len, length-map-range_with_len}
 use Rattle.std.proofs.Math.Nat.{pow-suc}
+use Rattle.sift_base.specs.laws.Ranges.{range-low}
+use Rattle.sift_base.specs.laws.Counts.{map-same}
 use Rattle.sift_vote.specs.Majority.{agreed_of}
 use Rattle.sift_byz.specs.Charts.{Shows, ShowsHeard, ShowsResults, heard_at, path_in, places_at, relay_at}
 use Rattle.sift_byz.specs.Plan.{PlanData, all_units, first_lie, heard, value_of}
 use Rattle.sift_byz.specs.Relaying.{outside, result_of}
 use Rattle.sift_byz.proofs.Digits.{digit_below, longer, one_digit, pow-one, shorter, square}
-use Rattle.sift_byz.proofs.Outside.{map_same, outside_has, row_low}
+use Rattle.sift_byz.proofs.Outside.{outside_has}
 
 -- ---- paths
 
@@ -66,12 +68,12 @@ module _ (plan : PlanData) (some : 0 < plan.units) where
       (count rounds row q r : ℕ) (longer_chart : List (Option ℕ)) → ShowsResults plan (suc count) rounds longer_chart
       → row < plan.units ^ count → q < plan.units → r < plan.units
       → relay_at plan longer_chart row q r ≡ result_of (all_units plan) (heard plan) rounds (r ∷ path_in plan.units count row) q
-  relay_shown count rounds row q r longer_chart shown row_low q_low r_low =
+  relay_shown count rounds row q r longer_chart shown range-low q_low r_low =
       let n : ℕ = plan.units in
       let result : ℕ → ℕ → Option ℕ = λ longer_row u. result_of (all_units plan) (heard plan) rounds (path_in n (suc count) longer_row) u in
       let tail : ℕ → ℕ → Option ℕ = λ t shorter_row. result_of (all_units plan) (heard plan) rounds (t ∷ path_in n count shorter_row) q in
       let place : ℕ = (row * n + r) * n + q in
-      shown.each place (longer n (suc count) (row * n + r) q (longer n count row r row_low r_low) q_low)
+      shown.each place (longer n (suc count) (row * n + r) q (longer n count row r range-low r_low) q_low)
       ∙ ap (λ x. result x (place % n)) (div-mul-add (row * n + r) n q q_low)
       ∙ ap (λ x. result (row * n + r) x) (mod-mul-add (row * n + r) n q q_low)
       ∙ ap (λ x. tail x ((row * n + r) / n)) (mod-mul-add row n r r_low)
@@ -90,8 +92,8 @@ module _ (plan : PlanData) (some : 0 < plan.units) where
       let others : List ℕ = outside (all_units plan) (q ∷ path) in
       ap (λ x. Some (agreed_of (x ∷ map (relay_at plan longer_chart row q) others))) (hears.each place low)
       ∙ ap (λ xs. Some (agreed_of (heard plan path q ∷ xs)))
-      (map_same (relay_at plan longer_chart row q) (λ r. result_of (all_units plan) (heard plan) rounds (r ∷ path) q) others (λ r r_in.
-      let below : r < 0 + plan.units = row_low 0 plan.units r (outside_has (all_units plan) (q ∷ path) r r_in) in
+      (map-same (relay_at plan longer_chart row q) (λ r. result_of (all_units plan) (heard plan) rounds (r ∷ path) q) others (λ r r_in.
+      let below : r < 0 + plan.units = range-low 0 plan.units r (outside_has (all_units plan) (q ∷ path) r r_in) in
       relay_shown count rounds row q r longer_chart shown (shorter plan.units count place some low) (mod_below place plan.units some) (omega (arith, below))))
 
   -- a chart that is folded from what was heard and from the longer results shows results

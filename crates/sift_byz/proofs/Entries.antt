@@ -1,17 +1,18 @@
 -- The vectors of a plan.
-use Rattle.std.proofs.Common.{◌≡◌, ℕ, suc, ◌<◌, ◌≤◌, ◌||◌, ◌&&◌, inl, inr, List, [], ◌∷◌, ◌++◌, length, map, reverse, get_or, Bool, true, false, not, nat_eq, Option, None, refl, sym, ap, ◌∙◌, arith}
+use Rattle.std.proofs.Common.{◌≡◌, ℕ, suc, ◌<◌, ◌≤◌, ◌&&◌, inl, inr, List, [], ◌∷◌, ◌++◌, length, map, reverse, get_or, Bool, true, false, not, nat_eq, Option, None, refl, sym, ap, ◌∙◌, arith}
 use Rattle.std.specs.Str.{bytes_eq}
-use Rattle.std.proofs.lemmas.Bool.{and_parts, cases_Bool, eqb-true, eqb-false, eq-eqb}
+use Rattle.std.proofs.lemmas.Bool.{and_parts, cases_Bool, eqb-true, eqb-false, eq-eqb, not-true, or_parts}
 use Rattle.std.proofs.lemmas.List.{reverse-append}
 use Rattle.std.proofs.lemmas.List.FromFn.{get_or-map-range_with_len, length-map-range_with_len, length-range_with_len}
 use Rattle.std.proofs.lemmas.Slice.Eq.{bytes_eq-Decides}
 use Rattle.sift_base.specs.Units.{faulty_count, has, others}
-use Rattle.sift_base.specs.laws.Counts.{count-no, count-yes}
+use Rattle.sift_base.specs.laws.Counts.{count-no, count-yes, map-same}
+use Rattle.sift_base.specs.laws.Ranges.{has-range, range-low, range-ascends}
 use Rattle.sift_vote.specs.Majority.{agreed_of}
 use Rattle.sift_byz.specs.Laws.{LoyalValuesAreKept, OneTraitorIsAsInFlights, VectorsAreEqual, VectorsHoldTheEntries}
 use Rattle.sift_byz.specs.Plan.{IsSquare, LieData, PlanData, TraitorsAreFew, all_units, entry, first_lie, heard, is_loyal, stands_last, tells_some, traitor_count, value_of, vector, vectors_of}
 use Rattle.sift_byz.specs.Relaying.{LoyalUnitsRelay, outside, result_of}
-use Rattle.sift_byz.proofs.Outside.{map_same, no_more, one_fewer, outside-cons, outside-nil, row_ascends, row_has, row_low, still_outside, traitor_gone}
+use Rattle.sift_byz.proofs.Outside.{no_more, one_fewer, outside-cons, outside-nil, still_outside, traitor_gone}
 use Rattle.sift_byz.proofs.Places.{agreed_one}
 use Rattle.sift_byz.proofs.Tellers.{count-same}
 use Rattle.sift_byz.proofs.Results.{any_unit_is_agreed_on, loyal_unit_is_believed}
@@ -30,16 +31,11 @@ last_written written r path same =
     ap (stands_last r) ((bytes_eq-Decides written (reverse (r ∷ path))).0 same ∙ reverse-append (r ∷ []) path)
     ∙ stands_last-append r (reverse path) r ∙ eq-eqb r r refl
 
--- where neither of two holds, each fails
-neither : (a b : Bool) → (a || b) ≡ false → (a ≡ false) × (b ≡ false)
-neither true b none = absurd cc
-neither false b none = (refl, none)
-
 -- no lie comes by a path whose last unit tells none
 no_lie : (lies : List LieData) (r : ℕ) (path : List ℕ) (q : ℕ) → tells_some lies r ≡ false → first_lie lies (reverse (r ∷ path)) q ≡ None
 no_lie [] r path q none = refl
 no_lie (lie ∷ lies) r path q none =
-    let parts = neither (stands_last r lie.path) (tells_some lies r) none in
+    let parts = or_parts (stands_last r lie.path) (tells_some lies r) none in
     elim (cases_Bool (bytes_eq lie.path (reverse (r ∷ path)) && has lie.to q)) [
       | inl told ↦
           let same = and_parts (bytes_eq lie.path (reverse (r ∷ path))) (has lie.to q) told in
@@ -47,14 +43,9 @@ no_lie (lie ∷ lies) r path q none =
       | inr other ↦ rw other (no_lie lies r path q parts.1)
     ]
 
--- what isn't so is false
-pub not_true : (b : Bool) → not b ≡ true → b ≡ false
-not_true true is = absurd cc
-not_true false is = refl
-
 -- so loyal units tell all others what they heard themselves
 relays : (plan : PlanData) → LoyalUnitsRelay (is_loyal plan) (heard plan)
-relays plan r path q r_loyal = rw (no_lie plan.lies r path q (not_true _ r_loyal))
+relays plan r path q r_loyal = rw (no_lie plan.lies r path q (not-true _ r_loyal))
 
 -- ---- the laws
 
@@ -72,7 +63,7 @@ result_for plan q s = result_of (all_units plan) (heard plan) plan.m (s ∷ []) 
 
 -- each unit of a plan is one of its units
 unit_in : (plan : PlanData) (u : ℕ) → u < plan.units → has (all_units plan) u ≡ true
-unit_in plan u low = row_has 0 plan.units u (omega arith) (omega arith)
+unit_in plan u low = has-range 0 plan.units u (omega arith) (omega arith)
 
 -- outside of the empty path as well
 outside_none : (plan : PlanData) (u : ℕ) → u < plan.units → has (outside (all_units plan) []) u ≡ true
@@ -81,7 +72,7 @@ outside_none plan u low = rw (outside-nil (all_units plan)) (unit_in plan u low)
 -- outside of the path of a unit there is one unit fewer
 one_left : (plan : PlanData) (s : ℕ) → s < plan.units → suc (length (outside (all_units plan) (s ∷ []))) ≡ plan.units
 one_left plan s low =
-    one_fewer (all_units plan) [] s (row_ascends 0 plan.units) (outside_none plan s low)
+    one_fewer (all_units plan) [] s (range-ascends 0 plan.units) (outside_none plan s low)
     ∙ ap length (outside-nil (all_units plan)) ∙ length-range_with_len 0 plan.units
 
 -- another unit is outside of it
@@ -109,7 +100,7 @@ believed :
     → is_loyal plan q ≡ true → is_loyal plan s ≡ true → nat_eq s q ≡ false → entry plan q s ≡ value_of plan s
 believed plan q s few q_low s_low q_loyal s_loyal other =
     rw other (agreed_one (result_for plan q s)
-    ∙ loyal_unit_is_believed (all_units plan) (is_loyal plan) (heard plan) plan.m s [] q (row_ascends 0 plan.units) (relays plan)
+    ∙ loyal_unit_is_believed (all_units plan) (is_loyal plan) (heard plan) plan.m s [] q (range-ascends 0 plan.units) (relays plan)
     (omega (arith, one_left plan s s_low, traitors_left plan s, traitors_are plan, few.enough, few.few))
     s_loyal (other_left plan s q q_low other) q_loyal)
 
@@ -127,7 +118,7 @@ agreed_on :
     → is_loyal plan p ≡ true → is_loyal plan q ≡ true → nat_eq s p ≡ false → nat_eq s q ≡ false → entry plan p s ≡ entry plan q s
 agreed_on plan p q s few p_low q_low s_low p_loyal q_loyal not_p not_q =
     rw (not_p, not_q) (agreed_one (result_for plan p s)
-    ∙ any_unit_is_agreed_on (all_units plan) (is_loyal plan) (heard plan) plan.m s [] p q (row_ascends 0 plan.units) (relays plan)
+    ∙ any_unit_is_agreed_on (all_units plan) (is_loyal plan) (heard plan) plan.m s [] p q (range-ascends 0 plan.units) (relays plan)
     (omega (arith, traitors_with plan s s_low, traitors_are plan, few.few))
     (omega (arith, one_left plan s s_low, few.enough))
     (other_left plan s p p_low not_p) p_loyal (other_left plan s q q_low not_q) q_loyal
@@ -151,8 +142,8 @@ entries_equal plan p q s few p_low q_low s_low p_loyal q_loyal =
 -- where the traitors are few, all loyal units have one vector
 pub vectors_are_equal : VectorsAreEqual
 vectors_are_equal plan p q few p_low q_low p_loyal q_loyal =
-    map_same (entry plan p) (entry plan q) (all_units plan)
-    (λ s s_in. entries_equal plan p q s few p_low q_low (omega (arith, row_low 0 plan.units s s_in)) p_loyal q_loyal)
+    map-same (entry plan p) (entry plan q) (all_units plan)
+    (λ s s_in. entries_equal plan p q s few p_low q_low (omega (arith, range-low 0 plan.units s s_in)) p_loyal q_loyal)
 
 -- where one unit at most may lie, the entry of another unit is the agreed word of what was heard from it and of the relays of that, as in a flight
 pub one_traitor_is_as_in_flights : OneTraitorIsAsInFlights

@@ -6,9 +6,9 @@ use Rattle.std.specs.List.{flat_map, range_with_len}
 use Rattle.std.proofs.lemmas.Bool.{eqb-true}
 use Rattle.std.proofs.lemmas.Grind.{flat_map-append}
 use Rattle.std.proofs.lemmas.List.{append-nil}
+use Rattle.sift_base.specs.laws.Ranges.{range-more}
 use Rattle.sift_line.specs.Part.{list_text, word_text}
 use Rattle.sift_byz.specs.Text.{words_text}
-use Rattle.sift_byz.proofs.Outside.{row_more}
 use Rattle.sift_byz.proofs.Testing.{not_both}
 
 -- a text is written where that is answered
@@ -33,6 +33,6 @@ pub text_more :
 text_more text n now new so_far added =
     let step : suc n ≡ n + 1 = omega arith in
     let row : range_with_len 0 (n + 1) ≡ range_with_len 0 n ++ n ∷ [] =
-    ap (range_with_len 0) (sym step) ∙ row_more 0 n ∙ ap (λ k. range_with_len 0 n ++ k ∷ []) (omega arith) in
+    ap (range_with_len 0) (sym step) ∙ range-more 0 n ∙ ap (λ k. range_with_len 0 n ++ k ∷ []) (omega arith) in
     added ∙ ap (λ bs. bs ++ text n) so_far ∙ ap (λ bs. flat_map text (range_with_len 0 n) ++ bs) (sym (append-nil (text n)))
     ∙ sym (ap (flat_map text) row ∙ flat_map-append text (range_with_len 0 n) (n ∷ []))

@@ -1,11 +1,11 @@
 -- The units outside of a path.
-use Rattle.std.proofs.Common.{◌≡◌, ◌≢◌, ℕ, zero, suc, ◌+◌, ◌<◌, ◌≤◌, inl, inr, List, [], ◌∷◌, ◌++◌, length, map, Bool, true, false, not, nat_eq, refl, sym, ap, ◌∙◌, arith}
+use Rattle.std.proofs.Common.{◌≡◌, ◌≢◌, ℕ, suc, ◌+◌, ◌<◌, ◌≤◌, inl, inr, List, [], ◌∷◌, ◌++◌, length, Bool, true, false, not, nat_eq, refl, sym, ap, ◌∙◌, arith}
 use Rattle.std.specs.List.{range_with_len}
-use Rattle.std.proofs.lemmas.Bool.{cases_Bool, eq-eqb, eqb-true, or_cases, ne_eqb, eqb-false}
+use Rattle.std.proofs.lemmas.Bool.{cases_Bool, eq-eqb, eqb-true, ne_eqb, eqb-false}
 use Rattle.std.proofs.lemmas.List.Elements.{filter-append}
 use Rattle.sift_base.specs.Units.{faulty_count, has, others, IsAscending}
-use Rattle.sift_base.specs.laws.Counts.{has-head, has-tail, IsBelowAll}
 use Rattle.sift_base.specs.laws.Others.{count-others-<, count-others-≤, has-others, length-others, others-has, times_in, times_in-ascending}
+use Rattle.sift_base.specs.laws.Ranges.{range-more}
 use Rattle.sift_byz.specs.Relaying.{outside}
 
 -- ---- a path that is longer by a unit
@@ -67,49 +67,10 @@ outside_has us (r ∷ path) u u_in = outside_has us path u (has-others r (outsid
 
 -- ---- units as numbers
 
--- a number below all of a row of numbers
-below : (u a n : ℕ) → u < a → IsBelowAll u (range_with_len a n)
-below u a zero low = tt
-below u a (suc n) low = (low, below u (a + 1) n (omega arith))
-
--- a row of numbers ascends
-pub row_ascends : (a n : ℕ) → IsAscending (range_with_len a n)
-row_ascends a zero = tt
-row_ascends a (suc n) = (below a (a + 1) n (omega arith), row_ascends (a + 1) n)
-
--- each of its numbers is in it
-pub row_has : (a n u : ℕ) → a ≤ u → u < a + n → has (range_with_len a n) u ≡ true
-row_has a zero u least most = absurd (omega arith)
-row_has a (suc n) u least most =
-    elim (cases_Bool (nat_eq a u)) [
-      | inl t ↦ rw t
-      | inr f ↦ rw f (row_has (a + 1) n u (let differ = eqb-false a u f in omega arith) (omega arith))
-    ]
-
--- and none from its end on
-pub row_low : (a n u : ℕ) → has (range_with_len a n) u ≡ true → u < a + n
-row_low a zero u u_in = absurd cc
-row_low a (suc n) u u_in = elim (or_cases (nat_eq a u) (has (range_with_len (a + 1) n) u) u_in) [
-  | inl here ↦ omega (arith, eqb-true a u here)
-  | inr later ↦ omega (arith, row_low (a + 1) n u later)
-]
-
--- a number more in a row
-pub row_more : (a n : ℕ) → range_with_len a (suc n) ≡ range_with_len a n ++ (a + n) ∷ []
-row_more a zero = ap (λ x. x ∷ []) (omega arith)
-row_more a (suc n) = ap (λ xs. a ∷ xs) (row_more (a + 1) n ∙ ap (λ x. range_with_len (a + 1) n ++ x ∷ []) (omega arith))
-
 -- the first units that are outside, with one unit more
 pub outside_more : (path : List ℕ) (u : ℕ) → outside (range_with_len 0 (suc u)) path ≡ outside (range_with_len 0 u) path ++ outside (u ∷ []) path
 outside_more path u =
-    ap (λ us. outside us path) (row_more 0 u) ∙ filter-append (λ v. not (has path v)) (range_with_len 0 u) ((0 + u) ∷ [])
+    ap (λ us. outside us path) (range-more 0 u) ∙ filter-append (λ v. not (has path v)) (range_with_len 0 u) ((0 + u) ∷ [])
     ∙ ap (λ x. outside (range_with_len 0 u) path ++ outside (x ∷ []) path) (omega arith)
 
 -- ---- lists of what units tell
-
--- two lists are one where they are one for each unit
-pub map_same : {X : Type 0} (f g : ℕ → X) (us : List ℕ) → ((u : ℕ) → has us u ≡ true → f u ≡ g u) → map f us ≡ map g us
-map_same f g [] same = refl
-map_same f g (u ∷ us) same =
-    ap (λ x. x ∷ map f us) (same u (has-head u us))
-    ∙ ap (λ xs. g u ∷ xs) (map_same f g us (λ v v_in. same v (has-tail u us v v_in)))

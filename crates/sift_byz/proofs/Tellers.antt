@@ -8,11 +8,11 @@ use Rattle.std.proofs.lemmas.List.Folds.{list_any-append}
 use Rattle.sift_base.specs.Units.{has}
 use Rattle.sift_base.specs.laws.Counts.{count-cons, count-no, count-yes}
 use Rattle.sift_base.specs.laws.Others.{count-others-<, times_in, times_in-ascending}
+use Rattle.sift_base.specs.laws.Ranges.{has-range, range-ascends}
 use Rattle.sift_byz.specs.declared.plan.Lie.{Lie}
 use Rattle.sift_byz.specs.Lawful.{BreaksFew}
 use Rattle.sift_byz.specs.Plan.{LieData, lie_of, stands_last, teller_count, tells_some}
 use Rattle.sift_byz.specs.Stated.{IsPath}
-use Rattle.sift_byz.proofs.Outside.{row_ascends, row_has}
 
 -- ---- one lie more
 
@@ -74,8 +74,8 @@ once units t low =
     let us : List ℕ = range_with_len 0 units in
     omega (
       arith,
-      times_in-ascending t us (row_ascends 0 units),
-      count-others-< (λ v. nat_eq v t) t us (row_has 0 units t (omega arith) (omega arith)) (eq-eqb t t refl),
+      times_in-ascending t us (range-ascends 0 units),
+      count-others-< (λ v. nat_eq v t) t us (has-range 0 units t (omega arith) (omega arith)) (eq-eqb t t refl),
     )
 
 -- ---- tellers

@@ -1,21 +1,12 @@
 -- Which clocks of a laboratory work, and how many don't.
-use Rattle.std.proofs.Common.{◌≡◌, ℕ, zero, suc, ◌+◌, ◌<◌, ◌≤◌, inl, inr, true, not, nat_eq, nat_lt, ap, arith}
+use Rattle.std.proofs.Common.{ℕ, zero, suc, ◌+◌, ◌≤◌, inl, inr, not, nat_lt, ap, arith}
 use Rattle.std.specs.List.{range_with_len}
-use Rattle.std.proofs.lemmas.Bool.{cases_Bool, ltb-false, eqb-false}
+use Rattle.std.proofs.lemmas.Bool.{cases_Bool, ltb-false}
 use Rattle.std.proofs.lemmas.List.FromFn.{length-range_with_len}
-use Rattle.sift_base.specs.Units.{has, faulty_count}
+use Rattle.sift_base.specs.Units.{faulty_count}
 use Rattle.sift_base.specs.laws.Counts.{both_counts, count-no}
 use Rattle.sift_clocklab.specs.Laboratory.{Laboratory, clocks_of, working_of, works}
 use Rattle.sift_clocklab.specs.Conditions.{IsAdmitted}
-
--- numbers in a row have each number from the first to the last
-pub has-range : (a n u : ℕ) → a ≤ u → u < a + n → has (range_with_len a n) u ≡ true
-has-range a zero u least most = absurd (omega arith)
-has-range a (suc n) u least most =
-    elim (cases_Bool (nat_eq a u)) [
-      | inl t ↦ rw t
-      | inr f ↦ rw f (has-range (a + 1) n u (let differ = eqb-false a u f in omega arith) (omega arith))
-    ]
 
 -- of numbers in a row those from w on are as many as are left below the end
 from_on : (w a n : ℕ) → w ≤ a + n → faulty_count (λ p. nat_lt p w) (range_with_len a n) + w ≤ a + n

@@ -4,6 +4,7 @@ use Rattle.std.specs.List.{All}
 use Rattle.std.proofs.lemmas.Int.{ints}
 use Rattle.std.proofs.lemmas.Bool.{lt-ltb, ltb-true}
 use Rattle.std.proofs.lemmas.List.FromFn.{length-map-range_with_len, length-range_with_len, get_or-map-range_with_len}
+use Rattle.sift_base.specs.laws.Ranges.{has-range}
 use Rattle.sift_clock.specs.Distance.{IsWithin}
 use Rattle.sift_skew.specs.Keeping.{AreWithin}
 use Rattle.sift_skew.proofs.lemmas.Keeps.{skew_is_kept}
@@ -12,7 +13,7 @@ use Rattle.sift_clocklab.specs.Laboratory.{Laboratory, clocks_of, working_of, wo
 use Rattle.sift_clocklab.specs.Conditions.{AreOfClocks, AreTicks, AreTogether, IsReady}
 use Rattle.sift_clocklab.specs.Rounds.{offset_of, ticks_ahead, reading_of, offset_after, offsets_after, offsets_from}
 use Rattle.sift_clocklab.specs.Skew.{AreKept, OffsetsAreKept}
-use Rattle.sift_clocklab.proofs.Clocks.{has-range, few_faulty}
+use Rattle.sift_clocklab.proofs.Clocks.{few_faulty}
 
 -- the number of a working clock is as near as all are
 pub near_of : (lab : Laboratory) (far : ℤ) (numbers : List ℤ) (q : ℕ) → AreOfClocks lab far numbers → q < working_of lab

@@ -5,12 +5,7 @@ use Rattle.std.proofs.lemmas.Bool.{cases_Bool, eqb-true, ne_eqb, eqb-false, eq-e
 use Rattle.std.proofs.lemmas.List.{append-nil}
 use Rattle.std.proofs.lemmas.List.Elements.{filter-append}
 use Rattle.sift_base.specs.Units.{others}
-
--- a number more
-pub range-more : (a n : ℕ) → range_with_len a (suc n) ≡ range_with_len a n ++ (a + n) ∷ []
-range-more a zero = ap (λ u. u ∷ []) (omega arith)
-range-more a (suc n) =
-    ap (λ us. a ∷ us) (range-more (a + 1) n ∙ ap (λ u. range_with_len (a + 1) n ++ u ∷ []) (omega arith))
+use Rattle.sift_base.specs.laws.Ranges.{range-more}
 
 -- a number more that is another one
 pub others-more_other : (u n : ℕ) → n ≢ u

@@ -17,6 +17,7 @@ use Rattle.sift_mission.specs.Data.{FlownMission, MissionData}
 use Rattle.sift_mission.specs.Flown.{flown}
 use Rattle.sift_unit.specs.Keeping.{IsFresh}
 use Rattle.sift_mission.specs.PartsFit.{PartsFit}
+use Rattle.sift_mission.specs.laws.Configs.{units_fit}
 use Rattle.sift_unit.specs.Boards.{IsNewBoard, NewBoardLaw, IsPortOf}
 use Rattle.sift_unit.specs.declared.board.Board.{Board}
 use Rattle.sift_flight.specs.Flight.{no_strays}
@@ -37,10 +38,6 @@ boards_push m n u xs b boards here new = record {
       (λ ne. subst (λ (z : Board). IsNewBoard m p z) (sym (get_or_append_left xs (b ∷ []) d p (let c = boards.count in omega arith)))
       (boards.new p d (omega arith)));
 }
-
--- the units of the mission are as many as the layout has
-pub units_fit : (d : MissionData) → PartsFit d → (flown d).units ≡ first_units d.layout.units
-units_fit d fit = ap first_units (sym fit.layout.units)
 
 -- the machine flies
 pub new_flies : (d : MissionData) (x : Machine) → PartsFit d → FreshIsLawful → NewBoardLaw → IsNewRack x.rack d.layout d.frames →

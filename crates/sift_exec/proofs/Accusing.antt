@@ -3,9 +3,8 @@ use Rattle.std.proofs.Common.{◌≡◌, ℕ, zero, suc, ◌+◌, Bool, not, ◌
 use Rattle.std.specs.Prelude.{count_by}
 use Rattle.std.proofs.lemmas.Bool.{cases_Bool, eq-eqb, ne_eqb}
 use Rattle.sift_base.specs.Units.{others, IsAscending}
-use Rattle.sift_base.specs.laws.Counts.{count-cons}
+use Rattle.sift_base.specs.laws.Counts.{count-cons, has_place}
 use Rattle.sift_base.specs.laws.Sets.{below_has}
-use Rattle.sift_config.specs.laws.Joining.{has_at}
 use Rattle.sift_exec.specs.Conviction.{report_by}
 
 -- how many units other than u name u in their reports
@@ -18,7 +17,7 @@ report_at [] reports i t d up same at = absurd cc
 report_at (u ∷ us) [] i t d up same at = absurd (omega arith)
 report_at (u ∷ us) (r ∷ reports) zero t d up same at = let e : u ≡ t = ap (λ o. unwrap_or o t) at in rw (eq-eqb u t e) refl
 report_at (u ∷ us) (r ∷ reports) (suc i) t d up same at =
-    rw (ne_eqb u t (λ e. omega (arith, below_has u us t up.0 (has_at us i t at)))) (report_at us reports i t d up.1 (omega arith) at)
+    rw (ne_eqb u t (λ e. omega (arith, below_has u us t up.0 (has_place us i t at)))) (report_at us reports i t d up.1 (omega arith) at)
 
 -- what a unit adds to the accusers of another
 abbrev pub accuses : (ℕ → ℕ → Bool) → ℕ → ℕ → ℕ

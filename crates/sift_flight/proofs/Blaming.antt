@@ -2,11 +2,11 @@
 use Rattle.std.proofs.Common.{◌≡◌, ℕ, Bool, true, false, ◌||◌, refl, sym, ap, ◌∙◌}
 use Rattle.std.specs.FinSet as set
 use Rattle.std.specs.Ordering.{nat_cmp}
+use Rattle.std.proofs.lemmas.Bool.{and_parts}
 use Rattle.sift_base.specs.Units.{has, holds}
 use Rattle.sift_exec.specs.Conviction.{everyone_in, nobody}
 use Rattle.sift_exec.specs.declared.catches.Catches.{Catches}
 use Rattle.sift_conduct.specs.Conduct.{UnitFrame, caught, Conduct}
-use Rattle.sift_flight.proofs.Calls.{and_both}
 use Rattle.sift_exec.specs.laws.Everyone.{holds-everyone}
 
 -- where one of three tests is passed, what follows from each follows
@@ -21,9 +21,9 @@ pub caught_inside : (x : UnitFrame) → Conduct x → (v : ℕ) → caught x.acc
 caught_inside x c v t =
     let bad : Catches = x.account.bad in
     one_of (holds bad.poll v) (holds bad.relay v) (holds bad.clock v) (has x.account.cfg v ≡ true) (sym (holds-everyone bad v) ∙ t)
-    (λ polled. (and_both (has x.account.cfg v) _ (sym (c.polls v) ∙ polled)).0)
-    (λ relayed. (and_both (has x.account.cfg v) _ (sym (c.relays v) ∙ relayed)).0)
-    (λ timed. (and_both (has x.account.cfg v) _ (sym (c.clocks v) ∙ timed)).0)
+    (λ polled. (and_parts (has x.account.cfg v) _ (sym (c.polls v) ∙ polled)).0)
+    (λ relayed. (and_parts (has x.account.cfg v) _ (sym (c.relays v) ∙ relayed)).0)
+    (λ timed. (and_parts (has x.account.cfg v) _ (sym (c.clocks v) ∙ timed)).0)
 
 -- who caught nobody caught no unit
 pub nobody_caught : (c : Catches) (v : ℕ) → c ≡ nobody → holds (everyone_in c) v ≡ false

@@ -1,7 +1,7 @@
 -- What the boards of a calm mission said and heard, and that their core is lawful.
 use Rattle.std.proofs.Common.{◌≡◌, inl, inr, ℕ, ◌+◌, ◌-◌, ◌*◌, ◌/◌, ◌%◌, ◌<◌, ◌≤◌, slice_index, Bool, true, false, ◌&&◌, nat_eq, Option, None, Some, refl, sym, ap, ◌∙◌, subst, arith, lt-ltb, le-ltb, eqb-true}
 use Rattle.std.specs.List.{range_with_len}
-use Rattle.std.proofs.lemmas.Bool.{cases_Bool}
+use Rattle.std.proofs.lemmas.Bool.{cases_Bool, and_parts}
 use Rattle.std.proofs.lemmas.Nat.{div-mul-add}
 use Rattle.std.proofs.Math.Nat.{mod-eq-sub-div-mul}
 use Rattle.std.proofs.lemmas.List.{length-map, get_or-map}
@@ -15,7 +15,6 @@ use Rattle.sift_buffer.specs.Lawful.{Lawful, IsLastSaid, silent, last}
 use Rattle.sift_mission.specs.Slots.{calls, stamp_of, heard_at}
 use Rattle.sift_flight.specs.Calm.{Calm, four_units, layout_of, mission_of}
 use Rattle.sift_flight.specs.CalmFlight.{word_in, acts_of, ranges_of, cell_of, shared_word, core_of}
-use Rattle.sift_flight.proofs.Calls.{and_both}
 use Rattle.sift_flight.proofs.FrameActs.{frame_low}
 use Rattle.sift_flight.proofs.CalmStages.{IsPlain, in_range, flies_on}
 
@@ -43,7 +42,7 @@ module _ (c : Calm) (plain : IsPlain c) where
   pub said_act : (u f n q s : ℕ) (w : Option ℕ) → (acts_of c u).said f n q ≡ Some (saying s w) → Said u f n q s w
   said_act u f n q s w e =
       let t = cond_some (nat_eq f 0 && calls_in n u q) (saying (stamp n) (word n)) (saying s w) e in
-      let b = and_both (nat_eq f 0) (calls_in n u q) t.0 in
+      let b = and_parts (nat_eq f 0) (calls_in n u q) t.0 in
       record { frame = eqb-true f 0 b.0; called = b.1; stamped = ap (λ (x : Saying). x.stamp) t.1; worded = ap (λ (x : Saying). x.word) t.1 }
 
   pub say_act : (u n q : ℕ) → calls_in n u q ≡ true → (acts_of c u).said 0 n q ≡ Some (saying (stamp n) (word n))
@@ -59,7 +58,7 @@ module _ (c : Calm) (plain : IsPlain c) where
   heard_act : (u f n p s h : ℕ) (w : Option ℕ) → (acts_of c u).heard f n p ≡ Some (hearing s h w) → Heard u f n p s h w
   heard_act u f n p s h w e =
       let t = cond_some (nat_eq f 0 && calls_in n p u) (hearing (stamp n) (at n) (word n)) (hearing s h w) e in
-      let b = and_both (nat_eq f 0) (calls_in n p u) t.0 in
+      let b = and_parts (nat_eq f 0) (calls_in n p u) t.0 in
       record { called = b.1; stamped = ap (λ (x : Hearing). x.stamp) t.1; moment = ap (λ (x : Hearing). x.at) t.1; worded = ap (λ (x : Hearing). x.word) t.1 }
 
   abbrev slots : ℕ

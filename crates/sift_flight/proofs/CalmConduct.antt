@@ -2,7 +2,7 @@
 use Rattle.std.proofs.Common.{◌≡◌, ◌⊎◌, ⊎_elim, inl, inr, ℕ, ◌+◌, ◌<◌, ◌^◌, List, [], ◌∷◌, length, map, slice_index, Bool, true, false, not, ◌&&◌, ◌||◌, nat_eq, if◌then◌else◌, Option, Some, pos, ◌+ℤ◌, refl, sym, ap, ◌∙◌, subst, arith, ltb-true, eq-eqb, eqb-true}
 use Rattle.std.specs.FinSet as set
 use Rattle.std.specs.Ordering.{nat_cmp}
-use Rattle.std.proofs.lemmas.Bool.{cases_Bool}
+use Rattle.std.proofs.lemmas.Bool.{cases_Bool, and_parts}
 use Rattle.sift_base.specs.Units.{has, holds, has_bit, bits_of}
 use Rattle.sift_base.specs.declared.slot.Slot.{Slot}
 use Rattle.sift_base.specs.declared.slot.Slot.TheVariants.{Clock, Sense, RelaySense, Out, Report, RelayReport}
@@ -12,10 +12,10 @@ use Rattle.sift_exec.specs.Conviction.{nobody, everyone_in, next_by}
 use Rattle.sift_config.specs.Config.{reader_of}
 use Rattle.sift_clock.specs.Correction.{corrected_offset}
 use Rattle.sift_mission.specs.Slots.{executors, calls}
+use Rattle.sift_mission.specs.laws.Calls.{Call, call_of, call_is, told_apart}
 use Rattle.sift_conduct.specs.Conduct.{input_of, polled, poll_catches, relay_catches, clock_catches, reading_by, own_word, Conduct}
 use Rattle.sift_flight.specs.Calm.{Calm, four_units, mission_of}
 use Rattle.sift_flight.specs.CalmFlight.{word_in}
-use Rattle.sift_flight.proofs.Calls.{Call, call_of, call_is, and_both, told_apart}
 use Rattle.sift_flight.proofs.Configs.{reader_in}
 use Rattle.sift_exec.specs.laws.Everyone.{holds-everyone}
 use Rattle.sift_flight.proofs.CalmBoards.{heard_by, frame_in}
@@ -113,6 +113,6 @@ module _ (c : Calm) where
   own_words makes u Report q t = ap (λ n. Some n) no_report
   own_words makes u (RelayReport s) q t =
       let call = call_of (mission_of c) four_units (RelayReport s) u q t in
-      let d = and_both (has four_units s) (not (nat_eq u s) && not (nat_eq q s)) call.sender in
-      let e = and_both (not (nat_eq u s)) (not (nat_eq q s)) d.1 in
+      let d = and_parts (has four_units s) (not (nat_eq u s) && not (nat_eq q s)) call.sender in
+      let e = and_parts (not (nat_eq u s)) (not (nat_eq q s)) d.1 in
       heard_of u s Report (record { slot = refl; from = d.0; to = call.from; other = λ z. told_apart u s e.0 (sym z); sender = refl })

@@ -1,6 +1,6 @@
 -- The calm mission `gauge` flies.
 use Rattle.std.proofs.Common.{sym, ◌&&◌, ap, ◌≡◌, ℕ, zero, suc, ◌+◌, ◌<◌, ◌≤◌, List, [], ◌∷◌, slice_index, map, true, nat_eq, refl, subst, arith, ltb-true, eqb-true}
-use Rattle.std.proofs.lemmas.Bool.{agree_below_at}
+use Rattle.std.proofs.lemmas.Bool.{agree_below_at, and_parts}
 use Rattle.sift_base.specs.Units.{has}
 use Rattle.sift_base.specs.Word.{word_count, add, mul}
 use Rattle.sift_base.specs.declared.slot.Slot.{Slot}
@@ -16,7 +16,6 @@ use Rattle.sift_flight.proofs.CalmBoards.{IsCalm, calm_lawful, calm_landed}
 use Rattle.sift_flight.proofs.CalmConduct.{four, place, HasFigures, conduct_by, own_words}
 use Rattle.sift_flight.proofs.CalmFits.{four_are_below, fits_by, flyable_by, has_margin}
 use Rattle.sift_flight.specs.Calms.{FliesCalmly, gauge_kind, gauge}
-use Rattle.sift_flight.proofs.Calls.{and_both}
 use Rattle.sift_flight.proofs.CalmBoards.{heard_by, frame_in}
 use Rattle.sift_flight.proofs.GaugeProgram.{one, two, runs}
 
@@ -75,7 +74,7 @@ plain = record { long = omega arith; short = omega arith; sensors = omega arith;
 
 -- the second task needs the first one's word
 needed : (w v : ℕ) → nat_eq w 1 && nat_eq v 0 ≡ true → (w ≡ 1) × (v ≡ 0)
-needed w v t = let b = and_both (nat_eq w 1) (nat_eq v 0) t in (eqb-true w 1 b.0, eqb-true v 0 b.1)
+needed w v t = let b = and_parts (nat_eq w 1) (nat_eq v 0) t in (eqb-true w 1 b.0, eqb-true v 0 b.1)
 
 abbrev runs_at : ℕ → ℕ
 runs_at w = slice_index (4 ∷ 6 ∷ []) w

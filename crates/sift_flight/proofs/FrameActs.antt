@@ -1,5 +1,5 @@
 -- Frames of a mission, and the acts of a unit in one of them.
-use Rattle.std.proofs.Common.{◌≡◌, inl, inr, ⊎_elim, ℕ, suc, ◌+◌, ◌*◌, ◌-◌, ◌<◌, ◌≤◌, true, false, nat_lt, Option, Some, None, option_map, sym, refl, ap, subst, arith, ltb-true, ltb-false}
+use Rattle.std.proofs.Common.{◌≡◌, inl, inr, ⊎_elim, ℕ, suc, ◌+◌, ◌*◌, ◌-◌, ◌<◌, ◌≤◌, true, false, nat_lt, Option, Some, None, option_map, sym, refl, ap, subst, arith, ltb-false}
 use Rattle.std.proofs.lemmas.Bool.{cases_Bool, cases_lt}
 use Rattle.std.proofs.lemmas.Option.{none-some, same_Some}
 use Rattle.std.proofs.Math.Nat.{mul-le-mul_left, mul-le-mul_right}
@@ -8,6 +8,7 @@ use Rattle.sift_buffer.specs.Conduct.{Hearing, hearing, never}
 use Rattle.sift_buffer.specs.Conduct.{Conduct as Acts}
 use Rattle.sift_mission.specs.Data.{FlownMission}
 use Rattle.sift_mission.specs.Slots.{is_slot, turned_by}
+use Rattle.sift_mission.specs.laws.Turning.{before_turning}
 use Rattle.sift_conduct.specs.Acts.{Turns, word_in_hearing, stamp_and_moment}
 
 -- ---- frames
@@ -45,10 +46,6 @@ pub heard_none : (x : Option Hearing) → option_map stamp_and_moment x ≡ None
 heard_none None e = refl
 heard_none (Some x) e = absurd (none-some (x.stamp, x.at) (sym e))
 
--- a unit that has not turned by a frame turns after it
-early : (f from : ℕ) → turned_by (Some from) f ≡ false → f < from
-early f from e = elim (cases_Bool (nat_lt f from)) [ inl z ↦ ltb-true f from z | inr z ↦ absurd (let w = rw z at e in cc) ]
-
 -- and one that has turned by a frame turns then or before
 late : (f from : ℕ) → turned_by (Some from) f ≡ true → from ≤ f
 late f from e = elim (cases_Bool (nat_lt f from)) [ inl z ↦ absurd (let w = rw z at e in cc) | inr z ↦ ltb-false f from z ]
@@ -58,7 +55,7 @@ pub left_above : (m : FlownMission) (storm : Option ℕ) (d : Acts) (f h : ℕ) 
     → h + 2 ≤ f * m.period + m.period → f * m.period + m.period < never → h < d.left
 left_above m None d f h t e low short = omega arith
 left_above m (Some from) d f h t e low short =
-    let up = frame_low m.period f from (early f from e) in
+    let up = frame_low m.period f from (before_turning f from e) in
     ⊎_elim (λ z. omega (arith, z.0)) (λ (z : d.left ≡ from * m.period - 1). omega arith) t.left
 
 -- a unit that has turned by a frame says nothing in it

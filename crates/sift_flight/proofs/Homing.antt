@@ -7,6 +7,7 @@ use Rattle.sift_buffer.specs.Ranges.{Ranges}
 use Rattle.sift_mission.specs.Fits.{Fits}
 use Rattle.sift_mission.specs.Data.{FlownMission}
 use Rattle.sift_mission.specs.Slots.{is_slot, calls, stamp_of}
+use Rattle.sift_mission.specs.laws.Calls.{call_of}
 use Rattle.sift_conduct.specs.Conduct.{Places}
 use Rattle.sift_conduct.specs.Frames.{Flies, FrameConduct}
 use Rattle.sift_flight.specs.Flight.{Flight, unit_of, flight_of, config_of, Hears, IsOfStray, RoundAt}
@@ -14,7 +15,6 @@ use Rattle.sift_flight.specs.Homing.{HasComeHome, FlightsThatComeHomeAreRound}
 use Rattle.sift_flight.specs.Landing.{strays_in}
 use Rattle.sift_flight.specs.Told.{told}
 use Rattle.sift_flight.specs.declared.flight.Flight.{Flight as TheFlight}
-use Rattle.sift_flight.proofs.Calls.{call_of}
 use Rattle.sift_flight.proofs.Landed.{landed_frames_are_round, lawful_cores_hear_lawfully}
 
 -- a choice of equal words

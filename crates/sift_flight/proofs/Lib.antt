@@ -1,7 +1,6 @@
 pub mod Agreeing
 pub mod Bits
 pub mod Blaming
-pub mod Calls
 pub mod CalmActs
 pub mod CalmBoards
 pub mod CalmConduct

@@ -13,10 +13,10 @@ use Rattle.sift_vote.specs.Majority.{agreed_of}
 use Rattle.sift_mission.specs.Data.{FlownMission}
 use Rattle.sift_mission.specs.Slots.{executors, is_held, calls}
 use Rattle.sift_mission.specs.Fits.{Fits}
+use Rattle.sift_mission.specs.laws.Calls.{call_of}
 use Rattle.sift_conduct.specs.Conduct.{own_word, Conduct}
 use Rattle.sift_conduct.specs.Frames.{IdleConduct}
 use Rattle.sift_flight.specs.Existence.{StrayHearing}
-use Rattle.sift_flight.proofs.Calls.{call_of}
 use Rattle.sift_flight.proofs.Making.{Start, row, set_by, own_by, inputs, vote_by, outs_to, outputs, out_word, report_word, heard_here, busy_account, account_here, frame_here}
 
 -- ---- rows and sets

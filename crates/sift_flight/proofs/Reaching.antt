@@ -1,26 +1,22 @@
 -- Round flights are whole, by induction over frames.
-use Rattle.std.proofs.Common.{◌≡◌, ℕ, zero, suc, ◌+◌, ◌*◌, ◌<◌, ◌≤◌, List, length, Bool, not, true, false, Option, None, Some, ℤ, pos, ◌+ℤ◌}
+use Rattle.std.proofs.Common.{◌≡◌, ℕ, zero, suc, ◌+◌, ◌*◌, ◌<◌, ◌≤◌, Bool, true, false, Option, None, Some, ℤ, pos, ◌+ℤ◌}
 use Rattle.std.proofs.Common.{inl, inr, refl, ap, subst, arith}
-use Rattle.std.specs.Prelude.{nat_le}
-use Rattle.std.proofs.lemmas.Bool.{cases_Bool, cases_lt, cases_eq, le-ltb, lt-ltb, leb-true}
+use Rattle.std.proofs.lemmas.Bool.{cases_Bool, cases_lt, cases_eq, le-ltb, lt-ltb}
 use Rattle.std.proofs.lemmas.Int.{ints}
 use Rattle.sift_base.specs.Units.{has}
-use Rattle.sift_base.specs.Layout.{least_units}
-use Rattle.sift_base.specs.laws.Sets.{passing_ascend}
 use Rattle.sift_clock.specs.Distance.{IsWithin}
-use Rattle.sift_exec.specs.Conviction.{is_convicted, kept_by, next_by}
 use Rattle.sift_skew.proofs.lemmas.Changes.{offsets_change_little}
 use Rattle.sift_mission.specs.Data.{IsConfigOf, FlownMission}
 use Rattle.sift_conduct.specs.Conduct.{Account, reading_by}
 use Rattle.sift_mission.specs.Flown.{flown}
 use Rattle.sift_conduct.specs.Frames.{frame_of, FrameConduct}
+use Rattle.sift_conduct.specs.laws.NextConfigs.{next_is_config}
 use Rattle.sift_mission.specs.Premises.{IsFlyable, PartsMakeItFlyable}
 use Rattle.sift_mission.specs.Slots.{has_turned, turned_by}
 use Rattle.sift_flight.specs.Flight.{Flight, unit_of, Strays, IsRound}
 use Rattle.sift_flight.specs.Told.{AreAccountsOf, IsAccountOf, told}
 use Rattle.sift_flight.specs.Whole.{RoundFlightsAreWhole, RoundFlightsHaveAccounts}
 use Rattle.sift_flight.proofs.Blaming.{caught_inside, nobody_caught}
-use Rattle.sift_flight.proofs.Configs.{next_inside}
 
 -- a test isn't passed and failed
 never_both : (b : Bool) → b ≡ true → b ≡ false → ⊥
@@ -42,20 +38,6 @@ still_before (Some from) g f early still = elim (cases_lt f from) [
   | inl before ↦ rw (lt-ltb g from (omega arith)) refl
   | inr after ↦ let off = le-ltb f from after in absurd cc
 ]
-
--- the next configuration is one of the mission
-next_is_config : (m : FlownMission) (names : ℕ → ℕ → Bool) (us : List ℕ) → IsConfigOf m us → IsConfigOf m (next_by names us)
-next_is_config m names us config = record {
-  enough = elim (cases_Bool (nat_le least_units (length (kept_by names us)))) [
-    | inl many ↦ rw many (leb-true least_units (length (kept_by names us)) many)
-    | inr few ↦ rw few config.enough
-  ];
-  ascending = elim (cases_Bool (nat_le least_units (length (kept_by names us)))) [
-    | inl many ↦ rw many (passing_ascend (λ u. not (is_convicted names us u)) us config.ascending)
-    | inr few ↦ rw few config.ascending
-  ];
-  inside = λ u there. config.inside u (next_inside names us u there);
-}
 
 -- an account's configurations are the mission's, and its offsets within the reach of its frame
 record Reaches (m : FlownMission) (fl : Flight) (u f : ℕ) : Type 0 where

@@ -1,27 +1,20 @@
 -- The next configuration: the working units remain, and exactly those are gone that two working units caught.
-use Rattle.std.proofs.Common.{◌≡◌, inl, inr, ℕ, List, length, Bool, true, false, not, ◌&&◌, nat_lt, if◌then◌else◌, refl, sym, ap, ◌∙◌, subst}
-use Rattle.std.specs.Prelude.{nat_le}
+use Rattle.std.proofs.Common.{◌≡◌, inl, inr, ℕ, List, length, Bool, true, false, not, ◌&&◌, nat_lt, refl, sym, ap, ◌∙◌, subst}
 use Rattle.std.specs.List.{filter}
 use Rattle.std.proofs.lemmas.Bool.{cases_Bool, le-leb}
-use Rattle.sift_base.specs.Units.{has, others, has_bit}
+use Rattle.sift_base.specs.Units.{has, has_bit}
 use Rattle.sift_base.specs.Layout.{least_units}
-use Rattle.sift_base.specs.laws.Others.{has-others}
 use Rattle.sift_base.specs.laws.Sets.{filter_same, passing_ascend}
-use Rattle.sift_base.specs.laws.Counts.{filter_has, has_filter}
+use Rattle.sift_base.specs.laws.Counts.{filter_has, has_filter, count-same}
 use Rattle.sift_exec.specs.Conviction.{everyone_in, is_convicted, kept_by, next_by, IsJust, working_accusers}
-use Rattle.sift_exec.proofs.lemmas.Justice.{conviction_holds, count_of_same}
+use Rattle.sift_exec.specs.laws.NextConfigs.{next-same}
+use Rattle.sift_exec.proofs.lemmas.Justice.{conviction_holds}
 use Rattle.sift_mission.specs.Data.{FlownMission, IsConfigOf}
 use Rattle.sift_conduct.specs.Conduct.{caught}
 use Rattle.sift_flight.specs.Flight.{Flight, Strays}
 use Rattle.sift_flight.proofs.Bits.{has_bit-bits_of}
 use Rattle.sift_flight.proofs.Working.{InFrame, Member, conduct_here}
 use Rattle.sift_flight.proofs.Agreeing.{report, report_own, report_same}
-
--- who names whom, where names differ only in reports of units outside the configuration, is convicted alike
-next_same : (one other : ℕ → ℕ → Bool) (us : List ℕ) → ((r v : ℕ) → has us r ≡ true → one r v ≡ other r v) → next_by one us ≡ next_by other us
-next_same one other us same = ap (λ k. if nat_le least_units (length k) then k else us)
-    (filter_same (λ u. not (is_convicted one us u)) (λ u. not (is_convicted other us u)) us
-    (λ v hv. ap (λ n. not (has us v && nat_lt 1 n)) (count_of_same (λ r. one r v) (λ r. other r v) (others v us) (λ r hr. same r v (has-others v us r hr).0))))
 
 module _ (m : FlownMission) (strays : Strays) (fl : Flight) (f : ℕ) (us : List ℕ) (here : InFrame m strays fl f us) where
   -- whom q takes r's report to name
@@ -31,7 +24,7 @@ module _ (m : FlownMission) (strays : Strays) (fl : Flight) (f : ℕ) (us : List
   -- all members find the same next configuration
   pub next_one : (p q : ℕ) → Member m f us p → Member m f us q → (fl.account p f).next_cfg ≡ next_by (names q) us
   next_one p q wp wq = (conduct_here m strays fl f us here p wp).next_cfg
-      ∙ next_same (names p) (names q) us (λ r v hr. ap (λ w. has_bit w v) (report_same m strays fl f us here p q r wp wq hr))
+      ∙ next-same (names p) (names q) us (λ r v hr. ap (λ w. has_bit w v) (report_same m strays fl f us here p q r wp wq hr))
 
   -- a member's report names whom it caught
   names_caught : (q r v : ℕ) → Member m f us q → Member m f us r → has us v ≡ true → names q r v ≡ caught (fl.account r f) v
@@ -48,7 +41,7 @@ module _ (m : FlownMission) (strays : Strays) (fl : Flight) (f : ℕ) (us : List
     -- the units that are convicted are those that two working units caught
     convicted_is : (v : ℕ) → has us v ≡ true → is_convicted (names q) us v ≡ nat_lt 1 (working_accusers (λ u. m.works u f) (λ u. caught (fl.account u f)) us v)
     convicted_is v hv = just.exact v hv ∙ ap (λ n. nat_lt 1 n)
-        (count_of_same (λ r. m.works r f && names q r v) (λ r. m.works r f && caught (fl.account r f) v) us
+        (count-same (λ r. m.works r f && names q r v) (λ r. m.works r f && caught (fl.account r f) v) us
         (λ r hr. elim (cases_Bool (m.works r f)) [ inl wr ↦ rw wr (names_caught q r v wq (record { member = hr; works = wr }) hv) | inr fr ↦ rw fr refl ]))
 
     next_kept : next_by (names q) us ≡ kept_by (names q) us

@@ -8,9 +8,9 @@ use Rattle.sift_mission.specs.Slots.{calls, stamp_of, has_turned}
 use Rattle.sift_conduct.specs.Conduct.{UnitFrame, unit_frame, own_word, said_of, Conduct}
 use Rattle.sift_conduct.specs.Frames.{last_of, frame_of, FrameConduct, IdleConduct, Flies}
 use Rattle.sift_mission.specs.Fits.{Fits}
+use Rattle.sift_mission.specs.laws.Calls.{call_of}
 use Rattle.sift_flight.specs.Flight.{Flight, unit_of, config_of, Strays, RoundAt}
 use Rattle.sift_flight.specs.Existence.{StrayHearing, HearsStraysAt}
-use Rattle.sift_flight.proofs.Calls.{call_of}
 
 -- a frame of two round flights that both begin alike, and in which the same is heard of strays
 pub record AreBothRound (m : FlownMission) (strays strays' : Strays) (stray : StrayHearing) (fl gl : Flight) (f : ℕ) : Type 0 where

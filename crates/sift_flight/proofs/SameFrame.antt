@@ -2,10 +2,10 @@
 use Rattle.std.proofs.Common.{◌≡◌, ℕ, List, map, true, false, not, ◌&&◌, nat_eq, if◌then◌else◌, Option, Some, sym, ap, ◌∙◌, arith}
 use Rattle.std.specs.Prelude.{◌+ℤ◌}
 use Rattle.std.specs.FinSet as set
-use Rattle.std.proofs.lemmas.Cmp.{nat_cmp_total}
-use Rattle.sift_base.specs.Units.{Units, has, holds, has_bit, bits_of}
+use Rattle.sift_base.specs.Units.{has, has_bit, bits_of}
 use Rattle.sift_base.specs.declared.slot.Slot.{Slot}
 use Rattle.sift_base.specs.declared.slot.Slot.TheVariants.{Clock, Sense, RelaySense, Out, Report, RelayReport}
+use Rattle.sift_base.specs.laws.Sets.{same_units}
 use Rattle.sift_vote.specs.Majority.{agreed_of, majority_of, differs}
 use Rattle.sift_agree.specs.Agreement.{taken}
 use Rattle.sift_exec.specs.Conviction.{everyone_in, next_by}
@@ -21,10 +21,6 @@ use Rattle.sift_flight.specs.Flight.{Flight, config_of, Strays, AreSameAt}
 use Rattle.sift_flight.specs.Existence.{StrayHearing}
 use Rattle.sift_flight.proofs.Same.{AreBothRound, HearAlike, conduct_one, conduct_other, busy_one, idle_one, by_place, say, hear}
 use Rattle.sift_flight.proofs.SameWords.{heard_clock, heard_sense, heard_relay, heard_out, ins_same, polled_same, outs_same, all_outs}
-
--- sets that hold the same units are the same
-same_units : (s t : Units) → ((u : ℕ) → holds s u ≡ holds t u) → s ≡ t
-same_units s t same = set.same_set nat_cmp_total set.nat_cmp-IsAntisymmetric s t same
 
 module _ (m : FlownMission) (strays strays' : Strays) (stray : StrayHearing) (fl gl : Flight) (f : ℕ) (b : AreBothRound m strays strays' stray fl gl f) where
   abbrev us : ℕ → List ℕ

@@ -11,11 +11,11 @@ use Rattle.sift_agree.specs.Agreement.{taken}
 use Rattle.sift_config.specs.Config.{reader_of}
 use Rattle.sift_mission.specs.Data.{FlownMission}
 use Rattle.sift_mission.specs.Slots.{executors, is_held}
+use Rattle.sift_mission.specs.laws.Calls.{call_of}
 use Rattle.sift_conduct.specs.Conduct.{Account, UnitFrame, unit_frame, input_of, made, polled, voted, Conduct}
 use Rattle.sift_conduct.specs.Frames.{last_of, Flies, IdleConduct}
 use Rattle.sift_flight.specs.Flight.{Flight, config_of, Strays}
 use Rattle.sift_flight.specs.Existence.{StrayHearing}
-use Rattle.sift_flight.proofs.Calls.{call_of}
 use Rattle.sift_flight.proofs.Same.{AreBothRound, HearAlike, conduct_other, busy_one, idle_one, by_place, say, hear}
 
 module _ (m : FlownMission) (strays strays' : Strays) (stray : StrayHearing) (fl gl : Flight) (f : ℕ) (b : AreBothRound m strays strays' stray fl gl f) where

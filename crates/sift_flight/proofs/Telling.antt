@@ -4,7 +4,7 @@ use Rattle.std.proofs.Common.{get_or, ℤ, pos, to_z, of_z, w64, ◌-ℤ◌, inl
 use Rattle.std.specs.Prelude.{◌≤ℤ◌, count_by, nat_le, map, MatchOption}
 use Rattle.std.specs.Int.{int_max, int_min}
 use Rattle.std.specs.List.{Contains}
-use Rattle.std.proofs.lemmas.Bool.{cases_eq, le-leb, leb-true}
+use Rattle.std.proofs.lemmas.Bool.{cases_eq, le-leb, leb-true, and_from, and_parts}
 use Rattle.std.proofs.lemmas.Int.{ints, fold-int_max_bounds, fold-int_max_reached, fold-int_min_bounds, fold-int_min_reached}
 use Rattle.std.proofs.lemmas.List.Elements.{All-cons, All-push, Contains-from_at, at_from_Contains}
 use Rattle.sift_base.specs.Units.{HasMargin, faulty_count}
@@ -16,7 +16,6 @@ use Rattle.sift_skew.specs.laws.Extremes.{skew_from, slack_from}
 use Rattle.sift_mission.specs.Data.{FlownMission}
 use Rattle.sift_flight.specs.Flight.{Flight}
 use Rattle.sift_flight.specs.Figures.{config_at, MarginIsTold, SkewIsTold, SlackIsTold, is_sound_at, margin_before, skew_of, slack_of}
-use Rattle.sift_flight.proofs.Calls.{and_both, both}
 
 -- ---- margin
 
@@ -24,17 +23,17 @@ module _ (m : FlownMission) (fl : Flight) where
   -- a sound configuration has margin, and one with margin is sound
   sound_has : (f : ℕ) → is_sound_at m fl f ≡ true → HasMargin (λ u. m.works u f) (config_at m fl f)
   sound_has f sound =
-      let two = and_both (nat_le (faulty_count (λ u. m.works u f) (config_at m fl f)) 1) (nat_le 4 (count_by (λ u. m.works u f) (config_at m fl f))) sound in
+      let two = and_parts (nat_le (faulty_count (λ u. m.works u f) (config_at m fl f)) 1) (nat_le 4 (count_by (λ u. m.works u f) (config_at m fl f))) sound in
       record { few = leb-true _ _ two.0; enough = leb-true _ _ two.1 }
 
   has_sound : (f : ℕ) → HasMargin (λ u. m.works u f) (config_at m fl f) → is_sound_at m fl f ≡ true
-  has_sound f has = both _ _ (le-leb _ _ has.few) (le-leb _ _ has.enough)
+  has_sound f has = and_from _ _ (le-leb _ _ has.few) (le-leb _ _ has.enough)
 
   -- where all frames before one are sound, each of them has margin
   before_has : (n : ℕ) → margin_before m fl n ≡ true → (g : ℕ) → g < n → HasMargin (λ u. m.works u g) (config_at m fl g)
   before_has zero all g low = absurd (omega arith)
   before_has (suc n) all g low =
-      let two = and_both (margin_before m fl n) (is_sound_at m fl n) all in
+      let two = and_parts (margin_before m fl n) (is_sound_at m fl n) all in
       elim (cases_eq g n) [
         | inl same ↦ subst (λ k. HasMargin (λ u. m.works u k) (config_at m fl k)) (sym same) (sound_has n two.1)
         | inr other ↦ before_has n two.0 g (omega arith)
@@ -42,7 +41,7 @@ module _ (m : FlownMission) (fl : Flight) where
 
   has_before : (n : ℕ) → ((g : ℕ) → g < n → HasMargin (λ u. m.works u g) (config_at m fl g)) → margin_before m fl n ≡ true
   has_before zero each = refl
-  has_before (suc n) each = both _ _ (has_before n (λ g low. each g (omega arith))) (has_sound n (each n (omega arith)))
+  has_before (suc n) each = and_from _ _ (has_before n (λ g low. each g (omega arith))) (has_sound n (each n (omega arith)))
 
   -- a margin that is lost stays lost
   pub stays_lost : (n later : ℕ) → n ≤ later → margin_before m fl n ≡ false → margin_before m fl later ≡ false

@@ -2,7 +2,7 @@
 use Rattle.std.proofs.Common.{◌≡◌, inl, inr, ℕ, zero, suc, ◌+◌, ◌<◌, ◌≤◌, List, [], ◌∷◌, map, slice_index, Bool, true, false, not, Option, Some, refl, sym, ap, ◌∙◌, arith}
 use Rattle.std.specs.Prelude.{count_by}
 use Rattle.std.specs.List.{filter, list_any, range_with_len}
-use Rattle.std.proofs.lemmas.Bool.{cases_Bool, true≢false, eq-eqb}
+use Rattle.std.proofs.lemmas.Bool.{cases_Bool, true≢false, eq-eqb, and_parts}
 use Rattle.std.proofs.lemmas.Bool.Decides.{eqb_tells}
 use Rattle.std.proofs.lemmas.List.{length-map}
 use Rattle.std.proofs.lemmas.Grind.{same_number_lists}
@@ -18,7 +18,6 @@ use Rattle.sift_mission.specs.Slots.{executors, is_held}
 use Rattle.sift_conduct.specs.Conduct.{UnitFrame, made, polled, poll_catches}
 use Rattle.sift_conduct.specs.Frames.{last_of}
 use Rattle.sift_flight.specs.Flight.{Flight, Strays}
-use Rattle.sift_flight.proofs.Calls.{and_both}
 use Rattle.sift_flight.proofs.Ideal.{IsStep}
 use Rattle.sift_flight.proofs.Working.{InFrame, Member, by_config, conduct_here, hears, out_call}
 
@@ -133,9 +132,9 @@ module _ (m : FlownMission) (strays : Strays) (fl : Flight) (f : ℕ) (us : List
   none_polled u v wu wv = elim (cases_Bool (poll_catches (frame_here u) v)) [
     | inr e ↦ e
     | inl t ↦
-        let found = any_found m.words _ (and_both (has us v) _ t).1 in
+        let found = any_found m.words _ (and_parts (has us v) _ t).1 in
         let w : ℕ = found.0 in
-        let both = and_both (m.executes us w v) _ found.2 in
+        let both = and_parts (m.executes us w v) _ found.2 in
         let low = below w (omega (arith, found.1)) in
         let at_place = place_is w found.1 low u wu v (has_filter (m.executes us w) us v wv.member both.0) wv.works in
         let vote = (majority_is_found (map (place u w) (executors m us w)) (slice_index outs w)).1 (vote_is w found.1 (kept_by w found.1 v both.0) low u wu) in

@@ -1,5 +1,6 @@
 -- One frame of a round flight whose working units share a configuration with margin: what they say to each other they hear.
 use Rattle.std.proofs.Common.{false, ◌≡◌, ◌≢◌, ℕ, ◌<◌, List, true, not, ◌&&◌, nat_eq, Option, refl, sym, ap, ◌∙◌, subst, lt-ltb, eq-eqb, ne_eqb}
+use Rattle.std.proofs.lemmas.Bool.{and_from}
 use Rattle.sift_base.specs.Units.{has, HasMargin}
 use Rattle.sift_base.specs.declared.slot.Slot.{Slot}
 use Rattle.sift_base.specs.declared.slot.Slot.TheVariants.{Clock, Sense, RelaySense, Out, Report, RelayReport}
@@ -12,7 +13,7 @@ use Rattle.sift_conduct.specs.Frames.{last_of, Flies}
 use Rattle.sift_flight.specs.Flight.{Flight, config_of, Strays, RoundAt}
 use Rattle.sift_flight.specs.Figures.{Works}
 use Rattle.sift_mission.specs.Premises.{IsFlyable}
-use Rattle.sift_flight.proofs.Calls.{Call, call_is, both}
+use Rattle.sift_mission.specs.laws.Calls.{Call, call_is}
 
 -- frame f is one of a round flight, and us is the configuration of all units that work in it
 pub record InFrame (m : FlownMission) (strays : Strays) (fl : Flight) (f : ℕ) (us : List ℕ) : Type 0 where
@@ -106,5 +107,5 @@ module _ (m : FlownMission) (strays : Strays) (fl : Flight) (f : ℕ) (us : List
     from = wp.member;
     to = wq.member;
     other = ne;
-    sender = both (has us s) (not (nat_eq p s) && not (nat_eq q s)) hs (both (not (nat_eq p s)) (not (nat_eq q s)) (ap not (ne_eqb p s ps)) (ap not (ne_eqb q s qs)));
+    sender = and_from (has us s) (not (nat_eq p s) && not (nat_eq q s)) hs (and_from (not (nat_eq p s)) (not (nat_eq q s)) (ap not (ne_eqb p s ps)) (ap not (ne_eqb q s qs)));
   }

@@ -1,5 +1,5 @@
 -- Lists of what stands at each number, with one more.
-use Rattle.std.proofs.Common.{◌≡◌, ◌≢◌, ℕ, ◌+◌, Bool, true, false, not, nat_eq, cond, List, [], ◌∷◌, ◌++◌, map, refl, sym, ap, ◌∙◌, arith}
+use Rattle.std.proofs.Common.{◌≡◌, ◌≢◌, ℕ, ◌+◌, Bool, true, false, not, nat_eq, cond, List, [], ◌∷◌, ◌++◌, map, refl, ap, ◌∙◌, arith}
 use Rattle.std.proofs.lemmas.Bool.Decides.{nat_tests}
 use Rattle.std.specs.Fmt.{decimal}
 use Rattle.std.specs.List.{filter, flat_map, range_with_len}
@@ -7,6 +7,7 @@ use Rattle.std.proofs.lemmas.List.FromFn.{map-range_with_len_more}
 use Rattle.std.proofs.lemmas.List.Elements.{filter-append}
 use Rattle.std.proofs.lemmas.Grind.{flat_map-append}
 use Rattle.std.proofs.lemmas.List.{append-nil}
+use Rattle.sift_base.specs.laws.Ranges.{range-next}
 use Rattle.sift_gen.specs.Scenario.{other_digits}
 
 -- what a function makes of the numbers below another, with one more
@@ -17,10 +18,6 @@ map-id : (xs : List ℕ) → map (λ x. x) xs ≡ xs
 map-id [] = refl
 map-id (x ∷ xs) = ap (λ ys. x ∷ ys) (map-id xs)
 
--- the numbers below another, with one more
-range-more : (n : ℕ) → range_with_len 0 (n + 1) ≡ range_with_len 0 n ++ n ∷ []
-range-more n = sym (map-id (range_with_len 0 (n + 1))) ∙ (map-more (λ x. x) n ∙ ap (λ xs. xs ++ n ∷ []) (map-id (range_with_len 0 n)))
-
 -- the digits of one number alone, where it passes a test
 digit_of : (p : ℕ → Bool) (n : ℕ) → flat_map decimal (filter p (n ∷ [])) ≡ cond (p n) (decimal n) []
 digit_of p n =
@@ -30,7 +27,7 @@ digit_of p n =
 digits-more : (n unit : ℕ) → other_digits (n + 1) unit ≡ other_digits n unit ++ cond (not (nat_eq n unit)) (decimal n) []
 digits-more n unit =
     let p : ℕ → Bool = λ u. not (nat_eq u unit) in
-    ap (λ xs. flat_map decimal (filter p xs)) (range-more n)
+    ap (λ xs. flat_map decimal (filter p xs)) (range-next n)
     ∙ (ap (flat_map decimal) (filter-append p (range_with_len 0 n) (n ∷ []))
     ∙ (flat_map-append decimal (filter p (range_with_len 0 n)) (filter p (n ∷ []))
     ∙ ap (λ xs. flat_map decimal (filter p (range_with_len 0 n)) ++ xs) (digit_of p n)))

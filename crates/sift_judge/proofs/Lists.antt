@@ -1,8 +1,8 @@
 -- Lists of units: the first that passes a test, what holds of each that passes, and what is told once.
-use Rattle.std.proofs.Common.{◌≡◌, ℕ, zero, suc, ◌+◌, ◌<◌, ◌≤◌, List, [], ◌∷◌, Bool, true, false, nat_eq, Option, None, Some, inl}
+use Rattle.std.proofs.Common.{◌≡◌, ℕ, List, [], ◌∷◌, Bool, true, nat_eq, Option, None, Some, inl}
 use Rattle.std.proofs.Common.{inr, refl, sym, ap, ◌∙◌, subst, arith}
 use Rattle.std.specs.Prelude.{slice_get}
-use Rattle.std.specs.List.{All, filter, find, range_with_len}
+use Rattle.std.specs.List.{All, filter, find}
 use Rattle.std.proofs.lemmas.Bool.{cases_Bool}
 use Rattle.std.proofs.lemmas.Bool.Decides.{nat_tests}
 use Rattle.std.proofs.lemmas.List.Elements.{All-cons, All-head, All-nil, All-tail}
@@ -38,24 +38,6 @@ all_passing passes P [] each = All-nil P
 all_passing passes P (v ∷ us) each = elim (cases_Bool (passes v)) [
   | inl t ↦ rw t (All-cons P v (filter passes us) (each v (has-head v us) t) (all_passing passes P us (λ u there works. each u (has-tail v us u there) works)))
   | inr f ↦ rw f (all_passing passes P us (λ u there works. each u (has-tail v us u there) works))
-]
-
--- a unit of the first ones has a number below their count
-pub first_low : (a n u : ℕ) → has (range_with_len a n) u ≡ true → u < a + n
-first_low a zero u h = absurd cc
-first_low a (suc n) u h = elim (cases_Bool (nat_eq a u)) [
-  | inl t ↦ grind (arith, nat_tests, t)
-  | inr t ↦ let rest = first_low (a + 1) n u (rw t at h) in omega arith
-]
-
--- and the other way round
-pub low_first : (a n u : ℕ) → a ≤ u → u < a + n → has (range_with_len a n) u ≡ true
-low_first a zero u from low = absurd (omega arith)
-low_first a (suc n) u from low = elim (cases_Bool (nat_eq a u)) [
-  | inl t ↦ rw t refl
-  | inr t ↦
-      let ne : (a ≡ u → ⊥) = λ e. (let x : nat_eq a a ≡ false = subst (λ v. nat_eq a v ≡ false) (sym e) t in grind (arith, nat_tests, x)) in
-      rw t (low_first (a + 1) n u (omega arith) (omega arith))
 ]
 
 -- what is there is one thing

@@ -6,6 +6,7 @@ use Rattle.std.specs.List.{find}
 use Rattle.std.proofs.lemmas.Bool.{cases_Bool, cases_lt}
 use Rattle.sift_base.specs.Units.{has}
 use Rattle.sift_base.specs.laws.Counts.{has-head, has-tail}
+use Rattle.sift_base.specs.laws.Ranges.{range-low}
 use Rattle.sift_config.specs.Config.{first_units}
 use Rattle.sift_mission.specs.Data.{MissionData}
 use Rattle.sift_mission.specs.PartsFit.{PartsFit}
@@ -13,7 +14,6 @@ use Rattle.sift_report.specs.Headline.{HasForm, IsUnitsLine}
 use Rattle.sift_report.specs.Told.{HadMarginTold, HasMarginTold, IsSoundTold, agreed_told, line_at, told_at, told_in, lead_in, works_in}
 use Rattle.sift_line.specs.declared.line.ReportLine.{ReportLine}
 use Rattle.sift_line.specs.declared.line.ReportLine.TheVariants.{Unit as unit, Faulty, Idle, Frame, Last}
-use Rattle.sift_judge.proofs.Lists.{first_low}
 
 -- ---- one frame more
 
@@ -57,7 +57,7 @@ found_low passes (v ∷ us) n some inside = elim (cases_Bool (passes v)) [
 
 pub lead_low : (d : MissionData) (f : ℕ) → PartsFit d → lead_in d f < d.units
 lead_low d f fit = found_low (λ u. works_in d u f) (first_units d.units) d.units (let enough = fit.limits.enough_units in omega (arith, enough))
-    (λ u there. (let low = first_low 0 d.units u there in omega (arith, low)))
+    (λ u there. (let low = range-low 0 d.units u there in omega (arith, low)))
 
 -- a unit's line that tells a configuration tells a word for each sensor
 inputs_length : (d : MissionData) (f u : ℕ) (us : List ℕ) (line : Option ReportLine) → IsSomeAnd line (IsUnitsLine d f u) → (told_in line).config ≡ Some us →

@@ -9,8 +9,7 @@ use Rattle.std.proofs.lemmas.Bool.{cases_Bool, cases_lt}
 use Rattle.std.proofs.lemmas.Cmp.{nat_cmp_total}
 use Rattle.std.proofs.lemmas.List.Elements.{filter_agree}
 use Rattle.sift_base.specs.Units.{Units, AreUnits, MembersAreTheSet, has, holds, members, unit_limit, unit_numbers}
-use Rattle.sift_base.specs.laws.Counts.{has-head, has-tail}
-use Rattle.sift_judge.proofs.Lists.{first_low, low_first}
+use Rattle.sift_base.specs.laws.Ranges.{has-range, range-low}
 
 module _ (units all : Units) (n : ℕ) (first : (w : ℕ) → holds all w ≡ has (range_with_len 0 n) w) where
   left : (w : ℕ) → holds (set.difference units all) w ≡ (holds units w && not (has (range_with_len 0 n) w))
@@ -19,7 +18,7 @@ module _ (units all : Units) (n : ℕ) (first : (w : ℕ) → holds all w ≡ ha
   -- where nothing is left of a set without the first units, each of its members is one of them
   pub none_left : set.len (set.difference units all) ≡ 0 → (w : ℕ) → holds units w ≡ true → w < n
   none_left zero_left w there = elim (cases_Bool (has (range_with_len 0 n) w)) [
-    | inl t ↦ let x = first_low 0 n w t in omega (arith, x)
+    | inl t ↦ let x = range-low 0 n w t in omega (arith, x)
     | inr f ↦
         let empty : holds (set.difference units all) w ≡ false = ap (λ s. holds s w) (set.empty_of_len (set.difference units all) zero_left) ∙ set.contains-empty nat_cmp w in
         let full : holds (set.difference units all) w ≡ true = left w ∙ rw (there, f) refl in
@@ -31,7 +30,7 @@ module _ (units all : Units) (n : ℕ) (first : (w : ℕ) → holds all w ≡ ha
   all_inside inside =
       let same : set.difference units all ≡ set.empty = set.same_set nat_cmp_total nat_cmp-IsAntisymmetric (set.difference units all) set.empty (λ w.
       left w ∙ (elim (cases_Bool (holds units w)) [
-        | inl t ↦ (let x = low_first 0 n w (omega arith) (let low = inside w t in omega (arith, low)) in rw (t, x) (sym (set.contains-empty nat_cmp w)))
+        | inl t ↦ (let x = has-range 0 n w (omega arith) (let low = inside w t in omega (arith, low)) in rw (t, x) (sym (set.contains-empty nat_cmp w)))
         | inr f ↦ rw f (sym (set.contains-empty nat_cmp w))
       ])) in
       ap set.len same ∙ set.len-empty nat_cmp
@@ -72,10 +71,3 @@ unfolding members
 members_left a b =
     filter_agree (holds (set.difference a b)) (λ w. holds a w && not (holds b w)) (λ w. set.contains-difference nat_cmp_total a b w) unit_numbers
     ∙ filter_both (holds a) (λ w. not (holds b w)) unit_numbers
-
--- tests that agree on the units of a list keep the same of them
-pub filter_same : (p q : ℕ → Bool) (us : List ℕ) → ((u : ℕ) → has us u ≡ true → p u ≡ q u) → filter p us ≡ filter q us
-filter_same p q [] same = refl
-filter_same p q (u ∷ us) same =
-    let rest = filter_same p q us (λ v there. same v (has-tail u us v there)) in
-    rw (same u (has-head u us), rest) refl

@@ -11,6 +11,7 @@ use Rattle.std.proofs.lemmas.Str.{IsUtf8-from_ascii}
 use Rattle.std.proofs.lemmas.Str.Parse.{digit_from_value}
 use Rattle.sift_base.specs.Units.{Units, has, holds, members, unit_limit, unit_numbers}
 use Rattle.sift_base.specs.laws.ReadBack.{has-filter}
+use Rattle.sift_base.specs.laws.Counts.{has-head}
 use Rattle.sift_exec.specs.declared.catches.Kinds.{Kinds}
 use Rattle.sift_line.specs.Bad.{caught_text, kinds_text}
 use Rattle.sift_line.specs.declared.bad.Bad.{Bad}
@@ -91,9 +92,6 @@ ascii-margin false = search rules
 abbrev AreInside : List ℕ → Type 0
 AreInside us = (u : ℕ) → has us u ≡ true → u < unit_limit
 
-here_first : (u : ℕ) (us : List ℕ) → has (u ∷ us) u ≡ true
-here_first u us = grind (arith, nat_tests)
-
 there_later : (u v : ℕ) (us : List ℕ) → has us v ≡ true → has (u ∷ us) v ≡ true
 there_later u v us there = rw there (later (nat_eq u v))
   where
@@ -107,7 +105,7 @@ ascii-digit u low = omega arith
 ascii-members : (us : List ℕ) → AreInside us → AreAscii (map unit_digit us)
 ascii-members [] inside = tt
 ascii-members (u ∷ us) inside =
-    (ascii-digit u (inside u (here_first u us)), ascii-members us (λ v there. inside v (there_later u v us there)))
+    (ascii-digit u (inside u (has-head u us)), ascii-members us (λ v there. inside v (there_later u v us there)))
 
 ascii-units : (us : List ℕ) → AreInside us → AreAscii (units_text us)
 ascii-units [] inside = (omega arith, tt)
@@ -143,7 +141,7 @@ ascii-kinds kinds = letters kinds.poll kinds.relay kinds.clock
 ascii-catches : (caught : Catches) (us : List ℕ) → AreInside us → AllAscii (map (λ u. unit_digit u ∷ kinds_text (kinds_of caught u)) us)
 ascii-catches caught [] inside = tt
 ascii-catches caught (u ∷ us) inside = (
-  (ascii-digit u (inside u (here_first u us)), ascii-kinds (kinds_of caught u)),
+  (ascii-digit u (inside u (has-head u us)), ascii-kinds (kinds_of caught u)),
   ascii-catches caught us (λ v there. inside v (there_later u v us there)),
 )
 

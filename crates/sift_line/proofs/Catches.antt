@@ -13,18 +13,16 @@ use Rattle.std.proofs.lemmas.List.Folds.{list_any_more}
 use Rattle.std.proofs.lemmas.List.Elements.{All-cons, All-map, All-nil}
 use Rattle.sift_base.specs.Units.{Units, AreUnits, has, holds, members, unit_numbers}
 use Rattle.sift_base.specs.laws.ReadBack.{has-filter, has_low}
-use Rattle.sift_base.specs.laws.Counts.{has-head, has-tail}
-use Rattle.sift_base.specs.laws.Sets.{holds-insert}
+use Rattle.sift_base.specs.laws.Counts.{has-head, has-tail, nat_eq-swap}
+use Rattle.sift_base.specs.laws.Sets.{holds-insert, few_members}
 use Rattle.sift_exec.specs.Conviction.{everyone_in, has_kind, kinds_of}
 use Rattle.sift_exec.specs.declared.catches.Catches.{Catches}
 use Rattle.sift_exec.specs.declared.catches.Kind.{Kind}
 use Rattle.sift_exec.specs.declared.catches.Kind.TheVariants.{Poll, Relay, Clock}
 use Rattle.sift_exec.specs.declared.catches.Kinds.{Kinds}
-use Rattle.sift_exec.specs.laws.Counted.{filter-≤}
 use Rattle.sift_exec.specs.laws.Everyone.{holds-everyone}
 use Rattle.sift_line.specs.Bad.{AreTold, IsCatch, IsSomeKind, IsToldBy, catch_of, catches_in, IsBad, catch_text, caught_text}
 use Rattle.sift_line.specs.declared.catch.Catch.{Catch}
-use Rattle.sift_line.proofs.Sets.{nat_eq-swap}
 use Rattle.sift_line.specs.declared.bad.Bad.TheVariants.{ByKind}
 use Rattle.sift_line.specs.Part.{list_text}
 use Rattle.std.proofs.lemmas.Simd.{map-map}
@@ -71,11 +69,6 @@ all_catches caught are =
 -- they are listed as a line tells them
 pub catches_are : (caught : Catches) → list_text (map catch_text (catches_in caught)) ≡ caught_text (ByKind caught)
 catches_are caught = ap list_text (map-map catch_text (catch_of caught) (members (everyone_in caught)))
-
--- and there are at most eight
-pub few_members : (units : Units) → length (members units) ≤ 8
-unfolding members
-few_members units = filter-≤ (holds units) unit_numbers
 
 -- there are at most eight catches
 pub few_catches : (caught : Catches) → length (catches_in caught) ≤ 8

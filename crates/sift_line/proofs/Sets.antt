@@ -8,7 +8,7 @@ use Rattle.std.proofs.lemmas.Bool.{cases_Bool, cases_eq, eqb-true, ne_eqb}
 use Rattle.std.proofs.lemmas.List.{take_more}
 use Rattle.sift_base.specs.Units.{Units, AreUnits, IsAscending, has, holds, members, unit_limit, unit_numbers}
 use Rattle.sift_base.specs.laws.ReadBack.{has-filter, set-members}
-use Rattle.sift_base.specs.laws.Counts.{has-head, has-tail}
+use Rattle.sift_base.specs.laws.Counts.{has-head, has-tail, nat_eq-swap}
 use Rattle.sift_base.specs.laws.Sets.{filter_same, below_has, holds-insert}
 use Rattle.sift_config.specs.Config.{IsConfig}
 use Rattle.sift_line.specs.Part.{AscendFrom}
@@ -100,13 +100,6 @@ members_up units = passing_up (holds units) 8 0 refl
 pub same_members : (one other : Units) → AreUnits one → AreUnits other → members one ≡ members other → one ≡ other
 same_members one other are_one are_other same =
     sym (set-members one are_one) ∙ ap (λ us. set.from_list {R = nat_cmp} us) same ∙ set-members other are_other
-
--- two units are told to be one whichever of them comes first
-pub nat_eq-swap : (u v : ℕ) → nat_eq u v ≡ nat_eq v u
-nat_eq-swap u v = elim (cases_eq u v) [
-  | inl same ↦ rw same refl
-  | inr other ↦ ne_eqb u v other ∙ sym (ne_eqb v u (λ e. other (sym e)))
-]
 
 or_swap : (a b c : Bool) → (a || (b || c)) ≡ (b || (a || c))
 or_swap true true c = refl

@@ -8,19 +8,14 @@ use Rattle.std.proofs.Common.{Option, Some, None, refl}
 use Rattle.std.specs.Prelude.{IfSome, IfNone, slice_index_or, nat_le, if◌then◌else◌}
 use Rattle.std.proofs.lemmas.Bool.{cases_Bool}
 use Rattle.std.proofs.lemmas.List.{get_or_default}
-use Rattle.sift_base.specs.laws.Sets.{filter_same}
+use Rattle.sift_base.specs.laws.Sets.{filter_same, same_units}
 use Rattle.sift_config.specs.Config.{remaining}
 use Rattle.sift_exec.specs.Conviction.{report_by, is_convicted, kept_by, next_by, next_units}
 use Rattle.std.specs.FinSet as set
-use Rattle.std.specs.Cmp.{nat_cmp_total}
 use Rattle.sift_base.specs.Units.{Units, has, holds}
 use Rattle.sift_memory.specs.Memory.{Memory, units_at, gathered}
 use Rattle.std.specs.Prelude.{ℤ}
 use Rattle.sift_memory.specs.laws.Sets.{holds-gathered}
-
--- two sets that have the same units are one set
-pub same_units : (a b : Units) → ((v : ℕ) → holds a v ≡ holds b v) → a ≡ b
-same_units a b same = set.same_set nat_cmp_total set.nat_cmp-IsAntisymmetric a b same
 
 -- a set of those units of a list that pass a test is the one that was gathered
 pub is_gathered : (a : Units) (test : ℕ → Bool) (us : List ℕ) → ((v : ℕ) → holds a v ≡ (has us v && test v)) → a ≡ gathered test us

@@ -1,17 +1,12 @@
 -- A poll has no words just where its word is held.
-use Rattle.std.proofs.Common.{◌≡◌, ℕ, ◌<◌, List, [], ◌∷◌, length, Bool, false, nat_eq, Option, inl, inr, refl, sym, ◌∙◌, arith, ne_eqb}
+use Rattle.std.proofs.Common.{◌≡◌, ℕ, ◌<◌, List, length, nat_eq, Option, inl, inr, sym, ◌∙◌, arith, ne_eqb}
 use Rattle.std.proofs.lemmas.Bool.{cases_Bool}
 use Rattle.std.proofs.lemmas.List.{length-map}
-use Rattle.std.specs.List.{filter}
+use Rattle.sift_base.specs.laws.Sets.{none_pass}
 use Rattle.sift_mission.specs.Fits.{Fits}
 use Rattle.sift_mission.specs.Data.{FlownMission, IsConfigOf}
 use Rattle.sift_mission.specs.Slots.{executors, is_held}
 use Rattle.sift_memory.specs.Memory.{Memory, poll_of, polled_at}
-
--- no number passes a test that all fail
-none_pass : (p : ℕ → Bool) (us : List ℕ) → ((u : ℕ) → p u ≡ false) → filter p us ≡ []
-none_pass p [] fails = refl
-none_pass p (u ∷ us) fails = rw (fails u) (none_pass p us fails)
 
 -- a poll has no words just where its word is held
 pub empty_poll : (m : FlownMission) (us : List ℕ) (u : ℕ) (b : Memory) (heard : List (Option ℕ)) (w : ℕ) → Fits m → IsConfigOf m us → w < m.words

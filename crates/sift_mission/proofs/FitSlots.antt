@@ -11,7 +11,7 @@ use Rattle.sift_mission.specs.Flown.{flown}
 use Rattle.sift_mission.specs.PartsFit.{PartsFit}
 use Rattle.sift_mission.specs.Slots.{is_slot}
 use Rattle.sift_base.specs.laws.Numbers.{kind-of-number, number-of-kind}
-use Rattle.sift_mission.specs.laws.Numbers.{has-range, range-has}
+use Rattle.sift_base.specs.laws.Ranges.{has-range, range-has}
 
 module _ (d : MissionData) (fit : PartsFit d) where
   -- the mission's slots are those of its layout

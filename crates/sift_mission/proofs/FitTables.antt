@@ -9,6 +9,7 @@ use Rattle.sift_base.specs.Shapes.{words_in}
 use Rattle.sift_base.specs.declared.slot.Slot.{Slot}
 use Rattle.sift_base.specs.declared.slot.Slot.TheVariants.{Clock, Sense, RelaySense, Out, Report, RelayReport}
 use Rattle.sift_base.specs.Units.{has}
+use Rattle.sift_base.specs.laws.Ranges.{range-has}
 use Rattle.sift_table.specs.Laws.{SlotsAreHeardInTime, TasksHaveThreeExecutors}
 use Rattle.sift_table.specs.Rules.{row_rules, rules_where}
 use Rattle.sift_table.specs.Schedule.{Schedule, positions_of}
@@ -20,7 +21,6 @@ use Rattle.sift_mission.specs.PartsFit.{IsTableFor, PartsFit, table_at}
 use Rattle.sift_mission.specs.Timetable.{HasRowsFor}
 use Rattle.sift_mission.specs.Slots.{is_held, is_silent, is_slot}
 use Rattle.sift_mission.proofs.FitSlots.{is-slot}
-use Rattle.sift_mission.specs.laws.Numbers.{range-has}
 use Rattle.sift_mission.proofs.Positions.{length-ascending, positions-filtered}
 use Rattle.sift_program.specs.laws.ShapeLists.{length-shapes, words-shapes}
 use Rattle.sift_mission.proofs.Tasks.{among-below}

@@ -6,6 +6,8 @@ use Rattle.std.proofs.lemmas.Option.{get_or_from_slice_get, slice_get-get_or, sl
 use Rattle.std.specs.List.{All, filter, range_with_len}
 use Rattle.sift_base.specs.Units.{has}
 use Rattle.sift_base.specs.Shapes.{Shape, first_word, shape_at, words_in}
+use Rattle.sift_base.specs.laws.Ranges.{has-range, range-has}
+use Rattle.sift_base.specs.laws.Counts.{has_filter}
 use Rattle.sift_lang.specs.Sound.{AllNowsBelow, IsSound}
 use Rattle.sift_lang.specs.Tree.{TaskTree, end}
 use Rattle.sift_program.specs.Program as program
@@ -20,9 +22,8 @@ use Rattle.sift_mission.specs.Premises.{IsAmong, RunsProgram}
 use Rattle.sift_mission.proofs.FitSlots.{few-words}
 use Rattle.sift_mission.proofs.FitTables.{table-is, task-below, words-are}
 use Rattle.sift_mission.proofs.Meanings.{SameRead, meaning-same}
-use Rattle.sift_mission.specs.laws.Numbers.{has-range, range-has}
 use Rattle.sift_program.specs.laws.ShapeLists.{shape_in, length-shapes, shape-there, take-shapes, words-shapes, reads_word}
-use Rattle.sift_mission.proofs.Tasks.{among-before, among-earlier, among-own, any-has, contains-has, filter-has, has-filter}
+use Rattle.sift_mission.proofs.Tasks.{among-before, among-earlier, among-own, any-has, contains-has, has-filter}
 
 -- sound tasks have a word each, or more
 tasks-words : (sensors words : ℕ) (tasks : List TaskTree) → All (IsSound sensors words) tasks → length tasks ≤ output_count tasks
@@ -80,7 +81,7 @@ module _ (d : MissionData) (fit : PartsFit d) where
       let within : v < d.layout.words = omega (arith, sum_by-take-le (λ (shape : Shape). shape.outputs) (shapes_in d).tasks t) in
       let earlier : e < t = among-before (shapes_in d).tasks t v (omega arith) in
       let read : reads_task d.program.tasks (task_for w) e ≡ true = any-has (reads_word (task_for w)) _ v (word-own v within) reads in
-      let kept = filter-has (reads_task d.program.tasks (task_for w)) (range_with_len 0 t) e (has-range 0 t e (omega arith) (omega arith)) read in
+      let kept = has_filter (reads_task d.program.tasks (task_for w)) (range_with_len 0 t) e (has-range 0 t e (omega arith) (omega arith)) read in
       (within, needs-are w v low ∙ kept)
 
   -- a word that a task needs is one of an earlier task

@@ -2,6 +2,7 @@
 use Rattle.std.proofs.Common.{arith, pos}
 use Rattle.std.proofs.lemmas.Int.{ints}
 use Rattle.std.proofs.lemmas.List.FromFn.{length-range_with_len}
+use Rattle.sift_base.specs.laws.Ranges.{range-ascends}
 use Rattle.sift_table.specs.Laws.{SlotsAreHeardInTime, TasksRunAfterTheirNeeds, TasksHaveThreeExecutors}
 use Rattle.sift_mission.specs.Data.{IsConfigOf, MissionData}
 use Rattle.sift_mission.specs.Fits.{AreClocksNear}
@@ -11,7 +12,6 @@ use Rattle.sift_mission.specs.Premises.{PartsMakeItFit}
 use Rattle.sift_mission.proofs.FitSlots.{numbered}
 use Rattle.sift_mission.proofs.FitTables.{executors, timed}
 use Rattle.sift_mission.proofs.FitTasks.{counted, read}
-use Rattle.sift_mission.specs.laws.Numbers.{range-ascends}
 use Rattle.sift_mission.proofs.Rows.{drift-low, start-low}
 
 -- all units are a configuration

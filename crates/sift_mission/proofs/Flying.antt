@@ -1,6 +1,7 @@
 -- What fits makes a mission that flights can stand on: its script and its clocks beside its tables.
 use Rattle.std.proofs.Common.{◌≡◌, ℕ, [], Option, None, Some, option_map, inl, inr, refl, ap, ◌∙◌, arith, pos}
 use Rattle.std.proofs.lemmas.Bool.{cases_lt, le-leb, le-ltb, lt-leb, lt-ltb}
+use Rattle.sift_base.specs.laws.Ranges.{has-range}
 use Rattle.sift_script.specs.Faults as faults
 use Rattle.sift_script.specs.Laws.{FaultsAreForGood, OneUnitIsSteady, StormsComeInTheMission, WorkingUnitsHaveNotTurned, WorkingUnitsSayTheirWords}
 use Rattle.sift_table.specs.Laws.{WordsHaveTheirTask}
@@ -11,7 +12,6 @@ use Rattle.sift_mission.specs.Premises.{AreClocksSound, IsScriptSound, PartsMake
 use Rattle.sift_mission.specs.Slots.{StormsCome, turned_by}
 use Rattle.sift_mission.proofs.FitTasks.{program-is}
 use Rattle.sift_mission.proofs.Rows.{drift-low, error-low, errors-low, start-low}
-use Rattle.sift_mission.specs.laws.Numbers.{has-range}
 
 -- a storm has come where its first frame has
 turned-is : (storm : Option (ℕ × ℕ × ℕ)) (f : ℕ) → turned_by (option_map (λ s. s.0) storm) f ≡ faults.has_come storm f

@@ -1,11 +1,11 @@
 -- What a task makes depends only on the sensors and the words of this frame that it reads.
-use Rattle.std.proofs.Common.{◌≡◌, ℕ, zero, suc, ◌<◌, List, slice_index, Bool, true, ◌||◌, refl, ap, ◌∙◌}
-use Rattle.std.specs.Fn.{iterate}
+use Rattle.std.proofs.Common.{◌≡◌, ℕ, ◌<◌, List, slice_index, Bool, true, ◌||◌, refl, ap, ◌∙◌}
 use Rattle.std.proofs.lemmas.Bool.{eq-eqb, or_left, or_right}
 use Rattle.sift_base.specs.Word.{sub}
 use Rattle.sift_lang.specs.Tree.{Term, number, local, sense, this_frame, last_frame, minus, binary, middle, Statement, bind, assign, output, choose, choose_else, repeat, Block, end, step, TaskTree}
-use Rattle.sift_lang.specs.Meaning.{Readings, State, value_of, scoped, chosen, after, after_all, meaning}
+use Rattle.sift_lang.specs.Meaning.{Readings, State, value_of, chosen, after, after_all, meaning}
 use Rattle.sift_lang.specs.Sound.{Bounds, NamesWithin, IsSoundStatement, IsSoundBlock, IsSound, NowsBelow, EachTerm, EachTermOf, AllNowsBelow, locals_after}
+use Rattle.sift_lang.specs.laws.States.{iterate-same, scoped-same}
 use Rattle.sift_program.specs.laws.ShapeLists.{reads_word}
 use Rattle.sift_program.specs.Program.{term_reads, statement_reads, block_reads}
 
@@ -20,15 +20,6 @@ left_read test other made xs ys same v low is = same v low (or_left (test v) (ot
 -- and the second
 right_read : (test other : ℕ → Bool) (made : ℕ) (xs ys : List ℕ) → SameRead (λ v. test v || other v) made xs ys → SameRead other made xs ys
 right_read test other made xs ys same v low is = same v low (or_right (test v) (other v) is)
-
--- rounds that agree on each state lead to one state
-iterate-same : (n : ℕ) (f g : State → State) → ((s : State) → f s ≡ g s) → (s : State) → iterate f n s ≡ iterate g n s
-iterate-same zero f g same s = refl
-iterate-same (suc n) f g same s = iterate-same n f g same (f s) ∙ ap (iterate g n) (same s)
-
--- so do blocks without the locals that they add
-scoped-same : (f g : State → State) → ((s : State) → f s ≡ g s) → (s : State) → scoped f s ≡ scoped g s
-scoped-same f g same s = ap (λ (t : State). scoped (λ _. t) s) (same s)
 
 -- two readings with one list of the frame before, with the same words of the sensors that there are
 record AreAlike (b : Bounds) (r s : Readings) : Type 0 where

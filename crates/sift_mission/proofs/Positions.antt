@@ -1,23 +1,11 @@
 -- Positions of units in a configuration, and how many of them pass a test.
-use Rattle.std.proofs.Common.{◌≡◌, ℕ, zero, suc, ◌+◌, ◌<◌, ◌≤◌, List, [], ◌∷◌, length, Bool, true, false, ◌&&◌, cond, inl, inr, refl, sym, ap, ◌∙◌, arith, nat_eq, count_by, zero-add, Some, slice_get}
+use Rattle.std.proofs.Common.{◌≡◌, ℕ, zero, suc, ◌+◌, ◌<◌, ◌≤◌, List, [], ◌∷◌, length, Bool, true, false, ◌&&◌, inl, inr, refl, sym, ap, ◌∙◌, arith, nat_eq, count_by, zero-add, Some, slice_get}
 use Rattle.std.specs.List.{filter, range_with_len}
 use Rattle.std.proofs.lemmas.Bool.{cases_Bool, eq-eqb, eqb-true, ne_eqb}
-use Rattle.std.proofs.lemmas.List.Sums.{length-filter, sum_by-cons}
-use Rattle.sift_base.specs.laws.Counts.{IsBelowAll}
+use Rattle.std.proofs.lemmas.List.Sums.{length-filter}
+use Rattle.sift_base.specs.laws.Counts.{IsBelowAll, count-same, has-head, has-tail, count-cons}
 use Rattle.sift_base.specs.Units.{has, IsAscending}
 use Rattle.sift_mission.specs.Flown.{position_in}
-
--- one more to count
-count-cons : (p : ℕ → Bool) (x : ℕ) (xs : List ℕ) → count_by p (x ∷ xs) ≡ cond (p x) 1 0 + count_by p xs
-count-cons p x xs = sum_by-cons (λ y. cond (p y) 1 0) x xs
-
--- the first of a list is in it
-has-head : (u : ℕ) (us : List ℕ) → has (u ∷ us) u ≡ true
-has-head u us = rw (eq-eqb u u refl) refl
-
--- so is one that follows
-has-tail : (v : ℕ) (us : List ℕ) (u : ℕ) → has us u ≡ true → has (v ∷ us) u ≡ true
-has-tail v us u there = elim (cases_Bool (nat_eq v u)) [ inl t ↦ rw t refl | inr f ↦ rw f there ]
 
 -- a unit below all of a list isn't in it
 not-below : (u v : ℕ) (us : List ℕ) → IsBelowAll u us → has us v ≡ true → nat_eq u v ≡ false
@@ -35,14 +23,6 @@ position-below (v ∷ us) u there = elim (cases_Bool (nat_eq v u)) [
   | inr other ↦ rw other (omega (arith, position-below us u (rw other at there)))
 ]
 
--- tests that agree on a list's units pass as many of them
-count-agree : (p q : ℕ → Bool) (us : List ℕ) → ((u : ℕ) → has us u ≡ true → p u ≡ q u) → count_by p us ≡ count_by q us
-count-agree p q [] same = refl
-count-agree p q (v ∷ us) same =
-    let here : p v ≡ q v = same v (has-head v us) in
-    let rest : count_by p us ≡ count_by q us = count-agree p q us (λ u there. same u (has-tail v us u there)) in
-    count-cons p v us ∙ (rw (here, rest) refl ∙ sym (count-cons q v us))
-
 -- of the units of an ascending list as many stand at positions that pass a test as there are such positions
 count-positions : (test : ℕ → Bool) (at : ℕ) (us : List ℕ) → IsAscending us
     → count_by (λ u. test (at + position_in us u)) us ≡ count_by test (range_with_len at (length us))
@@ -50,7 +30,7 @@ count-positions test at [] up = refl
 count-positions test at (v ∷ us) up =
     let here : position_in (v ∷ us) v ≡ 0 = rw (eq-eqb v v refl) refl in
     let first : at + position_in (v ∷ us) v ≡ at = rw here (omega arith) in
-    let rest = count-agree (λ u. test (at + position_in (v ∷ us) u)) (λ u. test (at + 1 + position_in us u)) us (λ u there. ap test (moved u there)) in
+    let rest = count-same (λ u. test (at + position_in (v ∷ us) u)) (λ u. test (at + 1 + position_in us u)) us (λ u there. ap test (moved u there)) in
     count-cons (λ u. test (at + position_in (v ∷ us) u)) v us
     ∙ (rw (first, rest, count-positions test (at + 1) us up.1) refl ∙ sym (count-cons test at (range_with_len (at + 1) (length us))))
   where
@@ -62,7 +42,7 @@ pub positions-filtered : (test : ℕ → Bool) (us : List ℕ) → IsAscending u
     → length (filter (λ u. has us u && test (position_in us u)) us) ≡ count_by test (range_with_len 0 (length us))
 positions-filtered test us up =
     length-filter (λ u. has us u && test (position_in us u)) us
-    ∙ (count-agree (λ u. has us u && test (position_in us u)) (λ u. test (0 + position_in us u)) us (λ u there. rw there (ap test (sym (zero-add (position_in us u)))))
+    ∙ (count-same (λ u. has us u && test (position_in us u)) (λ u. test (0 + position_in us u)) us (λ u there. rw there (ap test (sym (zero-add (position_in us u)))))
     ∙ count-positions test 0 us up)
 
 -- an ascending list of numbers from a to below b has no more than there are

@@ -4,13 +4,13 @@ use Rattle.arrayvec.specs.ArrayVec.{ArrayVec}
 use Rattle.std.specs.declared.alloc.Global.{Global}
 use Rattle.std.proofs.lemmas.List.{get_or_default, length-map}
 use Rattle.sift_base.specs.Units.{has}
+use Rattle.sift_base.specs.laws.Ranges.{range-has}
 use Rattle.sift_config.specs.Config.{first_units}
 use Rattle.sift_mission.specs.Data.{MissionData}
 use Rattle.sift_mission.specs.Parts.{data_of}
 use Rattle.sift_mission.specs.PartsFit.{HasWords, PartsFit}
 use Rattle.sift_mission.specs.declared.parts.MissionParts.{MissionParts}
 use Rattle.sift_mission.specs.laws.ByWords.{get_or-map}
-use Rattle.sift_mission.specs.laws.Numbers.{range-has}
 
 module _ (d : MissionData) (fit : PartsFit d) (u : ℕ) (there : has (first_units d.units) u ≡ true) where
   -- a unit is one of those that there are

@@ -1,14 +1,14 @@
 -- The sets of the units that say a slot to a unit, and of those that hear it from one.
-use Rattle.std.proofs.Common.{◌≡◌, ℕ, ◌+◌, ◌-◌, ◌/◌, ◌^◌, ◌<◌, ◌≤◌, ◌==◌, List, Bool, true, false, not, ◌&&◌, ◌||◌, nat_eq, refl, sym, ap, ◌∙◌, inl, inr, arith, ⊎_elim, eq-eqb, eqb-true, ne_eqb, ◌%◌}
+use Rattle.std.proofs.Common.{◌≡◌, ℕ, ◌+◌, ◌-◌, ◌/◌, ◌^◌, ◌<◌, ◌≤◌, ◌==◌, List, Bool, true, false, not, ◌&&◌, ◌||◌, nat_eq, refl, sym, ap, ◌∙◌, inl, inr, arith, ⊎_elim, eqb-true, ◌%◌}
 use Rattle.std.specs.Int.{bit_at, trailing_zeros, w16}
 use Rattle.std.specs.Ordering.{nat_cmp}
-use Rattle.std.specs.Cmp.{nat_cmp_total, unsigned_tied}
 use Rattle.std.specs.FinSet as set
-use Rattle.std.proofs.lemmas.Bool.{cases_Bool, cases_lt, eqb-false}
+use Rattle.std.proofs.lemmas.Bool.{cases_Bool, cases_lt}
 use Rattle.std.proofs.lemmas.Nat.{shr-shr}
 use Rattle.std.proofs.lemmas.Nat.Bits.{bit_at-zero, bit_at_above, bit_at-trailing_zeros}
 use Rattle.sift_base.specs.Units.{Units, has, holds, units_of}
-use Rattle.sift_base.specs.laws.Sets.{holds_low, holds-insert}
+use Rattle.sift_base.specs.laws.Sets.{holds_low, holds-insert, holds-remove}
+use Rattle.sift_base.specs.laws.Counts.{nat_eq-swap}
 use Rattle.sift_base.specs.declared.slot.Slot.{Slot}
 use Rattle.sift_mission.specs.Data.{FlownMission}
 use Rattle.sift_base.specs.declared.slot.Slot.TheVariants.{Clock, Sense, RelaySense, Out, Report, RelayReport}
@@ -79,13 +79,9 @@ just_one us r u there = holds-insert set.empty r u ∙ ap (λ t. nat_eq u r || t
   | inr other ↦ rw other (beside_false (has us u))
 ]
 
--- a set without a unit holds the others that it held
-pub holds_removed : (units : Units) (u q : ℕ) → holds (set.remove units u) q ≡ (not (nat_eq q u) && holds units q)
-holds_removed units u q = set.contains-remove nat_cmp_total units u q ∙ ap (λ t. not t && holds units q) (unsigned_tied q u)
-
 -- all units of the list but one
 pub all_but : (units : Units) (us : List ℕ) (r u : ℕ) → holds units u ≡ (has us u && true) → holds (set.remove units r) u ≡ (has us u && not (nat_eq u r))
-all_but units us r u are = holds_removed units r u ∙ ap (λ t. not (nat_eq u r) && t) are ∙ turned (not (nat_eq u r)) (has us u)
+all_but units us r u are = holds-remove units r u ∙ ap (λ t. not (nat_eq u r) && t) are ∙ turned (not (nat_eq u r)) (has us u)
   where
     turned : (a b : Bool) → (a && (b && true)) ≡ (b && a)
     turned true true = refl
@@ -97,13 +93,6 @@ all_but units us r u are = holds_removed units r u ∙ ap (λ t. not (nat_eq u r
 pub twice : (a b : Bool) → (a && b) ≡ (a && (a && b))
 twice true b = refl
 twice false b = refl
-
--- a test of two numbers is the same the other way round
-same_test : (a b : ℕ) → nat_eq a b ≡ nat_eq b a
-same_test a b = elim (cases_Bool (nat_eq a b)) [
-  | inl same ↦ rw (same, eq-eqb b a (sym (eqb-true a b same))) refl
-  | inr other ↦ rw (other, ne_eqb b a (λ e. eqb-false a b other (sym e))) refl
-]
 
 -- three tests in another order
 pub rotated : (a b c : Bool) → (a && (b && c)) ≡ (b && (c && a))
@@ -159,4 +148,4 @@ module _ (m : FlownMission) (us : List ℕ) (k : Slot) (p q : ℕ) (slot : is_sl
 
   -- and one that says it says it to the others that hear it
   pub calls_from : ((has us p && sends m us k p) && (not (nat_eq q p) && (has us q && receives k q))) ≡ calls m us k p q
-  calls_from = rw (slot, sent m us k p q, same_test q p) (said_by (has us p) (has us q) (not (nat_eq p q)) (sends m us k p) (receives k q))
+  calls_from = rw (slot, sent m us k p q, nat_eq-swap q p) (said_by (has us p) (has us q) (not (nat_eq p q)) (sends m us k p) (receives k q))

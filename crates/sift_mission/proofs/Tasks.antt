@@ -4,7 +4,7 @@ use Rattle.std.specs.List.{Contains, filter, list_any}
 use Rattle.std.proofs.lemmas.Bool.{cases_Bool, cases_lt, eqb-true, lt-ltb, le-ltb, or_left, or_right}
 use Rattle.sift_base.specs.Shapes.{Shape, words_in}
 use Rattle.sift_base.specs.Units.{has}
-use Rattle.sift_program.specs.laws.ShapeLists.{words_in-cons}
+use Rattle.sift_base.specs.laws.Shapes.{words_in-cons}
 use Rattle.sift_table.specs.Timing.{task_of}
 
 -- ---- words of tasks
@@ -61,17 +61,6 @@ has-filter test (y ∷ xs) x there = elim (cases_Bool (test y)) [
     | inr other ↦ let rest = has-filter test xs x (rw (passes, other) at there) in (rw other rest.0, rest.1)
   ]
   | inr fails ↦ let rest = has-filter test xs x (rw fails at there) in (or_right (nat_eq y x) (has xs x) rest.0, rest.1)
-]
-
--- and such a number is left
-pub filter-has : (test : ℕ → Bool) (xs : List ℕ) (x : ℕ) → has xs x ≡ true → test x ≡ true → has (filter test xs) x ≡ true
-filter-has test [] x there passes = absurd cc
-filter-has test (y ∷ xs) x there passes = elim (cases_Bool (nat_eq y x)) [
-  | inl same ↦ rw (ap test (eqb-true y x same) ∙ passes) (or_left (nat_eq y x) (has (filter test xs) x) same)
-  | inr other ↦ elim (cases_Bool (test y)) [
-    | inl kept ↦ rw kept (or_right (nat_eq y x) (has (filter test xs) x) (filter-has test xs x (rw other at there) passes))
-    | inr gone ↦ rw gone (filter-has test xs x (rw other at there) passes)
-  ]
 ]
 
 -- some number of a list passes a test that one of its numbers passes

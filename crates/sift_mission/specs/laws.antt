@@ -1,5 +1,6 @@
 -- What follows from the definitions, with its proofs: what the proofs of crates above may cite.
 pub mod ByWords
+pub mod Calls
 pub mod Configs
-pub mod Numbers
 pub mod Silent
+pub mod Turning

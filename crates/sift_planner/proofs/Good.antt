@@ -1,5 +1,5 @@
 -- A plan meets all rules of schedule tables.
-use Rattle.std.proofs.Common.{◌≡◌, ℕ, zero, suc, ◌+◌, ◌<◌, List, [], ◌∷◌, length, take, Bool, true, false, not, nat_eq, ◌&&◌, inl, inr, ap, sym, subst, ◌∙◌, refl, eqb, eq-eqb, arith}
+use Rattle.std.proofs.Common.{◌≡◌, ℕ, zero, suc, ◌<◌, List, [], ◌∷◌, length, take, Bool, true, false, not, nat_eq, ◌&&◌, inl, inr, ap, sym, subst, ◌∙◌, refl, eqb, eq-eqb, arith}
 use Rattle.std.proofs.lemmas.Bool.{and_from, cases_Bool, false≢true, ne_eqb, or_parts}
 use Rattle.std.proofs.lemmas.List.{length-take-le}
 use Rattle.std.proofs.lemmas.List.Elements.{All-filter, All-take}
@@ -7,23 +7,17 @@ use Rattle.std.specs.List.{All, filter, range_with_len}
 use Rattle.sift_base.specs.Requirement.{AreMet}
 use Rattle.sift_base.specs.Shapes.{AllShapes}
 use Rattle.sift_base.specs.laws.Counts.{IsBelowAll}
+use Rattle.sift_base.specs.laws.Ranges.{range-ascends, range-below}
+use Rattle.sift_base.specs.laws.Sets.{passing_ascend}
 use Rattle.sift_base.specs.Units.{has, IsAscending}
 use Rattle.sift_table.specs.Rules.{AreApart, row_rules, rules_where}
 use Rattle.sift_table.specs.Schedule.{Schedule, positions_of, run_in}
 use Rattle.sift_planner.specs.Earliest.{free_positions, is_used}
 use Rattle.sift_planner.specs.Laws.{PlansAreGood}
 use Rattle.sift_planner.specs.Plans.{IsPlan, IsWithinLimits, Wanted, executors_of}
-use Rattle.sift_planner.proofs.Ranges.{any_one, range_below}
+use Rattle.sift_planner.proofs.Ranges.{any_one}
 
 -- ---- lists that ascend
-
-range_above : (p a n : ℕ) → p < a → IsBelowAll p (range_with_len a n)
-range_above p a zero low = tt
-range_above p a (suc n) low = (low, range_above p (a + 1) n (omega (arith, low)))
-
-range_ascends : (a n : ℕ) → IsAscending (range_with_len a n)
-range_ascends a zero = tt
-range_ascends a (suc n) = (range_above a (a + 1) n (omega arith), range_ascends (a + 1) n)
 
 -- what is left out leaves the rest in order
 below_filter : (u : ℕ) (keeps : ℕ → Bool) (vs : List ℕ) → IsBelowAll u vs → IsBelowAll u (filter keeps vs)
@@ -31,13 +25,6 @@ below_filter u keeps [] below = tt
 below_filter u keeps (v ∷ vs) below = elim (cases_Bool (keeps v)) [
   | inl kept ↦ rw kept (below.0, below_filter u keeps vs below.1)
   | inr left ↦ rw left (below_filter u keeps vs below.1)
-]
-
-filter_ascends : (keeps : ℕ → Bool) (vs : List ℕ) → IsAscending vs → IsAscending (filter keeps vs)
-filter_ascends keeps [] up = tt
-filter_ascends keeps (v ∷ vs) up = elim (cases_Bool (keeps v)) [
-  | inl kept ↦ rw kept (below_filter v keeps vs up.0, filter_ascends keeps vs up.1)
-  | inr left ↦ rw left (filter_ascends keeps vs up.1)
 ]
 
 below_take : (u k : ℕ) (vs : List ℕ) → IsBelowAll u vs → IsBelowAll u (take k vs)
@@ -93,8 +80,8 @@ module _ (shapes : AllShapes) (w : Wanted) (table : Schedule) (limits : IsWithin
       let at : positions_of table t ≡ take (executors_of w) free = row.at in
       let count : length (positions_of table t) ≡ executors_of w = ap length at ∙ length-take-le (executors_of w) free opened.room in
       let inside : All (λ p. p < table.size) (take (executors_of w) free) =
-      All-take (λ p. p < table.size) (executors_of w) free (All-filter keeps (λ p. p < table.size) (range_with_len 0 table.size) (range_below table.size)) in
-      let ascend : IsAscending (take (executors_of w) free) = take_ascends (executors_of w) free (filter_ascends keeps (range_with_len 0 table.size) (range_ascends 0 table.size)) in
+      All-take (λ p. p < table.size) (executors_of w) free (All-filter keeps (λ p. p < table.size) (range_with_len 0 table.size) (range-below table.size)) in
+      let ascend : IsAscending (take (executors_of w) free) = take_ascends (executors_of w) free (passing_ascend keeps (range_with_len 0 table.size) (range-ascends 0 table.size)) in
       let poll = row.poll in (
         opened.in_time.agreed,
         (

@@ -1,27 +1,15 @@
 -- Consecutive numbers.
-use Rattle.std.proofs.Common.{◌≡◌, ℕ, zero, suc, ◌+◌, ◌<◌, ◌≤◌, [], ◌∷◌, ◌++◌, take, Bool, true, false, ◌||◌, refl, ap, ◌∙◌, sym, arith}
-use Rattle.std.proofs.lemmas.List.Elements.{All-from_get_or}
+use Rattle.std.proofs.Common.{◌≡◌, ℕ, zero, suc, ◌+◌, ◌<◌, ◌≤◌, [], ◌∷◌, take, Bool, true, false, ◌||◌, refl, ap, ◌∙◌, sym, arith}
 use Rattle.std.proofs.lemmas.List.Folds.{list_any-append, list_any_at}
 use Rattle.std.proofs.lemmas.List.FromFn.{get_or-range_with_len, length-range_with_len}
-use Rattle.std.specs.List.{All, list_any, range_with_len}
-
--- one number more at the end
-pub range_more : (a n : ℕ) → range_with_len a (suc n) ≡ range_with_len a n ++ (a + n) ∷ []
-range_more a zero = ap (λ k. k ∷ []) (let e : a ≡ a + 0 = omega arith in e)
-range_more a (suc n) =
-    ap (λ rest. a ∷ rest) (range_more (a + 1) n ∙ ap (λ k. range_with_len (a + 1) n ++ k ∷ []) (let e : a + 1 + n ≡ a + suc n = omega arith in e))
+use Rattle.sift_base.specs.laws.Ranges.{range-more}
+use Rattle.std.specs.List.{list_any, range_with_len}
 
 -- the first numbers of a range are one
 pub take-range : (a k n : ℕ) → k ≤ n → take k (range_with_len a n) ≡ range_with_len a k
 take-range a zero n few = refl
 take-range a (suc k) zero few = absurd (omega (arith, few))
 take-range a (suc k) (suc n) few = ap (λ rest. a ∷ rest) (take-range (a + 1) k n (omega (arith, few)))
-
--- the numbers from 0 on are below their count
-pub range_below : (n : ℕ) → All (λ p. p < n) (range_with_len 0 n)
-range_below n =
-    All-from_get_or (λ p. p < n) (range_with_len 0 n) 0
-    (λ i low. let inside : i < n = omega (arith, low, length-range_with_len 0 n) in rw (get_or-range_with_len 0 n i 0 inside) (omega (arith, inside)))
 
 -- ---- tests of the numbers below a bound
 
@@ -33,7 +21,7 @@ or_false false = refl
 -- one number more is tested
 pub any_more : (f : ℕ → Bool) (n : ℕ) → list_any f (range_with_len 0 (suc n)) ≡ (list_any f (range_with_len 0 n) || f n)
 any_more f n =
-    ap (list_any f) (range_more 0 n) ∙ list_any-append f (range_with_len 0 n) ((0 + n) ∷ [])
+    ap (list_any f) (range-more 0 n) ∙ list_any-append f (range_with_len 0 n) ((0 + n) ∷ [])
     ∙ ap (λ b. list_any f (range_with_len 0 n) || b) (or_false (f (0 + n)) ∙ ap f (let e : 0 + n ≡ n = omega arith in e))
 
 -- two tests that agree below the bound

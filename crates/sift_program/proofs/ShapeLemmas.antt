@@ -1,11 +1,11 @@
 -- The shapes of a program's tasks, one after another.
 use Rattle.std.proofs.Common.{◌≡◌, ◌<◌, ◌≤◌, ◌+◌, ℕ, suc, List, [], ◌∷◌, ◌++◌, length, get_or, map, take, drop, Bool, true, false, cond, refl, sym, ap, ◌∙◌, add-one, drop-cons, arith}
-use Rattle.std.proofs.lemmas.List.{get_or-map, length-map, map-id, take_more}
+use Rattle.std.proofs.lemmas.List.{get_or-map, length-map, take_more}
 use Rattle.std.proofs.lemmas.List.Elements.{filter-append}
-use Rattle.std.proofs.lemmas.List.FromFn.{map-range_with_len_more}
 use Rattle.std.proofs.lemmas.List.Sums.{sum_by_more, sum_by_more_le}
 use Rattle.std.specs.List.{filter, list_any, range_with_len}
 use Rattle.sift_base.specs.Shapes.{Shape}
+use Rattle.sift_base.specs.laws.Ranges.{range-next}
 use Rattle.sift_lang.specs.Tree.{TaskTree, block_of, end, statement_of, step, tree_of}
 use Rattle.sift_lang.specs.declared.tree.Stmt.{Stmt}
 use Rattle.sift_lang.specs.declared.tree.Task.{Task}
@@ -25,12 +25,6 @@ block_of-drop statements i statement within is =
 
 -- ---- what a task needs
 
--- the numbers below one more
-below_next : (n : ℕ) → range_with_len 0 (n + 1) ≡ range_with_len 0 n ++ n ∷ []
-below_next n =
-    sym (map-id (range_with_len 0 (n + 1))) ∙ map-range_with_len_more (λ x. x) 0 n n (omega arith)
-    ∙ ap (λ xs. xs ++ n ∷ []) (map-id (range_with_len 0 n))
-
 -- one more passes the test, or not
 filter-one : (p : ℕ → Bool) (n : ℕ) (b : Bool) → p n ≡ b → filter p (n ∷ []) ≡ cond b (n ∷ []) []
 filter-one p n true is = rw is refl
@@ -39,7 +33,7 @@ filter-one p n false is = rw is refl
 -- of the numbers below n + 1 those pass a test that pass it below n, and n behind them where it does
 pub filter_next : (p : ℕ → Bool) (n : ℕ) (b : Bool) → b ≡ p n → filter p (range_with_len 0 (n + 1)) ≡ filter p (range_with_len 0 n) ++ cond b (n ∷ []) []
 filter_next p n b is =
-    ap (filter p) (below_next n) ∙ filter-append p (range_with_len 0 n) (n ∷ [])
+    ap (filter p) (range-next n) ∙ filter-append p (range_with_len 0 n) (n ∷ [])
     ∙ ap (λ xs. filter p (range_with_len 0 n) ++ xs) (filter-one p n b (sym is))
 
 module _ (tasks : List Task) where

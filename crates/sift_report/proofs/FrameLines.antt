@@ -4,7 +4,8 @@ use Rattle.std.specs.Prelude.{IsSomeAnd, pos, ◌≤ℤ◌}
 use Rattle.std.specs.List.{filter}
 use Rattle.std.proofs.lemmas.Bool.{cases_Bool}
 use Rattle.sift_base.specs.Units.{has, holds}
-use Rattle.sift_base.specs.laws.Counts.{filter_has, has_filter}
+use Rattle.sift_base.specs.laws.Counts.{filter_has, has_filter, count-same, map-same}
+use Rattle.sift_base.specs.laws.Ranges.{range-low}
 use Rattle.sift_exec.specs.Conviction.{everyone_in}
 use Rattle.sift_conduct.specs.Conduct.{caught}
 use Rattle.sift_mission.specs.Data.{MissionData}
@@ -18,11 +19,11 @@ use Rattle.sift_report.specs.Sheet.{sheet_of}
 use Rattle.sift_report.specs.Told.{agreed_told, config_told, told_at, told_in}
 use Rattle.sift_line.specs.declared.version.Version.{Version}
 use Rattle.sift_line.specs.declared.line.ReportLine.{ReportLine}
-use Rattle.sift_report.proofs.Alike.{count_alike, map_alike, one_told}
+use Rattle.sift_report.proofs.Alike.{one_told}
 use Rattle.sift_report.proofs.RoundFlights.{HasLaws}
 use Rattle.sift_report.proofs.SheetConfigs.{agreed_is, config_is}
 use Rattle.sift_report.proofs.SheetForm.{account_is, line_of_member, works_flying, units_told}
-use Rattle.sift_report.proofs.SheetPlaces.{first_low, frame_at, unit_at}
+use Rattle.sift_report.proofs.SheetPlaces.{frame_at, unit_at}
 use Rattle.sift_report.proofs.Tells.{two_tell, working_clocks, IsTrueSkew, account_line}
 
 -- ---- figures are there
@@ -59,7 +60,7 @@ module _ (d : MissionData) (fl : Flight) (version : Version) (laws : HasLaws d f
     tells_account u w =
         let h = holds_here.same_configuration in
         let member : has (fl.account u f).cfg u ≡ true = subst (λ us. has us u ≡ true) (sym (h.same u w)) (h.member u w) in
-        let low : u < d.units = omega (arith, first_low 0 d.units u w.unit) in
+        let low : u < d.units = omega (arith, range-low 0 d.units u w.unit) in
         ap told_in (unit_at d fl version f u within low ∙ ap Some (line_of_member d fl version f u w.works member))
 
     -- and so the configuration at the frame
@@ -105,7 +106,7 @@ module _ (d : MissionData) (fl : Flight) (version : Version) (laws : HasLaws d f
         ap (λ c. holds c v) (caught_is u works) ∙ holds_here.no_false_accusation u v works (works_flying d v f x)
 
     two_alike : (v : ℕ) → two_tell d sheet f (config_at (flown d) fl f) v ≡ two_caught (flown d) fl f v
-    two_alike v = ap (nat_lt 1) (count_alike (λ u. (flown d).works u f && holds (told_at d sheet f u).caught v)
+    two_alike v = ap (nat_lt 1) (count-same (λ u. (flown d).works u f && holds (told_at d sheet f u).caught v)
         (λ u. (flown d).works u f && caught (fl.account u f) v) (config_at (flown d) fl f) (λ u member. elim (cases_Bool ((flown d).works u f)) [
           | inl works ↦ ap (λ c. (flown d).works u f && holds c v) (caught_is u (member_works u member works))
           | inr faulty ↦ rw faulty refl
@@ -124,7 +125,7 @@ module _ (d : MissionData) (fl : Flight) (version : Version) (laws : HasLaws d f
     -- ---- clocks
 
     clocks_alike : working_clocks d sheet f (config_at (flown d) fl f) ≡ offsets_at (flown d) fl f
-    clocks_alike = map_alike (λ u. (told_at d sheet f u).clock) (λ u. (fl.account u f).clk) (working_at (flown d) fl f) (λ u there.
+    clocks_alike = map-same (λ u. (told_at d sheet f u).clock) (λ u. (fl.account u f).clk) (working_at (flown d) fl f) (λ u there.
         let both = filter_has (λ v. (flown d).works v f) (config_at (flown d) fl f) u there in
         ap (λ t. t.clock) (tells_account u (member_works u both.1 both.0)))
 

@@ -6,10 +6,10 @@ use Rattle.std.specs.List.{All, flat_map, range_with_len}
 use Rattle.std.proofs.lemmas.Grind.{flat_map-append}
 use Rattle.std.proofs.lemmas.List.{append-nil, map_more, take_all}
 use Rattle.std.proofs.lemmas.List.Elements.{All-append}
+use Rattle.sift_base.specs.laws.Ranges.{range-next}
 use Rattle.sift_exec.specs.laws.Counted.{place_holds, place_there}
 use Rattle.sift_line.specs.Line.{IsLine}
 use Rattle.sift_line.specs.declared.line.ReportLine.{ReportLine}
-use Rattle.sift_line.specs.laws.Printed.{range-more}
 
 -- what holds in any case holds where all went well
 pub on_ok : {T E : Type 0} (r : Result T E) {X : Type 0} → X → OnOk r X
@@ -40,7 +40,7 @@ pub one_frame_more : (lines : ℕ → List ReportLine) (n : ℕ) → All IsLine 
     → All IsLine (flat_map lines (range_with_len 0 (n + 1)))
 one_frame_more lines n so_far here =
     let more : flat_map lines (range_with_len 0 (n + 1)) ≡ flat_map lines (range_with_len 0 n) ++ lines n =
-    rw (range-more n, flat_map-append lines) (simp append-nil) in
+    rw (range-next n, flat_map-append lines) (simp append-nil) in
     subst (All IsLine) (sym more) (All-append IsLine (flat_map lines (range_with_len 0 n)) (lines n) so_far here)
 
 -- the lines of all frames, and the last one

@@ -2,6 +2,7 @@
 use Rattle.std.proofs.Common.{◌≡◌, ℕ, zero, suc, ◌<◌, ◌≤◌, List, true, Some, if◌then◌else◌, inl, inr, sym, ap, ◌∙◌, subst, arith, lt-ltb}
 use Rattle.std.proofs.lemmas.Bool.{cases_lt, le-ltb}
 use Rattle.sift_base.specs.Units.{HasMargin, has}
+use Rattle.sift_base.specs.laws.Ranges.{range-low}
 use Rattle.sift_mission.specs.Data.{MissionData}
 use Rattle.sift_mission.specs.Flown.{flown}
 use Rattle.sift_flight.specs.Figures.{HasMarginAt, Works, config_at, lead_of}
@@ -17,7 +18,7 @@ use Rattle.sift_line.specs.declared.line.ReportLine.{ReportLine}
 use Rattle.sift_report.proofs.Alike.{one_told}
 use Rattle.sift_report.proofs.RoundFlights.{HasLaws}
 use Rattle.sift_report.proofs.SheetForm.{line_of_member, works_flying}
-use Rattle.sift_report.proofs.SheetPlaces.{end_at, first_low, unit_at}
+use Rattle.sift_report.proofs.SheetPlaces.{end_at, unit_at}
 use Rattle.sift_report.proofs.Tells.{account_line}
 
 module _ (d : MissionData) (fl : Flight) (version : Version) (laws : HasLaws d fl) where
@@ -38,7 +39,7 @@ module _ (d : MissionData) (fl : Flight) (version : Version) (laws : HasLaws d f
   leads f = lead_works (flown d) laws.flyable f
 
   low : (u f : ℕ) → Works (flown d) u f → u < d.units
-  low u f w = let x = first_low 0 d.units u w.unit in omega (arith, x)
+  low u f w = let x = range-low 0 d.units u w.unit in omega (arith, x)
 
   -- after frames with margin the lead unit is in its configuration
   lead_inside : (f : ℕ) → f < d.frames → HadMargin f → has (config_of fl (lead_of (flown d) f) f) (lead_of (flown d) f) ≡ true

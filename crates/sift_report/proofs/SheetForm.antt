@@ -3,6 +3,7 @@ use Rattle.std.proofs.Common.{◌≡◌, ℕ, ◌<◌, true, false, if◌then◌
 use Rattle.std.specs.Prelude.{IsSomeAnd}
 use Rattle.std.proofs.lemmas.Bool.{cases_Bool}
 use Rattle.sift_base.specs.Units.{has, holds}
+use Rattle.sift_base.specs.laws.Ranges.{has-range, range-low}
 use Rattle.sift_exec.specs.Conviction.{everyone_in}
 use Rattle.sift_exec.specs.declared.catches.Catches.{Catches}
 use Rattle.sift_line.specs.Bad.{bad_in, units_in}
@@ -18,7 +19,7 @@ use Rattle.sift_line.specs.declared.version.Version.{Version}
 use Rattle.sift_line.specs.declared.version.Version.TheVariants.{One, Two}
 use Rattle.sift_line.specs.declared.line.ReportLine.TheVariants.{Faulty, Idle}
 use Rattle.sift_report.proofs.RoundFlights.{HasLaws}
-use Rattle.sift_report.proofs.SheetPlaces.{end_at, first_low, frame_at, length-sheet, low_first, unit_at}
+use Rattle.sift_report.proofs.SheetPlaces.{end_at, frame_at, length-sheet, unit_at}
 use Rattle.sift_report.proofs.Tells.{account_line}
 
 -- both versions name the same units
@@ -56,7 +57,7 @@ module _ (d : MissionData) (fl : Flight) (version : Version) (laws : HasLaws d f
 
   -- the units of its configuration have numbers below the mission's count
   below : (u f : ℕ) → f < d.frames → Works (flown d) u f → (v : ℕ) → has (fl.account u f).cfg v ≡ true → v < d.units
-  below u f within w v there = let x = first_low 0 d.units v ((account_is u f within w).config.inside v there) in omega (arith, x)
+  below u f within w v there = let x = range-low 0 d.units v ((account_is u f within w).config.inside v there) in omega (arith, x)
 
   -- the line of a unit in a frame is one of that unit
   member_line : (f u : ℕ) → f < d.frames → Works (flown d) u f → has (fl.account u f).cfg u ≡ true
@@ -78,7 +79,7 @@ module _ (d : MissionData) (fl : Flight) (version : Version) (laws : HasLaws d f
   units_line f u within low = elim (cases_Bool ((flown d).works u f)) [
     | inr faulty ↦ subst (IsUnitsLine d f u) (sym (line_of_faulty d fl version f u faulty)) (refl, refl, faulty)
     | inl works ↦
-        let w : Works (flown d) u f = record { unit = low_first 0 d.units u (omega arith) (omega arith); works = works } in
+        let w : Works (flown d) u f = record { unit = has-range 0 d.units u (omega arith) (omega arith); works = works } in
         elim (cases_Bool (has (fl.account u f).cfg u)) [
           | inr outside ↦ subst (IsUnitsLine d f u) (sym (line_of_idle d fl version f u works outside)) (refl, refl, works)
           | inl member ↦ subst (IsUnitsLine d f u) (sym (line_of_member d fl version f u works member)) (member_line f u within w member)

@@ -1,11 +1,8 @@
 -- Where each line of a sheet stands.
-use Rattle.std.proofs.Common.{◌≡◌, ℕ, zero, suc, ◌+◌, ◌*◌, ◌<◌, ◌≤◌, [], ◌∷◌, length, map, inl, inr, nat_eq, true, Some, refl, ap, ◌∙◌, arith}
+use Rattle.std.proofs.Common.{◌≡◌, ℕ, ◌+◌, ◌*◌, ◌<◌, [], ◌∷◌, length, map, Some, refl, ap, ◌∙◌, arith}
 use Rattle.std.specs.List.{flat_map, range_with_len, slice_get}
-use Rattle.std.proofs.lemmas.Bool.{cases_Bool}
-use Rattle.std.proofs.lemmas.Bool.Decides.{nat_tests}
 use Rattle.std.proofs.lemmas.List.{length-append}
 use Rattle.std.proofs.lemmas.List.FromFn.{length-map-range_with_len}
-use Rattle.sift_base.specs.Units.{has}
 use Rattle.sift_mission.specs.Data.{MissionData}
 use Rattle.sift_mission.specs.Flown.{flown}
 use Rattle.sift_flight.specs.Flight.{Flight}
@@ -13,22 +10,6 @@ use Rattle.sift_report.specs.Sheet.{frame_line, frame_lines, last_line, sheet_of
 use Rattle.sift_line.specs.declared.version.Version.{Version}
 use Rattle.sift_report.specs.Told.{line_at}
 use Rattle.sift_report.proofs.Places.{get-behind, get-chunk, get-first, get-left, get-right, length-chunks}
-
--- a unit of the first ones has a number below their count
-pub first_low : (a n u : ℕ) → has (range_with_len a n) u ≡ true → u < a + n
-first_low a zero u h = absurd cc
-first_low a (suc n) u h = elim (cases_Bool (nat_eq a u)) [
-  | inl t ↦ grind (arith, nat_tests, t)
-  | inr t ↦ let rest = first_low (a + 1) n u (rw t at h) in omega arith
-]
-
--- and a number below their count is one of them
-pub low_first : (a n u : ℕ) → a ≤ u → u < a + n → has (range_with_len a n) u ≡ true
-low_first a zero u from low = absurd (omega arith)
-low_first a (suc n) u from low = elim (cases_Bool (nat_eq a u)) [
-  | inl t ↦ rw t refl
-  | inr t ↦ let other : a < u = grind (arith, nat_tests, t, from) in rw t (low_first (a + 1) n u (omega arith) (omega arith))
-]
 
 module _ (d : MissionData) (fl : Flight) (version : Version) where
   width : (f : ℕ) → length (frame_lines (flown d) fl version f) ≡ d.units + 1

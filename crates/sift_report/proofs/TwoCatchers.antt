@@ -8,6 +8,7 @@ use Rattle.std.proofs.lemmas.Bool.{le-leb}
 use Rattle.std.proofs.lemmas.Int.{ints}
 use Rattle.sift_base.specs.Units.{has, holds}
 use Rattle.sift_base.specs.laws.Sets.{holds-insert}
+use Rattle.sift_base.specs.laws.Ranges.{range-low}
 use Rattle.sift_exec.specs.Conviction.{nobody, noted}
 use Rattle.sift_exec.specs.declared.catches.Kind.TheVariants.{Poll}
 use Rattle.sift_exec.specs.laws.Everyone.{holds-everyone}
@@ -20,7 +21,6 @@ use Rattle.sift_report.specs.Headline.{TellsClockSkew, TellsExactRemoval, TellsI
 use Rattle.sift_report.specs.Told.{HasMarginTold, IsSoundTold, agreed_told, line_at, told_at, IsWorking, works_in}
 use Rattle.sift_report.specs.TwoCatchers.{HeadlineOfAFault, all_five, four_left, lines, mission, no_unit, only}
 use Rattle.sift_report.proofs.Alike.{one_told}
-use Rattle.sift_report.proofs.SheetPlaces.{first_low}
 use Rattle.sift_report.proofs.Tells.{two_tell, working_clocks}
 
 -- ---- units
@@ -42,7 +42,7 @@ faulty_in f = rw (le-leb 0 f (omega arith)) refl
 each_working : (P : ℕ → Type 0) → P 0 → P 1 → P 2 → P 3 → (f u : ℕ) → IsWorking mission u f → P u
 each_working P a b c d f u w =
     each_below (λ v. works_in mission v f ≡ true → P v) (λ t. a) (λ t. b) (λ t. c) (λ t. d)
-    (λ t. let no = faulty_in f in absurd cc) u (first_low 0 5 u w.unit) w.works
+    (λ t. let no = faulty_in f in absurd cc) u (range-low 0 5 u w.unit) w.works
 
 -- ---- sets
 
@@ -77,10 +77,10 @@ four_low : (v : ℕ) → holds (units_in (only 4)) v ≡ true → v < 5
 four_low v there = let e : v ≡ 4 = eqb-true v 4 (or_false _ (sym (holds-only 4 v) ∙ there)) in omega (arith, e)
 
 five_low : (v : ℕ) → has all_five v ≡ true → v < 5
-five_low v there = first_low 0 5 v there
+five_low v there = range-low 0 5 v there
 
 left_low : (v : ℕ) → has four_left v ≡ true → v < 5
-left_low v there = let low = first_low 0 4 v there in omega (arith, low)
+left_low v there = let low = range-low 0 4 v there in omega (arith, low)
 
 -- ---- margin
 

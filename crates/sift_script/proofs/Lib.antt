@@ -2,6 +2,5 @@ pub mod Bounds
 pub mod Lists
 pub mod Slots
 pub mod Steady
-pub mod Tests
 pub mod Views
 pub mod lemmas

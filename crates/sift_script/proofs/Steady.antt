@@ -1,6 +1,6 @@
 -- Which units work, by the script.
 use Rattle.std.proofs.Common.{◌≡◌, ℕ, suc, ◌+◌, ◌<◌, ◌≤◌, List, [], ◌∷◌, length, map, take, get_or, Bool, true, false, not, eqb, leb, Option, Some, None, IfSome, inl, inr, ap, refl, arith}
-use Rattle.std.proofs.lemmas.Bool.{and_cases, and_left, and_right, cases_Bool, false≢true, or_from, or_parts}
+use Rattle.std.proofs.lemmas.Bool.{and_cases, and_left, and_right, cases_Bool, or_from, or_parts, not-true}
 use Rattle.std.proofs.lemmas.Bool.Decides.{nat_tests}
 use Rattle.std.proofs.lemmas.List.{take_all}
 use Rattle.std.proofs.lemmas.Option.{none-some, same_Some}
@@ -21,11 +21,6 @@ is_faulted_by u f fault = (fault.unit == u) && nat_le fault.from f
 -- unit u has a fault that has come by frame f
 abbrev is_faulty : List Fault → ℕ → ℕ → Bool
 is_faulty faults u f = list_any (is_faulted_by u f) faults
-
--- a test whose converse is met fails
-not_true : (b : Bool) → not b ≡ true → b ≡ false
-not_true true e = absurd (false≢true e)
-not_true false e = refl
 
 -- a unit that no entry names is never faulty
 unnamed_works : (faults : List Fault) (u f : ℕ) → has (map (λ fault. fault.unit) faults) u ≡ false → is_faulty faults u f ≡ false
@@ -66,7 +61,7 @@ not_faulty_before (fault ∷ faults) u f later before none =
 
 -- a unit that works in a frame has worked in each frame before it
 pub faults_are_for_good : FaultsAreForGood
-faults_are_for_good faults u f later before working = ap not (not_faulty_before faults u f later before (not_true (is_faulty faults u later) working))
+faults_are_for_good faults u f later before working = ap not (not_faulty_before faults u f later before (not-true (is_faulty faults u later) working))
 
 -- ---- words and storms
 
@@ -104,11 +99,11 @@ no_storm (Some fault) f none = storm_later fault.from fault.plan none
 pub working_units_say_their_words : WorkingUnitsSayTheirWords
 working_units_say_their_words script u f slot receiver working =
     nothing_yet (fault_of_unit script.faults u) f (λ fault. replacement_by script.outputs f slot receiver (changes_in fault.plan))
-    (not_come script.faults u f (not_true (is_faulty script.faults u f) working))
+    (not_come script.faults u f (not-true (is_faulty script.faults u f) working))
 
 -- a unit that works in a frame hasn't turned by then
 pub working_units_have_not_turned : WorkingUnitsHaveNotTurned
-working_units_have_not_turned faults u f working = no_storm (fault_of_unit faults u) f (not_come faults u f (not_true (is_faulty faults u f) working))
+working_units_have_not_turned faults u f working = no_storm (fault_of_unit faults u) f (not_come faults u f (not-true (is_faulty faults u f) working))
 
 -- the fault of a unit comes in a frame of the mission, where each does
 comes_below : (faults : List Fault) (u frames : ℕ) (d : Fault) → ((at : ℕ) → at < length faults → (get_or faults at d).from < frames)

@@ -1,14 +1,9 @@
 -- Lists without a common number.
-use Rattle.std.proofs.Common.{◌≡◌, ℕ, List, [], ◌∷◌, Bool, true, false, not, ◌||◌, ap, refl, inl, inr, eqb, eq-eqb, eqb-true, subst}
-use Rattle.std.proofs.lemmas.Bool.{and_from, and_parts, cases_Bool, false≢true, or_right}
+use Rattle.std.proofs.Common.{◌≡◌, ℕ, List, [], ◌∷◌, true, false, not, ◌||◌, ap, refl, inl, inr, eqb, eq-eqb, eqb-true, subst}
+use Rattle.std.proofs.lemmas.Bool.{and_from, and_parts, cases_Bool, or_right, not-true}
 use Rattle.std.specs.List.{list_all}
 use Rattle.sift_base.specs.Units.{has}
 use Rattle.sift_table.specs.Rules.{AreApart}
-
--- a test that is not met fails
-not_true : (b : Bool) → not b ≡ true → b ≡ false
-not_true true e = absurd (false≢true e)
-not_true false e = refl
 
 -- lists are apart where no number of the one is in the other
 pub apart_from_all : (some others : List ℕ) → list_all (λ p. not (has others p)) some ≡ true → AreApart some others
@@ -16,7 +11,7 @@ apart_from_all [] others all position there = absurd cc
 apart_from_all (v ∷ some) others all position there =
     let parts = and_parts (not (has others v)) (list_all (λ p. not (has others p)) some) all in
     elim (cases_Bool (eqb v position)) [
-      | inl same ↦ let P : ℕ → Type 0 = λ p. has others p ≡ false in subst P (eqb-true v position same) (not_true (has others v) parts.0)
+      | inl same ↦ let P : ℕ → Type 0 = λ p. has others p ≡ false in subst P (eqb-true v position same) (not-true (has others v) parts.0)
       | inr other ↦ apart_from_all some others parts.1 position (rw other at there)
     ]
 

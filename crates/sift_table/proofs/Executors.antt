@@ -2,11 +2,10 @@
 use Rattle.std.proofs.Common.{◌≡◌, ℕ, zero, suc, ◌+◌, ◌<◌, ◌≤◌, inl, inr, List, [], ◌∷◌, length, Bool, true, false, cond, ap, subst, sym, ◌∙◌, ◌||◌, arith, eqb, eq-eqb, eqb-true, count_by}
 use Rattle.std.proofs.lemmas.Bool.{cases_eq, cases_Bool, cases_order, true≢false}
 use Rattle.std.proofs.lemmas.List.Elements.{All-contains, recursion_from_All}
-use Rattle.std.proofs.lemmas.List.Sums.{sum_by-cons}
 use Rattle.std.specs.List.{AllByRecursion, range_with_len}
 use Rattle.sift_base.specs.Requirement.{AreMet}
 use Rattle.sift_base.specs.Shapes.{AllShapes, shape_at}
-use Rattle.sift_base.specs.laws.Counts.{IsBelowAll}
+use Rattle.sift_base.specs.laws.Counts.{IsBelowAll, count-cons}
 use Rattle.sift_base.specs.Units.{has, IsAscending}
 use Rattle.sift_base.specs.declared.slot.Slot.TheVariants.{Clock, Sense, RelaySense, Out, Report, RelayReport}
 use Rattle.sift_table.proofs.Words.{words_have_their_task}
@@ -66,10 +65,6 @@ tasks_run_after_their_needs table shapes t good low kept =
     )
 
 -- ---- executors
-
--- one number more to count
-count-cons : (p : ℕ → Bool) (x : ℕ) (xs : List ℕ) → count_by p (x ∷ xs) ≡ cond (p x) 1 0 + count_by p xs
-count-cons p x xs = sum_by-cons (λ y. cond (p y) 1 0) x xs
 
 -- what passes one of two tests passes them together
 cond-or_more : (one other : Bool) → cond other 1 0 ≤ cond (one || other) 1 0

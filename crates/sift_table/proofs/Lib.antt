@@ -1,6 +1,5 @@
 pub mod Apart
 pub mod Executors
 pub mod Plain
-pub mod Tests
 pub mod Words
 pub mod lemmas

@@ -1,32 +1,14 @@
 -- The plain table meets the rules.
-use Rattle.std.proofs.Common.{◌≡◌, ℕ, zero, suc, ◌+◌, ◌*◌, ◌<◌, ◌≤◌, [], length, get_or, false, arith}
-use Rattle.std.proofs.lemmas.List.Elements.{All-from_get_or}
-use Rattle.std.proofs.lemmas.List.FromFn.{get_or-map-range_with_len, get_or-range_with_len, length-map-range_with_len, length-range_with_len}
+use Rattle.std.proofs.Common.{◌≡◌, ℕ, ◌+◌, ◌*◌, ◌<◌, ◌≤◌, [], length, get_or, false, arith}
+use Rattle.std.proofs.lemmas.List.FromFn.{get_or-map-range_with_len, length-map-range_with_len, length-range_with_len}
 use Rattle.std.specs.List.{All, range_with_len}
 use Rattle.sift_base.specs.Requirement.{AreMet}
 use Rattle.sift_base.specs.Shapes.{AllShapes, AreShapes, shape_at}
-use Rattle.sift_base.specs.laws.Counts.{IsBelowAll}
+use Rattle.sift_base.specs.laws.Ranges.{range-ascends, range-below}
 use Rattle.sift_base.specs.Units.{IsAscending}
 use Rattle.sift_table.specs.Laws.{PlainTablesAreGood}
 use Rattle.sift_table.specs.Rules.{ReadsPolledWords, SharesNoPosition, rules_where}
 use Rattle.sift_table.specs.Schedule.{plain_of, polled_in, positions_of, run_in}
-
--- consecutive numbers are above what comes before them
-consecutive_above : (p a n : ℕ) → p < a → IsBelowAll p (range_with_len a n)
-consecutive_above p a zero low = tt
-consecutive_above p a (suc n) low = (low, consecutive_above p (a + 1) n (omega arith))
-
--- consecutive numbers ascend
-consecutive_ascend : (a n : ℕ) → IsAscending (range_with_len a n)
-consecutive_ascend a zero = tt
-consecutive_ascend a (suc n) = (consecutive_above a (a + 1) n (omega arith), consecutive_ascend (a + 1) n)
-
--- consecutive numbers from 0 on are below their count
-consecutive_below : (n : ℕ) → All (λ p. p < n) (range_with_len 0 n)
-consecutive_below n =
-    let count = length-range_with_len 0 n in
-    All-from_get_or (λ p. p < n) (range_with_len 0 n) 0
-    (λ i low. let inside : i < n = omega (arith, low, count) in rw (get_or-range_with_len 0 n i 0 inside) (omega (arith, inside)))
 
 module _ (size period tasks t : ℕ) (there : t < tasks) where
   -- when a task of the plain table runs
@@ -51,8 +33,8 @@ plain_row size period shapes t enough sound long there =
     let poll = plain_poll size period tasks t there in
     let at = plain_positions size period tasks t there in
     let few : 3 ≤ length (positions_of table t) = rw at (rw (length-range_with_len 0 size) enough) in
-    let inside : All (λ p. p < size) (positions_of table t) = rw at (consecutive_below size) in
-    let ascend : IsAscending (positions_of table t) = rw at (consecutive_ascend 0 size) in
+    let inside : All (λ p. p < size) (positions_of table t) = rw at (range-below size) in
+    let ascend : IsAscending (positions_of table t) = rw at (range-ascends 0 size) in
     let reads : ReadsPolledWords table shapes t = λ k d low kept.
     let needed = get_or (shape_at shapes t).needs k d in
     let earlier : needed < t = sound.earlier t there k d low in

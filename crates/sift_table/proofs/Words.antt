@@ -1,14 +1,10 @@
 -- The words of the tasks follow one another.
 use Rattle.std.proofs.Common.{◌≡◌, ℕ, zero, suc, ◌+◌, ◌-◌, ◌<◌, ◌≤◌, List, [], ◌∷◌, length, take, get_or, ap, refl, inl, inr, arith, zero-add}
 use Rattle.std.proofs.lemmas.Bool.{cases_lt, lt-ltb, le-ltb}
-use Rattle.std.proofs.lemmas.List.Sums.{sum_by-cons}
 use Rattle.sift_base.specs.Shapes.{Shape, words_in}
+use Rattle.sift_base.specs.laws.Shapes.{words_in-cons}
 use Rattle.sift_table.specs.Laws.{WordsHaveTheirTask}
 use Rattle.sift_table.specs.Timing.{task_of}
-
--- the words of one task more
-words_in-cons : (task : Shape) (tasks : List Shape) → words_in (task ∷ tasks) ≡ task.outputs + words_in tasks
-words_in-cons task tasks = sum_by-cons (λ t. t.outputs) task tasks
 
 -- each word is a word of a task that is there
 task_of-below : (tasks : List Shape) (w : ℕ) → w < words_in tasks → task_of tasks w < length tasks

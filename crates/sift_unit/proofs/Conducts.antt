@@ -2,7 +2,8 @@
 use Rattle.std.proofs.Common.{◌≡◌, inl, inr, ℕ, List, true, not, nat_eq, refl, sym, ap, ◌∙◌, subst, lt-ltb}
 use Rattle.std.specs.Prelude.{ℤ, length, slice_index, ◌+ℤ◌}
 use Rattle.std.specs.List.{range_with_len}
-use Rattle.std.proofs.lemmas.Bool.{cases_Bool}
+use Rattle.std.proofs.lemmas.Bool.{cases_Bool, eqb-false}
+use Rattle.sift_exec.specs.laws.NextConfigs.{next-same}
 use Rattle.sift_base.specs.Units.{has, has_bit, holds}
 use Rattle.sift_base.specs.declared.slot.Slot.{Slot}
 use Rattle.sift_base.specs.declared.slot.Slot.TheVariants.{Clock, RelaySense, Out, RelayReport}
@@ -16,9 +17,9 @@ use Rattle.sift_memory.specs.Memory.{Memory}
 use Rattle.sift_memory.specs.Tidings.{busy_account, idle_account, names_now}
 use Rattle.sift_memory.specs.Conditions.{IsShaped}
 use Rattle.sift_memory.specs.laws.Tests.{and_in}
-use Rattle.sift_memory.specs.laws.Sets.{holds-gathered, next-same}
+use Rattle.sift_memory.specs.laws.Sets.{holds-gathered}
 use Rattle.sift_unit.specs.Remembered.{Heard, with_clock}
-use Rattle.sift_unit.proofs.Tests.{apart, any-and}
+use Rattle.sift_unit.proofs.Tests.{any-and}
 
 module _ (m : FlownMission) (us : List ℕ) (u f : ℕ) (clk : ℤ) (a : Account) (h : Places) (last : List ℕ) (config : IsConfigOf m us) where
   -- the unit in the frame
@@ -57,7 +58,7 @@ module _ (m : FlownMission) (us : List ℕ) (u f : ℕ) (clk : ℤ) (a : Account
       named : (r v : ℕ) → has us r ≡ true → names_now m us u b r v ≡ has_bit (report_of us u a h r) v
       named r v from = ap (λ w. has_bit w v) (elim (cases_Bool (nat_eq r u)) [
         | inl t ↦ rw t (λ i. report_in (mine i))
-        | inr t ↦ rw t (heard (RelayReport r) (config.inside r from) from (apart r u t))
+        | inr t ↦ rw t (heard (RelayReport r) (config.inside r from) from (eqb-false r u t))
       ])
 
 -- the account of a unit that isn't

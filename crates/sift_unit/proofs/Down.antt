@@ -1,6 +1,5 @@
 -- A board whose unit is down has flown all that it flies.
-use Rattle.std.proofs.Common.{◌≡◌, ◌⊎◌, inl, inr, ⊎_elim, ℕ, ◌*◌, ◌<◌, ◌≤◌, length, slice_index_or, Bool, true, false, not, Option, Some, None, refl, sym, ap, ◌∙◌, subst, arith}
-use Rattle.std.proofs.lemmas.Bool.{cases_lt, le-ltb}
+use Rattle.std.proofs.Common.{◌≡◌, ◌⊎◌, inl, inr, ⊎_elim, ℕ, ◌*◌, ◌<◌, ◌≤◌, length, slice_index_or, Bool, true, false, Option, Some, None, refl, sym, ap, ◌∙◌, subst, arith}
 use Rattle.std.proofs.Math.Nat.{min-eq_left}
 use mathlib.Core.Logic.{dite}
 use native.Mathlib.Decide.{ℕ_discrete}
@@ -8,6 +7,7 @@ use Rattle.sift_buffer.specs.Conduct.{Conduct as Acts}
 use Rattle.sift_buffer.specs.Views.{View}
 use Rattle.sift_mission.specs.Data.{FlownMission}
 use Rattle.sift_mission.specs.Slots.{StormsCome, turned_by}
+use Rattle.sift_mission.specs.laws.Turning.{before_turning}
 use Rattle.sift_conduct.specs.Conduct.{Account}
 use Rattle.sift_conduct.specs.Acts.{BoardKeeps}
 use Rattle.sift_conduct.specs.Frames.{Flies, frames_before}
@@ -41,13 +41,6 @@ settled m false b c k come down =
     (λ ne. absurd (let up = frame_low m.period b.frame m.frames (omega arith) in omega arith)) in
     inl (ended, calm_at_end m b c k come ended (m.storm b.unit) refl)
 
--- a unit that flies in a frame does so before the frame of its storm
-before_storm : (f from : ℕ) → turned_by (Some from) f ≡ false → f < from
-before_storm f from flies = elim (cases_lt f from) [
-  | inl low ↦ low
-  | inr high ↦ absurd (let e : true ≡ false = subst (λ (b : Bool). not b ≡ false) (le-ltb f from high) flies in cc)
-]
-
 module _ (m : FlownMission) (b : TheBoard) (v : View) (d : Drives m b v) (down : m.frames * m.period ≤ v.conduct.progress) where
   range : InRange m (desk_of b)
   range = range_as m b.turned (desk_of b) v.conduct d.keeps
@@ -61,7 +54,7 @@ module _ (m : FlownMission) (b : TheBoard) (v : View) (d : Drives m b v) (down :
   -- a frame in which its unit flies is one of those that it has ended
   under : (f : ℕ) → f < m.frames → Flies m b.unit f → f < b.frame
   under f low flies = ⊎_elim (λ ended. let e = ended.0 in omega arith)
-      (λ (t : Turned m (desk_of b) v.conduct). before_storm f b.frame (subst (λ (o : Option ℕ). turned_by o f ≡ false) t.storm flies.whole)) at_end
+      (λ (t : Turned m (desk_of b) v.conduct). before_turning f b.frame (subst (λ (o : Option ℕ). turned_by o f ≡ false) t.storm flies.whole)) at_end
 
   kept_all : (absent : Account) → BoardKeeps m b.unit v.conduct (λ f. slice_index_or (desk_of b).accounts f absent) m.frames
   kept_all absent = keeps_by m b.unit v.conduct (accounts_of m (desk_of b)) (λ f. slice_index_or (desk_of b).accounts f absent) m.frames

@@ -1,11 +1,13 @@
 -- From what holds of a board to what it guarantees.
 use Rattle.std.proofs.Common.{◌≡◌, ◌⊎◌, inl, inr, ℕ, ◌<◌, ◌≤◌, ◌&&◌, Bool, true, false, Option, Some, None, refl, sym, ap, ◌∙◌, subst, arith, option_map}
 use Rattle.std.specs.Prelude.{if◌then◌else◌}
-use Rattle.std.proofs.lemmas.Bool.{cases_Bool, cases_lt}
+use Rattle.std.proofs.lemmas.Bool.{cases_Bool, cases_lt, both_ways}
+use Rattle.std.proofs.lemmas.Option.{same_Some}
 use Rattle.sift_base.specs.declared.slot.Slot.{Slot}
 use Rattle.sift_buffer.specs.Conduct.{Saying, Hearing, saying}
 use Rattle.sift_buffer.specs.Conduct.{Conduct as Acts}
 use Rattle.sift_mission.specs.laws.Silent.{speaks}
+use Rattle.sift_mission.specs.laws.Calls.{call_of}
 use Rattle.sift_mission.specs.Data.{FlownMission}
 use Rattle.sift_mission.specs.Slots.{is_slot, calls, stamp_of, heard_at}
 use Rattle.sift_conduct.specs.Frames.{UnitFlight, FrameConduct, Flies}
@@ -15,8 +17,7 @@ use Rattle.sift_mission.specs.Fits.{Fits}
 use Rattle.sift_memory.specs.Stops.{hear_spot, say_spot}
 use Rattle.sift_unit.specs.Desk.{Desk, cursor, is_past, accounts_of}
 use Rattle.sift_unit.specs.Going.{word_in_frame, Meets, Going}
-use Rattle.sift_unit.proofs.Tests.{some_none, choice_past, choice_none, not_both}
-use Rattle.sift_unit.proofs.Calls.{call_of}
+use Rattle.sift_unit.proofs.Tests.{some_none, choice_past, choice_none}
 use Rattle.sift_unit.proofs.Past.{past_before, not_past_after, not_past_yet}
 use Rattle.sift_unit.proofs.Standing.{stands, config_at, at_frame, now_cfg}
 
@@ -48,12 +49,9 @@ no_stamp : (x : Option Hearing) → option_map stamp_and_moment x ≡ None → x
 no_stamp None e = refl
 no_stamp (Some x) e = absurd (some_none e)
 
-some_same : {A : Type 0} {x y : A} → Some x ≡ Some y → x ≡ y
-some_same e = cc
-
 -- what was heard by two tests is what the choice says, and the first test passes
 heard_by_both : (t p : Bool) (x y : ℕ × ℕ) → (if t && p then Some x else None) ≡ Some y → (t ≡ true) × (y ≡ x)
-heard_by_both true true x y e = (refl, sym (some_same e))
+heard_by_both true true x y e = (refl, sym (same_Some _ _ e))
 heard_by_both true false x y e = absurd (some_none (sym e))
 heard_by_both false p x y e = absurd (some_none (sym e))
 
@@ -73,7 +71,7 @@ module _ (m : FlownMission) (fit : Fits m) (b : Desk) (c : Acts) (g : Going m b 
   stamps f k q s w slot e =
       let t = chosen f k q s w slot e in
       elim (cases_lt b.frame f) [
-        | inl after ↦ absurd (not_both _ (not_past_after b.frame (cursor b) f (say_spot m (accounts_of m b f).cfg k q) after) t.past)
+        | inl after ↦ absurd (both_ways _ (not_past_after b.frame (cursor b) f (say_spot m (accounts_of m b f).cfg k q) after) t.past)
         | inr low ↦
             let config = config_at m b g.range f low in
             let apart = fit.timed.apart (accounts_of m b f).cfg k config slot
@@ -102,7 +100,7 @@ module _ (m : FlownMission) (fit : Fits m) (b : Desk) (c : Acts) (g : Going m b 
       let w = word_in_frame m b.unit (accounts_of m b) (heard_places m c) f k q in
       said_flat (is_slot m k) (c.said f (m.number k) q) (calls m (accounts_of m b f).cfg k b.unit q) st w
       (λ out. elim (cases_Bool (calls m (accounts_of m b f).cfg k b.unit q)) [
-        | inl t ↦ absurd (not_both _ out (call_of m us k b.unit q t).slot)
+        | inl t ↦ absurd (both_ways _ out (call_of m us k b.unit q t).slot)
         | inr t ↦ t
       ])
       (λ t. meets.acts.said f k q t

@@ -1,6 +1,6 @@
 -- What the end of a frame finds for the next.
 use Rattle.std.proofs.Common.{◌≡◌, inl, inr, ◌+◌, ◌<◌, ◌≤◌, length, true, refl, sym, subst, arith}
-use Rattle.std.proofs.lemmas.Bool.{cases_Bool}
+use Rattle.std.proofs.lemmas.Bool.{cases_Bool, both_ways}
 use Rattle.sift_base.specs.Units.{has}
 use Rattle.sift_base.specs.declared.slot.Slot.{Slot}
 use Rattle.sift_base.specs.declared.slot.Slot.TheVariants.{Clock}
@@ -10,15 +10,14 @@ use Rattle.sift_mission.specs.Data.{FlownMission, IsConfigOf}
 use Rattle.sift_mission.specs.Slots.{is_slot}
 use Rattle.sift_conduct.specs.Conduct.{Account, reading_by}
 use Rattle.sift_conduct.specs.Acts.{heard_places}
+use Rattle.sift_conduct.specs.laws.NextConfigs.{next_is_config}
 use Rattle.sift_mission.specs.Fits.{Fits}
 use Rattle.sift_memory.specs.Tidings.{names_now}
 use Rattle.sift_unit.specs.Reach.{IsNearIn}
 use Rattle.sift_unit.specs.Remembered.{with_clock}
 use Rattle.sift_unit.specs.Desk.{Desk, cursor, heard_mark, account_now, accounts_of}
 use Rattle.sift_unit.specs.Going.{InRange, Going, desk_frame}
-use Rattle.sift_unit.proofs.Calls.{next_is_config}
 use Rattle.sift_unit.proofs.Nearness.{near_still, next_near}
-use Rattle.sift_unit.proofs.Tests.{not_both}
 use Rattle.sift_unit.proofs.Standing.{stands, now_in, now_out}
 
 module _ (m : FlownMission) (fit : Fits m) where
@@ -58,5 +57,5 @@ module _ (m : FlownMission) (fit : Fits m) where
     pub votes_all : InRange m b → has (account_now m b).next_cfg b.unit ≡ true → length (account_now m b).outs ≡ m.words
     votes_all r = elim (cases_Bool (has b.cfg b.unit)) [
       | inl t ↦ λ member. subst (λ (z : Account). length z.outs ≡ m.words) (sym (now_in m b t)) r.shape.outs
-      | inr t ↦ λ member. absurd (not_both _ t (subst (λ (z : Account). has z.next_cfg b.unit ≡ true) (now_out m b t) member))
+      | inr t ↦ λ member. absurd (both_ways _ t (subst (λ (z : Account). has z.next_cfg b.unit ≡ true) (now_out m b t) member))
     ]

@@ -3,7 +3,7 @@ use Rattle.std.proofs.Common.{◌≡◌, ◌≢◌, inl, inr, ℕ, ◌<◌, List
 use Rattle.std.proofs.Common.{None, Some, refl, sym, ap, ◌∙◌, subst, arith, ne_eqb, eqb-true, ltb-true, lt-ltb, get_or-set_same}
 use Rattle.std.specs.Prelude.{ℤ, ◌+ℤ◌, if◌then◌else◌, slice_index}
 use Rattle.std.specs.FinSet as set
-use Rattle.std.proofs.lemmas.Bool.{cases_Bool, eq-eqb}
+use Rattle.std.proofs.lemmas.Bool.{cases_Bool, eq-eqb, not-true, and_from, eqb-false}
 use Rattle.sift_base.specs.Units.{has, holds, others}
 use Rattle.sift_base.specs.declared.slot.Slot.{Slot}
 use Rattle.sift_base.specs.declared.slot.Slot.TheVariants.{Clock, Sense, RelaySense, Out, Report, RelayReport}
@@ -23,9 +23,8 @@ use Rattle.sift_memory.specs.laws.Tests.{and_in}
 use Rattle.sift_memory.specs.laws.Sets.{holds-gathered}
 use Rattle.sift_mission.specs.laws.Configs.{has-reader}
 use Rattle.sift_mission.specs.laws.Silent.{not_held}
+use Rattle.sift_mission.specs.laws.Calls.{call_is}
 use Rattle.sift_unit.specs.Remembered.{Heard, Ran, polled_words, with_clock}
-use Rattle.sift_unit.proofs.Tests.{apart, both, not_true}
-use Rattle.sift_unit.proofs.Calls.{call_is}
 
 module _ (m : FlownMission) (us : List ℕ) (u f : ℕ) (clk : ℤ) (a : Account) (h : Places) (last : List ℕ) (fit : Fits m) (config : IsConfigOf m us) (member : has us u ≡ true) where
   -- the unit in the frame
@@ -52,7 +51,7 @@ module _ (m : FlownMission) (us : List ℕ) (u f : ℕ) (clk : ℤ) (a : Account
       (v : ℕ) → has us v ≡ true → m.executes us w v ≡ true → polled_at u b heard w v ≡ polled here w v
   polled-same w heard b places low ran v from e = elim (cases_Bool (nat_eq v u)) [
     | inl t ↦ rw t (ap Some (ran (subst (λ z. m.executes us w z ≡ true) (eqb-true v u t) e)))
-    | inr t ↦ rw t (places v (calling (Out w) v (lt-ltb w m.words low) from (apart v u t) e))
+    | inr t ↦ rw t (places v (calling (Out w) v (lt-ltb w m.words low) from (eqb-false v u t) e))
   ]
 
   -- and so all words of the poll
@@ -69,7 +68,7 @@ module _ (m : FlownMission) (us : List ℕ) (u f : ℕ) (clk : ℤ) (a : Account
       → Heard here clk (note m us u f clk last k heard b) k
   heard_new Clock heard b slot shape places before ran = (
     λ v. holds-gathered _ us v ∙ and_in (has us v) _ _ (λ t. and_in (not (nat_eq v u)) _ _ (λ o.
-        ap (λ w. is_too_far (m.skew +ℤ m.error) (reading_of w clk (m.errors u v))) (places v (calling Clock v slot t (apart v u (not_true _ o)) refl)))),
+        ap (λ w. is_too_far (m.skew +ℤ m.error) (reading_of w clk (m.errors u v))) (places v (calling Clock v slot t (eqb-false v u (not-true _ o)) refl)))),
     ap (λ rs. clk +ℤ correction_of (m.skew +ℤ m.error) (length us) rs +ℤ m.drift u)
         (map-same (reading_at m u clk heard) (reading_by (with_clock here clk)) (others u us)
         (λ v t. let o = has-others u us v t in ap (λ w. reading_of w clk (m.errors u v)) (places v (calling Clock v slot o.0 o.1 refl)))),
@@ -78,7 +77,7 @@ module _ (m : FlownMission) (us : List ℕ) (u f : ℕ) (clk : ℤ) (a : Account
       let few : x < m.sensors = ltb-true x m.sensors slot in
       let long = shape.direct in let low : x < length b.direct = omega arith in
       let r = reader_of us x in
-      get_or-set_same b.direct x _ None low ∙ places r (calling (Sense x) r slot (has-reader m us x config) (apart r u other) (eq-eqb r r refl))
+      get_or-set_same b.direct x _ None low ∙ places r (calling (Sense x) r slot (has-reader m us x config) (eqb-false r u other) (eq-eqb r r refl))
   heard_new (RelaySense x) heard b slot shape places before ran =
       let few : x < m.sensors = ltb-true x m.sensors slot in
       let low : x < length b.ins = rw shape.ins few in
@@ -94,7 +93,7 @@ module _ (m : FlownMission) (us : List ℕ) (u f : ℕ) (clk : ℤ) (a : Account
         ],
         λ v. ap (λ s. holds s v) (get_or-set_same b.relay x _ set.empty low') ∙ holds-gathered _ us v
             ∙ and_in (has us v) _ _ (λ t. and_in (not (nat_eq v u)) _ _ (λ o. and_in (nat_eq r u) _ _ (λ is.
-            let other = apart v u (not_true _ o) in
+            let other = eqb-false v u (not-true _ o) in
             ap (λ w. differs w (Some (m.sensed x f)))
             (places v (calling (RelaySense x) v slot t other (ap not (ne_eqb v r (λ e. other (e ∙ eqb-true r u is))))))))),
       )
@@ -117,4 +116,4 @@ module _ (m : FlownMission) (us : List ℕ) (u f : ℕ) (clk : ℤ) (a : Account
       get_or-set_same b.agreed s _ 0 low
       ∙ taken-same s (place_at b.reports s) (h Report s) (place_at heard) (h (RelayReport s)) (before Report refl (omega arith) s from other)
       (λ v from' ne other'. places v (calling (RelayReport s) v slot from' other'
-      (both _ _ from (both _ _ (ap not (ne_eqb v s ne)) (ap not (ne_eqb u s (λ z. other (sym z))))))))
+      (and_from _ _ from (and_from _ _ (ap not (ne_eqb v s ne)) (ap not (ne_eqb u s (λ z. other (sym z))))))))

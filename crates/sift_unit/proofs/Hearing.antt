@@ -2,7 +2,7 @@
 use Rattle.std.proofs.Common.{◌≡◌, ℕ, ◌+◌, ◌<◌, length, true, Option, Some, None, refl, sym}
 use Rattle.std.proofs.Common.{◌∙◌, subst, arith, eqb-true, ltb-true, lt-ltb, eq-eqb, option_map, length-set, get_or-set_same, get_or-set_other}
 use Rattle.std.specs.Prelude.{slice_set}
-use Rattle.std.proofs.lemmas.Bool.{and_parts}
+use Rattle.std.proofs.lemmas.Bool.{and_parts, and_from}
 use mathlib.Core.Logic.{dite}
 use native.Mathlib.Decide.{ℕ_discrete}
 use Rattle.sift_buffer.specs.Conduct.{Hearing, hearing, with_heard}
@@ -14,7 +14,7 @@ use Rattle.sift_mission.specs.Fits.{Fits}
 use Rattle.sift_memory.specs.Stops.{spot, hear_spot}
 use Rattle.sift_unit.specs.Desk.{Desk, cursor, is_hearing, accounts_of, moved}
 use Rattle.sift_unit.specs.Going.{Accounts, Words, ActsTo, Going}
-use Rattle.sift_unit.proofs.Tests.{both, some_none}
+use Rattle.sift_unit.proofs.Tests.{some_none}
 use Rattle.sift_unit.proofs.Past.{put_here, put_cases}
 use Rattle.sift_unit.proofs.Acting.{small_of, acts_heard, heard_none}
 use Rattle.sift_unit.proofs.Standing.{stands}
@@ -41,7 +41,7 @@ module _ (m : FlownMission) (fit : Fits m) where
   -- and the other way round
   pub hearing_at : (b : Desk) → b.part ≡ 0 → b.slot < m.slots → b.subframe ≡ m.heard_in b.cfg (m.kind b.slot) →
       calls m b.cfg (m.kind b.slot) b.other b.unit ≡ true → is_hearing m b ≡ true
-  hearing_at b e low sub call = both _ _ (eq-eqb b.part 0 e) (both _ _ (lt-ltb b.slot m.slots low) (both _ _ (eq-eqb b.subframe _ sub) call))
+  hearing_at b e low sub call = and_from _ _ (eq-eqb b.part 0 e) (and_from _ _ (lt-ltb b.slot m.slots low) (and_from _ _ (eq-eqb b.subframe _ sub) call))
 
   -- the place at which it stands
   here : (b : Desk) → AtHearing b → cursor b ≡ hear_spot m b.cfg (m.kind b.slot) b.other

@@ -1,16 +1,15 @@
 -- A board jumps within its subframe, past places at which it has nothing to do.
 use Rattle.std.proofs.Common.{◌≡◌, inl, inr, ℕ, ◌≤◌, false, refl, arith}
-use Rattle.std.proofs.lemmas.Bool.{cases_lt}
+use Rattle.std.proofs.lemmas.Bool.{cases_lt, both_ways}
 use Rattle.sift_base.specs.Units.{has}
 use Rattle.sift_mission.specs.Data.{FlownMission}
 use Rattle.sift_mission.specs.Fits.{Fits}
+use Rattle.sift_mission.specs.laws.Calls.{call_of}
 use Rattle.sift_memory.specs.Stops.{spot, hear_spot, say_spot, IsNothingBetween, hearing, running, saying}
 use Rattle.sift_memory.specs.laws.Tasks.{few_tasks}
 use Rattle.sift_unit.specs.Desk.{Desk, cursor, heard_mark, run_mark}
 use Rattle.sift_unit.specs.Going.{InRange}
 use Rattle.sift_unit.specs.BoardLaws.{JumpLaw}
-use Rattle.sift_unit.proofs.Tests.{not_both}
-use Rattle.sift_unit.proofs.Calls.{call_of}
 use Rattle.sift_unit.proofs.Acting.{small_of}
 use Rattle.sift_unit.proofs.Moving.{Skips, skip_going}
 
@@ -51,9 +50,9 @@ module _ (m : FlownMission) (fit : Fits m) where
   -- a unit outside its configuration has nothing to do in a subframe
   pub idle_skips : (b : Desk) → InRange m b → has b.cfg b.unit ≡ false → cursor b ≤ spot b.subframe 2 m.slots 0 → Skips m fit b b.subframe 2 m.slots 0
   idle_skips b r out up = record {
-    free = record { up = up; heard = λ member. absurd (not_both _ out member); ran = λ member. absurd (not_both _ out member) };
-    says = λ k q call low. absurd (not_both _ out (call_of m b.cfg k b.unit q call).from);
-    hears = λ k p call low. absurd (not_both _ out (call_of m b.cfg k p b.unit call).to);
+    free = record { up = up; heard = λ member. absurd (both_ways _ out member); ran = λ member. absurd (both_ways _ out member) };
+    says = λ k q call low. absurd (both_ways _ out (call_of m b.cfg k b.unit q call).from);
+    hears = λ k p call low. absurd (both_ways _ out (call_of m b.cfg k p b.unit call).to);
     subframe = r.subframe;
     part = omega arith;
     slot = omega arith;

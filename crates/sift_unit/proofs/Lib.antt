@@ -1,6 +1,5 @@
 pub mod Acting
 pub mod Asking
-pub mod Calls
 pub mod Conducts
 pub mod Continuing
 pub mod Driving

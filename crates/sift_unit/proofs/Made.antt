@@ -1,7 +1,7 @@
 -- The words that a board makes and says are those of the equations.
 use Rattle.std.proofs.Common.{◌≡◌, ℕ, ◌<◌, ◌≤◌, List, length, true, refl, sym, ap, ◌∙◌, arith, eq-eqb, ne_eqb, ltb-true, lt-ltb}
 use Rattle.std.specs.Prelude.{ℤ, Some}
-use Rattle.std.proofs.lemmas.Bool.{and_parts}
+use Rattle.std.proofs.lemmas.Bool.{and_parts, not-true, eqb-false}
 use Rattle.sift_base.specs.Units.{has, bits_of}
 use Rattle.sift_base.specs.declared.slot.Slot.{Slot}
 use Rattle.sift_base.specs.declared.slot.Slot.TheVariants.{Clock, Sense, RelaySense, Out, Report, RelayReport}
@@ -16,9 +16,8 @@ use Rattle.sift_memory.specs.Tidings.{word_now}
 use Rattle.sift_memory.specs.Conditions.{IsShaped}
 use Rattle.sift_memory.specs.laws.Sets.{renewed-here}
 use Rattle.sift_mission.specs.laws.Silent.{not_held}
+use Rattle.sift_mission.specs.laws.Calls.{call_of}
 use Rattle.sift_unit.specs.Remembered.{Heard, Ran, Matches, Settled}
-use Rattle.sift_unit.proofs.Tests.{apart, not_true}
-use Rattle.sift_unit.proofs.Calls.{call_of}
 use Rattle.sift_unit.proofs.Kept.{made_long}
 
 module _ (m : FlownMission) (us : List ℕ) (u f : ℕ) (clk : ℤ) (a : Account) (h : Places) (last : List ℕ) (fit : Fits m) (config : IsConfigOf m us) where
@@ -50,7 +49,7 @@ module _ (m : FlownMission) (us : List ℕ) (u f : ℕ) (clk : ℤ) (a : Account
   word_is (RelaySense x) q b call ck before ran settled =
       let c = call_of m us (RelaySense x) u q call in
       let few = ltb-true x m.sensors c.slot in
-      before (Sense x) c.slot (fit.timed.relayed us x config few) (ne_eqb (reader_of us x) u (λ e. apart u (reader_of us x) (not_true _ c.sender) (sym e)))
+      before (Sense x) c.slot (fit.timed.relayed us x config few) (ne_eqb (reader_of us x) u (λ e. eqb-false u (reader_of us x) (not-true _ c.sender) (sym e)))
   word_is (Out w) q b call ck before ran settled =
       let c = call_of m us (Out w) u q call in ap Some (ran w (ltb-true w m.words c.slot) (omega arith) c.sender)
   word_is Report q b call ck before ran settled = let s = settled (omega arith) in λ i. Some (bits_of (everyone_in (s i)))
@@ -58,4 +57,4 @@ module _ (m : FlownMission) (us : List ℕ) (u f : ℕ) (clk : ℤ) (a : Account
       let c = call_of m us (RelayReport s) u q call in
       let t = and_parts _ _ c.sender in
       let t' = and_parts _ _ t.1 in
-      before Report refl (fit.timed.reported us s config c.slot) s t.0 (λ e. apart u s (not_true _ t'.0) (sym e))
+      before Report refl (fit.timed.reported us s config c.slot) s t.0 (λ e. eqb-false u s (not-true _ t'.0) (sym e))

@@ -1,5 +1,6 @@
 -- Moves of a board within its subframe, without its port.
 use Rattle.std.proofs.Common.{◌≡◌, ◌⊎◌, inl, inr, ℕ, List, ◌+◌, ◌<◌, ◌≤◌, false, refl, sym, ◌∙◌, subst, arith, eq-eqb}
+use Rattle.std.proofs.lemmas.Bool.{or_parts, both_ways}
 use mathlib.Core.Logic.{dite}
 use native.Mathlib.Decide.{ℕ_discrete}
 use Rattle.sift_base.specs.Units.{has, unit_limit}
@@ -13,7 +14,6 @@ use Rattle.sift_unit.specs.Going.{InRange}
 use Rattle.sift_unit.specs.Passing.{Passes, Onward}
 use Rattle.sift_unit.specs.Boards.{IsSameBoard}
 use Rattle.sift_unit.specs.declared.board.Board.{Board as TheBoard}
-use Rattle.sift_unit.proofs.Tests.{neither, not_both}
 use Rattle.sift_unit.proofs.Moving.{range_at, skip_range, skip_going}
 use Rattle.sift_unit.proofs.Skipping.{Idles, IsPartDone, pass_going, slot_going, part_going}
 use Rattle.sift_unit.proofs.Jumping.{jump_skips, idle_skips}
@@ -38,7 +38,7 @@ same_on a b d p q = record { unit = q.unit ∙ p.unit; frames = q.frames ∙ p.f
 inside_is : (m : FlownMission) (b : Desk) → InRange m b → is_end m b ≡ false → (b.part < 2) ⊎ (b.slot < m.slots)
 inside_is m b r inside = let part = r.part in let slot = r.slot in dite (ℕ_discrete b.part 2)
     (λ e. dite (ℕ_discrete b.slot m.slots)
-    (λ s. absurd (not_both _ inside (rw (eq-eqb b.part 2 e, eq-eqb b.slot m.slots s) refl)))
+    (λ s. absurd (both_ways _ inside (rw (eq-eqb b.part 2 e, eq-eqb b.slot m.slots s) refl)))
     (λ s. inr (omega arith)))
     (λ n. inl (omega arith))
 
@@ -50,7 +50,7 @@ module _ (m : FlownMission) (fit : Fits m) (b : Desk) (r : InRange m b) where
   -- past a place that is no call
   pub place_onward : b.slot < m.slots → b.other < unit_limit → is_call m b ≡ false → Onward m b (moved b b.subframe b.part b.slot (b.other + 1) b.places)
   place_onward low here idle =
-      let no = neither (is_hearing m b) (is_saying m b) idle in let few = fit.numbered.few in let part = r.part in
+      let no = or_parts (is_hearing m b) (is_saying m b) idle in let few = fit.numbered.few in let part = r.part in
       record {
         passes = record {
           range = range_moved b.part b.slot (b.other + 1) r.part r.slot (omega arith);

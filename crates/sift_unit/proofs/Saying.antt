@@ -1,7 +1,7 @@
 -- A board says a word.
 use Rattle.std.proofs.Common.{◌≡◌, ℕ, ◌+◌, ◌<◌, true, Option, None, sym, ap, ◌∙◌, subst, arith, eqb-true, ltb-true, lt-ltb, eq-eqb}
 use Rattle.std.specs.Prelude.{unwrap_or}
-use Rattle.std.proofs.lemmas.Bool.{and_parts}
+use Rattle.std.proofs.lemmas.Bool.{and_parts, and_from}
 use Rattle.sift_base.specs.Units.{has}
 use Rattle.sift_buffer.specs.Conduct.{with_said}
 use Rattle.sift_buffer.specs.Conduct.{Conduct as Acts}
@@ -10,13 +10,12 @@ use Rattle.sift_mission.specs.Slots.{calls, stamp_of}
 use Rattle.sift_conduct.specs.Conduct.{own_word, unit_frame}
 use Rattle.sift_conduct.specs.Acts.{heard_places}
 use Rattle.sift_mission.specs.Fits.{Fits}
+use Rattle.sift_mission.specs.laws.Calls.{call_of}
 use Rattle.sift_memory.specs.Tidings.{word_now, word_to}
 use Rattle.sift_memory.specs.Stops.{spot, say_spot}
 use Rattle.sift_memory.specs.laws.Tasks.{few_tasks}
 use Rattle.sift_unit.specs.Desk.{Desk, cursor, is_saying, accounts_of, moved}
 use Rattle.sift_unit.specs.Going.{Accounts, Words, word_in_frame, ActsTo, Fate, Meets, Going, desk_frame}
-use Rattle.sift_unit.proofs.Tests.{both}
-use Rattle.sift_unit.proofs.Calls.{call_of}
 use Rattle.sift_unit.proofs.Made.{word_is}
 use Rattle.sift_unit.proofs.Acting.{small_of, acts_said, said_none}
 use Rattle.sift_unit.proofs.Standing.{stands}
@@ -38,7 +37,7 @@ module _ (m : FlownMission) (fit : Fits m) where
   -- and the other way round
   pub saying_at : (b : Desk) → b.part ≡ 2 → b.slot < m.slots → b.subframe ≡ m.due b.cfg (m.kind b.slot) →
       calls m b.cfg (m.kind b.slot) b.unit b.other ≡ true → is_saying m b ≡ true
-  saying_at b e low sub call = both _ _ (eq-eqb b.part 2 e) (both _ _ (lt-ltb b.slot m.slots low) (both _ _ (eq-eqb b.subframe _ sub) call))
+  saying_at b e low sub call = and_from _ _ (eq-eqb b.part 2 e) (and_from _ _ (lt-ltb b.slot m.slots low) (and_from _ _ (eq-eqb b.subframe _ sub) call))
 
   -- the place at which it stands
   here : (b : Desk) → AtSaying b → cursor b ≡ say_spot m b.cfg (m.kind b.slot) b.other

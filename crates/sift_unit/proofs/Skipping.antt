@@ -1,6 +1,6 @@
 -- A board passes places, slots, parts and subframes at which it has nothing to do.
 use Rattle.std.proofs.Common.{◌≡◌, ◌≢◌, ◌⊎◌, inl, inr, ◌+◌, ◌<◌, ◌≤◌, true, false, refl, sym, ap, ◌∙◌, arith}
-use Rattle.std.proofs.lemmas.Bool.{cases_Bool}
+use Rattle.std.proofs.lemmas.Bool.{cases_Bool, both_ways}
 use mathlib.Core.Logic.{dite}
 use native.Mathlib.Decide.{ℕ_discrete}
 use Rattle.sift_base.specs.Units.{unit_limit}
@@ -13,7 +13,6 @@ use Rattle.sift_memory.specs.Stops.{hear_spot, say_spot}
 use Rattle.sift_memory.specs.laws.Tasks.{few_tasks}
 use Rattle.sift_unit.specs.Desk.{Desk, cursor, is_hearing, is_saying, moved}
 use Rattle.sift_unit.specs.Going.{Going}
-use Rattle.sift_unit.proofs.Tests.{not_both}
 use Rattle.sift_unit.proofs.Past.{spot_same}
 use Rattle.sift_unit.proofs.Acting.{small_of}
 use Rattle.sift_unit.proofs.Moving.{free_place, skip_going}
@@ -38,14 +37,14 @@ module _ (m : FlownMission) (fit : Fits m) where
             let ne : say_spot m b.cfg k' q ≢ cursor b = λ z.
             let s = spot_same (m.due b.cfg k') 2 (m.number k') q i t k o (omega arith) (omega arith) (omega arith) (omega arith) (omega arith) (omega arith) z in
             let ke = kind_is b k' sm.slot s.slot in
-            not_both _ nos (saying_at m fit b (sym s.part) low (sym s.subframe ∙ ap (λ x. m.due b.cfg x) (sym ke)) (rw (ke, ← s.other) call)) in
+            both_ways _ nos (saying_at m fit b (sym s.part) low (sym s.subframe ∙ ap (λ x. m.due b.cfg x) (sym ke)) (rw (ke, ← s.other) call)) in
             omega arith;
         hears = λ k' q call up.
             let sm = small_of m b.cfg k' q b.unit fit r.config call in let s1 = sm.number in let s2 = sm.from in
             let ne : hear_spot m b.cfg k' q ≢ cursor b = λ z.
             let s = spot_same (m.heard_in b.cfg k') 0 (m.number k') q i t k o (omega arith) (omega arith) (omega arith) (omega arith) (omega arith) (omega arith) z in
             let ke = kind_is b k' sm.slot s.slot in
-            not_both _ noh (hearing_at m fit b (sym s.part) low (sym s.subframe ∙ ap (λ x. m.heard_in b.cfg x) (sym ke)) (rw (ke, ← s.other) call)) in
+            both_ways _ noh (hearing_at m fit b (sym s.part) low (sym s.subframe ∙ ap (λ x. m.heard_in b.cfg x) (sym ke)) (rw (ke, ← s.other) call)) in
             omega arith;
         subframe = r.subframe;
         part = r.part;
@@ -57,7 +56,7 @@ module _ (m : FlownMission) (fit : Fits m) where
         slot = refl;
         other = refl;
         quiet = λ zero sub. elim (cases_Bool (calls m b.cfg (m.kind b.slot) b.other b.unit)) [
-          | inl call ↦ absurd (not_both _ noh (hearing_at m fit b zero low sub call))
+          | inl call ↦ absurd (both_ways _ noh (hearing_at m fit b zero low sub call))
           | inr none ↦ none
         ];
       })) g.progress

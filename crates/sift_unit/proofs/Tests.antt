@@ -1,34 +1,11 @@
 -- Tests that pass or fail, joined, and what is chosen by them.
-use Rattle.std.proofs.Common.{◌≡◌, ◌≢◌, ℕ, List, [], ◌∷◌, Bool, true, false, not, ◌&&◌, ◌||◌, nat_eq, Option, Some, None, refl, sym, ◌∙◌, eq-eqb}
+use Rattle.std.proofs.Common.{◌≡◌, ℕ, List, [], ◌∷◌, Bool, true, false, ◌&&◌, ◌||◌, Option, Some, None, refl}
 use Rattle.std.specs.Prelude.{if◌then◌else◌}
 use Rattle.std.specs.List.{list_any}
-
--- two tests that pass
-pub both : (a b : Bool) → a ≡ true → b ≡ true → a && b ≡ true
-both a b e d = rw (e, d) refl
-
--- neither of two tests passes
-pub neither : (a b : Bool) → (a || b) ≡ false → (a ≡ false) × (b ≡ false)
-neither false false e = (refl, refl)
-neither false true e = (refl, e)
-neither true b e = absurd (let z : ⊥ = cc in z)
-
--- a test whose opposite passes
-pub not_true : (b : Bool) → not b ≡ true → b ≡ false
-not_true true e = absurd (let h : ⊥ = cc in h)
-not_true false e = refl
-
--- no test both passes and fails
-pub not_both : (t : Bool) → t ≡ false → t ≡ true → ⊥
-not_both t fails passes = let w : false ≡ true = sym fails ∙ passes in cc
 
 -- what is there isn't absent
 pub some_none : {A : Type 0} {x : A} → Some x ≡ None → ⊥
 some_none e = cc
-
--- two numbers that a test tells apart
-pub apart : (v u : ℕ) → nat_eq v u ≡ false → v ≢ u
-apart v u t e = let w = rw (eq-eqb v u e) at t in let z : ⊥ = cc in z
 
 -- a choice by two tests is the same where the second is, once the first passes
 pub choice_same : {A : Type 0} (b p p' : Bool) (x : Option A) → (b ≡ true → p ≡ p') → (if b && p then x else None) ≡ (if b && p' then x else None)

@@ -1,21 +1,19 @@
 -- What a board guarantees, where its unit may turn.
-use Rattle.std.proofs.Common.{◌≡◌, ◌⊎◌, inl, inr, ℕ, ◌+◌, ◌*◌, ◌-◌, ◌<◌, ◌≤◌, false, Option, Some, None, nat_lt, refl, sym, ap, ◌∙◌, subst, arith, ltb-true}
-use Rattle.std.proofs.lemmas.Bool.{cases_Bool}
+use Rattle.std.proofs.Common.{◌≡◌, ◌⊎◌, inl, inr, ℕ, ◌+◌, ◌*◌, ◌-◌, ◌<◌, ◌≤◌, false, Option, Some, None, refl, sym, ap, ◌∙◌, subst, arith}
+use Rattle.std.proofs.lemmas.Option.{same_Some}
 use Rattle.sift_buffer.specs.Conduct.{Conduct as Acts}
 use Rattle.sift_mission.specs.Data.{FlownMission}
 use Rattle.sift_mission.specs.Slots.{turned_by}
 use Rattle.sift_conduct.specs.Frames.{Flies}
 use Rattle.sift_conduct.specs.Acts.{Turns, IsUnderway}
 use Rattle.sift_mission.specs.Fits.{Fits}
+use Rattle.sift_mission.specs.laws.Turning.{before_turning}
 use Rattle.sift_unit.specs.Desk.{Desk, cursor}
 use Rattle.sift_unit.specs.Keeping.{Flying, Keeps, HasFlown, as_flying}
 use Rattle.sift_unit.specs.BoardLaws.{KeepLaw}
 use Rattle.sift_unit.proofs.Tests.{some_none}
 use Rattle.sift_unit.proofs.Standing.{frame_low}
 use Rattle.sift_unit.proofs.Exporting.{unsaid, unheard, underway, kept}
-
-some_same : {A : Type 0} {x y : A} → Some x ≡ Some y → x ≡ y
-some_same e = cc
 
 -- a unit that flies is before the frame from which on it is stray, or at progress 0
 progress_before : (m : FlownMission) (b : Desk) (c : Acts) (from : ℕ) → Flying m b c → m.storm b.unit ≡ Some from →
@@ -44,20 +42,16 @@ turns_by m fit b c (inl k) (Some from) e = record {
   says_nothing = λ f kd q slot low. unsaid m fit b c k.going f kd q slot (to_come m b c from f k e low);
   hears_nothing = λ f kd p slot low. unheard m fit b c k.going f kd p slot (to_come m b c from f k e low);
 }
-turns_by m fit b c (inr k) (Some from) e = let same : b.frame ≡ from = some_same (sym k.storm ∙ e) in let c' = as_flying c (b.frame * m.period + b.subframe) in record {
+turns_by m fit b c (inr k) (Some from) e = let same : b.frame ≡ from = same_Some _ _ (sym k.storm ∙ e) in let c' = as_flying c (b.frame * m.period + b.subframe) in record {
   left = inr (k.left ∙ ap (λ (n : ℕ). n * m.period - 1) same);
   says_nothing = λ f kd q slot low. unsaid m fit b c' k.going f kd q slot (inr (omega arith, k.at));
   hears_nothing = λ f kd p slot low. unheard m fit b c' k.going f kd p slot (inr (omega arith, k.at));
 }
 
--- a frame by which a unit has not turned is before the one from which on it is stray
-early : (f from : ℕ) → turned_by (Some from) f ≡ false → f < from
-early f from e = elim (cases_Bool (nat_lt f from)) [ inl z ↦ ltb-true f from z | inr z ↦ absurd (let w = rw z at e in cc) ]
-
 -- and so one that it has ended
 far_enough : (m : FlownMission) (b : Desk) (c : Acts) (n : ℕ) → HasFlown m b c n → (f : ℕ) → f < n → Flies m b.unit f → f < b.frame
 far_enough m b c n (inl far) f low fly = omega arith
-far_enough m b c n (inr t) f low fly = early f b.frame (subst (λ o. turned_by o f ≡ false) t.storm fly.whole)
+far_enough m b c n (inr t) f low fly = before_turning f b.frame (subst (λ o. turned_by o f ≡ false) t.storm fly.whole)
 
 -- a board guarantees its acts and accounts
 pub keep_law : KeepLaw

@@ -5,6 +5,7 @@ use Rattle.std.specs.Int.{bit_at, trailing_zeros, bit_not, w8}
 use Rattle.std.specs.Ordering.{nat_cmp}
 use Rattle.std.specs.Cmp.{nat_cmp_total, unsigned_tied}
 use Rattle.std.specs.FinSet as set
+use Rattle.std.proofs.lemmas.List.Filters.{length-filter_both}
 use Rattle.std.proofs.lemmas.Bool.{cases_lt, cases_eq, cases_Bool, eqb-true, eq-eqb, ne_eqb, agree_below_at, and_parts, ltb-true, or_cases}
 use Rattle.std.proofs.lemmas.Nat.Bits.{bit_at-zero, bit_at-trailing_zeros, bit_at_and, bit_at_not, bit_at_or, bit_at_set_same, bit_at_set_other, bit_at_clear_same, bit_at_clear_other}
 use lib.Count.{ones}
@@ -46,13 +47,18 @@ same_below : (bits : ℕ) (other : Units) → ((q : ℕ) → q < 8 → has_bit b
 same_below bits other low high = set.same_set nat_cmp_total set.nat_cmp-IsAntisymmetric (units_of bits) other
     (λ q. ⊎_elim (λ l. holds_low bits q l ∙ low q l) (λ h. holds_high bits q h ∙ sym (high q h)) (cases_lt q 8))
 
+-- sets that hold the same units are one set
+pub same_units : (one other : Units) → ((u : ℕ) → holds one u ≡ holds other u) → one ≡ other
+same_units one other same = set.same_set nat_cmp_total set.nat_cmp-IsAntisymmetric one other same
+
 -- ---- one unit more, one less, both sets
 
 -- a set with u holds q where q is u, or the set holds it
 pub holds-insert : (units : Units) (u q : ℕ) → holds (set.insert units u) q ≡ (nat_eq q u || holds units q)
 holds-insert units u q = set.contains-insert nat_cmp_total units u q ∙ ap (λ t. t || holds units q) (unsigned_tied q u)
 
-holds-remove : (units : Units) (u q : ℕ) → holds (set.remove units u) q ≡ (not (nat_eq q u) && holds units q)
+-- a set without u holds q where q isn't u, and the set holds it
+pub holds-remove : (units : Units) (u q : ℕ) → holds (set.remove units u) q ≡ (not (nat_eq q u) && holds units q)
 holds-remove units u q = set.contains-remove nat_cmp_total units u q ∙ ap (λ t. not t && holds units q) (unsigned_tied q u)
 
 -- a bit that is set in a byte
@@ -161,6 +167,13 @@ pub length_of_passing : (p : ℕ → Bool) (ks : List ℕ) → length (filter p 
 length_of_passing p [] = refl
 length_of_passing p (k ∷ ks) = elim (cases_Bool (p k)) [ inl t ↦ rw t (omega (arith, length_of_passing p ks)) | inr f ↦ rw f (omega (arith, length_of_passing p ks)) ]
 
+-- a set has 8 members at most
+pub few_members : (units : Units) → length (members units) ≤ 8
+unfolding members
+few_members units =
+    let split = length-filter_both (holds units) (λ u. not (holds units u)) (λ u. refl) unit_numbers in
+    omega (arith, split)
+
 -- it is as long as the set has members
 pub len_of_members : (units : Units) → AreUnits units → length (members units) ≡ set.len units
 unfolding members
@@ -222,7 +235,7 @@ members_without units t rest is =
     ∙ filter_without (holds units) t rest unit_numbers units_ascend is
 
 -- no number passes a test that fails at each
-none_pass : (p : ℕ → Bool) (ks : List ℕ) → ((u : ℕ) → p u ≡ false) → filter p ks ≡ []
+pub none_pass : (p : ℕ → Bool) (ks : List ℕ) → ((u : ℕ) → p u ≡ false) → filter p ks ≡ []
 none_pass p [] none = refl
 none_pass p (k ∷ ks) none = rw (none k) (none_pass p ks none)
 

@@ -1,17 +1,10 @@
 -- A set of those units of a list that pass a test, found unit by unit.
-use Rattle.std.proofs.Common.{◌≡◌, ℕ, zero, suc, Bool, true, false, ◌&&◌, ◌||◌, nat_eq, List, [], ◌∷◌, slice_get, Some, unwrap_or, ap, ◌∙◌, sym, refl, inl, inr}
+use Rattle.std.proofs.Common.{◌≡◌, ℕ, Bool, true, false, ◌&&◌, ◌||◌, nat_eq, ap, ◌∙◌, sym, refl, inl, inr}
 use Rattle.std.specs.FinSet as set
 use Rattle.std.proofs.lemmas.Bool.{cases_Bool, eqb-true, eq-eqb, ne_eqb, eqb-false}
-use Rattle.sift_base.specs.Units.{Units, holds, has}
-use Rattle.sift_base.specs.laws.Counts.{has-tail, has-head}
+use Rattle.sift_base.specs.Units.{Units, holds}
 use Rattle.sift_base.specs.laws.Sets.{holds-insert}
 use Rattle.sift_base.specs.laws.ReadBack.{false_last}
-
--- the unit at a position is in the list
-pub has_at : (us : List ℕ) (i t : ℕ) → slice_get us i ≡ Some t → has us t ≡ true
-has_at [] i t at = absurd cc
-has_at (u ∷ us) zero t at = let e : u ≡ t = ap (λ o. unwrap_or o t) at in rw e (has-head t us)
-has_at (u ∷ us) (suc i) t at = has-tail u us t (has_at us i t at)
 
 or_false : (b : Bool) → (b || false) ≡ b
 or_false true = refl

@@ -3,13 +3,12 @@ use Rattle.std.proofs.Common.{◌≡◌, ℕ, zero, suc, ◌+◌, ◌-◌, ◌/�
 use Rattle.std.specs.List.{range_with_len}
 use Rattle.std.specs.Cmp.{nat_cmp_total}
 use Rattle.std.specs.FinSet as set
-use Rattle.std.proofs.lemmas.Bool.{cases_Bool, cases_eq, eqb-true, or_cases, and_parts}
+use Rattle.std.proofs.lemmas.Bool.{cases_Bool, cases_eq, and_parts}
 use Rattle.std.proofs.lemmas.List.FromFn.{length-range_with_len}
-use Rattle.sift_base.specs.laws.Counts.{IsBelowAll}
-use Rattle.sift_base.specs.Units.{Units, AreUnits, unit_numbers, holds, has, has_bit, members, units_of, IsAscending}
+use Rattle.sift_base.specs.Units.{Units, AreUnits, unit_numbers, holds, has, has_bit, members, units_of}
 use Rattle.sift_base.specs.laws.ReadBack.{has-filter, has_low, both, holds-units_of}
 use Rattle.sift_base.specs.laws.Sets.{filter_same, members_without, members_are, passing_ascend}
-use Rattle.std.proofs.lemmas.List.Filters.{length-filter_both}
+use Rattle.sift_base.specs.laws.Ranges.{range-low, range-ascends}
 use Rattle.sift_config.specs.Config.{IsConfig, first_units, remaining}
 
 -- ---- the first units
@@ -38,30 +37,12 @@ first_bits n enough few = elim (cases_eq n 4) [
     last : n ≡ 8 → members (units_of (255 / 2 ^ (8 - n))) ≡ first_units n
     last e = rw e (members_of_bits 255)
 
--- the numbers from a on are above what is below a
-above : (u a n : ℕ) → u < a → IsBelowAll u (range_with_len a n)
-above u a zero low = tt
-above u a (suc n) low = (low, above u (a + 1) n (omega arith))
-
--- they ascend
-numbers_ascend : (a n : ℕ) → IsAscending (range_with_len a n)
-numbers_ascend a zero = tt
-numbers_ascend a (suc n) = (above a (a + 1) n (omega arith), numbers_ascend (a + 1) n)
-
--- and are below a + n
-has_numbers : (a n u : ℕ) → has (range_with_len a n) u ≡ true → u < a + n
-has_numbers a zero u there = absurd cc
-has_numbers a (suc n) u there = elim (or_cases (nat_eq a u) (has (range_with_len (a + 1) n) u) there) [
-  | inl here ↦ omega (arith, eqb-true a u here)
-  | inr later ↦ omega (arith, has_numbers (a + 1) n u later)
-]
-
 -- all units of a computer are a configuration
 pub first_are_config : (n : ℕ) → 4 ≤ n → n ≤ 8 → IsConfig (first_units n)
 first_are_config n enough few = record {
   enough = omega (arith, length-range_with_len 0 n);
-  ascending = numbers_ascend 0 n;
-  inside = λ u there. omega (arith, has_numbers 0 n u there);
+  ascending = range-ascends 0 n;
+  inside = λ u there. omega (arith, range-low 0 n u there);
 }
 
 -- ---- the units that remain
@@ -143,13 +124,6 @@ members_are_config units are enough = record {
   ascending = (members_are units).0;
   inside = λ u there. are u (sym (has-members units u are) ∙ there);
 }
-
--- they are 8 at most
-pub members_are_few : (units : Units) → length (members units) ≤ 8
-unfolding members
-members_are_few units =
-    let split = length-filter_both (holds units) (λ u. not (holds units u)) (λ u. refl) unit_numbers in
-    omega (arith, split)
 
 -- numbers from a on in turn
 pub number_at : (a n i j : ℕ) → i < n → a + i ≡ j → slice_get (range_with_len a n) i ≡ Some j

@@ -3,7 +3,7 @@ use Rattle.std.proofs.Common.{◌≡◌, ℕ, ◌≤◌, Bool, true, false, not,
 use Rattle.std.proofs.lemmas.Bool.{cases_Bool, eqb-true, le-ltb}
 use Rattle.std.proofs.lemmas.List.Sums.{length-filter}
 use Rattle.sift_base.specs.Units.{has, others, faulty_count, HasMargin}
-use Rattle.sift_base.specs.laws.Counts.{count-cons, count-yes, count-no, has-head, has-tail}
+use Rattle.sift_base.specs.laws.Counts.{count-cons, count-yes, count-no, has-head, has-tail, count-same}
 use Rattle.sift_base.specs.laws.Others.{has-others, count-others-≤, others_work}
 use Rattle.sift_base.specs.laws.ReadBack.{false_last}
 use Rattle.sift_exec.specs.Conviction.{is_convicted, working_accusers, NamesNoWorking, ConvictionIsJust}
@@ -34,14 +34,6 @@ count_of_more p q (v ∷ us) more =
       | inl t ↦ rw (count-yes p v us t, count-yes q v us (more v (has-head v us) t)) (omega (arith, rest))
       | inr f ↦ rw (count-no p v us f) (omega (arith, rest, count-cons q v us))
     ]
-
--- tests that agree on a list count alike
-pub count_of_same : (p q : ℕ → Bool) (us : List ℕ) → ((r : ℕ) → has us r ≡ true → p r ≡ q r) → count_by p us ≡ count_by q us
-count_of_same p q [] same = refl
-count_of_same p q (v ∷ us) same =
-    let rest = count_of_same p q us (λ r there. same r (has-tail v us r there)) in
-    let here : ◌≡◌ {A = ℕ} (cond (p v) 1 0) (cond (q v) 1 0) = ap {B = ℕ} (λ b. cond b 1 0) (same v (has-head v us)) in
-    omega (arith, rest, here, count-cons p v us, count-cons q v us)
 
 -- a unit that doesn't pass may be left out
 count_without : (p : ℕ → Bool) (u : ℕ) (us : List ℕ) → p u ≡ false → count_by p (others u us) ≡ count_by p us
@@ -74,7 +66,7 @@ module _ (works : ℕ → Bool) (us : List ℕ) (names : ℕ → ℕ → Bool) (
         let none = count_of_none (λ r. works r && names r u) us (λ r in_us. elim (cases_Bool (works r)) [ inl w ↦ rw w (clean r u in_us w there working) | inr f ↦ rw f refl ]) in
         safe u there working ∙ sym (le-ltb 1 (working_accusers works names us u) (omega (arith, none)))
     | inr faulty ↦
-        let same = count_of_same (λ r. names r u) (λ r. works r && names r u) (others u us) (λ r in_others. rw (others_work works us u margin there faulty r in_others) refl) in
+        let same = count-same (λ r. names r u) (λ r. works r && names r u) (others u us) (λ r in_others. rw (others_work works us u margin there faulty r in_others) refl) in
         let without = count_without (λ r. works r && names r u) u us (rw faulty refl) in
         rw there (ap (λ n. nat_lt 1 n) (same ∙ without))
   ]

@@ -60,13 +60,6 @@ place_holds [] (suc i) u d e = absurd cc
 place_holds (v ∷ us) zero u d e = cc
 place_holds (v ∷ us) (suc i) u d e = place_holds us i u d e
 
--- and this is in the list
-pub has_place : (us : List ℕ) (i u : ℕ) → slice_get us i ≡ Some u → has us u ≡ true
-has_place [] zero u e = absurd cc
-has_place [] (suc i) u e = absurd cc
-has_place (v ∷ us) zero u e = let same : v ≡ u = (cc) in rw same (has-head u us)
-has_place (v ∷ us) (suc i) u e = has-tail v us u (has_place us i u e)
-
 module _ (passes : ℕ → Bool) (us : List ℕ) (i u : ℕ) (there : slice_get us i ≡ Some u) where
   -- the units that pass among one place more
   one_more : filter passes (take (i + 1) us) ≡ filter passes (take i us) ++ cond (passes u) (u ∷ []) []

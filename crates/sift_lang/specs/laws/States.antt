@@ -1,5 +1,5 @@
 -- How many locals live and how many output words there are, after statements.
-use Rattle.std.proofs.Common.{◌≡◌, ℕ, zero, suc, ◌≤◌, List, [], ◌∷◌, length, refl, ◌∙◌, arith}
+use Rattle.std.proofs.Common.{◌≡◌, ℕ, zero, suc, ◌≤◌, List, [], ◌∷◌, length, refl, ◌∙◌, arith, ap}
 use Rattle.std.specs.Fn.{iterate}
 use Rattle.std.proofs.lemmas.List.{length-take-le, length-append, length-set, length-replicate}
 use Rattle.sift_lang.specs.Tree.{Statement, bind, assign, output, choose, choose_else, repeat, Block, end, step, TaskTree}
@@ -84,3 +84,14 @@ adds-more statement r s t u only is =
 -- a task has as many output words as it says
 pub length-meaning : (task : TaskTree) (ins made last : List ℕ) → length (meaning task ins made last) ≡ task.outputs
 length-meaning task ins made last = (adds-after_all task.body _ _).outs_are ∙ length-replicate task.outputs 0
+
+-- ---- the same state
+
+-- rounds that agree on each state lead to one state
+pub iterate-same : (n : ℕ) (f g : State → State) → ((s : State) → f s ≡ g s) → (s : State) → iterate f n s ≡ iterate g n s
+iterate-same zero f g same s = refl
+iterate-same (suc n) f g same s = iterate-same n f g same (f s) ∙ ap (iterate g n) (same s)
+
+-- so do blocks without the locals that they add
+pub scoped-same : (f g : State → State) → ((s : State) → f s ≡ g s) → (s : State) → scoped f s ≡ scoped g s
+scoped-same f g same s = ap (λ (t : State). scoped (λ _. t) s) (same s)

@@ -5,8 +5,8 @@ use Rattle.std.specs.Prelude.{slice_get}
 use Rattle.std.specs.Result.{OnOk}
 use Rattle.std.specs.List.{flat_map, range_with_len}
 use Rattle.std.proofs.lemmas.Grind.{flat_map-append}
-use Rattle.std.proofs.lemmas.List.{append-nil, map-id, map_more, take_all, take_more}
-use Rattle.std.proofs.lemmas.List.FromFn.{map-range_with_len_more}
+use Rattle.std.proofs.lemmas.List.{append-nil, map_more, take_all, take_more}
+use Rattle.sift_base.specs.laws.Ranges.{range-next}
 use Rattle.sift_exec.specs.laws.Counted.{place_holds, place_there}
 use Rattle.sift_line.specs.Line.{printed, text_of_lines}
 use Rattle.sift_line.specs.Part.{list_text, unit_digit, units_text}
@@ -49,15 +49,11 @@ parts_all text vs first others k old before now cut seen start rest =
 
 -- ---- texts in turn
 
--- one number more
-pub range-more : (n : ℕ) → range_with_len 0 (n + 1) ≡ range_with_len 0 n ++ n ∷ []
-range-more n = simp map-id at (map-range_with_len_more (λ k. k) 0 n n (omega arith))
-
 -- the text of one number more
 pub text_more : (text : ℕ → List ℕ) (n : ℕ) (old now new : List ℕ) → now ≡ old ++ flat_map text (range_with_len 0 n) → new ≡ now ++ text n
     → new ≡ old ++ flat_map text (range_with_len 0 (n + 1))
 text_more text n old now new so_far here =
-    rw (here, so_far, range-more n, flat_map-append text) (simp (append_assoc, append-nil))
+    rw (here, so_far, range-next n, flat_map-append text) (simp (append_assoc, append-nil))
 
 -- the texts of the numbers below n, and that of n behind them, are the texts of the numbers below n + 1
 pub first_text_more : (text : ℕ → List ℕ) (n : ℕ) (now new : List ℕ) → now ≡ flat_map text (range_with_len 0 n) → new ≡ now ++ text n
@@ -68,7 +64,7 @@ first_text_more text n now new so_far here = text_more text n [] now new so_far 
 pub lines_more : (lines : ℕ → List ReportLine) (n : ℕ) (now new : List ℕ) → now ≡ text_of_lines (flat_map lines (range_with_len 0 n))
     → new ≡ now ++ text_of_lines (lines n) → new ≡ text_of_lines (flat_map lines (range_with_len 0 (n + 1)))
 lines_more lines n now new so_far here =
-    rw (here, so_far, range-more n, flat_map-append lines)
+    rw (here, so_far, range-next n, flat_map-append lines)
     (simp append-nil (sym (flat_map-append printed (flat_map lines (range_with_len 0 n)) (lines n))))
 
 -- the line of one unit more

@@ -1,10 +1,10 @@
 -- A task's meaning depends only on the words that it reads.
-use Rattle.std.proofs.Common.{◌≡◌, ℕ, zero, suc, ◌<◌, List, slice_index, refl, ap, ◌∙◌}
-use Rattle.std.specs.Fn.{iterate}
+use Rattle.std.proofs.Common.{◌≡◌, ℕ, ◌<◌, List, slice_index, refl, ap, ◌∙◌}
 use Rattle.sift_base.specs.Word.{sub}
 use Rattle.sift_lang.specs.Tree.{Term, number, local, sense, this_frame, last_frame, minus, binary, middle, Statement, bind, assign, output, choose, choose_else, repeat, Block, end, step, TaskTree}
-use Rattle.sift_lang.specs.Meaning.{Readings, State, value_of, scoped, chosen, after, after_all, meaning}
+use Rattle.sift_lang.specs.Meaning.{Readings, State, value_of, chosen, after, after_all, meaning}
 use Rattle.sift_lang.specs.Sound.{NowsBelow, EachTerm, EachTermOf, AllNowsBelow}
+use Rattle.sift_lang.specs.laws.States.{iterate-same, scoped-same}
 
 -- the lists have the same words below this number
 abbrev pub SameBelow : ℕ → List ℕ → List ℕ → Type 0
@@ -31,14 +31,6 @@ module _ (made : ℕ) (r : Readings) (xs ys : List ℕ) (same : SameBelow made x
       let b = value_of-same u locals below.1 in
       let c = value_of-same v locals below.2 in
       cc (a, b, c)
-
--- rounds that agree on each state lead to one state
-iterate-same : (n : ℕ) (f g : State → State) → ((s : State) → f s ≡ g s) → (s : State) → iterate f n s ≡ iterate g n s
-iterate-same zero f g same s = refl
-iterate-same (suc n) f g same s = iterate-same n f g same (f s) ∙ ap (iterate g n) (same s)
-
-scoped-same : (f g : State → State) → ((s : State) → f s ≡ g s) → (s : State) → scoped f s ≡ scoped g s
-scoped-same f g same s = ap (λ (t : State). scoped (λ _. t) s) (same s)
 
 module _ (made : ℕ) (r : Readings) (xs ys : List ℕ) (same : SameBelow made xs ys) where
   mutual

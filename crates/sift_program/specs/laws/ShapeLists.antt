@@ -3,6 +3,7 @@ use Rattle.std.proofs.Common.{◌≡◌, ℕ, zero, suc, ◌+◌, ◌<◌, Bool,
 use Rattle.std.specs.List.{filter, range_with_len}
 use Rattle.std.proofs.lemmas.List.Sums.{sum_by-cons}
 use Rattle.sift_base.specs.Shapes.{Shape, words_in}
+use Rattle.sift_base.specs.laws.Shapes.{words_in-cons}
 use Rattle.sift_lang.specs.Tree.{TaskTree}
 use Rattle.sift_program.specs.Program.{block_reads, reads_task, shapes_from, task_at, output_count}
 
@@ -13,10 +14,6 @@ reads_word task w = block_reads w task.body
 -- the shape of task t
 abbrev pub shape_in : List TaskTree → ℕ → TaskTree → Shape
 shape_in tasks t task = record { outputs = task.outputs; needs = filter (reads_task tasks task) (range_with_len 0 t) }
-
--- the words of one task more
-pub words_in-cons : (task : Shape) (tasks : List Shape) → words_in (task ∷ tasks) ≡ task.outputs + words_in tasks
-words_in-cons task tasks = sum_by-cons (λ t. t.outputs) task tasks
 
 -- the outputs of one task more
 pub output_count-cons : (task : TaskTree) (tasks : List TaskTree) → output_count (task ∷ tasks) ≡ task.outputs + output_count tasks

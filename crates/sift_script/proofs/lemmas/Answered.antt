@@ -3,8 +3,8 @@ use Rattle.std.proofs.Common.{◌≡◌, ◌≤◌, ◌<◌, ℕ, ◌+◌, false
 use Rattle.std.proofs.lemmas.Bool.Decides.{Decides-like}
 use Rattle.std.specs.Prelude.{slice_index}
 use Rattle.sift_base.specs.laws.Requirements.{AreTested, entries_met}
+use Rattle.sift_base.specs.laws.Tests.{Test, is_false, always, ascends, at_most, both, decided, each, less, some_below}
 use Rattle.sift_base.specs.Units.{has}
-use Rattle.sift_script.proofs.Tests.{Test, absent, always, ascends, at_most, both, decided, each, less, some_below}
 use Rattle.sift_script.specs.Faults.{changes_in}
 use Rattle.sift_script.specs.Laws.{ScriptsAreAnswered}
 use Rattle.sift_script.specs.Rules.{AreReceivers, HasPlaceBy, IsThere, entry_rules, fault_at, units_named}
@@ -33,7 +33,7 @@ there script from change = both (placed script change.kind change.index change.w
 -- whether a change is for receivers of what a unit says
 received : (units unit : ℕ) (to : List ℕ) → Test (AreReceivers units unit to)
 received units unit to =
-    let parts = both (both (less 0 (length to)) (ascends to)) (both (each (λ u. u < units) (λ u. less u units) to) (absent (has to unit))) in (
+    let parts = both (both (less 0 (length to)) (ascends to)) (both (each (λ u. u < units) (λ u. less u units) to) (is_false (has to unit))) in (
       parts.0,
       Decides-like parts.0
           (λ h. record { some = h.0.0; ascend = h.0.1; inside = h.1.0; others = h.1.1 })
@@ -47,11 +47,11 @@ tested script at =
     let named = units_named script.faults (at + 1) in (
       decided (less fault.unit script.layout.units),
       (
-        decided (absent (has (units_named script.faults at) fault.unit)),
+        decided (is_false (has (units_named script.faults at) fault.unit)),
         (
           decided (less fault.from script.frames),
           (
-            decided (some_below (λ u. has named u ≡ false) (λ u. absent (has named u)) script.layout.units),
+            decided (some_below (λ u. has named u ≡ false) (λ u. is_false (has named u)) script.layout.units),
             (
               decided (each (IsThere script fault.from) (there script fault.from) (changes_in fault.plan)),
               (

@@ -3,9 +3,9 @@ use Rattle.std.specs.List.{flat_map, range_with_len}
 use Rattle.std.proofs.lemmas.List.{append-nil, map-append}
 use Rattle.std.proofs.lemmas.Nat.{mul-add-lt}
 use Rattle.std.proofs.lemmas.Grind.{flat_map-append}
+use Rattle.sift_base.specs.laws.Ranges.{range-more}
 use Rattle.sift_clocklab.specs.Laboratory.{faulty_clocks, laboratory_of, working_of}
 use Rattle.sift_clocklab.specs.Showing.{Pair, ShowsInTurn, pairs_to}
-use Rattle.sift_clocklab.proofs.Ranges.{range-more}
 use Rattle.sift_clocklab.proofs.Turns.{turn_more_as}
 use Rattle.sift_clocklab.proofs.running.show_round.Goals as goal
 

@@ -1,8 +1,8 @@
 use Rattle.std.proofs.Common.{◌≡◌, false, true, suc, ◌∙◌, sym, subst, add-one, refl, arith}
+use Rattle.std.proofs.lemmas.Bool.{and_from}
 use Rattle.sift_mission.specs.Parts.{flown_of}
 use Rattle.sift_flight.specs.Figures.{is_sound_at, margin_before}
 use Rattle.sift_flight.specs.Told.{told}
-use Rattle.sift_flight.proofs.Calls.{both}
 use Rattle.sift_flight.proofs.Telling.{margin_is_told, stays_lost}
 use Rattle.sift_flight.proofs.figures.margin_at.Goals as goal
 
@@ -23,7 +23,7 @@ returns-then-not-is_sound_at-clause-margin c =
     ((λ t. law.0 (sym same ∙ t)), (λ has. same ∙ law.1 has))
 
 pub loop-g-preserved : goal.loop-g-preserved
-loop-g-preserved c = rw (add-one c.loop-g.g) (both _ _ c.loop-g.invariant (sym c.is_sound_at.ensures ∙ c.if-not-is_sound_at.false))
+loop-g-preserved c = rw (add-one c.loop-g.g) (and_from _ _ c.loop-g.invariant (sym c.is_sound_at.ensures ∙ c.if-not-is_sound_at.false))
 
 pub returns-clause-told : goal.returns-clause-told
 returns-clause-told c =

@@ -1,10 +1,11 @@
 use Rattle.std.proofs.Common.{◌≤◌, ◌∙◌, ◌++◌, ◌∷◌, [], length, map, take, sym, ap, arith}
 use Rattle.std.proofs.lemmas.List.{length-map, length-take-le, map_more, take_all}
 use Rattle.sift_base.specs.Units.{members}
+use Rattle.sift_base.specs.laws.Sets.{few_members}
 use Rattle.sift_exec.specs.Conviction.{everyone_in}
 use Rattle.sift_line.specs.Bad.{catch_of}
 use Rattle.sift_line.specs.declared.catch.Catch.{Catch}
-use Rattle.sift_line.proofs.Catches.{catch_with, few_members}
+use Rattle.sift_line.proofs.Catches.{catch_with}
 use Rattle.sift_line.proofs.catch.catches_in.Goals as goal
 
 pub push-requires : goal.push-requires

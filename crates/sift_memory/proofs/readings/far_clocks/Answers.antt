@@ -2,9 +2,10 @@ use Rattle.std.proofs.Common.{ℕ, ◌&&◌, not, nat_eq, take, nat_cmp, ap, ◌
 use Rattle.std.specs.Prelude.{◌+ℤ◌}
 use Rattle.std.specs.FinSet as set
 use Rattle.sift_base.specs.Units.{holds, has}
+use Rattle.sift_base.specs.laws.Counts.{has_place}
 use Rattle.sift_clock.specs.Correction.{is_too_far}
 use Rattle.sift_config.specs.laws.Lists.{has_front, get-drop}
-use Rattle.sift_config.specs.laws.Joining.{failing_stays, has_at, passing_joins}
+use Rattle.sift_config.specs.laws.Joining.{failing_stays, passing_joins}
 use Rattle.sift_memory.specs.Memory.{reading_at}
 use Rattle.sift_memory.proofs.readings.far_clocks.Goals as goal
 use Rattle.sift_memory.proofs.readings.far_clocks.Goals.{then-is_far, else-is_far}
@@ -15,7 +16,7 @@ loop-position-init g c = λ v. ap (λ units. holds units v) c.empty-far.ensures 
 -- the other unit is one of the mission
 pub is_far-requires-clause-other : goal.is_far-requires-clause-other
 is_far-requires-clause-other g c =
-    c.requires.config.inside c.unit_at-other.result (has_at c.args.config.now c.loop-position.position c.unit_at-other.result c.unit_at-other.ensures)
+    c.requires.config.inside c.unit_at-other.result (has_place c.args.config.now c.loop-position.position c.unit_at-other.result c.unit_at-other.ensures)
 
 -- one unit more
 pub loop-position-preserved : goal.loop-position-preserved

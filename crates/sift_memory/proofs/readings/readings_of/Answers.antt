@@ -1,6 +1,6 @@
 use Rattle.std.specs.Prelude.{Option, Bool, ℕ, ℤ}
 use Rattle.std.proofs.Common.{◌++◌, ◌∷◌, [], ◌<◌, not, nat_eq, ◌∙◌, sym, arith, length}
-use Rattle.sift_config.specs.laws.Joining.{has_at}
+use Rattle.sift_base.specs.laws.Counts.{has_place}
 use Rattle.sift_memory.specs.Memory.{reading_at}
 use Rattle.sift_memory.proofs.InTurn.{passing_yes, passing_no, room_in_turn}
 use Rattle.sift_memory.proofs.readings.readings_of.Goals as goal
@@ -9,7 +9,7 @@ use Rattle.sift_memory.proofs.readings.readings_of.Goals.{then-ne, else-ne}
 -- the other unit is one of the mission
 pub reading_of-requires-clause-other : goal.reading_of-requires-clause-other
 reading_of-requires-clause-other g c =
-    c.requires.config.inside c.unit_at-other.result (has_at c.args.config.now c.loop-position.position c.unit_at-other.result c.unit_at-other.ensures)
+    c.requires.config.inside c.unit_at-other.result (has_place c.args.config.now c.loop-position.position c.unit_at-other.result c.unit_at-other.ensures)
 
 -- there is room for one more
 pub push-requires : goal.push-requires

@@ -1,11 +1,12 @@
 use Rattle.std.proofs.Common.{◌≡◌, ◌<◌, ◌∙◌, ap, sym, subst, true, not, nat_eq, ◌&&◌, slice_index, slice_index_or, arith}
 use Rattle.std.specs.FinSet as set
 use Rattle.sift_base.specs.Units.{holds, has}
+use Rattle.sift_base.specs.laws.Sets.{holds-remove}
 use Rattle.sift_mission.specs.Crews.{sends}
 use Rattle.sift_mission.specs.Parts.{data_of, flown_of}
 use Rattle.sift_mission.specs.laws.Configs.{has-reader}
 use Rattle.sift_mission.proofs.Held.{held-place, held-task, held-there, out_low}
-use Rattle.sift_mission.proofs.Sayers.{just_one, all_but, twice, rotated, holds_removed}
+use Rattle.sift_mission.proofs.Sayers.{just_one, all_but, twice, rotated}
 use Rattle.sift_mission.proofs.roles.senders_of.Goals as goal
 
 -- the word's task stands in the list
@@ -71,7 +72,7 @@ returns-in-RelayReport c = λ config p.
     let us = c.args.config.now in
     let of = c.in-RelayReport.s in
     ap (λ units. holds units p) c.without-in-RelayReport.ensures
-    ∙ holds_removed c.units_if-in-RelayReport.result of p
+    ∙ holds-remove c.units_if-in-RelayReport.result of p
     ∙ ap (λ t. not (nat_eq p of) && t) (c.units_if-in-RelayReport.ensures p ∙ ap (λ t. has us p && t) c.has.ensures)
     ∙ rotated (not (nat_eq p of)) (has us p) (has us of)
     ∙ ap (λ k. has us p && sends m us k p) c.in-RelayReport.ensures

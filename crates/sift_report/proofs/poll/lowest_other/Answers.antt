@@ -1,8 +1,8 @@
 use Rattle.std.proofs.Common.{◌≡◌, ◌≢◌, ◌∙◌, sym, ap, Some}
 use Rattle.std.specs.Prelude.{slice_get}
 use Rattle.std.proofs.lemmas.Bool.{eqb-true, eqb-false}
+use Rattle.sift_base.specs.laws.Counts.{has_place}
 use Rattle.sift_report.proofs.Heard.{lowest_first, lowest_second}
-use Rattle.sift_exec.specs.laws.Counted.{has_place}
 use Rattle.sift_report.proofs.poll.lowest_other.Goals as goal
 
 -- the unit itself is the lowest

@@ -1,7 +1,7 @@
+use Rattle.sift_base.specs.laws.Counts.{has_place}
 use Rattle.sift_mission.specs.Parts.{data_of, flown_of}
 use Rattle.sift_flight.specs.Told.{told}
 use Rattle.sift_report.specs.Votes.{unit_votes}
-use Rattle.sift_exec.specs.laws.Counted.{has_place}
 use Rattle.sift_line.specs.laws.Printed.{unit_more}
 use Rattle.sift_report.proofs.votes.push_frame_votes.Goals as goal
 

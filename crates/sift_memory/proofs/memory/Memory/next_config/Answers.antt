@@ -2,10 +2,10 @@ use Rattle.std.proofs.Common.{◌≡◌, ap, ◌∙◌, map, arith}
 use Rattle.std.proofs.lemmas.Grind.{common_steps}
 use Rattle.sift_base.specs.Units.{has_bit}
 use Rattle.sift_exec.specs.Conviction.{names_by, report_by}
+use Rattle.sift_exec.specs.laws.NextConfigs.{next-same}
 use Rattle.sift_memory.specs.Tidings.{report_taken, names_now}
 use Rattle.sift_memory.specs.Memories.{memory_of}
 use Rattle.sift_memory.proofs.Memories.{next_is, report_of_unit}
-use Rattle.sift_memory.specs.laws.Sets.{next-same}
 use Rattle.sift_memory.proofs.memory.Memory.next_config.Goals as goal
 
 pub returns : goal.returns

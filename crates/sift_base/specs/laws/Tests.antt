@@ -1,6 +1,6 @@
 -- Tests that decide facts on numbers and lists.
-use Rattle.std.proofs.Common.{◌≡◌, ◌≤◌, ◌<◌, ◌⊎◌, inl, inr, ℕ, zero, suc, Bool, true, false, ◌&&◌, List, [], ◌∷◌, All, Decides, eqb, leb, ltb, leb-true, le-leb, refl, sym}
-use Rattle.std.proofs.lemmas.Bool.Decides.{Decides-and, Decides-below_and, Decides-by_and, Decides-eqb, Decides-like, Decides-ltb, not_from_Decides}
+use Rattle.std.proofs.Common.{◌≡◌, ◌≤◌, ◌<◌, ◌⊎◌, inl, inr, ℕ, zero, suc, Bool, true, false, ◌&&◌, ◌||◌, List, [], ◌∷◌, All, Decides, eqb, leb, ltb, leb-true, le-leb, refl, sym}
+use Rattle.std.proofs.lemmas.Bool.Decides.{Decides-and, Decides-below_and, Decides-below_or, Decides-by_and, Decides-eqb, Decides-like, Decides-ltb, not_from_Decides}
 use Rattle.std.specs.List.{list_all}
 use Rattle.sift_base.specs.laws.Counts.{IsBelowAll}
 use Rattle.sift_base.specs.Units.{IsAscending}
@@ -17,6 +17,10 @@ decided (false, tells) = inr (not_from_Decides false tells refl)
 -- two facts
 pub both : {P Q : Type 0} → Test P → Test Q → Test (P × Q)
 both p q = (p.0 && q.0, Decides-and p.0 q.0 p.1 q.1)
+
+-- what holds always
+pub always : Test (Unit {0})
+always = (true, (λ e. tt, λ holds. refl))
 
 -- a fact where another holds
 pub where_so : {P Q : Type 0} → Test P → Test Q → Test (P → Q)
@@ -63,6 +67,18 @@ each_below P test n = (
   Decides-below_and (λ k. (test k).0) P (all_below (λ k. (test k).0)) (λ k. (test k).1) refl (λ m. refl) n,
 )
 
+abbrev some_passes : (ℕ → Bool) → ℕ → Bool
+some_passes passes zero = false
+some_passes passes (suc n) = passes n || some_passes passes n
+
+-- what holds of a number below a bound
+pub some_below : (P : ℕ → Type 0) → ((k : ℕ) → Test (P k)) → (n : ℕ) → Test ((k : ℕ) × (k < n) × P k)
+some_below P test n = (
+  some_passes (λ k. (test k).0) n,
+  Decides-below_or (λ k. (test k).0) P (some_passes (λ k. (test k).0)) (λ k. (test k).1) refl (λ m. refl) n,
+)
+
+-- whether a number is below each of a list
 below_each : (u : ℕ) (vs : List ℕ) → Test (IsBelowAll u vs)
 below_each u [] = (true, (λ e. tt, λ below. refl))
 below_each u (v ∷ vs) = both (less u v) (below_each u vs)
