@@ -68,12 +68,12 @@ module _ (plan : PlanData) (some : 0 < plan.units) where
       (count rounds row q r : ℕ) (longer_chart : List (Option ℕ)) → ShowsResults plan (suc count) rounds longer_chart
       → row < plan.units ^ count → q < plan.units → r < plan.units
       → relay_at plan longer_chart row q r ≡ result_of (all_units plan) (heard plan) rounds (r ∷ path_in plan.units count row) q
-  relay_shown count rounds row q r longer_chart shown range-low q_low r_low =
+  relay_shown count rounds row q r longer_chart shown row_low q_low r_low =
       let n : ℕ = plan.units in
       let result : ℕ → ℕ → Option ℕ = λ longer_row u. result_of (all_units plan) (heard plan) rounds (path_in n (suc count) longer_row) u in
       let tail : ℕ → ℕ → Option ℕ = λ t shorter_row. result_of (all_units plan) (heard plan) rounds (t ∷ path_in n count shorter_row) q in
       let place : ℕ = (row * n + r) * n + q in
-      shown.each place (longer n (suc count) (row * n + r) q (longer n count row r range-low r_low) q_low)
+      shown.each place (longer n (suc count) (row * n + r) q (longer n count row r row_low r_low) q_low)
       ∙ ap (λ x. result x (place % n)) (div-mul-add (row * n + r) n q q_low)
       ∙ ap (λ x. result (row * n + r) x) (mod-mul-add (row * n + r) n q q_low)
       ∙ ap (λ x. tail x ((row * n + r) / n)) (mod-mul-add row n r r_low)
