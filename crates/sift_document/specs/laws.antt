@@ -1,5 +1,5 @@
 -- What follows from the definitions, with its proofs: what the proofs of crates above may cite.
-pub mod DocumentLemmas
+pub mod Arrays
 pub mod EntryTests
 pub mod Numbers
 pub mod OneBroken

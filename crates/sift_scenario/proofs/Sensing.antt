@@ -8,7 +8,7 @@ use Rattle.toml.specs.Data.{Data, Members, get_member, no_members}
 use Rattle.sift_parse.specs.Outcome.{AreDistinct}
 use Rattle.sift_mission.specs.PartsFit.{HasWords, sensed_limit}
 use Rattle.sift_base.specs.Layout.{sensor_limit}
-use Rattle.sift_document.specs.laws.DocumentLemmas.{array_entries}
+use Rattle.sift_document.specs.laws.Arrays.{array_entries}
 use Rattle.sift_document.specs.laws.ReadEntries.{array_between-long}
 use Rattle.sift_document.specs.Document.{IsArrayOf, IsTableOf, entries_of, members_of, word_array, word_value, tables_in}
 use Rattle.sift_document.specs.Rules.{AreKept, BreaksEntries, IsKept, rule}

@@ -8,7 +8,7 @@ use Rattle.std.specs.Prelude.{unwrap_or}
 use Rattle.toml.specs.Data.{Data, boolean, no_members}
 use Rattle.sift_base.specs.Layout.{least_units}
 use Rattle.sift_table.specs.Schedule.{Schedule, plain_of}
-use Rattle.sift_document.specs.laws.DocumentLemmas.{array_entries}
+use Rattle.sift_document.specs.laws.Arrays.{array_entries}
 use Rattle.sift_document.specs.Document.{IsArrayOf, entries_of, members_of, tables_in}
 use Rattle.sift_document.specs.Rules.{IsKept, rule}
 use Rattle.sift_sections.specs.laws.Decided.{stable}

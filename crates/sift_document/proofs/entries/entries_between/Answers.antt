@@ -1,5 +1,5 @@
 use Rattle.std.proofs.Common.{inl, inr}
-use Rattle.sift_document.specs.laws.DocumentLemmas.{entries_of-values, is_array, no_array}
+use Rattle.sift_document.specs.laws.Arrays.{entries_of-values, is_array, no_array}
 use Rattle.sift_document.proofs.entries.entries_between.Goals as goal
 use Rattle.sift_document.proofs.entries.entries_between.Goals.{then-entries-low-via-then-entries-low, then-entries-low-via-else-entries-low+then-high-entries}
 

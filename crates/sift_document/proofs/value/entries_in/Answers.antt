@@ -1,5 +1,5 @@
 use Rattle.std.proofs.Common.{sym}
-use Rattle.sift_document.specs.laws.DocumentLemmas.{array_from, list_of-view}
+use Rattle.sift_document.specs.laws.Arrays.{array_from, list_of-view}
 use Rattle.sift_document.proofs.value.entries_in.Goals as goal
 
 -- the entries of an array are the values that it holds

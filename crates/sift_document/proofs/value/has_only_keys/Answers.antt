@@ -3,7 +3,7 @@ use Rattle.std.specs.List.{Contains}
 use Rattle.std.specs.Map.Iter.{deref}
 use Rattle.std.proofs.lemmas.List.Elements.{All-map, All-push}
 use Rattle.std.proofs.lemmas.Map.Iter.{iter_end, iter_turn}
-use Rattle.sift_document.specs.laws.DocumentLemmas.{All-keys_of, at_key}
+use Rattle.sift_document.specs.laws.Arrays.{All-keys_of, at_key}
 use Rattle.sift_document.proofs.value.has_only_keys.Goals as goal
 
 -- a key that is not known

@@ -1,7 +1,7 @@
 use Rattle.std.proofs.Common.{refl, below_more, arith}
 use Rattle.std.proofs.lemmas.Bool.Decides.{Decides-eqb, not_from_Decides}
 use Rattle.std.proofs.lemmas.Slice.Eq.{slice_eq-Decides}
-use Rattle.sift_document.specs.laws.DocumentLemmas.{among-here, among-other, among-none}
+use Rattle.sift_document.specs.laws.Arrays.{among-here, among-other, among-none}
 use Rattle.sift_document.proofs.value.is_among.Goals as goal
 
 pub returns-then-eq : goal.returns-then-eq

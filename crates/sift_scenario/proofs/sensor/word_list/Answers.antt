@@ -3,7 +3,7 @@ use Rattle.std.proofs.lemmas.List.{get_or-map, length-map}
 use Rattle.std.proofs.lemmas.Bool.{eqb-true}
 use Rattle.toml.specs.View.{view}
 use Rattle.toml.specs.declared.value.Value.{Value}
-use Rattle.sift_document.specs.laws.DocumentLemmas.{array_from}
+use Rattle.sift_document.specs.laws.Arrays.{array_from}
 use Rattle.sift_document.specs.laws.ReadEntries.{array_between-none, array_between-other, array_between-whole, value-all, value-step}
 use Rattle.sift_document.specs.Document.{word_value}
 use Rattle.sift_scenario.proofs.sensor.word_list.Goals as goal

@@ -2,7 +2,7 @@ use Rattle.std.proofs.Common.{◌≡◌, ◌≤◌, length, inl, inr, map, sym, 
 use Rattle.std.proofs.lemmas.Int.{ints}
 use Rattle.std.proofs.lemmas.List.{get_or-map, length-map, take_all}
 use Rattle.toml.specs.View.{view}
-use Rattle.sift_document.specs.laws.DocumentLemmas.{array_from}
+use Rattle.sift_document.specs.laws.Arrays.{array_from}
 use Rattle.sift_document.specs.laws.Places.{so_far}
 use Rattle.sift_document.specs.laws.ReadEntries.{array_between-none, array_between-other, array_between-whole, differing, each_read-push}
 use Rattle.sift_sections.specs.Clock.{ticks_within}
