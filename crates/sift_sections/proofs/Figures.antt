@@ -39,9 +39,11 @@ module _
   abbrev IsUnkept : ℕ → Type 0
   IsUnkept = OfNoEntry (unwrap_or (skew_of clock) 0 < 5 * (unwrap_or (error_of clock) 0 + unwrap_or (rate_of clock) 0))
 
+  -- it isn't, by the figures that were read
   pub skew_kept : IsKept (rule 10 (OfNoEntry (skew < 5 * (error + rate)))) → IsKept (rule 10 IsUnkept)
   skew_kept kept = rw (skew_is, error_is, rate_is) kept
 
+  -- or it is, and is refused
   pub skew_refused : (e : Stop BrokenRule) → RefusesBy 10 (OfNoEntry (skew < 5 * (error + rate))) e → RefusesBy 10 IsUnkept e
   skew_refused e refused = rw (skew_is, error_is, rate_is) refused
 
@@ -50,8 +52,10 @@ module _
     abbrev IsShort : ℕ → Type 0
     IsShort = OfNoEntry (unwrap_or (length_of clock) 0 < 2 * unwrap_or (skew_of clock) 0 + unwrap_or (error_of clock) 0 + unwrap_or (rate_of clock) 0 + 1)
 
+    -- it isn't, by the figures that were read
     pub length_kept : IsKept (rule 11 (OfNoEntry (length < 2 * skew + error + rate + 1))) → IsKept (rule 11 IsShort)
     length_kept kept = rw (skew_is, error_is, rate_is, length_is) kept
 
+    -- or it is, and is refused
     pub length_refused : (e : Stop BrokenRule) → RefusesBy 11 (OfNoEntry (length < 2 * skew + error + rate + 1)) e → RefusesBy 11 IsShort e
     length_refused e refused = rw (skew_is, error_is, rate_is, length_is) refused

@@ -45,13 +45,15 @@ module _
   abbrev value : ℕ
   value = draw_at x 3 word_count
 
-  -- each is below its limit
+  -- its unit is one of the mission
   pub unit_there : unit < units
   unit_there = draw_below x 0 units (omega (arith, enough))
 
+  -- so is the frame from which on it stands
   pub early : from < frames
   early = draw_below x 1 frames (omega (arith, some_frames))
 
+  -- and the task of its item
   pub among : task < tasks
   among = draw_below x 2 tasks (omega (arith, some_task))
 

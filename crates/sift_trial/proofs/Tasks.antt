@@ -94,20 +94,23 @@ module _ (tasks sensors x : ℕ) where
       ap sum (take-map-range_with_len {X = ℕ} (λ t. 1) 0 tasks (place + 1) (omega (arith, broken.0, long))) ∙ words_sum (place + 1) in
       omega (arith, broken.0, broken.1, long, so_far, few)
 
-  -- each has a name that is new, start words and a form, and there are few output words
+  -- each has a name that is new
   pub names_right :
       ((t : ℕ) → t < tasks → IsName (task_name t)) → ((i k : ℕ) → i < k → k < tasks → task_name i ≢ task_name k)
       → (place : ℕ) → ¬ BreaksNames task_members place
   names_right named differ = rw tasks_are (names_kept entries_at task_name tasks (λ t. refl) named differ)
 
+  -- start words
   pub starts_right : (place : ℕ) → ¬ HoldsOf task_members place (λ task. start_words task ≡ None)
   starts_right =
       rw tasks_are (nowhere entries_at tasks (λ t task. start_words task ≡ None) (λ t low none. cc (started t sensors (task_place t x), none)))
 
+  -- few output words in all
   pub words_right :
       tasks ≤ 12 → (place : ℕ) → ¬ ((place < length (counts_of task_members)) × (word_limit < sum (take (place + 1) (counts_of task_members))))
   words_right few = rw counts_are (words_few few)
 
+  -- and a form
   pub forms_right : (place : ℕ) → ¬ HoldsOf task_members place (λ task. (form : Form) → ¬ HasForm task form)
   forms_right =
       rw tasks_are (nowhere entries_at tasks (λ t task. (form : Form) → ¬ HasForm task form)

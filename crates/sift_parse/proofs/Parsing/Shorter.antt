@@ -17,17 +17,19 @@ abbrev left : {A : Type 0} → Outcome A → ℕ
 left (found a rest) = length rest
 left (fault bad) = 0
 
--- behind a name, or a number
+-- fewer tokens are left behind a name
 pub behind-name : (ts us : List Token) (n : ℕ) → read_name ts ≡ found n us → length us < length ts
 behind-name (Name k ∷ ts) us n e = (let l = ap left e in omega arith)
 behind-name (_ ∷ ts) us n e = cc
 behind-name [] us n e = cc
 
+-- behind a number
 pub behind-number : (ts us : List Token) (n : ℕ) → read_number ts ≡ found n us → length us < length ts
 behind-number (Number k ∷ ts) us n e = (let l = ap left e in omega arith)
 behind-number (_ ∷ ts) us n e = cc
 behind-number [] us n e = cc
 
+-- and behind the number of a word
 pub behind-index : (ts us : List Token) (n : ℕ) → read_index ts ≡ found n us → length us < length ts
 behind-index (Index k ∷ ts) us n e = (let l = ap left e in omega arith)
 behind-index (_ ∷ ts) us n e = cc

@@ -108,21 +108,27 @@ repeat-block ts us vs k o e r s =
 
 -- ---- the statements that are built
 
+-- a `let` binds its expression
 pub of-let : (e : Expr) → statement_of (stmts.Let e) ≡ bind (term_of e)
 of-let e = search (rules, the_lemmas)
 
+-- a `set` gives a local the value of its expression
 pub of-set : (l : ℕ) (e : Expr) → statement_of (stmts.Set l e) ≡ assign l (term_of e)
 of-set l e = search (rules, the_lemmas)
 
+-- an output word gets the value of its expression
 pub of-output : (j : ℕ) (e : Expr) → statement_of (stmts.Output j e) ≡ output j (term_of e)
 of-output j e = search (rules, the_lemmas)
 
+-- a `repeat` repeats its block
 pub of-repeat : (k : ℕ) (body : Vec stmts.Stmt Global) → statement_of (stmts.Repeat k body) ≡ repeat k (block_of body.items)
 of-repeat k body = search (rules, the_lemmas)
 
+-- an `if` without `else` takes its block, or nothing
 pub of-if : (e : Expr) (first : Vec stmts.Stmt Global) → statement_of (stmts.If e first None) ≡ choose (term_of e) (block_of first.items)
 of-if e first = search (rules, the_lemmas)
 
+-- and one with `else` takes either block
 pub of-if_else : (e : Expr) (first second : Vec stmts.Stmt Global)
     → statement_of (stmts.If e first (Some second)) ≡ choose_else (term_of e) (block_of first.items) (block_of second.items)
 of-if_else e first second = search (rules, the_lemmas)

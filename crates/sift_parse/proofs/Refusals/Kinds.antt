@@ -209,10 +209,12 @@ abbrev pub NoneEarlier : Roll → List ℕ → List Placed → Type 0
 NoneEarlier r text front = (before more : List Placed) (rest : List ℕ) (kind : Kind) → front ≡ before ++ more → more ≢ [] →
     Lexes (length text) text before rest → ¬ Stands r (lexemes_of before) rest kind
 
+-- then no refusal stands before it
 pub none_told : (r : Roll) (text : List ℕ) (front : List Placed) → NoneEarlier r text front → NoneBefore r text front
 none_told r text front none before more rest s e some x h =
     let f = first-found r (lexemes_of before) rest (length text - length rest) s h in none before more rest f.kind e some x f.stands
 
+-- and the other way round
 pub none_found : (r : Roll) (text : List ℕ) (front : List Placed) → NoneBefore r text front → NoneEarlier r text front
 none_found r text front none before more rest kind e some x =
     none-stands r (lexemes_of before) rest (length text - length rest) (λ s. none before more rest s e some x) (suc (order_of kind)) kind (omega arith)
@@ -248,6 +250,7 @@ pub record Refusing (r : Roll) (text : List ℕ) (s : ParseStop) : Type 0 where
   pub short : length text ≤ text_limit
   pub refused : IsRefusedFor r text kind at
 
+-- each refusal of a text has its kind and its place
 pub refused_found : (r : Roll) (text : List ℕ) (s : ParseStop) → IsRefused r text s → Refusing r text s
 refused_found r text s h =
     let f = first-found r (lexemes_of h.front) h.rest (length text - length h.rest) s h.gives in

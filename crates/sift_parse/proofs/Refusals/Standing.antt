@@ -147,6 +147,7 @@ none-earlier r text end front x fine b before (p ∷ more) rest kind e some y h 
     (stands-at r (lexemes_of before) rest n.mid p.lexeme kind n.is_lexeme
     (begins-one r before more p (subst (λ l. Begins (tokens_of r (lexemes_of l))) e b)) h)
 
+-- so no refusal does
 pub none_before : (r : Roll) (text rest : List ℕ) (front : List Placed) → Lexes (length text) text front rest → IsFine r front
     → Begins (tokens_of r (lexemes_of front)) → NoneBefore r text front
 none_before r text rest front x fine b = none_told r text front (none-earlier r text rest front x fine b)

@@ -75,6 +75,7 @@ module _ (units period tasks : ℕ) where
         }
 
   -- ---- all of them
+  -- there is a table for each size
   pub schedules_long : (version : ℕ) (value : Option Data) → IsKept (rule 23 (BreaksTables version units value)) → length (schedules_by value units period tasks) ≡ size_count units
   schedules_long version None kept = plain_long
   schedules_long version (Some value) kept = stated_long version value kept
