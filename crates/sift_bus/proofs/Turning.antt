@@ -1,8 +1,6 @@
 -- The next of several units, found place by place.
-use Rattle.std.proofs.Common.{◌≡◌, ℕ, ◌+◌, ◌<◌, ◌≤◌, List, length, slice_index_or, Option, Some, None, IfSome, IfNone, All, arith}
+use Rattle.std.proofs.Common.{◌≡◌, ℕ, ◌<◌, ◌≤◌, List, length, slice_index_or, Option, Some, None, IfSome, IfNone, All, arith}
 use Rattle.sift_bus.specs.Turns.{IsNext}
-use mathlib.Core.Logic.{dite}
-use native.Mathlib.Decide.{ℕ_discrete}
 
 module _ {X : Type 0} (progress : X → ℕ) (end : ℕ) (xs : List X) where
   -- none was found yet, and the bound is the end; or this one, and the bound is its progress
@@ -15,23 +13,6 @@ module _ {X : Type 0} (progress : X → ℕ) (end : ℕ) (xs : List X) where
   pub record IsNextBelow (n below : ℕ) (next : Option ℕ) : Type 0 where
     pub found : IsFound n below next
     pub none_less : (v : ℕ) (d : X) → v < n → below ≤ progress (slice_index_or xs v d)
-
-  -- one more, that has no less progress than the bound
-  pub next_same : (n below : ℕ) (next : Option ℕ) → IsNextBelow n below next → ((d : X) → below ≤ progress (slice_index_or xs n d)) →
-      IsNextBelow (n + 1) below next
-  next_same n below next l high = record {
-    found = keeps next l.found;
-    none_less = λ v d low. dite (ℕ_discrete v n) (λ e. rw e (high d)) (λ ne. l.none_less v d (omega arith));
-  }
-    where
-      keeps : (o : Option ℕ) → IsFound n below o → IsFound (n + 1) below o
-      keeps None f = f
-      keeps (Some v) f = (let a = f.0 in omega arith, f.1, f.2, f.3)
-
-  -- the bound is the end at most
-  bound_low : (n below : ℕ) (next : Option ℕ) → IsFound n below next → below ≤ end
-  bound_low n below None f = omega arith
-  bound_low n below (Some u) f = let a = f.1 in omega arith
 
   -- what was found among all of them
   pub next_ends : (n below : ℕ) (next : Option ℕ) → IsNextBelow n below next → n ≡ length xs →

@@ -2,8 +2,7 @@
 use Rattle.std.proofs.Common.{◌≡◌, ◌<◌, ◌≤◌, ◌+◌, ℕ, suc, List, [], ◌∷◌, ◌++◌, length, get_or, map, take, Bool, true, false, Option, None, Some, refl, sym, ap, ◌∙◌, arith}
 use Rattle.std.specs.Option.{IfNone, IfSome, is_some}
 use Rattle.std.specs.List.{All}
-use Rattle.toml.specs.Data.{Data, Members, string, integer, float, boolean, datetime, array, table, as_str, as_table, get, get_member}
-use Rattle.sift_document.specs.Document.{digit_to, digits_to, each_read}
+use Rattle.toml.specs.Data.{Data, Members, string, integer, float, boolean, datetime, array, table, as_table, get, get_member}
 use Rattle.sift_byz.specs.Stated.{lie_limit}
 use Rattle.std.proofs.lemmas.List.{get_or-map, length-map, map-append, take_more}
 use Rattle.std.proofs.lemmas.List.Elements.{All-head, All-tail}
@@ -50,25 +49,6 @@ got_none key (float x) none = refl
 got_none key (boolean b) none = refl
 got_none key (datetime t) none = refl
 got_none key (array ds) none = refl
-
--- the digits of a text, and none of another value
-pub digits_from : (d : Data) (text : List ℕ) → Some text ≡ as_str d → each_read (digit_to 9) text ≡ digits_to 9 d
-digits_from (string s) text is = let same : text ≡ s = cc is in ap (each_read (digit_to 9)) same
-digits_from (integer z) text is = cc
-digits_from (float x) text is = cc
-digits_from (boolean b) text is = cc
-digits_from (datetime t) text is = cc
-digits_from (array ds) text is = cc
-digits_from (table ms) text is = cc
-
-pub no_digits : (d : Data) → None ≡ as_str d → None ≡ digits_to 9 d
-no_digits (string s) none = cc
-no_digits (integer z) none = refl
-no_digits (float x) none = refl
-no_digits (boolean b) none = refl
-no_digits (datetime t) none = refl
-no_digits (array ds) none = refl
-no_digits (table ms) none = refl
 
 -- ---- entries
 

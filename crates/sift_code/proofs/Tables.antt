@@ -1,13 +1,12 @@
 -- Entries of the tables of starts and pasts, from the entries beside them.
 use Rattle.std.proofs.Common.{◌≡◌, ℕ, suc, ◌+◌, ◌-◌, ◌<◌, ◌≤◌, List, [], ◌∷◌, ◌++◌, length, take, drop, Option, Some, None, refl, sym, ap, ◌∙◌, subst, arith, get_or, inl, inr, eqb}
-use Rattle.std.specs.Prelude.{slice_get, slice_index_or, slice_set, ◌≢◌, ◌⊎◌, ◌==◌, Bool, true, false, IfSome, nat_lt}
-use Rattle.std.specs.Borrow.{Bor}
-use Rattle.std.specs.Option.{option_eq, option_copied, is_some}
-use Rattle.std.proofs.lemmas.Bool.{eqb-true, eq-eqb, ltb-true, ltb-false}
+use Rattle.std.specs.Prelude.{slice_get, slice_index_or, slice_set, ◌≢◌, ◌⊎◌, ◌==◌, Bool, true, false, IfSome}
+use Rattle.std.specs.Option.{option_eq}
+use Rattle.std.proofs.lemmas.Bool.{eqb-true, eq-eqb}
 use Rattle.std.proofs.lemmas.Bool.Decides.{eqb_tells}
 use Rattle.std.proofs.Math.ListN.{drop_of_length-le}
 use Rattle.std.proofs.lemmas.List.{get_or-set_same, get_or-set_other, length-set, drop-drop, length-drop, take_all, append-nil}
-use Rattle.std.proofs.lemmas.Option.{slice_get-get_or, slice_get_past, slice_get_read}
+use Rattle.std.proofs.lemmas.Option.{slice_get-get_or}
 use Rattle.sift_code.specs.declared.instr.Instr.{Instr}
 use Rattle.sift_code.specs.declared.instr.Instr.TheVariants.{Begin, End}
 use Rattle.sift_code.specs.Machine.{through_end, one_more}
@@ -84,12 +83,6 @@ read_instr code k i within is = slice_get-get_or code k i within ∙ ap Some (sy
 -- the instruction that was read of items which are the code is the one at that place of the code
 pub read_item : (items code : List Instr) (k : ℕ) (i : Instr) → items ≡ code → k < length items → i ≡ slice_index_or items k i → slice_get code k ≡ Some i
 read_item items code k i same within is = subst (λ l. slice_get l k ≡ Some i) same (read_instr items k i within is)
-
--- an element that was looked up and copied is the one at that place, and none past the end
-pub copied_get : (items : List Instr) (k : ℕ) (o : Option (Bor Instr)) → is_some o ≡ nat_lt k (length items)
-    → IfSome o (λ i. i.now ≡ slice_index_or items k i.now) → option_copied o ≡ slice_get items k
-copied_get items k None there read = sym (slice_get_past items k (ltb-false _ _ (sym there)))
-copied_get items k (Some i) there read = sym (slice_get_read items (length items) k i.now refl (ltb-true _ _ (sym there)) read)
 
 -- ---- pasts
 

@@ -1,7 +1,5 @@
 -- The least unit among those below a number.
-use Rattle.std.proofs.Common.{◌≡◌, ℕ, ◌+◌, ◌*◌, ◌<◌, ◌≤◌, List, true, Option, Some, None, IfSome, IfNone, sym, subst, arith}
-use mathlib.Core.Logic.{dite}
-use native.Mathlib.Decide.{ℕ_discrete}
+use Rattle.std.proofs.Common.{◌≡◌, ℕ, ◌*◌, ◌<◌, ◌≤◌, List, true, Option, Some, None, IfSome, IfNone, sym, subst, arith}
 use Rattle.sift_base.specs.Units.{has}
 use Rattle.sift_mission.specs.Data.{FlownMission}
 use Rattle.sift_core.specs.Machines.{IsFlying, layout_of, progress_at}
@@ -19,23 +17,6 @@ IsFound m x n below (Some v) = (v < n) × (below ≡ progress_at x v) × (below 
 pub record IsLeastBelow (m : FlownMission) (x : Machine) (n below : ℕ) (found : Option ℕ) : Type 0 where
   pub found_is : IsFound m x n below found
   pub none_less : (p : ℕ) → p < n → below ≤ progress_at x p
-
--- a unit more, that has no less progress than the bound
-pub least_same : (m : FlownMission) (x : Machine) (n below : ℕ) (found : Option ℕ) → IsLeastBelow m x n below found → below ≤ progress_at x n →
-    IsLeastBelow m x (n + 1) below found
-least_same m x n below found l high = record {
-  found_is = keeps found l.found_is;
-  none_less = λ p low. dite (ℕ_discrete p n) (λ e. rw e high) (λ ne. l.none_less p (omega arith));
-}
-  where
-    keeps : (o : Option ℕ) → IsFound m x n below o → IsFound m x (n + 1) below o
-    keeps None f = f
-    keeps (Some v) f = (let a = f.0 in omega arith, f.1, f.2, f.3)
-
--- the bound is the end at most
-bound_low : (m : FlownMission) (x : Machine) (n below : ℕ) (found : Option ℕ) → IsFound m x n below found → below ≤ m.frames * m.period
-bound_low m x n below None f = omega arith
-bound_low m x n below (Some v) f = let a = f.2 in omega arith
 
 -- the least of all
 pub least_found : (m : FlownMission) (x : Machine) (n below v : ℕ) → IsFlying m x → n ≡ (layout_of x).units → IsLeastBelow m x n below (Some v) →

@@ -1,6 +1,6 @@
 -- The divider is looked for place by place.
 use Rattle.std.proofs.Common.{◌≡◌, ◌≢◌, ◌≤◌, ◌<◌, ◌+◌, ◌++◌, ⊎_elim, ℕ, List, Option, Some, None, length, take, drop, sym, ap, ◌∙◌, arith}
-use Rattle.std.proofs.Math.Seq.{take-append_seam, drop-append_seam}
+use Rattle.std.proofs.Math.Seq.{drop-append_seam}
 use Rattle.std.proofs.lemmas.Bool.{cases_lt}
 use Rattle.std.proofs.lemmas.List.{length-append, length-take-le, take-append-drop}
 use Rattle.std.specs.Borrow.{Bor}
@@ -12,10 +12,6 @@ abbrev pub IsNowhereBefore : List ℕ → ℕ → Type 0
 IsNowhereBefore bytes place = (document report : List ℕ) → length document < place → ¬ StandsBetween bytes document report
 
 module _ (bytes : List ℕ) where
-  -- what stands between two parts has these before and behind it
-  front_is : (document report : List ℕ) → StandsBetween bytes document report → take (length document) bytes ≡ document
-  front_is document report stands = ap (take (length document)) (sym stands.parts) ∙ take-append_seam document (divider ++ report)
-
   back_is : (document report : List ℕ) → StandsBetween bytes document report → drop (length document) bytes ≡ divider ++ report
   back_is document report stands = ap (drop (length document)) (sym stands.parts) ∙ drop-append_seam document (divider ++ report)
 

@@ -1,15 +1,12 @@
 -- The parts of the mission in which one unit fails fit.
-use Rattle.std.proofs.Common.{◌≡◌, ℕ, zero, suc, ◌+◌, ◌<◌, ◌≤◌, [], ◌∷◌, length, None, pos, ◌+ℤ◌, ◌≤ℤ◌, inl, inr, refl, arith}
+use Rattle.std.proofs.Common.{◌≡◌, ℕ, zero, suc, ◌+◌, ◌<◌, ◌≤◌, [], ◌∷◌, length, pos, ◌+ℤ◌, ◌≤ℤ◌, refl, arith}
 use Rattle.std.specs.List.{All}
-use Rattle.std.specs.Prelude.{◌==◌}
-use Rattle.std.proofs.lemmas.Bool.{cases_Bool}
 use Rattle.std.proofs.lemmas.Int.{ints}
 use Rattle.std.proofs.lemmas.List.Elements.{All-cons, All-nil}
 use Rattle.sift_base.specs.Layout.{least_units}
 use Rattle.sift_base.specs.Requirement.{AreMet}
 use Rattle.sift_base.specs.Shapes.{AreShapes, output_limit, shape_at}
 use Rattle.sift_clock.specs.Distance.{IsWithin}
-use Rattle.sift_script.specs.Faults.{storm_of}
 use Rattle.sift_script.specs.Rules as scripts
 use Rattle.sift_script.specs.Rules.{IsThere, AreReceivers}
 use Rattle.sift_script.specs.Script.{Change}
@@ -123,9 +120,6 @@ rules zero low = (
   ),
 )
 rules (suc at) low = absurd (omega arith)
-
-no_storm : (u : ℕ) → storm_of mission.script.faults u ≡ None
-no_storm u = elim (cases_Bool (4 == u)) [ inl t ↦ rw t refl | inr t ↦ rw t refl ]
 
 scripted : IsScripted mission
 scripted = record { layout = refl; outputs = refl; frames = refl; good = rules }

@@ -46,7 +46,7 @@ range-below n =
 -- ---- in which order they are
 
 -- what is below the first is below all
-pub below-range : (u a n : ℕ) → u < a → IsBelowAll u (range_with_len a n)
+below-range : (u a n : ℕ) → u < a → IsBelowAll u (range_with_len a n)
 below-range u a zero low = tt
 below-range u a (suc n) low = (low, below-range u (a + 1) n (omega arith))
 

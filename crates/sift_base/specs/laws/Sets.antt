@@ -109,7 +109,7 @@ difference_bits bits less fits = same_below (bit_and bits (bit_not w8 less)) (se
     (λ q high. set.contains-difference nat_cmp_total (units_of bits) (units_of less) q ∙ rw (holds_high bits q high) refl)
 
 -- no bit is set
-pub no_bits : units_of 0 ≡ set.empty
+no_bits : units_of 0 ≡ set.empty
 no_bits = same_below 0 set.empty (λ q low. bit_zero q ∙ sym (set.contains-empty nat_cmp q)) (λ q high. set.contains-empty nat_cmp q)
   where
     bit_zero : (q : ℕ) → has_bit 0 q ≡ false
@@ -163,7 +163,7 @@ passing_ascend p [] up = tt
 passing_ascend p (k ∷ ks) up = elim (cases_Bool (p k)) [ inl t ↦ rw t (below_passing p k ks up.0, passing_ascend p ks up.1) | inr f ↦ rw f (passing_ascend p ks up.1) ]
 
 -- as many pass in a list as stand in what passes
-pub length_of_passing : (p : ℕ → Bool) (ks : List ℕ) → length (filter p ks) ≡ passing p ks
+length_of_passing : (p : ℕ → Bool) (ks : List ℕ) → length (filter p ks) ≡ passing p ks
 length_of_passing p [] = refl
 length_of_passing p (k ∷ ks) = elim (cases_Bool (p k)) [ inl t ↦ rw t (omega (arith, length_of_passing p ks)) | inr f ↦ rw f (omega (arith, length_of_passing p ks)) ]
 

@@ -4,7 +4,7 @@ use Rattle.sift_buffer.specs.Ranges.{Ranges}
 use Rattle.sift_bus_port.specs.Logs.{has_entry, count_below, count_places}
 
 -- where two tests are one below a number, they count the same
-pub same_below : (is was : ℕ → Bool) (n : ℕ) → ((i : ℕ) → i < n → is i ≡ was i) → count_below is n ≡ count_below was n
+same_below : (is was : ℕ → Bool) (n : ℕ) → ((i : ℕ) → i < n → is i ≡ was i) → count_below is n ≡ count_below was n
 same_below is was zero all = refl
 same_below is was (suc n) all = λ i. same_below is was n (λ j low. all j (omega arith)) i + (if all n (omega arith) i then 1 else 0)
 

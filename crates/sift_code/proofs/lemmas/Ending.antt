@@ -79,7 +79,7 @@ module _ (program : Program) (sound : IsSound program) (inputs : Inputs) (fits :
   pub start_agrees : Agrees program (start_state program.limits.outputs)
   start_agrees = record { within = omega arith; height = refl; loops = refl; going = tt; locals = length-replicate {A = ℕ} local_count 0; outs = length-replicate {A = ℕ} program.limits.outputs 0 }
 
-  pub runs_to_end : (outs : List ℕ) × RunsTo program inputs outs
+  runs_to_end : (outs : List ℕ) × RunsTo program inputs outs
   runs_to_end = comes (bound_of program.code) (start_state program.limits.outputs) start_agrees (weighted_le [] program.code)
 
 -- sound code comes to its end

@@ -57,7 +57,7 @@ carries_on code (suc n) p to height carries =
     (carries_followed (slice_get code (n + p)) (suc (n + p)) (trail_at code (n + p)) to height before)
 
 -- the height that a jump brings to a place ahead is among those that were brought there
-pub carries_there : (code : List Instr) (p to height : ℕ) (i : Instr) → slice_get code p ≡ Some i
+carries_there : (code : List Instr) (p to height : ℕ) (i : Instr) → slice_get code p ≡ Some i
     → ((trail : Trail) → trail ≡ trail_at code p → Carries (brought_by i trail) to height) → p < to
     → Carries (trail_at code to).brought to height
 carries_there code p to height i at brings ahead =

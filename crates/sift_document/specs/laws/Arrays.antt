@@ -74,7 +74,7 @@ module _ {A X : Type 0} (f : A → X) (xs : List A) (wanted : X) where
 -- ---- the keys of a table
 
 -- the keys of a table are those of the map that holds it
-pub keys_of-view : (entries : List (String Global × Value)) → keys_of (members_view entries) ≡ map string_bytes (map (λ e. e.0) entries)
+keys_of-view : (entries : List (String Global × Value)) → keys_of (members_view entries) ≡ map string_bytes (map (λ e. e.0) entries)
 keys_of-view [] = refl
 keys_of-view (e ∷ es) = ap (λ keys. string_bytes e.0 ∷ keys) (keys_of-view es)
 

@@ -21,7 +21,7 @@ few_from least (u ∷ us) room up inside =
     omega (arith, rest, here.0)
 
 -- a configuration has at most eight units
-pub config_few : (us : List ℕ) → IsConfig us → length us ≤ unit_limit
+config_few : (us : List ℕ) → IsConfig us → length us ≤ unit_limit
 config_few us config = let few = few_from 0 us (omega arith) config.ascending (λ u there. (omega arith, config.inside u there)) in omega arith
 
 -- the units that pass a test are as many as are counted
@@ -84,10 +84,10 @@ module _ (passes : ℕ → Bool) (us : List ℕ) (i u : ℕ) (there : slice_get 
 -- ---- the tests of a sound configuration
 
 module _ (works : ℕ → Bool) (us : List ℕ) (all working : ℕ) (all_are : all ≡ length us) (working_are : working ≡ length (filter works us)) where
-  pub working-are : working ≡ count_by works us
+  working-are : working ≡ count_by works us
   working-are = working_are ∙ filter-count works us
 
-  pub faulty-are : all - working ≡ faulty_count works us
+  faulty-are : all - working ≡ faulty_count works us
   faulty-are = omega (arith, faulty-rest works us)
 
   -- where at most one unit is faulty, a configuration is sound just where four of its units work

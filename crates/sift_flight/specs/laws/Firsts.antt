@@ -5,14 +5,14 @@ use Rattle.std.specs.List.{find}
 use Rattle.sift_config.specs.Config.{first_units}
 
 -- a list from a place on begins with the unit at that place
-pub drop_here : (us : List ℕ) (i u : ℕ) → slice_get us i ≡ Some u → drop i us ≡ u ∷ drop (suc i) us
+drop_here : (us : List ℕ) (i u : ℕ) → slice_get us i ≡ Some u → drop i us ≡ u ∷ drop (suc i) us
 drop_here [] zero u e = absurd cc
 drop_here [] (suc i) u e = absurd cc
 drop_here (v ∷ us) zero u e = cc
 drop_here (v ∷ us) (suc i) u e = drop_here us i u e
 
 -- past its end nothing is left
-pub nothing_left : (us : List ℕ) (i : ℕ) → length us ≤ i → drop i us ≡ []
+nothing_left : (us : List ℕ) (i : ℕ) → length us ≤ i → drop i us ≡ []
 nothing_left [] zero seen = refl
 nothing_left [] (suc i) seen = refl
 nothing_left (u ∷ us) zero seen = absurd (omega arith)

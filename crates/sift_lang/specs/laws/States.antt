@@ -17,7 +17,7 @@ pub record OnlyAddsLocals (s t : State) : Type 0 where
   pub outs_are : length t.outs ≡ length s.outs
 
 -- a block leaves as many locals as it found
-pub sizes-scoped : (body : State → State) (s : State) → OnlyAddsLocals s (body s) → HasSizes (length s.locals) (length s.outs) (scoped body s)
+sizes-scoped : (body : State → State) (s : State) → OnlyAddsLocals s (body s) → HasSizes (length s.locals) (length s.outs) (scoped body s)
 sizes-scoped body s only =
     record { locals_are = length-take-le (length s.locals) (body s).locals only.adds; outs_are = only.outs_are }
 
@@ -27,7 +27,7 @@ sizes-chosen locals outs zero first second p q = q
 sizes-chosen locals outs (suc n) first second p q = p
 
 -- rounds that keep the sizes keep them however many there are
-pub sizes-iterate : (locals outs n : ℕ) (round : State → State) → ((s : State) → HasSizes locals outs s → HasSizes locals outs (round s)) → (s : State)
+sizes-iterate : (locals outs n : ℕ) (round : State → State) → ((s : State) → HasSizes locals outs s → HasSizes locals outs (round s)) → (s : State)
     → HasSizes locals outs s → HasSizes locals outs (iterate round n s)
 sizes-iterate locals outs zero round keeps s has = has
 sizes-iterate locals outs (suc n) round keeps s has = sizes-iterate locals outs n round keeps (round s) (keeps s has)
@@ -41,7 +41,7 @@ sizes-round locals outs body s has only =
     let kept = sizes-scoped body s only in
     record { locals_are = kept.locals_are ∙ has.locals_are; outs_are = kept.outs_are ∙ has.outs_are }
 
-le-locals_after : (locals : ℕ) (statement : Statement) → locals ≤ locals_after locals statement
+pub le-locals_after : (locals : ℕ) (statement : Statement) → locals ≤ locals_after locals statement
 le-locals_after locals (bind t) = omega arith
 le-locals_after locals (assign l t) = omega arith
 le-locals_after locals (output j t) = omega arith

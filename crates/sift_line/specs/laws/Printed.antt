@@ -36,7 +36,7 @@ digits_all us i old now so_far seen some =
 -- ---- lists
 
 -- a list with commas: the first part, and each other one behind a comma
-pub list_text-cons : {V : Type 0} (text : V → List ℕ) (v : V) (vs : List V) → list_text (map text (v ∷ vs)) ≡ text v ++ flat_map (λ w. 44 ∷ text w) vs
+list_text-cons : {V : Type 0} (text : V → List ℕ) (v : V) (vs : List V) → list_text (map text (v ∷ vs)) ≡ text v ++ flat_map (λ w. 44 ∷ text w) vs
 list_text-cons text v [] = sym (append-nil (text v))
 list_text-cons text v (w ∷ ws) = ap (λ bs. text v ++ 44 ∷ bs) (list_text-cons text w ws)
 

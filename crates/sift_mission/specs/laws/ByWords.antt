@@ -32,7 +32,7 @@ at-by_word all t (task ∷ tasks) w low =
     ]
 
 -- the words of one task more
-pub by_word-push : (t : ℕ) (tasks : List TaskTree) (task : TaskTree) → by_word t (tasks ++ task ∷ []) ≡ by_word t tasks ++ replicate task.outputs (t + length tasks)
+by_word-push : (t : ℕ) (tasks : List TaskTree) (task : TaskTree) → by_word t (tasks ++ task ∷ []) ≡ by_word t tasks ++ replicate task.outputs (t + length tasks)
 by_word-push t [] task = let e : t + 0 ≡ t = omega arith in rw e (append-nil (replicate task.outputs t))
 by_word-push t (first ∷ tasks) task =
     let e : t + suc (length tasks) ≡ suc t + length tasks = omega arith in

@@ -1,7 +1,8 @@
 -- A block that is read where no refusal stands is sound.
-use Rattle.std.proofs.Common.{◌≡◌, ℕ, ◌≤◌, Some, is_none, List, ◌∷◌, length, refl, sym, ap, ◌∙◌, subst, arith}
-use Rattle.sift_lang.specs.Tree.{Term, Statement, bind, assign, output, choose, choose_else, repeat, Block, step}
-use Rattle.sift_lang.specs.Sound.{locals_after, IsSoundBlock}
+use Rattle.std.proofs.Common.{◌≡◌, ℕ, Some, is_none, List, ◌∷◌, length, refl, sym, ap, ◌∙◌, subst, arith}
+use Rattle.sift_lang.specs.Tree.{Term, Statement, choose, choose_else, repeat, Block, step}
+use Rattle.sift_lang.specs.Sound.{IsSoundBlock}
+use Rattle.sift_lang.specs.laws.States.{le-locals_after}
 use Rattle.sift_parse.specs.declared.token.Keyword.TheVariants.{If, Else, Repeat}
 use Rattle.sift_parse.specs.declared.token.Sign.TheVariants.{OpenBrace, CloseBrace}
 use Rattle.sift_parse.specs.declared.token.Token.{Token}
@@ -102,15 +103,6 @@ repeat-done r f k ts rest body fresh p inside =
 
 -- ---- all rules
 
--- no local goes with a statement
-locals_after-grows : (n : ℕ) (s : Statement) → n ≤ locals_after n s
-locals_after-grows n (bind t) = omega arith
-locals_after-grows n (assign l t) = omega arith
-locals_after-grows n (output j t) = omega arith
-locals_after-grows n (choose t first) = omega arith
-locals_after-grows n (choose_else t first second) = omega arith
-locals_after-grows n (repeat k body) = omega arith
-
 -- another statement may start after one
 fresh-after : (r : Roll) (f : Force) (rest : List Token) (s : Statement) → Fresh f → (i : IsDone r f rest s) → Fresh i.force
 fresh-after r f rest s fresh i =
@@ -131,7 +123,7 @@ step-through r f mid rest s b i j =
       levels = j.levels
           ∙ i.levels;
       pending = j.pending;
-      locals = (let m = j.locals in let e = i.locals in let g = locals_after-grows (length f.locals) s in omega arith);
+      locals = (let m = j.locals in let e = i.locals in let g = le-locals_after (length f.locals) s in omega arith);
       sound = (i.sound, subst (λ n. IsSoundBlock (bounds r) n b) i.locals j.sound);
       nows = (i.nows, j.nows);
       repeats = (let m = i.repeats in let n = j.repeats in let e : length i.force.levels ≡ length f.levels = ap length i.levels in

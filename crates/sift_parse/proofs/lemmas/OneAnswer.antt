@@ -46,7 +46,7 @@ not_both-by r text body k x p h (earlier q more e) = none_after (length text) te
 not_both-by r text body k x p h (later q more e) = none_found r text p.front p.fine h.front (q ∷ more) h.rest k e (λ z. cc) h.lexes h.stands
 
 -- a text that is parsed is not refused
-pub not_both : (r : Roll) (text : List ℕ) (body : Block) (k : Kind) (x : ℕ) → IsParsed r text body → IsRefusedFor r text k x → ⊥
+not_both : (r : Roll) (text : List ℕ) (body : Block) (k : Kind) (x : ℕ) → IsParsed r text body → IsRefusedFor r text k x → ⊥
 not_both r text body k x p h = not_both-by r text body k x p h (sided (length text) text p.front h.front [] h.rest p.lexes h.lexes)
 
 -- ---- one tree

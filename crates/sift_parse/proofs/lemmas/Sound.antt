@@ -42,7 +42,7 @@ lexemes_of-more [] p = refl
 lexemes_of-more (q ∷ before) p = ap (λ ls. q.lexeme ∷ ls) (lexemes_of-more before p)
 
 -- one more lexeme moves what is in force
-pub force_after-more : (before : List Placed) (p : Placed)
+force_after-more : (before : List Placed) (p : Placed)
     → force_after (lexemes_of (before ++ p ∷ [])) ≡ advance (force_after (lexemes_of before)) p.lexeme
 force_after-more before p = ap force_after (lexemes_of-more before p) ∙ fold-append advance at_start (lexemes_of before) (p.lexeme ∷ [])
 

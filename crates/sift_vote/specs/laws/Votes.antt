@@ -102,7 +102,7 @@ found_or_lost all (Some v ∷ places) =
     ]
 
 -- where there is a majority, the agreed word is that
-pub agreed_is_majority : (places : List (Option ℕ)) (v w : ℕ) → IsMajority places v → IsAgreed places w
+agreed_is_majority : (places : List (Option ℕ)) (v w : ℕ) → IsMajority places v → IsAgreed places w
     → w ≡ v
 agreed_is_majority places v w most (decided most_w) = majority_is_unique places w v most_w most
 agreed_is_majority places v w most (undecided none zero) = absurd (none v most)
