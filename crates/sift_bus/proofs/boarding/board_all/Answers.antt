@@ -7,7 +7,17 @@ use Rattle.sift_bus.proofs.SeatsTaken.{no_rest, shorter, new_token, boarded_long
 use Rattle.sift_config.specs.laws.FirstUnits.{low_unit}
 use Rattle.sift_bus.proofs.boarding.board_all.Goals as goal
 
--- there are as many buses as units, and the next bus is one of them
+-- there are as many buses as units, and the next bus is one of them: so many flyers are few
+pub overflow_cast-len : goal.overflow_cast-len
+overflow_cast-len g c =
+    let b = c.loop-bus.invariant.boarded in
+    let long = boarded_long (flown_of c.args.mission.now) c.args.ether.now c.args.faulty b.0 c.loop-bus.yielded c.loop-bus.flyers.items b.3 in
+    let low = shorter c.loop-bus.yielded c.next.new.self.rest.items c.args.buses.items c.in-Some.bus
+    ((λ i. c.loop-bus.yielded ++ sym c.in-Some.ensures.steps.0 i) ∙ c.loop-bus.invariant.all) in
+    let few = c.args.ether.now.grid.lawful.few_units in let size = c.loop-bus.flyers.ok.0 in
+    omega (arith, long.1, low, few, size, c.len.ensures, c.requires.count, ap (λ (l : Layout). l.units) c.requires.made.layout_is)
+
+-- and fewer than units may be
 pub numbered-unit-requires : goal.numbered-unit-requires
 numbered-unit-requires g c =
     let b = c.loop-bus.invariant.boarded in
